@@ -1,0 +1,29 @@
+-- Reading from left to right.
+use Rattle.std.specs.Prelude.{◌≡◌, ℕ, ◌+◌, ◌<◌, List, length, take, drop, get_or, Result, Ok, Err, nat_lt, if◌then◌else◌}
+use Rattle.byteorder.specs.Endian.{little_number}
+use Rattle.mon_bytes.specs.declared.cursor.Short.{Short}
+
+-- each number of the list is a byte
+abbrev pub IsBytes : List ℕ → Type 0
+IsBytes bytes = (i : ℕ) → get_or bytes i 0 < 256
+
+-- how many bytes were read, and those that are left
+pub record Reading : Type 0 where
+  pub at : ℕ
+  pub rest : List ℕ
+
+abbrev pub moved : ℕ → Reading → Reading
+moved n c = record { at = c.at + n; rest = drop n c.rest }
+
+-- the next n bytes, or the place where they are cut
+abbrev pub front : ℕ → Reading → Result (List ℕ × Reading) Short
+front n c = if nat_lt (length c.rest) n then Err (record { at = c.at }) else Ok (take n c.rest, moved n c)
+
+-- the number in the next n bytes, the lowest first
+abbrev pub number : ℕ → Reading → Result (ℕ × Reading) Short
+number n c = if nat_lt (length c.rest) n then Err (record { at = c.at }) else Ok (little_number n (take n c.rest), moved n c)
+
+-- What a cursor's call answered and left, where it should have read `wanted`. A refusal leaves the cursor.
+abbrev pub Steps : {X Y : Type 0} → (X → Y) → Result X Short → Reading → Reading → Result (Y × Reading) Short → Type 0
+Steps view (Ok x) old new wanted = wanted ≡ Ok (view x, new)
+Steps view (Err e) old new wanted = (wanted ≡ Err e) × (new ≡ old)

@@ -1,0 +1,23 @@
+//! Byte texts with their bounds, reading and writing of little-endian bytes, and what the services are asked.
+#![tactic(auto)]
+
+mod command;
+mod cursor;
+mod entry;
+mod law;
+mod memory;
+mod out;
+mod texts;
+mod word;
+
+pub use command::{Command, CommandRefused, MapRefused};
+pub use cursor::{Cursor, Short};
+pub use entry::{Entry, KeyPlace};
+pub use law::law_little_endian;
+pub use memory::OutOfMemory;
+pub use out::Out;
+pub use texts::{Bytes, Text};
+pub use word::{Name, Prefix, Word};
+
+#[cfg(test)]
+mod tests;

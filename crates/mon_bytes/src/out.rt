@@ -1,0 +1,83 @@
+ghost use Rattle.std.specs.Prelude.{◌≡◌, ℕ, List, [], ◌∷◌, ◌++◌, OnOk, OnErr};
+ghost use Rattle.byteorder.specs.Endian.{little_bytes};
+
+use crate::memory::OutOfMemory;
+use byteorder::{ByteOrder, LittleEndian};
+use std::alloc::Global;
+use std::marker::Model;
+
+/// Bytes under way, to which numbers are appended with the lowest byte first. A refused call leaves them.
+#[derive(Debug, Drop)]
+pub struct Out {
+    bytes: Vec<u8>,
+}
+
+impl Model for Out {
+    ghost Value = { List ℕ };
+
+    ghost view = { λ x. x.bytes.items };
+}
+
+impl Out {
+    /// No bytes yet. It takes no memory.
+    pub fn new(alloc: Global) -> Out
+        ensures { result ≡ [] }
+    {
+        Out {
+            bytes: Vec::new(alloc),
+        }
+    }
+
+    /// Appends the bytes.
+    pub fn put_bytes(&mut self, bytes: &[u8]) -> Result<(), OutOfMemory>
+        ensures ok { OnOk result (self.new ≡ self.old ++ bytes.now) }
+        ensures err { OnErr result (self.new ≡ self.old) }
+    {
+        Ok(self.bytes.extend_from_slice(bytes)?)
+    }
+
+    /// Appends a byte.
+    pub fn put_u8(&mut self, n: u8) -> Result<(), OutOfMemory>
+        ensures ok { OnOk result (self.new ≡ self.old ++ n ∷ []) }
+        ensures err { OnErr result (self.new ≡ self.old) }
+    {
+        Ok(self.bytes.push(n)?)
+    }
+
+    /// Appends a number as two bytes.
+    pub fn put_u16(&mut self, n: u16) -> Result<(), OutOfMemory>
+        ensures ok { OnOk result (self.new ≡ self.old ++ little_bytes 2 n) }
+        ensures err { OnErr result (self.new ≡ self.old) }
+    {
+        let mut bytes = [0; 2];
+        LittleEndian::write_u16(&mut bytes, n);
+        self.put_bytes(&bytes)
+    }
+
+    /// Appends a number as four bytes.
+    pub fn put_u32(&mut self, n: u32) -> Result<(), OutOfMemory>
+        ensures ok { OnOk result (self.new ≡ self.old ++ little_bytes 4 n) }
+        ensures err { OnErr result (self.new ≡ self.old) }
+    {
+        let mut bytes = [0; 4];
+        LittleEndian::write_u32(&mut bytes, n);
+        self.put_bytes(&bytes)
+    }
+
+    /// Appends a number as eight bytes.
+    pub fn put_u64(&mut self, n: u64) -> Result<(), OutOfMemory>
+        ensures ok { OnOk result (self.new ≡ self.old ++ little_bytes 8 n) }
+        ensures err { OnErr result (self.new ≡ self.old) }
+    {
+        let mut bytes = [0; 8];
+        LittleEndian::write_u64(&mut bytes, n);
+        self.put_bytes(&bytes)
+    }
+
+    /// All of the bytes.
+    pub fn into_bytes(self) -> Vec<u8>
+        ensures { result.items ≡ self }
+    {
+        self.bytes
+    }
+}

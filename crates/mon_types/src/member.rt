@@ -1,0 +1,26 @@
+ghost use Rattle.std.specs.Prelude.{◌≡◌, ◌≤◌, ◌<◌, ◌↔◌, IsSome, IfSome};
+
+use crate::rank::Rank;
+
+/// A rank of a monitor map of `monitors` monitors, of which there are 1 to 15.
+#[derive(Clone, Copy, Debug, PartialEq, Eq)]
+pub struct Member {
+    pub rank: Rank,
+    pub monitors: u8,
+    pub ghost most: { monitors ≤ 15 },
+    pub ghost in_map: { rank < monitors },
+}
+
+impl Member {
+    /// `None` exactly where `monitors` isn't 1 to 15 or the rank isn't below it.
+    pub fn new(rank: Rank, monitors: u8) -> Option<Member>
+        ensures valid { IsSome result ↔ (rank < monitors) × (monitors ≤ 15) }
+        ensures value { IfSome result (λ m. (m.rank ≡ rank) × (m.monitors ≡ monitors)) }
+    {
+        if rank.get() < monitors && monitors <= 15 {
+            Some(Member { rank, monitors })
+        } else {
+            None
+        }
+    }
+}

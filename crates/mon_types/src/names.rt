@@ -1,0 +1,25 @@
+/// A kind of number that can run out, at 2^62.
+#[derive(Clone, Copy, Debug, PartialEq, Eq)]
+pub enum Which {
+    Epoch,
+    Pn,
+    Version,
+    Boot,
+    Seq,
+    Cookie,
+}
+
+/// One of a monitor's two disks.
+#[derive(Clone, Copy, Debug, PartialEq, Eq)]
+pub enum Side {
+    A,
+    B,
+}
+
+/// Why a call of the outside gave nothing.
+#[derive(Clone, Copy, Debug, PartialEq, Eq)]
+pub enum Stop {
+    /// The outside failed, and the count of faults tells so.
+    Failed,
+    OutOfMemory,
+}

@@ -1,0 +1,15 @@
+ghost use Rattle.std.specs.Prelude.{◌≡◌, ◌≤◌, ◌^◌, ◌↔◌, IsSome, IfSome};
+ghost use Rattle.mon_types.specs.Proposal.{next_number};
+
+use crate::numbers::Pn;
+use crate::rank::Rank;
+
+/// The proposal number that `rank` takes above both `last` and `gt`: the next hundred, plus the rank, so that no two
+/// ranks take the same one. `None` exactly where that is above 2^62.
+pub fn next_pn(last: Pn, gt: Pn, rank: Rank) -> Option<Pn>
+    ensures fits { IsSome result ↔ (next_number last gt rank ≤ 2 ^ 62) }
+    ensures value { IfSome result (λ pn. pn ≡ next_number last gt rank) }
+{
+    let above = last.get().max(gt.get());
+    Pn::new((above / 100 + 1) * 100 + u64::from(rank.get()))
+}
