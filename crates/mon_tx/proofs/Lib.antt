@@ -1,0 +1,4 @@
+pub mod Decimals
+pub mod Lengths
+pub mod Places
+pub mod Ties

@@ -1,0 +1,4 @@
+pub mod Decode
+pub mod Keys
+pub mod Map
+pub mod Text

@@ -1,0 +1,139 @@
+ghost use Rattle.std.specs.Prelude.{◌≡◌, ℕ, ◌-◌, ◌^◌, ◌<◌, ◌≤◌, ◌∷◌, ◌++◌, min, length, Err, IfOk, OnOk, IsTrue};
+ghost use Rattle.std.specs.List.{flat_map, list_any};
+ghost use Rattle.mon_tx.specs.Text.{op_text, text, format, is_range, value_len, most};
+
+use crate::op::Op;
+use crate::transaction::Transaction;
+use mon_bytes::{Out, OutOfMemory};
+use std::alloc::Global;
+use thiserror::Error;
+
+/// The most bytes that a transaction's text may have.
+pub const MOST_BYTES: u64 = 4194304;
+
+/// Why a transaction has no text.
+#[derive(Clone, Copy, Debug, PartialEq, Eq, Error)]
+pub enum EncodeRefused {
+    /// Its text would have `len` bytes, above 4,194,304.
+    #[error("a text of {len} bytes")]
+    TooLong { len: u64 },
+    #[error("out of memory")]
+    OutOfMemory,
+}
+
+fn op_len(op: &Op) -> u64
+    ensures { result ≡ min (length (op_text op.now)) (2 ^ 64 - 1) }
+{
+    match op {
+        Op::Put { prefix, key, value } => {
+            let words = 7 + prefix.as_slice().len() as u64 + key.as_slice().len() as u64;
+            words.saturating_add(value.as_slice().len() as u64)
+        }
+        Op::Erase { prefix, key } => {
+            3 + prefix.as_slice().len() as u64 + key.as_slice().len() as u64
+        }
+        Op::ErasePrefix { prefix } => 2 + prefix.as_slice().len() as u64,
+        Op::EraseRange { prefix, .. } => 18 + prefix.as_slice().len() as u64,
+    }
+}
+
+fn put_word(out: &mut Out, word: &[u8]) -> Result<(), OutOfMemory>
+    requires { length word.now < 256 }
+    ensures { OnOk result (out.new ≡ out.old ++ length word.now ∷ word.now) }
+{
+    out.put_u8(word.len() as u8)?;
+    out.put_bytes(word)
+}
+
+fn put_op(out: &mut Out, op: &Op) -> Result<(), OutOfMemory>
+    requires { value_len op.now < 2 ^ 32 }
+    ensures { OnOk result (out.new ≡ out.old ++ op_text op.now) }
+{
+    match op {
+        Op::Put { prefix, key, value } => {
+            out.put_u8(1)?;
+            put_word(out, prefix.as_slice())?;
+            put_word(out, key.as_slice())?;
+            out.put_u32(value.as_slice().len() as u32)?;
+            out.put_bytes(value.as_slice())
+        }
+        Op::Erase { prefix, key } => {
+            out.put_u8(2)?;
+            put_word(out, prefix.as_slice())?;
+            put_word(out, key.as_slice())
+        }
+        Op::ErasePrefix { prefix } => {
+            out.put_u8(3)?;
+            put_word(out, prefix.as_slice())
+        }
+        Op::EraseRange { prefix, from, to } => {
+            out.put_u8(4)?;
+            put_word(out, prefix.as_slice())?;
+            out.put_u64(from.get())?;
+            out.put_u64(to.get())
+        }
+    }
+}
+
+fn is_range(op: &Op) -> bool
+    ensures { result ≡ is_range op.now }
+{
+    match op {
+        Op::EraseRange { .. } => true,
+        _ => false,
+    }
+}
+
+fn has_range(ops: &[Op]) -> bool
+    ensures { result ≡ list_any is_range ops.now }
+{
+    ops.iter().any(|op| is_range(op))
+}
+
+fn format(ops: &[Op]) -> u8
+    ensures { result ≡ format ops.now }
+{
+    if has_range(ops) { 2 } else { 1 }
+}
+
+fn text_len(ops: &[Op]) -> u64
+    ensures { result ≡ min (length (text ops.now)) (2 ^ 64 - 1) }
+{
+    let mut len: u64 = 5;
+    for op in ops {
+        len = len.saturating_add(op_len(op));
+    }
+    len
+}
+
+fn put_ops(out: &mut Out, ops: &[Op]) -> Result<(), OutOfMemory>
+    requires { length (text ops.now) ≤ most }
+    ensures { OnOk result (out.new ≡ out.old ++ text ops.now) }
+{
+    out.put_u8(format(ops))?;
+    out.put_u32(ops.len() as u32)?;
+    for op in ops {
+        put_op(out, op)?;
+    }
+    Ok(())
+}
+
+impl Transaction {
+    /// The one text of the transaction. `TooLong` exactly where it has more than 4,194,304 bytes.
+    pub fn encode(&self, alloc: Global) -> Result<Vec<u8>, EncodeRefused>
+        ensures text { IfOk result (λ bytes. bytes.items ≡ text self.now) }
+        ensures fits { IfOk result (λ bytes. length bytes.items ≤ most) }
+        ensures too_long { (len : ℕ) → result ≡ Err (EncodeRefused.TooLong len) → (most < length (text self.now)) × (len ≡ min (length (text self.now)) (2 ^ 64 - 1)) }
+        ensures whole { most < length (text self.now) → result ≡ Err (EncodeRefused.TooLong (min (length (text self.now)) (2 ^ 64 - 1))) }
+    {
+        let len = text_len(self.ops());
+        if len > MOST_BYTES {
+            return Err(EncodeRefused::TooLong { len });
+        }
+        let mut out = Out::new(alloc);
+        if put_ops(&mut out, self.ops()).is_err() {
+            return Err(EncodeRefused::OutOfMemory);
+        }
+        Ok(out.into_bytes())
+    }
+}

@@ -1,0 +1,59 @@
+ghost use Rattle.std.specs.Prelude.{◌≡◌, IfOk};
+
+use mon_bytes::{Bytes, Name, OutOfMemory, Prefix};
+use mon_types::Version;
+use std::alloc::Global;
+
+/// One change of a map.
+#[derive(Debug, Drop)]
+pub enum Op {
+    /// Sets the value of a key.
+    Put {
+        prefix: Prefix,
+        key: Name,
+        value: Bytes,
+    },
+    /// Takes a key away.
+    Erase {
+        prefix: Prefix,
+        key: Name,
+    },
+    /// Takes every key of the prefix away.
+    ErasePrefix {
+        prefix: Prefix,
+    },
+    /// Takes every key of the prefix away that is the decimal number, without padding, of a version from `from` up to
+    /// but not including `to`, which is above it. The range goes by number, since such keys don't stand in its order.
+    EraseRange {
+        prefix: Prefix,
+        from: Version,
+        to: Version,
+    },
+}
+
+impl Op {
+    /// An equal change.
+    pub fn copy(&self, alloc: Global) -> Result<Op, OutOfMemory>
+        ensures { IfOk result (λ op. op ≡ self.now) }
+    {
+        Ok(match self {
+            Op::Put { prefix, key, value } => Op::Put {
+                prefix: prefix.copy(alloc)?,
+                key: key.copy(alloc)?,
+                value: value.copy(alloc)?,
+            },
+            Op::Erase { prefix, key } => Op::Erase {
+                prefix: prefix.copy(alloc)?,
+                key: key.copy(alloc)?,
+            },
+            Op::ErasePrefix { prefix } => Op::ErasePrefix {
+                prefix: prefix.copy(alloc)?,
+            },
+            Op::EraseRange { prefix, from, to } => Op::EraseRange {
+                prefix: prefix.copy(alloc)?,
+                from: *from,
+                to: *to,
+            },
+        })
+    }
+}
