@@ -1,2 +1,4 @@
 pub mod Ascii
+pub mod Fields
+pub mod Forms
 pub mod LittleEndian

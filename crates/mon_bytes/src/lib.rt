@@ -4,6 +4,7 @@
 mod command;
 mod cursor;
 mod entry;
+mod form;
 mod law;
 mod memory;
 mod out;
@@ -13,6 +14,7 @@ mod word;
 pub use command::{Command, CommandRefused, MapRefused};
 pub use cursor::{Cursor, Short};
 pub use entry::{Entry, KeyPlace};
+pub use form::read_text;
 pub use law::law_little_endian;
 pub use memory::OutOfMemory;
 pub use out::Out;

@@ -60,6 +60,13 @@ impl<const MOST: usize> Word<MOST> {
         }
     }
 
+    /// Whether the bytes are 1 to `MOST` graphic ones. It takes no memory.
+    pub fn is_form(bytes: &[u8]) -> bool
+        ensures { result ≡ is_word MOST bytes.now }
+    {
+        is_word(bytes, MOST)
+    }
+
     /// The bytes.
     pub fn as_slice(&self) -> &[u8]
         ensures value { result.now ≡ self.now }
@@ -70,9 +77,18 @@ impl<const MOST: usize> Word<MOST> {
 
     /// The bytes as text.
     pub fn as_str(&self) -> &str
-        ensures { result.now ≡ self.now }
+        ensures value { result.now ≡ self.now }
+        ensures form { IsTrue (is_word MOST self.now) }
     {
         self.text.as_str()
+    }
+
+    /// The text, taken out without memory.
+    pub fn into_string(self) -> String
+        ensures value { string_bytes result ≡ self.entry }
+        ensures form { IsTrue (is_word MOST self.entry) }
+    {
+        self.text
     }
 
     /// An equal word.

@@ -49,19 +49,19 @@ impl<K: Copy> Number<K> {
 
 /// Marks a version.
 #[derive(Clone, Copy, Debug, PartialEq, Eq, PartialOrd, Ord)]
-pub enum OfVersion {}
+pub struct OfVersion;
 
 /// Marks a proposal number.
 #[derive(Clone, Copy, Debug, PartialEq, Eq, PartialOrd, Ord)]
-pub enum OfPn {}
+pub struct OfPn;
 
 /// Marks an epoch.
 #[derive(Clone, Copy, Debug, PartialEq, Eq, PartialOrd, Ord)]
-pub enum OfEpoch {}
+pub struct OfEpoch;
 
 /// Marks a moment.
 #[derive(Clone, Copy, Debug, PartialEq, Eq, PartialOrd, Ord)]
-pub enum OfMoment {}
+pub struct OfMoment;
 
 /// A version of the log or of a service.
 pub type Version = Number<OfVersion>;

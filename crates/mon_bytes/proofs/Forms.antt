@@ -1,0 +1,63 @@
+-- What the readers of forms take, and that they read what is spelled.
+use Rattle.std.proofs.Common.{◌≡◌, ℕ, ◌+◌, ◌^◌, ◌≤◌, ◌<◌, Bool, true, false, cond, ltb, eqb, List, [], ◌∷◌, ◌++◌, length, Result, Ok, Err, IsTrue, refl, sym, ap, subst, ◌∙◌, arith}
+use Rattle.std.proofs.lemmas.Bool.{eqb-true}
+use Rattle.std.proofs.lemmas.List.{nil_from_length}
+use Rattle.std.specs.Str.{is_utf8}
+use Rattle.byteorder.specs.Endian.{little_bytes}
+use Rattle.byteorder.specs.Numbers.{little_number-reads_back, length-bytes_low_first}
+use Rattle.mon_bytes.specs.declared.cursor.Short.{Short}
+use Rattle.mon_bytes.specs.declared.command.MapRefused.{MapRefused}
+use Rattle.mon_bytes.specs.declared.command.MapRefused.TheVariants as refused
+use Rattle.mon_bytes.specs.Reading.{IsBytes, Reading, number, front}
+use Rattle.mon_bytes.specs.Forms.{◌>>=◌, fitted, u32_bytes, text_bytes, text_at, ended}
+use Rattle.mon_bytes.proofs.Fields.{chosen_ok, ok_is, Takes, Takes-then, front_takes, number_takes, Found, number_found, front_found}
+
+pub bind_ok : {A B : Type 0} (r : Result A MapRefused) (f : A → Result B MapRefused) (y : B) → (r >>= f) ≡ Ok y → (x : A) × (r ≡ Ok x) × (f x ≡ Ok y)
+bind_ok (Ok x) f y e = (x, refl, e)
+bind_ok (Err d) f y e = absurd cc
+
+pub fitted_ok : {A : Type 0} (r : Result A Short) (x : A) → fitted r ≡ Ok x → r ≡ Ok x
+fitted_ok (Ok y) x e = let same : y ≡ x = cc in ap (λ z. Ok z) same
+fitted_ok (Err s) x e = absurd cc
+
+pub length-u32_bytes : (n : ℕ) → length (u32_bytes n) ≡ 4
+unfolding u32_bytes
+length-u32_bytes n = refl
+
+pub u32_takes : (c : Reading) (x : ℕ × Reading) → IsBytes c.rest → number 4 c ≡ Ok x → Takes c (u32_bytes x.0) x.1 × (x.0 < 2 ^ 32)
+unfolding u32_bytes
+u32_takes c x fits e = let t = number_takes 4 c x fits e in (t.0, omega (arith, t.1))
+
+pub u32_found : (c : Reading) (n : ℕ) (rest : List ℕ) → c.rest ≡ u32_bytes n ++ rest → n < 2 ^ 32 → Found (number 4 c) n rest
+unfolding u32_bytes
+u32_found c n rest e lt = number_found 4 c (little_bytes 4 n) rest n e refl (little_number-reads_back 4 n [] (omega arith))
+
+pub text_takes : (c : Reading) (x : List ℕ × Reading) → IsBytes c.rest → text_at c ≡ Ok x → Takes c (text_bytes x.0) x.1 × IsTrue (is_utf8 x.0) × (length x.0 < 2 ^ 32)
+unfolding text_at
+text_takes c x fits e =
+    let a = bind_ok (fitted (number 4 c)) (λ n. fitted (front n.0 n.1) >>= λ bytes. cond (is_utf8 bytes.0) (Ok bytes) (Err (refused.Form n.1.at))) x e in
+    let n = a.0 in
+    let b = bind_ok (fitted (front n.0 n.1)) (λ bytes. cond (is_utf8 bytes.0) (Ok bytes) (Err (refused.Form n.1.at))) x a.2 in
+    let g = chosen_ok (is_utf8 b.0.0) (refused.Form n.1.at) (Ok b.0) x b.2 in
+    let t0 = u32_takes c n fits (fitted_ok (number 4 c) n a.1) in
+    let t1 = front_takes n.0 n.1 b.0 t0.0.bytes (fitted_ok (front n.0 n.1) b.0 b.1) in
+    let all = Takes-then c n.1 b.0.1 (u32_bytes n.0) b.0.0 t0.0 t1.0 in
+    subst (λ (p : List ℕ × Reading). Takes c (text_bytes p.0) p.1 × IsTrue (is_utf8 p.0) × (length p.0 < 2 ^ 32)) (ok_is b.0 x g.1)
+    (subst (λ (k : ℕ). Takes c (u32_bytes k ++ b.0.0) b.0.1) (sym t1.1) all, g.0, omega (arith, t0.1, t1.1))
+
+pub text_found : (c : Reading) (text rest : List ℕ) → c.rest ≡ u32_bytes (length text) ++ (text ++ rest) → IsTrue (is_utf8 text) → length text < 2 ^ 32 → Found (text_at c) text rest
+unfolding text_at
+text_found c text rest e utf8 lt =
+    let a = u32_found c (length text) (text ++ rest) e lt in
+    let b = front_found (length text) a.0 text rest a.1 refl in
+    (b.0, b.1, rw (a.2, b.2, utf8) refl)
+
+pub ended_ok : {A : Type 0} (x : A × Reading) (y : A) → ended x ≡ Ok y → (x.0 ≡ y) × (x.1.rest ≡ [])
+unfolding ended
+ended_ok x y e =
+    let g = chosen_ok (eqb (length x.1.rest) 0) (refused.Form x.1.at) (Ok x.0) y e in
+    (ok_is x.0 y g.1, nil_from_length x.1.rest (eqb-true _ _ g.0))
+
+pub ended_found : {A : Type 0} (x : A) (c : Reading) → c.rest ≡ [] → ended (x, c) ≡ Ok x
+unfolding ended
+ended_found x c e = rw e refl

@@ -1,0 +1,50 @@
+-- Reading what the services keep, where each field at fault is named by its first place.
+use Rattle.std.specs.Prelude.{◌≡◌, ℕ, ◌++◌, List, length, Result, Ok, Err, ◌==◌, if◌then◌else◌}
+use Rattle.std.specs.Str.{is_utf8}
+use Rattle.byteorder.specs.Endian.{little_bytes}
+use Rattle.mon_bytes.specs.declared.cursor.Short.{Short}
+use Rattle.mon_bytes.specs.declared.command.MapRefused.{MapRefused}
+use Rattle.mon_bytes.specs.declared.command.MapRefused.TheVariants as refused
+use Rattle.mon_bytes.specs.Reading.{Reading, number, front}
+
+infixl 10 ◌>>=◌
+abbrev pub ◌>>=◌ : {A B : Type 0} → Result A MapRefused → (A → Result B MapRefused) → Result B MapRefused
+(Ok x) >>= f = f x
+(Err e) >>= f = Err e
+
+-- a field that doesn't fit is at fault
+abbrev pub fitted : {A : Type 0} → Result A Short → Result A MapRefused
+fitted (Ok x) = Ok x
+fitted (Err s) = Err (refused.Form s.at)
+
+-- What a call answered and left is what reading gives, unless memory ran out.
+abbrev pub Fails : {Y : Type 0} → MapRefused → Result Y MapRefused → Type 0
+Fails refused.OutOfMemory read = Unit {0}
+Fails e read = read ≡ Err e
+
+abbrev pub Reads : {X Y : Type 0} → (X → Y) → Result X MapRefused → Reading → Result (Y × Reading) MapRefused → Type 0
+Reads view (Ok x) new read = read ≡ Ok (view x, new)
+Reads view (Err e) new read = Fails e read
+
+abbrev pub Gives : {X Y : Type 0} → (X → Y) → Result X MapRefused → Result Y MapRefused → Type 0
+Gives view (Ok x) read = read ≡ Ok (view x)
+Gives view (Err e) read = Fails e read
+
+-- a number in four bytes, the lowest first
+unfoldable pub u32_bytes : ℕ → List ℕ
+u32_bytes n = little_bytes 4 n
+
+-- a text with its length in front
+abbrev pub text_bytes : List ℕ → List ℕ
+text_bytes text = u32_bytes (length text) ++ text
+
+-- a length, and so many bytes of UTF-8
+unfoldable pub text_at : Reading → Result (List ℕ × Reading) MapRefused
+text_at c = do
+  n ← fitted (number 4 c)
+  bytes ← fitted (front n.0 n.1)
+  if is_utf8 bytes.0 then Ok bytes else Err (refused.Form n.1.at)
+
+-- what was read, where nothing is left; the first byte too many is at fault
+unfoldable pub ended : {A : Type 0} → A × Reading → Result A MapRefused
+ended x = if length x.1.rest == 0 then Ok x.0 else Err (refused.Form x.1.at)

@@ -1,0 +1,17 @@
+-- Counts of faults, and what the answer Failed goes back to.
+use Rattle.std.specs.Prelude.{◌≡◌, ℕ, ◌+◌, ◌-◌, ◌^◌, ◌≤◌, min, Result, Err}
+use Rattle.mon_types.specs.declared.names.Stop.{Stop}
+use Rattle.mon_types.specs.declared.names.Stop.TheVariants.{Failed}
+
+-- one more, up to the last number of 64 bits, where a count stands still
+abbrev pub risen : ℕ → ℕ
+risen n = min (n + 1) (2 ^ 64 - 1)
+
+-- the count has risen, or stands at its last number
+abbrev pub Rose : ℕ → ℕ → Type 0
+Rose before now = risen before ≤ now
+
+-- The count never falls, and Failed is answered only where it rose.
+pub record HasCause {T : Type 0} (before now : ℕ) (result : Result T Stop) : Type 0 where
+  pub later : before ≤ now
+  pub failed : result ≡ Err Failed → Rose before now

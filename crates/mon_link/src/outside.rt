@@ -1,0 +1,48 @@
+ghost use Rattle.std.specs.Prelude.{◌≡◌, ℕ, List, Option, ◌≤◌, ◌<◌, length, IfOk, is_some};
+ghost use Rattle.std.specs.Io.{ReadsAtMost};
+ghost use Rattle.std.specs.Io.KnownBytes.{ReadConsumes, WriteAppends};
+ghost use Rattle.mon_link.specs.Faults.{HasCause, risen};
+
+use mon_types::Stop;
+
+/// A count after one more call or fault. It stands still at the last number of 64 bits.
+pub(crate) fn raised(count: u64) -> u64
+    ensures { result ≡ risen count }
+{
+    count.saturating_add(1)
+}
+
+/// Bytes that come in.
+pub trait Source {
+    /// The bytes that are left to read, where the source tells them.
+    ghost left: { Self → Option (List ℕ) };
+
+    /// The faults so far. The count never falls.
+    ghost faults: { Self → ℕ };
+
+    /// Reads some of the bytes that are left into the front of `into`, and answers how many. 0 is the end of the input,
+    /// or no room. A call that isn't Ok has given nothing.
+    fn read(&mut self, into: &mut [u8]) -> Result<usize, Stop>
+        ensures bound { ReadsAtMost result into.new }
+        ensures bytes { ReadConsumes (left self.old) (left self.new) result into.new }
+        ensures tells { is_some (left self.new) ≡ is_some (left self.old) }
+        ensures cause { HasCause (faults self.old) (faults self.new) result };
+}
+
+/// Bytes that go out.
+pub trait Sink {
+    /// The bytes that were written, where the sink tells them.
+    ghost held: { Self → Option (List ℕ) };
+
+    /// The faults so far. The count never falls.
+    ghost faults: { Self → ℕ };
+
+    /// Writes a front of the bytes, and answers how many: at least one, unless there are none. A call that isn't Ok has
+    /// taken nothing.
+    fn write(&mut self, bytes: &[u8]) -> Result<usize, Stop>
+        ensures bound { IfOk result (λ n. n ≤ length bytes.now) }
+        ensures some { IfOk result (λ n. 0 < length bytes.now → 0 < n) }
+        ensures bytes { WriteAppends (held self.old) (held self.new) result bytes.now }
+        ensures tells { is_some (held self.new) ≡ is_some (held self.old) }
+        ensures cause { HasCause (faults self.old) (faults self.new) result };
+}
