@@ -1,4 +1,13 @@
+pub mod After
+pub mod Again
 pub mod Decimals
+pub mod Faults
 pub mod Lengths
+pub mod Loop
+pub mod Named
 pub mod Places
+pub mod Ranges
+pub mod Over
+pub mod Takes
 pub mod Ties
+pub mod Words

@@ -2,7 +2,7 @@
 use Rattle.std.proofs.Common.{◌≡◌, ℕ, ◌+◌, ◌<◌, ◌≤◌, Bool, true, false, cond, ◌&&◌, List, [], ◌∷◌, ◌++◌, map, get_or, eqb, refl, sym, ap, ◌∙◌, ◌⊎◌, inl, inr, arith, lit≤}
 use Rattle.std.proofs.lemmas.Bool.{cases_eq, eq-eqb, ne_eqb, false_from_ne_true}
 use Rattle.std.proofs.lemmas.Int.Digits.{same_from_digits_of, all_below_base_digits_of, first_digits_of}
-use Rattle.std.specs.Prelude.{codes, nat_eq}
+use Rattle.std.specs.Prelude.{codes}
 use Rattle.std.specs.FinMap.{slice_cmp-IsAntisymmetric, nat_cmp-IsAntisymmetric}
 use Rattle.std.specs.Cmp.Lexicographic.{slice_cmp, nat_list_cmp_total}
 use Rattle.std.specs.Ordering.{nat_cmp, eq_by_cmp}
@@ -12,7 +12,7 @@ use Rattle.mon_tx.specs.declared.key.Area.{Area}
 use Rattle.mon_tx.specs.declared.key.Area.TheVariants.{Paxos, Kv, Logm, Monitor, Sync}
 use Rattle.mon_tx.specs.declared.key.Key.{Key}
 use Rattle.mon_tx.specs.declared.key.Key.TheVariants.{FirstCommitted, LastCommitted, LastPn, AcceptedPn, PendingV, PendingPn, FullLatest, ElectionEpoch, BootCount, InSync, Floor, Version, Full}
-use Rattle.mon_tx.specs.Map.{Place, place_cmp}
+use Rattle.mon_tx.specs.Map.{place_cmp}
 use Rattle.mon_tx.specs.Keys.{decimal_text, area_text, key_text, place, same_area, same_key}
 use Rattle.mon_tx.proofs.Places.{is_equal}
 
@@ -114,7 +114,7 @@ key_tie FullLatest (Full w) = letters_decimal w 108 (codes "atest") (lit≤ tt)
 key_tie (Full v) FullLatest = decimal_letters v 108 (codes "atest") (lit≤ tt)
 key_tie k n = refl
 
-area_tie : (b a : Area) → tie (area_text b) (area_text a) ≡ same_area b a
+pub area_tie : (b a : Area) → tie (area_text b) (area_text a) ≡ same_area b a
 area_tie Paxos Paxos = refl
 area_tie Paxos Kv = refl
 area_tie Paxos Logm = refl

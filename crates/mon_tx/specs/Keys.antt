@@ -1,5 +1,5 @@
 -- The keys of a monitor's map by name, and which of them are its own.
-use Rattle.std.specs.Prelude.{ℕ, ◌+◌, Bool, true, false, not, ◌==◌, if◌then◌else◌, List, [], ◌∷◌, ◌++◌, map, Option, codes}
+use Rattle.std.specs.Prelude.{ℕ, ◌+◌, Bool, true, false, not, ◌&&◌, nat_le, nat_lt, ◌==◌, if◌then◌else◌, List, [], ◌∷◌, ◌++◌, map, Option, codes}
 use Rattle.std.specs.Int.Digits.{digits_of}
 use Rattle.std.specs.List.{list_any}
 use Rattle.std.specs.Ordering.{eq_by_cmp}
@@ -84,3 +84,8 @@ same_key Floor Floor = true
 same_key (Version v) (Version w) = v == w
 same_key (Full v) (Full w) = v == w
 same_key a b = false
+
+-- whether a key is that of a version from `from` up to `to`
+abbrev pub covers : ℕ → ℕ → Key → Bool
+covers from to (Version v) = nat_le from v && nat_lt v to
+covers from to key = false

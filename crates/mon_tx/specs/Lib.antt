@@ -1,4 +1,7 @@
+pub mod Decision
 pub mod Decode
+pub mod Fields
 pub mod Keys
 pub mod Map
+pub mod Spelled
 pub mod Text

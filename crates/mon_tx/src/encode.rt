@@ -5,7 +5,6 @@ ghost use Rattle.mon_tx.specs.Text.{op_text, text, format, is_range, value_len, 
 use crate::op::Op;
 use crate::transaction::Transaction;
 use mon_bytes::{Out, OutOfMemory};
-use std::alloc::Global;
 use thiserror::Error;
 
 /// The most bytes that a transaction's text may have.
@@ -84,7 +83,7 @@ fn is_range(op: &Op) -> bool
     }
 }
 
-fn has_range(ops: &[Op]) -> bool
+pub(crate) fn has_range(ops: &[Op]) -> bool
     ensures { result ≡ list_any is_range ops.now }
 {
     ops.iter().any(|op| is_range(op))
@@ -120,7 +119,7 @@ fn put_ops(out: &mut Out, ops: &[Op]) -> Result<(), OutOfMemory>
 
 impl Transaction {
     /// The one text of the transaction. `TooLong` exactly where it has more than 4,194,304 bytes.
-    pub fn encode(&self, alloc: Global) -> Result<Vec<u8>, EncodeRefused>
+    pub fn encode(&self) -> Result<Vec<u8>, EncodeRefused>
         ensures text { IfOk result (λ bytes. bytes.items ≡ text self.now) }
         ensures fits { IfOk result (λ bytes. length bytes.items ≤ most) }
         ensures too_long { (len : ℕ) → result ≡ Err (EncodeRefused.TooLong len) → (most < length (text self.now)) × (len ≡ min (length (text self.now)) (2 ^ 64 - 1)) }
@@ -130,7 +129,7 @@ impl Transaction {
         if len > MOST_BYTES {
             return Err(EncodeRefused::TooLong { len });
         }
-        let mut out = Out::new(alloc);
+        let mut out = Out::new(self.allocator());
         if put_ops(&mut out, self.ops()).is_err() {
             return Err(EncodeRefused::OutOfMemory);
         }

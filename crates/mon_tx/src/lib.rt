@@ -2,15 +2,23 @@
 #![tactic(auto)]
 
 mod encode;
+mod fields;
 mod key;
+mod law;
 mod op;
+mod reading;
 mod refusal;
+mod scan;
+mod spelled;
 mod transaction;
 
 pub use encode::{EncodeRefused, MOST_BYTES};
 pub use key::{Area, Key};
+pub use law::{law_last_decides, law_no_prefix, law_one_spelling, law_range, law_reading};
 pub use op::Op;
+pub use reading::decode;
 pub use refusal::TxRefused;
+pub use scan::is_text;
 pub use transaction::Transaction;
 
 #[cfg(test)]

@@ -1,0 +1,231 @@
+use super::*;
+use mon_bytes::{Bytes, Name, Prefix};
+use mon_types::Version;
+use std::alloc::Global;
+use std::test::Fail;
+
+type Row<'a> = (&'a [u8], Option<TxRefused>);
+
+/// What a row's bytes decode to, which spells them again, or why they don't.
+fn as_the_row_says(rt: HostRuntime, row: Row) -> Result<bool, Fail> {
+    let (bytes, refused) = row;
+    let alloc = rt.alloc();
+    if is_text(bytes) != refused.is_none() {
+        return Ok(false);
+    }
+    match decode(alloc, bytes) {
+        Ok(tx) => Ok(refused.is_none() && tx.encode()?.as_slice() == bytes),
+        Err(found) => Ok(refused == Some(found)),
+    }
+}
+
+#[test]
+fn worked_texts_and_refusals(rt: HostRuntime) -> Result<(), Fail> {
+    for row in [
+        (
+            b"\x01\x02\0\0\0\x01\x02kv\x01a\x01\0\0\0x\x03\x03log".as_slice(),
+            None,
+        ),
+        (b"\x01\x02\0".as_slice(), Some(TxRefused::Cut { at: 1 })),
+        (b"\x02\0\0\0\0".as_slice(), Some(TxRefused::Kind { at: 0 })),
+        (
+            b"\x01\x02\0\0\0\x01\x02kv\x01a\x01\0\0\0x\x03\x03log\0".as_slice(),
+            Some(TxRefused::Rest { at: 21 }),
+        ),
+        (
+            b"\x01\x01\0\0\0\x03\0".as_slice(),
+            Some(TxRefused::Name { at: 6 }),
+        ),
+        (b"".as_slice(), Some(TxRefused::Cut { at: 0 })),
+        (
+            b"\x02\x01\0\0\0\x04\x05paxos\x01\0\0\0\0\0\0\0\xfb\0\0\0\0\0\0\0".as_slice(),
+            None,
+        ),
+        (
+            b"\x02\x01\0\0\0\x04\x05paxos\x01\0\0\0\0\0\0\0\x01\0\0\0\0\0\0\0".as_slice(),
+            Some(TxRefused::Range { at: 20 }),
+        ),
+        (
+            b"\x01\x01\0\0\0\x04\x05paxos\x01\0\0\0\0\0\0\0\xfb\0\0\0\0\0\0\0".as_slice(),
+            Some(TxRefused::Kind { at: 5 }),
+        ),
+    ] {
+        assert!(rt; as_the_row_says(rt, row)?, "{:?}", row.0);
+    }
+    Ok(())
+}
+
+/// The answers are another implementation's, for texts that were made at random and then spoiled.
+#[test]
+fn spoiled_texts(rt: HostRuntime) -> Result<(), Fail> {
+    for row in [
+        (b"\x01\0\0\0\0".as_slice(), None),
+        (b"\x01\x01\0\0\0\x03\x01x".as_slice(), None),
+        (b"\x01\x01\0\0\0\x03\x01~".as_slice(), None),
+        (
+            b"\x02\x01\0\0\0\x04\x01x\0\0\0\0\0\0\0\0\xfc\xff\xff\xff\xff\xff\xff?".as_slice(),
+            None,
+        ),
+        (
+            b"\x02\x01\0\0\0\x04\x03log\0\0\0\0\0\0\0\0\xff\xff\xff\xff\xff\xff\xff?".as_slice(),
+            None,
+        ),
+        (
+            b"\x02\x01\0\0\0\x04\x02kvc\0\0\0\0\0\0\0\0\0\0\0\0 \0\0".as_slice(),
+            None,
+        ),
+        (
+            b"\x01\x01\0\0\0\x01\x03log\x037".as_slice(),
+            Some(TxRefused::Cut { at: 11 }),
+        ),
+        (b"\x01\0  \0".as_slice(), Some(TxRefused::Cut { at: 5 })),
+        (b"\x01\x08\0\0".as_slice(), Some(TxRefused::Cut { at: 1 })),
+        (
+            b"\x02\x01\0\0\0\x04\x02kv\x02\0\0\0\0\0\0\x01\0\0\0\0\0\0@".as_slice(),
+            Some(TxRefused::Cut { at: 17 }),
+        ),
+        (
+            b"\x02\xff\xff\xff\xff\x04\x02kv\0\0\0\0\0\0\0\0\x02\0\0\0\0\0\0\0".as_slice(),
+            Some(TxRefused::Cut { at: 25 }),
+        ),
+        (
+            b"\x01\x01\0\0\x02\x08mon_sync\x06full_7".as_slice(),
+            Some(TxRefused::Kind { at: 5 }),
+        ),
+        (
+            b"\x01\0\0\0\x10\x03\x01x\xc99".as_slice(),
+            Some(TxRefused::Kind { at: 8 }),
+        ),
+        (
+            b"\x01\0\0\x01\0\x03\x02kv:".as_slice(),
+            Some(TxRefused::Kind { at: 9 }),
+        ),
+        (
+            b"\x02\x02\0\0\0\x04\x08mon_sync\0\0\0\0\0\0\0\0\x8c\0!\0\0\0\0\0\0".as_slice(),
+            Some(TxRefused::Kind { at: 31 }),
+        ),
+        (
+            b"\x02\x02\0\0\0n_sync\0\0\0\0\0\0\0\0\x01\x03\0\0\0\0\0\0".as_slice(),
+            Some(TxRefused::Kind { at: 5 }),
+        ),
+        (b"\x02\0\0\0\0".as_slice(), Some(TxRefused::Kind { at: 0 })),
+        (
+            b"\x01\x01\0\0\0\x01\x02kv\x06full_\x0f7\0\0\0\0".as_slice(),
+            Some(TxRefused::Name { at: 15 }),
+        ),
+        (
+            b"\x01\x01\0\0\0\x03\x1f!!!!!!\x9a!!!!!!!!!!!!!!!!!!!!!!!!".as_slice(),
+            Some(TxRefused::Name { at: 13 }),
+        ),
+        (
+            b"\x02\x02\0\0\0\x03mon_sync\x04\x05paxos!\0\0\0\0\0\0\0\xfb\0\0\0\0\0\0\0".as_slice(),
+            Some(TxRefused::Name { at: 6 }),
+        ),
+        (
+            b"\x02\x01\0\0\0\x04\x01\xff\xff\xff\xff\xff\xff\xff\0\0\0\0\0\0\0@".as_slice(),
+            Some(TxRefused::Name { at: 7 }),
+        ),
+        (
+            b"\x02\x01\0\0\0\x04\x03log\x02\0\0\0\0\0\xd7\0\0\xfb\0\0\0\0\0\0\0\xfe\x0f".as_slice(),
+            Some(TxRefused::Range { at: 18 }),
+        ),
+        (
+            b"\x02\0\0\x01\0\x04\x08mon_sync\x01\0\0\0\0\0\0@c\0\0\0\0\0\0\0!".as_slice(),
+            Some(TxRefused::Range { at: 15 }),
+        ),
+        (
+            b"\x02\x02\0\0\0\x04\x05pixos\x01\0\0\0\0\0\0\0\xff\xff\xff\xff\xff\xff\xff\xff\x02\x02kv\x01a".as_slice(),
+            Some(TxRefused::Range { at: 20 }),
+        ),
+        (
+            b"\x01\0\0\0\0\x22\xff".as_slice(),
+            Some(TxRefused::Rest { at: 5 }),
+        ),
+        (
+            b"\x02\0\0\0\0\x04\x02kvc\0\0\0\0\0\0\0\xff\xff\xff\xff\xff\xff\xff?".as_slice(),
+            Some(TxRefused::Rest { at: 5 }),
+        ),
+        (
+            b"\x02\x01\0\0\0\x03\x01x".as_slice(),
+            Some(TxRefused::Kind { at: 0 }),
+        ),
+    ] {
+        assert!(rt; as_the_row_says(rt, row)?, "{:?}", row.0);
+    }
+    Ok(())
+}
+
+fn zeros(alloc: Global, n: usize) -> Result<Vec<u8>, Fail> {
+    Ok(vec![in alloc; 0u8; n]?)
+}
+
+#[test]
+fn a_text_has_at_most_4194304_bytes(rt: HostRuntime) -> Result<(), Fail> {
+    let alloc = rt.alloc();
+    let bytes = zeros(alloc, 4194305)?;
+    let found = decode(alloc, bytes.as_slice()).err();
+    assert_eq!(rt; found, Some(TxRefused::TooLong { len: 4194305 }));
+    assert!(rt; !is_text(bytes.as_slice()));
+    let found = decode(alloc, zeros(alloc, 4194304)?.as_slice()).err();
+    assert_eq!(rt; found, Some(TxRefused::Kind { at: 0 }));
+    Ok(())
+}
+
+#[test]
+fn spells_and_copies(rt: HostRuntime) -> Result<(), Fail> {
+    let alloc = rt.alloc();
+    let mut tx = Transaction::new(alloc);
+    tx.push(Op::Put {
+        prefix: Area::Kv.prefix(alloc)?,
+        key: Name::new(Vec::from_slice(alloc, b"a")?).ok_or("a key")?,
+        value: Bytes::new(Vec::from_slice(alloc, b"x")?),
+    })?;
+    tx.push(Op::ErasePrefix {
+        prefix: Prefix::new(Vec::from_slice(alloc, b"log")?).ok_or("a prefix")?,
+    })?;
+    assert_eq!(rt;
+        tx.encode()?.as_slice(),
+        b"\x01\x02\0\0\0\x01\x02kv\x01a\x01\0\0\0x\x03\x03log".as_slice()
+    );
+    tx.push(Op::Erase {
+        prefix: Area::Paxos.prefix(alloc)?,
+        key: Key::Full(751).name(alloc)?,
+    })?;
+    let copy = tx.copy()?;
+    assert_eq!(rt; copy.encode()?.as_slice(), tx.encode()?.as_slice());
+    assert_eq!(rt; copy.into_ops().len(), 3);
+    Ok(())
+}
+
+#[test]
+fn a_range_has_the_second_format(rt: HostRuntime) -> Result<(), Fail> {
+    let alloc = rt.alloc();
+    let mut tx = Transaction::new(alloc);
+    let (from, to) = (Version::new(1).ok_or("1")?, Version::new(251).ok_or("251")?);
+    tx.push(Op::EraseRange {
+        prefix: Area::Paxos.prefix(alloc)?,
+        from,
+        to,
+    })?;
+    assert_eq!(rt;
+        tx.encode()?.as_slice(),
+        b"\x02\x01\0\0\0\x04\x05paxos\x01\0\0\0\0\0\0\0\xfb\0\0\0\0\0\0\0".as_slice()
+    );
+    Ok(())
+}
+
+#[test]
+fn names_of_keys(rt: HostRuntime) -> Result<(), Fail> {
+    let alloc = rt.alloc();
+    for (key, text) in [
+        (Key::FirstCommitted, "first_committed"),
+        (Key::Floor, "last_committed_floor"),
+        (Key::Version(0), "0"),
+        (Key::Version(751), "751"),
+        (Key::Full(700), "full_700"),
+    ] {
+        assert_eq!(rt; key.name(alloc)?.as_str(), text);
+    }
+    assert_eq!(rt; Area::Sync.prefix(alloc)?.as_str(), "mon_sync");
+    Ok(())
+}

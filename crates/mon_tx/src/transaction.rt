@@ -63,10 +63,16 @@ impl Transaction {
         self.ops
     }
 
+    /// The allocator that the transaction was made with.
+    pub fn allocator(&self) -> Global {
+        *self.ops.allocator()
+    }
+
     /// An equal transaction.
-    pub fn copy(&self, alloc: Global) -> Result<Transaction, OutOfMemory>
+    pub fn copy(&self) -> Result<Transaction, OutOfMemory>
         ensures { IfOk result (λ t. t ≡ self.now) }
     {
+        let alloc = self.allocator();
         let mut ops = Vec::new(alloc);
         for op in &self.ops {
             ops.push(op.copy(alloc)?)?;

@@ -1,0 +1,163 @@
+//! One change of a transaction's text, read without memory.
+
+ghost use Rattle.std.specs.Prelude.{◌≡◌, ℕ, List, IfOk, IsTrue};
+ghost use Rattle.mon_bytes.specs.Texts.{is_name, is_prefix};
+ghost use Rattle.mon_tx.specs.Text.{is_range, is_upward};
+ghost use Rattle.mon_tx.specs.Fields.{Reads};
+ghost use Rattle.mon_tx.specs.Decode.{put_at, erase_at, erase_prefix_at, erase_range_at, op_at, OpFits};
+ghost use Rattle.mon_tx.specs.Spelled.{change};
+
+use crate::fields::{value_at, version_at, word_at};
+use crate::op::Op;
+use crate::refusal::TxRefused;
+use mon_bytes::{Bytes, Cursor, Name, OutOfMemory, Prefix};
+use mon_types::Version;
+use std::alloc::Global;
+
+/// A change as it stands in a text.
+#[derive(Clone, Copy)]
+pub enum Spelled<'a> {
+    Put {
+        prefix: &'a [u8],
+        key: &'a [u8],
+        value: &'a [u8],
+    },
+    Erase {
+        prefix: &'a [u8],
+        key: &'a [u8],
+    },
+    ErasePrefix {
+        prefix: &'a [u8],
+    },
+    EraseRange {
+        prefix: &'a [u8],
+        from: Version,
+        to: Version,
+    },
+}
+
+#[tactic(auto, unfolding(crate::specs::Decode::put_at))]
+fn put_at<'a>(cursor: &mut Cursor<'a>) -> Result<Spelled<'a>, TxRefused>
+    ensures op { Reads change result cursor.new (put_at cursor.old) }
+    ensures fits { IfOk result (λ x. OpFits (change x)) }
+{
+    let prefix = word_at(cursor, 32)?;
+    let key = word_at(cursor, 255)?;
+    let value = value_at(cursor)?;
+    Ok(Spelled::Put { prefix, key, value })
+}
+
+#[tactic(auto, unfolding(crate::specs::Decode::erase_at))]
+fn erase_at<'a>(cursor: &mut Cursor<'a>) -> Result<Spelled<'a>, TxRefused>
+    ensures op { Reads change result cursor.new (erase_at cursor.old) }
+    ensures fits { IfOk result (λ x. OpFits (change x)) }
+{
+    let prefix = word_at(cursor, 32)?;
+    let key = word_at(cursor, 255)?;
+    Ok(Spelled::Erase { prefix, key })
+}
+
+#[tactic(auto, unfolding(crate::specs::Decode::erase_prefix_at))]
+fn erase_prefix_at<'a>(cursor: &mut Cursor<'a>) -> Result<Spelled<'a>, TxRefused>
+    ensures op { Reads change result cursor.new (erase_prefix_at cursor.old) }
+    ensures fits { IfOk result (λ x. OpFits (change x)) }
+{
+    let prefix = word_at(cursor, 32)?;
+    Ok(Spelled::ErasePrefix { prefix })
+}
+
+#[tactic(auto, unfolding(crate::specs::Decode::erase_range_at))]
+fn erase_range_at<'a>(cursor: &mut Cursor<'a>) -> Result<Spelled<'a>, TxRefused>
+    ensures op { Reads change result cursor.new (erase_range_at cursor.old) }
+    ensures fits { IfOk result (λ x. OpFits (change x)) }
+{
+    let prefix = word_at(cursor, 32)?;
+    let from = version_at(cursor)?;
+    let at = cursor.at();
+    let to = version_at(cursor)?;
+    if from.get() < to.get() {
+        Ok(Spelled::EraseRange { prefix, from, to })
+    } else {
+        Err(TxRefused::Range { at })
+    }
+}
+
+/// The next change of a text of that format.
+#[tactic(auto, unfolding(crate::specs::Decode::op_at))]
+pub fn op_at<'a>(format: u8, cursor: &mut Cursor<'a>) -> Result<Spelled<'a>, TxRefused>
+    ensures op { Reads change result cursor.new (op_at format cursor.old) }
+    ensures fits { IfOk result (λ x. OpFits (change x)) }
+{
+    let at = cursor.at();
+    match cursor.take_u8()? {
+        1 => put_at(cursor),
+        2 => erase_at(cursor),
+        3 => erase_prefix_at(cursor),
+        4 => {
+            if format == 2 {
+                erase_range_at(cursor)
+            } else {
+                Err(TxRefused::Kind { at })
+            }
+        }
+        _ => Err(TxRefused::Kind { at }),
+    }
+}
+
+fn prefix_of(alloc: Global, bytes: &[u8]) -> Result<Prefix, OutOfMemory>
+    requires { IsTrue (is_prefix bytes.now) }
+    ensures { IfOk result (λ prefix. prefix ≡ bytes.now) }
+{
+    match Prefix::new(Vec::from_slice(alloc, bytes)?) {
+        Some(prefix) => Ok(prefix),
+        None => unreachable!(),
+    }
+}
+
+fn name_of(alloc: Global, bytes: &[u8]) -> Result<Name, OutOfMemory>
+    requires { IsTrue (is_name bytes.now) }
+    ensures { IfOk result (λ name. name ≡ bytes.now) }
+{
+    match Name::new(Vec::from_slice(alloc, bytes)?) {
+        Some(name) => Ok(name),
+        None => unreachable!(),
+    }
+}
+
+impl<'a> Spelled<'a> {
+    pub fn is_range(&self) -> bool
+        ensures { result ≡ is_range (change self.now) }
+    {
+        match self {
+            Spelled::EraseRange { .. } => true,
+            _ => false,
+        }
+    }
+
+    /// The change itself.
+    pub fn to_op(&self, alloc: Global) -> Result<Op, OutOfMemory>
+        requires { OpFits (change self.now) }
+        ensures op { IfOk result (λ op. op ≡ change self.now) }
+        ensures upward { IfOk result (λ op. IsTrue (is_upward op)) }
+    {
+        Ok(match self {
+            Spelled::Put { prefix, key, value } => Op::Put {
+                prefix: prefix_of(alloc, prefix)?,
+                key: name_of(alloc, key)?,
+                value: Bytes::new(Vec::from_slice(alloc, value)?),
+            },
+            Spelled::Erase { prefix, key } => Op::Erase {
+                prefix: prefix_of(alloc, prefix)?,
+                key: name_of(alloc, key)?,
+            },
+            Spelled::ErasePrefix { prefix } => Op::ErasePrefix {
+                prefix: prefix_of(alloc, prefix)?,
+            },
+            Spelled::EraseRange { prefix, from, to } => Op::EraseRange {
+                prefix: prefix_of(alloc, prefix)?,
+                from: *from,
+                to: *to,
+            },
+        })
+    }
+}
