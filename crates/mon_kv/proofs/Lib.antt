@@ -1,0 +1,10 @@
+pub mod AreaLaws
+pub mod ChunkLaws
+pub mod Forks
+pub mod LocalLaws
+pub mod NextLaws
+pub mod Numerals
+pub mod PlaceLaws
+pub mod ReaderLaws
+pub mod StoreLaws
+pub mod Sums

@@ -1,0 +1,19 @@
+use Rattle.std.proofs.Common.{◌≡◌, ◌+◌, true, Some, sym, ap, ◌∙◌, rules}
+use Rattle.std.specs.Option.{option_copied}
+use Rattle.mon_tx.specs.Decode.{is_text}
+use Rattle.mon_tx.specs.Keys.{cell, number}
+use Rattle.mon_tx.specs.declared.key.Area.TheVariants as area
+use Rattle.mon_tx.specs.declared.key.Key.TheVariants as key
+use Rattle.mon_kv.specs.Readers.{pending}
+use Rattle.mon_kv.proofs.ReaderLaws.{waiting-some}
+use Rattle.mon_kv.proofs.kv.Kv.pending.Goals as goal
+
+pub returns : goal.returns
+unfolding pending
+returns c =
+    let m = c.args.self.now in
+    let last = c.last_committed-v.result in
+    let text : is_text c.in_ok-value.value.now ≡ true = search rules in
+    let there : cell m area.Paxos (key.Version (last + 1)) ≡ Some c.in_ok-value.value.now = sym c.stored.ensures ∙ ap option_copied c.in_ok-value.was in
+    let own : number m area.Paxos key.PendingV ≡ last + 1 = sym c.number.ensures.value ∙ c.if-number-v.false in
+    rw (← c.last_committed-v.ensures.value, ← c.number-pn.ensures.value) (sym (waiting-some (number m area.Paxos key.PendingV) c.number-pn.result last (cell m area.Paxos (key.Version (last + 1))) c.in_ok-value.value.now own there text))

@@ -1,0 +1,4 @@
+pub mod Areas
+pub mod Chunks
+pub mod Readers
+pub mod Tree

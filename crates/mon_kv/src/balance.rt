@@ -1,0 +1,154 @@
+//! Trees made of trees. Each call keeps the entries in their order, and the heights of two sides within one of each
+//! other where they were so in its parts.
+
+ghost use Rattle.std.specs.Prelude.{◌≡◌, [], ◌∷◌, ◌++◌};
+ghost use Rattle.mon_kv.specs.Tree.{entries, node_entries, TakesRoot};
+
+use crate::tree::{Node, Tree};
+use std::mem::replace;
+
+/// The greater of the two heights and one more.
+fn above<V>(left: &Tree<V>, right: &Tree<V>) -> u8 {
+    left.height().max(right.height()).saturating_add(1)
+}
+
+/// The entry of `node` between two trees.
+fn fork<V: Drop>(left: Tree<V>, mut node: Box<Node<V>>, right: Tree<V>) -> Tree<V>
+    ensures { entries result ≡ entries left ++ (node.value.key, node.value.value) ∷ entries right }
+{
+    node.height = above(&left, &right);
+    node.left = left;
+    node.right = right;
+    Tree::Fork(node)
+}
+
+/// The same where the left side is higher by two.
+fn lean_left<V: Drop>(left: Tree<V>, node: Box<Node<V>>, right: Tree<V>) -> Tree<V>
+    ensures { entries result ≡ entries left ++ (node.value.key, node.value.value) ∷ entries right }
+{
+    let Tree::Fork(mut top) = left else {
+        return fork(Tree::Leaf, node, right);
+    };
+    let outer = replace(&mut top.left, Tree::Leaf);
+    let inner = replace(&mut top.right, Tree::Leaf);
+    if inner.height() <= outer.height() {
+        return fork(outer, top, fork(inner, node, right));
+    }
+    let Tree::Fork(mut mid) = inner else {
+        return fork(outer, top, fork(Tree::Leaf, node, right));
+    };
+    let low = replace(&mut mid.left, Tree::Leaf);
+    let high = replace(&mut mid.right, Tree::Leaf);
+    fork(fork(outer, top, low), mid, fork(high, node, right))
+}
+
+/// The same where the right side is higher by two.
+fn lean_right<V: Drop>(left: Tree<V>, node: Box<Node<V>>, right: Tree<V>) -> Tree<V>
+    ensures { entries result ≡ entries left ++ (node.value.key, node.value.value) ∷ entries right }
+{
+    let Tree::Fork(mut top) = right else {
+        return fork(left, node, Tree::Leaf);
+    };
+    let inner = replace(&mut top.left, Tree::Leaf);
+    let outer = replace(&mut top.right, Tree::Leaf);
+    if inner.height() <= outer.height() {
+        return fork(fork(left, node, inner), top, outer);
+    }
+    let Tree::Fork(mut mid) = inner else {
+        return fork(fork(left, node, Tree::Leaf), top, outer);
+    };
+    let low = replace(&mut mid.left, Tree::Leaf);
+    let high = replace(&mut mid.right, Tree::Leaf);
+    fork(fork(left, node, low), mid, fork(high, top, outer))
+}
+
+/// The entry of `node` between two trees whose heights differ by at most two.
+fn balanced<V: Drop>(left: Tree<V>, node: Box<Node<V>>, right: Tree<V>) -> Tree<V>
+    ensures { entries result ≡ entries left ++ (node.value.key, node.value.value) ∷ entries right }
+{
+    let (low, high) = (left.height(), right.height());
+    if low > high.saturating_add(1) {
+        lean_left(left, node, right)
+    } else if high > low.saturating_add(1) {
+        lean_right(left, node, right)
+    } else {
+        fork(left, node, right)
+    }
+}
+
+/// The entry of `node` between two trees of any heights.
+pub(crate) fn joined<V: Drop>(left: Tree<V>, node: Box<Node<V>>, right: Tree<V>) -> Tree<V>
+    ensures { entries result ≡ entries left ++ (node.value.key, node.value.value) ∷ entries right }
+{
+    let (low, high) = (left.height(), right.height());
+    match (left, right) {
+        (Tree::Fork(mut top), right) if low > high.saturating_add(1) => {
+            let outer = replace(&mut top.left, Tree::Leaf);
+            let inner = replace(&mut top.right, Tree::Leaf);
+            balanced(outer, top, joined(inner, node, right))
+        }
+        (left, Tree::Fork(mut top)) if high > low.saturating_add(1) => {
+            let inner = replace(&mut top.left, Tree::Leaf);
+            let outer = replace(&mut top.right, Tree::Leaf);
+            balanced(joined(left, node, inner), top, outer)
+        }
+        (left, right) => fork(left, node, right),
+    }
+}
+
+/// Brings the two sides of a tree into balance.
+pub(crate) fn settle<V: Drop>(tree: &mut Tree<V>)
+    ensures { entries tree.new ≡ entries tree.old }
+{
+    if let Tree::Fork(mut node) = replace(tree, Tree::Leaf) {
+        let left = replace(&mut node.left, Tree::Leaf);
+        let right = replace(&mut node.right, Tree::Leaf);
+        *tree = joined(left, node, right);
+    }
+}
+
+/// The first entry of the tree that the node is the root of, and the tree without it.
+fn split_first<V: Drop>(mut node: Box<Node<V>>) -> (Box<Node<V>>, Tree<V>)
+    ensures { node_entries node.value ≡ (result.0.value.key, result.0.value.value) ∷ entries result.1 }
+{
+    let right = replace(&mut node.right, Tree::Leaf);
+    match replace(&mut node.left, Tree::Leaf) {
+        Tree::Leaf => (node, right),
+        Tree::Fork(left) => {
+            let (first, left) = split_first(left);
+            (first, joined(left, node, right))
+        }
+    }
+}
+
+/// One tree before another.
+pub(crate) fn beside<V: Drop>(left: Tree<V>, right: Tree<V>) -> Tree<V>
+    ensures { entries result ≡ entries left ++ entries right }
+{
+    match right {
+        Tree::Leaf => left,
+        Tree::Fork(node) => {
+            let (first, right) = split_first(node);
+            joined(left, first, right)
+        }
+    }
+}
+
+/// Takes the entry at a tree's root away, and gives its value.
+pub(crate) fn take_root<V: Drop>(tree: &mut Tree<V>) -> Option<V>
+    ensures { TakesRoot tree.old tree.new result }
+{
+    match replace(tree, Tree::Leaf) {
+        Tree::Leaf => None,
+        Tree::Fork(node) => {
+            let Node {
+                left,
+                value,
+                right,
+                ..
+            } = Box::into_inner(node);
+            *tree = beside(left, right);
+            Some(value)
+        }
+    }
+}

@@ -1,0 +1,115 @@
+//! What a map tells by name.
+
+ghost use Rattle.std.specs.Prelude.{◌≡◌, ◌≤◌, ◌^◌};
+ghost use Rattle.std.specs.Option.{option_copied, option_map};
+ghost use Rattle.mon_tx.specs.Keys.{cell, number};
+ghost use Rattle.mon_tx.specs.declared.key.Area.TheVariants as area;
+ghost use Rattle.mon_tx.specs.declared.key.Key.TheVariants as key;
+ghost use Rattle.mon_kv.specs.Readers.{epoch, is_marked, pending};
+
+use crate::kv::Kv;
+use itoa::Buffer;
+use mon_tx::is_text;
+
+/// A value that this monitor accepted and that isn't committed yet.
+#[derive(Clone, Copy, Debug)]
+pub struct Pending<'a> {
+    pub v: u64,
+    pub pn: u64,
+    pub value: &'a [u8],
+}
+
+impl Kv {
+    /// The first version that is kept.
+    pub fn first_committed(&self) -> u64
+        ensures value { result ≡ number self.now area.Paxos key.FirstCommitted }
+        ensures most { result ≤ 2 ^ 62 }
+    {
+        self.number(b"paxos", b"first_committed")
+    }
+
+    /// The last committed version.
+    pub fn last_committed(&self) -> u64
+        ensures value { result ≡ number self.now area.Paxos key.LastCommitted }
+        ensures most { result ≤ 2 ^ 62 }
+    {
+        self.number(b"paxos", b"last_committed")
+    }
+
+    /// The last proposal number that the monitor made.
+    pub fn last_pn(&self) -> u64
+        ensures value { result ≡ number self.now area.Paxos key.LastPn }
+        ensures most { result ≤ 2 ^ 62 }
+    {
+        self.number(b"paxos", b"last_pn")
+    }
+
+    /// The proposal number that the monitor promised.
+    pub fn promise(&self) -> u64
+        ensures value { result ≡ number self.now area.Paxos key.AcceptedPn }
+        ensures most { result ≤ 2 ^ 62 }
+    {
+        self.number(b"paxos", b"accepted_pn")
+    }
+
+    /// The election epoch. It counts as 1 where there is none.
+    pub fn epoch(&self) -> u64
+        ensures value { result ≡ epoch self.now }
+        ensures most { result ≤ 2 ^ 62 }
+    {
+        if self.get(b"monitor", b"election_epoch").is_none() {
+            return 1;
+        }
+        self.number(b"monitor", b"election_epoch")
+    }
+
+    /// How often the monitor was started.
+    pub fn boot_count(&self) -> u64
+        ensures value { result ≡ number self.now area.Monitor key.BootCount }
+        ensures most { result ≤ 2 ^ 62 }
+    {
+        self.number(b"monitor", b"boot_count")
+    }
+
+    /// The version that a full synchronisation must reach.
+    pub fn floor(&self) -> u64
+        ensures value { result ≡ number self.now area.Sync key.Floor }
+        ensures most { result ≤ 2 ^ 62 }
+    {
+        self.number(b"mon_sync", b"last_committed_floor")
+    }
+
+    /// Whether a full synchronisation is under way.
+    pub fn in_sync(&self) -> bool
+        ensures { result ≡ is_marked self.now }
+    {
+        self.number(b"mon_sync", b"in_sync") == 1
+    }
+
+    /// The record of a version: the bytes at its decimal key, or `None` exactly where there are none.
+    #[tactic(auto, using(mon_tx::proofs::Decimals::decimal_is))]
+    pub fn stored(&self, v: u64) -> Option<&[u8]>
+        ensures { option_copied result ≡ cell self.now area.Paxos (key.Version v) }
+    {
+        let mut digits = Buffer::new();
+        self.get(b"paxos", digits.format(v).as_bytes())
+    }
+
+    /// The value that was accepted for the version after the last one. It is there exactly where `pending_v` is that
+    /// version and its record is a transaction.
+    #[tactic(auto, unfolding(crate::specs::Readers::pending))]
+    pub fn pending(&self) -> Option<Pending<'_>>
+        ensures { option_map (λ p. (p.v, p.pn, p.value.now)) result ≡ pending self.now }
+    {
+        let v = self.last_committed() + 1;
+        if self.number(b"paxos", b"pending_v") != v {
+            return None;
+        }
+        let value = self.stored(v)?;
+        if !is_text(value) {
+            return None;
+        }
+        let pn = self.number(b"paxos", b"pending_pn");
+        Some(Pending { v, pn, value })
+    }
+}
