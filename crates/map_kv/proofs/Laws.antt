@@ -1,0 +1,175 @@
+-- What is read is spelled so, and what is spelled so is read.
+use Rattle.std.proofs.Common.{◌≡◌, ℕ, zero, suc, ◌+◌, ◌≤◌, ◌<◌, ◌^◌, ◌⊎◌, Bool, true, false, ◌&&◌, cond, leb, ltb, eqb, List, [], ◌∷◌, ◌++◌, length, Result, Ok, Err, Less, nat_cmp, IsTrue, T, refl, sym, ap, subst, ◌∙◌, append_assoc, arith, inl, inr}
+use Rattle.std.specs.Prelude.{IfOk}
+use Rattle.std.specs.Cmp.Lexicographic.{slice_cmp}
+use Rattle.std.specs.List.{list_all, flat_map, AllByRecursion}
+use Rattle.std.specs.Ordering.{is_lt}
+use Rattle.std.specs.Str.{is_utf8}
+use Rattle.std.specs.FinMap.{entries, len, from_sorted, is_sorted, entries-from_sorted, entries_sorted, same_entries_map, len-entries}
+use Rattle.std.specs.FinMap.Entries.{below_all}
+use Rattle.std.proofs.lemmas.Bool.{cases_eq, eqb-true, leb-true}
+use Rattle.std.proofs.lemmas.Bool.Decides.{nat_tests}
+use Rattle.std.proofs.lemmas.List.{append-nil}
+use Rattle.mon_bytes.specs.declared.command.MapRefused.{MapRefused}
+use Rattle.mon_bytes.specs.declared.command.MapRefused.TheVariants as refused
+use Rattle.mon_bytes.specs.Reading.{IsBytes, Reading, number, front}
+use Rattle.mon_bytes.specs.Texts.{graphic, is_name}
+use Rattle.mon_bytes.specs.Forms.{◌>>=◌, fitted, u32_bytes, text_bytes, text_at, ended, Gives}
+use Rattle.mon_bytes.proofs.Ascii.{both}
+use Rattle.mon_bytes.proofs.Fields.{guard_ok, chosen_ok, ok_is, Takes, Takes-then, front_takes, byte_takes, Found, byte_found, front_found}
+use Rattle.mon_bytes.proofs.Forms.{bind_ok, fitted_ok, u32_takes, u32_found, text_takes, text_found, ended_ok, ended_found}
+use Rattle.map_kv.specs.Map.{Kv}
+use Rattle.map_kv.specs.Text.{key_text, entry_text, inc_text, map_text, EntryFits, IncFits, MapFits}
+use Rattle.map_kv.specs.Decode.{name_at, set_at, remove_at, inc_at, inc_in, key_at, entry_at, entries_at, map_in}
+use Rattle.map_kv.specs.declared.inc.KvInc.{KvInc}
+use Rattle.map_kv.specs.declared.inc.KvInc.TheVariants.{Set, Remove}
+use Rattle.map_kv.proofs.Pairs.{Entry, below_less}
+use Rattle.map_kv.proofs.Pairs.{both as joined}
+use Rattle.map_kv.proofs.Loop.{key_rises}
+
+name_takes : (c : Reading) (x : List ℕ × Reading) → IsBytes c.rest → name_at c ≡ Ok x → Takes c (key_text x.0) x.1 × IsTrue (is_name x.0)
+unfolding name_at
+name_takes c x fits e =
+    let a = bind_ok (fitted (number 1 c)) (λ n. cond (eqb n.0 0) (Err (refused.Form c.at)) (fitted (front n.0 n.1) >>= λ bytes. cond (is_name bytes.0) (Ok bytes) (Err (refused.Form n.1.at)))) x e in
+    let n = a.0 in
+    let some = guard_ok (eqb n.0 0) (refused.Form c.at) (fitted (front n.0 n.1) >>= λ bytes. cond (is_name bytes.0) (Ok bytes) (Err (refused.Form n.1.at))) x a.2 in
+    let b = bind_ok (fitted (front n.0 n.1)) (λ bytes. cond (is_name bytes.0) (Ok bytes) (Err (refused.Form n.1.at))) x some.1 in
+    let g = chosen_ok (is_name b.0.0) (refused.Form n.1.at) (Ok b.0) x b.2 in
+    let t0 = byte_takes c n fits (fitted_ok (number 1 c) n a.1) in
+    let t1 = front_takes n.0 n.1 b.0 t0.0.bytes (fitted_ok (front n.0 n.1) b.0 b.1) in
+    let all = Takes-then c n.1 b.0.1 (n.0 ∷ []) b.0.0 t0.0 t1.0 in
+    subst (λ (p : List ℕ × Reading). Takes c (key_text p.0) p.1 × IsTrue (is_name p.0)) (ok_is b.0 x g.1)
+    (subst (λ (k : ℕ). Takes c (k ∷ b.0.0) b.0.1) (sym t1.1) all, g.0)
+
+key_takes : (before : List ℕ) (c : Reading) (x : List ℕ × Reading) → IsBytes c.rest → key_at before c ≡ Ok x → Takes c (key_text x.0) x.1 × IsTrue (is_name x.0)
+unfolding key_at
+key_takes before c x fits e =
+    let a = bind_ok (name_at c) (λ key. cond (is_lt (slice_cmp nat_cmp before key.0)) (Ok key) (Err (refused.Form (c.at + 1)))) x e in
+    let g = chosen_ok (is_lt (slice_cmp nat_cmp before a.0.0)) (refused.Form (c.at + 1)) (Ok a.0) x a.2 in
+    subst (λ (p : List ℕ × Reading). Takes c (key_text p.0) p.1 × IsTrue (is_name p.0)) (ok_is a.0 x g.1) (name_takes c a.0 fits a.1)
+
+-- what follows a kind, where the kind was taken before
+abbrev TakesInc : Reading → List ℕ → KvInc × Reading → Type 0
+TakesInc c kind x = (first : Reading) → Takes first kind c → Takes first (inc_text x.0) x.1 × IncFits x.0
+
+set_takes : (c : Reading) (x : KvInc × Reading) → IsBytes c.rest → set_at c ≡ Ok x → TakesInc c (1 ∷ []) x
+unfolding set_at
+set_takes c x fits e =
+    let a = bind_ok (name_at c) (λ key. text_at key.1 >>= λ value. Ok (Set key.0 value.0, value.1)) x e in
+    let b = bind_ok (text_at a.0.1) (λ value. Ok (Set a.0.0 value.0, value.1)) x a.2 in
+    let t0 = name_takes c a.0 fits a.1 in
+    let t1 = text_takes a.0.1 b.0 t0.0.bytes b.1 in
+    subst (TakesInc c (1 ∷ [])) (ok_is (Set a.0.0 b.0.0, b.0.1) x b.2)
+    (λ first kind. (Takes-then first c b.0.1 (1 ∷ []) (key_text a.0.0 ++ text_bytes b.0.0) kind (Takes-then c a.0.1 b.0.1 (key_text a.0.0) (text_bytes b.0.0) t0.0 t1.0), (t0.1, t1.1, t1.2)))
+
+remove_takes : (c : Reading) (x : KvInc × Reading) → IsBytes c.rest → remove_at c ≡ Ok x → TakesInc c (2 ∷ []) x
+unfolding remove_at
+remove_takes c x fits e =
+    let a = bind_ok (name_at c) (λ key. Ok (Remove key.0, key.1)) x e in
+    let t0 = name_takes c a.0 fits a.1 in
+    subst (TakesInc c (2 ∷ [])) (ok_is (Remove a.0.0, a.0.1) x a.2) (λ first kind. (Takes-then first c a.0.1 (2 ∷ []) (key_text a.0.0) kind t0.0, t0.1))
+
+tested : {A : Type 0} (m n : ℕ) (r s : Result A MapRefused) (x : A) → cond (eqb m n) r s ≡ Ok x → ((m ≡ n) × (r ≡ Ok x)) ⊎ (s ≡ Ok x)
+tested m n r s x e =
+    elim (cases_eq m n) [
+      | inl same ↦ let t : eqb m n ≡ true = grind (arith, nat_tests) in inl (same, rw t at e)
+      | inr ne ↦ let t : eqb m n ≡ false = grind (arith, nat_tests) in inr (rw t at e)
+    ]
+
+inc_takes : (c : Reading) (x : KvInc × Reading) → IsBytes c.rest → inc_at c ≡ Ok x → Takes c (inc_text x.0) x.1 × IncFits x.0
+unfolding inc_at
+inc_takes c x fits e =
+    let a = bind_ok (fitted (number 1 c)) (λ kind. cond (eqb kind.0 1) (set_at kind.1) (cond (eqb kind.0 2) (remove_at kind.1) (Err (refused.Form c.at)))) x e in
+    let kind = a.0 in
+    let t0 = byte_takes c kind fits (fitted_ok (number 1 c) kind a.1) in
+    elim (tested kind.0 1 (set_at kind.1) (cond (eqb kind.0 2) (remove_at kind.1) (Err (refused.Form c.at))) x a.2) [
+      | inl h ↦ set_takes kind.1 x t0.0.bytes h.1 c (subst (λ (n : ℕ). Takes c (n ∷ []) kind.1) h.0 t0.0)
+      | inr h ↦ elim (tested kind.0 2 (remove_at kind.1) (Err (refused.Form c.at)) x h) [
+        | inl i ↦ remove_takes kind.1 x t0.0.bytes i.1 c (subst (λ (n : ℕ). Takes c (n ∷ []) kind.1) i.0 t0.0)
+        | inr i ↦ absurd cc
+      ]
+    ]
+
+-- where nothing is left, all was taken
+taken_whole : (c after : Reading) (text : List ℕ) → Takes c text after → after.rest ≡ [] → c.rest ≡ text
+taken_whole c after text t none = t.parts ∙ ap (λ (r : List ℕ). text ++ r) none ∙ append-nil text
+
+inc_in_takes : (bytes : List ℕ) (inc : KvInc) → IsBytes bytes → inc_in bytes ≡ Ok inc → IncFits inc × (bytes ≡ inc_text inc)
+unfolding inc_in
+inc_in_takes bytes inc fits e =
+    let c : Reading = record { at = 0; rest = bytes } in
+    let a = bind_ok (inc_at c) (λ x. ended x) inc e in
+    let done = ended_ok a.0 inc a.2 in
+    let t = inc_takes c a.0 fits a.1 in
+    subst (λ (i : KvInc). IncFits i × (bytes ≡ inc_text i)) done.0 (t.1, taken_whole c a.0.1 (inc_text a.0.0) t.0 done.1)
+
+pub inc_is_found : (bytes : List ℕ) (r : Result KvInc MapRefused) → IsBytes bytes → Gives (λ x. x) r (inc_in bytes) → IfOk r (λ inc. IncFits inc × (bytes ≡ inc_text inc))
+inc_is_found bytes (Ok inc) fits h = inc_in_takes bytes inc fits h
+inc_is_found bytes (Err e) fits h = tt
+
+-- ---- the entries of a map
+
+record TakesEntry (before : List ℕ) (c : Reading) (x : Entry × Reading) : Type 0 where
+  all : Takes c (entry_text x.0) x.1
+  form : EntryFits x.0
+  rises : slice_cmp nat_cmp before x.0.0 ≡ Less
+
+entry_takes : (before : List ℕ) (c : Reading) (x : Entry × Reading) → IsBytes c.rest → entry_at before c ≡ Ok x → TakesEntry before c x
+unfolding entry_at
+entry_takes before c x fits e =
+    let a = bind_ok (key_at before c) (λ key. text_at key.1 >>= λ value. Ok ((key.0, value.0), value.1)) x e in
+    let b = bind_ok (text_at a.0.1) (λ value. Ok ((a.0.0, value.0), value.1)) x a.2 in
+    let t0 = key_takes before c a.0 fits a.1 in
+    let t1 = text_takes a.0.1 b.0 t0.0.bytes b.1 in
+    subst (TakesEntry before c) (ok_is ((a.0.0, b.0.0), b.0.1) x b.2)
+    (record { all = Takes-then c a.0.1 b.0.1 (key_text a.0.0) (text_bytes b.0.0) t0.0 t1.0; form = (t0.1, t1.1, t1.2); rises = key_rises before c a.0 a.1 })
+
+record TakesEntries (n : ℕ) (before : List ℕ) (c : Reading) (x : List Entry × Reading) : Type 0 where
+  all : Takes c (flat_map entry_text x.0) x.1
+  each : AllByRecursion EntryFits x.0
+  sorted : T (is_sorted (slice_cmp nat_cmp) x.0)
+  above : T (below_all (slice_cmp nat_cmp) before x.0)
+  count : length x.0 ≡ n
+
+entries_takes : (n : ℕ) (before : List ℕ) (c : Reading) (x : List Entry × Reading) → IsBytes c.rest → entries_at n before c ≡ Ok x → TakesEntries n before c x
+unfolding entries_at
+entries_takes zero before c x fits e = subst (TakesEntries 0 before c) (ok_is ([], c) x e) (record { all = record { parts = refl; bytes = fits }; each = tt; sorted = tt; above = tt; count = refl })
+entries_takes (suc n) before c x fits e =
+    let a = bind_ok (entry_at before c) (λ first. entries_at n first.0.0 first.1 >>= λ others. Ok (first.0 ∷ others.0, others.1)) x e in
+    let b = bind_ok (entries_at n a.0.0.0 a.0.1) (λ others. Ok (a.0.0 ∷ others.0, others.1)) x a.2 in
+    let t0 = entry_takes before c a.0 fits a.1 in
+    let t1 = entries_takes n a.0.0.0 a.0.1 b.0 t0.all.bytes b.1 in
+    subst (TakesEntries (suc n) before c) (ok_is (a.0.0 ∷ b.0.0, b.0.1) x b.2)
+    (record {
+      all = Takes-then c a.0.1 b.0.1 (entry_text a.0.0) (flat_map entry_text b.0.0) t0.all t1.all;
+      each = (t0.form, t1.each);
+      sorted = joined _ _ t1.above t1.sorted;
+      above = joined _ _ (subst (λ r. T (is_lt r)) (sym t0.rises) tt) (below_less before a.0.0.0 b.0.0 t0.rises t1.above);
+      count = omega (arith, t1.count);
+    })
+
+-- the map of entries in order has these entries
+map_of_entries : (es : List Entry) → T (is_sorted (slice_cmp nat_cmp) es) → AllByRecursion EntryFits es → length es < 2 ^ 32 → MapFits (from_sorted es) × (map_text (from_sorted es) ≡ u32_bytes (length es) ++ flat_map entry_text es)
+map_of_entries es sorted each few =
+    let same : entries (from_sorted {R = slice_cmp nat_cmp} es) ≡ es = entries-from_sorted (slice_cmp nat_cmp) es sorted in
+    let count : len (from_sorted {R = slice_cmp nat_cmp} es) ≡ length es = len-entries (from_sorted es) ∙ ap length same in
+    (record { each = subst (AllByRecursion EntryFits) (sym same) each; count = omega (arith, count, few) }, rw (same, count) refl)
+
+map_in_takes : (bytes : List ℕ) (map : Kv) → IsBytes bytes → map_in bytes ≡ Ok map → MapFits map × (bytes ≡ map_text map)
+unfolding map_in
+map_in_takes bytes map fits e =
+    let c : Reading = record { at = 0; rest = bytes } in
+    let a = bind_ok (fitted (number 4 c)) (λ count. entries_at count.0 [] count.1 >>= λ es. ended (from_sorted es.0, es.1)) map e in
+    let b = bind_ok (entries_at a.0.0 [] a.0.1) (λ es. ended (from_sorted es.0, es.1)) map a.2 in
+    let done = ended_ok (from_sorted b.0.0, b.0.1) map b.2 in
+    let t0 = u32_takes c a.0 fits (fitted_ok (number 4 c) a.0 a.1) in
+    let t1 = entries_takes a.0.0 [] a.0.1 b.0 t0.0.bytes b.1 in
+    let few : length b.0.0 < 2 ^ 32 = omega (arith, t0.1, t1.count) in
+    let whole = taken_whole c b.0.1 (u32_bytes a.0.0 ++ flat_map entry_text b.0.0) (Takes-then c a.0.1 b.0.1 (u32_bytes a.0.0) (flat_map entry_text b.0.0) t0.0 t1.all) done.1 in
+    let form = map_of_entries b.0.0 t1.sorted t1.each few in
+    subst (λ (m : Kv). MapFits m × (bytes ≡ map_text m)) done.0
+    (form.0, whole ∙ ap (λ (n : ℕ). u32_bytes n ++ flat_map entry_text b.0.0) (sym t1.count) ∙ sym form.1)
+
+pub map_is_found : (bytes : List ℕ) (r : Result Kv MapRefused) → IsBytes bytes → Gives (λ x. x) r (map_in bytes) → IfOk r (λ map. MapFits map × (bytes ≡ map_text map))
+map_is_found bytes (Ok map) fits h = map_in_takes bytes map fits h
+map_is_found bytes (Err e) fits h = tt

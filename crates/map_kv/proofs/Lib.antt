@@ -1,0 +1,6 @@
+pub mod Pairs
+pub mod Lengths
+pub mod Kept
+pub mod Loop
+pub mod Laws
+pub mod Again

@@ -1,0 +1,9 @@
+use Rattle.std.proofs.Common.{◌<◌, ◌^◌, length, subst}
+use Rattle.map_kv.proofs.Kept.{size_is, is_short}
+use Rattle.map_kv.proofs.map.KvMap.size.Goals as goal
+
+pub returns-clause-size : goal.returns-clause-size
+returns-clause-size c = size_is c.self.inside.entries.entries c.self.inside.size c.args.self.now c.self.invariant c.self.view_is
+
+pub returns-clause-short : goal.returns-clause-short
+returns-clause-short c = λ small. is_short c.args.self.now (subst (λ n. n < 2 ^ 32) (size_is c.self.inside.entries.entries c.self.inside.size c.args.self.now c.self.invariant c.self.view_is) small)

@@ -1,0 +1,5 @@
+pub mod Map
+pub mod Text
+pub mod Kept
+pub mod Decode
+pub mod Made

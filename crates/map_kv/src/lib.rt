@@ -1,0 +1,15 @@
+//! The key-value service's map: its incrementals, the step that each takes, and their bytes.
+#![tactic(auto)]
+
+mod command;
+mod encode;
+mod inc;
+mod map;
+mod reading;
+
+pub use command::make;
+pub use inc::KvInc;
+pub use map::KvMap;
+
+#[cfg(test)]
+mod tests;
