@@ -1,0 +1,9 @@
+pub mod Explicit
+pub mod Joining
+pub mod Learned
+pub mod Named
+pub mod Once
+pub mod Played
+pub mod PutOnce
+pub mod Reactions
+pub mod Rows

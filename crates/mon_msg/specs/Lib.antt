@@ -1,0 +1,7 @@
+pub mod Acts
+pub mod Changes
+pub mod Fold
+pub mod Joined
+pub mod Service
+pub mod Table
+pub mod View

@@ -1,0 +1,44 @@
+ghost use Rattle.std.specs.Prelude.{◌≡◌, IfOk};
+
+use mon_bytes::{Name, OutOfMemory, Text};
+use std::alloc::Global;
+
+/// A client's request: the client, and the number that it gave the request.
+#[derive(Clone, Copy, Debug, PartialEq, Eq)]
+pub struct Session {
+    pub client: u32,
+    pub id: u64,
+}
+
+/// A service that the monitors keep.
+#[derive(Clone, Copy, Debug, PartialEq, Eq)]
+pub enum Service {
+    /// The key-value map.
+    Kv,
+    /// The cluster log.
+    Log,
+}
+
+/// What a client asks of a monitor.
+#[derive(Debug, Drop)]
+pub enum Request {
+    /// Sets a key of the key-value map.
+    Set { key: Name, value: Text },
+    /// Shows a service's map.
+    Show { service: Service },
+}
+
+impl Request {
+    /// An equal request.
+    pub fn copy(&self, alloc: Global) -> Result<Request, OutOfMemory>
+        ensures { IfOk result (λ request. request ≡ self.now) }
+    {
+        Ok(match self {
+            Request::Set { key, value } => Request::Set {
+                key: key.copy(alloc)?,
+                value: value.copy(alloc)?,
+            },
+            Request::Show { service } => Request::Show { service: *service },
+        })
+    }
+}
