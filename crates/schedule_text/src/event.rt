@@ -1,0 +1,92 @@
+use mon_bytes::OutOfMemory;
+use mon_msg::{Request, Session};
+use mon_types::{Moment, Rank};
+use std::alloc::Global;
+use std::marker::Model;
+
+/// What happens to a monitor from outside.
+#[derive(Debug, Drop)]
+pub enum Plain {
+    /// The monitor is stopped, where it is up, and starts.
+    Start {
+        rank: Rank,
+        at: Moment,
+    },
+    /// A client asks the monitor.
+    Client {
+        rank: Rank,
+        at: Moment,
+        session: Session,
+        request: Request,
+    },
+}
+
+/// One event of a schedule.
+#[derive(Debug, Drop)]
+pub enum Event {
+    Plain(Plain),
+}
+
+impl Event {
+    ghost use Rattle.std.specs.Prelude.{◌≡◌};
+    ghost use Rattle.schedule_text.specs.Spelling.{is_set};
+
+    /// Whether a client asks for a set.
+    pub(crate) fn is_set(&self) -> bool
+        ensures { result ≡ is_set self.now }
+    {
+        match self {
+            Event::Plain(
+                Plain::Client {
+                    request: Request::Set { .. },
+                    ..
+                },
+            ) => true,
+            _ => false,
+        }
+    }
+}
+
+/// Events in order.
+#[derive(Debug, Drop)]
+pub struct Events {
+    events: Vec<Event>,
+}
+
+impl Model for Events {
+    ghost use Rattle.std.specs.Prelude.{List};
+    ghost use Rattle.schedule_text.specs.declared.event.Event.{Event};
+
+    ghost Value = { List Event };
+
+    ghost view = { λ x. x.events.items };
+}
+
+impl Events {
+    ghost use Rattle.std.specs.Prelude.{◌≡◌, [], ◌∷◌, ◌++◌, OnOk, OnErr};
+
+    /// No events. It takes no memory.
+    pub fn new(alloc: Global) -> Events
+        ensures { result ≡ [] }
+    {
+        Events {
+            events: Vec::new(alloc),
+        }
+    }
+
+    /// Appends an event. An `Err` leaves the events.
+    pub fn push(&mut self, event: Event) -> Result<(), OutOfMemory>
+        ensures ok { OnOk result (self.new ≡ self.old ++ event ∷ []) }
+        ensures err { OnErr result (self.new ≡ self.old) }
+    {
+        self.events.push(event)?;
+        Ok(())
+    }
+
+    /// The events.
+    pub fn as_slice(&self) -> &[Event]
+        ensures { result.now ≡ self.now }
+    {
+        self.events.as_slice()
+    }
+}

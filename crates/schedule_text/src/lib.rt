@@ -1,0 +1,26 @@
+//! Schedules of events and traces of what they did, as text.
+#![tactic(auto)]
+
+mod display;
+mod event;
+mod fields;
+mod length;
+mod line;
+mod printer;
+mod reader;
+mod refusal;
+mod schedule;
+mod shown;
+mod step;
+mod trace;
+
+pub use event::{Event, Events, Plain};
+pub use printer::{header_line, print};
+pub use reader::parse;
+pub use refusal::{ScheduleKind, ScheduleRefused};
+pub use schedule::Schedule;
+pub use step::{Outcome, Replied, Replies, StateLine, StepLine};
+pub use trace::{end_line, trace_line};
+
+#[cfg(test)]
+mod tests;

@@ -1,0 +1,50 @@
+ghost use Rattle.std.specs.Prelude.{◌≡◌, ◌++◌, Ok, IfOk, OnOk, string_bytes};
+ghost use Rattle.schedule_text.specs.Spelling.{HasText, header, ended_line, schedule_text};
+ghost use Rattle.schedule_text.specs.Schedule.{schedule_at};
+
+use crate::schedule::Schedule;
+use mon_bytes::OutOfMemory;
+use std::alloc::{AllocError, Global};
+use std::fmt::Write;
+
+#[tactic(auto, using(crate::proofs::Lengths::decimal_one))]
+fn put_header(out: &mut String, schedule: &Schedule) -> Result<(), AllocError>
+    requires { HasText schedule.now }
+    ensures { OnOk result (string_bytes out.new ≡ string_bytes out.old ++ ended_line header) }
+{
+    let monitors = schedule.monitors;
+    write!(out, "monitors {monitors} classic\n")
+}
+
+/// The first line of a schedule's text and of its trace.
+pub fn header_line(alloc: Global, schedule: &Schedule) -> Result<Vec<u8>, OutOfMemory>
+    requires { HasText schedule.now }
+    ensures { IfOk result (λ bytes. bytes.items ≡ ended_line header) }
+{
+    let mut out = String::new(alloc);
+    put_header(&mut out, schedule)?;
+    Ok(out.into_bytes())
+}
+
+fn spelled(alloc: Global, schedule: &Schedule) -> Result<Vec<u8>, OutOfMemory>
+    requires { HasText schedule.now }
+    ensures { IfOk result (λ bytes. bytes.items ≡ schedule_text schedule.now) }
+{
+    let mut out = String::new(alloc);
+    put_header(&mut out, schedule)?;
+    for event in schedule.events.as_slice() {
+        write!(out, "{event}\n")?;
+    }
+    Ok(out.into_bytes())
+}
+
+/// The one text of a schedule that has one, which `has_text` tells.
+pub fn print(alloc: Global, schedule: &Schedule) -> Result<Vec<u8>, OutOfMemory>
+    requires { HasText schedule.now }
+    ensures text { IfOk result (λ bytes. bytes.items ≡ schedule_text schedule.now) }
+
+    // What is spelled so is read as that schedule.
+    ensures again { IfOk result (λ bytes. schedule_at bytes.items ≡ Ok schedule.now) }
+{
+    spelled(alloc, schedule)
+}

@@ -1,0 +1,57 @@
+ghost use Rattle.std.specs.Prelude.{◌≡◌};
+ghost use Rattle.schedule_text.specs.declared.refusal.LineRefused.TheVariants.{Kind, OutOfMemory as no_memory};
+ghost use Rattle.schedule_text.specs.declared.refusal.ScheduleRefused.TheVariants.{OutOfMemory as schedule_no_memory};
+
+use mon_bytes::OutOfMemory;
+use thiserror::Error;
+
+/// What is wrong with a line of a schedule.
+#[derive(Clone, Copy, Debug, PartialEq, Eq, Error)]
+pub enum ScheduleKind {
+    /// The line isn't of a form that is read so far.
+    #[error("NotBuilt")]
+    NotBuilt = 8,
+}
+
+/// Why a line spells no event.
+#[derive(Clone, Copy, Debug, PartialEq, Eq, Error)]
+pub enum LineRefused {
+    #[error("{0}")]
+    Kind(ScheduleKind),
+    #[error("out of memory")]
+    OutOfMemory,
+}
+
+impl From<ScheduleKind> for LineRefused {
+    ghost from_gives = { λ k e. e ≡ Kind k };
+
+    fn from(k: ScheduleKind) -> LineRefused {
+        LineRefused::Kind(k)
+    }
+}
+
+impl From<OutOfMemory> for LineRefused {
+    ghost from_gives = { λ _ e. e ≡ no_memory };
+
+    fn from(_e: OutOfMemory) -> LineRefused {
+        LineRefused::OutOfMemory
+    }
+}
+
+/// Why bytes spell no schedule.
+#[derive(Clone, Copy, Debug, PartialEq, Eq, Error)]
+pub enum ScheduleRefused {
+    /// The first line at fault, counted from 1; 0 stands for the whole text.
+    #[error("line {line}, {kind}")]
+    At { line: u32, kind: ScheduleKind },
+    #[error("out of memory")]
+    OutOfMemory,
+}
+
+impl From<OutOfMemory> for ScheduleRefused {
+    ghost from_gives = { λ _ e. e ≡ schedule_no_memory };
+
+    fn from(_e: OutOfMemory) -> ScheduleRefused {
+        ScheduleRefused::OutOfMemory
+    }
+}

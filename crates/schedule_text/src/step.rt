@@ -1,0 +1,90 @@
+use mon_bytes::OutOfMemory;
+use mon_msg::{Phase, Reply, Session};
+use mon_types::{Epoch, Rank, Version};
+use std::alloc::Global;
+use std::marker::Model;
+
+/// A reply, the monitor that gave it, and whom it is for.
+#[derive(Drop)]
+pub struct Replied {
+    pub rank: Rank,
+    pub session: Session,
+    pub reply: Reply,
+}
+
+/// Replies in the order in which they were given.
+#[derive(Drop)]
+pub struct Replies {
+    replies: Vec<Replied>,
+}
+
+impl Model for Replies {
+    ghost use Rattle.std.specs.Prelude.{List};
+    ghost use Rattle.std.specs.Coded.{codes};
+    ghost use Rattle.map_kv.specs.contracts.map.KvMap as kv_map;
+    ghost use Rattle.schedule_text.specs.declared.step.Replied.{Replied};
+
+    ghost Value = { List Replied };
+
+    ghost coded = { Prim.hlevel (codes, kv_map.the_row.coded) };
+
+    ghost view = { λ x. x.replies.items };
+}
+
+impl Replies {
+    ghost use Rattle.std.specs.Prelude.{◌≡◌, [], ◌∷◌, ◌++◌, OnOk, OnErr};
+
+    /// No replies. It takes no memory.
+    pub fn new(alloc: Global) -> Replies
+        ensures { result ≡ [] }
+    {
+        Replies {
+            replies: Vec::new(alloc),
+        }
+    }
+
+    /// Appends a reply. An `Err` leaves the replies.
+    pub fn push(&mut self, reply: Replied) -> Result<(), OutOfMemory>
+        ensures ok { OnOk result (self.new ≡ self.old ++ reply ∷ []) }
+        ensures err { OnErr result (self.new ≡ self.old) }
+    {
+        self.replies.push(reply)?;
+        Ok(())
+    }
+
+    /// The replies.
+    pub fn as_slice(&self) -> &[Replied]
+        ensures { result.now ≡ self.now }
+    {
+        self.replies.as_slice()
+    }
+}
+
+/// Where a monitor stands after an event.
+#[derive(Clone, Copy, Debug, PartialEq, Eq)]
+pub struct StateLine {
+    pub phase: Phase,
+    pub epoch: Epoch,
+    /// The last committed version.
+    pub last: Version,
+}
+
+/// What became of an event.
+#[derive(Clone, Copy, Debug, PartialEq, Eq)]
+pub enum Outcome {
+    /// The monitor took it.
+    Ran,
+    /// The monitor is down, and nothing happened.
+    Down,
+}
+
+/// What an event did.
+#[derive(Drop)]
+pub struct StepLine {
+    pub outcome: Outcome,
+    /// How many changes its transaction has.
+    pub ops: u32,
+    /// Where the monitor stands now, where the event changed that or is a start.
+    pub state: Option<StateLine>,
+    pub replies: Replies,
+}

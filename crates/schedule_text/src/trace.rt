@@ -1,0 +1,142 @@
+ghost use Rattle.std.specs.Prelude.{◌≡◌, ◌++◌, string_bytes, IfOk, OnOk};
+ghost use Rattle.std.specs.List.{flat_map};
+ghost use Rattle.schedule_text.specs.Trace.{phase_text, flag_text, reply_text, reply_line, store_lines, state_lines, done_lines, step_lines, end_text};
+
+use crate::display::service_word;
+use crate::event::Event;
+use crate::shown::put_shown;
+use crate::step::{Outcome, Replied, StateLine, StepLine};
+use mon_bytes::OutOfMemory;
+use mon_msg::{Phase, Reply};
+use std::alloc::{AllocError, Global};
+use std::fmt::Write;
+
+fn phase_word(phase: Phase) -> &'static str
+    ensures { result.now ≡ phase_text phase }
+{
+    match phase {
+        Phase::Booting => "booting",
+        Phase::Probing => "probing",
+        Phase::Synchronizing => "synchronizing",
+        Phase::Electing => "electing",
+        Phase::Collecting => "collecting",
+        Phase::Previous => "previous",
+        Phase::Active => "active",
+        Phase::Updating => "updating",
+        Phase::Peon => "peon",
+    }
+}
+
+fn flag(value: bool) -> &'static str
+    ensures { result.now ≡ flag_text value }
+{
+    if value { "1" } else { "0" }
+}
+
+fn put_reply(alloc: Global, out: &mut String, reply: &Reply) -> Result<(), AllocError>
+    ensures { OnOk result (string_bytes out.new ≡ string_bytes out.old ++ reply_text reply.now) }
+{
+    match reply {
+        Reply::Done { version } => {
+            let version = version.get();
+            write!(out, "done {version}")
+        }
+        Reply::Shown {
+            service,
+            paxos,
+            version,
+            map,
+        } => {
+            let service = service_word(*service);
+            let paxos = paxos.get();
+            let version = version.get();
+            write!(out, "shown {service} paxos={paxos} version={version} ")?;
+            put_shown(alloc, out, map)
+        }
+        Reply::Unavailable => out.push_str("unavailable"),
+        Reply::NotReadable { has, lease } => {
+            let has = has.get();
+            let flag = flag(*lease);
+            write!(out, "notreadable has={has} lease={flag}")
+        }
+    }
+}
+
+fn put_replied(alloc: Global, out: &mut String, replied: &Replied) -> Result<(), AllocError>
+    ensures { OnOk result (string_bytes out.new ≡ string_bytes out.old ++ reply_line replied.now) }
+{
+    let rank = replied.rank.get();
+    let client = replied.session.client;
+    let id = replied.session.id;
+    write!(out, "  reply {rank} {client}.{id} ")?;
+    put_reply(alloc, out, &replied.reply)?;
+    out.push_str("\n")
+}
+
+fn put_replies(alloc: Global, out: &mut String, replies: &[Replied]) -> Result<(), AllocError>
+    ensures { OnOk result (string_bytes out.new ≡ string_bytes out.old ++ flat_map reply_line replies.now) }
+{
+    for replied in replies {
+        put_replied(alloc, out, replied)?;
+    }
+    Ok(())
+}
+
+fn put_ops(out: &mut String, ops: u32) -> Result<(), AllocError>
+    ensures { OnOk result (string_bytes out.new ≡ string_bytes out.old ++ store_lines ops) }
+{
+    if ops == 0 {
+        return Ok(());
+    }
+    write!(out, "  store {ops}\n")
+}
+
+fn put_state(out: &mut String, state: &Option<StateLine>) -> Result<(), AllocError>
+    ensures { OnOk result (string_bytes out.new ≡ string_bytes out.old ++ state_lines state.now) }
+{
+    match state {
+        None => Ok(()),
+        Some(state) => {
+            let phase = phase_word(state.phase);
+            let epoch = state.epoch.get();
+            let last = state.last.get();
+            write!(out, "  is {phase} epoch {epoch} last {last}\n")
+        }
+    }
+}
+
+fn put_done(alloc: Global, out: &mut String, step: &StepLine) -> Result<(), AllocError>
+    ensures { OnOk result (string_bytes out.new ≡ string_bytes out.old ++ done_lines step.now) }
+{
+    match step.outcome {
+        Outcome::Ran => {
+            put_ops(out, step.ops)?;
+            put_state(out, &step.state)?;
+            put_replies(alloc, out, step.replies.as_slice())
+        }
+        Outcome::Down => out.push_str("  down\n"),
+    }
+}
+
+/// The lines of one event: its number, counted from 1, with its text, and what it did.
+pub fn trace_line(
+    alloc: Global,
+    number: u32,
+    event: &Event,
+    step: &StepLine,
+) -> Result<Vec<u8>, OutOfMemory>
+    ensures { IfOk result (λ bytes. bytes.items ≡ step_lines number event.now step.now) }
+{
+    let mut out = String::new(alloc);
+    write!(out, "{number} {event}\n")?;
+    put_done(alloc, &mut out, step)?;
+    Ok(out.into_bytes())
+}
+
+/// The last line of a trace of so many events, which left so many versions in the log.
+pub fn end_line(alloc: Global, events: u32, log: u64) -> Result<Vec<u8>, OutOfMemory>
+    ensures { IfOk result (λ bytes. bytes.items ≡ end_text events log) }
+{
+    let line = format!(in alloc; "end events={events} log={log}\n")?;
+    Ok(line.into_bytes())
+}
