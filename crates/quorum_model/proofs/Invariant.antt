@@ -1,0 +1,175 @@
+-- What holds of one monitor's world after every event, and that it is safe.
+use Rattle.std.proofs.Common.{◌≡◌, ℕ, zero, suc, ◌<◌, ◌≤◌, max, true, List, length, Option, Some, None, Ok, refl, sym, ap, subst, ◌∙◌, arith}
+use Rattle.std.specs.List.{AllByRecursion}
+use Rattle.std.specs.FinMap.{empty}
+use Rattle.mon_tx.specs.declared.key.Area.TheVariants as area
+use Rattle.mon_tx.specs.declared.key.Key.TheVariants as key
+use Rattle.mon_tx.specs.Map.{Store, apply_op}
+use Rattle.mon_tx.specs.Keys.{cell, number}
+use Rattle.mon_tx.specs.Text.{text}
+use Rattle.mon_tx.specs.Decode.{ops_in}
+use Rattle.mon_msg.specs.declared.reply.Reply.{Reply}
+use Rattle.mon_msg.specs.declared.reply.Reply.TheVariants as reply
+use Rattle.mon_msg.specs.declared.reply.ShownMap.TheVariants as shown
+use Rattle.mon_msg.specs.declared.request.Service.TheVariants as service
+use Rattle.mon_msg.specs.declared.reaction.Volatile.{Volatile}
+use Rattle.mon_msg.specs.View.{view}
+use Rattle.mon_msg.specs.Changes.{put_number}
+use Rattle.mon_msg.specs.Service.{service_last, value}
+use Rattle.mon_msg.specs.Fold.{entry, fold, put_in, after_all}
+use Rattle.quorum_model.specs.World.{World, Asked, Acknowledged, Replied, first_world, last_of, is_marked}
+use Rattle.quorum_model.specs.Safe.{Among, Agrees, view_at, IsAsked, LeaderHas, IsKept, AcknowledgedOnce, IsAnswered, DoneIsAnswered, ShowsLog, after_transactions, Held, Fence, Safe}
+use Rattle.quorum_model.proofs.Lists.{all_map, among_all}
+use Rattle.quorum_model.proofs.Logs.{Fronts, entry_stays, fold_stays, incrementals_stay}
+use Rattle.quorum_model.proofs.Holds.{Holds, holds_nothing}
+
+-- an acknowledged version is in the log, and puts its incremental
+pub record IsAck (w : World) (a : Acknowledged) : Type 0 where
+  pub event : a.event ≤ w.events
+  pub some : 1 ≤ a.version
+  pub within : a.version ≤ length w.log
+  pub put : Among a.incremental (put_in a.service (ops_in (entry w.log a.version)))
+
+pub record IsReply (w : World) (r : Replied) : Type 0 where
+  pub event : r.event ≤ w.events
+  pub last : r.last ≤ length w.log
+  pub answered : DoneIsAnswered w r r.reply
+  pub shows : ShowsLog w r r.reply
+
+pub record Inv (w : World) : Type 0 where
+  pub holds : Holds w.log (w.store 0)
+  pub values : (v : ℕ) → v < length w.log → IsAsked w v
+  pub acknowledged : AllByRecursion (IsAck w) w.acknowledged
+  pub once : AcknowledgedOnce w.acknowledged
+  pub replied : AllByRecursion (IsReply w) w.replied
+  pub fence : Fence w
+  pub active : AllByRecursion (λ (p : ℕ × ℕ). p.1 ≡ 0) w.active
+  pub held : w.store 0 ≡ after_transactions (w.kept 0) empty
+
+pub at_first : Inv first_world
+at_first = record {
+  holds = holds_nothing;
+  values = λ v h. absurd (omega arith);
+  acknowledged = tt;
+  once = tt;
+  replied = tt;
+  fence = tt;
+  active = tt;
+  held = refl;
+}
+
+-- ---- what was so stays so
+
+pub record Grown (w new : World) : Type 0 where
+  pub fronts : Fronts w.log new.log
+  pub asked : (a : Asked) → Among a w.asked → Among a new.asked
+  pub acknowledged : (a : Acknowledged) → Among a w.acknowledged → Among a new.acknowledged
+  pub events : w.events ≤ new.events
+
+module _ (w new : World) (grown : Grown w new) where
+  pub ack_stays : (a : Acknowledged) → IsAck w a → IsAck new a
+  ack_stays a h = record {
+    event = let e = h.event in let g = grown.events in omega arith;
+    some = h.some;
+    within = let e = h.within in let g = grown.fronts.short in omega arith;
+    put = subst (λ (e : List ℕ). Among a.incremental (put_in a.service (ops_in e))) (sym (entry_stays grown.fronts a.version h.within)) h.put;
+  }
+
+  answer_stays : (r : Replied) (v : ℕ) → IsAnswered w r v → IsAnswered new r v
+  answer_stays r v h = record {
+    acknowledged = h.acknowledged;
+    among = grown.acknowledged h.acknowledged h.among;
+    version = h.version;
+    earlier = h.earlier;
+    asked = h.asked;
+    was_asked = grown.asked h.asked h.was_asked;
+    rank = h.rank;
+    session = h.session;
+    made = h.made;
+  }
+
+  done_stays : (r : Replied) (y : Reply) → DoneIsAnswered w r y → DoneIsAnswered new r y
+  done_stays r (reply.Done v) h = answer_stays r v h
+  done_stays r (reply.Shown s paxos version map) h = tt
+  done_stays r reply.Unavailable h = tt
+  done_stays r (reply.NotReadable has lease) h = tt
+
+  shows_stays : (r : Replied) (y : Reply) → r.last ≤ length w.log → ShowsLog w r y → ShowsLog new r y
+  shows_stays r (reply.Shown service.Kv paxos version (shown.Kv map)) h s =
+      let le : paxos ≤ length w.log = let e = s.0 in omega arith in
+      let same = incrementals_stay grown.fronts service.Kv paxos le in
+      (s.0, s.1 ∙ ap (after_all empty) (sym same), s.2 ∙ ap length (sym same))
+  shows_stays r (reply.Shown service.Log paxos version (shown.Kv map)) h s = absurd s
+  shows_stays r (reply.Done v) h s = tt
+  shows_stays r reply.Unavailable h s = tt
+  shows_stays r (reply.NotReadable has lease) h s = tt
+
+  pub reply_stays : (r : Replied) → IsReply w r → IsReply new r
+  reply_stays r h = record {
+    event = let e = h.event in let g = grown.events in omega arith;
+    last = let e = h.last in let g = grown.fronts.short in omega arith;
+    answered = done_stays r r.reply h.answered;
+    shows = shows_stays r r.reply h.last h.shows;
+  }
+
+  pub value_stays : (v : ℕ) → v < length w.log → IsAsked w v → IsAsked new v
+  value_stays v lt h = record {
+    by = h.by;
+    asked = grown.asked h.by h.asked;
+    incremental = h.incremental;
+    made = h.made;
+    spells = λ i. spells i;
+  }
+    where
+      spells : entry new.log (suc v) ≡ text (value (view_at new.log v).last service.Kv (suc (service_last (view_at new.log v) service.Kv)) h.incremental)
+      spells =
+          entry_stays grown.fronts (suc v) lt ∙ h.spells
+          ∙ ap (λ (m : Store). text (value (view (apply_op (put_number area.Paxos key.LastCommitted v) m)).last service.Kv (suc (service_last (view (apply_op (put_number area.Paxos key.LastCommitted v) m)) service.Kv)) h.incremental))
+          (sym (fold_stays grown.fronts v (omega arith)))
+
+-- ---- it is safe
+
+module _ (w : World) (inv : Inv w) where
+  agrees : Agrees w.log (w.store 0)
+  agrees = record {
+    within = let e = inv.holds.last in omega arith;
+    records = λ v low high. by v low high;
+    folded = inv.holds.folded ∙ ap (fold w.log) (sym inv.holds.last);
+  }
+    where
+      by : (v : ℕ) → max 1 (number (w.store 0) area.Paxos key.FirstCommitted) ≤ v → v ≤ last_of (w.store 0) → cell (w.store 0) area.Paxos (key.Version v) ≡ Some (entry w.log v)
+      by zero low high = absurd (omega arith)
+      by (suc v) low high = inv.holds.records v (let e = inv.holds.last in omega arith)
+
+  leader_has : (a : Acknowledged) (vol : Option Volatile) → a.version ≤ length w.log → LeaderHas a vol (w.store 0)
+  leader_has a None h = tt
+  leader_has a (Some vol) h = λ lead pn. let e = inv.holds.last in omega arith
+
+  is_kept : (a : Acknowledged) → IsAck w a → IsKept 1 w a
+  is_kept a h = record { some = h.some; within = h.within; put = h.put; leaders = λ i lt. by i lt }
+    where
+      by : (i : ℕ) → i < 1 → LeaderHas a (w.volatile i) (w.store i)
+      by zero lt = leader_has a (w.volatile 0) h.within
+      by (suc i) lt = absurd (omega arith)
+
+  pub safe : Safe 1 w
+  safe = record {
+    agree = record { monitors = monitors; values = inv.values };
+    kept = record {
+      each = all_map (IsAck w) (IsKept 1 w) is_kept w.acknowledged inv.acknowledged;
+      once = inv.once;
+      answered = all_map (IsReply w) (λ r. DoneIsAnswered w r r.reply) (λ r h. h.answered) w.replied inv.replied;
+    };
+    shown = all_map (IsReply w) (λ r. ShowsLog w r r.reply) (λ r h. h.shows) w.replied inv.replied;
+    held = held;
+    one_active = λ e r s p q. among_all (λ (p : ℕ × ℕ). p.1 ≡ 0) (e, r) w.active inv.active p ∙ sym (among_all (λ (p : ℕ × ℕ). p.1 ≡ 0) (e, s) w.active inv.active q);
+    fence = inv.fence;
+  }
+    where
+      monitors : (i : ℕ) → i < 1 → ¬ (is_marked (w.store i) ≡ true) → Agrees w.log (w.store i)
+      monitors zero lt unmarked = agrees
+      monitors (suc i) lt unmarked = absurd (omega arith)
+
+      held : Held 1 w
+      held zero lt = inv.held
+      held (suc i) lt = absurd (omega arith)

@@ -1,0 +1,14 @@
+pub mod Commit
+pub mod Holds
+pub mod Invariant
+pub mod Learned
+pub mod Lists
+pub mod Logs
+pub mod Own
+pub mod Places
+pub mod Quiet
+pub mod ReadBack
+pub mod Rows
+pub mod Step
+pub mod Values
+pub mod Whole
