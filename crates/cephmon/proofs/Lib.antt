@@ -1,0 +1,6 @@
+pub mod Reacting
+pub mod Reading
+pub mod Runs
+pub mod Spoken
+pub mod Stepping
+pub mod Writing

@@ -1,0 +1,135 @@
+-- What is written of a trace, one event after the other.
+use Rattle.std.proofs.Common.{◌≡◌, ℕ, zero, suc, ◌+◌, min, List, [], ◌∷◌, ◌++◌, take, drop, length, Option, None, Result, Ok, Err, refl, sym, ap, ◌∙◌, subst, append_assoc, arith}
+use Rattle.std.specs.Io.KnownBytes.{Appends}
+use Rattle.std.proofs.KnownBytes.{Appends-nil, Appends-trans}
+use Rattle.mon_types.specs.declared.names.Stop.{Stop}
+use Rattle.mon_types.specs.declared.names.Stop.TheVariants as outside
+use Rattle.mon_types.specs.declared.names.Which.{Which}
+use Rattle.mon_link.specs.Whole.{AppendsFront}
+use Rattle.quorum_model.specs.World as model
+use Rattle.schedule_text.specs.declared.event.Event.{Event}
+use Rattle.schedule_text.specs.declared.step.StepLine.{StepLine}
+use Rattle.schedule_text.specs.Trace.{step_lines, end_text}
+use Rattle.cephmon.specs.declared.world.World.{World}
+use Rattle.cephmon.specs.declared.replay.ReplayStop.{ReplayStop}
+use Rattle.cephmon.specs.declared.replay.ReplayStop.TheVariants as stop
+use Rattle.cephmon.specs.Trace.{Trace, behind, goes_on, event_of, step, trace_from}
+use Rattle.cephmon.specs.Replay.{StandsFor, Does, Did, Writes, fault_of}
+
+-- ---- fronts
+
+pub front_none : (a : Option (List ℕ)) (bs : List ℕ) → AppendsFront a a bs
+front_none a bs = (0, Appends-nil a)
+
+take_front : (n : ℕ) (xs ys : List ℕ) → take (min n (length xs)) (xs ++ ys) ≡ take n xs
+take_front zero xs ys = let none : min 0 (length xs) ≡ 0 = omega arith in ap (λ (k : ℕ). take k (xs ++ ys)) none
+take_front (suc n) [] ys = let none : min (suc n) 0 ≡ 0 = omega arith in ap (λ (k : ℕ). take k ys) none
+take_front (suc n) (x ∷ xs) ys =
+    let on : min (suc n) (length (x ∷ xs)) ≡ suc (min n (length xs)) = omega arith in
+    ap (λ (k : ℕ). take k (x ∷ (xs ++ ys))) on ∙ ap (λ (l : List ℕ). x ∷ l) (take_front n xs ys)
+
+take_more : (n : ℕ) (xs ys : List ℕ) → take (length xs + n) (xs ++ ys) ≡ xs ++ take n ys
+take_more n [] ys = let none : 0 + n ≡ n = omega arith in ap (λ (k : ℕ). take k ys) none
+take_more n (x ∷ xs) ys =
+    let on : length (x ∷ xs) + n ≡ suc (length xs + n) = omega arith in
+    ap (λ (k : ℕ). take k (x ∷ (xs ++ ys))) on ∙ ap (λ (l : List ℕ). x ∷ l) (take_more n xs ys)
+
+pub front_first : (a b : Option (List ℕ)) (xs ys : List ℕ) → AppendsFront a b xs → AppendsFront a b (xs ++ ys)
+front_first a b xs ys p = (min p.0 (length xs), subst (Appends a b) (sym (take_front p.0 xs ys)) p.1)
+
+pub front_behind : (a b c : Option (List ℕ)) (xs ys : List ℕ) → Appends a b xs → AppendsFront b c ys → AppendsFront a c (xs ++ ys)
+front_behind a b c xs ys p q = (length xs + q.0, subst (Appends a c) (sym (take_more q.0 xs ys)) (Appends-trans a b c xs _ p q.1))
+
+-- ---- traces
+
+pub writes_behind : (r : Result Unit ReplayStop) (a b c : Option (List ℕ)) (lines : List ℕ) (t : Trace) → Appends a b lines → Writes r b c t → Writes r a c (behind lines t)
+writes_behind (Ok done) a b c lines t p w = (w.0, Appends-trans a b c lines t.text p w.1)
+writes_behind (Err (stop.Spent which)) a b c lines t p w = (w.0, Appends-trans a b c lines t.text p w.1)
+writes_behind (Err stop.WriteFault) a b c lines t p w = front_behind a b c lines t.text p w
+writes_behind (Err stop.OutOfMemory) a b c lines t p w = front_behind a b c lines t.text p w
+
+-- a write stopped in a trace
+pub writes_fault : (s : Stop) (a b : Option (List ℕ)) (t : Trace) → AppendsFront a b t.text → Writes (Err (fault_of s)) a b t
+writes_fault outside.Failed a b t p = p
+writes_fault outside.OutOfMemory a b t p = p
+
+-- ---- an event
+
+-- memory ran out before its lines
+pub did_memory : (world : World) (a : Option (List ℕ)) (number : ℕ) (e : Event) (wanted : Result (model.World × StepLine) Which) → Did (Err stop.OutOfMemory) world a a number e wanted
+did_memory world a number e wanted follow = front_none a _
+
+-- its lines stopped on their way
+pub did_fault : (s : Stop) (line : StepLine) (world : World) (a b : Option (List ℕ)) (number : ℕ) (e : Event) (wanted : Result (model.World × StepLine) Which) (bs : List ℕ)
+    → bs ≡ step_lines number e line → Does (Ok line) world wanted → AppendsFront a b bs → Did (Err (fault_of s)) world a b number e wanted
+did_fault s line world a b number e wanted bs is does p follow =
+    let front = front_first a b (step_lines number e line) (follow does.0).text (subst (AppendsFront a b) is p) in
+    subst (λ (r : Result (model.World × StepLine) Which). Writes (Err (fault_of s)) a b (goes_on number e follow r)) (sym does.1)
+    (writes_fault s a b (behind (step_lines number e line) (follow does.0)) front)
+
+-- its lines were written
+pub did_write : (line : StepLine) (world : World) (a b : Option (List ℕ)) (number : ℕ) (e : Event) (wanted : Result (model.World × StepLine) Which) (bs : List ℕ)
+    → bs ≡ step_lines number e line → Does (Ok line) world wanted → Appends a b bs → Did (Ok tt) world a b number e wanted
+did_write line world a b number e wanted bs is does p = ((does.0, line), does.1, does.2, subst (Appends a b) is p)
+
+-- ---- the events
+
+-- So many of the events were done, and written.
+pub record ComesTo (world : World) (old now : Option (List ℕ)) (es : List Event) (n : ℕ) : Type 0 where
+  next : model.World
+  lines : List ℕ
+  stands : StandsFor world next
+  put : Appends old now lines
+  same : trace_from 0 model.first_world es ≡ behind lines (trace_from n next (drop n es))
+
+-- none was done
+pub begins : (world : World) (a : Option (List ℕ)) (es : List Event) → StandsFor world model.first_world → ComesTo world a a es 0
+begins world a es stands = record { next = model.first_world; lines = []; stands = stands; put = Appends-nil a; same = refl }
+
+one_more : (n : ℕ) (w : model.World) (e : Event) (es : List Event)
+    → trace_from n w (e ∷ es) ≡ goes_on (suc n) e (λ next. trace_from (suc n) next es) (step w (event_of e))
+unfolding trace_from
+one_more n w e es = refl
+
+behind_behind : (xs ys : List ℕ) (t : Trace) → behind xs (behind ys t) ≡ behind (xs ++ ys) t
+behind_behind xs ys t = ap (λ (l : List ℕ). record { text = l; stop = t.stop }) (sym (append_assoc xs ys t.text))
+
+-- one more event was done
+pub comes_on : (world new : World) (a b c : Option (List ℕ)) (es : List Event) (n number : ℕ) (e : Event) → number ≡ suc n → drop n es ≡ e ∷ drop (n + 1) es
+    → ComesTo world a b es n → ((w : model.World) → StandsFor world w → Did (Ok tt) new b c number e (step w (event_of e))) → ComesTo new a c es (n + 1)
+comes_on world new a b c es n number e count rest so_far did =
+    let d = did so_far.next so_far.stands in
+    let m : n + 1 ≡ suc n = omega arith in
+    let lines = step_lines number e d.0.1 in
+    record {
+      next = d.0.0;
+      lines = so_far.lines ++ lines;
+      stands = d.2;
+      put = Appends-trans a b c so_far.lines lines so_far.put d.3;
+      same =
+          so_far.same ∙ ap (λ (l : List Event). behind so_far.lines (trace_from n so_far.next l)) rest
+          ∙ ap (behind so_far.lines) (one_more n so_far.next e (drop (n + 1) es)
+          ∙ ap (goes_on (suc n) e (λ next. trace_from (suc n) next (drop (n + 1) es))) d.1)
+          ∙ (λ i. behind so_far.lines (behind (step_lines (sym count i) e d.0.1) (trace_from (sym m i) d.0.0 (drop (n + 1) es))))
+          ∙ behind_behind so_far.lines lines (trace_from (n + 1) d.0.0 (drop (n + 1) es));
+    }
+
+-- the event stopped, and all of them with it
+pub stops_at : (s : ReplayStop) (world new : World) (a b c : Option (List ℕ)) (es : List Event) (n number : ℕ) (e : Event) → number ≡ suc n → drop n es ≡ e ∷ drop (n + 1) es
+    → ComesTo world a b es n → ((w : model.World) → StandsFor world w → Did (Err s) new b c number e (step w (event_of e)))
+    → Writes (Err s) a c (trace_from 0 model.first_world es)
+stops_at s world new a b c es n number e count rest so_far did =
+    let follow = λ (next : model.World). trace_from (suc n) next (drop (n + 1) es) in
+    let d : Writes (Err s) b c (goes_on (suc n) e follow (step so_far.next (event_of e))) =
+    subst (λ (k : ℕ). Writes (Err s) b c (goes_on k e follow (step so_far.next (event_of e)))) count (did so_far.next so_far.stands follow) in
+    let whole = so_far.same ∙ ap (behind so_far.lines) (ap (trace_from n so_far.next) rest ∙ one_more n so_far.next e (drop (n + 1) es)) in
+    subst (Writes (Err s) a c) (sym whole) (writes_behind (Err s) a b c so_far.lines _ so_far.put d)
+
+-- the last line, of which something was written
+pub ends : (r : Result Unit ReplayStop) (world : World) (a b c : Option (List ℕ)) (es : List Event) (n : ℕ) → drop n es ≡ [] → ComesTo world a b es n
+    → Writes r b c (record { text = end_text n world.log; stop = None }) → Writes r a c (trace_from 0 model.first_world es)
+unfolding trace_from
+ends r world a b c es n none so_far w =
+    let last : trace_from n so_far.next (drop n es) ≡ record { text = end_text n world.log; stop = None } =
+    ap (trace_from n so_far.next) none ∙ ap (λ (k : ℕ). record { text = end_text n k; stop = None }) (sym so_far.stands.log) in
+    subst (Writes r a c) (sym (so_far.same ∙ ap (behind so_far.lines) last)) (writes_behind r a b c so_far.lines _ so_far.put w)

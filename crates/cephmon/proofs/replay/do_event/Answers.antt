@@ -1,0 +1,24 @@
+use Rattle.std.proofs.Common.{◌≡◌, ◌∙◌}
+use Rattle.std.proofs.lemmas.Result.{err_from_is_err_and}
+use Rattle.schedule_text.specs.Trace.{step_lines}
+use Rattle.cephmon.specs.Trace.{event_of, step}
+use Rattle.cephmon.proofs.Writing.{did_memory, did_fault, did_write}
+use Rattle.cephmon.proofs.replay.do_event.Goals as goal
+
+pub returns-in_err-lines-clause-writes : goal.returns-in_err-lines-clause-writes
+returns-in_err-lines-clause-writes g c =
+    let p = err_from_is_err_and c.from_residual-in_err-lines.result c.from_residual-in_err-lines.ensures.1 in
+    λ w s. rw (p.1, p.2) (did_memory c.step.new.self (g.K.Sink.held c.args.sink.now) c.args.number c.args.event.now (step w (event_of c.args.event.now)))
+
+pub returns-in_err-write_all-clause-writes : goal.returns-in_err-write_all-clause-writes
+returns-in_err-write_all-clause-writes g c =
+    let p = err_from_is_err_and c.from_residual-in_err-write_all.result c.from_residual-in_err-write_all.ensures.1 in
+    let lines : c.as_slice.result.now ≡ step_lines c.args.number c.args.event.now c.in_ok-step.step = c.as_slice.ensures.value ∙ c.in_ok-lines.ensures in
+    λ w s. rw (p.1, p.2) (did_fault c.in_err-write_all.field-0.0 c.in_ok-step.step c.step.new.self (g.K.Sink.held c.args.sink.now) (g.K.Sink.held c.write_all.new.sink)
+    c.args.number c.args.event.now (step w (event_of c.args.event.now)) c.as_slice.result.now lines (c.in_ok-step.ensures w s) c.in_err-write_all.ensures.part)
+
+pub returns-clause-writes : goal.returns-clause-writes
+returns-clause-writes g c =
+    let lines : c.as_slice.result.now ≡ step_lines c.args.number c.args.event.now c.in_ok-step.step = c.as_slice.ensures.value ∙ c.in_ok-lines.ensures in
+    λ w s. did_write c.in_ok-step.step c.step.new.self (g.K.Sink.held c.args.sink.now) (g.K.Sink.held c.write_all.new.sink)
+    c.args.number c.args.event.now (step w (event_of c.args.event.now)) c.as_slice.result.now lines (c.in_ok-step.ensures w s) c.in_ok-write_all.ensures.whole

@@ -1,0 +1,5 @@
+pub mod Node
+pub mod Replay
+pub mod Run
+pub mod Status
+pub mod Trace

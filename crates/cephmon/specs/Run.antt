@@ -1,0 +1,69 @@
+-- What a replay reads and writes, and the cause of each status.
+use Rattle.std.specs.Prelude.{◌≡◌, ℕ, ◌⊎◌, List, [], ◌∷◌, map, Option, Some, None, Err, String, string_bytes, codes}
+use Rattle.std.specs.declared.alloc.Global.{Global}
+use Rattle.std.specs.Io.KnownBytes.{Appends}
+use Rattle.mon_types.specs.declared.names.Which.{Which}
+use Rattle.mon_link.specs.Faults.{Rose}
+use Rattle.mon_link.specs.Whole.{ReadsWhole, AppendsFront}
+use Rattle.schedule_text.specs.declared.schedule.Schedule.{Schedule}
+use Rattle.schedule_text.specs.declared.refusal.ScheduleRefused.TheVariants.{At}
+use Rattle.schedule_text.specs.Spelling.{HasText, schedule_text}
+use Rattle.schedule_text.specs.Schedule.{schedule_at}
+use Rattle.quorum_model.specs.World.{run}
+use Rattle.quorum_model.specs.Safe.{Safe}
+use Rattle.cephmon.specs.declared.status.Status.{Status}
+use Rattle.cephmon.specs.declared.status.Status.TheVariants as status
+use Rattle.cephmon.specs.Trace.{Trace, event_of, trace}
+
+-- the one word `replay`
+abbrev pub IsReplay : List (String Global) → Type 0
+IsReplay words = map string_bytes words ≡ codes "replay" ∷ []
+
+-- What stands before a run and after it: what the source has left, what the sink holds, and their counts of faults.
+pub record Outside : Type 0 where
+  pub left : Option (List ℕ)
+  pub held : Option (List ℕ)
+  pub read_faults : ℕ
+  pub write_faults : ℕ
+
+-- one more byte is read than a schedule may have
+abbrev pub most_read : ℕ
+most_read = 16777217
+
+-- the source was read to its end, or up to the most that is read, and the bytes have this fact
+abbrev pub OfRead : Outside → Outside → (List ℕ → Type 0) → Type 0
+OfRead before after fact = (bytes : List ℕ) × ReadsWhole most_read before.left after.left bytes × fact bytes
+
+-- the bytes are a schedule's text, its run is safe, and its trace has this fact
+pub record Replays (bytes : List ℕ) (fact : Trace → Type 0) : Type 0 where
+  pub schedule : Schedule
+  pub form : HasText schedule
+  pub text : bytes ≡ schedule_text schedule
+  pub safe : Safe 1 (run (map event_of schedule.events))
+  pub traced : fact (trace schedule.events)
+
+-- the whole trace went out, and its run came to the end, or stopped at this number
+abbrev pub WroteAll : Outside → Outside → Option Which → Trace → Type 0
+WroteAll before after stop t = (t.stop ≡ stop) × Appends before.held after.held t.text
+
+abbrev pub WroteFront : Outside → Outside → Trace → Type 0
+WroteFront before after t = AppendsFront before.held after.held t.text
+
+-- The cause of each status.
+abbrev pub HasStatus : List (String Global) → Outside → Outside → Status → Type 0
+HasStatus words before after status.Done = IsReplay words × OfRead before after (λ bytes. Replays bytes (WroteAll before after None))
+HasStatus words before after status.Words = ¬ (IsReplay words) × (after ≡ before)
+HasStatus words before after (status.Schedule line kind) =
+    IsReplay words × OfRead before after (λ bytes. schedule_at bytes ≡ Err (At line kind)) × (after.held ≡ before.held)
+HasStatus words before after status.ReadFault = IsReplay words × Rose before.read_faults after.read_faults × (after.held ≡ before.held)
+HasStatus words before after status.WriteFault =
+    IsReplay words × Rose before.write_faults after.write_faults × OfRead before after (λ bytes. Replays bytes (WroteFront before after))
+HasStatus words before after (status.Spent which) = IsReplay words × OfRead before after (λ bytes. Replays bytes (WroteAll before after (Some which)))
+HasStatus words before after status.OutOfMemory =
+    IsReplay words × ((after.held ≡ before.held) ⊎ OfRead before after (λ bytes. Replays bytes (WroteFront before after)))
+
+-- what the status tells of bytes that no schedule was made of
+abbrev pub TellsFault : List ℕ → Status → Type 0
+TellsFault bytes (status.Schedule line kind) = schedule_at bytes ≡ Err (At line kind)
+TellsFault bytes status.OutOfMemory = Unit {0}
+TellsFault bytes other = ⊥

@@ -1,0 +1,115 @@
+//! The run of a schedule, whose lines are written as they come.
+
+ghost use Rattle.std.specs.Prelude.{◌≡◌, ◌≤◌, IsTrue, Err, length};
+ghost use Rattle.std.specs.List.{list_all};
+ghost use Rattle.mon_link.specs.Faults.{Rose};
+ghost use Rattle.schedule_text.specs.Spelling.{HasText, event_fits};
+ghost use Rattle.quorum_model.specs.World.{World as Model, first_world};
+ghost use Rattle.cephmon.specs.Trace.{event_of, step, trace_from, trace};
+ghost use Rattle.cephmon.specs.Replay.{StandsFor, Writes, Did};
+
+use crate::node::NodeStop;
+use crate::world::World;
+use mon_bytes::OutOfMemory;
+use mon_link::{Sink, write_all};
+use mon_types::{Stop, Which};
+use schedule_text::{Event, Schedule, end_line, header_line, trace_line};
+use std::alloc::Global;
+
+/// Why a replay didn't come to its end.
+#[derive(Clone, Copy, Debug, PartialEq, Eq)]
+pub enum ReplayStop {
+    WriteFault,
+    Spent(Which),
+    OutOfMemory,
+}
+
+impl From<NodeStop> for ReplayStop {
+    ghost use Rattle.std.specs.Prelude.{◌≡◌};
+    ghost use Rattle.cephmon.specs.Replay.{stop_of};
+
+    ghost from_gives = { λ s e. e ≡ stop_of s };
+
+    fn from(stop: NodeStop) -> ReplayStop {
+        match stop {
+            NodeStop::OutOfMemory => ReplayStop::OutOfMemory,
+            NodeStop::Spent(which) => ReplayStop::Spent(which),
+        }
+    }
+}
+
+impl From<Stop> for ReplayStop {
+    ghost use Rattle.std.specs.Prelude.{◌≡◌};
+    ghost use Rattle.cephmon.specs.Replay.{fault_of};
+
+    ghost from_gives = { λ s e. e ≡ fault_of s };
+
+    fn from(stop: Stop) -> ReplayStop {
+        match stop {
+            Stop::Failed => ReplayStop::WriteFault,
+            Stop::OutOfMemory => ReplayStop::OutOfMemory,
+        }
+    }
+}
+
+impl From<OutOfMemory> for ReplayStop {
+    ghost use Rattle.std.specs.Prelude.{◌≡◌};
+    ghost use Rattle.cephmon.specs.declared.replay.ReplayStop.TheVariants.{OutOfMemory as no_memory};
+
+    ghost from_gives = { λ _ e. e ≡ no_memory };
+
+    fn from(_e: OutOfMemory) -> ReplayStop {
+        ReplayStop::OutOfMemory
+    }
+}
+
+/// Does one event, and writes its lines.
+fn do_event<K: Sink>(
+    alloc: Global,
+    sink: &mut K,
+    world: &mut World,
+    number: u32,
+    event: &Event,
+) -> Result<(), ReplayStop>
+    requires { IsTrue (event_fits event.now) }
+    ensures writes { (w : Model) → StandsFor world.old w →
+        Did result world.new (K.held sink.old) (K.held sink.new) number event.now (step w (event_of event.now)) }
+    ensures later { K.faults sink.old ≤ K.faults sink.new }
+    ensures fault { result ≡ Err ReplayStop.WriteFault → Rose (K.faults sink.old) (K.faults sink.new) }
+{
+    let step = world.step(alloc, event)?;
+    let lines = trace_line(alloc, number, event, &step)?;
+    write_all(sink, lines.as_slice())?;
+    Ok(())
+}
+
+/// Runs the events, and writes their lines and the last line.
+fn do_events<K: Sink>(alloc: Global, sink: &mut K, events: &[Event]) -> Result<(), ReplayStop>
+    requires fits { IsTrue (list_all event_fits events.now) }
+    requires count { length events.now ≤ 200000 }
+    ensures writes { Writes result (K.held sink.old) (K.held sink.new) (trace_from 0 first_world events.now) }
+    ensures later { K.faults sink.old ≤ K.faults sink.new }
+    ensures fault { result ≡ Err ReplayStop.WriteFault → Rose (K.faults sink.old) (K.faults sink.new) }
+{
+    let mut world = World::new(alloc);
+    let mut number: u32 = 0;
+    for event in events {
+        number += 1;
+        do_event(alloc, sink, &mut world, number, event)?;
+    }
+    let line = end_line(alloc, number, world.log)?;
+    write_all(sink, line.as_slice())?;
+    Ok(())
+}
+
+/// Runs a schedule, and writes its trace: each event's lines when it is done.
+pub fn replay<K: Sink>(alloc: Global, sink: &mut K, schedule: &Schedule) -> Result<(), ReplayStop>
+    requires { HasText schedule.now }
+    ensures writes { Writes result (K.held sink.old) (K.held sink.new) (trace schedule.now.events) }
+    ensures later { K.faults sink.old ≤ K.faults sink.new }
+    ensures fault { result ≡ Err ReplayStop.WriteFault → Rose (K.faults sink.old) (K.faults sink.new) }
+{
+    let line = header_line(alloc, schedule)?;
+    write_all(sink, line.as_slice())?;
+    do_events(alloc, sink, schedule.events.as_slice())
+}
