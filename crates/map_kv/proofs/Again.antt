@@ -1,5 +1,5 @@
 -- What is spelled so is read.
-use Rattle.std.proofs.Common.{◌≡◌, ℕ, zero, suc, ◌+◌, ◌≤◌, ◌<◌, ◌^◌, Bool, true, false, ◌&&◌, leb, eqb, List, [], ◌∷◌, ◌++◌, length, Result, Ok, Err, Less, nat_cmp, IsTrue, T, refl, sym, ap, subst, ◌∙◌, append_assoc, arith}
+use Rattle.std.proofs.Common.{◌≡◌, ℕ, ◌≤◌, false, ◌&&◌, leb, eqb, List, [], ◌∷◌, ◌++◌, length, Ok, Less, nat_cmp, IsTrue, T, refl, sym, subst, ◌∙◌, append_assoc, arith}
 use Rattle.std.specs.Cmp.Lexicographic.{slice_cmp}
 use Rattle.std.specs.List.{list_all, flat_map, AllByRecursion}
 use Rattle.std.specs.FinMap.{entries, len, from_sorted, is_sorted, entries-from_sorted, entries_sorted, same_entries_map, len-entries}
@@ -7,16 +7,15 @@ use Rattle.std.specs.FinMap.Entries.{below_all}
 use Rattle.std.proofs.lemmas.Bool.{leb-true}
 use Rattle.std.proofs.lemmas.Bool.Decides.{nat_tests}
 use Rattle.std.proofs.lemmas.List.{append-nil, nil_from_length}
-use Rattle.mon_bytes.specs.declared.command.MapRefused.{MapRefused}
 use Rattle.mon_bytes.specs.Reading.{Reading, number}
 use Rattle.mon_bytes.specs.Texts.{graphic, is_name}
-use Rattle.mon_bytes.specs.Forms.{◌>>=◌, fitted, u32_bytes, text_bytes, text_at, ended}
+use Rattle.mon_bytes.specs.Forms.{u32_bytes}
 use Rattle.mon_bytes.proofs.Ascii.{both}
 use Rattle.mon_bytes.proofs.Fields.{Found, byte_found, front_found}
 use Rattle.mon_bytes.proofs.Forms.{u32_found, text_found, ended_found}
 use Rattle.map_kv.specs.Map.{Kv}
-use Rattle.map_kv.specs.Text.{key_text, entry_text, inc_text, map_text, EntryFits, IncFits, MapFits}
-use Rattle.map_kv.specs.Decode.{name_at, set_at, remove_at, inc_at, inc_in, key_at, entry_at, entries_at, map_in}
+use Rattle.map_kv.specs.Text.{entry_text, inc_text, map_text, EntryFits, IncFits, MapFits}
+use Rattle.map_kv.specs.Decode.{name_at, set_at, remove_at, inc_at, inc_of, key_at, entry_at, entries_at, map_of}
 use Rattle.map_kv.specs.declared.inc.KvInc.{KvInc}
 use Rattle.map_kv.specs.declared.inc.KvInc.TheVariants.{Set, Remove}
 use Rattle.map_kv.proofs.Pairs.{Entry, sorted_parts, above_parts}
@@ -49,8 +48,8 @@ inc_found (Remove key) c rest e fits =
     let b = name_found a.0 key rest a.1 fits in
     (b.0, b.1, rw (a.2, b.2) refl)
 
-pub inc_again : (inc : KvInc) → IncFits inc → inc_in (inc_text inc) ≡ Ok inc
-unfolding inc_in
+pub inc_again : (inc : KvInc) → IncFits inc → inc_of (inc_text inc) ≡ Ok inc
+unfolding inc_of
 inc_again inc fits =
     let a = inc_found inc (record { at = 0; rest = inc_text inc }) [] (sym (append-nil (inc_text inc))) fits in
     rw a.2 (ended_found inc a.0 a.1)
@@ -88,8 +87,8 @@ above_nothing (e ∷ es) each = rw (nothing_first e.0 (name_is_long e.0 each.0.0
 pub same_map_of_entries : (m : Kv) → from_sorted (entries m) ≡ m
 same_map_of_entries m = same_entries_map _ m (entries-from_sorted (slice_cmp nat_cmp) (entries m) (entries_sorted m))
 
-pub map_again : (m : Kv) → MapFits m → map_in (map_text m) ≡ Ok m
-unfolding map_in
+pub map_again : (m : Kv) → MapFits m → map_of (map_text m) ≡ Ok m
+unfolding map_of
 map_again m fits =
     let es = entries m in
     let a = u32_found (record { at = 0; rest = map_text m }) (len m) (flat_map entry_text es) refl fits.count in
@@ -97,6 +96,6 @@ map_again m fits =
     let all = subst (λ (n : ℕ). entries_at n [] a.0 ≡ Ok (es, b.0)) (sym (len-entries m)) b.2 in
     rw (a.2, all, same_map_of_entries m) (ended_found m b.0 b.1)
 
-pub map_in_is : (bytes : List ℕ) (count : ℕ) (m : Kv) (c d : Reading) → number 4 (record { at = 0; rest = bytes }) ≡ Ok (count, c) → entries_at count [] c ≡ Ok (entries m, d) → length d.rest ≡ 0 → map_in bytes ≡ Ok m
-unfolding map_in
-map_in_is bytes count m c d e all none = rw (e, all, same_map_of_entries m) (ended_found m d (nil_from_length d.rest none))
+pub map_of_is : (bytes : List ℕ) (count : ℕ) (m : Kv) (c d : Reading) → number 4 (record { at = 0; rest = bytes }) ≡ Ok (count, c) → entries_at count [] c ≡ Ok (entries m, d) → length d.rest ≡ 0 → map_of bytes ≡ Ok m
+unfolding map_of
+map_of_is bytes count m c d e all none = rw (e, all, same_map_of_entries m) (ended_found m d (nil_from_length d.rest none))

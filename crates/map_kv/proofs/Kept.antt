@@ -1,16 +1,16 @@
 -- The map that a tree of texts stands for.
-use Rattle.std.proofs.Common.{◌≡◌, ℕ, ◌+◌, ◌<◌, ◌≤◌, ◌^◌, List, [], ◌∷◌, ◌++◌, length, map, slice_get, option_map, Bool, true, false, cond, leb, ◌&&◌, Option, Some, None, Ordering, Less, Equal, Greater, String, Global, BTreeMap, string_bytes, string_cmp, nat_cmp, is_eq, bytes_eq, T, IsTrue, append_assoc, refl, sym, ap, subst, ◌∙◌, arith}
+use Rattle.std.proofs.Common.{◌≡◌, ℕ, ◌+◌, ◌<◌, ◌≤◌, ◌^◌, List, [], ◌∷◌, ◌++◌, length, map, slice_get, option_map, cond, leb, ◌&&◌, Option, Some, None, Less, Equal, Greater, String, Global, BTreeMap, string_bytes, string_cmp, nat_cmp, is_eq, bytes_eq, T, IsTrue, append_assoc, refl, sym, ap, subst, ◌∙◌, arith}
 use Rattle.std.specs.Cmp.Lexicographic.{slice_cmp, nat_list_cmp_total}
 use Rattle.std.specs.Cmp.{eq_by_cmp_equiv}
 use Rattle.std.specs.List.{AllByRecursion, list_all}
 use Rattle.std.specs.Str.{IsUtf8}
 use Rattle.mon_bytes.specs.Texts.{graphic, is_name}
 use Rattle.mon_bytes.proofs.Ascii.{IsUtf8-graphic, both}
-use Rattle.std.specs.Map.{lookup, keys_of, update}
+use Rattle.std.specs.Map.{lookup, keys_of}
 use Rattle.std.specs.Ordering.{eq_by_cmp}
 use Rattle.std.specs.BTreeMap as tree
 use Rattle.std.specs.BTreeMap.{insert_entry}
-use Rattle.std.specs.FinMap.{get, len, keys, entries, insert, remove, empty, empty_of_len, from_sorted, find, put, is_sorted, IsAntisymmetric, slice_cmp-IsAntisymmetric, nat_cmp-IsAntisymmetric, entries-from_sorted, entries_sorted, entries-insert, get-entries, get-from_sorted, get-insert, get-remove, len-entries, same_map}
+use Rattle.std.specs.FinMap.{get, keys, entries, insert, remove, empty, empty_of_len, from_sorted, find, put, is_sorted, IsAntisymmetric, slice_cmp-IsAntisymmetric, nat_cmp-IsAntisymmetric, entries-from_sorted, entries_sorted, entries-insert, get-entries, get-from_sorted, get-insert, get-remove, len-entries, same_map}
 use Rattle.std.proofs.lemmas.Map.Text.{btree_map_updates_text, is_eq-slice_cmp}
 use Rattle.std.proofs.lemmas.List.{append-nil}
 use Rattle.std.proofs.lemmas.Option.{slice_get-map}

@@ -1,26 +1,23 @@
 -- What is read is spelled so, and what is spelled so is read.
-use Rattle.std.proofs.Common.{◌≡◌, ℕ, zero, suc, ◌+◌, ◌≤◌, ◌<◌, ◌^◌, ◌⊎◌, Bool, true, false, ◌&&◌, cond, leb, ltb, eqb, List, [], ◌∷◌, ◌++◌, length, Result, Ok, Err, Less, nat_cmp, IsTrue, T, refl, sym, ap, subst, ◌∙◌, append_assoc, arith, inl, inr}
+use Rattle.std.proofs.Common.{◌≡◌, ℕ, zero, suc, ◌+◌, ◌<◌, ◌^◌, ◌⊎◌, true, false, cond, eqb, List, [], ◌∷◌, ◌++◌, length, Result, Ok, Err, Less, nat_cmp, IsTrue, T, refl, sym, ap, subst, ◌∙◌, arith, inl, inr}
 use Rattle.std.specs.Prelude.{IfOk}
 use Rattle.std.specs.Cmp.Lexicographic.{slice_cmp}
-use Rattle.std.specs.List.{list_all, flat_map, AllByRecursion}
+use Rattle.std.specs.List.{flat_map, AllByRecursion}
 use Rattle.std.specs.Ordering.{is_lt}
-use Rattle.std.specs.Str.{is_utf8}
-use Rattle.std.specs.FinMap.{entries, len, from_sorted, is_sorted, entries-from_sorted, entries_sorted, same_entries_map, len-entries}
+use Rattle.std.specs.FinMap.{entries, len, from_sorted, is_sorted, entries-from_sorted, len-entries}
 use Rattle.std.specs.FinMap.Entries.{below_all}
-use Rattle.std.proofs.lemmas.Bool.{cases_eq, eqb-true, leb-true}
+use Rattle.std.proofs.lemmas.Bool.{cases_eq}
 use Rattle.std.proofs.lemmas.Bool.Decides.{nat_tests}
-use Rattle.std.proofs.lemmas.List.{append-nil}
 use Rattle.mon_bytes.specs.declared.command.MapRefused.{MapRefused}
 use Rattle.mon_bytes.specs.declared.command.MapRefused.TheVariants as refused
 use Rattle.mon_bytes.specs.Reading.{IsBytes, Reading, number, front}
-use Rattle.mon_bytes.specs.Texts.{graphic, is_name}
+use Rattle.mon_bytes.specs.Texts.{is_name}
 use Rattle.mon_bytes.specs.Forms.{◌>>=◌, fitted, u32_bytes, text_bytes, text_at, ended, Gives}
-use Rattle.mon_bytes.proofs.Ascii.{both}
-use Rattle.mon_bytes.proofs.Fields.{guard_ok, chosen_ok, ok_is, Takes, Takes-then, front_takes, byte_takes, Found, byte_found, front_found}
-use Rattle.mon_bytes.proofs.Forms.{bind_ok, fitted_ok, u32_takes, u32_found, text_takes, text_found, ended_ok, ended_found}
+use Rattle.mon_bytes.proofs.Fields.{guard_ok, chosen_ok, ok_is, Takes, Takes-then, Takes-whole, front_takes, byte_takes}
+use Rattle.mon_bytes.proofs.Forms.{bind_ok, fitted_ok, u32_takes, text_takes, ended_ok}
 use Rattle.map_kv.specs.Map.{Kv}
 use Rattle.map_kv.specs.Text.{key_text, entry_text, inc_text, map_text, EntryFits, IncFits, MapFits}
-use Rattle.map_kv.specs.Decode.{name_at, set_at, remove_at, inc_at, inc_in, key_at, entry_at, entries_at, map_in}
+use Rattle.map_kv.specs.Decode.{name_at, set_at, remove_at, inc_at, inc_of, key_at, entry_at, entries_at, map_of}
 use Rattle.map_kv.specs.declared.inc.KvInc.{KvInc}
 use Rattle.map_kv.specs.declared.inc.KvInc.TheVariants.{Set, Remove}
 use Rattle.map_kv.proofs.Pairs.{Entry, below_less}
@@ -90,21 +87,17 @@ inc_takes c x fits e =
       ]
     ]
 
--- where nothing is left, all was taken
-taken_whole : (c after : Reading) (text : List ℕ) → Takes c text after → after.rest ≡ [] → c.rest ≡ text
-taken_whole c after text t none = t.parts ∙ ap (λ (r : List ℕ). text ++ r) none ∙ append-nil text
-
-inc_in_takes : (bytes : List ℕ) (inc : KvInc) → IsBytes bytes → inc_in bytes ≡ Ok inc → IncFits inc × (bytes ≡ inc_text inc)
-unfolding inc_in
-inc_in_takes bytes inc fits e =
+inc_of_takes : (bytes : List ℕ) (inc : KvInc) → IsBytes bytes → inc_of bytes ≡ Ok inc → IncFits inc × (bytes ≡ inc_text inc)
+unfolding inc_of
+inc_of_takes bytes inc fits e =
     let c : Reading = record { at = 0; rest = bytes } in
     let a = bind_ok (inc_at c) (λ x. ended x) inc e in
     let done = ended_ok a.0 inc a.2 in
     let t = inc_takes c a.0 fits a.1 in
-    subst (λ (i : KvInc). IncFits i × (bytes ≡ inc_text i)) done.0 (t.1, taken_whole c a.0.1 (inc_text a.0.0) t.0 done.1)
+    subst (λ (i : KvInc). IncFits i × (bytes ≡ inc_text i)) done.0 (t.1, Takes-whole c a.0.1 (inc_text a.0.0) t.0 done.1)
 
-pub inc_is_found : (bytes : List ℕ) (r : Result KvInc MapRefused) → IsBytes bytes → Gives (λ x. x) r (inc_in bytes) → IfOk r (λ inc. IncFits inc × (bytes ≡ inc_text inc))
-inc_is_found bytes (Ok inc) fits h = inc_in_takes bytes inc fits h
+pub inc_is_found : (bytes : List ℕ) (r : Result KvInc MapRefused) → IsBytes bytes → Gives (λ x. x) r (inc_of bytes) → IfOk r (λ inc. IncFits inc × (bytes ≡ inc_text inc))
+inc_is_found bytes (Ok inc) fits h = inc_of_takes bytes inc fits h
 inc_is_found bytes (Err e) fits h = tt
 
 -- ---- the entries of a map
@@ -155,9 +148,9 @@ map_of_entries es sorted each few =
     let count : len (from_sorted {R = slice_cmp nat_cmp} es) ≡ length es = len-entries (from_sorted es) ∙ ap length same in
     (record { each = subst (AllByRecursion EntryFits) (sym same) each; count = omega (arith, count, few) }, rw (same, count) refl)
 
-map_in_takes : (bytes : List ℕ) (map : Kv) → IsBytes bytes → map_in bytes ≡ Ok map → MapFits map × (bytes ≡ map_text map)
-unfolding map_in
-map_in_takes bytes map fits e =
+map_of_takes : (bytes : List ℕ) (map : Kv) → IsBytes bytes → map_of bytes ≡ Ok map → MapFits map × (bytes ≡ map_text map)
+unfolding map_of
+map_of_takes bytes map fits e =
     let c : Reading = record { at = 0; rest = bytes } in
     let a = bind_ok (fitted (number 4 c)) (λ count. entries_at count.0 [] count.1 >>= λ es. ended (from_sorted es.0, es.1)) map e in
     let b = bind_ok (entries_at a.0.0 [] a.0.1) (λ es. ended (from_sorted es.0, es.1)) map a.2 in
@@ -165,11 +158,11 @@ map_in_takes bytes map fits e =
     let t0 = u32_takes c a.0 fits (fitted_ok (number 4 c) a.0 a.1) in
     let t1 = entries_takes a.0.0 [] a.0.1 b.0 t0.0.bytes b.1 in
     let few : length b.0.0 < 2 ^ 32 = omega (arith, t0.1, t1.count) in
-    let whole = taken_whole c b.0.1 (u32_bytes a.0.0 ++ flat_map entry_text b.0.0) (Takes-then c a.0.1 b.0.1 (u32_bytes a.0.0) (flat_map entry_text b.0.0) t0.0 t1.all) done.1 in
+    let whole = Takes-whole c b.0.1 (u32_bytes a.0.0 ++ flat_map entry_text b.0.0) (Takes-then c a.0.1 b.0.1 (u32_bytes a.0.0) (flat_map entry_text b.0.0) t0.0 t1.all) done.1 in
     let form = map_of_entries b.0.0 t1.sorted t1.each few in
     subst (λ (m : Kv). MapFits m × (bytes ≡ map_text m)) done.0
     (form.0, whole ∙ ap (λ (n : ℕ). u32_bytes n ++ flat_map entry_text b.0.0) (sym t1.count) ∙ sym form.1)
 
-pub map_is_found : (bytes : List ℕ) (r : Result Kv MapRefused) → IsBytes bytes → Gives (λ x. x) r (map_in bytes) → IfOk r (λ map. MapFits map × (bytes ≡ map_text map))
-map_is_found bytes (Ok map) fits h = map_in_takes bytes map fits h
+pub map_is_found : (bytes : List ℕ) (r : Result Kv MapRefused) → IsBytes bytes → Gives (λ x. x) r (map_of bytes) → IfOk r (λ map. MapFits map × (bytes ≡ map_text map))
+map_is_found bytes (Ok map) fits h = map_of_takes bytes map fits h
 map_is_found bytes (Err e) fits h = tt

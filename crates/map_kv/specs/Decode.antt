@@ -38,8 +38,8 @@ inc_at c = do
   if kind.0 == 1 then set_at kind.1 else (if kind.0 == 2 then remove_at kind.1 else Err (Form c.at))
 
 -- the incremental that the bytes spell, all of them
-unfoldable pub inc_in : List ℕ → Result KvInc MapRefused
-inc_in bytes = do
+unfoldable pub inc_of : List ℕ → Result KvInc MapRefused
+inc_of bytes = do
   inc ← inc_at (record { at = 0; rest = bytes })
   ended inc
 
@@ -64,8 +64,8 @@ entries_at (suc n) before c = do
   Ok (first.0 ∷ others.0, others.1)
 
 -- the map that the bytes spell, all of them. Before the first key there is nothing, which is below each name.
-unfoldable pub map_in : List ℕ → Result Kv MapRefused
-map_in bytes = do
+unfoldable pub map_of : List ℕ → Result Kv MapRefused
+map_of bytes = do
   count ← fitted (number 4 (record { at = 0; rest = bytes }))
   entries ← entries_at count.0 [] count.1
   ended (from_sorted entries.0, entries.1)

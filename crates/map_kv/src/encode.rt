@@ -1,11 +1,9 @@
-ghost use Rattle.std.specs.Prelude.{◌≡◌, ℕ, ◌<◌, ◌^◌, ◌++◌, length, IsTrue, IfOk, OnOk};
-ghost use Rattle.std.specs.Str.{is_utf8};
+ghost use Rattle.std.specs.Prelude.{◌≡◌, ◌++◌, IsTrue, IfOk, OnOk};
 ghost use Rattle.mon_bytes.specs.Texts.{is_name};
-ghost use Rattle.mon_bytes.specs.Forms.{u32_bytes, text_bytes};
 ghost use Rattle.map_kv.specs.Text.{key_text, inc_text, IncIsShort, IncFits};
 
 use crate::inc::KvInc;
-use mon_bytes::{Out, OutOfMemory, Text};
+use mon_bytes::{Out, OutOfMemory, write_text};
 use std::alloc::Global;
 
 /// Appends a name with its length in one byte.
@@ -15,25 +13,6 @@ pub(crate) fn put_name(out: &mut Out, name: &str) -> Result<(), OutOfMemory>
 {
     out.put_u8(name.len() as u8)?;
     out.put_bytes(name.as_bytes())
-}
-
-/// Appends a number in four bytes.
-#[tactic(auto, unfolding(mon_bytes::specs::Forms::u32_bytes))]
-pub(crate) fn put_count(out: &mut Out, count: u32) -> Result<(), OutOfMemory>
-    ensures { OnOk result (out.new ≡ out.old ++ u32_bytes count) }
-{
-    out.put_u32(count)
-}
-
-/// Appends a text with its length in four bytes.
-pub(crate) fn put_text(out: &mut Out, text: &Text) -> Result<(), OutOfMemory>
-    requires { length text.now < 2 ^ 32 }
-    ensures bytes { OnOk result (out.new ≡ out.old ++ text_bytes text.now) }
-    ensures form { IsTrue (is_utf8 text.now) }
-{
-    let bytes = text.as_slice();
-    put_count(out, bytes.len() as u32)?;
-    out.put_bytes(bytes)
 }
 
 impl KvInc {
@@ -49,7 +28,7 @@ impl KvInc {
             KvInc::Set { key, value } => {
                 out.put_u8(1)?;
                 put_name(&mut out, key.as_str())?;
-                put_text(&mut out, value)?;
+                write_text(&mut out, value)?;
             }
             KvInc::Remove { key } => {
                 out.put_u8(2)?;

@@ -8,9 +8,9 @@ ghost use Rattle.map_kv.specs.Map.{with_inc};
 ghost use Rattle.map_kv.specs.Text.{map_text, MapFits, MapIsShort};
 ghost use Rattle.map_kv.specs.Kept.{pairs, held, entry_size};
 
-use crate::encode::{put_count, put_name, put_text};
+use crate::encode::put_name;
 use crate::inc::KvInc;
-use mon_bytes::{Name, Out, OutOfMemory, Text};
+use mon_bytes::{Name, Out, OutOfMemory, Text, write_count, write_text};
 use std::alloc::Global;
 use std::collections::BTreeMap;
 use std::collections::btree_map::Iter;
@@ -201,10 +201,10 @@ impl KvMap {
         ensures form { IfOk result (λ _. MapFits self.now) }
     {
         let mut out = Out::new(self.alloc);
-        put_count(&mut out, self.len() as u32)?;
+        write_count(&mut out, self.len() as u32)?;
         for (key, value) in &self.entries {
             put_name(&mut out, key.as_str())?;
-            put_text(&mut out, value)?;
+            write_text(&mut out, value)?;
         }
         Ok(out.into_bytes())
     }

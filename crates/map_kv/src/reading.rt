@@ -5,7 +5,7 @@ ghost use Rattle.mon_bytes.specs.Forms.{Reads, Gives};
 ghost use Rattle.map_kv.specs.declared.inc.KvInc.{KvInc as Inc};
 ghost use Rattle.map_kv.specs.Map.{Kv};
 ghost use Rattle.map_kv.specs.Text.{inc_text, map_text, IncFits, MapFits};
-ghost use Rattle.map_kv.specs.Decode.{name_at, set_at, remove_at, inc_at, inc_in, key_at, entries_at, map_in};
+ghost use Rattle.map_kv.specs.Decode.{name_at, set_at, remove_at, inc_at, inc_of, key_at, entries_at, map_of};
 
 use crate::inc::KvInc;
 use crate::map::KvMap;
@@ -72,9 +72,9 @@ fn inc_at(alloc: Global, cursor: &mut Cursor<'_>) -> Result<KvInc, MapRefused>
     }
 }
 
-#[tactic(auto, unfolding(crate::specs::Decode::inc_in, mon_bytes::specs::Forms::ended))]
-fn inc_in(alloc: Global, bytes: &[u8]) -> Result<KvInc, MapRefused>
-    ensures { Gives (λ x. x) result (inc_in bytes.now) }
+#[tactic(auto, unfolding(crate::specs::Decode::inc_of, mon_bytes::specs::Forms::ended))]
+fn inc_of(alloc: Global, bytes: &[u8]) -> Result<KvInc, MapRefused>
+    ensures { Gives (λ x. x) result (inc_of bytes.now) }
 {
     let mut cursor = Cursor::new(bytes);
     let inc = inc_at(alloc, &mut cursor)?;
@@ -111,9 +111,9 @@ fn entries_at(alloc: Global, count: u32, cursor: &mut Cursor<'_>) -> Result<KvMa
     Ok(map)
 }
 
-#[tactic(auto, unfolding(crate::specs::Decode::map_in, mon_bytes::specs::Forms::ended))]
-fn map_in(alloc: Global, bytes: &[u8]) -> Result<KvMap, MapRefused>
-    ensures { Gives (λ x. x) result (map_in bytes.now) }
+#[tactic(auto, unfolding(crate::specs::Decode::map_of, mon_bytes::specs::Forms::ended))]
+fn map_of(alloc: Global, bytes: &[u8]) -> Result<KvMap, MapRefused>
+    ensures { Gives (λ x. x) result (map_of bytes.now) }
 {
     let mut cursor = Cursor::new(bytes);
     let count = cursor.take_u32()?;
@@ -132,9 +132,9 @@ impl KvInc {
         // What is spelled so is read, unless memory runs out.
         ensures only { (inc : Inc) → IncFits inc → bytes.now ≡ inc_text inc → Gives (λ x. x) result (Ok inc) }
         // Which field is at fault.
-        ensures exact { Gives (λ x. x) result (inc_in bytes.now) }
+        ensures exact { Gives (λ x. x) result (inc_of bytes.now) }
     {
-        inc_in(alloc, bytes)
+        inc_of(alloc, bytes)
     }
 }
 
@@ -146,8 +146,8 @@ impl KvMap {
         // What is spelled so is read, unless memory runs out.
         ensures only { (map : Kv) → MapFits map → bytes.now ≡ map_text map → Gives (λ x. x) result (Ok map) }
         // Which field is at fault.
-        ensures exact { Gives (λ x. x) result (map_in bytes.now) }
+        ensures exact { Gives (λ x. x) result (map_of bytes.now) }
     {
-        map_in(alloc, bytes)
+        map_of(alloc, bytes)
     }
 }

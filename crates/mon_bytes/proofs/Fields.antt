@@ -1,9 +1,8 @@
 -- What the readers of numbers and bytes take from the front, and that they take what is there.
-use Rattle.std.proofs.Common.{◌≡◌, ℕ, ◌+◌, ◌*◌, ◌^◌, ◌≤◌, ◌<◌, Bool, true, false, cond, ltb, List, [], ◌∷◌, ◌++◌, length, get_or, take, drop, Result, Ok, Err, refl, sym, ap, subst, ◌∙◌, append_assoc, arith, inl, inr}
+use Rattle.std.proofs.Common.{◌≡◌, ℕ, ◌+◌, ◌^◌, ◌≤◌, ◌<◌, Bool, true, false, cond, ltb, List, [], ◌∷◌, ◌++◌, length, take, drop, Result, Ok, Err, refl, sym, ap, subst, ◌∙◌, append_assoc, arith, inl, inr}
 use Rattle.std.proofs.lemmas.Bool.{cases_lt, ltb-false, le-ltb}
-use Rattle.std.proofs.lemmas.List.{take_at, drop_at, take-append-drop, length-append, length-take, get_or-drop, get_or-take, get_or_past}
+use Rattle.std.proofs.lemmas.List.{append-nil, take_at, drop_at, take-append-drop, length-append, length-take, get_or-drop, get_or-take, get_or_past}
 use Rattle.byteorder.specs.Endian.{little_bytes, little_number}
-use Rattle.mon_bytes.specs.declared.cursor.Short.{Short}
 use Rattle.mon_bytes.specs.Reading.{IsBytes, Reading, moved, number, front}
 use Rattle.mon_bytes.proofs.LittleEndian.{little_number-below, little_bytes-little_number}
 
@@ -35,6 +34,10 @@ pub record Takes (c : Reading) (taken : List ℕ) (after : Reading) : Type 0 whe
 
 pub Takes-then : (a b c : Reading) (x y : List ℕ) → Takes a x b → Takes b y c → Takes a (x ++ y) c
 Takes-then a b c x y p q = record { parts = p.parts ∙ ap (λ (t : List ℕ). x ++ t) q.parts ∙ sym (append_assoc x y c.rest); bytes = q.bytes }
+
+-- where nothing is left, all was taken
+pub Takes-whole : (c after : Reading) (text : List ℕ) → Takes c text after → after.rest ≡ [] → c.rest ≡ text
+Takes-whole c after text t none = t.parts ∙ ap (λ (r : List ℕ). text ++ r) none ∙ append-nil text
 
 pub front_takes : (n : ℕ) (c : Reading) (x : List ℕ × Reading) → IsBytes c.rest → front n c ≡ Ok x → Takes c x.0 x.1 × (length x.0 ≡ n)
 front_takes n c x fits e =

@@ -1,10 +1,10 @@
 -- What the readers of forms take, and that they read what is spelled.
-use Rattle.std.proofs.Common.{◌≡◌, ℕ, ◌+◌, ◌^◌, ◌≤◌, ◌<◌, Bool, true, false, cond, ltb, eqb, List, [], ◌∷◌, ◌++◌, length, Result, Ok, Err, IsTrue, refl, sym, ap, subst, ◌∙◌, arith}
+use Rattle.std.proofs.Common.{◌≡◌, ℕ, ◌^◌, ◌<◌, cond, eqb, List, [], ◌++◌, length, Result, Ok, Err, IsTrue, refl, sym, ap, subst, arith}
 use Rattle.std.proofs.lemmas.Bool.{eqb-true}
 use Rattle.std.proofs.lemmas.List.{nil_from_length}
 use Rattle.std.specs.Str.{is_utf8}
 use Rattle.byteorder.specs.Endian.{little_bytes}
-use Rattle.byteorder.specs.Numbers.{little_number-reads_back, length-bytes_low_first}
+use Rattle.byteorder.specs.Numbers.{little_number-reads_back}
 use Rattle.mon_bytes.specs.declared.cursor.Short.{Short}
 use Rattle.mon_bytes.specs.declared.command.MapRefused.{MapRefused}
 use Rattle.mon_bytes.specs.declared.command.MapRefused.TheVariants as refused

@@ -1,8 +1,11 @@
-ghost use Rattle.mon_bytes.specs.Forms.{text_at, Reads};
+ghost use Rattle.std.specs.Prelude.{◌≡◌, ℕ, ◌<◌, ◌^◌, ◌++◌, length, IsTrue, OnOk};
+ghost use Rattle.std.specs.Str.{is_utf8};
+ghost use Rattle.mon_bytes.specs.Forms.{u32_bytes, text_bytes, text_at, Reads};
 
 use crate::command::MapRefused;
 use crate::cursor::Cursor;
 use crate::memory::OutOfMemory;
+use crate::out::Out;
 use crate::texts::Text;
 use std::alloc::Global;
 
@@ -20,4 +23,23 @@ pub fn read_text(alloc: Global, cursor: &mut Cursor<'_>) -> Result<Text, MapRefu
         return Err(MapRefused::Form { at });
     };
     Ok(text)
+}
+
+/// Appends a number in four bytes.
+#[tactic(auto, unfolding(crate::specs::Forms::u32_bytes))]
+pub fn write_count(out: &mut Out, count: u32) -> Result<(), OutOfMemory>
+    ensures { OnOk result (out.new ≡ out.old ++ u32_bytes count) }
+{
+    out.put_u32(count)
+}
+
+/// Appends a text with its length in four bytes. It is for texts of fewer than 2 ^ 32 bytes.
+pub fn write_text(out: &mut Out, text: &Text) -> Result<(), OutOfMemory>
+    requires { length text.now < 2 ^ 32 }
+    ensures bytes { OnOk result (out.new ≡ out.old ++ text_bytes text.now) }
+    ensures form { IsTrue (is_utf8 text.now) }
+{
+    let bytes = text.as_slice();
+    write_count(out, bytes.len() as u32)?;
+    out.put_bytes(bytes)
 }

@@ -14,7 +14,7 @@ mod word;
 pub use command::{Command, CommandRefused, MapRefused};
 pub use cursor::{Cursor, Short};
 pub use entry::{Entry, KeyPlace};
-pub use form::read_text;
+pub use form::{read_text, write_count, write_text};
 pub use law::law_little_endian;
 pub use memory::OutOfMemory;
 pub use out::Out;

@@ -73,3 +73,19 @@ fn copies(rt: HostRuntime) -> Result<(), Fail> {
     assert!(rt; matches!(command.copy(alloc)?, Command::Log { .. }));
     Ok(())
 }
+
+#[test]
+fn a_text_with_its_length(rt: HostRuntime) -> Result<(), Fail> {
+    let alloc = rt.alloc();
+    let mut out = Out::new(alloc);
+    let text = Text::new(b"hi".to_vec(alloc)?).ok_or("a text")?;
+    if text.as_slice().len() < 3 {
+        write_text(&mut out, &text)?;
+    }
+    let bytes = out.into_bytes();
+    assert_eq!(rt; bytes.as_slice(), [2, 0, 0, 0, 104, 105].as_slice());
+    let found = read_text(alloc, &mut Cursor::new(bytes.as_slice()))?;
+    assert_eq!(rt; found.as_str(), "hi");
+    assert_eq!(rt; (Name::is_form(b"a~"), Name::is_form(b"a ")), (true, false));
+    Ok(())
+}

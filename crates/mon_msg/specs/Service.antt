@@ -11,7 +11,7 @@ use Rattle.mon_tx.specs.Map.{number_in}
 use Rattle.mon_tx.specs.Decision.{Cell}
 use Rattle.map_kv.specs.declared.inc.KvInc.{KvInc}
 use Rattle.map_kv.specs.Map.{Kv, with_inc}
-use Rattle.map_kv.specs.Decode.{inc_in as inc_of}
+use Rattle.map_kv.specs.Decode.{inc_of}
 use Rattle.mon_msg.specs.declared.request.Service.{Service}
 use Rattle.mon_msg.specs.declared.request.Service.TheVariants as service
 use Rattle.mon_msg.specs.View.{View, area_of}

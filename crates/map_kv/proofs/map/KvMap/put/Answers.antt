@@ -1,6 +1,5 @@
-use Rattle.std.proofs.Common.{ap, ◌∙◌, arith, length, string_bytes}
+use Rattle.std.proofs.Common.{ap, ◌∙◌, arith, string_bytes}
 use Rattle.std.specs.FinMap.{insert}
-use Rattle.map_kv.specs.Text.{map_text}
 use Rattle.map_kv.specs.Kept.{IsPair}
 use Rattle.map_kv.proofs.Pairs.{is_sorted-pairs, each-insert_entry}
 use Rattle.map_kv.proofs.Kept.{inserted, kept_size}

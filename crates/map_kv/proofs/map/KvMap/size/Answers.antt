@@ -1,4 +1,4 @@
-use Rattle.std.proofs.Common.{◌<◌, ◌^◌, length, subst}
+use Rattle.std.proofs.Common.{◌<◌, ◌^◌, subst}
 use Rattle.map_kv.proofs.Kept.{size_is, is_short}
 use Rattle.map_kv.proofs.map.KvMap.size.Goals as goal
 

@@ -1,5 +1,4 @@
-use Rattle.std.proofs.Common.{◌≡◌, ◌+◌, ap, sym, ◌∙◌, arith, Some, None}
-use Rattle.std.specs.BTreeMap as tree
+use Rattle.std.proofs.Common.{ap, sym, ◌∙◌, arith}
 use Rattle.std.specs.FinMap.{remove}
 use Rattle.map_kv.specs.Kept.{pairs, size_of}
 use Rattle.map_kv.proofs.Pairs.{is_sorted-pairs, size_of-remove_entry, each-remove_entry}

@@ -1,4 +1,4 @@
-use Rattle.std.proofs.Common.{◌≡◌, Bool, true, false, refl, sym, rules}
+use Rattle.std.proofs.Common.{◌≡◌, Bool, true, false, refl, sym}
 use Rattle.std.specs.Str.{is_utf8}
 use Rattle.std.proofs.lemmas.Str.{is_utf8-from_IsUtf8, IsUtf8-from_is_utf8, IsUtf8-string_bytes}
 use Rattle.mon_bytes.proofs.texts.Text.new.Goals as goal
