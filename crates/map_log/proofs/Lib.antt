@@ -1,0 +1,4 @@
+pub mod Lengths
+pub mod Loop
+pub mod Laws
+pub mod Again

@@ -1,0 +1,4 @@
+pub mod Text
+pub mod Map
+pub mod Decode
+pub mod Made

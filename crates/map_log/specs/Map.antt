@@ -1,0 +1,17 @@
+-- The cluster log's map is the list of its entries. The step that an entry takes on it.
+use Rattle.std.specs.Prelude.{Bool, List, [], ◌∷◌, ◌++◌, length, nat_lt, ◌||◌, if◌then◌else◌}
+use Rattle.map_log.specs.Text.{map_text}
+use Rattle.map_log.specs.declared.inc.LogInc.{LogInc}
+
+-- more than 500 entries, or a text of more than 12,288 bytes
+abbrev pub is_above : List LogInc → Bool
+is_above es = nat_lt 500 (length es) || nat_lt 12288 (length (map_text es))
+
+-- the entries without those that go from the front
+abbrev pub trimmed : List LogInc → List LogInc
+trimmed [] = []
+trimmed (inc ∷ es) = if is_above (inc ∷ es) then trimmed es else inc ∷ es
+
+-- the map after an entry
+abbrev pub with_inc : List LogInc → LogInc → List LogInc
+with_inc es inc = trimmed (es ++ inc ∷ [])

@@ -1,0 +1,16 @@
+//! The cluster log's map: its entries, the step that each takes, and their bytes.
+#![tactic(auto)]
+
+mod command;
+mod encode;
+mod inc;
+mod map;
+mod reading;
+mod surplus;
+
+pub use command::make;
+pub use inc::LogInc;
+pub use map::LogMap;
+
+#[cfg(test)]
+mod tests;
