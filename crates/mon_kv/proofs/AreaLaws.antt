@@ -1,5 +1,5 @@
 -- What a change under one prefix leaves.
-use Rattle.std.proofs.Common.{◌≡◌, ℕ, ◌+◌, ◌-◌, ◌<◌, ◌≤◌, ◌^◌, min, add-zero, arith, Bool, true, false, cond, not, ◌&&◌, T, List, [], ◌∷◌, ◌++◌, Option, Some, None, Result, Ok, Err, OnErr, IsSome, refl, sym, ap, subst, ◌∙◌}
+use Rattle.std.proofs.Common.{◌≡◌, ℕ, ◌+◌, ◌-◌, ◌<◌, ◌^◌, min, add-zero, arith, Bool, true, false, cond, not, ◌&&◌, T, List, [], ◌∷◌, ◌++◌, Option, Some, None, Result, Ok, Err, OnErr, IsSome, refl, sym, ap, subst, ◌∙◌, length}
 use Rattle.std.specs.declared.cmp.Ordering.{Ordering}
 use Rattle.std.specs.declared.cmp.Ordering.TheVariants.{Less, Equal, Greater}
 use Rattle.std.specs.List.{list_all}
@@ -8,10 +8,9 @@ use Rattle.std.specs.Ordering.{eq_by_cmp, is_eq}
 use Rattle.std.specs.Cmp.{eq_by_cmp_equiv, alike_right, tied_itself}
 use Rattle.std.specs.FinMap.Entries.{find, put, where_key, is_sorted, by_order, find-put, find_tied, find-where_key, is_sorted-put, is_sorted-where_key}
 use Rattle.std.proofs.lemmas.Bool.{and_parts}
-use Rattle.std.proofs.lemmas.List.Filters.{sum_by-filter_both}
 use Rattle.mon_bytes.specs.Texts.{is_prefix}
 use Rattle.mon_kv.specs.Tree.{bytes_cmp, entries, is_empty, IsInOrder}
-use Rattle.mon_kv.specs.Areas.{Records, under, is_area, with_area, record_size, freed_size, area_size, areas_size, IsWhole, IsTaken, Changes}
+use Rattle.mon_kv.specs.Areas.{Records, under, is_area, with_area, record_size, freed_size, area_size, areas_size, weight_of, IsWhole, IsTaken, Changes}
 use Rattle.mon_kv.specs.declared.tree.Tree.{Tree, Leaf}
 use Rattle.mon_kv.proofs.Sums.{counted, sum_by-put, sum_by-without}
 use Rattle.mon_kv.proofs.Forks.{total, without}
@@ -19,7 +18,7 @@ use Rattle.mon_kv.proofs.Forks.{total, without}
 abbrev Areas : Type 0
 Areas = List (List ℕ × Records)
 
-to_T : (b : Bool) → b ≡ true → T b
+pub to_T : (b : Bool) → b ≡ true → T b
 to_T b h = subst T (sym h) tt
 
 pub from_T : (b : Bool) → T b → b ≡ true
@@ -238,14 +237,10 @@ size_prefix old new prefix es freed c e fits f =
 pub size_prefix_none : (old new : Tree Records) (prefix : List ℕ) → Changes old new prefix [] → under (find bytes_cmp prefix (entries old)) ≡ [] → areas_size (entries new) + 0 ≡ areas_size (entries old)
 size_prefix_none old new prefix c e = ap (λ es. areas_size (entries new) + area_size prefix es) (sym e) ∙ c.size ∙ add-zero (areas_size (entries old))
 
-fewer : (prefix : List ℕ) (p : List ℕ → Bool) (es : List (List ℕ × List ℕ)) → area_size prefix (where_key bytes_cmp p es) ≤ area_size prefix es
-fewer prefix p es = let h = sum_by-filter_both (λ (e : List ℕ × List ℕ). p e.0) (λ e. not (p e.0)) (λ e. refl) (λ e. record_size prefix e.0 e.1) es in omega (arith, h)
-
-pub size_where : (old mid new : Tree Records) (prefix : List ℕ) (taken records : Records) (p : List ℕ → Bool) (before after : ℕ) → IsTaken old mid prefix taken
-    → Changes old new prefix (where_key bytes_cmp p (under (find bytes_cmp prefix (entries old)))) → entries records ≡ where_key bytes_cmp p (entries taken) → areas_size (entries old) < 2 ^ 64
-    → before ≡ min (area_size prefix (entries taken)) (2 ^ 64 - 1) → after ≡ min (area_size prefix (entries records)) (2 ^ 64 - 1) → areas_size (entries new) + (before - after) ≡ areas_size (entries old)
-size_where old mid new prefix taken records p before after t c e fits b a =
+pub size_where : (old mid new : Tree Records) (prefix : List ℕ) (taken records : Records) (p : List ℕ → Bool) (freed : ℕ) → IsTaken old mid prefix taken
+    → Changes old new prefix (where_key bytes_cmp p (under (find bytes_cmp prefix (entries old)))) → entries records ≡ where_key bytes_cmp p (entries taken)
+    → weight_of (length prefix) (entries records) + freed ≡ weight_of (length prefix) (entries taken) → areas_size (entries new) + freed ≡ areas_size (entries old)
+size_where old mid new prefix taken records p freed t c e f =
     let all : areas_size (entries new) + area_size prefix (entries taken) ≡ areas_size (entries old) + area_size prefix (entries records) =
     ap (λ x. areas_size (entries new) + area_size prefix x) t.held ∙ c.size ∙ ap (λ x. areas_size (entries old) + area_size prefix x) (sym (e ∙ ap (where_key bytes_cmp p) t.held)) in
-    let less : area_size prefix (entries records) ≤ area_size prefix (entries taken) = subst (λ x. area_size prefix x ≤ area_size prefix (entries taken)) (sym e) (fewer prefix p (entries taken)) in
-    omega (arith, all, less, t.size, fits, b, a)
+    omega (arith, all, f)

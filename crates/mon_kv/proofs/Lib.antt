@@ -5,6 +5,7 @@ pub mod LocalLaws
 pub mod NextLaws
 pub mod Numerals
 pub mod PlaceLaws
+pub mod RangeLaws
 pub mod ReaderLaws
 pub mod StoreLaws
 pub mod Sums

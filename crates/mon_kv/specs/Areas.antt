@@ -57,6 +57,10 @@ abbrev pub freed_size : List ℕ → List ℕ → Option (List ℕ) → ℕ
 freed_size prefix key None = 0
 freed_size prefix key (Some value) = record_size prefix key value
 
+-- what entries count with under a prefix of this length
+abbrev pub weight_of : ℕ → List (List ℕ × List ℕ) → ℕ
+weight_of prefix_len es = sum_by (λ e. prefix_len + length e.0 + length e.1 + 16) es
+
 -- what the entries under a prefix count with, and those of all prefixes
 abbrev pub area_size : List ℕ → List (List ℕ × List ℕ) → ℕ
 area_size prefix es = sum_by (λ e. record_size prefix e.0 e.1) es

@@ -1,17 +1,19 @@
 //! Changes of a tree of prefixes whose values are trees of keys.
 
-ghost use Rattle.std.specs.Prelude.{◌≡◌, ◌+◌, ◌-◌, ◌<◌, ◌^◌, [], not, min, length, IsTrue, IsSome, IfSome, IfNone, IfOk, OnOk, OnErr};
-ghost use Rattle.std.specs.List.{sum_by};
+ghost use Rattle.std.specs.Prelude.{◌≡◌, ◌+◌, ◌-◌, ◌<◌, ◌^◌, [], not, min, IsTrue, IsSome, IfSome, IfNone, IfOk, OnOk, OnErr};
 ghost use Rattle.std.specs.Ordering.{eq_by_cmp};
 ghost use Rattle.std.specs.FinMap.Entries.{find, put, where_key};
 ghost use Rattle.mon_bytes.specs.Texts.{is_prefix};
 ghost use Rattle.mon_tx.specs.Map.{is_within};
+ghost use Rattle.mon_tx.specs.Keys.{decimal_text};
 ghost use Rattle.mon_kv.specs.Tree.{bytes_cmp, entries, IsInOrder};
-ghost use Rattle.mon_kv.specs.Areas.{under, with_area, record_size, freed_size, area_size, areas_size, IsWhole, IsTaken, Changes};
+ghost use Rattle.mon_kv.specs.Areas.{under, with_area, record_size, freed_size, weight_of, areas_size, IsWhole, IsTaken, Changes};
 
 use crate::tree::Tree;
+use itoa::Buffer;
 use mon_bytes::{Bytes, Name, OutOfMemory, Prefix};
 use std::alloc::Global;
+use std::mem::replace;
 
 /// The trees of all prefixes, none of them empty.
 pub(crate) type Areas = Tree<Tree<Bytes>>;
@@ -49,7 +51,7 @@ fn freed_size(prefix: &Prefix, key: &Name, value: &Option<Bytes>) -> u64
 
 /// What all keys count with under a prefix of this length, or the greatest u64 where it is more.
 fn weight(records: &Tree<Bytes>, prefix_len: u64) -> u64
-    ensures { result ≡ min (sum_by (λ e. prefix_len + length e.0 + length e.1 + 16) (entries records.now)) (2 ^ 64 - 1) }
+    ensures { result ≡ min (weight_of prefix_len (entries records.now)) (2 ^ 64 - 1) }
 {
     match records {
         Tree::Leaf => 0,
@@ -163,8 +165,72 @@ pub(crate) fn erase_prefix(areas: &mut Areas, prefix: &Prefix) -> u64
     }
 }
 
+/// Takes the decimal key of a version away, and tells what it counted with under a prefix of this length.
+#[tactic(auto, using(mon_tx::proofs::Decimals::decimal_is))]
+fn erase_version(records: &mut Tree<Bytes>, prefix_len: u64, version: u64) -> u64
+    requires in_order { IsInOrder records.old }
+    requires fits { weight_of prefix_len (entries records.old) < 2 ^ 64 }
+    ensures freed { weight_of prefix_len (entries records.new) + result ≡ weight_of prefix_len (entries records.old) }
+    ensures after { entries records.new ≡ where_key bytes_cmp (λ x. not (eq_by_cmp bytes_cmp (decimal_text version) x)) (entries records.old) }
+{
+    let mut digits = Buffer::new();
+    let key = digits.format(version);
+    match records.remove(key.as_bytes()) {
+        Some(value) => {
+            let value_len = value.as_slice().len() as u64;
+            prefix_len + key.len() as u64 + value_len + 16
+        }
+        None => 0,
+    }
+}
+
+/// Takes the decimal keys from `from` up to but not including `to` away, one after the other, and tells what they counted
+/// with under a prefix of this length.
+fn erase_each(records: &mut Tree<Bytes>, prefix_len: u64, from: u64, to: u64) -> u64
+    requires in_order { IsInOrder records.old }
+    requires fits { weight_of prefix_len (entries records.old) < 2 ^ 64 }
+    ensures freed { weight_of prefix_len (entries records.new) + result ≡ weight_of prefix_len (entries records.old) }
+    ensures after { entries records.new ≡ where_key bytes_cmp (λ x. not (is_within from to x)) (entries records.old) }
+{
+    let mut freed = 0;
+    for version in from..to {
+        freed += erase_version(records, prefix_len, version);
+    }
+    freed
+}
+
+/// Takes the decimal keys from `from` up to but not including `to` away in one pass over all keys, and tells what they
+/// counted with under a prefix of this length.
+fn erase_passing(records: &mut Tree<Bytes>, prefix_len: u64, from: u64, to: u64) -> u64
+    requires fits { weight_of prefix_len (entries records.old) < 2 ^ 64 }
+    ensures freed { weight_of prefix_len (entries records.new) + result ≡ weight_of prefix_len (entries records.old) }
+    ensures after { entries records.new ≡ where_key bytes_cmp (λ x. not (is_within from to x)) (entries records.old) }
+{
+    let before = weight(records, prefix_len);
+    let kept = replace(records, Tree::Leaf).without_versions(from, to);
+    let after = weight(&kept, prefix_len);
+    *records = kept;
+    before.saturating_sub(after)
+}
+
+/// Takes the decimal keys from `from` up to but not including `to` away, and tells what they counted with under a prefix
+/// of this length. It looks each number up, or passes over all keys where they are fewer than the numbers.
+fn erase_versions(records: &mut Tree<Bytes>, prefix_len: u64, from: u64, to: u64) -> u64
+    requires in_order { IsInOrder records.old }
+    requires fits { weight_of prefix_len (entries records.old) < 2 ^ 64 }
+    ensures freed { weight_of prefix_len (entries records.new) + result ≡ weight_of prefix_len (entries records.old) }
+    ensures after { entries records.new ≡ where_key bytes_cmp (λ x. not (is_within from to x)) (entries records.old) }
+{
+    let numbers = to.saturating_sub(from);
+    if records.count_up_to(numbers) < numbers {
+        return erase_passing(records, prefix_len, from, to);
+    }
+    erase_each(records, prefix_len, from, to)
+}
+
 /// Takes away every key of a prefix that is the decimal number of a version from `from` up to but not including `to`,
-/// and tells what they counted with. It goes through the keys of that prefix alone.
+/// and tells what they counted with. It takes a look-up for each number of the range, or one pass over the keys of that
+/// prefix where they are fewer.
 pub(crate) fn erase_range(areas: &mut Areas, prefix: &Prefix, from: u64, to: u64) -> u64
     requires whole { IsWhole areas.old }
     requires fits { areas_size (entries areas.old) < 2 ^ 64 }
@@ -172,13 +238,11 @@ pub(crate) fn erase_range(areas: &mut Areas, prefix: &Prefix, from: u64, to: u64
     ensures after { Changes areas.old areas.new prefix.now (where_key bytes_cmp (λ x. not (is_within from to x)) (under (find bytes_cmp prefix.now (entries areas.old)))) }
 {
     match take(areas, prefix) {
-        Some(records) => {
+        Some(mut records) => {
             let prefix_len = prefix.as_slice().len() as u64;
-            let before = weight(&records, prefix_len);
-            let records = records.without_versions(from, to);
-            let after = weight(&records, prefix_len);
+            let freed = erase_versions(&mut records, prefix_len, from, to);
             set(areas, prefix, records);
-            before.saturating_sub(after)
+            freed
         }
         None => 0,
     }

@@ -90,28 +90,44 @@ fn a_value_waits_only_as_a_transaction(rt: HostRuntime) -> Result<(), Fail> {
     Ok(())
 }
 
-#[test]
-fn erases_a_range_by_number(rt: HostRuntime) -> Result<(), Fail> {
-    let alloc = rt.alloc();
-    let mut tx = Transaction::new(alloc);
-    for key in ["99", "100", "1000", "first_committed"] {
-        set(&mut tx, alloc, b"paxos", key.as_bytes(), ONE)?;
+fn erase_range(tx: &mut Transaction, alloc: Global, from: u64, to: u64) -> Result<(), Fail> {
+    let prefix = Prefix::new(b"paxos".to_vec(alloc)?).ok_or("a prefix")?;
+    let from = Version::new(from).ok_or("a version")?;
+    let to = Version::new(to).ok_or("a version")?;
+    if to.get() <= from.get() {
+        return Err(Fail::from("a range"));
     }
-    let range = Op::EraseRange {
-        prefix: Prefix::new(b"paxos".to_vec(alloc)?).ok_or("a prefix")?,
-        from: Version::new(99).ok_or("a version")?,
-        to: Version::new(101).ok_or("a version")?,
-    };
-    tx.push(range)?;
-    let mut kv = Kv::empty(alloc);
-    kv.apply(&tx)?;
-    assert!(rt; kv.stored(99).is_none());
-    assert!(rt; kv.stored(100).is_none());
-    assert_eq!(rt;
-        (kv.number(b"paxos", b"1000"), kv.first_committed()),
-        (1, 1)
-    );
-    assert_eq!(rt; kv.size(), 77);
+    tx.push(Op::EraseRange { prefix, from, to })?;
+    Ok(())
+}
+
+#[test]
+fn a_short_and_a_long_range_erase_the_numbers_in_them(rt: HostRuntime) -> Result<(), Fail> {
+    let alloc = rt.alloc();
+    let none = 4u64 << 60;
+    for (from, to, left, size) in [
+        (99, 101, [none, none, 1000], 77u64),
+        (99, 103, [none, none, 1000], 77),
+        (100, none, [99, none, none], 76),
+        (0, 99, [99, 100, 1000], 125),
+        (0, none, [none, none, none], 52),
+    ] {
+        let mut tx = Transaction::new(alloc);
+        for key in ["99", "100", "1000", "first_committed"] {
+            set(&mut tx, alloc, b"paxos", key.as_bytes(), ONE)?;
+        }
+        erase_range(&mut tx, alloc, from, to)?;
+        let mut kv = Kv::empty(alloc);
+        kv.apply(&tx)?;
+        for (version, stays) in [(99u64, left[0]), (100, left[1]), (1000, left[2])] {
+            assert_eq!(rt;
+                kv.stored(version).is_some(),
+                stays == version,
+                "{from} {to}"
+            );
+        }
+        assert_eq!(rt; (kv.first_committed(), kv.size()), (1, size), "{from} {to}");
+    }
     Ok(())
 }
 

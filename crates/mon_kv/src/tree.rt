@@ -1,4 +1,4 @@
-ghost use Rattle.std.specs.Prelude.{◌≡◌, ℕ, List, [], ◌∷◌, ◌++◌, not, is_some, if◌then◌else◌, true, IsTrue, IfOk, OnErr};
+ghost use Rattle.std.specs.Prelude.{◌≡◌, ℕ, List, [], ◌∷◌, ◌++◌, not, is_some, min, length, if◌then◌else◌, true, IsTrue, IfOk, OnErr};
 ghost use Rattle.std.specs.Option.{option_copied, option_map, unwrap_or};
 ghost use Rattle.std.specs.Ordering.{eq_by_cmp};
 ghost use Rattle.std.specs.FinMap.Entries.{find, put, where_key, is_sorted};
@@ -68,6 +68,25 @@ impl<V> Tree<V> {
 }
 
 impl<V> Tree<V> {
+    /// The number of entries, counted no further than to `most`.
+    pub(crate) fn count_up_to(&self, most: u64) -> u64
+        ensures { result ≡ min most (length (entries self.now)) }
+    {
+        if most == 0 {
+            return 0;
+        }
+        match self {
+            Tree::Leaf => 0,
+            Tree::Fork(node) => {
+                let left = node.left.count_up_to(most);
+                if left == most {
+                    return most;
+                }
+                left + 1 + node.right.count_up_to(most - left - 1)
+            }
+        }
+    }
+
     /// The first entry.
     pub(crate) fn first(&self) -> Option<(&Name, &V)>
         ensures { option_map (λ e. (e.0.now, e.1.now)) result ≡ first (entries self.now) }
