@@ -1,0 +1,19 @@
+-- A lease is the moment of its end, or none.
+use Rattle.std.specs.Prelude.{ℕ, ◌+◌, ◌^◌, min, Bool, false, ◌&&◌, ◌||◌, ◌==◌, nat_lt, Option, None, Some}
+
+-- the milliseconds for which a lease stands
+abbrev pub length : ℕ
+length = 5000
+
+-- the lease that is given now
+abbrev pub extended : ℕ → Option ℕ
+extended now = Some (min (now + length) (2 ^ 62))
+
+-- whether it stands now
+abbrev pub stands : Option ℕ → ℕ → Bool
+stands None now = false
+stands (Some end) now = nat_lt now end
+
+-- whether a monitor of n may show its last committed version
+abbrev pub readable : ℕ → ℕ → Option ℕ → ℕ → Bool
+readable last n lease now = nat_lt 0 last && (n == 1 || stands lease now)
