@@ -1,5 +1,5 @@
 -- Scores of connections, in parts per million, and the tables of them that monitors keep and tell.
-use Rattle.std.specs.Prelude.{ℕ, ◌+◌, ◌-◌, ◌*◌, ◌/◌, ◌^◌, min, Bool, not, ◌==◌, nat_lt, if◌then◌else◌, List, map, filter, sum_by, take, replicate, slice_index, slice_index_or, slice_set}
+use Rattle.std.specs.Prelude.{ℕ, ◌+◌, ◌-◌, ◌*◌, ◌/◌, ◌^◌, min, Bool, not, ◌==◌, nat_lt, if◌then◌else◌, List, [], map, filter, sum_by, take, replicate, slice_index, slice_index_or, slice_set}
 use Rattle.std.specs.List.{enumerate_from, zip}
 use Rattle.std.specs.Ordering.{is_lt, on, then_cmp, nat_cmp}
 use Rattle.election_rules.specs.declared.row.Row.{Row}
@@ -26,15 +26,16 @@ lowered seconds score = score - share (score + full) seconds
 
 -- ---- rows
 
-abbrev pub start_row : ℕ → Row
+unfoldable pub start_row : ℕ → Row
 start_row boot = record { boot = boot; count = 0; scores = replicate 15 full }
 
--- the row with another score for x; its count stops growing at 2^62
+-- the row after one more update; its count stops growing at 2^62
+abbrev pub counted : Row → Row
+counted row = record row { count = if nat_lt row.count (2 ^ 62) then row.count + 1 else row.count }
+
+-- the row after an update that changes the score for x
 abbrev pub updated : (ℕ → ℕ) → ℕ → Row → Row
-updated change x row = record row {
-  count = if nat_lt row.count (2 ^ 62) then row.count + 1 else row.count;
-  scores = slice_set row.scores x (change (slice_index row.scores x));
-}
+updated change x row = counted (record row { scores = slice_set row.scores x (change (slice_index row.scores x)) })
 
 -- by boot count, and then by count
 abbrev pub is_older : Row → Row → Bool
@@ -49,8 +50,12 @@ newer p = if is_older p.0 p.1 then p.1 else p.0
 abbrev pub start_scores : ℕ → ℕ → Scores
 start_scores own boot = record { own = own; rows = slice_set (replicate 15 (start_row 0)) own (start_row boot) }
 
+-- what stands past the rows
+abbrev pub no_row : Row
+no_row = record { boot = 0; count = 0; scores = [] }
+
 abbrev pub row_of : Scores → ℕ → Row
-row_of table y = slice_index_or table.rows y (start_row 0)
+row_of table y = slice_index_or table.rows y no_row
 
 abbrev pub with_row : Scores → ℕ → Row → Scores
 with_row table y row = record table { rows = slice_set table.rows y row }
@@ -63,6 +68,10 @@ scored change x table = with_row table table.own (updated change x (row_of table
 abbrev pub merged : Scores → Scores → Scores
 merged table told = with_row (record table { rows = map newer (zip table.rows told.rows) }) table.own (row_of table table.own)
 
--- the sum of the scores that the other monitors of n give to x
+-- the sum of the scores that the others among the first monitors, whose rows these are, give to x
+abbrev pub sum_for : ℕ → List Row → ℕ
+sum_for x rows = sum_by (λ p. slice_index p.1.scores x) (filter (λ p. not (p.0 == x)) (enumerate_from 0 rows))
+
+-- the total score of x among n monitors
 abbrev pub total : Scores → ℕ → ℕ → ℕ
-total table n x = sum_by (λ p. slice_index p.1.scores x) (filter (λ p. not (p.0 == x)) (take n (enumerate_from 0 table.rows)))
+total table n x = sum_for x (take n table.rows)

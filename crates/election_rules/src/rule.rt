@@ -1,4 +1,7 @@
-use mon_types::RankSet;
+ghost use Rattle.std.specs.Prelude.{◌≡◌};
+ghost use Rattle.election_rules.specs.Ranking.{allows};
+
+use mon_types::{Rank, RankSet};
 
 /// By what an election ranks its candidates. In each case the lower rank decides last.
 #[derive(Clone, Copy, Debug, PartialEq, Eq)]
@@ -9,4 +12,16 @@ pub enum Rule {
     Disallow(RankSet),
     /// By connectivity score and then by rank; the monitors of the set never lead.
     Connectivity(RankSet),
+}
+
+impl Rule {
+    /// Whether the monitor of this rank may lead.
+    pub fn allows(&self, rank: Rank) -> bool
+        ensures { result ≡ allows self.now rank }
+    {
+        match self {
+            Rule::Classic => true,
+            Rule::Disallow(ranks) | Rule::Connectivity(ranks) => !ranks.has(rank),
+        }
+    }
 }
