@@ -1,3 +1,4 @@
+pub mod FormLaws
 pub mod MergeLemmas
 pub mod RankingLaws
 pub mod TotalLemmas

@@ -72,7 +72,7 @@ taken y table told now row m h e = record {
   left = λ k l. get_or-set_other now.rows y k row no_row (omega arith) ∙ m.left k (omega arith);
 }
 
-length-merged : (table told : Scores) → length table.rows ≡ 15 → length told.rows ≡ 15 → length (merged table told).rows ≡ 15
+pub length-merged : (table told : Scores) → length table.rows ≡ 15 → length told.rows ≡ 15 → length (merged table told).rows ≡ 15
 length-merged table told p q = length-set (map newer (zip table.rows told.rows)) table.own (row_of table table.own) ∙ length-newer table.rows told.rows p q
 
 -- the whole table

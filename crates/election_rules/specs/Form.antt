@@ -16,6 +16,7 @@ pub record IsRow (n : ℕ) (row : Row) : Type 0 where
 pub record IsTable (n own : ℕ) (table : Scores) : Type 0 where
   pub of_own : table.own ≡ own
   pub member : own < n
+  pub most : n ≤ 15
   pub ranks : length table.rows ≡ 15
   pub rows : (y : ℕ) → y < 15 → IsRow n (row_of table y)
   pub rest : (y : ℕ) → y < 15 → n ≤ y → row_of table y ≡ start_row 0

@@ -47,9 +47,6 @@ newer p = if is_older p.0 p.1 then p.1 else p.0
 
 -- ---- tables
 
-abbrev pub start_scores : ℕ → ℕ → Scores
-start_scores own boot = record { own = own; rows = slice_set (replicate 15 (start_row 0)) own (start_row boot) }
-
 -- what stands past the rows
 abbrev pub no_row : Row
 no_row = record { boot = 0; count = 0; scores = [] }
@@ -59,6 +56,9 @@ row_of table y = slice_index_or table.rows y no_row
 
 abbrev pub with_row : Scores → ℕ → Row → Scores
 with_row table y row = record table { rows = slice_set table.rows y row }
+
+abbrev pub start_scores : ℕ → ℕ → Scores
+start_scores own boot = with_row (record { own = own; rows = replicate 15 (start_row 0) }) own (start_row boot)
 
 -- the own score for x is changed
 abbrev pub scored : (ℕ → ℕ) → ℕ → Scores → Scores

@@ -1,11 +1,22 @@
 //! The laws of ranking and of tables.
 
-ghost use Rattle.std.specs.Prelude.{ℕ};
+ghost use Rattle.std.specs.Prelude.{ℕ, ◌<◌, ◌≤◌, ◌^◌};
 ghost use Rattle.election_rules.specs.declared.rule.Rule.{Rule};
 ghost use Rattle.election_rules.specs.declared.scores.Scores.{Scores};
+ghost use Rattle.election_rules.specs.Form.{IsTable};
+ghost use Rattle.election_rules.specs.Table.{start_scores, scored, raised, lowered, merged};
 ghost use Rattle.election_rules.specs.Ranking.{outranks, IsStrictTotalOrder};
 
 /// By each rule and each table, of any two ranks exactly one outranks the other, and no chain of such leads back.
 pub fn law_total_order()
     ensures { (rule : Rule) (n : ℕ) (table : Scores) → IsStrictTotalOrder (outranks rule n table) }
+{}
+
+/// A table among `n` monitors begins and stays one: no score passes the full one, the counts stay within 2^62, and
+/// nothing is known of a rank outside the map.
+pub fn law_table_stays()
+    ensures begins { (n own boot : ℕ) → own < n → n ≤ 15 → boot ≤ 2 ^ 62 → IsTable n own (start_scores own boot) }
+    ensures alive { (n own x seconds : ℕ) (table : Scores) → x < n → IsTable n own table → IsTable n own (scored (raised seconds) x table) }
+    ensures dead { (n own x seconds : ℕ) (table : Scores) → x < n → IsTable n own table → IsTable n own (scored (lowered seconds) x table) }
+    ensures merged { (n own other : ℕ) (table told : Scores) → IsTable n own table → IsTable n other told → IsTable n own (merged table told) }
 {}

@@ -7,8 +7,11 @@ mod row;
 mod rule;
 mod scores;
 
-pub use law::law_total_order;
+pub use law::{law_table_stays, law_total_order};
 pub use ranking::outranks;
 pub use row::{FULL, HALF_LIFE, Row};
 pub use rule::Rule;
 pub use scores::Scores;
+
+#[cfg(test)]
+mod tests;
