@@ -35,7 +35,7 @@ impl Row {
     }
 
     /// Whether the other copy of the row is newer.
-    pub fn is_older(&self, other: &Row) -> bool
+    pub(crate) fn is_older(&self, other: &Row) -> bool
         ensures { result ≡ is_older self.now other.now }
     {
         let boot = self.boot.cmp(&other.boot);
