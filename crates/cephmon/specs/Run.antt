@@ -3,7 +3,7 @@ use Rattle.std.specs.Prelude.{◌≡◌, ℕ, ◌⊎◌, List, [], ◌∷◌, ma
 use Rattle.std.specs.declared.alloc.Global.{Global}
 use Rattle.std.specs.Io.KnownBytes.{Appends}
 use Rattle.mon_types.specs.declared.names.Which.{Which}
-use Rattle.mon_link.specs.Faults.{Rose}
+use Rattle.mon_types.specs.Faults.{Rose}
 use Rattle.mon_link.specs.Whole.{ReadsWhole, AppendsFront}
 use Rattle.schedule_text.specs.declared.schedule.Schedule.{Schedule}
 use Rattle.schedule_text.specs.declared.refusal.ScheduleRefused.TheVariants.{At}

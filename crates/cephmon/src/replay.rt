@@ -2,7 +2,7 @@
 
 ghost use Rattle.std.specs.Prelude.{◌≡◌, ◌≤◌, IsTrue, Err, length};
 ghost use Rattle.std.specs.List.{list_all};
-ghost use Rattle.mon_link.specs.Faults.{Rose};
+ghost use Rattle.mon_types.specs.Faults.{Rose};
 ghost use Rattle.schedule_text.specs.Spelling.{HasText, event_fits};
 ghost use Rattle.quorum_model.specs.World.{World as Model, first_world};
 ghost use Rattle.cephmon.specs.Trace.{event_of, step, trace_from, trace};

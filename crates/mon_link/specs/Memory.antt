@@ -3,7 +3,7 @@ use Rattle.std.specs.Prelude.{◌≡◌, ◌==◌, ℕ, min, Bool, true, false, 
 use Rattle.std.specs.List.{list_any}
 use Rattle.mon_types.specs.declared.names.Stop.{Stop}
 use Rattle.mon_types.specs.declared.names.Stop.TheVariants.{Failed, OutOfMemory}
-use Rattle.mon_link.specs.Faults.{risen}
+use Rattle.mon_types.specs.Faults.{risen}
 
 -- the bytes that are left, the numbers of the calls that fail, and how many calls and faults there were
 pub record MemoryIn : Type 0 where

@@ -3,7 +3,7 @@
 ghost use Rattle.std.specs.Prelude.{◌≡◌, ◌≤◌, ◌<◌, None, Ok, Err, IfOk, OnOk, OnErr, length, is_some};
 ghost use Rattle.std.specs.Io.{ReadsAtMost};
 ghost use Rattle.mon_types.specs.declared.names.Stop.TheVariants.{Failed};
-ghost use Rattle.mon_link.specs.Faults.{HasCause, risen};
+ghost use Rattle.mon_types.specs.Faults.{HasCause, risen};
 
 use crate::outside::{Sink, Source, raised};
 use mon_types::Stop;

@@ -2,7 +2,7 @@ ghost use Rattle.std.specs.Prelude.{◌≡◌, ℕ, List, [], Some, ◌+◌, ◌
 ghost use Rattle.std.specs.List.{list_any};
 ghost use Rattle.std.specs.Io.{ReadsAtMost};
 ghost use Rattle.std.specs.Io.KnownBytes.{ReadConsumes, WriteAppends};
-ghost use Rattle.mon_link.specs.Faults.{HasCause};
+ghost use Rattle.mon_types.specs.Faults.{HasCause};
 ghost use Rattle.mon_link.specs.Memory.{fails_next, read_answer, read_leaves, read_puts, WritesMemory};
 
 use crate::outside::{Sink, Source, raised};

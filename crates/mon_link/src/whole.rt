@@ -1,6 +1,6 @@
 ghost use Rattle.std.specs.Prelude.{◌≡◌, ◌≤◌, length, IfOk, OnOk, OnErr, is_some};
 ghost use Rattle.std.specs.Io.KnownBytes.{Appends};
-ghost use Rattle.mon_link.specs.Faults.{HasCause};
+ghost use Rattle.mon_types.specs.Faults.{HasCause};
 ghost use Rattle.mon_link.specs.Whole.{ReadsWhole, ConsumesFront, AppendsFront};
 
 use crate::outside::{Sink, Source};

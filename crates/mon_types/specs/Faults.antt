@@ -1,4 +1,4 @@
--- Counts of faults, and what the answer Failed goes back to.
+-- Counts of faults of the outside, and what the answer Failed goes back to.
 use Rattle.std.specs.Prelude.{◌≡◌, ℕ, ◌+◌, ◌-◌, ◌^◌, ◌≤◌, min, Result, Err}
 use Rattle.mon_types.specs.declared.names.Stop.{Stop}
 use Rattle.mon_types.specs.declared.names.Stop.TheVariants.{Failed}
