@@ -1,0 +1,5 @@
+pub mod Contents
+pub mod Lives
+pub mod Moments
+pub mod Upsets
+pub mod Writes

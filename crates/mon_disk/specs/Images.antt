@@ -1,0 +1,72 @@
+-- What a disk holds, and what a crash may leave of it.
+use Rattle.std.specs.Prelude.{◌≡◌, ◌≢◌, ◌<◌, ◌≤◌, ◌⊎◌, ◌+◌, ℕ, min, max, List, [], ◌∷◌, ◌++◌, length, take, drop, Option, Some, None, ⊤}
+
+-- A disk at one moment of its life: the bytes that a read gives, where the disk tells them; the number of the moment;
+-- and what a crash at each moment so far may leave. A disk that tells nothing has no such image.
+pub record Content : Type 1 where
+  pub seen : Option (List ℕ)
+  pub moment : ℕ
+  pub images_at : ℕ → List ℕ → Type 0
+
+-- a disk that tells nothing
+abbrev pub untold : Content
+untold = record { seen = None; moment = 0; images_at = λ t c. ⊥ }
+
+-- what a crash may leave now
+abbrev pub images : Content → List ℕ → Type 0
+images x = x.images_at x.moment
+
+-- a file with these bytes at a place
+abbrev pub overwritten : ℕ → List ℕ → List ℕ → List ℕ
+overwritten at bytes file = take at file ++ bytes ++ drop (at + length bytes) file
+
+-- what a read gives after such a write, where the disk tells it
+abbrev pub written : ℕ → List ℕ → Option (List ℕ) → Option (List ℕ)
+written at bytes None = None
+written at bytes (Some file) = Some (overwritten at bytes file)
+
+-- the bytes at a place are these, where the disk tells them
+abbrev pub Reads : Option (List ℕ) → ℕ → List ℕ → Type 0
+Reads None at bytes = ⊤
+Reads (Some file) at bytes = bytes ≡ take (length bytes) (drop at file)
+
+-- One byte that a crash cuts short, inside what was there: the old byte, the new one, or one that isn't 1.
+abbrev pub TornByte : ℕ → ℕ → List ℕ → List ℕ → Type 0
+TornByte at byte old new =
+    (new ≡ old) ⊎ (new ≡ overwritten at (byte ∷ []) old) ⊎ ((other : ℕ) × (other ≢ 1) × (new ≡ overwritten at (other ∷ []) old))
+
+-- A write that a crash cuts short: any bytes in its range and past the old end, the old bytes elsewhere, and a length
+-- between the old and the new one.
+pub record Torn (at : ℕ) (bytes old new : List ℕ) : Type 0 where
+  pub before : take (min at (length old)) new ≡ take at old
+  pub after : drop (at + length bytes) new ≡ drop (at + length bytes) old
+  pub no_shorter : length old ≤ length new
+  pub no_longer : length new ≤ max (length old) (at + length bytes)
+  pub narrow : (byte : ℕ) → bytes ≡ byte ∷ [] → at < length old → TornByte at byte old new
+
+-- a crash leaves what one of the old images became
+abbrev pub Follows : (List ℕ → List ℕ → Type 0) → Content → Content → Type 0
+Follows step old new = (c : List ℕ) → images new c → (d : List ℕ) × images old d × step d c
+
+-- a crash leaves nothing that it might not have left before
+abbrev pub NoNew : Content → Content → Type 0
+NoNew old new = (c : List ℕ) → images new c → images old c
+
+-- a crash leaves what a read gives, and nothing else
+abbrev pub Only : Content → Type 0
+Only x = (c : List ℕ) → images x c → x.seen ≡ Some c
+
+-- Time goes on in a call: what a crash might have left at an earlier moment stands, and at each moment of the call it
+-- might have left what it might at the first, or may at the last.
+pub record Elapses (old new : Content) : Type 0 where
+  pub later : old.moment ≤ new.moment
+  pub past : (t : ℕ) (c : List ℕ) → t ≤ old.moment → new.images_at t c → old.images_at t c
+  pub kept : (t : ℕ) (c : List ℕ) → t ≤ old.moment → old.images_at t c → new.images_at t c
+  pub within : (t : ℕ) (c : List ℕ) → old.moment ≤ t → t ≤ new.moment → new.images_at t c → images old c ⊎ images new c
+
+-- A crash at any moment from old to new leaves a file that has P.
+pub record LeavesOnly (old new : Content) (P : List ℕ → Type 0) : Type 0 where
+  pub later : old.moment ≤ new.moment
+  pub past : (t : ℕ) (c : List ℕ) → t ≤ old.moment → new.images_at t c → old.images_at t c
+  pub kept : (t : ℕ) (c : List ℕ) → t ≤ old.moment → old.images_at t c → new.images_at t c
+  pub each : (t : ℕ) (c : List ℕ) → old.moment ≤ t → t ≤ new.moment → new.images_at t c → P c

@@ -1,0 +1,5 @@
+pub mod Calls
+pub mod Images
+pub mod Laws
+pub mod Memory
+pub mod MemoryDisk

@@ -1,0 +1,69 @@
+-- A disk in memory: its lives, and what it tells of them.
+use Rattle.std.specs.Prelude.{◌≡◌, ◌⊎◌, ◌++◌, ◌+◌, ℕ, List, [], ◌∷◌, map, length, get_or, Some, None}
+use Rattle.std.specs.List.{flat_map}
+use Rattle.mon_disk.specs.declared.disk.DiskCall.{DiskCall}
+use Rattle.mon_disk.specs.Images.{Content}
+use Rattle.mon_disk.specs.Calls.{Told}
+use Rattle.mon_disk.specs.Memory.{Lived, LeftAfter, begun, seen_of, settled, from_of}
+
+-- the lives that ended with a settling, oldest first, and the one that goes on; the known length; the faults
+pub record MemoryState : Type 0 where
+  pub past : List Lived
+  pub life : Lived
+  pub known : ℕ
+  pub faults : ℕ
+
+-- a life that begins with what the disk then holds
+abbrev pub begins_with : List ℕ → Lived
+begins_with file = record { first = file; calls = []; upset = None }
+
+-- the life with these calls
+abbrev pub with_calls : Lived → List DiskCall → Lived
+with_calls life calls = record { first = life.first; calls = calls; upset = life.upset }
+
+abbrev pub and_call : DiskCall → Lived → Lived
+and_call call life = with_calls life (life.calls ++ call ∷ [])
+
+-- What a crash may leave: what a read gives, what the disk settles to, or what else became of the writes that aren't on
+-- the disk.
+abbrev pub Leaves : Lived → List ℕ → Type 0
+Leaves life c = (c ≡ seen_of life) ⊎ (c ≡ settled life) ⊎ LeftAfter life.first (begun life) c
+
+-- the beginnings of a list, but for the whole
+abbrev pub beginnings : List DiskCall → List (List DiskCall)
+beginnings [] = []
+beginnings (call ∷ calls) = [] ∷ map (λ cs. call ∷ cs) (beginnings calls)
+
+-- a life as it was before each of its calls
+abbrev pub before_calls : Lived → List Lived
+before_calls life = map (with_calls life) (beginnings life.calls)
+
+-- the lives as they were at each moment before now
+abbrev pub earlier : List Lived → Lived → List Lived
+earlier past life = flat_map (λ l. before_calls l ++ l ∷ []) past ++ before_calls life
+
+abbrev pub content_of : List Lived → Lived → Content
+content_of past life = record {
+  seen = Some (seen_of life);
+  moment = length (earlier past life);
+  images_at = λ t. Leaves (get_or (earlier past life) t life);
+}
+
+abbrev pub tells : Lived → Told
+tells life = record { made = life.calls; fails_from = from_of life.upset; settles = λ calls. settled (with_calls life calls) }
+
+-- the life in which the call-th write or sync from now is the first that fails
+abbrev pub upset_life : ℕ → ℕ → Lived → Lived
+upset_life call image life = record {
+  first = life.first;
+  calls = life.calls;
+  upset = Some (record { from = length life.calls + call; image = image });
+}
+
+-- the disk after an upset
+abbrev pub upset_by : ℕ → ℕ → MemoryState → MemoryState
+upset_by call image d = record { past = d.past; life = upset_life call image d.life; known = d.known; faults = d.faults }
+
+-- the disk after it settled
+abbrev pub settle_of : MemoryState → MemoryState
+settle_of d = record { past = d.past ++ d.life ∷ []; life = begins_with (settled d.life); known = 0; faults = d.faults }

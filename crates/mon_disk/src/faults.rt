@@ -1,0 +1,9 @@
+ghost use Rattle.std.specs.Prelude.{◌≡◌};
+ghost use Rattle.mon_types.specs.Faults.{risen};
+
+/// A count after one more fault. It stands still at the last number of 64 bits.
+pub(crate) fn raised(count: u64) -> u64
+    ensures { result ≡ risen count }
+{
+    count.saturating_add(1)
+}

@@ -1,0 +1,18 @@
+//! A monitor's disks: what a crash may leave of them, a disk in memory that can be made to fail, and one that is a file.
+#![tactic(auto)]
+
+mod disk;
+mod faults;
+mod file;
+mod life;
+mod memory;
+mod node;
+mod settling;
+
+pub use disk::{Disk, DiskCall};
+pub use file::FileDisk;
+pub use memory::MemoryDisk;
+pub use node::NodeDisks;
+
+#[cfg(test)]
+mod tests;
