@@ -1,0 +1,32 @@
+-- What it is to stand on a disk, from what the disk holds, and back.
+use Rattle.std.proofs.Common.{◌≡◌, ℕ, ◌<◌, List, Option, Some, None, Result, sym, ap, subst}
+use Rattle.std.specs.Prelude.{IfSome}
+use Rattle.mon_disk.specs.Images.{Content, Only}
+use Rattle.mon_journal.specs.declared.stop.JournalStop.{JournalStop}
+use Rattle.mon_journal.specs.declared.journal.Journal.{Journal}
+use Rattle.mon_journal.specs.Content.{Held, payloads_in, payloads_of, Holds}
+use Rattle.mon_journal.specs.Steps.{payloads_told, payloads_seen, Stands, Keeps}
+
+these : (journal : Journal) (payloads : List (List ℕ)) (file : List ℕ) → Holds journal payloads file → payloads_of file ≡ payloads
+these journal payloads file holds = ap (λ (k : Option (Result Held JournalStop)). payloads_in k) holds
+
+itself : (journal : Journal) (payloads : List (List ℕ)) (s : Option (List ℕ)) → IfSome s (Holds journal payloads) → IfSome s (λ file. Holds journal (payloads_of file) file)
+itself journal payloads None holds = tt
+itself journal payloads (Some file) holds = subst (λ (ps : List (List ℕ)). Holds journal ps file) (sym (these journal payloads file holds)) holds
+
+all_these : (journal : Journal) (payloads : List (List ℕ)) (s : Option (List ℕ)) → IfSome s (Holds journal payloads) → IfSome s (λ file. payloads_of file ≡ payloads)
+all_these journal payloads None holds = tt
+all_these journal payloads (Some file) holds = these journal payloads file holds
+
+pub keeps_by : (journal : Journal) (payloads : List (List ℕ)) (known : ℕ) (x : Content) → Only x → IfSome x.seen (Holds journal payloads) → journal.next_gate < known → Keeps journal payloads known x
+keeps_by journal payloads known x only holds reach = record {
+  stands = record { only = only; holds = itself journal payloads x.seen holds; reach = reach };
+  payloads_are = all_these journal payloads x.seen holds;
+}
+
+told : (journal : Journal) (s : Option (List ℕ)) → IfSome s (λ file. Holds journal (payloads_of file) file) → IfSome s (Holds journal (payloads_told s))
+told journal None holds = tt
+told journal (Some file) holds = holds
+
+pub seen_holds : (journal : Journal) (known : ℕ) (x : Content) → Stands journal known x → IfSome x.seen (Holds journal (payloads_seen x))
+seen_holds journal known x stands = told journal x.seen stands.holds

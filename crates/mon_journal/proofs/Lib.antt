@@ -1,0 +1,14 @@
+pub mod Appending
+pub mod Called
+pub mod Created
+pub mod Files
+pub mod Finds
+pub mod Gates
+pub mod Headers
+pub mod Keeping
+pub mod Local
+pub mod Makes
+pub mod Moments
+pub mod Parts
+pub mod RecordParts
+pub mod Spells

@@ -1,0 +1,101 @@
+-- What a store's file holds.
+use Rattle.std.specs.Prelude.{◌≡◌, ℕ, zero, suc, ◌+◌, Bool, true, not, List, [], ◌∷◌, ◌++◌, length, slice_index_or, Option, Some, None, Result, Ok, Err, ◌==◌, if◌then◌else◌}
+use Rattle.mon_bytes.specs.Reading.{Reading, number}
+use Rattle.mon_journal.specs.declared.stop.JournalStop.{JournalStop}
+use Rattle.mon_journal.specs.declared.stop.JournalStop.TheVariants.{DiskFault, NotAStore, OutOfMemory}
+use Rattle.mon_journal.specs.declared.journal.Form.{Form}
+use Rattle.mon_journal.specs.declared.journal.Journal.{Journal}
+use Rattle.mon_journal.specs.Fields.{◌>>=◌, whole, Owner, form_at, owner_at, zeros_at, generation_at, payload_at}
+
+pub record Header : Type 0 where
+  pub form : Form
+  pub owner : Owner
+  pub generation : ℕ
+
+unfoldable pub header_at : Reading → Result (Header × Reading) JournalStop
+header_at c = do
+  form ← form_at c
+  owner ← owner_at form.1
+  zeros ← zeros_at 6 owner.1
+  generation ← generation_at zeros.1
+  Ok (record { form = form.0; owner = owner.0; generation = generation.0 }, generation.1)
+
+-- the payloads of at most so many records whose gates are open, and the place of the first closed gate
+unfoldable pub records : ℕ → Reading → Result (List (List ℕ) × ℕ) JournalStop
+records zero c = Err (NotAStore c.at)
+records (suc n) c = do
+  gate ← whole (number 1 c)
+  if gate.0 == 1 then (do
+    payload ← payload_at gate.1
+    others ← records n payload.1
+    Ok (payload.0 ∷ others.0, others.1)) else Ok ([], c.at)
+
+-- of all the records: each takes a byte at least
+unfoldable pub records_at : Reading → Result (List (List ℕ) × ℕ) JournalStop
+records_at c = records (length c.rest) c
+
+-- the header, the payloads of the records whose gates are open, and the place of the first closed gate
+pub record Held : Type 0 where
+  pub header : Header
+  pub payloads : List (List ℕ)
+  pub next_gate : ℕ
+
+unfoldable pub held_at : Reading → Result Held JournalStop
+held_at c = do
+  gate ← whole (number 1 c)
+  header ← header_at gate.1
+  found ← records_at header.1
+  Ok (record { header = header.0; payloads = found.0; next_gate = found.1 })
+
+-- at most one byte, or a header whose gate isn't open
+abbrev pub is_closed : List ℕ → Bool
+is_closed [] = true
+is_closed (gate ∷ []) = true
+is_closed (gate ∷ byte ∷ bytes) = not (gate == 1)
+
+-- What a file holds: nothing where it is closed, and else a store, or the first fault.
+unfoldable pub content : List ℕ → Option (Result Held JournalStop)
+content file = if is_closed file then None else Some (held_at (record { at = 0; rest = file }))
+
+abbrev pub payloads_in : Option (Result Held JournalStop) → List (List ℕ)
+payloads_in (Some (Ok held)) = held.payloads
+payloads_in (Some (Err e)) = []
+payloads_in None = []
+
+-- the payloads that a file stands for
+abbrev pub payloads_of : List ℕ → List (List ℕ)
+payloads_of file = payloads_in (content file)
+
+abbrev pub header_of : Journal → Header
+header_of journal = record { form = journal.form; owner = record { rank = journal.member.rank; monitors = journal.member.monitors }; generation = journal.generation }
+
+abbrev pub held_by : Journal → List (List ℕ) → Held
+held_by journal payloads = record { header = header_of journal; payloads = payloads; next_gate = journal.next_gate }
+
+-- the file is the journal's, and holds these payloads
+abbrev pub Holds : Journal → List (List ℕ) → List ℕ → Type 0
+Holds journal payloads file = content file ≡ Some (Ok (held_by journal payloads))
+
+-- the journal behind one more record
+abbrev pub appended : Journal → List ℕ → Journal
+appended journal payload = record journal { next_gate = journal.next_gate + 5 + length payload }
+
+-- A file with or without one more payload: with it exactly where the gate of its record is open.
+abbrev pub WithOrWithout : Journal → List (List ℕ) → List ℕ → List ℕ → Type 0
+WithOrWithout journal payloads payload file =
+    content file ≡ Some (Ok (if slice_index_or file journal.next_gate 0 == 1 then held_by (appended journal payload) (payloads ++ payload ∷ []) else held_by journal payloads))
+
+-- What a call that takes memory answered is what reading gives, unless memory ran out.
+abbrev pub Fails : {Y : Type 0} → JournalStop → Result Y JournalStop → Type 0
+Fails OutOfMemory read = Unit {0}
+Fails e read = read ≡ Err e
+
+-- a fault of the file's form, or want of memory
+abbrev pub IsOfForm : JournalStop → Type 0
+IsOfForm DiskFault = ⊥
+IsOfForm (NotAStore at) = Unit {0}
+IsOfForm OutOfMemory = Unit {0}
+
+abbrev pub Gives : {X Y : Type 0} → (X → Y) → Result X JournalStop → Result Y JournalStop → Type 0
+Gives view (Ok x) read = read ≡ Ok (view x)
+Gives view (Err e) read = Fails e read

@@ -1,0 +1,66 @@
+-- The fields of a store's file, from left to right, where the first one at fault is named by its first place.
+use Rattle.std.specs.Prelude.{◌≡◌, ℕ, ◌^◌, List, Result, Ok, Err, nat_lt, nat_le, ◌==◌, if◌then◌else◌, codes}
+use Rattle.std.specs.List.{list_all}
+use Rattle.std.specs.Str.{bytes_eq}
+use Rattle.mon_bytes.specs.declared.cursor.Short.{Short}
+use Rattle.mon_bytes.specs.Reading.{Reading, number, front}
+use Rattle.mon_journal.specs.declared.stop.JournalStop.{JournalStop}
+use Rattle.mon_journal.specs.declared.stop.JournalStop.TheVariants.{NotAStore}
+use Rattle.mon_journal.specs.declared.journal.Form.{Form}
+use Rattle.mon_journal.specs.declared.journal.Form.TheVariants.{First, Second}
+
+infixl 10 ◌>>=◌
+abbrev pub ◌>>=◌ : {A B : Type 0} → Result A JournalStop → (A → Result B JournalStop) → Result B JournalStop
+(Ok x) >>= f = f x
+(Err e) >>= f = Err e
+
+-- a field that isn't there whole is at fault
+abbrev pub whole : {A : Type 0} → Result A Short → Result A JournalStop
+whole (Ok x) = Ok x
+whole (Err s) = Err (NotAStore s.at)
+
+abbrev pub first_word : List ℕ
+first_word = codes "CEPHMON1"
+
+abbrev pub second_word : List ℕ
+second_word = codes "CEPHMON2"
+
+-- the eight bytes of either header
+unfoldable pub form_at : Reading → Result (Form × Reading) JournalStop
+form_at c = do
+  word ← whole (front 8 c)
+  if bytes_eq word.0 second_word then Ok (Second, word.1) else (if bytes_eq word.0 first_word then Ok (First, word.1) else Err (NotAStore c.at))
+
+-- whose store it is: a rank, and a number of monitors above it and of at most 15
+pub record Owner : Type 0 where
+  pub rank : ℕ
+  pub monitors : ℕ
+
+unfoldable pub owner_at : Reading → Result (Owner × Reading) JournalStop
+owner_at c = do
+  rank ← whole (number 1 c)
+  monitors ← whole (number 1 rank.1)
+  if nat_lt rank.0 monitors.0 then (if nat_le monitors.0 15 then Ok (record { rank = rank.0; monitors = monitors.0 }, monitors.1) else Err (NotAStore rank.1.at)) else Err (NotAStore c.at)
+
+-- so many zero bytes
+unfoldable pub zeros_at : ℕ → Reading → Result (List ℕ × Reading) JournalStop
+zeros_at n c = do
+  zeros ← whole (front n c)
+  if list_all (λ b. b == 0) zeros.0 then Ok zeros else Err (NotAStore c.at)
+
+-- a number from 1 to 2 ^ 62
+unfoldable pub generation_at : Reading → Result (ℕ × Reading) JournalStop
+generation_at c = do
+  generation ← whole (number 8 c)
+  if nat_le 1 generation.0 then (if nat_le generation.0 (2 ^ 62) then Ok generation else Err (NotAStore c.at)) else Err (NotAStore c.at)
+
+-- a length, and a payload of so many bytes
+unfoldable pub payload_at : Reading → Result (List ℕ × Reading) JournalStop
+payload_at c = do
+  length ← whole (number 4 c)
+  whole (front length.0 length.1)
+
+-- What a call that takes no memory answered and left is what reading gives.
+abbrev pub Reads : {X Y : Type 0} → (X → Y) → Result X JournalStop → Reading → Result (Y × Reading) JournalStop → Type 0
+Reads view (Ok x) new read = read ≡ Ok (view x, new)
+Reads view (Err e) new read = read ≡ Err e

@@ -1,0 +1,4 @@
+pub mod Content
+pub mod Fields
+pub mod Steps
+pub mod Written

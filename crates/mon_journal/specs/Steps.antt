@@ -1,0 +1,102 @@
+-- What the calls of a journal do on its disk.
+use Rattle.std.specs.Prelude.{◌≡◌, ◌⊎◌, ℕ, ◌≤◌, ◌<◌, ◌+◌, max, length, true, false, List, [], ◌∷◌, ◌++◌, Option, Some, None, Result, Ok, Err, IfSome}
+use Rattle.mon_types.specs.declared.names.Stop.{Stop}
+use Rattle.mon_types.specs.declared.names.Stop.TheVariants as stop
+use Rattle.mon_types.specs.Faults.{Rose}
+use Rattle.mon_disk.specs.declared.disk.DiskCall.{DiskCall}
+use Rattle.mon_disk.specs.declared.disk.DiskCall.TheVariants.{Write, Sync}
+use Rattle.mon_disk.specs.Images.{Content, images, Only, Torn}
+use Rattle.mon_disk.specs.Calls.{Told, and_made, fails_next}
+use Rattle.mon_journal.specs.declared.stop.JournalStop.{JournalStop}
+use Rattle.mon_journal.specs.declared.stop.JournalStop.TheVariants.{DiskFault, NotAStore, OutOfMemory}
+use Rattle.mon_journal.specs.declared.journal.Journal.{Journal}
+use Rattle.mon_journal.specs.declared.opening.Opened.{Opened}
+use Rattle.mon_journal.specs.declared.opening.Opened.TheVariants.{Closed, Live}
+use Rattle.mon_journal.specs.Content.{Held, content, payloads_of, Holds}
+use Rattle.mon_journal.specs.Fields.{Owner}
+use Rattle.mon_journal.specs.Written.{payload_bytes, head_bytes}
+
+-- a disk's refusal, as a journal's call hands it on
+abbrev pub stopped : Stop → JournalStop
+stopped stop.Failed = DiskFault
+stopped stop.OutOfMemory = OutOfMemory
+
+-- Which of these writes and syncs were made, in this order: each of them, where none failed; or those up to the first that
+-- failed, which is where DiskFault comes; or those before memory ran out. A disk that tells its calls fails in none but these.
+abbrev pub Makes : {T : Type 0} → List DiskCall → Option Told → Option Told → Result T JournalStop → Type 0
+Makes [] old new result = (new ≡ old) × IfSome old (λ t. result ≡ Err DiskFault → ⊥)
+Makes (call ∷ calls) old new result =
+    ((result ≡ Err OutOfMemory) × (new ≡ old))
+    ⊎ ((result ≡ Err DiskFault) × (new ≡ and_made call old) × IfSome old (λ t. fails_next t ≡ true))
+    ⊎ (IfSome old (λ t. fails_next t ≡ false) × Makes calls (and_made call old) new result)
+
+-- the disk's fault, or want of memory
+abbrev pub IsOutside : JournalStop → Type 0
+IsOutside DiskFault = Unit {0}
+IsOutside OutOfMemory = Unit {0}
+IsOutside (NotAStore at) = ⊥
+
+-- The count of faults never falls, and DiskFault is answered only where it rose.
+pub record HasFault {T : Type 0} (before now : ℕ) (result : Result T JournalStop) : Type 0 where
+  pub later : before ≤ now
+  pub failed : result ≡ Err DiskFault → Rose before now
+
+-- a record behind a closed gate, with a closed gate behind it; and then that gate is opened
+abbrev pub append_calls : ℕ → List ℕ → List DiskCall
+append_calls gate payload = Write (gate + 1) (payload_bytes payload ++ 0 ∷ []) ∷ Sync ∷ Write gate (1 ∷ []) ∷ Sync ∷ []
+
+-- a new file behind a closed gate, which stands closed on the disk before it; and then that gate is opened
+abbrev pub create_calls : Owner → ℕ → Option (List ℕ) → List DiskCall
+create_calls owner generation first = Write 0 (0 ∷ []) ∷ Sync ∷ Write 1 (head_bytes owner generation first) ∷ Sync ∷ Write 0 (1 ∷ []) ∷ Sync ∷ []
+
+-- a closed file that is at most so long, or no longer than one that a crash might have left before
+abbrev pub ClosedFrom : Content → ℕ → List ℕ → Type 0
+ClosedFrom x most file = (content file ≡ None) × ((d : List ℕ) × images x d × (length file ≤ max (length d) most))
+
+-- what a crash may leave while a file is made: what it might have left before, a closed file, or the new one
+abbrev pub CreatedFrom : Content → Journal → List (List ℕ) → List ℕ → Type 0
+CreatedFrom x journal payloads file = images x file ⊎ ClosedFrom x (journal.next_gate + 1) file ⊎ Holds journal payloads file
+
+-- the payloads that the disk tells
+abbrev pub payloads_told : Option (List ℕ) → List (List ℕ)
+payloads_told None = []
+payloads_told (Some file) = payloads_of file
+
+abbrev pub payloads_seen : Content → List (List ℕ)
+payloads_seen x = payloads_told x.seen
+
+-- The journal's store stands on the disk, where the disk tells it, and a crash leaves nothing else. Its first closed gate is
+-- within the known length.
+pub record Stands (journal : Journal) (known : ℕ) (x : Content) : Type 0 where
+  pub only : Only x
+  pub holds : IfSome x.seen (λ file. Holds journal (payloads_of file) file)
+  pub reach : journal.next_gate < known
+
+-- and it has these payloads
+pub record Keeps (journal : Journal) (payloads : List (List ℕ)) (known : ℕ) (x : Content) : Type 0 where
+  pub stands : Stands journal known x
+  pub payloads_are : IfSome x.seen (λ file. payloads_of file ≡ payloads)
+
+-- what a crash may leave of a write that begins on this disk
+abbrev pub TornFrom : Content → ℕ → List ℕ → List ℕ → Type 0
+TornFrom x at bytes file = (d : List ℕ) × images x d × Torn at bytes d file
+
+-- ---- opening
+
+-- an open store's first closed gate is written as zero
+abbrev pub open_calls : Option (Result Held JournalStop) → List DiskCall
+open_calls (Some (Ok held)) = Sync ∷ Write held.next_gate (0 ∷ []) ∷ Sync ∷ []
+open_calls (Some (Err e)) = Sync ∷ []
+open_calls None = Sync ∷ []
+
+-- a file that stands for the same as one that a crash might have left before, and is as long
+abbrev pub AlikeFrom : Content → List ℕ → Type 0
+AlikeFrom x file = (d : List ℕ) × images x d × (content file ≡ content d) × (length file ≡ length d)
+
+-- What opening answered is what the disk held, where the disk tells it, and stands on it safe from a crash.
+abbrev pub Opens : Option (List ℕ) → ℕ → Content → Result Opened JournalStop → Type 0
+Opens seen known new (Ok (Closed len)) = Only new × (new.seen ≡ seen) × (known ≡ len) × IfSome seen (λ file. (content file ≡ None) × (len ≡ length file))
+Opens seen known new (Ok (Live journal payloads)) = Keeps journal payloads.items known new × IfSome seen (Holds journal payloads.items)
+Opens seen known new (Err (NotAStore at)) = Only new × (new.seen ≡ seen) × IfSome seen (λ file. content file ≡ Some (Err (NotAStore at)))
+Opens seen known new (Err DiskFault) = Unit {0}
+Opens seen known new (Err OutOfMemory) = Unit {0}

@@ -1,0 +1,25 @@
+//! The records of a store, each on the disk behind a closed gate before its gate is opened.
+#![tactic(auto)]
+
+mod append;
+mod journal;
+mod law;
+mod loading;
+mod making;
+mod opening;
+mod payloads;
+mod reading;
+mod records;
+mod spelled;
+mod step;
+mod stop;
+
+pub use journal::{Form, Journal};
+pub use law::law_written;
+pub use making::{create, restart};
+pub use opening::{Opened, open};
+pub use payloads::Payloads;
+pub use stop::JournalStop;
+
+#[cfg(test)]
+mod tests;

@@ -1,0 +1,54 @@
+ghost use Rattle.std.specs.Prelude.{◌≡◌, IfSome};
+ghost use Rattle.mon_disk.specs.Images.{LeavesOnly};
+ghost use Rattle.mon_journal.specs.Content.{content};
+ghost use Rattle.mon_journal.specs.Steps.{open_calls, AlikeFrom, Opens, Makes, HasFault};
+
+use crate::journal::Journal;
+use crate::loading::load;
+use crate::records::{held_in, is_closed};
+use crate::step::write_synced;
+use crate::stop::JournalStop;
+use mon_bytes::Bytes;
+use mon_disk::Disk;
+use std::alloc::Global;
+
+/// What a disk was found to hold.
+#[derive(Debug, Drop)]
+pub enum Opened {
+    /// At most one byte, or a file whose header gate isn't open.
+    Closed {
+        len: u64,
+    },
+    /// A store's file, with the payloads of the records whose gates are open, in order.
+    Live {
+        journal: Journal,
+        payloads: Vec<Bytes>,
+    },
+}
+
+/// Opens what a crash may have left on a disk. It begins with a sync, and on an open disk it ends with zero at the first
+/// closed gate. Its time is linear in the file's length, and it takes no memory for a payload that the file only claims to
+/// have.
+pub fn open<D: Disk>(alloc: Global, disk: &mut D) -> Result<Opened, JournalStop>
+    ensures found { Opens (D.content disk.old).seen (D.known disk.new) (D.content disk.new) result }
+
+    // A crash at any moment of the call leaves a file that stands for what one did that it might have left before.
+    ensures any_moment { LeavesOnly (D.content disk.old) (D.content disk.new) (AlikeFrom (D.content disk.old)) }
+
+    // Which writes and syncs were made, and when the disk's fault is told.
+    ensures calls { IfSome (D.content disk.old).seen (λ file. Makes (open_calls (content file)) (D.told disk.old) (D.told disk.new) result) }
+    ensures cause { HasFault (D.faults disk.old) (D.faults disk.new) result }
+{
+    let file = load(alloc, disk)?;
+    if is_closed(&file) {
+        return Ok(Opened::Closed {
+            len: file.len() as u64,
+        });
+    }
+    let found = held_in(alloc, &file)?;
+    write_synced(disk, found.journal.next_gate, &[0])?;
+    Ok(Opened::Live {
+        journal: found.journal,
+        payloads: found.payloads.into_vec(),
+    })
+}
