@@ -36,7 +36,7 @@ request_spoken (request.Set key value) h =
     let parts = both (is_name key) (is_value value) h in
     (parts.0, is_utf8-value value parts.1, leb_le (length value) 200 (both (leb (length value) 200) (list_all printable value) parts.1).0)
 request_spoken (request.Show service.Kv) h = tt
-request_spoken (request.Show service.Log) h = absurd cc
+request_spoken other h = absurd cc
 
 last_of_five : (a b c d e : Bool) → IsTrue (a && (b && (c && (d && e)))) → IsTrue e
 last_of_five a b c d e h = (both d e (both c (d && e) (both b (c && (d && e)) (both a (b && (c && (d && e))) h).1).1).1).1
@@ -62,7 +62,7 @@ all_spoken (e ∷ es) h =
 same_set : (e : schedule.Event) → model.is_set (event_of e) ≡ is_set e
 same_set (events.Plain (plain.Start rank at)) = refl
 same_set (events.Plain (plain.Client rank at session (request.Set key value))) = refl
-same_set (events.Plain (plain.Client rank at session (request.Show s))) = refl
+same_set (events.Plain (plain.Client rank at session other)) = refl
 
 same_sets : (es : List schedule.Event) → count_by model.is_set (map event_of es) ≡ count_by is_set es
 same_sets [] = refl

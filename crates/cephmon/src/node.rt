@@ -300,6 +300,9 @@ fn asked(
             propose(alloc, kv, volatile, session, &incremental)
         }
         Request::Show { .. } => answered(alloc, volatile, session, shown(alloc, kv)?),
+        Request::Remove { .. } | Request::Log { .. } | Request::Since { .. } => {
+            answered(alloc, volatile, session, Reply::Unavailable)
+        }
     }
 }
 

@@ -74,7 +74,7 @@ unchanged w y x e f h =
 asked_played : (w : View) (vol : Volatile) (session : Session) (r : Request) (x : Course) → asked session r (at_rest w vol) ≡ Ok x → IsPlayed w x
 asked_played w vol session (request.Set key text) x h =
     set_played w vol.pn session (inc_text (inc.Set key text)) (suc (service_last w service.Kv)) (suc w.last) x (sym (propose_is session (inc_text (inc.Set key text)) w vol) ∙ h)
-asked_played w vol session (request.Show s) x h = unchanged w _ x refl refl h
+asked_played w vol session other x h = unchanged w _ x refl refl h
 
 client_played : (p : Phase) (w : View) (vol : Volatile) (session : Session) (r : Request) (x : Course) → client p session r (at_rest w vol) ≡ Ok x → IsPlayed w x
 client_played phase.Active w vol session r x h = asked_played w vol session r x h

@@ -1,5 +1,5 @@
 -- What a monitor that is alone in its map does at each input: the rows of the protocol.
-use Rattle.std.specs.Prelude.{ℕ, suc, true, List, [], ◌∷◌, ◌++◌, Option, Some, None, Result, Ok, Err, ◌==◌, if◌then◌else◌}
+use Rattle.std.specs.Prelude.{ℕ, suc, true, List, [], Option, Some, None, Result, Ok, ◌==◌, if◌then◌else◌}
 use Rattle.mon_types.specs.declared.names.Which.{Which}
 use Rattle.mon_types.specs.declared.names.Which.TheVariants as which
 use Rattle.map_kv.specs.declared.inc.KvInc.TheVariants as inc
@@ -11,7 +11,6 @@ use Rattle.mon_msg.specs.declared.reply.Reply.TheVariants as reply
 use Rattle.mon_msg.specs.declared.reply.ShownMap.TheVariants as map
 use Rattle.mon_msg.specs.declared.request.Request.{Request}
 use Rattle.mon_msg.specs.declared.request.Request.TheVariants as request
-use Rattle.mon_msg.specs.declared.request.Service.{Service}
 use Rattle.mon_msg.specs.declared.request.Service.TheVariants as service
 use Rattle.mon_msg.specs.declared.request.Session.{Session}
 use Rattle.mon_msg.specs.declared.reaction.Input.{Input}
@@ -52,10 +51,12 @@ unfoldable pub shown : View → Reply
 shown w =
     if w.last == 0 then reply.NotReadable 0 true else reply.Shown service.Kv w.last (service_last w service.Kv) (map.Kv (read_kv w))
 
--- what a client asks of an active monitor; the cluster log is shown once that service is there
+-- what a client asks of an active monitor; the cluster log is shown once that service is there, and the other requests, which
+-- are refused before a run, are unavailable until their rows are
 abbrev pub asked : Session → Request → Course → Result Course Which
 asked session (request.Set key v) x = propose session (inc_text (inc.Set key v)) x
 asked session (request.Show s) x = Ok (answer session (shown x.view) x)
+asked session other x = Ok (answer session reply.Unavailable x)
 
 -- what a client asks, by phase: a monitor that is in no quorum is unavailable
 abbrev pub client : Phase → Session → Request → Course → Result Course Which

@@ -1,15 +1,20 @@
 ghost use Rattle.std.specs.Prelude.{◌≡◌, IfOk};
 
+use crate::incrementals::Incrementals;
 use crate::request::Service;
 use map_kv::KvMap;
+use map_log::LogMap;
 use mon_bytes::OutOfMemory;
 use mon_types::Version;
+use std::alloc::Global;
 
 /// A service's map, as a client is shown it.
 #[derive(Drop)]
 pub enum ShownMap {
     /// The map of the key-value service.
     Kv(KvMap),
+    /// The cluster log.
+    Log(LogMap),
 }
 
 impl ShownMap {
@@ -19,6 +24,7 @@ impl ShownMap {
     {
         match self {
             ShownMap::Kv(map) => Ok(ShownMap::Kv(map.copy()?)),
+            ShownMap::Log(map) => Ok(ShownMap::Log(map.copy()?)),
         }
     }
 }
@@ -37,6 +43,24 @@ pub enum Reply {
         version: Version,
         map: ShownMap,
     },
+    /// The service's incrementals after version `from`, and whether there are more of them.
+    Since {
+        service: Service,
+        from: Version,
+        incrementals: Incrementals,
+        more: bool,
+    },
+    /// The key that was to go isn't there.
+    NoSuch,
+    /// The value or text has `len` bytes, above the `most` that are taken.
+    TooLong {
+        len: u64,
+        most: u64,
+    },
+    /// The service's map would take so many bytes, more than it may.
+    MapFull {
+        would_be: u64,
+    },
     /// The monitor is in no quorum.
     Unavailable,
     /// The version `has` can't be read now. `lease` tells whether the lease stands.
@@ -44,11 +68,15 @@ pub enum Reply {
         has: Version,
         lease: bool,
     },
+    /// So many commands wait already.
+    Busy {
+        waiting: u64,
+    },
 }
 
 impl Reply {
     /// An equal reply.
-    pub fn copy(&self) -> Result<Reply, OutOfMemory>
+    pub fn copy(&self, alloc: Global) -> Result<Reply, OutOfMemory>
         ensures { IfOk result (λ reply. reply ≡ self.now) }
     {
         Ok(match self {
@@ -64,11 +92,31 @@ impl Reply {
                 version: *version,
                 map: map.copy()?,
             },
+            Reply::Since {
+                service,
+                from,
+                incrementals,
+                more,
+            } => Reply::Since {
+                service: *service,
+                from: *from,
+                incrementals: incrementals.copy(alloc)?,
+                more: *more,
+            },
+            Reply::NoSuch => Reply::NoSuch,
+            Reply::TooLong { len, most } => Reply::TooLong {
+                len: *len,
+                most: *most,
+            },
+            Reply::MapFull { would_be } => Reply::MapFull {
+                would_be: *would_be,
+            },
             Reply::Unavailable => Reply::Unavailable,
             Reply::NotReadable { has, lease } => Reply::NotReadable {
                 has: *has,
                 lease: *lease,
             },
+            Reply::Busy { waiting } => Reply::Busy { waiting: *waiting },
         })
     }
 }

@@ -1,6 +1,7 @@
 ghost use Rattle.std.specs.Prelude.{◌≡◌, IfOk};
 
 use mon_bytes::{Name, OutOfMemory, Text};
+use mon_types::Version;
 use std::alloc::Global;
 
 /// A client's request: the client, and the number that it gave the request.
@@ -24,8 +25,14 @@ pub enum Service {
 pub enum Request {
     /// Sets a key of the key-value map.
     Set { key: Name, value: Text },
+    /// Takes a key of the key-value map away.
+    Remove { key: Name },
+    /// Appends a text to the cluster log.
+    Log { text: Text },
     /// Shows a service's map.
     Show { service: Service },
+    /// Tells what changed a service's map after this version of the service.
+    Since { service: Service, version: Version },
 }
 
 impl Request {
@@ -38,7 +45,17 @@ impl Request {
                 key: key.copy(alloc)?,
                 value: value.copy(alloc)?,
             },
+            Request::Remove { key } => Request::Remove {
+                key: key.copy(alloc)?,
+            },
+            Request::Log { text } => Request::Log {
+                text: text.copy(alloc)?,
+            },
             Request::Show { service } => Request::Show { service: *service },
+            Request::Since { service, version } => Request::Since {
+                service: *service,
+                version: *version,
+            },
         })
     }
 }

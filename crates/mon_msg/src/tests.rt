@@ -1,6 +1,6 @@
 use super::*;
 use map_kv::{KvInc, KvMap};
-use mon_bytes::{Name, Text};
+use mon_bytes::{Bytes, Name, Text};
 use mon_types::Version;
 use std::alloc::Global;
 use std::test::Fail;
@@ -29,7 +29,7 @@ fn shown(alloc: Global) -> Result<Reply, Fail> {
 #[test]
 fn copies_hold_what_was_copied(rt: HostRuntime) -> Result<(), Fail> {
     let alloc = rt.alloc();
-    let reply = shown(alloc)?.copy()?;
+    let reply = shown(alloc)?.copy(alloc)?;
     let mut sends = Sends::new(alloc);
     let to = Session { client: 1, id: 2 };
     sends.push(Sent::Reply { to, reply })?;
@@ -44,5 +44,32 @@ fn copies_hold_what_was_copied(rt: HostRuntime) -> Result<(), Fail> {
         };
         assert_eq!(rt; map.get(b"a"), Some(b"x".as_slice()));
     }
+    Ok(())
+}
+
+#[test]
+fn copied_incrementals_are_equal(rt: HostRuntime) -> Result<(), Fail> {
+    let alloc = rt.alloc();
+    let mut incrementals = Vec::new(alloc);
+    incrementals.push(Bytes::new(b"one".to_vec(alloc)?))?;
+    incrementals.push(Bytes::new(b"".to_vec(alloc)?))?;
+    let reply = Reply::Since {
+        service: Service::Log,
+        from: Version::new(2).ok_or("a version")?,
+        incrementals: Incrementals::new(incrementals),
+        more: true,
+    };
+    let Reply::Since {
+        incrementals,
+        more: true,
+        ..
+    } = reply.copy(alloc)?
+    else {
+        return Err(Fail::from("incrementals"));
+    };
+    let copied = incrementals.into_incrementals();
+    assert_eq!(rt; copied.len(), 2);
+    assert_eq!(rt; copied[0].as_slice(), b"one".as_slice());
+    assert_eq!(rt; copied[1].as_slice(), b"".as_slice());
     Ok(())
 }

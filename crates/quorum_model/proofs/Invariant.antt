@@ -90,19 +90,17 @@ module _ (w new : World) (grown : Grown w new) where
 
   done_stays : (r : Replied) (y : Reply) → DoneIsAnswered w r y → DoneIsAnswered new r y
   done_stays r (reply.Done v) h = answer_stays r v h
-  done_stays r (reply.Shown s paxos version map) h = tt
-  done_stays r reply.Unavailable h = tt
-  done_stays r (reply.NotReadable has lease) h = tt
+  done_stays r other h = tt
 
   shows_stays : (r : Replied) (y : Reply) → r.last ≤ length w.log → ShowsLog w r y → ShowsLog new r y
   shows_stays r (reply.Shown service.Kv paxos version (shown.Kv map)) h s =
       let le : paxos ≤ length w.log = let e = s.0 in omega arith in
       let same = incrementals_stay grown.fronts service.Kv paxos le in
       (s.0, s.1 ∙ ap (after_all empty) (sym same), s.2 ∙ ap length (sym same))
-  shows_stays r (reply.Shown service.Log paxos version (shown.Kv map)) h s = absurd s
-  shows_stays r (reply.Done v) h s = tt
-  shows_stays r reply.Unavailable h s = tt
-  shows_stays r (reply.NotReadable has lease) h s = tt
+  shows_stays r (reply.Shown service.Kv paxos version (shown.Log map)) h s = absurd s
+  shows_stays r (reply.Shown service.Log paxos version map) h s = absurd s
+  shows_stays r (reply.Since service from incrementals more) h s = absurd s
+  shows_stays r other h s = tt
 
   pub reply_stays : (r : Replied) → IsReply w r → IsReply new r
   reply_stays r h = record {

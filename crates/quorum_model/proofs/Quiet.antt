@@ -46,21 +46,17 @@ grown_not log m h = grown_by log m 0 h.unmarked (let e = h.last in omega arith) 
 abbrev pub Tells : List (List ℕ) → Reply → Type 0
 Tells log (reply.Done v) = ⊥
 Tells log (reply.Shown service.Kv paxos version (shown.Kv map)) = (paxos ≡ length log) × (map ≡ kv_of_log log paxos) × (version ≡ version_of_log service.Kv log paxos)
-Tells log (reply.Shown service.Log paxos version map) = ⊥
-Tells log reply.Unavailable = Unit {0}
-Tells log (reply.NotReadable has lease) = Unit {0}
+Tells log (reply.Shown s paxos version map) = ⊥
+Tells log (reply.Since s from incrementals more) = ⊥
+Tells log other = Unit {0}
 
 abbrev pub IsTold : List (List ℕ) → Sent → Type 0
 IsTold log (sent.Reply to r) = Tells log r
 
 no_ack : (event pn epoch : ℕ) (made : Option (Service × List ℕ)) (log : List (List ℕ)) (to : Session) (r : Reply) → Tells log r → acknowledged_by event pn epoch made (sent.Reply to r) ≡ []
 no_ack event pn epoch made log to (reply.Done v) h = absurd h
-no_ack event pn epoch None log to (reply.Shown s paxos version map) h = refl
-no_ack event pn epoch (Some made) log to (reply.Shown s paxos version map) h = refl
-no_ack event pn epoch None log to reply.Unavailable h = refl
-no_ack event pn epoch (Some made) log to reply.Unavailable h = refl
-no_ack event pn epoch None log to (reply.NotReadable has lease) h = refl
-no_ack event pn epoch (Some made) log to (reply.NotReadable has lease) h = refl
+no_ack event pn epoch None log to other h = refl
+no_ack event pn epoch (Some made) log to other h = refl
 
 no_acks : (event pn epoch : ℕ) (made : Option (Service × List ℕ)) (log : List (List ℕ)) (out : List Sent) → AllByRecursion (IsTold log) out → all_acknowledged event pn epoch made out ≡ []
 no_acks event pn epoch made log [] h = refl
@@ -68,16 +64,15 @@ no_acks event pn epoch made log (sent.Reply to r ∷ out) h = λ i. no_ack event
 
 not_done : (w : World) (r : Replied) (y : Reply) → Tells w.log y → DoneIsAnswered w r y
 not_done w r (reply.Done v) h = absurd h
-not_done w r (reply.Shown s paxos version map) h = tt
-not_done w r reply.Unavailable h = tt
-not_done w r (reply.NotReadable has lease) h = tt
+not_done w r other h = tt
 
 shows_log : (w : World) (r : Replied) (y : Reply) → Tells w.log y → r.last ≡ length w.log → ShowsLog w r y
 shows_log w r (reply.Done v) h e = tt
 shows_log w r (reply.Shown service.Kv paxos version (shown.Kv map)) h e = (h.0 ∙ sym e, h.1, h.2)
-shows_log w r (reply.Shown service.Log paxos version (shown.Kv map)) h e = absurd h
-shows_log w r reply.Unavailable h e = tt
-shows_log w r (reply.NotReadable has lease) h e = tt
+shows_log w r (reply.Shown service.Kv paxos version (shown.Log map)) h e = absurd h
+shows_log w r (reply.Shown service.Log paxos version map) h e = absurd h
+shows_log w r (reply.Since s from incrementals more) h e = absurd h
+shows_log w r other h e = tt
 
 are_replies : (new : World) (rank epoch last : ℕ) (out : List Sent) → last ≡ length new.log → AllByRecursion (IsTold new.log) out → AllByRecursion (IsNewReply new) (all_replied new.events rank epoch last out)
 are_replies new rank epoch last [] e h = tt

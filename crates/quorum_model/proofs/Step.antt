@@ -55,15 +55,11 @@ after_push (t ∷ txs) tx m = after_push txs tx (apply t m)
 -- a version that the reply's monitor had, or an event that isn't earlier
 fenced_by_last : (a : Acknowledged) (r : Replied) (y : Reply) → a.version ≤ r.last → IsFenced a r y
 fenced_by_last a r (reply.Shown s paxos version map) h = λ lt e. h
-fenced_by_last a r (reply.Done v) h = tt
-fenced_by_last a r reply.Unavailable h = tt
-fenced_by_last a r (reply.NotReadable has lease) h = tt
+fenced_by_last a r other h = tt
 
 fenced_by_event : (a : Acknowledged) (r : Replied) (y : Reply) → r.event ≤ a.event → IsFenced a r y
 fenced_by_event a r (reply.Shown s paxos version map) h = λ lt e. absurd (omega arith)
-fenced_by_event a r (reply.Done v) h = tt
-fenced_by_event a r reply.Unavailable h = tt
-fenced_by_event a r (reply.NotReadable has lease) h = tt
+fenced_by_event a r other h = tt
 
 module _ (w : World) (inv : Inv w) (m : Store) (vol : Volatile) (tx : List Op) (log : List (List ℕ)) (asked : List Asked) (acks : List Acknowledged) (replies : List Replied) (active : List (ℕ × ℕ))
     (does : Does w m vol tx log asked acks replies active) where

@@ -121,6 +121,7 @@ asked_keeps w at session vol (request.Set k v) inv fit =
     (proposes (view (w.store 0)) vol session (inc_text (inc.Set k v)))
 asked_keeps w at session vol (request.Show service.Kv) inv fit = reply_keeps w at session (request.Show service.Kv) vol (shown (view (w.store 0))) inv (shown_tells w inv)
 asked_keeps w at session vol (request.Show service.Log) inv fit = absurd fit
+asked_keeps w at session vol other inv fit = absurd fit
 
 client_keeps : (w : World) (at : ℕ) (session : Session) (vol : Volatile) (r : Request) (p : Phase) → Inv w → RequestFits r
     → IfOk (after_reaction w (Client 0 at session r) (Some (client p session r (at_rest (view (w.store 0)) vol)))) Inv

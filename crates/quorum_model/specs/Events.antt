@@ -22,7 +22,7 @@ most_sets = 24
 abbrev pub RequestFits : Request → Type 0
 RequestFits (request.Set k v) = IsTrue (is_name k) × IsTrue (is_utf8 v) × (length v ≤ most_value)
 RequestFits (request.Show service.Kv) = Unit {0}
-RequestFits (request.Show service.Log) = ⊥
+RequestFits other = ⊥
 
 -- an event at one of n monitors
 abbrev pub EventFits : ℕ → Event → Type 0
@@ -35,7 +35,7 @@ AllFit n events = AllByRecursion (EventFits n) events
 abbrev pub is_set : Event → Bool
 is_set (Start rank at) = false
 is_set (Client rank at session (request.Set k v)) = true
-is_set (Client rank at session (request.Show s)) = false
+is_set (Client rank at session other) = false
 
 -- the events that the monitors' rows speak of so far
 pub record IsSpokenOf (n : ℕ) (events : List Event) : Type 0 where

@@ -89,11 +89,12 @@ pub record Kept (n : ℕ) (w : World) : Type 0 where
 
 -- ---- what is shown is the log's
 
--- the map is that of the log up to the monitor's last version
+-- the map is that of the log up to the monitor's last version; so far only the key-value map is shown, and no incrementals are
 abbrev pub ShowsLog : World → Replied → Reply → Type 0
 ShowsLog w r (reply.Shown service.Kv paxos version (shown.Kv map)) =
     (paxos ≡ r.last) × (map ≡ kv_of_log w.log paxos) × (version ≡ version_of_log service.Kv w.log paxos)
-ShowsLog w r (reply.Shown service.Log paxos version map) = ⊥
+ShowsLog w r (reply.Shown s paxos version map) = ⊥
+ShowsLog w r (reply.Since s from incrementals more) = ⊥
 ShowsLog w r other = Unit {0}
 
 abbrev pub Shown : World → Type 0

@@ -131,10 +131,10 @@ records_after m v (suc count) = bytes_or_none (cell m area.Paxos (key.Version (s
 unfoldable pub grown : List (List ℕ) → Store → List (List ℕ)
 grown log m = if is_marked m then log else log ++ records_after m (length log) (last_of m - length log)
 
--- the service that a request changes, and the incremental that it makes
+-- the service that a request changes, and the incremental that it makes; removals and log entries are not run yet
 abbrev pub made_by : Request → Option (Service × List ℕ)
 made_by (request.Set k v) = Some (service.Kv, inc_text (inc.Set k v))
-made_by (request.Show s) = None
+made_by other = None
 
 abbrev pub acknowledged_by : ℕ → ℕ → ℕ → Option (Service × List ℕ) → Sent → List Acknowledged
 acknowledged_by event pn epoch (Some made) (sent.Reply to (reply.Done v)) =

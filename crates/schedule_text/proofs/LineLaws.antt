@@ -274,7 +274,7 @@ request_again (Set key value) fits =
     let parts = both (is_name key) (is_value value) fits in
     rw (cut_again key (Some value) (IsField-name key parts.0), parts.0, parts.1) refl
 request_again (Show Kv) fits = refl
-request_again (Show Log) fits = absurd cc
+request_again other fits = absurd cc
 
 -- the parts of a client's event that fits
 pub record ClientFits (rank at client id : ℕ) (request : Request) : Type 0 where

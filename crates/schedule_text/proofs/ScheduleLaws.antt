@@ -86,7 +86,7 @@ IsLine-request (Set key value) fits =
     let parts = both (is_name key) (is_value value) fits in
     IsLine-spaced key value (list_all-weaker graphic no_feed graphic_no_feed key (both _ (list_all graphic key) parts.0).1) (list_all-weaker printable no_feed printable_no_feed value (both _ (list_all printable value) parts.1).1)
 IsLine-request (Show Kv) fits = refl
-IsLine-request (Show Log) fits = refl
+IsLine-request other fits = absurd cc
 
 IsLine-number : (most n : ℕ) → most < 2 ^ 64 → IsTrue (leb n most) → IsLine (decimal n)
 IsLine-number most n small fits =

@@ -6,7 +6,8 @@ use Rattle.mon_bytes.specs.Texts.{is_name}
 use Rattle.mon_msg.specs.declared.request.Service.{Service}
 use Rattle.mon_msg.specs.declared.request.Service.TheVariants.{Kv, Log}
 use Rattle.mon_msg.specs.declared.request.Request.{Request}
-use Rattle.mon_msg.specs.declared.request.Request.TheVariants.{Set, Show}
+use Rattle.mon_msg.specs.declared.request.Request.TheVariants.{Set, Remove, Show, Since}
+use Rattle.mon_msg.specs.declared.request.Request.TheVariants as request
 use Rattle.schedule_text.specs.declared.event.Plain.{Plain}
 use Rattle.schedule_text.specs.declared.event.Plain.TheVariants.{Start, Client}
 use Rattle.schedule_text.specs.declared.event.Event.{Event}
@@ -25,7 +26,10 @@ service_text Log = codes "log"
 
 abbrev pub request_text : Request → List ℕ
 request_text (Set key value) = spaced (codes "set") (spaced key value)
+request_text (Remove key) = spaced (codes "remove") key
+request_text (request.Log text) = spaced (codes "log") text
 request_text (Show service) = spaced (codes "show") (service_text service)
+request_text (Since service version) = spaced (codes "since") (spaced (service_text service) (decimal version))
 
 abbrev pub plain_text : Plain → List ℕ
 plain_text (Start rank at) = spaced (codes "start") (spaced (decimal rank) (decimal at))
@@ -48,7 +52,7 @@ is_value bytes = nat_le (length bytes) 200 && list_all printable bytes
 abbrev pub request_fits : Request → Bool
 request_fits (Set key value) = is_name key && is_value value
 request_fits (Show Kv) = true
-request_fits (Show Log) = false
+request_fits other = false
 
 abbrev pub plain_fits : Plain → Bool
 plain_fits (Start rank at) = nat_le rank 0 && nat_le at (2 ^ 62)
@@ -80,7 +84,7 @@ schedule_text s = events_text s.events
 abbrev pub is_set : Event → Bool
 is_set (events.Plain (Start rank at)) = false
 is_set (events.Plain (Client rank at session (Set key value))) = true
-is_set (events.Plain (Client rank at session (Show service))) = false
+is_set (events.Plain (Client rank at session other)) = false
 
 abbrev pub most_events : ℕ
 most_events = 200000

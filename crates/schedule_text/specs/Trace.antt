@@ -1,14 +1,16 @@
 -- The lines of a trace.
-use Rattle.std.specs.Prelude.{ℕ, zero, suc, Bool, true, false, List, [], ◌∷◌, ◌++◌, Option, Some, None, codes, decimal}
+use Rattle.std.specs.Prelude.{ℕ, zero, suc, ◌+◌, Bool, true, false, List, [], ◌∷◌, ◌++◌, length, Option, Some, None, codes, decimal}
 use Rattle.std.specs.List.{flat_map}
 use Rattle.std.specs.FinMap.{entries}
 use Rattle.json.specs.Print.{quoted}
+use Rattle.map_log.specs.declared.inc.LogInc.{LogInc}
 use Rattle.mon_msg.specs.declared.phase.Phase.{Phase}
 use Rattle.mon_msg.specs.declared.phase.Phase.TheVariants.{Booting, Probing, Synchronizing, Electing, Collecting, Previous, Active, Updating, Peon}
+use Rattle.mon_msg.specs.declared.request.Service.{Service}
 use Rattle.mon_msg.specs.declared.reply.ShownMap.{ShownMap}
-use Rattle.mon_msg.specs.declared.reply.ShownMap.TheVariants.{Kv}
+use Rattle.mon_msg.specs.declared.reply.ShownMap.TheVariants.{Kv, Log}
 use Rattle.mon_msg.specs.declared.reply.Reply.{Reply}
-use Rattle.mon_msg.specs.declared.reply.Reply.TheVariants.{Done, Shown, Unavailable, NotReadable}
+use Rattle.mon_msg.specs.declared.reply.Reply.TheVariants.{Done, Shown, Since, NoSuch, TooLong, MapFull, Unavailable, NotReadable, Busy}
 use Rattle.schedule_text.specs.declared.event.Event.{Event}
 use Rattle.schedule_text.specs.declared.step.Replied.{Replied}
 use Rattle.schedule_text.specs.declared.step.StateLine.{StateLine}
@@ -33,8 +35,23 @@ abbrev pub object_text : List (List ℕ × List ℕ) → List ℕ
 object_text [] = codes "{}"
 object_text (member ∷ members) = 123 ∷ (member_text member ++ members_text members)
 
+-- an entry of the cluster log: the monitor's rank and the text
+abbrev pub item_text : LogInc → List ℕ
+item_text inc = 91 ∷ (decimal inc.rank ++ 44 ∷ (quoted inc.text ++ 93 ∷ []))
+
+-- the items behind the first, and the end of the array
+abbrev pub items_text : List LogInc → List ℕ
+items_text [] = 93 ∷ []
+items_text (inc ∷ incs) = 44 ∷ (item_text inc ++ items_text incs)
+
+-- a compact array
+abbrev pub array_text : List LogInc → List ℕ
+array_text [] = codes "[]"
+array_text (inc ∷ incs) = 91 ∷ (item_text inc ++ items_text incs)
+
 abbrev pub shown_text : ShownMap → List ℕ
 shown_text (Kv map) = object_text (entries map)
+shown_text (Log incs) = array_text incs
 
 -- ---- what an event did
 
@@ -53,12 +70,23 @@ abbrev pub flag_text : Bool → List ℕ
 flag_text false = codes "0"
 flag_text true = codes "1"
 
+-- so many incrementals of a service after a version, and whether there are more
+abbrev pub since_text : Service → ℕ → ℕ → Bool → List ℕ
+since_text service from count more =
+    codes "since "
+    ++ (service_text service ++ (codes " from=" ++ (decimal from ++ (codes " to=" ++ (decimal (from + count) ++ (codes " count=" ++ (decimal count ++ (codes " more=" ++ flag_text more))))))))
+
 abbrev pub reply_text : Reply → List ℕ
 reply_text (Done version) = codes "done " ++ decimal version
 reply_text (Shown service paxos version map) =
     codes "shown " ++ (service_text service ++ (codes " paxos=" ++ (decimal paxos ++ (codes " version=" ++ (decimal version ++ 32 ∷ shown_text map)))))
+reply_text (Since service from incrementals more) = since_text service from (length incrementals) more
+reply_text NoSuch = codes "nosuch"
+reply_text (TooLong len most) = codes "toolong len=" ++ (decimal len ++ (codes " most=" ++ decimal most))
+reply_text (MapFull would_be) = codes "mapfull would_be=" ++ decimal would_be
 reply_text Unavailable = codes "unavailable"
 reply_text (NotReadable has lease) = codes "notreadable has=" ++ (decimal has ++ (codes " lease=" ++ flag_text lease))
+reply_text (Busy waiting) = codes "busy waiting=" ++ decimal waiting
 
 abbrev pub reply_line : Replied → List ℕ
 reply_line r =

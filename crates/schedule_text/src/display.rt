@@ -1,7 +1,7 @@
 //! The text of an event, without its line feed.
 
 ghost use Rattle.std.specs.Prelude.{◌≡◌, Some};
-ghost use Rattle.schedule_text.specs.Spelling.{service_text, plain_text, event_text};
+ghost use Rattle.schedule_text.specs.Spelling.{service_text, request_text, plain_text, event_text};
 
 use crate::event::{Event, Plain};
 use mon_msg::{Request, Service};
@@ -13,6 +13,43 @@ pub fn service_word(service: Service) -> &'static str
     match service {
         Service::Kv => "kv",
         Service::Log => "log",
+    }
+}
+
+/// A request, to be displayed.
+#[derive(Drop)]
+struct Asked<'a> {
+    request: &'a Request,
+}
+
+impl<'a> fmt::Display for Asked<'a> {
+    ghost output = { λ asked. Some (request_text asked.request.now) };
+
+    fn fmt<W: fmt::Write>(&self, f: &mut fmt::Formatter<W>) -> fmt::Result {
+        match self.request {
+            Request::Set { key, value } => {
+                let key = key.as_str();
+                let value = value.as_str();
+                write!(f, "set {key} {value}")
+            }
+            Request::Remove { key } => {
+                let key = key.as_str();
+                write!(f, "remove {key}")
+            }
+            Request::Log { text } => {
+                let text = text.as_str();
+                write!(f, "log {text}")
+            }
+            Request::Show { service } => {
+                let service = service_word(*service);
+                write!(f, "show {service}")
+            }
+            Request::Since { service, version } => {
+                let service = service_word(*service);
+                let version = version.get();
+                write!(f, "since {service} {version}")
+            }
+        }
     }
 }
 
@@ -36,17 +73,8 @@ impl fmt::Display for Plain {
                 let at = at.get();
                 let client = session.client;
                 let id = session.id;
-                match request {
-                    Request::Set { key, value } => {
-                        let key = key.as_str();
-                        let value = value.as_str();
-                        write!(f, "client {rank} {at} {client} {id} set {key} {value}")
-                    }
-                    Request::Show { service } => {
-                        let service = service_word(*service);
-                        write!(f, "client {rank} {at} {client} {id} show {service}")
-                    }
-                }
+                let asked = Asked { request };
+                write!(f, "client {rank} {at} {client} {id} {asked}")
             }
         }
     }

@@ -23,7 +23,12 @@ fn request_len(request: &Request) -> u64
         Request::Set { key, value } => {
             5 + key.as_slice().len() as u64 + value.as_slice().len() as u64
         }
+        Request::Remove { key } => 7 + key.as_slice().len() as u64,
+        Request::Log { text } => 4 + text.as_slice().len() as u64,
         Request::Show { service } => 5 + service_word(*service).len() as u64,
+        Request::Since { service, version } => {
+            7 + service_word(*service).len() as u64 + decimal_len(version.get())
+        }
     }
 }
 

@@ -66,9 +66,12 @@ fn request_fits(request: &Request) -> bool
         Request::Show {
             service: Service::Kv,
         } => true,
-        Request::Show {
+        Request::Remove { .. }
+        | Request::Log { .. }
+        | Request::Show {
             service: Service::Log,
-        } => false,
+        }
+        | Request::Since { .. } => false,
     }
 }
 

@@ -4,14 +4,16 @@ ghost use Rattle.std.specs.Prelude.{◌≡◌, ◌++◌, string_bytes, OnOk};
 ghost use Rattle.std.specs.FinMap.{entries};
 ghost use Rattle.json.specs.Print.{quoted};
 ghost use Rattle.map_kv.specs.Kept.{pairs};
-ghost use Rattle.schedule_text.specs.Trace.{member_text, members_text, object_text, shown_text};
+ghost use Rattle.schedule_text.specs.Trace.{member_text, members_text, object_text, item_text, items_text, array_text, shown_text};
 
 use map_kv::KvMap;
+use map_log::{LogInc, LogMap};
 use mon_bytes::Text;
 use mon_msg::ShownMap;
 use serde_json::Value;
 use std::alloc::{AllocError, Global};
 use std::collections::btree_map::Iter;
+use std::fmt::Write;
 
 fn put_string(alloc: Global, out: &mut String, text: &str) -> Result<(), AllocError>
     ensures { OnOk result (string_bytes out.new ≡ string_bytes out.old ++ quoted text.now) }
@@ -55,11 +57,43 @@ fn put_object(alloc: Global, out: &mut String, map: &KvMap) -> Result<(), AllocE
     put_members(alloc, out, entries)
 }
 
+fn put_item(alloc: Global, out: &mut String, inc: &LogInc) -> Result<(), AllocError>
+    ensures { OnOk result (string_bytes out.new ≡ string_bytes out.old ++ item_text inc.now) }
+{
+    let rank = inc.rank.get();
+    write!(out, "[{rank},")?;
+    put_string(alloc, out, inc.text.as_str())?;
+    out.push_str("]")
+}
+
+/// The items behind the first, and the end of the array.
+fn put_items(alloc: Global, out: &mut String, incs: &[LogInc]) -> Result<(), AllocError>
+    ensures { OnOk result (string_bytes out.new ≡ string_bytes out.old ++ items_text incs.now) }
+{
+    for inc in incs {
+        out.push_str(",")?;
+        put_item(alloc, out, inc)?;
+    }
+    out.push_str("]")
+}
+
+fn put_array(alloc: Global, out: &mut String, map: &LogMap) -> Result<(), AllocError>
+    ensures { OnOk result (string_bytes out.new ≡ string_bytes out.old ++ array_text map.now) }
+{
+    let [first, others @ ..] = map.entries() else {
+        return out.push_str("[]");
+    };
+    out.push_str("[")?;
+    put_item(alloc, out, first)?;
+    put_items(alloc, out, others)
+}
+
 /// The map of a service.
 pub fn put_shown(alloc: Global, out: &mut String, shown: &ShownMap) -> Result<(), AllocError>
     ensures { OnOk result (string_bytes out.new ≡ string_bytes out.old ++ shown_text shown.now) }
 {
     match shown {
         ShownMap::Kv(map) => put_object(alloc, out, map),
+        ShownMap::Log(map) => put_array(alloc, out, map),
     }
 }

@@ -1,13 +1,14 @@
-ghost use Rattle.std.specs.Prelude.{◌≡◌, ◌++◌, string_bytes, IfOk, OnOk};
+ghost use Rattle.std.specs.Prelude.{◌≡◌, ◌<◌, ◌^◌, ◌++◌, string_bytes, IfOk, OnOk};
 ghost use Rattle.std.specs.List.{flat_map};
-ghost use Rattle.schedule_text.specs.Trace.{phase_text, flag_text, reply_text, reply_line, store_lines, state_lines, done_lines, step_lines, end_text};
+ghost use Rattle.schedule_text.specs.Trace.{phase_text, flag_text, since_text, reply_text, reply_line, store_lines, state_lines, done_lines, step_lines, end_text};
 
 use crate::display::service_word;
 use crate::event::Event;
 use crate::shown::put_shown;
 use crate::step::{Outcome, Replied, StateLine, StepLine};
 use mon_bytes::OutOfMemory;
-use mon_msg::{Phase, Reply};
+use mon_msg::{Phase, Reply, Service};
+use mon_types::Version;
 use std::alloc::{AllocError, Global};
 use std::fmt::Write;
 
@@ -33,6 +34,27 @@ fn flag(value: bool) -> &'static str
     if value { "1" } else { "0" }
 }
 
+/// The text of an answer with so many incrementals.
+fn put_since(
+    out: &mut String,
+    service: Service,
+    from: Version,
+    count: usize,
+    more: bool,
+) -> Result<(), AllocError>
+    requires { count < 2 ^ 63 }
+    ensures { OnOk result (string_bytes out.new ≡ string_bytes out.old ++ since_text service from count more) }
+{
+    let service = service_word(service);
+    let from = from.get();
+    let to = from + count as u64;
+    let flag = flag(more);
+    write!(
+        out,
+        "since {service} from={from} to={to} count={count} more={flag}"
+    )
+}
+
 fn put_reply(alloc: Global, out: &mut String, reply: &Reply) -> Result<(), AllocError>
     ensures { OnOk result (string_bytes out.new ≡ string_bytes out.old ++ reply_text reply.now) }
 {
@@ -53,12 +75,22 @@ fn put_reply(alloc: Global, out: &mut String, reply: &Reply) -> Result<(), Alloc
             write!(out, "shown {service} paxos={paxos} version={version} ")?;
             put_shown(alloc, out, map)
         }
+        Reply::Since {
+            service,
+            from,
+            incrementals,
+            more,
+        } => put_since(out, *service, *from, incrementals.as_slice().len(), *more),
+        Reply::NoSuch => out.push_str("nosuch"),
+        Reply::TooLong { len, most } => write!(out, "toolong len={len} most={most}"),
+        Reply::MapFull { would_be } => write!(out, "mapfull would_be={would_be}"),
         Reply::Unavailable => out.push_str("unavailable"),
         Reply::NotReadable { has, lease } => {
             let has = has.get();
             let flag = flag(*lease);
             write!(out, "notreadable has={has} lease={flag}")
         }
+        Reply::Busy { waiting } => write!(out, "busy waiting={waiting}"),
     }
 }
 
