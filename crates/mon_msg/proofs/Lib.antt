@@ -7,3 +7,15 @@ pub mod Played
 pub mod PutOnce
 pub mod Reactions
 pub mod Rows
+pub mod Formats
+pub mod FieldLaws
+pub mod PartLaws
+pub mod ClientLaws
+pub mod ItemsLoop
+pub mod ScoreLaws
+pub mod BodyLaws
+pub mod KindBytes
+pub mod PaddedLoop
+pub mod BitsLoop
+pub mod WholeLaws
+pub mod WriteLoops

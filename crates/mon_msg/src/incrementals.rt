@@ -26,6 +26,15 @@ impl Incrementals {
         Incrementals { incrementals }
     }
 
+    /// Appends one. An `Err` leaves the list.
+    pub fn push(&mut self, incremental: Bytes) -> Result<(), OutOfMemory>
+        ensures ok { OnOk result (self.new ≡ self.old ++ incremental ∷ []) }
+        ensures err { OnErr result (self.new ≡ self.old) }
+    {
+        self.incrementals.push(incremental)?;
+        Ok(())
+    }
+
     /// The incrementals.
     pub fn as_slice(&self) -> &[Bytes]
         ensures { result.now ≡ self.now }

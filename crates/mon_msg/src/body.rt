@@ -1,0 +1,139 @@
+ghost use Rattle.std.specs.Prelude.{◌≡◌, IfOk};
+
+use crate::list::Items;
+use crate::parts::{Cookie, Place, Told};
+use crate::reply::Reply;
+use crate::request::Request;
+use election_rules::Scores;
+use mon_bytes::{Command, Entry};
+use mon_tx::Transaction;
+use mon_types::{Pn, RankSet, Version};
+
+/// What a message says.
+#[derive(Drop)]
+pub enum Body {
+    /// How far are you?
+    Probe,
+    /// The quorum that the sender is in, or the empty set, and the versions that it keeps.
+    ProbeReply {
+        quorum: RankSet,
+        first: Version,
+        last: Version,
+    },
+    /// The sender stands for election. Where scores count it tells its table.
+    Propose {
+        table: Option<Scores>,
+    },
+    /// The sender defers to the receiver.
+    Ack,
+    /// The sender has won, and leads this quorum.
+    Victory {
+        quorum: RankSet,
+    },
+    /// The leader asks under its number what the peon accepted, and tells the versions that it keeps itself.
+    Collect {
+        pn: Pn,
+        first: Version,
+        last: Version,
+    },
+    /// The answer to a collect: the promise, the versions that are kept, committed values from the version `from` on, and
+    /// the pending value. `whole` tells that nothing which the leader lacks was left out.
+    Last {
+        pn: Pn,
+        first: Version,
+        last: Version,
+        whole: bool,
+        from: Version,
+        values: Items<Transaction>,
+        pending: Option<Told>,
+    },
+    /// The leader asks to accept a value for a version.
+    Begin {
+        pn: Pn,
+        version: Version,
+        value: Transaction,
+    },
+    /// The value for that version is accepted.
+    Accept {
+        pn: Pn,
+        version: Version,
+    },
+    /// The values of the versions from `from` on are committed.
+    Commit {
+        from: Version,
+        values: Items<Transaction>,
+    },
+    /// The peon may answer reads of the version `last` for a while.
+    Lease {
+        last: Version,
+    },
+    /// The lease is taken.
+    LeaseAck {
+        last: Version,
+    },
+    /// A peon hands a client's command on to the leader, under a number of its own.
+    Forward {
+        seq: u64,
+        command: Command,
+    },
+    /// The leader's answer to the command with that number.
+    Route {
+        seq: u64,
+        reply: Reply,
+    },
+    /// The sender asks for a full synchronisation.
+    GetCookieFull,
+    /// The sender asks for the versions above its own last one.
+    GetCookieRecent {
+        last: Version,
+    },
+    /// The synchronisation is granted under this cookie. `last` is the provider's last version.
+    Cookie {
+        full: bool,
+        cookie: Cookie,
+        last: Version,
+    },
+    /// The sender asks for what follows the place.
+    GetChunk {
+        cookie: Cookie,
+        place: Place,
+    },
+    /// What follows the place: values, entries of the map, and whether the entries are at their end.
+    Chunk {
+        cookie: Cookie,
+        place: Place,
+        values: Items<Transaction>,
+        entries: Items<Entry>,
+        done: bool,
+    },
+    /// The end of what follows the place. `last` is the provider's last version.
+    LastChunk {
+        cookie: Cookie,
+        place: Place,
+        values: Items<Transaction>,
+        entries: Items<Entry>,
+        last: Version,
+    },
+    /// There is no synchronisation under that cookie, or none any more.
+    NoCookie {
+        cookie: Cookie,
+    },
+    /// Are you there? Where scores count the sender tells its table.
+    Ping {
+        table: Option<Scores>,
+    },
+    /// The sender is there.
+    PingReply {
+        table: Option<Scores>,
+    },
+    /// A client asks, under a number of its own.
+    Request {
+        id: u64,
+        request: Request,
+    },
+    /// The answer to the request with that number.
+    Reply {
+        id: u64,
+        reply: Reply,
+    },
+}

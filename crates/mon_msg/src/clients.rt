@@ -1,0 +1,46 @@
+ghost use Rattle.std.specs.Prelude.{◌≡◌, IfOk};
+
+use crate::list::Items;
+use crate::plan::Origin;
+use crate::request::Session;
+use mon_bytes::{Command, OutOfMemory};
+use std::alloc::Global;
+
+/// A command that waits at the leader until it is proposed.
+#[derive(Debug, Drop)]
+pub struct Waiting {
+    pub command: Command,
+    pub origin: Origin,
+}
+
+impl Waiting {
+    /// An equal command of the same origin.
+    pub fn copy(&self, alloc: Global) -> Result<Waiting, OutOfMemory>
+        ensures { IfOk result (λ waiting. waiting ≡ self.now) }
+    {
+        Ok(Waiting {
+            command: self.command.copy(alloc)?,
+            origin: self.origin,
+        })
+    }
+}
+
+/// A client of a peon that waits for the leader's answer to the command with that number.
+#[derive(Clone, Copy, Debug, PartialEq, Eq)]
+pub struct Asked {
+    pub seq: u64,
+    pub session: Session,
+}
+
+/// What a monitor remembers of its clients' commands.
+#[derive(Drop)]
+pub struct Clients {
+    /// The commands that wait at the leader, the oldest first.
+    pub queue: Items<Waiting>,
+    /// The clients that wait at a peon, the oldest first.
+    pub sessions: Items<Asked>,
+    /// The number of the next command that a peon hands on, from 1 in each epoch.
+    pub next_seq: u64,
+    /// The number of the last command that the leader took from each peon in this epoch, 0 before.
+    pub taken: [u64; 15],
+}

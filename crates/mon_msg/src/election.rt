@@ -1,0 +1,26 @@
+use election_rules::Scores;
+use mon_types::{Moment, Rank, RankSet};
+
+/// What a monitor remembers of elections.
+#[derive(Clone, Copy, Debug, PartialEq, Eq)]
+pub struct Elector {
+    /// Whether it stands for election.
+    pub candidate: bool,
+    /// Who deferred to it in this epoch, itself among them.
+    pub acked: RankSet,
+    /// The candidate to which it deferred in this epoch.
+    pub deferred: Option<Rank>,
+    /// What it knows of the connections among the monitors.
+    pub scores: Scores,
+    /// From whom it heard since it last pinged.
+    pub heard: RankSet,
+    /// When it last pinged, or started.
+    pub pinged: Moment,
+}
+
+/// What a monitor remembers while it probes.
+#[derive(Clone, Copy, Debug, PartialEq, Eq)]
+pub struct Prober {
+    /// Itself, and who answered that it is in no quorum.
+    pub outside: RankSet,
+}

@@ -1,0 +1,73 @@
+ghost use Rattle.std.specs.Prelude.{◌≡◌, IfOk};
+
+use crate::plan::Origin;
+use mon_bytes::OutOfMemory;
+use mon_lease::Lease;
+use mon_tx::Transaction;
+use mon_types::{Pn, Rank, RankSet, Version};
+
+/// What a peon remembers.
+#[derive(Clone, Copy, Debug, PartialEq, Eq)]
+pub struct Peon {
+    pub leader: Rank,
+    pub quorum: RankSet,
+    pub lease: Lease,
+}
+
+/// What a leader is about.
+#[derive(Clone, Copy, Debug, PartialEq, Eq)]
+pub enum LeaderStage {
+    /// It gathers what its quorum accepted.
+    Collecting,
+    /// It commits a value which an earlier leader left.
+    Previous,
+    /// It waits for commands.
+    Active,
+    /// Its own value waits for its quorum.
+    Updating,
+}
+
+/// A pending value that a leader found while it collected: of the greatest version, and then of the greatest number.
+#[derive(Debug, Drop)]
+pub struct Found {
+    pub version: Version,
+    pub pn: Pn,
+    pub value: Transaction,
+}
+
+impl Found {
+    /// An equal value.
+    pub fn copy(&self) -> Result<Found, OutOfMemory>
+        ensures { IfOk result (λ found. found ≡ self.now) }
+    {
+        Ok(Found {
+            version: self.version,
+            pn: self.pn,
+            value: self.value.copy()?,
+        })
+    }
+}
+
+/// What a leader remembers.
+#[derive(Drop)]
+pub struct Leader {
+    /// The monitors that elected it, itself among them.
+    pub quorum: RankSet,
+    /// The proposal number that it leads with.
+    pub pn: Pn,
+    pub stage: LeaderStage,
+    /// Who answered its collect with all that it has, itself among them.
+    pub answered: RankSet,
+    /// The last version that each of them told, 0 before.
+    pub lasts: [Version; 15],
+    pub found: Option<Found>,
+    /// Who accepted its value, itself among them.
+    pub accepted: RankSet,
+    /// The value that waits for its quorum.
+    pub value: Option<Transaction>,
+    /// Who waits for that value's answer.
+    pub origin: Option<Origin>,
+    pub lease: Lease,
+    /// Who took the lease, itself among them.
+    pub acks: RankSet,
+}

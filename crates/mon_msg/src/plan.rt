@@ -1,0 +1,95 @@
+use crate::list::Items;
+use crate::message::Message;
+use crate::phase::Timer;
+use crate::reply::Reply;
+use crate::request::Session;
+use mon_bytes::OutOfMemory;
+use mon_tx::Transaction;
+use mon_types::{Moment, Rank, RankSet, Which};
+use thiserror::Error;
+
+/// What a monitor sends once its transaction is durable.
+#[derive(Drop)]
+pub enum Sent {
+    /// A message to another monitor.
+    Message { to: Rank, message: Message },
+    /// An answer to a client.
+    Reply { to: Session, reply: Reply },
+}
+
+/// What is done with a timer.
+#[derive(Clone, Copy, Debug, PartialEq, Eq)]
+pub enum Arming {
+    /// It comes at the moment `end`, whenever it was to come before.
+    Arm { kind: Timer, end: Moment },
+    /// It doesn't come.
+    Disarm { kind: Timer },
+}
+
+/// Who waits for a command's answer.
+#[derive(Clone, Copy, Debug, PartialEq, Eq)]
+pub enum Origin {
+    /// A client of this monitor.
+    Session(Session),
+    /// The peon `rank`, which handed the command on under the number `seq`.
+    Forwarded { rank: Rank, seq: u64 },
+}
+
+/// What a monitor does after a plan, in the same event.
+#[derive(Drop)]
+pub enum Next {
+    /// Nothing.
+    Stay,
+    /// It begins anew and probes.
+    Bootstrap,
+    /// It calls an election.
+    Elect,
+    /// It has joined the election of an epoch that another monitor called.
+    Electing,
+    /// It has won, and leads this quorum.
+    Win { quorum: RankSet },
+    /// It follows that leader in this quorum, and has no lease.
+    Follow { leader: Rank, quorum: RankSet },
+    /// It takes a whole copy from that monitor.
+    FullSync { from: Rank },
+    /// It takes the versions that it lacks from that monitor.
+    RecentSync { from: Rank },
+    /// It begins this value, and answers `origin` once it is committed.
+    Begin { value: Transaction, origin: Origin },
+}
+
+/// What an input makes a role do.
+#[derive(Drop)]
+pub struct Plan<S: Drop> {
+    /// What is written to the store.
+    pub tx: Transaction,
+    /// What is sent once that is durable.
+    pub out: Items<Sent>,
+    /// What is done with timers, in order.
+    pub timers: Items<Arming>,
+    /// What the role remembers from then on.
+    pub state: S,
+    /// What the monitor does next.
+    pub next: Next,
+}
+
+/// Why a role has no plan.
+#[derive(Clone, Copy, Debug, PartialEq, Eq, Error)]
+pub enum RoleStop {
+    #[error("out of memory")]
+    OutOfMemory,
+    /// That number would pass 2^62.
+    #[error("a number is spent")]
+    Spent { which: Which },
+}
+
+impl From<OutOfMemory> for RoleStop {
+    ghost use Rattle.std.specs.Prelude.{◌≡◌};
+    ghost use Rattle.mon_msg.specs.declared.plan.RoleStop.TheVariants.{OutOfMemory as no_memory};
+
+    ghost from_gives = { λ _ e. e ≡ no_memory };
+
+    fn from(_e: OutOfMemory) -> RoleStop {
+        RoleStop::OutOfMemory
+    }
+}

@@ -1,0 +1,37 @@
+use crate::parts::{Cookie, Place};
+use mon_types::{Rank, Version};
+
+/// What a monitor remembers of those that synchronise from it.
+#[derive(Clone, Copy, Debug, PartialEq, Eq)]
+pub struct Provider {
+    /// The cookie of each of them.
+    pub cookies: [Option<Cookie>; 15],
+    /// The number of the next cookie, from 1.
+    pub next_cookie: u64,
+}
+
+/// How far a monitor is that synchronises.
+#[derive(Clone, Copy, Debug, PartialEq, Eq)]
+pub enum SyncStage {
+    /// It waits for its cookie.
+    Cookie,
+    /// It takes chunks.
+    Chunks,
+    /// It has a whole copy, and applies the versions from `next` to `end` once more.
+    Replay { next: Version, end: Version },
+}
+
+/// What a monitor remembers that synchronises.
+#[derive(Debug, Drop)]
+pub struct Requester {
+    /// From whom it takes.
+    pub provider: Rank,
+    /// Whether it takes a whole copy, or the versions that it lacks.
+    pub full: bool,
+    pub stage: SyncStage,
+    pub cookie: Option<Cookie>,
+    /// The provider's last version when a whole copy began.
+    pub start: Version,
+    /// How far it has come.
+    pub place: Place,
+}
