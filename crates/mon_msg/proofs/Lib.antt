@@ -1,3 +1,6 @@
+pub mod Changed
+pub mod Edits
+pub mod Examples
 pub mod Explicit
 pub mod Joining
 pub mod Learned

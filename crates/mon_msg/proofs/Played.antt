@@ -21,11 +21,11 @@ use Rattle.mon_msg.specs.Changes.{Change, Boot, Epoch, Numbers, Learn, Last, Fit
 use Rattle.mon_msg.proofs.Joining.{apply-joined}
 
 -- what is told of the cell that changes leave
-told : {A : Type 0} (tell : Cell → A) (d : Decision) (c : Cell) → tell (or_before d c) ≡ option_map_or tell d (tell c)
+pub told : {A : Type 0} (tell : Cell → A) (d : Decision) (c : Cell) → tell (or_before d c) ≡ option_map_or tell d (tell c)
 told tell None c = refl
 told tell (Some x) c = refl
 
-number-apply : (ops : List Op) (m : Store) (a : Area) (k : Key) → number (apply ops m) a k ≡ number_after ops a k (number m a k)
+pub number-apply : (ops : List Op) (m : Store) (a : Area) (k : Key) → number (apply ops m) a k ≡ number_after ops a k (number m a k)
 number-apply ops m a k = ap number_in (get-apply ops m (place a k)) ∙ told number_in (decision ops (place a k)) (cell m a k)
 
 pub view-apply : (ops : List Op) (m : Store) → view (apply ops m) ≡ after ops (view m)

@@ -1,6 +1,5 @@
 -- What an event does to the store, said once: as changes. They are played on what the readers tell, and spelled as a transaction.
 use Rattle.std.specs.Prelude.{ℕ, ◌≤◌, ◌^◌, List, [], ◌∷◌, ◌++◌, Some}
-use Rattle.std.specs.List.{AllByRecursion}
 use Rattle.mon_tx.specs.declared.op.Op.{Op}
 use Rattle.mon_tx.specs.declared.op.Op.TheVariants.{Put}
 use Rattle.mon_tx.specs.declared.key.Area.{Area}

@@ -1,5 +1,5 @@
 -- The log's fold, and a service's map as the fold of the log's incrementals.
-use Rattle.std.specs.Prelude.{ℕ, zero, suc, ◌&&◌, Bool, List, [], ◌∷◌, ◌++◌, length, get_or, Option, Some, None, if◌then◌else◌}
+use Rattle.std.specs.Prelude.{ℕ, zero, suc, ◌&&◌, List, [], ◌∷◌, ◌++◌, length, get_or, Option, Some, None, if◌then◌else◌}
 use Rattle.std.specs.FinMap.{empty}
 use Rattle.std.specs.Str.{bytes_eq}
 use Rattle.mon_tx.specs.declared.op.Op.{Op}
@@ -11,10 +11,16 @@ use Rattle.mon_tx.specs.Keys.{area_text}
 use Rattle.mon_tx.specs.Decode.{ops_in}
 use Rattle.map_kv.specs.declared.inc.KvInc.{KvInc}
 use Rattle.map_kv.specs.Map.{Kv, with_inc}
+use Rattle.map_log.specs.declared.inc.LogInc.{LogInc}
+use Rattle.map_log.specs.Map as log
+use Rattle.map_log.specs.Decode as log_decode
+use Rattle.mon_msg.specs.declared.reply.ShownMap.{ShownMap}
+use Rattle.mon_msg.specs.declared.reply.ShownMap.TheVariants as map
 use Rattle.mon_msg.specs.declared.request.Service.{Service}
 use Rattle.mon_msg.specs.declared.request.Service.TheVariants as service
 use Rattle.mon_msg.specs.View.{area_of}
 use Rattle.mon_msg.specs.Changes.{put}
+use Rattle.mon_msg.specs.Protocol.Maps.{if_ok}
 use Rattle.mon_msg.specs.Service.{inc_in}
 
 -- the entry of version v of a log, counted from 1
@@ -52,6 +58,24 @@ after_all map (bytes ∷ others) = after_all (stepped map (inc_in (Some bytes)))
 -- the key-value map that the first versions of a log make, from nothing; full maps and trimming don't occur in it
 abbrev pub kv_of_log : List (List ℕ) → ℕ → Kv
 kv_of_log log c = after_all empty (incrementals service.Kv log c)
+
+-- the entries after incrementals; bytes that are none leave them
+abbrev pub stepped_log : List LogInc → Option LogInc → List LogInc
+stepped_log entries None = entries
+stepped_log entries (Some inc) = log.with_inc entries inc
+
+abbrev pub log_after_all : List LogInc → List (List ℕ) → List LogInc
+log_after_all entries [] = entries
+log_after_all entries (bytes ∷ others) = log_after_all (stepped_log entries (if_ok (log_decode.inc_of bytes))) others
+
+-- the cluster log that the first versions of a log make, from nothing
+abbrev pub log_of_log : List (List ℕ) → ℕ → List LogInc
+log_of_log log c = log_after_all [] (incrementals service.Log log c)
+
+-- the map of a service that the first versions of a log make
+abbrev pub map_of_log : Service → List (List ℕ) → ℕ → ShownMap
+map_of_log service.Kv log c = map.Kv (kv_of_log log c)
+map_of_log service.Log log c = map.Log (log_of_log log c)
 
 -- a service's version: how many incrementals there are
 abbrev pub version_of_log : Service → List (List ℕ) → ℕ → ℕ

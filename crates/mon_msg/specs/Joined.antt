@@ -1,6 +1,6 @@
 -- A transaction names each key once. A put takes the place of the latest earlier put of its key behind which nothing takes
 -- the key away, and gives it the later value; where there is none it stands at the end.
-use Rattle.std.specs.Prelude.{ℕ, Bool, true, false, not, ◌&&◌, List, [], ◌∷◌, ◌++◌, Option, Some, None, is_some, if◌then◌else◌}
+use Rattle.std.specs.Prelude.{Bool, false, not, ◌&&◌, List, [], ◌∷◌, ◌++◌, Option, Some, None, is_some, if◌then◌else◌}
 use Rattle.std.specs.List.{list_any}
 use Rattle.std.specs.Ordering.{eq_by_cmp}
 use Rattle.mon_tx.specs.declared.op.Op.{Op}

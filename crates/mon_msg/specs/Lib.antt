@@ -3,6 +3,7 @@ pub mod Changes
 pub mod Fold
 pub mod Joined
 pub mod Message
+pub mod Protocol
 pub mod Service
 pub mod Table
 pub mod View

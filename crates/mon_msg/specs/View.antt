@@ -1,5 +1,5 @@
 -- What a monitor's store tells its readers.
-use Rattle.std.specs.Prelude.{ℕ, List, [], ◌∷◌, Option, Some, None}
+use Rattle.std.specs.Prelude.{ℕ, List, Option, Some}
 use Rattle.std.specs.Option.{option_map, option_map_or}
 use Rattle.mon_tx.specs.declared.op.Op.{Op}
 use Rattle.mon_tx.specs.declared.key.Area.{Area}

@@ -37,7 +37,7 @@ pub use body::Body;
 pub use clients::{Asked, Clients, Waiting};
 pub use election::{Elector, Prober};
 pub use incrementals::Incrementals;
-pub use laws::{law_joined, law_played, law_view};
+pub use laws::{law_changes, law_joined, law_played, law_readings, law_view};
 pub use list::Items;
 pub use message::Message;
 pub use parts::{Cookie, Place, Told};

@@ -1,0 +1,6 @@
+-- Runs of a few monitors, and values.
+pub mod Calm
+pub mod Copied
+pub mod Recovered
+pub mod Values
+pub mod World

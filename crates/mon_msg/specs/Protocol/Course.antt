@@ -1,0 +1,97 @@
+-- An event under way, and the small steps of which acts and rows are made.
+use Rattle.std.specs.Prelude.{ℕ, Bool, nat_le, List, Result, Ok, if◌then◌else◌, ◌^◌, [], ◌∷◌, ◌++◌, Err}
+use Rattle.mon_msg.specs.Protocol.Changes.{Change}
+use Rattle.mon_msg.specs.Protocol.Phases.{phase_of, same_phase}
+use Rattle.mon_msg.specs.Protocol.Played.{play}
+use Rattle.mon_msg.specs.Protocol.State.{State, no_clients}
+use Rattle.mon_msg.specs.Protocol.Timers.{armed, disarmed, only_ping}
+use Rattle.mon_msg.specs.Protocol.View.{View}
+use Rattle.mon_msg.specs.declared.clients.Clients.{Clients}
+use Rattle.mon_msg.specs.declared.election.Elector.{Elector}
+use Rattle.mon_msg.specs.declared.election.Prober.{Prober}
+use Rattle.mon_msg.specs.declared.paxos.Leader.{Leader}
+use Rattle.mon_msg.specs.declared.paxos.LeaderStage.{LeaderStage}
+use Rattle.mon_msg.specs.declared.paxos.Peon.{Peon}
+use Rattle.mon_msg.specs.declared.phase.Phase.{Phase}
+use Rattle.mon_msg.specs.declared.phase.Timer.{Timer}
+use Rattle.mon_msg.specs.declared.plan.Sent.{Sent}
+use Rattle.mon_msg.specs.declared.synchronisation.Provider.{Provider}
+use Rattle.mon_msg.specs.declared.synchronisation.Requester.{Requester}
+use Rattle.mon_types.specs.declared.names.Which.{Which}
+
+-- What the store's readers tell after the changes so far, these changes in order, what the monitor remembers, and what it
+-- sends. Each act reads what the acts before it left.
+pub record Course : Type 0 where
+  pub view : View
+  pub changes : List Change
+  pub state : State
+  pub out : List Sent
+
+-- one step after another
+infixl 6 ◌▸◌
+abbrev pub ◌▸◌ : {A B : Type 0} → A → (A → B) → B
+x ▸ f = f x
+
+-- one step after another, where a number may run out
+infixl 5 ◌>>=◌
+abbrev pub ◌>>=◌ : {A B : Type 0} → Result A Which → (A → Result B Which) → Result B Which
+(Ok x) >>= f = f x
+(Err e) >>= f = Err e
+
+-- a number that runs out above 2 ^ 62
+abbrev pub checked : Which → ℕ → Result ℕ Which
+checked w n = if nat_le n (2 ^ 62) then Ok n else Err w
+
+-- nothing is done
+abbrev pub dropped : Course → Result Course Which
+dropped x = Ok x
+
+-- a step that is made only where a test holds
+abbrev pub only_if : Bool → (Course → Course) → Course → Course
+only_if test f x = if test then f x else x
+
+-- ---- the store
+
+abbrev pub change : Change → Course → Course
+change c x = record x { view = play c x.view; changes = x.changes ++ c ∷ [] }
+
+-- ---- what is remembered
+
+abbrev pub elector_is : Elector → Course → Course
+elector_is e x = record x { state = record x.state { elector = e } }
+
+abbrev pub prober_is : Prober → Course → Course
+prober_is p x = record x { state = record x.state { prober = p } }
+
+abbrev pub leader_is : Leader → Course → Course
+leader_is l x = record x { state = record x.state { leader = l } }
+
+abbrev pub peon_is : Peon → Course → Course
+peon_is p x = record x { state = record x.state { peon = p } }
+
+abbrev pub clients_are : Clients → Course → Course
+clients_are c x = record x { state = record x.state { clients = c } }
+
+abbrev pub provider_is : Provider → Course → Course
+provider_is p x = record x { state = record x.state { provider = p } }
+
+abbrev pub requester_is : Requester → Course → Course
+requester_is q x = record x { state = record x.state { requester = q } }
+
+-- queue, waiting sessions and numbers are forgotten
+abbrev pub forget_clients : Course → Course
+forget_clients x = clients_are no_clients x
+
+abbrev pub arm : ℕ → Timer → Course → Course
+arm now t x = record x { state = record x.state { timers = armed now t x.state.timers } }
+
+abbrev pub disarm : Timer → Course → Course
+disarm t x = record x { state = record x.state { timers = disarmed t x.state.timers } }
+
+-- a phase; where it is another one its timers are disarmed
+abbrev pub in_phase : Phase → Course → Course
+in_phase p x =
+    if same_phase x.state.phase p then x else record x { state = record x.state { phase = p; timers = only_ping x.state.timers } }
+
+abbrev pub leads_in : LeaderStage → Course → Course
+leads_in s x = x ▸ in_phase (phase_of s) ▸ leader_is (record x.state.leader { stage = s })

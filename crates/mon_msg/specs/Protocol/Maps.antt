@@ -1,0 +1,54 @@
+-- The maps of the services: their texts, and what an incremental makes of them.
+use Rattle.std.specs.FinMap.{empty}
+use Rattle.std.specs.Option.{option_map, option_and_then}
+use Rattle.std.specs.Prelude.{ℕ, nat_le, List, Option, Some, None, Result, Ok, if◌then◌else◌, [], Err, length}
+use Rattle.map_kv.specs.Decode as kv_decode
+use Rattle.map_kv.specs.Map as kv
+use Rattle.map_log.specs.Decode as log_decode
+use Rattle.map_log.specs.Map as log
+use Rattle.mon_msg.specs.Protocol.Parts.{map_text}
+use Rattle.mon_msg.specs.declared.reply.ShownMap.TheVariants as map
+use Rattle.mon_msg.specs.declared.reply.ShownMap.{ShownMap}
+use Rattle.mon_msg.specs.declared.request.Service.TheVariants.{Kv, Log}
+use Rattle.mon_msg.specs.declared.request.Service.{Service}
+
+abbrev pub if_ok : {A E : Type 0} → Result A E → Option A
+if_ok (Ok x) = Some x
+if_ok (Err e) = None
+
+abbrev pub empty_map : Service → ShownMap
+empty_map Kv = map.Kv empty
+empty_map Log = map.Log []
+
+-- the longest text of a service's map, in bytes
+abbrev pub most_map : Service → ℕ
+most_map Kv = 393216
+most_map Log = 12288
+
+abbrev pub short_map : Service → ShownMap → Option ShownMap
+short_map s m = if nat_le (length (map_text m)) (most_map s) then Some m else None
+
+-- the map that bytes spell, where they are no longer than a map may be
+abbrev pub spelled_map : Service → List ℕ → Option ShownMap
+spelled_map s bytes = if nat_le (length bytes) (most_map s) then decoded s bytes else None
+  where
+    decoded : Service → List ℕ → Option ShownMap
+    decoded Kv bytes = option_map map.Kv (if_ok (kv_decode.map_of bytes))
+    decoded Log bytes = option_map map.Log (if_ok (log_decode.map_of bytes))
+
+-- the map after the incremental that bytes spell, where they spell one
+abbrev pub with_incremental : ShownMap → List ℕ → Option ShownMap
+with_incremental (map.Kv m) bytes = option_map (λ inc. map.Kv (kv.with_inc m inc)) (if_ok (kv_decode.inc_of bytes))
+with_incremental (map.Log es) bytes = option_map (λ inc. map.Log (log.with_inc es inc)) (if_ok (log_decode.inc_of bytes))
+
+-- the same, where the map isn't longer than a map may be
+abbrev pub next_map : Service → ShownMap → List ℕ → Option ShownMap
+next_map s m bytes = option_and_then (short_map s) (with_incremental m bytes)
+
+-- the map with an incremental, and the map itself where the bytes are none
+abbrev pub map_with : ShownMap → List ℕ → ShownMap
+map_with m incremental = with_or m (with_incremental m incremental)
+  where
+    with_or : ShownMap → Option ShownMap → ShownMap
+    with_or m None = m
+    with_or m (Some next) = next

@@ -1,0 +1,47 @@
+-- The rows by which monitors measure their connections.
+use Rattle.std.specs.Prelude.{ℕ, Bool, List, Option, Some, None, Result, Ok, if◌then◌else◌, [], ◌∷◌, ◌-◌, ◌/◌}
+use Rattle.election_rules.specs.Table.{merged, raised, lowered, scored}
+use Rattle.election_rules.specs.declared.scores.Scores.{Scores}
+use Rattle.mon_msg.specs.Protocol.Course.{Course, ◌▸◌, dropped, elector_is, arm}
+use Rattle.mon_msg.specs.Protocol.Entering.{own_table}
+use Rattle.mon_msg.specs.Protocol.Sending.{others, send, send_each}
+use Rattle.mon_msg.specs.declared.body.Body.TheVariants as body
+use Rattle.mon_msg.specs.declared.election.Elector.{Elector}
+use Rattle.mon_msg.specs.declared.phase.Timer.TheVariants as timer
+use Rattle.mon_msg.specs.declared.view.Me.{Me}
+use Rattle.mon_types.specs.Ranks.{no_ranks, has, with_rank}
+use Rattle.mon_types.specs.declared.names.Which.{Which}
+
+-- the own scores after so many seconds in which some were heard
+abbrev pub measured : ℕ → List Bool → List ℕ → Scores → Scores
+measured seconds heard [] table = table
+measured seconds heard (k ∷ ks) table = measured seconds heard ks (scored (if has heard k then raised seconds else lowered seconds) k table)
+
+module _ (me : Me) (now : ℕ) where
+  -- f was heard, and told its table
+  abbrev heard_of : ℕ → Scores → Elector → Elector
+  heard_of f table elector = record elector { scores = merged elector.scores table; heard = with_rank elector.heard f }
+
+  abbrev note_table : ℕ → Scores → Course → Course
+  note_table f table x = elector_is (heard_of f table x.state.elector) x
+
+  unfoldable pub hear_ping : (f : ℕ) → Option Scores → Course → Result Course Which
+  hear_ping f None x = dropped x
+  hear_ping f (Some table) x = let y = note_table f table x in Ok (send me f (body.PingReply (own_table me y)) y)
+
+  unfoldable pub hear_ping_reply : (f : ℕ) → Option Scores → Course → Result Course Which
+  hear_ping_reply f None x = dropped x
+  hear_ping_reply f (Some table) x = Ok (note_table f table x)
+
+  abbrev measured_now : Elector → Elector
+  measured_now elector = record elector {
+    scores = measured ((now - elector.pinged) / 1000) elector.heard (others me) elector.scores;
+    heard = no_ranks;
+    pinged = now;
+  }
+
+  -- the time since the last pings counts, and all are pinged again
+  unfoldable pub ping : Course → Result Course Which
+  ping x =
+      let y = x ▸ elector_is (measured_now x.state.elector) in
+      Ok (y ▸ send_each me (others me) (body.Ping (own_table me y)) ▸ arm now timer.Ping)

@@ -1,0 +1,44 @@
+-- The rows of probing.
+use Rattle.std.specs.Prelude.{ℕ, ◌+◌, Bool, not, ◌&&◌, nat_le, nat_lt, List, Result, Ok, if◌then◌else◌}
+use Rattle.mon_msg.specs.Protocol.Course.{Course, ◌▸◌, dropped, prober_is}
+use Rattle.mon_msg.specs.Protocol.Entering.{elect}
+use Rattle.mon_msg.specs.Protocol.Phases.{same_phase}
+use Rattle.mon_msg.specs.Protocol.Sending.{send}
+use Rattle.mon_msg.specs.Protocol.Sets.{is_majority}
+use Rattle.mon_msg.specs.Protocol.State.{quorum_of}
+use Rattle.mon_msg.specs.Protocol.Synchronizing.{full_sync, recent_sync}
+use Rattle.mon_msg.specs.declared.body.Body.TheVariants as body
+use Rattle.mon_msg.specs.declared.phase.Phase.TheVariants as phase
+use Rattle.mon_msg.specs.declared.view.Me.{Me}
+use Rattle.mon_types.specs.Ranks.{with_rank, count_of}
+use Rattle.mon_types.specs.declared.names.Which.{Which}
+
+module _ (me : Me) (now : ℕ) where
+  -- how far it is, and in which quorum
+  unfoldable pub hear_probe : ℕ → Course → Result Course Which
+  hear_probe f x =
+      if x.view.marked then dropped x else Ok (send me f (body.ProbeReply (quorum_of x.state) x.view.first x.view.last) x)
+
+  -- f joins those outside of a quorum
+  abbrev join_outside : ℕ → Course → Result Course Which
+  join_outside f x =
+      let outside = with_rank x.state.prober.outside f in
+      let y = x ▸ prober_is (record { outside = outside }) in
+      if is_majority me.member.monitors outside then elect me now y else Ok y
+
+  -- a marked monitor takes a whole copy of one that reaches its floor
+  abbrev copy_again : ℕ → ℕ → Course → Result Course Which
+  copy_again f last x =
+      if nat_le 1 last && nat_le x.view.floor last then Ok (full_sync me now f x) else dropped x
+
+  -- how many versions a monitor may lack that joins an election
+  abbrev lag : ℕ
+  lag = 10
+
+  unfoldable pub hear_probe_reply : (f : ℕ) → (quorum : List Bool) → (first last : ℕ) → Course → Result Course Which
+  hear_probe_reply f quorum first last x =
+      if not (same_phase x.state.phase phase.Probing) then dropped x else (
+      if x.view.marked then copy_again f last x else (
+      if nat_lt x.view.last first && nat_lt 1 first then Ok (full_sync me now f x) else (
+      if nat_lt (x.view.last + lag) last then Ok (recent_sync me now f x) else (
+      if nat_lt 0 (count_of quorum) then elect me now x else join_outside f x))))

@@ -1,0 +1,42 @@
+-- The acts by which a monitor begins to synchronise.
+use Rattle.std.specs.Prelude.{ℕ, true, false, Option, Some, None, max}
+use Rattle.mon_msg.specs.Protocol.Changes.{Mark}
+use Rattle.mon_msg.specs.Protocol.Course.{Course, ◌▸◌, change, requester_is, arm, in_phase}
+use Rattle.mon_msg.specs.Protocol.Records.{pending}
+use Rattle.mon_msg.specs.Protocol.Sending.{send}
+use Rattle.mon_msg.specs.Protocol.State.{start_requester}
+use Rattle.mon_msg.specs.Protocol.View.{View}
+use Rattle.mon_msg.specs.declared.body.Body.TheVariants as body
+use Rattle.mon_msg.specs.declared.paxos.Found.{Found}
+use Rattle.mon_msg.specs.declared.phase.Phase.TheVariants as phase
+use Rattle.mon_msg.specs.declared.phase.Timer.TheVariants as timer
+use Rattle.mon_msg.specs.declared.view.Me.{Me}
+
+-- whether a pending value is for a version: that version, or 0
+abbrev pub pending_version : Option Found → ℕ
+pending_version None = 0
+pending_version (Some found) = found.version
+
+module _ (me : Me) (now : ℕ) where
+  -- what a full synchronisation must reach
+  abbrev pub floor_of : View → ℕ
+  floor_of w = max (max w.floor w.last) (pending_version (pending w))
+
+  -- it gives up all that is shared, for a whole copy of another monitor's
+  unfoldable pub full_sync : ℕ → Course → Course
+  full_sync from x =
+      x
+      ▸ change (Mark (floor_of x.view) x.view.last_pn x.view.promise)
+      ▸ in_phase phase.Synchronizing
+      ▸ requester_is (start_requester from true)
+      ▸ send me from body.GetCookieFull
+      ▸ arm now timer.Sync
+
+  -- it asks another monitor for the versions that it lacks
+  unfoldable pub recent_sync : ℕ → Course → Course
+  recent_sync from x =
+      x
+      ▸ in_phase phase.Synchronizing
+      ▸ requester_is (start_requester from false)
+      ▸ send me from (body.GetCookieRecent x.view.last)
+      ▸ arm now timer.Sync
