@@ -1,3 +1,4 @@
+pub mod Building
 pub mod Reacting
 pub mod Reading
 pub mod Runs

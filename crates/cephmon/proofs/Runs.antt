@@ -1,5 +1,5 @@
 -- What each end of a run shows.
-use Rattle.std.proofs.Common.{◌≡◌, ℕ, ◌<◌, ◌≤◌, Bool, String, List, [], ◌∷◌, length, map, Option, Some, Err, slice_index_or, codes, sym, ap, subst, ◌∙◌, arith}
+use Rattle.std.proofs.Common.{◌≡◌, ℕ, ◌<◌, ◌≤◌, Bool, String, List, [], ◌∷◌, length, map, Option, Some, None, Err, slice_index_or, codes, sym, ap, subst, ◌∙◌, arith}
 use Rattle.std.specs.declared.alloc.Global.{Global}
 use Rattle.std.specs.Bool.{OnTrue}
 use Rattle.std.specs.String.{string_bytes}
@@ -14,6 +14,7 @@ use Rattle.quorum_model.specs.Safe.{Safe}
 use Rattle.quorum_model.proofs.Whole.{runs_are_safe}
 use Rattle.schedule_text.specs.declared.schedule.Schedule.{Schedule}
 use Rattle.schedule_text.specs.Spelling.{HasText, schedule_text}
+use Rattle.cephmon.specs.Built.{unbuilt}
 use Rattle.cephmon.specs.Trace.{Trace, event_of, trace}
 use Rattle.cephmon.specs.declared.replay.ReplayStop.{ReplayStop}
 use Rattle.cephmon.specs.declared.replay.ReplayStop.TheVariants as stop
@@ -30,13 +31,13 @@ one_word (w ∷ []) word text b some few first is same =
     ap (λ (x : List ℕ). x ∷ []) (ap (λ (s : String Global). string_bytes s) (sym first) ∙ sym is ∙ spelled))
 one_word (w ∷ v ∷ more) word text b some few first is same = absurd (omega arith)
 
-is_safe : (s : Schedule) → HasText s → Safe 1 (run (map event_of s.events))
-is_safe s h =
-    let spoken = is_spoken s h in
+is_safe : (s : Schedule) → HasText s → unbuilt s ≡ None → Safe 1 (run (map event_of s.events))
+is_safe s h e =
+    let spoken = is_spoken s h e in
     runs_are_safe (map event_of s.events) spoken.each
 
-pub replays : (bytes : List ℕ) (fact : Trace → Type 0) (s : Schedule) → HasText s → bytes ≡ schedule_text s → fact (trace s.events) → Replays bytes fact
-replays bytes fact s h e t = record { schedule = s; form = h; text = e; safe = is_safe s h; traced = t }
+pub replays : (bytes : List ℕ) (fact : Trace → Type 0) (s : Schedule) → HasText s → unbuilt s ≡ None → bytes ≡ schedule_text s → fact (trace s.events) → Replays bytes fact
+replays bytes fact s h b e t = record { schedule = s; form = h; built = b; text = e; safe = is_safe s h b; traced = t }
 
 pub at_fault : (e : ReplayStop) (old new : Option (List ℕ)) (t : Trace) → e ≡ stop.WriteFault → Writes (Err e) old new t → AppendsFront old new t.text
 at_fault e old new t is w = subst (λ (e : ReplayStop). Writes (Err e) old new t) is w

@@ -1,3 +1,4 @@
+pub mod Built
 pub mod Node
 pub mod Replay
 pub mod Run

@@ -8,7 +8,7 @@ use Rattle.mon_link.specs.Whole.{ReadsWhole, AppendsFront}
 use Rattle.schedule_text.specs.declared.schedule.Schedule.{Schedule}
 use Rattle.schedule_text.specs.declared.refusal.ScheduleRefused.TheVariants.{At}
 use Rattle.schedule_text.specs.Spelling.{HasText, schedule_text}
-use Rattle.schedule_text.specs.Schedule.{schedule_at}
+use Rattle.cephmon.specs.Built.{unbuilt, run_at}
 use Rattle.quorum_model.specs.World.{run}
 use Rattle.quorum_model.specs.Safe.{Safe}
 use Rattle.cephmon.specs.declared.status.Status.{Status}
@@ -34,10 +34,11 @@ most_read = 16777217
 abbrev pub OfRead : Outside → Outside → (List ℕ → Type 0) → Type 0
 OfRead before after fact = (bytes : List ℕ) × ReadsWhole most_read before.left after.left bytes × fact bytes
 
--- the bytes are a schedule's text, its run is safe, and its trace has this fact
+-- the bytes are the text of a schedule that is run, its run is safe, and its trace has this fact
 pub record Replays (bytes : List ℕ) (fact : Trace → Type 0) : Type 0 where
   pub schedule : Schedule
   pub form : HasText schedule
+  pub built : unbuilt schedule ≡ None
   pub text : bytes ≡ schedule_text schedule
   pub safe : Safe 1 (run (map event_of schedule.events))
   pub traced : fact (trace schedule.events)
@@ -54,7 +55,7 @@ abbrev pub HasStatus : List (String Global) → Outside → Outside → Status �
 HasStatus words before after status.Done = IsReplay words × OfRead before after (λ bytes. Replays bytes (WroteAll before after None))
 HasStatus words before after status.Words = ¬ (IsReplay words) × (after ≡ before)
 HasStatus words before after (status.Schedule line kind) =
-    IsReplay words × OfRead before after (λ bytes. schedule_at bytes ≡ Err (At line kind)) × (after.held ≡ before.held)
+    IsReplay words × OfRead before after (λ bytes. run_at bytes ≡ Err (At line kind)) × (after.held ≡ before.held)
 HasStatus words before after status.ReadFault = IsReplay words × Rose before.read_faults after.read_faults × (after.held ≡ before.held)
 HasStatus words before after status.WriteFault =
     IsReplay words × Rose before.write_faults after.write_faults × OfRead before after (λ bytes. Replays bytes (WroteFront before after))
@@ -64,6 +65,6 @@ HasStatus words before after status.OutOfMemory =
 
 -- what the status tells of bytes that no schedule was made of
 abbrev pub TellsFault : List ℕ → Status → Type 0
-TellsFault bytes (status.Schedule line kind) = schedule_at bytes ≡ Err (At line kind)
+TellsFault bytes (status.Schedule line kind) = run_at bytes ≡ Err (At line kind)
 TellsFault bytes status.OutOfMemory = Unit {0}
 TellsFault bytes other = ⊥

@@ -18,13 +18,15 @@ use Rattle.schedule_text.specs.declared.step.Outcome.TheVariants.{Ran, Down}
 use Rattle.schedule_text.specs.declared.step.Replied.{Replied}
 use Rattle.schedule_text.specs.declared.step.StateLine.{StateLine}
 use Rattle.schedule_text.specs.declared.step.StepLine.{StepLine}
+use Rattle.election_rules.specs.declared.rule.Rule.TheVariants.{Classic}
 use Rattle.schedule_text.specs.Spelling.{header, ended_line}
 use Rattle.schedule_text.specs.Trace.{step_lines, end_text}
 
--- a schedule's event, as what happens
+-- a schedule's event, as what happens; one that isn't run yet is refused before the run, and counts as a start
 abbrev pub event_of : schedule.Event → Event
 event_of (events.Plain (plain.Start rank at)) = model.Start rank at
 event_of (events.Plain (plain.Client rank at session request)) = model.Client rank at session request
+event_of other = model.Start 0 0
 
 -- ---- what an event's lines tell
 
@@ -111,4 +113,4 @@ trace_from n w (e ∷ es) = goes_on (suc n) e (λ next. trace_from (suc n) next 
 
 -- the trace of a schedule's run
 abbrev pub trace : List schedule.Event → Trace
-trace es = behind (ended_line header) (trace_from 0 first_world es)
+trace es = behind (ended_line (header 1 Classic)) (trace_from 0 first_world es)

@@ -1,6 +1,7 @@
 //! Replays schedules of a quorum of monitors.
 #![tactic(auto)]
 
+mod built;
 mod node;
 mod replay;
 mod run;

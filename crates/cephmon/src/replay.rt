@@ -1,9 +1,10 @@
 //! The run of a schedule, whose lines are written as they come.
 
-ghost use Rattle.std.specs.Prelude.{◌≡◌, ◌≤◌, IsTrue, Err, length};
+ghost use Rattle.std.specs.Prelude.{◌≡◌, ◌≤◌, IsTrue, None, Err, length};
 ghost use Rattle.std.specs.List.{list_all};
 ghost use Rattle.mon_types.specs.Faults.{Rose};
-ghost use Rattle.schedule_text.specs.Spelling.{HasText, event_fits};
+ghost use Rattle.schedule_text.specs.Spelling.{HasText};
+ghost use Rattle.cephmon.specs.Built.{event_runs, unbuilt};
 ghost use Rattle.quorum_model.specs.World.{World as Model, first_world};
 ghost use Rattle.cephmon.specs.Trace.{event_of, step, trace_from, trace};
 ghost use Rattle.cephmon.specs.Replay.{StandsFor, Writes, Did};
@@ -71,7 +72,7 @@ fn do_event<K: Sink>(
     number: u32,
     event: &Event,
 ) -> Result<(), ReplayStop>
-    requires { IsTrue (event_fits event.now) }
+    requires { IsTrue (event_runs event.now) }
     ensures writes { (w : Model) → StandsFor world.old w →
         Did result world.new (K.held sink.old) (K.held sink.new) number event.now (step w (event_of event.now)) }
     ensures later { K.faults sink.old ≤ K.faults sink.new }
@@ -85,7 +86,7 @@ fn do_event<K: Sink>(
 
 /// Runs the events, and writes their lines and the last line.
 fn do_events<K: Sink>(alloc: Global, sink: &mut K, events: &[Event]) -> Result<(), ReplayStop>
-    requires fits { IsTrue (list_all event_fits events.now) }
+    requires fits { IsTrue (list_all event_runs events.now) }
     requires count { length events.now ≤ 200000 }
     ensures writes { Writes result (K.held sink.old) (K.held sink.new) (trace_from 0 first_world events.now) }
     ensures later { K.faults sink.old ≤ K.faults sink.new }
@@ -103,8 +104,10 @@ fn do_events<K: Sink>(alloc: Global, sink: &mut K, events: &[Event]) -> Result<(
 }
 
 /// Runs a schedule, and writes its trace: each event's lines when it is done.
+#[tactic(auto, using(crate::proofs::Building::all_run))]
 pub fn replay<K: Sink>(alloc: Global, sink: &mut K, schedule: &Schedule) -> Result<(), ReplayStop>
-    requires { HasText schedule.now }
+    requires form { HasText schedule.now }
+    requires built { unbuilt schedule.now ≡ None }
     ensures writes { Writes result (K.held sink.old) (K.held sink.new) (trace schedule.now.events) }
     ensures later { K.faults sink.old ≤ K.faults sink.new }
     ensures fault { result ≡ Err ReplayStop.WriteFault → Rose (K.faults sink.old) (K.faults sink.new) }

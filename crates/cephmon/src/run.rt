@@ -1,15 +1,17 @@
 //! The top call.
 
-ghost use Rattle.std.specs.Prelude.{◌≡◌, true, IfOk, IfErr};
+ghost use Rattle.std.specs.Prelude.{◌≡◌, true, None, IfOk, IfErr};
 ghost use Rattle.std.specs.Bool.{OnTrue};
 ghost use Rattle.schedule_text.specs.Spelling.{HasText, schedule_text};
+ghost use Rattle.cephmon.specs.Built.{unbuilt};
 ghost use Rattle.cephmon.specs.Run.{IsReplay, HasStatus, TellsFault};
 
+use crate::built::unbuilt;
 use crate::replay::{ReplayStop, replay};
 use crate::status::Status;
 use mon_link::{Sink, Source, read_all, write_all};
 use mon_types::Stop;
-use schedule_text::{Schedule, ScheduleRefused, parse};
+use schedule_text::{Schedule, ScheduleKind, ScheduleRefused, parse};
 use std::alloc::Global;
 
 /// One more byte than a schedule may have.
@@ -27,12 +29,20 @@ fn is_replay(words: &[String]) -> bool
 }
 
 /// The schedule that the bytes spell, or the status that says why there is none.
+#[tactic(auto, using(crate::proofs::Building::faulty_text, crate::proofs::Building::refused_text))]
 fn schedule_of(alloc: Global, bytes: &[u8]) -> Result<Schedule, Status>
     ensures found { IfOk result (λ s. HasText s × (bytes.now ≡ schedule_text s)) }
+    ensures built { IfOk result (λ s. unbuilt s ≡ None) }
     ensures fault { IfErr result (λ status. TellsFault bytes.now status) }
 {
     match parse(alloc, bytes) {
-        Ok(schedule) => Ok(schedule),
+        Ok(schedule) => match unbuilt(&schedule) {
+            None => Ok(schedule),
+            Some(line) => Err(Status::Schedule {
+                line,
+                kind: ScheduleKind::NotBuilt,
+            }),
+        },
         Err(ScheduleRefused::At { line, kind }) => Err(Status::Schedule { line, kind }),
         Err(ScheduleRefused::OutOfMemory) => Err(Status::OutOfMemory),
     }

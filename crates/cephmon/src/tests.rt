@@ -68,7 +68,6 @@ fn traces(rt: HostRuntime) -> Result<(), Fail> {
 
 #[test]
 fn refusals(rt: HostRuntime) -> Result<(), Fail> {
-    let kind = ScheduleKind::NotBuilt;
     is_run(&rt, rt.alloc(), "node", FIRST, 0, 0, Status::Words, "")?;
     is_run(
         &rt,
@@ -77,7 +76,10 @@ fn refusals(rt: HostRuntime) -> Result<(), Fail> {
         "",
         0,
         0,
-        Status::Schedule { line: 1, kind },
+        Status::Schedule {
+            line: 1,
+            kind: ScheduleKind::Header,
+        },
         "",
     )?;
     is_run(
@@ -87,7 +89,10 @@ fn refusals(rt: HostRuntime) -> Result<(), Fail> {
         "monitors 1 classic\ndeliver 1 0\nclient 0 10 1 1 set a x\nclient 0 20 1 2 show kv\n",
         0,
         0,
-        Status::Schedule { line: 2, kind },
+        Status::Schedule {
+            line: 2,
+            kind: ScheduleKind::NotBuilt,
+        },
         "",
     )?;
     is_run(
@@ -97,7 +102,10 @@ fn refusals(rt: HostRuntime) -> Result<(), Fail> {
         "monitors 1 classic\nstart 0 0\nstart 0 1",
         0,
         0,
-        Status::Schedule { line: 3, kind },
+        Status::Schedule {
+            line: 3,
+            kind: ScheduleKind::End,
+        },
         "",
     )
 }

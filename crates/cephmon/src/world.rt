@@ -96,7 +96,7 @@ pub struct World {
 impl World {
     ghost use Rattle.std.specs.Prelude.{◌≡◌, ℕ, ◌≤◌, None, Some, length, map, IsTrue, IfOk, OnOk};
     ghost use Rattle.mon_tx.specs.Map.{apply};
-    ghost use Rattle.schedule_text.specs.Spelling.{event_fits, request_fits};
+    ghost use Rattle.cephmon.specs.Built.{event_runs, request_runs};
     ghost use Rattle.quorum_model.specs.World.{World as Model, first_world, Start, Client};
     ghost use Rattle.schedule_text.specs.declared.step.Outcome.TheVariants.{Ran};
     ghost use Rattle.cephmon.specs.Trace.{event_of, state_of, told, replied, step, log_after};
@@ -161,7 +161,7 @@ impl World {
         request: &Request,
     ) -> Result<StepLine, NodeStop>
         requires rank { rank ≡ 0 }
-        requires fits { IsTrue (request_fits request.now) }
+        requires fits { IsTrue (request_runs request.now) }
         ensures { (w : Model) (at : ℕ) → StandsFor self.old w → Does result self.new (step w (Client rank at session request.now)) }
     {
         let Some(volatile) = self.volatile else {
@@ -179,7 +179,7 @@ impl World {
 
     /// One event, and its lines of the trace.
     pub fn step(&mut self, alloc: Global, event: &Event) -> Result<StepLine, NodeStop>
-        requires { IsTrue (event_fits event.now) }
+        requires { IsTrue (event_runs event.now) }
         ensures { (w : Model) → StandsFor self.old w → Does result self.new (step w (event_of event.now)) }
     {
         match event {
@@ -192,6 +192,9 @@ impl World {
                     ..
                 },
             ) => self.client(alloc, *rank, *session, request),
+            Event::Plain(Plain::Deliver { .. } | Plain::Timer { .. })
+            | Event::Crash { .. }
+            | Event::Fail { .. } => unreachable!(),
         }
     }
 }

@@ -11,7 +11,3 @@ more_digits n ge small = ap length (decimal_step n ge small) ∙ simp length-app
 
 pub at_most_20_digits : (n : ℕ) → n < 2 ^ 64 → length (decimal n) ≤ 20
 at_most_20_digits n small = length-decimal-le 20 n (lit< tt) (omega arith) small
-
--- the one decimal of the number of monitors
-pub decimal_one : (monitors : ℕ) → monitors ≡ 1 → decimal monitors ≡ 49 ∷ []
-decimal_one monitors one = ap decimal one ∙ decimal_digit 1 (lit< tt)

@@ -1,5 +1,8 @@
 pub mod Steps
 pub mod Numerals
+pub mod FieldLaws
+pub mod RankLaws
+pub mod HeaderLaws
 pub mod LineLaws
 pub mod ScheduleLoop
 pub mod ScheduleLaws

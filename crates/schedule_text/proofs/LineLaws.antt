@@ -1,313 +1,416 @@
 -- What is read from a line is spelled so, and what is spelled so is read.
-use Rattle.std.proofs.Common.{◌≡◌, ℕ, ◌-◌, ◌^◌, ◌<◌, ◌≤◌, Bool, true, false, ◌&&◌, cond, not, eqb, leb, List, [], ◌∷◌, Option, Some, None, Result, Ok, Err, IsTrue, codes, refl, sym, ap, subst, ◌∙◌, arith, inl, inr, lit<, ◌⊎◌}
+use Rattle.std.proofs.Common.{◌≡◌, ℕ, ◌-◌, ◌^◌, ◌<◌, Bool, true, false, ◌&&◌, cond, leb, ltb, List, [], ◌∷◌, ◌++◌, length, Option, Some, None, Result, Ok, Err, IsTrue, codes, refl, sym, ap, subst, ◌∙◌, inl, inr, lit<, ◌⊎◌, arith}
 use Rattle.std.specs.Fmt.{decimal}
 use Rattle.std.specs.List.{list_all}
-use Rattle.std.specs.Str.{bytes_eq, is_utf8}
-use Rattle.std.proofs.lemmas.Bool.{cases_eq, leb-true}
-use Rattle.std.proofs.lemmas.Bool.Decides.{nat_tests}
-use Rattle.std.proofs.lemmas.Str.{IsUtf8-from_ascii, is_utf8-from_IsUtf8}
-use Rattle.std.proofs.lemmas.Slice.Eq.{bytes_eq-Decides}
-use Rattle.std.proofs.lemmas.Fmt.{digits_decimal}
+use Rattle.std.specs.Str.{bytes_eq}
 use Rattle.mon_bytes.specs.Texts.{graphic, is_name}
-use Rattle.mon_bytes.proofs.Ascii.{both, IsAscii-from_all}
-use Rattle.mon_msg.specs.declared.request.Service.TheVariants.{Kv, Log}
+use Rattle.mon_bytes.proofs.Ascii.{both}
+use Rattle.mon_types.specs.declared.names.Side.{Side}
 use Rattle.mon_msg.specs.declared.request.Request.{Request}
-use Rattle.mon_msg.specs.declared.request.Request.TheVariants.{Set, Show}
+use Rattle.mon_msg.specs.declared.request.Request.TheVariants as request
 use Rattle.schedule_text.specs.declared.event.Plain.{Plain}
-use Rattle.schedule_text.specs.declared.event.Plain.TheVariants.{Start, Client}
+use Rattle.schedule_text.specs.declared.event.Plain.TheVariants.{Start, Deliver, Timer, Client}
 use Rattle.schedule_text.specs.declared.event.Event.{Event}
-use Rattle.schedule_text.specs.declared.event.Event.TheVariants as events
+use Rattle.schedule_text.specs.declared.event.Event.TheVariants as event
 use Rattle.schedule_text.specs.declared.refusal.ScheduleKind.{ScheduleKind}
-use Rattle.schedule_text.specs.declared.refusal.ScheduleKind.TheVariants.{NotBuilt}
-use Rattle.schedule_text.specs.Fields.{◌>>=◌, cut, digit, next, number_of, number_at, ended, all_of}
-use Rattle.schedule_text.specs.Spelling.{spaced, request_text, plain_text, event_text, printable, is_value, request_fits, plain_fits, event_fits}
-use Rattle.schedule_text.specs.Lines.{start_at, set_at, show_at, request_at, client_at, plain_at, event_at}
+use Rattle.schedule_text.specs.declared.refusal.ScheduleKind.TheVariants as kind
+use Rattle.schedule_text.specs.Words.{printable, service_text, side_text, timer_text}
+use Rattle.schedule_text.specs.Fields.{◌>>=◌, next, within, text_at}
+use Rattle.schedule_text.specs.Spelling.{spaced, request_text, plain_text, upset_text, event_text, request_fits, plain_fits, upset_fits, event_fits}
+use Rattle.schedule_text.specs.Lines.{set_at, remove_at, log_at, show_at, since_at, request_by, request_at, start_at, deliver_at, timer_at, client_at, plain_by, plain_at, upset_at, event_by, event_at}
 use Rattle.schedule_text.proofs.Steps.{bind_ok, ok_is, chosen_ok}
-use Rattle.schedule_text.proofs.Numerals.{own, number_takes, number_again}
-
--- ---- bytes
-
-printable_low : (b : ℕ) → IsTrue (printable b) → b < 128
-printable_low b h = grind (arith, nat_tests)
-
-pub is_utf8-value : (bytes : List ℕ) → IsTrue (is_value bytes) → IsTrue (is_utf8 bytes)
-is_utf8-value bytes h = is_utf8-from_IsUtf8 bytes (IsUtf8-from_ascii bytes (IsAscii-from_all printable printable_low bytes (both _ _ h).1))
-
-pub list_all-weaker : (p q : ℕ → Bool) → ((b : ℕ) → IsTrue (p b) → IsTrue (q b)) → (bs : List ℕ) → IsTrue (list_all p bs) → IsTrue (list_all q bs)
-list_all-weaker p q h [] all = refl
-list_all-weaker p q h (b ∷ bs) all =
-    let parts = both (p b) (list_all p bs) all in
-    rw (h b parts.0, list_all-weaker p q h bs parts.1) refl
-
--- ---- one field
-
-abbrev solid : ℕ → Bool
-solid b = not (eqb b 32)
-
--- no byte of it is a space
-abbrev IsField : List ℕ → Type 0
-IsField f = IsTrue (list_all solid f)
-
-solid_is : (b : ℕ) → IsTrue (solid b) → eqb b 32 ≡ false
-solid_is b h = grind (arith, nat_tests)
-
-digit_solid : (b : ℕ) → IsTrue (digit b) → IsTrue (solid b)
-digit_solid b h = grind (arith, nat_tests)
-
-graphic_solid : (b : ℕ) → IsTrue (graphic b) → IsTrue (solid b)
-graphic_solid b h = grind (arith, nat_tests)
-
-IsField-decimal : (n : ℕ) → n < 2 ^ 64 → IsField (decimal n)
-IsField-decimal n small = list_all-weaker digit solid digit_solid (decimal n) (digits_decimal own n small)
-
-IsField-name : (key : List ℕ) → IsTrue (is_name key) → IsField key
-IsField-name key h = list_all-weaker graphic solid graphic_solid key (both _ (list_all graphic key) h).1
-
--- a field, and what is left behind it
-abbrev joined : List ℕ → Option (List ℕ) → List ℕ
-joined f None = f
-joined f (Some rest) = spaced f rest
-
-joined-cons : (b : ℕ) (f : List ℕ) (rest : Option (List ℕ)) → joined (b ∷ f) rest ≡ b ∷ joined f rest
-joined-cons b f None = refl
-joined-cons b f (Some rest) = refl
-
-pub cut_joined : (line : List ℕ) → joined (cut 32 line).0 (cut 32 line).1 ≡ line
-cut_joined [] = refl
-cut_joined (b ∷ bs) =
-    elim (cases_eq b 32) [
-      | inl e ↦ rw e refl
-      | inr ne ↦ let t : eqb b 32 ≡ false = grind (arith, nat_tests) in rw t (joined-cons b (cut 32 bs).0 (cut 32 bs).1 ∙ ap (λ (xs : List ℕ). b ∷ xs) (cut_joined bs))
-    ]
-
-cut_again : (f : List ℕ) (rest : Option (List ℕ)) → IsField f → cut 32 (joined f rest) ≡ (f, rest)
-cut_again [] None h = refl
-cut_again [] (Some rest) h = refl
-cut_again (b ∷ bs) None h =
-    let parts = both (solid b) (list_all solid bs) h in
-    rw (solid_is b parts.0, cut_again bs None parts.1) refl
-cut_again (b ∷ bs) (Some rest) h =
-    let parts = both (solid b) (list_all solid bs) h in
-    rw (solid_is b parts.0, cut_again bs (Some rest) parts.1) refl
-
--- ---- what is read is spelled so
-
-next_takes : (rest after : Option (List ℕ)) (f : List ℕ) → next rest ≡ Ok (f, after) → rest ≡ Some (joined f after)
-next_takes None after f e = absurd cc
-next_takes (Some line) after f e =
-    let same = ok_is (cut 32 line) (f, after) e in
-    let e0 = ap (λ (p : List ℕ × Option (List ℕ)). joined p.0 p.1) same in
-    ap (λ (xs : List ℕ). Some xs) (sym (cut_joined line) ∙ e0)
-
--- the rest of a line begins with this field
-record Reads (rest : Option (List ℕ)) (field : List ℕ) (after : Option (List ℕ)) : Type 0 where
-  is : rest ≡ Some (joined field after)
-
-Reads-then : (rest : Option (List ℕ)) (f : List ℕ) (after : Option (List ℕ)) (body : List ℕ) → Reads rest f after → after ≡ Some body → rest ≡ Some (spaced f body)
-Reads-then rest f after body r e = r.is ∙ ap (λ (a : Option (List ℕ)). Some (joined f a)) e
-
-Reads-last : (rest : Option (List ℕ)) (f : List ℕ) (after : Option (List ℕ)) → Reads rest f after → after ≡ None → rest ≡ Some f
-Reads-last rest f after r e = r.is ∙ ap (λ (a : Option (List ℕ)). Some (joined f a)) e
-
-next_reads : (rest after : Option (List ℕ)) (f : List ℕ) → next rest ≡ Ok (f, after) → Reads rest f after
-next_reads rest after f e = record { is = next_takes rest after f e }
-
-number_at_takes : (most : ℕ) (rest after : Option (List ℕ)) (n : ℕ) → most < 2 ^ 64 → number_at most rest ≡ Ok (n, after) → Reads rest (decimal n) after × IsTrue (leb n most)
-unfolding number_at
-number_at_takes most rest after n small e =
-    let a = bind_ok (next rest) (λ field. number_of most field.0 >>= λ n. Ok (n, field.1)) (n, after) e in
-    let b = bind_ok (number_of most a.0.0) (λ n. Ok (n, a.0.1)) (n, after) a.2 in
-    let same = ok_is (b.0, a.0.1) (n, after) b.2 in
-    let field = next_takes rest a.0.1 a.0.0 a.1 in
-    let number = number_takes most a.0.0 b.0 small b.1 in
-    subst (λ (p : ℕ × Option (List ℕ)). Reads rest (decimal p.0) p.1 × IsTrue (leb p.0 most)) same (record { is = rw (← number.0) field }, number.1)
-
-ended_takes : {A : Type 0} (rest : Option (List ℕ)) (x y : A) → ended rest x ≡ Ok y → (rest ≡ None) × (x ≡ y)
-ended_takes None x y e = (refl, ok_is x y e)
-ended_takes (Some bytes) x y e = absurd cc
-
-all_of_takes : (rest : Option (List ℕ)) (bytes : List ℕ) → all_of rest ≡ Ok bytes → rest ≡ Some bytes
-all_of_takes None bytes e = absurd cc
-all_of_takes (Some bytes') bytes e = ap (λ (xs : List ℕ). Some xs) (ok_is bytes' bytes e)
-
--- a word, or else another
-chosen_word : {A : Type 0} (f w : List ℕ) (r s : Result A ScheduleKind) (x : A) → cond (bytes_eq f w) r s ≡ Ok x → ((f ≡ w) × (r ≡ Ok x)) ⊎ (s ≡ Ok x)
-chosen_word f w r s x e =
-    let by_word : (b : Bool) → bytes_eq f w ≡ b → cond b r s ≡ Ok x → ((f ≡ w) × (r ≡ Ok x)) ⊎ (s ≡ Ok x) =
-    λ b. elim b as (λ b. bytes_eq f w ≡ b → cond b r s ≡ Ok x → ((f ≡ w) × (r ≡ Ok x)) ⊎ (s ≡ Ok x)) [
-      | true ↦ λ t h. inl ((bytes_eq-Decides f w).0 t, h)
-      | false ↦ λ t h. inr h
-    ] in
-    by_word (bytes_eq f w) refl e
+use Rattle.schedule_text.proofs.FieldLaws.{list_all-append, joined, Reads, Reads-then, Reads-last, next_reads, IsWord, IsWord-printable, next_again, IsForm, number_form, upto_form, rank_form, name_form, service_form, side_form, timer_form, chosen_word, last_word, field_step, field_last, field_again, ended_takes, text_takes, text_again}
 
 -- the rest of the line behind its first word
-record Body (rest : Option (List ℕ)) (word text : List ℕ) : Type 0 where
-  body : List ℕ
-  rest-is : rest ≡ Some body
-  text-is : spaced word body ≡ text
-
-start_takes : (rest : Option (List ℕ)) (p : Plain) → start_at rest ≡ Ok p → Body rest (codes "start") (plain_text p) × IsTrue (plain_fits p)
-unfolding start_at
-start_takes rest p e =
-    let a = bind_ok (number_at 0 rest) (λ rank. number_at (2 ^ 62) rank.1 >>= λ at. ended at.1 (Start rank.0 at.0)) p e in
-    let b = bind_ok (number_at (2 ^ 62) a.0.1) (λ at. ended at.1 (Start a.0.0 at.0)) p a.2 in
-    let end = ended_takes b.0.1 (Start a.0.0 b.0.0) p b.2 in
-    let r = number_at_takes 0 rest a.0.1 a.0.0 (lit< tt) a.1 in
-    let t = number_at_takes (2 ^ 62) a.0.1 b.0.1 b.0.0 (lit< tt) b.1 in
-    let last = Reads-last a.0.1 (decimal b.0.0) b.0.1 t.0 end.0 in
-    subst (λ (q : Plain). Body rest (codes "start") (plain_text q) × IsTrue (plain_fits q)) end.1
-    (record { body = spaced (decimal a.0.0) (decimal b.0.0); rest-is = Reads-then rest (decimal a.0.0) a.0.1 (decimal b.0.0) r.0 last; text-is = refl }, rw (r.1, t.1) refl)
-
-set_takes : (rest : Option (List ℕ)) (q : Request) → set_at rest ≡ Ok q → Body rest (codes "set") (request_text q) × IsTrue (request_fits q)
-unfolding set_at
-set_takes rest q e =
-    let a = bind_ok (next rest) (λ key. all_of key.1 >>= λ value. cond (is_name key.0 && is_value value) (Ok (Set key.0 value)) (Err NotBuilt)) q e in
-    let b = bind_ok (all_of a.0.1) (λ value. cond (is_name a.0.0 && is_value value) (Ok (Set a.0.0 value)) (Err NotBuilt)) q a.2 in
-    let g = chosen_ok (is_name a.0.0 && is_value b.0) NotBuilt (Ok (Set a.0.0 b.0)) q b.2 in
-    let key = next_reads rest a.0.1 a.0.0 a.1 in
-    let value = all_of_takes a.0.1 b.0 b.1 in
-    subst (λ (q : Request). Body rest (codes "set") (request_text q) × IsTrue (request_fits q)) (ok_is (Set a.0.0 b.0) q g.1)
-    (record { body = spaced a.0.0 b.0; rest-is = Reads-then rest a.0.0 a.0.1 b.0 key value; text-is = refl }, g.0)
-
-show_takes : (rest : Option (List ℕ)) (q : Request) → show_at rest ≡ Ok q → Body rest (codes "show") (request_text q) × IsTrue (request_fits q)
-unfolding show_at
-show_takes rest q e =
-    let a = bind_ok (next rest) (λ service. cond (bytes_eq service.0 (codes "kv")) (ended service.1 (Show Kv)) (Err NotBuilt)) q e in
-    let g = chosen_ok (bytes_eq a.0.0 (codes "kv")) NotBuilt (ended a.0.1 (Show Kv)) q a.2 in
-    let end = ended_takes a.0.1 (Show Kv) q g.1 in
-    let word = (bytes_eq-Decides a.0.0 (codes "kv")).0 g.0 in
-    let last = Reads-last rest a.0.0 a.0.1 (next_reads rest a.0.1 a.0.0 a.1) end.0 in
-    subst (λ (q : Request). Body rest (codes "show") (request_text q) × IsTrue (request_fits q)) end.1
-    (record { body = codes "kv"; rest-is = last ∙ ap (λ (w : List ℕ). Some w) word; text-is = refl }, refl)
+pub record Body (rest : Option (List ℕ)) (word text : List ℕ) : Type 0 where
+  pub body : List ℕ
+  pub rest-is : rest ≡ Some body
+  pub text-is : spaced word body ≡ text
 
 -- a word and its body are a text
 with_word : (rest after : Option (List ℕ)) (word w text : List ℕ) → Reads rest word after → word ≡ w → Body after w text → rest ≡ Some text
 with_word rest after word w text r same b =
     Reads-then rest word after b.body r b.rest-is ∙ ap (λ (f : List ℕ). Some (spaced f b.body)) same ∙ ap (λ (t : List ℕ). Some t) b.text-is
 
+-- ---- what a client asks, read and then spelled
+
+abbrev Asks : Option (List ℕ) → List ℕ → Request → Type 0
+Asks rest word q = Body rest word (request_text q) × IsTrue (request_fits q)
+
+set_takes : (rest : Option (List ℕ)) (q : Request) → set_at rest ≡ Ok q → Asks rest (codes "set") q
+unfolding set_at
+set_takes rest q e =
+    let a = field_step name_form rest _ q e in
+    let b = bind_ok (text_at a.after) _ q a.on in
+    let value = text_takes a.after b.0 b.1 in
+    subst (Asks rest (codes "set")) (ok_is (request.Set a.x b.0) q b.2)
+    (record { body = _; rest-is = Reads-then rest a.x a.after b.0 a.reads value.0; text-is = refl }, rw (a.fitting, value.1) refl)
+
+remove_takes : (rest : Option (List ℕ)) (q : Request) → remove_at rest ≡ Ok q → Asks rest (codes "remove") q
+unfolding remove_at
+remove_takes rest q e =
+    let a = field_step name_form rest _ q e in
+    let end = ended_takes a.after (request.Remove a.x) q a.on in
+    subst (Asks rest (codes "remove")) end.1 (record { body = _; rest-is = Reads-last rest a.x a.after a.reads end.0; text-is = refl }, a.fitting)
+
+log_takes : (rest : Option (List ℕ)) (q : Request) → log_at rest ≡ Ok q → Asks rest (codes "log") q
+unfolding log_at
+log_takes rest q e =
+    let b = bind_ok (text_at rest) _ q e in
+    let value = text_takes rest b.0 b.1 in
+    subst (Asks rest (codes "log")) (ok_is (request.Log b.0) q b.2) (record { body = _; rest-is = value.0; text-is = refl }, value.1)
+
+show_takes : (rest : Option (List ℕ)) (q : Request) → show_at rest ≡ Ok q → Asks rest (codes "show") q
+unfolding show_at
+show_takes rest q e =
+    let a = field_step service_form rest _ q e in
+    let end = ended_takes a.after (request.Show a.x) q a.on in
+    subst (Asks rest (codes "show")) end.1 (record { body = _; rest-is = Reads-last rest (service_text a.x) a.after a.reads end.0; text-is = refl }, refl)
+
+most_moment : 2 ^ 62 < 2 ^ 64
+most_moment = lit< tt
+
+since_takes : (rest : Option (List ℕ)) (q : Request) → since_at rest ≡ Ok q → Asks rest (codes "since") q
+unfolding since_at
+since_takes rest q e =
+    let a = field_step service_form rest _ q e in
+    let b = field_step (upto_form (2 ^ 62) most_moment) a.after _ q a.on in
+    let end = ended_takes b.after (request.Since a.x b.x) q b.on in
+    let last = Reads-last a.after (decimal b.x) b.after b.reads end.0 in
+    subst (Asks rest (codes "since")) end.1 (record { body = _; rest-is = Reads-then rest (service_text a.x) a.after (decimal b.x) a.reads last; text-is = refl }, b.fitting)
+
 request_takes : (rest : Option (List ℕ)) (q : Request) → request_at rest ≡ Ok q → (rest ≡ Some (request_text q)) × IsTrue (request_fits q)
 unfolding request_at
 request_takes rest q e =
-    let a = bind_ok (next rest) (λ word. cond (bytes_eq word.0 (codes "set")) (set_at word.1) (cond (bytes_eq word.0 (codes "show")) (show_at word.1) (Err NotBuilt))) q e in
-    let r = next_reads rest a.0.1 a.0.0 a.1 in
-    elim (chosen_word a.0.0 (codes "set") (set_at a.0.1) (cond (bytes_eq a.0.0 (codes "show")) (show_at a.0.1) (Err NotBuilt)) q a.2) [
-      | inl h ↦ let t = set_takes a.0.1 q h.1 in (with_word rest a.0.1 a.0.0 (codes "set") (request_text q) r h.0 t.0, t.1)
-      | inr h ↦ let g = chosen_ok (bytes_eq a.0.0 (codes "show")) NotBuilt (show_at a.0.1) q h in
-          let t = show_takes a.0.1 q g.1 in
-          (with_word rest a.0.1 a.0.0 (codes "show") (request_text q) r ((bytes_eq-Decides a.0.0 (codes "show")).0 g.0) t.0, t.1)
+    let a = bind_ok (next rest) _ q e in
+    let word = a.0.0 in
+    let after = a.0.1 in
+    let r = next_reads rest after word a.1 in
+    let whole : (w : List ℕ) → word ≡ w → Asks after w q → (rest ≡ Some (request_text q)) × IsTrue (request_fits q) =
+    λ w same t. (with_word rest after word w (request_text q) r same t.0, t.1) in
+    elim (chosen_word word (codes "set") (set_at after) _ q a.2) [
+      | inl h ↦ whole (codes "set") h.0 (set_takes after q h.1)
+      | inr h ↦ elim (chosen_word word (codes "remove") (remove_at after) _ q h) [
+        | inl h ↦ whole (codes "remove") h.0 (remove_takes after q h.1)
+        | inr h ↦ elim (chosen_word word (codes "log") (log_at after) _ q h) [
+          | inl h ↦ whole (codes "log") h.0 (log_takes after q h.1)
+          | inr h ↦ elim (chosen_word word (codes "show") (show_at after) _ q h) [
+            | inl h ↦ whole (codes "show") h.0 (show_takes after q h.1)
+            | inr h ↦ let g = last_word word (codes "since") (since_at after) kind.Word q h in whole (codes "since") g.0 (since_takes after q g.1)
+          ]
+        ]
+      ]
     ]
 
--- what stands behind the first word of a client's line
-abbrev client_body : ℕ → ℕ → ℕ → ℕ → Request → List ℕ
-client_body rank at client id request = spaced (decimal rank) (spaced (decimal at) (spaced (decimal client) (spaced (decimal id) (request_text request))))
+-- ---- what happens, read and then spelled
 
-client_body-text : (rank at client id : ℕ) (request : Request) → spaced (codes "client") (client_body rank at client id request) ≡ plain_text (Client rank at (record { client = client; id = id }) request)
-client_body-text rank at client id request = refl
+abbrev Happens : ℕ → Option (List ℕ) → List ℕ → Plain → Type 0
+Happens n rest word p = Body rest word (plain_text p) × IsTrue (plain_fits n p)
 
--- what a client's line gives, of its parts
-client_made : (rest : Option (List ℕ)) (rank at client id : ℕ) (request : Request) (p : Plain) → rest ≡ Some (client_body rank at client id request)
-    → IsTrue (plain_fits (Client rank at (record { client = client; id = id }) request)) → Client rank at (record { client = client; id = id }) request ≡ p → Body rest (codes "client") (plain_text p) × IsTrue (plain_fits p)
-client_made rest rank at client id request p all fits same =
-    subst (λ (q : Plain). Body rest (codes "client") (plain_text q) × IsTrue (plain_fits q)) same
-    (record { body = client_body rank at client id request; rest-is = all; text-is = client_body-text rank at client id request }, fits)
+start_takes : (n : ℕ) (rest : Option (List ℕ)) (p : Plain) → n < 2 ^ 64 → start_at n rest ≡ Ok p → Happens n rest (codes "start") p
+unfolding start_at
+start_takes n rest p small e =
+    let a = field_step (rank_form n small) rest _ p e in
+    let b = field_step (upto_form (2 ^ 62) most_moment) a.after _ p a.on in
+    let end = ended_takes b.after (Start a.x b.x) p b.on in
+    let last = Reads-last a.after (decimal b.x) b.after b.reads end.0 in
+    subst (Happens n rest (codes "start")) end.1 (record { body = _; rest-is = Reads-then rest (decimal a.x) a.after _ a.reads last; text-is = refl }, rw (a.fitting, b.fitting) refl)
 
-client_takes : (rest : Option (List ℕ)) (p : Plain) → client_at rest ≡ Ok p → Body rest (codes "client") (plain_text p) × IsTrue (plain_fits p)
+deliver_takes : (n : ℕ) (rest : Option (List ℕ)) (p : Plain) → deliver_at rest ≡ Ok p → Happens n rest (codes "deliver") p
+unfolding deliver_at
+deliver_takes n rest p e =
+    let a = field_step (number_form 1 (2 ^ 64 - 1) (lit< tt)) rest _ p e in
+    let b = field_step (upto_form (2 ^ 62) most_moment) a.after _ p a.on in
+    let end = ended_takes b.after (Deliver a.x b.x) p b.on in
+    let last = Reads-last a.after (decimal b.x) b.after b.reads end.0 in
+    subst (Happens n rest (codes "deliver")) end.1 (record { body = _; rest-is = Reads-then rest (decimal a.x) a.after _ a.reads last; text-is = refl }, rw (a.fitting, b.fitting) refl)
+
+timer_takes : (n : ℕ) (rest : Option (List ℕ)) (p : Plain) → n < 2 ^ 64 → timer_at n rest ≡ Ok p → Happens n rest (codes "timer") p
+unfolding timer_at
+timer_takes n rest p small e =
+    let a = field_step (rank_form n small) rest _ p e in
+    let b = field_step timer_form a.after _ p a.on in
+    let c = field_step (upto_form (2 ^ 62) most_moment) b.after _ p b.on in
+    let end = ended_takes c.after (Timer a.x b.x c.x) p c.on in
+    let last = Reads-last b.after (decimal c.x) c.after c.reads end.0 in
+    let kind_on = Reads-then a.after (timer_text b.x) b.after _ b.reads last in
+    subst (Happens n rest (codes "timer")) end.1 (record { body = _; rest-is = Reads-then rest (decimal a.x) a.after _ a.reads kind_on; text-is = refl }, rw (a.fitting, c.fitting) refl)
+
+client_takes : (n : ℕ) (rest : Option (List ℕ)) (p : Plain) → n < 2 ^ 64 → client_at n rest ≡ Ok p → Happens n rest (codes "client") p
 unfolding client_at
-client_takes rest p e =
-    let a = bind_ok (number_at 0 rest) (λ rank. number_at (2 ^ 62) rank.1 >>= λ at. number_at (2 ^ 32 - 1) at.1 >>= λ client. number_at (2 ^ 62) client.1 >>= λ id. request_at id.1 >>= λ request. Ok (Client rank.0 at.0 (record { client = client.0; id = id.0 }) request)) p e in
-    let b = bind_ok (number_at (2 ^ 62) a.0.1) (λ at. number_at (2 ^ 32 - 1) at.1 >>= λ client. number_at (2 ^ 62) client.1 >>= λ id. request_at id.1 >>= λ request. Ok (Client a.0.0 at.0 (record { client = client.0; id = id.0 }) request)) p a.2 in
-    let c = bind_ok (number_at (2 ^ 32 - 1) b.0.1) (λ client. number_at (2 ^ 62) client.1 >>= λ id. request_at id.1 >>= λ request. Ok (Client a.0.0 b.0.0 (record { client = client.0; id = id.0 }) request)) p b.2 in
-    let d = bind_ok (number_at (2 ^ 62) c.0.1) (λ id. request_at id.1 >>= λ request. Ok (Client a.0.0 b.0.0 (record { client = c.0.0; id = id.0 }) request)) p c.2 in
-    let q = bind_ok (request_at d.0.1) (λ request. Ok (Client a.0.0 b.0.0 (record { client = c.0.0; id = d.0.0 }) request)) p d.2 in
-    let ra = number_at_takes 0 rest a.0.1 a.0.0 (lit< tt) a.1 in
-    let rb = number_at_takes (2 ^ 62) a.0.1 b.0.1 b.0.0 (lit< tt) b.1 in
-    let rc = number_at_takes (2 ^ 32 - 1) b.0.1 c.0.1 c.0.0 (lit< tt) c.1 in
-    let rd = number_at_takes (2 ^ 62) c.0.1 d.0.1 d.0.0 (lit< tt) d.1 in
-    let rq = request_takes d.0.1 q.0 q.1 in
-    let id_on = Reads-then c.0.1 (decimal d.0.0) d.0.1 (request_text q.0) rd.0 rq.0 in
-    let client_on = Reads-then b.0.1 (decimal c.0.0) c.0.1 (spaced (decimal d.0.0) (request_text q.0)) rc.0 id_on in
-    let at_on = Reads-then a.0.1 (decimal b.0.0) b.0.1 (spaced (decimal c.0.0) (spaced (decimal d.0.0) (request_text q.0))) rb.0 client_on in
-    let all = Reads-then rest (decimal a.0.0) a.0.1 (spaced (decimal b.0.0) (spaced (decimal c.0.0) (spaced (decimal d.0.0) (request_text q.0)))) ra.0 at_on in
-    let made : Plain = Client a.0.0 b.0.0 (record { client = c.0.0; id = d.0.0 }) q.0 in
-    client_made rest a.0.0 b.0.0 c.0.0 d.0.0 q.0 p all (rw (ra.1, rb.1, rc.1, rd.1, rq.1) refl) (ok_is made p q.2)
+client_takes n rest p small e =
+    let a = field_step (rank_form n small) rest _ p e in
+    let b = field_step (upto_form (2 ^ 62) most_moment) a.after _ p a.on in
+    let c = field_step (upto_form (2 ^ 32 - 1) (lit< tt)) b.after _ p b.on in
+    let d = field_step (upto_form (2 ^ 62) most_moment) c.after _ p c.on in
+    let q = bind_ok (request_at d.after) _ p d.on in
+    let rq = request_takes d.after q.0 q.1 in
+    let id_on = Reads-then c.after (decimal d.x) d.after _ d.reads rq.0 in
+    let client_on = Reads-then b.after (decimal c.x) c.after _ c.reads id_on in
+    let at_on = Reads-then a.after (decimal b.x) b.after _ b.reads client_on in
+    subst (Happens n rest (codes "client")) (ok_is (Client a.x b.x (record { client = c.x; id = d.x }) q.0) p q.2)
+    (record { body = _; rest-is = Reads-then rest (decimal a.x) a.after _ a.reads at_on; text-is = refl }, rw (a.fitting, b.fitting, c.fitting, d.fitting, rq.1) refl)
+
+plain_by_takes : (n : ℕ) (rest after : Option (List ℕ)) (word : List ℕ) (p : Plain) → n < 2 ^ 64 → Reads rest word after → plain_by n word after ≡ Ok p → (rest ≡ Some (plain_text p)) × IsTrue (plain_fits n p)
+unfolding plain_by
+plain_by_takes n rest after word p small r e =
+    let whole : (w : List ℕ) → word ≡ w → Happens n after w p → (rest ≡ Some (plain_text p)) × IsTrue (plain_fits n p) =
+    λ w same t. (with_word rest after word w (plain_text p) r same t.0, t.1) in
+    elim (chosen_word word (codes "start") (start_at n after) _ p e) [
+      | inl h ↦ whole (codes "start") h.0 (start_takes n after p small h.1)
+      | inr h ↦ elim (chosen_word word (codes "deliver") (deliver_at after) _ p h) [
+        | inl h ↦ whole (codes "deliver") h.0 (deliver_takes n after p h.1)
+        | inr h ↦ elim (chosen_word word (codes "timer") (timer_at n after) _ p h) [
+          | inl h ↦ whole (codes "timer") h.0 (timer_takes n after p small h.1)
+          | inr h ↦ let g = last_word word (codes "client") (client_at n after) kind.Word p h in whole (codes "client") g.0 (client_takes n after p small g.1)
+        ]
+      ]
+    ]
+
+plain_takes : (n : ℕ) (rest : Option (List ℕ)) (p : Plain) → n < 2 ^ 64 → plain_at n rest ≡ Ok p → (rest ≡ Some (plain_text p)) × IsTrue (plain_fits n p)
+unfolding plain_at
+plain_takes n rest p small e =
+    let a = bind_ok (next rest) _ p e in
+    plain_by_takes n rest a.0.1 a.0.0 p small (next_reads rest a.0.1 a.0.0 a.1) a.2
+
+-- how an event is made of a disk, its call, an image and what happens
+abbrev Upset : Type 0
+Upset = Side → ℕ → ℕ → Plain → Event
+
+-- it is spelled behind this word
+record IsUpset (upset : Upset) (word : List ℕ) : Type 0 where
+  spelled : (disk : Side) (call image : ℕ) (p : Plain) → event_text (upset disk call image p) ≡ spaced word (upset_text disk call image p)
+  fits : (n : ℕ) (disk : Side) (call image : ℕ) (p : Plain) → event_fits n (upset disk call image p) ≡ upset_fits n call image p
+
+crash_is : IsUpset event.Crash (codes "crash")
+crash_is = record { spelled = λ disk call image p. refl; fits = λ n disk call image p. refl }
+
+fail_is : IsUpset event.Fail (codes "fail")
+fail_is = record { spelled = λ disk call image p. refl; fits = λ n disk call image p. refl }
+
+upset_takes : (upset : Upset) (word : List ℕ) → IsUpset upset word → (n : ℕ) (rest : Option (List ℕ)) (v : Event) → n < 2 ^ 64 → upset_at upset n rest ≡ Ok v → Body rest word (event_text v) × IsTrue (event_fits n v)
+unfolding upset_at
+upset_takes upset word form n rest v small e =
+    let a = field_step side_form rest _ v e in
+    let b = field_step (number_form 1 1000 (lit< tt)) a.after _ v a.on in
+    let c = field_step (upto_form 3 (lit< tt)) b.after _ v b.on in
+    let p = bind_ok (plain_at n c.after) _ v c.on in
+    let t = plain_takes n c.after p.0 small p.1 in
+    let image_on = Reads-then b.after (decimal c.x) c.after _ c.reads t.0 in
+    let call_on = Reads-then a.after (decimal b.x) b.after _ b.reads image_on in
+    let fitting : IsTrue (upset_fits n b.x c.x p.0) = rw (b.fitting, c.fitting, t.1) refl in
+    subst (λ (v : Event). Body rest word (event_text v) × IsTrue (event_fits n v)) (ok_is (upset a.x b.x c.x p.0) v p.2) (
+      record { body = _; rest-is = Reads-then rest (side_text a.x) a.after _ a.reads call_on; text-is = sym (form.spelled a.x b.x c.x p.0) },
+      form.fits n a.x b.x c.x p.0 ∙ fitting,
+    )
 
 same_some : (x y : List ℕ) → Some x ≡ Some y → x ≡ y
 same_some x y e = cc
 
-plain_takes : (line : List ℕ) (p : Plain) → plain_at line ≡ Ok p → (line ≡ plain_text p) × IsTrue (plain_fits p)
-unfolding plain_at
-plain_takes line p e =
-    let a = bind_ok (next (Some line)) (λ word. cond (bytes_eq word.0 (codes "start")) (start_at word.1) (cond (bytes_eq word.0 (codes "client")) (client_at word.1) (Err NotBuilt))) p e in
-    let r = next_reads (Some line) a.0.1 a.0.0 a.1 in
-    elim (chosen_word a.0.0 (codes "start") (start_at a.0.1) (cond (bytes_eq a.0.0 (codes "client")) (client_at a.0.1) (Err NotBuilt)) p a.2) [
-      | inl h ↦ let t = start_takes a.0.1 p h.1 in (same_some line (plain_text p) (with_word (Some line) a.0.1 a.0.0 (codes "start") (plain_text p) r h.0 t.0), t.1)
-      | inr h ↦ let g = chosen_ok (bytes_eq a.0.0 (codes "client")) NotBuilt (client_at a.0.1) p h in
-          let t = client_takes a.0.1 p g.1 in
-          (same_some line (plain_text p) (with_word (Some line) a.0.1 a.0.0 (codes "client") (plain_text p) r ((bytes_eq-Decides a.0.0 (codes "client")).0 g.0) t.0), t.1)
+event_by_takes : (n : ℕ) (line word : List ℕ) (after : Option (List ℕ)) (v : Event) → n < 2 ^ 64 → Reads (Some line) word after → event_by n word after ≡ Ok v → (line ≡ event_text v) × IsTrue (event_fits n v)
+unfolding event_by
+event_by_takes n line word after v small r e =
+    let whole : (w : List ℕ) → word ≡ w → Body after w (event_text v) × IsTrue (event_fits n v) → (line ≡ event_text v) × IsTrue (event_fits n v) =
+    λ w same t. (same_some line (event_text v) (with_word (Some line) after word w (event_text v) r same t.0), t.1) in
+    elim (chosen_word word (codes "crash") (upset_at event.Crash n after) _ v e) [
+      | inl h ↦ whole (codes "crash") h.0 (upset_takes event.Crash (codes "crash") crash_is n after v small h.1)
+      | inr h ↦ elim (chosen_word word (codes "fail") (upset_at event.Fail n after) _ v h) [
+        | inl h ↦ whole (codes "fail") h.0 (upset_takes event.Fail (codes "fail") fail_is n after v small h.1)
+        | inr h ↦
+            let a = bind_ok (plain_by n word after) _ v h in
+            let t = plain_by_takes n (Some line) after word a.0 small r a.1 in
+            subst (λ (v : Event). (line ≡ event_text v) × IsTrue (event_fits n v)) (ok_is (event.Plain a.0) v a.2) (same_some line (plain_text a.0) t.0, t.1)
+      ]
     ]
 
--- what is read from a line is spelled so
-pub event_takes : (line : List ℕ) (event : Event) → event_at line ≡ Ok event → (line ≡ event_text event) × IsTrue (event_fits event)
+-- what is read from a line is spelled so, and is printable
+pub event_takes : (n : ℕ) (line : List ℕ) (v : Event) → n < 2 ^ 64 → event_at n line ≡ Ok v → (line ≡ event_text v) × IsTrue (event_fits n v)
 unfolding event_at
-event_takes line event e =
-    let a = bind_ok (plain_at line) (λ plain. Ok (events.Plain plain)) event e in
-    let t = plain_takes line a.0 a.1 in
-    subst (λ (event : Event). (line ≡ event_text event) × IsTrue (event_fits event)) (ok_is (events.Plain a.0) event a.2) t
+event_takes n line v small e =
+    let g = chosen_ok (list_all printable line) kind.Word (next (Some line) >>= λ word. event_by n word.0 word.1) v e in
+    let a = bind_ok (next (Some line)) (λ word. event_by n word.0 word.1) v g.1 in
+    event_by_takes n line a.0.0 a.0.1 v small (next_reads (Some line) a.0.1 a.0.0 a.1) a.2
 
 -- ---- what is spelled so is read
 
-number_at_last : (most n : ℕ) → most < 2 ^ 64 → IsTrue (leb n most) → number_at most (Some (decimal n)) ≡ Ok (n, None)
-unfolding number_at
-number_at_last most n small fits =
-    let le : n ≤ most = leb-true _ _ fits in
-    rw (cut_again (decimal n) None (IsField-decimal n (omega arith)), number_again most n small fits) refl
-
-number_at_again : (most n : ℕ) (rest : List ℕ) → most < 2 ^ 64 → IsTrue (leb n most) → number_at most (Some (spaced (decimal n) rest)) ≡ Ok (n, Some rest)
-unfolding number_at
-number_at_again most n rest small fits =
-    let le : n ≤ most = leb-true _ _ fits in
-    rw (cut_again (decimal n) (Some rest) (IsField-decimal n (omega arith)), number_again most n small fits) refl
-
 request_again : (q : Request) → IsTrue (request_fits q) → request_at (Some (request_text q)) ≡ Ok q
-unfolding request_at set_at show_at
-request_again (Set key value) fits =
-    let parts = both (is_name key) (is_value value) fits in
-    rw (cut_again key (Some value) (IsField-name key parts.0), parts.0, parts.1) refl
-request_again (Show Kv) fits = refl
-request_again other fits = absurd cc
+unfolding request_at set_at remove_at log_at show_at since_at
+request_again (request.Set key value) fits =
+    let parts = both (is_name key) (list_all printable value) fits in
+    rw (field_again name_form key value parts.0, text_again value parts.1) refl
+request_again (request.Remove key) fits = rw (field_last name_form key fits) refl
+request_again (request.Log text) fits = rw (text_again text fits) refl
+request_again (request.Show service) fits = rw (field_last service_form service refl) refl
+request_again (request.Since service version) fits =
+    rw (field_again service_form service (decimal version) refl, field_last (upto_form (2 ^ 62) most_moment) version fits) refl
 
 -- the parts of a client's event that fits
-pub record ClientFits (rank at client id : ℕ) (request : Request) : Type 0 where
-  pub rank_fits : IsTrue (leb rank 0)
+pub record ClientFits (n rank at client id : ℕ) (q : Request) : Type 0 where
+  pub rank_fits : IsTrue (ltb rank n)
   pub at_fits : IsTrue (leb at (2 ^ 62))
   pub client_fits : IsTrue (leb client (2 ^ 32 - 1))
   pub id_fits : IsTrue (leb id (2 ^ 62))
-  pub asked_fits : IsTrue (request_fits request)
+  pub asked_fits : IsTrue (request_fits q)
 
-pub client_parts : (rank at client id : ℕ) (request : Request) → IsTrue (plain_fits (Client rank at (record { client = client; id = id }) request)) → ClientFits rank at client id request
-client_parts rank at client id request fits =
-    let a = both (leb rank 0) _ fits in
+pub client_parts : (n rank at client id : ℕ) (q : Request) → IsTrue (plain_fits n (Client rank at (record { client = client; id = id }) q)) → ClientFits n rank at client id q
+client_parts n rank at client id q fits =
+    let a = both (ltb rank n) _ fits in
     let b = both (leb at (2 ^ 62)) _ a.1 in
     let c = both (leb client (2 ^ 32 - 1)) _ b.1 in
-    let d = both (leb id (2 ^ 62)) (request_fits request) c.1 in
+    let d = both (leb id (2 ^ 62)) (request_fits q) c.1 in
     record { rank_fits = a.0; at_fits = b.0; client_fits = c.0; id_fits = d.0; asked_fits = d.1 }
 
-plain_again : (p : Plain) → IsTrue (plain_fits p) → plain_at (plain_text p) ≡ Ok p
-unfolding plain_at start_at client_at
-plain_again (Start rank at) fits =
-    let parts = both (leb rank 0) (leb at (2 ^ 62)) fits in
-    rw (number_at_again 0 rank (decimal at) (lit< tt) parts.0, number_at_last (2 ^ 62) at (lit< tt) parts.1) refl
-plain_again (Client rank at session request) fits =
-    let parts = client_parts rank at session.client session.id request fits in
+-- the rest of a line behind its first word, read again
+record Again (n : ℕ) (p : Plain) : Type 0 where
+  word : List ℕ
+  body : List ℕ
+  text-is : plain_text p ≡ joined 32 word (Some body)
+  is-word : IsWord word
+  not_crash : bytes_eq word (codes "crash") ≡ false
+  not_fail : bytes_eq word (codes "fail") ≡ false
+  read : plain_by n word (Some body) ≡ Ok p
+
+a_word : (w : List ℕ) → 0 < length w → IsTrue (list_all graphic w) → IsWord w
+a_word w long graphics = record { long = long; graphics = graphics }
+
+plain_parts : (n : ℕ) (p : Plain) → n < 2 ^ 64 → IsTrue (plain_fits n p) → Again n p
+unfolding plain_by start_at deliver_at timer_at client_at
+plain_parts n (Start rank at) small fits =
+    let parts = both (ltb rank n) (leb at (2 ^ 62)) fits in
+    record {
+      word = codes "start";
+      body = _;
+      text-is = refl;
+      is-word = a_word _ (omega arith) refl;
+      not_crash = refl;
+      not_fail = refl;
+      read = rw (field_again (rank_form n small) rank (decimal at) parts.0, field_last (upto_form (2 ^ 62) most_moment) at parts.1) refl;
+    }
+plain_parts n (Deliver message at) small fits =
+    let parts = both (within 1 (2 ^ 64 - 1) message) (leb at (2 ^ 62)) fits in
+    record {
+      word = codes "deliver";
+      body = _;
+      text-is = refl;
+      is-word = a_word _ (omega arith) refl;
+      not_crash = refl;
+      not_fail = refl;
+      read = rw (field_again (number_form 1 (2 ^ 64 - 1) (lit< tt)) message (decimal at) parts.0, field_last (upto_form (2 ^ 62) most_moment) at parts.1) refl;
+    }
+plain_parts n (Timer rank kind at) small fits =
+    let parts = both (ltb rank n) (leb at (2 ^ 62)) fits in
+    record {
+      word = codes "timer";
+      body = _;
+      text-is = refl;
+      is-word = a_word _ (omega arith) refl;
+      not_crash = refl;
+      not_fail = refl;
+      read = rw (
+        field_again (rank_form n small) rank _ parts.0,
+        field_again timer_form kind (decimal at) refl,
+        field_last (upto_form (2 ^ 62) most_moment) at parts.1,
+      ) refl;
+    }
+plain_parts n (Client rank at session q) small fits =
+    let parts = client_parts n rank at session.client session.id q fits in
+    record {
+      word = codes "client";
+      body = _;
+      text-is = refl;
+      is-word = a_word _ (omega arith) refl;
+      not_crash = refl;
+      not_fail = refl;
+      read = rw (
+        field_again (rank_form n small) rank _ parts.rank_fits,
+        field_again (upto_form (2 ^ 62) most_moment) at _ parts.at_fits,
+        field_again (upto_form (2 ^ 32 - 1) (lit< tt)) session.client _ parts.client_fits,
+        field_again (upto_form (2 ^ 62) most_moment) session.id _ parts.id_fits,
+        request_again q parts.asked_fits,
+      ) refl;
+    }
+
+plain_again : (n : ℕ) (p : Plain) → n < 2 ^ 64 → IsTrue (plain_fits n p) → plain_at n (Some (plain_text p)) ≡ Ok p
+unfolding plain_at
+plain_again n p small fits =
+    let a = plain_parts n p small fits in
+    rw (a.text-is, next_again a.word (Some a.body) a.is-word) a.read
+
+upset_again : (upset : Upset) (n : ℕ) (disk : Side) (call image : ℕ) (p : Plain) → n < 2 ^ 64 → IsTrue (upset_fits n call image p) → upset_at upset n (Some (upset_text disk call image p)) ≡ Ok (upset disk call image p)
+unfolding upset_at
+upset_again upset n disk call image p small fits =
+    let a = both (within 1 1000 call) _ fits in
+    let b = both (leb image 3) (plain_fits n p) a.1 in
     rw (
-      number_at_again 0 rank _ (lit< tt) parts.rank_fits,
-      number_at_again (2 ^ 62) at _ (lit< tt) parts.at_fits,
-      number_at_again (2 ^ 32 - 1) session.client _ (lit< tt) parts.client_fits,
-      number_at_again (2 ^ 62) session.id _ (lit< tt) parts.id_fits,
-      request_again request parts.asked_fits,
+      field_again side_form disk _ refl,
+      field_again (number_form 1 1000 (lit< tt)) call _ a.0,
+      field_again (upto_form 3 (lit< tt)) image _ b.0,
+      plain_again n p small b.1,
     ) refl
 
+-- ---- a line is printable
+
+printable_spaced : (xs ys : List ℕ) → IsTrue (list_all printable xs) → IsTrue (list_all printable ys) → IsTrue (list_all printable (spaced xs ys))
+printable_spaced xs ys a b = list_all-append printable xs (32 ∷ ys) a b
+
+-- a field of a form is printable
+printable_field : {A : Type 0} {read : List ℕ → Result A ScheduleKind} {text : A → List ℕ} {fits : A → Bool} → IsForm A read text fits → (x : A) → IsTrue (fits x) → IsTrue (list_all printable (text x))
+printable_field {A} {read} {text} form x h = IsWord-printable (text x) (form.word x h)
+
+printable_request : (q : Request) → IsTrue (request_fits q) → IsTrue (list_all printable (request_text q))
+printable_request (request.Set key value) fits =
+    let parts = both (is_name key) (list_all printable value) fits in
+    printable_spaced key value (printable_field name_form key parts.0) parts.1
+printable_request (request.Remove key) fits = printable_field name_form key fits
+printable_request (request.Log text) fits = fits
+printable_request (request.Show service) fits = printable_field service_form service refl
+printable_request (request.Since service version) fits =
+    printable_spaced (service_text service) (decimal version) (printable_field service_form service refl) (printable_field (upto_form (2 ^ 62) most_moment) version fits)
+
+printable_plain : (n : ℕ) (p : Plain) → n < 2 ^ 64 → IsTrue (plain_fits n p) → IsTrue (list_all printable (plain_text p))
+printable_plain n (Start rank at) small fits =
+    let parts = both (ltb rank n) (leb at (2 ^ 62)) fits in
+    printable_spaced (decimal rank) (decimal at) (printable_field (rank_form n small) rank parts.0) (printable_field (upto_form (2 ^ 62) most_moment) at parts.1)
+printable_plain n (Deliver message at) small fits =
+    let parts = both (within 1 (2 ^ 64 - 1) message) (leb at (2 ^ 62)) fits in
+    printable_spaced (decimal message) (decimal at) (printable_field (number_form 1 (2 ^ 64 - 1) (lit< tt)) message parts.0) (printable_field (upto_form (2 ^ 62) most_moment) at parts.1)
+printable_plain n (Timer rank kind at) small fits =
+    let parts = both (ltb rank n) (leb at (2 ^ 62)) fits in
+    printable_spaced (decimal rank) _ (printable_field (rank_form n small) rank parts.0)
+    (printable_spaced (timer_text kind) (decimal at) (printable_field timer_form kind refl) (printable_field (upto_form (2 ^ 62) most_moment) at parts.1))
+printable_plain n (Client rank at session q) small fits =
+    let parts = client_parts n rank at session.client session.id q fits in
+    printable_spaced (decimal rank) _ (printable_field (rank_form n small) rank parts.rank_fits)
+    (printable_spaced (decimal at) _ (printable_field (upto_form (2 ^ 62) most_moment) at parts.at_fits)
+    (printable_spaced (decimal session.client) _ (printable_field (upto_form (2 ^ 32 - 1) (lit< tt)) session.client parts.client_fits)
+    (printable_spaced (decimal session.id) (request_text q) (printable_field (upto_form (2 ^ 62) most_moment) session.id parts.id_fits) (printable_request q parts.asked_fits))))
+
+printable_upset : (n : ℕ) (disk : Side) (call image : ℕ) (p : Plain) → n < 2 ^ 64 → IsTrue (upset_fits n call image p) → IsTrue (list_all printable (upset_text disk call image p))
+printable_upset n disk call image p small fits =
+    let a = both (within 1 1000 call) _ fits in
+    let b = both (leb image 3) (plain_fits n p) a.1 in
+    printable_spaced (side_text disk) _ (printable_field side_form disk refl)
+    (printable_spaced (decimal call) _ (printable_field (number_form 1 1000 (lit< tt)) call a.0)
+    (printable_spaced (decimal image) _ (printable_field (upto_form 3 (lit< tt)) image b.0) (printable_plain n p small b.1)))
+
+pub printable_event : (n : ℕ) (v : Event) → n < 2 ^ 64 → IsTrue (event_fits n v) → IsTrue (list_all printable (event_text v))
+printable_event n (event.Plain p) small fits = printable_plain n p small fits
+printable_event n (event.Crash disk call image p) small fits = printable_upset n disk call image p small fits
+printable_event n (event.Fail disk call image p) small fits = printable_upset n disk call image p small fits
+
+-- ---- events
+
+plain_event : (n : ℕ) (p : Plain) → n < 2 ^ 64 → IsTrue (plain_fits n p) → event_at n (plain_text p) ≡ Ok (event.Plain p)
+unfolding event_at event_by
+plain_event n p small fits =
+    let a = plain_parts n p small fits in
+    rw (printable_plain n p small fits, a.text-is, next_again a.word (Some a.body) a.is-word, a.not_crash, a.not_fail, a.read) refl
+
 -- what is spelled so is read
-pub event_again : (event : Event) → IsTrue (event_fits event) → event_at (event_text event) ≡ Ok event
-unfolding event_at
-event_again (events.Plain plain) fits = rw (plain_again plain fits) refl
+pub event_again : (n : ℕ) (v : Event) → n < 2 ^ 64 → IsTrue (event_fits n v) → event_at n (event_text v) ≡ Ok v
+unfolding event_at event_by
+event_again n (event.Plain p) small fits = plain_event n p small fits
+event_again n (event.Crash disk call image p) small fits =
+    rw (printable_upset n disk call image p small fits, upset_again event.Crash n disk call image p small fits) refl
+event_again n (event.Fail disk call image p) small fits =
+    rw (printable_upset n disk call image p small fits, upset_again event.Fail n disk call image p small fits) refl

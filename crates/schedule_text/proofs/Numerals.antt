@@ -1,17 +1,17 @@
 -- Numbers in decimal: what a numeral's bytes are, and that `decimal` writes it.
-use Rattle.std.proofs.Common.{◌≡◌, ◌≢◌, ℕ, ◌^◌, ◌<◌, ◌≤◌, true, false, cond, leb, not, eqb, List, [], ◌∷◌, length, get_or, Result, Ok, Err, IsTrue, refl, sym, ap, subst, ◌∙◌, arith, rules, inl, inr}
+use Rattle.std.proofs.Common.{◌≡◌, ◌≢◌, ℕ, ◌^◌, ◌<◌, ◌≤◌, true, false, cond, leb, ltb, not, eqb, List, [], ◌∷◌, length, get_or, Result, Ok, Err, IsTrue, refl, sym, ap, subst, ◌∙◌, arith, rules, inl, inr}
 use Rattle.std.specs.Fmt.{decimal}
 use Rattle.std.specs.List.{list_all}
 use Rattle.std.specs.Str.Parse.{digits_value, ParsesUnsigned}
-use Rattle.std.proofs.lemmas.Bool.{cases_lt, cases_eq, leb-true}
+use Rattle.std.proofs.lemmas.Bool.{cases_lt, cases_eq, ltb-true}
 use Rattle.std.proofs.lemmas.Bool.Decides.{nat_tests}
 use Rattle.std.proofs.lemmas.Result.{OkIff-at_err}
 use Rattle.std.proofs.lemmas.Str.Parse.{IsDigitsTest, IsNumeralModel, numerals_by_value, parse_digits}
 use Rattle.std.proofs.lemmas.Fmt.{decimal-digits_value, digits_decimal, digits_value-decimal, decimal_nonempty, first_decimal, decimal_digit}
 use Rattle.mon_bytes.proofs.Ascii.{both}
-use Rattle.schedule_text.specs.declared.refusal.ScheduleKind.TheVariants.{NotBuilt}
+use Rattle.schedule_text.specs.declared.refusal.ScheduleKind.TheVariants as kind
 use Rattle.schedule_text.proofs.Steps.{ok_is, chosen_ok}
-use Rattle.schedule_text.specs.Fields.{digit, is_numeral, number_of}
+use Rattle.schedule_text.specs.Fields.{digit, is_numeral, within, number_of, rank_of}
 
 pub tells_digits : IsDigitsTest (λ ds. IsTrue (list_all digit ds))
 tells_digits = search rules
@@ -58,16 +58,32 @@ too_great bs r e h p is =
       | inr ge ↦ ge
     ]
 
-pub number_takes : (most : ℕ) (f : List ℕ) (n : ℕ) → most < 2 ^ 64 → number_of most f ≡ Ok n → (f ≡ decimal n) × IsTrue (leb n most)
+pub within_most : (least most n : ℕ) → IsTrue (within least most n) → n ≤ most
+within_most least most n h = grind (arith, nat_tests)
+
+-- a numeral below 2 ^ 64 is a decimal
+numeral_is : (f : List ℕ) → IsTrue (is_numeral f) → digits_value 10 f < 2 ^ 64 → f ≡ decimal (digits_value 10 f)
+numeral_is f a small = sym (decimal-digits_value own f (numeral_digits f a) (numeral_long f a) (numeral_start f a) small)
+
+pub number_takes : (least most : ℕ) (f : List ℕ) (n : ℕ) → most < 2 ^ 64 → number_of least most f ≡ Ok n → (f ≡ decimal n) × IsTrue (within least most n)
 unfolding number_of
-number_takes most f n small is =
+number_takes least most f n small is =
     let v = digits_value 10 f in
-    let a = chosen_ok (is_numeral f) NotBuilt (cond (leb v most) (Ok v) (Err NotBuilt)) n is in
-    let b = chosen_ok (leb v most) NotBuilt (Ok v) n a.1 in
+    let a = chosen_ok (is_numeral f) kind.Number (cond (within least most v) (Ok v) (Err kind.Number)) n is in
+    let b = chosen_ok (within least most v) kind.Number (Ok v) n a.1 in
     let value = ok_is v n b.1 in
-    let le : digits_value 10 f ≤ most = leb-true _ _ b.0 in
-    let text = decimal-digits_value own f (numeral_digits f a.0) (numeral_long f a.0) (numeral_start f a.0) (omega arith) in
-    (sym text ∙ ap decimal value, subst (λ (k : ℕ). IsTrue (leb k most)) value b.0)
+    let le : digits_value 10 f ≤ most = within_most least most v b.0 in
+    (numeral_is f a.0 (omega arith) ∙ ap decimal value, subst (λ (k : ℕ). IsTrue (within least most k)) value b.0)
+
+pub rank_takes : (n : ℕ) (f : List ℕ) (r : ℕ) → n < 2 ^ 64 → rank_of n f ≡ Ok r → (f ≡ decimal r) × IsTrue (ltb r n)
+unfolding rank_of
+rank_takes n f r small is =
+    let v = digits_value 10 f in
+    let a = chosen_ok (is_numeral f) kind.Number (cond (ltb v n) (Ok v) (Err kind.Rank)) r is in
+    let b = chosen_ok (ltb v n) kind.Rank (Ok v) r a.1 in
+    let value = ok_is v r b.1 in
+    let lt : digits_value 10 f < n = ltb-true _ _ b.0 in
+    (numeral_is f a.0 (omega arith) ∙ ap decimal value, subst (λ (k : ℕ). IsTrue (ltb k n)) value b.0)
 
 -- a decimal begins with 0 only if it is that
 decimal_start : (n : ℕ) → n < 2 ^ 64 → get_or (decimal n) 0 0 ≡ 48 → length (decimal n) ≡ 1
@@ -80,10 +96,18 @@ decimal_start n small z =
 pub decimal_is_numeral : (n : ℕ) → n < 2 ^ 64 → IsTrue (is_numeral (decimal n))
 decimal_is_numeral n small = is_numeral-by (decimal n) (digits_decimal own n small) (decimal_nonempty n small) (decimal_start n small)
 
-pub number_again : (most n : ℕ) → most < 2 ^ 64 → IsTrue (leb n most) → number_of most (decimal n) ≡ Ok n
+pub number_again : (least most n : ℕ) → most < 2 ^ 64 → IsTrue (within least most n) → number_of least most (decimal n) ≡ Ok n
 unfolding number_of
-number_again most n small fits =
-    let le : n ≤ most = leb-true _ _ fits in
+number_again least most n small fits =
+    let le : n ≤ most = within_most least most n fits in
     let form = decimal_is_numeral n (omega arith) in
     let value = digits_value-decimal own n (omega arith) in
+    rw (form, value, fits) refl
+
+pub rank_again : (n r : ℕ) → n < 2 ^ 64 → IsTrue (ltb r n) → rank_of n (decimal r) ≡ Ok r
+unfolding rank_of
+rank_again n r small fits =
+    let lt : r < n = ltb-true _ _ fits in
+    let form = decimal_is_numeral r (omega arith) in
+    let value = digits_value-decimal own r (omega arith) in
     rw (form, value, fits) refl

@@ -1,9 +1,17 @@
 -- The fields of a line, from left to right.
-use Rattle.std.specs.Prelude.{◌≡◌, ℕ, Bool, false, not, ◌&&◌, List, [], ◌∷◌, Option, Some, None, Result, Ok, Err, nat_le, ◌==◌, if◌then◌else◌}
+use Rattle.std.specs.Prelude.{◌≡◌, ℕ, Bool, false, not, ◌&&◌, List, [], ◌∷◌, length, Option, Some, None, Result, Ok, Err, codes, nat_le, nat_lt, ◌==◌, if◌then◌else◌}
 use Rattle.std.specs.List.{list_all}
+use Rattle.std.specs.Str.{bytes_eq}
 use Rattle.std.specs.Str.Parse.{digits_value}
+use Rattle.mon_bytes.specs.Texts.{is_name}
+use Rattle.mon_types.specs.declared.names.Side.{Side}
+use Rattle.mon_types.specs.declared.names.Side.TheVariants as side
+use Rattle.mon_msg.specs.declared.phase.Timer.{Timer}
+use Rattle.mon_msg.specs.declared.request.Service.{Service}
+use Rattle.mon_msg.specs.declared.request.Service.TheVariants as service
 use Rattle.schedule_text.specs.declared.refusal.ScheduleKind.{ScheduleKind}
-use Rattle.schedule_text.specs.declared.refusal.ScheduleKind.TheVariants.{NotBuilt}
+use Rattle.schedule_text.specs.declared.refusal.ScheduleKind.TheVariants as kind
+use Rattle.schedule_text.specs.Words.{printable, timers, timer_text}
 
 -- what is read next, where reading went well so far
 infixl 10 ◌>>=◌
@@ -21,26 +29,37 @@ abbrev pub Steps : {X Y S : Type 0} → (X → Y) → Result X ScheduleKind → 
 Steps view (Ok x) new read = read ≡ Ok (view x, new)
 Steps view (Err e) new read = read ≡ Err e
 
+-- ---- fields
+
 -- the bytes up to the first separator, and those after it
 abbrev pub cut : ℕ → List ℕ → List ℕ × Option (List ℕ)
 cut separator [] = ([], None)
 cut separator (b ∷ bs) =
     if b == separator then ([], Some bs) else (b ∷ (cut separator bs).0, (cut separator bs).1)
 
--- the next field, where one is left
+-- the next field, which is there and isn't empty
 abbrev pub next : Option (List ℕ) → Result (List ℕ × Option (List ℕ)) ScheduleKind
-next None = Err NotBuilt
-next (Some bytes) = Ok (cut 32 bytes)
+next None = Err kind.Word
+next (Some bytes) = if length (cut 32 bytes).0 == 0 then Err kind.Word else Ok (cut 32 bytes)
 
 -- nothing is left
 abbrev pub ended : {A : Type 0} → Option (List ℕ) → A → Result A ScheduleKind
 ended None x = Ok x
-ended (Some bytes) x = Err NotBuilt
+ended (Some bytes) x = Err kind.Word
 
--- the rest of the line, where there is one
-abbrev pub all_of : Option (List ℕ) → Result (List ℕ) ScheduleKind
-all_of None = Err NotBuilt
-all_of (Some bytes) = Ok bytes
+-- the rest of the line, which is there and may be empty
+abbrev pub text_at : Option (List ℕ) → Result (List ℕ) ScheduleKind
+text_at None = Err kind.Word
+text_at (Some bytes) = if list_all printable bytes then Ok bytes else Err kind.Word
+
+-- the next field, read so
+unfoldable pub field_at : {A : Type 0} → (List ℕ → Result A ScheduleKind) → Option (List ℕ) → Result (A × Option (List ℕ)) ScheduleKind
+field_at read rest = do
+  field ← next rest
+  x ← read field.0
+  Ok (x, field.1)
+
+-- ---- what a field spells
 
 abbrev pub digit : ℕ → Bool
 digit b = nat_le 48 b && nat_le b 57
@@ -51,14 +70,34 @@ is_numeral [] = false
 is_numeral (c ∷ []) = digit c
 is_numeral (c ∷ d ∷ cs) = not (c == 48) && list_all digit (c ∷ d ∷ cs)
 
--- the number that the field spells in decimal
-unfoldable pub number_of : ℕ → List ℕ → Result ℕ ScheduleKind
-number_of most field =
-    if is_numeral field then (if nat_le (digits_value 10 field) most then Ok (digits_value 10 field) else Err NotBuilt) else Err NotBuilt
+abbrev pub within : ℕ → ℕ → ℕ → Bool
+within least most n = nat_le least n && nat_le n most
 
--- the next field as a number of at most `most`
-unfoldable pub number_at : ℕ → Option (List ℕ) → Result (ℕ × Option (List ℕ)) ScheduleKind
-number_at most rest = do
-  field ← next rest
-  n ← number_of most field.0
-  Ok (n, field.1)
+-- the number in decimal, within its bounds
+unfoldable pub number_of : ℕ → ℕ → List ℕ → Result ℕ ScheduleKind
+number_of least most field =
+    if is_numeral field then (if within least most (digits_value 10 field) then Ok (digits_value 10 field) else Err kind.Number) else Err kind.Number
+
+-- the rank of one of n monitors
+unfoldable pub rank_of : ℕ → List ℕ → Result ℕ ScheduleKind
+rank_of n field =
+    if is_numeral field then (if nat_lt (digits_value 10 field) n then Ok (digits_value 10 field) else Err kind.Rank) else Err kind.Number
+
+unfoldable pub name_of : List ℕ → Result (List ℕ) ScheduleKind
+name_of field = if is_name field then Ok field else Err kind.Word
+
+unfoldable pub service_of : List ℕ → Result Service ScheduleKind
+service_of field =
+    if bytes_eq field (codes "kv") then Ok service.Kv else (if bytes_eq field (codes "log") then Ok service.Log else Err kind.Word)
+
+unfoldable pub side_of : List ℕ → Result Side ScheduleKind
+side_of field =
+    if bytes_eq field (codes "a") then Ok side.A else (if bytes_eq field (codes "b") then Ok side.B else Err kind.Word)
+
+-- the one of these timers that has this word
+abbrev pub timer_among : List Timer → List ℕ → Result Timer ScheduleKind
+timer_among [] field = Err kind.Word
+timer_among (timer ∷ others) field = if bytes_eq field (timer_text timer) then Ok timer else timer_among others field
+
+unfoldable pub timer_of : List ℕ → Result Timer ScheduleKind
+timer_of field = timer_among timers field

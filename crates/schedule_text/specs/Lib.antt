@@ -1,4 +1,6 @@
+pub mod Words
 pub mod Fields
+pub mod Ranks
 pub mod Spelling
 pub mod Lines
 pub mod Schedule

@@ -1,61 +1,127 @@
--- How the line of an event is read.
-use Rattle.std.specs.Prelude.{◌≡◌, ℕ, ◌-◌, ◌^◌, ◌&&◌, List, Option, Some, Result, Ok, Err, codes, if◌then◌else◌}
+-- How the line of an event is read, where there are n monitors.
+use Rattle.std.specs.Prelude.{◌≡◌, ℕ, ◌-◌, ◌^◌, List, Option, Some, Result, Ok, Err, codes, if◌then◌else◌}
+use Rattle.std.specs.List.{list_all}
 use Rattle.std.specs.Str.{bytes_eq}
-use Rattle.mon_bytes.specs.Texts.{is_name}
-use Rattle.mon_msg.specs.declared.request.Service.TheVariants.{Kv}
+use Rattle.mon_types.specs.declared.names.Side.{Side}
 use Rattle.mon_msg.specs.declared.request.Request.{Request}
-use Rattle.mon_msg.specs.declared.request.Request.TheVariants.{Set, Show}
+use Rattle.mon_msg.specs.declared.request.Request.TheVariants as request
 use Rattle.schedule_text.specs.declared.event.Plain.{Plain}
-use Rattle.schedule_text.specs.declared.event.Plain.TheVariants.{Start, Client}
+use Rattle.schedule_text.specs.declared.event.Plain.TheVariants.{Start, Deliver, Timer, Client}
 use Rattle.schedule_text.specs.declared.event.Event.{Event}
-use Rattle.schedule_text.specs.declared.event.Event.TheVariants as events
+use Rattle.schedule_text.specs.declared.event.Event.TheVariants as event
 use Rattle.schedule_text.specs.declared.refusal.ScheduleKind.{ScheduleKind}
-use Rattle.schedule_text.specs.declared.refusal.ScheduleKind.TheVariants.{NotBuilt}
+use Rattle.schedule_text.specs.declared.refusal.ScheduleKind.TheVariants as kind
 use Rattle.schedule_text.specs.declared.refusal.LineRefused.{LineRefused}
 use Rattle.schedule_text.specs.declared.refusal.LineRefused.TheVariants as refused
-use Rattle.schedule_text.specs.Fields.{◌>>=◌, next, number_at, ended, all_of}
-use Rattle.schedule_text.specs.Spelling.{is_value}
+use Rattle.schedule_text.specs.Words.{printable}
+use Rattle.schedule_text.specs.Fields.{◌>>=◌, next, field_at, ended, text_at, number_of, rank_of, name_of, service_of, side_of, timer_of}
 
-unfoldable pub start_at : Option (List ℕ) → Result Plain ScheduleKind
-start_at rest = do
-  rank ← number_at 0 rest
-  at ← number_at (2 ^ 62) rank.1
-  ended at.1 (Start rank.0 at.0)
+-- ---- what a client asks
 
 unfoldable pub set_at : Option (List ℕ) → Result Request ScheduleKind
 set_at rest = do
-  key ← next rest
-  value ← all_of key.1
-  if is_name key.0 && is_value value then Ok (Set key.0 value) else Err NotBuilt
+  key ← field_at name_of rest
+  value ← text_at key.1
+  Ok (request.Set key.0 value)
+
+unfoldable pub remove_at : Option (List ℕ) → Result Request ScheduleKind
+remove_at rest = do
+  key ← field_at name_of rest
+  ended key.1 (request.Remove key.0)
+
+unfoldable pub log_at : Option (List ℕ) → Result Request ScheduleKind
+log_at rest = do
+  text ← text_at rest
+  Ok (request.Log text)
 
 unfoldable pub show_at : Option (List ℕ) → Result Request ScheduleKind
 show_at rest = do
-  service ← next rest
-  if bytes_eq service.0 (codes "kv") then ended service.1 (Show Kv) else Err NotBuilt
+  service ← field_at service_of rest
+  ended service.1 (request.Show service.0)
+
+unfoldable pub since_at : Option (List ℕ) → Result Request ScheduleKind
+since_at rest = do
+  service ← field_at service_of rest
+  version ← field_at (number_of 0 (2 ^ 62)) service.1
+  ended version.1 (request.Since service.0 version.0)
+
+abbrev pub request_by : List ℕ → Option (List ℕ) → Result Request ScheduleKind
+request_by word rest =
+    if bytes_eq word (codes "set") then set_at rest
+    else (if bytes_eq word (codes "remove") then remove_at rest
+    else (if bytes_eq word (codes "log") then log_at rest
+    else (if bytes_eq word (codes "show") then show_at rest
+    else (if bytes_eq word (codes "since") then since_at rest else Err kind.Word))))
 
 unfoldable pub request_at : Option (List ℕ) → Result Request ScheduleKind
 request_at rest = do
   word ← next rest
-  if bytes_eq word.0 (codes "set") then set_at word.1 else (if bytes_eq word.0 (codes "show") then show_at word.1 else Err NotBuilt)
+  request_by word.0 word.1
 
-unfoldable pub client_at : Option (List ℕ) → Result Plain ScheduleKind
-client_at rest = do
-  rank ← number_at 0 rest
-  at ← number_at (2 ^ 62) rank.1
-  client ← number_at (2 ^ 32 - 1) at.1
-  id ← number_at (2 ^ 62) client.1
-  request ← request_at id.1
-  Ok (Client rank.0 at.0 (record { client = client.0; id = id.0 }) request)
+-- ---- what happens
 
-unfoldable pub plain_at : List ℕ → Result Plain ScheduleKind
-plain_at line = do
-  word ← next (Some line)
-  if bytes_eq word.0 (codes "start") then start_at word.1 else (if bytes_eq word.0 (codes "client") then client_at word.1 else Err NotBuilt)
+unfoldable pub start_at : ℕ → Option (List ℕ) → Result Plain ScheduleKind
+start_at n rest = do
+  rank ← field_at (rank_of n) rest
+  at ← field_at (number_of 0 (2 ^ 62)) rank.1
+  ended at.1 (Start rank.0 at.0)
 
-unfoldable pub event_at : List ℕ → Result Event ScheduleKind
-event_at line = do
-  plain ← plain_at line
-  Ok (events.Plain plain)
+unfoldable pub deliver_at : Option (List ℕ) → Result Plain ScheduleKind
+deliver_at rest = do
+  message ← field_at (number_of 1 (2 ^ 64 - 1)) rest
+  at ← field_at (number_of 0 (2 ^ 62)) message.1
+  ended at.1 (Deliver message.0 at.0)
+
+unfoldable pub timer_at : ℕ → Option (List ℕ) → Result Plain ScheduleKind
+timer_at n rest = do
+  rank ← field_at (rank_of n) rest
+  timer ← field_at timer_of rank.1
+  at ← field_at (number_of 0 (2 ^ 62)) timer.1
+  ended at.1 (Timer rank.0 timer.0 at.0)
+
+unfoldable pub client_at : ℕ → Option (List ℕ) → Result Plain ScheduleKind
+client_at n rest = do
+  rank ← field_at (rank_of n) rest
+  at ← field_at (number_of 0 (2 ^ 62)) rank.1
+  client ← field_at (number_of 0 (2 ^ 32 - 1)) at.1
+  id ← field_at (number_of 0 (2 ^ 62)) client.1
+  asked ← request_at id.1
+  Ok (Client rank.0 at.0 (record { client = client.0; id = id.0 }) asked)
+
+unfoldable pub plain_by : ℕ → List ℕ → Option (List ℕ) → Result Plain ScheduleKind
+plain_by n word rest =
+    if bytes_eq word (codes "start") then start_at n rest
+    else (if bytes_eq word (codes "deliver") then deliver_at rest
+    else (if bytes_eq word (codes "timer") then timer_at n rest
+    else (if bytes_eq word (codes "client") then client_at n rest else Err kind.Word)))
+
+unfoldable pub plain_at : ℕ → Option (List ℕ) → Result Plain ScheduleKind
+plain_at n rest = do
+  word ← next rest
+  plain_by n word.0 word.1
+
+-- an event with the call of a disk that is upset, and the image that is left of it
+unfoldable pub upset_at : (Side → ℕ → ℕ → Plain → Event) → ℕ → Option (List ℕ) → Result Event ScheduleKind
+upset_at upset n rest = do
+  disk ← field_at side_of rest
+  call ← field_at (number_of 1 1000) disk.1
+  image ← field_at (number_of 0 3) call.1
+  plain ← plain_at n image.1
+  Ok (upset disk.0 call.0 image.0 plain)
+
+unfoldable pub event_by : ℕ → List ℕ → Option (List ℕ) → Result Event ScheduleKind
+event_by n word rest =
+    if bytes_eq word (codes "crash") then upset_at event.Crash n rest
+    else (if bytes_eq word (codes "fail") then upset_at event.Fail n rest else (do
+      plain ← plain_by n word rest
+      Ok (event.Plain plain)))
+
+-- the event that a line spells; a byte that isn't printable is at fault before any field
+unfoldable pub event_at : ℕ → List ℕ → Result Event ScheduleKind
+event_at n line =
+    if list_all printable line then (do
+      word ← next (Some line)
+      event_by n word.0 word.1) else Err kind.Word
 
 -- What a call answered is what reading gives, unless memory ran out.
 abbrev pub Fails : {Y : Type 0} → LineRefused → Result Y ScheduleKind → Type 0
@@ -65,3 +131,8 @@ Fails (refused.Kind k) read = read ≡ Err k
 abbrev pub Gives : {X Y : Type 0} → (X → Y) → Result X LineRefused → Result Y ScheduleKind → Type 0
 Gives view (Ok x) read = read ≡ Ok (view x)
 Gives view (Err e) read = Fails e read
+
+-- the same of a call that left new
+abbrev pub GivesStep : {X Y S : Type 0} → (X → Y) → Result X LineRefused → S → Result (Y × S) ScheduleKind → Type 0
+GivesStep view (Ok x) new read = read ≡ Ok (view x, new)
+GivesStep view (Err e) new read = Fails e read

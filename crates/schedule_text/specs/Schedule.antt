@@ -1,16 +1,57 @@
 -- How a schedule is read, and which line is refused.
-use Rattle.std.specs.Prelude.{◌≡◌, ℕ, ◌+◌, ◌&&◌, List, [], ◌∷◌, length, Result, Ok, Err, nat_lt, nat_le, ◌==◌, if◌then◌else◌}
+use Rattle.std.specs.Prelude.{◌≡◌, ℕ, ◌+◌, List, [], ◌∷◌, length, Option, Some, None, Result, Ok, Err, codes, nat_lt, nat_le, ◌==◌, if◌then◌else◌}
 use Rattle.std.specs.Str.{bytes_eq}
-use Rattle.election_rules.specs.declared.rule.Rule.TheVariants.{Classic}
+use Rattle.election_rules.specs.declared.rule.Rule.{Rule}
+use Rattle.election_rules.specs.declared.rule.Rule.TheVariants.{Classic, Disallow, Connectivity}
 use Rattle.schedule_text.specs.declared.event.Event.{Event}
 use Rattle.schedule_text.specs.declared.refusal.ScheduleKind.{ScheduleKind}
-use Rattle.schedule_text.specs.declared.refusal.ScheduleKind.TheVariants.{NotBuilt}
+use Rattle.schedule_text.specs.declared.refusal.ScheduleKind.TheVariants as kind
 use Rattle.schedule_text.specs.declared.refusal.ScheduleRefused.{ScheduleRefused}
 use Rattle.schedule_text.specs.declared.refusal.ScheduleRefused.TheVariants.{At, OutOfMemory}
 use Rattle.schedule_text.specs.declared.schedule.Schedule.{Schedule}
-use Rattle.schedule_text.specs.Fields.{◌>>=◌}
+use Rattle.schedule_text.specs.Fields.{◌>>=◌, cut, next, field_at, ended, number_of}
+use Rattle.schedule_text.specs.Ranks.{set_of}
 use Rattle.schedule_text.specs.Lines.{event_at}
-use Rattle.schedule_text.specs.Spelling.{header, is_set, most_events, most_sets, most_bytes}
+use Rattle.schedule_text.specs.Spelling.{most_events, most_bytes}
+
+-- ---- the first line
+
+unfoldable pub disallow_of : ℕ → Option (List ℕ) → Result Rule ScheduleKind
+disallow_of n None = Err kind.Header
+disallow_of n (Some ranks) = do
+  set ← set_of n (Some ranks)
+  Ok (Disallow set)
+
+unfoldable pub connectivity_of : ℕ → Option (List ℕ) → Result Rule ScheduleKind
+connectivity_of n ranks = do
+  set ← set_of n ranks
+  Ok (Connectivity set)
+
+-- a rule, and the ranks behind its equals sign, where there is one
+unfoldable pub rule_of : ℕ → List ℕ → Result Rule ScheduleKind
+rule_of n field =
+    if bytes_eq (cut 61 field).0 (codes "classic") then ended (cut 61 field).1 Classic
+    else (if bytes_eq (cut 61 field).0 (codes "disallow") then disallow_of n (cut 61 field).1
+    else (if bytes_eq (cut 61 field).0 (codes "connectivity") then connectivity_of n (cut 61 field).1 else Err kind.Header))
+
+-- how many monitors there are, and their rule
+unfoldable pub monitors_at : Option (List ℕ) → Result (ℕ × Rule) ScheduleKind
+monitors_at rest = do
+  n ← field_at (number_of 1 15) rest
+  rule ← field_at (rule_of n.0) n.1
+  ended rule.1 (n.0, rule.0)
+
+unfoldable pub header_at : List ℕ → Result (ℕ × Rule) ScheduleKind
+header_at line = do
+  word ← next (Some line)
+  if bytes_eq word.0 (codes "monitors") then monitors_at word.1 else Err kind.Header
+
+-- on the first line each fault is of one kind
+abbrev pub on_first_line : {A : Type 0} → Result A ScheduleKind → Result A ScheduleRefused
+on_first_line (Ok x) = Ok x
+on_first_line (Err other) = Err (At 1 kind.Header)
+
+-- ---- the lines
 
 -- the first byte goes to the first line, or where there is none to what follows the lines
 abbrev pub onto : ℕ → List (List ℕ) × List ℕ → List (List ℕ) × List ℕ
@@ -27,41 +68,33 @@ abbrev pub on_line : {A : Type 0} → ℕ → Result A ScheduleKind → Result A
 on_line line (Ok x) = Ok x
 on_line line (Err kind) = Err (At line kind)
 
--- one more event after n events, of which s are sets
+-- one more event after `count` events
 unfoldable pub event_line_at : ℕ → ℕ → List ℕ → Result Event ScheduleRefused
-event_line_at n s line =
-    if nat_le most_events n then Err (At (n + 2) NotBuilt) else (do
-      event ← on_line (n + 2) (event_at line)
-      if is_set event && nat_le most_sets s then Err (At (n + 2) NotBuilt) else Ok event)
+event_line_at n count line =
+    if nat_le most_events count then Err (At (count + 2) kind.TooMany) else on_line (count + 2) (event_at n line)
 
--- how many sets there are with one more event
-abbrev pub sets_with : ℕ → Event → ℕ
-sets_with s event = if is_set event then s + 1 else s
-
--- the events of the lines after n events, of which s are sets; the lines take the whole text
+-- the events of the lines after `count` events; the lines take the whole text
 unfoldable pub events_at : ℕ → ℕ → List (List ℕ) → List ℕ → Result (List Event) ScheduleRefused
-events_at n s [] [] = Ok []
-events_at n s [] (b ∷ tail) = Err (At (n + 2) NotBuilt)
-events_at n s (line ∷ lines) tail = do
-  event ← event_line_at n s line
-  others ← events_at (n + 1) (sets_with s event) lines tail
+events_at n count [] [] = Ok []
+events_at n count [] (b ∷ tail) = Err (At (count + 2) kind.End)
+events_at n count (line ∷ lines) tail = do
+  event ← event_line_at n count line
+  others ← events_at n (count + 1) lines tail
   Ok (event ∷ others)
 
--- the events behind the first line
-unfoldable pub body_at : List (List ℕ) → List ℕ → Result (List Event) ScheduleRefused
-body_at [] tail = Err (At 1 NotBuilt)
-body_at (first ∷ lines) tail = if bytes_eq first header then events_at 0 0 lines tail else Err (At 1 NotBuilt)
-
--- the events that all of the bytes spell
-unfoldable pub all_events_at : List ℕ → Result (List Event) ScheduleRefused
-all_events_at bytes =
-    if nat_lt most_bytes (length bytes) then Err (At 0 NotBuilt) else body_at (lines_of bytes).0 (lines_of bytes).1
+-- the schedule of the lines
+unfoldable pub whole_at : List (List ℕ) → List ℕ → Result Schedule ScheduleRefused
+whole_at [] [] = Err (At 1 kind.Header)
+whole_at [] (b ∷ tail) = Err (At 1 kind.End)
+whole_at (first ∷ lines) tail = do
+  header ← on_first_line (header_at first)
+  events ← events_at header.0 0 lines tail
+  Ok (record { monitors = header.0; rule = header.1; events = events })
 
 -- the schedule that all of the bytes spell, or the first line at fault
-abbrev pub schedule_at : List ℕ → Result Schedule ScheduleRefused
-schedule_at bytes = do
-  events ← all_events_at bytes
-  Ok (record { monitors = 1; rule = Classic; events = events })
+unfoldable pub schedule_at : List ℕ → Result Schedule ScheduleRefused
+schedule_at bytes =
+    if nat_lt most_bytes (length bytes) then Err (At 0 kind.TooLong) else whole_at (lines_of bytes).0 (lines_of bytes).1
 
 -- What a call answered is what reading gives, unless memory ran out.
 abbrev pub Fails : {Y : Type 0} → ScheduleRefused → Result Y ScheduleRefused → Type 0

@@ -1,18 +1,20 @@
 -- How events and schedules are spelled, and which of them have a text that is read.
-use Rattle.std.specs.Prelude.{◌≡◌, ℕ, ◌-◌, ◌^◌, ◌≤◌, Bool, true, false, ◌&&◌, List, [], ◌∷◌, ◌++◌, length, count_by, IsTrue, codes, decimal, nat_le}
+use Rattle.std.specs.Prelude.{◌≡◌, ℕ, ◌-◌, ◌^◌, ◌≤◌, Bool, true, ◌&&◌, List, [], ◌∷◌, ◌++◌, length, IsTrue, codes, decimal, nat_le, nat_lt, is_some}
 use Rattle.std.specs.List.{flat_map, list_all}
-use Rattle.election_rules.specs.declared.rule.Rule.TheVariants.{Classic}
+use Rattle.election_rules.specs.declared.rule.Rule.{Rule}
+use Rattle.election_rules.specs.declared.rule.Rule.TheVariants.{Classic, Disallow, Connectivity}
 use Rattle.mon_bytes.specs.Texts.{is_name}
-use Rattle.mon_msg.specs.declared.request.Service.{Service}
-use Rattle.mon_msg.specs.declared.request.Service.TheVariants.{Kv, Log}
+use Rattle.mon_types.specs.declared.names.Side.{Side}
 use Rattle.mon_msg.specs.declared.request.Request.{Request}
-use Rattle.mon_msg.specs.declared.request.Request.TheVariants.{Set, Remove, Show, Since}
 use Rattle.mon_msg.specs.declared.request.Request.TheVariants as request
 use Rattle.schedule_text.specs.declared.event.Plain.{Plain}
-use Rattle.schedule_text.specs.declared.event.Plain.TheVariants.{Start, Client}
+use Rattle.schedule_text.specs.declared.event.Plain.TheVariants.{Start, Deliver, Timer, Client}
 use Rattle.schedule_text.specs.declared.event.Event.{Event}
-use Rattle.schedule_text.specs.declared.event.Event.TheVariants as events
+use Rattle.schedule_text.specs.declared.event.Event.TheVariants as event
 use Rattle.schedule_text.specs.declared.schedule.Schedule.{Schedule}
+use Rattle.schedule_text.specs.Words.{printable, service_text, side_text, timer_text}
+use Rattle.schedule_text.specs.Fields.{within}
+use Rattle.schedule_text.specs.Ranks.{behind, ranks_text, below}
 
 -- ---- the text of an event
 
@@ -20,53 +22,69 @@ use Rattle.schedule_text.specs.declared.schedule.Schedule.{Schedule}
 abbrev pub spaced : List ℕ → List ℕ → List ℕ
 spaced field rest = field ++ 32 ∷ rest
 
-abbrev pub service_text : Service → List ℕ
-service_text Kv = codes "kv"
-service_text Log = codes "log"
-
 abbrev pub request_text : Request → List ℕ
-request_text (Set key value) = spaced (codes "set") (spaced key value)
-request_text (Remove key) = spaced (codes "remove") key
+request_text (request.Set key value) = spaced (codes "set") (spaced key value)
+request_text (request.Remove key) = spaced (codes "remove") key
 request_text (request.Log text) = spaced (codes "log") text
-request_text (Show service) = spaced (codes "show") (service_text service)
-request_text (Since service version) = spaced (codes "since") (spaced (service_text service) (decimal version))
+request_text (request.Show service) = spaced (codes "show") (service_text service)
+request_text (request.Since service version) = spaced (codes "since") (spaced (service_text service) (decimal version))
 
 abbrev pub plain_text : Plain → List ℕ
 plain_text (Start rank at) = spaced (codes "start") (spaced (decimal rank) (decimal at))
-plain_text (Client rank at session request) =
-    spaced (codes "client") (spaced (decimal rank) (spaced (decimal at) (spaced (decimal session.client) (spaced (decimal session.id) (request_text request)))))
+plain_text (Deliver message at) = spaced (codes "deliver") (spaced (decimal message) (decimal at))
+plain_text (Timer rank kind at) = spaced (codes "timer") (spaced (decimal rank) (spaced (timer_text kind) (decimal at)))
+plain_text (Client rank at session asked) =
+    spaced (codes "client") (spaced (decimal rank) (spaced (decimal at) (spaced (decimal session.client) (spaced (decimal session.id) (request_text asked)))))
+
+-- the disk, its call and the image that is left of it, before the event
+abbrev pub upset_text : Side → ℕ → ℕ → Plain → List ℕ
+upset_text disk call image plain = spaced (side_text disk) (spaced (decimal call) (spaced (decimal image) (plain_text plain)))
 
 abbrev pub event_text : Event → List ℕ
-event_text (events.Plain plain) = plain_text plain
+event_text (event.Plain plain) = plain_text plain
+event_text (event.Crash disk call image plain) = spaced (codes "crash") (upset_text disk call image plain)
+event_text (event.Fail disk call image plain) = spaced (codes "fail") (upset_text disk call image plain)
 
--- ---- what has a line
-
--- a space or a graphic byte
-abbrev pub printable : ℕ → Bool
-printable b = nat_le 32 b && nat_le b 126
-
--- a value: at most 200 printable bytes
-abbrev pub is_value : List ℕ → Bool
-is_value bytes = nat_le (length bytes) 200 && list_all printable bytes
+-- ---- what has a line, where there are n monitors
 
 abbrev pub request_fits : Request → Bool
-request_fits (Set key value) = is_name key && is_value value
-request_fits (Show Kv) = true
-request_fits other = false
+request_fits (request.Set key value) = is_name key && list_all printable value
+request_fits (request.Remove key) = is_name key
+request_fits (request.Log text) = list_all printable text
+request_fits (request.Show service) = true
+request_fits (request.Since service version) = nat_le version (2 ^ 62)
 
-abbrev pub plain_fits : Plain → Bool
-plain_fits (Start rank at) = nat_le rank 0 && nat_le at (2 ^ 62)
-plain_fits (Client rank at session request) =
-    nat_le rank 0 && (nat_le at (2 ^ 62) && (nat_le session.client (2 ^ 32 - 1) && (nat_le session.id (2 ^ 62) && request_fits request)))
+abbrev pub plain_fits : ℕ → Plain → Bool
+plain_fits n (Start rank at) = nat_lt rank n && nat_le at (2 ^ 62)
+plain_fits n (Deliver message at) = within 1 (2 ^ 64 - 1) message && nat_le at (2 ^ 62)
+plain_fits n (Timer rank kind at) = nat_lt rank n && nat_le at (2 ^ 62)
+plain_fits n (Client rank at session asked) =
+    nat_lt rank n && (nat_le at (2 ^ 62) && (nat_le session.client (2 ^ 32 - 1) && (nat_le session.id (2 ^ 62) && request_fits asked)))
 
-abbrev pub event_fits : Event → Bool
-event_fits (events.Plain plain) = plain_fits plain
+abbrev pub upset_fits : ℕ → ℕ → ℕ → Plain → Bool
+upset_fits n call image plain = within 1 1000 call && (nat_le image 3 && plain_fits n plain)
+
+abbrev pub event_fits : ℕ → Event → Bool
+event_fits n (event.Plain plain) = plain_fits n plain
+event_fits n (event.Crash disk call image plain) = upset_fits n call image plain
+event_fits n (event.Fail disk call image plain) = upset_fits n call image plain
 
 -- ---- the text of a schedule
 
--- the one first line that is read so far
-abbrev pub header : List ℕ
-header = codes "monitors 1 classic"
+abbrev pub rule_text : Rule → List ℕ
+rule_text Classic = codes "classic"
+rule_text (Disallow set) = codes "disallow" ++ behind 61 (ranks_text set)
+rule_text (Connectivity set) = codes "connectivity" ++ behind 61 (ranks_text set)
+
+-- the first line
+abbrev pub header : ℕ → Rule → List ℕ
+header n rule = spaced (codes "monitors") (spaced (decimal n) (rule_text rule))
+
+-- the sets name monitors of the map, and a rule that disallows does so to one at least
+abbrev pub RuleFits : ℕ → Rule → Type 0
+RuleFits n Classic = Unit {0}
+RuleFits n (Disallow set) = (set ≡ below n set) × IsTrue (is_some (ranks_text set))
+RuleFits n (Connectivity set) = set ≡ below n set
 
 -- a line with its line feed
 abbrev pub ended_line : List ℕ → List ℕ
@@ -75,31 +93,19 @@ ended_line line = line ++ 10 ∷ []
 abbrev pub event_line : Event → List ℕ
 event_line event = ended_line (event_text event)
 
-abbrev pub events_text : List Event → List ℕ
-events_text es = ended_line header ++ flat_map event_line es
-
 abbrev pub schedule_text : Schedule → List ℕ
-schedule_text s = events_text s.events
-
-abbrev pub is_set : Event → Bool
-is_set (events.Plain (Start rank at)) = false
-is_set (events.Plain (Client rank at session (Set key value))) = true
-is_set (events.Plain (Client rank at session other)) = false
+schedule_text s = ended_line (header s.monitors s.rule) ++ flat_map event_line s.events
 
 abbrev pub most_events : ℕ
 most_events = 200000
-
-abbrev pub most_sets : ℕ
-most_sets = 24
 
 abbrev pub most_bytes : ℕ
 most_bytes = 16777216
 
 -- what has a text that is read
 pub record HasText (s : Schedule) : Type 0 where
-  pub monitors : s.monitors ≡ 1
-  pub rule : s.rule ≡ Classic
-  pub each : IsTrue (list_all event_fits s.events)
+  pub monitors : IsTrue (within 1 15 s.monitors)
+  pub rule : RuleFits s.monitors s.rule
+  pub each : IsTrue (list_all (event_fits s.monitors) s.events)
   pub count : length s.events ≤ most_events
-  pub sets : count_by is_set s.events ≤ most_sets
   pub bytes : length (schedule_text s) ≤ most_bytes

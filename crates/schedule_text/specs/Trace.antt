@@ -15,9 +15,10 @@ use Rattle.schedule_text.specs.declared.event.Event.{Event}
 use Rattle.schedule_text.specs.declared.step.Replied.{Replied}
 use Rattle.schedule_text.specs.declared.step.StateLine.{StateLine}
 use Rattle.schedule_text.specs.declared.step.Outcome.{Outcome}
-use Rattle.schedule_text.specs.declared.step.Outcome.TheVariants.{Ran, Down}
+use Rattle.schedule_text.specs.declared.step.Outcome.TheVariants.{Ran, Down, NoMessage, Crashed, Failed}
 use Rattle.schedule_text.specs.declared.step.StepLine.{StepLine}
-use Rattle.schedule_text.specs.Spelling.{event_text, service_text}
+use Rattle.schedule_text.specs.Words.{service_text}
+use Rattle.schedule_text.specs.Spelling.{event_text}
 
 -- ---- a shown map, as JSON
 
@@ -101,9 +102,16 @@ abbrev pub state_lines : Option StateLine → List ℕ
 state_lines None = []
 state_lines (Some s) = codes "  is " ++ (phase_text s.phase ++ (codes " epoch " ++ (decimal s.epoch ++ (codes " last " ++ (decimal s.last ++ 10 ∷ [])))))
 
+abbrev pub fate_text : Bool → List ℕ
+fate_text false = codes "lost"
+fate_text true = codes "kept"
+
 abbrev pub outcome_lines : Outcome → List ℕ → List ℕ
 outcome_lines Ran lines = lines
 outcome_lines Down lines = codes "  down\n"
+outcome_lines NoMessage lines = codes "  none\n"
+outcome_lines (Crashed kept) lines = codes "  crashed " ++ (fate_text kept ++ 10 ∷ [])
+outcome_lines (Failed kept) lines = codes "  failed " ++ (fate_text kept ++ 10 ∷ [])
 
 abbrev pub done_lines : StepLine → List ℕ
 done_lines step = outcome_lines step.outcome (store_lines step.ops ++ (state_lines step.state ++ flat_map reply_line step.replies))

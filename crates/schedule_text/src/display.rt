@@ -1,20 +1,12 @@
 //! The text of an event, without its line feed.
 
 ghost use Rattle.std.specs.Prelude.{◌≡◌, Some};
-ghost use Rattle.schedule_text.specs.Spelling.{service_text, request_text, plain_text, event_text};
+ghost use Rattle.schedule_text.specs.Spelling.{request_text, plain_text, event_text};
 
 use crate::event::{Event, Plain};
-use mon_msg::{Request, Service};
+use crate::words::{service_word, side_word, timer_word};
+use mon_msg::Request;
 use std::fmt;
-
-pub fn service_word(service: Service) -> &'static str
-    ensures { result.now ≡ service_text service }
-{
-    match service {
-        Service::Kv => "kv",
-        Service::Log => "log",
-    }
-}
 
 /// A request, to be displayed.
 #[derive(Drop)]
@@ -63,6 +55,16 @@ impl fmt::Display for Plain {
                 let at = at.get();
                 write!(f, "start {rank} {at}")
             }
+            Plain::Deliver { message, at } => {
+                let at = at.get();
+                write!(f, "deliver {message} {at}")
+            }
+            Plain::Timer { rank, kind, at } => {
+                let rank = rank.get();
+                let kind = timer_word(*kind);
+                let at = at.get();
+                write!(f, "timer {rank} {kind} {at}")
+            }
             Plain::Client {
                 rank,
                 at,
@@ -86,6 +88,24 @@ impl fmt::Display for Event {
     fn fmt<W: fmt::Write>(&self, f: &mut fmt::Formatter<W>) -> fmt::Result {
         match self {
             Event::Plain(plain) => write!(f, "{plain}"),
+            Event::Crash {
+                disk,
+                call,
+                image,
+                event,
+            } => {
+                let disk = side_word(*disk);
+                write!(f, "crash {disk} {call} {image} {event}")
+            }
+            Event::Fail {
+                disk,
+                call,
+                image,
+                event,
+            } => {
+                let disk = side_word(*disk);
+                write!(f, "fail {disk} {call} {image} {event}")
+            }
         }
     }
 }

@@ -1,6 +1,6 @@
 use mon_bytes::OutOfMemory;
 use mon_msg::{Request, Session};
-use mon_types::{Moment, Rank};
+use mon_types::{Moment, Rank, Side};
 use std::alloc::Global;
 use std::marker::Model;
 
@@ -10,6 +10,17 @@ pub enum Plain {
     /// The monitor is stopped, where it is up, and starts.
     Start {
         rank: Rank,
+        at: Moment,
+    },
+    /// The sent message of this number, counted from 1, arrives.
+    Deliver {
+        message: u64,
+        at: Moment,
+    },
+    /// A timer of the monitor comes.
+    Timer {
+        rank: Rank,
+        kind: mon_msg::Timer,
         at: Moment,
     },
     /// A client asks the monitor.
@@ -25,26 +36,21 @@ pub enum Plain {
 #[derive(Debug, Drop)]
 pub enum Event {
     Plain(Plain),
-}
-
-impl Event {
-    ghost use Rattle.std.specs.Prelude.{◌≡◌};
-    ghost use Rattle.schedule_text.specs.Spelling.{is_set};
-
-    /// Whether a client asks for a set.
-    pub(crate) fn is_set(&self) -> bool
-        ensures { result ≡ is_set self.now }
-    {
-        match self {
-            Event::Plain(
-                Plain::Client {
-                    request: Request::Set { .. },
-                    ..
-                },
-            ) => true,
-            _ => false,
-        }
-    }
+    /// The event happens, and the monitor stops at this call of this disk, counted from 1. The image tells what the disk keeps
+    /// of the writes that weren't synced.
+    Crash {
+        disk: Side,
+        call: u16,
+        image: u8,
+        event: Plain,
+    },
+    /// The event happens, and this call of this disk fails.
+    Fail {
+        disk: Side,
+        call: u16,
+        image: u8,
+        event: Plain,
+    },
 }
 
 /// Events in order.

@@ -1,11 +1,18 @@
-ghost use Rattle.std.specs.Prelude.{◌≡◌, ℕ, ◌^◌, ◌≤◌, ◌<◌, length, IsTrue, Some, IfSome, IfNone, IfOk, is_none};
+ghost use Rattle.std.specs.Prelude.{◌≡◌, ℕ, ◌^◌, ◌≤◌, ◌<◌, length, IsTrue, Some, IfSome, IfNone, IfOk};
 ghost use Rattle.std.specs.List.{list_all};
 ghost use Rattle.std.specs.Option.{option_copied};
+ghost use Rattle.std.specs.Str.{bytes_eq};
 ghost use Rattle.std.specs.Str.Parse.{digits_value};
-ghost use Rattle.schedule_text.specs.Fields.{cut, next, digit, is_numeral, number_of, number_at, all_of, Is, Steps};
+ghost use Rattle.schedule_text.specs.Fields.{cut, next, ended, text_at, field_at, digit, is_numeral, number_of, rank_of, name_of, service_of, side_of, timer_of, Is, Steps};
+ghost use Rattle.schedule_text.specs.Lines.{Gives, GivesStep};
+ghost use Rattle.schedule_text.specs.Words.{printable, timer_text};
 
-use crate::refusal::ScheduleKind;
-use mon_types::{GREATEST, Moment, Rank};
+use crate::refusal::{LineRefused, ScheduleKind};
+use crate::words::timer_word;
+use mon_bytes::{Name, OutOfMemory, Text};
+use mon_msg::{Service, Timer};
+use mon_types::{GREATEST, Moment, Rank, Side, Version};
+use std::alloc::Global;
 use std::marker::Model;
 
 /// The bytes up to the first separator, and those after it.
@@ -54,18 +61,137 @@ fn value_of(field: &[u8]) -> Option<u64>
     }
 }
 
-/// The number that the field spells, where it is at most `most`.
+/// The number that the field spells, where it is within these bounds.
 #[tactic(auto, unfolding(crate::specs::Fields::number_of))]
-fn number_of(field: &[u8], most: u64) -> Result<u64, ScheduleKind>
-    ensures value { Is (λ n. n) result (number_of most field.now) }
+fn number_of(field: &[u8], least: u64, most: u64) -> Result<u64, ScheduleKind>
+    ensures value { Is (λ n. n) result (number_of least most field.now) }
+    ensures least { IfOk result (λ n. least ≤ n) }
     ensures most { IfOk result (λ n. n ≤ most) }
 {
     if !is_numeral(field) {
-        return Err(ScheduleKind::NotBuilt);
+        return Err(ScheduleKind::Number);
     }
     match value_of(field) {
-        Some(n) if n <= most => Ok(n),
-        _ => Err(ScheduleKind::NotBuilt),
+        Some(n) if n >= least && n <= most => Ok(n),
+        _ => Err(ScheduleKind::Number),
+    }
+}
+
+/// The rank that the field spells, where it is one of so many monitors.
+#[tactic(auto, unfolding(crate::specs::Fields::rank_of))]
+fn rank_of(field: &[u8], monitors: u8) -> Result<Rank, ScheduleKind>
+    requires { monitors ≤ 15 }
+    ensures { Is (λ n. n) result (rank_of monitors field.now) }
+{
+    if !is_numeral(field) {
+        return Err(ScheduleKind::Number);
+    }
+    match value_of(field) {
+        Some(n) if n < u64::from(monitors) => match Rank::new(n as u8) {
+            Some(rank) => Ok(rank),
+            None => unreachable!(),
+        },
+        _ => Err(ScheduleKind::Rank),
+    }
+}
+
+#[tactic(auto, unfolding(crate::specs::Fields::service_of))]
+fn service_of(field: &[u8]) -> Result<Service, ScheduleKind>
+    ensures { Is (λ x. x) result (service_of field.now) }
+{
+    if field == b"kv".as_slice() {
+        return Ok(Service::Kv);
+    }
+    if field == b"log".as_slice() {
+        return Ok(Service::Log);
+    }
+    Err(ScheduleKind::Word)
+}
+
+#[tactic(auto, unfolding(crate::specs::Fields::side_of))]
+fn side_of(field: &[u8]) -> Result<Side, ScheduleKind>
+    ensures { Is (λ x. x) result (side_of field.now) }
+{
+    if field == b"a".as_slice() {
+        return Ok(Side::A);
+    }
+    if field == b"b".as_slice() {
+        return Ok(Side::B);
+    }
+    Err(ScheduleKind::Word)
+}
+
+/// Whether the field is the timer's word.
+fn is_timer(field: &[u8], timer: Timer) -> bool
+    ensures { result ≡ bytes_eq field.now (timer_text timer) }
+{
+    field == timer_word(timer).as_bytes()
+}
+
+#[tactic(auto, unfolding(crate::specs::Fields::timer_of))]
+fn timer_of(field: &[u8]) -> Result<Timer, ScheduleKind>
+    ensures { Is (λ x. x) result (timer_of field.now) }
+{
+    if is_timer(field, Timer::Probe) {
+        return Ok(Timer::Probe);
+    }
+    if is_timer(field, Timer::Election) {
+        return Ok(Timer::Election);
+    }
+    if is_timer(field, Timer::Collect) {
+        return Ok(Timer::Collect);
+    }
+    if is_timer(field, Timer::Accept) {
+        return Ok(Timer::Accept);
+    }
+    if is_timer(field, Timer::Renew) {
+        return Ok(Timer::Renew);
+    }
+    if is_timer(field, Timer::LeaseAck) {
+        return Ok(Timer::LeaseAck);
+    }
+    if is_timer(field, Timer::Lease) {
+        return Ok(Timer::Lease);
+    }
+    if is_timer(field, Timer::Sync) {
+        return Ok(Timer::Sync);
+    }
+    if is_timer(field, Timer::Step) {
+        return Ok(Timer::Step);
+    }
+    if is_timer(field, Timer::Propose) {
+        return Ok(Timer::Propose);
+    }
+    if is_timer(field, Timer::Ping) {
+        return Ok(Timer::Ping);
+    }
+    Err(ScheduleKind::Word)
+}
+
+#[tactic(auto, unfolding(crate::specs::Fields::name_of))]
+fn name_of(alloc: Global, field: &[u8]) -> Result<Name, LineRefused>
+    ensures { Gives (λ x. x) result (name_of field.now) }
+{
+    let key = Vec::from_slice(alloc, field).map_err(OutOfMemory::from)?;
+    match Name::new(key) {
+        Some(key) => Ok(key),
+        None => Err(LineRefused::Kind(ScheduleKind::Word)),
+    }
+}
+
+pub fn all_printable(bytes: &[u8]) -> bool
+    ensures { result ≡ list_all printable bytes.now }
+{
+    bytes.iter().all(|b| *b >= 32 && *b <= 126)
+}
+
+fn printable_text(alloc: Global, bytes: &[u8]) -> Result<Text, OutOfMemory>
+    requires { IsTrue (list_all printable bytes.now) }
+    ensures { IfOk result (λ text. text ≡ bytes.now) }
+{
+    match Text::new(Vec::from_slice(alloc, bytes)?) {
+        Some(text) => Ok(text),
+        None => unreachable!(),
     }
 }
 
@@ -91,63 +217,117 @@ impl<'a> Fields<'a> {
         Fields { rest: Some(line) }
     }
 
-    /// The next field, where there is one.
+    /// The next field, which must not be empty.
     pub fn next(&mut self) -> Result<&'a [u8], ScheduleKind>
         ensures { Steps (λ x. x.now) result self.new (next self.old) }
     {
         match self.rest {
-            None => Err(ScheduleKind::NotBuilt),
+            None => Err(ScheduleKind::Word),
             Some(bytes) => {
                 let (field, rest) = cut(32, bytes);
+                if field.is_empty() {
+                    return Err(ScheduleKind::Word);
+                }
                 self.rest = rest;
                 Ok(field)
             }
         }
     }
 
-    /// The rest of the line, where there is one.
-    pub fn all(&mut self) -> Result<&'a [u8], ScheduleKind>
-        ensures { Is (λ x. x.now) result (all_of self.old) }
+    /// The rest of the line, which must be there.
+    pub fn text(&mut self, alloc: Global) -> Result<Text, LineRefused>
+        ensures { Gives (λ x. x) result (text_at self.old) }
     {
         match self.rest {
-            None => Err(ScheduleKind::NotBuilt),
-            Some(bytes) => Ok(bytes),
+            None => Err(LineRefused::Kind(ScheduleKind::Word)),
+            Some(bytes) => {
+                if !all_printable(bytes) {
+                    return Err(LineRefused::Kind(ScheduleKind::Word));
+                }
+                Ok(printable_text(alloc, bytes)?)
+            }
         }
     }
 
-    pub fn has_ended(&self) -> bool
-        ensures { result ≡ is_none self.now }
+    /// `x`, where nothing is left.
+    pub fn end<T: Drop>(&mut self, x: T) -> Result<T, ScheduleKind>
+        ensures { Is (λ y. y) result (ended self.old x) }
     {
-        self.rest.is_none()
+        match self.rest {
+            None => Ok(x),
+            Some(_) => Err(ScheduleKind::Word),
+        }
     }
 
-    /// The next field as a number of at most `most`.
-    #[tactic(auto, unfolding(crate::specs::Fields::number_at))]
-    pub fn number(&mut self, most: u64) -> Result<u64, ScheduleKind>
-        ensures value { Steps (λ n. n) result self.new (number_at most self.old) }
+    /// The next field as a number within these bounds.
+    #[tactic(auto, unfolding(crate::specs::Fields::field_at))]
+    pub fn number(&mut self, least: u64, most: u64) -> Result<u64, ScheduleKind>
+        ensures value { Steps (λ n. n) result self.new (field_at (number_of least most) self.old) }
+        ensures least { IfOk result (λ n. least ≤ n) }
         ensures most { IfOk result (λ n. n ≤ most) }
     {
         let field = self.next()?;
-        number_of(field, most)
-    }
-
-    pub fn rank(&mut self) -> Result<Rank, ScheduleKind>
-        ensures { Steps (λ n. n) result self.new (number_at 0 self.old) }
-    {
-        let n = self.number(0)?;
-        match Rank::new(n as u8) {
-            Some(rank) => Ok(rank),
-            None => unreachable!(),
-        }
+        number_of(field, least, most)
     }
 
     pub fn moment(&mut self) -> Result<Moment, ScheduleKind>
-        ensures { Steps (λ n. n) result self.new (number_at (2 ^ 62) self.old) }
+        ensures { Steps (λ n. n) result self.new (field_at (number_of 0 (2 ^ 62)) self.old) }
     {
-        let n = self.number(GREATEST)?;
+        let n = self.number(0, GREATEST)?;
         match Moment::new(n) {
             Some(at) => Ok(at),
             None => unreachable!(),
         }
+    }
+
+    pub fn version(&mut self) -> Result<Version, ScheduleKind>
+        ensures { Steps (λ n. n) result self.new (field_at (number_of 0 (2 ^ 62)) self.old) }
+    {
+        let n = self.number(0, GREATEST)?;
+        match Version::new(n) {
+            Some(version) => Ok(version),
+            None => unreachable!(),
+        }
+    }
+
+    #[tactic(auto, unfolding(crate::specs::Fields::field_at))]
+    pub fn rank(&mut self, monitors: u8) -> Result<Rank, ScheduleKind>
+        requires { monitors ≤ 15 }
+        ensures { Steps (λ n. n) result self.new (field_at (rank_of monitors) self.old) }
+    {
+        let field = self.next()?;
+        rank_of(field, monitors)
+    }
+
+    #[tactic(auto, unfolding(crate::specs::Fields::field_at))]
+    pub fn service(&mut self) -> Result<Service, ScheduleKind>
+        ensures { Steps (λ x. x) result self.new (field_at service_of self.old) }
+    {
+        let field = self.next()?;
+        service_of(field)
+    }
+
+    #[tactic(auto, unfolding(crate::specs::Fields::field_at))]
+    pub fn side(&mut self) -> Result<Side, ScheduleKind>
+        ensures { Steps (λ x. x) result self.new (field_at side_of self.old) }
+    {
+        let field = self.next()?;
+        side_of(field)
+    }
+
+    #[tactic(auto, unfolding(crate::specs::Fields::field_at))]
+    pub fn timer(&mut self) -> Result<Timer, ScheduleKind>
+        ensures { Steps (λ x. x) result self.new (field_at timer_of self.old) }
+    {
+        let field = self.next()?;
+        timer_of(field)
+    }
+
+    #[tactic(auto, unfolding(crate::specs::Fields::field_at))]
+    pub fn name(&mut self, alloc: Global) -> Result<Name, LineRefused>
+        ensures { GivesStep (λ x. x) result self.new (field_at name_of self.old) }
+    {
+        let field = self.next()?;
+        name_of(alloc, field)
     }
 }

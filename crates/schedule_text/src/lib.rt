@@ -4,15 +4,18 @@
 mod display;
 mod event;
 mod fields;
+mod header;
 mod length;
 mod line;
 mod printer;
+mod ranks;
 mod reader;
 mod refusal;
 mod schedule;
 mod shown;
 mod step;
 mod trace;
+mod words;
 
 pub use event::{Event, Events, Plain};
 pub use printer::{header_line, print};

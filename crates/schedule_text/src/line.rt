@@ -1,80 +1,78 @@
-ghost use Rattle.std.specs.Prelude.{◌≡◌, ℕ, ◌^◌, ◌&&◌, IsTrue, IfOk};
-ghost use Rattle.std.specs.List.{list_all};
-ghost use Rattle.mon_bytes.specs.Texts.{is_name};
+//! The line of an event.
+
+ghost use Rattle.std.specs.Prelude.{◌≡◌, ◌≤◌};
+ghost use Rattle.schedule_text.specs.declared.event.Event.TheVariants as event;
 ghost use Rattle.schedule_text.specs.Fields.{Is};
-ghost use Rattle.schedule_text.specs.Spelling.{printable, is_value};
-ghost use Rattle.schedule_text.specs.Lines.{start_at, set_at, show_at, request_at, client_at, plain_at, event_at, Gives};
+ghost use Rattle.schedule_text.specs.Lines.{start_at, deliver_at, timer_at, set_at, remove_at, log_at, show_at, since_at, request_by, request_at, client_at, plain_by, plain_at, upset_at, event_by, event_at, Gives};
 
 use crate::event::{Event, Plain};
-use crate::fields::Fields;
+use crate::fields::{Fields, all_printable};
 use crate::refusal::{LineRefused, ScheduleKind};
-use mon_bytes::{Name, OutOfMemory, Text};
-use mon_msg::{Request, Service, Session};
+use mon_msg::{Request, Session};
 use mon_types::GREATEST;
 use std::alloc::Global;
-
-fn all_printable(bytes: &[u8]) -> bool
-    ensures { result ≡ list_all printable bytes.now }
-{
-    bytes.iter().all(|b| *b >= 32 && *b <= 126)
-}
-
-pub fn is_value(bytes: &[u8]) -> bool
-    ensures { result ≡ is_value bytes.now }
-{
-    bytes.len() <= 200 && all_printable(bytes)
-}
-
-fn value_of(alloc: Global, bytes: &[u8]) -> Result<Text, OutOfMemory>
-    requires { IsTrue (is_value bytes.now) }
-    ensures { IfOk result (λ text. text ≡ bytes.now) }
-{
-    match Text::new(Vec::from_slice(alloc, bytes)?) {
-        Some(text) => Ok(text),
-        None => unreachable!(),
-    }
-}
-
-#[tactic(auto, unfolding(crate::specs::Lines::start_at))]
-fn start_at(fields: &mut Fields<'_>) -> Result<Plain, ScheduleKind>
-    ensures { Is (λ y. y) result (start_at fields.old) }
-{
-    let rank = fields.rank()?;
-    let at = fields.moment()?;
-    if !fields.has_ended() {
-        return Err(ScheduleKind::NotBuilt);
-    }
-    Ok(Plain::Start { rank, at })
-}
 
 #[tactic(auto, unfolding(crate::specs::Lines::set_at))]
 fn set_at(alloc: Global, fields: &mut Fields<'_>) -> Result<Request, LineRefused>
     ensures { Gives (λ y. y) result (set_at fields.old) }
 {
-    let key = fields.next()?;
-    let value = fields.all()?;
-    if !is_value(value) {
-        return Err(LineRefused::Kind(ScheduleKind::NotBuilt));
-    }
-    let key = Vec::from_slice(alloc, key).map_err(OutOfMemory::from)?;
-    let Some(key) = Name::new(key) else {
-        return Err(LineRefused::Kind(ScheduleKind::NotBuilt));
-    };
-    let value = value_of(alloc, value)?;
+    let key = fields.name(alloc)?;
+    let value = fields.text(alloc)?;
     Ok(Request::Set { key, value })
+}
+
+#[tactic(auto, unfolding(crate::specs::Lines::remove_at))]
+fn remove_at(alloc: Global, fields: &mut Fields<'_>) -> Result<Request, LineRefused>
+    ensures { Gives (λ y. y) result (remove_at fields.old) }
+{
+    let key = fields.name(alloc)?;
+    Ok(fields.end(Request::Remove { key })?)
+}
+
+#[tactic(auto, unfolding(crate::specs::Lines::log_at))]
+fn log_at(alloc: Global, fields: &mut Fields<'_>) -> Result<Request, LineRefused>
+    ensures { Gives (λ y. y) result (log_at fields.old) }
+{
+    let text = fields.text(alloc)?;
+    Ok(Request::Log { text })
 }
 
 #[tactic(auto, unfolding(crate::specs::Lines::show_at))]
 fn show_at(fields: &mut Fields<'_>) -> Result<Request, ScheduleKind>
     ensures { Is (λ y. y) result (show_at fields.old) }
 {
-    let service = fields.next()?;
-    if service != b"kv".as_slice() || !fields.has_ended() {
-        return Err(ScheduleKind::NotBuilt);
+    let service = fields.service()?;
+    fields.end(Request::Show { service })
+}
+
+#[tactic(auto, unfolding(crate::specs::Lines::since_at))]
+fn since_at(fields: &mut Fields<'_>) -> Result<Request, ScheduleKind>
+    ensures { Is (λ y. y) result (since_at fields.old) }
+{
+    let service = fields.service()?;
+    let version = fields.version()?;
+    fields.end(Request::Since { service, version })
+}
+
+fn request_by(alloc: Global, word: &[u8], fields: &mut Fields<'_>) -> Result<Request, LineRefused>
+    ensures { Gives (λ y. y) result (request_by word.now fields.old) }
+{
+    if word == b"set".as_slice() {
+        return set_at(alloc, fields);
     }
-    Ok(Request::Show {
-        service: Service::Kv,
-    })
+    if word == b"remove".as_slice() {
+        return remove_at(alloc, fields);
+    }
+    if word == b"log".as_slice() {
+        return log_at(alloc, fields);
+    }
+    if word == b"show".as_slice() {
+        return Ok(show_at(fields)?);
+    }
+    if word == b"since".as_slice() {
+        return Ok(since_at(fields)?);
+    }
+    Err(LineRefused::Kind(ScheduleKind::Word))
 }
 
 #[tactic(auto, unfolding(crate::specs::Lines::request_at))]
@@ -82,23 +80,48 @@ fn request_at(alloc: Global, fields: &mut Fields<'_>) -> Result<Request, LineRef
     ensures { Gives (λ y. y) result (request_at fields.old) }
 {
     let word = fields.next()?;
-    if word == b"set".as_slice() {
-        return set_at(alloc, fields);
-    }
-    if word == b"show".as_slice() {
-        return Ok(show_at(fields)?);
-    }
-    Err(LineRefused::Kind(ScheduleKind::NotBuilt))
+    request_by(alloc, word, fields)
+}
+
+#[tactic(auto, unfolding(crate::specs::Lines::start_at))]
+fn start_at(monitors: u8, fields: &mut Fields<'_>) -> Result<Plain, ScheduleKind>
+    requires { monitors ≤ 15 }
+    ensures { Is (λ y. y) result (start_at monitors fields.old) }
+{
+    let rank = fields.rank(monitors)?;
+    let at = fields.moment()?;
+    fields.end(Plain::Start { rank, at })
+}
+
+#[tactic(auto, unfolding(crate::specs::Lines::deliver_at))]
+fn deliver_at(fields: &mut Fields<'_>) -> Result<Plain, ScheduleKind>
+    ensures { Is (λ y. y) result (deliver_at fields.old) }
+{
+    let message = fields.number(1, u64::MAX)?;
+    let at = fields.moment()?;
+    fields.end(Plain::Deliver { message, at })
+}
+
+#[tactic(auto, unfolding(crate::specs::Lines::timer_at))]
+fn timer_at(monitors: u8, fields: &mut Fields<'_>) -> Result<Plain, ScheduleKind>
+    requires { monitors ≤ 15 }
+    ensures { Is (λ y. y) result (timer_at monitors fields.old) }
+{
+    let rank = fields.rank(monitors)?;
+    let kind = fields.timer()?;
+    let at = fields.moment()?;
+    fields.end(Plain::Timer { rank, kind, at })
 }
 
 #[tactic(auto, unfolding(crate::specs::Lines::client_at))]
-fn client_at(alloc: Global, fields: &mut Fields<'_>) -> Result<Plain, LineRefused>
-    ensures { Gives (λ y. y) result (client_at fields.old) }
+fn client_at(alloc: Global, monitors: u8, fields: &mut Fields<'_>) -> Result<Plain, LineRefused>
+    requires { monitors ≤ 15 }
+    ensures { Gives (λ y. y) result (client_at monitors fields.old) }
 {
-    let rank = fields.rank()?;
+    let rank = fields.rank(monitors)?;
     let at = fields.moment()?;
-    let client = fields.number(4294967295)?;
-    let id = fields.number(GREATEST)?;
+    let client = fields.number(0, 4294967295)?;
+    let id = fields.number(0, GREATEST)?;
     let request = request_at(alloc, fields)?;
     let session = Session {
         client: client as u32,
@@ -112,26 +135,106 @@ fn client_at(alloc: Global, fields: &mut Fields<'_>) -> Result<Plain, LineRefuse
     })
 }
 
-#[tactic(auto, unfolding(crate::specs::Lines::plain_at))]
-fn plain_at(alloc: Global, line: &[u8]) -> Result<Plain, LineRefused>
-    ensures { Gives (λ y. y) result (plain_at line.now) }
+#[tactic(auto, unfolding(crate::specs::Lines::plain_by))]
+fn plain_by(
+    alloc: Global,
+    monitors: u8,
+    word: &[u8],
+    fields: &mut Fields<'_>,
+) -> Result<Plain, LineRefused>
+    requires { monitors ≤ 15 }
+    ensures { Gives (λ y. y) result (plain_by monitors word.now fields.old) }
 {
-    let mut fields = Fields::new(line);
-    let word = fields.next()?;
     if word == b"start".as_slice() {
-        return Ok(start_at(&mut fields)?);
+        return Ok(start_at(monitors, fields)?);
+    }
+    if word == b"deliver".as_slice() {
+        return Ok(deliver_at(fields)?);
+    }
+    if word == b"timer".as_slice() {
+        return Ok(timer_at(monitors, fields)?);
     }
     if word == b"client".as_slice() {
-        return client_at(alloc, &mut fields);
+        return client_at(alloc, monitors, fields);
     }
-    Err(LineRefused::Kind(ScheduleKind::NotBuilt))
+    Err(LineRefused::Kind(ScheduleKind::Word))
 }
 
-/// The event that the line spells.
-#[tactic(auto, unfolding(crate::specs::Lines::event_at))]
-pub fn event_at(alloc: Global, line: &[u8]) -> Result<Event, LineRefused>
-    ensures { Gives (λ y. y) result (event_at line.now) }
+#[tactic(auto, unfolding(crate::specs::Lines::plain_at))]
+fn plain_at(alloc: Global, monitors: u8, fields: &mut Fields<'_>) -> Result<Plain, LineRefused>
+    requires { monitors ≤ 15 }
+    ensures { Gives (λ y. y) result (plain_at monitors fields.old) }
 {
-    let plain = plain_at(alloc, line)?;
+    let word = fields.next()?;
+    plain_by(alloc, monitors, word, fields)
+}
+
+/// A crash.
+#[tactic(auto, unfolding(crate::specs::Lines::upset_at))]
+fn crash_at(alloc: Global, monitors: u8, fields: &mut Fields<'_>) -> Result<Event, LineRefused>
+    requires { monitors ≤ 15 }
+    ensures { Gives (λ y. y) result (upset_at event.Crash monitors fields.old) }
+{
+    let disk = fields.side()?;
+    let call = fields.number(1, 1000)?;
+    let image = fields.number(0, 3)?;
+    let event = plain_at(alloc, monitors, fields)?;
+    Ok(Event::Crash {
+        disk,
+        call: call as u16,
+        image: image as u8,
+        event,
+    })
+}
+
+/// A disk's fault.
+#[tactic(auto, unfolding(crate::specs::Lines::upset_at))]
+fn fail_at(alloc: Global, monitors: u8, fields: &mut Fields<'_>) -> Result<Event, LineRefused>
+    requires { monitors ≤ 15 }
+    ensures { Gives (λ y. y) result (upset_at event.Fail monitors fields.old) }
+{
+    let disk = fields.side()?;
+    let call = fields.number(1, 1000)?;
+    let image = fields.number(0, 3)?;
+    let event = plain_at(alloc, monitors, fields)?;
+    Ok(Event::Fail {
+        disk,
+        call: call as u16,
+        image: image as u8,
+        event,
+    })
+}
+
+#[tactic(auto, unfolding(crate::specs::Lines::event_by))]
+fn event_by(
+    alloc: Global,
+    monitors: u8,
+    word: &[u8],
+    fields: &mut Fields<'_>,
+) -> Result<Event, LineRefused>
+    requires { monitors ≤ 15 }
+    ensures { Gives (λ y. y) result (event_by monitors word.now fields.old) }
+{
+    if word == b"crash".as_slice() {
+        return crash_at(alloc, monitors, fields);
+    }
+    if word == b"fail".as_slice() {
+        return fail_at(alloc, monitors, fields);
+    }
+    let plain = plain_by(alloc, monitors, word, fields)?;
     Ok(Event::Plain(plain))
+}
+
+/// The event that the line spells, where there are so many monitors.
+#[tactic(auto, unfolding(crate::specs::Lines::event_at))]
+pub fn event_at(alloc: Global, monitors: u8, line: &[u8]) -> Result<Event, LineRefused>
+    requires { monitors ≤ 15 }
+    ensures { Gives (λ y. y) result (event_at monitors line.now) }
+{
+    if !all_printable(line) {
+        return Err(LineRefused::Kind(ScheduleKind::Word));
+    }
+    let mut fields = Fields::new(line);
+    let word = fields.next()?;
+    event_by(alloc, monitors, word, &mut fields)
 }

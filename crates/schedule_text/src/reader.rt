@@ -1,79 +1,60 @@
 ghost use Rattle.std.specs.Prelude.{◌≡◌, ℕ, ◌≤◌, ◌<◌, ◌+◌, length, Ok, IfOk};
-ghost use Rattle.std.specs.Str.{bytes_eq};
 ghost use Rattle.schedule_text.specs.declared.schedule.Schedule.{Schedule};
-ghost use Rattle.schedule_text.specs.Spelling.{header, HasText, schedule_text};
-ghost use Rattle.schedule_text.specs.Schedule.{lines_of, event_line_at, events_at, all_events_at, schedule_at, sets_with, Gives};
+ghost use Rattle.schedule_text.specs.Spelling.{HasText, schedule_text};
+ghost use Rattle.schedule_text.specs.Schedule.{lines_of, on_first_line, header_at, event_line_at, events_at, whole_at, schedule_at, Gives};
 
 use crate::event::{Event, Events};
 use crate::fields::cut;
+use crate::header::header_at;
 use crate::line::event_at;
 use crate::refusal::{LineRefused, ScheduleKind, ScheduleRefused};
-use crate::schedule::{MOST_BYTES, MOST_EVENTS, MOST_SETS, Schedule};
+use crate::schedule::{MOST_BYTES, MOST_EVENTS, Schedule};
 use election_rules::Rule;
 use std::alloc::Global;
 
-fn not_built(line: u32) -> ScheduleRefused
-    ensures { result ≡ ScheduleRefused.At line ScheduleKind.NotBuilt }
+fn at(line: u32, kind: ScheduleKind) -> ScheduleRefused
+    ensures { result ≡ ScheduleRefused.At line kind }
 {
-    ScheduleRefused::At {
-        line,
-        kind: ScheduleKind::NotBuilt,
-    }
+    ScheduleRefused::At { line, kind }
 }
 
-/// One more event, after `events` of which `sets` are sets.
+/// One more event, after so many.
 #[tactic(auto, unfolding(crate::specs::Schedule::event_line_at))]
 fn event_line_at(
     alloc: Global,
-    events: u32,
-    sets: u32,
+    monitors: u8,
+    count: u32,
     line: &[u8],
 ) -> Result<Event, ScheduleRefused>
-    requires { events ≤ 200000 }
-    ensures value { Gives (λ e. e) result (event_line_at events sets line.now) }
-    ensures count { IfOk result (λ _. events < 200000) }
+    requires monitors { monitors ≤ 15 }
+    requires count { count ≤ 200000 }
+    ensures value { Gives (λ e. e) result (event_line_at monitors count line.now) }
+    ensures count { IfOk result (λ _. count < 200000) }
 {
-    if events >= MOST_EVENTS {
-        return Err(not_built(events + 2));
+    if count >= MOST_EVENTS {
+        return Err(at(count + 2, ScheduleKind::TooMany));
     }
-    match event_at(alloc, line) {
-        Ok(event) => {
-            if event.is_set() && sets >= MOST_SETS {
-                return Err(not_built(events + 2));
-            }
-            Ok(event)
-        }
-        Err(LineRefused::Kind(kind)) => Err(ScheduleRefused::At {
-            line: events + 2,
-            kind,
-        }),
+    match event_at(alloc, monitors, line) {
+        Ok(event) => Ok(event),
+        Err(LineRefused::Kind(kind)) => Err(at(count + 2, kind)),
         Err(LineRefused::OutOfMemory) => Err(ScheduleRefused::OutOfMemory),
     }
 }
 
-fn sets_with(sets: u32, event: &Event) -> u32
-    requires { sets < 200000 }
-    ensures value { result ≡ sets_with sets event.now }
-    ensures most { result ≤ sets + 1 }
-{
-    if event.is_set() { sets + 1 } else { sets }
-}
-
 /// The events of the lines behind the first.
-fn events_of(alloc: Global, body: &[u8]) -> Result<Events, ScheduleRefused>
-    ensures { Gives (λ es. es) result (events_at 0 0 (lines_of body.now).0 (lines_of body.now).1) }
+fn events_of(alloc: Global, monitors: u8, body: &[u8]) -> Result<Events, ScheduleRefused>
+    requires { monitors ≤ 15 }
+    ensures { Gives (λ es. es) result (events_at monitors 0 (lines_of body.now).0 (lines_of body.now).1) }
 {
     let mut events = Events::new(alloc);
     let mut count: u32 = 0;
-    let mut sets: u32 = 0;
     let mut rest = body;
     loop {
         let (line, after) = cut(10, rest);
         let Some(after) = after else {
             break;
         };
-        let event = event_line_at(alloc, count, sets, line)?;
-        sets = sets_with(sets, &event);
+        let event = event_line_at(alloc, monitors, count, line)?;
         count += 1;
         events.push(event)?;
         rest = after;
@@ -81,35 +62,53 @@ fn events_of(alloc: Global, body: &[u8]) -> Result<Events, ScheduleRefused>
     if rest.is_empty() {
         Ok(events)
     } else {
-        Err(not_built(count + 2))
+        Err(at(count + 2, ScheduleKind::End))
     }
 }
 
-fn is_header(line: &[u8]) -> bool
-    ensures { result ≡ bytes_eq line.now header }
+/// What the first line says.
+fn first_line(line: &[u8]) -> Result<(u8, Rule), ScheduleRefused>
+    ensures value { Gives (λ x. x) result (on_first_line (header_at line.now)) }
+    ensures most { IfOk result (λ x. x.0 ≤ 15) }
 {
-    line == b"monitors 1 classic".as_slice()
+    match header_at(line) {
+        Ok(header) => Ok(header),
+        Err(_) => Err(at(1, ScheduleKind::Header)),
+    }
 }
 
-#[tactic(auto, using(crate::proofs::ScheduleLoop::no_first_line), unfolding(crate::specs::Schedule::all_events_at))]
-fn all_events(alloc: Global, bytes: &[u8]) -> Result<Events, ScheduleRefused>
-    ensures { Gives (λ es. es) result (all_events_at bytes.now) }
+/// The schedule that the lines spell.
+fn whole(alloc: Global, bytes: &[u8]) -> Result<Schedule, ScheduleRefused>
+    ensures { Gives (λ s. s) result (whole_at (lines_of bytes.now).0 (lines_of bytes.now).1) }
 {
-    if bytes.len() > MOST_BYTES {
-        return Err(not_built(0));
+    if bytes.is_empty() {
+        return Err(at(1, ScheduleKind::Header));
     }
     let (first, body) = cut(10, bytes);
     let Some(body) = body else {
-        return Err(not_built(1));
+        return Err(at(1, ScheduleKind::End));
     };
-    if !is_header(first) {
-        return Err(not_built(1));
-    }
-    events_of(alloc, body)
+    let (monitors, rule) = first_line(first)?;
+    let events = events_of(alloc, monitors, body)?;
+    Ok(Schedule {
+        monitors,
+        rule,
+        events,
+    })
 }
 
-/// The schedule that the bytes spell, all of them. The first line at fault is refused; line 0 stands for more than
-/// 16,777,216 bytes, which is tested first.
+#[tactic(auto, unfolding(crate::specs::Schedule::schedule_at))]
+fn read(alloc: Global, bytes: &[u8]) -> Result<Schedule, ScheduleRefused>
+    ensures { Gives (λ s. s) result (schedule_at bytes.now) }
+{
+    if bytes.len() > MOST_BYTES {
+        return Err(at(0, ScheduleKind::TooLong));
+    }
+    whole(alloc, bytes)
+}
+
+/// The schedule that the bytes spell, all of them. The first line at fault is refused, with what is wrong; line 0 stands for
+/// more than 16,777,216 bytes, which is tested first.
 pub fn parse(alloc: Global, bytes: &[u8]) -> Result<Schedule, ScheduleRefused>
     // What is read is spelled so.
     ensures found { IfOk result (λ s. HasText s × (bytes.now ≡ schedule_text s)) }
@@ -117,13 +116,8 @@ pub fn parse(alloc: Global, bytes: &[u8]) -> Result<Schedule, ScheduleRefused>
     // What is spelled so is read, unless memory runs out.
     ensures only { (s : Schedule) → HasText s → bytes.now ≡ schedule_text s → Gives (λ s. s) result (Ok s) }
 
-    // Which line is refused.
+    // Which line is refused, and as what.
     ensures exact { Gives (λ s. s) result (schedule_at bytes.now) }
 {
-    let events = all_events(alloc, bytes)?;
-    Ok(Schedule {
-        monitors: 1,
-        rule: Rule::Classic,
-        events,
-    })
+    read(alloc, bytes)
 }

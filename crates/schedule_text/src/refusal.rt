@@ -8,7 +8,28 @@ use thiserror::Error;
 /// What is wrong with a line of a schedule.
 #[derive(Clone, Copy, Debug, PartialEq, Eq, Error)]
 pub enum ScheduleKind {
-    /// The line isn't of a form that is read so far.
+    /// The whole text has more than 16,777,216 bytes.
+    #[error("TooLong")]
+    TooLong = 1,
+    /// The first line isn't of its form.
+    #[error("Header")]
+    Header = 2,
+    /// The last line has no line feed.
+    #[error("End")]
+    End = 3,
+    /// There are more than 200,000 events.
+    #[error("TooMany")]
+    TooMany = 4,
+    /// A byte isn't printable; or a field is missing, empty, unknown or one too many, or a key is too long.
+    #[error("Word")]
+    Word = 5,
+    /// A field isn't a number in decimal without a leading zero, or is out of its bounds.
+    #[error("Number")]
+    Number = 6,
+    /// A rank isn't below the number of monitors.
+    #[error("Rank")]
+    Rank = 7,
+    /// The event is one that can't be run yet. No text is refused for it; whoever runs a schedule does so.
     #[error("NotBuilt")]
     NotBuilt = 8,
 }

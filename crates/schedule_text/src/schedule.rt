@@ -1,23 +1,24 @@
-ghost use Rattle.std.specs.Prelude.{◌≡◌, ◌↔◌, IsTrue, count_by};
+ghost use Rattle.std.specs.Prelude.{◌≡◌, ◌↔◌, IsTrue};
 ghost use Rattle.std.specs.List.{list_all};
+ghost use Rattle.mon_types.specs.Ranks.{has};
 ghost use Rattle.schedule_text.specs.declared.event.Plain.TheVariants.{Client};
-ghost use Rattle.schedule_text.specs.Spelling.{request_fits, plain_fits, event_fits, is_set};
+ghost use Rattle.schedule_text.specs.Fields.{within};
+ghost use Rattle.schedule_text.specs.Ranks.{below};
+ghost use Rattle.schedule_text.specs.Spelling.{request_fits, plain_fits, upset_fits, event_fits, RuleFits};
 
 use crate::event::{Event, Events, Plain};
+use crate::fields::all_printable;
 use crate::length::text_len;
-use crate::line::is_value;
+use crate::ranks::{below, has_ranks};
 use election_rules::Rule;
-use mon_msg::{Request, Service, Session};
-use mon_types::{GREATEST, Moment, Rank};
+use mon_msg::{Request, Session};
+use mon_types::{GREATEST, Moment, Rank, RankSet};
 
 /// The most bytes of a schedule's text.
 pub(crate) const MOST_BYTES: usize = 16777216;
 
 /// The most events of a schedule with a text.
 pub(crate) const MOST_EVENTS: u32 = 200000;
-
-/// The most sets of a schedule with a text.
-pub(crate) const MOST_SETS: u32 = 24;
 
 /// A quorum's monitors, how they rank one another, and the events that happen to them.
 #[derive(Debug, Drop)]
@@ -32,26 +33,39 @@ impl Schedule {
     ghost use Rattle.std.specs.Prelude.{◌↔◌, IsTrue};
     ghost use Rattle.schedule_text.specs.Spelling.{HasText};
 
-    /// Whether the schedule has a text. It takes no memory.
+    /// Whether the schedule has a text: there are 1 to 15 monitors, ranks are below their number, numbers within their bounds,
+    /// values printable, and there are not too many events and bytes. It takes no memory.
     pub fn has_text(&self) -> bool
         ensures { IsTrue result ↔ HasText self.now }
     {
         let events = self.events.as_slice();
-        self.monitors == 1
-            && is_classic(self.rule)
-            && all_fit(events)
+        is_monitors(self.monitors)
+            && rule_fits(self.monitors, self.rule)
+            && all_fit(self.monitors, events)
             && events.len() <= MOST_EVENTS as usize
-            && set_count(events) <= MOST_SETS as usize
-            && text_len(events) <= MOST_BYTES as u64
+            && text_len(self) <= MOST_BYTES as u64
     }
 }
 
-fn is_classic(rule: Rule) -> bool
-    ensures { IsTrue result ↔ (rule ≡ Rule.Classic) }
+fn is_monitors(monitors: u8) -> bool
+    ensures { result ≡ within 1 15 monitors }
+{
+    monitors >= 1 && monitors <= 15
+}
+
+fn is_below(monitors: u8, set: RankSet) -> bool
+    ensures { IsTrue result ↔ (set ≡ below monitors set) }
+{
+    set == below(monitors, set)
+}
+
+fn rule_fits(monitors: u8, rule: Rule) -> bool
+    ensures { IsTrue result ↔ RuleFits monitors rule }
 {
     match rule {
         Rule::Classic => true,
-        Rule::Disallow(_) | Rule::Connectivity(_) => false,
+        Rule::Disallow(set) => is_below(monitors, set) && has_ranks(set),
+        Rule::Connectivity(set) => is_below(monitors, set),
     }
 }
 
@@ -61,58 +75,88 @@ fn request_fits(request: &Request) -> bool
     match request {
         Request::Set { key, value } => {
             let _name = key.as_slice();
-            is_value(value.as_slice())
+            all_printable(value.as_slice())
         }
-        Request::Show {
-            service: Service::Kv,
-        } => true,
-        Request::Remove { .. }
-        | Request::Log { .. }
-        | Request::Show {
-            service: Service::Log,
+        Request::Remove { key } => {
+            let _name = key.as_slice();
+            true
         }
-        | Request::Since { .. } => false,
+        Request::Log { text } => all_printable(text.as_slice()),
+        Request::Show { .. } => true,
+        Request::Since { version, .. } => {
+            let _fits = version.get();
+            true
+        }
     }
 }
 
 #[tactic(auto, using(crate::proofs::Fits::client_fits))]
-fn client_fits(rank: Rank, at: Moment, session: Session, request: &Request) -> bool
-    ensures { result ≡ plain_fits (Client rank at session request.now) }
+fn client_fits(monitors: u8, rank: Rank, at: Moment, session: Session, request: &Request) -> bool
+    ensures { result ≡ plain_fits monitors (Client rank at session request.now) }
 {
     let _fits = at.get();
-    if rank.get() > 0 || session.id > GREATEST {
+    if rank.get() >= monitors || session.id > GREATEST {
         return false;
     }
     request_fits(request)
 }
 
-fn event_fits(event: &Event) -> bool
-    ensures { result ≡ event_fits event.now }
+fn plain_fits(monitors: u8, plain: &Plain) -> bool
+    ensures { result ≡ plain_fits monitors plain.now }
 {
-    match event {
-        Event::Plain(Plain::Start { rank, at }) => {
+    match plain {
+        Plain::Start { rank, at } => {
             let _fits = at.get();
-            rank.get() == 0
+            rank.get() < monitors
         }
-        Event::Plain(
-            Plain::Client {
-                rank,
-                at,
-                session,
-                request,
-            },
-        ) => client_fits(*rank, *at, *session, request),
+        Plain::Deliver { message, at } => {
+            let _fits = at.get();
+            *message >= 1
+        }
+        Plain::Timer { rank, at, .. } => {
+            let _fits = at.get();
+            rank.get() < monitors
+        }
+        Plain::Client {
+            rank,
+            at,
+            session,
+            request,
+        } => client_fits(monitors, *rank, *at, *session, request),
     }
 }
 
-fn all_fit(events: &[Event]) -> bool
-    ensures { result ≡ list_all event_fits events.now }
+fn upset_fits(monitors: u8, call: u16, image: u8, event: &Plain) -> bool
+    ensures { result ≡ upset_fits monitors call image event.now }
 {
-    events.iter().all(|event| event_fits(event))
+    if call < 1 || call > 1000 || image > 3 {
+        return false;
+    }
+    plain_fits(monitors, event)
 }
 
-fn set_count(events: &[Event]) -> usize
-    ensures { result ≡ count_by is_set events.now }
+fn event_fits(monitors: u8, event: &Event) -> bool
+    ensures { result ≡ event_fits monitors event.now }
 {
-    events.iter().filter(|event| event.is_set()).count()
+    match event {
+        Event::Plain(plain) => plain_fits(monitors, plain),
+        Event::Crash {
+            call,
+            image,
+            event,
+            ..
+        } => upset_fits(monitors, *call, *image, event),
+        Event::Fail {
+            call,
+            image,
+            event,
+            ..
+        } => upset_fits(monitors, *call, *image, event),
+    }
+}
+
+fn all_fit(monitors: u8, events: &[Event]) -> bool
+    ensures { result ≡ list_all (event_fits monitors) events.now }
+{
+    events.iter().all(|event| event_fits(monitors, event))
 }

@@ -76,6 +76,12 @@ pub enum Outcome {
     Ran,
     /// The monitor is down, and nothing happened.
     Down,
+    /// No message of this number was sent, and nothing happened.
+    NoMessage,
+    /// The monitor stopped in the event. Its transaction is kept in the store, or lost.
+    Crashed { kept: bool },
+    /// A disk failed in the event, and the monitor stopped. Its transaction is kept in the store, or lost.
+    Failed { kept: bool },
 }
 
 /// What an event did.

@@ -6,14 +6,10 @@ use mon_types::{Epoch, Rank, Version};
 use std::alloc::{AllocError, Global};
 use std::test::Fail;
 
-fn refused_line(alloc: Global, text: &[u8]) -> Option<u32> {
+/// The line at fault and what is wrong with it, where the text is refused.
+fn refused(alloc: Global, text: &[u8]) -> Option<(u32, ScheduleKind)> {
     match parse(alloc, text) {
-        Err(
-            ScheduleRefused::At {
-                line,
-                kind: ScheduleKind::NotBuilt,
-            },
-        ) => Some(line),
+        Err(ScheduleRefused::At { line, kind }) => Some((line, kind)),
         _ => None,
     }
 }
@@ -27,70 +23,182 @@ fn repeated(alloc: Global, line: &str, count: u32) -> Result<String, AllocError>
     Ok(text)
 }
 
-/// The line of a set with a value of so many bytes.
-fn set_line(alloc: Global, length: u32) -> Result<String, AllocError> {
-    let mut line = String::from_str(alloc, "client 0 1 1 1 set a ")?;
-    for _ in 0..length {
-        line.push_str("v")?;
-    }
-    line.push_str("\n")?;
-    Ok(line)
-}
-
 #[test]
-fn the_first_line_at_fault_is_refused(rt: HostRuntime) -> Result<(), Fail> {
+fn lines_of_events_are_refused_by_kind(rt: HostRuntime) -> Result<(), Fail> {
     let alloc = rt.alloc();
-    for (body, line) in [
-        ("start 0 0", 2u32),
-        ("start 0 0\nstart 0 01\n", 3),
-        ("start 1 0\n", 2),
-        ("start 0  0\n", 2),
-        ("start 0 0\r\n", 2),
-        ("start 0 4611686018427387905\n", 2),
-        ("start 0 0\nstart 0 0 \nstart 0\n", 3),
-        ("\n", 2),
-        ("client 0 1 1 1 set a\n", 2),
-        ("client 0 1 1 1 set  v\n", 2),
-        ("client 0 1 1 1 set k\tk v\n", 2),
-        ("client 0 1 1 1 set k v\tv\n", 2),
-        ("client 0 1 1 1 show kv \n", 2),
-        ("client 0 1 1 1 show log\n", 2),
-        ("client 0 1 4294967296 1 show kv\n", 2),
-        ("client 0 1 1 4611686018427387905 show kv\n", 2),
-        ("deliver 1 0\n", 2),
+    for (body, fault) in [
+        ("start 0 0", Some((2, ScheduleKind::End))),
+        ("start 0 0\nstart 0 01\n", Some((3, ScheduleKind::Number))),
+        ("start 3 0\n", Some((2, ScheduleKind::Rank))),
+        ("start 03 0\n", Some((2, ScheduleKind::Number))),
+        (
+            "start 99999999999999999999999 0\n",
+            Some((2, ScheduleKind::Rank)),
+        ),
+        ("start x 0\n", Some((2, ScheduleKind::Number))),
+        ("start 0  0\n", Some((2, ScheduleKind::Word))),
+        ("start 0 0\r\n", Some((2, ScheduleKind::Word))),
+        (
+            "start 0 4611686018427387905\n",
+            Some((2, ScheduleKind::Number)),
+        ),
+        ("start 0 4611686018427387904\n", None),
+        (
+            "start 0 0\nstart 0 0 \nstart 0\n",
+            Some((3, ScheduleKind::Word)),
+        ),
+        ("start 0 0 0\n", Some((2, ScheduleKind::Word))),
+        ("start\n", Some((2, ScheduleKind::Word))),
+        ("\n", Some((2, ScheduleKind::Word))),
+        (" start 0 0\n", Some((2, ScheduleKind::Word))),
+        ("Start 0 0\n", Some((2, ScheduleKind::Word))),
+        ("deliver 1 0\n", None),
+        ("deliver 0 0\n", Some((2, ScheduleKind::Number))),
+        ("deliver 18446744073709551615 0\n", None),
+        (
+            "deliver 18446744073709551616 0\n",
+            Some((2, ScheduleKind::Number)),
+        ),
+        ("deliver x 5\n", Some((2, ScheduleKind::Number))),
+        ("deliver 1\n", Some((2, ScheduleKind::Word))),
+        ("deliver 1 0 0\n", Some((2, ScheduleKind::Word))),
+        ("timer 0 leaseack 5\n", None),
+        ("timer 0 leaseAck 5\n", Some((2, ScheduleKind::Word))),
+        ("timer 3 ping 5\n", Some((2, ScheduleKind::Rank))),
+        ("timer 0 5 ping\n", Some((2, ScheduleKind::Word))),
+        ("timer 0 probe\n", Some((2, ScheduleKind::Word))),
+        ("timer 0 step -1\n", Some((2, ScheduleKind::Number))),
+        ("client 0 1 1 1 set a\n", Some((2, ScheduleKind::Word))),
+        ("client 0 1 1 1 set a \n", None),
+        ("client 0 1 1 1 set  v\n", Some((2, ScheduleKind::Word))),
+        ("client 0 1 1 1 set k\tk v\n", Some((2, ScheduleKind::Word))),
+        ("client 0 1 1 1 set k v\tv\n", Some((2, ScheduleKind::Word))),
+        ("client 9 1 1 1 set k v\tv\n", Some((2, ScheduleKind::Word))),
+        ("client 0 1 1 1 remove a\n", None),
+        ("client 0 1 1 1 remove\n", Some((2, ScheduleKind::Word))),
+        ("client 0 1 1 1 remove a b\n", Some((2, ScheduleKind::Word))),
+        ("client 0 1 1 1 log\n", Some((2, ScheduleKind::Word))),
+        ("client 0 1 1 1 log \n", None),
+        ("client 0 1 1 1 log a  b \n", None),
+        ("client 0 1 1 1 show kv\n", None),
+        ("client 0 1 1 1 show log\n", None),
+        ("client 0 1 1 1 show kv \n", Some((2, ScheduleKind::Word))),
+        ("client 0 1 1 1 show map\n", Some((2, ScheduleKind::Word))),
+        ("client 0 1 1 1 since kv 0\n", None),
+        ("client 0 1 1 1 since kv\n", Some((2, ScheduleKind::Word))),
+        (
+            "client 0 1 1 1 since kv 4611686018427387905\n",
+            Some((2, ScheduleKind::Number)),
+        ),
+        (
+            "client 0 1 1 1 since log 1 1\n",
+            Some((2, ScheduleKind::Word)),
+        ),
+        ("client 0 1 4294967295 1 show kv\n", None),
+        (
+            "client 0 1 4294967296 1 show kv\n",
+            Some((2, ScheduleKind::Number)),
+        ),
+        (
+            "client 0 1 1 4611686018427387905 show kv\n",
+            Some((2, ScheduleKind::Number)),
+        ),
+        ("client 0 1 1 1 ask kv\n", Some((2, ScheduleKind::Word))),
+        ("client 0 1 1 1\n", Some((2, ScheduleKind::Word))),
+        ("crash a 1 0 start 0 0\n", None),
+        ("crash b 1000 3 deliver 1 0\n", None),
+        ("crash c 1 0 start 0 0\n", Some((2, ScheduleKind::Word))),
+        ("crash a 0 0 start 0 0\n", Some((2, ScheduleKind::Number))),
+        (
+            "crash a 1001 0 start 0 0\n",
+            Some((2, ScheduleKind::Number)),
+        ),
+        ("crash a 1 4 start 0 0\n", Some((2, ScheduleKind::Number))),
+        ("crash a 1 0\n", Some((2, ScheduleKind::Word))),
+        ("crash a 1 0 start 3 0\n", Some((2, ScheduleKind::Rank))),
+        (
+            "crash a 1 0 crash a 1 0 start 0 0\n",
+            Some((2, ScheduleKind::Word)),
+        ),
+        ("fail b 2 1 timer 2 sync 9\n", None),
+        ("fail a 1 0 client 0 1 1 1 set k \n", None),
+        (
+            "fail a 1 0 fail a 1 0 start 0 0\n",
+            Some((2, ScheduleKind::Word)),
+        ),
+        ("fail a 01 0 start 0 0\n", Some((2, ScheduleKind::Number))),
     ] {
-        let text = format!(in alloc; "monitors 1 classic\n{body}")?;
-        assert_eq!(rt; refused_line(alloc, text.as_bytes()), Some(line), "{body}");
-    }
-    for text in [
-        "",
-        "monitors 1 classic",
-        "monitors 3 classic\n",
-        "monitors 1 classic \n",
-    ] {
-        assert_eq!(rt; refused_line(alloc, text.as_bytes()), Some(1), "{text}");
+        let text = format!(in alloc; "monitors 3 classic\n{body}")?;
+        assert_eq!(rt; refused(alloc, text.as_bytes()), fault, "{body}");
     }
     Ok(())
 }
 
 #[test]
-fn limits_of_values_sets_events_and_bytes(rt: HostRuntime) -> Result<(), Fail> {
+fn first_lines_are_refused_as_header_or_end(rt: HostRuntime) -> Result<(), Fail> {
     let alloc = rt.alloc();
-    let most = set_line(alloc, 200)?;
-    let longer = set_line(alloc, 201)?;
-    for (line, count, refused) in [
-        (most.as_str(), 24u32, None),
-        (most.as_str(), 25, Some(26u32)),
-        (longer.as_str(), 1, Some(2)),
-        ("start 0 0\n", 200000, None),
-        ("start 0 0\n", 200001, Some(200002)),
+    for (text, fault) in [
+        ("", Some((1, ScheduleKind::Header))),
+        ("monitors 3 classic", Some((1, ScheduleKind::End))),
+        ("monitors 3 classic\n", None),
+        ("monitors 3 classic \n", Some((1, ScheduleKind::Header))),
+        ("monitors 0 classic\n", Some((1, ScheduleKind::Header))),
+        ("monitors 16 classic\n", Some((1, ScheduleKind::Header))),
+        ("monitors 15 connectivity\n", None),
+        ("monitors 03 classic\n", Some((1, ScheduleKind::Header))),
+        ("monitors 3\n", Some((1, ScheduleKind::Header))),
+        ("monitor 3 classic\n", Some((1, ScheduleKind::Header))),
+        ("monitors 3 disallow\n", Some((1, ScheduleKind::Header))),
+        ("monitors 3 disallow=\n", Some((1, ScheduleKind::Header))),
+        ("monitors 3 disallow=0\n", None),
+        ("monitors 3 disallow=0,2\n", None),
+        ("monitors 3 disallow=2,0\n", Some((1, ScheduleKind::Header))),
+        ("monitors 3 disallow=0,0\n", Some((1, ScheduleKind::Header))),
+        ("monitors 3 disallow=3\n", Some((1, ScheduleKind::Header))),
+        ("monitors 3 disallow=00\n", Some((1, ScheduleKind::Header))),
+        ("monitors 3 disallow=0,\n", Some((1, ScheduleKind::Header))),
+        ("monitors 3 disallow=0,1,2\n", None),
+        ("monitors 15 connectivity=9,10,14\n", None),
+        (
+            "monitors 3 connectivity=\n",
+            Some((1, ScheduleKind::Header)),
+        ),
+        ("monitors 3 connectivity=1\n", None),
+        ("monitors 3 classic=0\n", Some((1, ScheduleKind::Header))),
+        ("\n", Some((1, ScheduleKind::Header))),
     ] {
-        let text = repeated(alloc, line, count)?;
-        assert_eq!(rt; refused_line(alloc, text.as_bytes()), refused, "{count}");
+        assert_eq!(rt; refused(alloc, text.as_bytes()), fault, "{text}");
+    }
+    Ok(())
+}
+
+/// A set with a key of so many bytes.
+fn set_of_key(alloc: Global, length: u32) -> Result<String, AllocError> {
+    let mut text = String::from_str(alloc, "monitors 3 classic\nclient 0 1 1 1 set ")?;
+    for _ in 0..length {
+        text.push_str("k")?;
+    }
+    text.push_str(" v\n")?;
+    Ok(text)
+}
+
+#[test]
+fn limits_of_events_and_bytes(rt: HostRuntime) -> Result<(), Fail> {
+    let alloc = rt.alloc();
+    for (count, fault) in [
+        (200000u32, None),
+        (200001, Some((200002u32, ScheduleKind::TooMany))),
+    ] {
+        let text = repeated(alloc, "start 0 0\n", count)?;
+        assert_eq!(rt; refused(alloc, text.as_bytes()), fault, "{count}");
+    }
+    for (length, fault) in [(255u32, None), (256, Some((2u32, ScheduleKind::Word)))] {
+        let text = set_of_key(alloc, length)?;
+        assert_eq!(rt; refused(alloc, text.as_bytes()), fault, "{length}");
     }
     let text = vec![in alloc; 97; 16777217]?;
-    assert_eq!(rt; refused_line(alloc, &text), Some(0));
-    assert_eq!(rt; refused_line(alloc, &text[1..]), Some(1));
+    assert_eq!(rt; refused(alloc, &text), Some((0, ScheduleKind::TooLong)));
+    assert_eq!(rt; refused(alloc, &text[1..]), Some((1, ScheduleKind::End)));
     Ok(())
 }
 
@@ -98,14 +206,14 @@ fn limits_of_values_sets_events_and_bytes(rt: HostRuntime) -> Result<(), Fail> {
 fn what_is_read_is_printed_again(rt: HostRuntime) -> Result<(), Fail> {
     let alloc = rt.alloc();
     let text =
-        "monitors 1 classic\nclient 0 0 1 1 show kv\nstart 0 0\nclient 0 4611686018427387904 4294967295 4611686018427387904 set ~ \nclient 0 30 1 3 set b \"\\ y \n";
+        "monitors 13 disallow=0,2,12\nclient 12 0 1 1 show log\nstart 0 0\nclient 0 4611686018427387904 4294967295 4611686018427387904 set ~ \nclient 0 30 1 3 set b \"\\ y \ndeliver 18446744073709551615 1\ntimer 10 leaseack 2\ncrash a 1000 3 client 1 2 3 4 log \nfail b 1 0 client 1 2 3 4 since kv 7\nclient 3 4 5 6 remove k\n";
     let schedule = parse(alloc, text.as_bytes())?;
-    assert_eq!(rt; schedule.events.as_slice().len(), 4);
+    assert_eq!(rt; schedule.events.as_slice().len(), 9);
     assert!(rt; schedule.has_text());
     assert_eq!(rt; print(alloc, &schedule)?.as_slice(), text.as_bytes());
     assert_eq!(rt;
         header_line(alloc, &schedule)?.as_slice(),
-        b"monitors 1 classic\n".as_slice()
+        b"monitors 13 disallow=0,2,12\n".as_slice()
     );
     Ok(())
 }
@@ -168,8 +276,25 @@ fn lines_of_a_trace(rt: HostRuntime) -> Result<(), Fail> {
     };
     let mut down = replied(alloc, 1, Some(0), Reply::Unavailable)?;
     down.outcome = Outcome::Down;
+    let mut unsent = replied(alloc, 0, None, Reply::NoSuch)?;
+    unsent.outcome = Outcome::NoMessage;
+    let mut crashed = replied(alloc, 3, Some(0), Reply::NoSuch)?;
+    crashed.outcome = Outcome::Crashed { kept: true };
+    let mut failed = replied(alloc, 3, None, Reply::NoSuch)?;
+    failed.outcome = Outcome::Failed { kept: false };
     for (step, lines) in [
         (down, "  down\n"),
+        (unsent, "  none\n"),
+        (crashed, "  crashed kept\n"),
+        (failed, "  failed lost\n"),
+        (
+            replied(alloc, 0, None, Reply::NoSuch)?,
+            "  reply 0 1.2 nosuch\n",
+        ),
+        (
+            replied(alloc, 0, None, Reply::Busy { waiting: 64 })?,
+            "  reply 0 1.2 busy waiting=64\n",
+        ),
         (
             replied(
                 alloc,

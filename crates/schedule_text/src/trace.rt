@@ -1,11 +1,11 @@
 ghost use Rattle.std.specs.Prelude.{◌≡◌, ◌<◌, ◌^◌, ◌++◌, string_bytes, IfOk, OnOk};
 ghost use Rattle.std.specs.List.{flat_map};
-ghost use Rattle.schedule_text.specs.Trace.{phase_text, flag_text, since_text, reply_text, reply_line, store_lines, state_lines, done_lines, step_lines, end_text};
+ghost use Rattle.schedule_text.specs.Trace.{phase_text, flag_text, fate_text, since_text, reply_text, reply_line, store_lines, state_lines, done_lines, step_lines, end_text};
 
-use crate::display::service_word;
 use crate::event::Event;
 use crate::shown::put_shown;
 use crate::step::{Outcome, Replied, StateLine, StepLine};
+use crate::words::service_word;
 use mon_bytes::OutOfMemory;
 use mon_msg::{Phase, Reply, Service};
 use mon_types::Version;
@@ -32,6 +32,13 @@ fn flag(value: bool) -> &'static str
     ensures { result.now ≡ flag_text value }
 {
     if value { "1" } else { "0" }
+}
+
+/// What became of a transaction.
+fn fate(kept: bool) -> &'static str
+    ensures { result.now ≡ fate_text kept }
+{
+    if kept { "kept" } else { "lost" }
 }
 
 /// The text of an answer with so many incrementals.
@@ -147,6 +154,15 @@ fn put_done(alloc: Global, out: &mut String, step: &StepLine) -> Result<(), Allo
             put_replies(alloc, out, step.replies.as_slice())
         }
         Outcome::Down => out.push_str("  down\n"),
+        Outcome::NoMessage => out.push_str("  none\n"),
+        Outcome::Crashed { kept } => {
+            let fate = fate(kept);
+            write!(out, "  crashed {fate}\n")
+        }
+        Outcome::Failed { kept } => {
+            let fate = fate(kept);
+            write!(out, "  failed {fate}\n")
+        }
     }
 }
 

@@ -4,4 +4,4 @@ use Rattle.schedule_text.specs.Spelling.{header, ended_line, event_line}
 use Rattle.schedule_text.proofs.printer.spelled.Given as goal
 
 abbrev pub invariant-loop-event : goal.invariant-loop-event
-invariant-loop-event l = string_bytes l.out ≡ ended_line header ++ flat_map event_line (take l.event-index l.schedule.events)
+invariant-loop-event l = string_bytes l.out ≡ ended_line (header l.schedule.monitors l.schedule.rule) ++ flat_map event_line (take l.event-index l.schedule.events)

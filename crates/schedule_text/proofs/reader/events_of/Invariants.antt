@@ -5,9 +5,8 @@ use Rattle.schedule_text.proofs.reader.events_of.Given as goal
 
 abbrev pub invariant-loop-after : goal.invariant-loop-after
 invariant-loop-after l = record {
-  so_far : with_front l.events (events_at l.count l.sets (lines_of l.rest).0 (lines_of l.rest).1) ≡ events_at 0 0 (lines_of l.body).0 (lines_of l.body).1;
+  so_far : with_front l.events (events_at l.monitors l.count (lines_of l.rest).0 (lines_of l.rest).1) ≡ events_at l.monitors 0 (lines_of l.body).0 (lines_of l.body).1;
   count : l.count ≤ 200000;
-  sets : l.sets ≤ l.count;
 }
 
 abbrev pub decreases-loop-after : goal.decreases-loop-after

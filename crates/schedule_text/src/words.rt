@@ -1,0 +1,43 @@
+//! The words of schedules and traces.
+
+ghost use Rattle.std.specs.Prelude.{◌≡◌};
+ghost use Rattle.schedule_text.specs.Words.{service_text, side_text, timer_text};
+
+use mon_msg::{Service, Timer};
+use mon_types::Side;
+
+pub fn service_word(service: Service) -> &'static str
+    ensures { result.now ≡ service_text service }
+{
+    match service {
+        Service::Kv => "kv",
+        Service::Log => "log",
+    }
+}
+
+pub fn side_word(side: Side) -> &'static str
+    ensures { result.now ≡ side_text side }
+{
+    match side {
+        Side::A => "a",
+        Side::B => "b",
+    }
+}
+
+pub fn timer_word(timer: Timer) -> &'static str
+    ensures { result.now ≡ timer_text timer }
+{
+    match timer {
+        Timer::Probe => "probe",
+        Timer::Election => "election",
+        Timer::Collect => "collect",
+        Timer::Accept => "accept",
+        Timer::Renew => "renew",
+        Timer::LeaseAck => "leaseack",
+        Timer::Lease => "lease",
+        Timer::Sync => "sync",
+        Timer::Step => "step",
+        Timer::Propose => "propose",
+        Timer::Ping => "ping",
+    }
+}
