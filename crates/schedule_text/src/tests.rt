@@ -256,75 +256,77 @@ fn replied(alloc: Global, ops: u32, last: Option<u64>, reply: Reply) -> Result<S
     })
 }
 
-#[test]
-fn lines_of_a_trace(rt: HostRuntime) -> Result<(), Fail> {
-    let alloc = rt.alloc();
+/// Whether a show's lines in the trace are these, behind its own.
+fn is_traced(alloc: Global, step: &StepLine, lines: &str) -> Result<bool, Fail> {
     let schedule = parse(alloc, b"monitors 1 classic\nclient 0 40 1 2 show kv\n")?;
     let Some(event) = schedule.events.as_slice().first() else {
         return Err(Fail::from("an event"));
     };
-    let map = shown(alloc)?;
+    let wanted = format!(in alloc; "7 client 0 40 1 2 show kv\n{lines}")?;
+    let written = trace_line(alloc, 7, event, step)?;
+    Ok(written.as_slice() == wanted.as_bytes())
+}
+
+#[test]
+fn lines_of_what_stops_an_event(rt: HostRuntime) -> Result<(), Fail> {
+    let alloc = rt.alloc();
+    for (outcome, lines) in [
+        (Outcome::Down, "  down\n"),
+        (Outcome::NoMessage, "  none\n"),
+        (Outcome::Crashed { kept: true }, "  crashed kept\n"),
+        (Outcome::Failed { kept: false }, "  failed lost\n"),
+    ] {
+        let mut step = replied(alloc, 3, Some(0), Reply::NoSuch)?;
+        step.outcome = outcome;
+        assert!(rt; is_traced(alloc, &step, lines)?, "{lines}");
+    }
+    Ok(())
+}
+
+#[test]
+fn lines_of_replies(rt: HostRuntime) -> Result<(), Fail> {
+    let alloc = rt.alloc();
+    let nosuch = replied(alloc, 0, None, Reply::NoSuch)?;
+    assert!(rt; is_traced(alloc, &nosuch, "  reply 0 1.2 nosuch\n")?);
+    let busy = replied(alloc, 0, None, Reply::Busy { waiting: 64 })?;
+    assert!(rt; is_traced(alloc, &busy, "  reply 0 1.2 busy waiting=64\n")?);
+    let unavailable = replied(alloc, 0, None, Reply::Unavailable)?;
+    assert!(rt; is_traced(alloc, &unavailable, "  reply 0 1.2 unavailable\n")?);
+    let has = version(0)?;
+    let unread = replied(alloc, 0, None, Reply::NotReadable { has, lease: true })?;
+    assert!(rt; is_traced(alloc, &unread, "  reply 0 1.2 notreadable has=0 lease=1\n")?);
+    Ok(())
+}
+
+#[test]
+fn lines_of_a_command_and_a_show(rt: HostRuntime) -> Result<(), Fail> {
+    let alloc = rt.alloc();
+    let version_1 = version(1)?;
+    let done = replied(alloc, 6, Some(1), Reply::Done { version: version_1 })?;
+    assert!(rt;
+        is_traced(
+            alloc,
+            &done,
+            "  store 6\n  is active epoch 2 last 1\n  reply 0 1.2 done 1\n"
+        )?
+    );
+    let version_3 = version(3)?;
     let show = Reply::Shown {
         service: Service::Kv,
-        paxos: version(3)?,
-        version: version(3)?,
-        map,
+        paxos: version_3,
+        version: version_3,
+        map: shown(alloc)?,
     };
-    let unread = Reply::NotReadable {
-        has: version(0)?,
-        lease: true,
-    };
-    let mut down = replied(alloc, 1, Some(0), Reply::Unavailable)?;
-    down.outcome = Outcome::Down;
-    let mut unsent = replied(alloc, 0, None, Reply::NoSuch)?;
-    unsent.outcome = Outcome::NoMessage;
-    let mut crashed = replied(alloc, 3, Some(0), Reply::NoSuch)?;
-    crashed.outcome = Outcome::Crashed { kept: true };
-    let mut failed = replied(alloc, 3, None, Reply::NoSuch)?;
-    failed.outcome = Outcome::Failed { kept: false };
-    for (step, lines) in [
-        (down, "  down\n"),
-        (unsent, "  none\n"),
-        (crashed, "  crashed kept\n"),
-        (failed, "  failed lost\n"),
-        (
-            replied(alloc, 0, None, Reply::NoSuch)?,
-            "  reply 0 1.2 nosuch\n",
-        ),
-        (
-            replied(alloc, 0, None, Reply::Busy { waiting: 64 })?,
-            "  reply 0 1.2 busy waiting=64\n",
-        ),
-        (
-            replied(
-                alloc,
-                6,
-                Some(1),
-                Reply::Done {
-                    version: version(1)?,
-                },
-            )?,
-            "  store 6\n  is active epoch 2 last 1\n  reply 0 1.2 done 1\n",
-        ),
-        (
-            replied(alloc, 0, None, show)?,
-            "  reply 0 1.2 shown kv paxos=3 version=3 {\"a\":\"x\",\"b\":\"\\\"\\\\ y \",\"~\":\"\"}\n",
-        ),
-        (
-            replied(alloc, 0, None, unread)?,
-            "  reply 0 1.2 notreadable has=0 lease=1\n",
-        ),
-        (
-            replied(alloc, 0, None, Reply::Unavailable)?,
-            "  reply 0 1.2 unavailable\n",
-        ),
-    ] {
-        let wanted = format!(in alloc; "7 client 0 40 1 2 show kv\n{lines}")?;
-        let written = trace_line(alloc, 7, event, &step)?;
-        assert_eq!(rt; written.as_slice(), wanted.as_bytes());
-    }
+    let line =
+        "  reply 0 1.2 shown kv paxos=3 version=3 {\"a\":\"x\",\"b\":\"\\\"\\\\ y \",\"~\":\"\"}\n";
+    assert!(rt; is_traced(alloc, &replied(alloc, 0, None, show)?, line)?);
+    Ok(())
+}
+
+#[test]
+fn the_last_line_of_a_trace(rt: HostRuntime) -> Result<(), Fail> {
     assert_eq!(rt;
-        end_line(alloc, 7, 3)?.as_slice(),
+        end_line(rt.alloc(), 7, 3)?.as_slice(),
         b"end events=7 log=3\n".as_slice()
     );
     Ok(())
