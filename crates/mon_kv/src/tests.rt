@@ -108,9 +108,9 @@ fn a_short_and_a_long_range_erase_the_numbers_in_them(rt: HostRuntime) -> Result
     for (from, to, left, size) in [
         (99, 101, [none, none, 1000], 77u64),
         (99, 103, [none, none, 1000], 77),
-        (100, none, [99, none, none], 76),
-        (0, 99, [99, 100, 1000], 125),
-        (0, none, [none, none, none], 52),
+        (100, none, [99, none, none], 75),
+        (0, 99, [99, 100, 1000], 140),
+        (0, none, [none, none, none], 44),
     ] {
         let mut tx = Transaction::new(alloc);
         for key in ["99", "100", "1000", "first_committed"] {
