@@ -1,6 +1,7 @@
 ghost use Rattle.std.specs.Prelude.{◌≡◌, ℕ, ◌-◌, ◌^◌, ◌<◌, ◌≤◌, ◌∷◌, ◌++◌, min, length, Err, IfOk, OnOk, IsTrue};
-ghost use Rattle.std.specs.List.{flat_map, list_any};
-ghost use Rattle.mon_tx.specs.Text.{op_text, text, format, is_range, value_len, most};
+ghost use Rattle.std.specs.List.{flat_map, list_all, list_any, AllByRecursion};
+ghost use Rattle.mon_tx.specs.Text.{op_text, text, format, is_range, is_upward, value_len, most};
+ghost use Rattle.mon_tx.specs.Decode.{OpFits, HasText};
 
 use crate::op::Op;
 use crate::transaction::Transaction;
@@ -45,8 +46,10 @@ fn put_word(out: &mut Out, word: &[u8]) -> Result<(), OutOfMemory>
 }
 
 fn put_op(out: &mut Out, op: &Op) -> Result<(), OutOfMemory>
-    requires { value_len op.now < 2 ^ 32 }
-    ensures { OnOk result (out.new ≡ out.old ++ op_text op.now) }
+    requires short { value_len op.now < 2 ^ 32 }
+    requires upward { IsTrue (is_upward op.now) }
+    ensures text { OnOk result (out.new ≡ out.old ++ op_text op.now) }
+    ensures fits { OnOk result (OpFits op.now) }
 {
     match op {
         Op::Put { prefix, key, value } => {
@@ -106,8 +109,10 @@ fn text_len(ops: &[Op]) -> u64
 }
 
 fn put_ops(out: &mut Out, ops: &[Op]) -> Result<(), OutOfMemory>
-    requires { length (text ops.now) ≤ most }
-    ensures { OnOk result (out.new ≡ out.old ++ text ops.now) }
+    requires short { length (text ops.now) ≤ most }
+    requires upward { IsTrue (list_all is_upward ops.now) }
+    ensures text { OnOk result (out.new ≡ out.old ++ text ops.now) }
+    ensures fits { OnOk result (AllByRecursion OpFits ops.now) }
 {
     out.put_u8(format(ops))?;
     out.put_u32(ops.len() as u32)?;
@@ -118,14 +123,22 @@ fn put_ops(out: &mut Out, ops: &[Op]) -> Result<(), OutOfMemory>
 }
 
 impl Transaction {
+    /// How many bytes the one text of the transaction has, 2^64 - 1 where that is more. It takes no memory.
+    pub fn text_len(&self) -> u64
+        ensures { result ≡ min (length (text self.now)) (2 ^ 64 - 1) }
+    {
+        text_len(self.ops())
+    }
+
     /// The one text of the transaction. `TooLong` exactly where it has more than 4,194,304 bytes.
     pub fn encode(&self) -> Result<Vec<u8>, EncodeRefused>
         ensures text { IfOk result (λ bytes. bytes.items ≡ text self.now) }
         ensures fits { IfOk result (λ bytes. length bytes.items ≤ most) }
+        ensures form { IfOk result (λ _. HasText self.now) }
         ensures too_long { (len : ℕ) → result ≡ Err (EncodeRefused.TooLong len) → (most < length (text self.now)) × (len ≡ min (length (text self.now)) (2 ^ 64 - 1)) }
         ensures whole { most < length (text self.now) → result ≡ Err (EncodeRefused.TooLong (min (length (text self.now)) (2 ^ 64 - 1))) }
     {
-        let len = text_len(self.ops());
+        let len = self.text_len();
         if len > MOST_BYTES {
             return Err(EncodeRefused::TooLong { len });
         }

@@ -14,7 +14,10 @@ fn as_the_row_says(rt: HostRuntime, row: Row) -> Result<bool, Fail> {
         return Ok(false);
     }
     match decode(alloc, bytes) {
-        Ok(tx) => Ok(refused.is_none() && tx.encode()?.as_slice() == bytes),
+        Ok(tx) => {
+            let whole = tx.text_len() == bytes.len() as u64;
+            Ok(refused.is_none() && whole && tx.encode()?.as_slice() == bytes)
+        }
         Err(found) => Ok(refused == Some(found)),
     }
 }
