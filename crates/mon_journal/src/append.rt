@@ -1,4 +1,4 @@
-ghost use Rattle.std.specs.Prelude.{◌≡◌, ◌<◌, ◌^◌, ◌++◌, [], ◌∷◌, length, OnOk, OnErr, IfErr, IfSome};
+ghost use Rattle.std.specs.Prelude.{◌≡◌, ◌<◌, ◌^◌, ◌++◌, [], ◌∷◌, length, is_some, OnOk, OnErr, IfErr, IfSome};
 ghost use Rattle.mon_disk.specs.Images.{LeavesOnly};
 ghost use Rattle.mon_journal.specs.Content.{appended, WithOrWithout};
 ghost use Rattle.mon_journal.specs.Steps.{append_calls, payloads_seen, Stands, Keeps, Makes, IsOutside, HasFault};
@@ -24,6 +24,7 @@ impl Journal {
         requires stands { Stands self.old (D.known disk.old) (D.content disk.old) }
         ensures kept { OnOk result (Keeps self.new (payloads_seen (D.content disk.old) ++ payload.now ∷ []) (D.known disk.new) (D.content disk.new)) }
         ensures journal { OnOk result (self.new ≡ appended self.old payload.now) }
+        ensures tells { is_some (D.content disk.new).seen ≡ is_some (D.content disk.old).seen }
         ensures journal_err { OnErr result (self.new ≡ self.old) }
 
         // A crash at any moment of the call leaves the payloads from before it, and the new one where its gate is open.

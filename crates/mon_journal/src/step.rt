@@ -1,6 +1,6 @@
 //! A write that is on the disk before the next one begins.
 
-ghost use Rattle.std.specs.Prelude.{◌≡◌, ◌≤◌, ◌+◌, max, length, [], ◌∷◌, OnOk, IfErr};
+ghost use Rattle.std.specs.Prelude.{◌≡◌, ◌≤◌, ◌+◌, max, length, [], ◌∷◌, is_some, OnOk, IfErr};
 ghost use Rattle.mon_disk.specs.Images.{Only, LeavesOnly, written};
 ghost use Rattle.mon_disk.specs.declared.disk.DiskCall.TheVariants.{Write, Sync};
 ghost use Rattle.mon_journal.specs.Steps.{Makes, IsOutside, HasFault, TornFrom};
@@ -13,6 +13,7 @@ pub fn write_synced<D: Disk>(disk: &mut D, at: u64, bytes: &[u8]) -> Result<(), 
     requires { at ≤ D.known disk.old }
     ensures seen { OnOk result ((D.content disk.new).seen ≡ written at bytes.now (D.content disk.old).seen) }
     ensures durable { OnOk result (Only (D.content disk.new)) }
+    ensures tells { is_some (D.content disk.new).seen ≡ is_some (D.content disk.old).seen }
     ensures known { OnOk result (D.known disk.new ≡ max (D.known disk.old) (at + length bytes.now)) }
     ensures any_moment { LeavesOnly (D.content disk.old) (D.content disk.new) (TornFrom (D.content disk.old) at bytes.now) }
     ensures calls { Makes (Write at bytes.now ∷ Sync ∷ []) (D.told disk.old) (D.told disk.new) result }

@@ -3,7 +3,7 @@
 ghost use Rattle.std.specs.Prelude.{◌≡◌, ℕ, [], ◌≤◌, ◌^◌, OnOk, IfSome, IsTrue, Some};
 ghost use Rattle.std.specs.FinMap.{get};
 ghost use Rattle.std.specs.Option.{option_copied, option_map};
-ghost use Rattle.mon_bytes.specs.Texts.{is_prefix};
+ghost use Rattle.mon_bytes.specs.Texts.{is_name, is_prefix};
 ghost use Rattle.mon_tx.specs.Map.{number_in, number_at, apply_op, apply};
 ghost use Rattle.mon_kv.specs.Tree.{first};
 ghost use Rattle.mon_kv.specs.Readers.{entry_of, found_of, entries_after};
@@ -106,7 +106,9 @@ impl Kv {
     /// The first entry above the pair of prefix and key, in the order by prefix and then key. It is `None` exactly where
     /// there is none. Two empty slices stand before every entry.
     pub fn next_entry(&self, prefix: &[u8], key: &[u8]) -> Option<EntryRef<'_>>
-        ensures { option_map entry_of result ≡ first (entries_after self.now (prefix.now, key.now)) }
+        ensures value { option_map entry_of result ≡ first (entries_after self.now (prefix.now, key.now)) }
+        ensures form { IfSome result (λ e. IsTrue (is_prefix e.prefix.now) × IsTrue (is_name e.key.now)) }
+        ensures start { entries_after self.now ([], []) ≡ entries self.now }
     {
         match self.next_found(prefix, key) {
             Some(found) => Some(EntryRef {
@@ -122,6 +124,7 @@ impl Kv {
     pub(crate) fn next_found(&self, prefix: &[u8], key: &[u8]) -> Option<Found<'_>>
         ensures value { option_map found_of result ≡ first (entries_after self.now (prefix.now, key.now)) }
         ensures form { IfSome result (λ e. IsTrue (is_prefix e.prefix.now)) }
+        ensures start { entries_after self.now ([], []) ≡ entries self.now }
     {
         next(&self.areas, prefix, key)
     }
