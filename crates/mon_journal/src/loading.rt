@@ -1,6 +1,6 @@
 //! A whole disk, read once it is synced.
 
-ghost use Rattle.std.specs.Prelude.{◌≡◌, [], ◌∷◌, length, OnOk, IfOk, IfErr, IfSome};
+ghost use Rattle.std.specs.Prelude.{◌≡◌, [], ◌∷◌, length, is_some, OnOk, IfOk, IfErr, IfSome};
 ghost use Rattle.mon_disk.specs.Images.{Only, LeavesOnly, images};
 ghost use Rattle.mon_disk.specs.declared.disk.DiskCall.TheVariants.{Sync};
 ghost use Rattle.mon_journal.specs.Steps.{Makes, IsOutside, HasFault};
@@ -15,6 +15,7 @@ fn synced_len<D: Disk>(disk: &mut D) -> Result<u64, JournalStop>
     ensures known { IfOk result (λ n. D.known disk.new ≡ n) }
     ensures seen { OnOk result ((D.content disk.new).seen ≡ (D.content disk.old).seen) }
     ensures durable { OnOk result (Only (D.content disk.new)) }
+    ensures tells { is_some (D.content disk.new).seen ≡ is_some (D.content disk.old).seen }
     ensures any_moment { LeavesOnly (D.content disk.old) (D.content disk.new) (images (D.content disk.old)) }
     ensures calls { Makes (Sync ∷ []) (D.told disk.old) (D.told disk.new) result }
     ensures outside { IfErr result IsOutside }
@@ -37,6 +38,7 @@ pub fn load<D: Disk>(alloc: Global, disk: &mut D) -> Result<Vec<u8>, JournalStop
     ensures known { IfOk result (λ bytes. D.known disk.new ≡ length bytes.items) }
     ensures seen { OnOk result ((D.content disk.new).seen ≡ (D.content disk.old).seen) }
     ensures durable { OnOk result (Only (D.content disk.new)) }
+    ensures tells { is_some (D.content disk.new).seen ≡ is_some (D.content disk.old).seen }
     ensures any_moment { LeavesOnly (D.content disk.old) (D.content disk.new) (images (D.content disk.old)) }
     ensures calls { Makes (Sync ∷ []) (D.told disk.old) (D.told disk.new) result }
     ensures outside { IfErr result IsOutside }

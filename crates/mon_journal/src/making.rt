@@ -1,4 +1,4 @@
-ghost use Rattle.std.specs.Prelude.{◌≡◌, ◌≤◌, ◌<◌, ◌^◌, Some, length, IfOk, IfErr, option_map};
+ghost use Rattle.std.specs.Prelude.{◌≡◌, ◌≤◌, ◌<◌, ◌^◌, Some, length, is_some, IfOk, IfErr, option_map};
 ghost use Rattle.std.specs.Option.{ForSome};
 ghost use Rattle.mon_disk.specs.Images.{LeavesOnly};
 ghost use Rattle.mon_journal.specs.Written.{first_payloads, owner_of, created};
@@ -26,6 +26,7 @@ pub fn create<D: Disk>(
     requires short { ForSome first (λ payload. length payload.now < 2 ^ 32) }
     ensures journal { IfOk result (λ journal. journal ≡ created member generation (option_map (λ payload. payload.now) first.entry)) }
     ensures kept { IfOk result (λ journal. Keeps journal (first_payloads (option_map (λ payload. payload.now) first.entry)) (D.known disk.new) (D.content disk.new)) }
+    ensures tells { is_some (D.content disk.new).seen ≡ is_some (D.content disk.old).seen }
 
     // A crash at any moment of the call leaves what it might have left before, a closed file, or the new one.
     ensures any_moment { let payload = option_map (λ payload. payload.now) first.entry in LeavesOnly (D.content disk.old) (D.content disk.new) (CreatedFrom (D.content disk.old) (created member generation payload) (first_payloads payload)) }
@@ -60,6 +61,7 @@ pub fn restart<D: Disk>(
     requires short { length checkpoint.now < 2 ^ 32 }
     ensures journal { IfOk result (λ journal. journal ≡ created member generation (Some checkpoint.now)) }
     ensures kept { IfOk result (λ journal. Keeps journal (first_payloads (Some checkpoint.now)) (D.known disk.new) (D.content disk.new)) }
+    ensures tells { is_some (D.content disk.new).seen ≡ is_some (D.content disk.old).seen }
 
     // A crash at any moment of the call leaves what it might have left before, a closed file, or the new one.
     ensures any_moment { LeavesOnly (D.content disk.old) (D.content disk.new) (CreatedFrom (D.content disk.old) (created member generation (Some checkpoint.now)) (first_payloads (Some checkpoint.now))) }

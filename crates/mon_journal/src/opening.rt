@@ -1,4 +1,4 @@
-ghost use Rattle.std.specs.Prelude.{◌≡◌, IfSome};
+ghost use Rattle.std.specs.Prelude.{◌≡◌, is_some, IfSome};
 ghost use Rattle.mon_disk.specs.Images.{LeavesOnly};
 ghost use Rattle.mon_journal.specs.Content.{content};
 ghost use Rattle.mon_journal.specs.Steps.{open_calls, AlikeFrom, Opens, Makes, HasFault};
@@ -31,6 +31,7 @@ pub enum Opened {
 /// have.
 pub fn open<D: Disk>(alloc: Global, disk: &mut D) -> Result<Opened, JournalStop>
     ensures found { Opens (D.content disk.old).seen (D.known disk.new) (D.content disk.new) result }
+    ensures tells { is_some (D.content disk.new).seen ≡ is_some (D.content disk.old).seen }
 
     // A crash at any moment of the call leaves a file that stands for what one did that it might have left before.
     ensures any_moment { LeavesOnly (D.content disk.old) (D.content disk.new) (AlikeFrom (D.content disk.old)) }

@@ -1,0 +1,84 @@
+-- What opening answers, from what was found.
+use Rattle.std.proofs.Common.{◌≡◌, ℕ, List, length, Option, Some, None, Result, Ok, Err, refl, sym, ap, subst, ◌∙◌}
+use Rattle.std.specs.Prelude.{IfSome, IfOk, IfErr}
+use Rattle.std.specs.FinMap.{empty}
+use Rattle.mon_types.specs.declared.names.Side.{Side}
+use Rattle.mon_types.specs.declared.names.Side.TheVariants.{A, B}
+use Rattle.mon_disk.specs.Images.{Content}
+use Rattle.mon_tx.specs.Map.{Store}
+use Rattle.mon_journal.specs.declared.journal.Journal.{Journal}
+use Rattle.mon_journal.specs.declared.opening.Opened.{Opened}
+use Rattle.mon_journal.specs.declared.opening.Opened.TheVariants as disk
+use Rattle.mon_journal.specs.Content.{Held, content, held_by}
+use Rattle.mon_journal.specs.Fields.{Owner}
+use Rattle.mon_journal.specs.Steps.{Opens}
+use Rattle.mon_store.specs.declared.stop.OpenStop.{OpenStop}
+use Rattle.mon_store.specs.declared.stop.OpenStop.TheVariants.{DiskFault, OutOfMemory}
+use Rattle.mon_store.specs.declared.stop.OpenStop.TheVariants as stop
+use Rattle.mon_store.specs.declared.opening.Standing.{Standing}
+use Rattle.mon_store.specs.Pair.{◌>>=◌, Refusal, Found, Create, Live, held_on, chosen, found, taken, opened}
+use Rattle.mon_store.specs.Opening.{held_in, len_of, Tells, Gives, Answers, IsOutside}
+use Rattle.mon_store.proofs.Alike.{each_told, holds, at_some}
+
+-- a refusal of a part is one of the whole
+pub tells_on : {X Y : Type 0} (e : OpenStop) (part : Result X Refusal) (whole : Result Y Refusal) → Tells e part → ((r : Refusal) → part ≡ Err r → whole ≡ Err r) → Tells e whole
+tells_on DiskFault part whole h step = tt
+tells_on OutOfMemory part whole h step = tt
+tells_on (stop.NotAStore side at) part whole h step = step _ h
+tells_on (stop.Stranger kept asked) part whole h step = step _ h
+
+opened_err : (owner : Owner) (x y : List ℕ) (r : Refusal) → found x y ≡ Err r → opened owner x y ≡ Err r
+unfolding opened
+opened_err owner x y r is = rw is refl
+
+pub refused : (owner : Owner) (e : OpenStop) (s t : Option (List ℕ)) → IfSome s (λ x. IfSome t (λ y. Tells e (found x y))) → IfSome s (λ x. IfSome t (λ y. Tells e (opened owner x y)))
+refused owner e None t h = tt
+refused owner e (Some x) None h = tt
+refused owner e (Some x) (Some y) h = tells_on e (found x y) (opened owner x y) h (opened_err owner x y)
+
+pub answers_err : (owner : Owner) (e : OpenStop) (s t : Option (List ℕ)) (result : Result Standing OpenStop) → result ≡ Err e → IfSome s (λ x. IfSome t (λ y. Tells e (opened owner x y))) → IfSome s (λ x. IfSome t (λ y. Answers owner x y result))
+answers_err owner e s t result is h = subst (λ (r : Result Standing OpenStop). IfSome s (λ x. IfSome t (λ y. Answers owner x y r))) (sym is) h
+
+-- what was chosen of what the disks were found to hold is what is found in their bytes
+lengths : (a b : Opened) (m n : ℕ) → (held_in a ≡ None → m ≡ len_of a) → (held_in b ≡ None → n ≡ len_of b) → chosen (held_in a) (held_in b) m n ≡ chosen (held_in a) (held_in b) (len_of a) (len_of b)
+lengths (disk.Closed la) (disk.Closed lb) m n p q = rw (p refl, q refl) refl
+lengths (disk.Live j ps) (disk.Closed lb) m n p q = refl
+lengths (disk.Closed la) (disk.Live k qs) m n p q = refl
+lengths (disk.Live j ps) (disk.Live k qs) m n p q = refl
+
+long : (on : Opened) (s : Option (List ℕ)) (known : ℕ) (new : Content) (x : List ℕ) → s ≡ Some x → Opens s known new (Ok on) → held_in on ≡ None → length x ≡ len_of on
+long (disk.Closed len) s known new x is h none = sym (at_some s x (λ file. (content file ≡ None) × (len ≡ length file)) is h.3).1
+long (disk.Live j ps) s known new x is h none = absurd cc
+
+pub found_is : (a b : Opened) (s t : Option (List ℕ)) (known_a known_b : ℕ) (new_a new_b : Content) (x y : List ℕ) → s ≡ Some x → t ≡ Some y → Opens s known_a new_a (Ok a) → Opens t known_b new_b (Ok b)
+    → found x y ≡ chosen (held_in a) (held_in b) (len_of a) (len_of b)
+unfolding found
+found_is a b s t known_a known_b new_a new_b x y p q h k =
+    rw (holds a s known_a new_a x p h A, holds b t known_b new_b y q k B) (lengths a b (length x) (length y) (long a s known_a new_a x p h) (long b t known_b new_b y q k))
+
+module _ (a b : Opened) (s t : Option (List ℕ)) (known_a known_b : ℕ) (new_a new_b : Content) (h : Opens s known_a new_a (Ok a)) (k : Opens t known_b new_b (Ok b)) (owner : Owner) where
+  pub not_chosen : (e : OpenStop) → Tells e (chosen (held_in a) (held_in b) (len_of a) (len_of b)) → IfSome s (λ x. IfSome t (λ y. Tells e (opened owner x y)))
+  not_chosen e tells = each_told s t (λ x y. Tells e (opened owner x y)) (λ x y p q.
+      tells_on e (chosen (held_in a) (held_in b) (len_of a) (len_of b)) (opened owner x y) tells (λ r is. opened_err owner x y r (found_is a b s t known_a known_b new_a new_b x y p q h k ∙ is)))
+
+  opened_is : (place : Found) → chosen (held_in a) (held_in b) (len_of a) (len_of b) ≡ Ok place → (x y : List ℕ) → s ≡ Some x → t ≡ Some y → opened owner x y ≡ taken owner place
+  unfolding opened
+  opened_is place is x y p q = ap (λ f. f >>= taken owner) (found_is a b s t known_a known_b new_a new_b x y p q h k ∙ is)
+
+  -- a store that was created
+  pub answers_new : (result : Result Standing OpenStop) → chosen (held_in a) (held_in b) (len_of a) (len_of b) ≡ Ok Create → IfOk result (λ r. r.side ≡ A) → IfOk result (λ r. r.kv ≡ empty) → IfErr result IsOutside
+      → IfSome s (λ x. IfSome t (λ y. Answers owner x y result))
+  answers_new (Ok r) is side map outside = each_told s t (λ x y. Answers owner x y (Ok r)) (λ x y p q. (Create, opened_is Create is x y p q ∙ ap (λ m. Ok (Create, m)) (sym map), (side, map)))
+  answers_new (Err DiskFault) is side map outside = each_told s t (λ x y. Answers owner x y (Err DiskFault)) (λ x y p q. tt)
+  answers_new (Err OutOfMemory) is side map outside = each_told s t (λ x y. Answers owner x y (Err OutOfMemory)) (λ x y p q. tt)
+  answers_new (Err (stop.NotAStore disk at)) is side map outside = absurd outside
+  answers_new (Err (stop.Stranger kept asked)) is side map outside = absurd outside
+
+  -- a live file
+  pub answers_live : (result : Result Standing OpenStop) (live : Side) (j : Journal) (payloads : List (List ℕ)) → chosen (held_in a) (held_in b) (len_of a) (len_of b) ≡ Ok (Live live (held_by j payloads))
+      → Gives (λ r. (Live live (held_by j payloads), r.kv)) result (taken owner (Live live (held_by j payloads))) → IfOk result (λ r. r.side ≡ live) → IfOk result (λ r. r.journal ≡ j)
+      → IfSome s (λ x. IfSome t (λ y. Answers owner x y result))
+  answers_live (Ok r) live j payloads is gives side journal =
+      each_told s t (λ x y. Answers owner x y (Ok r)) (λ x y p q. (Live live (held_by j payloads), opened_is (Live live (held_by j payloads)) is x y p q ∙ gives, (side, ap Rattle.mon_journal.specs.Content.header_of journal, ap (λ (i : Journal). i.next_gate) journal)))
+  answers_live (Err e) live j payloads is gives side journal =
+      each_told s t (λ x y. Tells e (opened owner x y)) (λ x y p q. tells_on e (taken owner (Live live (held_by j payloads))) (opened owner x y) gives (λ r e_is. opened_is (Live live (held_by j payloads)) is x y p q ∙ e_is))

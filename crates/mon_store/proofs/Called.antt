@@ -1,0 +1,98 @@
+-- The calls of two disks, joined from those of each.
+use Rattle.std.proofs.Common.{◌≡◌, ℕ, true, false, is_some, ◌⊎◌, inl, inr, List, [], ◌∷◌, ◌++◌, Option, Some, None, Result, Ok, Err, refl, sym, ap, subst, ◌∙◌}
+use Rattle.std.specs.Prelude.{IfSome}
+use Rattle.mon_types.specs.declared.names.Side.{Side}
+use Rattle.mon_types.specs.declared.names.Side.TheVariants.{A, B}
+use Rattle.mon_disk.specs.declared.disk.DiskCall.{DiskCall}
+use Rattle.mon_disk.specs.Calls.{Told, and_made, fails_next}
+use Rattle.mon_journal.specs.declared.stop.JournalStop.{JournalStop}
+use Rattle.mon_journal.specs.declared.stop.JournalStop.TheVariants as journal
+use Rattle.mon_journal.specs.Steps.{Makes}
+use Rattle.mon_store.specs.declared.stop.OpenStop.{OpenStop}
+use Rattle.mon_store.specs.declared.stop.OpenStop.TheVariants.{DiskFault, OutOfMemory}
+use Rattle.mon_store.specs.declared.stop.OpenStop.TheVariants as stop
+use Rattle.mon_store.specs.Opening.{named}
+use Rattle.mon_store.specs.OpeningCalls.{calls_on, MakesBoth}
+
+still_told : (call : DiskCall) (s : Option Told) → is_some s ≡ true → is_some (and_made call s) ≡ true
+still_told call None some = absurd cc
+still_told call (Some t) some = refl
+
+at_told : (s : Option Told) (P : Type 0) → is_some s ≡ true → IfSome s (λ t. P) → P
+at_told None P some h = absurd cc
+at_told (Some t) P some h = h
+
+-- the outside refused the one where it refused the other
+pub record Same {T U : Type 0} (one : Result T JournalStop) (other : Result U OpenStop) : Type 0 where
+  pub memory : one ≡ Err journal.OutOfMemory → other ≡ Err OutOfMemory
+  pub fault : one ≡ Err journal.DiskFault → other ≡ Err DiskFault
+  pub back : other ≡ Err DiskFault → one ≡ Err journal.DiskFault
+
+pub same_ok : {T U : Type 0} (x : T) (y : U) → Same {T = T} {U = U} (Ok x) (Ok y)
+same_ok x y = record { memory = λ h. absurd cc; fault = λ h. absurd cc; back = λ h. absurd cc }
+
+pub same_err : {T U : Type 0} (side : Side) (e : JournalStop) → Same {T = T} {U = U} (Err e) (Err (named side e))
+same_err side journal.DiskFault = record { memory = λ h. absurd cc; fault = λ h. refl; back = λ h. refl }
+same_err side (journal.NotAStore at) = record { memory = λ h. absurd cc; fault = λ h. absurd cc; back = λ h. absurd cc }
+same_err side journal.OutOfMemory = record { memory = λ h. refl; fault = λ h. absurd cc; back = λ h. absurd cc }
+
+module _ (T U : Type 0) (one : Result T JournalStop) (other : Result U OpenStop) (same : Same one other) where
+  -- calls of disk A alone
+  pub on_a : (calls : List DiskCall) (a new_a b : Option Told) → is_some a ≡ true → Makes calls a new_a one → MakesBoth (calls_on A calls) a b new_a b other
+  on_a [] a new_a b some m = (m.0, refl, λ h. at_told a ⊥ some (if_not a m.1 h))
+    where
+      if_not : (s : Option Told) → IfSome s (λ t. one ≡ Err journal.DiskFault → ⊥) → other ≡ Err DiskFault → IfSome s (λ t. ⊥)
+      if_not None m h = tt
+      if_not (Some t) m h = m (same.back h)
+  on_a (call ∷ calls) a new_a b some (inl m) = inl (same.memory m.0, m.1, refl)
+  on_a (call ∷ calls) a new_a b some (inr (inl m)) = inr (inl (same.fault m.0, m.1, refl, m.2))
+  on_a (call ∷ calls) a new_a b some (inr (inr m)) = inr (inr (m.0, on_a calls (and_made call a) new_a b (still_told call a some) m.1))
+
+  -- and of disk B alone
+  pub on_b : (calls : List DiskCall) (a b new_b : Option Told) → is_some b ≡ true → Makes calls b new_b one → MakesBoth (calls_on B calls) a b a new_b other
+  on_b [] a b new_b some m = (refl, m.0, λ h. at_told b ⊥ some (if_not b m.1 h))
+    where
+      if_not : (s : Option Told) → IfSome s (λ t. one ≡ Err journal.DiskFault → ⊥) → other ≡ Err DiskFault → IfSome s (λ t. ⊥)
+      if_not None m h = tt
+      if_not (Some t) m h = m (same.back h)
+  on_b (call ∷ calls) a b new_b some (inl m) = inl (same.memory m.0, refl, m.1)
+  on_b (call ∷ calls) a b new_b some (inr (inl m)) = inr (inl (same.fault m.0, refl, m.1, m.2))
+  on_b (call ∷ calls) a b new_b some (inr (inr m)) = inr (inr (m.0, on_b calls a (and_made call b) new_b (still_told call b some) m.1))
+
+-- some calls, and then others
+pub both_then : (T U : Type 0) (calls more : List (Side × DiskCall)) (a b mid_a mid_b new_a new_b : Option Told) (x : T) (result : Result U OpenStop) → MakesBoth {T = T} calls a b mid_a mid_b (Ok x) → MakesBoth more mid_a mid_b new_a new_b result
+    → MakesBoth (calls ++ more) a b new_a new_b result
+both_then T U [] more a b mid_a mid_b new_a new_b x result m n = subst (λ s. MakesBoth more s b new_a new_b result) m.0 (subst (λ s. MakesBoth more mid_a s new_a new_b result) m.1 n)
+both_then T U ((side, call) ∷ calls) more a b mid_a mid_b new_a new_b x result (inl m) n = let bad : Ok x ≡ Err OutOfMemory = m.0 in absurd cc
+both_then T U ((side, call) ∷ calls) more a b mid_a mid_b new_a new_b x result (inr (inl m)) n = let bad : Ok x ≡ Err DiskFault = m.0 in absurd cc
+both_then T U ((side, call) ∷ calls) more a b mid_a mid_b new_a new_b x result (inr (inr m)) n =
+    inr (inr (m.0, both_then T U calls more _ _ mid_a mid_b new_a new_b x result m.1 n))
+
+-- a disk that tells its calls goes on telling them
+pub still_a : (T : Type 0) (calls : List (Side × DiskCall)) (a b new_a new_b : Option Told) (result : Result T OpenStop) → is_some a ≡ true → MakesBoth calls a b new_a new_b result → is_some new_a ≡ true
+still_a T [] a b new_a new_b result some m = ap is_some m.0 ∙ some
+still_a T ((A, call) ∷ calls) a b new_a new_b result some (inl m) = ap is_some m.1 ∙ some
+still_a T ((A, call) ∷ calls) a b new_a new_b result some (inr (inl m)) = ap is_some m.1 ∙ still_told call a some
+still_a T ((A, call) ∷ calls) a b new_a new_b result some (inr (inr m)) = still_a T calls (and_made call a) b new_a new_b result (still_told call a some) m.1
+still_a T ((B, call) ∷ calls) a b new_a new_b result some (inl m) = ap is_some m.1 ∙ some
+still_a T ((B, call) ∷ calls) a b new_a new_b result some (inr (inl m)) = ap is_some m.1 ∙ some
+still_a T ((B, call) ∷ calls) a b new_a new_b result some (inr (inr m)) = still_a T calls a (and_made call b) new_a new_b result some m.1
+
+-- want of memory comes at any point
+no_memory : (U : Type 0) (calls : List (Side × DiskCall)) (a b : Option Told) → MakesBoth {T = U} calls a b a b (Err OutOfMemory)
+no_memory U [] a b = (refl, refl, λ h. absurd cc)
+no_memory U ((side, call) ∷ calls) a b = inl (refl, refl, refl)
+
+-- some calls that end with a refusal, behind which none comes
+pub both_stop : (T U : Type 0) (e : OpenStop) (calls more : List (Side × DiskCall)) (a b new_a new_b : Option Told) → ((e ≡ OutOfMemory → ⊥) → (e ≡ DiskFault → ⊥) → more ≡ []) → MakesBoth {T = T} calls a b new_a new_b (Err e)
+    → MakesBoth {T = U} (calls ++ more) a b new_a new_b (Err e)
+both_stop T U e [] more a b new_a new_b none m = by e none m.2
+  where
+    by : (e : OpenStop) → ((e ≡ OutOfMemory → ⊥) → (e ≡ DiskFault → ⊥) → more ≡ []) → (◌≡◌ {A = Result T OpenStop} (Err e) (Err DiskFault) → ⊥) → MakesBoth {T = U} more a b new_a new_b (Err e)
+    by DiskFault none not = absurd (not refl)
+    by OutOfMemory none not = rw (m.0, m.1) (no_memory U more a b)
+    by (stop.NotAStore side at) none not = rw (none (λ h. cc) (λ h. cc)) (m.0, m.1, λ h. absurd cc)
+    by (stop.Stranger kept asked) none not = rw (none (λ h. cc) (λ h. cc)) (m.0, m.1, λ h. absurd cc)
+both_stop T U e ((side, call) ∷ calls) more a b new_a new_b none (inl m) = let is : e ≡ OutOfMemory = cc in inl (ap (λ x. Err x) is, m.1, m.2)
+both_stop T U e ((side, call) ∷ calls) more a b new_a new_b none (inr (inl m)) = let is : e ≡ DiskFault = cc in inr (inl (ap (λ x. Err x) is, m.1, m.2, m.3))
+both_stop T U e ((side, call) ∷ calls) more a b new_a new_b none (inr (inr m)) = inr (inr (m.0, both_stop T U e calls more _ _ new_a new_b none m.1))

@@ -1,0 +1,60 @@
+-- What stands on the live disk while a transaction is appended.
+use Rattle.std.proofs.Common.{◌≡◌, ◌≢◌, ℕ, ◌+◌, ◌≤◌, ◌<◌, ◌^◌, Bool, true, false, cond, eqb, List, [], ◌∷◌, ◌++◌, length, Option, Some, None, Result, Ok, Err, refl, sym, ap, subst, ◌∙◌, arith}
+use Rattle.std.specs.Prelude.{IfSome, IsSome, slice_index_or}
+use Rattle.std.proofs.lemmas.Bool.{eqb-true}
+use Rattle.mon_disk.specs.Images.{Content, images, Only, LeavesOnly}
+use Rattle.mon_tx.specs.declared.op.Op.{Op}
+use Rattle.mon_tx.specs.Map.{Store, apply}
+use Rattle.mon_tx.specs.Text.{text}
+use Rattle.mon_tx.specs.Decode.{HasText}
+use Rattle.mon_kv.specs.Readers.{size_of}
+use Rattle.mon_journal.specs.declared.stop.JournalStop.{JournalStop}
+use Rattle.mon_journal.specs.declared.journal.Journal.{Journal}
+use Rattle.mon_journal.specs.Content.{Held, content, payloads_of, held_by, appended, Holds, WithOrWithout}
+use Rattle.mon_journal.specs.Steps.{payloads_told, payloads_seen, Stands}
+use Rattle.mon_journal.proofs.Appending.{before_it}
+use Rattle.mon_journal.proofs.Keeping.{seen_holds}
+use Rattle.mon_store.specs.Checkpoint.{most_size}
+use Rattle.mon_store.specs.Sound.{WithChange}
+
+module _ (journal : Journal) (known : ℕ) (x : Content) (stands : Stands journal known x) where
+  -- what a crash may leave now is the journal's
+  pub holds_now : (c : List ℕ) → images x c → Holds journal (payloads_seen x) c
+  holds_now c left = by x.seen (seen_holds journal known x stands) (stands.only c left)
+    where
+      by : (s : Option (List ℕ)) → IfSome s (Holds journal (payloads_told s)) → s ≡ Some c → Holds journal (payloads_told s) c
+      by s holds e = subst (λ (t : Option (List ℕ)). Holds journal (payloads_told t) c) (sym e) (subst (λ (t : Option (List ℕ)). IfSome t (Holds journal (payloads_told t))) e holds)
+
+  -- and its first closed gate is closed
+  shut : (c : List ℕ) → images x c → eqb (slice_index_or c journal.next_gate 0) 1 ≡ false
+  shut c left = by (eqb (slice_index_or c journal.next_gate 0) 1) refl (before_it journal [] (omega arith) x known stands c left)
+    where
+      by : (b : Bool) → eqb (slice_index_or c journal.next_gate 0) 1 ≡ b
+          → content c ≡ Some (Ok (cond b (held_by (appended journal []) (payloads_seen x ++ [] ∷ [])) (held_by journal (payloads_seen x)))) → b ≡ false
+      by false e h = refl
+      by true e h =
+          let both : Some (Ok (held_by (appended journal []) (payloads_seen x ++ [] ∷ []))) ≡ Some (Ok (held_by journal (payloads_seen x))) = sym h ∙ holds_now c left in
+          let same : held_by (appended journal []) (payloads_seen x ++ [] ∷ []) ≡ held_by journal (payloads_seen x) = cc in
+          let gates : journal.next_gate + 5 + 0 ≡ journal.next_gate = ap (λ (held : Held). held.next_gate) same in
+          absurd (omega (arith, gates))
+
+  not_changed : (m : Store) (ops : List Op) (c : List ℕ) → images x c → WithChange journal (payloads_seen x) m ops c
+  not_changed m ops c left = (
+    holds_now c left ∙ ap (λ b. Some (Ok (cond b (held_by (appended journal (text ops)) (payloads_seen x ++ text ops ∷ [])) (held_by journal (payloads_seen x))))) (sym (shut c left)),
+    λ gate. let both : true ≡ false = sym (ap (λ n. eqb n 1) gate) ∙ shut c left in absurd cc,
+  )
+
+  -- before the first call
+  pub not_begun : (m : Store) (ops : List Op) → LeavesOnly x x (WithChange journal (payloads_seen x) m ops)
+  not_begun m ops = record {
+    later = omega arith;
+    past = λ t c le h. h;
+    kept = λ t c le h. h;
+    each = λ t c low high left. let now : t ≡ x.moment = omega (arith, low, high) in not_changed m ops c (subst (λ n. x.images_at n c) now left);
+  }
+
+-- a record of a transaction that has a text and fits
+pub begun : (journal : Journal) (payloads : List (List ℕ)) (m : Store) (ops : List Op) (old new : Content) → HasText ops → size_of (apply ops m) ≤ most_size
+    → LeavesOnly old new (WithOrWithout journal payloads (text ops)) → LeavesOnly old new (WithChange journal payloads m ops)
+begun journal payloads m ops old new form small l =
+    record { later = l.later; past = l.past; kept = l.kept; each = λ t c from to left. (l.each t c from to left, λ gate. (form, small)) }

@@ -1,0 +1,121 @@
+use Rattle.std.proofs.Common.{◌≡◌, ℕ, List, is_some, true, Result, Ok, Err, None, sym, ap, ◌∙◌, ◌≤◌, arith}
+use Rattle.std.proofs.lemmas.Result.{err_from_is_err_and}
+use Rattle.mon_journal.specs.Content.{held_by}
+use Rattle.mon_journal.specs.Written.{owner_of, created}
+use Rattle.mon_store.specs.declared.opening.Both.{Both}
+use Rattle.mon_store.specs.declared.opening.Standing.{Standing}
+use Rattle.mon_store.specs.declared.stop.OpenStop.{OpenStop}
+use Rattle.mon_store.specs.Pair.{Refusal, Found, Create, Live, chosen}
+use Rattle.mon_store.specs.Opening.{held_in, len_of, found_of}
+use Rattle.mon_store.specs.OpeningCalls.{opening_calls, OpensWith}
+use Rattle.mon_store.proofs.Answering.{refused, not_chosen, answers_err, answers_new, answers_live}
+use Rattle.mon_store.proofs.Chosen.{New, chosen_new}
+use Rattle.mon_store.proofs.Creating.{Closed, closed_of, opened_c, sound_new}
+use Rattle.mon_store.proofs.OpenCalls.{calls_refused, calls_none, calls_live, calls_new}
+use Rattle.mon_store.proofs.opening.open_disks.Goals as goal
+
+pub returns-in_err-both-clause-answer : goal.returns-in_err-both-clause-answer
+returns-in_err-both-clause-answer g c =
+    let p = err_from_is_err_and c.from_residual.result c.from_residual.ensures.1 in
+    let e = c.in_err-both.field-0.0 in
+    let s = (g.D.Disk.content c.args.a.now).seen in
+    let t = (g.D.Disk.content c.args.b.now).seen in
+    answers_err (owner_of c.args.member.now) e s t c.from_residual.result (p.1 ∙ ap (λ x. Err x) p.2) (refused (owner_of c.args.member.now) e s t c.in_err-both.ensures.refused)
+
+pub returns-in_err-both-clause-calls : goal.returns-in_err-both-clause-calls
+returns-in_err-both-clause-calls g c =
+    let p = err_from_is_err_and c.from_residual.result c.from_residual.ensures.1 in
+    let s = (g.D.Disk.content c.args.a.now).seen in
+    let t = (g.D.Disk.content c.args.b.now).seen in
+    rw (p.1, p.2)
+    (calls_refused s t (g.D.Disk.told c.args.a.now) (g.D.Disk.told c.args.b.now) Both Standing (owner_of c.args.member.now) c.in_err-both.field-0.0 (g.D.Disk.told c.open_both.new.a) (g.D.Disk.told c.open_both.new.b)
+    c.in_err-both.ensures.refused c.in_err-both.ensures.calls)
+
+pub returns-in_err-choose-clause-answer : goal.returns-in_err-choose-clause-answer
+returns-in_err-choose-clause-answer g c =
+    let p = err_from_is_err_and c.from_residual-in_err-choose.result c.from_residual-in_err-choose.ensures.1 in
+    let e = c.in_err-choose.field-0.0 in
+    let a = c.open_both.new.a in
+    let b = c.open_both.new.b in
+    let s = (g.D.Disk.content c.args.a.now).seen in
+    let t = (g.D.Disk.content c.args.b.now).seen in
+    answers_err (owner_of c.args.member.now) e s t c.from_residual-in_err-choose.result (p.1 ∙ ap (λ x. Err x) p.2)
+    (not_chosen c.in_ok-both.both.a c.in_ok-both.both.b s t (g.D.Disk.known a) (g.D.Disk.known b) (g.D.Disk.content a) (g.D.Disk.content b) c.in_ok-both.ensures.a c.in_ok-both.ensures.b (owner_of c.args.member.now) e c.in_err-choose.ensures.found)
+
+pub returns-in_err-choose-clause-calls : goal.returns-in_err-choose-clause-calls
+returns-in_err-choose-clause-calls g c =
+    let p = err_from_is_err_and c.from_residual-in_err-choose.result c.from_residual-in_err-choose.ensures.1 in
+    let a = c.open_both.new.a in
+    let b = c.open_both.new.b in
+    let s = (g.D.Disk.content c.args.a.now).seen in
+    let t = (g.D.Disk.content c.args.b.now).seen in
+    rw (p.1, p.2)
+    (calls_none c.in_ok-both.both.a c.in_ok-both.both.b s t (g.D.Disk.known a) (g.D.Disk.known b) (g.D.Disk.content a) (g.D.Disk.content b) c.in_ok-both.ensures.a c.in_ok-both.ensures.b (owner_of c.args.member.now)
+    (g.D.Disk.told c.args.a.now) (g.D.Disk.told c.args.b.now) (g.D.Disk.told a) (g.D.Disk.told b) Both Standing c.in_ok-both.both c.in_ok-both.ensures.calls c.in_err-choose.field-0.0 c.in_err-choose.ensures.refused c.in_err-choose.ensures.found)
+
+pub returns-in-New-clause-sound : goal.returns-in-New-clause-sound
+returns-in-New-clause-sound g c =
+    let content = g.D.Disk.content in
+    let known = g.D.Disk.known in
+    let a = c.open_both.new.a in
+    let b = c.open_both.new.b in
+    let n = chosen_new c.in_ok-both.both.a c.in_ok-both.both.b (c.in_ok-choose.ensures.found ∙ ap (λ x. Ok (found_of x)) c.in-New.is) in
+    let nothing : len_of c.in_ok-both.both.b ≤ 0 = omega (arith, n.nothing) in
+    sound_new content known c.args.member.now (content c.args.a.now) (content c.args.b.now) c.create_on.new.a a b c.in_ok-both.ensures.a_moment c.in_ok-both.ensures.b_moment
+    (closed_of c.in_ok-both.both.a (content c.args.a.now) (content a) (known a) 26 n.none_a n.short c.in_ok-both.ensures.a) (closed_of c.in_ok-both.both.b (content c.args.b.now) (content b) (known b) 0 n.none_b nothing c.in_ok-both.ensures.b)
+    c.create_on.result c.create_on.ensures.side c.create_on.ensures.journal c.create_on.ensures.map c.create_on.ensures.kept
+
+pub returns-in-New-clause-answer : goal.returns-in-New-clause-answer
+returns-in-New-clause-answer g c =
+    let a = c.open_both.new.a in
+    let b = c.open_both.new.b in
+    let s = (g.D.Disk.content c.args.a.now).seen in
+    let t = (g.D.Disk.content c.args.b.now).seen in
+    answers_new c.in_ok-both.both.a c.in_ok-both.both.b s t (g.D.Disk.known a) (g.D.Disk.known b) (g.D.Disk.content a) (g.D.Disk.content b) c.in_ok-both.ensures.a c.in_ok-both.ensures.b (owner_of c.args.member.now)
+    c.create_on.result (c.in_ok-choose.ensures.found ∙ ap (λ x. Ok (found_of x)) c.in-New.is) c.create_on.ensures.side c.create_on.ensures.map c.create_on.ensures.outside
+
+pub returns-in-New-clause-any_moment : goal.returns-in-New-clause-any_moment
+returns-in-New-clause-any_moment g c = λ told_a told_b.
+    let content = g.D.Disk.content in
+    let known = g.D.Disk.known in
+    let a = c.open_both.new.a in
+    let b = c.open_both.new.b in
+    let n = chosen_new c.in_ok-both.both.a c.in_ok-both.both.b (c.in_ok-choose.ensures.found ∙ ap (λ x. Ok (found_of x)) c.in-New.is) in
+    let nothing : len_of c.in_ok-both.both.b ≤ 0 = omega (arith, n.nothing) in
+    opened_c c.args.member.now (content c.args.a.now) (content a) (content c.create_on.new.a) (content c.args.b.now) (content b) c.in_ok-both.ensures.a_moment c.in_ok-both.ensures.b_moment
+    (closed_of c.in_ok-both.both.a (content c.args.a.now) (content a) (known a) 26 n.none_a n.short c.in_ok-both.ensures.a) (closed_of c.in_ok-both.both.b (content c.args.b.now) (content b) (known b) 0 n.none_b nothing c.in_ok-both.ensures.b)
+    c.create_on.ensures.any_moment told_a (g.met.D.Disk.as_read a)
+
+pub returns-in-New-clause-calls : goal.returns-in-New-clause-calls
+returns-in-New-clause-calls g c =
+    let a = c.open_both.new.a in
+    let b = c.open_both.new.b in
+    let s = (g.D.Disk.content c.args.a.now).seen in
+    let t = (g.D.Disk.content c.args.b.now).seen in
+    calls_new c.in_ok-both.both.a c.in_ok-both.both.b s t (g.D.Disk.known a) (g.D.Disk.known b) (g.D.Disk.content a) (g.D.Disk.content b) c.in_ok-both.ensures.a c.in_ok-both.ensures.b (owner_of c.args.member.now)
+    (g.D.Disk.told c.args.a.now) (g.D.Disk.told c.args.b.now) (g.D.Disk.told a) (g.D.Disk.told b) Both Standing c.in_ok-both.both c.in_ok-both.ensures.calls
+    c.create_on.result (g.D.Disk.told c.create_on.new.a) (c.in_ok-choose.ensures.found ∙ ap (λ x. Ok (found_of x)) c.in-New.is) (c.create_on.ensures.calls (g.D.Disk.told b))
+
+pub returns-in-Live-clause-answer : goal.returns-in-Live-clause-answer
+returns-in-Live-clause-answer g c =
+    let a = c.open_both.new.a in
+    let b = c.open_both.new.b in
+    let s = (g.D.Disk.content c.args.a.now).seen in
+    let t = (g.D.Disk.content c.args.b.now).seen in
+    let side = c.in-Live.side in
+    let j = c.in-Live.journal in
+    let payloads = c.as_slice.result.now in
+    let is : chosen (held_in c.in_ok-both.both.a) (held_in c.in_ok-both.both.b) (len_of c.in_ok-both.both.a) (len_of c.in_ok-both.both.b) ≡ Ok (Live side (held_by j payloads)) =
+    c.in_ok-choose.ensures.found ∙ ap (λ x. Ok (found_of x)) c.in-Live.is ∙ ap (λ (ps : List (List ℕ)). Ok (Live side (held_by j ps))) (sym c.as_slice.ensures.value) in
+    answers_live c.in_ok-both.both.a c.in_ok-both.both.b s t (g.D.Disk.known a) (g.D.Disk.known b) (g.D.Disk.content a) (g.D.Disk.content b) c.in_ok-both.ensures.a c.in_ok-both.ensures.b (owner_of c.args.member.now)
+    c.restore.result side j payloads is c.restore.ensures.answer c.restore.ensures.side c.restore.ensures.journal
+
+pub returns-in-Live-clause-calls : goal.returns-in-Live-clause-calls
+returns-in-Live-clause-calls g c =
+    let a = c.open_both.new.a in
+    let b = c.open_both.new.b in
+    let s = (g.D.Disk.content c.args.a.now).seen in
+    let t = (g.D.Disk.content c.args.b.now).seen in
+    calls_live c.in_ok-both.both.a c.in_ok-both.both.b s t (g.D.Disk.known a) (g.D.Disk.known b) (g.D.Disk.content a) (g.D.Disk.content b) c.in_ok-both.ensures.a c.in_ok-both.ensures.b (owner_of c.args.member.now)
+    (g.D.Disk.told c.args.a.now) (g.D.Disk.told c.args.b.now) (g.D.Disk.told a) (g.D.Disk.told b) Both Standing c.in_ok-both.both c.in_ok-both.ensures.calls
+    c.in-Live.side (held_by c.in-Live.journal c.in-Live.payloads.items) c.restore.result (c.in_ok-choose.ensures.found ∙ ap (λ x. Ok (found_of x)) c.in-Live.is) c.restore.ensures.no_fault

@@ -1,0 +1,75 @@
+use Rattle.std.proofs.Common.{◌≡◌, false, length, sym, ap, ◌∙◌}
+use Rattle.std.proofs.lemmas.Bool.{eqb-true}
+use Rattle.mon_tx.specs.Map.{apply}
+use Rattle.mon_journal.specs.Steps.{payloads_seen}
+use Rattle.mon_store.specs.Sound.{of_a, of_b, Sound, WithChange, StandFor, BeforeOrAfter}
+use Rattle.mon_store.specs.Whole.{disk_a, disk_b}
+use Rattle.mon_store.specs.Refusals.{breaks}
+use Rattle.mon_store.proofs.Turns.{none_goes, now, settles_too}
+use Rattle.mon_store.proofs.Applying.{Kept, stands_now, changes, changes_nothing, no_change, each_pair, live_goes, sound_then, safe_then}
+use Rattle.mon_store.proofs.store.Store.apply.Goals as goal
+
+pub returns-then-is_empty-clause-safe : goal.returns-then-is_empty-clause-safe
+returns-then-is_empty-clause-safe g c =
+    let s = c.args.self.now in
+    let content = g.D.Disk.content in
+    each_pair content s.side s.live s.other (StandFor s.kv) (stands_now s.journal s.kv (g.D.Disk.known s.live) (content s.live) (content s.other) (c.requires c.if-self.false) s.side)
+
+pub returns-clause-sound : goal.returns-clause-sound
+returns-clause-sound g c = λ whole.
+    let s = c.args.self.now in
+    let k = c.keep-answer.ensures in
+    let kept : Kept g.D.Disk.content g.D.Disk.known s.journal s.kv s.live c.args.tx.now c.keep-answer.new.journal c.keep-answer.new.kv c.keep-answer.new.disk c.keep-answer.result =
+    record { keeps = k.kept; appends = k.journal; stays = k.journal_err; form = k.form; map = k.map; size = k.size; refused = k.refused; disk = k.disk; tells = k.tells } in
+    sound_then g.D.Disk.content g.D.Disk.known s.journal s.kv s.live s.other (c.requires c.if-self.false) s.side c.args.tx.now c.keep-answer.new.journal c.keep-answer.new.kv c.keep-answer.new.disk c.keep-answer.result kept (sym c.breaks-self.ensures ∙ whole)
+
+pub returns-clause-any_moment : goal.returns-clause-any_moment
+returns-clause-any_moment g c = λ whole told.
+    let s = c.args.self.now in
+    let content = g.D.Disk.content in
+    let tx = c.args.tx.now in
+    live_goes content s.side s.live c.keep-answer.new.disk s.other (WithChange s.journal (payloads_seen (content s.live)) s.kv tx) (BeforeOrAfter s.side s.journal.next_gate s.kv (apply tx s.kv)) c.keep-answer.ensures.any_moment
+    (changes s.journal s.kv (g.D.Disk.known s.live) (content s.live) (content s.other) (c.requires whole) s.side tx told)
+
+pub returns-clause-safe : goal.returns-clause-safe
+returns-clause-safe g c =
+    let s = c.args.self.now in
+    let k = c.keep-answer.ensures in
+    let kept : Kept g.D.Disk.content g.D.Disk.known s.journal s.kv s.live c.args.tx.now c.keep-answer.new.journal c.keep-answer.new.kv c.keep-answer.new.disk c.keep-answer.result =
+    record { keeps = k.kept; appends = k.journal; stays = k.journal_err; form = k.form; map = k.map; size = k.size; refused = k.refused; disk = k.disk; tells = k.tells } in
+    safe_then g.D.Disk.content g.D.Disk.known c.keep-answer.new.journal c.keep-answer.new.kv c.keep-answer.new.disk s.other s.side c.keep-answer.result
+    (sound_then g.D.Disk.content g.D.Disk.known s.journal s.kv s.live s.other (c.requires c.if-self.false) s.side c.args.tx.now c.keep-answer.new.journal c.keep-answer.new.kv c.keep-answer.new.disk c.keep-answer.result kept)
+
+pub returns-then-is_empty-clause-any_moment : goal.returns-then-is_empty-clause-any_moment
+returns-then-is_empty-clause-any_moment g c = λ whole told.
+    let s = c.args.self.now in
+    let content = g.D.Disk.content in
+    let tx = c.args.tx.now in
+    let none : length c.ops.result.now ≡ 0 = eqb-true _ _ (sym c.is_empty.ensures ∙ c.if-is_empty.true) in
+    none_goes (content (disk_a s)) (content (disk_b s)) (BeforeOrAfter s.side s.journal.next_gate s.kv (apply tx s.kv))
+    (each_pair content s.side s.live s.other (BeforeOrAfter s.side s.journal.next_gate s.kv (apply tx s.kv))
+    (changes_nothing s.journal s.kv (g.D.Disk.known s.live) (content s.live) (content s.other) (c.requires whole) s.side tx (no_change tx s.kv (ap length (sym c.ops.ensures.value) ∙ none))))
+
+pub returns-then-is_empty-clause-settles : goal.returns-then-is_empty-clause-settles
+returns-then-is_empty-clause-settles g c = λ whole told.
+    let s = c.args.self.now in
+    let content = g.D.Disk.content in
+    let tx = c.args.tx.now in
+    let none : length c.ops.result.now ≡ 0 = eqb-true _ _ (sym c.is_empty.ensures ∙ c.if-is_empty.true) in
+    settles_too (content (disk_a s)) (content (disk_b s)) (g.D.Disk.told (disk_a s)) (g.D.Disk.told (disk_b s)) (BeforeOrAfter s.side s.journal.next_gate s.kv (apply tx s.kv))
+    (each_pair content s.side s.live s.other (BeforeOrAfter s.side s.journal.next_gate s.kv (apply tx s.kv))
+    (changes_nothing s.journal s.kv (g.D.Disk.known s.live) (content s.live) (content s.other) (c.requires whole) s.side tx (no_change tx s.kv (ap length (sym c.ops.ensures.value) ∙ none))))
+    (g.met.D.Disk.settled (disk_a s)) (g.met.D.Disk.settled (disk_b s))
+
+pub returns-clause-settles : goal.returns-clause-settles
+returns-clause-settles g c = λ whole told.
+    let s = c.args.self.now in
+    let content = g.D.Disk.content in
+    let tx = c.args.tx.now in
+    let new_a = of_a s.side c.keep-answer.new.disk s.other in
+    let new_b = of_b s.side c.keep-answer.new.disk s.other in
+    let P = BeforeOrAfter s.side s.journal.next_gate s.kv (apply tx s.kv) in
+    settles_too (content new_a) (content new_b) (g.D.Disk.told new_a) (g.D.Disk.told new_b) P
+    (now (content (disk_a s)) (content (disk_b s)) (content new_a) (content new_b) P (live_goes content s.side s.live c.keep-answer.new.disk s.other (WithChange s.journal (payloads_seen (content s.live)) s.kv tx) P c.keep-answer.ensures.any_moment
+    (changes s.journal s.kv (g.D.Disk.known s.live) (content s.live) (content s.other) (c.requires whole) s.side tx told)))
+    (g.met.D.Disk.settled new_a) (g.met.D.Disk.settled new_b)

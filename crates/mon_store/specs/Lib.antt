@@ -1,0 +1,11 @@
+pub mod Checkpoint
+pub mod Decode
+pub mod Payloads
+pub mod Pair
+pub mod Moments
+pub mod Sound
+pub mod Calls
+pub mod Refusals
+pub mod Whole
+pub mod OpeningCalls
+pub mod Opening

@@ -1,0 +1,94 @@
+-- What opening two disks finds, and what they stand for meanwhile.
+use Rattle.std.specs.Prelude.{◌≡◌, ℕ, ◌≤◌, ◌⊎◌, List, Option, Some, None, Result, Ok, Err}
+use Rattle.mon_types.specs.Faults.{Rose}
+use Rattle.mon_types.specs.declared.member.Member.{Member}
+use Rattle.mon_disk.specs.Images.{Content, images}
+use Rattle.mon_tx.specs.Map.{Store}
+use Rattle.mon_journal.specs.declared.stop.JournalStop.{JournalStop}
+use Rattle.mon_journal.specs.declared.stop.JournalStop.TheVariants as journal
+use Rattle.mon_journal.specs.declared.opening.Opened.{Opened}
+use Rattle.mon_journal.specs.declared.opening.Opened.TheVariants as disk
+use Rattle.mon_journal.specs.Written.{owner_of}
+use Rattle.mon_journal.specs.Content.{Held, held_by, header_of}
+use Rattle.mon_journal.specs.Fields.{Owner}
+use Rattle.std.specs.FinMap.{empty}
+use Rattle.mon_types.specs.declared.names.Side.{Side}
+use Rattle.mon_types.specs.declared.names.Side.TheVariants.{A}
+use Rattle.mon_store.specs.declared.opening.Standing.{Standing}
+use Rattle.mon_store.specs.declared.stop.OpenStop.{OpenStop}
+use Rattle.mon_store.specs.declared.stop.OpenStop.TheVariants.{DiskFault, OutOfMemory}
+use Rattle.mon_store.specs.declared.stop.OpenStop.TheVariants as stop
+use Rattle.mon_store.specs.declared.choice.Choice.{Choice}
+use Rattle.mon_store.specs.declared.choice.Choice.TheVariants as choice
+use Rattle.mon_store.specs.Pair.{Refusal, NotAStore, Stranger, Found, Create, Live, stands, opened}
+
+-- what a disk was found to hold, and how long it is where that is nothing
+abbrev pub held_in : Opened → Option Held
+held_in (disk.Closed len) = None
+held_in (disk.Live journal payloads) = Some (held_by journal payloads.items)
+
+abbrev pub len_of : Opened → ℕ
+len_of (disk.Closed len) = len
+len_of (disk.Live journal payloads) = 0
+
+abbrev pub found_of : Choice → Found
+found_of choice.New = Create
+found_of (choice.Live side journal payloads) = Live side (held_by journal payloads.items)
+
+-- a journal's fault, on its disk
+abbrev pub named : Side → JournalStop → OpenStop
+named side journal.DiskFault = DiskFault
+named side (journal.NotAStore at) = stop.NotAStore side at
+named side journal.OutOfMemory = OutOfMemory
+
+-- What a refusal goes back to: what reading gives, or the outside.
+abbrev pub Tells : {X : Type 0} → OpenStop → Result X Refusal → Type 0
+Tells DiskFault read = Unit {0}
+Tells OutOfMemory read = Unit {0}
+Tells (stop.NotAStore disk at) read = read ≡ Err (NotAStore disk at)
+Tells (stop.Stranger kept asked) read = read ≡ Err (Stranger (owner_of kept) (owner_of asked))
+
+abbrev pub Gives : {X Y : Type 0} → (X → Y) → Result X OpenStop → Result Y Refusal → Type 0
+Gives view (Ok x) read = read ≡ Ok (view x)
+Gives view (Err e) read = Tells e read
+
+-- two images that stand for what two stood for that a crash might have left before
+abbrev pub AlikePair : Content → Content → List ℕ → List ℕ → Type 0
+AlikePair a b c d = (e : List ℕ) × (f : List ℕ) × images a e × images b f × (stands c d ≡ stands e f)
+
+-- The counts of faults never fall, and DiskFault is answered only where one of them rose.
+pub record HasFaults {T : Type 0} (a_before a_now b_before b_now : ℕ) (result : Result T OpenStop) : Type 0 where
+  pub a_later : a_before ≤ a_now
+  pub b_later : b_before ≤ b_now
+  pub failed : result ≡ Err DiskFault → Rose a_before a_now ⊎ Rose b_before b_now
+
+-- what stands on the disks of a store that was opened
+abbrev pub place_of : Standing → Found → Type 0
+place_of s Create = (s.side ≡ A) × (s.kv ≡ empty)
+place_of s (Live side held) = (s.side ≡ side) × (header_of s.journal ≡ held.header) × (s.journal.next_gate ≡ held.next_gate)
+
+-- What opening answers is what a member finds on the two disks, unless the outside refused.
+abbrev pub Answers : Owner → List ℕ → List ℕ → Result Standing OpenStop → Type 0
+Answers owner a b (Ok s) = (place : Found) × (opened owner a b ≡ Ok (place, s.kv)) × place_of s place
+Answers owner a b (Err e) = Tells e (opened owner a b)
+
+-- a disk's fault, or want of memory
+abbrev pub IsOutside : OpenStop → Type 0
+IsOutside DiskFault = Unit {0}
+IsOutside OutOfMemory = Unit {0}
+IsOutside (stop.NotAStore disk at) = ⊥
+IsOutside (stop.Stranger kept asked) = ⊥
+
+-- what the bytes alone are refused for
+abbrev pub IsRefusal : OpenStop → Type 0
+IsRefusal DiskFault = ⊥
+IsRefusal OutOfMemory = ⊥
+IsRefusal (stop.NotAStore disk at) = Unit {0}
+IsRefusal (stop.Stranger kept asked) = Unit {0}
+
+-- no disk's fault
+abbrev pub IsNoFault : OpenStop → Type 0
+IsNoFault DiskFault = ⊥
+IsNoFault OutOfMemory = Unit {0}
+IsNoFault (stop.NotAStore disk at) = Unit {0}
+IsNoFault (stop.Stranger kept asked) = Unit {0}

@@ -1,0 +1,49 @@
+-- Which writes and syncs opening makes on two disks, in their order.
+use Rattle.std.specs.Prelude.{◌≡◌, ℕ, true, false, ◌⊎◌, List, [], ◌∷◌, ◌++◌, Option, None, Result, Ok, Err, IfSome}
+use Rattle.mon_types.specs.declared.names.Side.{Side}
+use Rattle.mon_types.specs.declared.names.Side.TheVariants.{A, B}
+use Rattle.mon_disk.specs.declared.disk.DiskCall.{DiskCall}
+use Rattle.mon_disk.specs.Calls.{Told, and_made, fails_next}
+use Rattle.mon_journal.specs.Content.{content}
+use Rattle.mon_journal.specs.Fields.{Owner}
+use Rattle.mon_journal.specs.Steps.{open_calls, create_calls}
+use Rattle.mon_store.specs.declared.stop.OpenStop.{OpenStop}
+use Rattle.mon_store.specs.declared.stop.OpenStop.TheVariants.{DiskFault, OutOfMemory}
+use Rattle.mon_store.specs.Pair.{Refusal, Found, Create, Live, held_on, found}
+use Rattle.mon_store.specs.Sound.{of_a, of_b, of_live}
+
+abbrev pub calls_on : Side → List DiskCall → List (Side × DiskCall)
+calls_on side [] = []
+calls_on side (call ∷ calls) = (side, call) ∷ calls_on side calls
+
+-- behind a refusal none comes
+abbrev pub unless_refused : {X Y : Type 0} → Result X Refusal → List Y → List Y
+unless_refused (Ok x) calls = calls
+unless_refused (Err e) calls = []
+
+-- disk A is opened, and then disk B
+abbrev pub both_calls : List ℕ → List ℕ → List (Side × DiskCall)
+both_calls a b = calls_on A (open_calls (content a)) ++ unless_refused (held_on A (content a)) (calls_on B (open_calls (content b)))
+
+-- a new store is created on disk A
+abbrev pub creation : Owner → Result Found Refusal → List (Side × DiskCall)
+creation owner (Ok Create) = calls_on A (create_calls owner 1 None)
+creation owner (Ok (Live side held)) = []
+creation owner (Err e) = []
+
+unfoldable pub opening_calls : Owner → List ℕ → List ℕ → List (Side × DiskCall)
+opening_calls owner a b = both_calls a b ++ creation owner (found a b)
+
+-- Which of these calls were made, in this order, on two disks that tell theirs: each of them, where none failed; or those up
+-- to the first that failed, which is where DiskFault comes; or those before memory ran out.
+abbrev pub MakesBoth : {T : Type 0} → List (Side × DiskCall) → Option Told → Option Told → Option Told → Option Told → Result T OpenStop → Type 0
+MakesBoth [] a b new_a new_b result = (new_a ≡ a) × (new_b ≡ b) × (result ≡ Err DiskFault → ⊥)
+MakesBoth ((side, call) ∷ calls) a b new_a new_b result =
+    ((result ≡ Err OutOfMemory) × (new_a ≡ a) × (new_b ≡ b))
+    ⊎ ((result ≡ Err DiskFault) × (new_a ≡ of_a side (and_made call a) a) × (new_b ≡ of_b side (and_made call b) b) × IfSome (of_live side a b) (λ t. fails_next t ≡ true))
+    ⊎ (IfSome (of_live side a b) (λ t. fails_next t ≡ false) × MakesBoth calls (of_a side (and_made call a) a) (of_b side (and_made call b) b) new_a new_b result)
+
+-- the same, where both disks tell their calls and what they hold
+abbrev pub OpensWith : {T : Type 0} → (List ℕ → List ℕ → List (Side × DiskCall)) → Option (List ℕ) → Option (List ℕ) → Option Told → Option Told → Option Told → Option Told → Result T OpenStop → Type 0
+OpensWith calls a b told_a told_b new_a new_b result =
+    IfSome a (λ x. IfSome b (λ y. IfSome told_a (λ s. IfSome told_b (λ t. MakesBoth (calls x y) told_a told_b new_a new_b result))))

@@ -1,0 +1,85 @@
+-- How a store stands on its disks.
+use Rattle.std.specs.Prelude.{◌≡◌, ℕ, ◌≤◌, ◌<◌, ◌+◌, ◌*◌, ◌^◌, Bool, true, false, ◌⊎◌, ◌||◌, ◌&&◌, ◌==◌, nat_lt, if◌then◌else◌, List, [], ◌∷◌, slice_index_or, Option, Some, None, Result, Ok, Err, IfSome}
+use Rattle.mon_types.specs.declared.names.Side.{Side}
+use Rattle.mon_types.specs.declared.names.Side.TheVariants.{A, B}
+use Rattle.mon_disk.specs.Images.{Content, images, Only}
+use Rattle.mon_tx.specs.declared.op.Op.{Op}
+use Rattle.mon_tx.specs.Map.{Store, apply}
+use Rattle.mon_tx.specs.Text.{text}
+use Rattle.mon_tx.specs.Decode.{HasText}
+use Rattle.mon_kv.specs.Readers.{size_of}
+use Rattle.mon_journal.specs.declared.stop.JournalStop.{JournalStop}
+use Rattle.mon_journal.specs.declared.journal.Form.{Form}
+use Rattle.mon_journal.specs.declared.journal.Form.TheVariants.{First, Second}
+use Rattle.mon_journal.specs.declared.journal.Journal.{Journal}
+use Rattle.mon_journal.specs.Content.{Held, content, payloads_of, Holds, WithOrWithout}
+use Rattle.mon_journal.specs.Written.{created}
+use Rattle.mon_journal.specs.Steps.{Stands, ClosedFrom}
+use Rattle.mon_store.specs.Checkpoint.{checkpoint_text, most_size, HasCheckpoint}
+use Rattle.mon_store.specs.Payloads.{map_of}
+use Rattle.mon_store.specs.Pair.{Refusal, stands}
+
+-- of the live one and the other, that of disk A, and that of disk B
+abbrev pub of_a : {X : Type 0} → Side → X → X → X
+of_a A live other = live
+of_a B live other = other
+
+abbrev pub of_b : {X : Type 0} → Side → X → X → X
+of_b A live other = other
+of_b B live other = live
+
+-- of those of disk A and disk B, that of the live one
+abbrev pub of_live : {X : Type 0} → Side → X → X → X
+of_live A a b = a
+of_live B a b = b
+
+-- a closed file, or a store's file of a lower generation
+abbrev pub IsBelow : ℕ → Option (Result Held JournalStop) → Type 0
+IsBelow generation None = Unit {0}
+IsBelow generation (Some (Ok held)) = held.header.generation < generation
+IsBelow generation (Some (Err e)) = ⊥
+
+-- The journal stands on the live disk with payloads that make the map, and the other disk doesn't count. A crash leaves
+-- nothing else of either.
+pub record Sound (journal : Journal) (m : Store) (known : ℕ) (live other : Content) : Type 0 where
+  pub stands_live : Stands journal known live
+  pub only_other : Only other
+  pub below : IfSome other.seen (λ file. IsBelow journal.generation (content file))
+  pub map : IfSome live.seen (λ file. map_of (payloads_of file) ≡ Ok m)
+  pub size : size_of m ≤ most_size
+
+-- a file with a transaction's record or without it, and with it only where the transaction has a text and its map isn't too
+-- large
+abbrev pub WithChange : Journal → List (List ℕ) → Store → List Op → List ℕ → Type 0
+WithChange journal payloads m ops file =
+    WithOrWithout journal payloads (text ops) file × (slice_index_or file journal.next_gate 0 ≡ 1 → HasText ops × (size_of (apply ops m) ≤ most_size))
+
+abbrev pub StandFor : Store → List ℕ → List ℕ → Type 0
+StandFor m a b = stands a b ≡ Ok m
+
+-- Two images stand for a map, or for the one after a change: for that one exactly where the gate of its record is open in
+-- the image of the live disk.
+abbrev pub BeforeOrAfter : Side → ℕ → Store → Store → List ℕ → List ℕ → Type 0
+BeforeOrAfter side gate before after a b = StandFor (if slice_index_or (of_live side a b) gate 0 == 1 then after else before) a b
+
+abbrev pub is_first : Form → Bool
+is_first First = true
+is_first Second = false
+
+-- A checkpoint is due where the live file has the first header, or is longer than 1,048,576 bytes up to and with its first
+-- closed gate and than four times what the map counts with. No generation passes 2^62.
+abbrev pub is_due : Journal → Store → Bool
+is_due journal m =
+    nat_lt journal.generation (2 ^ 62) && (is_first journal.form || (nat_lt 1048576 (journal.next_gate + 1) && nat_lt (4 * size_of m) (journal.next_gate + 1)))
+
+-- what a crash may leave of the other disk while a checkpoint begins a journal there
+abbrev pub Begins : Content → Journal → Store → List ℕ → Type 0
+Begins x journal m file = images x file ⊎ ClosedFrom x (journal.next_gate + 1) file ⊎ (Holds journal (checkpoint_text m ∷ []) file × HasCheckpoint m)
+
+-- the journal that a checkpoint begins
+abbrev pub next_journal : Journal → Store → Journal
+next_journal journal m = created journal.member (journal.generation + 1) (Some (checkpoint_text m))
+
+abbrev pub other_side : Side → Side
+other_side A = B
+other_side B = A

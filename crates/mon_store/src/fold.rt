@@ -1,0 +1,105 @@
+//! The map that the payloads of a file stand for.
+
+ghost use Rattle.std.specs.Prelude.{◌≡◌, ◌≤◌, ◌+◌, length, Ok, IfOk, IfErr};
+ghost use Rattle.mon_kv.specs.Readers.{size_of};
+ghost use Rattle.mon_journal.specs.Content.{Gives, IsOfForm};
+ghost use Rattle.mon_store.specs.Checkpoint.{most_size};
+ghost use Rattle.mon_store.specs.Payloads.{within, after, is_checkpoint, restored, begun, at_fault, folded, map_of};
+ghost use Rattle.mon_store.specs.Decode.{checkpoint_of};
+
+use crate::checkpoint::MOST_SIZE;
+use crate::reading::read_checkpoint;
+use mon_bytes::{Bytes, Cursor, MapRefused};
+use mon_journal::JournalStop;
+use mon_kv::Kv;
+use mon_tx::{TxRefused, decode};
+use std::alloc::Global;
+
+/// The map, where it isn't larger than a store may be.
+fn within(kv: Kv, at: u64) -> Result<Kv, JournalStop>
+    ensures map { Gives (λ kv. kv) result (at_fault at (within kv)) }
+    ensures size { IfOk result (λ kv. size_of kv ≤ most_size) }
+    ensures form { IfErr result IsOfForm }
+{
+    if kv.size() > MOST_SIZE {
+        return Err(JournalStop::NotAStore { at });
+    }
+    Ok(kv)
+}
+
+#[tactic(auto, unfolding(crate::specs::Payloads::after))]
+fn after(alloc: Global, mut kv: Kv, payload: &[u8], at: u64) -> Result<Kv, JournalStop>
+    ensures map { Gives (λ kv. kv) result (at_fault at (after payload.now kv)) }
+    ensures size { IfOk result (λ kv. size_of kv ≤ most_size) }
+    ensures form { IfErr result IsOfForm }
+{
+    let tx = match decode(alloc, payload) {
+        Ok(tx) => tx,
+        Err(TxRefused::OutOfMemory) => return Err(JournalStop::OutOfMemory),
+        Err(_) => return Err(JournalStop::NotAStore { at }),
+    };
+    kv.apply(&tx)?;
+    within(kv, at)
+}
+
+fn restored(alloc: Global, payload: &[u8], at: u64) -> Result<Kv, JournalStop>
+    ensures size { IfOk result (λ kv. size_of kv ≤ most_size) }
+    ensures form { IfErr result IsOfForm }
+    ensures map { Gives (λ kv. kv) result (at_fault at (restored (checkpoint_of (record { at = 0; rest = payload.now })))) }
+{
+    let mut cursor = Cursor::new(payload);
+    match read_checkpoint(alloc, &mut cursor) {
+        Ok(kv) => within(kv, at),
+        Err(MapRefused::OutOfMemory) => Err(JournalStop::OutOfMemory),
+        Err(MapRefused::Form { .. }) => Err(JournalStop::NotAStore { at }),
+    }
+}
+
+fn is_checkpoint(payload: &[u8]) -> bool
+    ensures { result ≡ is_checkpoint payload.now }
+{
+    match payload {
+        [kind, ..] => *kind == 0x80,
+        _ => false,
+    }
+}
+
+#[tactic(auto, unfolding(crate::specs::Payloads::begun))]
+fn begun(alloc: Global, payload: &[u8], at: u64) -> Result<Kv, JournalStop>
+    ensures map { Gives (λ kv. kv) result (at_fault at (begun payload.now)) }
+    ensures size { IfOk result (λ kv. size_of kv ≤ most_size) }
+    ensures form { IfErr result IsOfForm }
+{
+    if is_checkpoint(payload) {
+        return restored(alloc, payload, at);
+    }
+    after(alloc, Kv::empty(alloc), payload, at)
+}
+
+/// The place of what follows a payload: behind a gate and a length.
+fn behind(at: u64, payload: &[u8]) -> Result<u64, JournalStop>
+    ensures place { Gives (λ n. n) result (Ok (at + 5 + length payload.now)) }
+    ensures form { IfErr result IsOfForm }
+{
+    at.checked_add(5)
+        .and_then(|at| at.checked_add(payload.len() as u64))
+        .ok_or(JournalStop::OutOfMemory)
+}
+
+/// The map that the payloads of a file stand for. `NotAStore` names the first byte of the first payload at fault.
+pub fn fold(alloc: Global, payloads: &[Bytes]) -> Result<Kv, JournalStop>
+    ensures map { Gives (λ kv. kv) result (map_of payloads.now) }
+    ensures size { IfOk result (λ kv. size_of kv ≤ most_size) }
+    ensures form { IfErr result IsOfForm }
+{
+    let Some((first, others)) = payloads.split_first() else {
+        return Ok(Kv::empty(alloc));
+    };
+    let mut at = behind(30, first.as_slice())?;
+    let mut kv = begun(alloc, first.as_slice(), 30)?;
+    for payload in others {
+        kv = after(alloc, kv, payload.as_slice(), at)?;
+        at = behind(at, payload.as_slice())?;
+    }
+    Ok(kv)
+}

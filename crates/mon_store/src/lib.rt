@@ -1,0 +1,23 @@
+//! A monitor's map on two disks, which a crash at any moment leaves whole.
+#![tactic(auto)]
+
+mod apply;
+mod checkpoint;
+mod choice;
+mod fold;
+mod law;
+mod open;
+mod opening;
+mod reading;
+mod restart;
+mod stop;
+mod store;
+
+pub use checkpoint::{MOST_SIZE, write_checkpoint};
+pub use law::law_checkpoints;
+pub use reading::read_checkpoint;
+pub use stop::{OpenRefused, OpenStop, StoreStop};
+pub use store::Store;
+
+#[cfg(test)]
+mod tests;

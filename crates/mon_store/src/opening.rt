@@ -1,0 +1,155 @@
+//! Opening the two disks of a store.
+
+ghost use Rattle.std.specs.Prelude.{◌≡◌, ◌≤◌, [], Option, is_some, Ok, Err, None, IfOk, IfErr, OnOk, IfSome, IsTrue};
+ghost use Rattle.mon_types.specs.Faults.{Rose};
+ghost use Rattle.mon_disk.specs.Images.{LeavesOnly};
+ghost use Rattle.mon_disk.specs.Calls.{Told};
+ghost use Rattle.mon_kv.specs.Readers.{size_of};
+ghost use Rattle.mon_journal.specs.Content.{held_by};
+ghost use Rattle.mon_journal.specs.Steps.{AlikeFrom, CreatedFrom, Opens, Keeps, create_calls};
+ghost use Rattle.mon_journal.specs.Written.{owner_of, created};
+ghost use Rattle.std.specs.FinMap.{empty};
+ghost use Rattle.mon_store.specs.Checkpoint.{most_size};
+ghost use Rattle.mon_store.specs.Payloads.{map_of};
+ghost use Rattle.mon_store.specs.Pair.{Live, taken, found};
+ghost use Rattle.mon_store.specs.Moments.{Meanwhile};
+ghost use Rattle.mon_store.specs.Sound.{of_live, Sound, other_side};
+ghost use Rattle.mon_store.specs.Opening.{named, Tells, Gives, Answers, IsOutside, IsNoFault, AlikePair, HasFaults};
+ghost use Rattle.mon_store.specs.OpeningCalls.{calls_on, both_calls, opening_calls, MakesBoth, OpensWith};
+
+use crate::choice::{Choice, choose};
+use crate::fold::fold;
+use crate::stop::OpenStop;
+use mon_bytes::Bytes;
+use mon_disk::Disk;
+use mon_journal::{Journal, JournalStop, Opened, create, open};
+use mon_kv::Kv;
+use mon_types::{Member, Side};
+use std::alloc::Global;
+
+/// A journal's fault, on its disk.
+fn named(side: Side, stop: JournalStop) -> OpenStop
+    ensures { result ≡ named side stop }
+{
+    match stop {
+        JournalStop::DiskFault => OpenStop::DiskFault,
+        JournalStop::NotAStore { at } => OpenStop::NotAStore { disk: side, at },
+        JournalStop::OutOfMemory => OpenStop::OutOfMemory,
+    }
+}
+
+/// What stands on the disks of a store that was opened.
+#[derive(Drop)]
+pub(crate) struct Standing {
+    pub(crate) side: Side,
+    pub(crate) journal: Journal,
+    pub(crate) kv: Kv,
+}
+
+/// The map of a live file, where it is this member's.
+fn restore(
+    alloc: Global,
+    side: Side,
+    journal: Journal,
+    payloads: &[Bytes],
+    member: &Member,
+) -> Result<Standing, OpenStop>
+    ensures answer { Gives (λ s. (Live side (held_by journal payloads.now), s.kv)) result (taken (owner_of member.now) (Live side (held_by journal payloads.now))) }
+    ensures side { IfOk result (λ s. s.side ≡ side) }
+    ensures journal { IfOk result (λ s. s.journal ≡ journal) }
+    ensures map { IfOk result (λ s. map_of payloads.now ≡ Ok s.kv) }
+    ensures size { IfOk result (λ s. size_of s.kv ≤ most_size) }
+    ensures no_fault { IfErr result IsNoFault }
+{
+    let kv = match fold(alloc, payloads) {
+        Ok(kv) => kv,
+        Err(stop) => return Err(named(side, stop)),
+    };
+    let kept = journal.member;
+    if kept.rank.get() != member.rank.get() || kept.monitors != member.monitors {
+        return Err(OpenStop::Stranger {
+            kept,
+            asked: *member,
+        });
+    }
+    Ok(Standing { side, journal, kv })
+}
+
+/// What two disks were found to hold.
+#[derive(Drop)]
+struct Both {
+    a: Opened,
+    b: Opened,
+}
+
+/// Opens disk A and then disk B.
+fn open_both<D: Disk>(alloc: Global, a: &mut D, b: &mut D) -> Result<Both, OpenStop>
+    ensures a { IfOk result (λ both. Opens (D.content a.old).seen (D.known a.new) (D.content a.new) (Ok both.a)) }
+    ensures b { IfOk result (λ both. Opens (D.content b.old).seen (D.known b.new) (D.content b.new) (Ok both.b)) }
+    ensures refused { IfErr result (λ e. IfSome (D.content a.old).seen (λ x. IfSome (D.content b.old).seen (λ y. Tells e (found x y)))) }
+    ensures a_moment { OnOk result (LeavesOnly (D.content a.old) (D.content a.new) (AlikeFrom (D.content a.old))) }
+    ensures b_moment { OnOk result (LeavesOnly (D.content b.old) (D.content b.new) (AlikeFrom (D.content b.old))) }
+    ensures any_moment { Meanwhile (D.content a.old) (D.content b.old) (D.content a.new) (D.content b.new) (AlikePair (D.content a.old) (D.content b.old)) }
+    ensures a_tells { is_some (D.content a.new).seen ≡ is_some (D.content a.old).seen }
+    ensures b_tells { is_some (D.content b.new).seen ≡ is_some (D.content b.old).seen }
+    ensures calls { OpensWith both_calls (D.content a.old).seen (D.content b.old).seen (D.told a.old) (D.told b.old) (D.told a.new) (D.told b.new) result }
+    ensures cause { HasFaults (D.faults a.old) (D.faults a.new) (D.faults b.old) (D.faults b.new) result }
+{
+    let on_a = match open(alloc, a) {
+        Ok(opened) => opened,
+        Err(stop) => return Err(named(Side::A, stop)),
+    };
+    match open(alloc, b) {
+        Ok(on_b) => Ok(Both { a: on_a, b: on_b }),
+        Err(stop) => Err(named(Side::B, stop)),
+    }
+}
+
+/// Creates the store's first file.
+fn create_on<D: Disk>(alloc: Global, a: &mut D, member: &Member) -> Result<Standing, OpenStop>
+    ensures side { IfOk result (λ s. s.side ≡ Side.A) }
+    ensures journal { IfOk result (λ s. s.journal ≡ created member.now 1 None) }
+    ensures map { IfOk result (λ s. s.kv ≡ empty) }
+    ensures kept { IfOk result (λ s. Keeps s.journal [] (D.known a.new) (D.content a.new)) }
+    ensures outside { IfErr result IsOutside }
+    ensures any_moment { LeavesOnly (D.content a.old) (D.content a.new) (CreatedFrom (D.content a.old) (created member.now 1 None) []) }
+    ensures tells { is_some (D.content a.new).seen ≡ is_some (D.content a.old).seen }
+    ensures calls { (b : Option Told) → IsTrue (is_some (D.told a.old)) → MakesBoth (calls_on Side.A (create_calls (owner_of member.now) 1 None)) (D.told a.old) b (D.told a.new) b result }
+    ensures cause { (D.faults a.old ≤ D.faults a.new) × (result ≡ Err OpenStop.DiskFault → Rose (D.faults a.old) (D.faults a.new)) }
+{
+    let journal = match create(alloc, a, *member, 1, None) {
+        Ok(journal) => journal,
+        Err(stop) => return Err(named(Side::A, stop)),
+    };
+    Ok(Standing {
+        side: Side::A,
+        journal,
+        kv: Kv::empty(alloc),
+    })
+}
+
+/// Opens two disks, or creates a store on them.
+pub(crate) fn open_disks<D: Disk>(
+    alloc: Global,
+    a: &mut D,
+    b: &mut D,
+    member: &Member,
+) -> Result<Standing, OpenStop>
+    ensures sound { IfOk result (λ s. Sound s.journal s.kv (D.known (of_live s.side a.new b.new)) (D.content (of_live s.side a.new b.new)) (D.content (of_live (other_side s.side) a.new b.new))) }
+    ensures answer { IfSome (D.content a.old).seen (λ x. IfSome (D.content b.old).seen (λ y. Answers (owner_of member.now) x y result)) }
+    ensures any_moment { IsTrue (is_some (D.content a.old).seen) → IsTrue (is_some (D.content b.old).seen) → Meanwhile (D.content a.old) (D.content b.old) (D.content a.new) (D.content b.new) (AlikePair (D.content a.old) (D.content b.old)) }
+    ensures a_tells { is_some (D.content a.new).seen ≡ is_some (D.content a.old).seen }
+    ensures b_tells { is_some (D.content b.new).seen ≡ is_some (D.content b.old).seen }
+    ensures calls { OpensWith (opening_calls (owner_of member.now)) (D.content a.old).seen (D.content b.old).seen (D.told a.old) (D.told b.old) (D.told a.new) (D.told b.new) result }
+    ensures cause { HasFaults (D.faults a.old) (D.faults a.new) (D.faults b.old) (D.faults b.new) result }
+{
+    let both = open_both(alloc, a, b)?;
+    match choose(both.a, both.b)? {
+        Choice::New => create_on(alloc, a, member),
+        Choice::Live {
+            side,
+            journal,
+            payloads,
+        } => restore(alloc, side, journal, payloads.as_slice(), member),
+    }
+}

@@ -1,0 +1,142 @@
+ghost use Rattle.std.specs.Prelude.{◌≡◌, ◌≤◌, ◌<◌, ◌+◌, ◌^◌, ◌||◌, true, false, [], ◌∷◌, ◌++◌, Ok, Some, length, is_some, IfOk, IfErr, OnOk};
+ghost use Rattle.mon_kv.specs.Readers.{size_of};
+ghost use Rattle.mon_disk.specs.Images.{LeavesOnly};
+ghost use Rattle.mon_journal.specs.Written.{owner_of};
+ghost use Rattle.mon_journal.specs.Steps.{Keeps, create_calls};
+ghost use Rattle.mon_store.specs.Checkpoint.{checkpoint_text, most_size, HasCheckpoint};
+ghost use Rattle.mon_store.specs.Sound.{is_first, is_due, other_side, next_journal, Begins};
+ghost use Rattle.mon_store.specs.Calls.{MakesCalls, HasFault};
+ghost use Rattle.mon_store.specs.Refusals.{IsOutside, Restarts, breaks};
+
+use crate::checkpoint::write_checkpoint;
+use crate::stop::StoreStop;
+use crate::store::Store;
+use mon_bytes::{Out, OutOfMemory};
+use mon_disk::Disk;
+use mon_journal::{Form, Journal, restart};
+use mon_kv::Kv;
+use mon_types::{GREATEST, Side};
+use std::alloc::Global;
+use std::mem::swap;
+
+/// A live file is begun anew only where it is longer than this, up to and with its first closed gate.
+const LEAST_LENGTH: u64 = 1048576;
+
+fn is_first(form: Form) -> bool
+    ensures { result ≡ is_first form }
+{
+    match form {
+        Form::First => true,
+        Form::Second => false,
+    }
+}
+
+/// Whether a checkpoint is due: the live file has the first header, or is long, and longer than four times what the map
+/// counts with.
+fn is_due(journal: &Journal, kv: &Kv) -> bool
+    ensures { result ≡ is_due journal.now kv.now }
+{
+    if journal.generation >= GREATEST {
+        return false;
+    }
+    is_first(journal.form)
+        || (journal.next_gate >= LEAST_LENGTH && journal.next_gate / 4 >= kv.size())
+}
+
+fn other_side(side: Side) -> Side
+    ensures { result ≡ other_side side }
+{
+    match side {
+        Side::A => Side::B,
+        Side::B => Side::A,
+    }
+}
+
+fn checkpoint(alloc: Global, kv: &Kv) -> Result<Vec<u8>, OutOfMemory>
+    requires { size_of kv.now ≤ most_size }
+    ensures text { IfOk result (λ bytes. bytes.items ≡ checkpoint_text kv.now) }
+    ensures form { IfOk result (λ _. HasCheckpoint kv.now) }
+{
+    let mut out = Out::new(alloc);
+    write_checkpoint(&mut out, kv)?;
+    Ok(out.into_bytes())
+}
+
+/// Begins the next journal on a disk, with a checkpoint of the map.
+pub(crate) fn begin<D: Disk>(
+    alloc: Global,
+    disk: &mut D,
+    journal: &Journal,
+    kv: &Kv,
+) -> Result<Journal, StoreStop>
+    requires size { size_of kv.now ≤ most_size }
+    requires generation { journal.now.generation < 2 ^ 62 }
+    ensures journal { IfOk result (λ next. next ≡ next_journal journal.now kv.now) }
+    ensures kept { IfOk result (λ next. Keeps next (checkpoint_text kv.now ∷ []) (D.known disk.new) (D.content disk.new)) }
+    ensures form { OnOk result (HasCheckpoint kv.now) }
+    ensures tells { is_some (D.content disk.new).seen ≡ is_some (D.content disk.old).seen }
+    ensures outside { IfErr result IsOutside }
+
+    // A crash at any moment leaves what it might have left before, a closed file, or the new journal.
+    ensures any_moment { LeavesOnly (D.content disk.old) (D.content disk.new) (Begins (D.content disk.old) (next_journal journal.now kv.now) kv.now) }
+
+    ensures calls { MakesCalls (create_calls (owner_of journal.now.member) (journal.now.generation + 1) (Some (checkpoint_text kv.now))) (D.told disk.old) (D.told disk.new) result }
+    ensures cause { HasFault (D.faults disk.old) (D.faults disk.new) result }
+{
+    let text = checkpoint(alloc, kv)?;
+    let member = journal.member;
+    Ok(restart(alloc, disk, member, journal.generation + 1, &text)?)
+}
+
+impl<D: Disk> Store<D> {
+    ghost use Rattle.mon_store.specs.Moments.{Meanwhile, EachPair};
+    ghost use Rattle.mon_store.specs.Sound.{StandFor};
+    ghost use Rattle.mon_store.specs.Calls.{restart_calls};
+    ghost use Rattle.mon_store.specs.Whole.{IsSound, disk_a, disk_b, disk_of};
+
+    /// Begins a new journal on the other disk, where a checkpoint is due, and then that disk is live. The answer is whether
+    /// one was due. A checkpoint is due where the live generation is below 2^62, and the live file has the first header, or is
+    /// longer than 1,048,576 bytes and than four times the map's size, up to and with its first closed gate. Broken is
+    /// answered where an earlier call broke the store. DiskFault and OutOfMemory break it.
+    pub fn restart_if_due(&mut self) -> Result<bool, StoreStop>
+        requires { IsSound D.known D.content self.old }
+        ensures sound { IsSound D.known D.content self.new }
+        ensures answer { Restarts self.old.broken (is_due self.old.journal self.old.kv) result }
+        ensures broken { self.new.broken ≡ (self.old.broken || breaks result) }
+        ensures map { self.new.kv ≡ self.old.kv }
+
+        // A crash at any moment leaves the one map.
+        ensures any_moment { self.old.broken ≡ false → Meanwhile (D.content (disk_a self.old)) (D.content (disk_b self.old)) (D.content (disk_a self.new)) (D.content (disk_b self.new)) (StandFor self.old.kv) }
+        ensures safe { OnOk result (EachPair (D.content (disk_a self.new)) (D.content (disk_b self.new)) (StandFor self.new.kv)) }
+
+        // Where one was due the other disk is live.
+        ensures live { result ≡ Ok true → self.new.side ≡ other_side self.old.side }
+        ensures journal { result ≡ Ok true → self.new.journal ≡ next_journal self.old.journal self.old.kv }
+        ensures same { result ≡ Ok false → self.new ≡ self.old }
+
+        // Which writes and syncs were made on the other disk, and when its fault is told. The live one stays as it is.
+        ensures calls { MakesCalls (restart_calls self.old.journal self.old.kv) (D.told self.old.other) (D.told (disk_of (other_side self.old.side) self.new)) result }
+        ensures cause { HasFault (D.faults self.old.other) (D.faults (disk_of (other_side self.old.side) self.new)) result }
+        ensures tells { is_some (D.content (disk_of (other_side self.old.side) self.new)).seen ≡ is_some (D.content self.old.other).seen }
+        ensures untouched { disk_of self.old.side self.new ≡ self.old.live }
+    {
+        if self.broken {
+            return Err(StoreStop::Broken);
+        }
+        if !is_due(&self.journal, &self.kv) {
+            return Ok(false);
+        }
+        match begin(self.alloc, &mut self.other, &self.journal, &self.kv) {
+            Ok(journal) => {
+                self.journal = journal;
+                swap(&mut self.live, &mut self.other);
+                self.side = other_side(self.side);
+                Ok(true)
+            }
+            Err(stop) => {
+                self.broken = true;
+                Err(stop)
+            }
+        }
+    }
+}

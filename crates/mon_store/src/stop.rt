@@ -1,0 +1,89 @@
+use mon_bytes::OutOfMemory;
+use mon_disk::NodeDisks;
+use mon_journal::JournalStop;
+use mon_tx::EncodeRefused;
+use mon_types::{Member, Side};
+use thiserror::Error;
+
+/// Why a store makes no change.
+#[derive(Clone, Copy, Debug, PartialEq, Eq, Error)]
+pub enum StoreStop {
+    /// An earlier call broke the store. It has to be closed, and opened again.
+    #[error("the store is broken")]
+    Broken,
+    /// The transaction's text would have `len` bytes, above 4,194,304. Nothing changed.
+    #[error("a transaction of {len} bytes")]
+    TooLong { len: u64 },
+    /// The map would count with `would_be`, above 268,435,456. The disks are as they were, and the store is broken.
+    #[error("the map would count with {would_be}")]
+    Full { would_be: u64 },
+    /// A disk failed, and the store is broken.
+    #[error("a disk failed")]
+    DiskFault,
+    /// The store is broken.
+    #[error("out of memory")]
+    OutOfMemory,
+}
+
+impl From<OutOfMemory> for StoreStop {
+    ghost use Rattle.std.specs.Prelude.{◌≡◌};
+    ghost use Rattle.mon_store.specs.declared.stop.StoreStop.TheVariants.{OutOfMemory as no_memory};
+
+    ghost from_gives = { λ _ e. e ≡ no_memory };
+
+    fn from(_e: OutOfMemory) -> StoreStop {
+        StoreStop::OutOfMemory
+    }
+}
+
+impl From<JournalStop> for StoreStop {
+    ghost use Rattle.std.specs.Prelude.{◌≡◌};
+    ghost use Rattle.mon_store.specs.Calls.{stopped};
+
+    ghost from_gives = { λ s e. e ≡ stopped s };
+
+    fn from(s: JournalStop) -> StoreStop {
+        match s {
+            JournalStop::OutOfMemory => StoreStop::OutOfMemory,
+            JournalStop::DiskFault | JournalStop::NotAStore { .. } => StoreStop::DiskFault,
+        }
+    }
+}
+
+impl From<EncodeRefused> for StoreStop {
+    ghost use Rattle.std.specs.Prelude.{◌≡◌};
+    ghost use Rattle.mon_store.specs.Calls.{unspelled};
+
+    ghost from_gives = { λ s e. e ≡ unspelled s };
+
+    fn from(s: EncodeRefused) -> StoreStop {
+        match s {
+            EncodeRefused::TooLong { len } => StoreStop::TooLong { len },
+            EncodeRefused::OutOfMemory => StoreStop::OutOfMemory,
+        }
+    }
+}
+
+/// Why two disks are no store of this member.
+#[derive(Clone, Copy, Debug, PartialEq, Eq, Error)]
+pub enum OpenStop {
+    /// A disk failed.
+    #[error("a disk failed")]
+    DiskFault,
+    /// What begins at this place of that disk isn't what a store has there. Two files of one generation are named as disk B
+    /// at 0, and closed disks that are no creation that a crash cut short as the disk that isn't, at 0.
+    #[error("disk {disk:?} is no store, at {at}")]
+    NotAStore { disk: Side, at: u64 },
+    /// The store is another member's.
+    #[error("a store of {kept:?}, asked for as {asked:?}")]
+    Stranger { kept: Member, asked: Member },
+    #[error("out of memory")]
+    OutOfMemory,
+}
+
+/// What an opening that was refused hands back.
+#[derive(Drop)]
+pub struct OpenRefused<D> {
+    pub why: OpenStop,
+    pub disks: NodeDisks<D>,
+}
