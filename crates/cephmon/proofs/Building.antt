@@ -48,7 +48,7 @@ record AllBuilt (sets : ℕ) (es : List Event) : Type 0 where
   each : IsTrue (list_all is_built es)
   few : sets ≤ most_sets → sets + count_by is_set es ≤ most_sets
 
-sets_step : (sets : ℕ) (event : Event) (es : List Event) → sets + count_by is_set (event ∷ es) ≡ sets_with sets event + count_by is_set es
+pub sets_step : (sets : ℕ) (event : Event) (es : List Event) → sets + count_by is_set (event ∷ es) ≡ sets_with sets event + count_by is_set es
 sets_step sets event es =
     let parts : count_by is_set (event ∷ es) ≡ cond (is_set event) 1 0 + count_by is_set es = sum_by-cons (λ x. cond (is_set x) 1 0) event es in
     elim (cases_true (is_set event)) [
@@ -91,6 +91,9 @@ built s e =
           record { monitors = one s.monitors parts.0; rule = classic s.rule parts.1; each = all.each; sets = omega (arith, all.few (omega arith)) }
       | inr f ↦ let lost = rw f at e in absurd cc
     ]
+
+pub few_sets_of : (s : Schedule) → unbuilt s ≡ None → count_by is_set s.events ≤ 24
+few_sets_of s e = (built s e).sets
 
 pub header_is : (s : Schedule) → unbuilt s ≡ None → ended_line (header s.monitors s.rule) ≡ first_line
 header_is s e = let b = built s e in ap (λ n. ended_line (header n s.rule)) b.monitors ∙ ap (λ (r : Rule). ended_line (header 1 r)) b.rule

@@ -1,6 +1,7 @@
 -- What each end of a run shows.
 use Rattle.std.proofs.Common.{◌≡◌, ℕ, ◌<◌, ◌≤◌, Bool, String, List, [], ◌∷◌, length, map, Option, Some, None, Err, slice_index_or, codes, sym, ap, subst, ◌∙◌, arith}
 use Rattle.std.specs.declared.alloc.Global.{Global}
+use Rattle.std.specs.List.{filter_map}
 use Rattle.std.specs.Bool.{OnTrue}
 use Rattle.std.specs.String.{string_bytes}
 use Rattle.std.specs.Str.{bytes_eq}
@@ -9,8 +10,10 @@ use Rattle.std.proofs.lemmas.Slice.Eq.{bytes_eq-Decides}
 use Rattle.std.specs.Io.KnownBytes.{Appends}
 use Rattle.mon_types.specs.declared.names.Which.{Which}
 use Rattle.mon_link.specs.Whole.{AppendsFront}
-use Rattle.quorum_model.specs.World.{run}
+use Rattle.quorum_model.specs.Happens.{run}
+use Rattle.quorum_model.specs.Monitors.{alone}
 use Rattle.quorum_model.specs.Safe.{Safe}
+use Rattle.quorum_model.proofs.FewEvents.{all_fit}
 use Rattle.quorum_model.proofs.Whole.{runs_are_safe}
 use Rattle.schedule_text.specs.declared.schedule.Schedule.{Schedule}
 use Rattle.schedule_text.specs.Spelling.{HasText, schedule_text}
@@ -31,12 +34,12 @@ one_word (w ∷ []) word text b some few first is same =
     ap (λ (x : List ℕ). x ∷ []) (ap (λ (s : String Global). string_bytes s) (sym first) ∙ sym is ∙ spelled))
 one_word (w ∷ v ∷ more) word text b some few first is same = absurd (omega arith)
 
-is_safe : (s : Schedule) → HasText s → unbuilt s ≡ None → Safe 1 (run (map event_of s.events))
+is_safe : (s : Schedule) → HasText s → unbuilt s ≡ None → Safe 1 (run alone (filter_map event_of s.events))
 is_safe s h e =
-    let spoken = is_spoken s h e in
-    runs_are_safe (map event_of s.events) spoken.each
+    let happening = filter_map event_of s.events in
+    runs_are_safe happening (all_fit 1 happening (is_spoken s h e).each)
 
-pub replays : (bytes : List ℕ) (fact : Trace → Type 0) (s : Schedule) → HasText s → unbuilt s ≡ None → bytes ≡ schedule_text s → fact (trace s.events) → Replays bytes fact
+pub replays : (bytes : List ℕ) (fact : Trace → Type 0) (s : Schedule) → HasText s → unbuilt s ≡ None → bytes ≡ schedule_text s → fact (trace alone s.events) → Replays bytes fact
 replays bytes fact s h b e t = record { schedule = s; form = h; built = b; text = e; safe = is_safe s h b; traced = t }
 
 pub at_fault : (e : ReplayStop) (old new : Option (List ℕ)) (t : Trace) → e ≡ stop.WriteFault → Writes (Err e) old new t → AppendsFront old new t.text

@@ -1,25 +1,46 @@
 -- What the code's world does at an event is what the model's does.
-use Rattle.std.proofs.Common.{◌≡◌, ℕ, zero, suc, ◌+◌, ◌-◌, Bool, true, false, cond, max, List, ◌++◌, length, map, Option, Some, None, Result, Ok, Err, refl, sym, ap, subst, ◌∙◌, arith, length-append}
+use Rattle.std.proofs.Common.{◌≡◌, ℕ, zero, suc, ◌+◌, ◌-◌, ◌≤◌, Bool, true, false, cond, max, List, [], ◌++◌, length, Option, Some, None, Result, Ok, Err, IfOk, refl, sym, ap, subst, subst₂, ◌∙◌, arith, length-append}
 use Rattle.mon_types.specs.declared.names.Which.{Which}
 use Rattle.mon_tx.specs.Map.{Store, apply}
-use Rattle.mon_msg.specs.declared.reaction.Input.TheVariants as input
-use Rattle.mon_msg.specs.declared.reaction.Reaction.{Reaction}
-use Rattle.mon_msg.specs.declared.reaction.Volatile.{Volatile}
+use Rattle.mon_tx.specs.declared.op.Op.{Op}
+use Rattle.mon_msg.specs.Protocol.Reaction as protocol
+use Rattle.mon_msg.specs.Protocol.State.{State, booting}
+use Rattle.mon_msg.specs.Protocol.View.{view, epoch_of}
+use Rattle.mon_msg.specs.declared.input.Input.{Input}
+use Rattle.mon_msg.specs.declared.input.Input.TheVariants as input
+use Rattle.mon_msg.specs.declared.phase.Phase.{Phase}
+use Rattle.mon_msg.specs.declared.phase.Phase.TheVariants as phase
+use Rattle.mon_msg.specs.declared.plan.Sent.{Sent}
 use Rattle.mon_msg.specs.declared.request.Request.{Request}
+use Rattle.mon_msg.specs.declared.request.Request.TheVariants as request
 use Rattle.mon_msg.specs.declared.request.Session.{Session}
-use Rattle.mon_msg.specs.Acts.{Course}
-use Rattle.mon_msg.specs.View.{view}
-use Rattle.mon_msg.specs.Table.{react, booting, at_rest, client}
-use Rattle.quorum_model.specs.World.{World as Model, Event, Start, Client, rank_of, reaction_of, transaction_of, last_of, is_marked, records_after, grown, unmoved, moved}
-use Rattle.schedule_text.specs.declared.step.Outcome.TheVariants.{Ran}
+use Rattle.quorum_model.specs.Clients.{letters_in}
+use Rattle.quorum_model.specs.Few.{RequestFits}
+use Rattle.quorum_model.specs.Alone.{LeadsItself}
+use Rattle.quorum_model.specs.Few.{AfterSets, sets_with}
+use Rattle.quorum_model.specs.Growth.{last_of, is_marked, records_after, grown}
+use Rattle.quorum_model.specs.Happens.{Arrival, unmoved, moved}
+use Rattle.quorum_model.specs.Monitors.{alone, itself}
+use Rattle.quorum_model.specs.World.{World as Model, Event, Start, Client, Letter}
+use Rattle.quorum_model.proofs.Stays.{more_sets}
+use Rattle.quorum_model.proofs.StaysFew.{start_few, client_few}
+use Rattle.schedule_text.specs.declared.event.Event.TheVariants as events
+use Rattle.schedule_text.specs.declared.event.Plain.{Plain}
+use Rattle.schedule_text.specs.declared.event.Plain.TheVariants as plain
+use Rattle.schedule_text.specs.declared.step.Outcome.TheVariants.{Ran, Down}
 use Rattle.schedule_text.specs.declared.step.StateLine.{StateLine}
 use Rattle.schedule_text.specs.declared.step.StepLine.{StepLine}
+use Rattle.cephmon.specs.declared.node.Answer.{Answer}
 use Rattle.cephmon.specs.declared.node.NodeStop.{NodeStop}
 use Rattle.cephmon.specs.declared.node.NodeStop.TheVariants.{OutOfMemory, Spent}
+use Rattle.cephmon.specs.declared.node.Reaction.{Reaction}
 use Rattle.cephmon.specs.declared.world.World.{World}
-use Rattle.cephmon.specs.Node.{drawn, Fails}
-use Rattle.cephmon.specs.Trace.{state_of, told, state_before, replied, step, stepped, log_after, down_line, ran_line}
-use Rattle.cephmon.specs.Replay.{StandsFor, Does}
+use Rattle.cephmon.specs.Built.{sets_with as built_sets}
+use Rattle.cephmon.specs.Node.{Fails, sends_of, IsReaction}
+use Rattle.cephmon.specs.Trace.{event_of}
+use Rattle.cephmon.proofs.Spoken.{some_is, sets_asked}
+use Rattle.cephmon.specs.Replay.{IsUp, StandsFor, Does}
+use Rattle.cephmon.specs.Step.{state_of, told, state_before, numbered, replied, took, step, log_after, still_line, ran_line}
 
 -- ---- the log's length
 
@@ -38,105 +59,208 @@ grown-length log m = by (is_marked m)
     by true = refl
     by false = length-append log _ ∙ ap (λ n. length log + n) (records-length m (length log) (last_of m - length log)) ∙ max-minus (length log) (last_of m)
 
--- ---- a monitor that did what its course says
+-- ---- a monitor that did what its reaction says
 
--- what a course leaves of a world
+-- what a reaction leaves of a world
 record Took (old new : World) (y : Reaction) : Type 0 where
   pub kv : new.kv ≡ apply y.tx old.kv
-  pub volatile : new.volatile ≡ Some y.volatile
+  pub up : new.is_up ≡ true
   pub log : new.log ≡ log_after old.log (apply y.tx old.kv)
 
-abbrev drawn_of : Course → Reaction
-drawn_of x = record { tx = transaction_of x; out = x.out; volatile = x.volatile }
-
-stands : (old new : World) (w : Model) (e : Event) (x : Course) → rank_of e ≡ 0 → StandsFor old w → Took old new (drawn_of x) → StandsFor new (moved w e x)
-unfolding moved
-stands old new w e x is_0 at took =
-    let store : old.kv ≡ w.store (rank_of e) = at.store ∙ ap w.store (sym is_0) in
-    let kept : apply (transaction_of x) old.kv ≡ apply (transaction_of x) (w.store (rank_of e)) = ap (apply (transaction_of x)) store in
-    record {
-      store = rw is_0 (took.kv ∙ ap (apply (transaction_of x)) at.store);
-      volatile = rw is_0 took.volatile;
-      log = took.log ∙ (λ i. log_after (at.log i) (kept i)) ∙ sym (grown-length w.log (apply (transaction_of x) (w.store (rank_of e))));
-    }
+-- where the monitor stands, which leads itself
+abbrev now_at : Store → StateLine
+now_at m = record { phase = phase.Active; epoch = epoch_of (view m); last = last_of m }
 
 abbrev line_of : World → ℕ → Option StateLine → Reaction → StepLine
 line_of old rank before y = record {
   outcome = Ran;
   ops = length y.tx;
-  state = told before (state_of (apply y.tx old.kv) y.volatile);
-  replies = map (replied rank) y.out;
+  state = told before (now_at (apply y.tx old.kv));
+  sent = [];
+  replies = replied rank (sends_of y.answer);
 }
 
-ran : (old new : World) (w : Model) (e : Event) (r : Result Course Which) (y : Reaction) (before : Option StateLine)
-    → rank_of e ≡ 0 → StandsFor old w → reaction_of w e ≡ Some r → drawn r ≡ Ok y → before ≡ state_before w e → Took old new y
-    → Does (Ok (line_of old (rank_of e) before y)) new (step w e)
-ran old new w e (Err which) y before is_0 at re is was took = absurd cc
-ran old new w e (Ok x) y before is_0 at re is was took =
-    let same : drawn_of x ≡ y = cc in
-    let store : w.store (rank_of e) ≡ old.kv = ap w.store is_0 ∙ sym at.store in
-    let line : ran_line w e x ≡ line_of old (rank_of e) before y =
-    λ i. record {
-      outcome = Ran;
-      ops = length ((same i).tx);
-      state = told (sym was i) (state_of (apply ((same i).tx) (store i)) ((same i).volatile));
-      replies = map (replied (rank_of e)) ((same i).out);
-    } in
-    (moved w e x, ap (stepped w e) re ∙ ap (λ l. Ok (moved w e x, l)) line, stands old new w e x is_0 at (subst (Took old new) (sym same) took))
+none_sent : (n : ℕ) (answer : Option Answer) → numbered n (letters_in (sends_of answer)) ≡ []
+none_sent n None = refl
+none_sent n (Some a) = refl
 
-stops : (w : Model) (e : Event) (r : Result Course Which) (s : NodeStop) → reaction_of w e ≡ Some r → Fails s (drawn r) → Fails s (step w e)
-stops w e r OutOfMemory re fails = tt
-stops w e (Ok x) (Spent which) re fails = absurd cc
-stops w e (Err k) (Spent which) re fails = let same : k ≡ which = cc in ap (stepped w e) re ∙ ap (λ k. Err k) same
+is_up : (b : Bool) (s : State) → b ≡ true → LeadsItself s → IsUp b (Some s)
+is_up b s e h = subst (λ (b : Bool). IsUp b (Some s)) (sym e) h
+
+stands_at : (m : Store) (s : State) → LeadsItself s → state_of m s ≡ now_at m
+stands_at m s h = λ i. record { phase = h.active i; epoch = epoch_of (view m); last = last_of m }
+
+module _ (sets : ℕ) (old new : World) (w : Model) (e : Event) (at : ℕ) (i : Input) (before : Option StateLine) (y : Reaction) (x : protocol.Reaction) where
+  abbrev arrived : Arrival
+  arrived = record { rank = 0; at = at; input = i }
+
+  ran : old.kv ≡ w.store 0 → old.log ≡ length w.log → before ≡ state_before w 0 i → x.transaction ≡ y.tx → x.sends ≡ sends_of y.answer → LeadsItself x.state
+      → AfterSets sets (view (apply x.transaction (w.store 0))) → Took old new y → Does sets (Ok (line_of old 0 before y)) new (took w e arrived (Some (Ok x)))
+  unfolding moved
+  ran store log was tx sends leads few took_it = (
+    moved w e 0 x,
+    ap (λ (l : StepLine). Ok (moved w e 0 x, l)) line,
+    record {
+      store = took_it.kv ∙ sym kept;
+      up = is_up new.is_up x.state took_it.up leads;
+      log = took_it.log ∙ (λ j. log_after (log j) (sym kept j)) ∙ sym (grown-length w.log (apply x.transaction (w.store 0)));
+      few = few;
+    },
+  )
+    where
+      kept : apply x.transaction (w.store 0) ≡ apply y.tx old.kv
+      kept = λ j. apply (tx j) (sym store j)
+
+      line : ran_line w arrived x ≡ line_of old 0 before y
+      line = λ j. record {
+        outcome = Ran;
+        ops = length (tx j);
+        state = told (sym was j) ((stands_at (apply x.transaction (w.store 0)) x.state leads ∙ ap now_at kept) j);
+        sent = (ap (λ (s : List Sent). numbered (suc (length w.letters)) (letters_in s)) sends ∙ none_sent (suc (length w.letters)) y.answer) j;
+        replies = replied 0 (sends j);
+      }
+
+ok_few : (P : protocol.Reaction → Type 0) (r : Result protocol.Reaction Which) (x : protocol.Reaction) → r ≡ Ok x → IfOk r P → P x
+ok_few P (Ok y) x e h = let same : y ≡ x = cc in subst P same h
+ok_few P (Err which) x e h = let lost : ◌≡◌ {A = Result protocol.Reaction Which} (Err which) (Ok x) = e in absurd cc
+
+fails_so : (s : NodeStop) (r : Result protocol.Reaction Which) (w : Model) (e : Event) (a : Arrival) → Fails s r → Fails s (took w e a (Some r))
+fails_so OutOfMemory r w e a h = tt
+fails_so (Spent which) r w e a h = ap (λ (r : Result protocol.Reaction Which). took w e a (Some r)) h
 
 -- ---- a start
 
-pub start-ran : (old new : World) (w : Model) (rank at : ℕ) (y : Reaction) → rank ≡ 0 → StandsFor old w → drawn (react rank (view old.kv) booting input.Start) ≡ Ok y
-    → new.kv ≡ apply y.tx old.kv → new.volatile ≡ Some y.volatile → new.log ≡ log_after old.log (apply y.tx old.kv)
-    → Does (Ok (line_of old rank None y)) new (step w (Start rank at))
-start-ran old new w rank at y is_0 stand is kv vol log =
-    let store : old.kv ≡ w.store rank = stand.store ∙ ap w.store (sym is_0) in
-    ran old new w (Start rank at) (react rank (view (w.store rank)) booting input.Start) y None is_0 stand refl
-    (subst (λ m. drawn (react rank (view m) booting input.Start) ≡ Ok y) store is) refl (record { kv = kv; volatile = vol; log = log })
+pub start-ran : (sets : ℕ) (old new : World) (w : Model) (rank at : ℕ) (y : Reaction) → rank ≡ 0 → StandsFor sets old w → IsReaction y (protocol.reaction itself at old.kv (booting 0) input.Start)
+    → new.kv ≡ apply y.tx old.kv → new.is_up ≡ true → new.log ≡ log_after old.log (apply y.tx old.kv)
+    → Does sets (Ok (line_of old rank None y)) new (step alone w (Start rank at))
+start-ran sets old new w rank at y is_0 stand r kv up log =
+    subst (λ (rank : ℕ). Does sets (Ok (line_of old rank None y)) new (step alone w (Start rank at))) (sym is_0)
+    (subst (Does sets (Ok (line_of old 0 None y)) new) (sym (ap (λ (r : Result protocol.Reaction Which). took w (Start 0 at) (record { rank = 0; at = at; input = input.Start }) (Some r)) is))
+    (ran sets old new w (Start 0 at) at input.Start None y r.reaction stand.store stand.log refl r.transaction r.sends r.leads
+    (ok_few (λ x. AfterSets sets (view (apply x.transaction (w.store 0)))) (protocol.reaction itself at (w.store 0) (booting 0) input.Start) r.reaction is (start_few sets at (w.store 0) stand.few))
+    (record { kv = kv; up = up; log = log })))
+  where
+    is : protocol.reaction itself at (w.store 0) (booting 0) input.Start ≡ Ok r.reaction
+    is = ap (λ (m : Store). protocol.reaction itself at m (booting 0) input.Start) (sym stand.store) ∙ r.is
 
-pub start-stops : (old : World) (w : Model) (rank at : ℕ) (s : NodeStop) → rank ≡ 0 → StandsFor old w → Fails s (drawn (react rank (view old.kv) booting input.Start))
-    → Fails s (step w (Start rank at))
-start-stops old w rank at s is_0 stand is =
-    let store : old.kv ≡ w.store rank = stand.store ∙ ap w.store (sym is_0) in
-    stops w (Start rank at) (react rank (view (w.store rank)) booting input.Start) s refl (subst (λ m. Fails s (drawn (react rank (view m) booting input.Start))) store is)
+pub start-stops : (sets : ℕ) (old new : World) (w : Model) (rank at : ℕ) (s : NodeStop) → rank ≡ 0 → StandsFor sets old w → Fails s (protocol.reaction itself at old.kv (booting 0) input.Start)
+    → Fails s (step alone w (Start rank at))
+start-stops sets old new w rank at s is_0 stand fails =
+    subst (λ (rank : ℕ). Fails s (step alone w (Start rank at))) (sym is_0)
+    (fails_so s (protocol.reaction itself at (w.store 0) (booting 0) input.Start) w (Start 0 at) (record { rank = 0; at = at; input = input.Start })
+    (subst (λ (m : Store). Fails s (protocol.reaction itself at m (booting 0) input.Start)) stand.store fails))
 
 -- ---- a client's request
 
-asks : (old : World) (w : Model) (rank at : ℕ) (session : Session) (request : Request) (vol : Volatile) → rank ≡ 0 → StandsFor old w → old.volatile ≡ Some vol
-    → reaction_of w (Client rank at session request) ≡ Some (client vol.phase session request (at_rest (view old.kv) vol))
-unfolding react
-asks old w rank at session request vol is_0 stand up =
-    let store : old.kv ≡ w.store rank = stand.store ∙ ap w.store (sym is_0) in
-    let was : w.volatile rank ≡ Some vol = ap w.volatile is_0 ∙ sym stand.volatile ∙ up in
-    rw was (ap (λ m. Some (client vol.phase session request (at_rest (view m) vol))) (sym store))
+-- what the monitor remembers, which is up
+record Remembers (w : Model) : Type 0 where
+  state : State
+  is : w.state 0 ≡ Some state
+  leads : LeadsItself state
 
-pub client-ran : (old new : World) (w : Model) (rank at : ℕ) (session : Session) (request : Request) (vol : Volatile) (y : Reaction) → rank ≡ 0 → StandsFor old w
-    → old.volatile ≡ Some vol → drawn (client vol.phase session request (at_rest (view old.kv) vol)) ≡ Ok y
-    → new.kv ≡ apply y.tx old.kv → new.volatile ≡ Some y.volatile → new.log ≡ log_after old.log (apply y.tx old.kv)
-    → Does (Ok (line_of old rank (Some (state_of old.kv vol)) y)) new (step w (Client rank at session request))
-client-ran old new w rank at session request vol y is_0 stand up is kv v log =
-    let store : old.kv ≡ w.store rank = stand.store ∙ ap w.store (sym is_0) in
-    let was : w.volatile rank ≡ Some vol = ap w.volatile is_0 ∙ sym stand.volatile ∙ up in
-    ran old new w (Client rank at session request) (client vol.phase session request (at_rest (view old.kv) vol)) y (Some (state_of old.kv vol)) is_0 stand
-    (asks old w rank at session request vol is_0 stand up) is (rw was (ap (λ m. Some (state_of m vol)) store)) (record { kv = kv; volatile = v; log = log })
+remembers : (up : Bool) (w : Model) → up ≡ true → IsUp up (w.state 0) → Remembers w
+remembers up w e h = by (w.state 0) refl (subst (λ (b : Bool). IsUp b (w.state 0)) e h)
+  where
+    by : (o : Option State) → w.state 0 ≡ o → IsUp true o → Remembers w
+    by (Some s) e h = record { state = s; is = e; leads = h }
+    by None e h = absurd h
 
-pub client-stops : (old : World) (w : Model) (rank at : ℕ) (session : Session) (request : Request) (vol : Volatile) (s : NodeStop) → rank ≡ 0 → StandsFor old w
-    → old.volatile ≡ Some vol → Fails s (drawn (client vol.phase session request (at_rest (view old.kv) vol))) → Fails s (step w (Client rank at session request))
-client-stops old w rank at session request vol s is_0 stand up is =
-    stops w (Client rank at session request) (client vol.phase session request (at_rest (view old.kv) vol)) s (asks old w rank at session request vol is_0 stand up) is
+forgets : (up : Bool) (w : Model) → up ≡ false → IsUp up (w.state 0) → w.state 0 ≡ None
+forgets up w e h = by (w.state 0) (subst (λ (b : Bool). IsUp b (w.state 0)) e h)
+  where
+    by : (o : Option State) → IsUp false o → o ≡ None
+    by (Some s) h = absurd h
+    by None h = refl
 
-pub client-down : (old : World) (w : Model) (rank at : ℕ) (session : Session) (request : Request) → rank ≡ 0 → StandsFor old w → old.volatile ≡ None
-    → Does (Ok down_line) old (step w (Client rank at session request))
-unfolding unmoved
-client-down old w rank at session request is_0 stand down =
-    let was : w.volatile rank ≡ None = ap w.volatile is_0 ∙ sym stand.volatile ∙ down in
-    (unmoved w (Client rank at session request), rw was refl, record { store = stand.store; volatile = stand.volatile; log = stand.log })
+module _ (sets : ℕ) (old : World) (w : Model) (at : ℕ) (session : Session) (request : Request) (stand : StandsFor sets old w) where
+  abbrev event : Event
+  event = Client 0 at session request
 
-pub none-of : {A : Type 0} (o : Option A) → ((x : A) → o ≡ Some x → ⊥) → o ≡ None
-none-of None ne = refl
-none-of (Some x) ne = absurd (ne x refl)
+  abbrev here : Arrival
+  here = record { rank = 0; at = at; input = input.Client session request }
+
+  asks : (s : State) (r : Result protocol.Reaction Which) → w.state 0 ≡ Some s → protocol.reaction itself at old.kv s (input.Client session request) ≡ r
+      → step alone w event ≡ took w event here (Some r)
+  asks s r was is = rw was (ap (λ (r : Result protocol.Reaction Which). took w event here (Some r)) (ap (λ (m : Store). protocol.reaction itself at m s (input.Client session request)) (sym stand.store) ∙ is))
+
+  pub client-ran : (new : World) (y : Reaction) → old.is_up ≡ true → RequestFits request → sets_with sets request ≤ 24
+      → ((s : State) → LeadsItself s → IsReaction y (protocol.reaction itself at old.kv s (input.Client session request)))
+      → new.kv ≡ apply y.tx old.kv → new.is_up ≡ true → new.log ≡ log_after old.log (apply y.tx old.kv)
+      → Does (sets_with sets request) (Ok (line_of old 0 (Some (now_at old.kv)) y)) new (step alone w event)
+  client-ran new y up fit few reacts kv is_up log =
+      subst (Does (sets_with sets request) (Ok (line_of old 0 (Some (now_at old.kv)) y)) new) (sym (asks m.state (Ok r.reaction) m.is r.is))
+      (ran (sets_with sets request) old new w event at (input.Client session request) (Some (now_at old.kv)) y r.reaction stand.store stand.log before r.transaction r.sends r.leads
+      (ok_few (λ x. AfterSets (sets_with sets request) (view (apply x.transaction (w.store 0)))) (protocol.reaction itself at (w.store 0) m.state (input.Client session request)) r.reaction
+      (ap (λ (m' : Store). protocol.reaction itself at m' m.state (input.Client session request)) (sym stand.store) ∙ r.is)
+      (client_few sets at (w.store 0) stand.few m.state m.leads session request fit few))
+      (record { kv = kv; up = is_up; log = log }))
+    where
+      m : Remembers w
+      m = remembers old.is_up w up stand.up
+
+      r : IsReaction y (protocol.reaction itself at old.kv (remembers old.is_up w up stand.up).state (input.Client session request))
+      r = reacts (remembers old.is_up w up stand.up).state (remembers old.is_up w up stand.up).leads
+
+      before : ◌≡◌ {A = Option StateLine} (Some (now_at old.kv)) (state_before w 0 (input.Client session request))
+      before = rw m.is (ap Some (ap now_at stand.store ∙ sym (stands_at (w.store 0) m.state m.leads)))
+
+  pub client-stops : (s : NodeStop) → old.is_up ≡ true → ((t : State) → LeadsItself t → Fails s (protocol.reaction itself at old.kv t (input.Client session request)))
+      → Fails s (step alone w event)
+  client-stops s up fails =
+      let m = remembers old.is_up w up stand.up in
+      subst (Fails s) (sym (asks m.state (protocol.reaction itself at old.kv m.state (input.Client session request)) m.is refl))
+      (fails_so s (protocol.reaction itself at old.kv m.state (input.Client session request)) w event here (fails m.state m.leads))
+
+  pub client-down : old.is_up ≡ false → (k : ℕ) → sets ≤ k → Does k (Ok (still_line Down)) old (step alone w event)
+  unfolding unmoved
+  client-down down k le =
+      let was : w.state 0 ≡ None = forgets old.is_up w down stand.up in
+      (unmoved w event, rw was refl, record { store = stand.store; up = stand.up; log = stand.log; few = more_sets sets k (w.store 0) le stand.few })
+
+at_least : (sets : ℕ) (r : Request) → sets ≤ sets_with sets r
+at_least sets (request.Set key value) = omega arith
+at_least sets other = omega arith
+
+-- the same at a rank that is the first
+module _ (sets : ℕ) (old : World) (w : Model) (rank at : ℕ) (is_0 : rank ≡ 0) (session : Session) (request : Request) (stand : StandsFor sets old w) where
+  pub asked-ran : (new : World) (y : Reaction) → old.is_up ≡ true → RequestFits request → sets_with sets request ≤ 24
+      → ((s : State) → LeadsItself s → IsReaction y (protocol.reaction itself at old.kv s (input.Client session request)))
+      → new.kv ≡ apply y.tx old.kv → new.is_up ≡ true → new.log ≡ log_after old.log (apply y.tx old.kv)
+      → Does (sets_with sets request) (Ok (line_of old rank (Some (now_at old.kv)) y)) new (step alone w (Client rank at session request))
+  asked-ran new y up fit few reacts kv is_up log =
+      subst (λ (rank : ℕ). Does (sets_with sets request) (Ok (line_of old rank (Some (now_at old.kv)) y)) new (step alone w (Client rank at session request))) (sym is_0)
+      (client-ran sets old w at session request stand new y up fit few reacts kv is_up log)
+
+  pub asked-stops : (s : NodeStop) → old.is_up ≡ true → ((t : State) → LeadsItself t → Fails s (protocol.reaction itself at old.kv t (input.Client session request)))
+      → Fails s (step alone w (Client rank at session request))
+  asked-stops s up fails = subst (λ (rank : ℕ). Fails s (step alone w (Client rank at session request))) (sym is_0) (client-stops sets old w at session request stand s up fails)
+
+  pub asked-down : old.is_up ≡ false → Does (sets_with sets request) (Ok (still_line Down)) old (step alone w (Client rank at session request))
+  asked-down down =
+      subst (λ (rank : ℕ). Does (sets_with sets request) (Ok (still_line Down)) old (step alone w (Client rank at session request))) (sym is_0)
+      (client-down sets old w at session request stand down (sets_with sets request) (at_least sets request))
+
+-- ---- a schedule's event
+
+module _ (r : Result StepLine NodeStop) (old new : World) (event : Plain) where
+  -- what happens by it, and the sets with it
+  happens_by : (next : Plain) → event ≡ next → (sets : ℕ) (w : Model) (e h : Event) → event_of (events.Plain event) ≡ Some e → event_of (events.Plain next) ≡ Some h
+      → Does (built_sets sets (events.Plain next)) r new (step alone w h) → Does (built_sets sets (events.Plain event)) r new (step alone w e)
+  happens_by next so sets w e h happens would does =
+      let same : h ≡ e = some_is (sym would ∙ sym (ap (λ (p : Plain). event_of (events.Plain p)) so) ∙ happens) in
+      subst₂ (λ (p : Plain) (e : Event). Does (built_sets sets (events.Plain p)) r new (step alone w e)) (sym so) same does
+
+  pub step-start : (rank at : ℕ) → event ≡ plain.Start rank at → ((sets at : ℕ) (w : Model) → StandsFor sets old w → Does sets r new (step alone w (Start rank at)))
+      → (sets : ℕ) (w : Model) (e : Event) → StandsFor sets old w → event_of (events.Plain event) ≡ Some e → built_sets sets (events.Plain event) ≤ 24
+      → Does (built_sets sets (events.Plain event)) r new (step alone w e)
+  step-start rank at so does sets w e stand happens few = happens_by (plain.Start rank at) so sets w e (Start rank at) happens refl (does sets at w stand)
+
+  pub step-client : (rank at : ℕ) (session : Session) (request : Request) → event ≡ plain.Client rank at session request
+      → ((sets at : ℕ) (w : Model) → StandsFor sets old w → sets_with sets request ≤ 24 → Does (sets_with sets request) r new (step alone w (Client rank at session request)))
+      → (sets : ℕ) (w : Model) (e : Event) → StandsFor sets old w → event_of (events.Plain event) ≡ Some e → built_sets sets (events.Plain event) ≤ 24
+      → Does (built_sets sets (events.Plain event)) r new (step alone w e)
+  step-client rank at session request so does sets w e stand happens few =
+      let count = sets_asked sets rank at session request in
+      let room : sets_with sets request ≤ 24 = subst (λ (k : ℕ). k ≤ 24) (ap (λ (p : Plain). built_sets sets (events.Plain p)) so ∙ count) few in
+      happens_by (plain.Client rank at session request) so sets w e (Client rank at session request) happens refl
+      (subst (λ (k : ℕ). Does k r new (step alone w (Client rank at session request))) (sym count) (does sets at w stand room))

@@ -3,4 +3,5 @@ pub mod Node
 pub mod Replay
 pub mod Run
 pub mod Status
+pub mod Step
 pub mod Trace

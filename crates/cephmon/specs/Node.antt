@@ -1,32 +1,43 @@
 -- What a monitor's call answers.
-use Rattle.std.specs.Prelude.{◌≡◌, ℕ, suc, List, [], ◌∷◌, ◌++◌, Result, Ok, Err}
+use Rattle.std.specs.Prelude.{◌≡◌, ℕ, suc, List, [], ◌∷◌, ◌++◌, Option, Some, None, Result, Ok, Err, ◌==◌, if◌then◌else◌}
 use Rattle.mon_types.specs.declared.names.Which.{Which}
 use Rattle.mon_tx.specs.declared.op.Op.{Op}
 use Rattle.mon_tx.specs.declared.key.Area.TheVariants as area
 use Rattle.mon_tx.specs.declared.key.Key.TheVariants as key
 use Rattle.mon_tx.specs.Text.{text}
-use Rattle.mon_msg.specs.declared.reaction.Reaction.{Reaction}
-use Rattle.mon_msg.specs.declared.request.Service.TheVariants as service
-use Rattle.mon_msg.specs.Changes.{put, put_number}
-use Rattle.mon_msg.specs.Service.{value}
-use Rattle.mon_msg.specs.Acts.{Course}
-use Rattle.quorum_model.specs.World.{transaction_of}
+use Rattle.mon_msg.specs.Puts.{put, put_number}
+use Rattle.mon_msg.specs.Protocol.Reaction as protocol
+use Rattle.mon_msg.specs.declared.plan.Sent.{Sent}
+use Rattle.mon_msg.specs.declared.plan.Sent.TheVariants as sent
+use Rattle.quorum_model.specs.Alone.{LeadsItself}
+use Rattle.cephmon.specs.declared.node.Answer.{Answer}
 use Rattle.cephmon.specs.declared.node.NodeStop.{NodeStop}
 use Rattle.cephmon.specs.declared.node.NodeStop.TheVariants.{OutOfMemory, Spent}
+use Rattle.cephmon.specs.declared.node.Reaction.{Reaction}
 
--- what is written, sent and remembered of an event
-abbrev pub drawn : Result Course Which → Result Reaction Which
-drawn (Ok x) = Ok (record { tx = transaction_of x; out = x.out; volatile = x.volatile })
-drawn (Err which) = Err which
-
--- a call answered what the protocol gives, unless memory ran out
+-- a call answered what is wanted, unless memory ran out
 abbrev pub Fails : {Y : Type 0} → NodeStop → Result Y Which → Type 0
 Fails OutOfMemory wanted = Unit {0}
 Fails (Spent which) wanted = wanted ≡ Err which
 
-abbrev pub Gives : {X Y : Type 0} → (X → Y) → Result X NodeStop → Result Y Which → Type 0
-Gives view (Ok x) wanted = wanted ≡ Ok (view x)
-Gives view (Err e) wanted = Fails e wanted
+-- what is sent where there is an answer
+abbrev pub sends_of : Option Answer → List Sent
+sends_of None = []
+sends_of (Some answer) = sent.Reply answer.to answer.reply ∷ []
+
+-- what is written and sent is what the protocol says, and the monitor leads itself from then on
+pub record IsReaction (r : Reaction) (wanted : Result protocol.Reaction Which) : Type 0 where
+  pub reaction : protocol.Reaction
+  pub is : wanted ≡ Ok reaction
+  pub transaction : reaction.transaction ≡ r.tx
+  pub sends : reaction.sends ≡ sends_of r.answer
+  pub leads : LeadsItself reaction.state
+
+abbrev pub Reacts : Result Reaction NodeStop → Result protocol.Reaction Which → Type 0
+Reacts (Ok r) wanted = IsReaction r wanted
+Reacts (Err e) wanted = Fails e wanted
+
+-- ---- what is written
 
 -- the transaction of a start
 abbrev pub start_tx : ℕ → ℕ → ℕ → List Op
@@ -34,8 +45,22 @@ start_tx boot epoch pn =
     put_number area.Monitor key.BootCount boot ∷ put_number area.Monitor key.ElectionEpoch epoch ∷ put_number area.Paxos key.LastPn pn
     ∷ put_number area.Paxos key.AcceptedPn pn ∷ []
 
--- the transaction that commits the next version of the log, which makes version n of the key-value service
+-- the change, where the number is that one
+abbrev pub where_first : ℕ → ℕ → Op → List Op
+where_first n first op = if n == first then op ∷ [] else []
+
+-- the value of an early set, which makes version n of the key-value service where `last` is the last version of the log: no full
+-- map is kept, and nothing is trimmed
+abbrev pub set_ops : ℕ → ℕ → List ℕ → List Op
+set_ops last n incremental =
+    where_first last 0 (put_number area.Paxos key.FirstCommitted 1)
+    ++ put area.Kv (key.Version n) incremental
+    ∷ where_first n 1 (put_number area.Kv key.FirstCommitted 1)
+    ++ put_number area.Kv key.LastCommitted n
+    ∷ []
+
+-- the transaction that commits it
 abbrev pub set_tx : ℕ → ℕ → List ℕ → List Op
 set_tx last n incremental =
-    put area.Paxos (key.Version (suc last)) (text (value last service.Kv n incremental))
-    ∷ (value last service.Kv n incremental ++ put_number area.Paxos key.LastCommitted (suc last) ∷ [])
+    put area.Paxos (key.Version (suc last)) (text (set_ops last n incremental))
+    ∷ (set_ops last n incremental ++ put_number area.Paxos key.LastCommitted (suc last) ∷ [])

@@ -1,5 +1,6 @@
 -- What a replay reads and writes, and the cause of each status.
 use Rattle.std.specs.Prelude.{◌≡◌, ℕ, ◌⊎◌, List, [], ◌∷◌, map, Option, Some, None, Err, String, string_bytes, codes}
+use Rattle.std.specs.List.{filter_map}
 use Rattle.std.specs.declared.alloc.Global.{Global}
 use Rattle.std.specs.Io.KnownBytes.{Appends}
 use Rattle.mon_types.specs.declared.names.Which.{Which}
@@ -9,7 +10,8 @@ use Rattle.schedule_text.specs.declared.schedule.Schedule.{Schedule}
 use Rattle.schedule_text.specs.declared.refusal.ScheduleRefused.TheVariants.{At}
 use Rattle.schedule_text.specs.Spelling.{HasText, schedule_text}
 use Rattle.cephmon.specs.Built.{unbuilt, run_at}
-use Rattle.quorum_model.specs.World.{run}
+use Rattle.quorum_model.specs.Happens.{run}
+use Rattle.quorum_model.specs.Monitors.{alone}
 use Rattle.quorum_model.specs.Safe.{Safe}
 use Rattle.cephmon.specs.declared.status.Status.{Status}
 use Rattle.cephmon.specs.declared.status.Status.TheVariants as status
@@ -40,8 +42,8 @@ pub record Replays (bytes : List ℕ) (fact : Trace → Type 0) : Type 0 where
   pub form : HasText schedule
   pub built : unbuilt schedule ≡ None
   pub text : bytes ≡ schedule_text schedule
-  pub safe : Safe 1 (run (map event_of schedule.events))
-  pub traced : fact (trace schedule.events)
+  pub safe : Safe 1 (run alone (filter_map event_of schedule.events))
+  pub traced : fact (trace alone schedule.events)
 
 -- the whole trace went out, and its run came to the end, or stopped at this number
 abbrev pub WroteAll : Outside → Outside → Option Which → Trace → Type 0

@@ -4,24 +4,40 @@ ghost use Rattle.std.specs.Prelude.{◌≡◌, ℕ, suc, ◌+◌, ◌^◌, ◌�
 ghost use Rattle.mon_bytes.specs.Texts.{is_name};
 ghost use Rattle.mon_tx.specs.Map.{number_bytes};
 ghost use Rattle.mon_tx.specs.Text.{text};
-ghost use Rattle.mon_tx.specs.Keys.{number};
 ghost use Rattle.map_kv.specs.Text.{inc_text};
-ghost use Rattle.mon_msg.specs.Changes.{put, put_number};
-ghost use Rattle.quorum_model.specs.Events.{RequestFits};
-ghost use Rattle.mon_msg.specs.Service.{value, where_first};
-ghost use Rattle.mon_msg.specs.View.{View, view, area_of};
-ghost use Rattle.mon_msg.specs.Acts.{answer, epoch_of};
-ghost use Rattle.mon_msg.specs.Table.{react, booting, at_rest, propose, asked, client};
-ghost use Rattle.cephmon.specs.Node.{Gives, drawn, start_tx, set_tx};
+ghost use Rattle.mon_msg.specs.Puts.{put, put_number};
+ghost use Rattle.mon_msg.specs.declared.input.Input.TheVariants as input;
+ghost use Rattle.mon_msg.specs.Protocol.Reaction.{reaction};
+ghost use Rattle.mon_msg.specs.Protocol.State.{State, booting};
+ghost use Rattle.mon_msg.specs.Protocol.View.{view, epoch_of};
+ghost use Rattle.quorum_model.specs.Few.{RequestFits};
+ghost use Rattle.quorum_model.specs.Alone.{LeadsItself};
+ghost use Rattle.quorum_model.specs.Few.{AfterSets, sets_with};
+ghost use Rattle.quorum_model.specs.Monitors.{itself};
+ghost use Rattle.cephmon.specs.Node.{Reacts, start_tx, where_first, set_ops, set_tx};
 
 use crate::service::shown;
 use map_kv::KvInc;
 use mon_bytes::{Bytes, Name, Out, OutOfMemory, Text};
 use mon_kv::Kv;
-use mon_msg::{Input, Phase, Reaction, Reply, Request, Sends, Sent, Service, Session, Volatile};
+use mon_msg::{Reply, Request, Session};
 use mon_tx::{Area, EncodeRefused, Key, Op, Transaction};
 use mon_types::{Epoch, GREATEST, Pn, Rank, Version, Which, next_pn};
 use std::alloc::Global;
+
+/// What is answered to a client.
+#[derive(Drop)]
+pub struct Answer {
+    pub to: Session,
+    pub reply: Reply,
+}
+
+/// What an input makes the monitor write, and answer after that.
+#[derive(Drop)]
+pub struct Reaction {
+    pub tx: Transaction,
+    pub answer: Option<Answer>,
+}
 
 /// Why a monitor stops.
 #[derive(Clone, Copy, Debug, PartialEq, Eq)]
@@ -98,8 +114,8 @@ fn push_where_first(
     }
 }
 
-/// Appends the value that makes version `n` of the key-value service, where `last` is the last version of the log.
-#[tactic(auto, unfolding(mon_msg::specs::Service::value))]
+/// Appends the value of an early set, which makes version `n` of the key-value service, where `last` is the last version of the
+/// log.
 fn push_value(
     alloc: Global,
     tx: &mut Transaction,
@@ -107,7 +123,7 @@ fn push_value(
     n: u64,
     incremental: &Bytes,
 ) -> Result<(), OutOfMemory>
-    ensures { OnOk result (tx.new ≡ tx.old ++ value last Service.Kv n incremental.now) }
+    ensures { OnOk result (tx.new ≡ tx.old ++ set_ops last n incremental.now) }
 {
     push_where_first(alloc, tx, last, 0, Area::Paxos, Key::FirstCommitted)?;
     push_put(
@@ -132,7 +148,7 @@ fn pn_of(n: u64) -> Pn
 }
 
 /// The stored epoch; one that isn't there counts as 1.
-#[tactic(auto, unfolding(mon_msg::specs::View::view))]
+#[tactic(auto, unfolding(mon_msg::specs::Protocol::View::view))]
 pub fn stored_epoch(kv: &Kv) -> u64
     ensures value { result ≡ epoch_of (view kv.now) }
     ensures most { result ≤ 2 ^ 62 }
@@ -156,7 +172,8 @@ fn start_tx(alloc: Global, boot: u64, epoch: u64, pn: u64) -> Result<Transaction
 
 /// A start: it is counted, and the monitor takes the next even epoch and collects with a new number from itself alone.
 pub fn start(alloc: Global, rank: Rank, kv: &Kv) -> Result<Reaction, NodeStop>
-    ensures reaction { Gives (λ r. r) result (drawn (react rank (view kv.now) booting Input.Start)) }
+    requires { rank ≡ 0 }
+    ensures reaction { (sets now : ℕ) → AfterSets sets (view kv.now) → Reacts result (reaction itself now kv.now (booting 0) input.Start) }
     ensures short { IfOk result (λ r. length r.tx ≤ 10) }
 {
     let boot = kv.number(b"monitor", b"boot_count") + 1;
@@ -172,22 +189,14 @@ pub fn start(alloc: Global, rank: Rank, kv: &Kv) -> Result<Reaction, NodeStop>
         return Err(NodeStop::Spent(Which::Pn));
     };
     let tx = start_tx(alloc, boot, epoch.get(), pn.get())?;
-    let volatile = Volatile {
-        phase: Phase::Active,
-        pn,
-    };
-    Ok(Reaction {
-        tx,
-        out: Sends::new(alloc),
-        volatile,
-    })
+    Ok(Reaction { tx, answer: None })
 }
 
 /// The bytes of a value.
 fn value_text(alloc: Global, last: u64, n: u64, incremental: &Bytes) -> Result<Bytes, OutOfMemory>
     requires short { length incremental.now ≤ 1000 }
     requires version { n ≤ 2 ^ 62 }
-    ensures { IfOk result (λ bytes. bytes ≡ text (value last Service.Kv n incremental.now)) }
+    ensures { IfOk result (λ bytes. bytes ≡ text (set_ops last n incremental.now)) }
 {
     let mut tx = Transaction::new(alloc);
     push_value(alloc, &mut tx, last, n, incremental)?;
@@ -215,30 +224,14 @@ fn set_tx(alloc: Global, last: u64, n: u64, incremental: &Bytes) -> Result<Trans
     Ok(tx)
 }
 
-fn answer(alloc: Global, to: Session, reply: Reply) -> Result<Sends, OutOfMemory>
-    ensures { IfOk result (λ out. out ≡ Sent.Reply to reply ∷ []) }
-{
-    let mut out = Sends::new(alloc);
-    out.push(Sent::Reply { to, reply })?;
-    Ok(out)
-}
-
 /// An answer, and nothing else.
-#[tactic(auto, unfolding(mon_msg::specs::Joined::joined))]
-fn answered(
-    alloc: Global,
-    volatile: Volatile,
-    session: Session,
-    reply: Reply,
-) -> Result<Reaction, NodeStop>
-    ensures reaction { (w : View) → Gives (λ r. r) result (drawn (Ok (answer session reply (at_rest w volatile)))) }
-    ensures short { IfOk result (λ r. length r.tx ≤ 10) }
+fn answered(alloc: Global, to: Session, reply: Reply) -> Reaction
+    ensures { result ≡ record { tx = []; answer = Some (record { to = to; reply = reply }) } }
 {
-    Ok(Reaction {
+    Reaction {
         tx: Transaction::new(alloc),
-        out: answer(alloc, session, reply)?,
-        volatile,
-    })
+        answer: Some(Answer { to, reply }),
+    }
 }
 
 /// The bytes of an incremental that sets a key.
@@ -255,19 +248,14 @@ fn set_incremental(alloc: Global, key: &Name, v: &Text) -> Result<Bytes, OutOfMe
     Ok(Bytes::new(inc.encode(alloc)?))
 }
 
-/// A command of the key-value service at an active monitor, which commits its value at once.
-fn propose(
-    alloc: Global,
-    kv: &Kv,
-    volatile: Volatile,
-    session: Session,
-    incremental: &Bytes,
-) -> Result<Reaction, NodeStop>
-    requires short { length incremental.now ≤ 1000 }
-    requires active { volatile.phase ≡ Phase.Active }
-    ensures reaction { Gives (λ r. r) result (drawn (propose session incremental.now (at_rest (view kv.now) volatile))) }
+/// A set: its value is committed at once, as the next version.
+fn set(alloc: Global, kv: &Kv, session: Session, key: &Name, v: &Text) -> Result<Reaction, NodeStop>
+    requires { RequestFits (Request.Set key.now v.now) }
+    ensures reaction { (sets now : ℕ) (s : State) → sets < 24 → AfterSets sets (view kv.now) → LeadsItself s →
+        Reacts result (reaction itself now kv.now s (input.Client session (Request.Set key.now v.now))) }
     ensures short { IfOk result (λ r. length r.tx ≤ 10) }
 {
+    let incremental = set_incremental(alloc, key, v)?;
     let last = kv.number(b"paxos", b"last_committed");
     let n = kv.number(b"kv", b"last_committed") + 1;
     if n > GREATEST {
@@ -276,50 +264,31 @@ fn propose(
     let Some(version) = Version::new(last + 1) else {
         return Err(NodeStop::Spent(Which::Version));
     };
-    let tx = set_tx(alloc, last, n, incremental)?;
-    let out = answer(alloc, session, Reply::Done { version })?;
-    Ok(Reaction { tx, out, volatile })
+    let tx = set_tx(alloc, last, n, &incremental)?;
+    Ok(Reaction {
+        tx,
+        answer: Some(Answer {
+            to: session,
+            reply: Reply::Done { version },
+        }),
+    })
 }
 
-/// What a client asks of an active monitor.
-fn asked(
-    alloc: Global,
-    kv: &Kv,
-    volatile: Volatile,
-    session: Session,
-    request: &Request,
-) -> Result<Reaction, NodeStop>
-    requires fits { RequestFits request.now }
-    requires active { volatile.phase ≡ Phase.Active }
-    ensures reaction { Gives (λ r. r) result (drawn (asked session request.now (at_rest (view kv.now) volatile))) }
-    ensures short { IfOk result (λ r. length r.tx ≤ 10) }
-{
-    match request {
-        Request::Set { key, value } => {
-            let incremental = set_incremental(alloc, key, value)?;
-            propose(alloc, kv, volatile, session, &incremental)
-        }
-        Request::Show { .. } => answered(alloc, volatile, session, shown(alloc, kv)?),
-        Request::Remove { .. } | Request::Log { .. } | Request::Since { .. } => {
-            answered(alloc, volatile, session, Reply::Unavailable)
-        }
-    }
-}
-
-/// What a client asks, by phase.
+/// What a client asks of the monitor, which leads itself.
 pub fn client(
     alloc: Global,
     kv: &Kv,
-    volatile: Volatile,
     session: Session,
     request: &Request,
 ) -> Result<Reaction, NodeStop>
     requires { RequestFits request.now }
-    ensures reaction { Gives (λ r. r) result (drawn (client volatile.phase session request.now (at_rest (view kv.now) volatile))) }
+    ensures reaction { (sets now : ℕ) (s : State) → sets_with sets request.now ≤ 24 → AfterSets sets (view kv.now) → LeadsItself s →
+        Reacts result (reaction itself now kv.now s (input.Client session request.now)) }
     ensures short { IfOk result (λ r. length r.tx ≤ 10) }
 {
-    match volatile.phase {
-        Phase::Active => asked(alloc, kv, volatile, session, request),
-        _ => answered(alloc, volatile, session, Reply::Unavailable),
+    match request {
+        Request::Set { key, value } => set(alloc, kv, session, key, value),
+        Request::Show { .. } => Ok(answered(alloc, session, shown(alloc, kv)?)),
+        Request::Remove { .. } | Request::Log { .. } | Request::Since { .. } => unreachable!(),
     }
 }

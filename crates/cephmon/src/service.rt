@@ -1,12 +1,18 @@
 //! The key-value map that a monitor keeps, read back from its store.
 
-ghost use Rattle.std.specs.Prelude.{◌≡◌, ℕ, ◌≤◌, ◌^◌, IfOk};
+ghost use Rattle.std.specs.Prelude.{◌≡◌, ℕ, ◌≤◌, ◌^◌, true, IfOk, IfSome, nat_lt, if◌then◌else◌};
 ghost use Rattle.std.specs.Option.{option_copied};
 ghost use Rattle.std.specs.FinMap.{empty};
+ghost use Rattle.std.specs.Option.{option_and_then};
+ghost use Rattle.map_kv.specs.Decode.{inc_of};
+ghost use Rattle.mon_tx.specs.declared.key.Key.TheVariants as key;
+ghost use Rattle.mon_msg.specs.declared.reply.ShownMap.TheVariants as map;
 ghost use Rattle.mon_msg.specs.declared.request.Service.TheVariants as service;
-ghost use Rattle.mon_msg.specs.View.{view};
-ghost use Rattle.mon_msg.specs.Service.{inc_in, read_from, read_kv};
-ghost use Rattle.mon_msg.specs.Table.{shown};
+ghost use Rattle.mon_msg.specs.Protocol.Maps.{if_ok};
+ghost use Rattle.mon_msg.specs.Protocol.Reading.{read_on};
+ghost use Rattle.mon_msg.specs.Protocol.Reads.{shown};
+ghost use Rattle.mon_msg.specs.Protocol.View.{view};
+ghost use Rattle.quorum_model.specs.Few.{IsSet, AfterSets};
 
 use map_kv::{KvInc, KvMap};
 use mon_bytes::{MapRefused, OutOfMemory};
@@ -18,7 +24,7 @@ use std::alloc::Global;
 
 /// The incremental that the bytes are, where there are bytes and they are one.
 fn inc_in(alloc: Global, bytes: Option<&[u8]>) -> Result<Option<KvInc>, OutOfMemory>
-    ensures { IfOk result (λ inc. inc ≡ inc_in (option_copied bytes.entry)) }
+    ensures { IfOk result (λ inc. inc ≡ option_and_then (λ b. if_ok (inc_of b)) (option_copied bytes.entry)) }
 {
     let Some(bytes) = bytes else {
         return Ok(None);
@@ -30,10 +36,12 @@ fn inc_in(alloc: Global, bytes: Option<&[u8]>) -> Result<Option<KvInc>, OutOfMem
     }
 }
 
-/// The map after the first `count` incrementals, up to the first that isn't there or is none.
+/// The map after the first `count` incrementals, up to the first that isn't there or is none. After few short sets it isn't too
+/// long.
 fn read_from(alloc: Global, kv: &Kv, count: u64) -> Result<KvMap, OutOfMemory>
     requires { count ≤ 2 ^ 62 }
-    ensures { IfOk result (λ map. map ≡ read_from count 1 ((view kv.now).row service.Kv) empty) }
+    ensures { ((v : ℕ) → IfSome ((view kv.now).row service.Kv (key.Version v)) IsSet) → count ≤ 24 →
+        IfOk result (λ m. map.Kv m ≡ read_on (view kv.now) service.Kv count 1 (map.Kv empty)) }
 {
     let mut map = KvMap::new(alloc);
     for i in 0..count {
@@ -57,9 +65,9 @@ fn version_of(n: u64) -> Version
 }
 
 /// What a show of the key-value map answers.
-#[tactic(auto, unfolding(mon_msg::specs::Table::shown, mon_msg::specs::View::view))]
 pub fn shown(alloc: Global, kv: &Kv) -> Result<Reply, OutOfMemory>
-    ensures { IfOk result (λ reply. reply ≡ shown (view kv.now)) }
+    ensures { (sets : ℕ) → sets ≤ 24 → AfterSets sets (view kv.now) →
+        IfOk result (λ reply. reply ≡ (if nat_lt 0 (view kv.now).last then shown (view kv.now) service.Kv else Reply.NotReadable (view kv.now).last true)) }
 {
     let paxos = version_of(kv.number(b"paxos", b"last_committed"));
     if paxos.get() == 0 {

@@ -1,14 +1,17 @@
 //! The world of one monitor.
 
-ghost use Rattle.std.specs.Prelude.{◌≡◌, ℕ, ◌≤◌, None, Some, length, map, IsTrue, IfOk, OnOk};
+ghost use Rattle.std.specs.Prelude.{◌≡◌, ℕ, ◌≤◌, [], ◌∷◌, None, Some, length, IsTrue, IfOk, OnOk};
 ghost use Rattle.mon_tx.specs.Map.{apply};
-ghost use Rattle.quorum_model.specs.World.{last_of};
-ghost use Rattle.cephmon.specs.Trace.{state_of, told, replied, same_phase, log_after};
+ghost use Rattle.mon_msg.specs.Protocol.Phases.{same_phase};
+ghost use Rattle.mon_msg.specs.Protocol.View.{view, epoch_of};
+ghost use Rattle.quorum_model.specs.Growth.{last_of};
+ghost use Rattle.cephmon.specs.Node.{sends_of};
+ghost use Rattle.cephmon.specs.Step.{told, replied, log_after};
 
-use crate::node::{NodeStop, client, start, stored_epoch};
+use crate::node::{Answer, NodeStop, Reaction, client, start, stored_epoch};
 use mon_bytes::OutOfMemory;
 use mon_kv::Kv;
-use mon_msg::{Phase, Reaction, Request, Sends, Sent, Session, Volatile};
+use mon_msg::{Items, Phase, Request, Session};
 use mon_types::{Epoch, Rank, Version};
 use schedule_text::{Event, Outcome, Plain, Replied, Replies, StateLine, StepLine};
 use std::alloc::Global;
@@ -23,16 +26,16 @@ fn last_of(kv: &Kv) -> Version
     }
 }
 
-/// Where a monitor stands.
-fn state_of(kv: &Kv, volatile: &Volatile) -> StateLine
-    ensures { result ≡ state_of kv.now volatile.now }
+/// Where the monitor stands, which leads itself.
+fn state_of(kv: &Kv) -> StateLine
+    ensures { result ≡ record { phase = Phase.Active; epoch = epoch_of (view kv.now); last = last_of kv.now } }
 {
     let epoch = match Epoch::new(stored_epoch(kv)) {
         Some(epoch) => epoch,
         None => unreachable!(),
     };
     StateLine {
-        phase: volatile.phase,
+        phase: Phase::Active,
         epoch,
         last: last_of(kv),
     }
@@ -69,46 +72,55 @@ fn told(before: Option<StateLine>, now: StateLine) -> Option<StateLine>
     }
 }
 
-/// The replies among what a monitor sends.
-fn replies_of(alloc: Global, rank: Rank, out: Sends) -> Result<Replies, OutOfMemory>
-    ensures { IfOk result (λ replies. replies ≡ map (replied rank) out) }
+/// The replies of an event.
+fn replies_of(alloc: Global, rank: Rank, answer: Option<Answer>) -> Result<Replies, OutOfMemory>
+    ensures { IfOk result (λ replies. replies ≡ replied rank (sends_of answer)) }
 {
     let mut replies = Replies::new(alloc);
-    for sent in out.into_sends() {
-        let Sent::Reply { to, reply } = sent;
-        replies.push(Replied {
-            rank,
-            session: to,
-            reply,
-        })?;
+    match answer {
+        None => Ok(replies),
+        Some(Answer { to, reply }) => {
+            replies.push(Replied {
+                rank,
+                session: to,
+                reply,
+            })?;
+            Ok(replies)
+        }
     }
-    Ok(replies)
 }
 
-/// What the monitor keeps, what it remembers unless it is down, and the length of the log.
+/// What the monitor keeps, whether it is up, and the length of the log.
 #[derive(Drop)]
 pub struct World {
     pub kv: Kv,
-    pub volatile: Option<Volatile>,
+    pub is_up: bool,
     pub log: u64,
 }
 
 impl World {
-    ghost use Rattle.std.specs.Prelude.{◌≡◌, ℕ, ◌≤◌, None, Some, length, map, IsTrue, IfOk, OnOk};
+    ghost use Rattle.std.specs.Prelude.{◌≡◌, ℕ, ◌+◌, ◌≤◌, true, None, Some, [], length, IsTrue, IfOk, OnOk};
     ghost use Rattle.mon_tx.specs.Map.{apply};
-    ghost use Rattle.cephmon.specs.Built.{event_runs, request_runs};
-    ghost use Rattle.quorum_model.specs.World.{World as Model, first_world, Start, Client};
+    ghost use Rattle.mon_msg.specs.Protocol.View.{view, epoch_of};
+    ghost use Rattle.mon_msg.specs.declared.phase.Phase.TheVariants as phase;
+    ghost use Rattle.quorum_model.specs.Few.{sets_with};
+    ghost use Rattle.quorum_model.specs.Growth.{last_of};
+    ghost use Rattle.quorum_model.specs.Monitors.{alone};
+    ghost use Rattle.quorum_model.specs.World.{World as Model, Event as Happening, first_world, Start, Client};
     ghost use Rattle.schedule_text.specs.declared.step.Outcome.TheVariants.{Ran};
-    ghost use Rattle.cephmon.specs.Trace.{event_of, state_of, told, replied, step, log_after};
+    ghost use Rattle.cephmon.specs.Built.{event_runs, request_runs, sets_with as sets_after};
+    ghost use Rattle.cephmon.specs.Node.{sends_of};
+    ghost use Rattle.cephmon.specs.Step.{told, replied, step, log_after};
+    ghost use Rattle.cephmon.specs.Trace.{event_of};
     ghost use Rattle.cephmon.specs.Replay.{StandsFor, Does};
 
     /// A monitor that is down, with an empty store, and an empty log.
     pub fn new(alloc: Global) -> World
-        ensures { StandsFor result first_world }
+        ensures { StandsFor 0 result first_world }
     {
         World {
             kv: Kv::empty(alloc),
-            volatile: None,
+            is_up: false,
             log: 0,
         }
     }
@@ -123,31 +135,33 @@ impl World {
     ) -> Result<StepLine, OutOfMemory>
         requires { length reaction.tx ≤ 10 }
         ensures kv { OnOk result (self.new.kv ≡ apply reaction.tx self.old.kv) }
-        ensures volatile { OnOk result (self.new.volatile ≡ Some reaction.volatile) }
+        ensures up { OnOk result (self.new.is_up ≡ true) }
         ensures log { OnOk result (self.new.log ≡ log_after self.old.log (apply reaction.tx self.old.kv)) }
         ensures line { IfOk result (λ line. line ≡ record {
           outcome = Ran;
           ops = length reaction.tx;
-          state = told before (state_of (apply reaction.tx self.old.kv) reaction.volatile);
-          replies = map (replied rank) reaction.out;
+          state = told before (record { phase = phase.Active; epoch = epoch_of (view (apply reaction.tx self.old.kv)); last = last_of (apply reaction.tx self.old.kv) });
+          sent = [];
+          replies = replied rank (sends_of reaction.answer);
         }) }
     {
-        let Reaction { tx, out, volatile } = reaction;
+        let Reaction { tx, answer } = reaction;
         self.kv.apply(&tx)?;
-        let state = state_of(&self.kv, &volatile);
-        self.volatile = Some(volatile);
+        let state = state_of(&self.kv);
+        self.is_up = true;
         self.log = log_after(self.log, &self.kv);
         Ok(StepLine {
             outcome: Outcome::Ran,
             ops: tx.ops().len() as u32,
             state: told(before, state),
-            replies: replies_of(alloc, rank, out)?,
+            sent: Items::new(alloc),
+            replies: replies_of(alloc, rank, answer)?,
         })
     }
 
     fn start(&mut self, alloc: Global, rank: Rank) -> Result<StepLine, NodeStop>
         requires { rank ≡ 0 }
-        ensures { (w : Model) (at : ℕ) → StandsFor self.old w → Does result self.new (step w (Start rank at)) }
+        ensures { (sets at : ℕ) (w : Model) → StandsFor sets self.old w → Does sets result self.new (step alone w (Start rank at)) }
     {
         let reaction = start(alloc, rank, &self.kv)?;
         Ok(self.take(alloc, rank, None, reaction)?)
@@ -162,39 +176,50 @@ impl World {
     ) -> Result<StepLine, NodeStop>
         requires rank { rank ≡ 0 }
         requires fits { IsTrue (request_runs request.now) }
-        ensures { (w : Model) (at : ℕ) → StandsFor self.old w → Does result self.new (step w (Client rank at session request.now)) }
+        ensures { (sets at : ℕ) (w : Model) → StandsFor sets self.old w → sets_with sets request.now ≤ 24 →
+            Does (sets_with sets request.now) result self.new (step alone w (Client rank at session request.now)) }
     {
-        let Some(volatile) = self.volatile else {
+        if !self.is_up {
             return Ok(StepLine {
                 outcome: Outcome::Down,
                 ops: 0,
                 state: None,
+                sent: Items::new(alloc),
                 replies: Replies::new(alloc),
             });
-        };
-        let before = state_of(&self.kv, &volatile);
-        let reaction = client(alloc, &self.kv, volatile, session, request)?;
+        }
+        let before = state_of(&self.kv);
+        let reaction = client(alloc, &self.kv, session, request)?;
         Ok(self.take(alloc, rank, Some(before), reaction)?)
+    }
+
+    /// One plain event, and its lines of the trace.
+    fn plain(&mut self, alloc: Global, event: &Plain) -> Result<StepLine, NodeStop>
+        requires { IsTrue (event_runs (Event.Plain event.now)) }
+        ensures { (sets : ℕ) (w : Model) (e : Happening) → StandsFor sets self.old w → event_of (Event.Plain event.now) ≡ Some e → sets_after sets (Event.Plain event.now) ≤ 24 →
+            Does (sets_after sets (Event.Plain event.now)) result self.new (step alone w e) }
+    {
+        match event {
+            Plain::Start { rank, .. } => self.start(alloc, *rank),
+            Plain::Client {
+                rank,
+                session,
+                request,
+                ..
+            } => self.client(alloc, *rank, *session, request),
+            Plain::Deliver { .. } | Plain::Timer { .. } => unreachable!(),
+        }
     }
 
     /// One event, and its lines of the trace.
     pub fn step(&mut self, alloc: Global, event: &Event) -> Result<StepLine, NodeStop>
         requires { IsTrue (event_runs event.now) }
-        ensures { (w : Model) → StandsFor self.old w → Does result self.new (step w (event_of event.now)) }
+        ensures { (sets : ℕ) (w : Model) (e : Happening) → StandsFor sets self.old w → event_of event.now ≡ Some e → sets_after sets event.now ≤ 24 →
+            Does (sets_after sets event.now) result self.new (step alone w e) }
     {
         match event {
-            Event::Plain(Plain::Start { rank, .. }) => self.start(alloc, *rank),
-            Event::Plain(
-                Plain::Client {
-                    rank,
-                    session,
-                    request,
-                    ..
-                },
-            ) => self.client(alloc, *rank, *session, request),
-            Event::Plain(Plain::Deliver { .. } | Plain::Timer { .. })
-            | Event::Crash { .. }
-            | Event::Fail { .. } => unreachable!(),
+            Event::Plain(event) => self.plain(alloc, event),
+            Event::Crash { .. } | Event::Fail { .. } => unreachable!(),
         }
     }
 }

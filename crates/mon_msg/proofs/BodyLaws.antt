@@ -1,6 +1,6 @@
 -- The formats of bodies read what they spell.
-use Rattle.std.proofs.Common.{◌≡◌, ℕ, suc, ◌+◌, ◌-◌, ◌≤◌, ◌<◌, List, [], ◌∷◌, ◌++◌, length, get_or, Result, Ok, Err, refl, sym, arith}
-use Rattle.mon_bytes.specs.Reading.{IsBytes, Reading}
+use Rattle.std.proofs.Common.{◌≡◌, ℕ, ◌≤◌, List, ◌++◌, refl}
+use Rattle.mon_bytes.specs.Reading.{Reading}
 use Rattle.mon_bytes.proofs.Fields.{Found}
 use Rattle.mon_msg.specs.declared.body.Body.{Body}
 use Rattle.mon_msg.specs.declared.body.Body.TheVariants as body

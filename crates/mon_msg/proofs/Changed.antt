@@ -16,13 +16,14 @@ use Rattle.mon_tx.proofs.After.{get-apply}
 use Rattle.mon_msg.specs.declared.request.Service.{Service}
 use Rattle.mon_msg.specs.declared.request.Service.TheVariants.{Kv, Log}
 use Rattle.mon_msg.specs.Joined.{joined}
-use Rattle.mon_msg.specs.View.{area_of, number_if_there}
+use Rattle.mon_msg.specs.Puts.{area_of}
+use Rattle.mon_msg.specs.Protocol.View.{number_if_there}
 use Rattle.mon_msg.specs.Protocol.View.{View, marks, told_after, view, after}
 use Rattle.mon_msg.specs.Protocol.Changes.{Change, Boot, Epoch, Numbers, Promise, Vote, Record, Learn, Last, Copy, Mark, Unmark, ops_of, spelled}
 use Rattle.mon_msg.specs.Protocol.Played.{IsShort, Fits, play, played}
 use Rattle.mon_msg.proofs.Edits.{Edit, Set, Drop, DropAll, op_of, all_named, decision-edits}
 use Rattle.mon_msg.proofs.Joining.{apply-joined}
-use Rattle.mon_msg.proofs.Played.{told, number-apply, apply-append}
+use Rattle.mon_msg.proofs.Afterwards.{told, number-apply, apply-append}
 
 told-apply : {A : Type 0} (tell : Cell → A) (ops : List Op) (m : Store) (a : Area) (k : Key) → tell (cell (apply ops m) a k) ≡ told_after tell ops a k (tell (cell m a k))
 told-apply tell ops m a k = ap tell (get-apply ops m (place a k)) ∙ told tell (decision ops (place a k)) (cell m a k)

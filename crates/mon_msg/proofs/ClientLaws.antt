@@ -1,5 +1,5 @@
 -- The formats of requests and replies read what they spell.
-use Rattle.std.proofs.Common.{◌≡◌, ℕ, ◌⊎◌, false, true, cond, eqb, List, [], ◌∷◌, ◌++◌, Result, Ok, Err, IsTrue, refl, sym, ap, subst, ◌∙◌, arith, inl, inr}
+use Rattle.std.proofs.Common.{◌≡◌, ℕ, false, List, [], ◌∷◌, ◌++◌, Ok, IsTrue, refl, subst, inl, inr}
 use Rattle.std.specs.List.{AllByRecursion}
 use Rattle.mon_bytes.specs.Reading.{IsBytes, Reading, number}
 use Rattle.mon_bytes.proofs.Fields.{ok_is, Takes, Found}
@@ -7,7 +7,7 @@ use Rattle.mon_msg.specs.declared.reply.Reply.{Reply}
 use Rattle.mon_msg.specs.declared.reply.Reply.TheVariants as reply
 use Rattle.mon_msg.specs.declared.request.Request.{Request}
 use Rattle.mon_msg.specs.declared.request.Request.TheVariants as request
-use Rattle.mon_msg.specs.Message.Format.{◌>>=◌, cut, Reader, Format, nothing, dependent, ◌⊗◌, list, variant, chosen, tagged}
+use Rattle.mon_msg.specs.Message.Format.{cut, Reader, Format, nothing, ◌⊗◌, list, variant, chosen, tagged}
 use Rattle.mon_msg.specs.Message.Fields.{numeral, flag, utf8, name, blob, service}
 use Rattle.mon_msg.specs.Message.Parts.{shown_map}
 use Rattle.mon_msg.specs.Message.Client.{request_spelled, request_kinds, request_at, a_request, shown, since, reply_spelled, routed_kinds, reply_kinds, routed_at, reply_at, a_reply, is_routed, a_routed}

@@ -6,7 +6,7 @@ use Rattle.mon_tx.specs.declared.key.Key.{Key}
 use Rattle.mon_tx.specs.Keys.{place, same_area, same_key}
 use Rattle.mon_tx.specs.Decision.{Decision, later, decided, decision}
 use Rattle.mon_tx.proofs.Named.{decided-put, decided-erase, decided-erase_prefix}
-use Rattle.mon_msg.specs.Changes.{put}
+use Rattle.mon_msg.specs.Puts.{put}
 use Rattle.mon_msg.specs.Protocol.Changes.{erase, erase_all}
 
 -- a change of one key, or of a whole area

@@ -1,9 +1,7 @@
 -- The formats of single fields read what they spell.
-use Rattle.std.proofs.Common.{◌≡◌, ℕ, zero, suc, ◌+◌, ◌*◌, ◌/◌, ◌%◌, ◌^◌, ◌≤◌, ◌<◌, Bool, true, false, cond, eqb, ltb, List, [], ◌∷◌, ◌++◌, length, Result, Ok, Err, IsTrue, refl, sym, ap, subst, ◌∙◌, append_assoc, arith, inl, inr}
-use Rattle.std.specs.Prelude.{nat_le, nat_lt}
+use Rattle.std.proofs.Common.{◌≡◌, ℕ, zero, suc, ◌^◌, ◌≤◌, ◌<◌, Bool, true, false, cond, eqb, ltb, List, [], ◌∷◌, ◌++◌, length, Result, Ok, Err, IsTrue, refl, sym, ap, subst, ◌∙◌, append_assoc, arith, inl, inr}
 use Rattle.std.specs.Str.{is_utf8}
 use Rattle.std.proofs.lemmas.Bool.{ltb-false, le-ltb, eqb-true}
-use Rattle.std.proofs.lemmas.Bool.Decides.{nat_tests}
 use Rattle.byteorder.specs.Endian.{little_bytes}
 use Rattle.byteorder.specs.Numbers.{little_number-reads_back}
 use Rattle.mon_bytes.specs.Reading.{IsBytes, Reading, number, front}
@@ -12,7 +10,6 @@ use Rattle.mon_bytes.specs.Texts.{is_word}
 use Rattle.mon_bytes.proofs.Fields.{guard_ok, chosen_ok, ok_is, Takes, Takes-then, front_takes, number_takes, byte_takes, Found, number_found, byte_found, front_found}
 use Rattle.mon_bytes.proofs.Forms.{u32_takes, u32_found}
 use Rattle.mon_msg.specs.declared.refusal.MsgKind.TheVariants as fault
-use Rattle.mon_msg.specs.declared.refusal.MsgRefused.{MsgRefused}
 use Rattle.mon_msg.specs.declared.refusal.MsgRefused.TheVariants as refused
 use Rattle.mon_tx.specs.declared.op.Op.{Op}
 use Rattle.mon_tx.specs.declared.refusal.TxRefused.{TxRefused}
@@ -23,7 +20,7 @@ use Rattle.mon_tx.proofs.Takes.{is_found}
 use Rattle.mon_tx.proofs.Words.{word_parts}
 use Rattle.mon_msg.specs.declared.request.Service.{Service}
 use Rattle.mon_msg.specs.declared.request.Service.TheVariants.{Kv, Log}
-use Rattle.mon_msg.specs.Message.Format.{◌>>=◌, cut, Format}
+use Rattle.mon_msg.specs.Message.Format.{◌>>=◌, cut}
 use Rattle.mon_msg.specs.Message.Fields.{number_bytes, number_at, numeral, flag_byte, flag_at, flag, blob_at, blob, text_at, utf8, word_at, word, spelled_at, value_at, value, service_byte, service_at, service}
 use Rattle.mon_msg.proofs.Formats.{bind_ok, cut_ok, tested, above_zero, IsLawful}
 

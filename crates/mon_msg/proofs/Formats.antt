@@ -1,5 +1,5 @@
 -- What is read in a format is spelled so, and what is spelled so is read.
-use Rattle.std.proofs.Common.{◌≡◌, ℕ, zero, suc, ◌^◌, ◌≤◌, ◌<◌, ◌⊎◌, Bool, true, false, cond, eqb, List, [], ◌∷◌, ◌++◌, length, Result, Ok, Err, refl, sym, ap, subst, ◌∙◌, append_assoc, arith, inl, inr}
+use Rattle.std.proofs.Common.{◌≡◌, ℕ, zero, suc, ◌^◌, ◌≤◌, ◌<◌, ◌⊎◌, true, false, cond, eqb, List, [], ◌∷◌, ◌++◌, length, Result, Ok, Err, refl, sym, ap, subst, ◌∙◌, append_assoc, arith, inl, inr}
 use Rattle.std.specs.List.{flat_map, AllByRecursion}
 use Rattle.std.proofs.lemmas.Bool.{cases_eq}
 use Rattle.std.proofs.lemmas.Bool.Decides.{nat_tests}
@@ -11,7 +11,7 @@ use Rattle.mon_bytes.proofs.Fields.{guard_ok, ok_is, Takes, Takes-then, number_t
 use Rattle.mon_msg.specs.declared.refusal.MsgKind.TheVariants as fault
 use Rattle.mon_msg.specs.declared.refusal.MsgRefused.{MsgRefused}
 use Rattle.mon_msg.specs.declared.refusal.MsgRefused.TheVariants as refused
-use Rattle.mon_msg.specs.Message.Format.{◌>>=◌, cut, Reader, Format, nothing, dependent, seen_as, as_parts, items, u16_bytes, list, some, Spelling, spelling, variant, chosen, tagged, choice}
+use Rattle.mon_msg.specs.Message.Format.{◌>>=◌, cut, Reader, Format, nothing, dependent, seen_as, as_parts, items, u16_bytes, list, some, Spelling, variant, chosen, tagged}
 
 pub bind_ok : {A B : Type 0} (r : Result A MsgRefused) (f : A → Result B MsgRefused) (y : B) → (r >>= f) ≡ Ok y → (x : A) × (r ≡ Ok x) × (f x ≡ Ok y)
 bind_ok (Ok x) f y e = (x, refl, e)

@@ -1,25 +1,9 @@
 -- Kinds and their bytes.
-use Rattle.std.proofs.Common.{◌≡◌, ℕ, zero, suc, ◌+◌, ◌-◌, ◌^◌, ◌≤◌, ◌<◌, Bool, true, false, not, ◌&&◌, cond, eqb, ltb, leb, List, [], ◌∷◌, ◌++◌, length, get_or, Result, Ok, Err, refl, sym, ap, subst, ◌∙◌, append_assoc, arith}
-use Rattle.std.specs.Prelude.{IfOk}
-use Rattle.std.proofs.lemmas.Bool.{ltb-false, le-ltb, eqb-true}
-use Rattle.std.proofs.lemmas.Bool.Decides.{nat_tests}
-use Rattle.std.proofs.lemmas.List.{append-nil, nil_from_length}
-use Rattle.mon_bytes.specs.Reading.{IsBytes, Reading, number}
-use Rattle.mon_bytes.proofs.Fields.{guard_ok, chosen_ok, ok_is, Takes, Takes-then, Takes-whole, byte_takes, Found, byte_found}
-use Rattle.mon_msg.specs.declared.body.Body.{Body}
+use Rattle.std.proofs.Common.{◌≡◌, ℕ, zero, suc, ◌+◌, ◌-◌, ◌≤◌, ◌<◌, List, [], ◌∷◌, length, get_or, refl, arith}
 use Rattle.mon_msg.specs.declared.kind.Kind.{Kind}
 use Rattle.mon_msg.specs.declared.kind.Kind.TheVariants as kind
-use Rattle.mon_msg.specs.declared.message.Message.{Message}
-use Rattle.mon_msg.specs.declared.refusal.MsgKind.TheVariants as fault
-use Rattle.mon_msg.specs.declared.refusal.MsgRefused.{MsgRefused}
-use Rattle.mon_msg.specs.declared.refusal.MsgRefused.TheVariants as refused
-use Rattle.mon_msg.specs.Message.Format.{◌>>=◌, cut, Gives}
-use Rattle.mon_msg.specs.Message.Fields.{number_bytes, number_at}
-use Rattle.mon_msg.specs.Message.Bodies.{spelled, body_at}
-use Rattle.mon_msg.specs.Message.Whole.{most, asking, kinds, kind_of, text, IsMessage, HasText, format_at, kind_at, sender_at, epoch_at, message_at, ended, message_of}
-use Rattle.mon_msg.proofs.Formats.{bind_ok, cut_ok, above_zero, IsTaken}
-use Rattle.mon_msg.proofs.FieldLaws.{numeral-lawful}
-use Rattle.mon_msg.proofs.BodyLaws.{kind_byte, body_takes, kind_in, tag-is, body_found}
+use Rattle.mon_msg.specs.Message.Whole.{kinds, kind_of}
+use Rattle.mon_msg.proofs.BodyLaws.{kind_byte}
 
 -- ---- kinds and their bytes
 

@@ -1,15 +1,10 @@
 pub mod Changed
 pub mod Edits
 pub mod Examples
-pub mod Explicit
 pub mod Joining
-pub mod Learned
-pub mod Named
 pub mod Once
-pub mod Played
+pub mod Afterwards
 pub mod PutOnce
-pub mod Reactions
-pub mod Rows
 pub mod Formats
 pub mod FieldLaws
 pub mod PartLaws
@@ -22,3 +17,5 @@ pub mod PaddedLoop
 pub mod BitsLoop
 pub mod WholeLaws
 pub mod WriteLoops
+pub mod PartLengths
+pub mod BodyLengths

@@ -1,5 +1,5 @@
 -- Where each key is put once, joining leaves the list.
-use Rattle.std.proofs.Common.{◌≡◌, Bool, true, false, not, ◌&&◌, ◌||◌, List, [], ◌∷◌, ◌++◌, map, None, refl, sym, ap, ◌∙◌, append_assoc}
+use Rattle.std.proofs.Common.{◌≡◌, ℕ, Bool, true, false, not, ◌&&◌, ◌||◌, List, [], ◌∷◌, ◌++◌, map, None, refl, sym, ap, ◌∙◌, append_assoc}
 use Rattle.std.proofs.lemmas.Bool.{and_parts, not-true}
 use Rattle.std.proofs.lemmas.List.{append-nil, map-append}
 use Rattle.std.specs.List.{list_any}
@@ -9,8 +9,14 @@ use Rattle.mon_tx.specs.declared.key.Key.{Key}
 use Rattle.mon_tx.specs.Keys.{place, same_area, same_key}
 use Rattle.mon_tx.proofs.Ties.{place_tie}
 use Rattle.mon_msg.specs.Joined.{puts, takes_away, or_here, replaced, or_last, joined_with, joined_onto, joined}
-use Rattle.mon_msg.proofs.Named.{NamedPut, put_of}
+use Rattle.mon_msg.specs.Puts.{put}
 use Rattle.mon_msg.proofs.Joining.{neither}
+
+abbrev pub NamedPut : Type 0
+NamedPut = Area × Key × List ℕ
+
+abbrev pub put_of : NamedPut → Op
+put_of n = put n.0 n.1 n.2
 
 -- whether a key is put
 abbrev pub is_put : Area → Key → List NamedPut → Bool

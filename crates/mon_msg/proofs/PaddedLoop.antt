@@ -1,12 +1,10 @@
 -- Filling an array of fifteen from the front, as a loop does.
-use Rattle.std.proofs.Common.{◌≡◌, ℕ, zero, suc, ◌-◌, ◌+◌, ◌/◌, ◌%◌, ◌≤◌, ◌<◌, Bool, true, false, cond, eqb, List, [], ◌∷◌, ◌++◌, length, replicate, set, Result, Ok, Err, refl, sym, ap, subst, ◌∙◌, append_assoc, arith}
-use Rattle.std.proofs.lemmas.List.{append-nil, length-append}
-use Rattle.mon_types.specs.Ranks.{with_rank}
+use Rattle.std.proofs.Common.{◌≡◌, ℕ, suc, ◌-◌, ◌+◌, ◌≤◌, ◌<◌, List, [], ◌∷◌, ◌++◌, length, replicate, set, Result, Ok, Err, refl, sym, ap, ◌∙◌, append_assoc, arith}
+use Rattle.std.proofs.lemmas.List.{length-append}
 use Rattle.mon_bytes.specs.Reading.{Reading}
 use Rattle.mon_msg.specs.declared.refusal.MsgRefused.{MsgRefused}
 use Rattle.mon_msg.specs.declared.refusal.MsgRefused.TheVariants as refused
 use Rattle.mon_msg.specs.Message.Format.{◌>>=◌, Fails, Reader, items}
-use Rattle.mon_msg.specs.Message.Fields.{bits}
 use Rattle.mon_msg.specs.Message.Scores.{padded_at}
 use Rattle.mon_msg.proofs.ItemsLoop.{with_front, goes_on, ends, is_done}
 

@@ -1,5 +1,5 @@
 -- The formats of the parts of messages read what they spell.
-use Rattle.std.proofs.Common.{◌≡◌, ℕ, ◌^◌, ◌<◌, List, [], ◌∷◌, ◌++◌, length, Option, Some, None, Result, Ok, Err, refl, sym, ap, subst, arith}
+use Rattle.std.proofs.Common.{◌≡◌, ℕ, ◌^◌, ◌<◌, List, ◌++◌, length, Option, Some, None, Result, Ok, Err, refl, subst}
 use Rattle.mon_bytes.specs.declared.command.Command.{Command}
 use Rattle.mon_bytes.specs.declared.command.Command.TheVariants as command
 use Rattle.mon_bytes.specs.declared.command.MapRefused.{MapRefused}
@@ -8,12 +8,10 @@ use Rattle.mon_bytes.specs.declared.entry.KeyPlace.TheVariants.{Start, After, Do
 use Rattle.mon_bytes.specs.Reading.{IsBytes, Reading, number, front}
 use Rattle.mon_bytes.specs.Forms.{text_bytes}
 use Rattle.mon_bytes.proofs.Fields.{ok_is, Takes, Found}
-use Rattle.map_kv.specs.Map.{Kv}
 use Rattle.map_kv.specs.Text.{map_text as kv_text}
 use Rattle.map_kv.specs.Decode.{map_of as kv_of}
 use Rattle.map_kv.proofs.Laws.{map_is_found as kv_is_found}
 use Rattle.map_kv.proofs.Again.{map_again as kv_again}
-use Rattle.map_log.specs.declared.inc.LogInc.{LogInc}
 use Rattle.map_log.specs.Text.{map_text as log_text}
 use Rattle.map_log.specs.Decode.{map_of as log_of}
 use Rattle.map_log.proofs.Laws.{map_is_found as log_is_found}

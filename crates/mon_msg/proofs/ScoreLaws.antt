@@ -1,5 +1,5 @@
 -- The formats of sets and of tables read what they spell.
-use Rattle.std.proofs.Common.{◌≡◌, ℕ, zero, suc, ◌+◌, ◌-◌, ◌*◌, ◌/◌, ◌%◌, ◌^◌, ◌≤◌, ◌<◌, Bool, true, false, cond, eqb, ltb, leb, List, [], ◌∷◌, ◌++◌, length, take, drop, replicate, Result, Ok, Err, refl, sym, ap, subst, ◌∙◌, arith}
+use Rattle.std.proofs.Common.{◌≡◌, ℕ, zero, suc, ◌+◌, ◌-◌, ◌*◌, ◌/◌, ◌%◌, ◌^◌, ◌≤◌, ◌<◌, Bool, true, false, cond, ltb, leb, List, [], ◌∷◌, ◌++◌, length, take, replicate, Ok, Err, refl, sym, ap, subst, ◌∙◌, arith}
 use Rattle.std.specs.List.{flat_map, AllByRecursion}
 use Rattle.std.proofs.Math.Nat.{pow-suc, pow-le-pow_right}
 use Rattle.std.proofs.lemmas.Bool.{ltb-false, le-ltb}
@@ -11,14 +11,11 @@ use Rattle.mon_bytes.specs.Reading.{IsBytes, Reading, number}
 use Rattle.mon_bytes.specs.Forms.{u32_bytes}
 use Rattle.mon_bytes.proofs.Fields.{guard_ok, ok_is, Takes, number_takes, Found, number_found}
 use Rattle.mon_bytes.proofs.Forms.{u32_takes, u32_found}
-use Rattle.election_rules.specs.declared.row.Row.{Row}
-use Rattle.election_rules.specs.declared.scores.Scores.{Scores}
 use Rattle.election_rules.specs.Table.{full, start_row}
 use Rattle.mon_msg.specs.declared.refusal.MsgKind.TheVariants as fault
-use Rattle.mon_msg.specs.declared.refusal.MsgRefused.{MsgRefused}
 use Rattle.mon_msg.specs.declared.refusal.MsgRefused.TheVariants as refused
-use Rattle.mon_msg.specs.Message.Format.{◌>>=◌, cut, Format, ◌⊗◌, items}
-use Rattle.mon_msg.specs.Message.Fields.{numeral, flag_byte, number_of, bits, set_bytes, set_at, set}
+use Rattle.mon_msg.specs.Message.Format.{cut, Format, ◌⊗◌, items}
+use Rattle.mon_msg.specs.Message.Fields.{numeral, number_of, bits, set_bytes, set_at, set}
 use Rattle.mon_msg.specs.Message.Scores.{padded_at, IsPadded, padded, score_at, score, row, table}
 use Rattle.mon_msg.proofs.Formats.{bind_ok, cut_ok, IsLawful, items_takes, items_found, seen_as-lawful, as_parts-lawful}
 use Rattle.mon_msg.proofs.FieldLaws.{numeral-lawful, flag_back}

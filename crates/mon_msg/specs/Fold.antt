@@ -11,6 +11,7 @@ use Rattle.mon_tx.specs.Keys.{area_text}
 use Rattle.mon_tx.specs.Decode.{ops_in}
 use Rattle.map_kv.specs.declared.inc.KvInc.{KvInc}
 use Rattle.map_kv.specs.Map.{Kv, with_inc}
+use Rattle.map_kv.specs.Decode as kv_decode
 use Rattle.map_log.specs.declared.inc.LogInc.{LogInc}
 use Rattle.map_log.specs.Map as log
 use Rattle.map_log.specs.Decode as log_decode
@@ -18,10 +19,8 @@ use Rattle.mon_msg.specs.declared.reply.ShownMap.{ShownMap}
 use Rattle.mon_msg.specs.declared.reply.ShownMap.TheVariants as map
 use Rattle.mon_msg.specs.declared.request.Service.{Service}
 use Rattle.mon_msg.specs.declared.request.Service.TheVariants as service
-use Rattle.mon_msg.specs.View.{area_of}
-use Rattle.mon_msg.specs.Changes.{put}
+use Rattle.mon_msg.specs.Puts.{area_of, put}
 use Rattle.mon_msg.specs.Protocol.Maps.{if_ok}
-use Rattle.mon_msg.specs.Service.{inc_in}
 
 -- the entry of version v of a log, counted from 1
 abbrev pub entry : List (List ℕ) → ℕ → List ℕ
@@ -53,11 +52,7 @@ stepped map (Some inc) = with_inc map inc
 
 abbrev pub after_all : Kv → List (List ℕ) → Kv
 after_all map [] = map
-after_all map (bytes ∷ others) = after_all (stepped map (inc_in (Some bytes))) others
-
--- the key-value map that the first versions of a log make, from nothing; full maps and trimming don't occur in it
-abbrev pub kv_of_log : List (List ℕ) → ℕ → Kv
-kv_of_log log c = after_all empty (incrementals service.Kv log c)
+after_all map (bytes ∷ others) = after_all (stepped map (if_ok (kv_decode.inc_of bytes))) others
 
 -- the entries after incrementals; bytes that are none leave them
 abbrev pub stepped_log : List LogInc → Option LogInc → List LogInc
@@ -68,14 +63,14 @@ abbrev pub log_after_all : List LogInc → List (List ℕ) → List LogInc
 log_after_all entries [] = entries
 log_after_all entries (bytes ∷ others) = log_after_all (stepped_log entries (if_ok (log_decode.inc_of bytes))) others
 
--- the cluster log that the first versions of a log make, from nothing
-abbrev pub log_of_log : List (List ℕ) → ℕ → List LogInc
-log_of_log log c = log_after_all [] (incrementals service.Log log c)
+-- the map that a service's incrementals make, one after the other, from nothing; full maps and trimming don't occur in it
+abbrev pub map_after : Service → List (List ℕ) → ShownMap
+map_after service.Kv is = map.Kv (after_all empty is)
+map_after service.Log is = map.Log (log_after_all [] is)
 
 -- the map of a service that the first versions of a log make
 abbrev pub map_of_log : Service → List (List ℕ) → ℕ → ShownMap
-map_of_log service.Kv log c = map.Kv (kv_of_log log c)
-map_of_log service.Log log c = map.Log (log_of_log log c)
+map_of_log s log c = map_after s (incrementals s log c)
 
 -- a service's version: how many incrementals there are
 abbrev pub version_of_log : Service → List (List ℕ) → ℕ → ℕ

@@ -1,9 +1,5 @@
-pub mod Acts
-pub mod Changes
 pub mod Fold
 pub mod Joined
 pub mod Message
 pub mod Protocol
-pub mod Service
-pub mod Table
-pub mod View
+pub mod Puts

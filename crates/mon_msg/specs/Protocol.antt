@@ -24,6 +24,7 @@ pub mod Played
 pub mod Probing
 pub mod Proposing
 pub mod Providing
+pub mod Reaction
 pub mod Reading
 pub mod Reads
 pub mod Records

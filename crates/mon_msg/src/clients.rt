@@ -1,6 +1,6 @@
 ghost use Rattle.std.specs.Prelude.{◌≡◌, IfOk};
 
-use crate::list::Items;
+use crate::list::{Items, TryCopy};
 use crate::plan::Origin;
 use crate::request::Session;
 use mon_bytes::{Command, OutOfMemory};
@@ -25,11 +25,23 @@ impl Waiting {
     }
 }
 
+impl TryCopy for Waiting {
+    fn try_copy(&self, alloc: Global) -> Result<Waiting, OutOfMemory> {
+        self.copy(alloc)
+    }
+}
+
 /// A client of a peon that waits for the leader's answer to the command with that number.
 #[derive(Clone, Copy, Debug, PartialEq, Eq)]
 pub struct Asked {
     pub seq: u64,
     pub session: Session,
+}
+
+impl TryCopy for Asked {
+    fn try_copy(&self, _alloc: Global) -> Result<Asked, OutOfMemory> {
+        Ok(*self)
+    }
 }
 
 /// What a monitor remembers of its clients' commands.
@@ -43,4 +55,18 @@ pub struct Clients {
     pub next_seq: u64,
     /// The number of the last command that the leader took from each peon in this epoch, 0 before.
     pub taken: [u64; 15],
+}
+
+impl Clients {
+    /// An equal memory.
+    pub fn copy(&self, alloc: Global) -> Result<Clients, OutOfMemory>
+        ensures { IfOk result (λ clients. clients ≡ self.now) }
+    {
+        Ok(Clients {
+            queue: self.queue.copy(alloc)?,
+            sessions: self.sessions.copy(alloc)?,
+            next_seq: self.next_seq,
+            taken: self.taken,
+        })
+    }
 }

@@ -1,6 +1,10 @@
+ghost use Rattle.std.specs.Prelude.{◌≡◌, IfOk};
+
 use crate::message::Message;
 use crate::phase::Timer;
 use crate::request::{Request, Session};
+use mon_bytes::OutOfMemory;
+use std::alloc::Global;
 
 /// What comes to a monitor.
 #[derive(Drop)]
@@ -13,4 +17,18 @@ pub enum Input {
     Timer(Timer),
     /// A client asks.
     Client(Session, Request),
+}
+
+impl Input {
+    /// An equal input.
+    pub fn copy(&self, alloc: Global) -> Result<Input, OutOfMemory>
+        ensures { IfOk result (λ input. input ≡ self.now) }
+    {
+        Ok(match self {
+            Input::Start => Input::Start,
+            Input::Deliver(message) => Input::Deliver(message.copy(alloc)?),
+            Input::Timer(timer) => Input::Timer(*timer),
+            Input::Client(session, request) => Input::Client(*session, request.copy(alloc)?),
+        })
+    }
 }

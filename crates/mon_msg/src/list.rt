@@ -1,8 +1,28 @@
-ghost use Rattle.std.specs.Prelude.{◌≡◌, [], ◌∷◌, ◌++◌, OnOk, OnErr};
+ghost use Rattle.std.specs.Prelude.{◌≡◌, [], ◌∷◌, ◌++◌, IfOk, OnOk, OnErr};
 
-use mon_bytes::OutOfMemory;
+use mon_bytes::{Entry, OutOfMemory};
+use mon_tx::Transaction;
 use std::alloc::Global;
 use std::marker::Model;
+
+/// What can be copied where there is memory for it.
+pub trait TryCopy: Drop + Sized {
+    /// An equal value.
+    fn try_copy(&self, alloc: Global) -> Result<Self, OutOfMemory>
+        ensures { IfOk result (λ copied. copied ≡ self.now) };
+}
+
+impl TryCopy for Transaction {
+    fn try_copy(&self, _alloc: Global) -> Result<Transaction, OutOfMemory> {
+        self.copy()
+    }
+}
+
+impl TryCopy for Entry {
+    fn try_copy(&self, alloc: Global) -> Result<Entry, OutOfMemory> {
+        self.copy(alloc)
+    }
+}
 
 /// Items in order. Contracts see their list.
 #[derive(Debug, Drop)]
@@ -56,5 +76,18 @@ impl<T: Drop> Items<T> {
         ensures { result.items ≡ self }
     {
         self.items
+    }
+}
+
+impl<T: TryCopy> Items<T> {
+    /// Equal items, in the same order.
+    pub fn copy(&self, alloc: Global) -> Result<Items<T>, OutOfMemory>
+        ensures { IfOk result (λ items. items ≡ self.now) }
+    {
+        let mut items = Vec::new(alloc);
+        for item in &self.items {
+            items.push(item.try_copy(alloc)?)?;
+        }
+        Ok(Items { items })
     }
 }

@@ -71,3 +71,42 @@ pub struct Leader {
     /// Who took the lease, itself among them.
     pub acks: RankSet,
 }
+
+fn copied_found(found: &Option<Found>) -> Result<Option<Found>, OutOfMemory>
+    ensures { IfOk result (λ copied. copied ≡ found.now) }
+{
+    match found {
+        None => Ok(None),
+        Some(found) => Ok(Some(found.copy()?)),
+    }
+}
+
+fn copied_value(value: &Option<Transaction>) -> Result<Option<Transaction>, OutOfMemory>
+    ensures { IfOk result (λ copied. copied ≡ value.now) }
+{
+    match value {
+        None => Ok(None),
+        Some(value) => Ok(Some(value.copy()?)),
+    }
+}
+
+impl Leader {
+    /// An equal memory.
+    pub fn copy(&self) -> Result<Leader, OutOfMemory>
+        ensures { IfOk result (λ leader. leader ≡ self.now) }
+    {
+        Ok(Leader {
+            quorum: self.quorum,
+            pn: self.pn,
+            stage: self.stage,
+            answered: self.answered,
+            lasts: self.lasts,
+            found: copied_found(&self.found)?,
+            accepted: self.accepted,
+            value: copied_value(&self.value)?,
+            origin: self.origin,
+            lease: self.lease,
+            acks: self.acks,
+        })
+    }
+}

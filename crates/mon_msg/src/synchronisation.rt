@@ -1,5 +1,9 @@
+ghost use Rattle.std.specs.Prelude.{◌≡◌, IfOk};
+
 use crate::parts::{Cookie, Place};
+use mon_bytes::OutOfMemory;
 use mon_types::{Rank, Version};
+use std::alloc::Global;
 
 /// What a monitor remembers of those that synchronise from it.
 #[derive(Clone, Copy, Debug, PartialEq, Eq)]
@@ -34,4 +38,20 @@ pub struct Requester {
     pub start: Version,
     /// How far it has come.
     pub place: Place,
+}
+
+impl Requester {
+    /// An equal memory.
+    pub fn copy(&self, alloc: Global) -> Result<Requester, OutOfMemory>
+        ensures { IfOk result (λ requester. requester ≡ self.now) }
+    {
+        Ok(Requester {
+            provider: self.provider,
+            full: self.full,
+            stage: self.stage,
+            cookie: self.cookie,
+            start: self.start,
+            place: self.place.copy(alloc)?,
+        })
+    }
 }

@@ -1,7 +1,9 @@
 use super::*;
 use map_kv::{KvInc, KvMap};
-use mon_bytes::{Bytes, Name, Text};
-use mon_types::Version;
+use mon_bytes::{Bytes, Command, KeyPlace, Name, Text};
+use mon_lease::Lease;
+use mon_tx::{Op, Transaction};
+use mon_types::{Moment, Pn, Rank, RankSet, Version};
 use std::alloc::Global;
 use std::test::Fail;
 
@@ -29,21 +31,14 @@ fn shown(alloc: Global) -> Result<Reply, Fail> {
 #[test]
 fn copies_hold_what_was_copied(rt: HostRuntime) -> Result<(), Fail> {
     let alloc = rt.alloc();
-    let reply = shown(alloc)?.copy(alloc)?;
-    let mut sends = Sends::new(alloc);
-    let to = Session { client: 1, id: 2 };
-    sends.push(Sent::Reply { to, reply })?;
-    for sent in sends.into_sends() {
-        let Sent::Reply { reply, .. } = sent;
-        let Reply::Shown {
-            map: ShownMap::Kv(map),
-            ..
-        } = reply
-        else {
-            return Err(Fail::from("a map"));
-        };
-        assert_eq!(rt; map.get(b"a"), Some(b"x".as_slice()));
-    }
+    let Reply::Shown {
+        map: ShownMap::Kv(map),
+        ..
+    } = shown(alloc)?.copy(alloc)?
+    else {
+        return Err(Fail::from("a map"));
+    };
+    assert_eq!(rt; map.get(b"a"), Some(b"x".as_slice()));
     Ok(())
 }
 
@@ -71,6 +66,90 @@ fn copied_incrementals_are_equal(rt: HostRuntime) -> Result<(), Fail> {
     assert_eq!(rt; copied.len(), 2);
     assert_eq!(rt; copied[0].as_slice(), b"one".as_slice());
     assert_eq!(rt; copied[1].as_slice(), b"".as_slice());
+    Ok(())
+}
+
+#[test]
+fn copied_clients_wait_for_the_same(rt: HostRuntime) -> Result<(), Fail> {
+    let alloc = rt.alloc();
+    let rank = Rank::new(2).ok_or("a rank")?;
+    let mut queue = Items::new(alloc);
+    queue.push(Waiting {
+        command: Command::Remove {
+            key: Name::new(b"a".to_vec(alloc)?).ok_or("a key")?,
+        },
+        origin: Origin::Forwarded { rank, seq: 5 },
+    })?;
+    let mut sessions = Items::new(alloc);
+    let session = Session { client: 1, id: 2 };
+    sessions.push(Asked { seq: 6, session })?;
+    let clients = Clients {
+        queue,
+        sessions,
+        next_seq: 7,
+        taken: [5; 15],
+    };
+    let clients = clients.copy(alloc)?;
+    assert_eq!(rt;
+        clients.sessions.as_slice(),
+        [Asked { seq: 6, session }].as_slice()
+    );
+    assert_eq!(rt; (clients.next_seq, clients.taken[2]), (7, 5));
+    for waiting in clients.queue.as_slice() {
+        assert_eq!(rt; waiting.origin, Origin::Forwarded { rank, seq: 5 });
+        let Command::Remove { key } = &waiting.command else {
+            return Err(Fail::from("a removal"));
+        };
+        assert_eq!(rt; key.as_slice(), b"a".as_slice());
+    }
+    Ok(())
+}
+
+fn erasure(alloc: Global) -> Result<Transaction, Fail> {
+    let mut value = Transaction::new(alloc);
+    let prefix = mon_tx::Area::Sync.prefix(alloc)?;
+    value.push(Op::ErasePrefix { prefix })?;
+    Ok(value)
+}
+
+#[test]
+fn a_copied_leader_waits_for_the_same(rt: HostRuntime) -> Result<(), Fail> {
+    let alloc = rt.alloc();
+    let rank = Rank::new(1).ok_or("a rank")?;
+    let pn = Pn::new(101).ok_or("a number")?;
+    let version = Version::new(3).ok_or("a version")?;
+    let quorum = RankSet::empty().with(rank);
+    let leader = Leader {
+        quorum,
+        pn,
+        stage: LeaderStage::Updating,
+        answered: quorum,
+        lasts: [version; 15],
+        found: Some(Found {
+            version,
+            pn,
+            value: erasure(alloc)?,
+        }),
+        accepted: RankSet::empty(),
+        value: Some(erasure(alloc)?),
+        origin: Some(Origin::Forwarded { rank, seq: 9 }),
+        lease: Lease::none(),
+        acks: quorum,
+    };
+    let copied = leader.copy()?;
+    assert_eq!(rt; copied.stage, LeaderStage::Updating);
+    assert_eq!(rt; copied.origin, leader.origin);
+    assert_eq!(rt;
+        (copied.answered, copied.accepted),
+        (quorum, RankSet::empty())
+    );
+    let value = copied.value.ok_or("a value")?.encode()?;
+    assert_eq!(rt;
+        value.as_slice(),
+        b"\x01\x01\0\0\0\x03\x08mon_sync".as_slice()
+    );
+    let found = copied.found.ok_or("a found value")?.value.encode()?;
+    assert_eq!(rt; found.as_slice(), value.as_slice());
     Ok(())
 }
 
@@ -170,9 +249,32 @@ fn each_kind_is_read_and_spelled_again(rt: HostRuntime) -> Result<(), Fail> {
             Ok(message) => {
                 let text = message.encode(alloc)?;
                 assert_eq!(rt; text.as_slice(), bytes.as_slice());
+                assert_eq!(rt; message.len(), bytes.len());
             }
             Err(_) => return Err(Fail::from("a message")),
         }
+    }
+    Ok(())
+}
+
+#[test]
+fn each_copy_is_spelled_as_what_was_copied(rt: HostRuntime) -> Result<(), Fail> {
+    let alloc = rt.alloc();
+    let to = Rank::new(2).ok_or("a rank")?;
+    for bytes in &examples(alloc)? {
+        let Ok(message) = decode(alloc, bytes) else {
+            return Err(Fail::from("a message"));
+        };
+        let sent = plan::Sent::Message { to, message };
+        let plan::Sent::Message { message, .. } = sent.copy(alloc)? else {
+            return Err(Fail::from("the message"));
+        };
+        let input = input::Input::Deliver(message);
+        let input::Input::Deliver(message) = input.copy(alloc)? else {
+            return Err(Fail::from("the message"));
+        };
+        let text = message.encode(alloc)?;
+        assert_eq!(rt; text.as_slice(), bytes.as_slice());
     }
     Ok(())
 }

@@ -1,185 +1,191 @@
--- A set: the next version is committed and acknowledged.
-use Rattle.std.proofs.Common.{◌≡◌, ℕ, suc, ◌<◌, ◌≤◌, ◌^◌, cond, eqb, List, [], ◌∷◌, ◌++◌, length, Some, Ok, refl, sym, ap, subst, subst₂, ◌∙◌, arith}
-use Rattle.std.proofs.lemmas.Bool.{eq-eqb}
+-- A command: the next version is committed and acknowledged.
+use Rattle.std.proofs.Common.{◌≡◌, ℕ, suc, ◌<◌, ◌≤◌, ◌^◌, cond, List, [], ◌∷◌, ◌++◌, length, Some, Ok, refl, sym, ap, subst, subst₂, ◌∙◌, arith}
 use Rattle.std.specs.List.{AllByRecursion}
+use Rattle.std.specs.Option.{option_map}
+use Rattle.mon_bytes.specs.declared.command.Command.{Command}
 use Rattle.mon_tx.specs.declared.op.Op.{Op}
 use Rattle.mon_tx.specs.declared.key.Area.TheVariants as area
 use Rattle.mon_tx.specs.declared.key.Key.TheVariants as key
 use Rattle.mon_tx.specs.Map.{Store, apply_op, apply}
-use Rattle.mon_tx.specs.Keys.{cell}
 use Rattle.mon_tx.specs.Decision.{Cell}
 use Rattle.mon_tx.specs.Text.{text}
-use Rattle.mon_tx.specs.Decode.{transaction_of, ops_in}
-use Rattle.mon_tx.proofs.Again.{transaction_again}
+use Rattle.mon_tx.specs.Decode.{ops_in}
+use Rattle.mon_msg.specs.declared.phase.Phase.{Phase}
+use Rattle.mon_msg.specs.declared.plan.Sent.TheVariants as sent
 use Rattle.mon_msg.specs.declared.reply.Reply.TheVariants as reply
 use Rattle.mon_msg.specs.declared.request.Request.{Request}
-use Rattle.mon_msg.specs.declared.request.Service.TheVariants as service
 use Rattle.mon_msg.specs.declared.request.Session.{Session}
-use Rattle.mon_msg.specs.declared.reaction.Sent.{Sent}
-use Rattle.mon_msg.specs.declared.reaction.Sent.TheVariants as sent
-use Rattle.mon_msg.specs.declared.reaction.Volatile.{Volatile}
-use Rattle.mon_msg.specs.View.{view}
-use Rattle.mon_msg.specs.Changes.{Change, Learn, Last, put_number, spelled}
-use Rattle.mon_msg.specs.Joined.{joined}
-use Rattle.mon_msg.specs.Service.{service_last, value}
+use Rattle.mon_msg.specs.Puts.{put_number}
 use Rattle.mon_msg.specs.Fold.{entry, put_in}
-use Rattle.quorum_model.specs.World.{World, Asked, Acknowledged, Replied, last_of, bytes_or_none, grown, made_by, all_acknowledged, all_replied}
-use Rattle.quorum_model.specs.Safe.{Among, AcknowledgedOnce, IsAsked, IsAnswered, view_at}
+use Rattle.mon_msg.specs.Joined.{joined}
+use Rattle.mon_msg.specs.Protocol.Changes.{Learn, Last, spelled}
+use Rattle.mon_msg.specs.Protocol.Reaction.{Reaction}
+use Rattle.mon_msg.specs.Protocol.Value.{service_of, value}
+use Rattle.mon_msg.specs.Protocol.View.{view, epoch_of}
+use Rattle.quorum_model.specs.Clients.{command_of, made_by, letters_in, all_acknowledged, all_replied}
+use Rattle.quorum_model.specs.Clients.{command_of, incremental_of, made_by, letters_in, all_acknowledged, all_replied}
+use Rattle.quorum_model.specs.Growth.{last_of, bytes_or_none, grown}
+use Rattle.quorum_model.specs.Happens.{leads, moved}
+use Rattle.quorum_model.specs.LogOfValues.{IsCommand, IsValue, view_at}
+use Rattle.quorum_model.specs.World.{World, Client, Asked, Acknowledged, Replied}
+use Rattle.quorum_model.specs.Safe.{Among, AcknowledgedOnce, IsAsked, IsAnswered}
+use Rattle.quorum_model.proofs.Committed.{value_told}
 use Rattle.quorum_model.proofs.Lists.{all_map, all_append, among_front, among_last, length_push}
 use Rattle.quorum_model.proofs.Logs.{Fronts, fronts_push, entry_push, fold_stays}
-use Rattle.quorum_model.proofs.ReadBack.{IsInc}
-use Rattle.quorum_model.proofs.Values.{written, most_inc, value_is, has_text, puts_one}
-use Rattle.quorum_model.proofs.Holds.{incs, Holds, told_last, told_version}
-use Rattle.quorum_model.proofs.Learned.{learned, reads_ops, record_is, holds_learned, learns}
+use Rattle.quorum_model.proofs.Made.{puts_command}
+use Rattle.quorum_model.proofs.Holds.{Holds, read_last, keeps_log}
+use Rattle.quorum_model.proofs.Older.{older_itself}
+use Rattle.quorum_model.proofs.Learned.{learned, reads_ops, holds_learned, new_record, learns}
+use Rattle.quorum_model.proofs.Waiting.{Waits}
 use Rattle.quorum_model.proofs.Invariant.{IsAck, Inv}
 use Rattle.quorum_model.proofs.Step.{after, IsNewAck, IsNewReply, keeps}
-use Rattle.quorum_model.proofs.Quiet.{grown_by}
+use Rattle.quorum_model.proofs.Quiet.{grown_by, first_rank}
 
 once_push : (before : List Acknowledged) (a : Acknowledged) → AcknowledgedOnce before → AllByRecursion (λ (b : Acknowledged). ¬ (a.version ≡ b.version)) before → AcknowledgedOnce (before ++ a ∷ [])
 once_push [] a h k = (tt, tt)
 once_push (b ∷ before) a h k = (all_append (λ (c : Acknowledged). ¬ (c.version ≡ b.version)) before (a ∷ []) h.0 (k.0, tt), once_push before a h.1 k.1)
 
-module _ (w : World) (inv : Inv w) (session : Session) (request : Request) (x : List ℕ) (made : made_by request ≡ Some (service.Kv, x)) (is_inc : IsInc x) (short : length x ≤ most_inc)
-    (cs : List Change) (vol : Volatile) (out : List Sent) (epoch : ℕ) (active : List (ℕ × ℕ)) (rank_0 : AllByRecursion (λ (p : ℕ × ℕ). p.1 ≡ 0) active)
-    (fits : suc (length w.log) ≤ 2 ^ 62) (n_fits : suc (length (incs w.log)) ≤ 2 ^ 62)
-    (changes : cs ≡ Learn (suc (length w.log)) (value (length w.log) service.Kv (suc (length (incs w.log))) x) ∷ Last (suc (length w.log)) ∷ [])
-    (sends : out ≡ sent.Reply session (reply.Done (suc (length w.log))) ∷ []) where
+module _ (w : World) (inv : Inv w) (at : ℕ) (session : Session) (request : Request) (command : Command) (is : command_of request ≡ Some command) (form : IsCommand command)
+    (ops : List Op) (valued : value (view (w.store 0)) command 0 ≡ Ok ops) (r : Reaction) (waits : Waits r.state) (room : length w.log < 2 ^ 62) where
   abbrev c : ℕ
   c = length w.log
 
-  abbrev n : ℕ
-  n = suc (length (incs w.log))
+  abbrev x : List ℕ
+  x = incremental_of 0 command
 
-  abbrev value_ops : List Op
-  value_ops = written (eqb c 0) (eqb n 1) n x
+  made : made_by 0 request ≡ Some (service_of command, x)
+  made = ap (option_map (λ (c : Command). (service_of c, incremental_of 0 c))) is
 
   abbrev bytes : List ℕ
-  bytes = text value_ops
+  bytes = text ops
 
   abbrev log : List (List ℕ)
   log = w.log ++ bytes ∷ []
 
-  abbrev tx : List Op
-  tx = joined (spelled cs)
-
   abbrev m : Store
-  m = apply tx (w.store 0)
+  m = apply r.transaction (w.store 0)
 
-  abbrev learned_store : Store
-  learned_store = learned w.log (w.store 0) inv.holds (eqb c 0) (eqb n 1) x fits n_fits short is_inc
+  abbrev epoch : ℕ
+  epoch = epoch_of (view m)
 
-  holds : Holds log learned_store
-  holds = holds_learned w.log (w.store 0) inv.holds (eqb c 0) (eqb n 1) x fits n_fits short is_inc
+  V : IsValue (view (w.store 0)) ops
+  V = record { command = command; form = form; asked = 0; rank = omega arith; newer = ops; made = valued; spelled = older_itself ops }
 
-  reads_value : ops_in bytes ≡ value_ops
-  reads_value = reads_ops w.log (w.store 0) inv.holds (eqb c 0) (eqb n 1) x fits n_fits short is_inc
+  module _ (transaction : r.transaction ≡ joined (spelled (Learn (suc c) ops ∷ Last (suc c) ∷ []))) (sends : r.sends ≡ sent.Reply session (reply.Done (suc c)) ∷ []) where
+    abbrev learned_store : Store
+    learned_store = learned w.log (w.store 0) inv.holds ops V room
 
-  same_store : m ≡ learned_store
-  same_store =
-      ap (λ (changes : List Change). apply (joined (spelled changes)) (w.store 0)) (changes ∙ ap (λ (o : List Op). Learn (suc c) o ∷ Last (suc c) ∷ []) (value_is c n x))
-      ∙ learns w.log (w.store 0) inv.holds (eqb c 0) (eqb n 1) x fits n_fits short is_inc
+    holds : Holds log learned_store
+    holds = holds_learned w.log (w.store 0) inv.holds ops V room
 
-  new_record : cell learned_store area.Paxos (key.Version (suc c)) ≡ Some bytes
-  new_record =
-      record_is w.log (w.store 0) inv.holds (eqb c 0) (eqb n 1) x fits n_fits short is_inc (suc c)
-      ∙ ap (λ b. cond b (Some bytes) (cell (w.store 0) area.Paxos (key.Version (suc c)))) (eq-eqb (suc c) (suc c) refl)
+    reads_value : ops_in bytes ≡ ops
+    reads_value = reads_ops w.log (w.store 0) inv.holds ops V room
 
-  same_log : grown w.log m ≡ log
-  same_log =
-      ap (grown w.log) same_store ∙ grown_by w.log learned_store 1 holds.unmarked (let e = holds.last in omega (arith, length_push w.log bytes))
-      ∙ ap (λ (record_ : Cell). w.log ++ bytes_or_none record_ ∷ []) new_record
+    same_store : m ≡ learned_store
+    same_store = ap (λ (tx : List Op). apply tx (w.store 0)) transaction ∙ learns w.log (w.store 0) inv.holds ops V room
 
-  abbrev asked : Asked
-  asked = record { rank = 0; session = session; request = request }
+    same_log : grown w.log m ≡ log
+    same_log =
+        ap (grown w.log) same_store ∙ grown_by w.log learned_store 1 holds.unmarked (let e = holds.last in omega (arith, length_push w.log bytes))
+        ∙ ap (λ (record_ : Cell). w.log ++ bytes_or_none record_ ∷ []) (new_record w.log (w.store 0) inv.holds ops V room)
 
-  abbrev ack : Acknowledged
-  ack = record { event = suc w.events; version = suc c; pn = vol.pn; epoch = epoch; service = service.Kv; incremental = x }
+    abbrev asked : Asked
+    asked = record { rank = 0; session = session; request = request }
 
-  abbrev answer : Replied
-  answer = record { event = suc w.events; rank = 0; epoch = epoch; last = last_of m; session = session; reply = reply.Done (suc c) }
+    abbrev ack : Acknowledged
+    ack = record { event = suc w.events; version = suc c; pn = r.state.leader.pn; epoch = epoch; service = service_of command; incremental = x }
 
-  abbrev acks : List Acknowledged
-  acks = all_acknowledged (suc w.events) vol.pn epoch (made_by request) out
+    abbrev answer : Replied
+    answer = record { event = suc w.events; rank = 0; epoch = epoch; last = last_of m; session = session; reply = reply.Done (suc c) }
 
-  abbrev replies : List Replied
-  replies = all_replied (suc w.events) 0 epoch (last_of m) out
+    abbrev acks : List Acknowledged
+    acks = cond (leads r.state.phase) (all_acknowledged (suc w.events) r.state.leader.pn epoch (made_by 0 request) r.sends) []
 
-  one_ack : acks ≡ ack ∷ []
-  one_ack = λ i. all_acknowledged (suc w.events) vol.pn epoch (made i) (sends i)
+    abbrev replies : List Replied
+    replies = all_replied (suc w.events) 0 epoch (last_of m) r.sends
 
-  one_answer : replies ≡ answer ∷ []
-  one_answer = ap (all_replied (suc w.events) 0 epoch (last_of m)) sends
+    abbrev active : List (ℕ × ℕ)
+    active = cond (leads r.state.phase) ((epoch, 0) ∷ []) []
 
-  abbrev pub committed : World
-  committed = after w m vol tx (grown w.log m) (w.asked ++ asked ∷ []) acks replies active
+    one_ack : acks ≡ ack ∷ []
+    one_ack =
+        ap (λ (p : Phase). cond (leads p) (all_acknowledged (suc w.events) r.state.leader.pn epoch (made_by 0 request) r.sends) []) waits.leads.active
+        ∙ (λ i. all_acknowledged (suc w.events) r.state.leader.pn epoch (made i) (sends i))
 
-  longer : length (grown w.log m) ≡ suc c
-  longer = ap length same_log ∙ length_push w.log bytes
+    one_answer : replies ≡ answer ∷ []
+    one_answer = ap (all_replied (suc w.events) 0 epoch (last_of m)) sends
 
-  -- what the log tells of the value's version
-  abbrev Spells : List (List ℕ) → Type 0
-  Spells l = entry l (suc c) ≡ text (value (view_at l c).last service.Kv (suc (service_last (view_at l c) service.Kv)) x)
+    abbrev committed : World
+    committed = after w m r.state r.transaction (letters_in r.sends) (grown w.log m) (w.asked ++ asked ∷ []) acks replies active
 
-  spells : Spells log
-  spells =
-      entry_push w.log bytes ∙ ap text (sym (value_is c n x))
-      ∙ (λ i. text (value (sym (told_last w.log (w.store 0) inv.holds) i) service.Kv (suc (sym (told_version w.log (w.store 0) inv.holds) i)) x))
-      ∙ ap (λ (s : Store). text (value (view (apply_op (put_number area.Paxos key.LastCommitted c) s)).last service.Kv (suc (service_last (view (apply_op (put_number area.Paxos key.LastCommitted c) s)) service.Kv)) x))
-      (sym (fold_stays (fronts_push w.log bytes) c (omega arith)))
+    more : length (grown w.log m) ≡ suc c
+    more = ap length same_log ∙ length_push w.log bytes
 
-  values : (v : ℕ) → c ≤ v → v < length (grown w.log m) → IsAsked committed v
-  values v low high = subst (IsAsked committed) at (record {
-    by = asked;
-    asked = among_last asked w.asked;
-    incremental = x;
-    made = made;
-    spells = subst Spells (sym same_log) spells;
-  })
-    where
-      at : c ≡ v
-      at = omega (arith, longer)
+    -- the value is that of the command over the versions before it
+    told : value (view_at (grown w.log m) c) command 0 ≡ Ok ops
+    told =
+        ap (λ (l : List (List ℕ)). value (view_at l c) command 0) same_log
+        ∙ ap (λ (s : Store). value (view (apply_op (put_number area.Paxos key.LastCommitted c) s)) command 0) (fold_stays (fronts_push w.log bytes) c (omega arith))
+        ∙ value_told w.log inv.holds.fits inv.holds.values (view (w.store 0)) (keeps_log w.log (w.store 0) inv.holds) (read_last w.log (w.store 0) inv.holds) command 0 ∙ valued
 
-  is_ack : IsNewAck committed ack
-  is_ack = (
-    record {
-      event = omega arith;
-      some = omega arith;
-      within = omega (arith, longer);
-      put = subst (Among x) (sym puts) (among_last x []);
-    },
-    refl,
-  )
-    where
-      puts : put_in service.Kv (ops_in (entry (grown w.log m) (suc c))) ≡ x ∷ []
-      puts = ap (λ (l : List (List ℕ)). put_in service.Kv (ops_in (entry l (suc c)))) same_log ∙ ap (λ (e : List ℕ). put_in service.Kv (ops_in e)) (entry_push w.log bytes)
-          ∙ ap (put_in service.Kv) reads_value ∙ puts_one (eqb c 0) (eqb n 1) n x
+    values : (v : ℕ) → c ≤ v → v < length (grown w.log m) → IsAsked committed v
+    values v low high = subst (IsAsked committed) here (record {
+      by = asked;
+      asked = among_last asked w.asked;
+      command = command;
+      is = is;
+      ops = ops;
+      made = told;
+      spells = ap (λ (l : List (List ℕ)). entry l (suc c)) same_log ∙ entry_push w.log bytes;
+    })
+      where
+        here : c ≡ v
+        here = omega (arith, more)
 
-  last_is : last_of m ≡ length (grown w.log m)
-  last_is = ap last_of same_store ∙ holds.last ∙ ap length (sym same_log)
+    is_ack : IsNewAck committed ack
+    is_ack = (
+      record {
+        event = omega arith;
+        some = omega arith;
+        within = omega (arith, more);
+        put = subst (Among x) (sym puts) (among_last x []);
+      },
+      refl,
+    )
+      where
+        puts : put_in (service_of command) (ops_in (entry (grown w.log m) (suc c))) ≡ x ∷ []
+        puts = ap (λ (l : List (List ℕ)). put_in (service_of command) (ops_in (entry l (suc c)))) same_log ∙ ap (λ (e : List ℕ). put_in (service_of command) (ops_in e)) (entry_push w.log bytes)
+            ∙ ap (put_in (service_of command)) reads_value ∙ puts_command (view (w.store 0)) command 0 ops valued
 
-  is_answered : IsAnswered committed answer (suc c)
-  is_answered = record {
-    acknowledged = ack;
-    among = subst (λ (more : List Acknowledged). Among ack (w.acknowledged ++ more)) (sym one_ack) (among_last ack w.acknowledged);
-    version = refl;
-    earlier = omega arith;
-    asked = asked;
-    was_asked = among_last asked w.asked;
-    rank = refl;
-    session = refl;
-    made = made;
-  }
+    last_is : last_of m ≡ length (grown w.log m)
+    last_is = ap last_of same_store ∙ holds.last ∙ ap length (sym same_log)
 
-  pub committed_keeps : Inv committed
-  committed_keeps = keeps w inv m vol tx (grown w.log m) (w.asked ++ asked ∷ []) acks replies active (record {
-    stored = refl;
-    holds = subst₂ Holds (sym same_log) (sym same_store) holds;
-    fronts = subst (Fronts w.log) (sym same_log) (fronts_push w.log bytes);
-    asks = λ a h. among_front a w.asked (asked ∷ []) h;
-    values = values;
-    acknowledges = subst (AllByRecursion (IsNewAck committed)) (sym one_ack) (is_ack, tt);
-    once = subst (λ (more : List Acknowledged). AcknowledgedOnce (w.acknowledged ++ more)) (sym one_ack)
-        (once_push w.acknowledged ack inv.once (all_map (IsAck w) _ (λ b h e. let l = h.within in absurd (omega arith)) w.acknowledged inv.acknowledged));
-    answers = subst (AllByRecursion (IsNewReply committed)) (sym one_answer) ((record { event = omega arith; last = omega (arith, last_is); answered = is_answered; shows = tt }, refl, last_is), tt);
-    leads = rank_0;
-  })
+    is_answered : IsAnswered committed answer (suc c)
+    is_answered = record {
+      acknowledged = ack;
+      among = subst (λ (more : List Acknowledged). Among ack (w.acknowledged ++ more)) (sym one_ack) (among_last ack w.acknowledged);
+      version = refl;
+      earlier = omega arith;
+      asked = asked;
+      was_asked = among_last asked w.asked;
+      rank = refl;
+      session = refl;
+      made = made;
+    }
+
+    pub committed_keeps : Inv (moved w (Client 0 at session request) 0 r)
+    unfolding moved
+    committed_keeps = keeps w inv m r.state r.transaction (letters_in r.sends) (grown w.log m) (w.asked ++ asked ∷ []) acks replies active (record {
+      stored = refl;
+      holds = subst₂ Holds (sym same_log) (sym same_store) holds;
+      fronts = subst (Fronts w.log) (sym same_log) (fronts_push w.log bytes);
+      asks = λ a h. among_front a w.asked (asked ∷ []) h;
+      values = values;
+      acknowledges = subst (AllByRecursion (IsNewAck committed)) (sym one_ack) (is_ack, tt);
+      once = subst (λ (more : List Acknowledged). AcknowledgedOnce (w.acknowledged ++ more)) (sym one_ack)
+          (once_push w.acknowledged ack inv.once (all_map (IsAck w) _ (λ b h e. let l = h.within in absurd (omega arith)) w.acknowledged inv.acknowledged));
+      answers = subst (AllByRecursion (IsNewReply committed)) (sym one_answer) ((record { event = omega arith; last = omega (arith, last_is); answered = is_answered; shows = tt }, refl, last_is), tt);
+      leaders = first_rank (leads r.state.phase) epoch;
+      silent = ap letters_in sends;
+      waits = waits;
+    })

@@ -1,35 +1,30 @@
--- What a store holds whose committed versions are those of a log, and that it is read as the log's maps.
-use Rattle.std.proofs.Common.{◌≡◌, ℕ, suc, ◌<◌, ◌≤◌, ◌^◌, Bool, true, false, cond, not, List, [], length, Option, Some, None, refl, sym, ap, subst, ◌∙◌, arith}
-use Rattle.std.specs.List.{AllByRecursion}
+-- What a store holds whose committed versions are those of a log of values.
+use Rattle.std.proofs.Common.{◌≡◌, ℕ, suc, ◌<◌, ◌≤◌, ◌^◌, max, Bool, true, false, cond, eqb, List, [], length, Option, Some, None, refl, sym, ap, ◌∙◌, arith}
+use Rattle.std.proofs.lemmas.Bool.{le-leb, lt-ltb}
 use Rattle.std.specs.FinMap.{empty, get, get-empty, retain_keys, same_map}
 use Rattle.mon_tx.specs.declared.key.Area.TheVariants as area
 use Rattle.mon_tx.specs.declared.key.Key.TheVariants as key
 use Rattle.mon_tx.specs.Map.{Place, place_cmp, Store, number_in}
-use Rattle.mon_tx.specs.Keys.{place, cell, number, shared}
-use Rattle.mon_tx.proofs.Places.{places_total, exact_places, number_in-bytes}
-use Rattle.mon_msg.specs.declared.request.Service.TheVariants as service
-use Rattle.mon_msg.specs.View.{view}
-use Rattle.mon_msg.specs.Service.{service_last, read_from, read_kv}
-use Rattle.mon_msg.specs.Fold.{entry, fold, incrementals, kv_of_log}
-use Rattle.quorum_model.specs.Safe.{view_at}
-use Rattle.quorum_model.proofs.Places.{cell_other, cell_same, get_kept, is_shared, shared_is, local_named}
+use Rattle.mon_tx.specs.Keys.{cell, number, shared}
+use Rattle.mon_tx.proofs.Places.{places_total, exact_places}
+use Rattle.mon_msg.specs.Fold.{entry, fold}
+use Rattle.mon_msg.specs.Protocol.View.{marks, view}
+use Rattle.quorum_model.specs.LogOfValues.{AllValues}
+use Rattle.quorum_model.specs.Windows.{log_from, within, first_read, Keeps}
+use Rattle.quorum_model.proofs.Committed.{keeps, keeps_shared}
 use Rattle.quorum_model.proofs.Own.{Same}
-use Rattle.quorum_model.proofs.ReadBack.{IsInc, AreFrom, reads}
+use Rattle.quorum_model.proofs.Places.{get_kept, is_shared, shared_is}
+use Rattle.quorum_model.proofs.RowReadings.{read_some}
 
--- the key-value service's incrementals of a whole log
-abbrev pub incs : List (List ℕ) → List (List ℕ)
-incs log = incrementals service.Kv log (length log)
-
+-- nothing is copied, nothing is pending, and no record stands behind the last version
 pub record Holds (log : List (List ℕ)) (m : Store) : Type 0 where
   pub last : number m area.Paxos key.LastCommitted ≡ length log
   pub fits : length log ≤ 2 ^ 62
   pub unmarked : cell m area.Sync key.InSync ≡ None
-  pub records : (v : ℕ) → v < length log → cell m area.Paxos (key.Version (suc v)) ≡ Some (entry log (suc v))
+  pub settled : number m area.Paxos key.PendingV ≡ 0
   pub beyond : (v : ℕ) → length log < v → cell m area.Paxos (key.Version v) ≡ None
   pub folded : shared m ≡ fold log (length log)
-  pub row_last : number m area.Kv key.LastCommitted ≡ length (incs log)
-  pub row : AreFrom (cell m area.Kv) 0 (incs log)
-  pub readable : AllByRecursion IsInc (incs log)
+  pub values : AllValues log
 
 -- ---- at first
 
@@ -44,22 +39,16 @@ nothing_kept stays = same_map places_total exact_places _ _ (λ q. get_kept empt
     none true c e = refl
     none false c e = sym e
 
-no_incs : incs [] ≡ []
-unfolding incrementals
-no_incs = refl
-
 pub holds_nothing : Holds [] empty
 unfolding fold
 holds_nothing = record {
   last = ap number_in (get-empty place_cmp _) ∙ number_none;
   fits = omega arith;
   unmarked = get-empty place_cmp _;
-  records = λ v h. absurd (omega arith);
+  settled = ap number_in (get-empty place_cmp _) ∙ number_none;
   beyond = λ v h. get-empty place_cmp _;
   folded = shared_is empty 0 (ap number_in (get-empty place_cmp _) ∙ number_none) ∙ nothing_kept (is_shared 0);
-  row_last = ap number_in (get-empty place_cmp _) ∙ number_none ∙ sym (ap length no_incs);
-  row = λ v i e h. absurd (omega (arith, ap length no_incs));
-  readable = subst (AllByRecursion IsInc) (sym no_incs) tt;
+  values = λ v h. absurd (omega arith);
 }
 
 -- ---- after changes of the monitor's own numbers
@@ -69,12 +58,10 @@ still_holds log m new h same = record {
   last = ap number_in same.last ∙ h.last;
   fits = h.fits;
   unmarked = same.mark ∙ h.unmarked;
-  records = λ v lt. same.records (suc v) ∙ h.records v lt;
+  settled = ap number_in same.pending ∙ h.settled;
   beyond = λ v lt. same.records v ∙ h.beyond v lt;
   folded = same.kept ∙ h.folded;
-  row_last = ap number_in (same.row key.LastCommitted) ∙ h.row_last;
-  row = λ v i e lt. same.row (key.Version v) ∙ h.row v i e lt;
-  readable = h.readable;
+  values = h.values;
 }
 
 -- ---- what is read
@@ -84,23 +71,28 @@ module _ (log : List (List ℕ)) (m : Store) (h : Holds log m) where
   unfolding view
   read_last = h.last
 
-  pub read_version : service_last (view m) service.Kv ≡ length (incs log)
+  pub read_unmarked : (view m).marked ≡ false
   unfolding view
-  read_version = h.row_last
+  read_unmarked = ap marks h.unmarked ∙ ap (λ n. eqb n 1) number_none
 
-  pub read_map : read_kv (view m) ≡ kv_of_log log (length log)
+  pub read_settled : (view m).pending_v ≡ 0
   unfolding view
-  read_map = ap (λ n. read_from n 1 (cell m area.Kv) empty) h.row_last ∙ reads (cell m area.Kv) 0 (incs log) empty h.row h.readable
+  read_settled = h.settled
 
-  pub told_last : (view_at log (length log)).last ≡ length log
-  unfolding view
-  told_last = ap number_in (cell_same area.Paxos key.LastCommitted _ (fold log (length log)) area.Paxos key.LastCommitted refl) ∙ number_in-bytes (length log) h.fits
+  pub keeps_log : Keeps log (length log) (view m)
+  keeps_log = keeps_shared log (length log) m h.folded h.last (keeps log h.fits h.values (length log) (omega arith))
 
-  pub told_version : service_last (view_at log (length log)) service.Kv ≡ length (incs log)
+  first_number : number m area.Paxos key.FirstCommitted ≡ first_read log_from (length log)
   unfolding view
-  told_version =
-      ap number_in (cell_other area.Paxos key.LastCommitted _ (fold log (length log)) area.Kv key.LastCommitted refl
-      ∙ ap (λ (s : Store). cell s area.Kv key.LastCommitted) (sym h.folded ∙ shared_is m (length log) h.last)
-      ∙ get_kept m (is_shared (length log)) (place area.Kv key.LastCommitted)
-      ∙ ap (λ b. cond (not b) (cell m area.Kv key.LastCommitted) None) (local_named (length log) area.Kv key.LastCommitted))
-      ∙ h.row_last
+  first_number = keeps_log.first
+
+  -- the records from the first one that is kept
+  pub record_there : (v : ℕ) → max 1 (number m area.Paxos key.FirstCommitted) ≤ v → v ≤ length log → cell m area.Paxos (key.Version v) ≡ Some (entry log v)
+  unfolding view
+  record_there v low high = keeps_log.records v high ∙ here
+    where
+      from : log_from (length log) ≤ v
+      from = omega (arith, first_number, read_some log_from (length log) (omega arith))
+
+      here : cond (within (log_from (length log)) (suc (length log)) v) (Some (entry log v)) None ≡ Some (entry log v)
+      here = rw (le-leb (log_from (length log)) v from, lt-ltb v (suc (length log)) (omega arith)) refl

@@ -1,27 +1,27 @@
 -- What holds of one monitor's world after every event, and that it is safe.
-use Rattle.std.proofs.Common.{◌≡◌, ℕ, zero, suc, ◌<◌, ◌≤◌, max, true, List, length, Option, Some, None, Ok, refl, sym, ap, subst, ◌∙◌, arith}
+use Rattle.std.specs.Prelude.{IfSome}
+use Rattle.std.proofs.Common.{◌≡◌, ℕ, zero, suc, ◌<◌, ◌≤◌, true, List, [], length, Option, Some, None, Ok, refl, sym, ap, subst, ◌∙◌, arith}
 use Rattle.std.specs.List.{AllByRecursion}
 use Rattle.std.specs.FinMap.{empty}
 use Rattle.mon_tx.specs.declared.key.Area.TheVariants as area
 use Rattle.mon_tx.specs.declared.key.Key.TheVariants as key
 use Rattle.mon_tx.specs.Map.{Store, apply_op}
-use Rattle.mon_tx.specs.Keys.{cell, number}
-use Rattle.mon_tx.specs.Text.{text}
 use Rattle.mon_tx.specs.Decode.{ops_in}
 use Rattle.mon_msg.specs.declared.reply.Reply.{Reply}
 use Rattle.mon_msg.specs.declared.reply.Reply.TheVariants as reply
-use Rattle.mon_msg.specs.declared.reply.ShownMap.TheVariants as shown
-use Rattle.mon_msg.specs.declared.request.Service.TheVariants as service
-use Rattle.mon_msg.specs.declared.reaction.Volatile.{Volatile}
-use Rattle.mon_msg.specs.View.{view}
-use Rattle.mon_msg.specs.Changes.{put_number}
-use Rattle.mon_msg.specs.Service.{service_last, value}
-use Rattle.mon_msg.specs.Fold.{entry, fold, put_in, after_all}
-use Rattle.quorum_model.specs.World.{World, Asked, Acknowledged, Replied, first_world, last_of, is_marked}
-use Rattle.quorum_model.specs.Safe.{Among, Agrees, view_at, IsAsked, LeaderHas, IsKept, AcknowledgedOnce, IsAnswered, DoneIsAnswered, ShowsLog, after_transactions, Held, Fence, Safe}
+use Rattle.mon_msg.specs.declared.request.Service.{Service}
+use Rattle.mon_msg.specs.Puts.{put_number}
+use Rattle.mon_msg.specs.Fold.{entry, fold, put_in, map_after, map_of_log}
+use Rattle.mon_msg.specs.Protocol.State.{State}
+use Rattle.mon_msg.specs.Protocol.Value.{value}
+use Rattle.mon_msg.specs.Protocol.View.{view}
+use Rattle.quorum_model.specs.Growth.{is_marked}
+use Rattle.quorum_model.specs.World.{World, Asked, Acknowledged, Replied, first_world}
+use Rattle.quorum_model.specs.Safe.{Among, Agrees, IsAsked, LeaderHas, IsKept, AcknowledgedOnce, IsAnswered, DoneIsAnswered, AreAfter, ShowsLog, after_transactions, Held, Fence, Safe}
 use Rattle.quorum_model.proofs.Lists.{all_map, among_all}
 use Rattle.quorum_model.proofs.Logs.{Fronts, entry_stays, fold_stays, incrementals_stay}
-use Rattle.quorum_model.proofs.Holds.{Holds, holds_nothing}
+use Rattle.quorum_model.proofs.Holds.{Holds, holds_nothing, record_there}
+use Rattle.quorum_model.proofs.Waiting.{Waits}
 
 -- an acknowledged version is in the log, and puts its incremental
 pub record IsAck (w : World) (a : Acknowledged) : Type 0 where
@@ -45,6 +45,8 @@ pub record Inv (w : World) : Type 0 where
   pub fence : Fence w
   pub active : AllByRecursion (λ (p : ℕ × ℕ). p.1 ≡ 0) w.active
   pub held : w.store 0 ≡ after_transactions (w.kept 0) empty
+  pub silent : w.letters ≡ []
+  pub waits : IfSome (w.state 0) Waits
 
 pub at_first : Inv first_world
 at_first = record {
@@ -56,6 +58,8 @@ at_first = record {
   fence = tt;
   active = tt;
   held = refl;
+  silent = refl;
+  waits = tt;
 }
 
 -- ---- what was so stays so
@@ -92,15 +96,14 @@ module _ (w new : World) (grown : Grown w new) where
   done_stays r (reply.Done v) h = answer_stays r v h
   done_stays r other h = tt
 
+  map_stays : (s : Service) (c : ℕ) → c ≤ length w.log → map_of_log s new.log c ≡ map_of_log s w.log c
+  map_stays s c le = ap (map_after s) (incrementals_stay grown.fronts s c le)
+
   shows_stays : (r : Replied) (y : Reply) → r.last ≤ length w.log → ShowsLog w r y → ShowsLog new r y
-  shows_stays r (reply.Shown service.Kv paxos version (shown.Kv map)) h s =
-      let le : paxos ≤ length w.log = let e = s.0 in omega arith in
-      let same = incrementals_stay grown.fronts service.Kv paxos le in
-      (s.0, s.1 ∙ ap (after_all empty) (sym same), s.2 ∙ ap length (sym same))
-  shows_stays r (reply.Shown service.Kv paxos version (shown.Log map)) h s = absurd s
-  shows_stays r (reply.Shown service.Log paxos version map) h s = absurd s
-  shows_stays r (reply.Since service from incrementals more) h s = absurd s
-  shows_stays r other h s = tt
+  shows_stays r (reply.Shown s paxos version map) h k =
+      (k.0, k.1 ∙ sym (map_stays s r.last h), k.2 ∙ ap length (sym (incrementals_stay grown.fronts s r.last h)))
+  shows_stays r (reply.Since s from told more) h k = subst (λ (is : List (List ℕ)). AreAfter is from told more) (sym (incrementals_stay grown.fronts s r.last h)) k
+  shows_stays r other h k = tt
 
   pub reply_stays : (r : Replied) → IsReply w r → IsReply new r
   reply_stays r h = record {
@@ -114,16 +117,12 @@ module _ (w new : World) (grown : Grown w new) where
   value_stays v lt h = record {
     by = h.by;
     asked = grown.asked h.by h.asked;
-    incremental = h.incremental;
-    made = h.made;
-    spells = λ i. spells i;
+    command = h.command;
+    is = h.is;
+    ops = h.ops;
+    made = subst (λ (m : Store). value (view (apply_op (put_number area.Paxos key.LastCommitted v) m)) h.command h.by.rank ≡ Ok h.ops) (sym (fold_stays grown.fronts v (omega arith))) h.made;
+    spells = entry_stays grown.fronts (suc v) lt ∙ h.spells;
   }
-    where
-      spells : entry new.log (suc v) ≡ text (value (view_at new.log v).last service.Kv (suc (service_last (view_at new.log v) service.Kv)) h.incremental)
-      spells =
-          entry_stays grown.fronts (suc v) lt ∙ h.spells
-          ∙ ap (λ (m : Store). text (value (view (apply_op (put_number area.Paxos key.LastCommitted v) m)).last service.Kv (suc (service_last (view (apply_op (put_number area.Paxos key.LastCommitted v) m)) service.Kv)) h.incremental))
-          (sym (fold_stays grown.fronts v (omega arith)))
 
 -- ---- it is safe
 
@@ -131,23 +130,19 @@ module _ (w : World) (inv : Inv w) where
   agrees : Agrees w.log (w.store 0)
   agrees = record {
     within = let e = inv.holds.last in omega arith;
-    records = λ v low high. by v low high;
+    records = λ v low high. record_there w.log (w.store 0) inv.holds v low (let e = inv.holds.last in omega arith);
     folded = inv.holds.folded ∙ ap (fold w.log) (sym inv.holds.last);
   }
-    where
-      by : (v : ℕ) → max 1 (number (w.store 0) area.Paxos key.FirstCommitted) ≤ v → v ≤ last_of (w.store 0) → cell (w.store 0) area.Paxos (key.Version v) ≡ Some (entry w.log v)
-      by zero low high = absurd (omega arith)
-      by (suc v) low high = inv.holds.records v (let e = inv.holds.last in omega arith)
 
-  leader_has : (a : Acknowledged) (vol : Option Volatile) → a.version ≤ length w.log → LeaderHas a vol (w.store 0)
+  leader_has : (a : Acknowledged) (s : Option State) → a.version ≤ length w.log → LeaderHas a s (w.store 0)
   leader_has a None h = tt
-  leader_has a (Some vol) h = λ lead pn. let e = inv.holds.last in omega arith
+  leader_has a (Some s) h = λ lead pn. let e = inv.holds.last in omega arith
 
   is_kept : (a : Acknowledged) → IsAck w a → IsKept 1 w a
   is_kept a h = record { some = h.some; within = h.within; put = h.put; leaders = λ i lt. by i lt }
     where
-      by : (i : ℕ) → i < 1 → LeaderHas a (w.volatile i) (w.store i)
-      by zero lt = leader_has a (w.volatile 0) h.within
+      by : (i : ℕ) → i < 1 → LeaderHas a (w.state i) (w.store i)
+      by zero lt = leader_has a (w.state 0) h.within
       by (suc i) lt = absurd (omega arith)
 
   pub safe : Safe 1 w

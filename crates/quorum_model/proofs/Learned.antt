@@ -1,156 +1,170 @@
 -- A store that learns the next version's value holds the log with that value's text.
-use Rattle.std.proofs.Common.{◌≡◌, ℕ, suc, ◌+◌, ◌<◌, ◌≤◌, ◌^◌, Bool, true, false, cond, not, eqb, List, [], ◌∷◌, ◌++◌, length, get_or, Some, None, refl, sym, ap, subst, ◌∙◌, ◌⊎◌, inl, inr, arith}
-use Rattle.std.proofs.lemmas.Bool.{cases_eq, eq-eqb, ne_eqb}
-use Rattle.std.proofs.lemmas.List.{get_or_append_left}
-use Rattle.std.proofs.Math.Seq.{get_or-append_seam}
-use Rattle.std.specs.List.{AllByRecursion}
-use Rattle.std.specs.FinMap.{insert}
+use Rattle.std.proofs.Common.{◌≡◌, ℕ, suc, ◌+◌, ◌<◌, ◌≤◌, ◌^◌, false, not, cond, List, [], ◌∷◌, ◌++◌, length, Some, None, refl, sym, ap, subst, ◌∙◌, arith}
+use Rattle.std.proofs.lemmas.Bool.{le-leb, lt-ltb}
+use Rattle.std.specs.FinMap.{retain_keys}
 use Rattle.mon_tx.specs.declared.op.Op.{Op}
+use Rattle.mon_tx.specs.declared.key.Area.{Area}
 use Rattle.mon_tx.specs.declared.key.Area.TheVariants as area
+use Rattle.mon_tx.specs.declared.key.Key.{Key}
 use Rattle.mon_tx.specs.declared.key.Key.TheVariants as key
-use Rattle.mon_tx.specs.Map.{Store, apply_op, apply, number_bytes, number_in}
-use Rattle.mon_tx.specs.Keys.{place, cell, number, shared}
+use Rattle.mon_tx.specs.Map.{Store, apply_op, apply, number_in}
+use Rattle.mon_tx.specs.Keys.{place, cell, number, shared, same_area, same_key, covers}
 use Rattle.mon_tx.specs.Text.{text}
-use Rattle.mon_tx.specs.Decode.{ops_in, ops_or_none}
+use Rattle.mon_tx.specs.Decision.{Cell, decision, or_before}
+use Rattle.mon_tx.specs.Decode.{ops_in}
+use Rattle.mon_tx.proofs.After.{get-apply}
 use Rattle.mon_tx.proofs.Places.{number_in-bytes}
-use Rattle.mon_msg.specs.declared.request.Service.TheVariants as service
-use Rattle.mon_msg.specs.Changes.{Learn, Last, put, put_number, spelled}
+use Rattle.mon_msg.specs.declared.request.Service.{Service}
+use Rattle.mon_msg.specs.declared.request.Service.TheVariants.{Kv, Log}
+use Rattle.mon_msg.specs.Puts.{put, put_number}
+use Rattle.mon_msg.specs.Fold.{entry, fold}
 use Rattle.mon_msg.specs.Joined.{joined}
-use Rattle.mon_msg.specs.Fold.{entry, fold, put_in, incrementals}
-use Rattle.mon_tx.proofs.Again.{transaction_again}
+use Rattle.mon_msg.specs.Puts.{area_of}
+use Rattle.mon_msg.specs.Protocol.View.{cell_after}
+use Rattle.mon_msg.specs.Protocol.Changes.{Learn, Last, spelled}
+use Rattle.mon_msg.specs.Protocol.View.{view}
 use Rattle.mon_msg.proofs.Joining.{apply-joined}
-use Rattle.mon_msg.proofs.Played.{apply-append}
-use Rattle.quorum_model.proofs.Lists.{all_append, length_push}
-use Rattle.quorum_model.proofs.Places.{cell_put, cell_other, cell_same, kept_put, lost_put, is_shared, shared_is, shared_on, local_named}
-use Rattle.quorum_model.proofs.Logs.{fronts_push, entry_push, entry_stays, fold_push, incrementals_push}
-use Rattle.quorum_model.proofs.ReadBack.{IsInc, AreFrom}
-use Rattle.quorum_model.proofs.Values.{written, most_inc, has_text, puts_one, value_other, value_last, value_version, Stays, kept_all}
-use Rattle.quorum_model.proofs.Holds.{incs, Holds}
+use Rattle.mon_msg.proofs.Afterwards.{apply-append}
+use Rattle.quorum_model.specs.LogOfValues.{AllValues, IsValue}
+use Rattle.quorum_model.specs.Windows.{log_from, within, Keeps}
+use Rattle.quorum_model.proofs.Committed.{ops_again, keeps, keeps_shared, next_in, texts, grown}
+use Rattle.quorum_model.proofs.Holds.{Holds, read_last, keeps_log}
+use Rattle.quorum_model.proofs.Lists.{length_push}
+use Rattle.quorum_model.proofs.Logs.{fronts_push, entry_push, fold_stays}
+use Rattle.quorum_model.proofs.Places.{cell_other, cell_same, lost_put, is_shared, shared_is, shared_on, local_named}
+use Rattle.quorum_model.proofs.RuleCells.{log_high}
+use Rattle.quorum_model.proofs.RowSteps.{log_stays, log_behind}
+use Rattle.quorum_model.proofs.Sharing.{OfOwn, shared_apply}
+use Rattle.quorum_model.proofs.Windows.{Next, log_cell_is, elsewhere_is}
 
--- the value's places are shared
-value_stays : (last : ℕ) (a b : Bool) (n : ℕ) (x : List ℕ) → AllByRecursion (Stays (is_shared last)) (written a b n x)
-value_stays last a b n x = by a b
-  where
-    first : is_shared last (place area.Paxos key.FirstCommitted) ≡ true
-    first = ap not (local_named last area.Paxos key.FirstCommitted)
-
-    version : is_shared last (place area.Kv (key.Version n)) ≡ true
-    version = ap not (local_named last area.Kv (key.Version n))
-
-    service_first : is_shared last (place area.Kv key.FirstCommitted) ≡ true
-    service_first = ap not (local_named last area.Kv key.FirstCommitted)
-
-    service_last : is_shared last (place area.Kv key.LastCommitted) ≡ true
-    service_last = ap not (local_named last area.Kv key.LastCommitted)
-
-    by : (a b : Bool) → AllByRecursion (Stays (is_shared last)) (written a b n x)
-    by true true = (first, (version, (service_first, (service_last, tt))))
-    by true false = (first, (version, (service_last, tt)))
-    by false true = (version, (service_first, (service_last, tt)))
-    by false false = (version, (service_last, tt))
-
--- and so is its record, once it is the last one
-record_stays : (v : ℕ) → is_shared v (place area.Paxos (key.Version v)) ≡ true
-record_stays v = ap not (local_named v area.Paxos (key.Version v)) ∙ rw (ne_eqb (v + 1) v (λ e. omega arith)) refl
-
-module _ (log : List (List ℕ)) (m : Store) (h : Holds log m) (a b : Bool) (x : List ℕ) (fits : suc (length log) ≤ 2 ^ 62) (n_fits : suc (length (incs log)) ≤ 2 ^ 62) (short : length x ≤ most_inc) (is_inc : IsInc x) where
-  abbrev pub next : ℕ
-  next = suc (length log)
-
-  abbrev pub next_inc : ℕ
-  next_inc = suc (length (incs log))
-
-  abbrev pub ops : List Op
-  ops = written a b next_inc x
+module _ (log : List (List ℕ)) (m : Store) (h : Holds log m) (ops : List Op) (V : IsValue (view m) ops) (room : length log < 2 ^ 62) where
+  abbrev pub c : ℕ
+  c = length log
 
   abbrev pub more : List (List ℕ)
   more = log ++ text ops ∷ []
 
-  abbrev pub recorded : Store
-  recorded = apply_op (put area.Paxos (key.Version next) (text ops)) m
+  abbrev recorded : List Op
+  recorded = put area.Paxos (key.Version (suc c)) (entry more (suc c)) ∷ ops
 
-  abbrev pub valued : Store
-  valued = apply ops recorded
+  abbrev valued : Store
+  valued = apply recorded m
 
   abbrev pub learned : Store
-  learned = apply_op (put_number area.Paxos key.LastCommitted next) valued
+  learned = apply_op (put_number area.Paxos key.LastCommitted (suc c)) valued
 
-  pub reads_ops : ops_in (text ops) ≡ ops
-  unfolding ops_in
-  reads_ops = ap ops_or_none (transaction_again ops (has_text next_inc x n_fits short a b))
-
-  length_more : length more ≡ next
+  length_more : length more ≡ suc c
   length_more = length_push log (text ops)
 
-  pub incs_more : incs more ≡ incs log ++ x ∷ []
-  incs_more = ap (incrementals service.Kv more) length_more ∙ incrementals_push log (text ops) service.Kv ∙ ap (λ (is : List (List ℕ)). incs log ++ is) (ap (put_in service.Kv) reads_ops ∙ puts_one a b next_inc x)
+  values_more : AllValues more
+  values_more = grown log room h.values (view m) (keeps_log log m h) (read_last log m h) ops V
 
-  last_is : cell learned area.Paxos key.LastCommitted ≡ Some (number_bytes next)
-  last_is = cell_same area.Paxos key.LastCommitted _ valued area.Paxos key.LastCommitted refl
+  pub reads_ops : ops_in (text ops) ≡ ops
+  reads_ops = ops_again ops (texts log room h.values (view m) (keeps_log log m h) (read_last log m h) ops V)
 
-  pub last_number : number learned area.Paxos key.LastCommitted ≡ next
-  last_number = ap number_in last_is ∙ number_in-bytes next fits
+  reads_entry : ops_in (entry more (suc c)) ≡ ops
+  reads_entry = ap ops_in (entry_push log (text ops)) ∙ reads_ops
 
-  pub record_is : (v : ℕ) → cell learned area.Paxos (key.Version v) ≡ cond (eqb v next) (Some (text ops)) (cell m area.Paxos (key.Version v))
-  record_is v =
-      cell_other area.Paxos key.LastCommitted _ valued area.Paxos (key.Version v) refl ∙ value_other a b next_inc x recorded area.Paxos (key.Version v) refl refl refl refl
-      ∙ cell_put area.Paxos (key.Version next) (text ops) m area.Paxos (key.Version v)
+  fits_more : length more ≤ 2 ^ 62
+  fits_more = omega (arith, length_more)
 
-  records : (v : ℕ) → v < length more → cell learned area.Paxos (key.Version (suc v)) ≡ Some (entry more (suc v))
-  records v lt = record_is (suc v) ∙ by (cases_eq v (length log))
+  -- the same store, by the longer log
+  folded_more : shared m ≡ fold more c
+  folded_more = h.folded ∙ sym (fold_stays (fronts_push log (text ops)) c (omega arith))
+
+  keeps_more : Keeps more c (view m)
+  keeps_more = keeps_shared more c m folded_more h.last (keeps more fits_more values_more c (omega (arith, length_more)))
+
+  next : Next more c V.newer
+  next = next_in more fits_more values_more c (omega (arith, length_more)) room (view m) keeps_more (read_last log m h) ops V
+
+  -- ---- what the value leaves under the log's keys and elsewhere
+
+  in_log : (k : Key) (was : Cell) → ((a b : ℕ) → covers a b k ≡ false) → same_key k key.FirstCommitted ≡ false → same_key k (key.Version (suc c)) ≡ false → cell_after recorded area.Paxos k was ≡ was
+  in_log k was h f v = log_cell_is more c ops V.newer V.spelled next reads_entry k was ∙ log_stays c (entry more (suc c)) k was h f v
+
+  behind : (v : ℕ) (was : Cell) → suc c < v → cell_after recorded area.Paxos (key.Version v) was ≡ was
+  behind v was lt = log_cell_is more c ops V.newer V.spelled next reads_entry (key.Version v) was ∙ log_behind c v (entry more (suc c)) was lt
+
+  elsewhere : (a : Area) (k : Key) (was : Cell) → same_area a area.Paxos ≡ false → same_area a area.Kv ≡ false → same_area a area.Logm ≡ false → cell_after recorded a k was ≡ was
+  elsewhere a k was p q r = elsewhere_is more c ops V.newer V.spelled next reads_entry a k was p by
     where
-      by : (v ≡ length log) ⊎ (v ≡ length log → ⊥) → cond (eqb (suc v) next) (Some (text ops)) (cell m area.Paxos (key.Version (suc v))) ≡ Some (entry more (suc v))
-      by (inl e) = rw (eq-eqb (suc v) next (ap suc e)) (ap Some (sym (entry_push log (text ops)) ∙ ap (λ w. entry more (suc w)) (sym e)))
-      by (inr ne) = rw (ne_eqb (suc v) next (λ e. ne (omega arith))) (h.records v (omega (arith, length_more)) ∙ ap Some (sym (entry_stays (fronts_push log (text ops)) (suc v) (omega (arith, length_more)))))
+      by : (u : Service) → same_area a (area_of u) ≡ false
+      by Kv = q
+      by Log = r
+
+  -- none of them is the monitor's own
+  own : OfOwn (λ q. or_before (decision recorded q) None ≡ None) (suc c)
+  own = record {
+    last_committed = in_log key.LastCommitted None (λ a b. refl) refl refl;
+    last_pn = in_log key.LastPn None (λ a b. refl) refl refl;
+    accepted_pn = in_log key.AcceptedPn None (λ a b. refl) refl refl;
+    pending_v = in_log key.PendingV None (λ a b. refl) refl refl;
+    pending_pn = in_log key.PendingPn None (λ a b. refl) refl refl;
+    behind = behind (suc c + 1) None (omega arith);
+    epoch = elsewhere area.Monitor key.ElectionEpoch None refl refl refl;
+    boots = elsewhere area.Monitor key.BootCount None refl refl refl;
+    mark = elsewhere area.Sync key.InSync None refl refl refl;
+    floor = elsewhere area.Sync key.Floor None refl refl refl;
+  }
+
+  -- ---- what is held
+
+  pub last_number : number learned area.Paxos key.LastCommitted ≡ suc c
+  last_number = ap number_in (cell_same area.Paxos key.LastCommitted _ valued area.Paxos key.LastCommitted refl) ∙ number_in-bytes (suc c) (omega arith)
+
+  unmarked : cell learned area.Sync key.InSync ≡ None
+  unmarked =
+      cell_other area.Paxos key.LastCommitted _ valued area.Sync key.InSync refl ∙ get-apply recorded m (place area.Sync key.InSync)
+      ∙ elsewhere area.Sync key.InSync _ refl refl refl ∙ h.unmarked
+
+  settled : number learned area.Paxos key.PendingV ≡ 0
+  settled =
+      ap number_in (cell_other area.Paxos key.LastCommitted _ valued area.Paxos key.PendingV refl ∙ get-apply recorded m (place area.Paxos key.PendingV)
+      ∙ in_log key.PendingV _ (λ a b. refl) refl refl) ∙ h.settled
 
   beyond : (v : ℕ) → length more < v → cell learned area.Paxos (key.Version v) ≡ None
-  beyond v lt = record_is v ∙ rw (ne_eqb v next (λ e. omega (arith, length_more))) (h.beyond v (omega (arith, length_more)))
+  beyond v lt =
+      cell_other area.Paxos key.LastCommitted _ valued area.Paxos (key.Version v) refl ∙ get-apply recorded m (place area.Paxos (key.Version v))
+      ∙ behind v _ (omega (arith, length_more)) ∙ h.beyond v (omega (arith, length_more))
+
+  shared_before : retain_keys m (is_shared (suc c)) ≡ fold more c
+  shared_before = sym (shared_on m c (h.beyond _ (omega arith)) (h.beyond _ (omega arith))) ∙ sym (shared_is m c h.last) ∙ folded_more
 
   folded : shared learned ≡ fold more (length more)
+  unfolding fold
   folded =
-      shared_is learned next last_number
-      ∙ lost_put valued (is_shared next) (place area.Paxos key.LastCommitted) _ (ap not (local_named next area.Paxos key.LastCommitted))
-      ∙ kept_all (is_shared next) ops recorded (value_stays next a b next_inc x)
-      ∙ ap (apply ops) (kept_put m (is_shared next) (place area.Paxos (key.Version next)) (text ops) (record_stays next))
-      ∙ ap (λ (s : Store). apply ops (insert s (place area.Paxos (key.Version next)) (text ops)))
-      (sym (shared_on m (length log) (h.beyond _ (omega arith)) (h.beyond _ (omega arith))) ∙ sym (shared_is m (length log) h.last) ∙ h.folded)
-      ∙ ap (λ (o : List Op). apply o (apply_op (put area.Paxos (key.Version next) (text ops)) (fold log (length log)))) (sym reads_ops)
-      ∙ sym (fold_push log (text ops)) ∙ ap (fold more) (sym length_more)
-
-  row_last : number learned area.Kv key.LastCommitted ≡ length (incs more)
-  row_last =
-      ap number_in (cell_other area.Paxos key.LastCommitted _ valued area.Kv key.LastCommitted refl ∙ value_last a b next_inc x recorded) ∙ number_in-bytes next_inc n_fits
-      ∙ sym (ap length incs_more ∙ length_push (incs log) x)
-
-  row_is : (v : ℕ) → cell learned area.Kv (key.Version v) ≡ cond (eqb v next_inc) (Some x) (cell m area.Kv (key.Version v))
-  row_is v =
-      cell_other area.Paxos key.LastCommitted _ valued area.Kv (key.Version v) refl ∙ value_version a b next_inc x recorded v
-      ∙ ap (cond (eqb v next_inc) (Some x)) (cell_other area.Paxos (key.Version next) (text ops) m area.Kv (key.Version v) refl)
-
-  row : AreFrom (cell learned area.Kv) 0 (incs log ++ x ∷ [])
-  row v i e lt = row_is v ∙ by (cases_eq i (length (incs log)))
-    where
-      by : (i ≡ length (incs log)) ⊎ (i ≡ length (incs log) → ⊥) → cond (eqb v next_inc) (Some x) (cell m area.Kv (key.Version v)) ≡ Some (get_or (incs log ++ x ∷ []) i [])
-      by (inl at) = rw (eq-eqb v next_inc (omega arith)) (ap Some (sym (get_or-append_seam (incs log) x [] []) ∙ ap (λ w. get_or (incs log ++ x ∷ []) w []) (sym at)))
-      by (inr ne) =
-          let old : i < length (incs log) = omega (arith, length_push (incs log) x) in
-          rw (ne_eqb v next_inc (λ q. ne (omega arith))) (h.row v i e old ∙ ap Some (sym (get_or_append_left (incs log) (x ∷ []) [] i old)))
+      shared_is learned (suc c) last_number
+      ∙ lost_put valued (is_shared (suc c)) (place area.Paxos key.LastCommitted) _ (ap not (local_named (suc c) area.Paxos key.LastCommitted))
+      ∙ shared_apply recorded (suc c) own m
+      ∙ (λ i. apply (put area.Paxos (key.Version (suc c)) (entry more (suc c)) ∷ sym reads_entry i) (shared_before i))
+      ∙ ap (fold more) (sym length_more)
 
   pub holds_learned : Holds more learned
   holds_learned = record {
     last = last_number ∙ sym length_more;
-    fits = omega (arith, length_more);
-    unmarked =
-        cell_other area.Paxos key.LastCommitted _ valued area.Sync key.InSync refl ∙ value_other a b next_inc x recorded area.Sync key.InSync refl refl refl refl
-        ∙ cell_other area.Paxos (key.Version next) (text ops) m area.Sync key.InSync refl ∙ h.unmarked;
-    records = records;
+    fits = fits_more;
+    unmarked = unmarked;
+    settled = settled;
     beyond = beyond;
     folded = folded;
-    row_last = row_last;
-    row = subst (AreFrom (cell learned area.Kv) 0) (sym incs_more) row;
-    readable = subst (AllByRecursion IsInc) (sym incs_more) (all_append IsInc (incs log) (x ∷ []) h.readable (is_inc, tt));
+    values = values_more;
   }
 
+  -- the record of the new version
+  pub new_record : cell learned area.Paxos (key.Version (suc c)) ≡ Some (text ops)
+  unfolding view
+  new_record = keeps_new.records (suc c) (omega arith) ∙ here ∙ ap Some (entry_push log (text ops))
+    where
+      keeps_new : Keeps more (suc c) (view learned)
+      keeps_new = subst (λ (n : ℕ). Keeps more n (view learned)) length_more (keeps_log more learned holds_learned)
+
+      here : cond (within (log_from (suc c)) (suc (suc c)) (suc c)) (Some (entry more (suc c))) None ≡ Some (entry more (suc c))
+      here = rw (le-leb (log_from (suc c)) (suc c) (log_high (suc c) (omega arith)), lt-ltb (suc c) (suc (suc c)) (omega arith)) refl
+
   -- the transaction that learns it
-  pub learns : apply (joined (spelled (Learn next ops ∷ Last next ∷ []))) m ≡ learned
-  learns = apply-joined (spelled (Learn next ops ∷ Last next ∷ [])) m ∙ apply-append ops (put_number area.Paxos key.LastCommitted next ∷ []) recorded
+  pub learns : apply (joined (spelled (Learn (suc c) ops ∷ Last (suc c) ∷ []))) m ≡ learned
+  learns =
+      apply-joined (spelled (Learn (suc c) ops ∷ Last (suc c) ∷ [])) m
+      ∙ apply-append ops (put_number area.Paxos key.LastCommitted (suc c) ∷ []) (apply_op (put area.Paxos (key.Version (suc c)) (text ops)) m)
+      ∙ ap (λ (bytes : List ℕ). apply_op (put_number area.Paxos key.LastCommitted (suc c)) (apply (put area.Paxos (key.Version (suc c)) bytes ∷ ops) m)) (sym (entry_push log (text ops)))

@@ -12,7 +12,7 @@ use Rattle.mon_tx.specs.Decision.{Cell}
 use Rattle.mon_tx.specs.Keys.{place, cell, number, is_local, shared, same_area, same_key}
 use Rattle.mon_tx.proofs.Places.{places_total, exact_places, is_equal}
 use Rattle.mon_tx.proofs.Ties.{place_tie}
-use Rattle.mon_msg.specs.Changes.{put}
+use Rattle.mon_msg.specs.Puts.{put}
 
 pub cell_put : (a : Area) (n : Key) (x : List ℕ) (m : Store) (b : Area) (k : Key) → cell (apply_op (put a n x) m) b k ≡ cond (same_area b a && same_key k n) (Some x) (cell m b k)
 cell_put a n x m b k = get-insert places_total m (place a n) x (place b k) ∙ ap (λ t. cond t (Some x) (cell m b k)) (place_tie b a k n)
@@ -26,7 +26,7 @@ cell_same a n x m b k e = cell_put a n x m b k ∙ ap (λ t. cond t (Some x) (ce
 
 -- ---- some places alone
 
-same_place : (p q : Place) → eq_by_cmp place_cmp p q ≡ true → p ≡ q
+pub same_place : (p q : Place) → eq_by_cmp place_cmp p q ≡ true → p ≡ q
 same_place p q e = exact_places p q (is_equal (place_cmp p q) e)
 
 pub get_kept : (m : Store) (stays : Place → Bool) (q : Place) → get (retain_keys m stays) q ≡ cond (stays q) (get m q) None

@@ -1,5 +1,5 @@
 -- An event that changes the monitor's own numbers alone, and acknowledges nothing.
-use Rattle.std.proofs.Common.{◌≡◌, ℕ, suc, ◌-◌, cond, eqb, List, [], ◌∷◌, ◌++◌, length, Option, Some, None, refl, sym, ap, subst, ◌∙◌, append-nil, arith}
+use Rattle.std.proofs.Common.{◌≡◌, ℕ, suc, ◌-◌, Bool, true, false, cond, eqb, List, [], ◌∷◌, ◌++◌, length, Option, Some, None, refl, sym, ap, subst, ◌∙◌, append-nil, arith}
 use Rattle.std.specs.List.{AllByRecursion}
 use Rattle.mon_tx.specs.declared.op.Op.{Op}
 use Rattle.mon_tx.specs.declared.key.Area.TheVariants as area
@@ -7,25 +7,29 @@ use Rattle.mon_tx.specs.declared.key.Key.TheVariants as key
 use Rattle.mon_tx.specs.Map.{Store, apply, number_in}
 use Rattle.mon_tx.specs.Keys.{cell}
 use Rattle.mon_tx.specs.Decision.{Cell}
+use Rattle.mon_msg.specs.declared.plan.Sent.{Sent}
+use Rattle.mon_msg.specs.declared.plan.Sent.TheVariants as sent
 use Rattle.mon_msg.specs.declared.reply.Reply.{Reply}
 use Rattle.mon_msg.specs.declared.reply.Reply.TheVariants as reply
-use Rattle.mon_msg.specs.declared.reply.ShownMap.TheVariants as shown
 use Rattle.mon_msg.specs.declared.request.Service.{Service}
-use Rattle.mon_msg.specs.declared.request.Service.TheVariants as service
 use Rattle.mon_msg.specs.declared.request.Session.{Session}
-use Rattle.mon_msg.specs.declared.reaction.Sent.{Sent}
-use Rattle.mon_msg.specs.declared.reaction.Sent.TheVariants as sent
-use Rattle.mon_msg.specs.declared.reaction.Volatile.{Volatile}
-use Rattle.mon_msg.specs.Changes.{Change, spelled}
 use Rattle.mon_msg.specs.Joined.{joined}
-use Rattle.mon_msg.specs.Fold.{kv_of_log, version_of_log}
-use Rattle.quorum_model.specs.World.{World, Asked, Acknowledged, Replied, last_of, records_after, grown, acknowledged_by, all_acknowledged, all_replied}
-use Rattle.quorum_model.specs.Safe.{Among, AcknowledgedOnce, DoneIsAnswered, ShowsLog}
+use Rattle.mon_msg.specs.Fold.{incrementals, map_of_log, version_of_log}
+use Rattle.mon_msg.specs.Protocol.Changes.{Change, spelled}
+use Rattle.mon_msg.specs.Protocol.Reaction.{Reaction}
+use Rattle.mon_msg.specs.Protocol.View.{view, epoch_of}
 use Rattle.mon_msg.proofs.Joining.{apply-joined}
+use Rattle.quorum_model.specs.Clients.{made_by_event, with_asked, letters_in, acknowledged_by, all_acknowledged, all_replied}
+use Rattle.quorum_model.specs.Growth.{last_of, records_after, grown}
+use Rattle.quorum_model.specs.Happens.{leads, moved}
+use Rattle.quorum_model.specs.World.{World, Event, Client, Asked, Acknowledged, Replied}
+use Rattle.quorum_model.specs.Safe.{Among, AcknowledgedOnce, DoneIsAnswered, AreAfter, ShowsLog}
+use Rattle.quorum_model.proofs.Lists.{among_front}
 use Rattle.quorum_model.proofs.Logs.{Fronts, fronts_itself}
-use Rattle.quorum_model.proofs.Own.{IsOwn, same_changes}
+use Rattle.quorum_model.proofs.Own.{IsOwn, Same, same_changes}
 use Rattle.quorum_model.proofs.Holds.{Holds, number_none, still_holds}
 use Rattle.quorum_model.proofs.Invariant.{IsReply, Inv}
+use Rattle.quorum_model.proofs.Waiting.{Waits}
 use Rattle.quorum_model.proofs.Step.{after, IsNewAck, IsNewReply, keeps}
 
 -- ---- the log
@@ -40,87 +44,114 @@ grown_by log m count unmarked e =
 grown_not : (log : List (List ℕ)) (m : Store) → Holds log m → grown log m ≡ log
 grown_not log m h = grown_by log m 0 h.unmarked (let e = h.last in omega arith) ∙ append-nil log
 
+-- ---- what is asked, and who is active
+
+pub asked_before : (e : Event) (a : Asked) (asked : List Asked) → Among a asked → Among a (with_asked e asked)
+asked_before (Client rank at session r) a asked h = among_front a asked _ h
+asked_before other a asked h = h
+
+pub first_rank : (b : Bool) (epoch : ℕ) → AllByRecursion (λ (p : ℕ × ℕ). p.1 ≡ 0) (cond b ((epoch, 0) ∷ []) [])
+first_rank true epoch = (refl, tt)
+first_rank false epoch = tt
+
 -- ---- the replies
 
--- a reply that tells of no new version, and shows the log's map
+-- a reply that tells of no new version, and shows the log's maps
 abbrev pub Tells : List (List ℕ) → Reply → Type 0
 Tells log (reply.Done v) = ⊥
-Tells log (reply.Shown service.Kv paxos version (shown.Kv map)) = (paxos ≡ length log) × (map ≡ kv_of_log log paxos) × (version ≡ version_of_log service.Kv log paxos)
-Tells log (reply.Shown s paxos version map) = ⊥
-Tells log (reply.Since s from incrementals more) = ⊥
+Tells log (reply.Shown s paxos version map) = (paxos ≡ length log) × (map ≡ map_of_log s log (length log)) × (version ≡ version_of_log s log (length log))
+Tells log (reply.Since s from told more) = AreAfter (incrementals s log (length log)) from told more
 Tells log other = Unit {0}
 
 abbrev pub IsTold : List (List ℕ) → Sent → Type 0
 IsTold log (sent.Reply to r) = Tells log r
+IsTold log (sent.Message to m) = ⊥
 
 no_ack : (event pn epoch : ℕ) (made : Option (Service × List ℕ)) (log : List (List ℕ)) (to : Session) (r : Reply) → Tells log r → acknowledged_by event pn epoch made (sent.Reply to r) ≡ []
 no_ack event pn epoch made log to (reply.Done v) h = absurd h
 no_ack event pn epoch None log to other h = refl
 no_ack event pn epoch (Some made) log to other h = refl
 
-no_acks : (event pn epoch : ℕ) (made : Option (Service × List ℕ)) (log : List (List ℕ)) (out : List Sent) → AllByRecursion (IsTold log) out → all_acknowledged event pn epoch made out ≡ []
+no_acks : (event pn epoch : ℕ) (made : Option (Service × List ℕ)) (log : List (List ℕ)) (sends : List Sent) → AllByRecursion (IsTold log) sends → all_acknowledged event pn epoch made sends ≡ []
 no_acks event pn epoch made log [] h = refl
-no_acks event pn epoch made log (sent.Reply to r ∷ out) h = λ i. no_ack event pn epoch made log to r h.0 i ++ no_acks event pn epoch made log out h.1 i
+no_acks event pn epoch made log (sent.Reply to r ∷ sends) h = λ i. no_ack event pn epoch made log to r h.0 i ++ no_acks event pn epoch made log sends h.1 i
+no_acks event pn epoch made log (sent.Message to m ∷ sends) h = absurd h.0
+
+no_letters : (log : List (List ℕ)) (sends : List Sent) → AllByRecursion (IsTold log) sends → letters_in sends ≡ []
+no_letters log [] h = refl
+no_letters log (sent.Reply to r ∷ sends) h = no_letters log sends h.1
+no_letters log (sent.Message to m ∷ sends) h = absurd h.0
+
+where_leading : (b : Bool) (acks : List Acknowledged) → acks ≡ [] → cond b acks [] ≡ []
+where_leading true acks e = e
+where_leading false acks e = refl
 
 not_done : (w : World) (r : Replied) (y : Reply) → Tells w.log y → DoneIsAnswered w r y
 not_done w r (reply.Done v) h = absurd h
 not_done w r other h = tt
 
 shows_log : (w : World) (r : Replied) (y : Reply) → Tells w.log y → r.last ≡ length w.log → ShowsLog w r y
-shows_log w r (reply.Done v) h e = tt
-shows_log w r (reply.Shown service.Kv paxos version (shown.Kv map)) h e = (h.0 ∙ sym e, h.1, h.2)
-shows_log w r (reply.Shown service.Kv paxos version (shown.Log map)) h e = absurd h
-shows_log w r (reply.Shown service.Log paxos version map) h e = absurd h
-shows_log w r (reply.Since s from incrementals more) h e = absurd h
+shows_log w r (reply.Shown s paxos version map) h e = subst (λ (c : ℕ). (paxos ≡ c) × (map ≡ map_of_log s w.log c) × (version ≡ version_of_log s w.log c)) (sym e) h
+shows_log w r (reply.Since s from told more) h e = subst (λ (c : ℕ). AreAfter (incrementals s w.log c) from told more) (sym e) h
 shows_log w r other h e = tt
 
-are_replies : (new : World) (rank epoch last : ℕ) (out : List Sent) → last ≡ length new.log → AllByRecursion (IsTold new.log) out → AllByRecursion (IsNewReply new) (all_replied new.events rank epoch last out)
+are_replies : (new : World) (rank epoch last : ℕ) (sends : List Sent) → last ≡ length new.log → AllByRecursion (IsTold new.log) sends → AllByRecursion (IsNewReply new) (all_replied new.events rank epoch last sends)
 are_replies new rank epoch last [] e h = tt
-are_replies new rank epoch last (sent.Reply to y ∷ out) e h = ((reply_is, refl, e), are_replies new rank epoch last out e h.1)
+are_replies new rank epoch last (sent.Reply to y ∷ sends) e h = ((reply_is, refl, e), are_replies new rank epoch last sends e h.1)
   where
     r : Replied
     r = record { event = new.events; rank = rank; epoch = epoch; last = last; session = to; reply = y }
 
     reply_is : IsReply new r
     reply_is = record { event = omega arith; last = omega arith; answered = not_done new r y h.0; shows = shows_log new r y h.0 e }
+are_replies new rank epoch last (sent.Message to m ∷ sends) e h = absurd h.0
 
 -- ---- the event
 
-module _ (w : World) (inv : Inv w) (cs : List Change) (vol : Volatile) (out : List Sent) (asked : List Asked) (epoch : ℕ) (made : Option (Service × List ℕ)) (active : List (ℕ × ℕ))
-    (own : AllByRecursion IsOwn cs) (told : AllByRecursion (IsTold w.log) out) (asks : (a : Asked) → Among a w.asked → Among a asked) (rank_0 : AllByRecursion (λ (p : ℕ × ℕ). p.1 ≡ 0) active) where
-  abbrev tx : List Op
-  tx = joined (spelled cs)
-
+module _ (w : World) (inv : Inv w) (e : Event) (r : Reaction) (cs : List Change) (own : AllByRecursion IsOwn cs) (is : r.transaction ≡ joined (spelled cs))
+    (told : AllByRecursion (IsTold w.log) r.sends) (waits : Waits r.state) where
   abbrev m : Store
-  m = apply tx (w.store 0)
+  m = apply r.transaction (w.store 0)
+
+  abbrev epoch : ℕ
+  epoch = epoch_of (view m)
 
   abbrev acks : List Acknowledged
-  acks = all_acknowledged (suc w.events) vol.pn epoch made out
+  acks = cond (leads r.state.phase) (all_acknowledged (suc w.events) r.state.leader.pn epoch (made_by_event e) r.sends) []
 
   abbrev replies : List Replied
-  replies = all_replied (suc w.events) 0 epoch (last_of m) out
+  replies = all_replied (suc w.events) 0 epoch (last_of m) r.sends
 
-  abbrev pub calm : World
-  calm = after w m vol tx (grown w.log m) asked acks replies active
+  abbrev active : List (ℕ × ℕ)
+  active = cond (leads r.state.phase) ((epoch, 0) ∷ []) []
+
+  abbrev calm : World
+  calm = after w m r.state r.transaction (letters_in r.sends) (grown w.log m) (with_asked e w.asked) acks replies active
+
+  same : Same (w.store 0) m
+  same = subst (Same (w.store 0)) (sym (ap (λ (tx : List Op). apply tx (w.store 0)) is ∙ apply-joined (spelled cs) (w.store 0))) (same_changes cs (w.store 0) own)
 
   holds : Holds w.log m
-  holds = subst (Holds w.log) (sym (apply-joined (spelled cs) (w.store 0))) (still_holds w.log (w.store 0) _ inv.holds (same_changes cs (w.store 0) own))
+  holds = still_holds w.log (w.store 0) m inv.holds same
 
   same_log : w.log ≡ grown w.log m
   same_log = sym (grown_not w.log m holds)
 
   none : acks ≡ []
-  none = no_acks (suc w.events) vol.pn epoch made w.log out told
+  none = where_leading (leads r.state.phase) _ (no_acks (suc w.events) r.state.leader.pn epoch (made_by_event e) w.log r.sends told)
 
-  pub calm_keeps : Inv calm
-  calm_keeps = keeps w inv m vol tx (grown w.log m) asked acks replies active (record {
+  pub calm_keeps : Inv (moved w e 0 r)
+  unfolding moved
+  calm_keeps = keeps w inv m r.state r.transaction (letters_in r.sends) (grown w.log m) (with_asked e w.asked) acks replies active (record {
     stored = refl;
     holds = subst (λ (l : List (List ℕ)). Holds l m) same_log holds;
     fronts = subst (Fronts w.log) same_log (fronts_itself w.log);
-    asks = asks;
+    asks = λ a h. asked_before e a w.asked h;
     values = λ v low high. absurd (omega (arith, ap length same_log));
     acknowledges = subst (AllByRecursion (IsNewAck calm)) (sym none) tt;
     once = subst (λ (more : List Acknowledged). AcknowledgedOnce (w.acknowledged ++ more)) (sym none) (subst AcknowledgedOnce (sym (append-nil w.acknowledged)) inv.once);
-    answers = are_replies calm 0 epoch (last_of m) out (holds.last ∙ ap length same_log) (subst (λ (l : List (List ℕ)). AllByRecursion (IsTold l) out) same_log told);
-    leads = rank_0;
+    answers = are_replies calm 0 epoch (last_of m) r.sends (holds.last ∙ ap length same_log) (subst (λ (l : List (List ℕ)). AllByRecursion (IsTold l) r.sends) same_log told);
+    leaders = first_rank (leads r.state.phase) epoch;
+    silent = no_letters w.log r.sends told;
+    waits = waits;
   })

@@ -7,21 +7,24 @@ use Rattle.mon_tx.specs.declared.op.Op.{Op}
 use Rattle.mon_tx.specs.Map.{Store, apply}
 use Rattle.mon_msg.specs.declared.reply.Reply.{Reply}
 use Rattle.mon_msg.specs.declared.reply.Reply.TheVariants as reply
-use Rattle.mon_msg.specs.declared.reaction.Volatile.{Volatile}
-use Rattle.quorum_model.specs.World.{World, Asked, Acknowledged, Replied, put_at}
+use Rattle.mon_msg.specs.Protocol.State.{State}
+use Rattle.quorum_model.specs.Happens.{put_at}
+use Rattle.quorum_model.specs.World.{World, Letter, Asked, Acknowledged, Replied}
 use Rattle.quorum_model.specs.Safe.{Among, IsAsked, AcknowledgedOnce, IsFenced, Fence, after_transactions}
 use Rattle.quorum_model.proofs.Lists.{all_map, all_append, all_both, among_front}
 use Rattle.quorum_model.proofs.Logs.{Fronts}
 use Rattle.quorum_model.proofs.Holds.{Holds}
+use Rattle.quorum_model.proofs.Waiting.{Waits}
 use Rattle.quorum_model.proofs.Invariant.{IsAck, IsReply, Inv, Grown, ack_stays, reply_stays, value_stays}
 
-module _ (w : World) (m : Store) (vol : Volatile) (tx : List Op) (log : List (List ℕ)) (asked : List Asked) (acks : List Acknowledged) (replies : List Replied) (active : List (ℕ × ℕ)) where
+module _ (w : World) (m : Store) (s : State) (tx : List Op) (letters : List Letter) (log : List (List ℕ)) (asked : List Asked) (acks : List Acknowledged) (replies : List Replied) (active : List (ℕ × ℕ)) where
   -- the world after the monitor did that
   abbrev pub after : World
   after = record {
     store = put_at w.store 0 m;
-    volatile = put_at w.volatile 0 (Some vol);
+    state = put_at w.state 0 (Some s);
     kept = put_at w.kept 0 (w.kept 0 ++ tx ∷ []);
+    letters = w.letters ++ letters;
     log = log;
     asked = asked;
     acknowledged = w.acknowledged ++ acks;
@@ -37,16 +40,18 @@ IsNewAck new a = IsAck new a × (a.event ≡ new.events)
 abbrev pub IsNewReply : World → Replied → Type 0
 IsNewReply new r = IsReply new r × (r.event ≡ new.events) × (r.last ≡ length new.log)
 
-pub record Does (w : World) (m : Store) (vol : Volatile) (tx : List Op) (log : List (List ℕ)) (asked : List Asked) (acks : List Acknowledged) (replies : List Replied) (active : List (ℕ × ℕ)) : Type 0 where
+pub record Does (w : World) (m : Store) (s : State) (tx : List Op) (letters : List Letter) (log : List (List ℕ)) (asked : List Asked) (acks : List Acknowledged) (replies : List Replied) (active : List (ℕ × ℕ)) : Type 0 where
   pub stored : m ≡ apply tx (w.store 0)
   pub holds : Holds log m
   pub fronts : Fronts w.log log
   pub asks : (a : Asked) → Among a w.asked → Among a asked
-  pub values : (v : ℕ) → length w.log ≤ v → v < length log → IsAsked (after w m vol tx log asked acks replies active) v
-  pub acknowledges : AllByRecursion (IsNewAck (after w m vol tx log asked acks replies active)) acks
+  pub values : (v : ℕ) → length w.log ≤ v → v < length log → IsAsked (after w m s tx letters log asked acks replies active) v
+  pub acknowledges : AllByRecursion (IsNewAck (after w m s tx letters log asked acks replies active)) acks
   pub once : AcknowledgedOnce (w.acknowledged ++ acks)
-  pub answers : AllByRecursion (IsNewReply (after w m vol tx log asked acks replies active)) replies
-  pub leads : AllByRecursion (λ (p : ℕ × ℕ). p.1 ≡ 0) active
+  pub answers : AllByRecursion (IsNewReply (after w m s tx letters log asked acks replies active)) replies
+  pub leaders : AllByRecursion (λ (p : ℕ × ℕ). p.1 ≡ 0) active
+  pub silent : letters ≡ []
+  pub waits : Waits s
 
 after_push : (txs : List (List Op)) (tx : List Op) (m : Store) → after_transactions (txs ++ tx ∷ []) m ≡ apply tx (after_transactions txs m)
 after_push [] tx m = refl
@@ -55,16 +60,18 @@ after_push (t ∷ txs) tx m = after_push txs tx (apply t m)
 -- a version that the reply's monitor had, or an event that isn't earlier
 fenced_by_last : (a : Acknowledged) (r : Replied) (y : Reply) → a.version ≤ r.last → IsFenced a r y
 fenced_by_last a r (reply.Shown s paxos version map) h = λ lt e. h
+fenced_by_last a r (reply.Since s from told more) h = λ lt e. h
 fenced_by_last a r other h = tt
 
 fenced_by_event : (a : Acknowledged) (r : Replied) (y : Reply) → r.event ≤ a.event → IsFenced a r y
 fenced_by_event a r (reply.Shown s paxos version map) h = λ lt e. absurd (omega arith)
+fenced_by_event a r (reply.Since s from told more) h = λ lt e. absurd (omega arith)
 fenced_by_event a r other h = tt
 
-module _ (w : World) (inv : Inv w) (m : Store) (vol : Volatile) (tx : List Op) (log : List (List ℕ)) (asked : List Asked) (acks : List Acknowledged) (replies : List Replied) (active : List (ℕ × ℕ))
-    (does : Does w m vol tx log asked acks replies active) where
+module _ (w : World) (inv : Inv w) (m : Store) (s : State) (tx : List Op) (letters : List Letter) (log : List (List ℕ)) (asked : List Asked) (acks : List Acknowledged) (replies : List Replied) (active : List (ℕ × ℕ))
+    (does : Does w m s tx letters log asked acks replies active) where
   abbrev new : World
-  new = after w m vol tx log asked acks replies active
+  new = after w m s tx letters log asked acks replies active
 
   grown : Grown w new
   grown = record {
@@ -112,6 +119,8 @@ module _ (w : World) (inv : Inv w) (m : Store) (vol : Volatile) (tx : List Op) (
     once = does.once;
     replied = all_append (IsReply new) w.replied replies (all_map (IsReply w) (IsReply new) (reply_stays w new grown) w.replied inv.replied) (all_map (IsNewReply new) (IsReply new) (λ r h. h.0) replies does.answers);
     fence = fence;
-    active = all_append (λ (p : ℕ × ℕ). p.1 ≡ 0) w.active active inv.active does.leads;
+    active = all_append (λ (p : ℕ × ℕ). p.1 ≡ 0) w.active active inv.active does.leaders;
     held = does.stored ∙ ap (apply tx) inv.held ∙ sym (after_push (w.kept 0) tx empty);
+    silent = λ i. inv.silent i ++ does.silent i;
+    waits = does.waits;
   }

@@ -1,4 +1,4 @@
--- The value of a command: its text, what it puts, and what it leaves at the named keys.
+-- The value of an early set: its text, what it puts, and what it leaves at the named keys.
 use Rattle.std.proofs.Common.{◌≡◌, ℕ, ◌<◌, ◌≤◌, ◌^◌, Bool, true, false, cond, ◌&&◌, eqb, List, [], ◌∷◌, ◌++◌, length, Some, refl, ap, ◌∙◌, arith, length-append}
 use Rattle.std.proofs.lemmas.Bool.{and_parts, leb-true}
 use Rattle.std.specs.List.{AllByRecursion}
@@ -17,9 +17,8 @@ use Rattle.mon_tx.specs.Decode.{OpFits, HasText}
 use Rattle.mon_tx.proofs.Decimals.{decimal_word, word_name}
 use Rattle.mon_tx.proofs.Ranges.{decimal_is_decimal}
 use Rattle.mon_msg.specs.declared.request.Service.TheVariants as service
-use Rattle.mon_msg.proofs.Played.{apply-append}
-use Rattle.mon_msg.specs.Changes.{put, put_number}
-use Rattle.mon_msg.specs.Service.{value}
+use Rattle.mon_msg.proofs.Afterwards.{apply-append}
+use Rattle.mon_msg.specs.Puts.{put, put_number}
 use Rattle.mon_msg.specs.Fold.{put_in}
 use Rattle.quorum_model.proofs.Places.{cell_put, cell_other, cell_same, kept_put}
 
@@ -32,10 +31,6 @@ service_begins begins = cond begins (put_number area.Kv key.FirstCommitted 1 ∷
 
 abbrev pub written : Bool → Bool → ℕ → List ℕ → List Op
 written a b n x = log_begins a ++ (put area.Kv (key.Version n) x ∷ service_begins b) ++ put_number area.Kv key.LastCommitted n ∷ []
-
-pub value_is : (last n : ℕ) (x : List ℕ) → value last service.Kv n x ≡ written (eqb last 0) (eqb n 1) n x
-unfolding value
-value_is last n x = refl
 
 -- ---- its text
 

@@ -1,3 +1,12 @@
+pub mod Alone
+pub mod Clients
 pub mod Events
+pub mod Few
+pub mod Growth
+pub mod Happens
+pub mod LogOfValues
+pub mod Monitors
 pub mod Safe
+pub mod Windows
 pub mod World
+pub mod Written

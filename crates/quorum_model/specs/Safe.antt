@@ -1,24 +1,25 @@
 -- What holds in every run: no two monitors disagree, nothing acknowledged is lost, and what is shown is the log's.
-use Rattle.std.specs.Prelude.{◌≡◌, ℕ, zero, suc, ◌<◌, ◌≤◌, ◌-◌, max, ◌⊎◌, true, List, [], ◌∷◌, length, Option, Some, None}
+use Rattle.std.specs.Prelude.{◌≡◌, ℕ, suc, ◌+◌, ◌<◌, ◌≤◌, max, ◌⊎◌, ◌↔◌, Bool, true, IsTrue, List, [], ◌∷◌, length, take, drop, Option, Some, None, Ok}
 use Rattle.std.specs.FinMap.{empty}
 use Rattle.std.specs.List.{AllByRecursion}
+use Rattle.mon_bytes.specs.declared.command.Command.{Command}
 use Rattle.mon_tx.specs.declared.op.Op.{Op}
 use Rattle.mon_tx.specs.declared.key.Area.TheVariants as area
 use Rattle.mon_tx.specs.declared.key.Key.TheVariants as key
-use Rattle.mon_tx.specs.Map.{Store, apply, apply_op}
+use Rattle.mon_tx.specs.Map.{Store, apply}
 use Rattle.mon_tx.specs.Keys.{cell, number, shared}
 use Rattle.mon_tx.specs.Text.{text}
 use Rattle.mon_tx.specs.Decode.{ops_in}
+use Rattle.mon_msg.specs.Fold.{entry, fold, put_in, incrementals, map_of_log, version_of_log}
+use Rattle.mon_msg.specs.Protocol.State.{State}
+use Rattle.mon_msg.specs.Protocol.Value.{value}
 use Rattle.mon_msg.specs.declared.reply.Reply.{Reply}
 use Rattle.mon_msg.specs.declared.reply.Reply.TheVariants as reply
-use Rattle.mon_msg.specs.declared.reply.ShownMap.TheVariants as shown
-use Rattle.mon_msg.specs.declared.request.Service.TheVariants as service
-use Rattle.mon_msg.specs.declared.reaction.Volatile.{Volatile}
-use Rattle.mon_msg.specs.View.{View, view}
-use Rattle.mon_msg.specs.Changes.{put_number}
-use Rattle.mon_msg.specs.Service.{service_last, value}
-use Rattle.mon_msg.specs.Fold.{entry, fold, put_in, kv_of_log, version_of_log}
-use Rattle.quorum_model.specs.World.{World, Asked, Acknowledged, Replied, last_of, is_marked, leads, made_by}
+use Rattle.quorum_model.specs.Clients.{command_of, made_by}
+use Rattle.quorum_model.specs.Growth.{last_of, is_marked}
+use Rattle.quorum_model.specs.Happens.{leads}
+use Rattle.quorum_model.specs.LogOfValues.{view_at}
+use Rattle.quorum_model.specs.World.{World, Asked, Acknowledged, Replied}
 
 abbrev pub Among : {A : Type 0} → A → List A → Type 0
 Among x [] = ⊥
@@ -32,17 +33,15 @@ pub record Agrees (log : List (List ℕ)) (m : Store) : Type 0 where
   pub records : (v : ℕ) → max 1 (number m area.Paxos key.FirstCommitted) ≤ v → v ≤ last_of m → cell m area.Paxos (key.Version v) ≡ Some (entry log v)
   pub folded : shared m ≡ fold log (last_of m)
 
--- what a store tells where the versions of a log up to v are committed
-abbrev pub view_at : List (List ℕ) → ℕ → View
-view_at log v = view (apply_op (put_number area.Paxos key.LastCommitted v) (fold log v))
-
 -- version v + 1 of the log spells the value of a command that a client asked, over the versions before it
 pub record IsAsked (w : World) (v : ℕ) : Type 0 where
   pub by : Asked
   pub asked : Among by w.asked
-  pub incremental : List ℕ
-  pub made : made_by by.request ≡ Some (service.Kv, incremental)
-  pub spells : entry w.log (suc v) ≡ text (value (view_at w.log v).last service.Kv (suc (service_last (view_at w.log v) service.Kv)) incremental)
+  pub command : Command
+  pub is : command_of by.request ≡ Some command
+  pub ops : List Op
+  pub made : value (view_at w.log v) command by.rank ≡ Ok ops
+  pub spells : entry w.log (suc v) ≡ text ops
 
 pub record Agree (n : ℕ) (w : World) : Type 0 where
   pub monitors : (i : ℕ) → i < n → ¬ (is_marked (w.store i) ≡ true) → Agrees w.log (w.store i)
@@ -51,15 +50,15 @@ pub record Agree (n : ℕ) (w : World) : Type 0 where
 -- ---- what was acknowledged is kept
 
 -- an active leader with a number of at least the acknowledged one has the version
-abbrev pub LeaderHas : Acknowledged → Option Volatile → Store → Type 0
+abbrev pub LeaderHas : Acknowledged → Option State → Store → Type 0
 LeaderHas a None m = Unit {0}
-LeaderHas a (Some vol) m = leads vol.phase ≡ true → a.pn ≤ vol.pn → a.version ≤ last_of m
+LeaderHas a (Some s) m = leads s.phase ≡ true → a.pn ≤ s.leader.pn → a.version ≤ last_of m
 
 pub record IsKept (n : ℕ) (w : World) (a : Acknowledged) : Type 0 where
   pub some : 1 ≤ a.version
   pub within : a.version ≤ length w.log
   pub put : Among a.incremental (put_in a.service (ops_in (entry w.log a.version)))
-  pub leaders : (i : ℕ) → i < n → LeaderHas a (w.volatile i) (w.store i)
+  pub leaders : (i : ℕ) → i < n → LeaderHas a (w.state i) (w.store i)
 
 -- no version is acknowledged twice
 abbrev pub AcknowledgedOnce : List Acknowledged → Type 0
@@ -76,7 +75,7 @@ pub record IsAnswered (w : World) (r : Replied) (v : ℕ) : Type 0 where
   pub was_asked : Among asked w.asked
   pub rank : asked.rank ≡ r.rank
   pub session : asked.session ≡ r.session
-  pub made : made_by asked.request ≡ Some (acknowledged.service, acknowledged.incremental)
+  pub made : made_by asked.rank asked.request ≡ Some (acknowledged.service, acknowledged.incremental)
 
 abbrev pub DoneIsAnswered : World → Replied → Reply → Type 0
 DoneIsAnswered w r (reply.Done v) = IsAnswered w r v
@@ -89,12 +88,16 @@ pub record Kept (n : ℕ) (w : World) : Type 0 where
 
 -- ---- what is shown is the log's
 
--- the map is that of the log up to the monitor's last version; so far only the key-value map is shown, and no incrementals are
+-- these are the incrementals after the first `from` ones, and `more` tells whether others follow
+pub record AreAfter (all : List (List ℕ)) (from : ℕ) (told : List (List ℕ)) (more : Bool) : Type 0 where
+  pub same : told ≡ take (length told) (drop from all)
+  pub others : IsTrue more ↔ from + length told < length all
+
+-- a map is that of the log up to the monitor's last version, and so are the incrementals
 abbrev pub ShowsLog : World → Replied → Reply → Type 0
-ShowsLog w r (reply.Shown service.Kv paxos version (shown.Kv map)) =
-    (paxos ≡ r.last) × (map ≡ kv_of_log w.log paxos) × (version ≡ version_of_log service.Kv w.log paxos)
-ShowsLog w r (reply.Shown s paxos version map) = ⊥
-ShowsLog w r (reply.Since s from incrementals more) = ⊥
+ShowsLog w r (reply.Shown s paxos version map) =
+    (paxos ≡ r.last) × (map ≡ map_of_log s w.log r.last) × (version ≡ version_of_log s w.log r.last)
+ShowsLog w r (reply.Since s from told more) = AreAfter (incrementals s w.log r.last) from told more
 ShowsLog w r other = Unit {0}
 
 abbrev pub Shown : World → Type 0
@@ -118,9 +121,10 @@ OneActive w = (e r s : ℕ) → Among (e, r) w.active → Among (e, s) w.active 
 
 abbrev pub IsFenced : Acknowledged → Replied → Reply → Type 0
 IsFenced a r (reply.Shown s paxos version map) = a.event < r.event → a.epoch ≡ r.epoch → a.version ≤ r.last
+IsFenced a r (reply.Since s from told more) = a.event < r.event → a.epoch ≡ r.epoch → a.version ≤ r.last
 IsFenced a r other = Unit {0}
 
--- what is shown after an acknowledgement, in its epoch, has that version
+-- what is shown or told after an acknowledgement, in its epoch, has that version
 abbrev pub Fence : World → Type 0
 Fence w = AllByRecursion (λ a. AllByRecursion (λ r. IsFenced a r r.reply) w.replied) w.acknowledged
 

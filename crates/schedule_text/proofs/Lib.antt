@@ -1,5 +1,6 @@
 pub mod Steps
 pub mod Numerals
+pub mod Cuts
 pub mod FieldLaws
 pub mod RankLaws
 pub mod HeaderLaws

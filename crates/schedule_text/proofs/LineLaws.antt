@@ -17,7 +17,7 @@ use Rattle.schedule_text.specs.declared.refusal.ScheduleKind.TheVariants as kind
 use Rattle.schedule_text.specs.Words.{printable, service_text, side_text, timer_text}
 use Rattle.schedule_text.specs.Fields.{◌>>=◌, next, within, text_at}
 use Rattle.schedule_text.specs.Spelling.{spaced, request_text, plain_text, upset_text, event_text, request_fits, plain_fits, upset_fits, event_fits}
-use Rattle.schedule_text.specs.Lines.{set_at, remove_at, log_at, show_at, since_at, request_by, request_at, start_at, deliver_at, timer_at, client_at, plain_by, plain_at, upset_at, event_by, event_at}
+use Rattle.schedule_text.specs.Lines.{set_at, remove_at, log_at, show_at, since_at, request_by, request_at, start_at, deliver_at, timer_at, client_at, plain_by, plain_at, upset_at, event_by, fields_event, event_at}
 use Rattle.schedule_text.proofs.Steps.{bind_ok, ok_is, chosen_ok}
 use Rattle.schedule_text.proofs.FieldLaws.{list_all-append, joined, Reads, Reads-then, Reads-last, next_reads, IsWord, IsWord-printable, next_again, IsForm, number_form, upto_form, rank_form, name_form, service_form, side_form, timer_form, chosen_word, last_word, field_step, field_last, field_again, ended_takes, text_takes, text_again}
 
@@ -223,13 +223,17 @@ event_by_takes n line word after v small r e =
       ]
     ]
 
--- what is read from a line is spelled so, and is printable
+-- what the fields of a line say is spelled so, and is printable
+fields_take : (n : ℕ) (line : List ℕ) (v : Event) → n < 2 ^ 64 → fields_event n line ≡ Ok v → (line ≡ event_text v) × IsTrue (event_fits n v)
+fields_take n line v small e =
+    let a = bind_ok (next (Some line)) (λ word. event_by n word.0 word.1) v e in
+    event_by_takes n line a.0.0 a.0.1 v small (next_reads (Some line) a.0.1 a.0.0 a.1) a.2
+
+-- so is what is read from a line
 pub event_takes : (n : ℕ) (line : List ℕ) (v : Event) → n < 2 ^ 64 → event_at n line ≡ Ok v → (line ≡ event_text v) × IsTrue (event_fits n v)
 unfolding event_at
 event_takes n line v small e =
-    let g = chosen_ok (list_all printable line) kind.Word (next (Some line) >>= λ word. event_by n word.0 word.1) v e in
-    let a = bind_ok (next (Some line)) (λ word. event_by n word.0 word.1) v g.1 in
-    event_by_takes n line a.0.0 a.0.1 v small (next_reads (Some line) a.0.1 a.0.0 a.1) a.2
+    fields_take n line v small (chosen_ok (list_all printable line) kind.Word (fields_event n line) v e).1
 
 -- ---- what is spelled so is read
 
@@ -414,3 +418,9 @@ event_again n (event.Crash disk call image p) small fits =
     rw (printable_upset n disk call image p small fits, upset_again event.Crash n disk call image p small fits) refl
 event_again n (event.Fail disk call image p) small fits =
     rw (printable_upset n disk call image p small fits, upset_again event.Fail n disk call image p small fits) refl
+
+-- where the fields of a line say an event, each of its bytes is printable
+pub read_by_fields : (n : ℕ) (line : List ℕ) (v : Event) → n < 2 ^ 64 → fields_event n line ≡ Ok v → event_at n line ≡ Ok v
+read_by_fields n line v small e =
+    let taken = fields_take n line v small e in
+    ap (event_at n) taken.0 ∙ event_again n v small taken.1

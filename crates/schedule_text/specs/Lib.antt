@@ -4,4 +4,6 @@ pub mod Ranks
 pub mod Spelling
 pub mod Lines
 pub mod Schedule
+pub mod Kinds
+pub mod Sent
 pub mod Trace

@@ -116,12 +116,15 @@ event_by n word rest =
       plain ← plain_by n word rest
       Ok (event.Plain plain)))
 
+-- the event that the fields of a line spell
+abbrev pub fields_event : ℕ → List ℕ → Result Event ScheduleKind
+fields_event n line = do
+  word ← next (Some line)
+  event_by n word.0 word.1
+
 -- the event that a line spells; a byte that isn't printable is at fault before any field
 unfoldable pub event_at : ℕ → List ℕ → Result Event ScheduleKind
-event_at n line =
-    if list_all printable line then (do
-      word ← next (Some line)
-      event_by n word.0 word.1) else Err kind.Word
+event_at n line = if list_all printable line then fields_event n line else Err kind.Word
 
 -- What a call answered is what reading gives, unless memory ran out.
 abbrev pub Fails : {Y : Type 0} → LineRefused → Result Y ScheduleKind → Type 0

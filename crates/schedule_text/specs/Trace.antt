@@ -17,8 +17,9 @@ use Rattle.schedule_text.specs.declared.step.StateLine.{StateLine}
 use Rattle.schedule_text.specs.declared.step.Outcome.{Outcome}
 use Rattle.schedule_text.specs.declared.step.Outcome.TheVariants.{Ran, Down, NoMessage, Crashed, Failed}
 use Rattle.schedule_text.specs.declared.step.StepLine.{StepLine}
-use Rattle.schedule_text.specs.Words.{service_text}
+use Rattle.schedule_text.specs.Words.{flag_text, service_text}
 use Rattle.schedule_text.specs.Spelling.{event_text}
+use Rattle.schedule_text.specs.Sent.{sent_line}
 
 -- ---- a shown map, as JSON
 
@@ -67,10 +68,6 @@ phase_text Active = codes "active"
 phase_text Updating = codes "updating"
 phase_text Peon = codes "peon"
 
-abbrev pub flag_text : Bool → List ℕ
-flag_text false = codes "0"
-flag_text true = codes "1"
-
 -- so many incrementals of a service after a version, and whether there are more
 abbrev pub since_text : Service → ℕ → ℕ → Bool → List ℕ
 since_text service from count more =
@@ -114,7 +111,7 @@ outcome_lines (Crashed kept) lines = codes "  crashed " ++ (fate_text kept ++ 10
 outcome_lines (Failed kept) lines = codes "  failed " ++ (fate_text kept ++ 10 ∷ [])
 
 abbrev pub done_lines : StepLine → List ℕ
-done_lines step = outcome_lines step.outcome (store_lines step.ops ++ (state_lines step.state ++ flat_map reply_line step.replies))
+done_lines step = outcome_lines step.outcome (store_lines step.ops ++ (state_lines step.state ++ (flat_map sent_line step.sent ++ flat_map reply_line step.replies)))
 
 -- ---- the lines of an event, and the last line
 

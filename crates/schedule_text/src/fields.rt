@@ -9,6 +9,7 @@ ghost use Rattle.schedule_text.specs.Words.{printable, timer_text};
 
 use crate::refusal::{LineRefused, ScheduleKind};
 use crate::words::timer_word;
+use memchr::memchr;
 use mon_bytes::{Name, OutOfMemory, Text};
 use mon_msg::{Service, Timer};
 use mon_types::{GREATEST, Moment, Rank, Side, Version};
@@ -27,6 +28,18 @@ pub fn cut(separator: u8, bytes: &[u8]) -> (&[u8], Option<&[u8]>)
         }
     }
     (bytes, None)
+}
+
+/// The bytes up to the first line feed, and those after it.
+pub fn cut_line(bytes: &[u8]) -> (&[u8], Option<&[u8]>)
+    ensures first { result.0.now ≡ (cut 10 bytes.now).0 }
+    ensures rest { option_copied result.1 ≡ (cut 10 bytes.now).1 }
+    ensures shorter { IfSome result.1 (λ x. length x.now < length bytes.now) }
+{
+    match memchr(b'\n', bytes) {
+        Some(end) => (&bytes[..end], Some(&bytes[end + 1..])),
+        None => (bytes, None),
+    }
 }
 
 fn all_digits(field: &[u8]) -> bool
@@ -182,7 +195,12 @@ fn name_of(alloc: Global, field: &[u8]) -> Result<Name, LineRefused>
 pub fn all_printable(bytes: &[u8]) -> bool
     ensures { result ≡ list_all printable bytes.now }
 {
-    bytes.iter().all(|b| *b >= 32 && *b <= 126)
+    // Without a branch for each byte, so that many are tested at once.
+    let mut printable = true;
+    for b in bytes {
+        printable = printable & ((*b >= 32) & (*b <= 126));
+    }
+    printable
 }
 
 fn printable_text(alloc: Global, bytes: &[u8]) -> Result<Text, OutOfMemory>

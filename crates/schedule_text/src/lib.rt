@@ -12,6 +12,7 @@ mod ranks;
 mod reader;
 mod refusal;
 mod schedule;
+mod sent;
 mod shown;
 mod step;
 mod trace;
@@ -22,8 +23,12 @@ pub use printer::{header_line, print};
 pub use reader::parse;
 pub use refusal::{ScheduleKind, ScheduleRefused};
 pub use schedule::Schedule;
-pub use step::{Outcome, Replied, Replies, StateLine, StepLine};
+pub use step::{Numbered, Outcome, Replied, Replies, StateLine, StepLine};
 pub use trace::{end_line, trace_line};
 
+#[cfg(test)]
+mod message_tests;
+#[cfg(test)]
+mod refusal_tests;
 #[cfg(test)]
 mod tests;

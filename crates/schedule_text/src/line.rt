@@ -3,7 +3,7 @@
 ghost use Rattle.std.specs.Prelude.{◌≡◌, ◌≤◌};
 ghost use Rattle.schedule_text.specs.declared.event.Event.TheVariants as event;
 ghost use Rattle.schedule_text.specs.Fields.{Is};
-ghost use Rattle.schedule_text.specs.Lines.{start_at, deliver_at, timer_at, set_at, remove_at, log_at, show_at, since_at, request_by, request_at, client_at, plain_by, plain_at, upset_at, event_by, event_at, Gives};
+ghost use Rattle.schedule_text.specs.Lines.{start_at, deliver_at, timer_at, set_at, remove_at, log_at, show_at, since_at, request_by, request_at, client_at, plain_by, plain_at, upset_at, event_by, fields_event, event_at, Gives};
 
 use crate::event::{Event, Plain};
 use crate::fields::{Fields, all_printable};
@@ -225,16 +225,31 @@ fn event_by(
     Ok(Event::Plain(plain))
 }
 
+/// The event that the fields of the line spell.
+fn fields_event(alloc: Global, monitors: u8, line: &[u8]) -> Result<Event, LineRefused>
+    requires { monitors ≤ 15 }
+    ensures { Gives (λ y. y) result (fields_event monitors line.now) }
+{
+    let mut fields = Fields::new(line);
+    let word = fields.next()?;
+    event_by(alloc, monitors, word, &mut fields)
+}
+
 /// The event that the line spells, where there are so many monitors.
 #[tactic(auto, unfolding(crate::specs::Lines::event_at))]
 pub fn event_at(alloc: Global, monitors: u8, line: &[u8]) -> Result<Event, LineRefused>
     requires { monitors ≤ 15 }
     ensures { Gives (λ y. y) result (event_at monitors line.now) }
 {
-    if !all_printable(line) {
-        return Err(LineRefused::Kind(ScheduleKind::Word));
+    match fields_event(alloc, monitors, line) {
+        Ok(event) => Ok(event),
+        Err(LineRefused::Kind(kind)) => {
+            if all_printable(line) {
+                Err(LineRefused::Kind(kind))
+            } else {
+                Err(LineRefused::Kind(ScheduleKind::Word))
+            }
+        }
+        Err(LineRefused::OutOfMemory) => Err(LineRefused::OutOfMemory),
     }
-    let mut fields = Fields::new(line);
-    let word = fields.next()?;
-    event_by(alloc, monitors, word, &mut fields)
 }

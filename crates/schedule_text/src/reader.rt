@@ -4,7 +4,7 @@ ghost use Rattle.schedule_text.specs.Spelling.{HasText, schedule_text};
 ghost use Rattle.schedule_text.specs.Schedule.{lines_of, on_first_line, header_at, event_line_at, events_at, whole_at, schedule_at, Gives};
 
 use crate::event::{Event, Events};
-use crate::fields::cut;
+use crate::fields::cut_line;
 use crate::header::header_at;
 use crate::line::event_at;
 use crate::refusal::{LineRefused, ScheduleKind, ScheduleRefused};
@@ -50,7 +50,7 @@ fn events_of(alloc: Global, monitors: u8, body: &[u8]) -> Result<Events, Schedul
     let mut count: u32 = 0;
     let mut rest = body;
     loop {
-        let (line, after) = cut(10, rest);
+        let (line, after) = cut_line(rest);
         let Some(after) = after else {
             break;
         };
@@ -84,7 +84,7 @@ fn whole(alloc: Global, bytes: &[u8]) -> Result<Schedule, ScheduleRefused>
     if bytes.is_empty() {
         return Err(at(1, ScheduleKind::Header));
     }
-    let (first, body) = cut(10, bytes);
+    let (first, body) = cut_line(bytes);
     let Some(body) = body else {
         return Err(at(1, ScheduleKind::End));
     };

@@ -1,8 +1,16 @@
 use mon_bytes::OutOfMemory;
-use mon_msg::{Phase, Reply, Session};
+use mon_msg::{Items, Message, Phase, Reply, Session};
 use mon_types::{Epoch, Rank, Version};
 use std::alloc::Global;
 use std::marker::Model;
+
+/// A message to the monitor `to`, and its number among all that were sent, from 1 on.
+#[derive(Drop)]
+pub struct Numbered {
+    pub number: u64,
+    pub to: Rank,
+    pub message: Message,
+}
 
 /// A reply, the monitor that gave it, and whom it is for.
 #[derive(Drop)]
@@ -92,5 +100,7 @@ pub struct StepLine {
     pub ops: u32,
     /// Where the monitor stands now, where the event changed that or is a start.
     pub state: Option<StateLine>,
+    /// The messages that it sent to other monitors, in order.
+    pub sent: Items<Numbered>,
     pub replies: Replies,
 }

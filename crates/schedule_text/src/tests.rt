@@ -1,13 +1,13 @@
 use super::*;
 use map_kv::{KvInc, KvMap};
 use mon_bytes::{Name, Text};
-use mon_msg::{Phase, Reply, Service, Session, ShownMap};
+use mon_msg::{Items, Phase, Reply, Service, Session, ShownMap};
 use mon_types::{Epoch, Rank, Version};
 use std::alloc::{AllocError, Global};
 use std::test::Fail;
 
 /// The line at fault and what is wrong with it, where the text is refused.
-fn refused(alloc: Global, text: &[u8]) -> Option<(u32, ScheduleKind)> {
+pub(crate) fn refused(alloc: Global, text: &[u8]) -> Option<(u32, ScheduleKind)> {
     match parse(alloc, text) {
         Err(ScheduleRefused::At { line, kind }) => Some((line, kind)),
         _ => None,
@@ -252,6 +252,7 @@ fn replied(alloc: Global, ops: u32, last: Option<u64>, reply: Reply) -> Result<S
         outcome: Outcome::Ran,
         ops,
         state,
+        sent: Items::new(alloc),
         replies,
     })
 }

@@ -1,11 +1,12 @@
 ghost use Rattle.std.specs.Prelude.{◌≡◌, ◌<◌, ◌^◌, ◌++◌, string_bytes, IfOk, OnOk};
 ghost use Rattle.std.specs.List.{flat_map};
-ghost use Rattle.schedule_text.specs.Trace.{phase_text, flag_text, fate_text, since_text, reply_text, reply_line, store_lines, state_lines, done_lines, step_lines, end_text};
+ghost use Rattle.schedule_text.specs.Trace.{phase_text, fate_text, since_text, reply_text, reply_line, store_lines, state_lines, done_lines, step_lines, end_text};
 
 use crate::event::Event;
+use crate::sent::put_sent;
 use crate::shown::put_shown;
 use crate::step::{Outcome, Replied, StateLine, StepLine};
-use crate::words::service_word;
+use crate::words::{flag, service_word};
 use mon_bytes::OutOfMemory;
 use mon_msg::{Phase, Reply, Service};
 use mon_types::Version;
@@ -26,12 +27,6 @@ fn phase_word(phase: Phase) -> &'static str
         Phase::Updating => "updating",
         Phase::Peon => "peon",
     }
-}
-
-fn flag(value: bool) -> &'static str
-    ensures { result.now ≡ flag_text value }
-{
-    if value { "1" } else { "0" }
 }
 
 /// What became of a transaction.
@@ -151,6 +146,7 @@ fn put_done(alloc: Global, out: &mut String, step: &StepLine) -> Result<(), Allo
         Outcome::Ran => {
             put_ops(out, step.ops)?;
             put_state(out, &step.state)?;
+            put_sent(out, step.sent.as_slice())?;
             put_replies(alloc, out, step.replies.as_slice())
         }
         Outcome::Down => out.push_str("  down\n"),

@@ -15,7 +15,7 @@ use Rattle.mon_msg.specs.declared.phase.Phase.TheVariants as phase
 use Rattle.mon_msg.specs.declared.phase.Timer.TheVariants as timer
 use Rattle.mon_msg.specs.declared.request.Service.{Service}
 use Rattle.mon_msg.specs.declared.request.Service.TheVariants as service
-use Rattle.mon_msg.specs.Changes.{put_number}
+use Rattle.mon_msg.specs.Puts.{put_number}
 use Rattle.mon_msg.specs.Joined.{joined}
 use Rattle.mon_msg.specs.Protocol.Chunks.{hear_last_chunk}
 use Rattle.mon_msg.specs.Protocol.Copying.{hear_cookie}

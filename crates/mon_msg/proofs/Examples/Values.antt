@@ -4,7 +4,7 @@ use Rattle.mon_tx.specs.declared.op.Op.TheVariants.{EraseRange}
 use Rattle.mon_tx.specs.declared.key.Area.TheVariants.{Paxos, Kv}
 use Rattle.mon_tx.specs.declared.key.Key.TheVariants.{FirstCommitted, LastCommitted, FullLatest, Version, Full}
 use Rattle.mon_tx.specs.Keys.{area_text}
-use Rattle.mon_msg.specs.Changes.{put, put_number}
+use Rattle.mon_msg.specs.Puts.{put, put_number}
 use Rattle.mon_msg.specs.Protocol.Changes.{erase}
 use Rattle.mon_msg.specs.Protocol.Rules.{value_ops}
 

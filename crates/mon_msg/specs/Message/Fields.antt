@@ -1,9 +1,9 @@
 -- The fields of messages.
-use Rattle.std.specs.Prelude.{◌≡◌, ℕ, zero, suc, ◌+◌, ◌*◌, ◌/◌, ◌%◌, ◌^◌, ◌<◌, ◌≤◌, Bool, true, false, List, [], ◌∷◌, ◌++◌, length, Option, None, Some, Result, Ok, Err, IsTrue, nat_lt, nat_le, ◌==◌, if◌then◌else◌}
+use Rattle.std.specs.Prelude.{◌≡◌, ℕ, zero, suc, ◌+◌, ◌*◌, ◌/◌, ◌%◌, ◌^◌, ◌<◌, ◌≤◌, Bool, true, false, List, [], ◌∷◌, length, Result, Ok, Err, IsTrue, nat_lt, nat_le, ◌==◌, if◌then◌else◌}
 use Rattle.std.specs.Str.{is_utf8}
 use Rattle.byteorder.specs.Endian.{little_bytes}
 use Rattle.mon_bytes.specs.Reading.{Reading, number, front}
-use Rattle.mon_bytes.specs.Forms.{u32_bytes, text_bytes}
+use Rattle.mon_bytes.specs.Forms.{text_bytes}
 use Rattle.mon_bytes.specs.Texts.{is_word}
 use Rattle.mon_tx.specs.declared.op.Op.{Op}
 use Rattle.mon_tx.specs.declared.refusal.TxRefused.{TxRefused}
@@ -14,7 +14,7 @@ use Rattle.mon_msg.specs.declared.refusal.MsgRefused.{MsgRefused}
 use Rattle.mon_msg.specs.declared.refusal.MsgRefused.TheVariants as refused
 use Rattle.mon_msg.specs.declared.request.Service.{Service}
 use Rattle.mon_msg.specs.declared.request.Service.TheVariants.{Kv, Log}
-use Rattle.mon_msg.specs.Message.Format.{◌>>=◌, cut, Reader, Format, nothing, variant, tagged, spelling, choice}
+use Rattle.mon_msg.specs.Message.Format.{◌>>=◌, cut, Reader, Format}
 
 -- a number of at most 2^62 in eight bytes, the lowest first
 unfoldable pub number_bytes : ℕ → List ℕ

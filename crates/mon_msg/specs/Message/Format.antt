@@ -4,7 +4,6 @@ use Rattle.std.specs.List.{flat_map, AllByRecursion}
 use Rattle.byteorder.specs.Endian.{little_bytes}
 use Rattle.mon_bytes.specs.declared.cursor.Short.{Short}
 use Rattle.mon_bytes.specs.Reading.{Reading, number}
-use Rattle.mon_msg.specs.declared.refusal.MsgKind.{MsgKind}
 use Rattle.mon_msg.specs.declared.refusal.MsgKind.TheVariants as fault
 use Rattle.mon_msg.specs.declared.refusal.MsgRefused.{MsgRefused}
 use Rattle.mon_msg.specs.declared.refusal.MsgRefused.TheVariants as refused

@@ -1,7 +1,7 @@
 -- Tables of scores: a row for each of n monitors, with a score for each of them. Of the ranks past n nothing is told.
-use Rattle.std.specs.Prelude.{◌≡◌, ℕ, ◌-◌, ◌≤◌, List, ◌++◌, length, take, drop, replicate, Result, Ok, Err, nat_lt, if◌then◌else◌}
+use Rattle.std.specs.Prelude.{◌≡◌, ℕ, ◌-◌, ◌≤◌, List, ◌++◌, length, take, drop, replicate, Ok, Err, nat_lt, if◌then◌else◌}
 use Rattle.std.specs.List.{flat_map, AllByRecursion}
-use Rattle.mon_bytes.specs.Reading.{Reading, number}
+use Rattle.mon_bytes.specs.Reading.{number}
 use Rattle.mon_bytes.specs.Forms.{u32_bytes}
 use Rattle.election_rules.specs.declared.row.Row.{Row}
 use Rattle.election_rules.specs.declared.scores.Scores.{Scores}

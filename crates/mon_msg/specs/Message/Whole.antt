@@ -1,7 +1,6 @@
 -- Messages whole: a header of twelve bytes, and a body.
-use Rattle.std.specs.Prelude.{◌≡◌, ℕ, ◌-◌, ◌≤◌, ◌<◌, ◌^◌, Bool, ◌&&◌, not, List, [], ◌∷◌, ◌++◌, length, get_or, Result, Ok, Err, nat_lt, nat_le, ◌==◌, if◌then◌else◌}
+use Rattle.std.specs.Prelude.{◌≡◌, ℕ, ◌-◌, ◌≤◌, ◌<◌, ◌^◌, ◌&&◌, not, List, [], ◌∷◌, ◌++◌, length, get_or, Result, Ok, Err, nat_lt, nat_le, ◌==◌, if◌then◌else◌}
 use Rattle.mon_bytes.specs.Reading.{Reading, number}
-use Rattle.mon_msg.specs.declared.body.Body.{Body}
 use Rattle.mon_msg.specs.declared.kind.Kind.{Kind}
 use Rattle.mon_msg.specs.declared.kind.Kind.TheVariants as kind
 use Rattle.mon_msg.specs.declared.message.Message.{Message}

@@ -1,7 +1,7 @@
 -- What an event does to the store, said once: as changes, which are spelled as a transaction.
 use Rattle.std.specs.Prelude.{ℕ, List, Option, Some, None, [], ◌∷◌, ◌++◌}
 use Rattle.mon_bytes.specs.declared.entry.Entry.{Entry}
-use Rattle.mon_msg.specs.Changes.{put, put_number}
+use Rattle.mon_msg.specs.Puts.{put, put_number}
 use Rattle.mon_tx.specs.Keys.{area_text, key_text}
 use Rattle.mon_tx.specs.Text.{text}
 use Rattle.mon_tx.specs.declared.key.Area.TheVariants as area

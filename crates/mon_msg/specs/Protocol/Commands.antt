@@ -2,7 +2,7 @@
 use Rattle.std.specs.Prelude.{ℕ, suc, Bool, not, ◌&&◌, ◌==◌, nat_le, nat_lt, List, Result, Ok, if◌then◌else◌, [], ◌∷◌, ◌++◌, filter, length, slice_set, slice_index_or}
 use Rattle.mon_bytes.specs.declared.command.Command.TheVariants as command
 use Rattle.mon_bytes.specs.declared.command.Command.{Command}
-use Rattle.mon_msg.specs.Protocol.Course.{Course, ◌▸◌, ◌>>=◌, checked, dropped, clients_are}
+use Rattle.mon_msg.specs.Protocol.Course.{Course, ◌▸◌, ◌>>=◌, checked, dropped, nothing_more, clients_are}
 use Rattle.mon_msg.specs.Protocol.Leader.{of_member}
 use Rattle.mon_msg.specs.Protocol.Leading.{has_queue}
 use Rattle.mon_msg.specs.Protocol.Peon.{of_leader}
@@ -83,7 +83,7 @@ module _ (me : Me) (now : ℕ) where
       if not (of_member phases f e x && nat_lt (slice_index_or clients.taken f 0) seq) then dropped x else
       x ▸ clients_are (record clients { taken = slice_set clients.taken f seq }) ▸ at_leader c (origin.Forwarded f seq)
 
-  -- the leader's answer goes to the session that waits for it
+  -- the leader's answer goes to the session that waits under that number
   abbrev reply_each : List Asked → Reply → Course → Course
   reply_each [] r x = x
   reply_each (a ∷ asked) r x = reply_each asked r (reply_to a.session r x)
@@ -98,4 +98,4 @@ module _ (me : Me) (now : ℕ) where
 
   -- the next command that waits is proposed
   unfoldable pub propose_due : Course → Result Course Which
-  propose_due x = if same_phase x.state.phase phase.Active && is_standing me now x.state then propose_next me now x else dropped x
+  propose_due x = if same_phase x.state.phase phase.Active && is_standing me now x.state then propose_next me now x else nothing_more x

@@ -46,6 +46,10 @@ checked w n = if nat_le n (2 ^ 62) then Ok n else Err w
 abbrev pub dropped : Course → Result Course Which
 dropped x = Ok x
 
+-- what was done so far is all
+abbrev pub nothing_more : Course → Result Course Which
+nothing_more x = Ok x
+
 -- a step that is made only where a test holds
 abbrev pub only_if : Bool → (Course → Course) → Course → Course
 only_if test f x = if test then f x else x

@@ -4,7 +4,7 @@ use Rattle.election_rules.specs.Ranking.{allows, outranks}
 use Rattle.election_rules.specs.Table.{merged}
 use Rattle.election_rules.specs.declared.scores.Scores.{Scores}
 use Rattle.mon_msg.specs.Protocol.Changes.{Epoch}
-use Rattle.mon_msg.specs.Protocol.Course.{Course, ◌▸◌, dropped, change, elector_is, peon_is, arm, in_phase}
+use Rattle.mon_msg.specs.Protocol.Course.{Course, ◌▸◌, dropped, nothing_more, change, elector_is, peon_is, arm, in_phase}
 use Rattle.mon_msg.specs.Protocol.Entering.{is_even, elect, adopt, win}
 use Rattle.mon_msg.specs.Protocol.Phases.{same_phase, votes}
 use Rattle.mon_msg.specs.Protocol.Sending.{send}
@@ -44,8 +44,8 @@ module _ (me : Me) (now : ℕ) where
   weigh table f x =
       let elector = x.state.elector in
       if is_allowed f && stands_before table f me.member.rank
-      then (if may_defer table f elector.deferred then Ok (defer_to f x) else dropped x)
-      else (if not (has_deferred elector.deferred) && not elector.candidate then elect me now x else dropped x)
+      then (if may_defer table f elector.deferred then Ok (defer_to f x) else nothing_more x)
+      else (if not (has_deferred elector.deferred) && not elector.candidate then elect me now x else nothing_more x)
 
   abbrev merge : Option Scores → Course → Course
   merge None x = x
@@ -55,7 +55,7 @@ module _ (me : Me) (now : ℕ) where
   table_or_own None x = x.state.elector.scores
   table_or_own (Some table) x = table
 
-  -- a candidate of an earlier epoch: one that is outside of a quorum makes it vote again
+  -- a candidate of an earlier epoch: one that is outside of its quorum makes it vote again
   abbrev hear_earlier : ℕ → Course → Result Course Which
   hear_earlier f x = if is_even (epoch_of x.view) && not (has (quorum_of x.state) f) then elect me now x else dropped x
 
@@ -86,7 +86,7 @@ module _ (me : Me) (now : ℕ) where
   unfoldable pub election_ends : Course → Result Course Which
   election_ends x =
       let elector = x.state.elector in
-      if not (same_phase x.state.phase phase.Electing) then dropped x else (
+      if not (same_phase x.state.phase phase.Electing) then nothing_more x else (
       if elector.candidate && is_allowed me.member.rank && is_majority me.member.monitors elector.acked then win me now elector.acked x else elect me now x)
 
   -- it follows the leader f in its quorum

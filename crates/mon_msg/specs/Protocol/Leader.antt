@@ -1,7 +1,7 @@
 -- The rows of a leader.
 use Rattle.std.specs.Prelude.{ℕ, suc, Bool, false, not, ◌&&◌, ◌||◌, ◌==◌, nat_lt, List, Option, Some, None, Result, Ok, if◌then◌else◌, [], ◌∷◌, slice_set}
 use Rattle.mon_msg.specs.Protocol.Collecting.{settle, collect}
-use Rattle.mon_msg.specs.Protocol.Course.{Course, ◌▸◌, ◌>>=◌, checked, dropped, only_if, leader_is, arm, disarm}
+use Rattle.mon_msg.specs.Protocol.Course.{Course, ◌▸◌, ◌>>=◌, checked, dropped, nothing_more, only_if, leader_is, arm, disarm}
 use Rattle.mon_msg.specs.Protocol.Entering.{bootstrap}
 use Rattle.mon_msg.specs.Protocol.Found.{counts, better}
 use Rattle.mon_msg.specs.Protocol.Leading.{has_queue, extend, commit}
@@ -92,5 +92,5 @@ module _ (me : Me) (now : ℕ) where
 
   unfoldable pub renew : Course → Result Course Which
   renew x =
-      if not (same_phase x.state.phase phase.Active) then dropped x else
+      if not (same_phase x.state.phase phase.Active) then nothing_more x else
       Ok (x ▸ extend me now ▸ only_if (has_queue me now x) (arm now timer.Propose))

@@ -44,11 +44,3 @@ with_incremental (map.Log es) bytes = option_map (λ inc. map.Log (log.with_inc 
 -- the same, where the map isn't longer than a map may be
 abbrev pub next_map : Service → ShownMap → List ℕ → Option ShownMap
 next_map s m bytes = option_and_then (short_map s) (with_incremental m bytes)
-
--- the map with an incremental, and the map itself where the bytes are none
-abbrev pub map_with : ShownMap → List ℕ → ShownMap
-map_with m incremental = with_or m (with_incremental m incremental)
-  where
-    with_or : ShownMap → Option ShownMap → ShownMap
-    with_or m None = m
-    with_or m (Some next) = next

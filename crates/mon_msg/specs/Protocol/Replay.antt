@@ -2,7 +2,7 @@
 use Rattle.std.specs.Option.{option_map}
 use Rattle.std.specs.Prelude.{ℕ, suc, ◌+◌, nat_le, nat_lt, List, Option, Some, None, Result, Ok, if◌then◌else◌, [], ◌∷◌, zero, ◌-◌, min, length}
 use Rattle.mon_msg.specs.Protocol.Changes.{Last, Unmark}
-use Rattle.mon_msg.specs.Protocol.Course.{Course, ◌▸◌, dropped, change, requester_is, arm}
+use Rattle.mon_msg.specs.Protocol.Course.{Course, ◌▸◌, nothing_more, change, requester_is, arm}
 use Rattle.mon_msg.specs.Protocol.Entering.{bootstrap}
 use Rattle.mon_msg.specs.Protocol.Learning.{learn_each}
 use Rattle.mon_msg.specs.Protocol.Phases.{same_phase}
@@ -48,8 +48,8 @@ module _ (me : Me) (now : ℕ) where
       Ok (y ▸ requester_is (record x.state.requester { stage = sync.Replay (next + length values) end }) ▸ arm now timer.Step)
 
   abbrev step_in : SyncStage → Course → Result Course Which
-  step_in sync.Cookie x = dropped x
-  step_in sync.Chunks x = dropped x
+  step_in sync.Cookie x = nothing_more x
+  step_in sync.Chunks x = nothing_more x
   step_in (sync.Replay next end) x = go_on_with (step_of x.view (suc end - next) next)
     where
       go_on_with : Option (List (List Op)) → Result Course Which
@@ -57,4 +57,4 @@ module _ (me : Me) (now : ℕ) where
       go_on_with (Some values) = go_on next end values x
 
   unfoldable pub replay_step : Course → Result Course Which
-  replay_step x = if same_phase x.state.phase phase.Synchronizing then step_in x.state.requester.stage x else dropped x
+  replay_step x = if same_phase x.state.phase phase.Synchronizing then step_in x.state.requester.stage x else nothing_more x

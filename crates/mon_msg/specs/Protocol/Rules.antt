@@ -1,7 +1,7 @@
 -- The rules of a value: what it changes in every monitor's store.
 use Rattle.std.specs.List.{range_with_len}
 use Rattle.std.specs.Prelude.{ℕ, ◌+◌, ◌==◌, nat_le, nat_lt, List, if◌then◌else◌, [], ◌∷◌, ◌++◌, filter, ◌-◌, min, ◌%◌, map}
-use Rattle.mon_msg.specs.Changes.{put, put_number}
+use Rattle.mon_msg.specs.Puts.{put, put_number}
 use Rattle.mon_msg.specs.Protocol.Changes.{erase}
 use Rattle.mon_msg.specs.Protocol.Reading.{service_first}
 use Rattle.mon_tx.specs.Keys.{area_text}
@@ -15,7 +15,7 @@ use Rattle.mon_tx.specs.declared.op.Op.{Op}
 abbrev pub full_every : ℕ
 full_every = 25
 
--- A service is trimmed where so many versions lie after its first one. It keeps so many, and so many go at most.
+-- A service is trimmed where so many versions lie after its first one. So many still do afterwards, and so many go at most.
 abbrev pub service_due : ℕ
 service_due = 75
 
@@ -25,23 +25,23 @@ service_keeps = 50
 abbrev pub service_goes : ℕ
 service_goes = 25
 
--- The log is trimmed where more than so many versions lie after its first one. It keeps so many, and so many go at most.
-abbrev pub log_due : ℕ
-log_due = 750
+-- The log is trimmed where more than so many versions lie after its first one. So many still do afterwards, and so many go at most.
+abbrev pub paxos_due : ℕ
+paxos_due = 750
 
-abbrev pub log_keeps : ℕ
-log_keeps = 500
+abbrev pub paxos_keeps : ℕ
+paxos_keeps = 500
 
-abbrev pub log_goes : ℕ
-log_goes = 500
+abbrev pub paxos_goes : ℕ
+paxos_goes = 500
 
 -- a number that is the first is put
 abbrev pub begins : Area → List Op
 begins a = put_number a key.FirstCommitted 1 ∷ []
 
 -- the first version of the log
-abbrev pub log_begins : ℕ → List Op
-log_begins last = if last == 0 then begins area.Paxos else []
+abbrev pub paxos_begins : ℕ → List Op
+paxos_begins last = if last == 0 then begins area.Paxos else []
 
 -- the service's version n, which the incremental makes
 abbrev pub new_version : Area → ℕ → List ℕ → List Op
@@ -70,17 +70,17 @@ abbrev pub service_trim : Area → ℕ → ℕ → List Op
 service_trim a n first = if nat_le service_due (n - first) then service_trimmed a first (service_to n first) else []
 
 -- the first version that the log keeps once it is trimmed
-abbrev pub log_to : ℕ → ℕ → ℕ
-log_to first last = min (last - log_keeps) (first + log_goes)
+abbrev pub paxos_to : ℕ → ℕ → ℕ
+paxos_to first last = min (last - paxos_keeps) (first + paxos_goes)
 
-abbrev pub log_trimmed : ℕ → ℕ → List Op
-log_trimmed from to = EraseRange (area_text area.Paxos) from to ∷ put_number area.Paxos key.FirstCommitted to ∷ []
+abbrev pub paxos_trimmed : ℕ → ℕ → List Op
+paxos_trimmed from to = EraseRange (area_text area.Paxos) from to ∷ put_number area.Paxos key.FirstCommitted to ∷ []
 
-abbrev pub log_trim : ℕ → ℕ → List Op
-log_trim first last = if nat_lt log_due (last - first) then log_trimmed first (log_to first last) else []
+abbrev pub paxos_trim : ℕ → ℕ → List Op
+paxos_trim first last = if nat_lt paxos_due (last - first) then paxos_trimmed first (paxos_to first last) else []
 
 -- The value that makes version n of a service by an incremental. Of the log it takes the first and the last version, of the
 -- service the first one and the text of the map at version n.
 unfoldable pub value_ops : (first last : ℕ) → Area → (n service_first : ℕ) → (incremental text : List ℕ) → List Op
 value_ops first last a n service_first incremental text =
-    log_begins last ++ (new_version a n incremental ++ (full_version a n text ++ (service_trim a n service_first ++ log_trim first last)))
+    paxos_begins last ++ (new_version a n incremental ++ (full_version a n text ++ (service_trim a n service_first ++ paxos_trim first last)))

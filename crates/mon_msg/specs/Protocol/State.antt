@@ -1,7 +1,8 @@
 -- What a running monitor remembers and its store doesn't keep.
-use Rattle.std.specs.Prelude.{ℕ, Bool, false, List, Option, None, [], replicate}
+use Rattle.std.specs.Prelude.{ℕ, Bool, false, List, Option, None, if◌then◌else◌, [], replicate}
 use Rattle.election_rules.specs.Table.{start_scores}
 use Rattle.mon_bytes.specs.declared.entry.KeyPlace.TheVariants as key_place
+use Rattle.mon_msg.specs.Protocol.Phases.{is_leading, is_peon}
 use Rattle.mon_msg.specs.Protocol.Timers.{unarmed}
 use Rattle.mon_msg.specs.declared.clients.Clients.{Clients}
 use Rattle.mon_msg.specs.declared.election.Elector.{Elector}
@@ -31,27 +32,11 @@ pub record State : Type 0 where
 
 -- the quorum that it is in, or nobody
 abbrev pub quorum_of : State → List Bool
-quorum_of s = quorum_in s.phase
-  where
-    quorum_in : Phase → List Bool
-    quorum_in phase.Peon = s.peon.quorum
-    quorum_in phase.Collecting = s.leader.quorum
-    quorum_in phase.Previous = s.leader.quorum
-    quorum_in phase.Active = s.leader.quorum
-    quorum_in phase.Updating = s.leader.quorum
-    quorum_in p = no_ranks
+quorum_of s = if is_peon s.phase then s.peon.quorum else (if is_leading s.phase then s.leader.quorum else no_ranks)
 
 -- its lease, or none
 abbrev pub lease_of : State → Option ℕ
-lease_of s = lease_in s.phase
-  where
-    lease_in : Phase → Option ℕ
-    lease_in phase.Peon = s.peon.lease
-    lease_in phase.Collecting = s.leader.lease
-    lease_in phase.Previous = s.leader.lease
-    lease_in phase.Active = s.leader.lease
-    lease_in phase.Updating = s.leader.lease
-    lease_in p = None
+lease_of s = if is_peon s.phase then s.peon.lease else (if is_leading s.phase then s.leader.lease else None)
 
 -- ---- what is remembered at first
 

@@ -12,7 +12,7 @@ use Rattle.mon_msg.specs.declared.phase.Phase.TheVariants as phase
 use Rattle.mon_msg.specs.declared.phase.Timer.TheVariants as timer
 use Rattle.mon_msg.specs.declared.view.Me.{Me}
 
--- whether a pending value is for a version: that version, or 0
+-- the version of the pending value, or 0
 abbrev pub pending_version : Option Found → ℕ
 pending_version None = 0
 pending_version (Some found) = found.version

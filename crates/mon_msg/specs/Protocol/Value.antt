@@ -1,21 +1,22 @@
 -- The value of a command.
 use Rattle.std.specs.Prelude.{ℕ, suc, List, Result, Ok, Err}
 use Rattle.map_kv.specs.Made as kv_made
+use Rattle.map_kv.specs.Map as kv
 use Rattle.map_kv.specs.Text as kv_text
 use Rattle.map_kv.specs.declared.inc.KvInc.{KvInc}
 use Rattle.map_log.specs.Made as log_made
+use Rattle.map_log.specs.Map as log
 use Rattle.map_log.specs.Text as log_text
 use Rattle.map_log.specs.declared.inc.LogInc.{LogInc}
 use Rattle.mon_bytes.specs.declared.command.Command.TheVariants as command
 use Rattle.mon_bytes.specs.declared.command.Command.{Command}
 use Rattle.mon_bytes.specs.declared.command.CommandRefused.TheVariants as refused
 use Rattle.mon_bytes.specs.declared.command.CommandRefused.{CommandRefused}
-use Rattle.mon_msg.specs.Protocol.Maps.{map_with}
 use Rattle.mon_msg.specs.Protocol.Parts.{map_text}
 use Rattle.mon_msg.specs.Protocol.Reading.{service_first, service_last, read_map}
 use Rattle.mon_msg.specs.Protocol.Rules.{value_ops}
 use Rattle.mon_msg.specs.Protocol.View.{View}
-use Rattle.mon_msg.specs.View.{area_of}
+use Rattle.mon_msg.specs.Puts.{area_of}
 use Rattle.mon_msg.specs.declared.reply.ShownMap.TheVariants as map
 use Rattle.mon_msg.specs.declared.reply.ShownMap.{ShownMap}
 use Rattle.mon_msg.specs.declared.request.Service.TheVariants.{Kv, Log}
@@ -28,28 +29,28 @@ service_of (command.Set key value) = Kv
 service_of (command.Remove key) = Kv
 service_of (command.Log text) = Log
 
--- the incremental that a command makes of a map, spelled, where `asked` is the monitor that was asked
-abbrev pub made : ShownMap → ℕ → Command → Result (List ℕ) CommandRefused
-made (map.Kv m) asked c = spelled_kv (kv_made.made m c)
+-- the incremental that a command makes of a map, spelled, and the map with it, where `asked` is the monitor that was asked
+abbrev pub made : ShownMap → ℕ → Command → Result (List ℕ × ShownMap) CommandRefused
+made (map.Kv m) asked c = made_kv (kv_made.made m c)
   where
-    spelled_kv : Result KvInc CommandRefused → Result (List ℕ) CommandRefused
-    spelled_kv (Ok inc) = Ok (kv_text.inc_text inc)
-    spelled_kv (Err e) = Err e
-made (map.Log es) asked (command.Log text) = spelled_log (log_made.made asked text)
+    made_kv : Result KvInc CommandRefused → Result (List ℕ × ShownMap) CommandRefused
+    made_kv (Ok inc) = Ok (kv_text.inc_text inc, map.Kv (kv.with_inc m inc))
+    made_kv (Err e) = Err e
+made (map.Log es) asked (command.Log text) = made_log (log_made.made asked text)
   where
-    spelled_log : Result LogInc CommandRefused → Result (List ℕ) CommandRefused
-    spelled_log (Ok inc) = Ok (log_text.inc_text inc)
-    spelled_log (Err e) = Err e
+    made_log : Result LogInc CommandRefused → Result (List ℕ × ShownMap) CommandRefused
+    made_log (Ok inc) = Ok (log_text.inc_text inc, map.Log (log.with_inc es inc))
+    made_log (Err e) = Err e
 made (map.Log es) asked c = Err refused.NoSuch
 
-abbrev pub value_of : View → Service → ShownMap → List ℕ → List Op
-value_of w s m incremental =
-    value_ops w.first w.last (area_of s) (suc (service_last w s)) (service_first w s) incremental (map_text (map_with m incremental))
+-- the value of an incremental after which the map is `next`
+abbrev pub value_of : View → Service → List ℕ → ShownMap → List Op
+value_of w s incremental next = value_ops w.first w.last (area_of s) (suc (service_last w s)) (service_first w s) incremental (map_text next)
 
 -- the value of a command over what a store tells, where `asked` is the monitor that was asked; or why there is none
 unfoldable pub value : View → Command → ℕ → Result (List Op) CommandRefused
 value w c asked = made_value (made (read_map w (service_of c)) asked c)
   where
-    made_value : Result (List ℕ) CommandRefused → Result (List Op) CommandRefused
-    made_value (Ok incremental) = Ok (value_of w (service_of c) (read_map w (service_of c)) incremental)
+    made_value : Result (List ℕ × ShownMap) CommandRefused → Result (List Op) CommandRefused
+    made_value (Ok (incremental, next)) = Ok (value_of w (service_of c) incremental next)
     made_value (Err e) = Err e

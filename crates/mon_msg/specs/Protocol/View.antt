@@ -1,11 +1,11 @@
 -- What a monitor's store tells its readers.
 use Rattle.std.specs.FinMap.{entries}
-use Rattle.std.specs.Option.{option_map_or}
+use Rattle.std.specs.Option.{option_map, option_map_or}
 use Rattle.std.specs.Prelude.{ℕ, Bool, ◌==◌, List, Option, Some, None, map}
 use Rattle.mon_bytes.specs.declared.entry.Entry.{Entry}
-use Rattle.mon_msg.specs.View.{area_of, number_if_there, number_after, cell_after}
+use Rattle.mon_msg.specs.Puts.{area_of}
 use Rattle.mon_msg.specs.declared.request.Service.{Service}
-use Rattle.mon_tx.specs.Decision.{Cell, decision}
+use Rattle.mon_tx.specs.Decision.{Cell, decision, or_before}
 use Rattle.mon_tx.specs.Keys.{place, cell, number, shared}
 use Rattle.mon_tx.specs.Map.{number_in, Store}
 use Rattle.mon_tx.specs.declared.key.Area.TheVariants as area
@@ -55,6 +55,10 @@ promise_of w = or_zero w.promise
 abbrev pub marks : Cell → Bool
 marks c = number_in c == 1
 
+-- the number of a cell that is there
+abbrev pub number_if_there : Cell → Option ℕ
+number_if_there c = option_map (λ bytes. number_in (Some bytes)) c
+
 unfoldable pub view : Store → View
 view m = record {
   epoch = number_if_there (cell m area.Monitor key.ElectionEpoch);
@@ -78,6 +82,13 @@ shared_entries m = map (λ e. record { prefix = e.0.0; key = e.0.1; value = e.1 
 abbrev pub told_after : {A : Type 0} → (Cell → A) → List Op → Area → Key → A → A
 told_after tell ops a k before = option_map_or tell (decision ops (place a k)) before
 
+abbrev pub number_after : List Op → Area → Key → ℕ → ℕ
+number_after = told_after number_in
+
+abbrev pub cell_after : List Op → Area → Key → Cell → Cell
+cell_after ops a k before = or_before (decision ops (place a k)) before
+
+-- what is told after changes of the store
 unfoldable pub after : List Op → View → View
 after ops w = record {
   epoch = told_after number_if_there ops area.Monitor key.ElectionEpoch w.epoch;

@@ -1,12 +1,9 @@
-use Rattle.mon_msg.specs.View.{view}
-use Rattle.mon_msg.specs.Table.{at_rest}
-use Rattle.cephmon.proofs.Reacting.{away}
+use Rattle.cephmon.proofs.Reacting.{show-asked}
 use Rattle.cephmon.proofs.node.client.Goals as goal
 
-pub returns-in_default : goal.returns-in_default
-returns-in_default c =
-    let w = view c.args.kv.now in
-    record {
-      reaction = rw (away c.args.volatile.phase c.args.session c.args.request.now (at_rest w c.args.volatile) c.in_default.not-Active) (c.answered.ensures.reaction w);
-      short = c.answered.ensures.short;
-    }
+pub returns-in-Set-clause-reaction : goal.returns-in-Set-clause-reaction
+returns-in-Set-clause-reaction c = rw c.in-Set.is c.set.ensures.reaction
+
+pub returns-in_ok-shown-in-Show-clause-reaction : goal.returns-in_ok-shown-in-Show-clause-reaction
+returns-in_ok-shown-in-Show-clause-reaction c =
+    show-asked c.args.kv.now c.args.request.now c.in-Show.service c.args.session c.answered.result c.in_ok-shown-in-Show.field-0 c.in-Show.is c.requires c.answered.ensures c.in_ok-shown-in-Show.ensures

@@ -2,13 +2,17 @@ use Rattle.std.proofs.Common.{◌≡◌, List, ◌∙◌, subst}
 use Rattle.std.proofs.lemmas.Result.{err_from_is_err_and}
 use Rattle.std.specs.Io.KnownBytes.{Appends}
 use Rattle.mon_link.specs.Whole.{AppendsFront}
+use Rattle.quorum_model.specs.Monitors.{alone}
 use Rattle.quorum_model.specs.World.{first_world}
 use Rattle.schedule_text.specs.declared.event.Event.{Event}
-use Rattle.cephmon.proofs.Building.{first_line, header_is}
+use Rattle.cephmon.proofs.Building.{first_line, few_sets_of, header_is}
 use Rattle.cephmon.specs.Replay.{Writes}
 use Rattle.cephmon.specs.Trace.{trace_from, trace}
 use Rattle.cephmon.proofs.Writing.{front_first, writes_behind, writes_fault}
 use Rattle.cephmon.proofs.replay.replay.Goals as goal
+
+pub do_events-requires-clause-sets : goal.do_events-requires-clause-sets
+do_events-requires-clause-sets g c = rw c.as_slice-2.ensures (few_sets_of c.args.schedule.now c.requires.built)
 
 pub returns-in_err-write_all-clause-writes : goal.returns-in_err-write_all-clause-writes
 returns-in_err-write_all-clause-writes g c =
@@ -16,8 +20,8 @@ returns-in_err-write_all-clause-writes g c =
     let old = g.K.Sink.held c.args.sink.now in
     let new = g.K.Sink.held c.write_all.new.sink in
     let line : c.as_slice.result.now ≡ first_line = c.as_slice.ensures.value ∙ c.in_ok-line.ensures ∙ header_is c.args.schedule.now c.requires.built in
-    let front = front_first old new first_line (trace_from 0 first_world c.args.schedule.now.events).text (subst (AppendsFront old new) line c.in_err-write_all.ensures.part) in
-    rw (p.1, p.2) (writes_fault c.in_err-write_all.field-0.0 old new (trace c.args.schedule.now.events) front)
+    let front = front_first old new first_line (trace_from alone 0 first_world c.args.schedule.now.events).text (subst (AppendsFront old new) line c.in_err-write_all.ensures.part) in
+    rw (p.1, p.2) (writes_fault c.in_err-write_all.field-0.0 old new (trace alone c.args.schedule.now.events) front)
 
 pub returns-clause-writes : goal.returns-clause-writes
 returns-clause-writes g c =
@@ -25,6 +29,6 @@ returns-clause-writes g c =
     let mid = g.K.Sink.held c.write_all.new.sink in
     let new = g.K.Sink.held c.do_events.new.sink in
     let line : c.as_slice.result.now ≡ first_line = c.as_slice.ensures.value ∙ c.in_ok-line.ensures ∙ header_is c.args.schedule.now c.requires.built in
-    let rest = subst (λ (es : List Event). Writes c.do_events.result mid new (trace_from 0 first_world es)) c.as_slice-2.ensures c.do_events.ensures.writes in
-    writes_behind c.do_events.result old mid new first_line (trace_from 0 first_world c.args.schedule.now.events)
+    let rest = subst (λ (es : List Event). Writes c.do_events.result mid new (trace_from alone 0 first_world es)) c.as_slice-2.ensures c.do_events.ensures.writes in
+    writes_behind c.do_events.result old mid new first_line (trace_from alone 0 first_world c.args.schedule.now.events)
     (subst (Appends old mid) line c.in_ok-write_all.ensures.whole) rest

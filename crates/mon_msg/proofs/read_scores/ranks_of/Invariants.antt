@@ -1,4 +1,3 @@
-use Rattle.std.proofs.Common.{◌≡◌, ◌-◌, ◌++◌, List, Bool, false, length, replicate}
 use Rattle.mon_msg.specs.Message.Fields.{bits}
 use Rattle.mon_msg.proofs.BitsLoop.{Spelled}
 use Rattle.mon_msg.proofs.read_scores.ranks_of.Given as goal

@@ -2,4 +2,4 @@ use Rattle.quorum_model.proofs.Whole.{runs_are_safe}
 use Rattle.quorum_model.proofs.laws.law_safe.Goals as goal
 
 pub returns : goal.returns
-returns c = λ events fit. runs_are_safe events fit.each
+returns c = runs_are_safe

@@ -1,0 +1,57 @@
+-- What the value of a command puts is the command's incremental.
+use Rattle.std.proofs.Common.{◌≡◌, ℕ, suc, Bool, true, false, cond, ltb, List, [], ◌∷◌, length, Result, Ok, Err, refl, sym, ap, ◌∙◌}
+use Rattle.std.specs.FinMap.{insert, contains_key}
+use Rattle.mon_bytes.specs.declared.command.Command.{Command}
+use Rattle.mon_bytes.specs.declared.command.Command.TheVariants as command
+use Rattle.mon_bytes.specs.declared.command.CommandRefused.{CommandRefused}
+use Rattle.map_kv.specs.Text as kv_text
+use Rattle.mon_tx.specs.declared.op.Op.{Op}
+use Rattle.mon_tx.proofs.Ties.{same_area_itself}
+use Rattle.mon_msg.specs.declared.reply.ShownMap.{ShownMap}
+use Rattle.mon_msg.specs.declared.reply.ShownMap.TheVariants as map
+use Rattle.mon_msg.specs.Fold.{put_in}
+use Rattle.mon_msg.specs.Puts.{area_of}
+use Rattle.mon_msg.specs.Protocol.Parts.{map_text}
+use Rattle.mon_msg.specs.Protocol.Reading.{service_first, service_last, read_map}
+use Rattle.mon_msg.specs.Protocol.Value.{service_of, made, value_of, value}
+use Rattle.mon_msg.specs.Protocol.View.{View}
+use Rattle.quorum_model.specs.Clients.{incremental_of}
+use Rattle.quorum_model.proofs.Puts.{puts_value}
+
+first_same : (y x : List ℕ) (m next : ShownMap) → ◌≡◌ {A = Result (List ℕ × ShownMap) CommandRefused} (Ok (y, m)) (Ok (x, next)) → x ≡ y
+first_same y x m next e =
+    let pair : (y, m) ≡ (x, next) = cc in
+    ap (λ (p : List ℕ × ShownMap). p.0) (sym pair)
+
+made_is : (m : ShownMap) (asked : ℕ) (c : Command) (x : List ℕ) (next : ShownMap) → made m asked c ≡ Ok (x, next) → x ≡ incremental_of asked c
+made_is (map.Kv m) asked (command.Set k v) x next e = long (ltb 65536 (length v)) refl (ltb 393216 (length (kv_text.map_text (insert m k v)))) refl
+  where
+    long : (a : Bool) → ltb 65536 (length v) ≡ a → (b : Bool) → ltb 393216 (length (kv_text.map_text (insert m k v))) ≡ b → x ≡ incremental_of asked (command.Set k v)
+    long true p b q = let g = rw p at e in absurd cc
+    long false p true q = let g = rw (p, q) at e in absurd cc
+    long false p false q = let g = rw (p, q) at e in first_same (incremental_of asked (command.Set k v)) x _ next g
+made_is (map.Kv m) asked (command.Remove k) x next e = there (contains_key m k) refl
+  where
+    there : (a : Bool) → contains_key m k ≡ a → x ≡ incremental_of asked (command.Remove k)
+    there true p = let g = rw p at e in first_same (incremental_of asked (command.Remove k)) x _ next g
+    there false p = let g = rw p at e in absurd cc
+made_is (map.Log es) asked (command.Log t) x next e = long (ltb 1024 (length t)) refl
+  where
+    long : (a : Bool) → ltb 1024 (length t) ≡ a → x ≡ incremental_of asked (command.Log t)
+    long true p = let g = rw p at e in absurd cc
+    long false p = let g = rw p at e in first_same (incremental_of asked (command.Log t)) x _ next g
+made_is (map.Kv m) asked (command.Log t) x next e = absurd cc
+made_is (map.Log es) asked (command.Set k v) x next e = absurd cc
+made_is (map.Log es) asked (command.Remove k) x next e = absurd cc
+
+pub puts_command : (w : View) (c : Command) (asked : ℕ) (ops : List Op) → value w c asked ≡ Ok ops → put_in (service_of c) ops ≡ incremental_of asked c ∷ []
+unfolding value
+puts_command w c asked ops h = by (made (read_map w (service_of c)) asked c) refl
+  where
+    by : (r : Result (List ℕ × ShownMap) CommandRefused) → made (read_map w (service_of c)) asked c ≡ r → put_in (service_of c) ops ≡ incremental_of asked c ∷ []
+    by (Err e) p = let g = rw p at h in absurd cc
+    by (Ok (x, next)) p =
+        let g = rw p at h in
+        let e : value_of w (service_of c) x next ≡ ops = cc in
+        ap (put_in (service_of c)) (sym e) ∙ puts_value (service_of c) (area_of (service_of c)) w.first w.last (suc (service_last w (service_of c))) (service_first w (service_of c)) x (map_text next)
+        ∙ ap (λ b. cond b (x ∷ []) []) (same_area_itself (area_of (service_of c))) ∙ ap (λ (y : List ℕ). y ∷ []) (made_is (read_map w (service_of c)) asked c x next p)

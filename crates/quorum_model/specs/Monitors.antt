@@ -1,0 +1,28 @@
+-- The monitors of a map.
+use Rattle.std.specs.Prelude.{◌≡◌, ℕ, ◌≤◌, nat_lt, Bool, true, false, Option, Some, None, refl}
+use Rattle.std.proofs.Common.{lit≤}
+use Rattle.std.proofs.lemmas.Bool.{ltb-true}
+use Rattle.election_rules.specs.declared.rule.Rule.{Rule}
+use Rattle.election_rules.specs.declared.rule.Rule.TheVariants.{Classic}
+use Rattle.mon_msg.specs.declared.view.Me.{Me}
+
+-- how many there are, at most 15, and the rule by which they elect
+pub record Monitors : Type 0 where
+  pub count : ℕ
+  pub most : count ≤ 15
+  pub rule : Rule
+
+-- the monitor of a rank, where there is one
+abbrev pub me_of : Monitors → ℕ → Option Me
+me_of ms rank = by (nat_lt rank ms.count) refl
+  where
+    by : (is_below : Bool) → nat_lt rank ms.count ≡ is_below → Option Me
+    by true e = Some (record { member = record { rank = rank; monitors = ms.count; most = ms.most; in_map = ltb-true rank ms.count e }; rule = ms.rule })
+    by false e = None
+
+-- one monitor, which elects itself
+abbrev pub alone : Monitors
+alone = record { count = 1; most = lit≤ tt; rule = Classic }
+
+abbrev pub itself : Me
+itself = record { member = record { rank = 0; monitors = 1; most = lit≤ tt; in_map = ltb-true 0 1 refl }; rule = Classic }

@@ -1,0 +1,97 @@
+-- What is kept of a log whose versions are values of commands: its own records, and of each service the incrementals and the
+-- full maps. All of it follows from how many versions there are.
+use Rattle.std.specs.Prelude.{◌≡◌, ℕ, zero, suc, ◌+◌, ◌-◌, ◌*◌, ◌/◌, ◌%◌, ◌≤◌, Bool, true, false, ◌&&◌, ◌==◌, nat_le, nat_lt, List, drop, length, take, Some, None, if◌then◌else◌}
+use Rattle.mon_tx.specs.declared.key.Area.{Area}
+use Rattle.mon_tx.specs.declared.key.Area.TheVariants as area
+use Rattle.mon_tx.specs.declared.key.Key.{Key}
+use Rattle.mon_tx.specs.declared.key.Key.TheVariants as key
+use Rattle.mon_tx.specs.Decision.{Cell}
+use Rattle.mon_tx.specs.Keys.{place, covers}
+use Rattle.mon_tx.specs.Map.{Place, number_bytes}
+use Rattle.mon_msg.specs.declared.reply.Reply.TheVariants as reply
+use Rattle.mon_msg.specs.declared.request.Service.{Service}
+use Rattle.mon_msg.specs.Fold.{entry, incrementals, map_after, map_of_log, version_of_log}
+use Rattle.mon_msg.specs.Protocol.Parts.{map_text}
+use Rattle.mon_msg.specs.Protocol.Reading.{service_last, read_map}
+use Rattle.mon_msg.specs.Protocol.Reads.{changes_after, since}
+use Rattle.mon_msg.specs.Protocol.Rules.{full_every, service_keeps, service_goes, paxos_due, paxos_keeps}
+use Rattle.mon_msg.specs.Protocol.View.{View}
+
+-- ---- which versions
+
+-- The first version of a service that is kept, where it has n. Where as many lie after it as are due,
+-- `service_goes` go, and `service_keeps` lie after the first one then.
+abbrev pub service_from : ℕ → ℕ
+service_from n = service_goes * ((n - suc service_keeps) / service_goes) + 1
+
+-- How many versions of the log go at a time. It is trimmed where more than `paxos_due` lie after the first one, and then
+-- `paxos_keeps` do.
+abbrev pub log_goes : ℕ
+log_goes = suc paxos_due - paxos_keeps
+
+-- The first version of the log that is kept, where it has c. A trim comes with a version, and counts those before it.
+abbrev pub log_from : ℕ → ℕ
+log_from c = log_goes * ((c - suc (suc paxos_keeps)) / log_goes) + 1
+
+-- from one version up to another
+abbrev pub within : ℕ → ℕ → ℕ → Bool
+within from to v = covers from to (key.Version v)
+
+abbrev pub is_full : ℕ → Bool
+is_full v = v % full_every == 0
+
+-- ---- what is kept
+
+-- the bytes, where there are versions
+abbrev pub where_any : ℕ → List ℕ → Cell
+where_any zero bytes = None
+where_any (suc n) bytes = Some bytes
+
+-- under each key of a service with n versions, by their incrementals and by the texts of the maps after them
+abbrev pub service_row : ℕ → (incremental full : ℕ → List ℕ) → Key → Cell
+service_row n incremental full key.FirstCommitted = where_any n (number_bytes (service_from n))
+service_row n incremental full key.LastCommitted = where_any n (number_bytes n)
+service_row n incremental full key.FullLatest = if nat_lt n full_every then None else Some (number_bytes (full_every * (n / full_every)))
+service_row n incremental full (key.Version v) = if within (service_from n) (suc n) v then Some (incremental v) else None
+service_row n incremental full (key.Full v) = if within (service_from n) (suc n) v && is_full v then Some (full v) else None
+service_row n incremental full other = None
+
+abbrev pub row_after : Service → List (List ℕ) → Key → Cell
+row_after s is = service_row (length is) (entry is) (λ v. map_text (map_after s (take v is)))
+
+-- the record of a version, where the log has c
+abbrev pub record_after : List (List ℕ) → ℕ → ℕ → Cell
+record_after log c v = if within (log_from c) (suc c) v then Some (entry log v) else None
+
+-- which named keys there are
+abbrev pub is_kept_key : Area → Key → Bool
+is_kept_key area.Paxos key.FirstCommitted = true
+is_kept_key area.Paxos (key.Version v) = true
+is_kept_key area.Kv k = true
+is_kept_key area.Logm k = true
+is_kept_key a k = false
+
+pub record IsKeptKey (at : Place) : Type 0 where
+  pub area : Area
+  pub key : Key
+  pub is : at ≡ place area key
+  pub kept : is_kept_key area key ≡ true
+
+-- the first version's number, as it is read: 0 where there is no version
+abbrev pub first_read : (ℕ → ℕ) → ℕ → ℕ
+first_read from zero = 0
+first_read from (suc n) = from (suc n)
+
+-- A store tells what the first c versions of a log leave. What it tells of later versions is left open.
+pub record Keeps (log : List (List ℕ)) (c : ℕ) (w : View) : Type 0 where
+  pub first : w.first ≡ first_read log_from c
+  pub records : (v : ℕ) → v ≤ c → w.record_of v ≡ record_after log c v
+  pub rows : (s : Service) (k : Key) → w.row s k ≡ row_after s (incrementals s log c) k
+
+-- What is shown of each service is what the first c versions of a log make of it, from nothing: its map, its version, and the
+-- incrementals after version v, unless so old ones aren't kept any more.
+pub record Shows (log : List (List ℕ)) (c : ℕ) (w : View) : Type 0 where
+  pub version : (s : Service) → service_last w s ≡ version_of_log s log c
+  pub map : (s : Service) → read_map w s ≡ map_of_log s log c
+  pub since : (s : Service) (v : ℕ) → since w s v ≡ (if nat_le (first_read service_from (version_of_log s log c)) (suc v)
+      then changes_after w s v (drop v (incrementals s log c)) else reply.Shown s w.last (version_of_log s log c) (map_of_log s log c))
