@@ -16,7 +16,7 @@ use Rattle.mon_store.specs.declared.stop.OpenStop.TheVariants.{DiskFault, OutOfM
 use Rattle.mon_store.specs.Pair.{◌>>=◌, Refusal, NotAStore, held_on, chosen, found, map_found, stands}
 use Rattle.mon_store.specs.Moments.{Meanwhile}
 use Rattle.mon_store.specs.Opening.{held_in, len_of, named, Tells, AlikePair}
-use Rattle.mon_store.proofs.Turns.{first_goes, second_goes, goes_on}
+use Rattle.mon_store.proofs.Moments.{first_goes, both_go}
 
 -- what two images stand for goes by what they hold and how long they are
 pub alike_stands : (c d e f : List ℕ) → content c ≡ content e → length c ≡ length e → content d ≡ content f → length d ≡ length f → stands c d ≡ stands e f
@@ -29,9 +29,7 @@ opened_a a a1 b l = first_goes a a1 b (AlikeFrom a) (AlikePair a b) l (λ c d h 
 
 -- and then disk B
 pub opened_b : (a a1 b b1 : Content) → LeavesOnly a a1 (AlikeFrom a) → LeavesOnly b b1 (AlikeFrom b) → Meanwhile a b a1 b1 (AlikePair a b)
-opened_b a a1 b b1 l k =
-    goes_on a b a1 b a1 b1 (AlikePair a b) (opened_a a a1 b l)
-    (second_goes a1 b b1 (AlikeFrom b) (AlikePair a b) k (λ c d left h. let g = l.each a1.moment c l.later (omega arith) left in (g.0, h.0, g.1, h.1, alike_stands c d g.0 h.0 g.2 g.3 h.2 h.3)))
+opened_b a a1 b b1 l k = both_go a a1 b b1 (AlikeFrom a) (AlikeFrom b) (AlikePair a b) l k (λ c d g h. (g.0, h.0, g.1, h.1, alike_stands c d g.0 h.0 g.2 g.3 h.2 h.3))
 
 pub each_told : (s t : Option (List ℕ)) (P : List ℕ → List ℕ → Type 0) → ((x y : List ℕ) → s ≡ Some x → t ≡ Some y → P x y) → IfSome s (λ x. IfSome t (λ y. P x y))
 each_told None t P h = tt

@@ -9,8 +9,10 @@ use Rattle.mon_tx.specs.Map.{Store}
 use Rattle.mon_journal.specs.declared.journal.Journal.{Journal}
 use Rattle.mon_journal.specs.declared.opening.Opened.{Opened}
 use Rattle.mon_journal.specs.declared.opening.Opened.TheVariants as disk
-use Rattle.mon_journal.specs.Content.{Held, content, held_by}
+use Rattle.mon_journal.specs.Content.{Held, content, held_by, header_of}
 use Rattle.mon_journal.specs.Fields.{Owner}
+use Rattle.mon_journal.specs.Written.{owner_of, created}
+use Rattle.mon_types.specs.declared.member.Member.{Member}
 use Rattle.mon_journal.specs.Steps.{Opens}
 use Rattle.mon_store.specs.declared.stop.OpenStop.{OpenStop}
 use Rattle.mon_store.specs.declared.stop.OpenStop.TheVariants.{DiskFault, OutOfMemory}
@@ -36,8 +38,8 @@ refused owner e None t h = tt
 refused owner e (Some x) None h = tt
 refused owner e (Some x) (Some y) h = tells_on e (found x y) (opened owner x y) h (opened_err owner x y)
 
-pub answers_err : (owner : Owner) (e : OpenStop) (s t : Option (List ℕ)) (result : Result Standing OpenStop) → result ≡ Err e → IfSome s (λ x. IfSome t (λ y. Tells e (opened owner x y))) → IfSome s (λ x. IfSome t (λ y. Answers owner x y result))
-answers_err owner e s t result is h = subst (λ (r : Result Standing OpenStop). IfSome s (λ x. IfSome t (λ y. Answers owner x y r))) (sym is) h
+pub answers_err : (member : Member) (e : OpenStop) (s t : Option (List ℕ)) (result : Result Standing OpenStop) → result ≡ Err e → IfSome s (λ x. IfSome t (λ y. Tells e (opened (owner_of member) x y))) → IfSome s (λ x. IfSome t (λ y. Answers member x y result))
+answers_err member e s t result is h = subst (λ (r : Result Standing OpenStop). IfSome s (λ x. IfSome t (λ y. Answers member x y r))) (sym is) h
 
 -- what was chosen of what the disks were found to hold is what is found in their bytes
 lengths : (a b : Opened) (m n : ℕ) → (held_in a ≡ None → m ≡ len_of a) → (held_in b ≡ None → n ≡ len_of b) → chosen (held_in a) (held_in b) m n ≡ chosen (held_in a) (held_in b) (len_of a) (len_of b)
@@ -56,29 +58,30 @@ unfolding found
 found_is a b s t known_a known_b new_a new_b x y p q h k =
     rw (holds a s known_a new_a x p h A, holds b t known_b new_b y q k B) (lengths a b (length x) (length y) (long a s known_a new_a x p h) (long b t known_b new_b y q k))
 
-module _ (a b : Opened) (s t : Option (List ℕ)) (known_a known_b : ℕ) (new_a new_b : Content) (h : Opens s known_a new_a (Ok a)) (k : Opens t known_b new_b (Ok b)) (owner : Owner) where
-  pub not_chosen : (e : OpenStop) → Tells e (chosen (held_in a) (held_in b) (len_of a) (len_of b)) → IfSome s (λ x. IfSome t (λ y. Tells e (opened owner x y)))
-  not_chosen e tells = each_told s t (λ x y. Tells e (opened owner x y)) (λ x y p q.
-      tells_on e (chosen (held_in a) (held_in b) (len_of a) (len_of b)) (opened owner x y) tells (λ r is. opened_err owner x y r (found_is a b s t known_a known_b new_a new_b x y p q h k ∙ is)))
+module _ (a b : Opened) (s t : Option (List ℕ)) (known_a known_b : ℕ) (new_a new_b : Content) (h : Opens s known_a new_a (Ok a)) (k : Opens t known_b new_b (Ok b)) (member : Member) where
+  pub not_chosen : (e : OpenStop) → Tells e (chosen (held_in a) (held_in b) (len_of a) (len_of b)) → IfSome s (λ x. IfSome t (λ y. Tells e (opened (owner_of member) x y)))
+  not_chosen e tells = each_told s t (λ x y. Tells e (opened (owner_of member) x y)) (λ x y p q.
+      tells_on e (chosen (held_in a) (held_in b) (len_of a) (len_of b)) (opened (owner_of member) x y) tells (λ r is. opened_err (owner_of member) x y r (found_is a b s t known_a known_b new_a new_b x y p q h k ∙ is)))
 
-  opened_is : (place : Found) → chosen (held_in a) (held_in b) (len_of a) (len_of b) ≡ Ok place → (x y : List ℕ) → s ≡ Some x → t ≡ Some y → opened owner x y ≡ taken owner place
+  opened_is : (place : Found) → chosen (held_in a) (held_in b) (len_of a) (len_of b) ≡ Ok place → (x y : List ℕ) → s ≡ Some x → t ≡ Some y → opened (owner_of member) x y ≡ taken (owner_of member) place
   unfolding opened
-  opened_is place is x y p q = ap (λ f. f >>= taken owner) (found_is a b s t known_a known_b new_a new_b x y p q h k ∙ is)
+  opened_is place is x y p q = ap (λ f. f >>= taken (owner_of member)) (found_is a b s t known_a known_b new_a new_b x y p q h k ∙ is)
 
   -- a store that was created
-  pub answers_new : (result : Result Standing OpenStop) → chosen (held_in a) (held_in b) (len_of a) (len_of b) ≡ Ok Create → IfOk result (λ r. r.side ≡ A) → IfOk result (λ r. r.kv ≡ empty) → IfErr result IsOutside
-      → IfSome s (λ x. IfSome t (λ y. Answers owner x y result))
-  answers_new (Ok r) is side map outside = each_told s t (λ x y. Answers owner x y (Ok r)) (λ x y p q. (Create, opened_is Create is x y p q ∙ ap (λ m. Ok (Create, m)) (sym map), (side, map)))
-  answers_new (Err DiskFault) is side map outside = each_told s t (λ x y. Answers owner x y (Err DiskFault)) (λ x y p q. tt)
-  answers_new (Err OutOfMemory) is side map outside = each_told s t (λ x y. Answers owner x y (Err OutOfMemory)) (λ x y p q. tt)
-  answers_new (Err (stop.NotAStore disk at)) is side map outside = absurd outside
-  answers_new (Err (stop.Stranger kept asked)) is side map outside = absurd outside
+  pub answers_new : (result : Result Standing OpenStop) → chosen (held_in a) (held_in b) (len_of a) (len_of b) ≡ Ok Create → IfOk result (λ r. r.side ≡ A) → IfOk result (λ r. r.journal ≡ created member 1 None) → IfOk result (λ r. r.kv ≡ empty) → IfErr result IsOutside
+      → IfSome s (λ x. IfSome t (λ y. Answers member x y result))
+  answers_new (Ok r) is side journal map outside =
+      each_told s t (λ x y. Answers member x y (Ok r)) (λ x y p q. (Create, opened_is Create is x y p q ∙ ap (λ m. Ok (Create, m)) (sym map), (side, journal, map)))
+  answers_new (Err DiskFault) is side journal map outside = each_told s t (λ x y. Answers member x y (Err DiskFault)) (λ x y p q. tt)
+  answers_new (Err OutOfMemory) is side journal map outside = each_told s t (λ x y. Answers member x y (Err OutOfMemory)) (λ x y p q. tt)
+  answers_new (Err (stop.NotAStore disk at)) is side journal map outside = absurd outside
+  answers_new (Err (stop.Stranger kept asked)) is side journal map outside = absurd outside
 
   -- a live file
   pub answers_live : (result : Result Standing OpenStop) (live : Side) (j : Journal) (payloads : List (List ℕ)) → chosen (held_in a) (held_in b) (len_of a) (len_of b) ≡ Ok (Live live (held_by j payloads))
-      → Gives (λ r. (Live live (held_by j payloads), r.kv)) result (taken owner (Live live (held_by j payloads))) → IfOk result (λ r. r.side ≡ live) → IfOk result (λ r. r.journal ≡ j)
-      → IfSome s (λ x. IfSome t (λ y. Answers owner x y result))
+      → Gives (λ r. (Live live (held_by j payloads), r.kv)) result (taken (owner_of member) (Live live (held_by j payloads))) → IfOk result (λ r. r.side ≡ live) → IfOk result (λ r. r.journal ≡ j)
+      → IfSome s (λ x. IfSome t (λ y. Answers member x y result))
   answers_live (Ok r) live j payloads is gives side journal =
-      each_told s t (λ x y. Answers owner x y (Ok r)) (λ x y p q. (Live live (held_by j payloads), opened_is (Live live (held_by j payloads)) is x y p q ∙ gives, (side, ap Rattle.mon_journal.specs.Content.header_of journal, ap (λ (i : Journal). i.next_gate) journal)))
+      each_told s t (λ x y. Answers member x y (Ok r)) (λ x y p q. (Live live (held_by j payloads), opened_is (Live live (held_by j payloads)) is x y p q ∙ gives, (side, ap header_of journal, ap (λ (i : Journal). i.next_gate) journal)))
   answers_live (Err e) live j payloads is gives side journal =
-      each_told s t (λ x y. Tells e (opened owner x y)) (λ x y p q. tells_on e (taken owner (Live live (held_by j payloads))) (opened owner x y) gives (λ r e_is. opened_is (Live live (held_by j payloads)) is x y p q ∙ e_is))
+      each_told s t (λ x y. Tells e (opened (owner_of member) x y)) (λ x y p q. tells_on e (taken (owner_of member) (Live live (held_by j payloads))) (opened (owner_of member) x y) gives (λ r e_is. opened_is (Live live (held_by j payloads)) is x y p q ∙ e_is))

@@ -24,7 +24,7 @@ use Rattle.mon_store.specs.declared.stop.StoreStop.TheVariants.{Broken, TooLong,
 use Rattle.mon_store.specs.Refusals.{Refuses, LeavesDisk, breaks}
 use Rattle.mon_store.proofs.Payloads.{map_more}
 use Rattle.mon_store.proofs.Pairs.{stands_for}
-use Rattle.mon_store.proofs.Turns.{first_goes, second_goes}
+use Rattle.mon_store.proofs.Moments.{first_goes, second_goes}
 use Rattle.mon_store.proofs.Keeping.{holds_now}
 
 -- ---- what a disk tells

@@ -16,14 +16,14 @@ use Rattle.mon_journal.specs.Steps.{AlikeFrom, CreatedFrom, Keeps, Opens}
 use Rattle.mon_store.specs.Checkpoint.{most_size}
 use Rattle.mon_store.specs.Payloads.{map_of}
 use Rattle.mon_store.specs.Pair.{found, stands}
-use Rattle.mon_store.specs.Moments.{Meanwhile}
+use Rattle.mon_store.specs.Moments.{WhileOpening}
 use Rattle.mon_store.specs.Opening.{held_in, len_of, AlikePair}
 use Rattle.mon_store.specs.declared.opening.Standing.{Standing}
 use Rattle.mon_store.specs.declared.stop.OpenStop.{OpenStop}
 use Rattle.mon_store.specs.Sound.{of_live, other_side, IsBelow, Sound}
 use Rattle.mon_store.proofs.Pairs.{stands_for}
 use Rattle.mon_store.proofs.Sizes.{size_empty}
-use Rattle.mon_store.proofs.Turns.{first_goes, goes_on}
+use Rattle.mon_store.proofs.Moments.{then_first}
 use Rattle.mon_store.proofs.Alike.{alike_stands, opened_b}
 
 -- no record makes the empty map
@@ -89,10 +89,10 @@ module _ (member : Member) (a a1 a2 b b1 : Content) (la : LeavesOnly a a1 (Alike
       empty_then x read c d there (stands_for A c d (held_by (created member 1 None) []) empty holds (subst (IsBelow 1) (sym none.0) tt) map_nothing)
 
   -- the creation
-  pub opened_c : LeavesOnly a1 a2 (CreatedFrom a1 (created member 1 None) []) → is_some a.seen ≡ true → IfSome a1.seen (images a1) → Meanwhile a b a2 b1 (AlikePair a b)
+  pub opened_c : LeavesOnly a1 a2 (CreatedFrom a1 (created member 1 None) []) → is_some a.seen ≡ true → IfSome a1.seen (images a1) → WhileOpening a b a2 b1 (AlikePair a b)
   opened_c lc told read =
       let x = there a1.seen (ap is_some ka.same ∙ told) read in
-      goes_on a b a1 b1 a2 b1 (AlikePair a b) (opened_b a a1 b b1 la lb) (first_goes a1 a2 b1 (CreatedFrom a1 (created member 1 None) []) (AlikePair a b) lc (during x.0 x.1))
+      then_first a b a1 b1 a2 (CreatedFrom a1 (created member 1 None) []) (AlikePair a b) (opened_b a a1 b b1 la lb) lc (during x.0 x.1)
     where
       there : (s : Option (List ℕ)) → is_some s ≡ true → IfSome s (images a1) → (x : List ℕ) × images a1 x
       there None some h = absurd cc

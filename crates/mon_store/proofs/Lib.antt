@@ -6,7 +6,7 @@ pub mod Walks
 pub mod Folds
 pub mod Payloads
 pub mod Pairs
-pub mod Turns
+pub mod Moments
 pub mod Keeping
 pub mod Applying
 pub mod Restarting

@@ -16,15 +16,15 @@ use Rattle.mon_store.specs.Checkpoint.{checkpoint_text, HasCheckpoint}
 use Rattle.mon_store.specs.Payloads.{map_of}
 use Rattle.mon_store.specs.Moments.{Meanwhile, EachPair}
 use Rattle.mon_store.specs.Sound.{of_a, of_b, other_side, IsBelow, Sound, StandFor, Begins, next_journal}
-use Rattle.mon_store.specs.Calls.{stopped, MakesCalls}
+use Rattle.mon_store.specs.Calls.{stop_of, MakesCalls}
 use Rattle.mon_store.proofs.Payloads.{map_checkpoint}
 use Rattle.mon_store.proofs.Pairs.{stands_for}
-use Rattle.mon_store.proofs.Turns.{first_goes, second_goes}
+use Rattle.mon_store.proofs.Moments.{first_goes, second_goes}
 use Rattle.mon_store.proofs.Keeping.{holds_now}
 use Rattle.mon_store.proofs.Applying.{told_map, is_told, stands_now}
 
 -- a call that the journal stopped
-pub calls_err : (T : Type 0) (calls : List DiskCall) (old new : Option Told) (e : JournalStop) → IsOutside e → Makes {T = T} calls old new (Err e) → MakesCalls {T = T} calls old new (Err (stopped e))
+pub calls_err : (T : Type 0) (calls : List DiskCall) (old new : Option Told) (e : JournalStop) → IsOutside e → Makes {T = T} calls old new (Err e) → MakesCalls {T = T} calls old new (Err (stop_of e))
 calls_err T calls old new journal.DiskFault outside made = made
 calls_err T calls old new (journal.NotAStore at) outside made = absurd outside
 calls_err T calls old new journal.OutOfMemory outside made = made

@@ -17,10 +17,10 @@ use Rattle.mon_store.specs.Checkpoint.{checkpoint_text}
 use Rattle.mon_store.specs.Sound.{is_due}
 
 -- what a journal's refusal is to the store
-abbrev pub stopped : Rattle.mon_journal.specs.declared.stop.JournalStop.JournalStop → StoreStop
-stopped journal.DiskFault = DiskFault
-stopped (journal.NotAStore at) = DiskFault
-stopped journal.OutOfMemory = OutOfMemory
+abbrev pub stop_of : Rattle.mon_journal.specs.declared.stop.JournalStop.JournalStop → StoreStop
+stop_of journal.DiskFault = DiskFault
+stop_of (journal.NotAStore at) = DiskFault
+stop_of journal.OutOfMemory = OutOfMemory
 
 -- the calls of a disk that were made: none, where the store refused before
 abbrev pub MakesCalls : {T : Type 0} → List DiskCall → Option Told → Option Told → Result T StoreStop → Type 0

@@ -1,5 +1,5 @@
--- What a crash may leave of two disks, at each moment that they stood at together.
-use Rattle.std.specs.Prelude.{◌≡◌, ℕ, ◌≤◌, List, [], ◌∷◌}
+-- What a crash may leave of two disks, at each moment of a call.
+use Rattle.std.specs.Prelude.{ℕ, ◌≤◌, List}
 use Rattle.mon_disk.specs.Images.{Content, images}
 
 -- what a crash might have left of a disk at an earlier moment stands
@@ -12,18 +12,18 @@ pub record Lasts (old new : Content) : Type 0 where
 abbrev pub EachPair : Content → Content → (List ℕ → List ℕ → Type 0) → Type 0
 EachPair a b P = (c d : List ℕ) → images a c → images b d → P c d
 
--- The two disks go on in turns: the first one to a moment, and then the second one to a moment. Each pair of images of
--- moments that they stood at together has P, and so has each of now.
-abbrev pub EachTurn : Content → Content → (List ℕ → List ℕ → Type 0) → ℕ → ℕ → List (ℕ × ℕ) → Type 0
-EachTurn a b P s t [] = (s ≡ a.moment) × (t ≡ b.moment) × EachPair a b P
-EachTurn a b P s t (turn ∷ turns) =
-    (s ≤ turn.0) × (t ≤ turn.1)
-    × ((m : ℕ) (c d : List ℕ) → s ≤ m → m ≤ turn.0 → a.images_at m c → b.images_at t d → P c d)
-    × ((m : ℕ) (c d : List ℕ) → t ≤ m → m ≤ turn.1 → a.images_at turn.0 c → b.images_at m d → P c d)
-    × EachTurn a b P turn.0 turn.1 turns
-
--- A crash at any moment between leaves of the two disks a pair that has P.
+-- A crash at any moment of a call leaves of the two disks a pair that has P, whichever moments of the call they stood at.
 pub record Meanwhile (old_a old_b new_a new_b : Content) (P : List ℕ → List ℕ → Type 0) : Type 0 where
   pub a : Lasts old_a new_a
   pub b : Lasts old_b new_b
-  pub turns : (ts : List (ℕ × ℕ)) × EachTurn new_a new_b P old_a.moment old_b.moment ts
+  pub each : (s t : ℕ) (c d : List ℕ) → old_a.moment ≤ s → s ≤ new_a.moment → old_b.moment ≤ t → t ≤ new_b.moment → new_a.images_at s c → new_b.images_at t d → P c d
+
+-- The same of a call that may end on disk A alone. From its turn to that on, disk B stood at its last moment.
+pub record WhileOpening (old_a old_b new_a new_b : Content) (P : List ℕ → List ℕ → Type 0) : Type 0 where
+  pub a : Lasts old_a new_a
+  pub b : Lasts old_b new_b
+  pub turn : ℕ
+  pub from : old_a.moment ≤ turn
+  pub to : turn ≤ new_a.moment
+  pub each : (s t : ℕ) (c d : List ℕ) → old_a.moment ≤ s → s ≤ turn → old_b.moment ≤ t → t ≤ new_b.moment → new_a.images_at s c → new_b.images_at t d → P c d
+  pub alone : (s : ℕ) (c d : List ℕ) → turn ≤ s → s ≤ new_a.moment → new_a.images_at s c → images new_b d → P c d

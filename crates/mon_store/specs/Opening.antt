@@ -8,9 +8,8 @@ use Rattle.mon_journal.specs.declared.stop.JournalStop.{JournalStop}
 use Rattle.mon_journal.specs.declared.stop.JournalStop.TheVariants as journal
 use Rattle.mon_journal.specs.declared.opening.Opened.{Opened}
 use Rattle.mon_journal.specs.declared.opening.Opened.TheVariants as disk
-use Rattle.mon_journal.specs.Written.{owner_of}
+use Rattle.mon_journal.specs.Written.{owner_of, created}
 use Rattle.mon_journal.specs.Content.{Held, held_by, header_of}
-use Rattle.mon_journal.specs.Fields.{Owner}
 use Rattle.std.specs.FinMap.{empty}
 use Rattle.mon_types.specs.declared.names.Side.{Side}
 use Rattle.mon_types.specs.declared.names.Side.TheVariants.{A}
@@ -62,15 +61,15 @@ pub record HasFaults {T : Type 0} (a_before a_now b_before b_now : ℕ) (result 
   pub b_later : b_before ≤ b_now
   pub failed : result ≡ Err DiskFault → Rose a_before a_now ⊎ Rose b_before b_now
 
--- what stands on the disks of a store that was opened
-abbrev pub place_of : Standing → Found → Type 0
-place_of s Create = (s.side ≡ A) × (s.kv ≡ empty)
-place_of s (Live side held) = (s.side ≡ side) × (header_of s.journal ≡ held.header) × (s.journal.next_gate ≡ held.next_gate)
+-- what stands on the disks of a member's store that was opened
+abbrev pub place_of : Member → Standing → Found → Type 0
+place_of member s Create = (s.side ≡ A) × (s.journal ≡ created member 1 None) × (s.kv ≡ empty)
+place_of member s (Live side held) = (s.side ≡ side) × (header_of s.journal ≡ held.header) × (s.journal.next_gate ≡ held.next_gate)
 
 -- What opening answers is what a member finds on the two disks, unless the outside refused.
-abbrev pub Answers : Owner → List ℕ → List ℕ → Result Standing OpenStop → Type 0
-Answers owner a b (Ok s) = (place : Found) × (opened owner a b ≡ Ok (place, s.kv)) × place_of s place
-Answers owner a b (Err e) = Tells e (opened owner a b)
+abbrev pub Answers : Member → List ℕ → List ℕ → Result Standing OpenStop → Type 0
+Answers member a b (Ok s) = (place : Found) × (opened (owner_of member) a b ≡ Ok (place, s.kv)) × place_of member s place
+Answers member a b (Err e) = Tells e (opened (owner_of member) a b)
 
 -- a disk's fault, or want of memory
 abbrev pub IsOutside : OpenStop → Type 0

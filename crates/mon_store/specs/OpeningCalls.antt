@@ -10,7 +10,7 @@ use Rattle.mon_journal.specs.Steps.{open_calls, create_calls}
 use Rattle.mon_store.specs.declared.stop.OpenStop.{OpenStop}
 use Rattle.mon_store.specs.declared.stop.OpenStop.TheVariants.{DiskFault, OutOfMemory}
 use Rattle.mon_store.specs.Pair.{Refusal, Found, Create, Live, held_on, found}
-use Rattle.mon_store.specs.Sound.{of_a, of_b, of_live}
+use Rattle.mon_store.specs.Sound.{of_live}
 
 abbrev pub calls_on : Side → List DiskCall → List (Side × DiskCall)
 calls_on side [] = []
@@ -34,14 +34,23 @@ creation owner (Err e) = []
 unfoldable pub opening_calls : Owner → List ℕ → List ℕ → List (Side × DiskCall)
 opening_calls owner a b = both_calls a b ++ creation owner (found a b)
 
+-- what the disks tell once one of them was called
+abbrev pub called_a : Side → DiskCall → Option Told → Option Told
+called_a A call a = and_made call a
+called_a B call a = a
+
+abbrev pub called_b : Side → DiskCall → Option Told → Option Told
+called_b A call b = b
+called_b B call b = and_made call b
+
 -- Which of these calls were made, in this order, on two disks that tell theirs: each of them, where none failed; or those up
 -- to the first that failed, which is where DiskFault comes; or those before memory ran out.
 abbrev pub MakesBoth : {T : Type 0} → List (Side × DiskCall) → Option Told → Option Told → Option Told → Option Told → Result T OpenStop → Type 0
 MakesBoth [] a b new_a new_b result = (new_a ≡ a) × (new_b ≡ b) × (result ≡ Err DiskFault → ⊥)
 MakesBoth ((side, call) ∷ calls) a b new_a new_b result =
     ((result ≡ Err OutOfMemory) × (new_a ≡ a) × (new_b ≡ b))
-    ⊎ ((result ≡ Err DiskFault) × (new_a ≡ of_a side (and_made call a) a) × (new_b ≡ of_b side (and_made call b) b) × IfSome (of_live side a b) (λ t. fails_next t ≡ true))
-    ⊎ (IfSome (of_live side a b) (λ t. fails_next t ≡ false) × MakesBoth calls (of_a side (and_made call a) a) (of_b side (and_made call b) b) new_a new_b result)
+    ⊎ ((result ≡ Err DiskFault) × (new_a ≡ called_a side call a) × (new_b ≡ called_b side call b) × IfSome (of_live side a b) (λ t. fails_next t ≡ true))
+    ⊎ (IfSome (of_live side a b) (λ t. fails_next t ≡ false) × MakesBoth calls (called_a side call a) (called_b side call b) new_a new_b result)
 
 -- the same, where both disks tell their calls and what they hold
 abbrev pub OpensWith : {T : Type 0} → (List ℕ → List ℕ → List (Side × DiskCall)) → Option (List ℕ) → Option (List ℕ) → Option Told → Option Told → Option Told → Option Told → Result T OpenStop → Type 0

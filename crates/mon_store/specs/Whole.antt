@@ -1,8 +1,11 @@
 -- A store in use.
-use Rattle.std.specs.Prelude.{◌≡◌, ℕ, false, Result, Ok, Err}
+use Rattle.std.specs.Prelude.{◌≡◌, ℕ, false, List, [], ◌∷◌, Result, Ok, Err}
 use Rattle.mon_disk.specs.Images.{Content}
 use Rattle.mon_store.specs.declared.store.Store.{Store}
 use Rattle.mon_store.specs.declared.opening.Standing.{Standing}
+use Rattle.mon_tx.specs.declared.op.Op.{Op}
+use Rattle.mon_store.specs.declared.stop.StoreStop.{StoreStop}
+use Rattle.mon_store.specs.declared.stop.StoreStop.TheVariants.{Broken, TooLong, Full, DiskFault, OutOfMemory}
 use Rattle.mon_store.specs.declared.stop.OpenStop.{OpenStop}
 use Rattle.mon_store.specs.declared.stop.OpenRefused.{OpenRefused}
 use Rattle.mon_types.specs.declared.names.Side.{Side}
@@ -22,6 +25,16 @@ disk_b store = of_b store.side store.live store.other
 -- the disk of a side
 abbrev pub disk_of : {D : Type 0} → Side → Store D → D
 disk_of side store = of_live side (disk_a store) (disk_b store)
+
+-- After Broken and TooLong a store is as it was, and so it is after an empty transaction.
+abbrev pub Stays : {D T : Type 0} → List Op → Store D → Store D → Result T StoreStop → Type 0
+Stays [] old new (Ok x) = new ≡ old
+Stays (op ∷ ops) old new (Ok x) = Unit {0}
+Stays ops old new (Err Broken) = new ≡ old
+Stays ops old new (Err (TooLong len)) = new ≡ old
+Stays ops old new (Err (Full would_be)) = Unit {0}
+Stays ops old new (Err DiskFault) = Unit {0}
+Stays ops old new (Err OutOfMemory) = Unit {0}
 
 -- ---- what an opening answered
 

@@ -82,7 +82,7 @@ impl<D: Disk> Store<D> {
     ghost use Rattle.std.specs.Prelude.{IsTrue};
     ghost use Rattle.mon_store.specs.Moments.{Meanwhile, EachPair};
     ghost use Rattle.mon_store.specs.Sound.{StandFor, BeforeOrAfter};
-    ghost use Rattle.mon_store.specs.Whole.{IsSound, disk_a, disk_b};
+    ghost use Rattle.mon_store.specs.Whole.{IsSound, disk_a, disk_b, Stays};
 
     /// Makes a transaction's changes: in the map, and with a record on the live disk. An empty one makes no call on a disk.
     /// Broken is answered where an earlier call broke the store, and then TooLong, where the text passes 4,194,304 bytes; then
@@ -93,6 +93,7 @@ impl<D: Disk> Store<D> {
         ensures sound { IsSound D.known D.content self.new }
         ensures answer { Answers tx.now self.old.kv self.new.kv self.old.broken result }
         ensures broken { self.new.broken ≡ (self.old.broken || breaks result) }
+        ensures same { Stays tx.now self.old self.new result }
 
         // A crash at any moment leaves the old map, or the new one exactly where the gate of its record is open.
         ensures any_moment { self.old.broken ≡ false → IsTrue (is_some (D.content self.old.live).seen) → Meanwhile (D.content (disk_a self.old)) (D.content (disk_b self.old)) (D.content (disk_a self.new)) (D.content (disk_b self.new)) (BeforeOrAfter self.old.side self.old.journal.next_gate self.old.kv (apply tx.now self.old.kv)) }

@@ -36,15 +36,15 @@ fn on<D>(alloc: Global, a: D, b: D, found: Standing) -> Store<D>
 impl<D: Disk> Store<D> {
     ghost use Rattle.std.specs.Prelude.{is_some, IfOk, IfSome, IsTrue};
     ghost use Rattle.mon_journal.specs.Written.{owner_of};
-    ghost use Rattle.mon_store.specs.Moments.{Meanwhile, EachPair};
+    ghost use Rattle.mon_store.specs.Moments.{WhileOpening, EachPair};
     ghost use Rattle.mon_store.specs.Sound.{StandFor};
     ghost use Rattle.mon_store.specs.Opening.{Answers, AlikePair, HasFaults};
     ghost use Rattle.mon_store.specs.OpeningCalls.{opening_calls, OpensWith};
     ghost use Rattle.mon_store.specs.Whole.{IsSound, a_after, b_after, answered};
 
     /// Opens the store on two disks, or creates it on them where both are new. NotAStore, and then Stranger, tell what is
-    /// wrong with what they hold; a refusal hands the disks back, and changes nothing that they stand for. Its time is linear
-    /// in the length of the two files.
+    /// wrong with what they hold; a refusal hands the disks back, and changes nothing that they stand for. Each file is read
+    /// once.
     pub fn open(
         alloc: Global,
         disks: NodeDisks<D>,
@@ -52,12 +52,13 @@ impl<D: Disk> Store<D> {
     ) -> Result<Store<D>, OpenRefused<D>>
         ensures sound { IfOk result (IsSound D.known D.content) }
         ensures broken { IfOk result (λ store. store.broken ≡ false) }
+        ensures owner { IfOk result (λ store. owner_of store.journal.member ≡ owner_of member) }
 
         // The map is the one that the two disks stood for, and each refusal goes back to what they held.
-        ensures answer { IfSome (D.content disks.a).seen (λ x. IfSome (D.content disks.b).seen (λ y. Answers (owner_of member) x y (answered result))) }
+        ensures answer { IfSome (D.content disks.a).seen (λ x. IfSome (D.content disks.b).seen (λ y. Answers member x y (answered result))) }
 
         // A crash at any moment leaves two files that stand for what two stood for that a crash might have left before.
-        ensures any_moment { IsTrue (is_some (D.content disks.a).seen) → IsTrue (is_some (D.content disks.b).seen) → Meanwhile (D.content disks.a) (D.content disks.b) (D.content (a_after result)) (D.content (b_after result)) (AlikePair (D.content disks.a) (D.content disks.b)) }
+        ensures any_moment { IsTrue (is_some (D.content disks.a).seen) → IsTrue (is_some (D.content disks.b).seen) → WhileOpening (D.content disks.a) (D.content disks.b) (D.content (a_after result)) (D.content (b_after result)) (AlikePair (D.content disks.a) (D.content disks.b)) }
 
         // After Ok it leaves the map alone.
         ensures safe { IfOk result (λ store. EachPair (D.content (disk_a store)) (D.content (disk_b store)) (StandFor store.kv)) }

@@ -12,7 +12,7 @@ ghost use Rattle.std.specs.FinMap.{empty};
 ghost use Rattle.mon_store.specs.Checkpoint.{most_size};
 ghost use Rattle.mon_store.specs.Payloads.{map_of};
 ghost use Rattle.mon_store.specs.Pair.{Live, taken, found};
-ghost use Rattle.mon_store.specs.Moments.{Meanwhile};
+ghost use Rattle.mon_store.specs.Moments.{Meanwhile, WhileOpening};
 ghost use Rattle.mon_store.specs.Sound.{of_live, Sound, other_side};
 ghost use Rattle.mon_store.specs.Opening.{named, Tells, Gives, Answers, IsOutside, IsNoFault, AlikePair, HasFaults};
 ghost use Rattle.mon_store.specs.OpeningCalls.{calls_on, both_calls, opening_calls, MakesBoth, OpensWith};
@@ -57,6 +57,7 @@ fn restore(
     ensures answer { Gives (λ s. (Live side (held_by journal payloads.now), s.kv)) result (taken (owner_of member.now) (Live side (held_by journal payloads.now))) }
     ensures side { IfOk result (λ s. s.side ≡ side) }
     ensures journal { IfOk result (λ s. s.journal ≡ journal) }
+    ensures owner { IfOk result (λ s. owner_of s.journal.member ≡ owner_of member.now) }
     ensures map { IfOk result (λ s. map_of payloads.now ≡ Ok s.kv) }
     ensures size { IfOk result (λ s. size_of s.kv ≤ most_size) }
     ensures no_fault { IfErr result IsNoFault }
@@ -136,8 +137,9 @@ pub(crate) fn open_disks<D: Disk>(
     member: &Member,
 ) -> Result<Standing, OpenStop>
     ensures sound { IfOk result (λ s. Sound s.journal s.kv (D.known (of_live s.side a.new b.new)) (D.content (of_live s.side a.new b.new)) (D.content (of_live (other_side s.side) a.new b.new))) }
-    ensures answer { IfSome (D.content a.old).seen (λ x. IfSome (D.content b.old).seen (λ y. Answers (owner_of member.now) x y result)) }
-    ensures any_moment { IsTrue (is_some (D.content a.old).seen) → IsTrue (is_some (D.content b.old).seen) → Meanwhile (D.content a.old) (D.content b.old) (D.content a.new) (D.content b.new) (AlikePair (D.content a.old) (D.content b.old)) }
+    ensures owner { IfOk result (λ s. owner_of s.journal.member ≡ owner_of member.now) }
+    ensures answer { IfSome (D.content a.old).seen (λ x. IfSome (D.content b.old).seen (λ y. Answers member.now x y result)) }
+    ensures any_moment { IsTrue (is_some (D.content a.old).seen) → IsTrue (is_some (D.content b.old).seen) → WhileOpening (D.content a.old) (D.content b.old) (D.content a.new) (D.content b.new) (AlikePair (D.content a.old) (D.content b.old)) }
     ensures a_tells { is_some (D.content a.new).seen ≡ is_some (D.content a.old).seen }
     ensures b_tells { is_some (D.content b.new).seen ≡ is_some (D.content b.old).seen }
     ensures calls { OpensWith (opening_calls (owner_of member.now)) (D.content a.old).seen (D.content b.old).seen (D.told a.old) (D.told b.old) (D.told a.new) (D.told b.new) result }

@@ -1,4 +1,4 @@
-ghost use Rattle.std.specs.Prelude.{◌≡◌, ◌≤◌, ◌<◌, ◌+◌, ◌^◌, ◌||◌, true, false, [], ◌∷◌, ◌++◌, Ok, Some, length, is_some, IfOk, IfErr, OnOk};
+ghost use Rattle.std.specs.Prelude.{◌≡◌, ◌≤◌, ◌<◌, ◌+◌, ◌^◌, ◌||◌, true, false, [], ◌∷◌, ◌++◌, Ok, Err, Some, length, is_some, IfOk, IfErr, OnOk};
 ghost use Rattle.mon_kv.specs.Readers.{size_of};
 ghost use Rattle.mon_disk.specs.Images.{LeavesOnly};
 ghost use Rattle.mon_journal.specs.Written.{owner_of};
@@ -19,7 +19,7 @@ use mon_types::{GREATEST, Side};
 use std::alloc::Global;
 use std::mem::swap;
 
-/// A live file is begun anew only where it is longer than this, up to and with its first closed gate.
+/// A live file with the second header is begun anew only where it is longer than this, up to and with its first closed gate.
 const LEAST_LENGTH: u64 = 1048576;
 
 fn is_first(form: Form) -> bool
@@ -104,6 +104,7 @@ impl<D: Disk> Store<D> {
         ensures answer { Restarts self.old.broken (is_due self.old.journal self.old.kv) result }
         ensures broken { self.new.broken ≡ (self.old.broken || breaks result) }
         ensures map { self.new.kv ≡ self.old.kv }
+        ensures refused { result ≡ Err StoreStop.Broken → self.new ≡ self.old }
 
         // A crash at any moment leaves the one map.
         ensures any_moment { self.old.broken ≡ false → Meanwhile (D.content (disk_a self.old)) (D.content (disk_b self.old)) (D.content (disk_a self.new)) (D.content (disk_b self.new)) (StandFor self.old.kv) }

@@ -38,9 +38,9 @@ impl From<OutOfMemory> for StoreStop {
 
 impl From<JournalStop> for StoreStop {
     ghost use Rattle.std.specs.Prelude.{◌≡◌};
-    ghost use Rattle.mon_store.specs.Calls.{stopped};
+    ghost use Rattle.mon_store.specs.Calls.{stop_of};
 
-    ghost from_gives = { λ s e. e ≡ stopped s };
+    ghost from_gives = { λ s e. e ≡ stop_of s };
 
     fn from(s: JournalStop) -> StoreStop {
         match s {
@@ -70,8 +70,9 @@ pub enum OpenStop {
     /// A disk failed.
     #[error("a disk failed")]
     DiskFault,
-    /// What begins at this place of that disk isn't what a store has there. Two files of one generation are named as disk B
-    /// at 0, and closed disks that are no creation that a crash cut short as the disk that isn't, at 0.
+    /// What begins at this place of that disk isn't what a store has there. Two open files with one generation are named as
+    /// disk B at 0. Two closed files on which no store may be created are named as disk A at 0 where it has more than 26
+    /// bytes, and else as disk B at 0.
     #[error("disk {disk:?} is no store, at {at}")]
     NotAStore { disk: Side, at: u64 },
     /// The store is another member's.

@@ -6,7 +6,8 @@ use Rattle.mon_store.specs.declared.opening.Both.{Both}
 use Rattle.mon_store.specs.declared.opening.Standing.{Standing}
 use Rattle.mon_store.specs.declared.stop.OpenStop.{OpenStop}
 use Rattle.mon_store.specs.Pair.{Refusal, Found, Create, Live, chosen}
-use Rattle.mon_store.specs.Opening.{held_in, len_of, found_of}
+use Rattle.mon_store.specs.Opening.{held_in, len_of, found_of, AlikePair}
+use Rattle.mon_store.proofs.Moments.{ends}
 use Rattle.mon_store.specs.OpeningCalls.{opening_calls, OpensWith}
 use Rattle.mon_store.proofs.Answering.{refused, not_chosen, answers_err, answers_new, answers_live}
 use Rattle.mon_store.proofs.Chosen.{New, chosen_new}
@@ -20,7 +21,7 @@ returns-in_err-both-clause-answer g c =
     let e = c.in_err-both.field-0.0 in
     let s = (g.D.Disk.content c.args.a.now).seen in
     let t = (g.D.Disk.content c.args.b.now).seen in
-    answers_err (owner_of c.args.member.now) e s t c.from_residual.result (p.1 ∙ ap (λ x. Err x) p.2) (refused (owner_of c.args.member.now) e s t c.in_err-both.ensures.refused)
+    answers_err c.args.member.now e s t c.from_residual.result (p.1 ∙ ap (λ x. Err x) p.2) (refused (owner_of c.args.member.now) e s t c.in_err-both.ensures.refused)
 
 pub returns-in_err-both-clause-calls : goal.returns-in_err-both-clause-calls
 returns-in_err-both-clause-calls g c =
@@ -31,6 +32,21 @@ returns-in_err-both-clause-calls g c =
     (calls_refused s t (g.D.Disk.told c.args.a.now) (g.D.Disk.told c.args.b.now) Both Standing (owner_of c.args.member.now) c.in_err-both.field-0.0 (g.D.Disk.told c.open_both.new.a) (g.D.Disk.told c.open_both.new.b)
     c.in_err-both.ensures.refused c.in_err-both.ensures.calls)
 
+pub returns-in_err-both-clause-any_moment : goal.returns-in_err-both-clause-any_moment
+returns-in_err-both-clause-any_moment g c = λ told_a told_b.
+    let content = g.D.Disk.content in
+    ends (content c.args.a.now) (content c.args.b.now) (content c.open_both.new.a) (content c.open_both.new.b) (AlikePair (content c.args.a.now) (content c.args.b.now)) c.open_both.ensures.any_moment
+
+pub returns-in_err-choose-clause-any_moment : goal.returns-in_err-choose-clause-any_moment
+returns-in_err-choose-clause-any_moment g c = λ told_a told_b.
+    let content = g.D.Disk.content in
+    ends (content c.args.a.now) (content c.args.b.now) (content c.open_both.new.a) (content c.open_both.new.b) (AlikePair (content c.args.a.now) (content c.args.b.now)) c.open_both.ensures.any_moment
+
+pub returns-in-Live-clause-any_moment : goal.returns-in-Live-clause-any_moment
+returns-in-Live-clause-any_moment g c = λ told_a told_b.
+    let content = g.D.Disk.content in
+    ends (content c.args.a.now) (content c.args.b.now) (content c.open_both.new.a) (content c.open_both.new.b) (AlikePair (content c.args.a.now) (content c.args.b.now)) c.open_both.ensures.any_moment
+
 pub returns-in_err-choose-clause-answer : goal.returns-in_err-choose-clause-answer
 returns-in_err-choose-clause-answer g c =
     let p = err_from_is_err_and c.from_residual-in_err-choose.result c.from_residual-in_err-choose.ensures.1 in
@@ -39,8 +55,8 @@ returns-in_err-choose-clause-answer g c =
     let b = c.open_both.new.b in
     let s = (g.D.Disk.content c.args.a.now).seen in
     let t = (g.D.Disk.content c.args.b.now).seen in
-    answers_err (owner_of c.args.member.now) e s t c.from_residual-in_err-choose.result (p.1 ∙ ap (λ x. Err x) p.2)
-    (not_chosen c.in_ok-both.both.a c.in_ok-both.both.b s t (g.D.Disk.known a) (g.D.Disk.known b) (g.D.Disk.content a) (g.D.Disk.content b) c.in_ok-both.ensures.a c.in_ok-both.ensures.b (owner_of c.args.member.now) e c.in_err-choose.ensures.found)
+    answers_err c.args.member.now e s t c.from_residual-in_err-choose.result (p.1 ∙ ap (λ x. Err x) p.2)
+    (not_chosen c.in_ok-both.both.a c.in_ok-both.both.b s t (g.D.Disk.known a) (g.D.Disk.known b) (g.D.Disk.content a) (g.D.Disk.content b) c.in_ok-both.ensures.a c.in_ok-both.ensures.b c.args.member.now e c.in_err-choose.ensures.found)
 
 pub returns-in_err-choose-clause-calls : goal.returns-in_err-choose-clause-calls
 returns-in_err-choose-clause-calls g c =
@@ -71,8 +87,8 @@ returns-in-New-clause-answer g c =
     let b = c.open_both.new.b in
     let s = (g.D.Disk.content c.args.a.now).seen in
     let t = (g.D.Disk.content c.args.b.now).seen in
-    answers_new c.in_ok-both.both.a c.in_ok-both.both.b s t (g.D.Disk.known a) (g.D.Disk.known b) (g.D.Disk.content a) (g.D.Disk.content b) c.in_ok-both.ensures.a c.in_ok-both.ensures.b (owner_of c.args.member.now)
-    c.create_on.result (c.in_ok-choose.ensures.found ∙ ap (λ x. Ok (found_of x)) c.in-New.is) c.create_on.ensures.side c.create_on.ensures.map c.create_on.ensures.outside
+    answers_new c.in_ok-both.both.a c.in_ok-both.both.b s t (g.D.Disk.known a) (g.D.Disk.known b) (g.D.Disk.content a) (g.D.Disk.content b) c.in_ok-both.ensures.a c.in_ok-both.ensures.b c.args.member.now
+    c.create_on.result (c.in_ok-choose.ensures.found ∙ ap (λ x. Ok (found_of x)) c.in-New.is) c.create_on.ensures.side c.create_on.ensures.journal c.create_on.ensures.map c.create_on.ensures.outside
 
 pub returns-in-New-clause-any_moment : goal.returns-in-New-clause-any_moment
 returns-in-New-clause-any_moment g c = λ told_a told_b.
@@ -107,7 +123,7 @@ returns-in-Live-clause-answer g c =
     let payloads = c.as_slice.result.now in
     let is : chosen (held_in c.in_ok-both.both.a) (held_in c.in_ok-both.both.b) (len_of c.in_ok-both.both.a) (len_of c.in_ok-both.both.b) ≡ Ok (Live side (held_by j payloads)) =
     c.in_ok-choose.ensures.found ∙ ap (λ x. Ok (found_of x)) c.in-Live.is ∙ ap (λ (ps : List (List ℕ)). Ok (Live side (held_by j ps))) (sym c.as_slice.ensures.value) in
-    answers_live c.in_ok-both.both.a c.in_ok-both.both.b s t (g.D.Disk.known a) (g.D.Disk.known b) (g.D.Disk.content a) (g.D.Disk.content b) c.in_ok-both.ensures.a c.in_ok-both.ensures.b (owner_of c.args.member.now)
+    answers_live c.in_ok-both.both.a c.in_ok-both.both.b s t (g.D.Disk.known a) (g.D.Disk.known b) (g.D.Disk.content a) (g.D.Disk.content b) c.in_ok-both.ensures.a c.in_ok-both.ensures.b c.args.member.now
     c.restore.result side j payloads is c.restore.ensures.answer c.restore.ensures.side c.restore.ensures.journal
 
 pub returns-in-Live-clause-calls : goal.returns-in-Live-clause-calls

@@ -5,7 +5,7 @@ use Rattle.mon_journal.specs.Steps.{payloads_seen}
 use Rattle.mon_store.specs.Sound.{of_a, of_b, Sound, WithChange, StandFor, BeforeOrAfter}
 use Rattle.mon_store.specs.Whole.{disk_a, disk_b}
 use Rattle.mon_store.specs.Refusals.{breaks}
-use Rattle.mon_store.proofs.Turns.{none_goes, now, settles_too}
+use Rattle.mon_store.proofs.Moments.{none_goes, now, settles_too}
 use Rattle.mon_store.proofs.Applying.{Kept, stands_now, changes, changes_nothing, no_change, each_pair, live_goes, sound_then, safe_then}
 use Rattle.mon_store.proofs.store.Store.apply.Goals as goal
 

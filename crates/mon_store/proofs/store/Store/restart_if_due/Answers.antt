@@ -1,7 +1,7 @@
 use Rattle.std.proofs.Common.{◌≡◌, false, sym, ap, subst, ◌∙◌}
 use Rattle.mon_store.specs.Sound.{of_a, of_b, other_side, Sound, StandFor, Begins, next_journal}
 use Rattle.mon_store.specs.Whole.{disk_a, disk_b}
-use Rattle.mon_store.proofs.Turns.{none_goes}
+use Rattle.mon_store.proofs.Moments.{none_goes}
 use Rattle.mon_store.proofs.Applying.{stands_now, each_pair}
 use Rattle.mon_store.proofs.Restarting.{begins, sound_next, other_goes, other_takes}
 use Rattle.mon_store.proofs.store.Store.restart_if_due.Goals as goal
