@@ -1,0 +1,12 @@
+pub mod Currents
+pub mod Drafting
+pub mod Fulls
+pub mod Kindly
+pub mod MapSizes
+pub mod Onwards
+pub mod Rows
+pub mod Starts
+pub mod Steps
+pub mod Tellings
+pub mod Transactions
+pub mod Turns

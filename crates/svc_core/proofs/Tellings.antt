@@ -1,0 +1,94 @@
+-- The incrementals that one reply takes, one after the other.
+use Rattle.std.proofs.Common.{◌≡◌, ℕ, zero, suc, ◌+◌, ◌-◌, ◌<◌, ◌≤◌, Bool, true, false, cond, ◌&&◌, leb, ltb, List, [], ◌∷◌, ◌++◌, length, Option, Some, None, ◌⊎◌, inl, inr, refl, sym, ap, ◌∙◌, arith}
+use Rattle.std.proofs.lemmas.Bool.{le-leb, lt-leb, lt-ltb, le-ltb}
+use Rattle.std.proofs.lemmas.List.{length-append}
+use Rattle.std.proofs.lemmas.List.Sums.{sum_by-append}
+use Rattle.std.specs.List.{sum_by}
+use Rattle.mon_tx.specs.Decision.{Cell}
+use Rattle.mon_tx.specs.declared.key.Key.TheVariants as key
+use Rattle.mon_msg.specs.Protocol.Reading.{kept_from, may_tell}
+use Rattle.mon_msg.specs.Protocol.Records.{longest_onto, longest}
+use Rattle.mon_msg.specs.Protocol.View.{View}
+use Rattle.mon_msg.specs.declared.request.Service.{Service}
+
+abbrev size : List ℕ → ℕ
+size bytes = length bytes + 4
+
+module _ (w : View) (s : Service) where
+  kept-none : (count v : ℕ) → w.row s (key.Version v) ≡ None → kept_from w s (suc count) v ≡ []
+  unfolding kept_from
+  kept-none count v e = ap (λ (c : Cell). elim c as (λ _. List (List ℕ)) [ None ↦ [] | Some bytes ↦ bytes ∷ kept_from w s count (suc v) ]) e
+
+  kept-some : (count v : ℕ) (bytes : List ℕ) → w.row s (key.Version v) ≡ Some bytes → kept_from w s (suc count) v ≡ bytes ∷ kept_from w s count (suc v)
+  unfolding kept_from
+  kept-some count v bytes e = ap (λ (c : Cell). elim c as (λ _. List (List ℕ)) [ None ↦ [] | Some bytes ↦ bytes ∷ kept_from w s count (suc v) ]) e
+
+  -- those after version n
+  abbrev after : ℕ → ℕ → List (List ℕ)
+  after last n = kept_from w s (last - n) (suc n)
+
+  pub record Tells (last v n : ℕ) (told : List (List ℕ)) (room : ℕ) : Type 0 where
+    pub so_far : longest_onto may_tell told (after last n) ≡ longest may_tell (after last v)
+    pub count : length told + length (after last n) ≡ length (after last v)
+    pub room_is : room + sum_by size told ≡ 524288
+    pub many : length told ≤ 65535
+
+  pub tells_first : (last v : ℕ) → Tells last v v [] 524288
+  tells_first last v = record { so_far = refl; count = omega arith; room_is = omega arith; many = omega arith }
+
+  next_is : (last n : ℕ) (bytes : List ℕ) → n < last → w.row s (key.Version (n + 1)) ≡ Some bytes → after last n ≡ bytes ∷ after last (n + 1)
+  next_is last n bytes lt e =
+      let a : last - n ≡ suc (last - (n + 1)) = omega arith in
+      let b : n + 1 ≡ suc n = omega arith in
+      rw a (kept-some (last - (n + 1)) (suc n) bytes (rw b at e)) ∙ ap (λ (k : ℕ). bytes ∷ kept_from w s (last - (n + 1)) (suc k)) (sym b)
+
+  may : (told : List (List ℕ)) (bytes : List ℕ) (room : ℕ) → room + sum_by size told ≡ 524288 → length told < 65535 → length bytes + 4 ≤ room → may_tell (told ++ bytes ∷ []) ≡ true
+  may told bytes room room_is few short =
+      let a : leb (length (told ++ bytes ∷ [])) 65535 ≡ true = le-leb _ _ (omega (arith, length-append told (bytes ∷ []))) in
+      let b : leb (sum_by size (told ++ bytes ∷ [])) 524288 ≡ true = le-leb _ _ (omega (arith, sum_by-append size told (bytes ∷ []))) in
+      rw (a, b) refl
+
+  neither : (a b : Bool) → (a ≡ false) ⊎ (b ≡ false) → (a && b) ≡ false
+  neither true b (inl e) = absurd cc
+  neither true b (inr e) = e
+  neither false b h = refl
+
+  may_not : (told : List (List ℕ)) (bytes : List ℕ) (room : ℕ) → room + sum_by size told ≡ 524288 → (65535 ≤ length told) ⊎ (room < length bytes + 4) → may_tell (told ++ bytes ∷ []) ≡ false
+  may_not told bytes room room_is (inl many) = neither _ _ (inl (lt-leb (length (told ++ bytes ∷ [])) 65535 (omega (arith, length-append told (bytes ∷ [])))))
+  may_not told bytes room room_is (inr long) = neither _ _ (inr (lt-leb (sum_by size (told ++ bytes ∷ [])) 524288 (omega (arith, sum_by-append size told (bytes ∷ [])))))
+
+  pub tells_more : (last v n : ℕ) (told : List (List ℕ)) (room : ℕ) (bytes : List ℕ) → n < last → w.row s (key.Version (n + 1)) ≡ Some bytes → length told < 65535 → length bytes + 4 ≤ room
+      → Tells last v n told room → Tells last v (n + 1) (told ++ bytes ∷ []) (room - (length bytes + 4))
+  tells_more last v n told room bytes lt e few short h =
+      let next = next_is last n bytes lt e in
+      let yes = may told bytes room h.room_is few short in
+      record {
+        so_far = sym (ap (λ b. cond b (longest_onto may_tell (told ++ bytes ∷ []) (after last (n + 1))) told) yes) ∙ sym (ap (longest_onto may_tell told) next) ∙ h.so_far;
+        count = omega (arith, h.count, ap length next, length-append told (bytes ∷ []));
+        room_is = omega (arith, h.room_is, sum_by-append size told (bytes ∷ []));
+        many = omega (arith, length-append told (bytes ∷ []));
+      }
+
+  pub tells_full : (last v n : ℕ) (told : List (List ℕ)) (room : ℕ) (bytes : List ℕ) → n < last → w.row s (key.Version (n + 1)) ≡ Some bytes → (65535 ≤ length told) ⊎ (room < length bytes + 4)
+      → Tells last v n told room → (told ≡ longest may_tell (after last v)) × (true ≡ ltb (length told) (length (after last v)))
+  tells_full last v n told room bytes lt e full h =
+      let next = next_is last n bytes lt e in
+      let no = may_not told bytes room h.room_is full in (
+        sym (ap (λ b. cond b (longest_onto may_tell (told ++ bytes ∷ []) (after last (n + 1))) told) no) ∙ sym (ap (longest_onto may_tell told) next) ∙ h.so_far,
+        sym (lt-ltb _ _ (omega (arith, h.count, ap length next))),
+      )
+
+  tells_all : (last v n : ℕ) (told : List (List ℕ)) (room : ℕ) → after last n ≡ [] → Tells last v n told room → (told ≡ longest may_tell (after last v)) × (false ≡ ltb (length told) (length (after last v)))
+  tells_all last v n told room none h =
+      (sym (ap (longest_onto may_tell told) none) ∙ h.so_far, sym (le-ltb _ _ (omega (arith, h.count, ap length none))))
+
+  pub tells_gap : (last v n : ℕ) (told : List (List ℕ)) (room : ℕ) → n < last → w.row s (key.Version (n + 1)) ≡ None → Tells last v n told room
+      → (told ≡ longest may_tell (after last v)) × (false ≡ ltb (length told) (length (after last v)))
+  tells_gap last v n told room lt e h =
+      let a : last - n ≡ suc (last - (n + 1)) = omega arith in
+      let b : n + 1 ≡ suc n = omega arith in
+      tells_all last v n told room (rw a (kept-none (last - (n + 1)) (suc n) (rw b at e))) h
+
+  pub tells_last : (last v n : ℕ) (told : List (List ℕ)) (room : ℕ) → last ≤ n → Tells last v n told room → (told ≡ longest may_tell (after last v)) × (false ≡ ltb (length told) (length (after last v)))
+  unfolding kept_from
+  tells_last last v n told room le h = let a : last - n ≡ 0 = omega arith in tells_all last v n told room (rw a refl) h

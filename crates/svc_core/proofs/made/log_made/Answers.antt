@@ -1,0 +1,25 @@
+use Rattle.std.proofs.Common.{◌++◌, ◌∷◌, [], arith}
+use Rattle.std.proofs.lemmas.Result.{err_from_is_err_and}
+use Rattle.map_log.specs.Map.{with_inc}
+use Rattle.map_log.proofs.Lengths.{is_short}
+use Rattle.mon_msg.specs.Protocol.Reading.{read_map}
+use Rattle.mon_msg.specs.Protocol.View.{view}
+use Rattle.mon_msg.specs.declared.request.Service.TheVariants as service
+use Rattle.svc_core.proofs.Drafting.{log_refused, log_entry}
+use Rattle.svc_core.proofs.Kindly.{read_kind}
+use Rattle.svc_core.proofs.MapSizes.{trimmed_short}
+use Rattle.svc_core.proofs.made.log_made.Goals as goal
+
+pub returns-in_err-inc : goal.returns-in_err-inc
+returns-in_err-inc c =
+    let p = err_from_is_err_and c.from_residual.result c.from_residual.ensures.1 in
+    rw (p.1, p.2) (log_refused (read_map (view c.args.kv.now) service.Log) c.args.due c.args.asked c.args.text.now c.in_err-inc.field-0.0 (read_kind (view c.args.kv.now) service.Log) c.in_err-inc.ensures.made)
+
+pub returns-then-not-due : goal.returns-then-not-due
+returns-then-not-due c =
+    rw (c.if-not-due.true, c.new-incremental.ensures, c.in_ok-encode.ensures.text, c.new-then-not-due.ensures, c.new.ensures.items)
+    (log_entry (read_map (view c.args.kv.now) service.Log) c.args.asked c.args.text.now c.in_ok-inc.inc (read_kind (view c.args.kv.now) service.Log) c.in_ok-inc.ensures.made)
+
+pub encode-requires-2 : goal.encode-requires-2
+encode-requires-2 c =
+    rw c.in_ok-apply.ensures.ok (is_short (with_inc c.in-Log.map c.in_ok-inc.inc) (omega (arith, trimmed_short (c.in-Log.map ++ c.in_ok-inc.inc ∷ []))))

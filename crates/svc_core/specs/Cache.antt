@@ -1,0 +1,121 @@
+-- A cache of the services' maps: what it knows, what it must know to follow a store, and what it knows after its calls.
+use Rattle.std.specs.Option.{option_map, option_and_then}
+use Rattle.std.specs.Prelude.{◌≡◌, ℕ, suc, ◌+◌, ◌-◌, ◌≤◌, Bool, true, false, ◌&&◌, ◌==◌, nat_le, if◌then◌else◌, List, [], ◌∷◌, Option, Some, None, IfSome, Result, Ok, Err}
+use Rattle.std.specs.Str.{bytes_eq}
+use Rattle.mon_msg.specs.Protocol.Maps.{next_map}
+use Rattle.mon_msg.specs.Protocol.Reading.{service_last, full_latest, read_map}
+use Rattle.mon_msg.specs.Protocol.View.{View}
+use Rattle.mon_msg.specs.Puts.{area_of}
+use Rattle.mon_msg.specs.declared.reply.ShownMap.{ShownMap}
+use Rattle.mon_msg.specs.declared.request.Service.{Service}
+use Rattle.mon_msg.specs.declared.request.Service.TheVariants as service
+use Rattle.mon_tx.specs.Keys.{area_text, key_text}
+use Rattle.mon_tx.specs.Map.{number_in}
+use Rattle.mon_tx.specs.declared.key.Key.TheVariants as key
+use Rattle.mon_tx.specs.declared.op.Op.{Op}
+use Rattle.mon_tx.specs.declared.op.Op.TheVariants.{Put, Erase, ErasePrefix, EraseRange}
+use Rattle.svc_core.specs.Onward.{reaches_last}
+use Rattle.svc_core.specs.declared.cache.Cache.{Cache}
+use Rattle.svc_core.specs.declared.cache.Kept.{Kept}
+use Rattle.svc_core.specs.declared.cache.Kept.TheVariants as kept
+use Rattle.svc_core.specs.declared.cache.Known.{Known}
+use Rattle.svc_core.specs.declared.turn.Turn.{Turn}
+
+abbrev pub known_in : Kept → Option Known
+known_in kept.Nothing = None
+known_in (kept.Followed k) = Some k
+known_in (kept.Read m) = None
+
+-- the map that is kept, known or not
+abbrev pub map_in : Kept → Option ShownMap
+map_in kept.Nothing = None
+map_in (kept.Followed k) = Some k.map
+map_in (kept.Read m) = Some m
+
+abbrev pub kept_of : Cache → Service → Kept
+kept_of c service.Kv = c.kv
+kept_of c service.Log = c.log
+
+-- what a cache knows of a service
+abbrev pub known : Cache → Service → Option Known
+known c s = known_in (kept_of c s)
+
+-- ---- following
+
+-- It is what is read there, the reading reaches the last version, and no full map is newer.
+pub record IsCurrent (w : View) (s : Service) (k : Known) : Type 0 where
+  pub map_is : k.map ≡ read_map w s
+  pub version_is : k.version ≡ service_last w s
+  pub reached : reaches_last w s ≡ true
+  pub not_newer : full_latest w s ≤ k.version
+
+-- a cache follows a store of which each service that it knows is current
+abbrev pub Follows : Cache → View → Type 0
+Follows c w = (s : Service) → IfSome (known c s) (IsCurrent w s)
+
+-- ---- reading
+
+-- a service that wasn't known is known where its reading reaches the last version and no full map is newer
+abbrev pub known_once_read : View → Service → Option Known → Option Known
+known_once_read w s (Some k) = Some k
+known_once_read w s None =
+    if reaches_last w s && nat_le (full_latest w s) (service_last w s) then Some (record { version = service_last w s; map = read_map w s }) else None
+
+-- ---- a transaction
+
+-- In the course of a transaction a turn has the version and the map so far, and whether its last version was told since it rose.
+
+-- a put is of the next version's incremental, of the first version, or of the version so far as the last one
+abbrev pub after_put : Service → List ℕ → List ℕ → Turn → Option Turn
+after_put s k value t =
+    if bytes_eq k (key_text (key.Version (suc t.version)))
+    then option_map (λ m. record { version = suc t.version; map = m; told = false }) (next_map s t.map value) else (
+    if bytes_eq k (key_text key.FirstCommitted) then Some t else (
+    if bytes_eq k (key_text key.LastCommitted) && number_in (Some value) == t.version then Some (record { version = t.version; map = t.map; told = true }) else None))
+
+abbrev pub of_service : Service → List ℕ → Bool
+of_service s prefix = bytes_eq prefix (area_text (area_of s))
+
+-- any other change of the service's keys is none that can be followed
+abbrev pub after_op : Service → Op → Turn → Option Turn
+after_op s (Put prefix k value) t = if of_service s prefix then after_put s k value t else Some t
+after_op s (Erase prefix k) t = if of_service s prefix then None else Some t
+after_op s (ErasePrefix prefix) t = if of_service s prefix then None else Some t
+after_op s (EraseRange prefix from to) t = if of_service s prefix then None else Some t
+
+abbrev pub after_ops : Service → List Op → Turn → Option Turn
+after_ops s [] t = Some t
+after_ops s (op ∷ ops) t = option_and_then (after_ops s ops) (after_op s op t)
+
+abbrev pub where_told : Turn → Option Known
+where_told t = if t.told then Some (record { version = t.version; map = t.map }) else None
+
+-- what is known of a service after a transaction
+abbrev pub known_after : Service → List Op → Option Known → Option Known
+known_after s ops k = option_and_then (λ k. option_and_then where_told (after_ops s ops (record { version = k.version; map = k.map; told = true }))) k
+
+-- by how many versions a service rose that is known before and after
+abbrev pub risen : Option Known → Option Known → ℕ
+risen (Some before) (Some now) = now.version - before.version
+risen before now = 0
+
+-- a change was followed, or it is none that can be
+abbrev pub Went : Turn → Option Turn → Bool → Type 0
+Went new next true = next ≡ Some new
+Went new next false = next ≡ None
+
+-- how many incrementals were applied
+abbrev pub applied : Cache → Cache → ℕ
+applied before now = risen (known before service.Kv) (known now service.Kv) + risen (known before service.Log) (known now service.Log)
+
+-- What a cache knows once a service was read, where it follows the store. It keeps the map that was read.
+pub record IsAnswered (old new : Cache) (w : View) (s : Service) : Type 0 where
+  pub known_is : known new s ≡ known_once_read w s (known old s)
+  pub others : (t : Service) → (t ≡ s → ⊥) → known new t ≡ known old t
+  pub map_is : map_in (kept_of new s) ≡ Some (read_map w s)
+  pub follows : Follows new w
+
+-- after want of memory it knows nothing
+abbrev pub Answers : {A E : Type 0} → Cache → View → Service → Result A E → Cache → Type 0
+Answers old w s (Ok x) new = IsAnswered old new w s
+Answers old w s (Err e) new = (t : Service) → known new t ≡ None

@@ -1,0 +1,4 @@
+pub mod Cache
+pub mod Drafts
+pub mod Kinds
+pub mod Onward

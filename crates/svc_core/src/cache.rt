@@ -1,0 +1,242 @@
+//! A cache of the services' maps, which follows a store from transaction to transaction.
+
+ghost use Rattle.std.specs.Prelude.{◌≡◌, ℕ, ◌+◌, ◌-◌, ◌≤◌, ◌^◌, min, Some, None, IfOk, OnOk, OnErr, is_some};
+ghost use Rattle.std.specs.Borrow.{sem};
+ghost use Rattle.std.specs.Io.BufRead.{Rests};
+ghost use Rattle.std.specs.Option.{option_copied, option_map};
+ghost use Rattle.mon_tx.specs.Map.{Store, apply};
+ghost use Rattle.mon_msg.specs.declared.request.Service as services;
+ghost use Rattle.mon_msg.specs.Protocol.Reading.{read_map};
+ghost use Rattle.mon_msg.specs.Protocol.View.{view};
+ghost use Rattle.svc_core.specs.Cache.{kept_of, known, known_in, map_in, Follows, known_once_read, known_after, risen, applied, Answers, IsAnswered};
+ghost use Rattle.svc_core.specs.contracts.cache.Cache.{the_row};
+
+use crate::reading::{Reading, read_whole};
+use crate::row::{full_latest, last_version, version_of};
+use crate::turn::{Turn, changes};
+use mon_bytes::OutOfMemory;
+use mon_kv::Kv;
+use mon_msg::{Service, ShownMap};
+use mon_tx::{Op, Transaction};
+use mon_types::Version;
+use std::alloc::Global;
+use std::mem;
+
+/// A service's map, and its version.
+#[derive(Drop)]
+pub(crate) struct Known {
+    pub(crate) version: Version,
+    pub(crate) map: ShownMap,
+}
+
+/// What is kept of a service.
+#[derive(Drop)]
+pub(crate) enum Kept {
+    Nothing,
+    /// What is known of it.
+    Followed(Known),
+    /// A map that was answered and isn't followed.
+    Read(ShownMap),
+}
+
+/// The maps of the services that are known, each with its version.
+#[derive(Drop)]
+pub struct Cache {
+    kv: Kept,
+    log: Kept,
+}
+
+impl Kept {
+    fn is_known(&self) -> bool
+        ensures { result ≡ is_some (known_in self.now) }
+    {
+        match self {
+            Kept::Followed(_) => true,
+            Kept::Nothing | Kept::Read(_) => false,
+        }
+    }
+
+    /// The map that is kept.
+    fn map(&self) -> Option<&ShownMap>
+        ensures { option_copied result ≡ map_in self.now }
+    {
+        match self {
+            Kept::Nothing => None,
+            Kept::Followed(known) => Some(&known.map),
+            Kept::Read(map) => Some(map),
+        }
+    }
+
+    /// The map that is known.
+    fn known(&self) -> Option<&ShownMap>
+        ensures { option_copied result ≡ option_map (λ k. k.map) (known_in self.now) }
+    {
+        match self {
+            Kept::Followed(known) => Some(&known.map),
+            Kept::Nothing | Kept::Read(_) => None,
+        }
+    }
+}
+
+/// What is kept of a service once it was read: it is known where its reading reaches the last version and no full map is newer.
+fn read_kept(alloc: Global, kv: &Kv, service: Service) -> Result<Kept, OutOfMemory>
+    ensures known { IfOk result (λ kept. known_in kept ≡ known_once_read (view kv.now) service None) }
+    ensures map { IfOk result (λ kept. map_in kept ≡ Some (read_map (view kv.now) service)) }
+{
+    let last = last_version(kv, service);
+    let Reading { map, reached } = read_whole(alloc, kv, service)?;
+    if reached && full_latest(kv, service) <= last {
+        return Ok(Kept::Followed(Known {
+            version: version_of(last),
+            map,
+        }));
+    }
+    Ok(Kept::Read(map))
+}
+
+/// What is kept of a service after a transaction, and how many incrementals were applied to what is.
+#[derive(Drop)]
+struct Followed {
+    kept: Kept,
+    applied: u64,
+}
+
+fn follow_known(
+    alloc: Global,
+    service: Service,
+    known: Known,
+    ops: &[Op],
+) -> Result<Followed, OutOfMemory>
+    ensures known { IfOk result (λ f. known_in f.kept ≡ known_after service ops.now (Some known)) }
+    ensures applied { IfOk result (λ f. f.applied ≡ risen (Some known) (known_in f.kept)) }
+{
+    let Known { version, map } = known;
+    let before = version.get();
+    let mut turn = Turn {
+        version: before,
+        map,
+        told: true,
+    };
+    let all = changes(alloc, service, ops, &mut turn)?;
+    let Turn { version, map, told } = turn;
+    if !all || !told {
+        return Ok(Followed {
+            kept: Kept::Nothing,
+            applied: 0,
+        });
+    }
+    Ok(Followed {
+        kept: Kept::Followed(Known {
+            version: version_of(version),
+            map,
+        }),
+        applied: version.saturating_sub(before),
+    })
+}
+
+fn kept_after(
+    alloc: Global,
+    service: Service,
+    kept: Kept,
+    ops: &[Op],
+) -> Result<Followed, OutOfMemory>
+    ensures known { IfOk result (λ f. known_in f.kept ≡ known_after service ops.now (known_in kept)) }
+    ensures applied { IfOk result (λ f. f.applied ≡ risen (known_in kept) (known_in f.kept)) }
+    ensures most { IfOk result (λ f. f.applied ≤ 2 ^ 62) }
+{
+    match kept {
+        Kept::Followed(known) => follow_known(alloc, service, known, ops),
+        Kept::Nothing | Kept::Read(_) => Ok(Followed {
+            kept: Kept::Nothing,
+            applied: 0,
+        }),
+    }
+}
+
+impl Cache {
+    /// A cache that knows no service. It takes no memory.
+    pub fn empty() -> Cache
+        ensures { (s : services.Service) → known result s ≡ None }
+    {
+        Cache {
+            kv: Kept::Nothing,
+            log: Kept::Nothing,
+        }
+    }
+
+    fn kept(&self, service: Service) -> &Kept
+        ensures { result.now ≡ kept_of self.now service }
+    {
+        match service {
+            Service::Kv => &self.kv,
+            Service::Log => &self.log,
+        }
+    }
+
+    /// The map of a service that is known, and `None` exactly where it isn't known. It takes no memory.
+    pub fn cached(&self, service: Service) -> Option<&ShownMap>
+        ensures { option_copied result ≡ option_map (λ k. k.map) (known self.now service) }
+    {
+        self.kept(service).known()
+    }
+
+    /// Makes a cache that follows a store into one that follows the store after a transaction, and tells how many incrementals
+    /// were applied to the maps that are still known. After `OutOfMemory` the cache is empty.
+    pub fn follow(&mut self, alloc: Global, tx: &Transaction) -> Result<u32, OutOfMemory>
+        ensures known { OnOk result ((s : services.Service) → known self.new s ≡ known_after s tx.now (known self.old s)) }
+        ensures applied { IfOk result (λ n. n ≡ min (applied self.old self.new) (2 ^ 32 - 1)) }
+        ensures follows { OnOk result ((m : Store) → Follows self.old (view m) → Follows self.new (view (apply tx.now m))) }
+        ensures empty { OnErr result ((s : services.Service) → known self.new s ≡ None) }
+    {
+        let kv = mem::replace(&mut self.kv, Kept::Nothing);
+        let log = mem::replace(&mut self.log, Kept::Nothing);
+        let kv = kept_after(alloc, Service::Kv, kv, tx.ops())?;
+        let log = kept_after(alloc, Service::Log, log, tx.ops())?;
+        self.kv = kv.kept;
+        self.log = log.kept;
+        Ok(u32::try_from(kv.applied + log.applied).unwrap_or(u32::MAX))
+    }
+
+    /// Reads a service that isn't known.
+    fn learn(&mut self, alloc: Global, kv: &Kv, service: Service) -> Result<(), OutOfMemory>
+        requires { Follows self.old (view kv.now) }
+        ensures ok { OnOk result (IsAnswered self.old self.new (view kv.now) service) }
+        ensures err { OnErr result ((s : services.Service) → known self.new s ≡ None) }
+    {
+        if self.kept(service).is_known() {
+            return Ok(());
+        }
+        match read_kept(alloc, kv, service) {
+            Ok(kept) => {
+                match service {
+                    Service::Kv => self.kv = kept,
+                    Service::Log => self.log = kept,
+                }
+                Ok(())
+            }
+            Err(e) => {
+                *self = Cache::empty();
+                Err(e)
+            }
+        }
+    }
+
+    /// What `read` answers, of a store that the cache follows. A service that wasn't known is known afterwards exactly where its
+    /// reading reaches its last version and no full map is newer than that. After `OutOfMemory` the cache is empty.
+    pub fn get(
+        &mut self,
+        alloc: Global,
+        kv: &Kv,
+        service: Service,
+    ) -> Result<&ShownMap, OutOfMemory>
+        requires { Follows self.old (view kv.now) }
+        ensures* after { sem 𝓛 (Rests the_row self.entry (Answers self.old (view kv.now) service result)) }
+        ensures map { IfOk result (λ map. map.now ≡ read_map (view kv.now) service) }
+    {
+        self.learn(alloc, kv, service)?;
+        match self.kept(service).map() {
+            Some(map) => Ok(map),
+            None => unreachable!(),
+        }
+    }
+}

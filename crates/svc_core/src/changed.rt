@@ -1,0 +1,80 @@
+//! What changed a service's map after a version.
+
+ghost use Rattle.std.specs.Prelude.{◌≡◌, ◌-◌, ◌≤◌, ◌^◌, suc, length, nat_lt, IfOk};
+ghost use Rattle.mon_msg.specs.Protocol.Reading.{service_last, kept_from, may_tell};
+ghost use Rattle.mon_msg.specs.Protocol.Reads.{since, shown};
+ghost use Rattle.mon_msg.specs.Protocol.Records.{longest};
+ghost use Rattle.mon_msg.specs.Protocol.View.{view};
+
+use crate::reading::read;
+use crate::row::{first_version, incremental, last_version, version_of};
+use mon_bytes::{Bytes, OutOfMemory};
+use mon_kv::Kv;
+use mon_msg::{Incrementals, Reply, Service};
+use std::alloc::Global;
+
+/// The most incrementals that are told, and the most bytes of them, with four for each.
+const MOST_TOLD: usize = 65535;
+
+const MOST_BYTES: usize = 524288;
+
+/// Incrementals in order, and whether one follows.
+#[derive(Drop)]
+struct Changes {
+    told: Incrementals,
+    more: bool,
+}
+
+/// The incrementals after version `v` up to the first that isn't there, as many as are told.
+fn told_after(alloc: Global, kv: &Kv, service: Service, v: u64) -> Result<Changes, OutOfMemory>
+    requires { v ≤ 2 ^ 62 }
+    ensures told { IfOk result (λ c. c.told ≡ longest may_tell (kept_from (view kv.now) service (service_last (view kv.now) service - v) (suc v))) }
+    ensures more { IfOk result (λ c. c.more ≡ nat_lt (length c.told) (length (kept_from (view kv.now) service (service_last (view kv.now) service - v) (suc v)))) }
+{
+    let last = last_version(kv, service);
+    let mut told = Incrementals::new(Vec::new(alloc));
+    let mut room = MOST_BYTES;
+    for n in v..last {
+        let Some(bytes) = incremental(kv, service, n + 1) else {
+            return Ok(Changes { told, more: false });
+        };
+        if told.as_slice().len() == MOST_TOLD || bytes.len() + 4 > room {
+            return Ok(Changes { told, more: true });
+        }
+        room -= bytes.len() + 4;
+        told.push(Bytes::new(Vec::from_slice(alloc, bytes)?))?;
+    }
+    Ok(Changes { told, more: false })
+}
+
+/// The whole map, with the versions of the log and of the service.
+#[tactic(auto, unfolding(mon_msg::specs::Protocol::View::view))]
+fn shown(alloc: Global, kv: &Kv, service: Service) -> Result<Reply, OutOfMemory>
+    ensures { IfOk result (λ reply. reply ≡ shown (view kv.now) service) }
+{
+    Ok(Reply::Shown {
+        service,
+        paxos: version_of(kv.last_committed()),
+        version: version_of(last_version(kv, service)),
+        map: read(alloc, kv, service)?,
+    })
+}
+
+/// What changed a service's map after version `v`: the incrementals from the next version on, as many as one reply takes, where
+/// that version is kept or would be the next one; and the whole map where it isn't kept any more.
+#[tactic(auto, unfolding(mon_msg::specs::Protocol::Reads::since))]
+pub fn since(alloc: Global, kv: &Kv, service: Service, v: u64) -> Result<Reply, OutOfMemory>
+    requires { v ≤ 2 ^ 62 }
+    ensures { IfOk result (λ reply. reply ≡ since (view kv.now) service v) }
+{
+    if first_version(kv, service) > v + 1 {
+        return shown(alloc, kv, service);
+    }
+    let Changes { told, more } = told_after(alloc, kv, service, v)?;
+    Ok(Reply::Since {
+        service,
+        from: version_of(v),
+        incrementals: told,
+        more,
+    })
+}

@@ -1,0 +1,22 @@
+//! What a service keeps: the value that a command makes, the map that is read, what changed it, and a cache of the maps.
+#![tactic(auto)]
+
+mod cache;
+mod changed;
+mod made;
+pub mod mon_trim;
+mod proposal;
+mod put;
+mod reading;
+mod row;
+mod rules;
+mod step;
+mod turn;
+
+pub use cache::Cache;
+pub use changed::since;
+pub use proposal::value;
+pub use reading::read;
+
+#[cfg(test)]
+mod tests;

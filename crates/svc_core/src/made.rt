@@ -1,0 +1,92 @@
+//! What a command makes of a service's map.
+
+ghost use Rattle.std.specs.Prelude.{◌≡◌, ℕ};
+ghost use Rattle.map_kv.specs.Made.{IsOfKv};
+ghost use Rattle.mon_bytes.specs.Makes.{Makes};
+ghost use Rattle.mon_bytes.specs.declared.command.Command.TheVariants as command;
+ghost use Rattle.mon_msg.specs.Protocol.Reading.{read_map};
+ghost use Rattle.mon_msg.specs.Protocol.Value.{made, service_of};
+ghost use Rattle.mon_msg.specs.Protocol.View.{view};
+ghost use Rattle.svc_core.specs.Drafts.{drafted};
+
+use crate::reading::read;
+use map_kv::make as make_kv;
+use map_log::make as make_log;
+use mon_bytes::{Bytes, Command, CommandRefused, Text};
+use mon_kv::Kv;
+use mon_msg::{Service, ShownMap};
+use mon_types::Rank;
+use std::alloc::Global;
+
+/// An incremental, and the text of the map with it, which is empty where no full map is due.
+#[derive(Drop)]
+pub(crate) struct Draft {
+    pub(crate) incremental: Bytes,
+    pub(crate) text: Bytes,
+}
+
+fn kv_made(alloc: Global, kv: &Kv, command: &Command, due: bool) -> Result<Draft, CommandRefused>
+    requires { IsOfKv command.now }
+    ensures { (asked : ℕ) → Makes result (drafted due (made (read_map (view kv.now) Service.Kv) asked command.now)) }
+{
+    let ShownMap::Kv(mut map) = read(alloc, kv, Service::Kv)? else {
+        unreachable!()
+    };
+    let inc = make_kv(alloc, &map, command)?;
+    let incremental = Bytes::new(inc.encode(alloc)?);
+    if !due {
+        return Ok(Draft {
+            incremental,
+            text: Bytes::new(Vec::new(alloc)),
+        });
+    }
+    map.apply(&inc)?;
+    Ok(Draft {
+        incremental,
+        text: Bytes::new(map.encode()?),
+    })
+}
+
+/// Where no full map is due the map isn't read.
+fn log_made(
+    alloc: Global,
+    kv: &Kv,
+    text: &Text,
+    asked: Rank,
+    due: bool,
+) -> Result<Draft, CommandRefused>
+    ensures { Makes result (drafted due (made (read_map (view kv.now) Service.Log) asked (command.Log text.now))) }
+{
+    let inc = make_log(alloc, asked, text)?;
+    let incremental = Bytes::new(inc.encode(alloc)?);
+    if !due {
+        return Ok(Draft {
+            incremental,
+            text: Bytes::new(Vec::new(alloc)),
+        });
+    }
+    let ShownMap::Log(mut map) = read(alloc, kv, Service::Log)? else {
+        unreachable!()
+    };
+    map.apply(&inc)?;
+    Ok(Draft {
+        incremental,
+        text: Bytes::new(map.encode()?),
+    })
+}
+
+/// The incremental of a command, and the map's text with it where a full map is due.
+pub(crate) fn made(
+    alloc: Global,
+    kv: &Kv,
+    command: &Command,
+    asked: Rank,
+    due: bool,
+) -> Result<Draft, CommandRefused>
+    ensures { Makes result (drafted due (made (read_map (view kv.now) (service_of command.now)) asked command.now)) }
+{
+    match command {
+        Command::Set { .. } | Command::Remove { .. } => kv_made(alloc, kv, command, due),
+        Command::Log { text } => log_made(alloc, kv, text, asked, due),
+    }
+}

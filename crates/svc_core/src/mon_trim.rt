@@ -1,0 +1,49 @@
+//! Which versions of the log go, once there are many.
+
+ghost use Rattle.std.specs.Prelude.{◌≡◌, ◌+◌, ◌-◌, ◌<◌, ◌≤◌, ◌^◌, [], ◌++◌, min, IfOk, OnOk};
+ghost use Rattle.mon_msg.specs.Protocol.Rules.{paxos_to, paxos_trim};
+
+use crate::put::{push_number, push_range};
+use mon_bytes::OutOfMemory;
+use mon_tx::{Area, Key, Op, Transaction};
+use std::alloc::Global;
+
+/// The log is trimmed where more than so many versions lie after its first one.
+const DUE: u64 = 750;
+
+/// So many versions stay after the first one that is kept, and so many go at most.
+const KEEPS: u64 = 500;
+
+const GOES: u64 = 500;
+
+/// Appends what trims the log: the versions from the first one on that go, and the first one that is kept.
+pub(crate) fn push_trim(
+    alloc: Global,
+    tx: &mut Transaction,
+    first: u64,
+    last: u64,
+) -> Result<(), OutOfMemory>
+    requires first { first ≤ 2 ^ 62 }
+    requires last { last ≤ 2 ^ 62 }
+    ensures { OnOk result (tx.new ≡ tx.old ++ paxos_trim first last) }
+{
+    if last.saturating_sub(first) <= DUE {
+        return Ok(());
+    }
+    let to = (last - KEEPS).min(first + GOES);
+    push_range(alloc, tx, Area::Paxos, first, to)?;
+    push_number(alloc, tx, Area::Paxos, Key::FirstCommitted, to)
+}
+
+/// What trims a log that keeps the versions from `first` to `last`: nothing where 750 of them or fewer lie after the first
+/// one, and otherwise an erasure from `first` on of 500 of them, or of as many as leave 500 after the first one that is kept,
+/// and that number.
+pub fn trim_ops(alloc: Global, first: u64, last: u64) -> Result<Vec<Op>, OutOfMemory>
+    requires first { first ≤ 2 ^ 62 }
+    requires last { last ≤ 2 ^ 62 }
+    ensures { IfOk result (λ ops. ops.items ≡ paxos_trim first last) }
+{
+    let mut tx = Transaction::new(alloc);
+    push_trim(alloc, &mut tx, first, last)?;
+    Ok(tx.into_ops())
+}

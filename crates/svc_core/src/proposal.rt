@@ -1,0 +1,75 @@
+//! The value of a command: the changes that it makes in every monitor's store.
+
+ghost use Rattle.std.specs.Prelude.{◌≡◌, ◌+◌, ◌<◌, ◌≤◌, ◌^◌, suc, length, IfOk};
+ghost use Rattle.mon_bytes.specs.Makes.{Makes};
+ghost use Rattle.mon_msg.specs.Protocol.Reading.{service_first, service_last};
+ghost use Rattle.mon_msg.specs.Protocol.Rules.{value_ops};
+ghost use Rattle.mon_msg.specs.Protocol.Value.{service_of, value};
+ghost use Rattle.mon_msg.specs.Protocol.View.{view};
+ghost use Rattle.mon_msg.specs.Puts.{area_of};
+
+use crate::made::{Draft, made};
+use crate::mon_trim::push_trim;
+use crate::row::{area_of, first_version, last_version};
+use crate::rules::{
+    has_full, push_full_version, push_new_version, push_paxos_begins, push_service_trim,
+};
+use mon_bytes::{Command, CommandRefused, OutOfMemory};
+use mon_kv::Kv;
+use mon_msg::Service;
+use mon_tx::Transaction;
+use mon_types::Rank;
+use std::alloc::Global;
+
+pub(crate) fn service_of(command: &Command) -> Service
+    ensures { result ≡ service_of command.now }
+{
+    match command {
+        Command::Set { .. } | Command::Remove { .. } => Service::Kv,
+        Command::Log { .. } => Service::Log,
+    }
+}
+
+/// The changes of the value that makes version `n` of a service.
+#[tactic(auto, unfolding(mon_msg::specs::Protocol::Rules::value_ops, mon_msg::specs::Protocol::View::view))]
+fn value_tx(
+    alloc: Global,
+    kv: &Kv,
+    service: Service,
+    n: u64,
+    made: Draft,
+) -> Result<Transaction, OutOfMemory>
+    requires { n ≤ 2 ^ 62 }
+    ensures { IfOk result (λ tx. tx ≡ value_ops (view kv.now).first (view kv.now).last (area_of service) n (service_first (view kv.now) service) made.incremental made.text) }
+{
+    let area = area_of(service);
+    let last = kv.last_committed();
+    let Draft { incremental, text } = made;
+    let mut tx = Transaction::new(alloc);
+    push_paxos_begins(alloc, &mut tx, last)?;
+    push_new_version(alloc, &mut tx, area, n, incremental)?;
+    push_full_version(alloc, &mut tx, area, n, text)?;
+    push_service_trim(alloc, &mut tx, area, n, first_version(kv, service))?;
+    push_trim(alloc, &mut tx, kv.first_committed(), last)?;
+    Ok(tx)
+}
+
+/// The value of a command over a store, where `asked` is the monitor that was asked. The service's last version has to be below
+/// 2^62. A command that makes no version is refused: `NoSuch` comes exactly where a key that isn't there is to be removed,
+/// `TooLong` exactly where a value has more than 65,536 bytes or a logged text more than 1,024, and `MapFull` exactly where the
+/// value isn't too long and the map with it would have more than 393,216.
+#[tactic(auto, unfolding(mon_msg::specs::Protocol::Value::value))]
+pub fn value(
+    alloc: Global,
+    kv: &Kv,
+    command: &Command,
+    asked: Rank,
+) -> Result<Transaction, CommandRefused>
+    requires { service_last (view kv.now) (service_of command.now) < 2 ^ 62 }
+    ensures { Makes result (value (view kv.now) command.now asked) }
+{
+    let service = service_of(command);
+    let n = last_version(kv, service) + 1;
+    let made = made(alloc, kv, command, asked, has_full(n))?;
+    Ok(value_tx(alloc, kv, service, n, made)?)
+}

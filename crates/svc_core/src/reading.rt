@@ -1,0 +1,187 @@
+//! The map that is read of a service: its newest full map and the incrementals after it.
+
+ghost use Rattle.std.specs.Prelude.{◌≡◌, ◌+◌, ◌-◌, ◌≤◌, ◌^◌, suc, length, IfOk, IfSome};
+ghost use Rattle.std.specs.Option.{option_map};
+ghost use Rattle.map_kv.specs.Decode as kv_decode;
+ghost use Rattle.map_log.specs.Decode as log_decode;
+ghost use Rattle.mon_msg.specs.Protocol.Maps.{empty_map, if_ok, spelled_map};
+ghost use Rattle.mon_msg.specs.Protocol.Reading.{service_last, full_latest, full_map, read_on, read_map};
+ghost use Rattle.mon_msg.specs.Protocol.Parts.{map_text};
+ghost use Rattle.mon_msg.specs.Protocol.View.{view};
+ghost use Rattle.svc_core.specs.Kinds.{IsMapOf, Stepped};
+ghost use Rattle.svc_core.specs.Onward.{step_at, goes_on, reaches_last};
+
+use crate::row::{area_of, full_latest, incremental, last_version};
+use crate::step::{most_map, step};
+use map_kv::KvMap;
+use map_log::LogMap;
+use mon_bytes::{MapRefused, OutOfMemory};
+use mon_kv::Kv;
+use mon_msg::{Service, ShownMap};
+use mon_tx::Key;
+use std::alloc::Global;
+
+fn empty_map(alloc: Global, service: Service) -> ShownMap
+    ensures map { result ≡ empty_map service }
+    ensures form { IsMapOf service result }
+{
+    match service {
+        Service::Kv => ShownMap::Kv(KvMap::new(alloc)),
+        Service::Log => ShownMap::Log(LogMap::new(alloc)),
+    }
+}
+
+fn kv_map(alloc: Global, bytes: &[u8]) -> Result<Option<ShownMap>, OutOfMemory>
+    ensures map { IfOk result (λ map. map ≡ option_map ShownMap.Kv (if_ok (kv_decode.map_of bytes.now))) }
+    ensures text { IfOk result (λ map. IfSome map (λ m. bytes.now ≡ map_text m)) }
+{
+    match KvMap::decode(alloc, bytes) {
+        Ok(map) => Ok(Some(ShownMap::Kv(map))),
+        Err(MapRefused::Form { .. }) => Ok(None),
+        Err(MapRefused::OutOfMemory) => Err(OutOfMemory),
+    }
+}
+
+fn log_map(alloc: Global, bytes: &[u8]) -> Result<Option<ShownMap>, OutOfMemory>
+    ensures map { IfOk result (λ map. map ≡ option_map ShownMap.Log (if_ok (log_decode.map_of bytes.now))) }
+    ensures text { IfOk result (λ map. IfSome map (λ m. bytes.now ≡ map_text m)) }
+{
+    match LogMap::decode(alloc, bytes) {
+        Ok(map) => Ok(Some(ShownMap::Log(map))),
+        Err(MapRefused::Form { .. }) => Ok(None),
+        Err(MapRefused::OutOfMemory) => Err(OutOfMemory),
+    }
+}
+
+/// The map that the bytes spell, where they are no longer than a map may be.
+fn spelled_map(
+    alloc: Global,
+    service: Service,
+    bytes: &[u8],
+) -> Result<Option<ShownMap>, OutOfMemory>
+    ensures map { IfOk result (λ map. map ≡ spelled_map service bytes.now) }
+    ensures form { IfOk result (λ map. IfSome map (IsMapOf service)) }
+{
+    if bytes.len() as u64 > most_map(service) {
+        return Ok(None);
+    }
+    match service {
+        Service::Kv => kv_map(alloc, bytes),
+        Service::Log => log_map(alloc, bytes),
+    }
+}
+
+/// The newest full map, unless it is newer than the last version, is none or is too long.
+#[tactic(auto, unfolding(mon_msg::specs::Protocol::View::view))]
+fn full_map(alloc: Global, kv: &Kv, service: Service) -> Result<Option<ShownMap>, OutOfMemory>
+    ensures map { IfOk result (λ map. map ≡ full_map (view kv.now) service) }
+    ensures form { IfOk result (λ map. IfSome map (IsMapOf service)) }
+    ensures not_newer { IfOk result (λ map. IfSome map (λ _. full_latest (view kv.now) service ≤ service_last (view kv.now) service)) }
+{
+    let latest = full_latest(kv, service);
+    if latest > last_version(kv, service) {
+        return Ok(None);
+    }
+    let key = Key::Full(latest).name(alloc)?;
+    match kv.get(area_of(service).as_str().as_bytes(), key.as_slice()) {
+        Some(bytes) => spelled_map(alloc, service, bytes),
+        None => Ok(None),
+    }
+}
+
+/// Where a reading begins: a map, and its version.
+#[derive(Drop)]
+struct Base {
+    map: ShownMap,
+    version: u64,
+}
+
+/// The newest full map, or else the empty map.
+fn start(alloc: Global, kv: &Kv, service: Service) -> Result<Base, OutOfMemory>
+    ensures form { IfOk result (λ s. IsMapOf service s.map) }
+    ensures not_newer { IfOk result (λ s. s.version ≤ service_last (view kv.now) service) }
+    ensures read { IfOk result (λ s. read_map (view kv.now) service ≡ read_on (view kv.now) service (service_last (view kv.now) service - s.version) (suc s.version) s.map) }
+    ensures reaches { IfOk result (λ s. reaches_last (view kv.now) service ≡ goes_on (view kv.now) service (service_last (view kv.now) service - s.version) (suc s.version) s.map) }
+{
+    match full_map(alloc, kv, service)? {
+        Some(map) => Ok(Base {
+            map,
+            version: full_latest(kv, service),
+        }),
+        None => Ok(Base {
+            map: empty_map(alloc, service),
+            version: 0,
+        }),
+    }
+}
+
+/// Takes the step of the incremental that made version `v`, and tells whether there was one.
+fn step_at(
+    alloc: Global,
+    kv: &Kv,
+    service: Service,
+    v: u64,
+    map: &mut ShownMap,
+) -> Result<bool, OutOfMemory>
+    ensures step { IfOk result (Stepped map.old map.new (step_at (view kv.now) service v map.old)) }
+    ensures form { IfOk result (λ _. IsMapOf service map.old → IsMapOf service map.new) }
+{
+    match incremental(kv, service, v) {
+        Some(bytes) => step(alloc, service, map, bytes),
+        None => Ok(false),
+    }
+}
+
+/// Takes the steps of so many incrementals, from version `v` on. It ends before the first that isn't there, is none or gives too
+/// long a map, and tells whether there was no such.
+fn read_on(
+    alloc: Global,
+    kv: &Kv,
+    service: Service,
+    count: u64,
+    v: u64,
+    map: &mut ShownMap,
+) -> Result<bool, OutOfMemory>
+    requires form { IsMapOf service map.old }
+    requires versions { v + count ≤ 2 ^ 63 }
+    ensures map { IfOk result (λ _. map.new ≡ read_on (view kv.now) service count v map.old) }
+    ensures all { IfOk result (λ all. all ≡ goes_on (view kv.now) service count v map.old) }
+    ensures form { IfOk result (λ _. IsMapOf service map.new) }
+{
+    for i in 0..count {
+        if !step_at(alloc, kv, service, v + i, map)? {
+            return Ok(false);
+        }
+    }
+    Ok(true)
+}
+
+/// What a reading gave: the map, and whether it reached the last version.
+#[derive(Drop)]
+pub(crate) struct Reading {
+    pub(crate) map: ShownMap,
+    pub(crate) reached: bool,
+}
+
+/// Reads a service's map.
+pub(crate) fn read_whole(alloc: Global, kv: &Kv, service: Service) -> Result<Reading, OutOfMemory>
+    ensures map { IfOk result (λ r. r.map ≡ read_map (view kv.now) service) }
+    ensures reached { IfOk result (λ r. r.reached ≡ reaches_last (view kv.now) service) }
+    ensures form { IfOk result (λ r. IsMapOf service r.map) }
+{
+    let last = last_version(kv, service);
+    let Base { mut map, version } = start(alloc, kv, service)?;
+    let reached = read_on(alloc, kv, service, last - version, version + 1, &mut map)?;
+    Ok(Reading { map, reached })
+}
+
+/// The map that a store keeps of a service: the full map at `full_latest` and the incrementals after it, in order, up to the
+/// last version. The empty map with the incrementals from 1 on takes the place of a full map that isn't there, is none, is too
+/// long or is newer than the last version. It ends before the first incremental that isn't there, is none or gives too long a
+/// map.
+pub fn read(alloc: Global, kv: &Kv, service: Service) -> Result<ShownMap, OutOfMemory>
+    ensures map { IfOk result (λ map. map ≡ read_map (view kv.now) service) }
+    ensures form { IfOk result (IsMapOf service) }
+{
+    Ok(read_whole(alloc, kv, service)?.map)
+}

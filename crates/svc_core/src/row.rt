@@ -1,0 +1,84 @@
+//! What a store tells of a service.
+
+ghost use Rattle.std.specs.Prelude.{◌≡◌, ◌≤◌, ◌^◌};
+ghost use Rattle.std.specs.Option.{option_copied};
+ghost use Rattle.mon_tx.specs.Keys.{area_text};
+ghost use Rattle.mon_tx.specs.Map.{number_at};
+ghost use Rattle.mon_tx.specs.declared.key.Key.TheVariants as keys;
+ghost use Rattle.mon_msg.specs.Protocol.Reading.{service_first, service_last, full_latest};
+ghost use Rattle.mon_msg.specs.Protocol.View.{view};
+ghost use Rattle.mon_msg.specs.Puts.{area_of};
+
+use itoa::Buffer;
+use mon_kv::Kv;
+use mon_msg::Service;
+use mon_tx::Area;
+use mon_types::Version;
+
+/// Where a service keeps its map.
+pub(crate) fn area_of(service: Service) -> Area
+    ensures { result ≡ area_of service }
+{
+    match service {
+        Service::Kv => Area::Kv,
+        Service::Log => Area::Logm,
+    }
+}
+
+/// The number under a key of the service.
+fn number(kv: &Kv, service: Service, key: &[u8]) -> u64
+    ensures value { result ≡ number_at kv.now (area_text (area_of service)) key.now }
+    ensures most { result ≤ 2 ^ 62 }
+{
+    kv.number(area_of(service).as_str().as_bytes(), key)
+}
+
+/// The first version that is kept.
+#[tactic(auto, unfolding(mon_msg::specs::Protocol::View::view))]
+pub(crate) fn first_version(kv: &Kv, service: Service) -> u64
+    ensures value { result ≡ service_first (view kv.now) service }
+    ensures most { result ≤ 2 ^ 62 }
+{
+    number(kv, service, b"first_committed")
+}
+
+/// The last version.
+#[tactic(auto, unfolding(mon_msg::specs::Protocol::View::view))]
+pub(crate) fn last_version(kv: &Kv, service: Service) -> u64
+    ensures value { result ≡ service_last (view kv.now) service }
+    ensures most { result ≤ 2 ^ 62 }
+{
+    number(kv, service, b"last_committed")
+}
+
+/// The version of the newest full map.
+#[tactic(auto, unfolding(mon_msg::specs::Protocol::View::view))]
+pub(crate) fn full_latest(kv: &Kv, service: Service) -> u64
+    ensures value { result ≡ full_latest (view kv.now) service }
+    ensures most { result ≤ 2 ^ 62 }
+{
+    number(kv, service, b"full_latest")
+}
+
+/// The bytes of the incremental that made a version, or `None` exactly where there are none.
+#[tactic(auto, using(mon_tx::proofs::Decimals::decimal_is), unfolding(mon_msg::specs::Protocol::View::view))]
+pub(crate) fn incremental(kv: &Kv, service: Service, v: u64) -> Option<&[u8]>
+    ensures { option_copied result ≡ (view kv.now).row service (keys.Version v) }
+{
+    let mut digits = Buffer::new();
+    kv.get(
+        area_of(service).as_str().as_bytes(),
+        digits.format(v).as_bytes(),
+    )
+}
+
+/// A number that is known to be a version.
+pub(crate) fn version_of(n: u64) -> Version
+    requires { n ≤ 2 ^ 62 }
+    ensures { result ≡ n }
+{
+    match Version::new(n) {
+        Some(version) => version,
+        None => unreachable!(),
+    }
+}

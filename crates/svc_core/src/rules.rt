@@ -1,0 +1,120 @@
+//! The rules of a value: what it changes in every monitor's store.
+
+ghost use Rattle.std.specs.Prelude.{◌≡◌, ◌==◌, ◌%◌, ◌≤◌, ◌^◌, [], ◌∷◌, ◌++◌, map, OnOk};
+ghost use Rattle.mon_tx.specs.declared.key.Key.TheVariants as key;
+ghost use Rattle.mon_msg.specs.Protocol.Changes.{erase};
+ghost use Rattle.mon_msg.specs.Protocol.Rules.{full_every, begins, paxos_begins, new_version, full_version, full_between, service_trim, service_trimmed};
+
+use crate::put::{push_erase, push_number, push_put, push_range};
+use mon_bytes::{Bytes, OutOfMemory};
+use mon_tx::{Area, Key, Transaction};
+use std::alloc::Global;
+
+/// A full map is kept at each multiple of this.
+const FULL_EVERY: u64 = 25;
+
+/// A service is trimmed where so many versions lie after its first one. It keeps so many, and so many go at most.
+const DUE: u64 = 75;
+
+const KEEPS: u64 = 50;
+
+const GOES: u64 = 25;
+
+/// Whether a full map is kept at a version.
+pub(crate) fn has_full(n: u64) -> bool
+    ensures { result ≡ (n % full_every == 0) }
+{
+    n % FULL_EVERY == 0
+}
+
+fn push_begins(alloc: Global, tx: &mut Transaction, area: Area) -> Result<(), OutOfMemory>
+    ensures { OnOk result (tx.new ≡ tx.old ++ begins area) }
+{
+    push_number(alloc, tx, area, Key::FirstCommitted, 1)
+}
+
+/// Appends the first version of the log, where it has none.
+pub(crate) fn push_paxos_begins(
+    alloc: Global,
+    tx: &mut Transaction,
+    last: u64,
+) -> Result<(), OutOfMemory>
+    ensures { OnOk result (tx.new ≡ tx.old ++ paxos_begins last) }
+{
+    if last == 0 {
+        return push_begins(alloc, tx, Area::Paxos);
+    }
+    Ok(())
+}
+
+/// Appends the service's version `n`.
+pub(crate) fn push_new_version(
+    alloc: Global,
+    tx: &mut Transaction,
+    area: Area,
+    n: u64,
+    incremental: Bytes,
+) -> Result<(), OutOfMemory>
+    ensures { OnOk result (tx.new ≡ tx.old ++ new_version area n incremental) }
+{
+    push_put(alloc, tx, area, Key::Version(n), incremental)?;
+    if n == 1 {
+        push_begins(alloc, tx, area)?;
+    }
+    push_number(alloc, tx, area, Key::LastCommitted, n)
+}
+
+/// Appends the full map at version `n`, where one is kept there.
+pub(crate) fn push_full_version(
+    alloc: Global,
+    tx: &mut Transaction,
+    area: Area,
+    n: u64,
+    text: Bytes,
+) -> Result<(), OutOfMemory>
+    ensures { OnOk result (tx.new ≡ tx.old ++ full_version area n text) }
+{
+    if !has_full(n) {
+        return Ok(());
+    }
+    push_put(alloc, tx, area, Key::Full(n), text)?;
+    push_number(alloc, tx, area, Key::FullLatest, n)
+}
+
+/// Appends the erasures of the full maps from a version up to but not including another.
+fn push_full_erased(
+    alloc: Global,
+    tx: &mut Transaction,
+    area: Area,
+    from: u64,
+    to: u64,
+) -> Result<(), OutOfMemory>
+    ensures { OnOk result (tx.new ≡ tx.old ++ map (λ v. erase area (key.Full v)) (full_between from to)) }
+{
+    for v in from..to {
+        if has_full(v) {
+            push_erase(alloc, tx, area, Key::Full(v))?;
+        }
+    }
+    Ok(())
+}
+
+/// Appends what trims the service at version `n`, where `first` is its first one.
+pub(crate) fn push_service_trim(
+    alloc: Global,
+    tx: &mut Transaction,
+    area: Area,
+    n: u64,
+    first: u64,
+) -> Result<(), OutOfMemory>
+    requires version { n ≤ 2 ^ 62 }
+    ensures { OnOk result (tx.new ≡ tx.old ++ service_trim area n first) }
+{
+    if n.saturating_sub(first) < DUE {
+        return Ok(());
+    }
+    let to = (n - KEEPS).min(first + GOES);
+    push_range(alloc, tx, area, first, to)?;
+    push_full_erased(alloc, tx, area, first, to)?;
+    push_number(alloc, tx, area, Key::FirstCommitted, to)
+}

@@ -1,0 +1,120 @@
+//! How a known map follows the changes of a transaction.
+
+ghost use Rattle.std.specs.Prelude.{◌≡◌, ◌+◌, ◌<◌, ◌≤◌, ◌^◌, true, Some, IfOk};
+ghost use Rattle.std.specs.Str.{bytes_eq};
+ghost use Rattle.mon_tx.specs.Keys.{key_text};
+ghost use Rattle.mon_tx.specs.Map.{number_in};
+ghost use Rattle.mon_tx.specs.declared.key.Key.TheVariants as keys;
+ghost use Rattle.svc_core.specs.Cache.{Went, after_put, after_op, after_ops};
+
+use crate::row::area_of;
+use crate::step::step;
+use byteorder::{ByteOrder, LittleEndian};
+use itoa::Buffer;
+use mon_bytes::OutOfMemory;
+use mon_msg::{Service, ShownMap};
+use mon_tx::Op;
+use mon_types::GREATEST;
+use std::alloc::Global;
+
+/// A known map in the course of a transaction.
+#[derive(Drop)]
+pub(crate) struct Turn {
+    /// Its version so far.
+    pub(crate) version: u64,
+    pub(crate) map: ShownMap,
+    /// Whether the last version was told since it rose.
+    pub(crate) told: bool,
+}
+
+/// The number that the bytes hold: eight bytes, the lowest first, and at most 2^62. It is 0 otherwise.
+#[tactic(auto, unfolding(mon_tx::specs::Map::number_in))]
+fn number_of(bytes: &[u8]) -> u64
+    ensures value { result ≡ number_in (Some bytes.now) }
+    ensures most { result ≤ 2 ^ 62 }
+{
+    if bytes.len() != 8 {
+        return 0;
+    }
+    let n = LittleEndian::read_u64(bytes);
+    if n <= GREATEST { n } else { 0 }
+}
+
+/// Whether a key is that of a version.
+#[tactic(auto, using(mon_tx::proofs::Decimals::decimal_is))]
+fn is_version(key: &[u8], v: u64) -> bool
+    ensures { result ≡ bytes_eq key.now (key_text (keys.Version v)) }
+{
+    let mut digits = Buffer::new();
+    key == digits.format(v).as_bytes()
+}
+
+/// Follows a put of a service's key, and tells whether it could.
+fn put(
+    alloc: Global,
+    service: Service,
+    key: &[u8],
+    value: &[u8],
+    turn: &mut Turn,
+) -> Result<bool, OutOfMemory>
+    requires version { turn.old.version + 1 < 2 ^ 64 }
+    requires fits { turn.old.told ≡ true → turn.old.version ≤ 2 ^ 62 }
+    ensures turn { IfOk result (Went turn.new (after_put service key.now value.now turn.old)) }
+    ensures version { turn.new.version ≤ turn.old.version + 1 }
+    ensures fits { turn.new.told ≡ true → turn.new.version ≤ 2 ^ 62 }
+{
+    if is_version(key, turn.version + 1) {
+        turn.version += 1;
+        turn.told = false;
+        return step(alloc, service, &mut turn.map, value);
+    }
+    if key == b"first_committed".as_slice() {
+        return Ok(true);
+    }
+    if key != b"last_committed".as_slice() || number_of(value) != turn.version {
+        return Ok(false);
+    }
+    turn.told = true;
+    Ok(true)
+}
+
+/// Follows a change, and tells whether it could.
+fn change(alloc: Global, service: Service, op: &Op, turn: &mut Turn) -> Result<bool, OutOfMemory>
+    requires version { turn.old.version + 1 < 2 ^ 64 }
+    requires fits { turn.old.told ≡ true → turn.old.version ≤ 2 ^ 62 }
+    ensures turn { IfOk result (Went turn.new (after_op service op.now turn.old)) }
+    ensures version { turn.new.version ≤ turn.old.version + 1 }
+    ensures fits { turn.new.told ≡ true → turn.new.version ≤ 2 ^ 62 }
+{
+    let own = area_of(service).as_str().as_bytes();
+    match op {
+        Op::Put { prefix, key, value } => {
+            if prefix.as_slice() != own {
+                return Ok(true);
+            }
+            put(alloc, service, key.as_slice(), value.as_slice(), turn)
+        }
+        Op::Erase { prefix, .. } => Ok(prefix.as_slice() != own),
+        Op::ErasePrefix { prefix } => Ok(prefix.as_slice() != own),
+        Op::EraseRange { prefix, .. } => Ok(prefix.as_slice() != own),
+    }
+}
+
+/// Follows changes, and tells whether it could.
+pub(crate) fn changes(
+    alloc: Global,
+    service: Service,
+    ops: &[Op],
+    turn: &mut Turn,
+) -> Result<bool, OutOfMemory>
+    requires version { turn.old.version ≤ 2 ^ 62 }
+    ensures turn { IfOk result (Went turn.new (after_ops service ops.now turn.old)) }
+    ensures fits { turn.new.told ≡ true → turn.new.version ≤ 2 ^ 62 }
+{
+    for op in ops {
+        if !change(alloc, service, op, turn)? {
+            return Ok(false);
+        }
+    }
+    Ok(true)
+}
