@@ -49,7 +49,7 @@ value_text : (log : List (List ℕ)) (c : ℕ) → c < 2 ^ 62 → Holds log c �
 value_text log c h H w K at older V = let N = next_at log c h H w K at older V in has_text log c V.newer N h (H.chains.few N.service) older V.spelled
 
 value_short : (log : List (List ℕ)) (c : ℕ) → c < 2 ^ 62 → Holds log c → (w : View) → Keeps log c w → w.last ≡ c → (older : List Op) → IsValue w older → length (text older) ≤ most_value
-value_short log c h H w K at older V = let N = next_at log c h H w K at older V in let l = short log c V.newer N h (H.chains.few N.service) older V.spelled in omega arith
+value_short log c h H w K at older V = let N = next_at log c h H w K at older V in short log c V.newer N h (H.chains.few N.service) older V.spelled
 
 -- ---- all versions
 

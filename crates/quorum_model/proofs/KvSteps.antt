@@ -107,14 +107,20 @@ read_back m h = rw (le-leb (length (map_text m)) 393216 h.short, map_again m (ma
 steps : (m : Kv) (inc : KvInc) → IncFits inc → IsFine (with_inc m inc) → length (inc_text inc) ≤ most_inc → Steps m inc
 steps m inc form fine short = record { fine = fine; short = short; next = rw (inc_again inc form, le-leb (length (map_text (with_inc m inc))) 393216 fine.short) refl }
 
+pub set_short : (k v : List ℕ) → IsTrue (is_name k) → length v ≤ 65536 → length (inc_text (Set k v)) ≤ most_inc
+set_short k v name short = let n = name_length k name in simp length-append (omega (arith, length-u32_bytes (length v)))
+
+pub remove_short : (k : List ℕ) → IsTrue (is_name k) → length (inc_text (Remove k)) ≤ most_inc
+remove_short k name = let n = name_length k name in omega arith
+
+pub remove_shorter : (m : Kv) (k : List ℕ) → length (map_text (remove m k)) ≤ length (map_text m)
+remove_shorter m k = omega (arith, length-map_text m, length-map_text (remove m k), ap size_of (removed m k), size_where (other_than k) (entries m))
+
 pub steps_set : (m : Kv) (k v : List ℕ) → IsFine m → IsPair (k, v) → length v ≤ 65536 → length (map_text (insert m k v)) ≤ 393216 → Steps m (Set k v)
 steps_set m k v h pair short le =
-    steps m (Set k v) (pair.0, pair.1, omega arith) (record { each = subst (AllByRecursion IsPair) (sym (entries-insert nat_list_cmp_total m k v)) (each_put k v (entries m) pair h.each); short = le })
-    (let n = name_length k pair.0 in simp length-append (omega (arith, length-u32_bytes (length v))))
+    steps m (Set k v) (pair.0, pair.1, omega arith) (record { each = subst (AllByRecursion IsPair) (sym (entries-insert nat_list_cmp_total m k v)) (each_put k v (entries m) pair h.each); short = le }) (set_short k v pair.0 short)
 
 pub steps_remove : (m : Kv) (k : List ℕ) → IsFine m → IsTrue (is_name k) → Steps m (Remove k)
 steps_remove m k h name =
-    steps m (Remove k) name (record {
-      each = subst (AllByRecursion IsPair) (sym (removed m k)) (each_where (other_than k) (entries m) h.each);
-      short = let s = h.short in omega (arith, length-map_text m, length-map_text (remove m k), ap size_of (removed m k), size_where (other_than k) (entries m));
-    }) (let n = name_length k name in omega arith)
+    steps m (Remove k) name (record { each = subst (AllByRecursion IsPair) (sym (removed m k)) (each_where (other_than k) (entries m) h.each); short = let s = h.short in omega (arith, remove_shorter m k) })
+    (remove_short k name)

@@ -20,6 +20,7 @@ pub mod MapSteps
 pub mod Older
 pub mod Own
 pub mod Places
+pub mod PutOnce
 pub mod Puts
 pub mod Quiet
 pub mod Reading
@@ -38,6 +39,7 @@ pub mod Step
 pub mod Telling
 pub mod TextSizes
 pub mod ToldFront
+pub mod ValueSizes
 pub mod Values
 pub mod Waiting
 pub mod Whole

@@ -26,7 +26,7 @@ below e es h = ltb-false 12288 (length (map_text (e ∷ es))) (second (ltb 500 (
     second true b h = absurd cc
     second false b h = h
 
-short_trimmed : (es : List LogInc) → length (map_text (trimmed es)) ≤ 12288
+pub short_trimmed : (es : List LogInc) → length (map_text (trimmed es)) ≤ 12288
 short_trimmed [] = omega (arith, length-map_text [])
 short_trimmed (e ∷ es) = cond_both (is_above (e ∷ es)) (trimmed es) (e ∷ es) (λ z. length (map_text z) ≤ 12288) (λ h. short_trimmed es) (λ h. below e es h)
 
@@ -34,6 +34,9 @@ pub read_back : (es : List LogInc) → IsFine es → spelled_map service.Log (ma
 read_back es h =
     let form = fits es h.each (is_short es (let s = h.short in omega arith)) in
     rw (le-leb (length (map_text es)) 12288 h.short, map_again es form) refl
+
+pub inc_short : (inc : LogInc) → length inc.text ≤ 1024 → length (inc_text inc) ≤ 1029
+inc_short inc short = simp length-append (omega (arith, length-u32_bytes (length inc.text)))
 
 pub record Steps (es : List LogInc) (inc : LogInc) : Type 0 where
   pub fine : IsFine (with_inc es inc)
@@ -43,4 +46,4 @@ pub record Steps (es : List LogInc) (inc : LogInc) : Type 0 where
 pub steps : (es : List LogInc) (inc : LogInc) → IsFine es → IsEntry inc → length inc.text ≤ 1024 → Steps es inc
 steps es inc h entry short =
     let fine : IsFine (with_inc es inc) = record { each = each-trimmed (es ++ inc ∷ []) (each-append es inc h.each entry); short = short_trimmed (es ++ inc ∷ []) } in
-    record { fine = fine; short = simp length-append (omega (arith, length-u32_bytes (length inc.text))); next = rw (inc_again inc (entry.0, entry.1, omega arith), le-leb (length (map_text (with_inc es inc))) 12288 fine.short) refl }
+    record { fine = fine; short = inc_short inc short; next = rw (inc_again inc (entry.0, entry.1, omega arith), le-leb (length (map_text (with_inc es inc))) 12288 fine.short) refl }

@@ -1,6 +1,6 @@
--- Every value over a store that keeps the windows has a text, in each of its spellings.
-use Rattle.std.proofs.Common.{◌≡◌, ℕ, zero, suc, ◌+◌, ◌-◌, ◌*◌, ◌<◌, ◌≤◌, ◌^◌, cond, eqb, List, [], ◌∷◌, ◌++◌, length, map, IsTrue, ◌⊎◌, inl, inr, refl, sym, ap, subst, ◌∙◌, arith, length-append}
-use Rattle.std.proofs.lemmas.Bool.{cond_both, and_parts, leb-true}
+-- Every value has a text, in each of its spellings.
+use Rattle.std.proofs.Common.{◌≡◌, ℕ, zero, suc, ◌+◌, ◌-◌, ◌*◌, ◌<◌, ◌≤◌, ◌^◌, cond, eqb, leb, ltb, List, [], ◌∷◌, ◌++◌, length, map, IsTrue, refl, sym, ap, subst, ◌∙◌, arith, length-append}
+use Rattle.std.proofs.lemmas.Bool.{cond_both, and_parts, leb-true, ltb-true}
 use Rattle.std.specs.List.{AllByRecursion, flat_map, range_with_len, filter}
 use Rattle.mon_bytes.specs.Texts.{is_name, is_prefix}
 use Rattle.mon_tx.specs.declared.key.Area.{Area}
@@ -19,12 +19,13 @@ use Rattle.mon_msg.specs.Fold.{incrementals}
 use Rattle.mon_msg.specs.Puts.{area_of}
 use Rattle.mon_msg.specs.Protocol.Changes.{erase}
 use Rattle.mon_msg.specs.Protocol.Parts.{map_text}
+use Rattle.mon_msg.specs.Protocol.Records.{most_value}
+use Rattle.mon_msg.specs.Protocol.Rules.{service_to, paxos_to, value_ops}
 use Rattle.quorum_model.specs.LogOfValues.{one_by_one, IsOlder, none, same, range}
 use Rattle.quorum_model.specs.Windows.{service_from, log_from, is_full, first_read}
 use Rattle.quorum_model.proofs.AreaEdits.{Edit, Set, Drop, DropRange, spelled}
 use Rattle.quorum_model.proofs.Lists.{all_append}
-use Rattle.quorum_model.proofs.RuleEdits.{first_set, begun, new, full, full_drops, cut, trimmed, log_trimmed, service_edits, value_is}
-use Rattle.quorum_model.proofs.RuleCells.{Trims, Stays, window, trim_cut, trim_nil, Falls, Rests, log_window, fall_cut, rest_nil}
+use Rattle.quorum_model.proofs.RuleEdits.{first_set, begun, new, full, full_drops, cut, trimmed, log_cut, log_trimmed, service_edits, value_is}
 use Rattle.quorum_model.proofs.MapSteps.{fine_short}
 use Rattle.quorum_model.proofs.Windows.{Next}
 
@@ -218,75 +219,83 @@ light_cut from h =
     let drops : Light (full_drops from (from + 25)) 900 = subst (λ (k : ℕ). Light (map (λ v. Drop (Full v)) (filter is_full (range_with_len from k))) 900) (sym e) (light_drops 25 from h) in
     light-append (DropRange from (from + 25) ∷ []) _ 801 948 (record { fits = ((omega arith, h), tt); light = omega arith }) (light-append (full_drops from (from + 25)) (first_set (from + 25)) 900 48 drops (light_first (from + 25)))
 
-light_trimmed : (n : ℕ) → n < 2 ^ 62 → Light (trimmed (suc n) (first_read service_from n)) 1749
-light_trimmed n h = by (window n)
-  where
-    by : Trims n (service_from n) (service_from (suc n)) ⊎ Stays n (service_from n) (service_from (suc n)) → Light (trimmed (suc n) (first_read service_from n)) 1749
-    by (inl t) =
-        let due = t.due in
-        let up : service_from (suc n) ≡ service_from n + 25 = omega arith in
-        subst (λ (es : List Edit). Light es 1749) (sym (trim_cut n _ _ t ∙ ap (cut (service_from n)) up)) (light_cut (service_from n) (omega arith))
-    by (inr s) = subst (λ (es : List Edit). Light es 1749) (sym (trim_nil n _ _ s)) (record { fits = tt; light = omega arith })
+light_trimmed : (n first : ℕ) → n ≤ 2 ^ 62 → Light (trimmed n first) 1749
+light_trimmed n first h =
+    cond_both (leb 75 (n - first)) (cut first (service_to n first)) [] (λ es. Light es 1749)
+    (λ e.
+    let due = leb-true 75 (n - first) e in
+    let to : service_to n first ≡ first + 25 = omega arith in
+    subst (λ (b : ℕ). Light (cut first b) 1749) (sym to) (light_cut first (omega arith)))
+    (λ e. record { fits = tt; light = omega arith })
 
-light_log : (c : ℕ) → c < 2 ^ 62 → Light (log_trimmed (first_read log_from c) c) 7855
-light_log c h = by (log_window c)
-  where
-    by : Falls c (log_from c) (log_from (suc c)) ⊎ Rests c (log_from c) (log_from (suc c)) → Light (log_trimmed (first_read log_from c) c) 7855
-    by (inl t) =
-        let due = t.due in
-        let up : log_from (suc c) ≡ log_from c + 251 = omega arith in
-        subst (λ (es : List Edit). Light es 7855) (sym (fall_cut c _ _ t))
-        (light-append (DropRange (log_from c) (log_from (suc c)) ∷ []) (first_set (log_from (suc c))) 7807 48 (record { fits = ((omega arith, omega arith), tt); light = omega arith }) (light_first (log_from (suc c))))
-    by (inr s) = subst (λ (es : List Edit). Light es 7855) (sym (rest_nil c _ _ s)) (record { fits = tt; light = omega arith })
+light_log : (first last : ℕ) → last ≤ 2 ^ 62 → Light (log_trimmed first last) 15574
+light_log first last h =
+    cond_both (ltb 750 (last - first)) (log_cut first (paxos_to first last)) [] (λ es. Light es 15574)
+    (λ e.
+    let due = ltb-true 750 (last - first) e in
+    light-append (DropRange first (paxos_to first last) ∷ []) (first_set (paxos_to first last)) 15526 48 (record { fits = ((omega arith, omega arith), tt); light = omega arith }) (light_first (paxos_to first last)))
+    (λ e. record { fits = tt; light = omega arith })
 
-light_service : (n : ℕ) (x t : List ℕ) → n < 2 ^ 62 → length x ≤ 65797 → length t ≤ 393216 → Light (service_edits (suc n) (first_read service_from n) x t) 460986
-light_service n x t h short_x short_t =
-    light-append (new (suc n) x) _ 65933 395053 (light_new (suc n) x (omega arith) short_x) (light-append (full (suc n) t) _ 393304 1749 (light_full (suc n) t (omega arith) short_t) (light_trimmed n h))
+light_service : (n first : ℕ) (x t : List ℕ) → n ≤ 2 ^ 62 → length x ≤ 65797 → length t ≤ 393216 → Light (service_edits n first x t) 460986
+light_service n first x t h short_x short_t =
+    light-append (new n x) _ 65933 395053 (light_new n x h short_x) (light-append (full n t) _ 393304 1749 (light_full n t h short_t) (light_trimmed n first h))
 
 -- ---- a value
 
-module _ (log : List (List ℕ)) (c : ℕ) (newer : List Op) (N : Next log c newer) (h : c < 2 ^ 62) (few : length (incrementals N.service log c) ≤ c) where
+module _ (first last : ℕ) (a : Area) (n service_first : ℕ) (x t : List ℕ) (newer : List Op) (is : newer ≡ value_ops first last a n service_first x t) (at : last ≤ 2 ^ 62) (h : n ≤ 2 ^ 62) (short_x : length x ≤ 65797)
+    (short_t : length t ≤ 393216) where
   abbrev edits : List Edit
-  edits = service_edits (suc (length (incrementals N.service log c))) (first_read service_from (length (incrementals N.service log c))) N.incremental (map_text N.map)
+  edits = service_edits n service_first x t
 
   abbrev parts : List Op
-  parts = spelled area.Paxos (begun c) ++ (spelled (area_of N.service) edits ++ spelled area.Paxos (log_trimmed (first_read log_from c) c))
+  parts = spelled area.Paxos (begun last) ++ (spelled a edits ++ spelled area.Paxos (log_trimmed first last))
 
   parts_are : newer ≡ parts
-  parts_are = N.ops ∙ value_is (first_read log_from c) c (area_of N.service) _ _ N.incremental (map_text N.map)
+  parts_are = is ∙ value_is first last a n service_first x t
 
   own : Light edits 460986
-  own = light_service (length (incrementals N.service log c)) N.incremental (map_text N.map) (omega arith) N.makes.short (fine_short N.service N.map N.makes.fine)
+  own = light_service n service_first x t h short_x short_t
 
-  log_edits : Light (log_trimmed (first_read log_from c) c) 7855
-  log_edits = light_log c h
+  log_edits : Light (log_trimmed first last) 15574
+  log_edits = light_log first last at
 
   parts_fit : AllByRecursion OpFits parts
   parts_fit =
-      all_append OpFits (spelled area.Paxos (begun c)) _ (edits_fit area.Paxos (begun c) (light_begun c).fits)
-      (all_append OpFits (spelled (area_of N.service) edits) (spelled area.Paxos (log_trimmed (first_read log_from c) c)) (edits_fit (area_of N.service) edits own.fits)
-      (edits_fit area.Paxos (log_trimmed (first_read log_from c) c) log_edits.fits))
+      all_append OpFits (spelled area.Paxos (begun last)) _ (edits_fit area.Paxos (begun last) (light_begun last).fits)
+      (all_append OpFits (spelled a edits) (spelled area.Paxos (log_trimmed first last)) (edits_fit a edits own.fits) (edits_fit area.Paxos (log_trimmed first last) log_edits.fits))
 
-  parts_total : total parts ≤ 468889
+  parts_total : total parts ≤ 476608
   parts_total =
-      let a = (light_begun c).light in
-      let b = own.light in
-      let d = log_edits.light in
+      let b = (light_begun last).light in
+      let o = own.light in
+      let l = log_edits.light in
       omega (
         arith,
-        total-append (spelled area.Paxos (begun c)) (spelled (area_of N.service) edits ++ spelled area.Paxos (log_trimmed (first_read log_from c) c)),
-        total-append (spelled (area_of N.service) edits) (spelled area.Paxos (log_trimmed (first_read log_from c) c)),
-        edits_total area.Paxos (begun c) (light_begun c).fits,
-        edits_total (area_of N.service) edits own.fits,
-        edits_total area.Paxos (log_trimmed (first_read log_from c) c) log_edits.fits,
+        total-append (spelled area.Paxos (begun last)) (spelled a edits ++ spelled area.Paxos (log_trimmed first last)),
+        total-append (spelled a edits) (spelled area.Paxos (log_trimmed first last)),
+        edits_total area.Paxos (begun last) (light_begun last).fits,
+        edits_total a edits own.fits,
+        edits_total area.Paxos (log_trimmed first last) log_edits.fits,
       )
 
   fits : AllByRecursion OpFits newer
   fits = subst (AllByRecursion OpFits) (sym parts_are) parts_fit
 
   -- short enough to be proposed
-  pub short : (older : List Op) → IsOlder newer older → length (text older) ≤ 468894
-  short older o = omega (arith, text_length older, older_total o fits, ap total parts_are, parts_total)
+  pub value_short : (older : List Op) → IsOlder newer older → length (text older) ≤ most_value
+  value_short older o = omega (arith, text_length older, older_total o fits, ap total parts_are, parts_total)
 
-  pub has_text : (older : List Op) → IsOlder newer older → HasText older
-  has_text older o = record { each = older_fits o fits; short = (let l = short older o in omega arith) }
+  pub value_text : (older : List Op) → IsOlder newer older → HasText older
+  value_text older o = record { each = older_fits o fits; short = (let l = value_short older o in omega arith) }
+
+-- a value that makes the next map of a log's
+module _ (log : List (List ℕ)) (c : ℕ) (newer : List Op) (N : Next log c newer) (h : c < 2 ^ 62) (few : length (incrementals N.service log c) ≤ c) (older : List Op) (o : IsOlder newer older) where
+  pub short : length (text older) ≤ most_value
+  short =
+      value_short (first_read log_from c) c (area_of N.service) _ (first_read service_from (length (incrementals N.service log c))) N.incremental (map_text N.map) newer N.ops (omega arith) (omega arith) N.makes.short
+      (fine_short N.service N.map N.makes.fine) older o
+
+  pub has_text : HasText older
+  has_text =
+      value_text (first_read log_from c) c (area_of N.service) _ (first_read service_from (length (incrementals N.service log c))) N.incremental (map_text N.map) newer N.ops (omega arith) (omega arith) N.makes.short
+      (fine_short N.service N.map N.makes.fine) older o

@@ -10,8 +10,11 @@ ghost use Rattle.mon_tx.specs.Map.{Place, place_cmp, Store, apply};
 ghost use Rattle.mon_tx.specs.Text.{text};
 ghost use Rattle.mon_msg.specs.Puts.{put, put_number};
 ghost use Rattle.mon_msg.specs.Fold.{entry, fold};
-ghost use Rattle.mon_msg.specs.Protocol.Reading.{may_tell};
+ghost use Rattle.mon_msg.specs.Protocol.Maps.{most_map};
+ghost use Rattle.mon_msg.specs.Protocol.Parts.{map_text};
+ghost use Rattle.mon_msg.specs.Protocol.Reading.{service_last, read_map, may_tell};
 ghost use Rattle.mon_msg.specs.Protocol.Records.{longest, most_value};
+ghost use Rattle.mon_msg.specs.Protocol.Value.{service_of};
 ghost use Rattle.mon_msg.specs.Protocol.View.{View, view, after};
 ghost use Rattle.quorum_model.specs.Events.{AllFit};
 ghost use Rattle.quorum_model.specs.Happens.{run};
@@ -45,6 +48,13 @@ pub fn law_windows()
     ensures some { (n : ℕ) → n ≤ 2 ^ 62 → LogOf n }
     ensures next { (log : List (List ℕ)) → AllValues log → (c : ℕ) → c ≤ length log → c < 2 ^ 62 → (w : View) → Keeps log c w → w.last ≡ c
         → (value : List Op) → IsValue w value → HasText value × (length (text value) ≤ most_value) × AllValues (take c log ++ text value ∷ []) }
+{}
+
+/// A value has a text that is short enough to be proposed, whatever the store tells that it is made over, where the store can
+/// hold the next numbers and its map is no longer than a map may be.
+pub fn law_proposed()
+    ensures { (w : View) (value : List Op) (made : IsValue w value) → w.last ≤ 2 ^ 62 → suc (service_last w (service_of made.command)) ≤ 2 ^ 62
+        → length (map_text (read_map w (service_of made.command))) ≤ most_map (service_of made.command) → HasText value × (length (text value) ≤ most_value) }
 {}
 
 /// What monitors share along such a log. Its fold has keys of versions alone, of which none is a monitor's own or above that of

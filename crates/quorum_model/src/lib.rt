@@ -3,4 +3,4 @@
 
 mod laws;
 
-pub use laws::{law_kept, law_safe, law_shared, law_shown, law_windows};
+pub use laws::{law_kept, law_proposed, law_safe, law_shared, law_shown, law_windows};
