@@ -1,0 +1,4 @@
+pub mod Calm
+pub mod Found
+pub mod Opening
+pub mod Kept

@@ -1,0 +1,4 @@
+pub mod Site
+pub mod Disks
+pub mod Answers
+pub mod Kept
