@@ -1,9 +1,7 @@
 -- A schedule that is run: what its lines are.
-use Rattle.std.proofs.Common.{◌≡◌, ℕ, ◌+◌, ◌≤◌, Bool, true, false, ◌&&◌, cond, eqb, leb, List, [], ◌∷◌, ◌++◌, length, drop, count_by, Option, Some, None, Result, Ok, Err, IsTrue, refl, sym, ap, subst, ◌∙◌, arith, inl, inr, ◌⊎◌}
+use Rattle.std.proofs.Common.{◌≡◌, ℕ, ◌+◌, Bool, true, false, ◌&&◌, eqb, List, [], ◌∷◌, Option, Some, None, Ok, Err, IsTrue, refl, sym, ap, subst, ◌∙◌, arith, inl, inr, ◌⊎◌}
 use Rattle.std.specs.List.{list_all}
-use Rattle.std.proofs.lemmas.Bool.{leb-true}
 use Rattle.std.proofs.lemmas.Bool.Decides.{nat_tests}
-use Rattle.std.proofs.lemmas.List.Sums.{sum_by-cons}
 use Rattle.election_rules.specs.declared.rule.Rule.{Rule}
 use Rattle.election_rules.specs.declared.rule.Rule.TheVariants.{Classic, Disallow, Connectivity}
 use Rattle.mon_bytes.proofs.Ascii.{both}
@@ -14,28 +12,25 @@ use Rattle.schedule_text.specs.declared.refusal.ScheduleKind.TheVariants.{NotBui
 use Rattle.schedule_text.specs.declared.refusal.ScheduleRefused.TheVariants.{At}
 use Rattle.schedule_text.specs.Spelling.{event_fits, header, ended_line, HasText}
 use Rattle.schedule_text.specs.Schedule.{schedule_at}
-use Rattle.cephmon.specs.Built.{is_built, is_set, most_sets, sets_with, comes_next, first_unbuilt, is_classic, unbuilt, refused, run_at, event_runs}
+use Rattle.cephmon.specs.Built.{is_built, first_unbuilt, is_classic, unbuilt, run_at, event_runs}
 
 abbrev pub first_line : List ℕ
 first_line = ended_line (header 1 Classic)
 
 -- ---- the loop over the lines
 
-pub next_built : (line sets : ℕ) (event : Event) (es rest : List Event) (total : Option ℕ) → es ≡ event ∷ rest → comes_next sets event ≡ true → first_unbuilt line sets es ≡ total → first_unbuilt (line + 1) (sets_with sets event) rest ≡ total
-next_built line sets event es rest total is t so_far =
-    let here : first_unbuilt line sets (event ∷ rest) ≡ first_unbuilt (line + 1) (sets_with sets event) rest = rw t refl in
-    sym here ∙ ap (first_unbuilt line sets) (sym is) ∙ so_far
+pub next_built : (line : ℕ) (event : Event) (es rest : List Event) (total : Option ℕ) → es ≡ event ∷ rest → is_built event ≡ true → first_unbuilt line es ≡ total → first_unbuilt (line + 1) rest ≡ total
+next_built line event es rest total is t so_far =
+    let here : first_unbuilt line (event ∷ rest) ≡ first_unbuilt (line + 1) rest = rw t refl in
+    sym here ∙ ap (first_unbuilt line) (sym is) ∙ so_far
 
-pub next_unbuilt : (line sets : ℕ) (event : Event) (es rest : List Event) (total : Option ℕ) → es ≡ event ∷ rest → comes_next sets event ≡ false → first_unbuilt line sets es ≡ total → Some line ≡ total
-next_unbuilt line sets event es rest total is f so_far =
-    let here : first_unbuilt line sets (event ∷ rest) ≡ Some line = rw f refl in
-    sym here ∙ ap (first_unbuilt line sets) (sym is) ∙ so_far
+pub next_unbuilt : (line : ℕ) (event : Event) (es rest : List Event) (total : Option ℕ) → es ≡ event ∷ rest → is_built event ≡ false → first_unbuilt line es ≡ total → Some line ≡ total
+next_unbuilt line event es rest total is f so_far =
+    let here : first_unbuilt line (event ∷ rest) ≡ Some line = rw f refl in
+    sym here ∙ ap (first_unbuilt line) (sym is) ∙ so_far
 
-pub none_left : (line sets : ℕ) (es : List Event) (total : Option ℕ) → es ≡ [] → first_unbuilt line sets es ≡ total → None ≡ total
-none_left line sets es total is so_far = ap (first_unbuilt line sets) (sym is) ∙ so_far
-
-pub few_sets : (sets : ℕ) (event : Event) → comes_next sets event ≡ true → sets_with sets event ≤ 24
-few_sets sets event t = leb-true _ _ (both (is_built event) (leb (sets_with sets event) most_sets) t).1
+pub none_left : (line : ℕ) (es : List Event) (total : Option ℕ) → es ≡ [] → first_unbuilt line es ≡ total → None ≡ total
+none_left line es total is so_far = ap (first_unbuilt line) (sym is) ∙ so_far
 
 -- ---- what is known of a schedule that is run
 
@@ -43,28 +38,11 @@ cases_true : (b : Bool) → (b ≡ true) ⊎ (b ≡ false)
 cases_true true = inl refl
 cases_true false = inr refl
 
--- the events that are run, after so many sets
-record AllBuilt (sets : ℕ) (es : List Event) : Type 0 where
-  each : IsTrue (list_all is_built es)
-  few : sets ≤ most_sets → sets + count_by is_set es ≤ most_sets
-
-pub sets_step : (sets : ℕ) (event : Event) (es : List Event) → sets + count_by is_set (event ∷ es) ≡ sets_with sets event + count_by is_set es
-sets_step sets event es =
-    let parts : count_by is_set (event ∷ es) ≡ cond (is_set event) 1 0 + count_by is_set es = sum_by-cons (λ x. cond (is_set x) 1 0) event es in
-    elim (cases_true (is_set event)) [
-      | inl t ↦ rw (parts, t) (omega arith)
-      | inr f ↦ rw (parts, f) (omega arith)
-    ]
-
-all_built : (line sets : ℕ) (es : List Event) → first_unbuilt line sets es ≡ None → AllBuilt sets es
-all_built line sets [] e = record { each = refl; few = λ h. omega arith }
-all_built line sets (event ∷ es) e =
-    elim (cases_true (comes_next sets event)) [
-      | inl t ↦
-          let parts = both (is_built event) (leb (sets_with sets event) most_sets) t in
-          let others = all_built (line + 1) (sets_with sets event) es (rw t at e) in
-          let le : sets_with sets event ≤ most_sets = leb-true _ _ parts.1 in
-          record { each = rw (parts.0, others.each) refl; few = λ h. omega (arith, sets_step sets event es, others.few le) }
+all_built : (line : ℕ) (es : List Event) → first_unbuilt line es ≡ None → IsTrue (list_all is_built es)
+all_built line [] e = refl
+all_built line (event ∷ es) e =
+    elim (cases_true (is_built event)) [
+      | inl t ↦ rw (t, all_built (line + 1) es (rw t at e)) refl
       | inr f ↦ let lost = rw f at e in absurd cc
     ]
 
@@ -72,7 +50,6 @@ pub record IsBuilt (s : Schedule) : Type 0 where
   pub monitors : s.monitors ≡ 1
   pub rule : s.rule ≡ Classic
   pub each : IsTrue (list_all is_built s.events)
-  pub sets : count_by is_set s.events ≤ most_sets
 
 classic : (rule : Rule) → IsTrue (is_classic rule) → rule ≡ Classic
 classic Classic h = refl
@@ -87,13 +64,9 @@ built s e =
     elim (cases_true (eqb s.monitors 1 && is_classic s.rule)) [
       | inl t ↦
           let parts = both (eqb s.monitors 1) (is_classic s.rule) t in
-          let all = all_built 2 0 s.events (rw t at e) in
-          record { monitors = one s.monitors parts.0; rule = classic s.rule parts.1; each = all.each; sets = omega (arith, all.few (omega arith)) }
+          record { monitors = one s.monitors parts.0; rule = classic s.rule parts.1; each = all_built 2 s.events (rw t at e) }
       | inr f ↦ let lost = rw f at e in absurd cc
     ]
-
-pub few_sets_of : (s : Schedule) → unbuilt s ≡ None → count_by is_set s.events ≤ 24
-few_sets_of s e = (built s e).sets
 
 pub header_is : (s : Schedule) → unbuilt s ≡ None → ended_line (header s.monitors s.rule) ≡ first_line
 header_is s e = let b = built s e in ap (λ n. ended_line (header n s.rule)) b.monitors ∙ ap (λ (r : Rule). ended_line (header 1 r)) b.rule

@@ -1,6 +1,5 @@
 pub mod Building
 pub mod Reacting
-pub mod Reading
 pub mod Runs
 pub mod Spoken
 pub mod Stepping

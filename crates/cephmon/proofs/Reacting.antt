@@ -1,15 +1,15 @@
 -- What a monitor that is alone in its map does, over plain numbers.
-use Rattle.std.proofs.Common.{◌≡◌, ℕ, suc, ◌+◌, ◌≤◌, ◌<◌, ◌^◌, Bool, true, false, cond, leb, ltb, eqb, List, [], ◌∷◌, ◌++◌, length, Option, Some, None, Result, Ok, Err, IsTrue, refl, sym, ap, subst, ◌∙◌, arith, inl, inr, length-append}
-use Rattle.std.proofs.lemmas.Bool.{cases_lt, le-leb}
+use Rattle.std.proofs.Common.{◌≡◌, ℕ, suc, ◌≤◌, ◌<◌, ◌^◌, true, false, cond, leb, ltb, List, [], ◌∷◌, length, Option, Some, None, Result, Ok, Err, IfOk, refl, sym, ap, subst, ◌∙◌, arith, inl, inr, length-append}
+use Rattle.std.specs.Prelude.{IfErr}
+use Rattle.std.proofs.lemmas.Bool.{cases_lt, le-leb, lt-leb, lt-ltb, le-ltb}
 use Rattle.std.proofs.lemmas.Bool.Decides.{nat_tests}
-use Rattle.mon_bytes.specs.Forms.{u32_bytes}
-use Rattle.mon_bytes.specs.Texts.{is_name}
-use Rattle.mon_bytes.specs.declared.command.Command.TheVariants as command
-use Rattle.map_kv.specs.declared.inc.KvInc.TheVariants as inc
-use Rattle.map_kv.specs.Text.{inc_text}
+use Rattle.mon_bytes.specs.Makes.{Refuses}
+use Rattle.mon_bytes.specs.declared.command.Command.{Command}
+use Rattle.mon_bytes.specs.declared.command.CommandRefused.{CommandRefused}
+use Rattle.mon_bytes.specs.declared.command.CommandRefused.TheVariants as refused
 use Rattle.mon_tx.specs.Decision.{Cell}
 use Rattle.mon_tx.specs.Keys.{cell}
-use Rattle.mon_tx.specs.Map.{Store, number_in, number_bytes}
+use Rattle.mon_tx.specs.Map.{Store, number_in}
 use Rattle.mon_tx.specs.Text.{text}
 use Rattle.mon_tx.specs.declared.key.Area.TheVariants as area
 use Rattle.mon_tx.specs.declared.key.Key.TheVariants as key
@@ -17,36 +17,42 @@ use Rattle.mon_tx.specs.declared.op.Op.{Op}
 use Rattle.mon_types.specs.Proposal.{next_number}
 use Rattle.mon_types.specs.declared.names.Which.{Which}
 use Rattle.mon_types.specs.declared.names.Which.TheVariants as which
-use Rattle.mon_msg.specs.Puts.{put, put_number}
+use Rattle.mon_msg.specs.Puts.{put_number}
 use Rattle.mon_msg.specs.Joined.{joined}
 use Rattle.mon_msg.specs.Protocol.Changes.{Learn, Last, spelled}
+use Rattle.mon_msg.specs.Protocol.Commands.{text_length, most_text, is_too_long, too_long}
 use Rattle.mon_msg.specs.Protocol.Entering.{next_even}
+use Rattle.mon_msg.specs.Protocol.Proposing.{refusal}
 use Rattle.mon_msg.specs.Protocol.Reaction as protocol
-use Rattle.mon_msg.specs.Protocol.Reading.{service_last}
-use Rattle.mon_msg.specs.Protocol.Reads.{shown}
+use Rattle.mon_msg.specs.Protocol.Reading.{service_first, service_last}
+use Rattle.mon_msg.specs.Protocol.Reads.{shown, since}
 use Rattle.mon_msg.specs.Protocol.State.{State, booting}
+use Rattle.mon_msg.specs.Protocol.Value.{service_of, value}
 use Rattle.mon_msg.specs.Protocol.View.{view, shared_entries, or_zero, epoch_of}
 use Rattle.mon_msg.specs.Protocol.View.{number_if_there}
+use Rattle.mon_msg.specs.declared.input.Input.{Input}
 use Rattle.mon_msg.specs.declared.input.Input.TheVariants as input
+use Rattle.mon_msg.specs.declared.phase.Timer.{Timer}
 use Rattle.mon_msg.specs.declared.plan.Sent.TheVariants as sent
 use Rattle.mon_msg.specs.declared.reply.Reply.{Reply}
 use Rattle.mon_msg.specs.declared.reply.Reply.TheVariants as reply
 use Rattle.mon_msg.specs.declared.request.Request.{Request}
 use Rattle.mon_msg.specs.declared.request.Request.TheVariants as request
 use Rattle.mon_msg.specs.declared.request.Service.{Service}
-use Rattle.mon_msg.specs.declared.request.Service.TheVariants as service
 use Rattle.mon_msg.specs.declared.request.Session.{Session}
-use Rattle.mon_msg.proofs.Once.{joined-new}
-use Rattle.quorum_model.specs.Few.{RequestFits}
-use Rattle.quorum_model.specs.Alone.{LeadsItself}
-use Rattle.quorum_model.specs.Few.{AfterSets, sets_with}
+use Rattle.quorum_model.specs.Alone.{Waits, IsSettled}
+use Rattle.quorum_model.specs.Clients.{command_of}
 use Rattle.quorum_model.specs.Monitors.{itself}
+use Rattle.quorum_model.proofs.AnyTexts.{any_text, any_few}
+use Rattle.quorum_model.proofs.Asking.{leads_itself, committed, committed_by, answered, reaction-command, reaction-refused, reaction-long, reaction-show, reaction-since}
+use Rattle.quorum_model.proofs.PutOnce.{commits_once}
+use Rattle.quorum_model.proofs.Ringing.{rings}
 use Rattle.quorum_model.proofs.Starting.{number, start_changes, started_by, starting, reaction-start, done}
-use Rattle.quorum_model.proofs.Asking.{leads_itself, committed, committed_by, answered, reaction-command, reaction-show}
-use Rattle.quorum_model.proofs.Sets.{not_long, set_value}
-use Rattle.quorum_model.proofs.Values.{written, word_length}
+use Rattle.svc_core.specs.Drafts.{IsShortValue}
 use Rattle.cephmon.specs.declared.node.Reaction.{Reaction}
-use Rattle.cephmon.specs.Node.{sends_of, IsReaction, start_tx, set_ops, set_tx}
+use Rattle.cephmon.specs.declared.node.NodeStop.{NodeStop}
+use Rattle.cephmon.specs.declared.node.NodeStop.TheVariants as stop
+use Rattle.cephmon.specs.Node.{Fails, Reacts, sends_of, IsReaction, start_tx, commit_tx}
 
 -- ---- a start
 
@@ -61,7 +67,7 @@ unfolding number_in
 number_of None = refl
 number_of (Some bytes) = refl
 
-module _ (sets now : ℕ) (m : Store) (h : AfterSets sets (view m)) where
+module _ (now : ℕ) (m : Store) (h : IsSettled (view m)) where
   abbrev boot : ℕ
   boot = suc (view m).boot
 
@@ -115,114 +121,150 @@ module _ (sets now : ℕ) (m : Store) (h : AfterSets sets (view m)) where
         is = started ∙ rw (t, u, v) refl;
         transaction = d.transaction ∙ start_ops (view m).epoch boot epoch pn ∙ sym tx;
         sends = d.sends ∙ rw none refl;
-        leads = d.leads;
+        waits = record { leads = d.leads; renews = d.renews };
       }
 
--- ---- a set
-
--- an early value, by whether the log and the service begin with it
-same_ops : (last n : ℕ) (x : List ℕ) → written (eqb last 0) (eqb n 1) n x ≡ set_ops last n x
-same_ops last n x = refl
-
-abbrev version_ops : ℕ → List ℕ → List Op → List Op
-version_ops v bytes ops = put area.Paxos (key.Version v) bytes ∷ (ops ++ put_number area.Paxos key.LastCommitted v ∷ [])
-
-once : (log_first first : Bool) (n : ℕ) (x : List ℕ) (v : ℕ) (bytes : List ℕ) → joined (version_ops v bytes (written log_first first n x)) ≡ version_ops v bytes (written log_first first n x)
-once true true n x v bytes = joined-new ((area.Paxos, key.Version v, bytes) ∷ (area.Paxos, key.FirstCommitted, number_bytes 1) ∷ (area.Kv, key.Version n, x) ∷ (area.Kv, key.FirstCommitted, number_bytes 1) ∷ (area.Kv, key.LastCommitted, number_bytes n) ∷ (area.Paxos, key.LastCommitted, number_bytes v) ∷ []) refl
-once true false n x v bytes = joined-new ((area.Paxos, key.Version v, bytes) ∷ (area.Paxos, key.FirstCommitted, number_bytes 1) ∷ (area.Kv, key.Version n, x) ∷ (area.Kv, key.LastCommitted, number_bytes n) ∷ (area.Paxos, key.LastCommitted, number_bytes v) ∷ []) refl
-once false true n x v bytes = joined-new ((area.Paxos, key.Version v, bytes) ∷ (area.Kv, key.Version n, x) ∷ (area.Kv, key.FirstCommitted, number_bytes 1) ∷ (area.Kv, key.LastCommitted, number_bytes n) ∷ (area.Paxos, key.LastCommitted, number_bytes v) ∷ []) refl
-once false false n x v bytes = joined-new ((area.Paxos, key.Version v, bytes) ∷ (area.Kv, key.Version n, x) ∷ (area.Kv, key.LastCommitted, number_bytes n) ∷ (area.Paxos, key.LastCommitted, number_bytes v) ∷ []) refl
-
-set_joined : (last n : ℕ) (x : List ℕ) → joined (spelled (Learn (suc last) (set_ops last n x) ∷ Last (suc last) ∷ [])) ≡ set_tx last n x
-set_joined last n x = once (eqb last 0) (eqb n 1) n x (suc last) (text (set_ops last n x))
-
-module _ (sets now : ℕ) (room : sets < 24) (m : Store) (h : AfterSets sets (view m)) (s : State) (leads : LeadsItself s) (session : Session) (k v : List ℕ) (fit : RequestFits (request.Set k v)) where
-  abbrev n : ℕ
-  n = suc (service_last (view m) service.Kv)
-
-  abbrev last : ℕ
-  last = (view m).last
-
-  abbrev x : List ℕ
-  x = inc_text (inc.Set k v)
-
-  abbrev wanted : Result protocol.Reaction Which
-  wanted = protocol.reaction itself now m s (input.Client session (request.Set k v))
-
-  abbrev value_made : List Op
-  value_made = written (eqb last 0) (eqb n 1) n x
-
-  asked : wanted ≡ committed_by itself.member.most itself.member.in_map now m s leads service.Kv value_made session
-  asked =
-      reaction-command itself.member.most itself.member.in_map now m s leads (request.Set k v) (command.Set k v) value_made session refl (not_long k v fit.2)
-      (set_value sets room (view m) h k v fit.0 fit.2)
-
-  pub set-service : 2 ^ 62 < n → wanted ≡ Err which.Version
-  set-service above = let t : leb n (2 ^ 62) ≡ false = grind (arith, nat_tests) in asked ∙ rw t refl
-
-  pub set-log : n ≤ 2 ^ 62 → 2 ^ 62 < suc last → wanted ≡ Err which.Version
-  set-log fits above =
-      let t : leb n (2 ^ 62) ≡ true = le-leb _ _ fits in
-      let u : leb (suc last) (2 ^ 62) ≡ false = grind (arith, nat_tests) in
-      asked ∙ rw (t, u) refl
-
-  pub set-done : (r : Reaction) → n ≤ 2 ^ 62 → suc last ≤ 2 ^ 62 → r.tx ≡ set_tx last n x → r.answer ≡ Some (record { to = session; reply = reply.Done (suc last) }) → IsReaction r wanted
-  set-done r fits last_fits tx answer =
-      let t : leb n (2 ^ 62) ≡ true = le-leb _ _ fits in
-      let u : leb (suc last) (2 ^ 62) ≡ true = le-leb _ _ last_fits in
-      record {
-        reaction = committed itself.member.most itself.member.in_map now m s leads value_made session;
-        is = asked ∙ rw (t, u) refl;
-        transaction = set_joined last n x ∙ sym tx;
-        sends = rw answer refl;
-        leads = record { active = refl; quorum = refl; queue = refl };
-      }
-
--- a set's transaction has few changes
-pub set_tx-few : (last n : ℕ) (x : List ℕ) → length (set_tx last n x) ≤ 10
-set_tx-few last n x = by (eqb last 0) (eqb n 1)
-  where
-    by : (a b : Bool) → length (put area.Paxos (key.Version (suc last)) (text (set_ops last n x)) ∷ (written a b n x ++ put_number area.Paxos key.LastCommitted (suc last) ∷ [])) ≤ 10
-    by true true = omega arith
-    by true false = omega arith
-    by false true = omega arith
-    by false false = omega arith
-
--- a name and a short value make a short incremental
-pub set_text-short : (k v : List ℕ) → IsTrue (is_name k) → length v ≤ 200 → length (inc_text (inc.Set k v)) ≤ 1000
-unfolding u32_bytes
-set_text-short k v name le = simp length-append (omega (arith, word_length 255 k name))
-
--- what isn't at most a number is above it
-pub above : (n m : ℕ) → (n ≤ m → false ≡ true) → m < n
-above n m fails = elim (cases_lt m n) [ inl lt ↦ lt | inr le ↦ let lost = fails le in absurd cc ]
-
--- ---- a show
+-- ---- an answer, and nothing else
 
 nothing_joined : joined [] ≡ []
 unfolding joined
 nothing_joined = refl
 
-show-done : (now : ℕ) (m : Store) (s : State) → LeadsItself s → (session : Session) (r : Reaction) (y : Reply) → r ≡ record { tx = []; answer = Some (record { to = session; reply = y }) }
-    → y ≡ cond (ltb 0 (view m).last) (shown (view m) service.Kv) (reply.NotReadable (view m).last true)
-    → IsReaction r (protocol.reaction itself now m s (input.Client session (request.Show service.Kv)))
-show-done now m s leads session r y answer is = record {
-  reaction = answered itself.member.most itself.member.in_map now m s leads session (cond (ltb 0 (view m).last) (shown (view m) service.Kv) (reply.NotReadable (view m).last true));
-  is = reaction-show itself.member.most itself.member.in_map now m s leads session service.Kv (ltb 0 (view m).last) refl;
-  transaction = nothing_joined ∙ sym (ap (λ (r : Reaction). r.tx) answer);
-  sends = ap (λ (y : Reply). sent.Reply session y ∷ []) (sym is) ∙ sym (ap (λ (r : Reaction). sends_of r.answer) answer);
-  leads = leads_itself s;
-}
+module _ (now : ℕ) (m : Store) (s : State) (waits : Waits s) (session : Session) where
+  abbrev stays : Reply → protocol.Reaction
+  stays y = answered itself.member.most itself.member.in_map now m s waits.leads session y
 
--- a request that is a show
-pub show-asked : (m : Store) (asked : Request) (shown_service : Service) (session : Session) (r : Reaction) (y : Reply) → asked ≡ request.Show shown_service → RequestFits asked
-    → r ≡ record { tx = []; answer = Some (record { to = session; reply = y }) }
-    → ((sets : ℕ) → sets ≤ 24 → AfterSets sets (view m) → y ≡ cond (ltb 0 (view m).last) (shown (view m) service.Kv) (reply.NotReadable (view m).last true))
-    → (sets now : ℕ) (s : State) → sets_with sets asked ≤ 24 → AfterSets sets (view m) → LeadsItself s → IsReaction r (protocol.reaction itself now m s (input.Client session asked))
-show-asked m request_asked shown_service session r y is fit answer tells sets now s few after leads =
-    subst (λ (q : Request). IsReaction r (protocol.reaction itself now m s (input.Client session q))) (sym is)
-    (by shown_service (subst RequestFits is fit) (subst (λ (q : Request). sets_with sets q ≤ 24) is few))
-  where
-    by : (t : Service) → RequestFits (request.Show t) → sets ≤ 24 → IsReaction r (protocol.reaction itself now m s (input.Client session (request.Show t)))
-    by service.Kv fit few = show-done now m s leads session r y answer (tells sets few after)
-    by service.Log fit few = absurd fit
+  pub answer-done : (came : Input) (r : Reaction) (y z : Reply) → r ≡ record { tx = []; answer = Some (record { to = session; reply = y }) } → y ≡ z
+      → protocol.reaction itself now m s came ≡ Ok (stays z) → IsReaction r (protocol.reaction itself now m s came)
+  answer-done came r y z answer same is = record {
+    reaction = stays z;
+    is = is;
+    transaction = nothing_joined ∙ sym (ap (λ (r : Reaction). r.tx) answer);
+    sends = ap (λ (y : Reply). sent.Reply session y ∷ []) (sym same) ∙ sym (ap (λ (r : Reaction). sends_of r.answer) answer);
+    waits = record { leads = leads_itself s; renews = record { end = waits.renews.end; timers = waits.renews.timers } };
+  }
+
+  -- ---- a command
+
+  module _ (r : Request) (c : Command) (is : command_of r ≡ Some c) where
+    abbrev wanted : Result protocol.Reaction Which
+    wanted = protocol.reaction itself now m s (input.Client session r)
+
+    abbrev n : ℕ
+    n = suc (service_last (view m) (service_of c))
+
+    abbrev last : ℕ
+    last = (view m).last
+
+    pub command-long : most_text c < text_length c → wanted ≡ Ok (stays (too_long c))
+    command-long h = reaction-long itself.member.most itself.member.in_map now m s waits.leads r c session is (lt-ltb (most_text c) (text_length c) h)
+
+    module _ (short : text_length c ≤ most_text c) where
+      not_long : is_too_long c ≡ false
+      not_long = le-ltb (most_text c) (text_length c) short
+
+      made : (ops : List Op) → value (view m) c 0 ≡ Ok ops → wanted ≡ committed_by itself.member.most itself.member.in_map now m s waits.leads (service_of c) ops session
+      made ops e = reaction-command itself.member.most itself.member.in_map now m s waits.leads r c ops session is not_long e
+
+      refusing : (e : CommandRefused) → value (view m) c 0 ≡ Err e → wanted ≡ cond (leb n (2 ^ 62)) (Ok (stays (refusal itself now e))) (Err which.Version)
+      refusing e q = reaction-refused itself.member.most itself.member.in_map now m s waits.leads r c e session is not_long q
+
+      pub command-spent : 2 ^ 62 < n → wanted ≡ Err which.Version
+      command-spent above = by (value (view m) c 0) refl
+        where
+          t : leb n (2 ^ 62) ≡ false
+          t = lt-leb n (2 ^ 62) above
+
+          by : (v : Result (List Op) CommandRefused) → value (view m) c 0 ≡ v → wanted ≡ Err which.Version
+          by (Ok ops) e = made ops e ∙ rw t refl
+          by (Err k) e = refusing k e ∙ rw t refl
+
+      pub command-refused : n ≤ 2 ^ 62 → (e : CommandRefused) → value (view m) c 0 ≡ Err e → wanted ≡ Ok (stays (refusal itself now e))
+      command-refused fits e q = let t = le-leb n (2 ^ 62) fits in refusing e q ∙ rw t refl
+
+      pub command-full : n ≤ 2 ^ 62 → 2 ^ 62 < suc last → (ops : List Op) → value (view m) c 0 ≡ Ok ops → wanted ≡ Err which.Version
+      command-full fits above ops e =
+          let t = le-leb n (2 ^ 62) fits in
+          let u = lt-leb (suc last) (2 ^ 62) above in
+          made ops e ∙ rw (t, u) refl
+
+      pub command-done : n ≤ 2 ^ 62 → suc last ≤ 2 ^ 62 → (ops : List Op) → value (view m) c 0 ≡ Ok ops → IsShortValue (view m) (service_of c) ops
+          → (y : Reaction) → y.tx ≡ commit_tx last ops → y.answer ≡ Some (record { to = session; reply = reply.Done (suc last) }) → IsReaction y wanted
+      command-done fits last_fits ops e V y tx answer =
+          let t = le-leb n (2 ^ 62) fits in
+          let u = le-leb (suc last) (2 ^ 62) last_fits in
+          record {
+            reaction = committed itself.member.most itself.member.in_map now m s waits.leads ops session;
+            is = made ops e ∙ rw (t, u) refl;
+            transaction = once ops V ∙ sym tx;
+            sends = rw answer refl;
+            waits = record { leads = record { active = refl; quorum = refl; queue = refl }; renews = record { end = waits.renews.end; timers = waits.renews.timers } };
+          }
+        where
+          once : (ops : List Op) → IsShortValue (view m) (service_of c) ops → joined (spelled (Learn (suc last) ops ∷ Last (suc last) ∷ [])) ≡ spelled (Learn (suc last) ops ∷ Last (suc last) ∷ [])
+          once ops V =
+              subst (λ (ops : List Op). joined (spelled (Learn (suc last) ops ∷ Last (suc last) ∷ [])) ≡ spelled (Learn (suc last) ops ∷ Last (suc last) ∷ [])) (sym V.is)
+              (commits_once (service_of c) (view m).first last n (service_first (view m) (service_of c)) V.draft.incremental V.draft.text)
+
+-- a refusal for another cause than memory is the one that is wanted
+refusal_is : (e : CommandRefused) (wanted : Result (List Op) CommandRefused) → (e ≡ refused.OutOfMemory → ⊥) → Refuses e wanted → wanted ≡ Err e
+refusal_is refused.NoSuch wanted not h = h
+refusal_is (refused.TooLong n most) wanted not h = h
+refusal_is (refused.MapFull n) wanted not h = h
+refusal_is refused.OutOfMemory wanted not h = absurd (not refl)
+
+pub refused-reacts : (now : ℕ) (m : Store) (s : State) (waits : Waits s) (session : Session) (r : Request) (c : Command) → command_of r ≡ Some c → text_length c ≤ most_text c → suc (service_last (view m) (service_of c)) ≤ 2 ^ 62
+    → (e : CommandRefused) → Refuses e (value (view m) c 0) → (result : Result Reaction NodeStop) → IfOk result (λ x. x ≡ record { tx = []; answer = Some (record { to = session; reply = refusal itself now e }) }) → IfOk result (λ _. e ≡ refused.OutOfMemory → ⊥)
+    → IfErr result (λ x. x ≡ stop.OutOfMemory) → Reacts result (protocol.reaction itself now m s (input.Client session r))
+refused-reacts now m s waits session r c is short fits e refuses (Ok x) answer kept memory =
+    answer-done now m s waits session (input.Client session r) x (refusal itself now e) (refusal itself now e) answer refl
+    (command-refused now m s waits session r c is short fits e (refusal_is e (value (view m) c 0) kept refuses))
+refused-reacts now m s waits session r c is short fits e refuses (Err x) answer kept memory = subst (λ (x : NodeStop). Fails x (protocol.reaction itself now m s (input.Client session r))) (sym memory) tt
+
+pub refused-few : (to : Session) (y : Reply) (result : Result Reaction NodeStop) → IfOk result (λ x. x ≡ record { tx = []; answer = Some (record { to = to; reply = y }) }) → IfOk result (λ x. length x.tx ≤ 1000000)
+refused-few to y (Ok x) h = let none : length x.tx ≡ 0 = ap (λ (x : Reaction). length x.tx) h in omega arith
+refused-few to y (Err e) h = tt
+
+-- a value's text and its changes, where the numbers fit
+module _ (m : Store) (s : Service) (ops : List Op) (V : IsShortValue (view m) s ops) (last : (view m).last < 2 ^ 62) (fits : suc (service_last (view m) s) ≤ 2 ^ 62) where
+  pub value-short : length (text ops) ≤ 4194304
+  value-short =
+      subst (λ (ops : List Op). length (text ops) ≤ 4194304) (sym V.is)
+      (any_text s (view m).first (view m).last (suc (service_last (view m) s)) (service_first (view m) s) V.draft.incremental V.draft.text last fits V.short.incremental V.short.text)
+
+  pub value-few : length (commit_tx (view m).last ops) ≤ 1000000
+  value-few = omega (arith, few, length-append ops (put_last ∷ []))
+    where
+      put_last : Op
+      put_last = put_number area.Paxos key.LastCommitted (suc (view m).last)
+
+      few : length ops ≤ 999998
+      few = subst (λ (ops : List Op). length ops ≤ 999998) (sym V.is)
+          (any_few s (view m).first (view m).last (suc (service_last (view m) s)) (service_first (view m) s) V.draft.incremental V.draft.text last fits V.short.incremental V.short.text)
+
+-- what isn't at most a number is above it
+pub above : (n m : ℕ) → (n ≤ m → false ≡ true) → m < n
+above n m fails = elim (cases_lt m n) [ inl lt ↦ lt | inr le ↦ let lost = fails le in absurd cc ]
+
+-- ---- readings
+
+pub show-is : (now : ℕ) (m : Store) (s : State) (waits : Waits s) (session : Session) (service : Service)
+    → protocol.reaction itself now m s (input.Client session (request.Show service)) ≡ Ok (answered itself.member.most itself.member.in_map now m s waits.leads session (cond (ltb 0 (view m).last) (shown (view m) service) (reply.NotReadable (view m).last true)))
+show-is now m s waits session service = reaction-show itself.member.most itself.member.in_map now m s waits.leads session service (ltb 0 (view m).last) refl
+
+pub since-is : (now : ℕ) (m : Store) (s : State) (waits : Waits s) (session : Session) (service : Service) (v : ℕ)
+    → protocol.reaction itself now m s (input.Client session (request.Since service v)) ≡ Ok (answered itself.member.most itself.member.in_map now m s waits.leads session (cond (ltb 0 (view m).last) (since (view m) service v) (reply.NotReadable (view m).last true)))
+since-is now m s waits session service v = reaction-since itself.member.most itself.member.in_map now m s waits.leads session service v (ltb 0 (view m).last) refl
+
+-- ---- a timer
+
+pub ring-done : (now : ℕ) (m : Store) (s : State) → Waits s → (t : Timer) (r : Reaction) → r ≡ record { tx = []; answer = None } → IsReaction r (protocol.reaction itself now m s (input.Timer t))
+ring-done now m s waits t r is =
+    let R = rings itself.member.most itself.member.in_map now m s waits t in
+    record {
+      reaction = R.reaction;
+      is = R.is;
+      transaction = R.stays.transaction ∙ sym (ap (λ (r : Reaction). r.tx) is);
+      sends = R.stays.sends ∙ sym (ap (λ (r : Reaction). sends_of r.answer) is);
+      waits = R.stays.waits;
+    }

@@ -1,5 +1,5 @@
 -- What each end of a run shows.
-use Rattle.std.proofs.Common.{◌≡◌, ℕ, ◌<◌, ◌≤◌, Bool, String, List, [], ◌∷◌, length, map, Option, Some, None, Err, slice_index_or, codes, sym, ap, subst, ◌∙◌, arith}
+use Rattle.std.proofs.Common.{◌≡◌, ℕ, ◌<◌, ◌≤◌, Bool, String, List, [], ◌∷◌, length, Option, Some, None, Err, slice_index_or, codes, sym, ap, subst, ◌∙◌, arith}
 use Rattle.std.specs.declared.alloc.Global.{Global}
 use Rattle.std.specs.List.{filter_map}
 use Rattle.std.specs.Bool.{OnTrue}
@@ -13,7 +13,6 @@ use Rattle.mon_link.specs.Whole.{AppendsFront}
 use Rattle.quorum_model.specs.Happens.{run}
 use Rattle.quorum_model.specs.Monitors.{alone}
 use Rattle.quorum_model.specs.Safe.{Safe}
-use Rattle.quorum_model.proofs.FewEvents.{all_fit}
 use Rattle.quorum_model.proofs.Whole.{runs_are_safe}
 use Rattle.schedule_text.specs.declared.schedule.Schedule.{Schedule}
 use Rattle.schedule_text.specs.Spelling.{HasText, schedule_text}
@@ -23,7 +22,8 @@ use Rattle.cephmon.specs.declared.replay.ReplayStop.{ReplayStop}
 use Rattle.cephmon.specs.declared.replay.ReplayStop.TheVariants as stop
 use Rattle.cephmon.specs.Replay.{Writes}
 use Rattle.cephmon.specs.Run.{IsReplay, Replays}
-use Rattle.cephmon.proofs.Spoken.{is_spoken}
+use Rattle.cephmon.proofs.Building.{all_run}
+use Rattle.cephmon.proofs.Spoken.{all_spoken}
 
 pub one_word : (words : List (String Global)) (word : String Global) (text : List ℕ) (b : Bool) → 1 ≤ length words → length words < 2 → word ≡ slice_index_or words 0 word
     → text ≡ string_bytes word → b ≡ bytes_eq text (codes "replay") → OnTrue b (IsReplay words)
@@ -35,9 +35,7 @@ one_word (w ∷ []) word text b some few first is same =
 one_word (w ∷ v ∷ more) word text b some few first is same = absurd (omega arith)
 
 is_safe : (s : Schedule) → HasText s → unbuilt s ≡ None → Safe 1 (run alone (filter_map event_of s.events))
-is_safe s h e =
-    let happening = filter_map event_of s.events in
-    runs_are_safe happening (all_fit 1 happening (is_spoken s h e).each)
+is_safe s h e = runs_are_safe (filter_map event_of s.events) (all_spoken s.events (all_run s h e))
 
 pub replays : (bytes : List ℕ) (fact : Trace → Type 0) (s : Schedule) → HasText s → unbuilt s ≡ None → bytes ≡ schedule_text s → fact (trace alone s.events) → Replays bytes fact
 replays bytes fact s h b e t = record { schedule = s; form = h; built = b; text = e; safe = is_safe s h b; traced = t }

@@ -1,5 +1,5 @@
 -- What is written of a trace, one event after the other.
-use Rattle.std.proofs.Common.{◌≡◌, ℕ, zero, suc, ◌+◌, ◌≤◌, min, count_by, List, [], ◌∷◌, ◌++◌, take, drop, length, Option, Some, None, IsTrue, Result, Ok, Err, refl, sym, ap, ◌∙◌, subst, append_assoc, arith}
+use Rattle.std.proofs.Common.{◌≡◌, ℕ, zero, suc, ◌+◌, min, List, [], ◌∷◌, ◌++◌, take, drop, length, Option, Some, None, IsTrue, Result, Ok, Err, refl, sym, ap, ◌∙◌, subst, append_assoc, arith}
 use Rattle.std.specs.Io.KnownBytes.{Appends}
 use Rattle.std.specs.List.{list_all}
 use Rattle.mon_bytes.proofs.Ascii.{both}
@@ -19,10 +19,9 @@ use Rattle.cephmon.specs.declared.world.World.{World}
 use Rattle.cephmon.specs.Node.{Fails}
 use Rattle.cephmon.specs.declared.replay.ReplayStop.{ReplayStop}
 use Rattle.cephmon.specs.declared.replay.ReplayStop.TheVariants as stop
-use Rattle.cephmon.specs.Built.{event_runs, is_set, sets_with}
+use Rattle.cephmon.specs.Built.{event_runs}
 use Rattle.cephmon.specs.Step.{step}
 use Rattle.cephmon.specs.Trace.{Trace, behind, goes_on, event_of, trace_from}
-use Rattle.cephmon.proofs.Building.{sets_step}
 use Rattle.cephmon.proofs.Spoken.{happening}
 use Rattle.cephmon.specs.Replay.{StandsFor, Does, Did, Writes, stop_of, fault_of}
 
@@ -66,45 +65,43 @@ writes_fault outside.OutOfMemory a b t p = p
 -- ---- an event
 
 -- memory ran out before its lines
-pub did_memory : (sets : ℕ) (world : World) (a : Option (List ℕ)) (number : ℕ) (e : Event) (wanted : Result (model.World × StepLine) Which) → Did sets (Err stop.OutOfMemory) world a a number e wanted
-did_memory sets world a number e wanted follow = front_none a _
+pub did_memory : (world : World) (a : Option (List ℕ)) (number : ℕ) (e : Event) (wanted : Result (model.World × StepLine) Which) → Did (Err stop.OutOfMemory) world a a number e wanted
+did_memory world a number e wanted follow = front_none a _
 
 -- a number ran out in it, or memory
-pub did_stop : (sets : ℕ) (s : NodeStop) (world : World) (a : Option (List ℕ)) (number : ℕ) (e : Event) (wanted : Result (model.World × StepLine) Which) → Fails s wanted
-    → Did sets (Err (stop_of s)) world a a number e wanted
-did_stop sets node.OutOfMemory world a number e wanted fails follow = front_none a _
-did_stop sets (node.Spent which) world a number e wanted fails follow =
+pub did_stop : (s : NodeStop) (world : World) (a : Option (List ℕ)) (number : ℕ) (e : Event) (wanted : Result (model.World × StepLine) Which) → Fails s wanted
+    → Did (Err (stop_of s)) world a a number e wanted
+did_stop node.OutOfMemory world a number e wanted fails follow = front_none a _
+did_stop (node.Spent which) world a number e wanted fails follow =
     subst (λ (r : Result (model.World × StepLine) Which). Writes (Err (stop.Spent which)) a a (goes_on number e follow r)) (sym fails) (refl, Appends-nil a)
 
 -- its lines stopped on their way
-pub did_fault : (sets : ℕ) (s : Stop) (line : StepLine) (world : World) (a b : Option (List ℕ)) (number : ℕ) (e : Event) (wanted : Result (model.World × StepLine) Which) (bs : List ℕ)
-    → bs ≡ step_lines number e line → Does sets (Ok line) world wanted → AppendsFront a b bs → Did sets (Err (fault_of s)) world a b number e wanted
-did_fault sets s line world a b number e wanted bs is does p follow =
+pub did_fault : (s : Stop) (line : StepLine) (world : World) (a b : Option (List ℕ)) (number : ℕ) (e : Event) (wanted : Result (model.World × StepLine) Which) (bs : List ℕ)
+    → bs ≡ step_lines number e line → Does (Ok line) world wanted → AppendsFront a b bs → Did (Err (fault_of s)) world a b number e wanted
+did_fault s line world a b number e wanted bs is does p follow =
     let front = front_first a b (step_lines number e line) (follow does.0).text (subst (AppendsFront a b) is p) in
     subst (λ (r : Result (model.World × StepLine) Which). Writes (Err (fault_of s)) a b (goes_on number e follow r)) (sym does.1)
     (writes_fault s a b (behind (step_lines number e line) (follow does.0)) front)
 
 -- its lines were written
-pub did_write : (sets : ℕ) (line : StepLine) (world : World) (a b : Option (List ℕ)) (number : ℕ) (e : Event) (wanted : Result (model.World × StepLine) Which) (bs : List ℕ)
-    → bs ≡ step_lines number e line → Does sets (Ok line) world wanted → Appends a b bs → Did sets (Ok tt) world a b number e wanted
-did_write sets line world a b number e wanted bs is does p = ((does.0, line), does.1, does.2, subst (Appends a b) is p)
+pub did_write : (line : StepLine) (world : World) (a b : Option (List ℕ)) (number : ℕ) (e : Event) (wanted : Result (model.World × StepLine) Which) (bs : List ℕ)
+    → bs ≡ step_lines number e line → Does (Ok line) world wanted → Appends a b bs → Did (Ok tt) world a b number e wanted
+did_write line world a b number e wanted bs is does p = ((does.0, line), does.1, does.2, subst (Appends a b) is p)
 
 -- ---- the events
 
--- So many of the events were done, and written; the others are run too, and have few sets.
+-- So many of the events were done, and written; the others are run too.
 pub record ComesTo (world : World) (old now : Option (List ℕ)) (es : List Event) (n : ℕ) : Type 0 where
   next : model.World
-  sets : ℕ
   lines : List ℕ
-  stands : StandsFor sets world next
+  stands : StandsFor world next
   put : Appends old now lines
   same : trace_from alone 0 model.first_world es ≡ behind lines (trace_from alone n next (drop n es))
   fits : IsTrue (list_all event_runs (drop n es))
-  few : sets + count_by is_set (drop n es) ≤ 24
 
 -- none was done
-pub begins : (world : World) (a : Option (List ℕ)) (es : List Event) → StandsFor 0 world model.first_world → IsTrue (list_all event_runs es) → count_by is_set es ≤ 24 → ComesTo world a a es 0
-begins world a es stands fits few = record { next = model.first_world; sets = 0; lines = []; stands = stands; put = Appends-nil a; same = refl; fits = fits; few = omega arith }
+pub begins : (world : World) (a : Option (List ℕ)) (es : List Event) → StandsFor world model.first_world → IsTrue (list_all event_runs es) → ComesTo world a a es 0
+begins world a es stands fits = record { next = model.first_world; lines = []; stands = stands; put = Appends-nil a; same = refl; fits = fits }
 
 one_more : (n : ℕ) (w : model.World) (e : Event) (h : model.Event) (es : List Event) → event_of e ≡ Some h
     → trace_from alone n w (e ∷ es) ≡ goes_on (suc n) e (λ next. trace_from alone (suc n) next es) (step alone w h)
@@ -115,33 +112,29 @@ behind_behind : (xs ys : List ℕ) (t : Trace) → behind xs (behind ys t) ≡ b
 behind_behind xs ys t = ap (λ (l : List ℕ). record { text = l; stop = t.stop }) (sym (append_assoc xs ys t.text))
 
 -- what is known of the event that is done next
-record Next (sets : ℕ) (e : Event) (es : List Event) : Type 0 where
+record Next (e : Event) (es : List Event) : Type 0 where
   happens : model.Event
   is : event_of e ≡ Some happens
-  room : sets_with sets e ≤ 24
   fits : IsTrue (list_all event_runs es)
-  few : sets_with sets e + count_by is_set es ≤ 24
 
-next_of : (sets : ℕ) (e : Event) (rest es : List Event) → rest ≡ e ∷ es → IsTrue (list_all event_runs rest) → sets + count_by is_set rest ≤ 24 → Next sets e es
-next_of sets e rest es is fits few =
+next_of : (e : Event) (rest es : List Event) → rest ≡ e ∷ es → IsTrue (list_all event_runs rest) → Next e es
+next_of e rest es is fits =
     let all = both (event_runs e) (list_all event_runs es) (subst (λ (es : List Event). IsTrue (list_all event_runs es)) is fits) in
     let so = happening e all.0 in
-    let sum : sets + count_by is_set rest ≡ sets_with sets e + count_by is_set es = ap (λ (es : List Event). sets + count_by is_set es) is ∙ sets_step sets e es in
-    record { happens = so.0; is = so.1; room = omega arith; fits = all.1; few = omega arith }
+    record { happens = so.0; is = so.1; fits = all.1 }
 
 -- one more event was done
 pub comes_on : (world new : World) (a b c : Option (List ℕ)) (es : List Event) (n number : ℕ) (e : Event) → number ≡ suc n → drop n es ≡ e ∷ drop (n + 1) es
     → ComesTo world a b es n
-    → ((sets : ℕ) (w : model.World) (h : model.Event) → StandsFor sets world w → event_of e ≡ Some h → sets_with sets e ≤ 24 → Did (sets_with sets e) (Ok tt) new b c number e (step alone w h))
+    → ((w : model.World) (h : model.Event) → StandsFor world w → event_of e ≡ Some h → Did (Ok tt) new b c number e (step alone w h))
     → ComesTo new a c es (n + 1)
 comes_on world new a b c es n number e count rest so_far did =
-    let next = next_of so_far.sets e (drop n es) (drop (n + 1) es) rest so_far.fits so_far.few in
-    let d = did so_far.sets so_far.next next.happens so_far.stands next.is next.room in
+    let next = next_of e (drop n es) (drop (n + 1) es) rest so_far.fits in
+    let d = did so_far.next next.happens so_far.stands next.is in
     let m : n + 1 ≡ suc n = omega arith in
     let lines = step_lines number e d.0.1 in
     record {
       next = d.0.0;
-      sets = sets_with so_far.sets e;
       lines = so_far.lines ++ lines;
       stands = d.2;
       put = Appends-trans a b c so_far.lines lines so_far.put d.3;
@@ -152,19 +145,18 @@ comes_on world new a b c es n number e count rest so_far did =
           ∙ (λ i. behind so_far.lines (behind (step_lines (sym count i) e d.0.1) (trace_from alone (sym m i) d.0.0 (drop (n + 1) es))))
           ∙ behind_behind so_far.lines lines (trace_from alone (n + 1) d.0.0 (drop (n + 1) es));
       fits = next.fits;
-      few = next.few;
     }
 
 -- the event stopped, and all of them with it
 pub stops_at : (s : ReplayStop) (world new : World) (a b c : Option (List ℕ)) (es : List Event) (n number : ℕ) (e : Event) → number ≡ suc n → drop n es ≡ e ∷ drop (n + 1) es
     → ComesTo world a b es n
-    → ((sets : ℕ) (w : model.World) (h : model.Event) → StandsFor sets world w → event_of e ≡ Some h → sets_with sets e ≤ 24 → Did (sets_with sets e) (Err s) new b c number e (step alone w h))
+    → ((w : model.World) (h : model.Event) → StandsFor world w → event_of e ≡ Some h → Did (Err s) new b c number e (step alone w h))
     → Writes (Err s) a c (trace_from alone 0 model.first_world es)
 stops_at s world new a b c es n number e count rest so_far did =
-    let next = next_of so_far.sets e (drop n es) (drop (n + 1) es) rest so_far.fits so_far.few in
+    let next = next_of e (drop n es) (drop (n + 1) es) rest so_far.fits in
     let follow = λ (next : model.World). trace_from alone (suc n) next (drop (n + 1) es) in
     let d : Writes (Err s) b c (goes_on (suc n) e follow (step alone so_far.next next.happens)) =
-    subst (λ (k : ℕ). Writes (Err s) b c (goes_on k e follow (step alone so_far.next next.happens))) count (did so_far.sets so_far.next next.happens so_far.stands next.is next.room follow) in
+    subst (λ (k : ℕ). Writes (Err s) b c (goes_on k e follow (step alone so_far.next next.happens))) count (did so_far.next next.happens so_far.stands next.is follow) in
     let whole = so_far.same ∙ ap (behind so_far.lines) (ap (trace_from alone n so_far.next) rest ∙ one_more n so_far.next e next.happens (drop (n + 1) es) next.is) in
     subst (Writes (Err s) a c) (sym whole) (writes_behind (Err s) a b c so_far.lines _ so_far.put d)
 

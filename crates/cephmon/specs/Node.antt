@@ -1,5 +1,5 @@
 -- What a monitor's call answers.
-use Rattle.std.specs.Prelude.{◌≡◌, ℕ, suc, List, [], ◌∷◌, ◌++◌, Option, Some, None, Result, Ok, Err, ◌==◌, if◌then◌else◌}
+use Rattle.std.specs.Prelude.{◌≡◌, ℕ, suc, List, [], ◌∷◌, ◌++◌, Option, Some, None, Result, Ok, Err}
 use Rattle.mon_types.specs.declared.names.Which.{Which}
 use Rattle.mon_tx.specs.declared.op.Op.{Op}
 use Rattle.mon_tx.specs.declared.key.Area.TheVariants as area
@@ -9,7 +9,7 @@ use Rattle.mon_msg.specs.Puts.{put, put_number}
 use Rattle.mon_msg.specs.Protocol.Reaction as protocol
 use Rattle.mon_msg.specs.declared.plan.Sent.{Sent}
 use Rattle.mon_msg.specs.declared.plan.Sent.TheVariants as sent
-use Rattle.quorum_model.specs.Alone.{LeadsItself}
+use Rattle.quorum_model.specs.Alone.{Waits}
 use Rattle.cephmon.specs.declared.node.Answer.{Answer}
 use Rattle.cephmon.specs.declared.node.NodeStop.{NodeStop}
 use Rattle.cephmon.specs.declared.node.NodeStop.TheVariants.{OutOfMemory, Spent}
@@ -25,13 +25,13 @@ abbrev pub sends_of : Option Answer → List Sent
 sends_of None = []
 sends_of (Some answer) = sent.Reply answer.to answer.reply ∷ []
 
--- what is written and sent is what the protocol says, and the monitor leads itself from then on
+-- what is written and sent is what the protocol says, and the monitor leads itself from then on and waits
 pub record IsReaction (r : Reaction) (wanted : Result protocol.Reaction Which) : Type 0 where
   pub reaction : protocol.Reaction
   pub is : wanted ≡ Ok reaction
   pub transaction : reaction.transaction ≡ r.tx
   pub sends : reaction.sends ≡ sends_of r.answer
-  pub leads : LeadsItself reaction.state
+  pub waits : Waits reaction.state
 
 abbrev pub Reacts : Result Reaction NodeStop → Result protocol.Reaction Which → Type 0
 Reacts (Ok r) wanted = IsReaction r wanted
@@ -45,22 +45,6 @@ start_tx boot epoch pn =
     put_number area.Monitor key.BootCount boot ∷ put_number area.Monitor key.ElectionEpoch epoch ∷ put_number area.Paxos key.LastPn pn
     ∷ put_number area.Paxos key.AcceptedPn pn ∷ []
 
--- the change, where the number is that one
-abbrev pub where_first : ℕ → ℕ → Op → List Op
-where_first n first op = if n == first then op ∷ [] else []
-
--- the value of an early set, which makes version n of the key-value service where `last` is the last version of the log: no full
--- map is kept, and nothing is trimmed
-abbrev pub set_ops : ℕ → ℕ → List ℕ → List Op
-set_ops last n incremental =
-    where_first last 0 (put_number area.Paxos key.FirstCommitted 1)
-    ++ put area.Kv (key.Version n) incremental
-    ∷ where_first n 1 (put_number area.Kv key.FirstCommitted 1)
-    ++ put_number area.Kv key.LastCommitted n
-    ∷ []
-
--- the transaction that commits it
-abbrev pub set_tx : ℕ → ℕ → List ℕ → List Op
-set_tx last n incremental =
-    put area.Paxos (key.Version (suc last)) (text (set_ops last n incremental))
-    ∷ (set_ops last n incremental ++ put_number area.Paxos key.LastCommitted (suc last) ∷ [])
+-- the transaction that commits a value as the version behind `last`
+abbrev pub commit_tx : ℕ → List Op → List Op
+commit_tx last ops = put area.Paxos (key.Version (suc last)) (text ops) ∷ (ops ++ put_number area.Paxos key.LastCommitted (suc last) ∷ [])

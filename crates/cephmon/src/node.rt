@@ -1,29 +1,29 @@
 //! What a monitor that is alone in its map does at each input.
 
-ghost use Rattle.std.specs.Prelude.{◌≡◌, ℕ, suc, ◌+◌, ◌^◌, ◌≤◌, ◌<◌, [], ◌∷◌, ◌++◌, List, length, Ok, Some, IsTrue, IfOk, OnOk};
-ghost use Rattle.mon_bytes.specs.Texts.{is_name};
+ghost use Rattle.std.specs.Prelude.{◌≡◌, ℕ, suc, ◌+◌, ◌^◌, ◌≤◌, ◌<◌, [], ◌∷◌, ◌++◌, List, length, Ok, Some, IfOk, IfErr, OnOk};
 ghost use Rattle.mon_tx.specs.Map.{number_bytes};
 ghost use Rattle.mon_tx.specs.Text.{text};
-ghost use Rattle.map_kv.specs.Text.{inc_text};
 ghost use Rattle.mon_msg.specs.Puts.{put, put_number};
 ghost use Rattle.mon_msg.specs.declared.input.Input.TheVariants as input;
+ghost use Rattle.mon_msg.specs.Protocol.Commands.{most_text, text_length};
+ghost use Rattle.mon_msg.specs.Protocol.Proposing.{refusal as refusal_of};
 ghost use Rattle.mon_msg.specs.Protocol.Reaction.{reaction};
 ghost use Rattle.mon_msg.specs.Protocol.State.{State, booting};
+ghost use Rattle.mon_msg.specs.Protocol.Value.{service_of};
 ghost use Rattle.mon_msg.specs.Protocol.View.{view, epoch_of};
-ghost use Rattle.quorum_model.specs.Few.{RequestFits};
-ghost use Rattle.quorum_model.specs.Alone.{LeadsItself};
-ghost use Rattle.quorum_model.specs.Few.{AfterSets, sets_with};
+ghost use Rattle.quorum_model.specs.Alone.{Waits, IsSettled};
+ghost use Rattle.quorum_model.specs.Clients.{command_of};
 ghost use Rattle.quorum_model.specs.Monitors.{itself};
-ghost use Rattle.cephmon.specs.Node.{Reacts, start_tx, where_first, set_ops, set_tx};
+ghost use Rattle.cephmon.specs.Node.{IsReaction, Reacts, start_tx, commit_tx};
 
-use crate::service::shown;
-use map_kv::KvInc;
-use mon_bytes::{Bytes, Name, Out, OutOfMemory, Text};
+use crate::service::{changes, last_version, shown};
+use mon_bytes::{Bytes, Command, CommandRefused, Out, OutOfMemory};
 use mon_kv::Kv;
-use mon_msg::{Reply, Request, Session};
+use mon_msg::{Reply, Request, Service, Session, Timer};
 use mon_tx::{Area, EncodeRefused, Key, Op, Transaction};
 use mon_types::{Epoch, GREATEST, Pn, Rank, Version, Which, next_pn};
 use std::alloc::Global;
+use svc_core::value;
 
 /// What is answered to a client.
 #[derive(Drop)]
@@ -96,47 +96,6 @@ fn push_number(
     push_put(alloc, tx, area, key, value)
 }
 
-/// The same where two numbers are equal, and nothing where they aren't.
-fn push_where_first(
-    alloc: Global,
-    tx: &mut Transaction,
-    n: u64,
-    first: u64,
-    area: Area,
-    key: Key,
-) -> Result<(), OutOfMemory>
-    ensures { OnOk result (tx.new ≡ tx.old ++ where_first n first (put_number area key 1)) }
-{
-    if n == first {
-        push_number(alloc, tx, area, key, 1)
-    } else {
-        Ok(())
-    }
-}
-
-/// Appends the value of an early set, which makes version `n` of the key-value service, where `last` is the last version of the
-/// log.
-fn push_value(
-    alloc: Global,
-    tx: &mut Transaction,
-    last: u64,
-    n: u64,
-    incremental: &Bytes,
-) -> Result<(), OutOfMemory>
-    ensures { OnOk result (tx.new ≡ tx.old ++ set_ops last n incremental.now) }
-{
-    push_where_first(alloc, tx, last, 0, Area::Paxos, Key::FirstCommitted)?;
-    push_put(
-        alloc,
-        tx,
-        Area::Kv,
-        Key::Version(n),
-        incremental.copy(alloc)?,
-    )?;
-    push_where_first(alloc, tx, n, 1, Area::Kv, Key::FirstCommitted)?;
-    push_number(alloc, tx, Area::Kv, Key::LastCommitted, n)
-}
-
 fn pn_of(n: u64) -> Pn
     requires { n ≤ 2 ^ 62 }
     ensures { result ≡ n }
@@ -173,8 +132,8 @@ fn start_tx(alloc: Global, boot: u64, epoch: u64, pn: u64) -> Result<Transaction
 /// A start: it is counted, and the monitor takes the next even epoch and collects with a new number from itself alone.
 pub fn start(alloc: Global, rank: Rank, kv: &Kv) -> Result<Reaction, NodeStop>
     requires { rank ≡ 0 }
-    ensures reaction { (sets now : ℕ) → AfterSets sets (view kv.now) → Reacts result (reaction itself now kv.now (booting 0) input.Start) }
-    ensures short { IfOk result (λ r. length r.tx ≤ 10) }
+    ensures reaction { (now : ℕ) → IsSettled (view kv.now) → Reacts result (reaction itself now kv.now (booting 0) input.Start) }
+    ensures few { IfOk result (λ r. length r.tx ≤ 1000000) }
 {
     let boot = kv.number(b"monitor", b"boot_count") + 1;
     if boot > GREATEST {
@@ -192,34 +151,30 @@ pub fn start(alloc: Global, rank: Rank, kv: &Kv) -> Result<Reaction, NodeStop>
     Ok(Reaction { tx, answer: None })
 }
 
-/// The bytes of a value.
-fn value_text(alloc: Global, last: u64, n: u64, incremental: &Bytes) -> Result<Bytes, OutOfMemory>
-    requires short { length incremental.now ≤ 1000 }
-    requires version { n ≤ 2 ^ 62 }
-    ensures { IfOk result (λ bytes. bytes ≡ text (set_ops last n incremental.now)) }
+/// Appends changes.
+fn push_all(alloc: Global, tx: &mut Transaction, ops: &Transaction) -> Result<(), OutOfMemory>
+    ensures { OnOk result (tx.new ≡ tx.old ++ ops.now) }
 {
-    let mut tx = Transaction::new(alloc);
-    push_value(alloc, &mut tx, last, n, incremental)?;
-    match tx.encode() {
-        Ok(bytes) => Ok(Bytes::new(bytes)),
-        Err(EncodeRefused::OutOfMemory) => Err(OutOfMemory),
-        Err(EncodeRefused::TooLong { .. }) => unreachable!(),
+    for op in ops.ops() {
+        tx.push(op.copy(alloc)?)?;
     }
+    Ok(())
 }
 
-/// What commits the version of the log behind `last`, which makes version `n` of the service: the record, the value's
-/// changes, and the last version.
-fn set_tx(alloc: Global, last: u64, n: u64, incremental: &Bytes) -> Result<Transaction, OutOfMemory>
-    requires short { length incremental.now ≤ 1000 }
+/// What commits a value as the version behind `last`: the record, the value's changes, and the last version.
+fn commit_tx(alloc: Global, last: u64, ops: Transaction) -> Result<Transaction, OutOfMemory>
     requires last { last < 2 ^ 62 }
-    requires version { n ≤ 2 ^ 62 }
-    ensures value { IfOk result (λ tx. tx ≡ set_tx last n incremental.now) }
-    ensures short { IfOk result (λ tx. length tx ≤ 10) }
+    requires short { length (text ops) ≤ 4194304 }
+    ensures { IfOk result (λ tx. tx ≡ commit_tx last ops) }
 {
-    let record = value_text(alloc, last, n, incremental)?;
+    let record = match ops.encode() {
+        Ok(bytes) => Bytes::new(bytes),
+        Err(EncodeRefused::OutOfMemory) => return Err(OutOfMemory),
+        Err(EncodeRefused::TooLong { .. }) => unreachable!(),
+    };
     let mut tx = Transaction::new(alloc);
     push_put(alloc, &mut tx, Area::Paxos, Key::Version(last + 1), record)?;
-    push_value(alloc, &mut tx, last, n, incremental)?;
+    push_all(alloc, &mut tx, &ops)?;
     push_number(alloc, &mut tx, Area::Paxos, Key::LastCommitted, last + 1)?;
     Ok(tx)
 }
@@ -234,61 +189,135 @@ fn answered(alloc: Global, to: Session, reply: Reply) -> Reaction
     }
 }
 
-/// The bytes of an incremental that sets a key.
-fn set_incremental(alloc: Global, key: &Name, v: &Text) -> Result<Bytes, OutOfMemory>
-    requires { length v.now ≤ 200 }
-    ensures value { IfOk result (λ bytes. bytes ≡ inc_text (KvInc.Set key.now v.now)) }
-    ensures short { IfOk result (λ bytes. length bytes ≤ 1000) }
+/// How long the value or the text of a command is, and may be.
+fn lengths_of(command: &Command) -> (u64, u64)
+    ensures { result ≡ (text_length command.now, most_text command.now) }
 {
-    let _form = key.as_slice();
-    let inc = KvInc::Set {
-        key: key.copy(alloc)?,
-        value: v.copy(alloc)?,
-    };
-    Ok(Bytes::new(inc.encode(alloc)?))
+    match command {
+        Command::Set { value, .. } => (value.as_slice().len() as u64, 65536),
+        Command::Remove { .. } => (0, 0),
+        Command::Log { text } => (text.as_slice().len() as u64, 1024),
+    }
 }
 
-/// A set: its value is committed at once, as the next version.
-fn set(alloc: Global, kv: &Kv, session: Session, key: &Name, v: &Text) -> Result<Reaction, NodeStop>
-    requires { RequestFits (Request.Set key.now v.now) }
-    ensures reaction { (sets now : ℕ) (s : State) → sets < 24 → AfterSets sets (view kv.now) → LeadsItself s →
-        Reacts result (reaction itself now kv.now s (input.Client session (Request.Set key.now v.now))) }
-    ensures short { IfOk result (λ r. length r.tx ≤ 10) }
+fn service_of(command: &Command) -> Service
+    ensures { result ≡ service_of command.now }
 {
-    let incremental = set_incremental(alloc, key, v)?;
-    let last = kv.number(b"paxos", b"last_committed");
-    let n = kv.number(b"kv", b"last_committed") + 1;
-    if n > GREATEST {
+    match command {
+        Command::Set { .. } | Command::Remove { .. } => Service::Kv,
+        Command::Log { .. } => Service::Log,
+    }
+}
+
+/// The answer to a command of which there is no value.
+fn refused(alloc: Global, to: Session, refusal: CommandRefused) -> Result<Reaction, NodeStop>
+    ensures answer { (now : ℕ) → IfOk result (λ r. r ≡ record { tx = []; answer = Some (record { to = to; reply = refusal_of itself now refusal }) }) }
+    ensures kept { IfOk result (λ _. refusal ≡ CommandRefused.OutOfMemory → ⊥) }
+    ensures memory { IfErr result (λ e. e ≡ NodeStop.OutOfMemory) }
+{
+    Ok(answered(
+        alloc,
+        to,
+        match refusal {
+            CommandRefused::NoSuch => Reply::NoSuch,
+            CommandRefused::TooLong { len, most } => Reply::TooLong { len, most },
+            CommandRefused::MapFull { would_be } => Reply::MapFull { would_be },
+            CommandRefused::OutOfMemory => return Err(NodeStop::OutOfMemory),
+        },
+    ))
+}
+
+/// A command: it is refused, or its value is committed at once, as the next version.
+fn command(
+    alloc: Global,
+    rank: Rank,
+    kv: &Kv,
+    to: Session,
+    command: &Command,
+) -> Result<Reaction, NodeStop>
+    requires { rank ≡ 0 }
+    ensures reaction { (now : ℕ) (s : State) (r : Request) → command_of r ≡ Some command.now → Waits s →
+        Reacts result (reaction itself now kv.now s (input.Client to r)) }
+    ensures few { IfOk result (λ r. length r.tx ≤ 1000000) }
+{
+    let (len, most) = lengths_of(command);
+    if most < len {
+        return Ok(answered(alloc, to, Reply::TooLong { len, most }));
+    }
+    if last_version(kv, service_of(command)) >= GREATEST {
         return Err(NodeStop::Spent(Which::Version));
     }
+    let ops = match value(alloc, kv, command, rank) {
+        Ok(ops) => ops,
+        Err(refusal) => return refused(alloc, to, refusal),
+    };
+    let last = kv.last_committed();
     let Some(version) = Version::new(last + 1) else {
         return Err(NodeStop::Spent(Which::Version));
     };
-    let tx = set_tx(alloc, last, n, &incremental)?;
+    let tx = commit_tx(alloc, last, ops)?;
     Ok(Reaction {
         tx,
         answer: Some(Answer {
-            to: session,
+            to,
             reply: Reply::Done { version },
         }),
+    })
+}
+
+/// The command that a request asks for, where it asks for one.
+fn command_of(alloc: Global, request: &Request) -> Result<Option<Command>, OutOfMemory>
+    ensures { IfOk result (λ command. command ≡ command_of request.now) }
+{
+    Ok(match request {
+        Request::Set { key, value } => Some(Command::Set {
+            key: key.copy(alloc)?,
+            value: value.copy(alloc)?,
+        }),
+        Request::Remove { key } => Some(Command::Remove {
+            key: key.copy(alloc)?,
+        }),
+        Request::Log { text } => Some(Command::Log {
+            text: text.copy(alloc)?,
+        }),
+        Request::Show { .. } | Request::Since { .. } => None,
     })
 }
 
 /// What a client asks of the monitor, which leads itself.
 pub fn client(
     alloc: Global,
+    rank: Rank,
     kv: &Kv,
     session: Session,
     request: &Request,
 ) -> Result<Reaction, NodeStop>
-    requires { RequestFits request.now }
-    ensures reaction { (sets now : ℕ) (s : State) → sets_with sets request.now ≤ 24 → AfterSets sets (view kv.now) → LeadsItself s →
-        Reacts result (reaction itself now kv.now s (input.Client session request.now)) }
-    ensures short { IfOk result (λ r. length r.tx ≤ 10) }
+    requires { rank ≡ 0 }
+    ensures reaction { (now : ℕ) (s : State) → Waits s → Reacts result (reaction itself now kv.now s (input.Client session request.now)) }
+    ensures few { IfOk result (λ r. length r.tx ≤ 1000000) }
 {
+    if let Some(asked) = command_of(alloc, request)? {
+        return command(alloc, rank, kv, session, &asked);
+    }
     match request {
-        Request::Set { key, value } => set(alloc, kv, session, key, value),
-        Request::Show { .. } => Ok(answered(alloc, session, shown(alloc, kv)?)),
-        Request::Remove { .. } | Request::Log { .. } | Request::Since { .. } => unreachable!(),
+        Request::Show { service } => { Ok(answered(alloc, session, shown(alloc, kv, *service)?)) }
+        Request::Since { service, version } => Ok(answered(
+            alloc,
+            session,
+            changes(alloc, kv, *service, *version)?,
+        )),
+        Request::Set { .. } | Request::Remove { .. } | Request::Log { .. } => unreachable!(),
+    }
+}
+
+/// A timer: the monitor's lease is renewed, or nothing is done.
+pub fn ring(alloc: Global, kv: &Kv) -> Reaction
+    ensures few { length result.tx ≤ 1000000 }
+    ensures reaction { (now : ℕ) (s : State) (t : Timer) → Waits s → IsReaction result (reaction itself now kv.now s (input.Timer t)) }
+{
+    let _store = kv;
+    Reaction {
+        tx: Transaction::new(alloc),
+        answer: None,
     }
 }

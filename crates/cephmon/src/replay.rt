@@ -1,10 +1,10 @@
 //! The run of a schedule, whose lines are written as they come.
 
-ghost use Rattle.std.specs.Prelude.{◌≡◌, ℕ, ◌≤◌, IsTrue, None, Some, Err, length, count_by};
+ghost use Rattle.std.specs.Prelude.{◌≡◌, ℕ, ◌≤◌, IsTrue, None, Some, Err, length};
 ghost use Rattle.std.specs.List.{list_all};
 ghost use Rattle.mon_types.specs.Faults.{Rose};
 ghost use Rattle.schedule_text.specs.Spelling.{HasText};
-ghost use Rattle.cephmon.specs.Built.{event_runs, is_set, sets_with, unbuilt};
+ghost use Rattle.cephmon.specs.Built.{event_runs, unbuilt};
 ghost use Rattle.quorum_model.specs.Monitors.{alone};
 ghost use Rattle.quorum_model.specs.World.{World as Model, Event as Happening, first_world};
 ghost use Rattle.cephmon.specs.Step.{step};
@@ -75,8 +75,8 @@ fn do_event<K: Sink>(
     event: &Event,
 ) -> Result<(), ReplayStop>
     requires { IsTrue (event_runs event.now) }
-    ensures writes { (sets : ℕ) (w : Model) (e : Happening) → StandsFor sets world.old w → event_of event.now ≡ Some e → sets_with sets event.now ≤ 24 →
-        Did (sets_with sets event.now) result world.new (K.held sink.old) (K.held sink.new) number event.now (step alone w e) }
+    ensures writes { (w : Model) (e : Happening) → StandsFor world.old w → event_of event.now ≡ Some e →
+        Did result world.new (K.held sink.old) (K.held sink.new) number event.now (step alone w e) }
     ensures later { K.faults sink.old ≤ K.faults sink.new }
     ensures fault { result ≡ Err ReplayStop.WriteFault → Rose (K.faults sink.old) (K.faults sink.new) }
 {
@@ -90,7 +90,6 @@ fn do_event<K: Sink>(
 fn do_events<K: Sink>(alloc: Global, sink: &mut K, events: &[Event]) -> Result<(), ReplayStop>
     requires fits { IsTrue (list_all event_runs events.now) }
     requires count { length events.now ≤ 200000 }
-    requires sets { count_by is_set events.now ≤ 24 }
     ensures writes { Writes result (K.held sink.old) (K.held sink.new) (trace_from alone 0 first_world events.now) }
     ensures later { K.faults sink.old ≤ K.faults sink.new }
     ensures fault { result ≡ Err ReplayStop.WriteFault → Rose (K.faults sink.old) (K.faults sink.new) }

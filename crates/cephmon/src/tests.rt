@@ -67,6 +67,20 @@ fn traces(rt: HostRuntime) -> Result<(), Fail> {
 }
 
 #[test]
+fn requests(rt: HostRuntime) -> Result<(), Fail> {
+    is_run(
+        &rt,
+        rt.alloc(),
+        "replay",
+        "monitors 1 classic\ndeliver 1 0\nstart 0 1\ntimer 0 renew 5\nclient 0 10 1 1 set a x\nclient 0 11 1 2 log hi there\nclient 0 12 1 3 remove b\nclient 0 13 1 4 remove a\nclient 0 14 1 5 since kv 0\nclient 0 15 1 6 since log 0\nclient 0 16 1 7 show log\nclient 0 17 1 8 show kv\n",
+        0,
+        0,
+        Status::Done,
+        "monitors 1 classic\n1 deliver 1 0\n  none\n2 start 0 1\n  store 4\n  is active epoch 2 last 0\n3 timer 0 renew 5\n4 client 0 10 1 1 set a x\n  store 6\n  is active epoch 2 last 1\n  reply 0 1.1 done 1\n5 client 0 11 1 2 log hi there\n  store 5\n  is active epoch 2 last 2\n  reply 0 1.2 done 2\n6 client 0 12 1 3 remove b\n  reply 0 1.3 nosuch\n7 client 0 13 1 4 remove a\n  store 4\n  is active epoch 2 last 3\n  reply 0 1.4 done 3\n8 client 0 14 1 5 since kv 0\n  reply 0 1.5 since kv from=0 to=2 count=2 more=0\n9 client 0 15 1 6 since log 0\n  reply 0 1.6 since log from=0 to=1 count=1 more=0\n10 client 0 16 1 7 show log\n  reply 0 1.7 shown log paxos=3 version=1 [[0,\"hi there\"]]\n11 client 0 17 1 8 show kv\n  reply 0 1.8 shown kv paxos=3 version=2 {}\nend events=11 log=3\n",
+    )
+}
+
+#[test]
 fn refusals(rt: HostRuntime) -> Result<(), Fail> {
     is_run(&rt, rt.alloc(), "node", FIRST, 0, 0, Status::Words, "")?;
     is_run(
@@ -86,7 +100,7 @@ fn refusals(rt: HostRuntime) -> Result<(), Fail> {
         &rt,
         rt.alloc(),
         "replay",
-        "monitors 1 classic\ndeliver 1 0\nclient 0 10 1 1 set a x\nclient 0 20 1 2 show kv\n",
+        "monitors 1 classic\ncrash a 1 0 start 0 0\nclient 0 10 1 1 set a x\n",
         0,
         0,
         Status::Schedule {

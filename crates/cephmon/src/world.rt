@@ -6,12 +6,12 @@ ghost use Rattle.mon_msg.specs.Protocol.Phases.{same_phase};
 ghost use Rattle.mon_msg.specs.Protocol.View.{view, epoch_of};
 ghost use Rattle.quorum_model.specs.Growth.{last_of};
 ghost use Rattle.cephmon.specs.Node.{sends_of};
-ghost use Rattle.cephmon.specs.Step.{told, replied, log_after};
+ghost use Rattle.cephmon.specs.Step.{told, replied, log_after, still_line};
 
-use crate::node::{Answer, NodeStop, Reaction, client, start, stored_epoch};
+use crate::node::{Answer, NodeStop, Reaction, client, ring, start, stored_epoch};
 use mon_bytes::OutOfMemory;
 use mon_kv::Kv;
-use mon_msg::{Items, Phase, Request, Session};
+use mon_msg::{Items, Phase, Request, Session, Timer};
 use mon_types::{Epoch, Rank, Version};
 use schedule_text::{Event, Outcome, Plain, Replied, Replies, StateLine, StepLine};
 use std::alloc::Global;
@@ -90,6 +90,19 @@ fn replies_of(alloc: Global, rank: Rank, answer: Option<Answer>) -> Result<Repli
     }
 }
 
+/// The lines of an event by which nothing happens.
+fn nothing(alloc: Global, outcome: Outcome) -> StepLine
+    ensures { result ≡ still_line outcome }
+{
+    StepLine {
+        outcome,
+        ops: 0,
+        state: None,
+        sent: Items::new(alloc),
+        replies: Replies::new(alloc),
+    }
+}
+
 /// What the monitor keeps, whether it is up, and the length of the log.
 #[derive(Drop)]
 pub struct World {
@@ -103,12 +116,11 @@ impl World {
     ghost use Rattle.mon_tx.specs.Map.{apply};
     ghost use Rattle.mon_msg.specs.Protocol.View.{view, epoch_of};
     ghost use Rattle.mon_msg.specs.declared.phase.Phase.TheVariants as phase;
-    ghost use Rattle.quorum_model.specs.Few.{sets_with};
     ghost use Rattle.quorum_model.specs.Growth.{last_of};
     ghost use Rattle.quorum_model.specs.Monitors.{alone};
-    ghost use Rattle.quorum_model.specs.World.{World as Model, Event as Happening, first_world, Start, Client};
+    ghost use Rattle.quorum_model.specs.World.{World as Model, Event as Happening, first_world, Start, Ring, Client};
     ghost use Rattle.schedule_text.specs.declared.step.Outcome.TheVariants.{Ran};
-    ghost use Rattle.cephmon.specs.Built.{event_runs, request_runs, sets_with as sets_after};
+    ghost use Rattle.cephmon.specs.Built.{event_runs};
     ghost use Rattle.cephmon.specs.Node.{sends_of};
     ghost use Rattle.cephmon.specs.Step.{told, replied, step, log_after};
     ghost use Rattle.cephmon.specs.Trace.{event_of};
@@ -116,7 +128,7 @@ impl World {
 
     /// A monitor that is down, with an empty store, and an empty log.
     pub fn new(alloc: Global) -> World
-        ensures { StandsFor 0 result first_world }
+        ensures { StandsFor result first_world }
     {
         World {
             kv: Kv::empty(alloc),
@@ -133,7 +145,7 @@ impl World {
         before: Option<StateLine>,
         reaction: Reaction,
     ) -> Result<StepLine, OutOfMemory>
-        requires { length reaction.tx ≤ 10 }
+        requires { length reaction.tx ≤ 1000000 }
         ensures kv { OnOk result (self.new.kv ≡ apply reaction.tx self.old.kv) }
         ensures up { OnOk result (self.new.is_up ≡ true) }
         ensures log { OnOk result (self.new.log ≡ log_after self.old.log (apply reaction.tx self.old.kv)) }
@@ -161,7 +173,7 @@ impl World {
 
     fn start(&mut self, alloc: Global, rank: Rank) -> Result<StepLine, NodeStop>
         requires { rank ≡ 0 }
-        ensures { (sets at : ℕ) (w : Model) → StandsFor sets self.old w → Does sets result self.new (step alone w (Start rank at)) }
+        ensures { (at : ℕ) (w : Model) → StandsFor self.old w → Does result self.new (step alone w (Start rank at)) }
     {
         let reaction = start(alloc, rank, &self.kv)?;
         Ok(self.take(alloc, rank, None, reaction)?)
@@ -174,30 +186,33 @@ impl World {
         session: Session,
         request: &Request,
     ) -> Result<StepLine, NodeStop>
-        requires rank { rank ≡ 0 }
-        requires fits { IsTrue (request_runs request.now) }
-        ensures { (sets at : ℕ) (w : Model) → StandsFor sets self.old w → sets_with sets request.now ≤ 24 →
-            Does (sets_with sets request.now) result self.new (step alone w (Client rank at session request.now)) }
+        requires { rank ≡ 0 }
+        ensures { (at : ℕ) (w : Model) → StandsFor self.old w → Does result self.new (step alone w (Client rank at session request.now)) }
     {
         if !self.is_up {
-            return Ok(StepLine {
-                outcome: Outcome::Down,
-                ops: 0,
-                state: None,
-                sent: Items::new(alloc),
-                replies: Replies::new(alloc),
-            });
+            return Ok(nothing(alloc, Outcome::Down));
         }
         let before = state_of(&self.kv);
-        let reaction = client(alloc, &self.kv, session, request)?;
+        let reaction = client(alloc, rank, &self.kv, session, request)?;
+        Ok(self.take(alloc, rank, Some(before), reaction)?)
+    }
+
+    fn ring(&mut self, alloc: Global, rank: Rank) -> Result<StepLine, NodeStop>
+        requires { rank ≡ 0 }
+        ensures { (t : Timer) (at : ℕ) (w : Model) → StandsFor self.old w → Does result self.new (step alone w (Ring rank t at)) }
+    {
+        if !self.is_up {
+            return Ok(nothing(alloc, Outcome::Down));
+        }
+        let before = state_of(&self.kv);
+        let reaction = ring(alloc, &self.kv);
         Ok(self.take(alloc, rank, Some(before), reaction)?)
     }
 
     /// One plain event, and its lines of the trace.
     fn plain(&mut self, alloc: Global, event: &Plain) -> Result<StepLine, NodeStop>
         requires { IsTrue (event_runs (Event.Plain event.now)) }
-        ensures { (sets : ℕ) (w : Model) (e : Happening) → StandsFor sets self.old w → event_of (Event.Plain event.now) ≡ Some e → sets_after sets (Event.Plain event.now) ≤ 24 →
-            Does (sets_after sets (Event.Plain event.now)) result self.new (step alone w e) }
+        ensures { (w : Model) (e : Happening) → StandsFor self.old w → event_of (Event.Plain event.now) ≡ Some e → Does result self.new (step alone w e) }
     {
         match event {
             Plain::Start { rank, .. } => self.start(alloc, *rank),
@@ -207,15 +222,15 @@ impl World {
                 request,
                 ..
             } => self.client(alloc, *rank, *session, request),
-            Plain::Deliver { .. } | Plain::Timer { .. } => unreachable!(),
+            Plain::Timer { rank, .. } => self.ring(alloc, *rank),
+            Plain::Deliver { .. } => Ok(nothing(alloc, Outcome::NoMessage)),
         }
     }
 
     /// One event, and its lines of the trace.
     pub fn step(&mut self, alloc: Global, event: &Event) -> Result<StepLine, NodeStop>
         requires { IsTrue (event_runs event.now) }
-        ensures { (sets : ℕ) (w : Model) (e : Happening) → StandsFor sets self.old w → event_of event.now ≡ Some e → sets_after sets event.now ≤ 24 →
-            Does (sets_after sets event.now) result self.new (step alone w e) }
+        ensures { (w : Model) (e : Happening) → StandsFor self.old w → event_of event.now ≡ Some e → Does result self.new (step alone w e) }
     {
         match event {
             Event::Plain(event) => self.plain(alloc, event),

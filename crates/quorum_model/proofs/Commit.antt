@@ -22,6 +22,7 @@ use Rattle.mon_msg.specs.Protocol.Changes.{Learn, Last, spelled}
 use Rattle.mon_msg.specs.Protocol.Reaction.{Reaction}
 use Rattle.mon_msg.specs.Protocol.Value.{service_of, value}
 use Rattle.mon_msg.specs.Protocol.View.{view, epoch_of}
+use Rattle.quorum_model.specs.Alone.{Waits}
 use Rattle.quorum_model.specs.Clients.{command_of, made_by, letters_in, all_acknowledged, all_replied}
 use Rattle.quorum_model.specs.Clients.{command_of, incremental_of, made_by, letters_in, all_acknowledged, all_replied}
 use Rattle.quorum_model.specs.Growth.{last_of, bytes_or_none, grown}
@@ -36,7 +37,6 @@ use Rattle.quorum_model.proofs.Made.{puts_command}
 use Rattle.quorum_model.proofs.Holds.{Holds, read_last, keeps_log}
 use Rattle.quorum_model.proofs.Older.{older_itself}
 use Rattle.quorum_model.proofs.Learned.{learned, reads_ops, holds_learned, new_record, learns}
-use Rattle.quorum_model.proofs.Waiting.{Waits}
 use Rattle.quorum_model.proofs.Invariant.{IsAck, Inv}
 use Rattle.quorum_model.proofs.Step.{after, IsNewAck, IsNewReply, keeps}
 use Rattle.quorum_model.proofs.Quiet.{grown_by, first_rank}

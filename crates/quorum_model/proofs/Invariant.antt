@@ -15,13 +15,13 @@ use Rattle.mon_msg.specs.Fold.{entry, fold, put_in, map_after, map_of_log}
 use Rattle.mon_msg.specs.Protocol.State.{State}
 use Rattle.mon_msg.specs.Protocol.Value.{value}
 use Rattle.mon_msg.specs.Protocol.View.{view}
+use Rattle.quorum_model.specs.Alone.{Waits}
 use Rattle.quorum_model.specs.Growth.{is_marked}
 use Rattle.quorum_model.specs.World.{World, Asked, Acknowledged, Replied, first_world}
 use Rattle.quorum_model.specs.Safe.{Among, Agrees, IsAsked, LeaderHas, IsKept, AcknowledgedOnce, IsAnswered, DoneIsAnswered, AreAfter, ShowsLog, after_transactions, Held, Fence, Safe}
 use Rattle.quorum_model.proofs.Lists.{all_map, among_all}
 use Rattle.quorum_model.proofs.Logs.{Fronts, entry_stays, fold_stays, incrementals_stay}
 use Rattle.quorum_model.proofs.Holds.{Holds, holds_nothing, record_there}
-use Rattle.quorum_model.proofs.Waiting.{Waits}
 
 -- an acknowledged version is in the log, and puts its incremental
 pub record IsAck (w : World) (a : Acknowledged) : Type 0 where

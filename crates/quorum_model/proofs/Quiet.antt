@@ -19,6 +19,7 @@ use Rattle.mon_msg.specs.Protocol.Changes.{Change, spelled}
 use Rattle.mon_msg.specs.Protocol.Reaction.{Reaction}
 use Rattle.mon_msg.specs.Protocol.View.{view, epoch_of}
 use Rattle.mon_msg.proofs.Joining.{apply-joined}
+use Rattle.quorum_model.specs.Alone.{Waits}
 use Rattle.quorum_model.specs.Clients.{made_by_event, with_asked, letters_in, acknowledged_by, all_acknowledged, all_replied}
 use Rattle.quorum_model.specs.Growth.{last_of, records_after, grown}
 use Rattle.quorum_model.specs.Happens.{leads, moved}
@@ -29,7 +30,6 @@ use Rattle.quorum_model.proofs.Logs.{Fronts, fronts_itself}
 use Rattle.quorum_model.proofs.Own.{IsOwn, Same, same_changes}
 use Rattle.quorum_model.proofs.Holds.{Holds, number_none, still_holds}
 use Rattle.quorum_model.proofs.Invariant.{IsReply, Inv}
-use Rattle.quorum_model.proofs.Waiting.{Waits}
 use Rattle.quorum_model.proofs.Step.{after, IsNewAck, IsNewReply, keeps}
 
 -- ---- the log

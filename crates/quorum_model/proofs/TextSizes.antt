@@ -31,13 +31,13 @@ use Rattle.quorum_model.proofs.Windows.{Next}
 
 -- ---- how long changes are at most, with their ranges spelled out
 
-abbrev weight : Op → ℕ
+abbrev pub weight : Op → ℕ
 weight (Put prefix k v) = 7 + length prefix + length k + length v
 weight (Erase prefix k) = 3 + length prefix + length k
 weight (ErasePrefix prefix) = 2 + length prefix
 weight (EraseRange prefix from to) = 18 + length prefix + 31 * (to - from)
 
-abbrev total : List Op → ℕ
+abbrev pub total : List Op → ℕ
 total [] = 0
 total (op ∷ ops) = weight op + total ops
 
@@ -51,10 +51,10 @@ texts_length : (ops : List Op) → length (flat_map op_text ops) ≤ total ops
 texts_length [] = omega arith
 texts_length (op ∷ ops) = omega (arith, length-append (op_text op) (flat_map op_text ops), op_length op, texts_length ops)
 
-text_length : (ops : List Op) → length (text ops) ≤ 5 + total ops
+pub text_length : (ops : List Op) → length (text ops) ≤ 5 + total ops
 text_length ops = simp length-append (omega (arith, texts_length ops))
 
-total-append : (a b : List Op) → total (a ++ b) ≡ total a + total b
+pub total-append : (a b : List Op) → total (a ++ b) ≡ total a + total b
 total-append [] b = omega arith
 total-append (op ∷ a) b = omega (arith, total-append a b)
 
@@ -77,7 +77,7 @@ area_prefix Logm = refl
 area_prefix Monitor = refl
 area_prefix Sync = refl
 
-abbrev KeyFits : Key → Type 0
+abbrev pub KeyFits : Key → Type 0
 KeyFits (Version v) = v ≤ 2 ^ 62
 KeyFits (Full v) = v ≤ 2 ^ 62
 KeyFits k = Unit {0}
@@ -147,27 +147,27 @@ older_total (range a from to {older = older} o) h =
 
 -- ---- the rules
 
-abbrev EditFits : Edit → Type 0
+abbrev pub EditFits : Edit → Type 0
 EditFits (Set k x) = KeyFits k × (length x < 2 ^ 32)
 EditFits (Drop k) = KeyFits k
 EditFits (DropRange from to) = (from < to) × (to ≤ 2 ^ 62)
 
-edits_fit : (a : Area) (es : List Edit) → AllByRecursion EditFits es → AllByRecursion OpFits (spelled a es)
+pub edits_fit : (a : Area) (es : List Edit) → AllByRecursion EditFits es → AllByRecursion OpFits (spelled a es)
 edits_fit a [] h = tt
 edits_fit a (Set k x ∷ es) h = ((area_prefix a, key_name k h.0.0, h.0.1), edits_fit a es h.1)
 edits_fit a (Drop k ∷ es) h = ((area_prefix a, key_name k h.0), edits_fit a es h.1)
 edits_fit a (DropRange from to ∷ es) h = ((area_prefix a, h.0.0, h.0.1), edits_fit a es h.1)
 
-abbrev edit_weight : Edit → ℕ
+abbrev pub edit_weight : Edit → ℕ
 edit_weight (Set k x) = 40 + length x
 edit_weight (Drop k) = 36
 edit_weight (DropRange from to) = 26 + 31 * (to - from)
 
-abbrev edits_weight : List Edit → ℕ
+abbrev pub edits_weight : List Edit → ℕ
 edits_weight [] = 0
 edits_weight (e ∷ es) = edit_weight e + edits_weight es
 
-edits_total : (a : Area) (es : List Edit) → AllByRecursion EditFits es → total (spelled a es) ≤ edits_weight es
+pub edits_total : (a : Area) (es : List Edit) → AllByRecursion EditFits es → total (spelled a es) ≤ edits_weight es
 edits_total a [] h = omega arith
 edits_total a (Set k x ∷ es) h = omega (arith, edits_total a es h.1, area_length a, key_length k h.0.0)
 edits_total a (Drop k ∷ es) h = omega (arith, edits_total a es h.1, area_length a, key_length k h.0)
@@ -181,27 +181,27 @@ pub record Light (es : List Edit) (most : ℕ) : Type 0 where
   pub fits : AllByRecursion EditFits es
   pub light : edits_weight es ≤ most
 
-light-append : (es fs : List Edit) (j k : ℕ) → Light es j → Light fs k → Light (es ++ fs) (j + k)
+pub light-append : (es fs : List Edit) (j k : ℕ) → Light es j → Light fs k → Light (es ++ fs) (j + k)
 light-append es fs j k a b = record { fits = all_append EditFits es fs a.fits b.fits; light = let l = a.light in let m = b.light in omega (arith, weight-append es fs) }
 
 length_number : (n : ℕ) → length (number_bytes n) ≡ 8
 unfolding number_bytes
 length_number n = refl
 
-light_first : (n : ℕ) → Light (first_set n) 48
+pub light_first : (n : ℕ) → Light (first_set n) 48
 light_first n = record { fits = ((tt, omega (arith, length_number n)), tt); light = omega (arith, length_number n) }
 
-light_begun : (c : ℕ) → Light (begun c) 48
+pub light_begun : (c : ℕ) → Light (begun c) 48
 light_begun c = cond_both (eqb c 0) (first_set 1) [] (λ es. Light es 48) (λ e. light_first 1) (λ e. record { fits = tt; light = omega arith })
 
-light_new : (n : ℕ) (x : List ℕ) → n ≤ 2 ^ 62 → length x ≤ 65797 → Light (new n x) 65933
+pub light_new : (n : ℕ) (x : List ℕ) → n ≤ 2 ^ 62 → length x ≤ 65797 → Light (new n x) 65933
 light_new n x h short =
     light-append (Set (Version n) x ∷ []) _ 65837 96 (record { fits = ((h, omega arith), tt); light = omega arith })
     (light-append (cond (eqb n 1) (first_set 1) []) (Set LastCommitted (number_bytes n) ∷ []) 48 48
     (cond_both (eqb n 1) (first_set 1) [] (λ es. Light es 48) (λ e. light_first 1) (λ e. record { fits = tt; light = omega arith }))
     (record { fits = ((tt, omega (arith, length_number n)), tt); light = omega (arith, length_number n) }))
 
-light_full : (n : ℕ) (t : List ℕ) → n ≤ 2 ^ 62 → length t ≤ 393216 → Light (full n t) 393304
+pub light_full : (n : ℕ) (t : List ℕ) → n ≤ 2 ^ 62 → length t ≤ 393216 → Light (full n t) 393304
 light_full n t h short =
     cond_both (is_full n) (Set (Full n) t ∷ Set FullLatest (number_bytes n) ∷ []) [] (λ es. Light es 393304)
     (λ e. record { fits = ((h, omega arith), ((tt, omega (arith, length_number n)), tt)); light = omega (arith, length_number n) }) (λ e. record { fits = tt; light = omega arith })
@@ -213,7 +213,7 @@ light_drops (suc count) from h =
     cond_both (is_full from) (from ∷ filter is_full (range_with_len (from + 1) count)) (filter is_full (range_with_len (from + 1) count)) (λ vs. Light (map (λ v. Drop (Full v)) vs) (36 * suc count))
     (λ e. record { fits = (omega arith, rest.fits); light = let l = rest.light in omega arith }) (λ e. record { fits = rest.fits; light = let l = rest.light in omega arith })
 
-light_cut : (from : ℕ) → from + 25 ≤ 2 ^ 62 → Light (cut from (from + 25)) 1749
+pub light_cut : (from : ℕ) → from + 25 ≤ 2 ^ 62 → Light (cut from (from + 25)) 1749
 light_cut from h =
     let e : from + 25 - from ≡ 25 = omega arith in
     let drops : Light (full_drops from (from + 25)) 900 = subst (λ (k : ℕ). Light (map (λ v. Drop (Full v)) (filter is_full (range_with_len from k))) 900) (sym e) (light_drops 25 from h) in

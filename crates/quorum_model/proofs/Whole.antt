@@ -26,6 +26,7 @@ use Rattle.mon_msg.specs.Protocol.Reading.{service_last}
 use Rattle.mon_msg.specs.Protocol.State.{State}
 use Rattle.mon_msg.specs.Protocol.Value.{service_of, value}
 use Rattle.mon_msg.specs.Protocol.View.{view}
+use Rattle.quorum_model.specs.Alone.{Waits}
 use Rattle.quorum_model.specs.Clients.{command_of}
 use Rattle.quorum_model.specs.Events.{RequestFits, EventFits, AllFit}
 use Rattle.quorum_model.specs.Happens.{unmoved, moved, after_reaction, happens, or_stay, run_from, run}
@@ -37,8 +38,7 @@ use Rattle.quorum_model.proofs.Lists.{all_map}
 use Rattle.quorum_model.proofs.Logs.{fronts_itself}
 use Rattle.quorum_model.proofs.Starting.{me, Starts, starts}
 use Rattle.quorum_model.proofs.Asking.{leads_itself, Commits, commits, answered, reaction-show, reaction-since, reaction-refused, reaction-long}
-use Rattle.quorum_model.proofs.Ringing.{Stays, rings}
-use Rattle.quorum_model.proofs.Waiting.{Waits}
+use Rattle.quorum_model.proofs.Ringing.{rings}
 use Rattle.quorum_model.proofs.Holds.{read_last, read_unmarked, read_settled}
 use Rattle.quorum_model.proofs.Invariant.{IsAck, IsReply, Inv, Grown, at_first, ack_stays, reply_stays, value_stays, safe}
 use Rattle.quorum_model.proofs.Quiet.{Tells, asked_before, calm_keeps}
@@ -86,9 +86,9 @@ module _ (w : World) (inv : Inv w) (s : State) (waits : Waits s) (at : ℕ) wher
   ring_keeps : (t : Timer) → IfOk (after_reaction w (Ring 0 t at) 0 (Some (reaction (me itself.member.most itself.member.in_map) at (w.store 0) s (input.Timer t)))) Inv
   unfolding joined
   ring_keeps t =
-      on_reaction w (Ring 0 t at) Stays
-      (λ r h. calm_keeps w inv (Ring 0 t at) r [] tt h.transaction (subst (AllByRecursion _) (sym h.sends) tt) h.waits) _
-      (rings itself.member.most itself.member.in_map at (w.store 0) s waits t)
+      let r = rings itself.member.most itself.member.in_map at (w.store 0) s waits t in
+      subst (λ (done : Result Reaction Which). IfOk (after_reaction w (Ring 0 t at) 0 (Some done)) Inv) (sym r.is)
+      (calm_keeps w inv (Ring 0 t at) r.reaction [] tt r.stays.transaction (subst (AllByRecursion _) (sym r.stays.sends) tt) r.stays.waits)
 
   module _ (session : Session) where
     abbrev came : Request → Result Reaction Which

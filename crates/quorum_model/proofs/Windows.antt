@@ -37,7 +37,7 @@ use Rattle.quorum_model.proofs.RowReadings.{IsRow, first_number, last_is, first_
 -- ---- what a value and its record leave, by area
 
 module _ (s : Service) (first last n service_first : ℕ) (x t bytes : List ℕ) where
-  abbrev learned : List Op
+  abbrev pub learned : List Op
   learned = put area.Paxos (key.Version (suc last)) bytes ∷ value_ops first last (area_of s) n service_first x t
 
   abbrev own : List Op
@@ -72,13 +72,13 @@ module _ (s : Service) (first last n service_first : ℕ) (x t bytes : List ℕ)
       in_parts (area_of u) k c ∙ cell_elsewhere area.Paxos (area_of u) (log_trimmed first last) k _ (apart u) ∙ cell_elsewhere (area_of s) (area_of u) (service_edits n service_first x t) k _ h
       ∙ cell_elsewhere area.Paxos (area_of u) (begun last) k _ (apart u) ∙ cell_elsewhere area.Paxos (area_of u) record_set k c (apart u)
 
-  log_cell : (k : Key) (c : Cell) → cell_after learned area.Paxos k c ≡ final (log_trimmed first last) k (final (begun last) k (cond (same_key k (key.Version (suc last))) (Some bytes) c))
+  pub log_cell : (k : Key) (c : Cell) → cell_after learned area.Paxos k c ≡ final (log_trimmed first last) k (final (begun last) k (cond (same_key k (key.Version (suc last))) (Some bytes) c))
   log_cell k c =
       in_parts area.Paxos k c ∙ cell_here area.Paxos (log_trimmed first last) k _
       ∙ ap (final (log_trimmed first last) k) (cell_elsewhere (area_of s) area.Paxos (service_edits n service_first x t) k _ (apart_log s) ∙ cell_here area.Paxos (begun last) k _
       ∙ ap (final (begun last) k) (cell_here area.Paxos record_set k c))
 
-  elsewhere : (b : Area) (k : Key) (c : Cell) → same_area b area.Paxos ≡ false → same_area b (area_of s) ≡ false → cell_after learned b k c ≡ c
+  pub elsewhere : (b : Area) (k : Key) (c : Cell) → same_area b area.Paxos ≡ false → same_area b (area_of s) ≡ false → cell_after learned b k c ≡ c
   elsewhere b k c p q =
       in_parts b k c ∙ cell_elsewhere area.Paxos b (log_trimmed first last) k _ p ∙ cell_elsewhere (area_of s) b (service_edits n service_first x t) k _ q
       ∙ cell_elsewhere area.Paxos b (begun last) k _ p ∙ cell_elsewhere area.Paxos b record_set k c p

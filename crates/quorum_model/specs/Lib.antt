@@ -1,7 +1,6 @@
 pub mod Alone
 pub mod Clients
 pub mod Events
-pub mod Few
 pub mod Growth
 pub mod Happens
 pub mod LogOfValues

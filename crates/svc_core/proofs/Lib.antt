@@ -10,3 +10,5 @@ pub mod Steps
 pub mod Tellings
 pub mod Transactions
 pub mod Turns
+pub mod DraftSizes
+pub mod ShortValues

@@ -1,8 +1,14 @@
 -- What a value is made of: the incremental, and the map's text where a full map is due.
-use Rattle.std.specs.Prelude.{ℕ, Bool, List, [], Result, Ok, Err, if◌then◌else◌}
+use Rattle.std.specs.Prelude.{◌≡◌, ℕ, suc, ◌≤◌, Bool, List, [], length, Result, Ok, Err, if◌then◌else◌}
 use Rattle.mon_bytes.specs.declared.command.CommandRefused.{CommandRefused}
 use Rattle.mon_msg.specs.Protocol.Parts.{map_text}
 use Rattle.mon_msg.specs.declared.reply.ShownMap.{ShownMap}
+use Rattle.mon_msg.specs.declared.request.Service.{Service}
+use Rattle.mon_msg.specs.Protocol.Reading.{service_first, service_last}
+use Rattle.mon_msg.specs.Protocol.Rules.{value_ops}
+use Rattle.mon_msg.specs.Protocol.View.{View}
+use Rattle.mon_msg.specs.Puts.{area_of}
+use Rattle.mon_tx.specs.declared.op.Op.{Op}
 use Rattle.svc_core.specs.declared.made.Draft.{Draft}
 
 abbrev pub text_if : Bool → ShownMap → List ℕ
@@ -11,3 +17,14 @@ text_if due next = if due then map_text next else []
 abbrev pub drafted : Bool → Result (List ℕ × ShownMap) CommandRefused → Result Draft CommandRefused
 drafted due (Ok (incremental, next)) = Ok (record { incremental = incremental; text = text_if due next })
 drafted due (Err e) = Err e
+
+-- no longer than an incremental may be, and than a map's text may be
+pub record IsShort (d : Draft) : Type 0 where
+  pub incremental : length d.incremental ≤ 65797
+  pub text : length d.text ≤ 393216
+
+-- the value of such a draft over a store
+pub record IsShortValue (w : View) (s : Service) (ops : List Op) : Type 0 where
+  pub draft : Draft
+  pub is : ops ≡ value_ops w.first w.last (area_of s) (suc (service_last w s)) (service_first w s) draft.incremental draft.text
+  pub short : IsShort draft

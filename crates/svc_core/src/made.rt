@@ -1,13 +1,13 @@
 //! What a command makes of a service's map.
 
-ghost use Rattle.std.specs.Prelude.{◌≡◌, ℕ};
+ghost use Rattle.std.specs.Prelude.{◌≡◌, ℕ, IfOk};
 ghost use Rattle.map_kv.specs.Made.{IsOfKv};
 ghost use Rattle.mon_bytes.specs.Makes.{Makes};
 ghost use Rattle.mon_bytes.specs.declared.command.Command.TheVariants as command;
 ghost use Rattle.mon_msg.specs.Protocol.Reading.{read_map};
 ghost use Rattle.mon_msg.specs.Protocol.Value.{made, service_of};
 ghost use Rattle.mon_msg.specs.Protocol.View.{view};
-ghost use Rattle.svc_core.specs.Drafts.{drafted};
+ghost use Rattle.svc_core.specs.Drafts.{drafted, IsShort};
 
 use crate::reading::read;
 use map_kv::make as make_kv;
@@ -27,7 +27,8 @@ pub(crate) struct Draft {
 
 fn kv_made(alloc: Global, kv: &Kv, command: &Command, due: bool) -> Result<Draft, CommandRefused>
     requires { IsOfKv command.now }
-    ensures { (asked : ℕ) → Makes result (drafted due (made (read_map (view kv.now) Service.Kv) asked command.now)) }
+    ensures made { (asked : ℕ) → Makes result (drafted due (made (read_map (view kv.now) Service.Kv) asked command.now)) }
+    ensures short { IfOk result IsShort }
 {
     let ShownMap::Kv(mut map) = read(alloc, kv, Service::Kv)? else {
         unreachable!()
@@ -55,7 +56,8 @@ fn log_made(
     asked: Rank,
     due: bool,
 ) -> Result<Draft, CommandRefused>
-    ensures { Makes result (drafted due (made (read_map (view kv.now) Service.Log) asked (command.Log text.now))) }
+    ensures made { Makes result (drafted due (made (read_map (view kv.now) Service.Log) asked (command.Log text.now))) }
+    ensures short { IfOk result IsShort }
 {
     let inc = make_log(alloc, asked, text)?;
     let incremental = Bytes::new(inc.encode(alloc)?);
@@ -83,7 +85,8 @@ pub(crate) fn made(
     asked: Rank,
     due: bool,
 ) -> Result<Draft, CommandRefused>
-    ensures { Makes result (drafted due (made (read_map (view kv.now) (service_of command.now)) asked command.now)) }
+    ensures made { Makes result (drafted due (made (read_map (view kv.now) (service_of command.now)) asked command.now)) }
+    ensures short { IfOk result IsShort }
 {
     match command {
         Command::Set { .. } | Command::Remove { .. } => kv_made(alloc, kv, command, due),

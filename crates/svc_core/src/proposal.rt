@@ -7,6 +7,7 @@ ghost use Rattle.mon_msg.specs.Protocol.Rules.{value_ops};
 ghost use Rattle.mon_msg.specs.Protocol.Value.{service_of, value};
 ghost use Rattle.mon_msg.specs.Protocol.View.{view};
 ghost use Rattle.mon_msg.specs.Puts.{area_of};
+ghost use Rattle.svc_core.specs.Drafts.{IsShortValue};
 
 use crate::made::{Draft, made};
 use crate::mon_trim::push_trim;
@@ -66,7 +67,8 @@ pub fn value(
     asked: Rank,
 ) -> Result<Transaction, CommandRefused>
     requires { service_last (view kv.now) (service_of command.now) < 2 ^ 62 }
-    ensures { Makes result (value (view kv.now) command.now asked) }
+    ensures made { Makes result (value (view kv.now) command.now asked) }
+    ensures short { IfOk result (IsShortValue (view kv.now) (service_of command.now)) }
 {
     let service = service_of(command);
     let n = last_version(kv, service) + 1;

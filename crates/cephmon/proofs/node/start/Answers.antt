@@ -1,4 +1,4 @@
-use Rattle.std.proofs.Common.{◌≡◌, ℕ, suc, ◌+◌, ◌^◌, ◌≤◌, Ok, arith, refl, ap, ◌∙◌, sym}
+use Rattle.std.proofs.Common.{◌≡◌, suc, ◌+◌, ◌^◌, ◌≤◌, arith, refl, ap, ◌∙◌}
 use Rattle.mon_types.specs.Proposal.{next_number}
 use Rattle.mon_tx.specs.Keys.{cell}
 use Rattle.mon_tx.specs.Map.{number_in}
@@ -13,21 +13,21 @@ use Rattle.cephmon.proofs.node.start.Goals as goal
 pub returns-then-boot-gt-GREATEST-clause-reaction : goal.returns-then-boot-gt-GREATEST-clause-reaction
 unfolding view
 returns-then-boot-gt-GREATEST-clause-reaction c =
-    λ sets now few. start-boot sets now c.args.kv.now few (omega (arith, c.if-boot-gt-GREATEST.true, c.number-boot.ensures.value))
+    λ now settled. start-boot now c.args.kv.now settled (omega (arith, c.if-boot-gt-GREATEST.true, c.number-boot.ensures.value))
 
 pub returns-in_default-clause-reaction : goal.returns-in_default-clause-reaction
 unfolding view
 returns-in_default-clause-reaction c =
-    λ sets now few.
+    λ now settled.
     let w = view c.args.kv.now in
     let e : next_even c.stored_epoch.result ≡ next_even (epoch_of w) = ap next_even c.stored_epoch.ensures.value in
-    start-epoch sets now c.args.kv.now few (omega (arith, c.if-boot-gt-GREATEST.false, c.number-boot.ensures.value))
+    start-epoch now c.args.kv.now settled (omega (arith, c.if-boot-gt-GREATEST.false, c.number-boot.ensures.value))
     (above (next_even (epoch_of w)) (2 ^ 62) (λ le. c.in_default.ensures.valid.1 (omega (arith, le, e))))
 
 pub returns-in_default-next_pn-clause-reaction : goal.returns-in_default-next_pn-clause-reaction
 unfolding view
 returns-in_default-next_pn-clause-reaction c =
-    λ sets now few.
+    λ now settled.
     let m = c.args.kv.now in
     let w = view m in
     let e : next_even c.stored_epoch.result ≡ next_even (epoch_of w) = ap next_even c.stored_epoch.ensures.value in
@@ -35,13 +35,13 @@ returns-in_default-next_pn-clause-reaction c =
     let promise : c.pn_of-promise.result ≡ number_in (cell m area.Paxos key.AcceptedPn) = c.pn_of-promise.ensures ∙ c.number-2.ensures.value in
     let wanted = next_number (number_in (cell m area.Paxos key.LastPn)) (number_in (cell m area.Paxos key.AcceptedPn)) 0 in
     let pn : next_number c.pn_of-last.result c.pn_of-promise.result c.args.rank ≡ wanted = λ i. next_number (last i) (promise i) (c.requires i) in
-    start-pn sets now m few (omega (arith, c.if-boot-gt-GREATEST.false, c.number-boot.ensures.value)) (omega (arith, e, c.in-Some.ensures.valid.0 refl))
+    start-pn now m settled (omega (arith, c.if-boot-gt-GREATEST.false, c.number-boot.ensures.value)) (omega (arith, e, c.in-Some.ensures.valid.0 refl))
     (above wanted (2 ^ 62) (λ le. c.in_default-next_pn.ensures.fits.1 (omega (arith, le, pn))))
 
 pub returns-clause-reaction : goal.returns-clause-reaction
 unfolding view
 returns-clause-reaction c =
-    λ sets now few.
+    λ now settled.
     let m = c.args.kv.now in
     let w = view m in
     let boot : c.number-boot.result + 1 ≡ suc w.boot = omega (arith, c.number-boot.ensures.value) in
@@ -53,4 +53,4 @@ returns-clause-reaction c =
     let e_fits : next_even (epoch_of w) ≤ 2 ^ 62 = omega (arith, c.in-Some.ensures.valid.0 refl, e, c.in-Some.ensures.value) in
     let pn_fits : wanted ≤ 2 ^ 62 = omega (arith, c.in-Some-next_pn.ensures.fits.0 refl, pn, c.in-Some-next_pn.ensures.value) in
     let tx = c.in_ok-tx.ensures ∙ (λ i. start_tx (boot i) ((c.get.ensures.value ∙ e) i) ((c.get-2.ensures.value ∙ pn) i)) in
-    start-done sets now m few _ (omega (arith, c.if-boot-gt-GREATEST.false, boot)) e_fits pn_fits tx refl
+    start-done now m settled _ (omega (arith, c.if-boot-gt-GREATEST.false, boot)) e_fits pn_fits tx refl

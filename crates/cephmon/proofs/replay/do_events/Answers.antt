@@ -12,7 +12,7 @@ use Rattle.cephmon.proofs.replay.do_events.Goals as goal
 
 pub loop-event-init : goal.loop-event-init
 loop-event-init g c = record {
-  so_far = begins c.new-world.result (g.K.Sink.held c.args.sink.now) c.args.events.now c.new-world.ensures c.requires.fits c.requires.sets;
+  so_far = begins c.new-world.result (g.K.Sink.held c.args.sink.now) c.args.events.now c.new-world.ensures c.requires.fits;
   number = refl;
   later = omega arith;
 }

@@ -5,14 +5,11 @@ use Rattle.mon_link.specs.Whole.{AppendsFront}
 use Rattle.quorum_model.specs.Monitors.{alone}
 use Rattle.quorum_model.specs.World.{first_world}
 use Rattle.schedule_text.specs.declared.event.Event.{Event}
-use Rattle.cephmon.proofs.Building.{first_line, few_sets_of, header_is}
+use Rattle.cephmon.proofs.Building.{first_line, header_is}
 use Rattle.cephmon.specs.Replay.{Writes}
 use Rattle.cephmon.specs.Trace.{trace_from, trace}
 use Rattle.cephmon.proofs.Writing.{front_first, writes_behind, writes_fault}
 use Rattle.cephmon.proofs.replay.replay.Goals as goal
-
-pub do_events-requires-clause-sets : goal.do_events-requires-clause-sets
-do_events-requires-clause-sets g c = rw c.as_slice-2.ensures (few_sets_of c.args.schedule.now c.requires.built)
 
 pub returns-in_err-write_all-clause-writes : goal.returns-in_err-write_all-clause-writes
 returns-in_err-write_all-clause-writes g c =

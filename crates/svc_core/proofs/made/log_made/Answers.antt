@@ -8,18 +8,28 @@ use Rattle.mon_msg.specs.declared.request.Service.TheVariants as service
 use Rattle.svc_core.proofs.Drafting.{log_refused, log_entry}
 use Rattle.svc_core.proofs.Kindly.{read_kind}
 use Rattle.svc_core.proofs.MapSizes.{trimmed_short}
+use Rattle.svc_core.proofs.DraftSizes.{log_inc_short}
 use Rattle.svc_core.proofs.made.log_made.Goals as goal
 
 pub returns-in_err-inc : goal.returns-in_err-inc
 returns-in_err-inc c =
     let p = err_from_is_err_and c.from_residual.result c.from_residual.ensures.1 in
-    rw (p.1, p.2) (log_refused (read_map (view c.args.kv.now) service.Log) c.args.due c.args.asked c.args.text.now c.in_err-inc.field-0.0 (read_kind (view c.args.kv.now) service.Log) c.in_err-inc.ensures.made)
+    rw (p.1, p.2) (record { made = log_refused (read_map (view c.args.kv.now) service.Log) c.args.due c.args.asked c.args.text.now c.in_err-inc.field-0.0 (read_kind (view c.args.kv.now) service.Log) c.in_err-inc.ensures.made; short = tt })
 
 pub returns-then-not-due : goal.returns-then-not-due
 returns-then-not-due c =
     rw (c.if-not-due.true, c.new-incremental.ensures, c.in_ok-encode.ensures.text, c.new-then-not-due.ensures, c.new.ensures.items)
-    (log_entry (read_map (view c.args.kv.now) service.Log) c.args.asked c.args.text.now c.in_ok-inc.inc (read_kind (view c.args.kv.now) service.Log) c.in_ok-inc.ensures.made)
+    (record {
+      made = log_entry (read_map (view c.args.kv.now) service.Log) c.args.asked c.args.text.now c.in_ok-inc.inc (read_kind (view c.args.kv.now) service.Log) c.in_ok-inc.ensures.made;
+      short = record { incremental = log_inc_short c.args.asked c.args.text.now c.in_ok-inc.inc c.in_ok-inc.ensures.made; text = omega arith };
+    })
 
 pub encode-requires-2 : goal.encode-requires-2
 encode-requires-2 c =
     rw c.in_ok-apply.ensures.ok (is_short (with_inc c.in-Log.map c.in_ok-inc.inc) (omega (arith, trimmed_short (c.in-Log.map ++ c.in_ok-inc.inc ∷ []))))
+
+pub returns-clause-short : goal.returns-clause-short
+returns-clause-short c =
+    let short = log_inc_short c.args.asked c.args.text.now c.in_ok-inc.inc c.in_ok-inc.ensures.made in
+    let whole = trimmed_short (c.in-Log.map ++ c.in_ok-inc.inc ∷ []) in
+    rw (c.incremental.view_is, c.new-incremental.ensures, c.in_ok-encode.ensures.text, c.new-2.ensures, c.in_ok-encode-2.ensures.text, c.in_ok-apply.ensures.ok) (record { incremental = short; text = omega arith })
