@@ -1,5 +1,5 @@
 -- What is read of a first line is spelled so, and what is spelled so is read.
-use Rattle.std.proofs.Common.{◌≡◌, ℕ, zero, suc, ◌+◌, ◌^◌, ◌<◌, ◌≤◌, Bool, true, false, ◌&&◌, cond, not, eqb, leb, List, [], ◌∷◌, ◌++◌, length, Option, Some, None, Result, Ok, Err, IsTrue, codes, refl, sym, ap, subst, ◌∙◌, arith, inl, inr, lit<, ◌⊎◌, append_assoc}
+use Rattle.std.proofs.Common.{◌≡◌, ℕ, zero, suc, ◌+◌, ◌^◌, ◌<◌, ◌≤◌, Bool, cond, not, eqb, List, ◌∷◌, ◌++◌, Option, Some, None, Result, Ok, Err, IsTrue, codes, refl, sym, ap, subst, ◌∙◌, arith, inl, inr, lit<}
 use Rattle.std.specs.Prelude.{is_some}
 use Rattle.std.specs.Fmt.{decimal}
 use Rattle.std.specs.List.{list_all}
@@ -8,18 +8,17 @@ use Rattle.std.proofs.lemmas.Fmt.{digits_decimal}
 use Rattle.election_rules.specs.declared.rule.Rule.{Rule}
 use Rattle.election_rules.specs.declared.rule.Rule.TheVariants.{Classic, Disallow, Connectivity}
 use Rattle.mon_bytes.specs.Texts.{graphic}
-use Rattle.mon_bytes.proofs.Ascii.{both}
 use Rattle.mon_types.specs.Ranks.{has}
 use Rattle.schedule_text.specs.declared.refusal.ScheduleKind.{ScheduleKind}
 use Rattle.schedule_text.specs.declared.refusal.ScheduleKind.TheVariants as kind
 use Rattle.schedule_text.specs.Words.{printable}
-use Rattle.schedule_text.specs.Fields.{◌>>=◌, cut, digit, next, ended, field_at, within, number_of}
-use Rattle.schedule_text.specs.Ranks.{behind, ranks_from, ranks_text, below, set_of}
+use Rattle.schedule_text.specs.Fields.{◌>>=◌, cut, digit, next, ended, field_at, within}
+use Rattle.schedule_text.specs.Ranks.{behind, ranks_from, ranks_text, set_of}
 use Rattle.schedule_text.specs.Spelling.{spaced, rule_text, header, RuleFits}
 use Rattle.schedule_text.specs.Schedule.{disallow_of, connectivity_of, rule_of, monitors_at, header_at}
-use Rattle.schedule_text.proofs.Steps.{bind_ok, ok_is, chosen_ok}
-use Rattle.schedule_text.proofs.Numerals.{own, within_most}
-use Rattle.schedule_text.proofs.FieldLaws.{list_all-weaker, list_all-append, digit_graphic, joined, cut_joined, cut_again, Reads, Reads-then, Reads-last, next_reads, IsWord, IsWord-printable, next_again, IsForm, number_form, chosen_word, last_word, field_step, field_again, ended_takes}
+use Rattle.schedule_text.proofs.Steps.{bind_ok, ok_is}
+use Rattle.schedule_text.proofs.Numerals.{own}
+use Rattle.schedule_text.proofs.FieldLaws.{list_all-weaker, list_all-append, digit_graphic, cut_joined, cut_again, Reads-then, Reads-last, next_reads, IsWord, IsWord-printable, next_again, number_form, chosen_word, last_word, field_step, field_again, ended_takes}
 use Rattle.schedule_text.proofs.RankLaws.{cases_true, joined-behind, set_takes, set_again}
 
 -- ---- read, and then spelled

@@ -1,5 +1,5 @@
 -- What is read from a line is spelled so, and what is spelled so is read.
-use Rattle.std.proofs.Common.{◌≡◌, ℕ, ◌-◌, ◌^◌, ◌<◌, Bool, true, false, ◌&&◌, cond, leb, ltb, List, [], ◌∷◌, ◌++◌, length, Option, Some, None, Result, Ok, Err, IsTrue, codes, refl, sym, ap, subst, ◌∙◌, inl, inr, lit<, ◌⊎◌, arith}
+use Rattle.std.proofs.Common.{◌≡◌, ℕ, ◌-◌, ◌^◌, ◌<◌, Bool, false, leb, ltb, List, ◌∷◌, length, Option, Some, Result, Ok, IsTrue, codes, refl, sym, ap, subst, ◌∙◌, inl, inr, lit<, arith}
 use Rattle.std.specs.Fmt.{decimal}
 use Rattle.std.specs.List.{list_all}
 use Rattle.std.specs.Str.{bytes_eq}
@@ -15,9 +15,10 @@ use Rattle.schedule_text.specs.declared.event.Event.TheVariants as event
 use Rattle.schedule_text.specs.declared.refusal.ScheduleKind.{ScheduleKind}
 use Rattle.schedule_text.specs.declared.refusal.ScheduleKind.TheVariants as kind
 use Rattle.schedule_text.specs.Words.{printable, service_text, side_text, timer_text}
-use Rattle.schedule_text.specs.Fields.{◌>>=◌, next, within, text_at}
+use Rattle.schedule_text.specs.Fields.{next, within, text_at}
 use Rattle.schedule_text.specs.Spelling.{spaced, request_text, plain_text, upset_text, event_text, request_fits, plain_fits, upset_fits, event_fits}
-use Rattle.schedule_text.specs.Lines.{set_at, remove_at, log_at, show_at, since_at, request_by, request_at, start_at, deliver_at, timer_at, client_at, plain_by, plain_at, upset_at, event_by, fields_event, event_at}
+use Rattle.schedule_text.specs.Requests.{set_at, remove_at, log_at, show_at, since_at, request_at}
+use Rattle.schedule_text.specs.Lines.{start_at, deliver_at, timer_at, client_at, plain_by, plain_at, upset_at, event_by, fields_event, event_at}
 use Rattle.schedule_text.proofs.Steps.{bind_ok, ok_is, chosen_ok}
 use Rattle.schedule_text.proofs.FieldLaws.{list_all-append, joined, Reads, Reads-then, Reads-last, next_reads, IsWord, IsWord-printable, next_again, IsForm, number_form, upto_form, rank_form, name_form, service_form, side_form, timer_form, chosen_word, last_word, field_step, field_last, field_again, ended_takes, text_takes, text_again}
 

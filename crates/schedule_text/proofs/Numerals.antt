@@ -1,5 +1,5 @@
 -- Numbers in decimal: what a numeral's bytes are, and that `decimal` writes it.
-use Rattle.std.proofs.Common.{◌≡◌, ◌≢◌, ℕ, ◌^◌, ◌<◌, ◌≤◌, true, false, cond, leb, ltb, not, eqb, List, [], ◌∷◌, length, get_or, Result, Ok, Err, IsTrue, refl, sym, ap, subst, ◌∙◌, arith, rules, inl, inr}
+use Rattle.std.proofs.Common.{◌≡◌, ◌≢◌, ℕ, ◌^◌, ◌<◌, ◌≤◌, true, false, cond, ltb, not, eqb, List, [], ◌∷◌, length, get_or, Result, Ok, Err, IsTrue, refl, sym, ap, subst, ◌∙◌, arith, rules, inl, inr}
 use Rattle.std.specs.Fmt.{decimal}
 use Rattle.std.specs.List.{list_all}
 use Rattle.std.specs.Str.Parse.{digits_value, ParsesUnsigned}

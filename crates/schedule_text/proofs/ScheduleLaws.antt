@@ -1,9 +1,8 @@
 -- What is read of a schedule is spelled so, and what is spelled so is read.
-use Rattle.std.proofs.Common.{◌≡◌, ℕ, ◌+◌, ◌≤◌, ◌<◌, ◌^◌, Bool, true, false, ◌&&◌, cond, not, eqb, leb, ltb, List, [], ◌∷◌, ◌++◌, length, Result, Ok, Err, IfOk, IsTrue, refl, sym, ap, subst, ◌∙◌, append_assoc, arith, inl, inr}
+use Rattle.std.proofs.Common.{◌≡◌, ℕ, ◌+◌, ◌≤◌, ◌<◌, ◌^◌, Bool, false, not, eqb, leb, ltb, List, [], ◌∷◌, ◌++◌, length, Result, Ok, Err, IfOk, IsTrue, refl, sym, ap, subst, ◌∙◌, append_assoc, arith, inl, inr}
 use Rattle.std.specs.List.{flat_map, list_all}
 use Rattle.std.proofs.lemmas.Bool.{cases_eq, leb-false, ltb-false, le-ltb}
 use Rattle.std.proofs.lemmas.Bool.Decides.{nat_tests}
-use Rattle.election_rules.specs.declared.rule.Rule.{Rule}
 use Rattle.mon_bytes.proofs.Ascii.{both}
 use Rattle.schedule_text.specs.declared.event.Event.{Event}
 use Rattle.schedule_text.specs.declared.refusal.ScheduleKind.{ScheduleKind}
@@ -19,7 +18,7 @@ use Rattle.schedule_text.specs.Schedule.{onto, lines_of, on_line, on_first_line,
 use Rattle.schedule_text.proofs.Steps.{answered, bind_ok, ok_is, guard_ok}
 use Rattle.schedule_text.proofs.Numerals.{within_most}
 use Rattle.schedule_text.proofs.FieldLaws.{list_all-weaker}
-use Rattle.schedule_text.proofs.HeaderLaws.{IsHeader, header_takes, header_again, printable_header}
+use Rattle.schedule_text.proofs.HeaderLaws.{header_takes, header_again, printable_header}
 use Rattle.schedule_text.proofs.LineLaws.{event_takes, event_again, printable_event}
 use Rattle.schedule_text.proofs.ScheduleLoop.{made}
 

@@ -2,8 +2,6 @@ pub mod Words
 pub mod Fields
 pub mod Ranks
 pub mod Spelling
+pub mod Requests
 pub mod Lines
 pub mod Schedule
-pub mod Kinds
-pub mod Sent
-pub mod Trace

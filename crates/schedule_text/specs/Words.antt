@@ -1,5 +1,5 @@
--- The words of schedules and traces.
-use Rattle.std.specs.Prelude.{ℕ, Bool, true, false, ◌&&◌, List, [], ◌∷◌, codes, nat_le}
+-- The words of schedules.
+use Rattle.std.specs.Prelude.{ℕ, Bool, ◌&&◌, List, [], ◌∷◌, codes, nat_le}
 use Rattle.mon_types.specs.declared.names.Side.{Side}
 use Rattle.mon_types.specs.declared.names.Side.TheVariants.{A, B}
 use Rattle.mon_msg.specs.declared.phase.Timer.{Timer}
@@ -10,10 +10,6 @@ use Rattle.mon_msg.specs.declared.request.Service.TheVariants.{Kv, Log}
 -- a space or a graphic byte
 abbrev pub printable : ℕ → Bool
 printable b = nat_le 32 b && nat_le b 126
-
-abbrev pub flag_text : Bool → List ℕ
-flag_text false = codes "0"
-flag_text true = codes "1"
 
 abbrev pub service_text : Service → List ℕ
 service_text Kv = codes "kv"

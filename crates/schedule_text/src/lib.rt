@@ -1,4 +1,4 @@
-//! Schedules of events and traces of what they did, as text.
+//! Schedules of events, as text.
 #![tactic(auto)]
 
 mod display;
@@ -11,23 +11,18 @@ mod printer;
 mod ranks;
 mod reader;
 mod refusal;
+mod request;
 mod schedule;
-mod sent;
-mod shown;
-mod step;
-mod trace;
 mod words;
 
 pub use event::{Event, Events, Plain};
 pub use printer::{header_line, print};
+pub use ranks::{has_ranks, put_ranks};
 pub use reader::parse;
 pub use refusal::{ScheduleKind, ScheduleRefused};
 pub use schedule::Schedule;
-pub use step::{Numbered, Outcome, Replied, Replies, StateLine, StepLine};
-pub use trace::{end_line, trace_line};
+pub use words::service_word;
 
-#[cfg(test)]
-mod message_tests;
 #[cfg(test)]
 mod refusal_tests;
 #[cfg(test)]

@@ -3,85 +3,15 @@
 ghost use Rattle.std.specs.Prelude.{◌≡◌, ◌≤◌};
 ghost use Rattle.schedule_text.specs.declared.event.Event.TheVariants as event;
 ghost use Rattle.schedule_text.specs.Fields.{Is};
-ghost use Rattle.schedule_text.specs.Lines.{start_at, deliver_at, timer_at, set_at, remove_at, log_at, show_at, since_at, request_by, request_at, client_at, plain_by, plain_at, upset_at, event_by, fields_event, event_at, Gives};
+ghost use Rattle.schedule_text.specs.Lines.{start_at, deliver_at, timer_at, client_at, plain_by, plain_at, upset_at, event_by, fields_event, event_at, Gives};
 
 use crate::event::{Event, Plain};
 use crate::fields::{Fields, all_printable};
 use crate::refusal::{LineRefused, ScheduleKind};
-use mon_msg::{Request, Session};
+use crate::request::request_at;
+use mon_msg::Session;
 use mon_types::GREATEST;
 use std::alloc::Global;
-
-#[tactic(auto, unfolding(crate::specs::Lines::set_at))]
-fn set_at(alloc: Global, fields: &mut Fields<'_>) -> Result<Request, LineRefused>
-    ensures { Gives (λ y. y) result (set_at fields.old) }
-{
-    let key = fields.name(alloc)?;
-    let value = fields.text(alloc)?;
-    Ok(Request::Set { key, value })
-}
-
-#[tactic(auto, unfolding(crate::specs::Lines::remove_at))]
-fn remove_at(alloc: Global, fields: &mut Fields<'_>) -> Result<Request, LineRefused>
-    ensures { Gives (λ y. y) result (remove_at fields.old) }
-{
-    let key = fields.name(alloc)?;
-    Ok(fields.end(Request::Remove { key })?)
-}
-
-#[tactic(auto, unfolding(crate::specs::Lines::log_at))]
-fn log_at(alloc: Global, fields: &mut Fields<'_>) -> Result<Request, LineRefused>
-    ensures { Gives (λ y. y) result (log_at fields.old) }
-{
-    let text = fields.text(alloc)?;
-    Ok(Request::Log { text })
-}
-
-#[tactic(auto, unfolding(crate::specs::Lines::show_at))]
-fn show_at(fields: &mut Fields<'_>) -> Result<Request, ScheduleKind>
-    ensures { Is (λ y. y) result (show_at fields.old) }
-{
-    let service = fields.service()?;
-    fields.end(Request::Show { service })
-}
-
-#[tactic(auto, unfolding(crate::specs::Lines::since_at))]
-fn since_at(fields: &mut Fields<'_>) -> Result<Request, ScheduleKind>
-    ensures { Is (λ y. y) result (since_at fields.old) }
-{
-    let service = fields.service()?;
-    let version = fields.version()?;
-    fields.end(Request::Since { service, version })
-}
-
-fn request_by(alloc: Global, word: &[u8], fields: &mut Fields<'_>) -> Result<Request, LineRefused>
-    ensures { Gives (λ y. y) result (request_by word.now fields.old) }
-{
-    if word == b"set".as_slice() {
-        return set_at(alloc, fields);
-    }
-    if word == b"remove".as_slice() {
-        return remove_at(alloc, fields);
-    }
-    if word == b"log".as_slice() {
-        return log_at(alloc, fields);
-    }
-    if word == b"show".as_slice() {
-        return Ok(show_at(fields)?);
-    }
-    if word == b"since".as_slice() {
-        return Ok(since_at(fields)?);
-    }
-    Err(LineRefused::Kind(ScheduleKind::Word))
-}
-
-#[tactic(auto, unfolding(crate::specs::Lines::request_at))]
-fn request_at(alloc: Global, fields: &mut Fields<'_>) -> Result<Request, LineRefused>
-    ensures { Gives (λ y. y) result (request_at fields.old) }
-{
-    let word = fields.next()?;
-    request_by(alloc, word, fields)
-}
 
 #[tactic(auto, unfolding(crate::specs::Lines::start_at))]
 fn start_at(monitors: u8, fields: &mut Fields<'_>) -> Result<Plain, ScheduleKind>

@@ -2,12 +2,11 @@
 
 use super::tests::refused;
 use super::*;
-use mon_msg::Items;
 use std::alloc::{AllocError, Global};
 use std::test::Fail;
 
 /// Lines of three monitors.
-const TAKEN: [&str; 34] = [
+const TAKEN: [&str; 49] = [
     "client 0 1 2 3 set k ",
     "client 0 1 2 3 set k v ",
     "client 0 1 2 3 set k v 0",
@@ -42,10 +41,25 @@ const TAKEN: [&str; 34] = [
     "crash a 1 2 client 0 1 2 3 show log",
     "fail b 1 0 client 0 1 2 3 since kv 4",
     "crash b 1 0 timer 0 ping 1",
+    "start 0 4611686018427387904",
+    "deliver 1 0",
+    "timer 0 leaseack 5",
+    "client 0 1 1 1 set a ",
+    "client 0 1 1 1 remove a",
+    "client 0 1 1 1 log ",
+    "client 0 1 1 1 log a  b ",
+    "client 0 1 1 1 show kv",
+    "client 0 1 1 1 show log",
+    "client 0 1 1 1 since kv 0",
+    "client 0 1 4294967295 1 show kv",
+    "crash a 1 0 start 0 0",
+    "crash b 1000 3 deliver 1 0",
+    "fail b 2 1 timer 2 sync 9",
+    "fail a 1 0 client 0 1 1 1 set k ",
 ];
 
 /// A field is missing, empty, unknown or one too many, or a byte isn't printable.
-const WORDS: [&str; 121] = [
+const WORDS: [&str; 151] = [
     "start  1",
     "start 0 ",
     "start 0",
@@ -167,10 +181,40 @@ const WORDS: [&str; 121] = [
     "fail b 2 3 timer 0 pong 1",
     "fail b 2 3 client 0 1 2 3 set  v",
     "crash a 1 0 client 0 1 2 3 set k",
+    "start 0  0",
+    "start 0 0\r",
+    "start 0 0 0",
+    "start",
+    "",
+    " start 0 0",
+    "Start 0 0",
+    "deliver 1",
+    "deliver 1 0 0",
+    "timer 0 leaseAck 5",
+    "timer 0 5 ping",
+    "timer 0 probe",
+    "client 0 1 1 1 set a",
+    "client 0 1 1 1 set  v",
+    "client 0 1 1 1 set k\tk v",
+    "client 0 1 1 1 set k v\tv",
+    "client 9 1 1 1 set k v\tv",
+    "client 0 1 1 1 remove",
+    "client 0 1 1 1 remove a b",
+    "client 0 1 1 1 log",
+    "client 0 1 1 1 show kv ",
+    "client 0 1 1 1 show map",
+    "client 0 1 1 1 since kv",
+    "client 0 1 1 1 since log 1 1",
+    "client 0 1 1 1 ask kv",
+    "client 0 1 1 1",
+    "crash c 1 0 start 0 0",
+    "crash a 1 0",
+    "crash a 1 0 crash a 1 0 start 0 0",
+    "fail a 1 0 fail a 1 0 start 0 0",
 ];
 
 /// A field is no number, or out of its bounds.
-const NUMBERS: [&str; 48] = [
+const NUMBERS: [&str; 62] = [
     "start 03 1",
     "start x 1",
     "start 0 x",
@@ -219,10 +263,24 @@ const NUMBERS: [&str; 48] = [
     "fail b 2 3 deliver x 2",
     "fail b 2 3 deliver 0 2",
     "client 0 1 2 -1 show kv",
+    "start 03 0",
+    "start x 0",
+    "start 0 4611686018427387905",
+    "deliver 0 0",
+    "deliver 18446744073709551616 0",
+    "deliver x 5",
+    "timer 0 step -1",
+    "client 0 1 1 1 since kv 4611686018427387905",
+    "client 0 1 4294967296 1 show kv",
+    "client 0 1 1 4611686018427387905 show kv",
+    "crash a 0 0 start 0 0",
+    "crash a 1001 0 start 0 0",
+    "crash a 1 4 start 0 0",
+    "fail a 01 0 start 0 0",
 ];
 
 /// A rank isn't below three.
-const RANKS: [&str; 7] = [
+const RANKS: [&str; 11] = [
     "start 3 1",
     "timer 3 probe 1",
     "client 3 1 2 3 show kv",
@@ -230,10 +288,14 @@ const RANKS: [&str; 7] = [
     "crash a 1 0 client 3 1 2 3 show kv",
     "fail b 2 3 timer 3 ping 1",
     "timer 99999999999999999999999 ping 1",
+    "start 3 0",
+    "start 99999999999999999999999 0",
+    "timer 3 ping 5",
+    "crash a 1 0 start 3 0",
 ];
 
 /// First lines.
-const FIRST_LINES: [&str; 9] = [
+const FIRST_LINES: [&str; 14] = [
     "monitors 3 classic",
     "monitors 1 classic",
     "monitors 15 classic",
@@ -243,10 +305,15 @@ const FIRST_LINES: [&str; 9] = [
     "monitors 3 connectivity=2",
     "monitors 15 connectivity=0,7,14",
     "monitors 11 disallow=10",
+    "monitors 15 connectivity",
+    "monitors 3 disallow=0,2",
+    "monitors 15 connectivity=9,10,14",
+    "monitors 3 connectivity=1",
+    "monitors 13 disallow=0,2,12",
 ];
 
 /// Lines that are no first line.
-const HEADERS: [&str; 49] = [
+const HEADERS: [&str; 52] = [
     "monitors",
     "monitors ",
     "monitors 3",
@@ -296,19 +363,22 @@ const HEADERS: [&str; 49] = [
     "\x7fmonitors 3 classic",
     "",
     "start 0 0",
+    "monitors 3 disallow=2,0",
+    "monitors 3 disallow=0,0",
+    "monitors 3 disallow=00",
 ];
 
-/// A schedule of three monitors with such a line.
-fn with_line(alloc: Global, line: &str) -> Result<String, AllocError> {
-    format!(in alloc; "monitors 3 classic\n{line}\n")
+/// What is wrong with such a line of three monitors, in the second line of a schedule.
+fn fault_of(alloc: Global, line: &str) -> Result<Option<(u32, ScheduleKind)>, AllocError> {
+    let text = format!(in alloc; "monitors 3 classic\n{line}\n")?;
+    Ok(refused(alloc, text.as_bytes()))
 }
 
 #[test]
 fn lines_of_every_form_are_taken(rt: HostRuntime) -> Result<(), Fail> {
     let alloc = rt.alloc();
     for line in TAKEN {
-        let text = with_line(alloc, line)?;
-        assert_eq!(rt; refused(alloc, text.as_bytes()), None, "{line}");
+        assert_eq!(rt; fault_of(alloc, line)?, None, "{line}");
     }
     Ok(())
 }
@@ -322,9 +392,23 @@ fn fields_at_fault_are_refused_by_kind(rt: HostRuntime) -> Result<(), Fail> {
         (ScheduleKind::Rank, RANKS.as_slice()),
     ] {
         for line in lines {
-            let text = with_line(alloc, line)?;
-            assert_eq!(rt; refused(alloc, text.as_bytes()), Some((2, kind)), "{line}");
+            assert_eq!(rt; fault_of(alloc, line)?, Some((2, kind)), "{line}");
         }
+    }
+    Ok(())
+}
+
+/// What is wrong with a schedule of this first line alone.
+fn header_fault(alloc: Global, line: &str) -> Result<Option<(u32, ScheduleKind)>, AllocError> {
+    let text = format!(in alloc; "{line}\n")?;
+    Ok(refused(alloc, text.as_bytes()))
+}
+
+#[test]
+fn first_lines_of_every_form_are_taken(rt: HostRuntime) -> Result<(), Fail> {
+    let alloc = rt.alloc();
+    for line in FIRST_LINES {
+        assert_eq!(rt; header_fault(alloc, line)?, None, "{line}");
     }
     Ok(())
 }
@@ -332,101 +416,45 @@ fn fields_at_fault_are_refused_by_kind(rt: HostRuntime) -> Result<(), Fail> {
 #[test]
 fn first_lines_at_fault_are_refused(rt: HostRuntime) -> Result<(), Fail> {
     let alloc = rt.alloc();
-    for (fault, lines) in [
-        (None, FIRST_LINES.as_slice()),
-        (Some((1, ScheduleKind::Header)), HEADERS.as_slice()),
-    ] {
-        for line in lines {
-            let text = format!(in alloc; "{line}\n")?;
-            assert_eq!(rt; refused(alloc, text.as_bytes()), fault, "{line}");
-            let cut = Some((
-                1,
-                if line.is_empty() {
-                    ScheduleKind::Header
-                } else {
-                    ScheduleKind::End
-                },
-            ));
-            assert_eq!(rt; refused(alloc, line.as_bytes()), cut, "{line}");
-        }
-    }
-    Ok(())
-}
-
-#[test]
-fn the_first_line_at_fault_is_named(rt: HostRuntime) -> Result<(), Fail> {
-    let alloc = rt.alloc();
-    for (text, fault) in [
-        (
-            "monitors 1 classic\nstart 0 0\nclient 0 1 1 1 set a x\ndeliver 1 2\ntimer 0 ping 3\nstart 0 4\ndeliver x 5\nstart 0 6\n",
-            (7, ScheduleKind::Number),
-        ),
-        (
-            "monitors 3 disallow=3\nstart 0 0",
-            (1, ScheduleKind::Header),
-        ),
-        (
-            "monitors 3 classic\nstart 0 0\nstart 3 0\nstart x 0\n",
-            (3, ScheduleKind::Rank),
-        ),
-        (
-            "monitors 3 classic\nstart 9 0\nstart 0 0",
-            (2, ScheduleKind::Rank),
-        ),
-        ("monitors 3 classic\n\nstart 0 0\n", (2, ScheduleKind::Word)),
-        ("monitors 3 classic\nstart 0 0\n\n", (3, ScheduleKind::Word)),
-        ("monitors 3 classic\nstart \x7f 0", (2, ScheduleKind::End)),
-        ("monitors 1 classic\nstart 1 0\n", (2, ScheduleKind::Rank)),
-        (
-            "monitors 15 classic\nstart 14 0\nstart 15 0\n",
-            (3, ScheduleKind::Rank),
-        ),
-    ] {
-        assert_eq!(rt; refused(alloc, text.as_bytes()), Some(fault), "{text}");
-    }
-    Ok(())
-}
-
-#[test]
-fn a_first_line_is_printed_as_it_was(rt: HostRuntime) -> Result<(), Fail> {
-    let alloc = rt.alloc();
-    for line in FIRST_LINES {
-        let text = format!(in alloc; "{line}\n")?;
-        let schedule = parse(alloc, text.as_bytes())?;
+    for line in HEADERS {
         assert_eq!(rt;
-            header_line(alloc, &schedule)?.as_slice(),
-            text.as_bytes(),
+            header_fault(alloc, line)?,
+            Some((1, ScheduleKind::Header)),
             "{line}"
         );
     }
     Ok(())
 }
 
-/// What a step that stopped so tells.
-fn stopped(alloc: Global, kept: bool) -> StepLine {
-    StepLine {
-        outcome: Outcome::Crashed { kept },
-        ops: 0,
-        state: None,
-        sent: Items::new(alloc),
-        replies: Replies::new(alloc),
+#[test]
+fn a_first_line_without_its_end_is_refused_so(rt: HostRuntime) -> Result<(), Fail> {
+    let alloc = rt.alloc();
+    assert_eq!(rt; refused(alloc, b""), Some((1, ScheduleKind::Header)));
+    for lines in [FIRST_LINES.as_slice(), HEADERS.as_slice()] {
+        for line in lines {
+            let fault = refused(alloc, line.as_bytes());
+            assert!(rt;
+                line.is_empty() || fault == Some((1, ScheduleKind::End)),
+                "{line}"
+            );
+        }
     }
+    Ok(())
+}
+
+/// Whether a schedule of this first line alone prints it again.
+fn is_printed(alloc: Global, line: &str) -> Result<bool, Fail> {
+    let text = format!(in alloc; "{line}\n")?;
+    let schedule = parse(alloc, text.as_bytes())?;
+    let printed = header_line(alloc, &schedule)?;
+    Ok(printed.as_slice() == text.as_bytes())
 }
 
 #[test]
-fn a_crash_at_a_start_is_traced(rt: HostRuntime) -> Result<(), Fail> {
+fn first_lines_are_printed_as_they_were(rt: HostRuntime) -> Result<(), Fail> {
     let alloc = rt.alloc();
-    let schedule = parse(
-        alloc,
-        b"monitors 1 classic\ncrash a 40 0 start 0 0\nstart 0 1\n",
-    )?;
-    let Some(crash) = schedule.events.as_slice().first() else {
-        return Err(Fail::from("an event"));
-    };
-    let lines = trace_line(alloc, 1, crash, &stopped(alloc, true))?;
-    assert_eq!(rt;
-        lines.as_slice(),
-        b"1 crash a 40 0 start 0 0\n  crashed kept\n".as_slice()
-    );
+    for line in FIRST_LINES {
+        assert!(rt; is_printed(alloc, line)?, "{line}");
+    }
     Ok(())
 }

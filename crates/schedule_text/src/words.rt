@@ -1,17 +1,12 @@
-//! The words of schedules and traces.
+//! The words of schedules.
 
 ghost use Rattle.std.specs.Prelude.{◌≡◌};
-ghost use Rattle.schedule_text.specs.Words.{flag_text, service_text, side_text, timer_text};
+ghost use Rattle.schedule_text.specs.Words.{service_text, side_text, timer_text};
 
 use mon_msg::{Service, Timer};
 use mon_types::Side;
 
-pub fn flag(value: bool) -> &'static str
-    ensures { result.now ≡ flag_text value }
-{
-    if value { "1" } else { "0" }
-}
-
+/// The word of a service.
 pub fn service_word(service: Service) -> &'static str
     ensures { result.now ≡ service_text service }
 {

@@ -1,4 +1,4 @@
-use Rattle.std.proofs.Common.{◌≡◌, ◌+◌, ◌-◌, length, take, drop, Some, refl, add-one, length-drop, arith}
+use Rattle.std.proofs.Common.{◌≡◌, ◌+◌, ◌-◌, length, take, drop, refl, add-one, length-drop, arith}
 use Rattle.std.proofs.lemmas.List.{take_all}
 use Rattle.schedule_text.proofs.Cuts.{cut_nowhere, cut_first}
 use Rattle.schedule_text.proofs.fields.cut_line.Goals as goal

@@ -1,4 +1,4 @@
-use Rattle.std.proofs.Common.{◌≡◌, ◌+◌, ◌-◌, true, false, length, decimal, sym, ap, subst, ◌∙◌, arith}
+use Rattle.std.proofs.Common.{◌≡◌, ◌+◌, ◌-◌, length, decimal, sym, ap, subst, ◌∙◌}
 use Rattle.mon_types.specs.Ranks.{has}
 use Rattle.schedule_text.proofs.RankLaws.{at_end, Counting, counting_begins, counting_taken, counting_left, counting_ends}
 use Rattle.schedule_text.proofs.length.ranks_len.Goals.{then-has, else-has}

@@ -1,4 +1,4 @@
-use Rattle.std.proofs.Common.{◌≡◌, ◌+◌, ◌-◌, ◌&&◌, true, false, ltb, sym, ap, subst, ◌∙◌}
+use Rattle.std.proofs.Common.{◌≡◌, ◌+◌, ◌-◌, ◌&&◌, ltb, sym, ap, subst, ◌∙◌}
 use Rattle.mon_types.specs.Ranks.{has, with_rank}
 use Rattle.schedule_text.proofs.RankLaws.{at_end, Keeping, keeping_begins, keeping_taken, keeping_left, keeping_ends}
 use Rattle.schedule_text.proofs.ranks.below.Goals.{then-is_below, else-is_below}

@@ -1,4 +1,4 @@
-use Rattle.std.proofs.Common.{◌≡◌, ◌+◌, ◌-◌, true, false, ◌∷◌, ◌++◌, decimal, string_bytes, sym, ap, subst, ◌∙◌}
+use Rattle.std.proofs.Common.{◌≡◌, ◌+◌, ◌-◌, false, ◌∷◌, ◌++◌, decimal, string_bytes, sym, ap, subst, ◌∙◌}
 use Rattle.mon_types.specs.Ranks.{has}
 use Rattle.schedule_text.proofs.RankLaws.{at_end, Putting, putting_begins, putting_taken, putting_left, putting_ends}
 use Rattle.schedule_text.specs.Ranks.{separator}

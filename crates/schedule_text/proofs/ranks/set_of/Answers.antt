@@ -1,7 +1,7 @@
-use Rattle.std.proofs.Common.{◌≡◌, ◌+◌, ◌-◌, ◌&&◌, true, false, ltb, None, Some, refl, sym, ap, subst, ◌∙◌}
+use Rattle.std.proofs.Common.{◌≡◌, ◌+◌, ◌-◌, ◌&&◌, ltb, sym, ap, subst, ◌∙◌}
 use Rattle.std.specs.Option.{option_copied}
 use Rattle.mon_types.specs.Ranks.{with_rank}
-use Rattle.schedule_text.specs.Ranks.{comes_next, behind_next}
+use Rattle.schedule_text.specs.Ranks.{comes_next}
 use Rattle.schedule_text.specs.Fields.{ended}
 use Rattle.schedule_text.proofs.RankLaws.{at_end, Reading, reading_begins, reading_taken, reading_left, reading_ends}
 use Rattle.schedule_text.proofs.ranks.set_of.Goals.{then-is_taken, else-is_taken}

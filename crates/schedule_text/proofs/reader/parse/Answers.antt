@@ -1,5 +1,3 @@
-use Rattle.std.proofs.Common.{Ok, sym, ap, ◌∙◌}
-use Rattle.schedule_text.specs.Schedule.{schedule_at, Gives}
 use Rattle.schedule_text.proofs.ScheduleLaws.{read_found, read_only}
 use Rattle.schedule_text.proofs.reader.parse.Goals as goal
 

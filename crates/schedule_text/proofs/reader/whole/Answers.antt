@@ -1,9 +1,6 @@
-use Rattle.std.proofs.Common.{◌≡◌, ◌≢◌, ℕ, length, Some, None, Ok, Err, arith, rules, sym, ap, ◌∙◌, eqb}
+use Rattle.std.proofs.Common.{length, sym, ap, ◌∙◌}
 use Rattle.std.specs.Option.{option_copied}
-use Rattle.std.proofs.lemmas.Bool.Decides.{nat_tests}
 use Rattle.std.proofs.lemmas.Result.{err_from_is_err_and}
-use Rattle.schedule_text.specs.Fields.{cut}
-use Rattle.schedule_text.specs.Schedule.{Gives}
 use Rattle.schedule_text.proofs.ScheduleLoop.{empty_whole, no_first_line, whole_first, first_fails, rest_fails, all_read, same_fails, is_none, is_some_length}
 use Rattle.schedule_text.proofs.reader.whole.Goals as goal
 

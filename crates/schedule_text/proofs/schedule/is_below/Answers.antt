@@ -1,4 +1,4 @@
-use Rattle.std.proofs.Common.{◌≡◌, sym, ap, subst, ◌∙◌}
+use Rattle.std.proofs.Common.{sym, ◌∙◌}
 use Rattle.schedule_text.proofs.RankLaws.{sets_decided}
 use Rattle.schedule_text.proofs.schedule.is_below.Goals as goal
 

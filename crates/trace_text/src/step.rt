@@ -30,7 +30,7 @@ impl Model for Replies {
     ghost use Rattle.std.specs.Prelude.{List};
     ghost use Rattle.std.specs.Coded.{codes};
     ghost use Rattle.map_kv.specs.contracts.map.KvMap as kv_map;
-    ghost use Rattle.schedule_text.specs.declared.step.Replied.{Replied};
+    ghost use Rattle.trace_text.specs.declared.step.Replied.{Replied};
 
     ghost Value = { List Replied };
 

@@ -1,8 +1,31 @@
--- The names of the kinds of messages.
-use Rattle.std.specs.Prelude.{ℕ, List, codes}
+-- The words of traces.
+use Rattle.std.specs.Prelude.{ℕ, Bool, true, false, List, codes}
 use Rattle.mon_msg.specs.declared.body.Body.{Body}
 use Rattle.mon_msg.specs.declared.body.Body.TheVariants as body
+use Rattle.mon_msg.specs.declared.phase.Phase.{Phase}
+use Rattle.mon_msg.specs.declared.phase.Phase.TheVariants.{Booting, Probing, Synchronizing, Electing, Collecting, Previous, Active, Updating, Peon}
 
+abbrev pub flag_text : Bool → List ℕ
+flag_text false = codes "0"
+flag_text true = codes "1"
+
+-- what became of a transaction
+abbrev pub fate_text : Bool → List ℕ
+fate_text false = codes "lost"
+fate_text true = codes "kept"
+
+abbrev pub phase_text : Phase → List ℕ
+phase_text Booting = codes "booting"
+phase_text Probing = codes "probing"
+phase_text Synchronizing = codes "synchronizing"
+phase_text Electing = codes "electing"
+phase_text Collecting = codes "collecting"
+phase_text Previous = codes "previous"
+phase_text Active = codes "active"
+phase_text Updating = codes "updating"
+phase_text Peon = codes "peon"
+
+-- the kind of a message
 abbrev pub kind_text : Body → List ℕ
 kind_text body.Probe = codes "PROBE"
 kind_text (body.ProbeReply quorum first last) = codes "PROBE_REPLY"

@@ -2,50 +2,17 @@
 
 ghost use Rattle.std.specs.Prelude.{◌≡◌, ◌<◌, ◌^◌, ◌++◌, codes, decimal, string_bytes, OnOk};
 ghost use Rattle.std.specs.List.{flat_map};
-ghost use Rattle.schedule_text.specs.Kinds.{kind_text};
-ghost use Rattle.schedule_text.specs.Sent.{quorum_text, last_text, kept_text, collect_text, pending_number, told_text, vote_text, versions_text, cookie_text, key_text, asked_text, chunk_text, agreeing_text, copying_text, fields_text, sent_line};
-ghost use Rattle.schedule_text.specs.Words.{flag_text};
+ghost use Rattle.trace_text.specs.Sent.{quorum_text, last_text, kept_text, collect_text, pending_number, told_text, vote_text, versions_text, cookie_text, key_text, asked_text, chunk_text, agreeing_text, copying_text, fields_text, sent_line};
+ghost use Rattle.trace_text.specs.Words.{flag_text};
 
-use crate::ranks::{has_ranks, put_ranks};
 use crate::step::Numbered;
-use crate::words::flag;
+use crate::words::{flag, kind_word};
 use mon_bytes::KeyPlace;
 use mon_msg::{Body, Cookie, Place, Told};
 use mon_types::{Pn, RankSet, Version};
+use schedule_text::{has_ranks, put_ranks};
 use std::alloc::AllocError;
 use std::fmt::Write;
-
-fn kind_word(body: &Body) -> &'static str
-    ensures { result.now ≡ kind_text body.now }
-{
-    match body {
-        Body::Probe => "PROBE",
-        Body::ProbeReply { .. } => "PROBE_REPLY",
-        Body::Propose { .. } => "PROPOSE",
-        Body::Ack => "ACK",
-        Body::Victory { .. } => "VICTORY",
-        Body::Collect { .. } => "COLLECT",
-        Body::Last { .. } => "LAST",
-        Body::Begin { .. } => "BEGIN",
-        Body::Accept { .. } => "ACCEPT",
-        Body::Commit { .. } => "COMMIT",
-        Body::Lease { .. } => "LEASE",
-        Body::LeaseAck { .. } => "LEASE_ACK",
-        Body::Forward { .. } => "FORWARD",
-        Body::Route { .. } => "ROUTE",
-        Body::GetCookieFull => "GET_COOKIE_FULL",
-        Body::GetCookieRecent { .. } => "GET_COOKIE_RECENT",
-        Body::Cookie { .. } => "COOKIE",
-        Body::GetChunk { .. } => "GET_CHUNK",
-        Body::Chunk { .. } => "CHUNK",
-        Body::LastChunk { .. } => "LAST_CHUNK",
-        Body::NoCookie { .. } => "NO_COOKIE",
-        Body::Ping { .. } => "PING",
-        Body::PingReply { .. } => "PING_REPLY",
-        Body::Request { .. } => "REQUEST",
-        Body::Reply { .. } => "REPLY",
-    }
-}
 
 fn put_quorum(out: &mut String, quorum: RankSet) -> Result<(), AllocError>
     ensures { OnOk result (string_bytes out.new ≡ string_bytes out.old ++ quorum_text quorum) }

@@ -4,7 +4,7 @@ ghost use Rattle.std.specs.Prelude.{◌≡◌, ◌++◌, string_bytes, OnOk};
 ghost use Rattle.std.specs.FinMap.{entries};
 ghost use Rattle.json.specs.Print.{quoted};
 ghost use Rattle.map_kv.specs.Kept.{pairs};
-ghost use Rattle.schedule_text.specs.Trace.{member_text, members_text, object_text, item_text, items_text, array_text, shown_text};
+ghost use Rattle.trace_text.specs.Shown.{member_text, members_text, object_text, item_text, items_text, array_text, shown_text};
 
 use map_kv::KvMap;
 use map_log::{LogInc, LogMap};

@@ -1,40 +1,17 @@
 ghost use Rattle.std.specs.Prelude.{◌≡◌, ◌<◌, ◌^◌, ◌++◌, string_bytes, IfOk, OnOk};
 ghost use Rattle.std.specs.List.{flat_map};
-ghost use Rattle.schedule_text.specs.Trace.{phase_text, fate_text, since_text, reply_text, reply_line, store_lines, state_lines, done_lines, step_lines, end_text};
+ghost use Rattle.trace_text.specs.Trace.{since_text, reply_text, reply_line, store_lines, state_lines, done_lines, step_lines, end_text};
 
-use crate::event::Event;
 use crate::sent::put_sent;
 use crate::shown::put_shown;
 use crate::step::{Outcome, Replied, StateLine, StepLine};
-use crate::words::{flag, service_word};
+use crate::words::{fate, flag, phase_word};
 use mon_bytes::OutOfMemory;
-use mon_msg::{Phase, Reply, Service};
+use mon_msg::{Reply, Service};
 use mon_types::Version;
+use schedule_text::{Event, service_word};
 use std::alloc::{AllocError, Global};
 use std::fmt::Write;
-
-fn phase_word(phase: Phase) -> &'static str
-    ensures { result.now ≡ phase_text phase }
-{
-    match phase {
-        Phase::Booting => "booting",
-        Phase::Probing => "probing",
-        Phase::Synchronizing => "synchronizing",
-        Phase::Electing => "electing",
-        Phase::Collecting => "collecting",
-        Phase::Previous => "previous",
-        Phase::Active => "active",
-        Phase::Updating => "updating",
-        Phase::Peon => "peon",
-    }
-}
-
-/// What became of a transaction.
-fn fate(kept: bool) -> &'static str
-    ensures { result.now ≡ fate_text kept }
-{
-    if kept { "kept" } else { "lost" }
-}
 
 /// The text of an answer with so many incrementals.
 fn put_since(

@@ -7,10 +7,9 @@ use Rattle.mon_msg.specs.declared.body.Body.TheVariants as body
 use Rattle.mon_msg.specs.declared.parts.Cookie.{Cookie}
 use Rattle.mon_msg.specs.declared.parts.Place.{Place}
 use Rattle.mon_msg.specs.declared.parts.Told.{Told}
-use Rattle.schedule_text.specs.declared.step.Numbered.{Numbered}
-use Rattle.schedule_text.specs.Words.{flag_text}
-use Rattle.schedule_text.specs.Kinds.{kind_text}
 use Rattle.schedule_text.specs.Ranks.{ranks_text}
+use Rattle.trace_text.specs.declared.step.Numbered.{Numbered}
+use Rattle.trace_text.specs.Words.{flag_text, kind_text}
 
 -- ---- the fields of a message, each behind a space
 

@@ -1,0 +1,17 @@
+//! The lines of a trace, which tell what the events of a schedule did.
+#![tactic(auto)]
+
+mod sent;
+mod shown;
+mod step;
+mod trace;
+mod words;
+
+pub use schedule_text::header_line;
+pub use step::{Numbered, Outcome, Replied, Replies, StateLine, StepLine};
+pub use trace::{end_line, trace_line};
+
+#[cfg(test)]
+mod message_tests;
+#[cfg(test)]
+mod tests;
