@@ -25,9 +25,9 @@ use Rattle.quorum_model.proofs.StaysSettled.{start_settled, client_settled}
 use Rattle.schedule_text.specs.declared.event.Event.TheVariants as events
 use Rattle.schedule_text.specs.declared.event.Plain.{Plain}
 use Rattle.schedule_text.specs.declared.event.Plain.TheVariants as plain
-use Rattle.schedule_text.specs.declared.step.Outcome.TheVariants.{Ran, Down, NoMessage}
-use Rattle.schedule_text.specs.declared.step.StateLine.{StateLine}
-use Rattle.schedule_text.specs.declared.step.StepLine.{StepLine}
+use Rattle.trace_text.specs.declared.step.Outcome.TheVariants.{Ran, Down, NoMessage}
+use Rattle.trace_text.specs.declared.step.StateLine.{StateLine}
+use Rattle.trace_text.specs.declared.step.StepLine.{StepLine}
 use Rattle.cephmon.specs.declared.node.Answer.{Answer}
 use Rattle.cephmon.specs.declared.node.NodeStop.{NodeStop}
 use Rattle.cephmon.specs.declared.node.NodeStop.TheVariants.{OutOfMemory, Spent}

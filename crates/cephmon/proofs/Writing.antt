@@ -11,8 +11,8 @@ use Rattle.mon_link.specs.Whole.{AppendsFront}
 use Rattle.quorum_model.specs.Monitors.{alone}
 use Rattle.quorum_model.specs.World as model
 use Rattle.schedule_text.specs.declared.event.Event.{Event}
-use Rattle.schedule_text.specs.declared.step.StepLine.{StepLine}
-use Rattle.schedule_text.specs.Trace.{step_lines, end_text}
+use Rattle.trace_text.specs.declared.step.StepLine.{StepLine}
+use Rattle.trace_text.specs.Trace.{step_lines, end_text}
 use Rattle.cephmon.specs.declared.node.NodeStop.{NodeStop}
 use Rattle.cephmon.specs.declared.node.NodeStop.TheVariants as node
 use Rattle.cephmon.specs.declared.world.World.{World}

@@ -4,8 +4,8 @@ use Rattle.std.specs.Io.KnownBytes.{Appends}
 use Rattle.mon_types.specs.declared.names.Which.{Which}
 use Rattle.mon_link.specs.Whole.{AppendsFront}
 use Rattle.schedule_text.specs.declared.event.Event as schedule
-use Rattle.schedule_text.specs.declared.step.StepLine.{StepLine}
-use Rattle.schedule_text.specs.Trace.{step_lines}
+use Rattle.trace_text.specs.declared.step.StepLine.{StepLine}
+use Rattle.trace_text.specs.Trace.{step_lines}
 use Rattle.mon_msg.specs.Protocol.State.{State}
 use Rattle.mon_msg.specs.Protocol.View.{view}
 use Rattle.quorum_model.specs.Alone.{Waits, IsSettled}

@@ -15,12 +15,12 @@ use Rattle.quorum_model.specs.Growth.{last_of, is_marked}
 use Rattle.quorum_model.specs.Happens.{Arrival, arrival, reaction_to, unmoved, moved}
 use Rattle.quorum_model.specs.Monitors.{Monitors}
 use Rattle.quorum_model.specs.World.{World, Event, Letter}
-use Rattle.schedule_text.specs.declared.step.Numbered.{Numbered}
-use Rattle.schedule_text.specs.declared.step.Outcome.{Outcome}
-use Rattle.schedule_text.specs.declared.step.Outcome.TheVariants.{Ran, Down, NoMessage}
-use Rattle.schedule_text.specs.declared.step.Replied.{Replied}
-use Rattle.schedule_text.specs.declared.step.StateLine.{StateLine}
-use Rattle.schedule_text.specs.declared.step.StepLine.{StepLine}
+use Rattle.trace_text.specs.declared.step.Numbered.{Numbered}
+use Rattle.trace_text.specs.declared.step.Outcome.{Outcome}
+use Rattle.trace_text.specs.declared.step.Outcome.TheVariants.{Ran, Down, NoMessage}
+use Rattle.trace_text.specs.declared.step.Replied.{Replied}
+use Rattle.trace_text.specs.declared.step.StateLine.{StateLine}
+use Rattle.trace_text.specs.declared.step.StepLine.{StepLine}
 
 abbrev pub state_of : Store → State → StateLine
 state_of m s = record { phase = s.phase; epoch = epoch_of (view m); last = last_of m }

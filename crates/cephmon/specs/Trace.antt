@@ -8,9 +8,9 @@ use Rattle.schedule_text.specs.declared.event.Event.TheVariants as events
 use Rattle.schedule_text.specs.declared.event.Event as schedule
 use Rattle.schedule_text.specs.declared.event.Plain.{Plain}
 use Rattle.schedule_text.specs.declared.event.Plain.TheVariants as plain
-use Rattle.schedule_text.specs.declared.step.StepLine.{StepLine}
+use Rattle.trace_text.specs.declared.step.StepLine.{StepLine}
 use Rattle.schedule_text.specs.Spelling.{header, ended_line}
-use Rattle.schedule_text.specs.Trace.{step_lines, end_text}
+use Rattle.trace_text.specs.Trace.{step_lines, end_text}
 use Rattle.cephmon.specs.Step.{step}
 
 -- what happens by a schedule's event; crashes and faults of disks don't happen yet

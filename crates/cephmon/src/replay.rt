@@ -16,8 +16,9 @@ use crate::world::World;
 use mon_bytes::OutOfMemory;
 use mon_link::{Sink, write_all};
 use mon_types::{Stop, Which};
-use schedule_text::{Event, Schedule, end_line, header_line, trace_line};
+use schedule_text::{Event, Schedule};
 use std::alloc::Global;
+use trace_text::{end_line, header_line, trace_line};
 
 /// Why a replay didn't come to its end.
 #[derive(Clone, Copy, Debug, PartialEq, Eq)]

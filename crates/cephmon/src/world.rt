@@ -13,8 +13,9 @@ use mon_bytes::OutOfMemory;
 use mon_kv::Kv;
 use mon_msg::{Items, Phase, Request, Session, Timer};
 use mon_types::{Epoch, Rank, Version};
-use schedule_text::{Event, Outcome, Plain, Replied, Replies, StateLine, StepLine};
+use schedule_text::{Event, Plain};
 use std::alloc::Global;
+use trace_text::{Outcome, Replied, Replies, StateLine, StepLine};
 
 /// The last committed version.
 fn last_of(kv: &Kv) -> Version
@@ -119,7 +120,7 @@ impl World {
     ghost use Rattle.quorum_model.specs.Growth.{last_of};
     ghost use Rattle.quorum_model.specs.Monitors.{alone};
     ghost use Rattle.quorum_model.specs.World.{World as Model, Event as Happening, first_world, Start, Ring, Client};
-    ghost use Rattle.schedule_text.specs.declared.step.Outcome.TheVariants.{Ran};
+    ghost use Rattle.trace_text.specs.declared.step.Outcome.TheVariants.{Ran};
     ghost use Rattle.cephmon.specs.Built.{event_runs};
     ghost use Rattle.cephmon.specs.Node.{sends_of};
     ghost use Rattle.cephmon.specs.Step.{told, replied, step, log_after};

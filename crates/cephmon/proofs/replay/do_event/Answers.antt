@@ -1,6 +1,6 @@
 use Rattle.std.proofs.Common.{◌≡◌, ◌∙◌}
 use Rattle.std.proofs.lemmas.Result.{err_from_is_err_and}
-use Rattle.schedule_text.specs.Trace.{step_lines}
+use Rattle.trace_text.specs.Trace.{step_lines}
 use Rattle.quorum_model.specs.Monitors.{alone}
 use Rattle.cephmon.specs.Step.{step}
 use Rattle.cephmon.proofs.Writing.{did_memory, did_stop, did_fault, did_write}

@@ -4,7 +4,7 @@ use Rattle.std.proofs.lemmas.Result.{err_from_is_err_and}
 use Rattle.std.specs.Io.KnownBytes.{Appends}
 use Rattle.mon_link.specs.Whole.{AppendsFront}
 use Rattle.schedule_text.specs.declared.event.Event.{Event}
-use Rattle.schedule_text.specs.Trace.{end_text}
+use Rattle.trace_text.specs.Trace.{end_text}
 use Rattle.cephmon.specs.declared.replay.ReplayStop.TheVariants as stop
 use Rattle.cephmon.specs.Replay.{fault_of}
 use Rattle.cephmon.proofs.Writing.{front_none, writes_fault, begins, comes_on, stops_at, ends}

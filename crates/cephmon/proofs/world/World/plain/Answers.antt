@@ -1,5 +1,5 @@
 use Rattle.std.proofs.Common.{Ok}
-use Rattle.schedule_text.specs.declared.step.Outcome.TheVariants.{NoMessage}
+use Rattle.trace_text.specs.declared.step.Outcome.TheVariants.{NoMessage}
 use Rattle.cephmon.specs.Step.{still_line}
 use Rattle.cephmon.proofs.Stepping.{step-start, step-client, step-ring, step-deliver, delivered-none}
 use Rattle.cephmon.proofs.world.World.plain.Goals as goal
