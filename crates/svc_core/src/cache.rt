@@ -12,9 +12,10 @@ ghost use Rattle.svc_core.specs.Cache.{kept_of, known, known_in, map_in, Follows
 ghost use Rattle.svc_core.specs.contracts.cache.Cache.{the_row};
 
 use crate::reading::{Reading, read_whole};
-use crate::row::{full_latest, last_version, version_of};
+use crate::row::{full_latest, last_version};
 use crate::turn::{Turn, changes};
 use mon_bytes::OutOfMemory;
+use mon_changes::version_of;
 use mon_kv::Kv;
 use mon_msg::{Service, ShownMap};
 use mon_tx::{Op, Transaction};

@@ -7,8 +7,9 @@ ghost use Rattle.mon_msg.specs.Protocol.Records.{longest};
 ghost use Rattle.mon_msg.specs.Protocol.View.{view};
 
 use crate::reading::read;
-use crate::row::{first_version, incremental, last_version, version_of};
+use crate::row::{first_version, incremental, last_version};
 use mon_bytes::{Bytes, OutOfMemory};
+use mon_changes::version_of;
 use mon_kv::Kv;
 use mon_msg::{Incrementals, Reply, Service};
 use std::alloc::Global;
@@ -47,9 +48,9 @@ fn told_after(alloc: Global, kv: &Kv, service: Service, v: u64) -> Result<Change
     Ok(Changes { told, more: false })
 }
 
-/// The whole map, with the versions of the log and of the service.
+/// A service's whole map as it is read, with the last versions of the log and of the service.
 #[tactic(auto, unfolding(mon_msg::specs::Protocol::View::view))]
-fn shown(alloc: Global, kv: &Kv, service: Service) -> Result<Reply, OutOfMemory>
+pub fn shown(alloc: Global, kv: &Kv, service: Service) -> Result<Reply, OutOfMemory>
     ensures { IfOk result (λ reply. reply ≡ shown (view kv.now) service) }
 {
     Ok(Reply::Shown {

@@ -6,7 +6,6 @@ mod changed;
 mod made;
 pub mod mon_trim;
 mod proposal;
-mod put;
 mod reading;
 mod row;
 mod rules;
@@ -14,9 +13,10 @@ mod step;
 mod turn;
 
 pub use cache::Cache;
-pub use changed::since;
-pub use proposal::value;
+pub use changed::{shown, since};
+pub use proposal::{service_of, value};
 pub use reading::read;
+pub use row::last_version;
 
 #[cfg(test)]
 mod tests;

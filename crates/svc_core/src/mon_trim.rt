@@ -3,8 +3,8 @@
 ghost use Rattle.std.specs.Prelude.{◌≡◌, ◌+◌, ◌-◌, ◌<◌, ◌≤◌, ◌^◌, [], ◌++◌, min, IfOk, OnOk};
 ghost use Rattle.mon_msg.specs.Protocol.Rules.{paxos_to, paxos_trim};
 
-use crate::put::{push_number, push_range};
 use mon_bytes::OutOfMemory;
+use mon_changes::{erase_range, put_number};
 use mon_tx::{Area, Key, Op, Transaction};
 use std::alloc::Global;
 
@@ -31,8 +31,8 @@ pub(crate) fn push_trim(
         return Ok(());
     }
     let to = (last - KEEPS).min(first + GOES);
-    push_range(alloc, tx, Area::Paxos, first, to)?;
-    push_number(alloc, tx, Area::Paxos, Key::FirstCommitted, to)
+    erase_range(alloc, tx, Area::Paxos, first, to)?;
+    put_number(alloc, tx, Area::Paxos, Key::FirstCommitted, to)
 }
 
 /// What trims a log that keeps the versions from `first` to `last`: nothing where 750 of them or fewer lie after the first

@@ -22,7 +22,8 @@ use mon_tx::Transaction;
 use mon_types::Rank;
 use std::alloc::Global;
 
-pub(crate) fn service_of(command: &Command) -> Service
+/// The service that a command changes.
+pub fn service_of(command: &Command) -> Service
     ensures { result ≡ service_of command.now }
 {
     match command {

@@ -13,7 +13,6 @@ use itoa::Buffer;
 use mon_kv::Kv;
 use mon_msg::Service;
 use mon_tx::Area;
-use mon_types::Version;
 
 /// Where a service keeps its map.
 pub(crate) fn area_of(service: Service) -> Area
@@ -42,9 +41,9 @@ pub(crate) fn first_version(kv: &Kv, service: Service) -> u64
     number(kv, service, b"first_committed")
 }
 
-/// The last version.
+/// A service's last version, which is 0 where it has none.
 #[tactic(auto, unfolding(mon_msg::specs::Protocol::View::view))]
-pub(crate) fn last_version(kv: &Kv, service: Service) -> u64
+pub fn last_version(kv: &Kv, service: Service) -> u64
     ensures value { result ≡ service_last (view kv.now) service }
     ensures most { result ≤ 2 ^ 62 }
 {
@@ -70,15 +69,4 @@ pub(crate) fn incremental(kv: &Kv, service: Service, v: u64) -> Option<&[u8]>
         area_of(service).as_str().as_bytes(),
         digits.format(v).as_bytes(),
     )
-}
-
-/// A number that is known to be a version.
-pub(crate) fn version_of(n: u64) -> Version
-    requires { n ≤ 2 ^ 62 }
-    ensures { result ≡ n }
-{
-    match Version::new(n) {
-        Some(version) => version,
-        None => unreachable!(),
-    }
 }

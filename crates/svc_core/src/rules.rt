@@ -5,8 +5,8 @@ ghost use Rattle.mon_tx.specs.declared.key.Key.TheVariants as key;
 ghost use Rattle.mon_msg.specs.Protocol.Changes.{erase};
 ghost use Rattle.mon_msg.specs.Protocol.Rules.{full_every, begins, paxos_begins, new_version, full_version, full_between, service_trim, service_trimmed};
 
-use crate::put::{push_erase, push_number, push_put, push_range};
 use mon_bytes::{Bytes, OutOfMemory};
+use mon_changes::{erase, erase_range, put, put_number};
 use mon_tx::{Area, Key, Transaction};
 use std::alloc::Global;
 
@@ -30,7 +30,7 @@ pub(crate) fn has_full(n: u64) -> bool
 fn push_begins(alloc: Global, tx: &mut Transaction, area: Area) -> Result<(), OutOfMemory>
     ensures { OnOk result (tx.new ≡ tx.old ++ begins area) }
 {
-    push_number(alloc, tx, area, Key::FirstCommitted, 1)
+    put_number(alloc, tx, area, Key::FirstCommitted, 1)
 }
 
 /// Appends the first version of the log, where it has none.
@@ -57,11 +57,11 @@ pub(crate) fn push_new_version(
 ) -> Result<(), OutOfMemory>
     ensures { OnOk result (tx.new ≡ tx.old ++ new_version area n incremental) }
 {
-    push_put(alloc, tx, area, Key::Version(n), incremental)?;
+    put(alloc, tx, area, Key::Version(n), incremental)?;
     if n == 1 {
         push_begins(alloc, tx, area)?;
     }
-    push_number(alloc, tx, area, Key::LastCommitted, n)
+    put_number(alloc, tx, area, Key::LastCommitted, n)
 }
 
 /// Appends the full map at version `n`, where one is kept there.
@@ -77,8 +77,8 @@ pub(crate) fn push_full_version(
     if !has_full(n) {
         return Ok(());
     }
-    push_put(alloc, tx, area, Key::Full(n), text)?;
-    push_number(alloc, tx, area, Key::FullLatest, n)
+    put(alloc, tx, area, Key::Full(n), text)?;
+    put_number(alloc, tx, area, Key::FullLatest, n)
 }
 
 /// Appends the erasures of the full maps from a version up to but not including another.
@@ -93,7 +93,7 @@ fn push_full_erased(
 {
     for v in from..to {
         if has_full(v) {
-            push_erase(alloc, tx, area, Key::Full(v))?;
+            erase(alloc, tx, area, Key::Full(v))?;
         }
     }
     Ok(())
@@ -114,7 +114,7 @@ pub(crate) fn push_service_trim(
         return Ok(());
     }
     let to = (n - KEEPS).min(first + GOES);
-    push_range(alloc, tx, area, first, to)?;
+    erase_range(alloc, tx, area, first, to)?;
     push_full_erased(alloc, tx, area, first, to)?;
-    push_number(alloc, tx, area, Key::FirstCommitted, to)
+    put_number(alloc, tx, area, Key::FirstCommitted, to)
 }

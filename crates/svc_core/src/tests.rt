@@ -1,10 +1,8 @@
 use super::*;
-use crate::proposal::service_of;
-use crate::put::push_number;
-use crate::row::last_version;
 use map_kv::KvMap;
 use map_log::LogMap;
 use mon_bytes::{Bytes, Command, CommandRefused, Name, Prefix, Text};
+use mon_changes::put_number;
 use mon_kv::Kv;
 use mon_msg::{Reply, Service, ShownMap};
 use mon_tx::{Area, Key, Op, Transaction};
@@ -45,7 +43,7 @@ fn made(alloc: Global, kv: &Kv, command: &Command) -> Result<Transaction, Comman
 /// Commits the value of a command as version `v` of the log.
 fn commit(alloc: Global, kv: &mut Kv, v: u64, command: &Command) -> Result<(), Fail> {
     let mut tx = made(alloc, kv, command)?;
-    push_number(alloc, &mut tx, Area::Paxos, Key::LastCommitted, v)?;
+    put_number(alloc, &mut tx, Area::Paxos, Key::LastCommitted, v)?;
     kv.apply(&tx)?;
     Ok(())
 }
