@@ -1,21 +1,20 @@
 -- What two disks stand for while they are opened.
-use Rattle.std.proofs.Common.{◌≡◌, ℕ, ◌≤◌, List, length, Option, Some, None, Result, Ok, Err, refl, sym, ap, subst, ◌∙◌, arith}
+use Rattle.std.proofs.Common.{◌≡◌, ℕ, List, length, Option, Some, None, Ok, Err, refl, ap, subst}
 use Rattle.std.specs.Prelude.{IfSome}
-use Rattle.mon_types.specs.Faults.{Rose}
 use Rattle.mon_types.specs.declared.names.Side.{Side}
 use Rattle.mon_types.specs.declared.names.Side.TheVariants.{A, B}
-use Rattle.mon_disk.specs.Images.{Content, images, LeavesOnly}
+use Rattle.mon_types.specs.declared.member.Member.{Member}
+use Rattle.mon_disk.specs.Images.{Content, LeavesOnly}
 use Rattle.mon_journal.specs.declared.stop.JournalStop.{JournalStop}
 use Rattle.mon_journal.specs.declared.stop.JournalStop.TheVariants as journal
 use Rattle.mon_journal.specs.declared.opening.Opened.{Opened}
 use Rattle.mon_journal.specs.declared.opening.Opened.TheVariants as disk
-use Rattle.mon_journal.specs.Content.{Held, content, held_by}
+use Rattle.mon_journal.specs.Content.{content, held_by}
 use Rattle.mon_journal.specs.Steps.{AlikeFrom, Opens}
-use Rattle.mon_store.specs.declared.stop.OpenStop.{OpenStop}
 use Rattle.mon_store.specs.declared.stop.OpenStop.TheVariants.{DiskFault, OutOfMemory}
-use Rattle.mon_store.specs.Pair.{◌>>=◌, Refusal, NotAStore, held_on, chosen, found, map_found, stands}
+use Rattle.mon_store.specs.Pair.{NotAStore, held_on, found, stands, opened}
 use Rattle.mon_store.specs.Moments.{Meanwhile}
-use Rattle.mon_store.specs.Opening.{held_in, len_of, named, Tells, AlikePair}
+use Rattle.mon_store.specs.Opening.{held_in, named, Tells, opens_as, AlikePair}
 use Rattle.mon_store.proofs.Moments.{first_goes, both_go}
 
 -- what two images stand for goes by what they hold and how long they are
@@ -23,13 +22,20 @@ pub alike_stands : (c d e f : List ℕ) → content c ≡ content e → length c
 unfolding stands found
 alike_stands c d e f same_a long_a same_b long_b = rw (same_a, same_b, long_a, long_b) refl
 
+-- and so does what a member opens
+pub alike_opens : (member : Member) (c d e f : List ℕ) → content c ≡ content e → length c ≡ length e → content d ≡ content f → length d ≡ length f → opens_as member c d ≡ opens_as member e f
+unfolding opened found
+alike_opens member c d e f same_a long_a same_b long_b = rw (same_a, same_b, long_a, long_b) refl
+
 -- disk A is opened
-pub opened_a : (a a1 b : Content) → LeavesOnly a a1 (AlikeFrom a) → Meanwhile a b a1 b (AlikePair a b)
-opened_a a a1 b l = first_goes a a1 b (AlikeFrom a) (AlikePair a b) l (λ c d h there. (h.0, d, h.1, there, alike_stands c d h.0 d h.2 h.3 refl refl))
+pub opened_a : (a a1 b : Content) → LeavesOnly a a1 (AlikeFrom a) → (member : Member) → Meanwhile a b a1 b (AlikePair member a b)
+opened_a a a1 b l member =
+    first_goes a a1 b (AlikeFrom a) (AlikePair member a b) l (λ c d h there. (h.0, d, h.1, there, alike_stands c d h.0 d h.2 h.3 refl refl, alike_opens member c d h.0 d h.2 h.3 refl refl))
 
 -- and then disk B
-pub opened_b : (a a1 b b1 : Content) → LeavesOnly a a1 (AlikeFrom a) → LeavesOnly b b1 (AlikeFrom b) → Meanwhile a b a1 b1 (AlikePair a b)
-opened_b a a1 b b1 l k = both_go a a1 b b1 (AlikeFrom a) (AlikeFrom b) (AlikePair a b) l k (λ c d g h. (g.0, h.0, g.1, h.1, alike_stands c d g.0 h.0 g.2 g.3 h.2 h.3))
+pub opened_b : (a a1 b b1 : Content) → LeavesOnly a a1 (AlikeFrom a) → LeavesOnly b b1 (AlikeFrom b) → (member : Member) → Meanwhile a b a1 b1 (AlikePair member a b)
+opened_b a a1 b b1 l k member =
+    both_go a a1 b b1 (AlikeFrom a) (AlikeFrom b) (AlikePair member a b) l k (λ c d g h. (g.0, h.0, g.1, h.1, alike_stands c d g.0 h.0 g.2 g.3 h.2 h.3, alike_opens member c d g.0 h.0 g.2 g.3 h.2 h.3))
 
 pub each_told : (s t : Option (List ℕ)) (P : List ℕ → List ℕ → Type 0) → ((x y : List ℕ) → s ≡ Some x → t ≡ Some y → P x y) → IfSome s (λ x. IfSome t (λ y. P x y))
 each_told None t P h = tt

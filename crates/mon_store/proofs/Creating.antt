@@ -1,5 +1,5 @@
 -- What two disks stand for while a store is created on them.
-use Rattle.std.proofs.Common.{◌≡◌, ℕ, ◌+◌, ◌≤◌, max, false, true, ltb, is_some, List, [], ◌∷◌, length, ◌⊎◌, inl, inr, Option, Some, None, Result, Ok, Err, refl, sym, ap, subst, ◌∙◌, arith}
+use Rattle.std.proofs.Common.{◌≡◌, ℕ, ◌≤◌, max, false, true, ltb, is_some, List, [], length, inl, inr, Option, Some, None, Result, Ok, Err, refl, sym, ap, subst, ◌∙◌, arith}
 use Rattle.std.specs.Prelude.{IfSome, IfOk}
 use Rattle.std.specs.FinMap.{empty}
 use Rattle.std.proofs.lemmas.Bool.{le-ltb}
@@ -7,24 +7,22 @@ use Rattle.mon_types.specs.declared.names.Side.{Side}
 use Rattle.mon_types.specs.declared.names.Side.TheVariants.{A}
 use Rattle.mon_types.specs.declared.member.Member.{Member}
 use Rattle.mon_disk.specs.Images.{Content, images, Only, LeavesOnly}
-use Rattle.mon_kv.specs.Readers.{size_of}
-use Rattle.mon_journal.specs.Content.{content, payloads_of, held_by, Holds}
+use Rattle.mon_journal.specs.Content.{content, payloads_of, held_by}
 use Rattle.mon_journal.specs.Written.{created}
 use Rattle.mon_journal.specs.declared.opening.Opened.{Opened}
 use Rattle.mon_journal.specs.declared.opening.Opened.TheVariants as disk
 use Rattle.mon_journal.specs.Steps.{AlikeFrom, CreatedFrom, Keeps, Opens}
-use Rattle.mon_store.specs.Checkpoint.{most_size}
 use Rattle.mon_store.specs.Payloads.{map_of}
-use Rattle.mon_store.specs.Pair.{found, stands}
+use Rattle.mon_store.specs.Pair.{found, stands, opened}
 use Rattle.mon_store.specs.Moments.{WhileOpening}
-use Rattle.mon_store.specs.Opening.{held_in, len_of, AlikePair}
+use Rattle.mon_store.specs.Opening.{held_in, len_of, opens_as, AlikePair}
 use Rattle.mon_store.specs.declared.opening.Standing.{Standing}
 use Rattle.mon_store.specs.declared.stop.OpenStop.{OpenStop}
 use Rattle.mon_store.specs.Sound.{of_live, other_side, IsBelow, Sound}
-use Rattle.mon_store.proofs.Pairs.{stands_for}
+use Rattle.mon_store.proofs.Pairs.{stands_for, opens_live}
 use Rattle.mon_store.proofs.Sizes.{size_empty}
 use Rattle.mon_store.proofs.Moments.{then_first}
-use Rattle.mon_store.proofs.Alike.{alike_stands, opened_b}
+use Rattle.mon_store.proofs.Alike.{alike_stands, alike_opens, opened_b}
 
 -- no record makes the empty map
 map_nothing : map_of [] ≡ Ok empty
@@ -35,6 +33,18 @@ map_nothing = refl
 empty_pair : (c d : List ℕ) → content c ≡ None → length c ≤ 26 → content d ≡ None → length d ≡ 0 → stands c d ≡ Ok empty
 unfolding stands found
 empty_pair c d none_c short none_d nothing =
+    let few : ltb 26 (length c) ≡ false = le-ltb _ _ short in
+    let no_bytes : ltb 0 (length d) ≡ false = le-ltb _ _ (omega (arith, nothing)) in
+    rw (none_c, none_d, few, no_bytes) refl
+
+-- the store that a member creates
+abbrev new_store : Member → Standing
+new_store member = record { side = A; journal = created member 1 None; kv = empty }
+
+-- and it creates it on them
+empty_opens : (member : Member) (c d : List ℕ) → content c ≡ None → length c ≤ 26 → content d ≡ None → length d ≡ 0 → opens_as member c d ≡ Ok (new_store member)
+unfolding opened found
+empty_opens member c d none_c short none_d nothing =
     let few : ltb 26 (length c) ≡ false = le-ltb _ _ short in
     let no_bytes : ltb 0 (length d) ≡ false = le-ltb _ _ (omega (arith, nothing)) in
     rw (none_c, none_d, few, no_bytes) refl
@@ -64,35 +74,38 @@ module _ (member : Member) (a a1 a2 b b1 : Content) (la : LeavesOnly a a1 (Alike
   alike_b d left = lb.each b1.moment d lb.later (omega arith) left
 
   -- each image of the empty map is like a pair from before
-  empty_then : (x : List ℕ) → images a1 x → (c d : List ℕ) → images b1 d → stands c d ≡ Ok empty → AlikePair a b c d
-  empty_then x left c d there is =
+  empty_then : (x : List ℕ) → images a1 x → (c d : List ℕ) → images b1 d → stands c d ≡ Ok empty → opens_as member c d ≡ Ok (new_store member) → AlikePair member a b c d
+  empty_then x left c d there is opens =
       let g = alike_a x left in
       let h = alike_b d there in
       let closed = closed_now a a1 26 ka x left in
       let none = closed_now b b1 0 kb d there in
       let before : stands x d ≡ Ok empty = empty_pair x d closed.0 closed.1 none.0 (omega (arith, none.1)) in
-      (g.0, h.0, g.1, h.1, is ∙ sym before ∙ alike_stands x d g.0 h.0 g.2 g.3 h.2 h.3)
+      let then_too : opens_as member x d ≡ Ok (new_store member) = empty_opens member x d closed.0 closed.1 none.0 (omega (arith, none.1)) in
+      (g.0, h.0, g.1, h.1, is ∙ sym before ∙ alike_stands x d g.0 h.0 g.2 g.3 h.2 h.3, opens ∙ sym then_too ∙ alike_opens member x d g.0 h.0 g.2 g.3 h.2 h.3)
 
-  during : (x : List ℕ) → images a1 x → (c d : List ℕ) → CreatedFrom a1 (created member 1 None) [] c → images b1 d → AlikePair a b c d
+  during : (x : List ℕ) → images a1 x → (c d : List ℕ) → CreatedFrom a1 (created member 1 None) [] c → images b1 d → AlikePair member a b c d
   during x read c d (inl left) there =
       let g = alike_a c left in
       let h = alike_b d there in
-      (g.0, h.0, g.1, h.1, alike_stands c d g.0 h.0 g.2 g.3 h.2 h.3)
+      (g.0, h.0, g.1, h.1, alike_stands c d g.0 h.0 g.2 g.3 h.2 h.3, alike_opens member c d g.0 h.0 g.2 g.3 h.2 h.3)
   during x read c d (inr (inl closed)) there =
       let none = closed_now b b1 0 kb d there in
       let old = closed_now a a1 26 ka closed.1.0 closed.1.1 in
       let long : length c ≤ max (length closed.1.0) 26 = closed.1.2 in
       let short : length c ≤ 26 = omega (arith, old.1, long) in
-      empty_then x read c d there (empty_pair c d closed.0 short none.0 (omega (arith, none.1)))
+      empty_then x read c d there (empty_pair c d closed.0 short none.0 (omega (arith, none.1))) (empty_opens member c d closed.0 short none.0 (omega (arith, none.1)))
   during x read c d (inr (inr holds)) there =
       let none = closed_now b b1 0 kb d there in
-      empty_then x read c d there (stands_for A c d (held_by (created member 1 None) []) empty holds (subst (IsBelow 1) (sym none.0) tt) map_nothing)
+      let below : IsBelow 1 (content d) = subst (IsBelow 1) (sym none.0) tt in
+      let held = held_by (created member 1 None) [] in
+      empty_then x read c d there (stands_for A c d held empty holds below map_nothing) (opens_live member A c d held empty holds below map_nothing refl)
 
   -- the creation
-  pub opened_c : LeavesOnly a1 a2 (CreatedFrom a1 (created member 1 None) []) → is_some a.seen ≡ true → IfSome a1.seen (images a1) → WhileOpening a b a2 b1 (AlikePair a b)
+  pub opened_c : LeavesOnly a1 a2 (CreatedFrom a1 (created member 1 None) []) → is_some a.seen ≡ true → IfSome a1.seen (images a1) → WhileOpening a b a2 b1 (AlikePair member a b)
   opened_c lc told read =
       let x = there a1.seen (ap is_some ka.same ∙ told) read in
-      then_first a b a1 b1 a2 (CreatedFrom a1 (created member 1 None) []) (AlikePair a b) (opened_b a a1 b b1 la lb) lc (during x.0 x.1)
+      then_first a b a1 b1 a2 (CreatedFrom a1 (created member 1 None) []) (AlikePair member a b) (opened_b a a1 b b1 la lb member) lc (during x.0 x.1)
     where
       there : (s : Option (List ℕ)) → is_some s ≡ true → IfSome s (images a1) → (x : List ℕ) × images a1 x
       there None some h = absurd cc

@@ -1,14 +1,20 @@
 -- What two images stand for, where one of them is live and the other doesn't count.
-use Rattle.std.proofs.Common.{◌≡◌, ℕ, ◌<◌, ◌≤◌, Bool, true, false, cond, eqb, ltb, List, length, Option, Some, None, Result, Ok, Err, refl, sym, ap, ◌∙◌, arith}
+use Rattle.std.proofs.Common.{◌≡◌, ℕ, ◌<◌, ◌≤◌, true, false, eqb, ltb, List, length, Option, Some, None, Result, Ok, Err, refl, sym, ap, subst, ◌∙◌, arith}
 use Rattle.std.proofs.lemmas.Bool.Decides.{nat_tests}
+use Rattle.std.proofs.Math.Bridge.{le_prop}
 use Rattle.mon_types.specs.declared.names.Side.{Side}
 use Rattle.mon_types.specs.declared.names.Side.TheVariants.{A, B}
 use Rattle.mon_tx.specs.Map.{Store}
 use Rattle.mon_journal.specs.declared.stop.JournalStop.{JournalStop}
-use Rattle.mon_journal.specs.Content.{Held, content}
+use Rattle.mon_types.specs.declared.member.Member.{Member}
+use Rattle.mon_journal.specs.declared.journal.Journal.{Journal}
+use Rattle.mon_journal.specs.Content.{Held, content, held_by}
+use Rattle.mon_journal.specs.Fields.{Owner}
+use Rattle.mon_journal.specs.Written.{owner_of}
 use Rattle.mon_store.specs.Payloads.{map_of}
-use Rattle.mon_store.specs.Pair.{◌>>=◌, Refusal, Found, Live, held_on, chosen, found, map_found, on, stands}
+use Rattle.mon_store.specs.Pair.{◌>>=◌, Live, held_on, chosen, found, map_found, on, stands, owned, taken, opened}
 use Rattle.mon_store.specs.Sound.{of_a, of_b, IsBelow}
+use Rattle.mon_store.specs.Opening.{journal_of, standing_of, opens_as}
 
 -- the older of two files isn't live
 older_b : (x y : Held) (a b : ℕ) → y.header.generation < x.header.generation → chosen (Some x) (Some y) a b ≡ Ok (Live A x)
@@ -45,3 +51,36 @@ stands_live side live other held is below = ap (λ f. f >>= map_found) (found_li
 
 pub stands_for : (side : Side) (live other : List ℕ) (held : Held) (m : Store) → content live ≡ Some (Ok held) → IsBelow held.header.generation (content other) → map_of held.payloads ≡ Ok m → stands (of_a side live other) (of_b side live other) ≡ Ok m
 stands_for side live other held m is below map = stands_live side live other held is below ∙ ap (on side) map
+
+-- and they are opened by the owner of the live one
+owned_own : (owner : Owner) (side : Side) (held : Held) (m : Store) → held.header.owner ≡ owner → owned owner (Live side held) m ≡ Ok (Live side held, m)
+owned_own owner side held m is =
+    let rank : eqb held.header.owner.rank owner.rank ≡ true = grind (arith, nat_tests, ap (λ (o : Owner). o.rank) is) in
+    let monitors : eqb held.header.owner.monitors owner.monitors ≡ true = grind (arith, nat_tests, ap (λ (o : Owner). o.monitors) is) in
+    rw (rank, monitors) refl
+
+pub opened_live : (owner : Owner) (side : Side) (live other : List ℕ) (held : Held) (m : Store) → content live ≡ Some (Ok held) → IsBelow held.header.generation (content other) → map_of held.payloads ≡ Ok m → held.header.owner ≡ owner
+    → opened owner (of_a side live other) (of_b side live other) ≡ Ok (Live side held, m)
+unfolding opened
+opened_live owner side live other held m is below map own =
+    ap (λ r. r >>= taken owner) (found_live side live other held is below)
+    ∙ (ap (λ (r : Result Store JournalStop). on side r >>= owned owner (Live side held)) map ∙ owned_own owner side held m own)
+
+-- as that one
+pub opens_live : (member : Member) (side : Side) (live other : List ℕ) (held : Held) (m : Store) → content live ≡ Some (Ok held) → IsBelow held.header.generation (content other) → map_of held.payloads ≡ Ok m → held.header.owner ≡ owner_of member
+    → opens_as member (of_a side live other) (of_b side live other) ≡ Ok (standing_of member (Live side held) m)
+opens_live member side live other held m is below map own = ap (λ r. r >>= (λ it. Ok (standing_of member it.0 it.1))) (opened_live (owner_of member) side live other held m is below map own)
+
+-- a member is told by its file's owner
+same_member : (member : Member) (other : Member) → owner_of member ≡ owner_of other → member ≡ other
+same_member member other same =
+    subst (λ (o : Owner). (most : o.monitors ≤ 15) (in_map : o.rank < o.monitors) → member ≡ record { rank = o.rank; monitors = o.monitors; most = most; in_map = in_map }) same own other.most other.in_map
+  where
+    own : (most : member.monitors ≤ 15) (in_map : member.rank < member.monitors) → member ≡ record { rank = member.rank; monitors = member.monitors; most = most; in_map = in_map }
+    own most in_map =
+        ap (λ (h : member.monitors ≤ 15). record { rank = member.rank; monitors = member.monitors; most = h; in_map = member.in_map }) (le_prop member.most most)
+        ∙ ap (λ (h : member.rank < member.monitors). record { rank = member.rank; monitors = member.monitors; most = most; in_map = h }) (le_prop member.in_map in_map)
+
+-- and a journal by its file's header and first closed gate
+pub journal_is : (member : Member) (j : Journal) (payloads : List (List ℕ)) → owner_of j.member ≡ owner_of member → journal_of member (held_by j payloads) ≡ j
+journal_is member j payloads own = ap (λ (m : Member). record { member = m; generation = j.generation; next_gate = j.next_gate; form = j.form }) (same_member member j.member (sym own))

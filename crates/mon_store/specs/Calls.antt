@@ -1,5 +1,5 @@
 -- Which writes and syncs a store's call makes.
-use Rattle.std.specs.Prelude.{◌≡◌, ℕ, ◌≤◌, ◌+◌, Bool, List, [], ◌∷◌, Option, Some, Result, Ok, Err, if◌then◌else◌}
+use Rattle.std.specs.Prelude.{◌≡◌, ℕ, ◌≤◌, ◌+◌, List, [], ◌∷◌, Option, Some, Result, Ok, Err, if◌then◌else◌}
 use Rattle.mon_types.specs.Faults.{Rose}
 use Rattle.mon_disk.specs.declared.disk.DiskCall.{DiskCall}
 use Rattle.mon_disk.specs.Calls.{Told}
@@ -16,7 +16,7 @@ use Rattle.mon_store.specs.declared.stop.StoreStop.TheVariants.{Broken, TooLong,
 use Rattle.mon_store.specs.Checkpoint.{checkpoint_text}
 use Rattle.mon_store.specs.Sound.{is_due}
 
--- what a journal's refusal is to the store
+-- what a journal's refusal is to the store; no call that a store makes here answers NotAStore
 abbrev pub stop_of : Rattle.mon_journal.specs.declared.stop.JournalStop.JournalStop → StoreStop
 stop_of journal.DiskFault = DiskFault
 stop_of (journal.NotAStore at) = DiskFault

@@ -9,8 +9,8 @@ use Rattle.mon_journal.specs.declared.stop.JournalStop.TheVariants as journal
 use Rattle.mon_journal.specs.declared.opening.Opened.{Opened}
 use Rattle.mon_journal.specs.declared.opening.Opened.TheVariants as disk
 use Rattle.mon_journal.specs.Written.{owner_of, created}
-use Rattle.mon_journal.specs.Content.{Held, held_by, header_of}
-use Rattle.std.specs.FinMap.{empty}
+use Rattle.mon_journal.specs.declared.journal.Journal.{Journal}
+use Rattle.mon_journal.specs.Content.{Held, held_by}
 use Rattle.mon_types.specs.declared.names.Side.{Side}
 use Rattle.mon_types.specs.declared.names.Side.TheVariants.{A}
 use Rattle.mon_store.specs.declared.opening.Standing.{Standing}
@@ -19,7 +19,7 @@ use Rattle.mon_store.specs.declared.stop.OpenStop.TheVariants.{DiskFault, OutOfM
 use Rattle.mon_store.specs.declared.stop.OpenStop.TheVariants as stop
 use Rattle.mon_store.specs.declared.choice.Choice.{Choice}
 use Rattle.mon_store.specs.declared.choice.Choice.TheVariants as choice
-use Rattle.mon_store.specs.Pair.{Refusal, NotAStore, Stranger, Found, Create, Live, stands, opened}
+use Rattle.mon_store.specs.Pair.{◌>>=◌, Refusal, NotAStore, Stranger, Found, Create, Live, stands, opened}
 
 -- what a disk was found to hold, and how long it is where that is nothing
 abbrev pub held_in : Opened → Option Held
@@ -33,6 +33,10 @@ len_of (disk.Live journal payloads) = 0
 abbrev pub found_of : Choice → Found
 found_of choice.New = Create
 found_of (choice.Live side journal payloads) = Live side (held_by journal payloads.items)
+
+-- the journal of a member's file
+abbrev pub journal_of : Member → Held → Journal
+journal_of member held = record { member = member; generation = held.header.generation; next_gate = held.next_gate; form = held.header.form }
 
 -- a journal's fault, on its disk
 abbrev pub named : Side → JournalStop → OpenStop
@@ -51,25 +55,31 @@ abbrev pub Gives : {X Y : Type 0} → (X → Y) → Result X OpenStop → Result
 Gives view (Ok x) read = read ≡ Ok (view x)
 Gives view (Err e) read = Tells e read
 
--- two images that stand for what two stood for that a crash might have left before
-abbrev pub AlikePair : Content → Content → List ℕ → List ℕ → Type 0
-AlikePair a b c d = (e : List ℕ) × (f : List ℕ) × images a e × images b f × (stands c d ≡ stands e f)
-
 -- The counts of faults never fall, and DiskFault is answered only where one of them rose.
 pub record HasFaults {T : Type 0} (a_before a_now b_before b_now : ℕ) (result : Result T OpenStop) : Type 0 where
   pub a_later : a_before ≤ a_now
   pub b_later : b_before ≤ b_now
   pub failed : result ≡ Err DiskFault → Rose a_before a_now ⊎ Rose b_before b_now
 
--- what stands on the disks of a member's store that was opened
-abbrev pub place_of : Member → Standing → Found → Type 0
-place_of member s Create = (s.side ≡ A) × (s.journal ≡ created member 1 None) × (s.kv ≡ empty)
-place_of member s (Live side held) = (s.side ≡ side) × (header_of s.journal ≡ held.header) × (s.journal.next_gate ≡ held.next_gate)
+-- What a member's store is behind its opening: a new one is created on disk A.
+abbrev pub standing_of : Member → Found → Store → Standing
+standing_of member Create m = record { side = A; journal = created member 1 None; kv = m }
+standing_of member (Live side held) m = record { side = side; journal = journal_of member held; kv = m }
 
--- What opening answers is what a member finds on the two disks, unless the outside refused.
+-- the store that a member opens on two disks with these bytes, or why it opens none
+abbrev pub opens_as : Member → List ℕ → List ℕ → Result Standing Refusal
+opens_as member a b = do
+  it ← opened (owner_of member) a b
+  Ok (standing_of member it.0 it.1)
+
+-- What opening answers, unless the outside refused.
 abbrev pub Answers : Member → List ℕ → List ℕ → Result Standing OpenStop → Type 0
-Answers member a b (Ok s) = (place : Found) × (opened (owner_of member) a b ≡ Ok (place, s.kv)) × place_of member s place
-Answers member a b (Err e) = Tells e (opened (owner_of member) a b)
+Answers member a b result = Gives (λ s. s) result (opens_as member a b)
+
+-- Two images that stand for what two stood for that a crash might have left before, and that a member opens as it would have
+-- opened those.
+abbrev pub AlikePair : Member → Content → Content → List ℕ → List ℕ → Type 0
+AlikePair member a b c d = (e : List ℕ) × (f : List ℕ) × images a e × images b f × (stands c d ≡ stands e f) × (opens_as member c d ≡ opens_as member e f)
 
 -- a disk's fault, or want of memory
 abbrev pub IsOutside : OpenStop → Type 0

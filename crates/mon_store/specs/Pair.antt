@@ -20,7 +20,7 @@ abbrev pub ◌>>=◌ : {X Y : Type 0} → Result X Refusal → (X → Result Y R
 (Ok x) >>= f = f x
 (Err e) >>= f = Err e
 
--- a fault in a file, on its disk
+-- a fault in a file, on its disk; bytes give NotAStore alone
 abbrev pub on : {X : Type 0} → Side → Result X JournalStop → Result X Refusal
 on side (Ok x) = Ok x
 on side (Err (journal.NotAStore at)) = Err (NotAStore side at)

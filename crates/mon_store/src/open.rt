@@ -54,11 +54,12 @@ impl<D: Disk> Store<D> {
         ensures broken { IfOk result (λ store. store.broken ≡ false) }
         ensures owner { IfOk result (λ store. owner_of store.journal.member ≡ owner_of member) }
 
-        // The map is the one that the two disks stood for, and each refusal goes back to what they held.
+        // What stands on the two disks is what they held, and each refusal goes back to it.
         ensures answer { IfSome (D.content disks.a).seen (λ x. IfSome (D.content disks.b).seen (λ y. Answers member x y (answered result))) }
 
-        // A crash at any moment leaves two files that stand for what two stood for that a crash might have left before.
-        ensures any_moment { IsTrue (is_some (D.content disks.a).seen) → IsTrue (is_some (D.content disks.b).seen) → WhileOpening (D.content disks.a) (D.content disks.b) (D.content (a_after result)) (D.content (b_after result)) (AlikePair (D.content disks.a) (D.content disks.b)) }
+        // A crash at any moment leaves two files that stand for what two stood for that a crash might have left before, and that
+        // the member opens as it would have opened those.
+        ensures any_moment { IsTrue (is_some (D.content disks.a).seen) → IsTrue (is_some (D.content disks.b).seen) → WhileOpening (D.content disks.a) (D.content disks.b) (D.content (a_after result)) (D.content (b_after result)) (AlikePair member (D.content disks.a) (D.content disks.b)) }
 
         // After Ok it leaves the map alone.
         ensures safe { IfOk result (λ store. EachPair (D.content (disk_a store)) (D.content (disk_b store)) (StandFor store.kv)) }

@@ -90,7 +90,7 @@ fn open_both<D: Disk>(alloc: Global, a: &mut D, b: &mut D) -> Result<Both, OpenS
     ensures refused { IfErr result (λ e. IfSome (D.content a.old).seen (λ x. IfSome (D.content b.old).seen (λ y. Tells e (found x y)))) }
     ensures a_moment { OnOk result (LeavesOnly (D.content a.old) (D.content a.new) (AlikeFrom (D.content a.old))) }
     ensures b_moment { OnOk result (LeavesOnly (D.content b.old) (D.content b.new) (AlikeFrom (D.content b.old))) }
-    ensures any_moment { Meanwhile (D.content a.old) (D.content b.old) (D.content a.new) (D.content b.new) (AlikePair (D.content a.old) (D.content b.old)) }
+    ensures any_moment { (member : Member) → Meanwhile (D.content a.old) (D.content b.old) (D.content a.new) (D.content b.new) (AlikePair member (D.content a.old) (D.content b.old)) }
     ensures a_tells { is_some (D.content a.new).seen ≡ is_some (D.content a.old).seen }
     ensures b_tells { is_some (D.content b.new).seen ≡ is_some (D.content b.old).seen }
     ensures calls { OpensWith both_calls (D.content a.old).seen (D.content b.old).seen (D.told a.old) (D.told b.old) (D.told a.new) (D.told b.new) result }
@@ -139,7 +139,7 @@ pub(crate) fn open_disks<D: Disk>(
     ensures sound { IfOk result (λ s. Sound s.journal s.kv (D.known (of_live s.side a.new b.new)) (D.content (of_live s.side a.new b.new)) (D.content (of_live (other_side s.side) a.new b.new))) }
     ensures owner { IfOk result (λ s. owner_of s.journal.member ≡ owner_of member.now) }
     ensures answer { IfSome (D.content a.old).seen (λ x. IfSome (D.content b.old).seen (λ y. Answers member.now x y result)) }
-    ensures any_moment { IsTrue (is_some (D.content a.old).seen) → IsTrue (is_some (D.content b.old).seen) → WhileOpening (D.content a.old) (D.content b.old) (D.content a.new) (D.content b.new) (AlikePair (D.content a.old) (D.content b.old)) }
+    ensures any_moment { IsTrue (is_some (D.content a.old).seen) → IsTrue (is_some (D.content b.old).seen) → WhileOpening (D.content a.old) (D.content b.old) (D.content a.new) (D.content b.new) (AlikePair member.now (D.content a.old) (D.content b.old)) }
     ensures a_tells { is_some (D.content a.new).seen ≡ is_some (D.content a.old).seen }
     ensures b_tells { is_some (D.content b.new).seen ≡ is_some (D.content b.old).seen }
     ensures calls { OpensWith (opening_calls (owner_of member.now)) (D.content a.old).seen (D.content b.old).seen (D.told a.old) (D.told b.old) (D.told a.new) (D.told b.new) result }

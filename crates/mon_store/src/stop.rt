@@ -45,6 +45,7 @@ impl From<JournalStop> for StoreStop {
     fn from(s: JournalStop) -> StoreStop {
         match s {
             JournalStop::OutOfMemory => StoreStop::OutOfMemory,
+            // No call that a store makes here answers NotAStore.
             JournalStop::DiskFault | JournalStop::NotAStore { .. } => StoreStop::DiskFault,
         }
     }

@@ -356,7 +356,7 @@ fn each_turned_byte_is_found_or_makes_no_difference(rt: HostRuntime) -> Result<(
     Ok(())
 }
 
-/// The store of rank 0 of 1 on the files of two names.
+/// Two disks on the files of two names.
 fn on_files(rt: &HostRuntime, a: &str, b: &str) -> Result<NodeDisks<FileDisk<HostRuntime>>, Fail> {
     let alloc = rt.alloc();
     Ok(NodeDisks {

@@ -1,17 +1,15 @@
-use Rattle.std.proofs.Common.{◌≡◌, ℕ, List, is_some, true, Result, Ok, Err, None, sym, ap, ◌∙◌, ◌≤◌, arith}
+use Rattle.std.proofs.Common.{◌≡◌, ℕ, List, Ok, Err, sym, ap, ◌∙◌, ◌≤◌, arith}
 use Rattle.std.proofs.lemmas.Result.{err_from_is_err_and}
 use Rattle.mon_journal.specs.Content.{held_by}
-use Rattle.mon_journal.specs.Written.{owner_of, created}
+use Rattle.mon_journal.specs.Written.{owner_of}
 use Rattle.mon_store.specs.declared.opening.Both.{Both}
 use Rattle.mon_store.specs.declared.opening.Standing.{Standing}
-use Rattle.mon_store.specs.declared.stop.OpenStop.{OpenStop}
-use Rattle.mon_store.specs.Pair.{Refusal, Found, Create, Live, chosen}
+use Rattle.mon_store.specs.Pair.{Live, chosen}
 use Rattle.mon_store.specs.Opening.{held_in, len_of, found_of, AlikePair}
 use Rattle.mon_store.proofs.Moments.{ends}
-use Rattle.mon_store.specs.OpeningCalls.{opening_calls, OpensWith}
 use Rattle.mon_store.proofs.Answering.{refused, not_chosen, answers_err, answers_new, answers_live}
-use Rattle.mon_store.proofs.Chosen.{New, chosen_new}
-use Rattle.mon_store.proofs.Creating.{Closed, closed_of, opened_c, sound_new}
+use Rattle.mon_store.proofs.Chosen.{chosen_new}
+use Rattle.mon_store.proofs.Creating.{closed_of, opened_c, sound_new}
 use Rattle.mon_store.proofs.OpenCalls.{calls_refused, calls_none, calls_live, calls_new}
 use Rattle.mon_store.proofs.opening.open_disks.Goals as goal
 
@@ -35,17 +33,17 @@ returns-in_err-both-clause-calls g c =
 pub returns-in_err-both-clause-any_moment : goal.returns-in_err-both-clause-any_moment
 returns-in_err-both-clause-any_moment g c = λ told_a told_b.
     let content = g.D.Disk.content in
-    ends (content c.args.a.now) (content c.args.b.now) (content c.open_both.new.a) (content c.open_both.new.b) (AlikePair (content c.args.a.now) (content c.args.b.now)) c.open_both.ensures.any_moment
+    ends (content c.args.a.now) (content c.args.b.now) (content c.open_both.new.a) (content c.open_both.new.b) (AlikePair c.args.member.now (content c.args.a.now) (content c.args.b.now)) (c.open_both.ensures.any_moment c.args.member.now)
 
 pub returns-in_err-choose-clause-any_moment : goal.returns-in_err-choose-clause-any_moment
 returns-in_err-choose-clause-any_moment g c = λ told_a told_b.
     let content = g.D.Disk.content in
-    ends (content c.args.a.now) (content c.args.b.now) (content c.open_both.new.a) (content c.open_both.new.b) (AlikePair (content c.args.a.now) (content c.args.b.now)) c.open_both.ensures.any_moment
+    ends (content c.args.a.now) (content c.args.b.now) (content c.open_both.new.a) (content c.open_both.new.b) (AlikePair c.args.member.now (content c.args.a.now) (content c.args.b.now)) (c.open_both.ensures.any_moment c.args.member.now)
 
 pub returns-in-Live-clause-any_moment : goal.returns-in-Live-clause-any_moment
 returns-in-Live-clause-any_moment g c = λ told_a told_b.
     let content = g.D.Disk.content in
-    ends (content c.args.a.now) (content c.args.b.now) (content c.open_both.new.a) (content c.open_both.new.b) (AlikePair (content c.args.a.now) (content c.args.b.now)) c.open_both.ensures.any_moment
+    ends (content c.args.a.now) (content c.args.b.now) (content c.open_both.new.a) (content c.open_both.new.b) (AlikePair c.args.member.now (content c.args.a.now) (content c.args.b.now)) (c.open_both.ensures.any_moment c.args.member.now)
 
 pub returns-in_err-choose-clause-answer : goal.returns-in_err-choose-clause-answer
 returns-in_err-choose-clause-answer g c =
@@ -124,7 +122,7 @@ returns-in-Live-clause-answer g c =
     let is : chosen (held_in c.in_ok-both.both.a) (held_in c.in_ok-both.both.b) (len_of c.in_ok-both.both.a) (len_of c.in_ok-both.both.b) ≡ Ok (Live side (held_by j payloads)) =
     c.in_ok-choose.ensures.found ∙ ap (λ x. Ok (found_of x)) c.in-Live.is ∙ ap (λ (ps : List (List ℕ)). Ok (Live side (held_by j ps))) (sym c.as_slice.ensures.value) in
     answers_live c.in_ok-both.both.a c.in_ok-both.both.b s t (g.D.Disk.known a) (g.D.Disk.known b) (g.D.Disk.content a) (g.D.Disk.content b) c.in_ok-both.ensures.a c.in_ok-both.ensures.b c.args.member.now
-    c.restore.result side j payloads is c.restore.ensures.answer c.restore.ensures.side c.restore.ensures.journal
+    c.restore.result side j payloads is c.restore.ensures.answer c.restore.ensures.side c.restore.ensures.journal c.restore.ensures.owner
 
 pub returns-in-Live-clause-calls : goal.returns-in-Live-clause-calls
 returns-in-Live-clause-calls g c =
