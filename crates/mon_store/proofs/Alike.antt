@@ -14,7 +14,8 @@ use Rattle.mon_journal.specs.Steps.{AlikeFrom, Opens}
 use Rattle.mon_store.specs.declared.stop.OpenStop.TheVariants.{DiskFault, OutOfMemory}
 use Rattle.mon_store.specs.Pair.{NotAStore, held_on, found, stands, opened}
 use Rattle.mon_store.specs.Moments.{Meanwhile}
-use Rattle.mon_store.specs.Opening.{held_in, named, Tells, opens_as, AlikePair}
+use Rattle.mon_store.specs.Opening.{held_in, named, Tells, AlikePair}
+use Rattle.mon_store.specs.Stood.{opens_as}
 use Rattle.mon_store.proofs.Moments.{first_goes, both_go}
 
 -- what two images stand for goes by what they hold and how long they are

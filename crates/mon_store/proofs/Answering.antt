@@ -19,7 +19,8 @@ use Rattle.mon_store.specs.declared.stop.OpenStop.TheVariants.{DiskFault, OutOfM
 use Rattle.mon_store.specs.declared.stop.OpenStop.TheVariants as stop
 use Rattle.mon_store.specs.declared.opening.Standing.{Standing}
 use Rattle.mon_store.specs.Pair.{◌>>=◌, Refusal, Found, Create, Live, chosen, found, taken, opened}
-use Rattle.mon_store.specs.Opening.{held_in, len_of, journal_of, standing_of, opens_as, Tells, Gives, Answers, IsOutside}
+use Rattle.mon_store.specs.Opening.{held_in, len_of, Tells, Gives, Answers, IsOutside}
+use Rattle.mon_store.specs.Stood.{journal_of, standing_of, opens_as}
 use Rattle.mon_store.proofs.Alike.{each_told, holds, at_some}
 use Rattle.mon_store.proofs.Pairs.{journal_is}
 

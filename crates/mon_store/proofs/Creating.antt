@@ -15,7 +15,8 @@ use Rattle.mon_journal.specs.Steps.{AlikeFrom, CreatedFrom, Keeps, Opens}
 use Rattle.mon_store.specs.Payloads.{map_of}
 use Rattle.mon_store.specs.Pair.{found, stands, opened}
 use Rattle.mon_store.specs.Moments.{WhileOpening}
-use Rattle.mon_store.specs.Opening.{held_in, len_of, opens_as, AlikePair}
+use Rattle.mon_store.specs.Opening.{held_in, len_of, AlikePair}
+use Rattle.mon_store.specs.Stood.{opens_as}
 use Rattle.mon_store.specs.declared.opening.Standing.{Standing}
 use Rattle.mon_store.specs.declared.stop.OpenStop.{OpenStop}
 use Rattle.mon_store.specs.Sound.{of_live, other_side, IsBelow, Sound}

@@ -8,4 +8,5 @@ pub mod Calls
 pub mod Refusals
 pub mod Whole
 pub mod OpeningCalls
+pub mod Stood
 pub mod Opening

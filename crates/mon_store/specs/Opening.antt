@@ -3,23 +3,21 @@ use Rattle.std.specs.Prelude.{◌≡◌, ℕ, ◌≤◌, ◌⊎◌, List, Option
 use Rattle.mon_types.specs.Faults.{Rose}
 use Rattle.mon_types.specs.declared.member.Member.{Member}
 use Rattle.mon_disk.specs.Images.{Content, images}
-use Rattle.mon_tx.specs.Map.{Store}
 use Rattle.mon_journal.specs.declared.stop.JournalStop.{JournalStop}
 use Rattle.mon_journal.specs.declared.stop.JournalStop.TheVariants as journal
 use Rattle.mon_journal.specs.declared.opening.Opened.{Opened}
 use Rattle.mon_journal.specs.declared.opening.Opened.TheVariants as disk
-use Rattle.mon_journal.specs.Written.{owner_of, created}
-use Rattle.mon_journal.specs.declared.journal.Journal.{Journal}
+use Rattle.mon_journal.specs.Written.{owner_of}
 use Rattle.mon_journal.specs.Content.{Held, held_by}
 use Rattle.mon_types.specs.declared.names.Side.{Side}
-use Rattle.mon_types.specs.declared.names.Side.TheVariants.{A}
 use Rattle.mon_store.specs.declared.opening.Standing.{Standing}
 use Rattle.mon_store.specs.declared.stop.OpenStop.{OpenStop}
 use Rattle.mon_store.specs.declared.stop.OpenStop.TheVariants.{DiskFault, OutOfMemory}
 use Rattle.mon_store.specs.declared.stop.OpenStop.TheVariants as stop
 use Rattle.mon_store.specs.declared.choice.Choice.{Choice}
 use Rattle.mon_store.specs.declared.choice.Choice.TheVariants as choice
-use Rattle.mon_store.specs.Pair.{◌>>=◌, Refusal, NotAStore, Stranger, Found, Create, Live, stands, opened}
+use Rattle.mon_store.specs.Stood.{opens_as}
+use Rattle.mon_store.specs.Pair.{Refusal, NotAStore, Stranger, Found, Create, Live, stands}
 
 -- what a disk was found to hold, and how long it is where that is nothing
 abbrev pub held_in : Opened → Option Held
@@ -33,10 +31,6 @@ len_of (disk.Live journal payloads) = 0
 abbrev pub found_of : Choice → Found
 found_of choice.New = Create
 found_of (choice.Live side journal payloads) = Live side (held_by journal payloads.items)
-
--- the journal of a member's file
-abbrev pub journal_of : Member → Held → Journal
-journal_of member held = record { member = member; generation = held.header.generation; next_gate = held.next_gate; form = held.header.form }
 
 -- a journal's fault, on its disk
 abbrev pub named : Side → JournalStop → OpenStop
@@ -60,17 +54,6 @@ pub record HasFaults {T : Type 0} (a_before a_now b_before b_now : ℕ) (result 
   pub a_later : a_before ≤ a_now
   pub b_later : b_before ≤ b_now
   pub failed : result ≡ Err DiskFault → Rose a_before a_now ⊎ Rose b_before b_now
-
--- What a member's store is behind its opening: a new one is created on disk A.
-abbrev pub standing_of : Member → Found → Store → Standing
-standing_of member Create m = record { side = A; journal = created member 1 None; kv = m }
-standing_of member (Live side held) m = record { side = side; journal = journal_of member held; kv = m }
-
--- the store that a member opens on two disks with these bytes, or why it opens none
-abbrev pub opens_as : Member → List ℕ → List ℕ → Result Standing Refusal
-opens_as member a b = do
-  it ← opened (owner_of member) a b
-  Ok (standing_of member it.0 it.1)
 
 -- What opening answers, unless the outside refused.
 abbrev pub Answers : Member → List ℕ → List ℕ → Result Standing OpenStop → Type 0
