@@ -1,11 +1,11 @@
 //! A store on two disks in memory that nobody upsets, so that only memory may be wanting.
 
-ghost use Rattle.std.specs.Prelude.{◌≡◌, false, Some, None, is_some, IsTrue, IfOk, IfErr, IfSome, OnOk};
+ghost use Rattle.std.specs.Prelude.{◌≡◌, false, Some, None, is_some, IsTrue, IfOk, IfErr, OnOk, OnErr};
 ghost use Rattle.mon_tx.specs.Map.{apply};
 ghost use Rattle.mon_journal.specs.Written.{owner_of};
 ghost use Rattle.mon_store.specs.Calls.{journal_after};
 ghost use Rattle.mon_world.specs.Site.{after_due, stands_after};
-ghost use Rattle.mon_world.specs.Disks.{map_on, map_with, standing, Hold, IsSafe, Belongs};
+ghost use Rattle.mon_world.specs.Disks.{store_on, opened_as, map_with, standing, Hold, IsSafe, Belongs};
 ghost use Rattle.mon_world.specs.Answers.{IsKept, Refuses, Leaves};
 
 use crate::stop::SiteStop;
@@ -16,20 +16,20 @@ use mon_tx::Transaction;
 use mon_types::Member;
 use std::alloc::Global;
 
-/// Opens the store whose map stands on two disks. After an `Err` no other map is found on them.
+/// Opens the store that stands on two disks. After an `Err` the same one stands on them.
 pub(crate) fn open(
     alloc: Global,
     disks: NodeDisks<MemoryDisk>,
     member: Member,
 ) -> Result<Store<MemoryDisk>, NodeDisks<MemoryDisk>>
-    requires map { IsTrue (is_some (map_on member disks.a disks.b)) }
-    requires hold { Hold disks.a disks.b (map_on member disks.a disks.b) }
+    requires found { IsTrue (is_some (store_on member disks.a disks.b)) }
+    requires hold { Hold member disks.a disks.b }
     ensures safe { IfOk result IsSafe }
     ensures owner { IfOk result (Belongs member) }
-    ensures map { IfOk result (λ store. map_on member disks.a disks.b ≡ Some store.kv) }
     ensures broken { IfOk result (λ store. store.broken ≡ false) }
-    ensures back { IfErr result (λ back. Hold back.a back.b (map_on member back.a back.b)) }
-    ensures no_other { IfErr result (λ back. IfSome (map_on member back.a back.b) (λ m. map_on member disks.a disks.b ≡ Some m)) }
+    ensures found { IfOk result (λ store. store_on member disks.a disks.b ≡ Some (opened_as store)) }
+    ensures back { IfErr result (λ back. Hold member back.a back.b) }
+    ensures same { IfErr result (λ back. store_on member back.a back.b ≡ store_on member disks.a disks.b) }
 {
     match Store::open(alloc, disks, member) {
         Ok(store) => Ok(store),
@@ -49,7 +49,7 @@ fn change(store: &mut Store<MemoryDisk>, tx: &Transaction) -> Result<(), SiteSto
     ensures map { OnOk result (map_with store.new ≡ Some (apply tx.now store.old.kv)) }
     ensures standing { OnOk result (standing store.new ≡ record { side = store.old.side; journal = journal_after store.old.journal tx.now }) }
     ensures refused { IfErr result (Refuses tx.now store.old.kv) }
-    ensures same { IfErr result (Leaves store.old store.new) }
+    ensures same { IfErr result (Leaves map_with store.old store.new) }
     ensures owner { store.new.broken ≡ false → owner_of store.new.journal.member ≡ owner_of store.old.journal.member }
 {
     match store.apply(tx) {
@@ -68,6 +68,7 @@ fn settle(store: &mut Store<MemoryDisk>) -> Result<(), OutOfMemory>
     ensures safe { IsSafe store.new }
     ensures map { OnOk result (map_with store.new ≡ Some store.old.kv) }
     ensures standing { OnOk result (standing store.new ≡ after_due (standing store.old) store.old.kv) }
+    ensures lost { OnErr result (map_with store.new ≡ None) }
     ensures owner { store.new.broken ≡ false → owner_of store.new.journal.member ≡ owner_of store.old.journal.member }
 {
     match store.restart_if_due() {
@@ -86,7 +87,7 @@ pub(crate) fn apply(store: &mut Store<MemoryDisk>, tx: &Transaction) -> Result<(
     ensures map { OnOk result (map_with store.new ≡ Some (apply tx.now store.old.kv)) }
     ensures standing { OnOk result (standing store.new ≡ stands_after (standing store.old) store.old.kv tx.now) }
     ensures refused { IfErr result (Refuses tx.now store.old.kv) }
-    ensures same { IfErr result (Leaves store.old store.new) }
+    ensures same { IfErr result (Leaves map_with store.old store.new) }
     ensures owner { store.new.broken ≡ false → owner_of store.new.journal.member ≡ owner_of store.old.journal.member }
 {
     change(store, tx)?;

@@ -63,12 +63,12 @@ impl Site {
     ghost use Rattle.std.specs.Prelude.{◌≡◌, true, Some, None, is_some, IsTrue, IfErr, IfSome, OnOk, OnErr};
     ghost use Rattle.std.specs.FinMap.{empty};
     ghost use Rattle.mon_tx.specs.Map.{apply};
-    ghost use Rattle.mon_world.specs.Site.{stands_after};
+    ghost use Rattle.mon_world.specs.Site.{new_place, stands_after};
     ghost use Rattle.mon_world.specs.Answers.{IsKept, Refuses, Leaves};
 
     /// Two empty disks of this member. It takes no memory.
     pub fn new(alloc: Global, member: Member) -> Site
-        ensures { result ≡ record { member = member; map = Some empty; standing = None } }
+        ensures { result ≡ record { member = member; map = Some empty; place = Some (new_place member); standing = None } }
     {
         Site {
             alloc,
@@ -99,15 +99,18 @@ impl Site {
         }
     }
 
-    /// Closes the store, where it is open, and opens it again on the same disks. Where they are empty it is created there.
-    /// After an `Err` they are closed, and no other map is found on them.
+    /// Closes the store, where it is open, and opens it again on the same disks, where it stood. Where they are empty it is
+    /// created on disk A. After an `Err` they are closed. Either way the map is the same, and so is the place where the store
+    /// stands that is opened on them.
     pub fn start(&mut self) -> Result<(), OutOfMemory>
         requires { IsTrue (is_some self.old.map) }
         ensures member { self.new.member ≡ self.old.member }
-        ensures map { OnOk result (self.new.map ≡ self.old.map) }
+        ensures map { self.new.map ≡ self.old.map }
+        ensures place { self.new.place ≡ self.old.place }
         ensures open { OnOk result (is_some self.new.standing ≡ true) }
+        ensures standing { OnOk result (self.new.standing ≡ self.old.place) }
+        ensures same { OnOk result (IfSome self.old.standing (λ s. self.new.standing ≡ Some s)) }
         ensures closed { OnErr result (self.new.standing ≡ None) }
-        ensures no_other { OnErr result (IfSome self.new.map (λ m. self.old.map ≡ Some m)) }
     {
         let disks = take_disks(self.alloc, &mut self.kept);
         match open(self.alloc, disks, self.member) {
@@ -122,7 +125,8 @@ impl Site {
         }
     }
 
-    /// Makes a transaction's changes, and then the checkpoint that is due, if one is.
+    /// Makes a transaction's changes, and then the checkpoint that is due, if one is. After TooLong nothing changed. Full and
+    /// OutOfMemory break the store: it stays open, and no map is told any more.
     pub fn apply(&mut self, tx: &Transaction) -> Result<(), SiteStop>
         requires map { IsTrue (is_some self.old.map) }
         requires open { IsTrue (is_some self.old.standing) }
@@ -130,8 +134,9 @@ impl Site {
         ensures kept { OnOk result (IfSome self.old.map (IsKept tx.now)) }
         ensures map { OnOk result (IfSome self.old.map (λ m. self.new.map ≡ Some (apply tx.now m))) }
         ensures standing { OnOk result (IfSome self.old.map (λ m. IfSome self.old.standing (λ s. self.new.standing ≡ Some (stands_after s m tx.now)))) }
+        ensures place { OnOk result (self.new.place ≡ self.new.standing) }
         ensures refused { IfErr result (λ e. IfSome self.old.map (λ m. Refuses tx.now m e)) }
-        ensures same { IfErr result (Leaves self.old self.new) }
+        ensures same { IfErr result (Leaves (λ s. s.map) self.old self.new) }
         ensures open { is_some self.new.standing ≡ true }
     {
         match &mut self.kept {

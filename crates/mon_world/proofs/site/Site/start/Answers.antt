@@ -1,39 +1,54 @@
-use Rattle.std.proofs.Common.{◌≡◌, true, Option, Some, is_some, sym, ap, subst, ◌∙◌}
-use Rattle.std.specs.Prelude.{IfSome}
-use Rattle.mon_tx.specs.Map.{Store}
-use Rattle.mon_world.specs.Site.{SiteState}
-use Rattle.mon_world.specs.Disks.{map_on}
-use Rattle.mon_world.specs.Kept.{map_of}
-use Rattle.mon_world.proofs.Opening.{map_told}
-use Rattle.mon_world.proofs.Kept.{taken_out}
+use Rattle.std.proofs.Common.{sym, ap, ◌∙◌}
+use Rattle.std.specs.Prelude.{option_map}
+use Rattle.mon_world.specs.Disks.{standing}
+use Rattle.mon_world.proofs.Opening.{map_told, place_told}
+use Rattle.mon_world.proofs.Kept.{taken_out, as_before}
 use Rattle.mon_world.proofs.site.Site.start.Goals as goal
 
-pub open-requires-clause-map : goal.open-requires-clause-map
-open-requires-clause-map c =
-    let i = c.self.inside in
+pub open-requires-clause-found : goal.open-requires-clause-found
+open-requires-clause-found c =
     let d = c.take_disks-disks in
-    let was : is_some (map_of i.member i.kept) ≡ true = subst (λ (s : SiteState). is_some s.map ≡ true) (sym c.self.view_is) c.requires in
-    subst (λ (map : Option Store). is_some map ≡ true) (sym (taken_out i.member i.kept d.result.a d.result.b c.self.invariant was d.ensures.a d.ensures.b).0) was
+    let f = taken_out c.self.inside c.args.self.now d.result.a d.result.b c.self.invariant c.self.view_is c.requires d.ensures.a d.ensures.b in
+    f.found
 
 pub open-requires-clause-hold : goal.open-requires-clause-hold
 open-requires-clause-hold c =
-    let i = c.self.inside in
     let d = c.take_disks-disks in
-    let was : is_some (map_of i.member i.kept) ≡ true = subst (λ (s : SiteState). is_some s.map ≡ true) (sym c.self.view_is) c.requires in
-    (taken_out i.member i.kept d.result.a d.result.b c.self.invariant was d.ensures.a d.ensures.b).1
+    let f = taken_out c.self.inside c.args.self.now d.result.a d.result.b c.self.invariant c.self.view_is c.requires d.ensures.a d.ensures.b in
+    f.hold
 
 pub returns-in-Ok-clause-map : goal.returns-in-Ok-clause-map
 returns-in-Ok-clause-map c =
-    let i = c.self.inside in
     let d = c.take_disks-disks in
-    let was : is_some (map_of i.member i.kept) ≡ true = subst (λ (s : SiteState). is_some s.map ≡ true) (sym c.self.view_is) c.requires in
-    map_told c.in-Ok.store c.in-Ok.ensures.broken
-    ∙ (sym c.in-Ok.ensures.map ∙ ((taken_out i.member i.kept d.result.a d.result.b c.self.invariant was d.ensures.a d.ensures.b).0 ∙ ap (λ (s : SiteState). s.map) c.self.view_is))
+    let f = taken_out c.self.inside c.args.self.now d.result.a d.result.b c.self.invariant c.self.view_is c.requires d.ensures.a d.ensures.b in
+    map_told c.in-Ok.store c.in-Ok.ensures.broken ∙ (sym (ap (option_map (λ s. s.kv)) c.in-Ok.ensures.found) ∙ f.map_is)
 
-pub returns-in-Err-clause-no_other : goal.returns-in-Err-clause-no_other
-returns-in-Err-clause-no_other c =
-    let i = c.self.inside in
+pub returns-in-Ok-clause-place : goal.returns-in-Ok-clause-place
+returns-in-Ok-clause-place c =
     let d = c.take_disks-disks in
-    let was : is_some (map_of i.member i.kept) ≡ true = subst (λ (s : SiteState). is_some s.map ≡ true) (sym c.self.view_is) c.requires in
-    subst (λ (old : Option Store). IfSome (map_on i.member c.in-Err.disks.a c.in-Err.disks.b) (λ m. old ≡ Some m))
-    ((taken_out i.member i.kept d.result.a d.result.b c.self.invariant was d.ensures.a d.ensures.b).0 ∙ ap (λ (s : SiteState). s.map) c.self.view_is) c.in-Err.ensures.no_other
+    let f = taken_out c.self.inside c.args.self.now d.result.a d.result.b c.self.invariant c.self.view_is c.requires d.ensures.a d.ensures.b in
+    place_told c.in-Ok.store c.in-Ok.ensures.broken ∙ (sym (ap (option_map (λ s. record { side = s.side; journal = s.journal })) c.in-Ok.ensures.found) ∙ f.place_is)
+
+pub returns-in-Ok-clause-standing : goal.returns-in-Ok-clause-standing
+returns-in-Ok-clause-standing c =
+    let d = c.take_disks-disks in
+    let f = taken_out c.self.inside c.args.self.now d.result.a d.result.b c.self.invariant c.self.view_is c.requires d.ensures.a d.ensures.b in
+    sym (ap (option_map (λ s. record { side = s.side; journal = s.journal })) c.in-Ok.ensures.found) ∙ f.place_is
+
+pub returns-in-Ok-clause-same : goal.returns-in-Ok-clause-same
+returns-in-Ok-clause-same c =
+    let d = c.take_disks-disks in
+    let f = taken_out c.self.inside c.args.self.now d.result.a d.result.b c.self.invariant c.self.view_is c.requires d.ensures.a d.ensures.b in
+    as_before c.args.self.now.standing c.args.self.now.place (standing c.in-Ok.store) f.in_use (sym (ap (option_map (λ s. record { side = s.side; journal = s.journal })) c.in-Ok.ensures.found) ∙ f.place_is)
+
+pub returns-in-Err-clause-map : goal.returns-in-Err-clause-map
+returns-in-Err-clause-map c =
+    let d = c.take_disks-disks in
+    let f = taken_out c.self.inside c.args.self.now d.result.a d.result.b c.self.invariant c.self.view_is c.requires d.ensures.a d.ensures.b in
+    ap (option_map (λ s. s.kv)) c.in-Err.ensures.same ∙ f.map_is
+
+pub returns-in-Err-clause-place : goal.returns-in-Err-clause-place
+returns-in-Err-clause-place c =
+    let d = c.take_disks-disks in
+    let f = taken_out c.self.inside c.args.self.now d.result.a d.result.b c.self.invariant c.self.view_is c.requires d.ensures.a d.ensures.b in
+    ap (option_map (λ s. record { side = s.side; journal = s.journal })) c.in-Err.ensures.same ∙ f.place_is
