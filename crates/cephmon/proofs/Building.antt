@@ -12,7 +12,8 @@ use Rattle.schedule_text.specs.declared.refusal.ScheduleKind.TheVariants.{NotBui
 use Rattle.schedule_text.specs.declared.refusal.ScheduleRefused.TheVariants.{At}
 use Rattle.schedule_text.specs.Spelling.{event_fits, header, ended_line, HasText}
 use Rattle.schedule_text.specs.Schedule.{schedule_at}
-use Rattle.cephmon.specs.Built.{is_built, first_unbuilt, is_classic, unbuilt, run_at, event_runs}
+use Rattle.mon_world.specs.Events.{is_built, event_runs}
+use Rattle.cephmon.specs.Built.{first_unbuilt, is_classic, unbuilt, runnable_at}
 
 abbrev pub first_line : List ℕ
 first_line = ended_line (header 1 Classic)
@@ -85,8 +86,8 @@ all_run s h e = let b = built s e in all_both s.monitors s.events b.monitors h.e
 
 -- ---- a refusal
 
-pub refused_text : (bytes : List ℕ) (line : ℕ) (s : Schedule) → schedule_at bytes ≡ Ok s → unbuilt s ≡ Some line → run_at bytes ≡ Err (At line NotBuilt)
+pub refused_text : (bytes : List ℕ) (line : ℕ) (s : Schedule) → schedule_at bytes ≡ Ok s → unbuilt s ≡ Some line → runnable_at bytes ≡ Err (At line NotBuilt)
 refused_text bytes line s is e = rw (is, e) refl
 
-pub faulty_text : (bytes : List ℕ) (line : ℕ) (kind : ScheduleKind) → schedule_at bytes ≡ Err (At line kind) → run_at bytes ≡ Err (At line kind)
+pub faulty_text : (bytes : List ℕ) (line : ℕ) (kind : ScheduleKind) → schedule_at bytes ≡ Err (At line kind) → runnable_at bytes ≡ Err (At line kind)
 faulty_text bytes line kind e = rw e refl

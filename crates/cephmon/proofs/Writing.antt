@@ -6,24 +6,24 @@ use Rattle.mon_bytes.proofs.Ascii.{both}
 use Rattle.std.proofs.KnownBytes.{Appends-nil, Appends-trans}
 use Rattle.mon_types.specs.declared.names.Stop.{Stop}
 use Rattle.mon_types.specs.declared.names.Stop.TheVariants as outside
-use Rattle.mon_types.specs.declared.names.Which.{Which}
 use Rattle.mon_link.specs.Whole.{AppendsFront}
 use Rattle.quorum_model.specs.Monitors.{alone}
+use Rattle.quorum_model.specs.Happens as happens
 use Rattle.quorum_model.specs.World as model
 use Rattle.schedule_text.specs.declared.event.Event.{Event}
 use Rattle.trace_text.specs.declared.step.StepLine.{StepLine}
 use Rattle.trace_text.specs.Trace.{step_lines, end_text}
-use Rattle.cephmon.specs.declared.node.NodeStop.{NodeStop}
-use Rattle.cephmon.specs.declared.node.NodeStop.TheVariants as node
-use Rattle.cephmon.specs.declared.world.World.{World}
-use Rattle.cephmon.specs.Node.{Fails}
+use Rattle.mon_world.specs.declared.stop.WorldStop.{WorldStop}
+use Rattle.mon_world.specs.declared.stop.WorldStop.TheVariants as world_stop
+use Rattle.mon_world.specs.declared.world.World.{World}
 use Rattle.cephmon.specs.declared.replay.ReplayStop.{ReplayStop}
 use Rattle.cephmon.specs.declared.replay.ReplayStop.TheVariants as stop
-use Rattle.cephmon.specs.Built.{event_runs}
-use Rattle.cephmon.specs.Step.{step}
-use Rattle.cephmon.specs.Trace.{Trace, behind, goes_on, event_of, trace_from}
-use Rattle.cephmon.proofs.Spoken.{happening}
-use Rattle.cephmon.specs.Replay.{StandsFor, Does, Did, Writes, stop_of, fault_of}
+use Rattle.mon_world.specs.Events.{event_runs, event_of}
+use Rattle.mon_world.specs.Step.{step}
+use Rattle.cephmon.specs.Trace.{Trace, behind, goes_on, trace_from}
+use Rattle.mon_world.proofs.Spoken.{happening}
+use Rattle.mon_world.specs.Stands.{StandsFor, Stops, Does}
+use Rattle.cephmon.specs.Replay.{Did, Writes, stop_of, fault_of}
 
 -- ---- fronts
 
@@ -54,6 +54,7 @@ front_behind a b c xs ys p q = (length xs + q.0, subst (Appends a c) (sym (take_
 pub writes_behind : (r : Result Unit ReplayStop) (a b c : Option (List ℕ)) (lines : List ℕ) (t : Trace) → Appends a b lines → Writes r b c t → Writes r a c (behind lines t)
 writes_behind (Ok done) a b c lines t p w = (w.0, Appends-trans a b c lines t.text p w.1)
 writes_behind (Err (stop.Spent which)) a b c lines t p w = (w.0, Appends-trans a b c lines t.text p w.1)
+writes_behind (Err (stop.Full would_be)) a b c lines t p w = (w.0, Appends-trans a b c lines t.text p w.1)
 writes_behind (Err stop.WriteFault) a b c lines t p w = front_behind a b c lines t.text p w
 writes_behind (Err stop.OutOfMemory) a b c lines t p w = front_behind a b c lines t.text p w
 
@@ -65,26 +66,28 @@ writes_fault outside.OutOfMemory a b t p = p
 -- ---- an event
 
 -- memory ran out before its lines
-pub did_memory : (world : World) (a : Option (List ℕ)) (number : ℕ) (e : Event) (wanted : Result (model.World × StepLine) Which) → Did (Err stop.OutOfMemory) world a a number e wanted
+pub did_memory : (world : World) (a : Option (List ℕ)) (number : ℕ) (e : Event) (wanted : Result (model.World × StepLine) happens.Stop) → Did (Err stop.OutOfMemory) world a a number e wanted
 did_memory world a number e wanted follow = front_none a _
 
--- a number ran out in it, or memory
-pub did_stop : (s : NodeStop) (world : World) (a : Option (List ℕ)) (number : ℕ) (e : Event) (wanted : Result (model.World × StepLine) Which) → Fails s wanted
+-- the run stopped at it, or memory ran out
+pub did_stop : (s : WorldStop) (world : World) (a : Option (List ℕ)) (number : ℕ) (e : Event) (wanted : Result (model.World × StepLine) happens.Stop) → Stops s wanted
     → Did (Err (stop_of s)) world a a number e wanted
-did_stop node.OutOfMemory world a number e wanted fails follow = front_none a _
-did_stop (node.Spent which) world a number e wanted fails follow =
-    subst (λ (r : Result (model.World × StepLine) Which). Writes (Err (stop.Spent which)) a a (goes_on number e follow r)) (sym fails) (refl, Appends-nil a)
+did_stop world_stop.OutOfMemory world a number e wanted fails follow = front_none a _
+did_stop (world_stop.Spent which) world a number e wanted stops follow =
+    subst (λ (r : Result (model.World × StepLine) happens.Stop). Writes (Err (stop.Spent which)) a a (goes_on number e follow r)) (sym stops) (refl, Appends-nil a)
+did_stop (world_stop.Full would_be) world a number e wanted stops follow =
+    subst (λ (r : Result (model.World × StepLine) happens.Stop). Writes (Err (stop.Full would_be)) a a (goes_on number e follow r)) (sym stops) (refl, Appends-nil a)
 
 -- its lines stopped on their way
-pub did_fault : (s : Stop) (line : StepLine) (world : World) (a b : Option (List ℕ)) (number : ℕ) (e : Event) (wanted : Result (model.World × StepLine) Which) (bs : List ℕ)
+pub did_fault : (s : Stop) (line : StepLine) (world : World) (a b : Option (List ℕ)) (number : ℕ) (e : Event) (wanted : Result (model.World × StepLine) happens.Stop) (bs : List ℕ)
     → bs ≡ step_lines number e line → Does (Ok line) world wanted → AppendsFront a b bs → Did (Err (fault_of s)) world a b number e wanted
 did_fault s line world a b number e wanted bs is does p follow =
     let front = front_first a b (step_lines number e line) (follow does.0).text (subst (AppendsFront a b) is p) in
-    subst (λ (r : Result (model.World × StepLine) Which). Writes (Err (fault_of s)) a b (goes_on number e follow r)) (sym does.1)
+    subst (λ (r : Result (model.World × StepLine) happens.Stop). Writes (Err (fault_of s)) a b (goes_on number e follow r)) (sym does.1)
     (writes_fault s a b (behind (step_lines number e line) (follow does.0)) front)
 
 -- its lines were written
-pub did_write : (line : StepLine) (world : World) (a b : Option (List ℕ)) (number : ℕ) (e : Event) (wanted : Result (model.World × StepLine) Which) (bs : List ℕ)
+pub did_write : (line : StepLine) (world : World) (a b : Option (List ℕ)) (number : ℕ) (e : Event) (wanted : Result (model.World × StepLine) happens.Stop) (bs : List ℕ)
     → bs ≡ step_lines number e line → Does (Ok line) world wanted → Appends a b bs → Did (Ok tt) world a b number e wanted
 did_write line world a b number e wanted bs is does p = ((does.0, line), does.1, does.2, subst (Appends a b) is p)
 

@@ -3,18 +3,13 @@ use Rattle.std.specs.Prelude.{ℕ, ◌+◌, Bool, true, false, ◌&&◌, List, [
 use Rattle.election_rules.specs.declared.rule.Rule.{Rule}
 use Rattle.election_rules.specs.declared.rule.Rule.TheVariants.{Classic}
 use Rattle.schedule_text.specs.declared.event.Event.{Event}
-use Rattle.schedule_text.specs.declared.event.Event.TheVariants as events
 use Rattle.schedule_text.specs.declared.schedule.Schedule.{Schedule}
 use Rattle.schedule_text.specs.declared.refusal.ScheduleKind.TheVariants.{NotBuilt}
 use Rattle.schedule_text.specs.declared.refusal.ScheduleRefused.{ScheduleRefused}
 use Rattle.schedule_text.specs.declared.refusal.ScheduleRefused.TheVariants.{At}
 use Rattle.schedule_text.specs.Fields.{◌>>=◌}
-use Rattle.schedule_text.specs.Spelling.{event_fits}
 use Rattle.schedule_text.specs.Schedule.{schedule_at}
-
-abbrev pub is_built : Event → Bool
-is_built (events.Plain event) = true
-is_built other = false
+use Rattle.mon_world.specs.Events.{is_built}
 
 -- the first line that isn't run, of events of which the first stands on this line
 abbrev pub first_unbuilt : ℕ → List Event → Option ℕ
@@ -35,11 +30,7 @@ refused s (Some line) = Err (At line NotBuilt)
 
 -- the schedule that bytes spell and that is run, or the first line at fault: every fault of form comes before a line that
 -- isn't run
-abbrev pub run_at : List ℕ → Result Schedule ScheduleRefused
-run_at bytes = do
+abbrev pub runnable_at : List ℕ → Result Schedule ScheduleRefused
+runnable_at bytes = do
   s ← schedule_at bytes
   refused s (unbuilt s)
-
--- what the one monitor may meet
-abbrev pub event_runs : Event → Bool
-event_runs event = event_fits 1 event && is_built event

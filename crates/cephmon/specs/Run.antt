@@ -1,21 +1,22 @@
 -- What a replay reads and writes, and the cause of each status.
-use Rattle.std.specs.Prelude.{◌≡◌, ℕ, ◌⊎◌, List, [], ◌∷◌, map, Option, Some, None, Err, String, string_bytes, codes}
+use Rattle.std.specs.Prelude.{◌≡◌, ℕ, ◌≤◌, ◌⊎◌, List, [], ◌∷◌, length, map, Option, Some, None, Err, String, string_bytes, codes}
 use Rattle.std.specs.List.{filter_map}
 use Rattle.std.specs.declared.alloc.Global.{Global}
-use Rattle.std.specs.Io.KnownBytes.{Appends}
-use Rattle.mon_types.specs.declared.names.Which.{Which}
+use Rattle.std.specs.Io.KnownBytes.{Appends, IsAtEnd}
 use Rattle.mon_types.specs.Faults.{Rose}
-use Rattle.mon_link.specs.Whole.{ReadsWhole, AppendsFront}
+use Rattle.mon_link.specs.Whole.{ReadsWhole, ConsumesFront, AppendsFront}
 use Rattle.schedule_text.specs.declared.schedule.Schedule.{Schedule}
 use Rattle.schedule_text.specs.declared.refusal.ScheduleRefused.TheVariants.{At}
 use Rattle.schedule_text.specs.Spelling.{HasText, schedule_text}
-use Rattle.cephmon.specs.Built.{unbuilt, run_at}
-use Rattle.quorum_model.specs.Happens.{run}
+use Rattle.cephmon.specs.Built.{unbuilt, runnable_at}
+use Rattle.quorum_model.specs.Happens.{Stop, run}
+use Rattle.quorum_model.specs.Happens as happens
 use Rattle.quorum_model.specs.Monitors.{alone}
 use Rattle.quorum_model.specs.Safe.{Safe}
 use Rattle.cephmon.specs.declared.status.Status.{Status}
 use Rattle.cephmon.specs.declared.status.Status.TheVariants as status
-use Rattle.cephmon.specs.Trace.{Trace, event_of, trace}
+use Rattle.mon_world.specs.Events.{event_of}
+use Rattle.cephmon.specs.Trace.{Trace, trace}
 
 -- the one word `replay`
 abbrev pub IsReplay : List (String Global) → Type 0
@@ -32,9 +33,9 @@ pub record Outside : Type 0 where
 abbrev pub most_read : ℕ
 most_read = 16777217
 
--- the source was read to its end, or up to the most that is read, and the bytes have this fact
+-- the source was read to its end, or up to the most that is read and no further, and the bytes have this fact
 abbrev pub OfRead : Outside → Outside → (List ℕ → Type 0) → Type 0
-OfRead before after fact = (bytes : List ℕ) × ReadsWhole most_read before.left after.left bytes × fact bytes
+OfRead before after fact = (bytes : List ℕ) × (length bytes ≤ most_read) × ReadsWhole most_read before.left after.left bytes × fact bytes
 
 -- the bytes are the text of a schedule that is run, its run is safe, and its trace has this fact
 pub record Replays (bytes : List ℕ) (fact : Trace → Type 0) : Type 0 where
@@ -45,28 +46,38 @@ pub record Replays (bytes : List ℕ) (fact : Trace → Type 0) : Type 0 where
   pub safe : Safe 1 (run alone (filter_map event_of schedule.events))
   pub traced : fact (trace alone schedule.events)
 
--- the whole trace went out, and its run came to the end, or stopped at this number
-abbrev pub WroteAll : Outside → Outside → Option Which → Trace → Type 0
+-- the whole trace went out, and its run came to the end, or this stopped it
+abbrev pub WroteAll : Outside → Outside → Option Stop → Trace → Type 0
 WroteAll before after stop t = (t.stop ≡ stop) × Appends before.held after.held t.text
 
 abbrev pub WroteFront : Outside → Outside → Trace → Type 0
 WroteFront before after t = AppendsFront before.held after.held t.text
 
+-- the source was read to its end, where it tells what it has left, and had a schedule whose trace has this fact
+abbrev pub Replayed : Outside → Outside → (Trace → Type 0) → Type 0
+Replayed before after fact = IsAtEnd after.left × OfRead before after (λ bytes. Replays bytes fact)
+
+-- nothing was written, or tried to be
+abbrev pub WroteNothing : Outside → Outside → Type 0
+WroteNothing before after = (after.held ≡ before.held) × (after.write_faults ≡ before.write_faults)
+
 -- The cause of each status.
 abbrev pub HasStatus : List (String Global) → Outside → Outside → Status → Type 0
-HasStatus words before after status.Done = IsReplay words × OfRead before after (λ bytes. Replays bytes (WroteAll before after None))
+HasStatus words before after status.Done = IsReplay words × Replayed before after (WroteAll before after None)
 HasStatus words before after status.Words = ¬ (IsReplay words) × (after ≡ before)
 HasStatus words before after (status.Schedule line kind) =
-    IsReplay words × OfRead before after (λ bytes. run_at bytes ≡ Err (At line kind)) × (after.held ≡ before.held)
-HasStatus words before after status.ReadFault = IsReplay words × Rose before.read_faults after.read_faults × (after.held ≡ before.held)
+    IsReplay words × OfRead before after (λ bytes. runnable_at bytes ≡ Err (At line kind)) × WroteNothing before after
+HasStatus words before after status.ReadFault =
+    IsReplay words × Rose before.read_faults after.read_faults × ConsumesFront before.left after.left × WroteNothing before after
 HasStatus words before after status.WriteFault =
-    IsReplay words × Rose before.write_faults after.write_faults × OfRead before after (λ bytes. Replays bytes (WroteFront before after))
-HasStatus words before after (status.Spent which) = IsReplay words × OfRead before after (λ bytes. Replays bytes (WroteAll before after (Some which)))
+    IsReplay words × Rose before.write_faults after.write_faults × Replayed before after (WroteFront before after)
+HasStatus words before after (status.Spent which) = IsReplay words × Replayed before after (WroteAll before after (Some (happens.Spent which)))
+HasStatus words before after (status.Full would_be) = IsReplay words × Replayed before after (WroteAll before after (Some (happens.Full would_be)))
 HasStatus words before after status.OutOfMemory =
-    IsReplay words × ((after.held ≡ before.held) ⊎ OfRead before after (λ bytes. Replays bytes (WroteFront before after)))
+    IsReplay words × ((ConsumesFront before.left after.left × WroteNothing before after) ⊎ Replayed before after (WroteFront before after))
 
 -- what the status tells of bytes that no schedule was made of
 abbrev pub TellsFault : List ℕ → Status → Type 0
-TellsFault bytes (status.Schedule line kind) = run_at bytes ≡ Err (At line kind)
+TellsFault bytes (status.Schedule line kind) = runnable_at bytes ≡ Err (At line kind)
 TellsFault bytes status.OutOfMemory = Unit {0}
 TellsFault bytes other = ⊥

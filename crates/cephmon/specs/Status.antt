@@ -11,3 +11,4 @@ status_number status.ReadFault = 4
 status_number status.WriteFault = 5
 status_number (status.Spent which) = 10
 status_number status.OutOfMemory = 12
+status_number (status.Full would_be) = 13

@@ -1,41 +1,27 @@
 -- The trace of a schedule's run.
 use Rattle.std.specs.Prelude.{ℕ, suc, List, [], ◌∷◌, ◌++◌, length, Option, Some, None, Result, Ok, Err}
-use Rattle.mon_types.specs.declared.names.Which.{Which}
+use Rattle.quorum_model.specs.Happens.{Stop}
 use Rattle.quorum_model.specs.Monitors.{Monitors}
-use Rattle.quorum_model.specs.World.{World, Event, first_world}
-use Rattle.quorum_model.specs.World as model
-use Rattle.schedule_text.specs.declared.event.Event.TheVariants as events
+use Rattle.quorum_model.specs.World.{World, first_world}
 use Rattle.schedule_text.specs.declared.event.Event as schedule
-use Rattle.schedule_text.specs.declared.event.Plain.{Plain}
-use Rattle.schedule_text.specs.declared.event.Plain.TheVariants as plain
 use Rattle.trace_text.specs.declared.step.StepLine.{StepLine}
 use Rattle.schedule_text.specs.Spelling.{header, ended_line}
 use Rattle.trace_text.specs.Trace.{step_lines, end_text}
-use Rattle.cephmon.specs.Step.{step}
+use Rattle.mon_world.specs.Events.{event_of}
+use Rattle.mon_world.specs.Step.{step}
 
--- what happens by a schedule's event; crashes and faults of disks don't happen yet
-abbrev pub event_of : schedule.Event → Option Event
-event_of (events.Plain event) = Some (plain_event event)
-  where
-    plain_event : Plain → Event
-    plain_event (plain.Start rank at) = model.Start rank at
-    plain_event (plain.Deliver message at) = model.Deliver message at
-    plain_event (plain.Timer rank kind at) = model.Ring rank kind at
-    plain_event (plain.Client rank at session request) = model.Client rank at session request
-event_of other = None
-
--- the text of a trace, and the number that ran out, if one did
+-- the text of a trace, and what stopped its run, if anything did
 pub record Trace : Type 0 where
   pub text : List ℕ
-  pub stop : Option Which
+  pub stop : Option Stop
 
 abbrev pub behind : List ℕ → Trace → Trace
 behind lines trace = record { text = lines ++ trace.text; stop = trace.stop }
 
--- an event's lines and the trace from its world on; where a number runs out the trace stops before the event
-abbrev pub goes_on : ℕ → schedule.Event → (World → Trace) → Result (World × StepLine) Which → Trace
+-- an event's lines and the trace from its world on; what stops the run ends the trace before the event
+abbrev pub goes_on : ℕ → schedule.Event → (World → Trace) → Result (World × StepLine) Stop → Trace
 goes_on number e follow (Ok done) = behind (step_lines number e done.1) (follow done.0)
-goes_on number e follow (Err which) = record { text = []; stop = Some which }
+goes_on number e follow (Err stop) = record { text = []; stop = Some stop }
 
 -- the trace of events, where so many came before, with the last line; an event that doesn't happen has no lines
 unfoldable pub trace_from : Monitors → ℕ → World → List schedule.Event → Trace

@@ -1,7 +1,8 @@
 //! Which schedules are run so far.
 
 ghost use Rattle.std.specs.Prelude.{◌≡◌, ◌≤◌, ◌&&◌, length};
-ghost use Rattle.cephmon.specs.Built.{is_built, first_unbuilt, is_classic, unbuilt};
+ghost use Rattle.mon_world.specs.Events.{is_built};
+ghost use Rattle.cephmon.specs.Built.{first_unbuilt, is_classic, unbuilt};
 
 use election_rules::Rule;
 use schedule_text::{Event, Schedule};

@@ -2,14 +2,11 @@
 #![tactic(auto)]
 
 mod built;
-mod node;
 mod replay;
 mod run;
-mod service;
 mod status;
 #[cfg(test)]
 mod tests;
-mod world;
 
 use crate::run::run;
 use crate::status::Status;

@@ -1,21 +1,22 @@
 //! The run of a schedule, whose lines are written as they come.
 
-ghost use Rattle.std.specs.Prelude.{◌≡◌, ℕ, ◌≤◌, IsTrue, None, Some, Err, length};
+ghost use Rattle.std.specs.Prelude.{◌≡◌, ℕ, ◌≤◌, IsTrue, OnOk, None, Some, Err, length};
 ghost use Rattle.std.specs.List.{list_all};
 ghost use Rattle.mon_types.specs.Faults.{Rose};
 ghost use Rattle.schedule_text.specs.Spelling.{HasText};
-ghost use Rattle.cephmon.specs.Built.{event_runs, unbuilt};
+ghost use Rattle.cephmon.specs.Built.{unbuilt};
 ghost use Rattle.quorum_model.specs.Monitors.{alone};
 ghost use Rattle.quorum_model.specs.World.{World as Model, Event as Happening, first_world};
-ghost use Rattle.cephmon.specs.Step.{step};
-ghost use Rattle.cephmon.specs.Trace.{event_of, trace_from, trace};
-ghost use Rattle.cephmon.specs.Replay.{StandsFor, Writes, Did};
+ghost use Rattle.mon_world.specs.Events.{event_runs, event_of};
+ghost use Rattle.mon_world.specs.Stands.{IsUsable, StandsFor};
+ghost use Rattle.mon_world.specs.Step.{step};
+ghost use Rattle.cephmon.specs.Trace.{trace_from, trace};
+ghost use Rattle.cephmon.specs.Replay.{Writes, Did};
 
-use crate::node::NodeStop;
-use crate::world::World;
 use mon_bytes::OutOfMemory;
 use mon_link::{Sink, write_all};
 use mon_types::{Stop, Which};
+use mon_world::{World, WorldStop};
 use schedule_text::{Event, Schedule};
 use std::alloc::Global;
 use trace_text::{end_line, header_line, trace_line};
@@ -24,20 +25,22 @@ use trace_text::{end_line, header_line, trace_line};
 #[derive(Clone, Copy, Debug, PartialEq, Eq)]
 pub enum ReplayStop {
     WriteFault,
-    Spent(Which),
+    Spent { which: Which },
+    Full { would_be: u64 },
     OutOfMemory,
 }
 
-impl From<NodeStop> for ReplayStop {
+impl From<WorldStop> for ReplayStop {
     ghost use Rattle.std.specs.Prelude.{◌≡◌};
     ghost use Rattle.cephmon.specs.Replay.{stop_of};
 
     ghost from_gives = { λ s e. e ≡ stop_of s };
 
-    fn from(stop: NodeStop) -> ReplayStop {
+    fn from(stop: WorldStop) -> ReplayStop {
         match stop {
-            NodeStop::OutOfMemory => ReplayStop::OutOfMemory,
-            NodeStop::Spent(which) => ReplayStop::Spent(which),
+            WorldStop::OutOfMemory => ReplayStop::OutOfMemory,
+            WorldStop::Spent { which } => ReplayStop::Spent { which },
+            WorldStop::Full { would_be } => ReplayStop::Full { would_be },
         }
     }
 }
@@ -75,13 +78,15 @@ fn do_event<K: Sink>(
     number: u32,
     event: &Event,
 ) -> Result<(), ReplayStop>
-    requires { IsTrue (event_runs event.now) }
+    requires runs { IsTrue (event_runs event.now) }
+    requires usable { IsUsable world.old }
     ensures writes { (w : Model) (e : Happening) → StandsFor world.old w → event_of event.now ≡ Some e →
         Did result world.new (K.held sink.old) (K.held sink.new) number event.now (step alone w e) }
+    ensures usable { OnOk result (IsUsable world.new) }
     ensures later { K.faults sink.old ≤ K.faults sink.new }
     ensures fault { result ≡ Err ReplayStop.WriteFault → Rose (K.faults sink.old) (K.faults sink.new) }
 {
-    let step = world.step(alloc, event)?;
+    let step = world.step(event)?;
     let lines = trace_line(alloc, number, event, &step)?;
     write_all(sink, lines.as_slice())?;
     Ok(())
@@ -101,7 +106,7 @@ fn do_events<K: Sink>(alloc: Global, sink: &mut K, events: &[Event]) -> Result<(
         number += 1;
         do_event(alloc, sink, &mut world, number, event)?;
     }
-    let line = end_line(alloc, number, world.log)?;
+    let line = end_line(alloc, number, world.log_len())?;
     write_all(sink, line.as_slice())?;
     Ok(())
 }

@@ -72,7 +72,8 @@ pub fn run<S: Source, K: Sink>(
     match replay(alloc, sink, &schedule) {
         Ok(()) => Status::Done,
         Err(ReplayStop::WriteFault) => Status::WriteFault,
-        Err(ReplayStop::Spent(which)) => Status::Spent { which },
+        Err(ReplayStop::Spent { which }) => Status::Spent { which },
+        Err(ReplayStop::Full { would_be }) => Status::Full { would_be },
         Err(ReplayStop::OutOfMemory) => Status::OutOfMemory,
     }
 }

@@ -17,6 +17,8 @@ pub enum Status {
     WriteFault,
     /// A number of this kind would pass 2^62. The lines of the events before were written.
     Spent { which: Which },
+    /// The monitor's map would have the size `would_be`, above 268,435,456. The lines of the events before were written.
+    Full { would_be: u64 },
     /// An allocation was refused. What went out is a front of the output.
     OutOfMemory,
 }
@@ -37,6 +39,7 @@ impl Status {
             Status::WriteFault => 5,
             Status::Spent { .. } => 10,
             Status::OutOfMemory => 12,
+            Status::Full { .. } => 13,
         }
     }
 }
@@ -46,10 +49,11 @@ impl fmt::Display for Status {
         match self {
             Status::Done => Ok(()),
             Status::Words => write!(f, "words refused"),
-            Status::Schedule { line, kind } => write!(f, "schedule refused: line {line}, {kind:?}"),
+            Status::Schedule { line, kind } => write!(f, "schedule refused: line {line}, {kind}"),
             Status::ReadFault => write!(f, "read fault"),
             Status::WriteFault => write!(f, "write fault"),
             Status::Spent { which } => write!(f, "spent: {which:?}"),
+            Status::Full { would_be } => write!(f, "store full: {would_be}"),
             Status::OutOfMemory => write!(f, "out of memory"),
         }
     }

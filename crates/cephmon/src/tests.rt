@@ -1,6 +1,7 @@
 use crate::run::run;
 use crate::status::Status;
 use mon_link::{MemorySink, MemorySource};
+use mon_types::Which;
 use schedule_text::ScheduleKind;
 use std::alloc::Global;
 use std::process::Abort;
@@ -67,17 +68,59 @@ fn traces(rt: HostRuntime) -> Result<(), Fail> {
 }
 
 #[test]
+fn restarts(rt: HostRuntime) -> Result<(), Fail> {
+    is_run(
+        &rt,
+        rt.alloc(),
+        "replay",
+        "monitors 1 classic\nstart 0 0\nclient 0 10 1 1 set a x\nstart 0 20\nclient 0 30 1 2 show kv\n",
+        0,
+        0,
+        Status::Done,
+        "monitors 1 classic\n1 start 0 0\n  store 4\n  is active epoch 2 last 0\n2 client 0 10 1 1 set a x\n  store 6\n  is active epoch 2 last 1\n  reply 0 1.1 done 1\n3 start 0 20\n  store 4\n  is active epoch 4 last 1\n4 client 0 30 1 2 show kv\n  reply 0 1.2 shown kv paxos=1 version=1 {\"a\":\"x\"}\nend events=4 log=1\n",
+    )
+}
+
+#[test]
 fn requests(rt: HostRuntime) -> Result<(), Fail> {
     is_run(
         &rt,
         rt.alloc(),
         "replay",
-        "monitors 1 classic\ndeliver 1 0\nstart 0 1\ntimer 0 renew 5\nclient 0 10 1 1 set a x\nclient 0 11 1 2 log hi there\nclient 0 12 1 3 remove b\nclient 0 13 1 4 remove a\nclient 0 14 1 5 since kv 0\nclient 0 15 1 6 since log 0\nclient 0 16 1 7 show log\nclient 0 17 1 8 show kv\n",
+        "monitors 1 classic\nstart 0 0\nclient 0 10 1 1 set a x\nclient 0 20 1 2 show kv\nclient 0 30 1 3 log hi\nclient 0 31 1 4 show log\nclient 0 32 1 5 remove b\nclient 0 33 1 6 remove a\nclient 0 34 1 7 since kv 0\ndeliver 1 35\ntimer 0 renew 36\nclient 0 37 1 8 since log 0\nclient 0 38 1 9 show kv\n",
         0,
         0,
         Status::Done,
-        "monitors 1 classic\n1 deliver 1 0\n  none\n2 start 0 1\n  store 4\n  is active epoch 2 last 0\n3 timer 0 renew 5\n4 client 0 10 1 1 set a x\n  store 6\n  is active epoch 2 last 1\n  reply 0 1.1 done 1\n5 client 0 11 1 2 log hi there\n  store 5\n  is active epoch 2 last 2\n  reply 0 1.2 done 2\n6 client 0 12 1 3 remove b\n  reply 0 1.3 nosuch\n7 client 0 13 1 4 remove a\n  store 4\n  is active epoch 2 last 3\n  reply 0 1.4 done 3\n8 client 0 14 1 5 since kv 0\n  reply 0 1.5 since kv from=0 to=2 count=2 more=0\n9 client 0 15 1 6 since log 0\n  reply 0 1.6 since log from=0 to=1 count=1 more=0\n10 client 0 16 1 7 show log\n  reply 0 1.7 shown log paxos=3 version=1 [[0,\"hi there\"]]\n11 client 0 17 1 8 show kv\n  reply 0 1.8 shown kv paxos=3 version=2 {}\nend events=11 log=3\n",
+        "monitors 1 classic\n1 start 0 0\n  store 4\n  is active epoch 2 last 0\n2 client 0 10 1 1 set a x\n  store 6\n  is active epoch 2 last 1\n  reply 0 1.1 done 1\n3 client 0 20 1 2 show kv\n  reply 0 1.2 shown kv paxos=1 version=1 {\"a\":\"x\"}\n4 client 0 30 1 3 log hi\n  store 5\n  is active epoch 2 last 2\n  reply 0 1.3 done 2\n5 client 0 31 1 4 show log\n  reply 0 1.4 shown log paxos=2 version=1 [[0,\"hi\"]]\n6 client 0 32 1 5 remove b\n  reply 0 1.5 nosuch\n7 client 0 33 1 6 remove a\n  store 4\n  is active epoch 2 last 3\n  reply 0 1.6 done 3\n8 client 0 34 1 7 since kv 0\n  reply 0 1.7 since kv from=0 to=2 count=2 more=0\n9 deliver 1 35\n  none\n10 timer 0 renew 36\n11 client 0 37 1 8 since log 0\n  reply 0 1.8 since log from=0 to=1 count=1 more=0\n12 client 0 38 1 9 show kv\n  reply 0 1.9 shown kv paxos=3 version=2 {}\nend events=12 log=3\n",
     )
+}
+
+#[test]
+fn statuses_have_their_texts(rt: HostRuntime) -> Result<(), Fail> {
+    let alloc = rt.alloc();
+    let refused = Status::Schedule {
+        line: 2,
+        kind: ScheduleKind::NotBuilt,
+    };
+    let spent = Status::Spent {
+        which: Which::Version,
+    };
+    let full = Status::Full {
+        would_be: 268435457,
+    };
+    for (status, text) in [
+        (Status::Done, ""),
+        (Status::Words, "words refused"),
+        (refused, "schedule refused: line 2, NotBuilt"),
+        (Status::ReadFault, "read fault"),
+        (Status::WriteFault, "write fault"),
+        (spent, "spent: Version"),
+        (Status::OutOfMemory, "out of memory"),
+        (full, "store full: 268435457"),
+    ] {
+        assert_eq!(rt; format!(in alloc; "{status}")?.as_str(), text);
+    }
+    Ok(())
 }
 
 #[test]

@@ -1,4 +1,4 @@
-ghost use Rattle.std.specs.Prelude.{◌≡◌, ◌<◌, ◌≤◌, ◌^◌, [], ◌∷◌, ◌++◌, IfOk, OnOk, OnErr};
+ghost use Rattle.std.specs.Prelude.{◌≡◌, ℕ, ◌<◌, ◌≤◌, ◌^◌, [], ◌∷◌, ◌++◌, take, IfOk, OnOk, OnErr};
 ghost use Rattle.mon_tx.specs.Keys.{area_text};
 ghost use Rattle.mon_tx.specs.Map.{number_bytes};
 ghost use Rattle.mon_msg.specs.Puts.{put, put_number};
@@ -82,9 +82,10 @@ pub fn erase_range(
     })
 }
 
-/// Appends all changes of another transaction, in order. After an `Err` only the first of them may be there.
+/// Appends all changes of another transaction, in order. After an `Err` some of them are there, the first ones.
 pub fn append(alloc: Global, tx: &mut Transaction, changes: &Transaction) -> Result<(), OutOfMemory>
-    ensures { OnOk result (tx.new ≡ tx.old ++ changes.now) }
+    ensures ok { OnOk result (tx.new ≡ tx.old ++ changes.now) }
+    ensures err { OnErr result ((n : ℕ) × (tx.new ≡ tx.old ++ take n changes.now)) }
 {
     for op in changes.ops() {
         tx.push(op.copy(alloc)?)?;

@@ -12,7 +12,7 @@ use Rattle.mon_world.specs.declared.stop.SiteStop.{SiteStop}
 use Rattle.mon_world.specs.declared.stop.SiteStop.TheVariants.{TooLong, Full, OutOfMemory}
 
 -- a transaction that is kept: its text isn't too long, and its map isn't too large
-pub record IsKept (ops : List Op) (m : Store) : Type 0 where
+pub record Fits (ops : List Op) (m : Store) : Type 0 where
   pub short : length (text ops) ≤ most
   pub small : size_of (apply ops m) ≤ most_size
 

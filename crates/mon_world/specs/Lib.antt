@@ -2,3 +2,8 @@ pub mod Site
 pub mod Disks
 pub mod Answers
 pub mod Kept
+pub mod Events
+pub mod Node
+pub mod Stands
+pub mod Step
+pub mod Takes

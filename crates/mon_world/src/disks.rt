@@ -1,4 +1,4 @@
-//! A store on two disks in memory that nobody upsets, so that only memory may be wanting.
+//! A store on two disks in memory that nobody upsets, so that no call of theirs fails.
 
 ghost use Rattle.std.specs.Prelude.{◌≡◌, false, Some, None, is_some, IsTrue, IfOk, IfErr, OnOk, OnErr};
 ghost use Rattle.mon_tx.specs.Map.{apply};
@@ -6,7 +6,7 @@ ghost use Rattle.mon_journal.specs.Written.{owner_of};
 ghost use Rattle.mon_store.specs.Calls.{journal_after};
 ghost use Rattle.mon_world.specs.Site.{after_due, stands_after};
 ghost use Rattle.mon_world.specs.Disks.{store_on, opened_as, map_with, standing, Hold, IsSafe, Belongs};
-ghost use Rattle.mon_world.specs.Answers.{IsKept, Refuses, Leaves};
+ghost use Rattle.mon_world.specs.Answers.{Fits, Refuses, Leaves};
 
 use crate::stop::SiteStop;
 use mon_bytes::OutOfMemory;
@@ -45,7 +45,7 @@ fn change(store: &mut Store<MemoryDisk>, tx: &Transaction) -> Result<(), SiteSto
     requires broken { store.old.broken ≡ false }
     requires safe { IsSafe store.old }
     ensures safe { IsSafe store.new }
-    ensures kept { OnOk result (IsKept tx.now store.old.kv) }
+    ensures kept { OnOk result (Fits tx.now store.old.kv) }
     ensures map { OnOk result (map_with store.new ≡ Some (apply tx.now store.old.kv)) }
     ensures standing { OnOk result (standing store.new ≡ record { side = store.old.side; journal = journal_after store.old.journal tx.now }) }
     ensures refused { IfErr result (Refuses tx.now store.old.kv) }
@@ -83,7 +83,7 @@ pub(crate) fn apply(store: &mut Store<MemoryDisk>, tx: &Transaction) -> Result<(
     requires broken { store.old.broken ≡ false }
     requires safe { IsSafe store.old }
     ensures safe { IsSafe store.new }
-    ensures kept { OnOk result (IsKept tx.now store.old.kv) }
+    ensures kept { OnOk result (Fits tx.now store.old.kv) }
     ensures map { OnOk result (map_with store.new ≡ Some (apply tx.now store.old.kv)) }
     ensures standing { OnOk result (standing store.new ≡ stands_after (standing store.old) store.old.kv tx.now) }
     ensures refused { IfErr result (Refuses tx.now store.old.kv) }

@@ -64,7 +64,7 @@ impl Site {
     ghost use Rattle.std.specs.FinMap.{empty};
     ghost use Rattle.mon_tx.specs.Map.{apply};
     ghost use Rattle.mon_world.specs.Site.{new_place, stands_after};
-    ghost use Rattle.mon_world.specs.Answers.{IsKept, Refuses, Leaves};
+    ghost use Rattle.mon_world.specs.Answers.{Fits, Refuses, Leaves};
 
     /// Two empty disks of this member. It takes no memory.
     pub fn new(alloc: Global, member: Member) -> Site
@@ -100,8 +100,8 @@ impl Site {
     }
 
     /// Closes the store, where it is open, and opens it again on the same disks, where it stood. Where they are empty it is
-    /// created on disk A. After an `Err` they are closed. Either way the map is the same, and so is the place where the store
-    /// stands that is opened on them.
+    /// created on disk A. After an `Err` it is closed. Either way the map is as before, and so is the place where the store stands
+    /// that is opened on the disks.
     pub fn start(&mut self) -> Result<(), OutOfMemory>
         requires { IsTrue (is_some self.old.map) }
         ensures member { self.new.member ≡ self.old.member }
@@ -131,7 +131,7 @@ impl Site {
         requires map { IsTrue (is_some self.old.map) }
         requires open { IsTrue (is_some self.old.standing) }
         ensures member { self.new.member ≡ self.old.member }
-        ensures kept { OnOk result (IfSome self.old.map (IsKept tx.now)) }
+        ensures kept { OnOk result (IfSome self.old.map (Fits tx.now)) }
         ensures map { OnOk result (IfSome self.old.map (λ m. self.new.map ≡ Some (apply tx.now m))) }
         ensures standing { OnOk result (IfSome self.old.map (λ m. IfSome self.old.standing (λ s. self.new.standing ≡ Some (stands_after s m tx.now)))) }
         ensures place { OnOk result (self.new.place ≡ self.new.standing) }

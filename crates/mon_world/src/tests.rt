@@ -1,12 +1,15 @@
 ghost use Rattle.std.specs.Prelude.{◌≡◌, true, is_some, IsTrue, IfOk, OnOk};
+ghost use Rattle.mon_world.specs.Events.{event_runs};
 
 use super::*;
 use mon_bytes::{Bytes, Name, Prefix};
 use mon_kv::Kv;
 use mon_tx::{Op, Transaction};
-use mon_types::{Member, Rank};
+use mon_types::{Member, Moment, Rank};
+use schedule_text::{Event, Plain};
 use std::alloc::Global;
 use std::test::Fail;
+use trace_text::StepLine;
 
 /// A site of rank 0 of 3, whose store is open.
 fn started(alloc: Global) -> Result<Site, Fail>
@@ -115,5 +118,34 @@ fn a_long_transaction_changes_nothing(rt: HostRuntime) -> Result<(), Fail> {
     let tx = put(alloc, b'a', long.as_slice())?;
     assert_eq!(rt; site.apply(&tx), Err(SiteStop::TooLong { len: 4194319 }));
     assert!(rt; site.is_open());
+    Ok(())
+}
+
+/// A start of the one monitor.
+fn start() -> Result<Event, Fail>
+    ensures { IfOk result (λ event. IsTrue (event_runs event)) }
+{
+    let rank = Rank::new(0).ok_or("a rank")?;
+    let at = Moment::new(5).ok_or("a moment")?;
+    Ok(Event::Plain(Plain::Start { rank, at }))
+}
+
+fn epoch_told(line: &StepLine) -> u64 {
+    match &line.state {
+        Some(state) => state.epoch.get(),
+        None => 0,
+    }
+}
+
+#[test]
+fn a_world_starts_on_the_same_disks(rt: HostRuntime) -> Result<(), Fail> {
+    let alloc = rt.alloc();
+    let event = start()?;
+    let mut world = World::new(alloc);
+    let first = world.step(&event)?;
+    assert_eq!(rt; epoch_told(&first), 2);
+    let second = world.step(&event)?;
+    assert_eq!(rt; epoch_told(&second), 4);
+    assert_eq!(rt; world.log_len(), 0);
     Ok(())
 }

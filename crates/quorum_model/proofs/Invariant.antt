@@ -16,7 +16,7 @@ use Rattle.mon_msg.specs.Protocol.State.{State}
 use Rattle.mon_msg.specs.Protocol.Value.{value}
 use Rattle.mon_msg.specs.Protocol.View.{view}
 use Rattle.quorum_model.specs.Alone.{Waits}
-use Rattle.quorum_model.specs.Growth.{is_marked}
+use Rattle.mon_kv.specs.Readers.{is_marked}
 use Rattle.quorum_model.specs.World.{World, Asked, Acknowledged, Replied, first_world}
 use Rattle.quorum_model.specs.Safe.{Among, Agrees, IsAsked, LeaderHas, IsKept, AcknowledgedOnce, IsAnswered, DoneIsAnswered, AreAfter, ShowsLog, after_transactions, Held, Fence, Safe}
 use Rattle.quorum_model.proofs.Lists.{all_map, among_all}

@@ -1,4 +1,3 @@
-pub mod AnyTexts
 pub mod AreaEdits
 pub mod Asking
 pub mod Beginnings
@@ -9,7 +8,6 @@ pub mod FoldWindows
 pub mod Holds
 pub mod Invariant
 pub mod KeptKeys
-pub mod KeptViews
 pub mod KvSteps
 pub mod Learned
 pub mod Lists

@@ -8,6 +8,8 @@ use Rattle.mon_bytes.specs.declared.command.Command.{Command}
 use Rattle.mon_bytes.specs.declared.command.Command.TheVariants as command
 use Rattle.mon_bytes.specs.declared.command.CommandRefused.{CommandRefused}
 use Rattle.mon_tx.specs.declared.op.Op.{Op}
+use Rattle.mon_kv.specs.Readers.{size_of}
+use Rattle.mon_store.specs.Checkpoint.{most_size}
 use Rattle.mon_msg.specs.declared.input.Input.TheVariants as input
 use Rattle.mon_msg.specs.declared.phase.Timer.{Timer}
 use Rattle.mon_msg.specs.declared.plan.Sent.{Sent}
@@ -29,7 +31,7 @@ use Rattle.mon_msg.specs.Protocol.View.{view}
 use Rattle.quorum_model.specs.Alone.{Waits}
 use Rattle.quorum_model.specs.Clients.{command_of}
 use Rattle.quorum_model.specs.Events.{RequestFits, EventFits, AllFit}
-use Rattle.quorum_model.specs.Happens.{unmoved, moved, after_reaction, happens, or_stay, run_from, run}
+use Rattle.quorum_model.specs.Happens.{Stop, Full, map_after, unmoved, moved, after_reaction, happens, or_stay, run_from, run}
 use Rattle.quorum_model.specs.LogOfValues.{IsCommand}
 use Rattle.quorum_model.specs.Monitors.{alone, itself}
 use Rattle.quorum_model.specs.Safe.{Safe}
@@ -72,8 +74,16 @@ no_letter letters e k = ap (λ (ls : List Letter). slice_get ls k) e
 -- ---- what comes of a reaction
 
 module _ (w : World) (e : Event) where
+  -- unless its map would be too large
+  where_small : (r : Reaction) → Inv (moved w e 0 r) → IfOk (after_reaction w e 0 (Some (Ok r))) Inv
+  where_small r inv = by (ltb most_size (size_of (map_after w 0 r)))
+    where
+      by : (b : Bool) → IfOk (cond b (Err (Full (size_of (map_after w 0 r)))) (Ok (moved w e 0 r))) Inv
+      by true = tt
+      by false = inv
+
   on_reaction : (P : Reaction → Type 0) → ((r : Reaction) → P r → Inv (moved w e 0 r)) → (r : Result Reaction Which) → IfOk r P → IfOk (after_reaction w e 0 (Some r)) Inv
-  on_reaction P f (Ok r) h = f r h
+  on_reaction P f (Ok r) h = where_small r (f r h)
   on_reaction P f (Err which) h = tt
 
 start_keeps : (w : World) (at : ℕ) → Inv w → IfOk (happens alone w (Start 0 at)) Inv
@@ -88,7 +98,8 @@ module _ (w : World) (inv : Inv w) (s : State) (waits : Waits s) (at : ℕ) wher
   ring_keeps t =
       let r = rings itself.member.most itself.member.in_map at (w.store 0) s waits t in
       subst (λ (done : Result Reaction Which). IfOk (after_reaction w (Ring 0 t at) 0 (Some done)) Inv) (sym r.is)
-      (calm_keeps w inv (Ring 0 t at) r.reaction [] tt r.stays.transaction (subst (AllByRecursion _) (sym r.stays.sends) tt) r.stays.waits)
+      (where_small w (Ring 0 t at) r.reaction
+      (calm_keeps w inv (Ring 0 t at) r.reaction [] tt r.stays.transaction (subst (AllByRecursion _) (sym r.stays.sends) tt) r.stays.waits))
 
   module _ (session : Session) where
     abbrev came : Request → Result Reaction Which
@@ -98,10 +109,11 @@ module _ (w : World) (inv : Inv w) (s : State) (waits : Waits s) (at : ℕ) wher
     Keeps r done = IfOk (after_reaction w (Client 0 at session r) 0 (Some done)) Inv
 
     -- nothing is written, and the client is answered
-    answer_keeps : (r : Request) (y : Reply) → Tells w.log y → Inv (moved w (Client 0 at session r) 0 (answered itself.member.most itself.member.in_map at (w.store 0) s waits.leads session y))
+    answer_keeps : (r : Request) (y : Reply) → Tells w.log y → Keeps r (Ok (answered itself.member.most itself.member.in_map at (w.store 0) s waits.leads session y))
     answer_keeps r y h =
-        calm_keeps w inv (Client 0 at session r) (answered itself.member.most itself.member.in_map at (w.store 0) s waits.leads session y) [] tt refl (h, tt)
-        (record { leads = leads_itself s; renews = record { end = waits.renews.end; timers = waits.renews.timers } })
+        where_small w (Client 0 at session r) (answered itself.member.most itself.member.in_map at (w.store 0) s waits.leads session y)
+        (calm_keeps w inv (Client 0 at session r) (answered itself.member.most itself.member.in_map at (w.store 0) s waits.leads session y) [] tt refl (h, tt)
+        (record { leads = leads_itself s; renews = record { end = waits.renews.end; timers = waits.renews.timers } }))
 
     refused_keeps : (r : Request) (y : Reply) (b : Bool) → Tells w.log y
         → Keeps r (cond b (Ok (answered itself.member.most itself.member.in_map at (w.store 0) s waits.leads session y)) (Err which.Version))
@@ -176,9 +188,9 @@ unfolding run_from
 runs w [] inv fit = inv
 runs w (e ∷ es) inv fit = by (happens alone w e) (keeps w e inv fit.0) (λ next i. runs next es i fit.1)
   where
-    by : (r : Result World Which) → IfOk r Inv → ((next : World) → Inv next → Inv (run_from alone next es)) → Inv (or_stay w (λ next. run_from alone next es) r)
+    by : (r : Result World Stop) → IfOk r Inv → ((next : World) → Inv next → Inv (run_from alone next es)) → Inv (or_stay w (λ next. run_from alone next es) r)
     by (Ok next) h go = go next h
-    by (Err which) h go = inv
+    by (Err stop) h go = inv
 
 pub runs_are_safe : (events : List Event) → AllFit 1 events → Safe 1 (run alone events)
 runs_are_safe events fit = safe (run alone events) (runs first_world events at_first fit)

@@ -4,14 +4,11 @@ use Rattle.mon_tx.specs.declared.key.Area.TheVariants as area
 use Rattle.mon_tx.specs.declared.key.Key.TheVariants as key
 use Rattle.mon_tx.specs.Map.{Store}
 use Rattle.mon_tx.specs.Keys.{cell, number}
+use Rattle.mon_kv.specs.Readers.{is_marked}
 use Rattle.mon_tx.specs.Decision.{Cell}
 
 abbrev pub last_of : Store → ℕ
 last_of m = number m area.Paxos key.LastCommitted
-
--- a map under a full synchronisation has no committed versions
-abbrev pub is_marked : Store → Bool
-is_marked m = number m area.Sync key.InSync == 1
 
 abbrev pub bytes_or_none : Cell → List ℕ
 bytes_or_none None = []
@@ -22,6 +19,6 @@ abbrev pub records_after : Store → ℕ → ℕ → List (List ℕ)
 records_after m v zero = []
 records_after m v (suc count) = bytes_or_none (cell m area.Paxos (key.Version (suc v))) ∷ records_after m (suc v) count
 
--- the log with the records that are new in a map
+-- the log with the records that are new in a map; one under a full synchronisation has no committed versions
 unfoldable pub grown : List (List ℕ) → Store → List (List ℕ)
 grown log m = if is_marked m then log else log ++ records_after m (length log) (last_of m - length log)

@@ -1,55 +1,19 @@
 -- What an event makes of the world, and a run of events.
-use Rattle.std.specs.Prelude.{ℕ, zero, suc, Bool, true, false, cond, List, [], ◌∷◌, ◌++◌, Option, Some, None, Result, Ok, Err, ◌==◌, if◌then◌else◌}
-use Rattle.std.specs.List.{slice_get}
-use Rattle.std.specs.Option.{option_map}
+use Rattle.std.specs.Prelude.{ℕ, suc, nat_lt, Bool, true, false, cond, List, [], ◌∷◌, ◌++◌, Option, Some, None, Result, Ok, Err, ◌==◌, if◌then◌else◌}
 use Rattle.mon_types.specs.declared.names.Which.{Which}
-use Rattle.mon_tx.specs.Map.{apply}
-use Rattle.mon_msg.specs.Protocol.Reaction.{Reaction, reaction}
-use Rattle.mon_msg.specs.Protocol.State.{State, booting}
+use Rattle.mon_tx.specs.Map.{Store, apply}
+use Rattle.mon_kv.specs.Readers.{size_of}
+use Rattle.mon_store.specs.Checkpoint.{most_size}
+use Rattle.mon_msg.specs.Protocol.Reaction.{Reaction}
+use Rattle.mon_msg.specs.Protocol.State.{State}
 use Rattle.mon_msg.specs.Protocol.View.{view, epoch_of}
-use Rattle.mon_msg.specs.declared.input.Input.{Input}
-use Rattle.mon_msg.specs.declared.input.Input.TheVariants as input
 use Rattle.mon_msg.specs.declared.phase.Phase.{Phase}
 use Rattle.mon_msg.specs.declared.phase.Phase.TheVariants as phase
-use Rattle.mon_msg.specs.declared.view.Me.{Me}
-use Rattle.quorum_model.specs.Monitors.{Monitors, me_of}
-use Rattle.quorum_model.specs.World.{World, Event, Start, Deliver, Ring, Client, Letter, first_world}
+use Rattle.quorum_model.specs.Monitors.{Monitors}
+use Rattle.quorum_model.specs.World.{World, Event, first_world}
+use Rattle.quorum_model.specs.Arrivals.{Arrival, arrival, reaction_to}
 use Rattle.quorum_model.specs.Growth.{last_of, grown}
 use Rattle.quorum_model.specs.Clients.{made_by_event, with_asked, letters_in, all_replied, all_acknowledged}
-
--- ---- what comes to a monitor
-
--- to whom, when and what
-pub record Arrival : Type 0 where
-  pub rank : ℕ
-  pub at : ℕ
-  pub input : Input
-
--- a message that wasn't sent doesn't come
-abbrev pub delivered : ℕ → Option Letter → Option Arrival
-delivered at letter = option_map (λ l. record { rank = l.to; at = at; input = input.Deliver l.message }) letter
-
-abbrev pub arrival : World → Event → Option Arrival
-arrival w (Start rank at) = Some (record { rank = rank; at = at; input = input.Start })
-arrival w (Deliver zero at) = None
-arrival w (Deliver (suc k) at) = delivered at (slice_get w.letters k)
-arrival w (Ring rank timer at) = Some (record { rank = rank; at = at; input = input.Timer timer })
-arrival w (Client rank at session r) = Some (record { rank = rank; at = at; input = input.Client session r })
-
--- what the monitor remembers then: one that starts has forgotten all
-abbrev pub remembered : World → ℕ → Input → Option State
-remembered w rank input.Start = Some (booting rank)
-remembered w rank other = w.state rank
-
--- what it does, unless it is down
-abbrev pub reaction_to : Monitors → World → Arrival → Option (Result Reaction Which)
-reaction_to ms w a = of (me_of ms a.rank) (remembered w a.rank a.input)
-  where
-    of : Option Me → Option State → Option (Result Reaction Which)
-    of (Some me) (Some s) = Some (reaction me a.at (w.store a.rank) s a.input)
-    of me s = None
-
--- ---- the world after an event
 
 abbrev pub leads : Phase → Bool
 leads phase.Active = true
@@ -63,10 +27,14 @@ put_at f i a j = if j == i then a else f j
 unfoldable pub unmoved : World → Event → World
 unmoved w e = record w { asked = with_asked e w.asked; events = suc w.events }
 
+-- the monitor's map after a reaction
+abbrev pub map_after : World → ℕ → Reaction → Store
+map_after w i r = apply r.transaction (w.store i)
+
 -- a monitor did what its reaction says: its transaction is kept, and then what it sends goes out
 unfoldable pub moved : World → Event → ℕ → Reaction → World
 moved w e i r =
-    let m = apply r.transaction (w.store i) in
+    let m = map_after w i r in
     let epoch = epoch_of (view m) in
     let event = suc w.events in
     record {
@@ -82,24 +50,30 @@ moved w e i r =
       events = event;
     }
 
-abbrev pub after_reaction : World → Event → ℕ → Option (Result Reaction Which) → Result World Which
-after_reaction w e i None = Ok (unmoved w e)
-after_reaction w e i (Some (Err which)) = Err which
-after_reaction w e i (Some (Ok r)) = Ok (moved w e i r)
+-- what stops a run: a number that would pass 2^62, or a map that would be larger than a store keeps
+pub data Stop : Type 0 where
+  Spent : (which : Which) → Stop
+  Full : (would_be : ℕ) → Stop
 
--- what an event makes of the world, or the number that ran out
-abbrev pub happens : Monitors → World → Event → Result World Which
+abbrev pub after_reaction : World → Event → ℕ → Option (Result Reaction Which) → Result World Stop
+after_reaction w e i None = Ok (unmoved w e)
+after_reaction w e i (Some (Err which)) = Err (Spent which)
+after_reaction w e i (Some (Ok r)) =
+    if nat_lt most_size (size_of (map_after w i r)) then Err (Full (size_of (map_after w i r))) else Ok (moved w e i r)
+
+-- what an event makes of the world, or what stops the run before it
+abbrev pub happens : Monitors → World → Event → Result World Stop
 happens ms w e = by (arrival w e)
   where
-    by : Option Arrival → Result World Which
+    by : Option Arrival → Result World Stop
     by None = Ok (unmoved w e)
     by (Some a) = after_reaction w e a.rank (reaction_to ms w a)
 
 -- ---- a run
 
-abbrev pub or_stay : World → (World → World) → Result World Which → World
+abbrev pub or_stay : World → (World → World) → Result World Stop → World
 or_stay w go_on (Ok next) = go_on next
-or_stay w go_on (Err which) = w
+or_stay w go_on (Err stop) = w
 
 -- the world after events, up to the first that stops
 unfoldable pub run_from : Monitors → World → List Event → World

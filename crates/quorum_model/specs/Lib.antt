@@ -1,4 +1,5 @@
 pub mod Alone
+pub mod Arrivals
 pub mod Clients
 pub mod Events
 pub mod Growth

@@ -16,7 +16,8 @@ use Rattle.mon_msg.specs.Protocol.Value.{value}
 use Rattle.mon_msg.specs.declared.reply.Reply.{Reply}
 use Rattle.mon_msg.specs.declared.reply.Reply.TheVariants as reply
 use Rattle.quorum_model.specs.Clients.{command_of, made_by}
-use Rattle.quorum_model.specs.Growth.{last_of, is_marked}
+use Rattle.mon_kv.specs.Readers.{is_marked}
+use Rattle.quorum_model.specs.Growth.{last_of}
 use Rattle.quorum_model.specs.Happens.{leads}
 use Rattle.quorum_model.specs.LogOfValues.{view_at}
 use Rattle.quorum_model.specs.World.{World, Asked, Acknowledged, Replied}

@@ -3,7 +3,8 @@ use Rattle.std.specs.Prelude.{ℕ, List, [], ◌∷◌, ◌++◌, Option, Some, 
 use Rattle.mon_types.specs.declared.names.Which.{Which}
 use Rattle.mon_tx.specs.declared.op.Op.{Op}
 use Rattle.mon_msg.specs.Protocol.Reaction.{Reaction}
-use Rattle.quorum_model.specs.Happens.{Arrival, arrival, reaction_to, happens}
+use Rattle.quorum_model.specs.Arrivals.{Arrival, arrival, reaction_to}
+use Rattle.quorum_model.specs.Happens.{Stop, happens}
 use Rattle.quorum_model.specs.Monitors.{Monitors}
 use Rattle.quorum_model.specs.World.{World, Event}
 
@@ -20,11 +21,11 @@ written ms w e i = by (arrival w e)
     by None = []
     by (Some a) = written_by i a.rank (reaction_to ms w a)
 
-abbrev pub where_on : (World → List (List Op)) → Result World Which → List (List Op)
+abbrev pub where_on : (World → List (List Op)) → Result World Stop → List (List Op)
 where_on go_on (Ok next) = go_on next
-where_on go_on (Err which) = []
+where_on go_on (Err stop) = []
 
 -- the transactions of events from a world on, in order, up to the first that stops
 unfoldable pub all_written : Monitors → World → List Event → ℕ → List (List Op)
 all_written ms w [] i = []
-all_written ms w (e ∷ es) i = written ms w e i ++ where_on (λ next. all_written ms next es i) (happens ms w e)
+all_written ms w (e ∷ es) i = where_on (λ next. written ms w e i ++ all_written ms next es i) (happens ms w e)

@@ -25,8 +25,9 @@ ghost use Rattle.quorum_model.specs.Windows.{Keeps, IsKeptKey, Shows};
 ghost use Rattle.quorum_model.specs.World.{Event, first_world};
 ghost use Rattle.quorum_model.specs.Written.{all_written};
 
-/// Every run of one monitor, without crashes, is safe, whatever is asked and however long it lasts: its committed versions are
-/// the log's, what is shown and told is the log's up to the monitor's last version, and each acknowledged version is held.
+/// Every run of one monitor under the classic rule, without crashes, is safe, whatever is asked and however long it lasts: its
+/// committed versions are the log's, what is shown and told is the log's up to the monitor's last version, and each acknowledged
+/// version is held.
 pub fn law_safe()
     ensures { (events : List Event) → AllFit 1 events → Safe 1 (run alone events) }
 {}

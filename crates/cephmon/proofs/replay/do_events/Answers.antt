@@ -1,4 +1,4 @@
-use Rattle.std.proofs.Common.{◌≡◌, ℕ, suc, ◌+◌, [], ◌∷◌, drop, None, Ok, Err, refl, sym, ap, ◌∙◌, subst, arith}
+use Rattle.std.proofs.Common.{◌≡◌, suc, ◌+◌, [], ◌∷◌, drop, None, Ok, Err, refl, sym, ap, ◌∙◌, subst, arith}
 use Rattle.std.proofs.lemmas.List.{drop_more, drop_all}
 use Rattle.std.proofs.lemmas.Result.{err_from_is_err_and}
 use Rattle.std.specs.Io.KnownBytes.{Appends}
@@ -12,7 +12,8 @@ use Rattle.cephmon.proofs.replay.do_events.Goals as goal
 
 pub loop-event-init : goal.loop-event-init
 loop-event-init g c = record {
-  so_far = begins c.new-world.result (g.K.Sink.held c.args.sink.now) c.args.events.now c.new-world.ensures c.requires.fits;
+  so_far = begins c.new-world.result (g.K.Sink.held c.args.sink.now) c.args.events.now c.new-world.ensures.stands c.requires.fits;
+  usable = c.new-world.ensures.usable;
   number = refl;
   later = omega arith;
 }
@@ -40,6 +41,7 @@ loop-event-preserved g c =
     record {
       so_far = comes_on l.world c.do_event.new.world (g.K.Sink.held c.args.sink.now) (g.K.Sink.held l.sink) (g.K.Sink.held c.do_event.new.sink)
           es l.event-index (l.number + 1) e number here l.invariant.so_far c.in_ok-do_event.ensures.writes;
+      usable = c.in_ok-do_event.ensures.usable;
       number = omega (arith, l.invariant.number);
       later = omega (arith, l.invariant.later, c.in_ok-do_event.ensures.later);
     }
@@ -62,7 +64,7 @@ returns-in_err-write_all-clause-writes g c =
     let p = err_from_is_err_and c.from_residual-in_err-write_all.result c.from_residual-in_err-write_all.ensures.1 in
     let none : drop l.event-index es ≡ [] = drop_all l.event-index es (omega (arith, c.loop-event-test.false)) in
     let line : c.as_slice.result.now ≡ end_text l.event-index l.world.log =
-    c.as_slice.ensures.value ∙ c.in_ok-line.ensures ∙ ap (λ (k : ℕ). end_text k l.world.log) l.invariant.number in
+    c.as_slice.ensures.value ∙ c.in_ok-line.ensures ∙ (λ i. end_text (l.invariant.number i) (c.log_len.ensures i)) in
     let front = writes_fault c.in_err-write_all.field-0.0 mid new (record { text = end_text l.event-index l.world.log; stop = None }) (subst (AppendsFront mid new) line c.in_err-write_all.ensures.part) in
     rw (p.1, p.2) (ends (Err (fault_of c.in_err-write_all.field-0.0)) l.world (g.K.Sink.held c.args.sink.now) mid new es l.event-index none l.invariant.so_far front)
 
@@ -74,5 +76,5 @@ returns-clause-writes g c =
     let new = g.K.Sink.held c.write_all.new.sink in
     let none : drop l.event-index es ≡ [] = drop_all l.event-index es (omega (arith, c.loop-event-test.false)) in
     let line : c.as_slice.result.now ≡ end_text l.event-index l.world.log =
-    c.as_slice.ensures.value ∙ c.in_ok-line.ensures ∙ ap (λ (k : ℕ). end_text k l.world.log) l.invariant.number in
+    c.as_slice.ensures.value ∙ c.in_ok-line.ensures ∙ (λ i. end_text (l.invariant.number i) (c.log_len.ensures i)) in
     ends (Ok tt) l.world (g.K.Sink.held c.args.sink.now) mid new es l.event-index none l.invariant.so_far (refl, subst (Appends mid new) line c.in_ok-write_all.ensures.whole)

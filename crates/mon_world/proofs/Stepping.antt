@@ -1,0 +1,340 @@
+-- What the code's world does at an event is what the model's does.
+use Rattle.std.proofs.Common.{◌≡◌, ℕ, zero, suc, ◌+◌, ◌-◌, Bool, true, false, cond, max, List, [], ◌++◌, length, Option, Some, None, Result, Ok, Err, IfOk, refl, sym, ap, subst, ◌∙◌, arith, length-append}
+use Rattle.std.specs.Prelude.{◌≤◌, ◌<◌, is_some, slice_get}
+use Rattle.std.proofs.lemmas.Bool.{le-ltb, lt-ltb}
+use Rattle.mon_kv.specs.Readers.{size_of}
+use Rattle.mon_store.specs.Checkpoint.{most_size}
+use Rattle.mon_types.specs.declared.names.Which.{Which}
+use Rattle.mon_tx.specs.Map.{Store, apply}
+use Rattle.mon_tx.specs.declared.op.Op.{Op}
+use Rattle.mon_msg.specs.Protocol.Reaction as protocol
+use Rattle.mon_msg.specs.Protocol.State.{State, booting}
+use Rattle.mon_msg.specs.Protocol.View.{view, epoch_of}
+use Rattle.mon_msg.specs.declared.input.Input.{Input}
+use Rattle.mon_msg.specs.declared.input.Input.TheVariants as input
+use Rattle.mon_msg.specs.declared.phase.Timer.{Timer}
+use Rattle.mon_msg.specs.declared.plan.Sent.{Sent}
+use Rattle.mon_msg.specs.declared.request.Request.{Request}
+use Rattle.mon_msg.specs.declared.request.Session.{Session}
+use Rattle.quorum_model.specs.Clients.{letters_in}
+use Rattle.quorum_model.specs.Alone.{Waits, IsSettled}
+use Rattle.mon_kv.specs.Readers.{is_marked}
+use Rattle.quorum_model.specs.Growth.{last_of, records_after, grown}
+use Rattle.quorum_model.specs.Arrivals.{Arrival}
+use Rattle.quorum_model.specs.Happens.{map_after, after_reaction, unmoved, moved}
+use Rattle.quorum_model.specs.Happens as happens
+use Rattle.quorum_model.specs.Monitors.{alone, itself}
+use Rattle.quorum_model.specs.World.{World as Model, Event, Start, Deliver, Ring, Client, Letter}
+use Rattle.quorum_model.proofs.Ringing.{rings}
+use Rattle.quorum_model.proofs.StaysSettled.{start_settled, client_settled}
+use Rattle.schedule_text.specs.declared.event.Event.TheVariants as events
+use Rattle.schedule_text.specs.declared.event.Plain.{Plain}
+use Rattle.schedule_text.specs.declared.event.Plain.TheVariants as plain
+use Rattle.trace_text.specs.declared.step.Outcome.TheVariants.{Ran, Down, NoMessage}
+use Rattle.trace_text.specs.declared.step.StateLine.{StateLine}
+use Rattle.trace_text.specs.declared.step.StepLine.{StepLine}
+use Rattle.mon_world.specs.declared.node.Answer.{Answer}
+use Rattle.mon_world.specs.declared.node.NodeStop.{NodeStop}
+use Rattle.mon_world.specs.declared.node.NodeStop.TheVariants as node
+use Rattle.mon_world.specs.declared.node.Reaction.{Reaction}
+use Rattle.mon_world.specs.declared.stop.WorldStop.{WorldStop}
+use Rattle.mon_world.specs.declared.stop.WorldStop.TheVariants.{OutOfMemory, Spent, Full}
+use Rattle.mon_world.specs.declared.world.World.{World}
+use Rattle.mon_world.specs.Node.{Fails, sends_of, IsReaction}
+use Rattle.mon_world.specs.Events.{event_of}
+use Rattle.mon_world.proofs.Spoken.{some_is}
+use Rattle.mon_world.specs.Site.{SiteState}
+use Rattle.mon_world.specs.Stands.{IsUp, StandsFor, Stops, Does}
+use Rattle.mon_world.specs.Step.{state_of, told, state_before, numbered, replied, with_line, came_line, step, log_after, still_line, ran_line}
+use Rattle.mon_world.specs.Takes.{IsStored, Takes, state_in, taken_line, stop_of}
+
+-- ---- the log's length
+
+records-length : (m : Store) (v count : ℕ) → length (records_after m v count) ≡ count
+records-length m v zero = refl
+records-length m v (suc count) = ap suc (records-length m (suc v) count)
+
+max-minus : (a b : ℕ) → a + (b - a) ≡ max a b
+max-minus a b = omega arith
+
+grown-length : (log : List (List ℕ)) (m : Store) → length (grown log m) ≡ log_after (length log) m
+unfolding grown
+grown-length log m = by (is_marked m)
+  where
+    by : (b : Bool) → length (cond b log (log ++ records_after m (length log) (last_of m - length log))) ≡ cond b (length log) (max (length log) (last_of m))
+    by true = refl
+    by false = length-append log _ ∙ ap (λ n. length log + n) (records-length m (length log) (last_of m - length log)) ∙ max-minus (length log) (last_of m)
+
+-- ---- a monitor that did what its reaction says
+
+-- its world and lines, unless it stops the run
+abbrev took : Model → Event → Arrival → Option (Result protocol.Reaction Which) → Result (Model × StepLine) happens.Stop
+took w e a r = with_line (came_line w a r) (after_reaction w e a.rank r)
+
+none_in : (answer : Option Answer) → letters_in (sends_of answer) ≡ []
+none_in None = refl
+none_in (Some a) = refl
+
+none_sent : (n : ℕ) (answer : Option Answer) → numbered n (letters_in (sends_of answer)) ≡ []
+none_sent n None = refl
+none_sent n (Some a) = refl
+
+is_up : (b : Bool) (s : State) → b ≡ true → Waits s → IsUp b (Some s)
+is_up b s e h = subst (λ (b : Bool). IsUp b (Some s)) (sym e) h
+
+stands_at : (m : Store) (s : State) → Waits s → state_of m s ≡ state_in m
+stands_at m s h = λ i. record { phase = h.leads.active i; epoch = epoch_of (view m); last = last_of m }
+
+module _ (old new : World) (w : Model) (e : Event) (at : ℕ) (i : Input) (before : Option StateLine) (y : Reaction) (x : protocol.Reaction) where
+  abbrev arrived : Arrival
+  arrived = record { rank = 0; at = at; input = i }
+
+  -- the map after it
+  abbrev after : Store
+  after = apply y.tx (w.store 0)
+
+  kept : x.transaction ≡ y.tx → map_after w 0 x ≡ after
+  kept tx = ap (λ (ops : List Op). apply ops (w.store 0)) tx
+
+  told_line : before ≡ state_before w 0 i → x.transaction ≡ y.tx → x.sends ≡ sends_of y.answer → Waits x.state → ran_line w arrived x ≡ taken_line 0 before y after
+  told_line was tx sends waits = λ j. record {
+    outcome = Ran;
+    ops = length (tx j);
+    state = told (sym was j) ((stands_at (map_after w 0 x) x.state waits ∙ ap state_in (kept tx)) j);
+    sent = (ap (λ (s : List Sent). numbered (suc (length w.letters)) (letters_in s)) sends ∙ none_sent (suc (length w.letters)) y.answer) j;
+    replies = replied 0 (sends j);
+  }
+
+  stays_small : size_of (map_after w 0 x) ≤ most_size → took w e arrived (Some (Ok x)) ≡ Ok (moved w e 0 x, ran_line w arrived x)
+  stays_small small = rw (le-ltb most_size (size_of (map_after w 0 x)) small) refl
+
+  grows_large : most_size < size_of (map_after w 0 x) → took w e arrived (Some (Ok x)) ≡ Err (happens.Full (size_of (map_after w 0 x)))
+  grows_large large = rw (lt-ltb most_size (size_of (map_after w 0 x)) large) refl
+
+  stands_so : StandsFor old w → x.transaction ≡ y.tx → x.sends ≡ sends_of y.answer → Waits x.state → IsSettled (view (map_after w 0 x)) → IsStored new.site after → new.log ≡ log_after old.log after → StandsFor new (moved w e 0 x)
+  unfolding moved
+  stands_so stand tx sends waits settled stored log = record {
+    map = stored.map ∙ ap Some (sym (kept tx));
+    up = is_up (is_some new.site.standing) x.state stored.open_now waits;
+    log = log ∙ (λ j. log_after (stand.log j) (sym (kept tx) j)) ∙ sym (grown-length w.log (map_after w 0 x));
+    small = subst (λ (m : Store). size_of m ≤ most_size) (sym (kept tx)) stored.small;
+    settled = settled;
+    silent = λ j. stand.silent j ++ (ap letters_in sends ∙ none_in y.answer) j;
+  }
+
+  ran : (result : Result StepLine WorldStop) → StandsFor old w → before ≡ state_before w 0 i → x.transaction ≡ y.tx → x.sends ≡ sends_of y.answer → Waits x.state → IsSettled (view (map_after w 0 x))
+      → Takes result new old.log (taken_line 0 before y after) after → Does result new (took w e arrived (Some (Ok x)))
+  ran (Ok line) stand was tx sends waits settled takes =
+      let small : size_of (map_after w 0 x) ≤ most_size = subst (λ (m : Store). size_of m ≤ most_size) (sym (kept tx)) takes.1.small in
+      let same = told_line was tx sends waits ∙ sym takes.0 in
+      (moved w e 0 x, stays_small small ∙ ap (λ (l : StepLine). Ok (moved w e 0 x, l)) same, stands_so stand tx sends waits settled takes.1 takes.2)
+  ran (Err OutOfMemory) stand was tx sends waits settled takes = tt
+  ran (Err (Spent which)) stand was tx sends waits settled takes = absurd takes
+  ran (Err (Full would_be)) stand was tx sends waits settled takes =
+      let large : most_size < size_of (map_after w 0 x) = subst (λ (m : Store). most_size < size_of m) (sym (kept tx)) takes.0 in
+      grows_large large ∙ ap (λ (n : ℕ). Err (happens.Full n)) (ap size_of (kept tx) ∙ sym takes.1)
+
+ok_has : (P : protocol.Reaction → Type 0) (r : Result protocol.Reaction Which) (x : protocol.Reaction) → r ≡ Ok x → IfOk r P → P x
+ok_has P (Ok y) x e h = let same : y ≡ x = cc in subst P same h
+ok_has P (Err which) x e h = let lost : ◌≡◌ {A = Result protocol.Reaction Which} (Err which) (Ok x) = e in absurd cc
+
+fails_so : (s : NodeStop) (r : Result protocol.Reaction Which) (w : Model) (e : Event) (a : Arrival) → Fails s r → Stops (stop_of s) (took w e a (Some r))
+fails_so node.OutOfMemory r w e a h = tt
+fails_so (node.Spent which) r w e a h = ap (λ (r : Result protocol.Reaction Which). took w e a (Some r)) h
+
+-- ---- the map that the code reads is that of the model's monitor
+
+same_map : {m n : Store} → ◌≡◌ {A = Option Store} (Some m) (Some n) → m ≡ n
+same_map e = cc
+
+pub map_is : (site : SiteState) (m n : Store) → site.map ≡ Some m → site.map ≡ Some n → m ≡ n
+map_is site m n is too = same_map (sym is ∙ too)
+
+pub settled_here : (w : Model) (m : Store) → m ≡ w.store 0 → IsSettled (view (w.store 0)) → IsSettled (view m)
+settled_here w m is settled = subst (λ (m : Store). IsSettled (view m)) (sym is) settled
+
+-- ---- a start
+
+module _ (old : World) (w : Model) (rank at : ℕ) (is_0 : rank ≡ 0) (m : Store) (is : m ≡ w.store 0) (stand : StandsFor old w) where
+  abbrev begins : Store → Result protocol.Reaction Which
+  begins m = protocol.reaction itself at m (booting 0) input.Start
+
+  pub start-ran : (result : Result StepLine WorldStop) (new : World) (y : Reaction) → IsReaction y (begins m)
+      → Takes result new old.log (taken_line rank None y (apply y.tx (w.store 0))) (apply y.tx (w.store 0)) → Does result new (step alone w (Start rank at))
+  start-ran result new y r =
+      subst (λ (rank : ℕ). Takes result new old.log (taken_line rank None y (apply y.tx (w.store 0))) (apply y.tx (w.store 0)) → Does result new (step alone w (Start rank at))) (sym is_0)
+      (λ takes.
+      subst (Does result new) (sym (ap (λ (r : Result protocol.Reaction Which). took w (Start 0 at) (record { rank = 0; at = at; input = input.Start }) (Some r)) done))
+      (ran old new w (Start 0 at) at input.Start None y r.reaction result stand refl r.transaction r.sends r.waits
+      (ok_has (λ x. IsSettled (view (apply x.transaction (w.store 0)))) (begins (w.store 0)) r.reaction done (start_settled at (w.store 0) stand.settled)) takes))
+    where
+      done : begins (w.store 0) ≡ Ok r.reaction
+      done = ap begins (sym is) ∙ r.is
+
+  pub start-stops : (s : NodeStop) → Fails s (begins m) → Stops (stop_of s) (step alone w (Start rank at))
+  start-stops s fails =
+      subst (λ (rank : ℕ). Stops (stop_of s) (step alone w (Start rank at))) (sym is_0)
+      (fails_so s (begins (w.store 0)) w (Start 0 at) (record { rank = 0; at = at; input = input.Start }) (subst (λ (m : Store). Fails s (begins m)) is fails))
+
+-- ---- what comes to a monitor that is up
+
+-- what the monitor remembers, which is up
+record Remembers (w : Model) : Type 0 where
+  state : State
+  is : w.state 0 ≡ Some state
+  waits : Waits state
+
+remembers : (up : Bool) (w : Model) → up ≡ true → IsUp up (w.state 0) → Remembers w
+remembers up w e h = by (w.state 0) refl (subst (λ (b : Bool). IsUp b (w.state 0)) e h)
+  where
+    by : (o : Option State) → w.state 0 ≡ o → IsUp true o → Remembers w
+    by (Some s) e h = record { state = s; is = e; waits = h }
+    by None e h = absurd h
+
+forgets : (up : Bool) (w : Model) → up ≡ false → IsUp up (w.state 0) → w.state 0 ≡ None
+forgets up w e h = by (w.state 0) (subst (λ (b : Bool). IsUp b (w.state 0)) e h)
+  where
+    by : (o : Option State) → IsUp false o → o ≡ None
+    by (Some s) h = absurd h
+    by None h = refl
+
+-- a client's request, or a timer
+module _ (old : World) (w : Model) (at : ℕ) (event : Event) (i : Input) (stand : StandsFor old w)
+    (comes : (s : State) → w.state 0 ≡ Some s → step alone w event ≡ took w event (record { rank = 0; at = at; input = i }) (Some (protocol.reaction itself at (w.store 0) s i)))
+    (stays : w.state 0 ≡ None → step alone w event ≡ Ok (unmoved w event, still_line Down))
+    (before_is : (s : State) → w.state 0 ≡ Some s → state_before w 0 i ≡ Some (state_of (w.store 0) s)) where
+  pub up-ran : (result : Result StepLine WorldStop) (new : World) (m : Store) (before : StateLine) (y : Reaction) → is_some old.site.standing ≡ true → m ≡ w.store 0 → before ≡ state_in m
+      → ((s : State) → Waits s → IsReaction y (protocol.reaction itself at m s i))
+      → ((s : State) → Waits s → IfOk (protocol.reaction itself at (w.store 0) s i) (λ x. IsSettled (view (apply x.transaction (w.store 0)))))
+      → Takes result new old.log (taken_line 0 (Some before) y (apply y.tx (w.store 0))) (apply y.tx (w.store 0)) → Does result new (step alone w event)
+  up-ran result new m before y up is was reacts settles takes =
+      subst (Does result new) (sym (comes known.state known.is ∙ ap (λ (r : Result protocol.Reaction Which). took w event (record { rank = 0; at = at; input = i }) (Some r)) done))
+      (ran old new w event at i (Some before) y r.reaction result stand stood r.transaction r.sends r.waits
+      (ok_has (λ x. IsSettled (view (apply x.transaction (w.store 0)))) (protocol.reaction itself at (w.store 0) known.state i) r.reaction done (settles known.state known.waits)) takes)
+    where
+      known : Remembers w
+      known = remembers (is_some old.site.standing) w up stand.up
+
+      r : IsReaction y (protocol.reaction itself at m (remembers (is_some old.site.standing) w up stand.up).state i)
+      r = reacts (remembers (is_some old.site.standing) w up stand.up).state (remembers (is_some old.site.standing) w up stand.up).waits
+
+      done : protocol.reaction itself at (w.store 0) known.state i ≡ Ok r.reaction
+      done = ap (λ (n : Store). protocol.reaction itself at n known.state i) (sym is) ∙ r.is
+
+      stood : ◌≡◌ {A = Option StateLine} (Some before) (state_before w 0 i)
+      stood = ap Some (was ∙ ap state_in is ∙ sym (stands_at (w.store 0) known.state known.waits)) ∙ sym (before_is known.state known.is)
+
+  pub up-stops : (s : NodeStop) (m : Store) → is_some old.site.standing ≡ true → m ≡ w.store 0 → ((t : State) → Waits t → Fails s (protocol.reaction itself at m t i)) → Stops (stop_of s) (step alone w event)
+  up-stops s m up is fails =
+      let known = remembers (is_some old.site.standing) w up stand.up in
+      subst (Stops (stop_of s)) (sym (comes known.state known.is))
+      (fails_so s (protocol.reaction itself at (w.store 0) known.state i) w event (record { rank = 0; at = at; input = i })
+      (subst (λ (n : Store). Fails s (protocol.reaction itself at n known.state i)) is (fails known.state known.waits)))
+
+  pub down : is_some old.site.standing ≡ false → Does (Ok (still_line Down)) old (step alone w event)
+  unfolding unmoved
+  down off =
+      (unmoved w event, stays (forgets (is_some old.site.standing) w off stand.up), record { map = stand.map; up = stand.up; log = stand.log; small = stand.small; settled = stand.settled; silent = stand.silent })
+
+-- ---- a client's request, at a rank that is the first
+
+module _ (old : World) (w : Model) (rank at : ℕ) (is_0 : rank ≡ 0) (session : Session) (request : Request) (stand : StandsFor old w) where
+  abbrev asked : Event
+  asked = Client 0 at session request
+
+  asks : (s : State) → w.state 0 ≡ Some s → step alone w asked ≡ took w asked (record { rank = 0; at = at; input = input.Client session request }) (Some (protocol.reaction itself at (w.store 0) s (input.Client session request)))
+  asks s was = rw was refl
+
+  nobody : w.state 0 ≡ None → step alone w asked ≡ Ok (unmoved w asked, still_line Down)
+  nobody was = rw was refl
+
+  stood : (s : State) → w.state 0 ≡ Some s → state_before w 0 (input.Client session request) ≡ Some (state_of (w.store 0) s)
+  stood s was = rw was refl
+
+  pub asked-ran : (result : Result StepLine WorldStop) (new : World) (m : Store) (before : StateLine) (y : Reaction) → is_some old.site.standing ≡ true → m ≡ w.store 0 → before ≡ state_in m
+      → ((s : State) → Waits s → IsReaction y (protocol.reaction itself at m s (input.Client session request)))
+      → Takes result new old.log (taken_line rank (Some before) y (apply y.tx (w.store 0))) (apply y.tx (w.store 0)) → Does result new (step alone w (Client rank at session request))
+  asked-ran result new m before y up is was reacts =
+      subst (λ (rank : ℕ). Takes result new old.log (taken_line rank (Some before) y (apply y.tx (w.store 0))) (apply y.tx (w.store 0)) → Does result new (step alone w (Client rank at session request))) (sym is_0)
+      (up-ran old w at asked (input.Client session request) stand asks nobody stood result new m before y up is was reacts (λ s waits. client_settled at (w.store 0) stand.settled s waits session request))
+
+  pub asked-stops : (s : NodeStop) (m : Store) → is_some old.site.standing ≡ true → m ≡ w.store 0 → ((t : State) → Waits t → Fails s (protocol.reaction itself at m t (input.Client session request)))
+      → Stops (stop_of s) (step alone w (Client rank at session request))
+  asked-stops s m up is fails =
+      subst (λ (rank : ℕ). Stops (stop_of s) (step alone w (Client rank at session request))) (sym is_0) (up-stops old w at asked (input.Client session request) stand asks nobody stood s m up is fails)
+
+  pub asked-down : is_some old.site.standing ≡ false → Does (Ok (still_line Down)) old (step alone w (Client rank at session request))
+  asked-down off =
+      subst (λ (rank : ℕ). Does (Ok (still_line Down)) old (step alone w (Client rank at session request))) (sym is_0) (down old w at asked (input.Client session request) stand asks nobody stood off)
+
+-- ---- a timer
+
+module _ (old : World) (w : Model) (rank at : ℕ) (is_0 : rank ≡ 0) (t : Timer) (stand : StandsFor old w) where
+  abbrev rung : Event
+  rung = Ring 0 t at
+
+  comes_to : (s : State) → w.state 0 ≡ Some s → step alone w rung ≡ took w rung (record { rank = 0; at = at; input = input.Timer t }) (Some (protocol.reaction itself at (w.store 0) s (input.Timer t)))
+  comes_to s was = rw was refl
+
+  none_there : w.state 0 ≡ None → step alone w rung ≡ Ok (unmoved w rung, still_line Down)
+  none_there was = rw was refl
+
+  stood_so : (s : State) → w.state 0 ≡ Some s → state_before w 0 (input.Timer t) ≡ Some (state_of (w.store 0) s)
+  stood_so s was = rw was refl
+
+  settles : (s : State) → Waits s → IfOk (protocol.reaction itself at (w.store 0) s (input.Timer t)) (λ x. IsSettled (view (apply x.transaction (w.store 0))))
+  settles s waits =
+      let R = rings itself.member.most itself.member.in_map at (w.store 0) s waits t in
+      subst (λ (r : Result protocol.Reaction Which). IfOk r (λ x. IsSettled (view (apply x.transaction (w.store 0))))) (sym R.is)
+      (subst (λ (tx : List Op). IsSettled (view (apply tx (w.store 0)))) (sym R.stays.transaction) stand.settled)
+
+  pub rung-ran : (result : Result StepLine WorldStop) (new : World) (m : Store) (before : StateLine) (y : Reaction) → is_some old.site.standing ≡ true → m ≡ w.store 0 → before ≡ state_in m
+      → ((s : State) → Waits s → IsReaction y (protocol.reaction itself at m s (input.Timer t)))
+      → Takes result new old.log (taken_line rank (Some before) y (apply y.tx (w.store 0))) (apply y.tx (w.store 0)) → Does result new (step alone w (Ring rank t at))
+  rung-ran result new m before y up is was reacts =
+      subst (λ (rank : ℕ). Takes result new old.log (taken_line rank (Some before) y (apply y.tx (w.store 0))) (apply y.tx (w.store 0)) → Does result new (step alone w (Ring rank t at))) (sym is_0)
+      (up-ran old w at rung (input.Timer t) stand comes_to none_there stood_so result new m before y up is was reacts settles)
+
+  pub rung-down : is_some old.site.standing ≡ false → Does (Ok (still_line Down)) old (step alone w (Ring rank t at))
+  rung-down off = subst (λ (rank : ℕ). Does (Ok (still_line Down)) old (step alone w (Ring rank t at))) (sym is_0) (down old w at rung (input.Timer t) stand comes_to none_there stood_so off)
+
+-- ---- a message, of which none was sent
+
+no_letter : (letters : List Letter) → letters ≡ [] → (k : ℕ) → slice_get letters k ≡ None
+no_letter letters e k = ap (λ (ls : List Letter). slice_get ls k) e
+
+nothing_comes : (w : Model) (k at : ℕ) → w.letters ≡ [] → step alone w (Deliver k at) ≡ Ok (unmoved w (Deliver k at), still_line NoMessage)
+nothing_comes w zero at none = refl
+nothing_comes w (suc k) at none = rw (no_letter w.letters none k) refl
+
+pub delivered-none : (old : World) (w : Model) (k at : ℕ) → StandsFor old w → Does (Ok (still_line NoMessage)) old (step alone w (Deliver k at))
+unfolding unmoved
+delivered-none old w k at stand =
+    (unmoved w (Deliver k at), nothing_comes w k at stand.silent, record { map = stand.map; up = stand.up; log = stand.log; small = stand.small; settled = stand.settled; silent = stand.silent })
+
+-- ---- a schedule's event
+
+module _ (r : Result StepLine WorldStop) (old new : World) (event : Plain) where
+  -- what happens by it
+  happens_by : (next : Plain) → event ≡ next → (w : Model) (e h : Event) → event_of (events.Plain event) ≡ Some e → event_of (events.Plain next) ≡ Some h
+      → Does r new (step alone w h) → Does r new (step alone w e)
+  happens_by next so w e h happens would does =
+      let same : h ≡ e = some_is (sym would ∙ sym (ap (λ (p : Plain). event_of (events.Plain p)) so) ∙ happens) in
+      subst (λ (e : Event). Does r new (step alone w e)) same does
+
+  pub step-start : (rank at : ℕ) → event ≡ plain.Start rank at → ((at : ℕ) (w : Model) → StandsFor old w → Does r new (step alone w (Start rank at)))
+      → (w : Model) (e : Event) → StandsFor old w → event_of (events.Plain event) ≡ Some e → Does r new (step alone w e)
+  step-start rank at so does w e stand happens = happens_by (plain.Start rank at) so w e (Start rank at) happens refl (does at w stand)
+
+  pub step-client : (rank at : ℕ) (session : Session) (request : Request) → event ≡ plain.Client rank at session request
+      → ((at : ℕ) (w : Model) → StandsFor old w → Does r new (step alone w (Client rank at session request)))
+      → (w : Model) (e : Event) → StandsFor old w → event_of (events.Plain event) ≡ Some e → Does r new (step alone w e)
+  step-client rank at session request so does w e stand happens = happens_by (plain.Client rank at session request) so w e (Client rank at session request) happens refl (does at w stand)
+
+  pub step-ring : (rank : ℕ) (t : Timer) (at : ℕ) → event ≡ plain.Timer rank t at → ((t : Timer) (at : ℕ) (w : Model) → StandsFor old w → Does r new (step alone w (Ring rank t at)))
+      → (w : Model) (e : Event) → StandsFor old w → event_of (events.Plain event) ≡ Some e → Does r new (step alone w e)
+  step-ring rank t at so does w e stand happens = happens_by (plain.Timer rank t at) so w e (Ring rank t at) happens refl (does t at w stand)
+
+  pub step-deliver : (k at : ℕ) → event ≡ plain.Deliver k at → ((k at : ℕ) (w : Model) → StandsFor old w → Does r new (step alone w (Deliver k at)))
+      → (w : Model) (e : Event) → StandsFor old w → event_of (events.Plain event) ≡ Some e → Does r new (step alone w e)
+  step-deliver k at so does w e stand happens = happens_by (plain.Deliver k at) so w e (Deliver k at) happens refl (does k at w stand)
