@@ -19,4 +19,6 @@ pub use reading::read;
 pub use row::last_version;
 
 #[cfg(test)]
+mod reading_tests;
+#[cfg(test)]
 mod tests;
