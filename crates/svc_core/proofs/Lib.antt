@@ -9,6 +9,5 @@ pub mod Starts
 pub mod Steps
 pub mod Tellings
 pub mod Transactions
-pub mod Turns
 pub mod DraftSizes
 pub mod ShortValues
