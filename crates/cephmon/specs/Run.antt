@@ -22,7 +22,8 @@ use Rattle.cephmon.specs.Trace.{Trace, trace}
 abbrev pub IsReplay : List (String Global) → Type 0
 IsReplay words = map string_bytes words ≡ codes "replay" ∷ []
 
--- What stands before a run and after it: what the source has left, what the sink holds, and their counts of faults.
+-- What stands before a run and after it: what the source has left and what the sink holds, where they tell it, and their counts of
+-- faults. Of a source or a sink that tells nothing, as the standard streams, no bytes are known.
 pub record Outside : Type 0 where
   pub left : Option (List ℕ)
   pub held : Option (List ℕ)

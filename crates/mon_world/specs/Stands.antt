@@ -1,5 +1,6 @@
 -- What the code's world stands for.
 use Rattle.std.specs.Prelude.{◌≡◌, ◌≤◌, Bool, true, false, [], length, Option, Some, None, is_some, Result, Ok, Err, IsTrue}
+use Rattle.mon_types.specs.declared.member.Member.{Member}
 use Rattle.mon_kv.specs.Readers.{size_of}
 use Rattle.mon_store.specs.Checkpoint.{most_size}
 use Rattle.trace_text.specs.declared.step.StepLine.{StepLine}
@@ -11,6 +12,10 @@ use Rattle.quorum_model.specs.World as model
 use Rattle.mon_world.specs.declared.stop.WorldStop.{WorldStop}
 use Rattle.mon_world.specs.declared.stop.WorldStop.TheVariants.{OutOfMemory, Spent, Full}
 use Rattle.mon_world.specs.declared.world.World.{World}
+
+-- whose the disks are: those of the one monitor of a map
+abbrev pub IsItself : Member → Type 0
+IsItself member = (member.rank ≡ 0) × (member.monitors ≡ 1)
 
 -- no call broke its store
 abbrev pub IsUsable : World → Type 0

@@ -4,6 +4,7 @@ ghost use Rattle.std.specs.Prelude.{◌≡◌, ◌≤◌, true, Some, is_some, l
 ghost use Rattle.mon_tx.specs.Map.{Store, apply};
 ghost use Rattle.mon_tx.specs.Text.{text, most};
 ghost use Rattle.quorum_model.specs.Monitors.{itself};
+ghost use Rattle.mon_world.specs.Stands.{IsItself};
 ghost use Rattle.mon_world.specs.Takes.{Stores};
 
 use crate::lines::{log_after, nothing, replies_of, state_of, told};
@@ -18,7 +19,9 @@ use std::alloc::Global;
 use trace_text::{Outcome, StateLine, StepLine};
 
 /// The one monitor of a map.
-fn itself() -> Member {
+fn itself() -> Member
+    ensures { IsItself result }
+{
     let Some(rank) = Rank::new(0) else {
         unreachable!()
     };
@@ -36,6 +39,7 @@ fn keep(site: &mut Site, tx: &Transaction) -> Result<(), WorldStop>
     ensures stored { (m : Store) → site.old.map ≡ Some m → Stores result site.new (apply tx.now m) }
     ensures map { OnOk result (is_some site.new.map ≡ true) }
     ensures open { is_some site.new.standing ≡ true }
+    ensures member { site.new.member ≡ site.old.member }
 {
     match site.apply(tx) {
         Ok(()) => Ok(()),
@@ -61,14 +65,15 @@ impl World {
     ghost use Rattle.quorum_model.specs.Monitors.{alone};
     ghost use Rattle.quorum_model.specs.World.{World as Model, Event as Happening, first_world, Start, Ring, Client};
     ghost use Rattle.mon_world.specs.Events.{event_runs, event_of};
-    ghost use Rattle.mon_world.specs.Stands.{IsUsable, StandsFor, Does};
+    ghost use Rattle.mon_world.specs.Stands.{IsItself, IsUsable, StandsFor, Does};
     ghost use Rattle.mon_world.specs.Step.{step};
     ghost use Rattle.mon_world.specs.Takes.{Takes, taken_line};
 
-    /// A monitor that is down, with empty disks, and an empty log.
+    /// The one monitor, which is down, with empty disks, and an empty log.
     pub fn new(alloc: Global) -> World
         ensures stands { StandsFor result first_world }
         ensures usable { IsUsable result }
+        ensures member { IsItself result.site.member }
     {
         World {
             alloc,
@@ -96,6 +101,7 @@ impl World {
         requires open { IsTrue (is_some self.old.site.standing) }
         ensures taken { (m : Store) → self.old.site.map ≡ Some m → Takes result self.new self.old.log (taken_line rank before reaction (apply reaction.tx m)) (apply reaction.tx m) }
         ensures usable { OnOk result (IsUsable self.new) }
+        ensures member { self.new.site.member ≡ self.old.site.member }
     {
         let Reaction { tx, answer } = reaction;
         keep(&mut self.site, &tx)?;
@@ -116,6 +122,7 @@ impl World {
         requires usable { IsUsable self.old }
         ensures does { (at : ℕ) (w : Model) → StandsFor self.old w → Does result self.new (step alone w (Start rank at)) }
         ensures usable { OnOk result (IsUsable self.new) }
+        ensures member { self.new.site.member ≡ self.old.site.member }
     {
         self.site.start()?;
         let reaction = start(self.alloc, rank, self.site.kv())?;
@@ -132,6 +139,7 @@ impl World {
         requires usable { IsUsable self.old }
         ensures does { (at : ℕ) (w : Model) → StandsFor self.old w → Does result self.new (step alone w (Client rank at session request.now)) }
         ensures usable { OnOk result (IsUsable self.new) }
+        ensures member { self.new.site.member ≡ self.old.site.member }
     {
         if !self.site.is_open() {
             return Ok(nothing(self.alloc, Outcome::Down));
@@ -147,6 +155,7 @@ impl World {
         requires usable { IsUsable self.old }
         ensures does { (t : Timer) (at : ℕ) (w : Model) → StandsFor self.old w → Does result self.new (step alone w (Ring rank t at)) }
         ensures usable { OnOk result (IsUsable self.new) }
+        ensures member { self.new.site.member ≡ self.old.site.member }
     {
         if !self.site.is_open() {
             return Ok(nothing(self.alloc, Outcome::Down));
@@ -163,6 +172,7 @@ impl World {
         requires usable { IsUsable self.old }
         ensures does { (w : Model) (e : Happening) → StandsFor self.old w → event_of (Event.Plain event.now) ≡ Some e → Does result self.new (step alone w e) }
         ensures usable { OnOk result (IsUsable self.new) }
+        ensures member { self.new.site.member ≡ self.old.site.member }
     {
         match event {
             Plain::Start { rank, .. } => self.start(*rank),
@@ -183,6 +193,7 @@ impl World {
         requires usable { IsUsable self.old }
         ensures does { (w : Model) (e : Happening) → StandsFor self.old w → event_of event.now ≡ Some e → Does result self.new (step alone w e) }
         ensures usable { OnOk result (IsUsable self.new) }
+        ensures member { self.new.site.member ≡ self.old.site.member }
     {
         match event {
             Event::Plain(event) => self.plain(event),
