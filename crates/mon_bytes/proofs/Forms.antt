@@ -1,24 +1,20 @@
 -- What the readers of forms take, and that they read what is spelled.
-use Rattle.std.proofs.Common.{◌≡◌, ℕ, ◌^◌, ◌<◌, cond, eqb, List, [], ◌++◌, length, Result, Ok, Err, IsTrue, refl, sym, ap, subst, arith}
+use Rattle.std.proofs.Common.{◌≡◌, ℕ, ◌^◌, ◌<◌, cond, eqb, List, [], ◌++◌, length, Result, Ok, Err, IsTrue, refl, sym, subst, arith}
 use Rattle.std.proofs.lemmas.Bool.{eqb-true}
 use Rattle.std.proofs.lemmas.List.{nil_from_length}
 use Rattle.std.specs.Str.{is_utf8}
 use Rattle.byteorder.specs.Endian.{little_bytes}
 use Rattle.byteorder.specs.Numbers.{little_number-reads_back}
 use Rattle.mon_bytes.specs.declared.cursor.Short.{Short}
-use Rattle.mon_bytes.specs.declared.command.MapRefused.{MapRefused}
 use Rattle.mon_bytes.specs.declared.command.MapRefused.TheVariants as refused
 use Rattle.mon_bytes.specs.Reading.{IsBytes, Reading, number, front}
 use Rattle.mon_bytes.specs.Forms.{◌>>=◌, fitted, u32_bytes, text_bytes, text_at, ended}
+pub use Rattle.mon_bytes.proofs.Formats.{bind_ok}
+use Rattle.mon_bytes.proofs.Formats.{at_fault_ok}
 use Rattle.mon_bytes.proofs.Fields.{chosen_ok, ok_is, Takes, Takes-then, front_takes, number_takes, Found, number_found, front_found}
 
-pub bind_ok : {A B : Type 0} (r : Result A MapRefused) (f : A → Result B MapRefused) (y : B) → (r >>= f) ≡ Ok y → (x : A) × (r ≡ Ok x) × (f x ≡ Ok y)
-bind_ok (Ok x) f y e = (x, refl, e)
-bind_ok (Err d) f y e = absurd cc
-
 pub fitted_ok : {A : Type 0} (r : Result A Short) (x : A) → fitted r ≡ Ok x → r ≡ Ok x
-fitted_ok (Ok y) x e = let same : y ≡ x = cc in ap (λ z. Ok z) same
-fitted_ok (Err s) x e = absurd cc
+fitted_ok r x e = at_fault_ok (λ at. refused.Form at) r x e
 
 pub length-u32_bytes : (n : ℕ) → length (u32_bytes n) ≡ 4
 unfolding u32_bytes

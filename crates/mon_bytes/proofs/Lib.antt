@@ -1,4 +1,6 @@
 pub mod Ascii
 pub mod Fields
+pub mod Formats
 pub mod Forms
+pub mod ItemsLoop
 pub mod LittleEndian

@@ -1,34 +1,33 @@
 -- Reading what the services keep, where each field at fault is named by its first place.
-use Rattle.std.specs.Prelude.{◌≡◌, ℕ, ◌++◌, List, length, Result, Ok, Err, ◌==◌, if◌then◌else◌}
+use Rattle.std.specs.Prelude.{ℕ, ◌++◌, Bool, true, false, List, length, Result, Ok, Err, ◌==◌, if◌then◌else◌}
 use Rattle.std.specs.Str.{is_utf8}
 use Rattle.byteorder.specs.Endian.{little_bytes}
 use Rattle.mon_bytes.specs.declared.cursor.Short.{Short}
 use Rattle.mon_bytes.specs.declared.command.MapRefused.{MapRefused}
 use Rattle.mon_bytes.specs.declared.command.MapRefused.TheVariants as refused
 use Rattle.mon_bytes.specs.Reading.{Reading, number, front}
+use Rattle.mon_bytes.specs.Answers as answers
+use Rattle.mon_bytes.specs.Answers.{at_fault}
+pub use Rattle.mon_bytes.specs.Answers.{◌>>=◌}
 
-infixl 10 ◌>>=◌
-abbrev pub ◌>>=◌ : {A B : Type 0} → Result A MapRefused → (A → Result B MapRefused) → Result B MapRefused
-(Ok x) >>= f = f x
-(Err e) >>= f = Err e
+-- whether memory ran out
+abbrev pub no_memory : MapRefused → Bool
+no_memory (refused.Form at) = false
+no_memory refused.OutOfMemory = true
 
 -- a field that doesn't fit is at fault
 abbrev pub fitted : {A : Type 0} → Result A Short → Result A MapRefused
-fitted (Ok x) = Ok x
-fitted (Err s) = Err (refused.Form s.at)
+fitted read = at_fault (λ at. refused.Form at) read
 
 -- What a call answered and left is what reading gives, unless memory ran out.
 abbrev pub Fails : {Y : Type 0} → MapRefused → Result Y MapRefused → Type 0
-Fails refused.OutOfMemory read = Unit {0}
-Fails e read = read ≡ Err e
+Fails e read = answers.Fails no_memory e read
 
 abbrev pub Reads : {X Y : Type 0} → (X → Y) → Result X MapRefused → Reading → Result (Y × Reading) MapRefused → Type 0
-Reads view (Ok x) new read = read ≡ Ok (view x, new)
-Reads view (Err e) new read = Fails e read
+Reads view result new read = answers.Reads no_memory view result new read
 
 abbrev pub Gives : {X Y : Type 0} → (X → Y) → Result X MapRefused → Result Y MapRefused → Type 0
-Gives view (Ok x) read = read ≡ Ok (view x)
-Gives view (Err e) read = Fails e read
+Gives view result read = answers.Gives no_memory view result read
 
 -- a number in four bytes, the lowest first
 unfoldable pub u32_bytes : ℕ → List ℕ

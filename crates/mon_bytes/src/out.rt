@@ -1,4 +1,4 @@
-ghost use Rattle.std.specs.Prelude.{◌≡◌, ℕ, List, [], ◌∷◌, ◌++◌, OnOk, OnErr};
+ghost use Rattle.std.specs.Prelude.{◌≡◌, ℕ, ◌<◌, List, [], ◌∷◌, ◌++◌, length, OnOk, OnErr};
 ghost use Rattle.byteorder.specs.Endian.{little_bytes};
 
 use crate::memory::OutOfMemory;
@@ -72,6 +72,21 @@ impl Out {
         let mut bytes = [0; 8];
         LittleEndian::write_u64(&mut bytes, n);
         self.put_bytes(&bytes)
+    }
+
+    /// Appends the length of a word in a byte, and the word. It is for fewer than 256 bytes.
+    pub fn put_word(&mut self, word: &[u8]) -> Result<(), OutOfMemory>
+        requires { length word.now < 256 }
+        ensures ok { OnOk result (self.new ≡ self.old ++ length word.now ∷ word.now) }
+        ensures err { OnErr result (self.new ≡ self.old) }
+    {
+        let before = self.bytes.len();
+        self.put_u8(word.len() as u8)?;
+        let put = self.put_bytes(word);
+        if put.is_err() {
+            self.bytes.truncate(before);
+        }
+        put
     }
 
     /// All of the bytes.

@@ -21,10 +21,14 @@ fn writes(rt: HostRuntime) -> Result<(), Fail> {
     out.put_u32(16909060)?;
     out.put_u64(1)?;
     out.put_bytes(b"ab")?;
+    out.put_word(b"ab")?;
     let bytes = out.into_bytes();
     assert_eq!(rt;
         bytes.as_slice(),
-        [7, 1, 2, 4, 3, 2, 1, 1, 0, 0, 0, 0, 0, 0, 0, 97, 98].as_slice()
+        [
+            7, 1, 2, 4, 3, 2, 1, 1, 0, 0, 0, 0, 0, 0, 0, 97, 98, 2, 97, 98
+        ]
+        .as_slice()
     );
     Ok(())
 }
@@ -87,5 +91,23 @@ fn a_text_with_its_length(rt: HostRuntime) -> Result<(), Fail> {
     let found = read_text(alloc, &mut Cursor::new(bytes.as_slice()))?;
     assert_eq!(rt; found.as_str(), "hi");
     assert_eq!(rt; (Name::is_form(b"a~"), Name::is_form(b"a ")), (true, false));
+    Ok(())
+}
+
+#[test]
+fn lists_and_words(rt: HostRuntime) -> Result<(), Fail> {
+    let alloc = rt.alloc();
+    let mut items = Items::new(alloc);
+    assert!(rt; items.is_empty());
+    items.push(Bytes::new(b"ab".to_vec(alloc)?))?;
+    let copied = items.copy(alloc)?;
+    assert_eq!(rt; copied.len(), 1);
+    for bytes in copied.as_slice() {
+        if Name::is_form(bytes.as_slice()) {
+            let name: Name = Name::from_slice(alloc, bytes.as_slice())?;
+            assert_eq!(rt; name.as_str(), "ab");
+        }
+    }
+    assert_eq!(rt; Items::from_vec(copied.into_vec()).len(), 1);
     Ok(())
 }

@@ -60,6 +60,17 @@ impl<const MOST: usize> Word<MOST> {
         }
     }
 
+    /// The word of these bytes, which are known to be 1 to `MOST` graphic ones.
+    pub fn from_slice(alloc: Global, bytes: &[u8]) -> Result<Word<MOST>, OutOfMemory>
+        requires { IsTrue (is_word MOST bytes.now) }
+        ensures { IfOk result (λ x. x ≡ bytes.now) }
+    {
+        match Word::new(Vec::from_slice(alloc, bytes)?) {
+            Some(word) => Ok(word),
+            None => unreachable!(),
+        }
+    }
+
     /// Whether the bytes are 1 to `MOST` graphic ones. It takes no memory.
     pub fn is_form(bytes: &[u8]) -> bool
         ensures { result ≡ is_word MOST bytes.now }

@@ -1,4 +1,5 @@
-ghost use Rattle.std.specs.Prelude.{◌≡◌, ℕ, ◌≤◌, ◌^◌, ◌↔◌, IsSome, IfSome};
+ghost use Rattle.std.specs.Prelude.{◌≡◌, ℕ, ◌+◌, ◌≤◌, ◌<◌, ◌^◌, ◌↔◌, IsSome, IfSome};
+ghost use Rattle.mon_types.specs.Numbers.{plus_one_saturating};
 
 use std::marker::{Model, PhantomData};
 
@@ -36,6 +37,32 @@ impl<K: Copy> Number<K> {
         } else {
             None
         }
+    }
+
+    /// The number `n`, which is known to be at most 2^62.
+    pub fn known(n: u64) -> Number<K>
+        requires { n ≤ 2 ^ 62 }
+        ensures { result ≡ n }
+    {
+        Number {
+            number: n,
+            kind: PhantomData,
+        }
+    }
+
+    /// The number above it, or `None` exactly at 2^62.
+    pub fn plus_one(self) -> Option<Number<K>>
+        ensures valid { IsSome result ↔ (self < 2 ^ 62) }
+        ensures value { IfSome result (λ x. x ≡ self + 1) }
+    {
+        Number::new(self.number + 1)
+    }
+
+    /// The number above it, or 2^62 at 2^62.
+    pub fn plus_one_saturating(self) -> Number<K>
+        ensures { result ≡ plus_one_saturating self }
+    {
+        Number::known((self.number + 1).min(GREATEST))
     }
 
     /// The number itself.

@@ -31,6 +31,14 @@ impl Rank {
         }
     }
 
+    /// The rank `r`, which is known to be at most 14.
+    pub fn known(r: u8) -> Rank
+        requires { r ≤ 14 }
+        ensures { result ≡ r }
+    {
+        Rank { rank: r }
+    }
+
     /// The rank as a number.
     pub fn get(self) -> u8
         ensures value { result ≡ self }

@@ -43,3 +43,23 @@ fn sets_and_bounds(rt: HostRuntime) -> Result<(), Fail> {
     assert_eq!(rt; Moment::new(0).map(|v| v.get()), Some(0));
     Ok(())
 }
+
+#[test]
+fn sets_as_numbers_and_lists(rt: HostRuntime) -> Result<(), Fail> {
+    for (bits, count, within, last) in [
+        (0u16, 0u8, 0u8, None),
+        (1, 1, 1, Some(0u8)),
+        (16385, 2, 15, Some(14)),
+        (32768, 0, 0, None),
+    ] {
+        let set = RankSet::from_bits(bits);
+        assert_eq!(rt; set.to_bits(), bits % 32768);
+        assert_eq!(rt; (set.count(), set.is_empty()), (count, count == 0));
+        assert_eq!(rt; (set.is_within(within), set.is_within(15)), (true, true));
+        assert_eq!(rt; set.iter().last().map(|r| r.get()), last, "of {bits}");
+    }
+    let last = Version::known(GREATEST);
+    assert_eq!(rt; (last.plus_one(), last.plus_one_saturating()), (None, last));
+    assert_eq!(rt; Side::A.other(), Side::B);
+    Ok(())
+}
