@@ -1,7 +1,5 @@
 -- The ranks of a set, one after the other.
-use Rattle.std.proofs.Common.{◌≡◌, ℕ, suc, ◌+◌, ◌-◌, ◌≤◌, ◌<◌, Bool, true, false, cond, List, [], ◌∷◌, refl, ap, arith}
-use Rattle.std.specs.Prelude.{filter}
-use Rattle.std.specs.List.{range_with_len}
+use Rattle.std.proofs.Common.{◌≡◌, ℕ, suc, ◌+◌, ◌-◌, ◌≤◌, ◌<◌, Bool, true, false, cond, List, [], ◌∷◌, refl, arith}
 use Rattle.mon_types.specs.Ranks.{has, ranks_from}
 
 one_more : (n : ℕ) (s : List Bool) → n < 15 → ranks_from n s ≡ cond (has s n) (n ∷ ranks_from (n + 1) s) (ranks_from (n + 1) s)

@@ -1,5 +1,5 @@
 use Rattle.mon_types.specs.Ranks.{low_bits}
-use Rattle.mon_types.proofs.Bits.{filled_first, filled_next, filled_last}
+use Rattle.mon_types.proofs.Bits.{filled_next}
 use Rattle.mon_types.proofs.rank_set.RankSet.from_bits.Goals as goal
 
 pub loop-r-preserved : goal.loop-r-preserved
