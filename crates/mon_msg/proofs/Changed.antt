@@ -13,8 +13,8 @@ use Rattle.mon_tx.specs.Keys.{place, cell}
 use Rattle.mon_tx.specs.Decision.{Cell, decision, or_before}
 use Rattle.mon_tx.proofs.Places.{number_in-bytes}
 use Rattle.mon_tx.proofs.After.{get-apply}
-use Rattle.mon_msg.specs.declared.request.Service.{Service}
-use Rattle.mon_msg.specs.declared.request.Service.TheVariants.{Kv, Log}
+use Rattle.mon_wire.specs.declared.request.Service.{Service}
+use Rattle.mon_wire.specs.declared.request.Service.TheVariants.{Kv, Log}
 use Rattle.mon_msg.specs.Joined.{joined}
 use Rattle.mon_msg.specs.Puts.{area_of}
 use Rattle.mon_msg.specs.Protocol.View.{number_if_there}

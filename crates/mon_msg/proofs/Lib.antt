@@ -5,17 +5,3 @@ pub mod Joining
 pub mod Once
 pub mod Afterwards
 pub mod PutOnce
-pub mod Formats
-pub mod FieldLaws
-pub mod PartLaws
-pub mod ClientLaws
-pub mod ItemsLoop
-pub mod ScoreLaws
-pub mod BodyLaws
-pub mod KindBytes
-pub mod PaddedLoop
-pub mod BitsLoop
-pub mod WholeLaws
-pub mod WriteLoops
-pub mod PartLengths
-pub mod BodyLengths

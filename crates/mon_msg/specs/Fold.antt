@@ -15,10 +15,10 @@ use Rattle.map_kv.specs.Decode as kv_decode
 use Rattle.map_log.specs.declared.inc.LogInc.{LogInc}
 use Rattle.map_log.specs.Map as log
 use Rattle.map_log.specs.Decode as log_decode
-use Rattle.mon_msg.specs.declared.reply.ShownMap.{ShownMap}
-use Rattle.mon_msg.specs.declared.reply.ShownMap.TheVariants as map
-use Rattle.mon_msg.specs.declared.request.Service.{Service}
-use Rattle.mon_msg.specs.declared.request.Service.TheVariants as service
+use Rattle.mon_wire.specs.declared.reply.ShownMap.{ShownMap}
+use Rattle.mon_wire.specs.declared.reply.ShownMap.TheVariants as map
+use Rattle.mon_wire.specs.declared.request.Service.{Service}
+use Rattle.mon_wire.specs.declared.request.Service.TheVariants as service
 use Rattle.mon_msg.specs.Puts.{area_of, put}
 use Rattle.mon_msg.specs.Protocol.Maps.{if_ok}
 

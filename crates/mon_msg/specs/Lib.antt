@@ -1,5 +1,5 @@
+pub use Rattle.mon_wire.specs.Message
 pub mod Fold
 pub mod Joined
-pub mod Message
 pub mod Protocol
 pub mod Puts

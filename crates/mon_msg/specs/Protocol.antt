@@ -13,9 +13,9 @@ pub mod Hearing
 pub mod Leader
 pub mod Leading
 pub mod Learning
-pub mod Length
+pub use Rattle.mon_wire.specs.Message.Length
 pub mod Maps
-pub mod Parts
+pub use Rattle.mon_wire.specs.Message.PartLengths as Parts
 pub mod Peon
 pub mod Phases
 pub mod Pings

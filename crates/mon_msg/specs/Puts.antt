@@ -7,8 +7,8 @@ use Rattle.mon_tx.specs.declared.key.Area.TheVariants as area
 use Rattle.mon_tx.specs.declared.key.Key.{Key}
 use Rattle.mon_tx.specs.Map.{number_bytes}
 use Rattle.mon_tx.specs.Keys.{area_text, key_text}
-use Rattle.mon_msg.specs.declared.request.Service.{Service}
-use Rattle.mon_msg.specs.declared.request.Service.TheVariants.{Kv, Log}
+use Rattle.mon_wire.specs.declared.request.Service.{Service}
+use Rattle.mon_wire.specs.declared.request.Service.TheVariants.{Kv, Log}
 
 -- where a service keeps its map
 abbrev pub area_of : Service → Area

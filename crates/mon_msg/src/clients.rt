@@ -1,9 +1,8 @@
 ghost use Rattle.std.specs.Prelude.{◌≡◌, IfOk};
 
-use crate::list::{Items, TryCopy};
 use crate::plan::Origin;
-use crate::request::Session;
 use mon_bytes::{Command, OutOfMemory};
+use mon_wire::{Items, Session, TryCopy};
 use std::alloc::Global;
 
 /// A command that waits at the leader until it is proposed.

@@ -1,9 +1,7 @@
 ghost use Rattle.std.specs.Prelude.{◌≡◌, IfOk};
 
-use crate::message::Message;
-use crate::phase::Timer;
-use crate::request::{Request, Session};
 use mon_bytes::OutOfMemory;
+use mon_wire::{Message, Request, Session, Timer};
 use std::alloc::Global;
 
 /// What comes to a monitor.

@@ -1,17 +1,13 @@
-//! The laws that join what an event does to the store with what the store's readers tell, and the length of a message with its
-//! text.
+//! The laws that join what an event does to the store with what the store's readers tell.
 
-ghost use Rattle.std.specs.Prelude.{◌≡◌, ◌≤◌, false, length, List};
+ghost use Rattle.std.specs.Prelude.{◌≡◌, ◌≤◌, false, List};
 ghost use Rattle.std.specs.List.{AllByRecursion, count_by, list_any};
 ghost use Rattle.mon_tx.specs.Map.{Place, Store, apply};
 ghost use Rattle.mon_tx.specs.declared.op.Op.{Op};
 ghost use Rattle.mon_msg.specs.Joined.{joined, puts, takes_away};
-ghost use Rattle.mon_msg.specs.Message.Whole.{text, IsMessage};
 ghost use Rattle.mon_msg.specs.Protocol.Changes.{Change, spelled};
-ghost use Rattle.mon_msg.specs.Protocol.Length.{message_length};
 ghost use Rattle.mon_msg.specs.Protocol.Played.{Fits, played};
 ghost use Rattle.mon_msg.specs.Protocol.View.{view, after};
-ghost use Rattle.mon_msg.specs.declared.message.Message.{Message};
 
 /// A transaction in which each key is put once does to every map what the changes do in their order. A key that no change
 /// takes away is put at most once in it.
@@ -29,9 +25,4 @@ pub fn law_readings()
 /// of playing its changes on what they told before. Every number in the changes has to be one that the store can hold.
 pub fn law_changes()
     ensures { (cs : List Change) → AllByRecursion Fits cs → (m : Store) → view (apply (joined (spelled cs)) m) ≡ played cs (view m) }
-{}
-
-/// The length of a message by its parts is the length of its text.
-pub fn law_length()
-    ensures { (m : Message) → IsMessage m → message_length m.monitors m.body ≡ length (text m) }
 {}

@@ -1,13 +1,9 @@
 ghost use Rattle.std.specs.Prelude.{◌≡◌, IfOk};
 
-use crate::list::{Items, TryCopy};
-use crate::message::Message;
-use crate::phase::Timer;
-use crate::reply::Reply;
-use crate::request::Session;
 use mon_bytes::OutOfMemory;
 use mon_tx::Transaction;
 use mon_types::{Moment, Rank, RankSet, Which};
+use mon_wire::{Items, Message, Reply, Session, Timer, TryCopy};
 use std::alloc::Global;
 use thiserror::Error;
 

@@ -1,8 +1,8 @@
 ghost use Rattle.std.specs.Prelude.{◌≡◌, IfOk};
 
-use crate::parts::{Cookie, Place};
 use mon_bytes::OutOfMemory;
 use mon_types::{Rank, Version};
+use mon_wire::{Cookie, Place};
 use std::alloc::Global;
 
 /// What a monitor remembers of those that synchronise from it.

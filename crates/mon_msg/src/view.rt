@@ -1,6 +1,6 @@
-use crate::phase::Phase;
 use election_rules::Rule;
 use mon_types::{Member, Rank, RankSet};
+use mon_wire::Phase;
 
 /// Who a monitor is, and by which rule its map elects.
 #[derive(Clone, Copy, Debug, PartialEq, Eq)]

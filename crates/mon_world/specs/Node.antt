@@ -7,8 +7,8 @@ use Rattle.mon_tx.specs.declared.key.Key.TheVariants as key
 use Rattle.mon_tx.specs.Text.{text}
 use Rattle.mon_msg.specs.Puts.{put, put_number}
 use Rattle.mon_msg.specs.Protocol.View.{View}
-use Rattle.mon_msg.specs.declared.reply.Reply.{Reply}
-use Rattle.mon_msg.specs.declared.reply.Reply.TheVariants.{NotReadable}
+use Rattle.mon_wire.specs.declared.reply.Reply.{Reply}
+use Rattle.mon_wire.specs.declared.reply.Reply.TheVariants.{NotReadable}
 use Rattle.mon_msg.specs.Protocol.Reaction as protocol
 use Rattle.mon_msg.specs.declared.plan.Sent.{Sent}
 use Rattle.mon_msg.specs.declared.plan.Sent.TheVariants as sent

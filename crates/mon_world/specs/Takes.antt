@@ -4,7 +4,7 @@ use Rattle.mon_kv.specs.Readers.{size_of}
 use Rattle.mon_store.specs.Checkpoint.{most_size}
 use Rattle.mon_tx.specs.Map.{Store}
 use Rattle.mon_msg.specs.Protocol.View.{view, epoch_of}
-use Rattle.mon_msg.specs.declared.phase.Phase.TheVariants as phase
+use Rattle.mon_wire.specs.declared.phase.Phase.TheVariants as phase
 use Rattle.quorum_model.specs.Growth.{last_of}
 use Rattle.trace_text.specs.declared.step.Outcome.TheVariants.{Ran}
 use Rattle.trace_text.specs.declared.step.StateLine.{StateLine}

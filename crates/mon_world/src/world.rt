@@ -61,7 +61,7 @@ impl World {
     ghost use Rattle.std.specs.Prelude.{◌≡◌, ℕ, ◌≤◌, Some, is_some, length, IsTrue, OnOk};
     ghost use Rattle.mon_tx.specs.Map.{Store, apply};
     ghost use Rattle.mon_tx.specs.Text.{text, most};
-    ghost use Rattle.mon_msg.specs.declared.phase.Timer.{Timer};
+    ghost use Rattle.mon_wire.specs.declared.phase.Timer.{Timer};
     ghost use Rattle.quorum_model.specs.Monitors.{alone};
     ghost use Rattle.quorum_model.specs.World.{World as Model, Event as Happening, first_world, Start, Ring, Client};
     ghost use Rattle.mon_world.specs.Events.{event_runs, event_of};

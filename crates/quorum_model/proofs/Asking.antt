@@ -27,15 +27,15 @@ use Rattle.mon_msg.specs.Protocol.Value.{service_of, value}
 use Rattle.mon_msg.specs.Protocol.View.{View, view, shared_entries}
 use Rattle.mon_msg.specs.declared.input.Input.TheVariants as input
 use Rattle.mon_msg.specs.declared.paxos.LeaderStage.TheVariants as stage
-use Rattle.mon_msg.specs.declared.phase.Phase.TheVariants as phase
+use Rattle.mon_wire.specs.declared.phase.Phase.TheVariants as phase
 use Rattle.mon_msg.specs.declared.plan.Origin.TheVariants as origin
 use Rattle.mon_msg.specs.declared.plan.Sent.TheVariants as sent
-use Rattle.mon_msg.specs.declared.reply.Reply.TheVariants as reply
-use Rattle.mon_msg.specs.declared.reply.Reply.{Reply}
-use Rattle.mon_msg.specs.declared.request.Request.TheVariants as request
-use Rattle.mon_msg.specs.declared.request.Request.{Request}
-use Rattle.mon_msg.specs.declared.request.Service.{Service}
-use Rattle.mon_msg.specs.declared.request.Session.{Session}
+use Rattle.mon_wire.specs.declared.reply.Reply.TheVariants as reply
+use Rattle.mon_wire.specs.declared.reply.Reply.{Reply}
+use Rattle.mon_wire.specs.declared.request.Request.TheVariants as request
+use Rattle.mon_wire.specs.declared.request.Request.{Request}
+use Rattle.mon_wire.specs.declared.request.Service.{Service}
+use Rattle.mon_wire.specs.declared.request.Session.{Session}
 use Rattle.mon_msg.specs.declared.view.Me.{Me}
 use Rattle.quorum_model.specs.Clients.{command_of}
 use Rattle.quorum_model.specs.Alone.{LeadsItself}

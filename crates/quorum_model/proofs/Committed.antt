@@ -14,9 +14,9 @@ use Rattle.mon_tx.specs.Keys.{place, cell, number, shared}
 use Rattle.mon_tx.specs.Map.{Store, number_in, apply_op}
 use Rattle.mon_tx.specs.Text.{text}
 use Rattle.mon_tx.proofs.Again.{transaction_again}
-use Rattle.mon_msg.specs.declared.reply.ShownMap.{ShownMap}
-use Rattle.mon_msg.specs.declared.request.Service.{Service}
-use Rattle.mon_msg.specs.declared.request.Service.TheVariants.{Kv, Log}
+use Rattle.mon_wire.specs.declared.reply.ShownMap.{ShownMap}
+use Rattle.mon_wire.specs.declared.request.Service.{Service}
+use Rattle.mon_wire.specs.declared.request.Service.TheVariants.{Kv, Log}
 use Rattle.mon_msg.specs.Puts.{put, put_number}
 use Rattle.mon_msg.specs.Fold.{entry, fold, incrementals}
 use Rattle.mon_msg.specs.Puts.{area_of}

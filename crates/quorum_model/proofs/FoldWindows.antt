@@ -11,7 +11,7 @@ use Rattle.mon_tx.specs.Decode.{ops_in}
 use Rattle.mon_tx.specs.Keys.{place, cell}
 use Rattle.mon_tx.specs.Map.{place_cmp, number_in}
 use Rattle.mon_tx.proofs.After.{get-apply}
-use Rattle.mon_msg.specs.declared.request.Service.{Service}
+use Rattle.mon_wire.specs.declared.request.Service.{Service}
 use Rattle.mon_msg.specs.Puts.{put}
 use Rattle.mon_msg.specs.Fold.{entry, fold, incrementals, map_after}
 use Rattle.mon_msg.specs.Joined.{joined}

@@ -7,9 +7,9 @@ use Rattle.mon_tx.specs.declared.key.Area.TheVariants as area
 use Rattle.mon_tx.specs.declared.key.Key.TheVariants as key
 use Rattle.mon_tx.specs.Map.{Store, apply_op}
 use Rattle.mon_tx.specs.Decode.{ops_in}
-use Rattle.mon_msg.specs.declared.reply.Reply.{Reply}
-use Rattle.mon_msg.specs.declared.reply.Reply.TheVariants as reply
-use Rattle.mon_msg.specs.declared.request.Service.{Service}
+use Rattle.mon_wire.specs.declared.reply.Reply.{Reply}
+use Rattle.mon_wire.specs.declared.reply.Reply.TheVariants as reply
+use Rattle.mon_wire.specs.declared.request.Service.{Service}
 use Rattle.mon_msg.specs.Puts.{put_number}
 use Rattle.mon_msg.specs.Fold.{entry, fold, put_in, map_after, map_of_log}
 use Rattle.mon_msg.specs.Protocol.State.{State}

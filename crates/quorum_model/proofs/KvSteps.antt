@@ -16,8 +16,8 @@ use Rattle.map_kv.specs.declared.inc.KvInc.TheVariants.{Set, Remove}
 use Rattle.map_kv.proofs.Again.{inc_again, map_again}
 use Rattle.map_kv.proofs.Kept.{entries-kept_map, is_short, none_kept}
 use Rattle.map_kv.proofs.Lengths.{length-map_text}
-use Rattle.mon_msg.specs.declared.reply.ShownMap.TheVariants as shown
-use Rattle.mon_msg.specs.declared.request.Service.TheVariants as service
+use Rattle.mon_wire.specs.declared.reply.ShownMap.TheVariants as shown
+use Rattle.mon_wire.specs.declared.request.Service.TheVariants as service
 use Rattle.mon_msg.specs.Protocol.Maps.{next_map, spelled_map}
 use Rattle.quorum_model.proofs.Lists.{all_map, all_both}
 

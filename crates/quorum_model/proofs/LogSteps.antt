@@ -8,8 +8,8 @@ use Rattle.map_log.specs.Text.{inc_text, map_text, IsEntry}
 use Rattle.map_log.specs.declared.inc.LogInc.{LogInc}
 use Rattle.map_log.proofs.Again.{inc_again, map_again}
 use Rattle.map_log.proofs.Lengths.{length-map_text, each-append, each-trimmed, is_short, fits}
-use Rattle.mon_msg.specs.declared.reply.ShownMap.TheVariants as shown
-use Rattle.mon_msg.specs.declared.request.Service.TheVariants as service
+use Rattle.mon_wire.specs.declared.reply.ShownMap.TheVariants as shown
+use Rattle.mon_wire.specs.declared.request.Service.TheVariants as service
 use Rattle.mon_msg.specs.Protocol.Maps.{next_map, spelled_map}
 
 pub record IsFine (es : List LogInc) : Type 0 where

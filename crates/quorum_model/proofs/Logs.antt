@@ -6,7 +6,7 @@ use Rattle.mon_tx.specs.declared.key.Area.TheVariants as area
 use Rattle.mon_tx.specs.declared.key.Key.TheVariants as key
 use Rattle.mon_tx.specs.Map.{apply}
 use Rattle.mon_tx.specs.Decode.{ops_in}
-use Rattle.mon_msg.specs.declared.request.Service.{Service}
+use Rattle.mon_wire.specs.declared.request.Service.{Service}
 use Rattle.mon_msg.specs.Puts.{put}
 use Rattle.mon_msg.specs.Fold.{entry, fold, put_in, incrementals}
 use Rattle.quorum_model.proofs.Lists.{length_push}

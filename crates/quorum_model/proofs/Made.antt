@@ -7,8 +7,8 @@ use Rattle.mon_bytes.specs.declared.command.CommandRefused.{CommandRefused}
 use Rattle.map_kv.specs.Text as kv_text
 use Rattle.mon_tx.specs.declared.op.Op.{Op}
 use Rattle.mon_tx.proofs.Ties.{same_area_itself}
-use Rattle.mon_msg.specs.declared.reply.ShownMap.{ShownMap}
-use Rattle.mon_msg.specs.declared.reply.ShownMap.TheVariants as map
+use Rattle.mon_wire.specs.declared.reply.ShownMap.{ShownMap}
+use Rattle.mon_wire.specs.declared.reply.ShownMap.TheVariants as map
 use Rattle.mon_msg.specs.Fold.{put_in}
 use Rattle.mon_msg.specs.Puts.{area_of}
 use Rattle.mon_msg.specs.Protocol.Parts.{map_text}

@@ -18,10 +18,10 @@ use Rattle.map_log.specs.Decode as log_decode
 use Rattle.map_log.specs.Map as log
 use Rattle.map_log.specs.Text as log_text
 use Rattle.map_log.specs.declared.inc.LogInc.{LogInc}
-use Rattle.mon_msg.specs.declared.reply.ShownMap.{ShownMap}
-use Rattle.mon_msg.specs.declared.reply.ShownMap.TheVariants as map
-use Rattle.mon_msg.specs.declared.request.Service.{Service}
-use Rattle.mon_msg.specs.declared.request.Service.TheVariants as service
+use Rattle.mon_wire.specs.declared.reply.ShownMap.{ShownMap}
+use Rattle.mon_wire.specs.declared.reply.ShownMap.TheVariants as map
+use Rattle.mon_wire.specs.declared.request.Service.{Service}
+use Rattle.mon_wire.specs.declared.request.Service.TheVariants as service
 use Rattle.mon_msg.specs.Fold.{entry, stepped, after_all, stepped_log, log_after_all, map_after}
 use Rattle.mon_msg.specs.Protocol.Maps.{if_ok, spelled_map, next_map}
 use Rattle.mon_msg.specs.Protocol.Parts.{map_text}

@@ -14,7 +14,7 @@ use Rattle.mon_tx.specs.Keys.{area_text, place, same_area, same_key, covers}
 use Rattle.mon_tx.specs.Map.{is_decimal}
 use Rattle.mon_tx.proofs.After.{decision-append}
 use Rattle.mon_tx.proofs.Named.{decided-erase, decided-erase_range}
-use Rattle.mon_msg.specs.declared.request.Service.{Service}
+use Rattle.mon_wire.specs.declared.request.Service.{Service}
 use Rattle.mon_msg.specs.Fold.{put_in}
 use Rattle.mon_msg.specs.Puts.{area_of}
 use Rattle.mon_msg.specs.Protocol.Changes.{erase}

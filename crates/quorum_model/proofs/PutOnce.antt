@@ -13,8 +13,8 @@ use Rattle.mon_tx.specs.Keys.{place, same_area, same_key}
 use Rattle.mon_tx.specs.Map.{number_bytes}
 use Rattle.mon_tx.specs.Text.{text}
 use Rattle.mon_tx.proofs.Ties.{place_tie}
-use Rattle.mon_msg.specs.declared.request.Service.{Service}
-use Rattle.mon_msg.specs.declared.request.Service.TheVariants.{Kv, Log}
+use Rattle.mon_wire.specs.declared.request.Service.{Service}
+use Rattle.mon_wire.specs.declared.request.Service.TheVariants.{Kv, Log}
 use Rattle.mon_msg.specs.Joined.{puts, takes_away, or_here, replaced, or_last, joined_with, joined_onto, joined}
 use Rattle.mon_msg.specs.Puts.{area_of}
 use Rattle.mon_msg.specs.Protocol.Changes.{Learn, Last, spelled}

@@ -12,8 +12,8 @@ use Rattle.mon_tx.specs.Keys.{area_text, key_text, same_area}
 use Rattle.mon_tx.specs.Map.{is_decimal, number_bytes}
 use Rattle.mon_tx.proofs.Named.{area_is}
 use Rattle.mon_tx.proofs.Ranges.{decimal_is_decimal}
-use Rattle.mon_msg.specs.declared.request.Service.{Service}
-use Rattle.mon_msg.specs.declared.request.Service.TheVariants.{Kv, Log}
+use Rattle.mon_wire.specs.declared.request.Service.{Service}
+use Rattle.mon_wire.specs.declared.request.Service.TheVariants.{Kv, Log}
 use Rattle.mon_msg.specs.Puts.{put}
 use Rattle.mon_msg.specs.Fold.{put_in}
 use Rattle.mon_msg.specs.Puts.{area_of}

@@ -9,10 +9,10 @@ use Rattle.mon_tx.specs.Keys.{cell}
 use Rattle.mon_tx.specs.Decision.{Cell}
 use Rattle.mon_msg.specs.declared.plan.Sent.{Sent}
 use Rattle.mon_msg.specs.declared.plan.Sent.TheVariants as sent
-use Rattle.mon_msg.specs.declared.reply.Reply.{Reply}
-use Rattle.mon_msg.specs.declared.reply.Reply.TheVariants as reply
-use Rattle.mon_msg.specs.declared.request.Service.{Service}
-use Rattle.mon_msg.specs.declared.request.Session.{Session}
+use Rattle.mon_wire.specs.declared.reply.Reply.{Reply}
+use Rattle.mon_wire.specs.declared.reply.Reply.TheVariants as reply
+use Rattle.mon_wire.specs.declared.request.Service.{Service}
+use Rattle.mon_wire.specs.declared.request.Session.{Session}
 use Rattle.mon_msg.specs.Joined.{joined}
 use Rattle.mon_msg.specs.Fold.{incrementals, map_of_log, version_of_log}
 use Rattle.mon_msg.specs.Protocol.Changes.{Change, spelled}

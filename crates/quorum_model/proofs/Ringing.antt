@@ -9,8 +9,8 @@ use Rattle.mon_msg.specs.Protocol.Reaction.{Reaction, reaction}
 use Rattle.mon_msg.specs.Protocol.State.{State}
 use Rattle.mon_msg.specs.Protocol.Table.{react}
 use Rattle.mon_msg.specs.declared.input.Input.TheVariants as input
-use Rattle.mon_msg.specs.declared.phase.Timer.{Timer}
-use Rattle.mon_msg.specs.declared.phase.Timer.TheVariants as timer
+use Rattle.mon_wire.specs.declared.phase.Timer.{Timer}
+use Rattle.mon_wire.specs.declared.phase.Timer.TheVariants as timer
 use Rattle.quorum_model.specs.Alone.{renewed, Waits}
 use Rattle.quorum_model.proofs.Asking.{leading, same_state}
 use Rattle.quorum_model.proofs.Starting.{me}

@@ -7,9 +7,9 @@ use Rattle.mon_tx.specs.declared.key.Key.{Key}
 use Rattle.mon_tx.specs.declared.key.Key.TheVariants as key
 use Rattle.mon_tx.specs.Map.{number_bytes, number_in}
 use Rattle.mon_tx.proofs.Places.{number_in-bytes}
-use Rattle.mon_msg.specs.declared.reply.Reply.TheVariants as reply
-use Rattle.mon_msg.specs.declared.request.Service.{Service}
-use Rattle.mon_msg.specs.declared.request.Service.TheVariants.{Kv, Log}
+use Rattle.mon_wire.specs.declared.reply.Reply.TheVariants as reply
+use Rattle.mon_wire.specs.declared.request.Service.{Service}
+use Rattle.mon_wire.specs.declared.request.Service.TheVariants.{Kv, Log}
 use Rattle.mon_msg.specs.Fold.{entry, map_after}
 use Rattle.mon_msg.specs.Protocol.Maps.{next_map, spelled_map, empty_map}
 use Rattle.mon_msg.specs.Protocol.Parts.{map_text}

@@ -11,8 +11,8 @@ use Rattle.mon_tx.specs.Decision.{Cell}
 use Rattle.mon_tx.specs.Keys.{place, cell, same_area}
 use Rattle.mon_tx.specs.Map.{Store, apply, number_in, number_bytes, place_cmp}
 use Rattle.mon_tx.proofs.After.{get-apply}
-use Rattle.mon_msg.specs.declared.request.Service.{Service}
-use Rattle.mon_msg.specs.declared.request.Service.TheVariants.{Kv, Log}
+use Rattle.mon_wire.specs.declared.request.Service.{Service}
+use Rattle.mon_wire.specs.declared.request.Service.TheVariants.{Kv, Log}
 use Rattle.mon_msg.specs.Puts.{put, put_number}
 use Rattle.mon_msg.specs.Puts.{area_of}
 use Rattle.mon_msg.specs.Protocol.View.{cell_after}

@@ -7,9 +7,9 @@ use Rattle.mon_tx.specs.Text.{text}
 use Rattle.map_log.specs.Map.{with_inc}
 use Rattle.map_log.specs.Text.{inc_text}
 use Rattle.map_log.specs.declared.inc.LogInc.{LogInc}
-use Rattle.mon_msg.specs.declared.reply.ShownMap.{ShownMap}
-use Rattle.mon_msg.specs.declared.reply.ShownMap.TheVariants as map
-use Rattle.mon_msg.specs.declared.request.Service.TheVariants as service
+use Rattle.mon_wire.specs.declared.reply.ShownMap.{ShownMap}
+use Rattle.mon_wire.specs.declared.reply.ShownMap.TheVariants as map
+use Rattle.mon_wire.specs.declared.request.Service.TheVariants as service
 use Rattle.mon_msg.specs.Fold.{log_after_all, incrementals}
 use Rattle.mon_msg.specs.Protocol.Reading.{read_map}
 use Rattle.mon_msg.specs.Protocol.Value.{value, value_of, made}

@@ -19,9 +19,9 @@ use Rattle.mon_msg.specs.Protocol.State.{State, booting}
 use Rattle.mon_msg.specs.Protocol.Table.{start, react}
 use Rattle.mon_msg.specs.Protocol.View.{View, or_zero, epoch_of, promise_of, view, shared_entries}
 use Rattle.mon_msg.specs.declared.input.Input.TheVariants as input
-use Rattle.mon_msg.specs.declared.phase.Phase.TheVariants as phase
-use Rattle.mon_msg.specs.declared.phase.Phase.{Phase}
-use Rattle.mon_msg.specs.declared.phase.Timer.TheVariants as timer
+use Rattle.mon_wire.specs.declared.phase.Phase.TheVariants as phase
+use Rattle.mon_wire.specs.declared.phase.Phase.{Phase}
+use Rattle.mon_wire.specs.declared.phase.Timer.TheVariants as timer
 use Rattle.mon_msg.specs.declared.view.Me.{Me}
 use Rattle.mon_types.specs.Proposal.{next_number}
 use Rattle.mon_types.specs.declared.names.Which.TheVariants as which

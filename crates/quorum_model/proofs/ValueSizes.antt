@@ -9,8 +9,8 @@ use Rattle.map_kv.specs.Text as kv_text
 use Rattle.mon_tx.specs.declared.op.Op.{Op}
 use Rattle.mon_tx.specs.Decode.{HasText}
 use Rattle.mon_tx.specs.Text.{text}
-use Rattle.mon_msg.specs.declared.reply.ShownMap.{ShownMap}
-use Rattle.mon_msg.specs.declared.reply.ShownMap.TheVariants as map
+use Rattle.mon_wire.specs.declared.reply.ShownMap.{ShownMap}
+use Rattle.mon_wire.specs.declared.reply.ShownMap.TheVariants as map
 use Rattle.mon_msg.specs.Puts.{area_of}
 use Rattle.mon_msg.specs.Protocol.Maps.{most_map}
 use Rattle.mon_msg.specs.Protocol.Parts.{map_text}

@@ -11,14 +11,14 @@ use Rattle.mon_tx.specs.declared.op.Op.{Op}
 use Rattle.mon_kv.specs.Readers.{size_of}
 use Rattle.mon_store.specs.Checkpoint.{most_size}
 use Rattle.mon_msg.specs.declared.input.Input.TheVariants as input
-use Rattle.mon_msg.specs.declared.phase.Timer.{Timer}
+use Rattle.mon_wire.specs.declared.phase.Timer.{Timer}
 use Rattle.mon_msg.specs.declared.plan.Sent.{Sent}
 use Rattle.mon_msg.specs.declared.plan.Sent.TheVariants as sent
-use Rattle.mon_msg.specs.declared.reply.Reply.{Reply}
-use Rattle.mon_msg.specs.declared.reply.Reply.TheVariants as reply
-use Rattle.mon_msg.specs.declared.request.Request.{Request}
-use Rattle.mon_msg.specs.declared.request.Request.TheVariants as request
-use Rattle.mon_msg.specs.declared.request.Session.{Session}
+use Rattle.mon_wire.specs.declared.reply.Reply.{Reply}
+use Rattle.mon_wire.specs.declared.reply.Reply.TheVariants as reply
+use Rattle.mon_wire.specs.declared.request.Request.{Request}
+use Rattle.mon_wire.specs.declared.request.Request.TheVariants as request
+use Rattle.mon_wire.specs.declared.request.Session.{Session}
 use Rattle.mon_msg.specs.Joined.{joined}
 use Rattle.mon_msg.specs.Protocol.Changes.{Learn, Last, spelled}
 use Rattle.mon_msg.specs.Protocol.Commands.{is_too_long, too_long}

@@ -11,9 +11,9 @@ use Rattle.mon_tx.specs.Decision.{Cell, decision, or_before}
 use Rattle.mon_tx.specs.Decode.{ops_in}
 use Rattle.mon_tx.specs.Keys.{place, same_area, same_key}
 use Rattle.mon_tx.specs.Map.{number_bytes, number_in}
-use Rattle.mon_msg.specs.declared.reply.ShownMap.{ShownMap}
-use Rattle.mon_msg.specs.declared.request.Service.{Service}
-use Rattle.mon_msg.specs.declared.request.Service.TheVariants.{Kv, Log}
+use Rattle.mon_wire.specs.declared.reply.ShownMap.{ShownMap}
+use Rattle.mon_wire.specs.declared.request.Service.{Service}
+use Rattle.mon_wire.specs.declared.request.Service.TheVariants.{Kv, Log}
 use Rattle.mon_msg.specs.Puts.{put}
 use Rattle.mon_msg.specs.Fold.{entry, put_in, incrementals, map_after}
 use Rattle.mon_msg.specs.Puts.{area_of}

@@ -4,8 +4,8 @@ use Rattle.mon_msg.specs.Protocol.Sets.{only}
 use Rattle.mon_msg.specs.Protocol.State.{State}
 use Rattle.mon_msg.specs.Protocol.Timers.{index_of, unarmed}
 use Rattle.mon_msg.specs.Protocol.View.{View}
-use Rattle.mon_msg.specs.declared.phase.Phase.TheVariants as phase
-use Rattle.mon_msg.specs.declared.phase.Timer.TheVariants as timer
+use Rattle.mon_wire.specs.declared.phase.Phase.TheVariants as phase
+use Rattle.mon_wire.specs.declared.phase.Timer.TheVariants as timer
 
 -- it leads itself, and nobody waits
 pub record LeadsItself (s : State) : Type 0 where

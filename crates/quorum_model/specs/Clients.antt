@@ -9,10 +9,10 @@ use Rattle.map_log.specs.Text as log_text
 use Rattle.mon_msg.specs.Protocol.Value.{service_of}
 use Rattle.mon_msg.specs.declared.plan.Sent.{Sent}
 use Rattle.mon_msg.specs.declared.plan.Sent.TheVariants as sent
-use Rattle.mon_msg.specs.declared.reply.Reply.TheVariants as reply
-use Rattle.mon_msg.specs.declared.request.Request.{Request}
-use Rattle.mon_msg.specs.declared.request.Request.TheVariants as request
-use Rattle.mon_msg.specs.declared.request.Service.{Service}
+use Rattle.mon_wire.specs.declared.reply.Reply.TheVariants as reply
+use Rattle.mon_wire.specs.declared.request.Request.{Request}
+use Rattle.mon_wire.specs.declared.request.Request.TheVariants as request
+use Rattle.mon_wire.specs.declared.request.Service.{Service}
 use Rattle.quorum_model.specs.World.{Event, Client, Letter, Asked, Acknowledged, Replied}
 
 -- the command that is asked, where it is one

@@ -1,7 +1,7 @@
 -- Which events a run may be made of: all whose requests have their form.
 use Rattle.std.specs.Prelude.{ℕ, ◌<◌, IfSome, List}
 use Rattle.std.specs.List.{AllByRecursion}
-use Rattle.mon_msg.specs.declared.request.Request.{Request}
+use Rattle.mon_wire.specs.declared.request.Request.{Request}
 use Rattle.quorum_model.specs.Clients.{command_of}
 use Rattle.quorum_model.specs.LogOfValues.{IsCommand}
 use Rattle.quorum_model.specs.World.{Event, Start, Deliver, Ring, Client}

@@ -13,8 +13,8 @@ use Rattle.mon_tx.specs.Decode.{ops_in}
 use Rattle.mon_msg.specs.Fold.{entry, fold, put_in, incrementals, map_of_log, version_of_log}
 use Rattle.mon_msg.specs.Protocol.State.{State}
 use Rattle.mon_msg.specs.Protocol.Value.{value}
-use Rattle.mon_msg.specs.declared.reply.Reply.{Reply}
-use Rattle.mon_msg.specs.declared.reply.Reply.TheVariants as reply
+use Rattle.mon_wire.specs.declared.reply.Reply.{Reply}
+use Rattle.mon_wire.specs.declared.reply.Reply.TheVariants as reply
 use Rattle.quorum_model.specs.Clients.{command_of, made_by}
 use Rattle.mon_kv.specs.Readers.{is_marked}
 use Rattle.quorum_model.specs.Growth.{last_of}

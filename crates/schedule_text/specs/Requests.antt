@@ -1,8 +1,8 @@
 -- How what a client asks is read.
 use Rattle.std.specs.Prelude.{ℕ, ◌^◌, List, Option, Result, Ok, Err, codes, if◌then◌else◌}
 use Rattle.std.specs.Str.{bytes_eq}
-use Rattle.mon_msg.specs.declared.request.Request.{Request}
-use Rattle.mon_msg.specs.declared.request.Request.TheVariants as request
+use Rattle.mon_wire.specs.declared.request.Request.{Request}
+use Rattle.mon_wire.specs.declared.request.Request.TheVariants as request
 use Rattle.schedule_text.specs.declared.refusal.ScheduleKind.{ScheduleKind}
 use Rattle.schedule_text.specs.declared.refusal.ScheduleKind.TheVariants as kind
 use Rattle.schedule_text.specs.Fields.{◌>>=◌, next, field_at, ended, text_at, number_of, name_of, service_of}

@@ -5,8 +5,8 @@ use Rattle.election_rules.specs.declared.rule.Rule.{Rule}
 use Rattle.election_rules.specs.declared.rule.Rule.TheVariants.{Classic, Disallow, Connectivity}
 use Rattle.mon_bytes.specs.Texts.{is_name}
 use Rattle.mon_types.specs.declared.names.Side.{Side}
-use Rattle.mon_msg.specs.declared.request.Request.{Request}
-use Rattle.mon_msg.specs.declared.request.Request.TheVariants as request
+use Rattle.mon_wire.specs.declared.request.Request.{Request}
+use Rattle.mon_wire.specs.declared.request.Request.TheVariants as request
 use Rattle.schedule_text.specs.declared.event.Plain.{Plain}
 use Rattle.schedule_text.specs.declared.event.Plain.TheVariants.{Start, Deliver, Timer, Client}
 use Rattle.schedule_text.specs.declared.event.Event.{Event}

@@ -2,10 +2,10 @@
 use Rattle.std.specs.Prelude.{ℕ, Bool, ◌&&◌, List, [], ◌∷◌, codes, nat_le}
 use Rattle.mon_types.specs.declared.names.Side.{Side}
 use Rattle.mon_types.specs.declared.names.Side.TheVariants.{A, B}
-use Rattle.mon_msg.specs.declared.phase.Timer.{Timer}
-use Rattle.mon_msg.specs.declared.phase.Timer.TheVariants.{Probe, Election, Collect, Accept, Renew, LeaseAck, Lease, Sync, Step, Propose, Ping}
-use Rattle.mon_msg.specs.declared.request.Service.{Service}
-use Rattle.mon_msg.specs.declared.request.Service.TheVariants.{Kv, Log}
+use Rattle.mon_wire.specs.declared.phase.Timer.{Timer}
+use Rattle.mon_wire.specs.declared.phase.Timer.TheVariants.{Probe, Election, Collect, Accept, Renew, LeaseAck, Lease, Sync, Step, Propose, Ping}
+use Rattle.mon_wire.specs.declared.request.Service.{Service}
+use Rattle.mon_wire.specs.declared.request.Service.TheVariants.{Kv, Log}
 
 -- a space or a graphic byte
 abbrev pub printable : ℕ → Bool

@@ -5,7 +5,7 @@ ghost use Rattle.schedule_text.specs.Spelling.{request_text, plain_text, event_t
 
 use crate::event::{Event, Plain};
 use crate::words::{service_word, side_word, timer_word};
-use mon_msg::Request;
+use mon_wire::Request;
 use std::fmt;
 
 /// A request, to be displayed.

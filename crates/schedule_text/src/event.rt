@@ -1,6 +1,6 @@
 use mon_bytes::OutOfMemory;
-use mon_msg::{Request, Session};
 use mon_types::{Moment, Rank, Side};
+use mon_wire::{Request, Session};
 use std::alloc::Global;
 use std::marker::Model;
 
@@ -20,7 +20,7 @@ pub enum Plain {
     /// A timer of the monitor comes.
     Timer {
         rank: Rank,
-        kind: mon_msg::Timer,
+        kind: mon_wire::Timer,
         at: Moment,
     },
     /// A client asks the monitor.

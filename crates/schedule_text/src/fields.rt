@@ -11,8 +11,8 @@ use crate::refusal::{LineRefused, ScheduleKind};
 use crate::words::timer_word;
 use memchr::memchr;
 use mon_bytes::{Name, OutOfMemory, Text};
-use mon_msg::{Service, Timer};
 use mon_types::{GREATEST, Moment, Rank, Side, Version};
+use mon_wire::{Service, Timer};
 use std::alloc::Global;
 use std::marker::Model;
 

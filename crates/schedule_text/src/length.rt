@@ -9,8 +9,8 @@ use crate::ranks::{RANKS, rank_of};
 use crate::schedule::Schedule;
 use crate::words::{service_word, side_word, timer_word};
 use election_rules::Rule;
-use mon_msg::Request;
 use mon_types::{RankSet, Side};
+use mon_wire::Request;
 
 #[tactic(auto, using(crate::proofs::Lengths::one_digit, crate::proofs::Lengths::more_digits, crate::proofs::Lengths::at_most_20_digits))]
 fn decimal_len(n: u64) -> u64

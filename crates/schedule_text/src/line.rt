@@ -9,8 +9,8 @@ use crate::event::{Event, Plain};
 use crate::fields::{Fields, all_printable};
 use crate::refusal::{LineRefused, ScheduleKind};
 use crate::request::request_at;
-use mon_msg::Session;
 use mon_types::GREATEST;
+use mon_wire::Session;
 use std::alloc::Global;
 
 #[tactic(auto, unfolding(crate::specs::Lines::start_at))]

@@ -6,7 +6,7 @@ ghost use Rattle.schedule_text.specs.Requests.{set_at, remove_at, log_at, show_a
 
 use crate::fields::Fields;
 use crate::refusal::{LineRefused, ScheduleKind};
-use mon_msg::Request;
+use mon_wire::Request;
 use std::alloc::Global;
 
 #[tactic(auto, unfolding(crate::specs::Requests::set_at))]

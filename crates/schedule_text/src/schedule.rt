@@ -11,8 +11,8 @@ use crate::fields::all_printable;
 use crate::length::text_len;
 use crate::ranks::{below, has_ranks};
 use election_rules::Rule;
-use mon_msg::{Request, Session};
 use mon_types::{GREATEST, Moment, Rank, RankSet};
+use mon_wire::{Request, Session};
 
 /// The most bytes of a schedule's text.
 pub(crate) const MOST_BYTES: usize = 16777216;

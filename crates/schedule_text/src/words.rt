@@ -3,8 +3,8 @@
 ghost use Rattle.std.specs.Prelude.{◌≡◌};
 ghost use Rattle.schedule_text.specs.Words.{service_text, side_text, timer_text};
 
-use mon_msg::{Service, Timer};
 use mon_types::Side;
+use mon_wire::{Service, Timer};
 
 /// The word of a service.
 pub fn service_word(service: Service) -> &'static str

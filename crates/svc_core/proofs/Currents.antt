@@ -14,8 +14,8 @@ use Rattle.mon_msg.specs.Protocol.Maps.{empty_map, next_map, spelled_map}
 use Rattle.mon_msg.specs.Protocol.Reading.{service_last, full_latest, full_map, read_on, read_map}
 use Rattle.mon_msg.specs.Protocol.View.{View, view}
 use Rattle.mon_msg.specs.Puts.{area_of}
-use Rattle.mon_msg.specs.declared.reply.ShownMap.{ShownMap}
-use Rattle.mon_msg.specs.declared.request.Service.{Service}
+use Rattle.mon_wire.specs.declared.reply.ShownMap.{ShownMap}
+use Rattle.mon_wire.specs.declared.request.Service.{Service}
 use Rattle.svc_core.specs.Cache.{IsCurrent, after_put, after_op, after_ops, of_service, where_told, known_after}
 use Rattle.svc_core.specs.Onward.{step_at, goes_on, reaches_last}
 use Rattle.svc_core.specs.declared.cache.Known.{Known}

@@ -24,10 +24,10 @@ use Rattle.mon_msg.specs.Protocol.Rules.{full_every, value_ops}
 use Rattle.mon_msg.specs.Protocol.Value.{service_of, made, value_of, value}
 use Rattle.mon_msg.specs.Protocol.View.{View}
 use Rattle.mon_msg.specs.Puts.{area_of}
-use Rattle.mon_msg.specs.declared.reply.ShownMap.{ShownMap}
-use Rattle.mon_msg.specs.declared.reply.ShownMap.TheVariants as map
-use Rattle.mon_msg.specs.declared.request.Service.{Service}
-use Rattle.mon_msg.specs.declared.request.Service.TheVariants as service
+use Rattle.mon_wire.specs.declared.reply.ShownMap.{ShownMap}
+use Rattle.mon_wire.specs.declared.reply.ShownMap.TheVariants as map
+use Rattle.mon_wire.specs.declared.request.Service.{Service}
+use Rattle.mon_wire.specs.declared.request.Service.TheVariants as service
 use Rattle.svc_core.specs.Drafts.{drafted}
 use Rattle.svc_core.specs.Kinds.{kind}
 use Rattle.svc_core.specs.declared.made.Draft.{Draft}

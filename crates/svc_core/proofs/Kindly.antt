@@ -10,10 +10,10 @@ use Rattle.mon_tx.specs.Decision.{Cell}
 use Rattle.mon_msg.specs.Protocol.Maps.{empty_map, if_ok, most_map, short_map, with_incremental, next_map, spelled_map}
 use Rattle.mon_msg.specs.Protocol.Reading.{service_last, full_latest, full_map, read_on, read_map}
 use Rattle.mon_msg.specs.Protocol.View.{View}
-use Rattle.mon_msg.specs.declared.reply.ShownMap.{ShownMap}
-use Rattle.mon_msg.specs.declared.reply.ShownMap.TheVariants as map
-use Rattle.mon_msg.specs.declared.request.Service.{Service}
-use Rattle.mon_msg.specs.declared.request.Service.TheVariants as service
+use Rattle.mon_wire.specs.declared.reply.ShownMap.{ShownMap}
+use Rattle.mon_wire.specs.declared.reply.ShownMap.TheVariants as map
+use Rattle.mon_wire.specs.declared.request.Service.{Service}
+use Rattle.mon_wire.specs.declared.request.Service.TheVariants as service
 use Rattle.svc_core.specs.Kinds.{kind}
 use Rattle.svc_core.specs.Onward.{step_at}
 use Rattle.svc_core.proofs.Onwards.{read-none, read-some}

@@ -18,7 +18,7 @@ use Rattle.mon_tx.proofs.Places.{exact_places, is_equal}
 use Rattle.mon_tx.proofs.Ties.{same_text, same_area_itself}
 use Rattle.mon_msg.specs.Protocol.View.{view}
 use Rattle.mon_msg.specs.Puts.{area_of}
-use Rattle.mon_msg.specs.declared.request.Service.{Service}
+use Rattle.mon_wire.specs.declared.request.Service.{Service}
 
 pub same_bytes : (p q : List ℕ) → bytes_eq p q ≡ true → p ≡ q
 same_bytes p q e = slice_cmp-IsAntisymmetric nat_cmp-IsAntisymmetric p q (is_equal _ (is_eq-slice_cmp p q ∙ e))

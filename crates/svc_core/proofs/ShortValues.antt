@@ -7,7 +7,7 @@ use Rattle.mon_msg.specs.Protocol.Rules.{value_ops}
 use Rattle.mon_msg.specs.Protocol.Value.{service_of}
 use Rattle.mon_msg.specs.Protocol.View.{View}
 use Rattle.mon_msg.specs.Puts.{area_of}
-use Rattle.mon_msg.specs.declared.request.Service.{Service}
+use Rattle.mon_wire.specs.declared.request.Service.{Service}
 use Rattle.svc_core.specs.Drafts.{IsShort, IsShortValue}
 use Rattle.svc_core.specs.declared.made.Draft.{Draft}
 

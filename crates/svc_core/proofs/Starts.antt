@@ -3,8 +3,8 @@ use Rattle.std.proofs.Common.{◌≡◌, ℕ, suc, ◌-◌, ◌≤◌, Some, Non
 use Rattle.mon_msg.specs.Protocol.Maps.{empty_map}
 use Rattle.mon_msg.specs.Protocol.Reading.{service_last, full_latest, full_map, read_on, read_map}
 use Rattle.mon_msg.specs.Protocol.View.{View}
-use Rattle.mon_msg.specs.declared.reply.ShownMap.{ShownMap}
-use Rattle.mon_msg.specs.declared.request.Service.{Service}
+use Rattle.mon_wire.specs.declared.reply.ShownMap.{ShownMap}
+use Rattle.mon_wire.specs.declared.request.Service.{Service}
 use Rattle.svc_core.specs.Onward.{goes_on, reaches_last}
 
 module _ (w : View) (s : Service) where

@@ -17,10 +17,10 @@ use Rattle.map_log.specs.declared.inc.LogInc.{LogInc}
 use Rattle.map_log.proofs.Lengths as log_lengths
 use Rattle.mon_msg.specs.Protocol.Maps.{empty_map, if_ok, most_map, short_map, with_incremental, next_map}
 use Rattle.mon_msg.specs.Protocol.Parts.{map_text}
-use Rattle.mon_msg.specs.declared.reply.ShownMap.{ShownMap}
-use Rattle.mon_msg.specs.declared.reply.ShownMap.TheVariants as map
-use Rattle.mon_msg.specs.declared.request.Service.{Service}
-use Rattle.mon_msg.specs.declared.request.Service.TheVariants as service
+use Rattle.mon_wire.specs.declared.reply.ShownMap.{ShownMap}
+use Rattle.mon_wire.specs.declared.reply.ShownMap.TheVariants as map
+use Rattle.mon_wire.specs.declared.request.Service.{Service}
+use Rattle.mon_wire.specs.declared.request.Service.TheVariants as service
 use Rattle.svc_core.specs.Kinds.{kind, IsMapOf}
 use Rattle.svc_core.proofs.MapSizes.{trimmed_short}
 

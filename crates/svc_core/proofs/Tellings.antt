@@ -9,7 +9,7 @@ use Rattle.mon_tx.specs.declared.key.Key.TheVariants as key
 use Rattle.mon_msg.specs.Protocol.Reading.{kept_from, may_tell}
 use Rattle.mon_msg.specs.Protocol.Records.{longest_onto, longest}
 use Rattle.mon_msg.specs.Protocol.View.{View}
-use Rattle.mon_msg.specs.declared.request.Service.{Service}
+use Rattle.mon_wire.specs.declared.request.Service.{Service}
 
 abbrev size : List ℕ → ℕ
 size bytes = length bytes + 4

@@ -12,9 +12,9 @@ use Rattle.mon_msg.specs.Protocol.Maps.{next_map}
 use Rattle.mon_msg.specs.Protocol.Reading.{service_last, full_latest, read_map}
 use Rattle.mon_msg.specs.Protocol.View.{View, view}
 use Rattle.mon_msg.specs.Puts.{area_of}
-use Rattle.mon_msg.specs.declared.reply.ShownMap.{ShownMap}
-use Rattle.mon_msg.specs.declared.request.Service.{Service}
-use Rattle.mon_msg.specs.declared.request.Service.TheVariants as service
+use Rattle.mon_wire.specs.declared.reply.ShownMap.{ShownMap}
+use Rattle.mon_wire.specs.declared.request.Service.{Service}
+use Rattle.mon_wire.specs.declared.request.Service.TheVariants as service
 use Rattle.svc_core.specs.Cache.{known_in, known, Follows, IsCurrent, after_put, after_op, after_ops, of_service, where_told, known_after}
 use Rattle.svc_core.specs.declared.cache.Cache.{Cache}
 use Rattle.svc_core.specs.declared.cache.Kept.{Kept}

@@ -6,9 +6,9 @@ use Rattle.mon_msg.specs.Protocol.Maps.{next_map}
 use Rattle.mon_msg.specs.Protocol.Reading.{service_last, full_latest, read_map}
 use Rattle.mon_msg.specs.Protocol.View.{View}
 use Rattle.mon_msg.specs.Puts.{area_of}
-use Rattle.mon_msg.specs.declared.reply.ShownMap.{ShownMap}
-use Rattle.mon_msg.specs.declared.request.Service.{Service}
-use Rattle.mon_msg.specs.declared.request.Service.TheVariants as service
+use Rattle.mon_wire.specs.declared.reply.ShownMap.{ShownMap}
+use Rattle.mon_wire.specs.declared.request.Service.{Service}
+use Rattle.mon_wire.specs.declared.request.Service.TheVariants as service
 use Rattle.mon_tx.specs.Keys.{area_text, key_text}
 use Rattle.mon_tx.specs.Map.{number_in}
 use Rattle.mon_tx.specs.declared.key.Key.TheVariants as key

@@ -2,8 +2,8 @@
 use Rattle.std.specs.Prelude.{◌≡◌, ℕ, suc, ◌≤◌, Bool, List, [], length, Result, Ok, Err, if◌then◌else◌}
 use Rattle.mon_bytes.specs.declared.command.CommandRefused.{CommandRefused}
 use Rattle.mon_msg.specs.Protocol.Parts.{map_text}
-use Rattle.mon_msg.specs.declared.reply.ShownMap.{ShownMap}
-use Rattle.mon_msg.specs.declared.request.Service.{Service}
+use Rattle.mon_wire.specs.declared.reply.ShownMap.{ShownMap}
+use Rattle.mon_wire.specs.declared.request.Service.{Service}
 use Rattle.mon_msg.specs.Protocol.Reading.{service_first, service_last}
 use Rattle.mon_msg.specs.Protocol.Rules.{value_ops}
 use Rattle.mon_msg.specs.Protocol.View.{View}

@@ -4,8 +4,8 @@ use Rattle.std.specs.Prelude.{ℕ, zero, suc, ◌-◌, Bool, true, false, Option
 use Rattle.mon_msg.specs.Protocol.Maps.{empty_map, next_map}
 use Rattle.mon_msg.specs.Protocol.Reading.{service_last, full_latest, full_map}
 use Rattle.mon_msg.specs.Protocol.View.{View}
-use Rattle.mon_msg.specs.declared.reply.ShownMap.{ShownMap}
-use Rattle.mon_msg.specs.declared.request.Service.{Service}
+use Rattle.mon_wire.specs.declared.reply.ShownMap.{ShownMap}
+use Rattle.mon_wire.specs.declared.request.Service.{Service}
 use Rattle.mon_tx.specs.declared.key.Key.TheVariants as key
 
 -- the map after the incremental that made version v, where there is one that gives a map that isn't too long

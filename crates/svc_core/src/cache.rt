@@ -5,7 +5,7 @@ ghost use Rattle.std.specs.Borrow.{sem};
 ghost use Rattle.std.specs.Io.BufRead.{Rests};
 ghost use Rattle.std.specs.Option.{option_copied, option_map};
 ghost use Rattle.mon_tx.specs.Map.{Store, apply};
-ghost use Rattle.mon_msg.specs.declared.request.Service as services;
+ghost use Rattle.mon_wire.specs.declared.request.Service as services;
 ghost use Rattle.mon_msg.specs.Protocol.Reading.{read_map};
 ghost use Rattle.mon_msg.specs.Protocol.View.{view};
 ghost use Rattle.svc_core.specs.Cache.{kept_of, known, known_in, map_in, Follows, known_once_read, known_after, risen, applied, Answers, IsAnswered};

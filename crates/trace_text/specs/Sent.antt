@@ -2,11 +2,11 @@
 use Rattle.std.specs.Prelude.{ℕ, ◌+◌, ◌-◌, Bool, List, [], ◌∷◌, ◌++◌, length, Option, Some, None, codes, decimal}
 use Rattle.mon_bytes.specs.declared.entry.KeyPlace.{KeyPlace}
 use Rattle.mon_bytes.specs.declared.entry.KeyPlace.TheVariants.{Start, After, Done}
-use Rattle.mon_msg.specs.declared.body.Body.{Body}
-use Rattle.mon_msg.specs.declared.body.Body.TheVariants as body
-use Rattle.mon_msg.specs.declared.parts.Cookie.{Cookie}
-use Rattle.mon_msg.specs.declared.parts.Place.{Place}
-use Rattle.mon_msg.specs.declared.parts.Told.{Told}
+use Rattle.mon_wire.specs.declared.body.Body.{Body}
+use Rattle.mon_wire.specs.declared.body.Body.TheVariants as body
+use Rattle.mon_wire.specs.declared.parts.Cookie.{Cookie}
+use Rattle.mon_wire.specs.declared.parts.Place.{Place}
+use Rattle.mon_wire.specs.declared.parts.Told.{Told}
 use Rattle.schedule_text.specs.Ranks.{ranks_text}
 use Rattle.trace_text.specs.declared.step.Numbered.{Numbered}
 use Rattle.trace_text.specs.Words.{flag_text, kind_text}

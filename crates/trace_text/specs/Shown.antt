@@ -3,8 +3,8 @@ use Rattle.std.specs.Prelude.{ℕ, List, [], ◌∷◌, ◌++◌, codes, decimal
 use Rattle.std.specs.FinMap.{entries}
 use Rattle.json.specs.Print.{quoted}
 use Rattle.map_log.specs.declared.inc.LogInc.{LogInc}
-use Rattle.mon_msg.specs.declared.reply.ShownMap.{ShownMap}
-use Rattle.mon_msg.specs.declared.reply.ShownMap.TheVariants.{Kv, Log}
+use Rattle.mon_wire.specs.declared.reply.ShownMap.{ShownMap}
+use Rattle.mon_wire.specs.declared.reply.ShownMap.TheVariants.{Kv, Log}
 
 -- a member of an object
 abbrev pub member_text : List ℕ × List ℕ → List ℕ

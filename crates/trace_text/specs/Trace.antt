@@ -1,9 +1,9 @@
 -- The lines of a trace.
 use Rattle.std.specs.Prelude.{ℕ, zero, suc, ◌+◌, Bool, List, [], ◌∷◌, ◌++◌, length, Option, Some, None, codes, decimal}
 use Rattle.std.specs.List.{flat_map}
-use Rattle.mon_msg.specs.declared.request.Service.{Service}
-use Rattle.mon_msg.specs.declared.reply.Reply.{Reply}
-use Rattle.mon_msg.specs.declared.reply.Reply.TheVariants.{Done, Shown, Since, NoSuch, TooLong, MapFull, Unavailable, NotReadable, Busy}
+use Rattle.mon_wire.specs.declared.request.Service.{Service}
+use Rattle.mon_wire.specs.declared.reply.Reply.{Reply}
+use Rattle.mon_wire.specs.declared.reply.Reply.TheVariants.{Done, Shown, Since, NoSuch, TooLong, MapFull, Unavailable, NotReadable, Busy}
 use Rattle.schedule_text.specs.declared.event.Event.{Event}
 use Rattle.schedule_text.specs.Words.{service_text}
 use Rattle.schedule_text.specs.Spelling.{event_text}

@@ -1,9 +1,9 @@
 -- The words of traces.
 use Rattle.std.specs.Prelude.{ℕ, Bool, true, false, List, codes}
-use Rattle.mon_msg.specs.declared.body.Body.{Body}
-use Rattle.mon_msg.specs.declared.body.Body.TheVariants as body
-use Rattle.mon_msg.specs.declared.phase.Phase.{Phase}
-use Rattle.mon_msg.specs.declared.phase.Phase.TheVariants.{Booting, Probing, Synchronizing, Electing, Collecting, Previous, Active, Updating, Peon}
+use Rattle.mon_wire.specs.declared.body.Body.{Body}
+use Rattle.mon_wire.specs.declared.body.Body.TheVariants as body
+use Rattle.mon_wire.specs.declared.phase.Phase.{Phase}
+use Rattle.mon_wire.specs.declared.phase.Phase.TheVariants.{Booting, Probing, Synchronizing, Electing, Collecting, Previous, Active, Updating, Peon}
 
 abbrev pub flag_text : Bool → List ℕ
 flag_text false = codes "0"

@@ -2,8 +2,8 @@
 
 use super::tests::{is_traced, replied, state};
 use super::*;
-use mon_msg::{Items, Phase, Reply, decode};
 use mon_types::Rank;
+use mon_wire::{Items, Phase, Reply, decode};
 use std::alloc::Global;
 use std::test::Fail;
 

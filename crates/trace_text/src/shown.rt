@@ -9,7 +9,7 @@ ghost use Rattle.trace_text.specs.Shown.{member_text, members_text, object_text,
 use map_kv::KvMap;
 use map_log::{LogInc, LogMap};
 use mon_bytes::Text;
-use mon_msg::ShownMap;
+use mon_wire::ShownMap;
 use serde_json::Value;
 use std::alloc::{AllocError, Global};
 use std::collections::btree_map::Iter;

@@ -1,6 +1,6 @@
 use mon_bytes::OutOfMemory;
-use mon_msg::{Items, Message, Phase, Reply, Session};
 use mon_types::{Epoch, Rank, Version};
+use mon_wire::{Items, Message, Phase, Reply, Session};
 use std::alloc::Global;
 use std::marker::Model;
 

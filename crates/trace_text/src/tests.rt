@@ -3,8 +3,8 @@
 use super::*;
 use map_kv::{KvInc, KvMap};
 use mon_bytes::{Name, Text};
-use mon_msg::{Items, Phase, Reply, Service, Session, ShownMap};
 use mon_types::{Epoch, Rank, Version};
+use mon_wire::{Items, Phase, Reply, Service, Session, ShownMap};
 use schedule_text::parse;
 use std::alloc::Global;
 use std::test::Fail;

@@ -3,7 +3,7 @@
 ghost use Rattle.std.specs.Prelude.{◌≡◌};
 ghost use Rattle.trace_text.specs.Words.{flag_text, fate_text, phase_text, kind_text};
 
-use mon_msg::{Body, Phase};
+use mon_wire::{Body, Phase};
 
 pub fn flag(value: bool) -> &'static str
     ensures { result.now ≡ flag_text value }

@@ -6,14 +6,14 @@ use Rattle.mon_tx.specs.Keys.{decimal_text}
 use Rattle.mon_tx.specs.Map.{number_in, number_bytes, is_within}
 use Rattle.mon_bytes.specs.Forms.{u32_bytes}
 use Rattle.mon_msg.specs.Joined.{joined}
-use Rattle.mon_msg.specs.declared.phase.Phase.{Phase}
-use Rattle.mon_msg.specs.declared.phase.Phase.TheVariants as phase
-use Rattle.mon_msg.specs.declared.phase.Timer.TheVariants as timer
-use Rattle.mon_msg.specs.declared.reply.Reply.{Reply}
-use Rattle.mon_msg.specs.declared.reply.Reply.TheVariants as reply
-use Rattle.mon_msg.specs.declared.request.Request.TheVariants as request
-use Rattle.mon_msg.specs.declared.request.Service.TheVariants as service
-use Rattle.mon_msg.specs.declared.request.Session.{Session}
+use Rattle.mon_wire.specs.declared.phase.Phase.{Phase}
+use Rattle.mon_wire.specs.declared.phase.Phase.TheVariants as phase
+use Rattle.mon_wire.specs.declared.phase.Timer.TheVariants as timer
+use Rattle.mon_wire.specs.declared.reply.Reply.{Reply}
+use Rattle.mon_wire.specs.declared.reply.Reply.TheVariants as reply
+use Rattle.mon_wire.specs.declared.request.Request.TheVariants as request
+use Rattle.mon_wire.specs.declared.request.Service.TheVariants as service
+use Rattle.mon_wire.specs.declared.request.Session.{Session}
 use Rattle.mon_msg.specs.declared.view.Me.{Me}
 use Rattle.mon_msg.specs.Protocol.Collecting.{settle, collect, collect_with, reign}
 use Rattle.mon_msg.specs.Protocol.Commands.{ask, hear_forward, hear_route}

@@ -11,10 +11,10 @@ use Rattle.mon_tx.specs.Fields.{word_at, value_at, version_at, format_at}
 use Rattle.mon_tx.specs.Keys.{decimal_text}
 use Rattle.mon_tx.specs.Map.{number_in, number_bytes, is_within}
 use Rattle.mon_tx.specs.Text.{text}
-use Rattle.mon_msg.specs.declared.phase.Phase.TheVariants as phase
-use Rattle.mon_msg.specs.declared.phase.Timer.TheVariants as timer
-use Rattle.mon_msg.specs.declared.request.Service.{Service}
-use Rattle.mon_msg.specs.declared.request.Service.TheVariants as service
+use Rattle.mon_wire.specs.declared.phase.Phase.TheVariants as phase
+use Rattle.mon_wire.specs.declared.phase.Timer.TheVariants as timer
+use Rattle.mon_wire.specs.declared.request.Service.{Service}
+use Rattle.mon_wire.specs.declared.request.Service.TheVariants as service
 use Rattle.mon_msg.specs.Puts.{put_number}
 use Rattle.mon_msg.specs.Joined.{joined}
 use Rattle.mon_msg.specs.Protocol.Chunks.{hear_last_chunk}

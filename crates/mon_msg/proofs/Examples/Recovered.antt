@@ -5,8 +5,8 @@ use Rattle.mon_tx.specs.Fields.{word_at, value_at, version_at, format_at}
 use Rattle.mon_tx.specs.Keys.{decimal_text}
 use Rattle.mon_tx.specs.Map.{number_in, number_bytes, is_within}
 use Rattle.mon_bytes.specs.Forms.{u32_bytes}
-use Rattle.mon_msg.specs.declared.phase.Phase.TheVariants as phase
-use Rattle.mon_msg.specs.declared.phase.Timer.TheVariants as timer
+use Rattle.mon_wire.specs.declared.phase.Phase.TheVariants as phase
+use Rattle.mon_wire.specs.declared.phase.Timer.TheVariants as timer
 use Rattle.mon_msg.specs.Joined.{joined}
 use Rattle.mon_msg.specs.Protocol.Collecting.{settle, collect, collect_with, reign}
 use Rattle.mon_msg.specs.Protocol.Commands.{ask}

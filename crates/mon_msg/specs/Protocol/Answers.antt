@@ -3,9 +3,9 @@ use Rattle.std.specs.Prelude.{ℕ, ◌+◌, Bool, true, false, ◌&&◌, ◌||�
 use Rattle.mon_msg.specs.Protocol.Length.{fits}
 use Rattle.mon_msg.specs.Protocol.Records.{pending, run_from, longest}
 use Rattle.mon_msg.specs.Protocol.View.{View, promise_of}
-use Rattle.mon_msg.specs.declared.body.Body.TheVariants as body
-use Rattle.mon_msg.specs.declared.body.Body.{Body}
-use Rattle.mon_msg.specs.declared.parts.Told.{Told}
+use Rattle.mon_wire.specs.declared.body.Body.TheVariants as body
+use Rattle.mon_wire.specs.declared.body.Body.{Body}
+use Rattle.mon_wire.specs.declared.parts.Told.{Told}
 use Rattle.mon_msg.specs.declared.paxos.Found.{Found}
 use Rattle.mon_tx.specs.declared.op.Op.{Op}
 

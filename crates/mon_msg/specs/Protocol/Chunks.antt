@@ -8,9 +8,9 @@ use Rattle.mon_msg.specs.Protocol.Course.{Course, ◌▸◌, ◌>>=◌, checked,
 use Rattle.mon_msg.specs.Protocol.Entering.{bootstrap}
 use Rattle.mon_msg.specs.Protocol.Learning.{learn}
 use Rattle.mon_msg.specs.Protocol.Places.{after_entries, same_place, is_cookie}
-use Rattle.mon_msg.specs.declared.parts.Cookie.{Cookie}
-use Rattle.mon_msg.specs.declared.parts.Place.{Place}
-use Rattle.mon_msg.specs.declared.phase.Timer.TheVariants as timer
+use Rattle.mon_wire.specs.declared.parts.Cookie.{Cookie}
+use Rattle.mon_wire.specs.declared.parts.Place.{Place}
+use Rattle.mon_wire.specs.declared.phase.Timer.TheVariants as timer
 use Rattle.mon_msg.specs.declared.synchronisation.SyncStage.TheVariants as sync
 use Rattle.mon_msg.specs.declared.synchronisation.SyncStage.{SyncStage}
 use Rattle.mon_msg.specs.declared.view.Me.{Me}

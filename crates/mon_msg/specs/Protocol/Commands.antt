@@ -10,14 +10,14 @@ use Rattle.mon_msg.specs.Protocol.Phases.{same_phase, is_leading, is_peon}
 use Rattle.mon_msg.specs.Protocol.Proposing.{propose, propose_next}
 use Rattle.mon_msg.specs.Protocol.Reads.{is_standing}
 use Rattle.mon_msg.specs.Protocol.Sending.{send, reply_to, answer}
-use Rattle.mon_msg.specs.declared.body.Body.TheVariants as body
+use Rattle.mon_wire.specs.declared.body.Body.TheVariants as body
 use Rattle.mon_msg.specs.declared.clients.Asked.{Asked}
-use Rattle.mon_msg.specs.declared.phase.Phase.TheVariants as phase
+use Rattle.mon_wire.specs.declared.phase.Phase.TheVariants as phase
 use Rattle.mon_msg.specs.declared.plan.Origin.TheVariants as origin
 use Rattle.mon_msg.specs.declared.plan.Origin.{Origin}
-use Rattle.mon_msg.specs.declared.reply.Reply.TheVariants as reply
-use Rattle.mon_msg.specs.declared.reply.Reply.{Reply}
-use Rattle.mon_msg.specs.declared.request.Session.{Session}
+use Rattle.mon_wire.specs.declared.reply.Reply.TheVariants as reply
+use Rattle.mon_wire.specs.declared.reply.Reply.{Reply}
+use Rattle.mon_wire.specs.declared.request.Session.{Session}
 use Rattle.mon_msg.specs.declared.view.Me.{Me}
 use Rattle.mon_types.specs.declared.names.Which.TheVariants as which
 use Rattle.mon_types.specs.declared.names.Which.{Which}

@@ -7,11 +7,11 @@ use Rattle.mon_msg.specs.Protocol.Phases.{same_phase}
 use Rattle.mon_msg.specs.Protocol.Places.{same_cookie, is_cookie, no_cookie}
 use Rattle.mon_msg.specs.Protocol.Sending.{send}
 use Rattle.mon_msg.specs.Protocol.View.{View}
-use Rattle.mon_msg.specs.declared.body.Body.TheVariants as body
-use Rattle.mon_msg.specs.declared.parts.Cookie.{Cookie}
-use Rattle.mon_msg.specs.declared.parts.Place.{Place}
-use Rattle.mon_msg.specs.declared.phase.Phase.TheVariants as phase
-use Rattle.mon_msg.specs.declared.phase.Timer.TheVariants as timer
+use Rattle.mon_wire.specs.declared.body.Body.TheVariants as body
+use Rattle.mon_wire.specs.declared.parts.Cookie.{Cookie}
+use Rattle.mon_wire.specs.declared.parts.Place.{Place}
+use Rattle.mon_wire.specs.declared.phase.Phase.TheVariants as phase
+use Rattle.mon_wire.specs.declared.phase.Timer.TheVariants as timer
 use Rattle.mon_msg.specs.declared.synchronisation.SyncStage.TheVariants as sync
 use Rattle.mon_msg.specs.declared.synchronisation.SyncStage.{SyncStage}
 use Rattle.mon_msg.specs.declared.view.Me.{Me}

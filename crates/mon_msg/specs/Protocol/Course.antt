@@ -12,8 +12,8 @@ use Rattle.mon_msg.specs.declared.election.Prober.{Prober}
 use Rattle.mon_msg.specs.declared.paxos.Leader.{Leader}
 use Rattle.mon_msg.specs.declared.paxos.LeaderStage.{LeaderStage}
 use Rattle.mon_msg.specs.declared.paxos.Peon.{Peon}
-use Rattle.mon_msg.specs.declared.phase.Phase.{Phase}
-use Rattle.mon_msg.specs.declared.phase.Timer.{Timer}
+use Rattle.mon_wire.specs.declared.phase.Phase.{Phase}
+use Rattle.mon_wire.specs.declared.phase.Timer.{Timer}
 use Rattle.mon_msg.specs.declared.plan.Sent.{Sent}
 use Rattle.mon_msg.specs.declared.synchronisation.Provider.{Provider}
 use Rattle.mon_msg.specs.declared.synchronisation.Requester.{Requester}

@@ -10,9 +10,9 @@ use Rattle.mon_msg.specs.Protocol.Course.{Course, ◌▸◌, ◌>>=◌, checked,
 use Rattle.mon_msg.specs.Protocol.Sending.{others, send_each}
 use Rattle.mon_msg.specs.Protocol.Sets.{only}
 use Rattle.mon_msg.specs.Protocol.View.{epoch_of}
-use Rattle.mon_msg.specs.declared.body.Body.TheVariants as body
-use Rattle.mon_msg.specs.declared.phase.Phase.TheVariants as phase
-use Rattle.mon_msg.specs.declared.phase.Timer.TheVariants as timer
+use Rattle.mon_wire.specs.declared.body.Body.TheVariants as body
+use Rattle.mon_wire.specs.declared.phase.Phase.TheVariants as phase
+use Rattle.mon_wire.specs.declared.phase.Timer.TheVariants as timer
 use Rattle.mon_msg.specs.declared.view.Me.{Me}
 use Rattle.mon_types.specs.Ranks.{no_ranks}
 use Rattle.mon_types.specs.declared.names.Which.TheVariants as which

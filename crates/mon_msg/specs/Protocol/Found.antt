@@ -1,7 +1,7 @@
 -- What a leader that collects finds: the pending value of the greatest version, and then of the greatest number.
 use Rattle.std.specs.Prelude.{ℕ, Bool, true, ◌&&◌, ◌||◌, ◌==◌, nat_le, nat_lt, Option, Some, None, if◌then◌else◌, length}
 use Rattle.mon_msg.specs.Protocol.Records.{most_value}
-use Rattle.mon_msg.specs.declared.parts.Told.{Told}
+use Rattle.mon_wire.specs.declared.parts.Told.{Told}
 use Rattle.mon_msg.specs.declared.paxos.Found.{Found}
 use Rattle.mon_tx.specs.Text.{text}
 

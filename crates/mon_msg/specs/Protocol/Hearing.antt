@@ -15,12 +15,12 @@ use Rattle.mon_msg.specs.Protocol.Pings.{hear_ping, hear_ping_reply}
 use Rattle.mon_msg.specs.Protocol.Probing.{hear_probe, hear_probe_reply}
 use Rattle.mon_msg.specs.Protocol.Providing.{hear_get_cookie_full, hear_get_cookie_recent, hear_get_chunk}
 use Rattle.mon_msg.specs.Protocol.Reads.{shown, since, read}
-use Rattle.mon_msg.specs.declared.body.Body.TheVariants as body
-use Rattle.mon_msg.specs.declared.body.Body.{Body}
-use Rattle.mon_msg.specs.declared.message.Message.{Message}
-use Rattle.mon_msg.specs.declared.request.Request.TheVariants as request
-use Rattle.mon_msg.specs.declared.request.Request.{Request}
-use Rattle.mon_msg.specs.declared.request.Session.{Session}
+use Rattle.mon_wire.specs.declared.body.Body.TheVariants as body
+use Rattle.mon_wire.specs.declared.body.Body.{Body}
+use Rattle.mon_wire.specs.declared.message.Message.{Message}
+use Rattle.mon_wire.specs.declared.request.Request.TheVariants as request
+use Rattle.mon_wire.specs.declared.request.Request.{Request}
+use Rattle.mon_wire.specs.declared.request.Session.{Session}
 use Rattle.mon_msg.specs.declared.view.Me.{Me}
 use Rattle.mon_types.specs.declared.names.Which.{Which}
 

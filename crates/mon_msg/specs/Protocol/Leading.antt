@@ -6,12 +6,12 @@ use Rattle.mon_msg.specs.Protocol.Course.{Course, ◌▸◌, ◌>>=◌, checked,
 use Rattle.mon_msg.specs.Protocol.Learning.{learn}
 use Rattle.mon_msg.specs.Protocol.Sending.{members, send_each, answer_any}
 use Rattle.mon_msg.specs.Protocol.Sets.{is_empty, only}
-use Rattle.mon_msg.specs.declared.body.Body.TheVariants as body
+use Rattle.mon_wire.specs.declared.body.Body.TheVariants as body
 use Rattle.mon_msg.specs.declared.paxos.LeaderStage.TheVariants as stage
 use Rattle.mon_msg.specs.declared.paxos.LeaderStage.{LeaderStage}
-use Rattle.mon_msg.specs.declared.phase.Timer.TheVariants as timer
+use Rattle.mon_wire.specs.declared.phase.Timer.TheVariants as timer
 use Rattle.mon_msg.specs.declared.plan.Origin.{Origin}
-use Rattle.mon_msg.specs.declared.reply.Reply.TheVariants as reply
+use Rattle.mon_wire.specs.declared.reply.Reply.TheVariants as reply
 use Rattle.mon_msg.specs.declared.view.Me.{Me}
 use Rattle.mon_tx.specs.declared.op.Op.{Op}
 use Rattle.mon_types.specs.declared.names.Which.TheVariants as which

@@ -7,10 +7,10 @@ use Rattle.map_kv.specs.Map as kv
 use Rattle.map_log.specs.Decode as log_decode
 use Rattle.map_log.specs.Map as log
 use Rattle.mon_msg.specs.Protocol.Parts.{map_text}
-use Rattle.mon_msg.specs.declared.reply.ShownMap.TheVariants as map
-use Rattle.mon_msg.specs.declared.reply.ShownMap.{ShownMap}
-use Rattle.mon_msg.specs.declared.request.Service.TheVariants.{Kv, Log}
-use Rattle.mon_msg.specs.declared.request.Service.{Service}
+use Rattle.mon_wire.specs.declared.reply.ShownMap.TheVariants as map
+use Rattle.mon_wire.specs.declared.reply.ShownMap.{ShownMap}
+use Rattle.mon_wire.specs.declared.request.Service.TheVariants.{Kv, Log}
+use Rattle.mon_wire.specs.declared.request.Service.{Service}
 
 abbrev pub if_ok : {A E : Type 0} → Result A E → Option A
 if_ok (Ok x) = Some x

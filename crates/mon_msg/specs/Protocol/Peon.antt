@@ -10,8 +10,8 @@ use Rattle.mon_msg.specs.Protocol.Phases.{is_peon}
 use Rattle.mon_msg.specs.Protocol.Records.{pending}
 use Rattle.mon_msg.specs.Protocol.Sending.{send}
 use Rattle.mon_msg.specs.Protocol.View.{epoch_of, promise_of}
-use Rattle.mon_msg.specs.declared.body.Body.TheVariants as body
-use Rattle.mon_msg.specs.declared.phase.Timer.TheVariants as timer
+use Rattle.mon_wire.specs.declared.body.Body.TheVariants as body
+use Rattle.mon_wire.specs.declared.phase.Timer.TheVariants as timer
 use Rattle.mon_msg.specs.declared.view.Me.{Me}
 use Rattle.mon_tx.specs.declared.op.Op.{Op}
 use Rattle.mon_types.specs.declared.names.Which.TheVariants as which

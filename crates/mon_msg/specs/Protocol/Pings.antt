@@ -5,9 +5,9 @@ use Rattle.election_rules.specs.declared.scores.Scores.{Scores}
 use Rattle.mon_msg.specs.Protocol.Course.{Course, ◌▸◌, dropped, elector_is, arm}
 use Rattle.mon_msg.specs.Protocol.Entering.{own_table}
 use Rattle.mon_msg.specs.Protocol.Sending.{others, send, send_each}
-use Rattle.mon_msg.specs.declared.body.Body.TheVariants as body
+use Rattle.mon_wire.specs.declared.body.Body.TheVariants as body
 use Rattle.mon_msg.specs.declared.election.Elector.{Elector}
-use Rattle.mon_msg.specs.declared.phase.Timer.TheVariants as timer
+use Rattle.mon_wire.specs.declared.phase.Timer.TheVariants as timer
 use Rattle.mon_msg.specs.declared.view.Me.{Me}
 use Rattle.mon_types.specs.Ranks.{no_ranks, has, with_rank}
 use Rattle.mon_types.specs.declared.names.Which.{Which}

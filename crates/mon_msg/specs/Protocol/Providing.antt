@@ -7,10 +7,10 @@ use Rattle.mon_msg.specs.Protocol.Places.{is_after, is_done, is_cookie, no_cooki
 use Rattle.mon_msg.specs.Protocol.Records.{run_from, longest}
 use Rattle.mon_msg.specs.Protocol.Sending.{send}
 use Rattle.mon_msg.specs.Protocol.View.{View}
-use Rattle.mon_msg.specs.declared.body.Body.TheVariants as body
-use Rattle.mon_msg.specs.declared.body.Body.{Body}
-use Rattle.mon_msg.specs.declared.parts.Cookie.{Cookie}
-use Rattle.mon_msg.specs.declared.parts.Place.{Place}
+use Rattle.mon_wire.specs.declared.body.Body.TheVariants as body
+use Rattle.mon_wire.specs.declared.body.Body.{Body}
+use Rattle.mon_wire.specs.declared.parts.Cookie.{Cookie}
+use Rattle.mon_wire.specs.declared.parts.Place.{Place}
 use Rattle.mon_msg.specs.declared.view.Me.{Me}
 use Rattle.mon_tx.specs.Keys.{shared}
 use Rattle.mon_tx.specs.declared.op.Op.{Op}

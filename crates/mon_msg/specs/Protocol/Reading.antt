@@ -3,8 +3,8 @@ use Rattle.std.specs.Option.{option_and_then}
 use Rattle.std.specs.Prelude.{ℕ, suc, ◌+◌, Bool, ◌&&◌, nat_le, List, Option, Some, None, if◌then◌else◌, [], ◌∷◌, zero, ◌-◌, length, sum_by}
 use Rattle.mon_msg.specs.Protocol.Maps.{empty_map, spelled_map, next_map}
 use Rattle.mon_msg.specs.Protocol.View.{View}
-use Rattle.mon_msg.specs.declared.reply.ShownMap.{ShownMap}
-use Rattle.mon_msg.specs.declared.request.Service.{Service}
+use Rattle.mon_wire.specs.declared.reply.ShownMap.{ShownMap}
+use Rattle.mon_wire.specs.declared.request.Service.{Service}
 use Rattle.mon_tx.specs.Map.{number_in}
 use Rattle.mon_tx.specs.declared.key.Key.TheVariants as key
 

@@ -10,8 +10,8 @@ use Rattle.mon_msg.specs.declared.election.Prober.{Prober}
 use Rattle.mon_msg.specs.declared.paxos.Leader.{Leader}
 use Rattle.mon_msg.specs.declared.paxos.LeaderStage.TheVariants as stage
 use Rattle.mon_msg.specs.declared.paxos.Peon.{Peon}
-use Rattle.mon_msg.specs.declared.phase.Phase.TheVariants as phase
-use Rattle.mon_msg.specs.declared.phase.Phase.{Phase}
+use Rattle.mon_wire.specs.declared.phase.Phase.TheVariants as phase
+use Rattle.mon_wire.specs.declared.phase.Phase.{Phase}
 use Rattle.mon_msg.specs.declared.synchronisation.Provider.{Provider}
 use Rattle.mon_msg.specs.declared.synchronisation.Requester.{Requester}
 use Rattle.mon_msg.specs.declared.synchronisation.SyncStage.TheVariants as sync

@@ -4,7 +4,7 @@ use Rattle.std.specs.Option.{option_map, option_map_or}
 use Rattle.std.specs.Prelude.{ℕ, Bool, ◌==◌, List, Option, Some, None, map}
 use Rattle.mon_bytes.specs.declared.entry.Entry.{Entry}
 use Rattle.mon_msg.specs.Puts.{area_of}
-use Rattle.mon_msg.specs.declared.request.Service.{Service}
+use Rattle.mon_wire.specs.declared.request.Service.{Service}
 use Rattle.mon_tx.specs.Decision.{Cell, decision, or_before}
 use Rattle.mon_tx.specs.Keys.{place, cell, number, shared}
 use Rattle.mon_tx.specs.Map.{number_in, Store}

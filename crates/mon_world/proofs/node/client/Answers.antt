@@ -2,8 +2,8 @@ use Rattle.std.proofs.Common.{cond, ltb, true}
 use Rattle.mon_msg.specs.Protocol.Reads.{shown, since}
 use Rattle.mon_msg.specs.Protocol.View.{view}
 use Rattle.mon_msg.specs.declared.input.Input.TheVariants as input
-use Rattle.mon_msg.specs.declared.reply.Reply.TheVariants as reply
-use Rattle.mon_msg.specs.declared.request.Request.TheVariants as request
+use Rattle.mon_wire.specs.declared.reply.Reply.TheVariants as reply
+use Rattle.mon_wire.specs.declared.request.Request.TheVariants as request
 use Rattle.mon_world.proofs.Reacting.{answer-done, show-is, since-is}
 use Rattle.mon_world.proofs.node.client.Goals as goal
 

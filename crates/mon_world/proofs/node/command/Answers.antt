@@ -8,7 +8,7 @@ use Rattle.mon_msg.specs.Protocol.Reading.{service_last}
 use Rattle.mon_msg.specs.Protocol.Value.{service_of, value}
 use Rattle.mon_msg.specs.Protocol.View.{view}
 use Rattle.mon_msg.specs.declared.input.Input.TheVariants as input
-use Rattle.mon_msg.specs.declared.reply.Reply.TheVariants as reply
+use Rattle.mon_wire.specs.declared.reply.Reply.TheVariants as reply
 use Rattle.quorum_model.specs.Monitors.{itself}
 use Rattle.mon_world.specs.declared.node.Reaction.{Reaction}
 use Rattle.mon_world.specs.Node.{commit_tx}

@@ -4,7 +4,7 @@ use Rattle.map_log.specs.Map.{with_inc}
 use Rattle.map_log.proofs.Lengths.{is_short}
 use Rattle.mon_msg.specs.Protocol.Reading.{read_map}
 use Rattle.mon_msg.specs.Protocol.View.{view}
-use Rattle.mon_msg.specs.declared.request.Service.TheVariants as service
+use Rattle.mon_wire.specs.declared.request.Service.TheVariants as service
 use Rattle.svc_core.proofs.Drafting.{log_refused, log_entry}
 use Rattle.svc_core.proofs.Kindly.{read_kind}
 use Rattle.svc_core.proofs.MapSizes.{trimmed_short}

@@ -1,4 +1,4 @@
-use Rattle.mon_msg.specs.declared.request.Service.TheVariants as service
+use Rattle.mon_wire.specs.declared.request.Service.TheVariants as service
 use Rattle.svc_core.proofs.Steps.{empty_is}
 use Rattle.svc_core.proofs.reading.empty_map.Goals as goal
 

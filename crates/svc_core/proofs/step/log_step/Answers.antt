@@ -1,5 +1,5 @@
 use Rattle.std.proofs.Common.{ap, ◌∙◌, sym, Some}
-use Rattle.mon_msg.specs.declared.reply.ShownMap.TheVariants as map
+use Rattle.mon_wire.specs.declared.reply.ShownMap.TheVariants as map
 use Rattle.svc_core.proofs.Steps.{next-log}
 use Rattle.svc_core.proofs.step.log_step.Goals as goal
 

@@ -1,0 +1,44 @@
+//! Messages among monitors and their clients, and their bytes. The sessions, requests and replies of clients, the phases and
+//! timers of a monitor.
+#![tactic(auto)]
+
+mod body;
+mod copy_body;
+mod encode;
+mod fields;
+mod incrementals;
+mod kind;
+mod laws;
+mod length;
+mod list;
+mod message;
+mod parts;
+mod phase;
+mod read_body;
+mod read_client;
+mod read_lists;
+mod read_parts;
+mod read_scores;
+mod reading;
+mod refusal;
+mod reply;
+mod request;
+mod write_fields;
+mod write_lists;
+mod write_parts;
+mod write_reply;
+
+pub use body::Body;
+pub use incrementals::Incrementals;
+pub use laws::law_length;
+pub use list::{Items, TryCopy};
+pub use message::Message;
+pub use parts::{Cookie, Place, Told};
+pub use phase::{Phase, Timer};
+pub use reading::{MOST_BYTES, decode};
+pub use refusal::{MsgKind, MsgRefused};
+pub use reply::{Reply, ShownMap};
+pub use request::{Request, Service, Session};
+
+#[cfg(test)]
+mod tests;

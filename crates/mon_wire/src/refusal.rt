@@ -1,0 +1,56 @@
+ghost use Rattle.mon_wire.specs.declared.refusal.MsgKind.TheVariants as fault;
+ghost use Rattle.mon_wire.specs.declared.refusal.MsgRefused.TheVariants.{At, OutOfMemory as no_memory};
+ghost use Rattle.std.specs.Prelude.{◌≡◌};
+
+use mon_bytes::{OutOfMemory, Short};
+use thiserror::Error;
+
+/// What is wrong with the first field of a message that is at fault.
+#[derive(Clone, Copy, Debug, PartialEq, Eq)]
+pub enum MsgKind {
+    /// It doesn't fit.
+    Cut,
+    /// The first byte isn't that of this format.
+    Format,
+    /// No message has this kind.
+    Kind,
+    /// There are no so many monitors, or the sender isn't one of them.
+    From,
+    /// A number is above 2^62.
+    Number,
+    /// The field is outside its set.
+    Value,
+    /// The message has more than 1,048,576 bytes.
+    TooLong,
+    /// A byte stands behind the end.
+    Rest,
+}
+
+/// Why bytes are no message.
+#[derive(Clone, Copy, Debug, PartialEq, Eq, Error)]
+pub enum MsgRefused {
+    /// The first field at fault begins here.
+    #[error("no message: {kind:?} at {at}")]
+    At { at: usize, kind: MsgKind },
+    #[error("out of memory")]
+    OutOfMemory,
+}
+
+impl From<Short> for MsgRefused {
+    ghost from_gives = { λ s e. e ≡ At s.at fault.Cut };
+
+    fn from(s: Short) -> MsgRefused {
+        MsgRefused::At {
+            at: s.at,
+            kind: MsgKind::Cut,
+        }
+    }
+}
+
+impl From<OutOfMemory> for MsgRefused {
+    ghost from_gives = { λ _ e. e ≡ no_memory };
+
+    fn from(_e: OutOfMemory) -> MsgRefused {
+        MsgRefused::OutOfMemory
+    }
+}
