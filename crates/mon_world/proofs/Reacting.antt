@@ -47,11 +47,11 @@ use Rattle.quorum_model.specs.Alone.{Waits, IsSettled}
 use Rattle.quorum_model.specs.Clients.{command_of}
 use Rattle.quorum_model.specs.Monitors.{itself}
 use Rattle.quorum_model.proofs.Asking.{leads_itself, committed, committed_by, answered, reaction-command, reaction-refused, reaction-long, reaction-show, reaction-since}
-use Rattle.quorum_model.proofs.Older.{older_itself}
-use Rattle.quorum_model.proofs.PutOnce.{commits_once}
+use Rattle.log_model.proofs.Older.{older_itself}
+use Rattle.log_model.proofs.PutOnce.{commits_once}
 use Rattle.quorum_model.proofs.Ringing.{rings}
 use Rattle.quorum_model.proofs.Starting.{number, start_changes, started_by, starting, reaction-start, done}
-use Rattle.quorum_model.proofs.TextSizes.{value_short}
+use Rattle.log_model.proofs.TextSizes.{value_short}
 use Rattle.svc_core.specs.Drafts.{IsShortValue}
 use Rattle.mon_world.specs.declared.node.Reaction.{Reaction}
 use Rattle.mon_world.specs.declared.node.NodeStop.{NodeStop}

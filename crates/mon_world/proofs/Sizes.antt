@@ -10,8 +10,8 @@ use Rattle.mon_tx.specs.Map.{number_bytes}
 use Rattle.mon_tx.specs.Text.{op_text, text, most}
 use Rattle.mon_msg.specs.Puts.{put, put_number}
 use Rattle.mon_msg.specs.Protocol.Records.{most_value}
-use Rattle.quorum_model.proofs.AreaEdits.{Set}
-use Rattle.quorum_model.proofs.TextSizes.{text_length, edits_total, light_first}
+use Rattle.log_model.proofs.AreaEdits.{Set}
+use Rattle.log_model.proofs.TextSizes.{text_length, edits_total, light_first}
 use Rattle.mon_world.specs.Node.{start_tx, commit_tx}
 
 text_parts : (ops : List Op) → length (text ops) ≡ 5 + length (flat_map op_text ops)

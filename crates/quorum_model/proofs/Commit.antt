@@ -27,16 +27,16 @@ use Rattle.quorum_model.specs.Clients.{command_of, made_by, letters_in, all_ackn
 use Rattle.quorum_model.specs.Clients.{command_of, incremental_of, made_by, letters_in, all_acknowledged, all_replied}
 use Rattle.quorum_model.specs.Growth.{last_of, bytes_or_none, grown}
 use Rattle.quorum_model.specs.Happens.{leads, moved}
-use Rattle.quorum_model.specs.LogOfValues.{IsCommand, IsValue, view_at}
+use Rattle.log_model.specs.LogOfValues.{IsCommand, IsValue, view_at}
 use Rattle.quorum_model.specs.World.{World, Client, Asked, Acknowledged, Replied}
 use Rattle.quorum_model.specs.Safe.{Among, AcknowledgedOnce, IsAsked, IsAnswered}
-use Rattle.quorum_model.proofs.Committed.{value_told}
+use Rattle.log_model.proofs.Committed.{value_told}
 use Rattle.quorum_model.proofs.Lists.{all_map, all_append, among_front, among_last, length_push}
-use Rattle.quorum_model.proofs.Logs.{Fronts, fronts_push, entry_push, fold_stays}
+use Rattle.log_model.proofs.Logs.{Fronts, fronts_push, entry_push, fold_stays}
 use Rattle.quorum_model.proofs.Made.{puts_command}
-use Rattle.quorum_model.proofs.Holds.{Holds, read_last, keeps_log}
-use Rattle.quorum_model.proofs.Older.{older_itself}
-use Rattle.quorum_model.proofs.Learned.{learned, reads_ops, holds_learned, new_record, learns}
+use Rattle.log_model.proofs.Holds.{Holds, read_last, keeps_log}
+use Rattle.log_model.proofs.Older.{older_itself}
+use Rattle.log_model.proofs.Learned.{learned, reads_ops, holds_learned, new_record, learns}
 use Rattle.quorum_model.proofs.Invariant.{IsAck, Inv}
 use Rattle.quorum_model.proofs.Step.{after, IsNewAck, IsNewReply, keeps}
 use Rattle.quorum_model.proofs.Quiet.{grown_by, first_rank}

@@ -20,8 +20,8 @@ use Rattle.mon_kv.specs.Readers.{is_marked}
 use Rattle.quorum_model.specs.World.{World, Asked, Acknowledged, Replied, first_world}
 use Rattle.quorum_model.specs.Safe.{Among, Agrees, IsAsked, LeaderHas, IsKept, AcknowledgedOnce, IsAnswered, DoneIsAnswered, AreAfter, ShowsLog, after_transactions, Held, Fence, Safe}
 use Rattle.quorum_model.proofs.Lists.{all_map, among_all}
-use Rattle.quorum_model.proofs.Logs.{Fronts, entry_stays, fold_stays, incrementals_stay}
-use Rattle.quorum_model.proofs.Holds.{Holds, holds_nothing, record_there}
+use Rattle.log_model.proofs.Logs.{Fronts, entry_stays, fold_stays, incrementals_stay}
+use Rattle.log_model.proofs.Holds.{Holds, holds_nothing, record_there}
 
 -- an acknowledged version is in the log, and puts its incremental
 pub record IsAck (w : World) (a : Acknowledged) : Type 0 where

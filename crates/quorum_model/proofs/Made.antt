@@ -16,7 +16,7 @@ use Rattle.mon_msg.specs.Protocol.Reading.{service_first, service_last, read_map
 use Rattle.mon_msg.specs.Protocol.Value.{service_of, made, value_of, value}
 use Rattle.mon_msg.specs.Protocol.View.{View}
 use Rattle.quorum_model.specs.Clients.{incremental_of}
-use Rattle.quorum_model.proofs.Puts.{puts_value}
+use Rattle.log_model.proofs.Puts.{puts_value}
 
 first_same : (y x : List ℕ) (m next : ShownMap) → ◌≡◌ {A = Result (List ℕ × ShownMap) CommandRefused} (Ok (y, m)) (Ok (x, next)) → x ≡ y
 first_same y x m next e =

@@ -26,9 +26,9 @@ use Rattle.quorum_model.specs.Happens.{leads, moved}
 use Rattle.quorum_model.specs.World.{World, Event, Client, Asked, Acknowledged, Replied}
 use Rattle.quorum_model.specs.Safe.{Among, AcknowledgedOnce, DoneIsAnswered, AreAfter, ShowsLog}
 use Rattle.quorum_model.proofs.Lists.{among_front}
-use Rattle.quorum_model.proofs.Logs.{Fronts, fronts_itself}
-use Rattle.quorum_model.proofs.Own.{IsOwn, Same, same_changes}
-use Rattle.quorum_model.proofs.Holds.{Holds, number_none, still_holds}
+use Rattle.log_model.proofs.Logs.{Fronts, fronts_itself}
+use Rattle.log_model.proofs.Own.{IsOwn, Same, same_changes}
+use Rattle.log_model.proofs.Holds.{Holds, number_none, still_holds}
 use Rattle.quorum_model.proofs.Invariant.{IsReply, Inv}
 use Rattle.quorum_model.proofs.Step.{after, IsNewAck, IsNewReply, keeps}
 

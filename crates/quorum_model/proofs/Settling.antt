@@ -19,11 +19,11 @@ use Rattle.mon_msg.specs.Protocol.View.{cell_after}
 use Rattle.mon_msg.specs.Protocol.Rules.{paxos_to, value_ops}
 use Rattle.mon_msg.specs.Protocol.View.{marks, view}
 use Rattle.quorum_model.specs.Alone.{IsSettled}
-use Rattle.quorum_model.proofs.AreaEdits.{Edit, Set, spelled, final, cell_after-append, cell_here, cell_elsewhere}
-use Rattle.quorum_model.proofs.Holds.{number_none}
-use Rattle.quorum_model.proofs.Own.{Same}
-use Rattle.quorum_model.proofs.RuleEdits.{first_set, begun, log_cut}
-use Rattle.quorum_model.proofs.Windows.{learned, elsewhere, log_cell}
+use Rattle.log_model.proofs.AreaEdits.{Edit, Set, spelled, final, cell_after-append, cell_here, cell_elsewhere}
+use Rattle.log_model.proofs.Holds.{number_none}
+use Rattle.log_model.proofs.Own.{Same}
+use Rattle.log_model.proofs.RuleEdits.{first_set, begun, log_cut}
+use Rattle.log_model.proofs.Windows.{learned, elsewhere, log_cell}
 
 pub settled_first : IsSettled (view empty)
 unfolding view

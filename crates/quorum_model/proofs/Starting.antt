@@ -27,7 +27,7 @@ use Rattle.mon_types.specs.Proposal.{next_number}
 use Rattle.mon_types.specs.declared.names.Which.TheVariants as which
 use Rattle.mon_types.specs.declared.names.Which.{Which}
 use Rattle.quorum_model.specs.Alone.{LeadsItself, OnlyRenews, Waits}
-use Rattle.quorum_model.proofs.Own.{IsOwn}
+use Rattle.log_model.proofs.Own.{IsOwn}
 
 -- a number that is tested
 pub tested : {B : Type 0} (k : Which) (n : ℕ) (next : ℕ → Result B Which) → (checked k n >>= next) ≡ cond (leb n (2 ^ 62)) (next n) (Err k)

@@ -31,7 +31,7 @@ use Rattle.quorum_model.specs.Alone.{Waits, IsSettled}
 use Rattle.quorum_model.specs.Clients.{command_of}
 use Rattle.quorum_model.specs.Monitors.{itself}
 use Rattle.quorum_model.proofs.Asking.{Commits, commits, answered, reaction-show, reaction-since, reaction-refused, reaction-long}
-use Rattle.quorum_model.proofs.Own.{Same, same_changes}
+use Rattle.log_model.proofs.Own.{Same, same_changes}
 use Rattle.quorum_model.proofs.Settling.{settled_same, settled_commit}
 use Rattle.quorum_model.proofs.Starting.{me, Starts, starts}
 

@@ -13,8 +13,8 @@ use Rattle.quorum_model.specs.Happens.{put_at}
 use Rattle.quorum_model.specs.World.{World, Letter, Asked, Acknowledged, Replied}
 use Rattle.quorum_model.specs.Safe.{Among, IsAsked, AcknowledgedOnce, IsFenced, Fence, after_transactions}
 use Rattle.quorum_model.proofs.Lists.{all_map, all_append, all_both, among_front}
-use Rattle.quorum_model.proofs.Logs.{Fronts}
-use Rattle.quorum_model.proofs.Holds.{Holds}
+use Rattle.log_model.proofs.Logs.{Fronts}
+use Rattle.log_model.proofs.Holds.{Holds}
 use Rattle.quorum_model.proofs.Invariant.{IsAck, IsReply, Inv, Grown, ack_stays, reply_stays, value_stays}
 
 module _ (w : World) (m : Store) (s : State) (tx : List Op) (letters : List Letter) (log : List (List ℕ)) (asked : List Asked) (acks : List Acknowledged) (replies : List Replied) (active : List (ℕ × ℕ)) where

@@ -12,11 +12,11 @@ use Rattle.mon_msg.specs.Protocol.Reading.{may_tell}
 use Rattle.mon_msg.specs.Protocol.Reads.{changes_after, shown, since}
 use Rattle.mon_msg.specs.Protocol.Records.{longest}
 use Rattle.mon_msg.specs.Protocol.View.{View, view}
-use Rattle.quorum_model.specs.Windows.{service_from, first_read, Shows}
-use Rattle.quorum_model.proofs.Committed as committed
-use Rattle.quorum_model.proofs.Holds.{Holds, read_last, keeps_log}
+use Rattle.log_model.specs.Windows.{service_from, first_read, Shows}
+use Rattle.log_model.proofs.Committed as committed
+use Rattle.log_model.proofs.Holds.{Holds, read_last, keeps_log}
 use Rattle.quorum_model.proofs.Quiet.{Tells}
-use Rattle.quorum_model.proofs.ToldFront.{told_front, told_others}
+use Rattle.log_model.proofs.ToldFront.{told_front, told_others}
 
 -- as many of the incrementals after version v as one reply takes
 changes_are : (w : View) (log : List (List ℕ)) (s : Service) (v : ℕ) → Tells log (changes_after w s v (drop v (incrementals s log (length log))))

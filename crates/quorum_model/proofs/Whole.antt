@@ -32,16 +32,16 @@ use Rattle.quorum_model.specs.Alone.{Waits}
 use Rattle.quorum_model.specs.Clients.{command_of}
 use Rattle.quorum_model.specs.Events.{RequestFits, EventFits, AllFit}
 use Rattle.quorum_model.specs.Happens.{Stop, Full, map_after, unmoved, moved, after_reaction, happens, or_stay, run_from, run}
-use Rattle.quorum_model.specs.LogOfValues.{IsCommand}
+use Rattle.log_model.specs.LogOfValues.{IsCommand}
 use Rattle.quorum_model.specs.Monitors.{alone, itself}
 use Rattle.quorum_model.specs.Safe.{Safe}
 use Rattle.quorum_model.specs.World.{World, Event, Start, Deliver, Ring, Client, Letter, first_world}
 use Rattle.quorum_model.proofs.Lists.{all_map}
-use Rattle.quorum_model.proofs.Logs.{fronts_itself}
+use Rattle.log_model.proofs.Logs.{fronts_itself}
 use Rattle.quorum_model.proofs.Starting.{me, Starts, starts}
 use Rattle.quorum_model.proofs.Asking.{leads_itself, Commits, commits, answered, reaction-show, reaction-since, reaction-refused, reaction-long}
 use Rattle.quorum_model.proofs.Ringing.{rings}
-use Rattle.quorum_model.proofs.Holds.{read_last, read_unmarked, read_settled}
+use Rattle.log_model.proofs.Holds.{read_last, read_unmarked, read_settled}
 use Rattle.quorum_model.proofs.Invariant.{IsAck, IsReply, Inv, Grown, at_first, ack_stays, reply_stays, value_stays, safe}
 use Rattle.quorum_model.proofs.Quiet.{Tells, asked_before, calm_keeps}
 use Rattle.quorum_model.proofs.Telling.{refusal_tells, show_tells, changes_tell}

@@ -3,7 +3,7 @@ use Rattle.std.specs.Prelude.{ℕ, ◌<◌, IfSome, List}
 use Rattle.std.specs.List.{AllByRecursion}
 use Rattle.mon_wire.specs.declared.request.Request.{Request}
 use Rattle.quorum_model.specs.Clients.{command_of}
-use Rattle.quorum_model.specs.LogOfValues.{IsCommand}
+use Rattle.log_model.specs.LogOfValues.{IsCommand}
 use Rattle.quorum_model.specs.World.{Event, Start, Deliver, Ring, Client}
 
 -- a command's name is one, and its text is one

@@ -4,9 +4,9 @@ pub mod Clients
 pub mod Events
 pub mod Growth
 pub mod Happens
-pub mod LogOfValues
 pub mod Monitors
 pub mod Safe
-pub mod Windows
 pub mod World
 pub mod Written
+pub use Rattle.log_model.specs.LogOfValues
+pub use Rattle.log_model.specs.Windows

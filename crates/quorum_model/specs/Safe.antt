@@ -19,7 +19,7 @@ use Rattle.quorum_model.specs.Clients.{command_of, made_by}
 use Rattle.mon_kv.specs.Readers.{is_marked}
 use Rattle.quorum_model.specs.Growth.{last_of}
 use Rattle.quorum_model.specs.Happens.{leads}
-use Rattle.quorum_model.specs.LogOfValues.{view_at}
+use Rattle.log_model.specs.LogOfValues.{view_at}
 use Rattle.quorum_model.specs.World.{World, Asked, Acknowledged, Replied}
 
 abbrev pub Among : {A : Type 0} → A → List A → Type 0

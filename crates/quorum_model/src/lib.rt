@@ -1,6 +1,7 @@
-//! The laws of the quorum, over every list of events.
+//! The laws of the quorum, over every list of events, with those of its log.
 #![tactic(auto)]
 
 mod laws;
 
-pub use laws::{law_kept, law_proposed, law_safe, law_shared, law_shown, law_windows};
+pub use laws::{law_kept, law_safe};
+pub use log_model::{law_proposed, law_shared, law_shown, law_windows};

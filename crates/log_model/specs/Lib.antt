@@ -1,0 +1,2 @@
+pub mod LogOfValues
+pub mod Windows

@@ -1,5 +1,0 @@
-use Rattle.quorum_model.proofs.ValueSizes.{any_text}
-use Rattle.quorum_model.proofs.laws.law_proposed.Goals as goal
-
-pub returns : goal.returns
-returns c = any_text
