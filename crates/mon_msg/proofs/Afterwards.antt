@@ -8,7 +8,7 @@ use Rattle.mon_tx.specs.Map.{Store, apply_op, apply, number_in}
 use Rattle.mon_tx.specs.Keys.{place, cell, number}
 use Rattle.mon_tx.specs.Decision.{Cell, Decision, decision, or_before}
 use Rattle.mon_tx.proofs.After.{get-apply}
-use Rattle.mon_msg.specs.Protocol.View.{number_after}
+use Rattle.mon_msg.specs.Protocol.Readings.{number_after}
 
 -- what is told of the cell that changes leave
 pub told : {A : Type 0} (tell : Cell → A) (d : Decision) (c : Cell) → tell (or_before d c) ≡ option_map_or tell d (tell c)

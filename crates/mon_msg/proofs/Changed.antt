@@ -17,8 +17,8 @@ use Rattle.mon_wire.specs.declared.request.Service.{Service}
 use Rattle.mon_wire.specs.declared.request.Service.TheVariants.{Kv, Log}
 use Rattle.mon_msg.specs.Joined.{joined}
 use Rattle.mon_msg.specs.Puts.{area_of}
-use Rattle.mon_msg.specs.Protocol.View.{number_if_there}
-use Rattle.mon_msg.specs.Protocol.View.{View, marks, told_after, view, after}
+use Rattle.mon_msg.specs.Protocol.Readings.{number_if_there}
+use Rattle.mon_msg.specs.Protocol.Readings.{Readings, marks, told_after, readings_of, after}
 use Rattle.mon_msg.specs.Protocol.Changes.{Change, Boot, Epoch, Numbers, Promise, Vote, Record, Learn, Last, Copy, Mark, Unmark, ops_of, spelled}
 use Rattle.mon_msg.specs.Protocol.Played.{IsShort, Fits, play, played}
 use Rattle.mon_msg.proofs.Edits.{Edit, Set, Drop, DropAll, op_of, all_named, decision-edits}
@@ -28,9 +28,9 @@ use Rattle.mon_msg.proofs.Afterwards.{told, number-apply, apply-append}
 told-apply : {A : Type 0} (tell : Cell → A) (ops : List Op) (m : Store) (a : Area) (k : Key) → tell (cell (apply ops m) a k) ≡ told_after tell ops a k (tell (cell m a k))
 told-apply tell ops m a k = ap tell (get-apply ops m (place a k)) ∙ told tell (decision ops (place a k)) (cell m a k)
 
-pub view-apply : (ops : List Op) (m : Store) → view (apply ops m) ≡ after ops (view m)
-unfolding view after
-view-apply ops m = λ i. record {
+pub readings-apply : (ops : List Op) (m : Store) → readings_of (apply ops m) ≡ after ops (readings_of m)
+unfolding readings_of after
+readings-apply ops m = λ i. record {
   epoch = told-apply number_if_there ops m area.Monitor key.ElectionEpoch i;
   boot = number-apply ops m area.Monitor key.BootCount i;
   last_pn = told-apply number_if_there ops m area.Paxos key.LastPn i;
@@ -50,7 +50,7 @@ view-apply ops m = λ i. record {
 abbrev told_by : {A : Type 0} → (Cell → A) → List Edit → Area → Key → A → A
 told_by tell es a k before = option_map_or tell (all_named es a k) before
 
-abbrev edited : List Edit → View → View
+abbrev edited : List Edit → Readings → Readings
 edited es w = record {
   epoch = told_by number_if_there es area.Monitor key.ElectionEpoch w.epoch;
   boot = told_by number_in es area.Monitor key.BootCount w.boot;
@@ -69,7 +69,7 @@ edited es w = record {
 told-edits : {A : Type 0} (tell : Cell → A) (es : List Edit) (a : Area) (k : Key) (before : A) → told_after tell (map op_of es) a k before ≡ told_by tell es a k before
 told-edits tell es a k before = ap (λ d. option_map_or tell d before) (decision-edits es a k)
 
-after-edits : (es : List Edit) (w : View) → after (map op_of es) w ≡ edited es w
+after-edits : (es : List Edit) (w : Readings) → after (map op_of es) w ≡ edited es w
 unfolding after
 after-edits es w = λ i. record {
   epoch = told-edits number_if_there es area.Monitor key.ElectionEpoch w.epoch i;
@@ -104,31 +104,31 @@ marking floor last_pn promise =
     ∷ DropAll area.Paxos
     ∷ (put_back key.LastPn last_pn ++ put_back key.AcceptedPn promise)
 
-rows_same : (es : List Edit) (w : View) → ((k : Key) → all_named es area.Kv k ≡ None) → ((k : Key) → all_named es area.Logm k ≡ None)
+rows_same : (es : List Edit) (w : Readings) → ((k : Key) → all_named es area.Kv k ≡ None) → ((k : Key) → all_named es area.Logm k ≡ None)
     → (s : Service) (k : Key) → or_before (all_named es (area_of s) k) (w.row s k) ≡ w.row s k
 rows_same es w h g Kv k = ap (λ d. or_before d (w.row Kv k)) (h k)
 rows_same es w h g Log k = ap (λ d. or_before d (w.row Log k)) (g k)
 
-boot_is : (n : ℕ) (w : View) → n ≤ 2 ^ 62 → edited (number_set area.Monitor key.BootCount n ∷ []) w ≡ play (Boot n) w
+boot_is : (n : ℕ) (w : Readings) → n ≤ 2 ^ 62 → edited (number_set area.Monitor key.BootCount n ∷ []) w ≡ play (Boot n) w
 boot_is n w h = λ i. record w { boot = number_in-bytes n h i; row = λ s k. rows_same (number_set area.Monitor key.BootCount n ∷ []) w (λ k. refl) (λ k. refl) s k i }
 
-epoch_is : (e : ℕ) (w : View) → e ≤ 2 ^ 62 → edited (number_set area.Monitor key.ElectionEpoch e ∷ []) w ≡ play (Epoch e) w
+epoch_is : (e : ℕ) (w : Readings) → e ≤ 2 ^ 62 → edited (number_set area.Monitor key.ElectionEpoch e ∷ []) w ≡ play (Epoch e) w
 epoch_is e w h = λ i. record w { epoch = Some (number_in-bytes e h i); row = λ s k. rows_same (number_set area.Monitor key.ElectionEpoch e ∷ []) w (λ k. refl) (λ k. refl) s k i }
 
-numbers_are : (pn : ℕ) (w : View) → pn ≤ 2 ^ 62 → edited (number_set area.Paxos key.LastPn pn ∷ number_set area.Paxos key.AcceptedPn pn ∷ []) w ≡ play (Numbers pn) w
+numbers_are : (pn : ℕ) (w : Readings) → pn ≤ 2 ^ 62 → edited (number_set area.Paxos key.LastPn pn ∷ number_set area.Paxos key.AcceptedPn pn ∷ []) w ≡ play (Numbers pn) w
 numbers_are pn w h = λ i. record w {
   last_pn = Some (number_in-bytes pn h i);
   promise = Some (number_in-bytes pn h i);
   row = λ s k. rows_same (number_set area.Paxos key.LastPn pn ∷ number_set area.Paxos key.AcceptedPn pn ∷ []) w (λ k. refl) (λ k. refl) s k i;
 }
 
-promise_is : (pn : ℕ) (w : View) → pn ≤ 2 ^ 62 → edited (number_set area.Paxos key.AcceptedPn pn ∷ []) w ≡ play (Promise pn) w
+promise_is : (pn : ℕ) (w : Readings) → pn ≤ 2 ^ 62 → edited (number_set area.Paxos key.AcceptedPn pn ∷ []) w ≡ play (Promise pn) w
 promise_is pn w h = λ i. record w {
   promise = Some (number_in-bytes pn h i);
   row = λ s k. rows_same (number_set area.Paxos key.AcceptedPn pn ∷ []) w (λ k. refl) (λ k. refl) s k i;
 }
 
-last_is : (v : ℕ) (w : View) → v ≤ 2 ^ 62 → edited (number_set area.Paxos key.LastCommitted v ∷ []) w ≡ play (Last v) w
+last_is : (v : ℕ) (w : Readings) → v ≤ 2 ^ 62 → edited (number_set area.Paxos key.LastCommitted v ∷ []) w ≡ play (Last v) w
 last_is v w h = λ i. record w {
   last = number_in-bytes v h i;
   row = λ s k. rows_same (number_set area.Paxos key.LastCommitted v ∷ []) w (λ k. refl) (λ k. refl) s k i;
@@ -141,7 +141,7 @@ record_cell false bytes c = refl
 abbrev recording : ℕ → List ℕ → List Edit
 recording v bytes = Set area.Paxos (key.Version v) bytes ∷ []
 
-record_is : (v : ℕ) (value : List Op) (w : View) → edited (recording v (text value)) w ≡ play (Record v value) w
+record_is : (v : ℕ) (value : List Op) (w : Readings) → edited (recording v (text value)) w ≡ play (Record v value) w
 record_is v value w = λ i. record w {
   record_of = λ u. record_cell (eqb u v) (text value) (w.record_of u) i;
   row = λ s k. rows_same (recording v (text value)) w (λ k. refl) (λ k. refl) s k i;
@@ -150,7 +150,7 @@ record_is v value w = λ i. record w {
 abbrev voting : ℕ → ℕ → List ℕ → List Edit
 voting v pn bytes = Set area.Paxos (key.Version v) bytes ∷ number_set area.Paxos key.PendingV v ∷ number_set area.Paxos key.PendingPn pn ∷ []
 
-vote_is : (v pn : ℕ) (value : List Op) (w : View) → v ≤ 2 ^ 62 → pn ≤ 2 ^ 62 → edited (voting v pn (text value)) w ≡ play (Vote v pn value) w
+vote_is : (v pn : ℕ) (value : List Op) (w : Readings) → v ≤ 2 ^ 62 → pn ≤ 2 ^ 62 → edited (voting v pn (text value)) w ≡ play (Vote v pn value) w
 vote_is v pn value w h g = λ i. record w {
   pending_v = number_in-bytes v h i;
   pending_pn = number_in-bytes pn g i;
@@ -161,11 +161,11 @@ vote_is v pn value w h g = λ i. record w {
 abbrev unmarking : List Edit
 unmarking = Drop area.Sync key.InSync ∷ Drop area.Sync key.Floor ∷ []
 
-unmark_is : (w : View) → edited unmarking w ≡ play Unmark w
+unmark_is : (w : Readings) → edited unmarking w ≡ play Unmark w
 unfolding number_in
 unmark_is w = λ i. record w { marked = false; floor = 0; row = λ s k. rows_same unmarking w (λ k. refl) (λ k. refl) s k i }
 
-rows_gone : (floor : ℕ) (a b : Option ℕ) (w : View) (s : Service) (k : Key) → or_before (all_named (marking floor a b) (area_of s) k) (w.row s k) ≡ None
+rows_gone : (floor : ℕ) (a b : Option ℕ) (w : Readings) (s : Service) (k : Key) → or_before (all_named (marking floor a b) (area_of s) k) (w.row s k) ≡ None
 rows_gone floor None None w Kv k = refl
 rows_gone floor None None w Log k = refl
 rows_gone floor (Some a) None w Kv k = refl
@@ -178,7 +178,7 @@ rows_gone floor (Some a) (Some b) w Log k = refl
 is_one : marks (Some (number_bytes 1)) ≡ true
 is_one = ap (λ n. eqb n 1) (number_in-bytes 1 (lit≤ tt))
 
-mark_is : (floor : ℕ) (a b : Option ℕ) (w : View) → floor ≤ 2 ^ 62 → IfSome a IsShort → IfSome b IsShort → edited (marking floor a b) w ≡ play (Mark floor a b) w
+mark_is : (floor : ℕ) (a b : Option ℕ) (w : Readings) → floor ≤ 2 ^ 62 → IfSome a IsShort → IfSome b IsShort → edited (marking floor a b) w ≡ play (Mark floor a b) w
 unfolding number_in
 mark_is floor None None w f h g = λ i. record w {
   last_pn = None;
@@ -235,7 +235,7 @@ marking_ops floor (Some a) None = refl
 marking_ops floor None (Some b) = refl
 marking_ops floor (Some a) (Some b) = refl
 
-after_change : (c : Change) (w : View) → Fits c → after (ops_of c) w ≡ play c w
+after_change : (c : Change) (w : Readings) → Fits c → after (ops_of c) w ≡ play c w
 after_change (Boot n) w h = after-edits (number_set area.Monitor key.BootCount n ∷ []) w ∙ boot_is n w h
 after_change (Epoch e) w h = after-edits (number_set area.Monitor key.ElectionEpoch e ∷ []) w ∙ epoch_is e w h
 after_change (Numbers pn) w h = after-edits (number_set area.Paxos key.LastPn pn ∷ number_set area.Paxos key.AcceptedPn pn ∷ []) w ∙ numbers_are pn w h
@@ -248,12 +248,12 @@ after_change (Copy entry) w h = refl
 after_change (Mark floor a b) w h = ap (λ ops. after ops w) (marking_ops floor a b) ∙ after-edits (marking floor a b) w ∙ mark_is floor a b w h.0 h.1 h.2
 after_change Unmark w h = after-edits unmarking w ∙ unmark_is w
 
-view-spelled : (cs : List Change) → AllByRecursion Fits cs → (m : Store) → view (apply (spelled cs) m) ≡ played cs (view m)
-view-spelled [] h m = refl
-view-spelled (c ∷ cs) h m =
-    ap view (apply-append (ops_of c) (spelled cs) m)
-    ∙ view-spelled cs h.1 (apply (ops_of c) m)
-    ∙ ap (played cs) (view-apply (ops_of c) m ∙ after_change c (view m) h.0)
+readings-spelled : (cs : List Change) → AllByRecursion Fits cs → (m : Store) → readings_of (apply (spelled cs) m) ≡ played cs (readings_of m)
+readings-spelled [] h m = refl
+readings-spelled (c ∷ cs) h m =
+    ap readings_of (apply-append (ops_of c) (spelled cs) m)
+    ∙ readings-spelled cs h.1 (apply (ops_of c) m)
+    ∙ ap (played cs) (readings-apply (ops_of c) m ∙ after_change c (readings_of m) h.0)
 
-pub view-joined : (cs : List Change) → AllByRecursion Fits cs → (m : Store) → view (apply (joined (spelled cs)) m) ≡ played cs (view m)
-view-joined cs h m = ap view (apply-joined (spelled cs) m) ∙ view-spelled cs h m
+pub readings-joined : (cs : List Change) → AllByRecursion Fits cs → (m : Store) → readings_of (apply (joined (spelled cs)) m) ≡ played cs (readings_of m)
+readings-joined cs h m = ap readings_of (apply-joined (spelled cs) m) ∙ readings-spelled cs h m

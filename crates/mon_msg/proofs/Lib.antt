@@ -2,6 +2,9 @@ pub mod Changed
 pub mod Edits
 pub mod Examples
 pub mod Joining
+pub mod Due
+pub mod Runs
+pub mod Fitting
 pub mod Once
 pub mod Afterwards
 pub mod PutOnce

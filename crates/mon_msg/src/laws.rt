@@ -1,13 +1,17 @@
-//! The laws that join what an event does to the store with what the store's readers tell.
+//! The laws that join what an event does to the store with what the store's readers tell, and those of what is picked out of
+//! timers and lists.
 
-ghost use Rattle.std.specs.Prelude.{◌≡◌, ◌≤◌, false, List};
+ghost use Rattle.std.specs.Prelude.{◌≡◌, ◌≤◌, ℕ, Bool, false, List, Option};
 ghost use Rattle.std.specs.List.{AllByRecursion, count_by, list_any};
+ghost use Rattle.mon_bytes.specs.declared.entry.Entry.{Entry};
 ghost use Rattle.mon_tx.specs.Map.{Place, Store, apply};
 ghost use Rattle.mon_tx.specs.declared.op.Op.{Op};
 ghost use Rattle.mon_msg.specs.Joined.{joined, puts, takes_away};
 ghost use Rattle.mon_msg.specs.Protocol.Changes.{Change, spelled};
 ghost use Rattle.mon_msg.specs.Protocol.Played.{Fits, played};
-ghost use Rattle.mon_msg.specs.Protocol.View.{view, after};
+ghost use Rattle.mon_msg.specs.Protocol.Readings.{readings_of, after};
+ghost use Rattle.mon_msg.specs.Protocol.Records.{longest, IsLongest};
+ghost use Rattle.mon_msg.specs.Protocol.Timers.{due, IsNext};
 
 /// A transaction in which each key is put once does to every map what the changes do in their order. A key that no change
 /// takes away is put at most once in it.
@@ -18,11 +22,28 @@ pub fn law_joined()
 
 /// What a monitor's readers tell after changes is found from those changes and from what they told before.
 pub fn law_readings()
-    ensures { (ops : List Op) (m : Store) → view (apply ops m) ≡ after ops (view m) }
+    ensures { (ops : List Op) (m : Store) → readings_of (apply ops m) ≡ after ops (readings_of m) }
 {}
 
 /// What an event does to a store may be thought of without keys and bytes: the readers tell after its transaction what comes
 /// of playing its changes on what they told before. Every number in the changes has to be one that the store can hold.
 pub fn law_changes()
-    ensures { (cs : List Change) → AllByRecursion Fits cs → (m : Store) → view (apply (joined (spelled cs)) m) ≡ played cs (view m) }
+    ensures {
+        (cs : List Change) → AllByRecursion Fits cs → (m : Store)
+        → readings_of (apply (joined (spelled cs)) m) ≡ played cs (readings_of m)
+    }
+{}
+
+/// The timer that comes next is armed, none is armed for an earlier moment, and no earlier kind for the same; there is none
+/// only where no timer is armed.
+pub fn law_due()
+    ensures { (timers : List (Option ℕ)) → IsNext timers (due timers) }
+{}
+
+/// What a message takes of a log's values, of shared entries or of a service's incrementals is the longest beginning that
+/// passes its test: it passes, and the next longer one doesn't.
+pub fn law_longest()
+    ensures values { (test : List (List Op) → Bool) (all : List (List Op)) → IsLongest test all (longest test all) }
+    ensures entries { (test : List Entry → Bool) (all : List Entry) → IsLongest test all (longest test all) }
+    ensures incrementals { (test : List (List ℕ) → Bool) (all : List (List ℕ)) → IsLongest test all (longest test all) }
 {}

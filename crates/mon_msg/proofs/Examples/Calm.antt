@@ -15,7 +15,8 @@ use Rattle.mon_wire.specs.declared.request.Request.TheVariants as request
 use Rattle.mon_wire.specs.declared.request.Service.TheVariants as service
 use Rattle.mon_wire.specs.declared.request.Session.{Session}
 use Rattle.mon_msg.specs.declared.view.Me.{Me}
-use Rattle.mon_msg.specs.Protocol.Collecting.{settle, collect, collect_with, reign}
+use Rattle.mon_msg.specs.Protocol.Answers.{answer_of}
+use Rattle.mon_msg.specs.Protocol.Collecting.{missed, settle, collect, collect_with, reign}
 use Rattle.mon_msg.specs.Protocol.Commands.{ask, hear_forward, hear_route}
 use Rattle.mon_msg.specs.Protocol.Elections.{hear_propose, hear_ack, election_ends, hear_victory}
 use Rattle.mon_msg.specs.Protocol.Entering.{bootstrap, in_odd_epoch, elect, win}
@@ -26,13 +27,13 @@ use Rattle.mon_msg.specs.Protocol.Learning.{learn}
 use Rattle.mon_msg.specs.Protocol.Peon.{hear_collect, hear_begin, hear_commit, hear_lease}
 use Rattle.mon_msg.specs.Protocol.Probing.{hear_probe, hear_probe_reply}
 use Rattle.mon_msg.specs.Protocol.Proposing.{propose}
-use Rattle.mon_msg.specs.Protocol.Reading.{read_map, read_on}
-use Rattle.mon_msg.specs.Protocol.Records.{record_at, pending, run_of}
+use Rattle.mon_msg.specs.Protocol.Services.{read_map, read_on}
+use Rattle.mon_msg.specs.Protocol.Records.{record_at, pending_of, run_of}
 use Rattle.mon_msg.specs.Protocol.Rules.{value_ops}
 use Rattle.mon_msg.specs.Protocol.Table.{start, react}
 use Rattle.mon_msg.specs.Protocol.Value.{value}
-use Rattle.mon_msg.specs.Protocol.View.{epoch_of, after}
-use Rattle.mon_msg.proofs.Examples.World.{Event, Start, Deliver, Ring, Ask, World, first_world, run, view_of, state_of}
+use Rattle.mon_msg.specs.Protocol.Readings.{epoch_of, after}
+use Rattle.mon_msg.proofs.Examples.World.{Event, Start, Deliver, TimerComes, Ask, World, first_world, run, readings_at, state_of}
 
 abbrev pub me_0 : Me
 me_0 = record { member = record { rank = 0; monitors = 3; most = lit≤ tt; in_map = lit≤ tt }; rule = Classic }
@@ -51,7 +52,7 @@ abbrev pub Stand : Type 0
 Stand = Phase × ℕ × ℕ
 
 abbrev pub stand : World → ℕ → Stand
-stand w r = ((state_of w r).phase, epoch_of (view_of w r), (view_of w r).last)
+stand w r = ((state_of w r).phase, epoch_of (readings_at w r), (readings_at w r).last)
 
 abbrev pub stands : World → List Stand
 stands w = stand w 0 ∷ stand w 1 ∷ stand w 2 ∷ []
@@ -64,7 +65,7 @@ told (s, r) = (s.id, None)
 
 -- where all stand, how many messages were sent, and what clients were told
 abbrev pub outcome : World → List Stand × ℕ × List (ℕ × Option ℕ)
-outcome w = (stands w, length w.letters, map told w.replies)
+outcome w = (stands w, length w.envelopes, map told w.replies)
 
 -- the deliveries of so many messages from number k on
 abbrev pub deliveries : ℕ → ℕ → List Event
@@ -85,7 +86,7 @@ abbrev pub from_start : List Event → World
 from_start events = run three me_0 events (first_world three me_0)
 
 elected : stands (from_start (starts ++ deliveries 30 0)) ≡ (phase.Active, 2, 0) ∷ (phase.Peon, 2, 0) ∷ (phase.Peon, 2, 0) ∷ []
-unfolding start react bootstrap hear_probe hear_probe_reply elect in_odd_epoch hear_propose hear_ack win reign collect collect_with settle hear_victory hear_collect hear_last be_active extend hear_lease hear_lease_ack pending record_at run_of learn
+unfolding start react bootstrap hear_probe hear_probe_reply elect in_odd_epoch hear_propose hear_ack win reign collect collect_with settle hear_victory hear_collect hear_last be_active extend hear_lease hear_lease_ack pending_of record_at run_of learn answer_of missed
 elected = refl
 
 abbrev pub shows : ℕ → Event
@@ -94,17 +95,17 @@ shows r = Ask r 0 (session 2) (request.Show service.Log)
 -- all monitors have the version, and a peon shows it
 committed : outcome (from_start (starts ++ (deliveries 30 0 ++ (logs ∷ (deliveries 10 30 ++ shows 2 ∷ [])))))
     ≡ ((phase.Active, 2, 1) ∷ (phase.Peon, 2, 1) ∷ (phase.Peon, 2, 1) ∷ [], 40, (1, Some 1) ∷ (2, Some 1) ∷ [])
-unfolding start react bootstrap hear_probe hear_probe_reply elect in_odd_epoch hear_propose hear_ack win reign collect collect_with settle hear_victory hear_collect hear_last be_active extend hear_lease hear_lease_ack pending record_at run_of learn hear_client ask propose value value_ops read_map read_on begin begin_with begin_alone hear_begin hear_accept commit hear_commit after joined number_in number_bytes is_within decimal_text transaction_of u32_bytes
+unfolding start react bootstrap hear_probe hear_probe_reply elect in_odd_epoch hear_propose hear_ack win reign collect collect_with settle hear_victory hear_collect hear_last be_active extend hear_lease hear_lease_ack pending_of record_at run_of learn hear_client ask propose value value_ops read_map read_on begin begin_with begin_alone hear_begin hear_accept commit hear_commit after joined number_in number_bytes is_within decimal_text transaction_of u32_bytes answer_of missed
 committed = refl
 
 -- an election in which nobody defers to the candidate is called again in the same epoch
-called_again : outcome (from_start (starts ++ (Deliver 0 0 ∷ Deliver 6 0 ∷ Ring 0 timer.Election 5000 ∷ [])))
+called_again : outcome (from_start (starts ++ (Deliver 0 0 ∷ Deliver 6 0 ∷ TimerComes 0 timer.Election 5000 ∷ [])))
     ≡ ((phase.Electing, 1, 0) ∷ (phase.Probing, 1, 0) ∷ (phase.Probing, 1, 0) ∷ [], 11, [])
-unfolding start react bootstrap hear_probe hear_probe_reply elect in_odd_epoch election_ends win reign collect collect_with settle
+unfolding start react bootstrap hear_probe hear_probe_reply elect in_odd_epoch election_ends win reign collect collect_with settle missed
 called_again = refl
 
 -- a peon hands its client's command on, and answers once the leader has
 handed_on : outcome (from_start (starts ++ (deliveries 30 0 ++ (Ask 1 0 (session 1) (request.Log (120 ∷ [])) ∷ deliveries 5 30 ++ Deliver 39 0 ∷ []))))
     ≡ ((phase.Active, 2, 1) ∷ (phase.Peon, 2, 0) ∷ (phase.Peon, 2, 0) ∷ [], 40, (1, Some 1) ∷ [])
-unfolding start react bootstrap hear_probe hear_probe_reply elect in_odd_epoch hear_propose hear_ack win reign collect collect_with settle hear_victory hear_collect hear_last be_active extend hear_lease hear_lease_ack pending record_at run_of learn hear_client ask hear_forward hear_route propose value value_ops read_map read_on begin begin_with begin_alone hear_begin hear_accept commit hear_commit after joined number_in number_bytes is_within decimal_text transaction_of u32_bytes
+unfolding start react bootstrap hear_probe hear_probe_reply elect in_odd_epoch hear_propose hear_ack win reign collect collect_with settle hear_victory hear_collect hear_last be_active extend hear_lease hear_lease_ack pending_of record_at run_of learn hear_client ask hear_forward hear_route propose value value_ops read_map read_on begin begin_with begin_alone hear_begin hear_accept commit hear_commit after joined number_in number_bytes is_within decimal_text transaction_of u32_bytes answer_of missed
 handed_on = refl

@@ -22,13 +22,13 @@ use Rattle.mon_msg.specs.Protocol.Copying.{hear_cookie}
 use Rattle.mon_msg.specs.Protocol.Entering.{bootstrap}
 use Rattle.mon_msg.specs.Protocol.Learning.{learn}
 use Rattle.mon_msg.specs.Protocol.Probing.{hear_probe, hear_probe_reply}
-use Rattle.mon_msg.specs.Protocol.Providing.{hear_get_cookie_full, hear_get_cookie_recent, hear_get_chunk}
-use Rattle.mon_msg.specs.Protocol.Records.{record_at, pending, run_of}
+use Rattle.mon_msg.specs.Protocol.Providing.{chunk, hear_get_cookie_full, hear_get_cookie_recent, hear_get_chunk}
+use Rattle.mon_msg.specs.Protocol.Records.{record_at, pending_of, run_of}
 use Rattle.mon_msg.specs.Protocol.Replay.{more_of, step_of, replay_step}
 use Rattle.mon_msg.specs.Protocol.Synchronizing.{full_sync, recent_sync}
 use Rattle.mon_msg.specs.Protocol.Table.{start, react}
-use Rattle.mon_msg.specs.Protocol.View.{View, after}
-use Rattle.mon_msg.proofs.Examples.World.{Event, Start, Deliver, Ring, World, first_world, run, view_of}
+use Rattle.mon_msg.specs.Protocol.Readings.{Readings, after}
+use Rattle.mon_msg.proofs.Examples.World.{Event, Start, Deliver, TimerComes, World, first_world, run, readings_at}
 use Rattle.mon_msg.proofs.Examples.Calm.{me_0, three, Stand, stand}
 
 -- the value of a version, where all that the log's service keeps is its last version
@@ -43,7 +43,7 @@ rows last service.Log key.LastCommitted = Some (number_bytes last)
 rows last s k = None
 
 -- a store with these versions, and one that promised and accepted besides
-abbrev keeps : ℕ → ℕ → View
+abbrev keeps : ℕ → ℕ → Readings
 keeps first last = record {
   epoch = Some 7;
   boot = 0;
@@ -59,12 +59,12 @@ keeps first last = record {
   row = rows last;
 }
 
-abbrev accepts : ℕ → ℕ → ℕ → View
+abbrev accepts : ℕ → ℕ → ℕ → Readings
 accepts first last pn = record (keeps first last) { promise = Some pn; pending_v = suc last; pending_pn = pn; record_of = records first (suc last) }
 
 -- monitor 0 and monitor 1 with these stores
-abbrev between : View → View → World
-between a b = record (first_world three me_0) { views = a ∷ b ∷ keeps 0 0 ∷ [] }
+abbrev between : Readings → Readings → World
+between a b = record (first_world three me_0) { readings = a ∷ b ∷ keeps 0 0 ∷ [] }
 
 -- they start, and monitor 1 hears how far monitor 0 is
 abbrev probed : List Event
@@ -72,21 +72,21 @@ probed = Start 0 0 ∷ Start 1 0 ∷ Deliver 2 0 ∷ Deliver 4 0 ∷ []
 
 -- where monitor 1 stands, its first version, whether it is marked, its floor, and its promise
 abbrev copy_of : World → Stand × ℕ × Bool × ℕ × Option ℕ
-copy_of w = let v = view_of w 1 in (stand w 1, v.first, v.marked, v.floor, v.promise)
+copy_of w = let v = readings_at w 1 in (stand w 1, v.first, v.marked, v.floor, v.promise)
 
 -- It kept up to version 4 and accepted version 5, and monitor 0 has nothing before version 6. So it gives up what is shared.
 marked : copy_of (run three me_0 probed (between (keeps 6 9) (accepts 1 4 302))) ≡ ((phase.Synchronizing, 7, 0), 0, true, 5, Some 302)
-unfolding start react bootstrap hear_probe hear_probe_reply full_sync recent_sync pending record_at transaction_of ops_at op_at ops_of put_at word_at value_at version_at format_at number_bytes number_in
+unfolding start react bootstrap hear_probe hear_probe_reply full_sync recent_sync pending_of record_at transaction_of ops_at op_at ops_of put_at word_at value_at version_at format_at number_bytes number_in
 marked = refl
 
 -- the copy is whole: it is where monitor 0 is, with its own promise and epoch
-copied : copy_of (run three me_0 (probed ++ (Deliver 5 0 ∷ Deliver 6 0 ∷ Deliver 7 0 ∷ Deliver 8 0 ∷ Ring 1 timer.Step 0 ∷ [])) (between (keeps 6 9) (accepts 1 4 302)))
+copied : copy_of (run three me_0 (probed ++ (Deliver 5 0 ∷ Deliver 6 0 ∷ Deliver 7 0 ∷ Deliver 8 0 ∷ TimerComes 1 timer.Step 0 ∷ [])) (between (keeps 6 9) (accepts 1 4 302)))
     ≡ ((phase.Probing, 7, 9), 6, false, 0, Some 302)
-unfolding start react bootstrap hear_probe hear_probe_reply full_sync recent_sync pending record_at transaction_of ops_at op_at ops_of put_at word_at value_at version_at format_at number_bytes number_in hear_get_cookie_full hear_cookie hear_get_chunk hear_last_chunk learn after run_of more_of step_of replay_step joined is_within decimal_text
+unfolding start react bootstrap hear_probe hear_probe_reply full_sync recent_sync pending_of record_at transaction_of ops_at op_at ops_of put_at word_at value_at version_at format_at number_bytes number_in hear_get_cookie_full hear_cookie hear_get_chunk hear_last_chunk learn after run_of more_of step_of replay_step joined is_within decimal_text chunk
 copied = refl
 
 -- it lacks more than ten versions, and all of them are kept: it takes these alone
 caught_up : copy_of (run three me_0 (probed ++ (Deliver 5 0 ∷ Deliver 6 0 ∷ Deliver 7 0 ∷ Deliver 8 0 ∷ [])) (between (keeps 1 16) (keeps 1 5)))
     ≡ ((phase.Probing, 7, 16), 1, false, 0, None)
-unfolding start react bootstrap hear_probe hear_probe_reply full_sync recent_sync pending record_at transaction_of ops_at op_at ops_of put_at word_at value_at version_at format_at number_bytes number_in hear_get_cookie_recent hear_cookie hear_get_chunk hear_last_chunk learn after run_of joined is_within decimal_text
+unfolding start react bootstrap hear_probe hear_probe_reply full_sync recent_sync pending_of record_at transaction_of ops_at op_at ops_of put_at word_at value_at version_at format_at number_bytes number_in hear_get_cookie_recent hear_cookie hear_get_chunk hear_last_chunk learn after run_of joined is_within decimal_text chunk
 caught_up = refl

@@ -26,31 +26,31 @@ use Rattle.mon_msg.specs.declared.view.Me.{Me}
 use Rattle.mon_msg.specs.Protocol.Course.{Course}
 use Rattle.mon_msg.specs.Protocol.State.{State, booting}
 use Rattle.mon_msg.specs.Protocol.Table.{react}
-use Rattle.mon_msg.specs.Protocol.View.{View}
+use Rattle.mon_msg.specs.Protocol.Readings.{Readings}
 
 pub data Event : Type 0 where
   Start : (rank : ℕ) → (at : ℕ) → Event
   -- the message of that number, counted from 0
   Deliver : (message : ℕ) → (at : ℕ) → Event
-  Ring : (rank : ℕ) → (timer : Timer) → (at : ℕ) → Event
+  TimerComes : (rank : ℕ) → (timer : Timer) → (at : ℕ) → Event
   Ask : (rank : ℕ) → (at : ℕ) → (session : Session) → (request : Request) → Event
 
 -- a message, and to whom it goes
-pub record Letter : Type 0 where
+pub record Envelope : Type 0 where
   pub to : ℕ
   pub message : Message
 
 pub record World : Type 0 where
   -- what each monitor's store tells, and what it remembers
-  pub views : List View
+  pub readings : List Readings
   pub states : List State
-  pub letters : List Letter
+  pub envelopes : List Envelope
   pub replies : List (Session × Reply)
   -- a number ran out, or a message was delivered that was never sent
   pub is_stopped : Bool
 
-abbrev pub empty_view : View
-empty_view = record {
+abbrev pub no_readings : Readings
+no_readings = record {
   epoch = None;
   boot = 0;
   last_pn = None;
@@ -65,16 +65,16 @@ empty_view = record {
   row = λ s k. None;
 }
 
-abbrev pub view_of : World → ℕ → View
-view_of w r = slice_index_or w.views r empty_view
+abbrev pub readings_at : World → ℕ → Readings
+readings_at w r = slice_index_or w.readings r no_readings
 
 abbrev pub state_of : World → ℕ → State
 state_of w r = slice_index_or w.states r (booting r)
 
-abbrev pub letters_in : List Sent → List Letter
-letters_in [] = []
-letters_in (sent.Message to m ∷ out) = record { to = to; message = m } ∷ letters_in out
-letters_in (sent.Reply session r ∷ out) = letters_in out
+abbrev pub envelopes_in : List Sent → List Envelope
+envelopes_in [] = []
+envelopes_in (sent.Message to m ∷ out) = record { to = to; message = m } ∷ envelopes_in out
+envelopes_in (sent.Reply session r ∷ out) = envelopes_in out
 
 abbrev pub replies_in : List Sent → List (Session × Reply)
 replies_in [] = []
@@ -90,7 +90,7 @@ entry_if a k None = []
 entry_if a k (Some bytes) = record { prefix = area_text a; key = key_text k; value = bytes } ∷ []
 
 -- what a store with the log's service alone, of at most 29 versions, shares
-abbrev pub shared_of : View → List Entry
+abbrev pub shared_of : Readings → List Entry
 shared_of w =
     flat_map (λ v. entry_if area.Logm (key.Version v) (w.row service.Log (key.Version v))) in_key_order
     ++ (entry_if area.Logm key.FirstCommitted (w.row service.Log key.FirstCommitted)
@@ -100,7 +100,7 @@ shared_of w =
     ++ (flat_map (λ v. if v == suc w.last then [] else entry_if area.Paxos (key.Version v) (w.record_of v)) in_key_order
     ++ (if nat_lt 0 w.first then entry_if area.Paxos key.FirstCommitted (Some (number_bytes w.first)) else []))))))
 
-abbrev pub shared_for : Body → View → List Entry
+abbrev pub shared_for : Body → Readings → List Entry
 shared_for (body.GetChunk c p) w = shared_of w
 shared_for b w = []
 
@@ -111,39 +111,39 @@ module _ (members : List Me) (nobody : Me) where
 
   abbrev pub first_world : World
   first_world = record {
-    views = map (λ (me : Me). empty_view) members;
+    readings = map (λ (me : Me). no_readings) members;
     states = map (λ (me : Me). booting me.member.rank) members;
-    letters = [];
+    envelopes = [];
     replies = [];
     is_stopped = false;
   }
 
   abbrev pub takes : World → ℕ → Result Course Which → World
   takes w r (Ok x) = record {
-    views = slice_set w.views r x.view;
+    readings = slice_set w.readings r x.readings;
     states = slice_set w.states r x.state;
-    letters = w.letters ++ letters_in x.out;
+    envelopes = w.envelopes ++ envelopes_in x.out;
     replies = w.replies ++ replies_in x.out;
     is_stopped = w.is_stopped;
   }
   takes w r (Err e) = record w { is_stopped = true }
 
   abbrev pub input_to : World → List Entry → ℕ → ℕ → State → Input → World
-  input_to w shared r now s i = takes w r (react (me_of r) shared now (view_of w r) s i)
+  input_to w shared r now s i = takes w r (react (me_of r) shared now (readings_at w r) s i)
 
-  abbrev pub letter_at : List Letter → ℕ → Option Letter
-  letter_at [] k = None
-  letter_at (l ∷ ls) zero = Some l
-  letter_at (l ∷ ls) (suc k) = letter_at ls k
+  abbrev pub envelope_at : List Envelope → ℕ → Option Envelope
+  envelope_at [] k = None
+  envelope_at (l ∷ ls) zero = Some l
+  envelope_at (l ∷ ls) (suc k) = envelope_at ls k
 
-  abbrev pub letter_taken : World → ℕ → Option Letter → World
-  letter_taken w now None = record w { is_stopped = true }
-  letter_taken w now (Some l) = input_to w (shared_for l.message.body (view_of w l.to)) l.to now (state_of w l.to) (input.Deliver l.message)
+  abbrev pub take_envelope : World → ℕ → Option Envelope → World
+  take_envelope w now None = record w { is_stopped = true }
+  take_envelope w now (Some l) = input_to w (shared_for l.message.body (readings_at w l.to)) l.to now (state_of w l.to) (input.Deliver l.message)
 
   abbrev pub happens : Event → World → World
   happens (Start r now) w = input_to w [] r now (booting r) input.Start
-  happens (Deliver k now) w = letter_taken w now (letter_at w.letters k)
-  happens (Ring r t now) w = input_to w [] r now (state_of w r) (input.Timer t)
+  happens (Deliver k now) w = take_envelope w now (envelope_at w.envelopes k)
+  happens (TimerComes r t now) w = input_to w [] r now (state_of w r) (input.Timer t)
   happens (Ask r now session request) w = input_to w [] r now (state_of w r) (input.Client session request)
 
   abbrev pub run : List Event → World → World

@@ -1,8 +1,8 @@
 -- The rows of clients' commands, at the leader and by way of a peon.
-use Rattle.std.specs.Prelude.{ℕ, suc, Bool, not, ◌&&◌, ◌==◌, nat_le, nat_lt, List, Result, Ok, if◌then◌else◌, [], ◌∷◌, ◌++◌, filter, length, slice_set, slice_index_or}
+use Rattle.std.specs.Prelude.{ℕ, suc, Bool, not, ◌&&◌, ◌==◌, nat_le, nat_lt, List, Result, Ok, if◌then◌else◌, [], ◌∷◌, ◌++◌, filter, map, length, slice_set, slice_index_or}
 use Rattle.mon_bytes.specs.declared.command.Command.TheVariants as command
 use Rattle.mon_bytes.specs.declared.command.Command.{Command}
-use Rattle.mon_msg.specs.Protocol.Course.{Course, ◌▸◌, ◌>>=◌, checked, dropped, nothing_more, clients_are}
+use Rattle.mon_msg.specs.Protocol.Course.{Course, ◌▸◌, ◌>>=◌, checked, dropped, nothing_more, say, clients_are}
 use Rattle.mon_msg.specs.Protocol.Leader.{of_member}
 use Rattle.mon_msg.specs.Protocol.Leading.{has_queue}
 use Rattle.mon_msg.specs.Protocol.Peon.{of_leader}
@@ -15,6 +15,7 @@ use Rattle.mon_msg.specs.declared.clients.Asked.{Asked}
 use Rattle.mon_wire.specs.declared.phase.Phase.TheVariants as phase
 use Rattle.mon_msg.specs.declared.plan.Origin.TheVariants as origin
 use Rattle.mon_msg.specs.declared.plan.Origin.{Origin}
+use Rattle.mon_msg.specs.declared.plan.Sent.TheVariants as sent
 use Rattle.mon_wire.specs.declared.reply.Reply.TheVariants as reply
 use Rattle.mon_wire.specs.declared.reply.Reply.{Reply}
 use Rattle.mon_wire.specs.declared.request.Session.{Session}
@@ -47,33 +48,48 @@ too_long c = reply.TooLong (text_length c) (most_text c)
 
 -- ---- commands
 
-module _ (me : Me) (now : ℕ) where
-  -- a command at the leader: it is proposed, or waits until it is
-  abbrev at_leader : Command → Origin → Course → Result Course Which
-  at_leader c o x =
-      let queue = x.state.clients.queue in
-      if is_too_long c then Ok (answer me o (too_long c) x) else (
-      if same_phase x.state.phase phase.Active && is_standing me now x.state && not (has_queue me now x) then propose me now c o x else (
-      if nat_le most_waiting (length queue) then Ok (answer me o (reply.Busy most_waiting) x) else
-      Ok (clients_are (record x.state.clients { queue = queue ++ record { command = c; origin = o } ∷ [] }) x)))
+-- a command waits at a leader
+abbrev pub queue_up : Command → Origin → Course → Course
+queue_up c o x =
+    clients_are (record x.state.clients { queue = x.state.clients.queue ++ record { command = c; origin = o } ∷ [] }) x
+
+-- a session waits at a peon under a number
+abbrev pub wait_under : (seq : ℕ) → Session → Course → Course
+wait_under seq session x =
+    let clients = x.state.clients in
+    let sessions = clients.sessions ++ record { seq = seq; session = session } ∷ [] in
+    clients_are (record clients { sessions = sessions; next_seq = suc seq }) x
+
+module _ (me : Me) where
+  abbrev pub hand_on : Command → Session → Course → Result Course Which
+  hand_on c session x = do
+    seq ← checked which.Seq x.state.clients.next_seq
+    Ok (x ▸ wait_under seq session ▸ send me x.state.peon.leader (body.Forward seq c))
 
   -- a command at a peon: its session waits under a number, and the leader gets it
-  abbrev at_peon : Command → Session → Course → Result Course Which
+  abbrev pub at_peon : Command → Session → Course → Result Course Which
   at_peon c session x =
+      let is_full = nat_le most_waiting (length x.state.clients.sessions) in
       if is_too_long c then Ok (reply_to session (too_long c) x) else (
-      if nat_le most_waiting (length x.state.clients.sessions) then Ok (reply_to session (reply.Busy most_waiting) x) else hand_on)
-    where
-      hand_on : Result Course Which
-      hand_on = do
-        seq ← checked which.Seq x.state.clients.next_seq
-        Ok (x
-            ▸ clients_are (record x.state.clients { sessions = x.state.clients.sessions ++ record { seq = seq; session = session } ∷ []; next_seq = suc seq })
-            ▸ send me x.state.peon.leader (body.Forward seq c))
+      if is_full then Ok (reply_to session (reply.Busy most_waiting) x) else hand_on c session x)
+
+module _ (me : Me) (now : ℕ) where
+  -- it is proposed at once
+  abbrev pub may_propose : Course → Bool
+  may_propose x = same_phase x.state.phase phase.Active && is_standing me now x.state
+
+  -- a command at the leader: it is proposed, or waits until it is
+  abbrev pub at_leader : Command → Origin → Course → Result Course Which
+  at_leader c o x =
+      let is_full = nat_le most_waiting (length x.state.clients.queue) in
+      if is_too_long c then Ok (answer me o (too_long c) x) else (
+      if may_propose x && not (has_queue x) then propose me now c o x else (
+      if is_full then Ok (answer me o (reply.Busy most_waiting) x) else Ok (queue_up c o x)))
 
   unfoldable pub ask : Session → Command → Course → Result Course Which
   ask session c x =
       if is_leading x.state.phase then at_leader c (origin.Session session) x else (
-      if is_peon x.state.phase then at_peon c session x else Ok (reply_to session reply.Unavailable x))
+      if is_peon x.state.phase then at_peon me c session x else Ok (reply_to session reply.Unavailable x))
 
   -- a command of a peon's client, unless it was taken before
   unfoldable pub hear_forward : (f e : ℕ) → (seq : ℕ) → Command → Course → Result Course Which
@@ -83,19 +99,18 @@ module _ (me : Me) (now : ℕ) where
       if not (of_member phases f e x && nat_lt (slice_index_or clients.taken f 0) seq) then dropped x else
       x ▸ clients_are (record clients { taken = slice_set clients.taken f seq }) ▸ at_leader c (origin.Forwarded f seq)
 
-  -- the leader's answer goes to the session that waits under that number
-  abbrev reply_each : List Asked → Reply → Course → Course
-  reply_each [] r x = x
-  reply_each (a ∷ asked) r x = reply_each asked r (reply_to a.session r x)
-
-  unfoldable pub hear_route : (f e : ℕ) → (seq : ℕ) → Reply → Course → Result Course Which
-  hear_route f e seq r x =
-      let sessions = x.state.clients.sessions in
-      if not (of_leader f e x) then dropped x else
-      Ok (x
-      ▸ clients_are (record x.state.clients { sessions = filter (λ a. not (a.seq == seq)) sessions })
-      ▸ reply_each (filter (λ a. a.seq == seq) sessions) r)
-
   -- the next command that waits is proposed
   unfoldable pub propose_due : Course → Result Course Which
-  propose_due x = if same_phase x.state.phase phase.Active && is_standing me now x.state then propose_next me now x else nothing_more x
+  propose_due x = if may_propose x then propose_next me now x else nothing_more x
+
+-- the leader's answer goes to the session that waits under that number
+abbrev pub reply_each : List Asked → Reply → Course → Course
+reply_each asked r = say (map (λ a. sent.Reply a.session r) asked)
+
+unfoldable pub hear_route : (f e : ℕ) → (seq : ℕ) → Reply → Course → Result Course Which
+hear_route f e seq r x =
+    let sessions = x.state.clients.sessions in
+    if not (of_leader f e x) then dropped x else
+    Ok (x
+    ▸ clients_are (record x.state.clients { sessions = filter (λ a. not (a.seq == seq)) sessions })
+    ▸ reply_each (filter (λ a. a.seq == seq) sessions) r)

@@ -6,7 +6,6 @@ use Rattle.mon_msg.specs.Protocol.Entering.{bootstrap}
 use Rattle.mon_msg.specs.Protocol.Phases.{same_phase}
 use Rattle.mon_msg.specs.Protocol.Places.{same_cookie, is_cookie, no_cookie}
 use Rattle.mon_msg.specs.Protocol.Sending.{send}
-use Rattle.mon_msg.specs.Protocol.View.{View}
 use Rattle.mon_wire.specs.declared.body.Body.TheVariants as body
 use Rattle.mon_wire.specs.declared.parts.Cookie.{Cookie}
 use Rattle.mon_wire.specs.declared.parts.Place.{Place}
@@ -30,26 +29,28 @@ abbrev pub same_flag : Bool → Bool → Bool
 same_flag true b = b
 same_flag false b = not b
 
+-- a whole one begins with the provider's last version and the first key; a recent one goes on from its own last version
+abbrev pub first_place : Bool → (last own : ℕ) → Place
+first_place true last own = record { version = last; key = key_place.Start }
+first_place false last own = record { version = own; key = key_place.Done }
+
 module _ (me : Me) (now : ℕ) where
   -- the next chunk is asked for
   abbrev pub ask_chunk : Cookie → Place → Course → Course
   ask_chunk c p x = x ▸ send me x.state.requester.provider (body.GetChunk c p) ▸ arm now timer.Sync
 
-  -- a whole copy begins with the provider's last version and the first key; a recent one goes on from the own last version
-  abbrev first_place : Bool → (last : ℕ) → View → Place
-  first_place true last w = record { version = last; key = key_place.Start }
-  first_place false last w = record { version = w.last; key = key_place.Done }
-
-  abbrev start_chunks : Bool → Cookie → (last : ℕ) → Course → Course
-  start_chunks full c last x =
-      let p = first_place full last x.view in
-      x ▸ requester_is (record x.state.requester { stage = sync.Chunks; cookie = Some c; start = p.version; place = p }) ▸ ask_chunk c p
+  abbrev pub start_chunks : Cookie → Place → Course → Course
+  start_chunks c p x =
+      x
+      ▸ requester_is (record x.state.requester { stage = sync.Chunks; cookie = Some c; start = p.version; place = p })
+      ▸ ask_chunk c p
 
   unfoldable pub hear_cookie : (f : ℕ) → Bool → Cookie → (last : ℕ) → Course → Result Course Which
   hear_cookie f full c last x =
       let requester = x.state.requester in
-      if not (of_provider f x && awaits_cookie requester.stage && same_flag full requester.full) || (full && nat_lt last x.view.floor) then dropped x else
-      Ok (start_chunks full c last x)
+      let is_ours = of_provider f x && awaits_cookie requester.stage && same_flag full requester.full in
+      if not is_ours || (full && nat_lt last x.readings.floor) then dropped x else
+      Ok (start_chunks c (first_place full last x.readings.last) x)
 
   unfoldable pub hear_no_cookie : (f : ℕ) → Cookie → Course → Result Course Which
   hear_no_cookie f c x =

@@ -1,11 +1,12 @@
--- An event under way, and the small steps of which acts and rows are made.
-use Rattle.std.specs.Prelude.{ℕ, Bool, nat_le, List, Result, Ok, if◌then◌else◌, ◌^◌, [], ◌∷◌, ◌++◌, Err}
+-- An event under way, and the small steps of which acts and rows are made. A step writes only the field that it changes,
+-- and where it depends on a test the test stands inside that field.
+use Rattle.std.specs.Prelude.{ℕ, Bool, nat_le, List, Option, Result, Ok, if◌then◌else◌, ◌^◌, [], ◌∷◌, ◌++◌, Err}
 use Rattle.mon_msg.specs.Protocol.Changes.{Change}
 use Rattle.mon_msg.specs.Protocol.Phases.{phase_of, same_phase}
-use Rattle.mon_msg.specs.Protocol.Played.{play}
+use Rattle.mon_msg.specs.Protocol.Played.{played}
+use Rattle.mon_msg.specs.Protocol.Readings.{Readings}
 use Rattle.mon_msg.specs.Protocol.State.{State, no_clients}
 use Rattle.mon_msg.specs.Protocol.Timers.{armed, disarmed, only_ping}
-use Rattle.mon_msg.specs.Protocol.View.{View}
 use Rattle.mon_msg.specs.declared.clients.Clients.{Clients}
 use Rattle.mon_msg.specs.declared.election.Elector.{Elector}
 use Rattle.mon_msg.specs.declared.election.Prober.{Prober}
@@ -19,10 +20,10 @@ use Rattle.mon_msg.specs.declared.synchronisation.Provider.{Provider}
 use Rattle.mon_msg.specs.declared.synchronisation.Requester.{Requester}
 use Rattle.mon_types.specs.declared.names.Which.{Which}
 
--- What the store's readers tell after the changes so far, these changes in order, what the monitor remembers, and what it
--- sends. Each act reads what the acts before it left.
+-- What the store's readers tell after the changes so far, these changes in order, what the monitor remembers, and what
+-- it sends. Each act reads what the acts before it left.
 pub record Course : Type 0 where
-  pub view : View
+  pub readings : Readings
   pub changes : List Change
   pub state : State
   pub out : List Sent
@@ -50,14 +51,21 @@ dropped x = Ok x
 abbrev pub nothing_more : Course → Result Course Which
 nothing_more x = Ok x
 
--- a step that is made only where a test holds
-abbrev pub only_if : Bool → (Course → Course) → Course → Course
-only_if test f x = if test then f x else x
-
 -- ---- the store
 
+abbrev pub change_all : List Change → Course → Course
+change_all cs x = record x { readings = played cs x.readings; changes = x.changes ++ cs }
+
 abbrev pub change : Change → Course → Course
-change c x = record x { view = play c x.view; changes = x.changes ++ c ∷ [] }
+change c = change_all (c ∷ [])
+
+abbrev pub change_if : Bool → Change → Course → Course
+change_if test c = change_all (if test then c ∷ [] else [])
+
+-- ---- what is sent
+
+abbrev pub say : List Sent → Course → Course
+say sends x = record x { out = x.out ++ sends }
 
 -- ---- what is remembered
 
@@ -86,16 +94,29 @@ requester_is q x = record x { state = record x.state { requester = q } }
 abbrev pub forget_clients : Course → Course
 forget_clients x = clients_are no_clients x
 
+-- ---- timers and phases
+
+abbrev pub timers_are : List (Option ℕ) → Course → Course
+timers_are ts x = record x { state = record x.state { timers = ts } }
+
 abbrev pub arm : ℕ → Timer → Course → Course
-arm now t x = record x { state = record x.state { timers = armed now t x.state.timers } }
+arm now t x = timers_are (armed now t x.state.timers) x
+
+abbrev pub arm_if : Bool → ℕ → Timer → Course → Course
+arm_if test now t x = timers_are (if test then armed now t x.state.timers else x.state.timers) x
 
 abbrev pub disarm : Timer → Course → Course
-disarm t x = record x { state = record x.state { timers = disarmed t x.state.timers } }
+disarm t x = timers_are (disarmed t x.state.timers) x
 
--- a phase; where it is another one its timers are disarmed
+abbrev pub disarm_if : Bool → Timer → Course → Course
+disarm_if test t x = timers_are (if test then disarmed t x.state.timers else x.state.timers) x
+
+-- the timers in a phase: where it is another one than before they are disarmed
+abbrev pub timers_in : Phase → State → List (Option ℕ)
+timers_in p s = if same_phase s.phase p then s.timers else only_ping s.timers
+
 abbrev pub in_phase : Phase → Course → Course
-in_phase p x =
-    if same_phase x.state.phase p then x else record x { state = record x.state { phase = p; timers = only_ping x.state.timers } }
+in_phase p x = record x { state = record x.state { phase = p; timers = timers_in p x.state } }
 
 abbrev pub leads_in : LeaderStage → Course → Course
 leads_in s x = x ▸ in_phase (phase_of s) ▸ leader_is (record x.state.leader { stage = s })

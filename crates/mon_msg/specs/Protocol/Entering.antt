@@ -7,9 +7,9 @@ use Rattle.election_rules.specs.declared.scores.Scores.{Scores}
 use Rattle.mon_msg.specs.Protocol.Changes.{Epoch}
 use Rattle.mon_msg.specs.Protocol.Collecting.{reign}
 use Rattle.mon_msg.specs.Protocol.Course.{Course, ◌▸◌, ◌>>=◌, checked, change, elector_is, prober_is, forget_clients, arm, in_phase}
+use Rattle.mon_msg.specs.Protocol.Readings.{epoch_of}
 use Rattle.mon_msg.specs.Protocol.Sending.{others, send_each}
 use Rattle.mon_msg.specs.Protocol.Sets.{only}
-use Rattle.mon_msg.specs.Protocol.View.{epoch_of}
 use Rattle.mon_wire.specs.declared.body.Body.TheVariants as body
 use Rattle.mon_wire.specs.declared.phase.Phase.TheVariants as phase
 use Rattle.mon_wire.specs.declared.phase.Timer.TheVariants as timer
@@ -35,27 +35,27 @@ scores_count (Connectivity ranks) = true
 abbrev pub own_table : Me → Course → Option Scores
 own_table me x = if scores_count me.rule then Some x.state.elector.scores else None
 
+abbrev pub in_next_epoch : Course → Result Course Which
+in_next_epoch x = do
+  e ← checked which.Epoch (suc (epoch_of x.readings))
+  Ok (change (Epoch e) x)
+
+-- an election is in an odd epoch
+unfoldable pub in_odd_epoch : Course → Result Course Which
+in_odd_epoch x = if is_even (epoch_of x.readings) then in_next_epoch x else Ok x
+
 module _ (me : Me) (now : ℕ) where
+  abbrev pub win_alone : Course → Result Course Which
+  win_alone x = do
+    e ← checked which.Epoch (next_even (epoch_of x.readings))
+    x ▸ change (Epoch e) ▸ reign me now (only me.member.rank)
+
   -- one that needs nobody's vote wins; the others are asked how far they are
   unfoldable pub bootstrap : Course → Result Course Which
   bootstrap x =
       let y = x ▸ in_phase phase.Probing ▸ forget_clients ▸ prober_is (record { outside = only me.member.rank }) in
       if nat_lt 1 me.member.monitors then Ok (y ▸ send_each me (others me) body.Probe ▸ arm now timer.Probe) else (
-      if allows me.rule me.member.rank && not x.view.marked then alone y else Ok y)
-    where
-      alone : Course → Result Course Which
-      alone y = do
-        e ← checked which.Epoch (next_even (epoch_of y.view))
-        y ▸ change (Epoch e) ▸ reign me now (only me.member.rank)
-
-  -- an election is in an odd epoch
-  unfoldable pub in_odd_epoch : Course → Result Course Which
-  in_odd_epoch x = if is_even (epoch_of x.view) then next_epoch else Ok x
-    where
-      next_epoch : Result Course Which
-      next_epoch = do
-        e ← checked which.Epoch (suc (epoch_of x.view))
-        Ok (change (Epoch e) x)
+      if allows me.rule me.member.rank && not x.readings.marked then win_alone y else Ok y)
 
   -- it calls an election, and stands in it
   unfoldable pub elect : Course → Result Course Which
@@ -64,22 +64,22 @@ module _ (me : Me) (now : ℕ) where
     Ok (y
         ▸ in_phase phase.Electing
         ▸ forget_clients
-        ▸ elector_is (record x.state.elector { candidate = true; acked = only me.member.rank; deferred = None })
-        ▸ send_each me (others me) (body.Propose (own_table me x))
+        ▸ elector_is (record y.state.elector { candidate = true; acked = only me.member.rank; deferred = None })
+        ▸ send_each me (others me) (body.Propose (own_table me y))
         ▸ arm now timer.Election)
-
-  -- it joins the election of a later epoch, for which it doesn't stand
-  unfoldable pub adopt : ℕ → Course → Course
-  adopt e x =
-      x
-      ▸ change (Epoch e)
-      ▸ in_phase phase.Electing
-      ▸ forget_clients
-      ▸ elector_is (record x.state.elector { candidate = false; acked = no_ranks; deferred = None })
-      ▸ arm now timer.Election
 
   -- it won the election, and leads those who deferred to it in the next epoch
   unfoldable pub win : List Bool → Course → Result Course Which
   win acked x = do
-    e ← checked which.Epoch (suc (epoch_of x.view))
-    x ▸ change (Epoch e) ▸ reign me now acked
+    y ← in_next_epoch x
+    reign me now acked y
+
+-- it joins the election of a later epoch, for which it doesn't stand
+unfoldable pub adopt : (now e : ℕ) → Course → Course
+adopt now e x =
+    x
+    ▸ change (Epoch e)
+    ▸ in_phase phase.Electing
+    ▸ forget_clients
+    ▸ elector_is (record x.state.elector { candidate = false; acked = no_ranks; deferred = None })
+    ▸ arm now timer.Election

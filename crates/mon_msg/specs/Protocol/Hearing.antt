@@ -24,57 +24,61 @@ use Rattle.mon_wire.specs.declared.request.Session.{Session}
 use Rattle.mon_msg.specs.declared.view.Me.{Me}
 use Rattle.mon_types.specs.declared.names.Which.{Which}
 
-module _ (me : Me) (shared : List Entry) (now : ℕ) where
-  -- what another monitor f says in its epoch e; what clients and monitors say to each other is nothing among monitors
-  abbrev hear : (f e : ℕ) → Body → Course → Result Course Which
-  hear f e body.Probe x = hear_probe me now f x
-  hear f e (body.ProbeReply quorum first last) x = hear_probe_reply me now f quorum first last x
-  hear f e (body.Propose table) x = hear_propose me now f e table x
-  hear f e body.Ack x = hear_ack me now f e x
-  hear f e (body.Victory quorum) x = hear_victory me now f e quorum x
-  hear f e (body.Collect pn first last) x = hear_collect me now f e pn first last x
-  hear f e (body.Last pn first last whole from values pending) x = hear_last me now f e pn first last whole from values pending x
-  hear f e (body.Begin pn v value) x = hear_begin me now f e pn v value x
-  hear f e (body.Accept pn v) x = hear_accept me now f e pn v x
-  hear f e (body.Commit from values) x = hear_commit me now f e from values x
-  hear f e (body.Lease last) x = hear_lease me now f e last x
-  hear f e (body.LeaseAck last) x = hear_lease_ack me now f e last x
-  hear f e (body.Forward seq c) x = hear_forward me now f e seq c x
-  hear f e (body.Route seq r) x = hear_route me now f e seq r x
-  hear f e body.GetCookieFull x = hear_get_cookie_full me f x
-  hear f e (body.GetCookieRecent last) x = hear_get_cookie_recent me f last x
-  hear f e (body.Cookie full cookie last) x = hear_cookie me now f full cookie last x
-  hear f e (body.GetChunk cookie place) x = hear_get_chunk me shared f cookie place x
-  hear f e (body.Chunk cookie place values entries done) x = hear_chunk me now f cookie place values entries done x
-  hear f e (body.LastChunk cookie place values entries last) x = hear_last_chunk me now f cookie place values entries last x
-  hear f e (body.NoCookie cookie) x = hear_no_cookie me now f cookie x
-  hear f e (body.Ping table) x = hear_ping me now f table x
-  hear f e (body.PingReply table) x = hear_ping_reply me now f table x
-  hear f e (body.Request id r) x = dropped x
-  hear f e (body.Reply id r) x = dropped x
+-- ---- which messages are heard
 
-  -- ---- which messages are heard
-
+module _ (me : Me) where
   -- a table is told exactly where scores count
-  abbrev fits_rule : Option Scores → Bool
+  abbrev pub fits_rule : Option Scores → Bool
   fits_rule None = not (scores_count me.rule)
   fits_rule (Some table) = scores_count me.rule
 
-  abbrev has_fitting_table : Body → Bool
+  abbrev pub has_fitting_table : Body → Bool
   has_fitting_table (body.Propose table) = fits_rule table
   has_fitting_table (body.Ping table) = fits_rule table
   has_fitting_table (body.PingReply table) = fits_rule table
   has_fitting_table b = true
 
   -- a message of another monitor of the same map
-  abbrev is_heard : Message → Bool
+  abbrev pub is_heard : Message → Bool
   is_heard m = not (m.from == me.member.rank) && m.monitors == me.member.monitors && has_fitting_table m.body
 
+module _ (me : Me) (shared : List Entry) (now : ℕ) where
+  -- what another monitor f says in its epoch e; what clients and monitors say to each other is nothing among monitors
+  abbrev pub hear : (f e : ℕ) → Body → Course → Result Course Which
+  hear f e body.Probe x = hear_probe me f x
+  hear f e (body.ProbeReply quorum first last) x = hear_probe_reply me now f quorum first last x
+  hear f e (body.Propose table) x = hear_propose me now f e table x
+  hear f e body.Ack x = hear_ack me now f e x
+  hear f e (body.Victory quorum) x = hear_victory me now f e quorum x
+  hear f e (body.Collect pn first last) x = hear_collect me now f e pn first last x
+  hear f e (body.Last pn first last whole from values pending) x =
+      hear_last me now f e pn first last whole from values pending x
+  hear f e (body.Begin pn v value) x = hear_begin me f e pn v value x
+  hear f e (body.Accept pn v) x = hear_accept me now f e pn v x
+  hear f e (body.Commit from values) x = hear_commit f e from values x
+  hear f e (body.Lease last) x = hear_lease me now f e last x
+  hear f e (body.LeaseAck last) x = hear_lease_ack me f e last x
+  hear f e (body.Forward seq c) x = hear_forward me now f e seq c x
+  hear f e (body.Route seq r) x = hear_route f e seq r x
+  hear f e body.GetCookieFull x = hear_get_cookie_full me f x
+  hear f e (body.GetCookieRecent last) x = hear_get_cookie_recent me f last x
+  hear f e (body.Cookie full cookie last) x = hear_cookie me now f full cookie last x
+  hear f e (body.GetChunk cookie place) x = hear_get_chunk me shared f cookie place x
+  hear f e (body.Chunk cookie place values entries done) x = hear_chunk me now f cookie place values entries done x
+  hear f e (body.LastChunk cookie place values entries last) x =
+      hear_last_chunk me now f cookie place values entries last x
+  hear f e (body.NoCookie cookie) x = hear_no_cookie me now f cookie x
+  hear f e (body.Ping table) x = hear_ping me f table x
+  hear f e (body.PingReply table) x = hear_ping_reply f table x
+  hear f e (body.Request id r) x = dropped x
+  hear f e (body.Reply id r) x = dropped x
+
   abbrev pub deliver : Message → Course → Result Course Which
-  deliver m x = if is_heard m then hear m.from m.epoch m.body x else dropped x
+  deliver m x = if is_heard me m then hear m.from m.epoch m.body x else dropped x
 
-  -- ---- what a client asks
+-- ---- what a client asks
 
+module _ (me : Me) (now : ℕ) where
   unfoldable pub hear_client : Session → Request → Course → Result Course Which
   hear_client session (request.Set key value) x = ask me now session (command.Set key value) x
   hear_client session (request.Remove key) x = ask me now session (command.Remove key) x

@@ -28,13 +28,13 @@ most_map Log = 12288
 abbrev pub short_map : Service → ShownMap → Option ShownMap
 short_map s m = if nat_le (length (map_text m)) (most_map s) then Some m else None
 
+abbrev pub map_of : Service → List ℕ → Option ShownMap
+map_of Kv bytes = option_map map.Kv (if_ok (kv_decode.map_of bytes))
+map_of Log bytes = option_map map.Log (if_ok (log_decode.map_of bytes))
+
 -- the map that bytes spell, where they are no longer than a map may be
 abbrev pub spelled_map : Service → List ℕ → Option ShownMap
-spelled_map s bytes = if nat_le (length bytes) (most_map s) then decoded s bytes else None
-  where
-    decoded : Service → List ℕ → Option ShownMap
-    decoded Kv bytes = option_map map.Kv (if_ok (kv_decode.map_of bytes))
-    decoded Log bytes = option_map map.Log (if_ok (log_decode.map_of bytes))
+spelled_map s bytes = if nat_le (length bytes) (most_map s) then map_of s bytes else None
 
 -- the map after the incremental that bytes spell, where they spell one
 abbrev pub with_incremental : ShownMap → List ℕ → Option ShownMap

@@ -12,36 +12,38 @@ use Rattle.mon_msg.specs.declared.view.Me.{Me}
 use Rattle.mon_types.specs.Ranks.{no_ranks, has, with_rank}
 use Rattle.mon_types.specs.declared.names.Which.{Which}
 
--- the own scores after so many seconds in which some were heard
-abbrev pub measured : ℕ → List Bool → List ℕ → Scores → Scores
-measured seconds heard [] table = table
-measured seconds heard (k ∷ ks) table = measured seconds heard ks (scored (if has heard k then raised seconds else lowered seconds) k table)
+-- the own scores of some ranks after so many seconds in which some were heard
+abbrev pub scores_after : (seconds : ℕ) → (heard : List Bool) → List ℕ → Scores → Scores
+scores_after seconds heard [] table = table
+scores_after seconds heard (k ∷ ks) table =
+    scores_after seconds heard ks (scored (if has heard k then raised seconds else lowered seconds) k table)
+
+-- f was heard, and told its table
+abbrev pub with_heard : (f : ℕ) → Scores → Elector → Elector
+with_heard f table elector = record elector { scores = merged elector.scores table; heard = with_rank elector.heard f }
+
+abbrev pub note_table : (f : ℕ) → Scores → Course → Course
+note_table f table x = elector_is (with_heard f table x.state.elector) x
+
+unfoldable pub hear_ping : Me → (f : ℕ) → Option Scores → Course → Result Course Which
+hear_ping me f None x = dropped x
+hear_ping me f (Some table) x = let y = note_table f table x in Ok (send me f (body.PingReply (own_table me y)) y)
+
+unfoldable pub hear_ping_reply : (f : ℕ) → Option Scores → Course → Result Course Which
+hear_ping_reply f None x = dropped x
+hear_ping_reply f (Some table) x = Ok (note_table f table x)
 
 module _ (me : Me) (now : ℕ) where
-  -- f was heard, and told its table
-  abbrev heard_of : ℕ → Scores → Elector → Elector
-  heard_of f table elector = record elector { scores = merged elector.scores table; heard = with_rank elector.heard f }
-
-  abbrev note_table : ℕ → Scores → Course → Course
-  note_table f table x = elector_is (heard_of f table x.state.elector) x
-
-  unfoldable pub hear_ping : (f : ℕ) → Option Scores → Course → Result Course Which
-  hear_ping f None x = dropped x
-  hear_ping f (Some table) x = let y = note_table f table x in Ok (send me f (body.PingReply (own_table me y)) y)
-
-  unfoldable pub hear_ping_reply : (f : ℕ) → Option Scores → Course → Result Course Which
-  hear_ping_reply f None x = dropped x
-  hear_ping_reply f (Some table) x = Ok (note_table f table x)
-
-  abbrev measured_now : Elector → Elector
-  measured_now elector = record elector {
-    scores = measured ((now - elector.pinged) / 1000) elector.heard (others me) elector.scores;
+  -- the time since the last pings counts
+  abbrev pub measure : Elector → Elector
+  measure elector = record elector {
+    scores = scores_after ((now - elector.pinged) / 1000) elector.heard (others me) elector.scores;
     heard = no_ranks;
     pinged = now;
   }
 
-  -- the time since the last pings counts, and all are pinged again
+  -- and all are pinged again
   unfoldable pub ping : Course → Result Course Which
   ping x =
-      let y = x ▸ elector_is (measured_now x.state.elector) in
+      let y = x ▸ elector_is (measure x.state.elector) in
       Ok (y ▸ send_each me (others me) (body.Ping (own_table me y)) ▸ arm now timer.Ping)

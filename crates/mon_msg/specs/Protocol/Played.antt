@@ -1,14 +1,14 @@
 -- The changes of an event as they are played on what the store's readers tell.
 use Rattle.std.specs.Prelude.{ℕ, true, false, ◌==◌, List, Some, None, if◌then◌else◌, ◌^◌, [], ◌∷◌, ◌≤◌, IfSome}
 use Rattle.mon_msg.specs.Protocol.Changes.{Change, ops_of, Boot, Epoch, Numbers, Promise, Vote, Record, Learn, Last, Copy, Mark, Unmark}
-use Rattle.mon_msg.specs.Protocol.View.{View, after}
+use Rattle.mon_msg.specs.Protocol.Readings.{Readings, after}
 use Rattle.mon_tx.specs.Decision.{Cell}
 use Rattle.mon_tx.specs.Text.{text}
 
 abbrev pub with_record : ℕ → List ℕ → (ℕ → Cell) → ℕ → Cell
 with_record v bytes records u = if u == v then Some bytes else records u
 
-abbrev pub play : Change → View → View
+abbrev pub play : Change → Readings → Readings
 play (Boot n) w = record w { boot = n }
 play (Epoch e) w = record w { epoch = Some e }
 play (Numbers pn) w = record w { last_pn = Some pn; promise = Some pn }
@@ -32,7 +32,7 @@ play (Mark floor last_pn promise) w = record w {
 }
 play Unmark w = record w { marked = false; floor = 0 }
 
-abbrev pub played : List Change → View → View
+abbrev pub played : List Change → Readings → Readings
 played [] w = w
 played (c ∷ cs) w = played cs (play c w)
 

@@ -13,32 +13,34 @@ use Rattle.mon_msg.specs.declared.view.Me.{Me}
 use Rattle.mon_types.specs.Ranks.{with_rank, count_of}
 use Rattle.mon_types.specs.declared.names.Which.{Which}
 
-module _ (me : Me) (now : ℕ) where
-  -- how far it is, and in which quorum
-  unfoldable pub hear_probe : ℕ → Course → Result Course Which
-  hear_probe f x =
-      if x.view.marked then dropped x else Ok (send me f (body.ProbeReply (quorum_of x.state) x.view.first x.view.last) x)
+-- how far it is, and in which quorum
+unfoldable pub hear_probe : Me → (f : ℕ) → Course → Result Course Which
+hear_probe me f x =
+    let w = x.readings in
+    if w.marked then dropped x else Ok (send me f (body.ProbeReply (quorum_of x.state) w.first w.last) x)
 
+-- how many versions a monitor may lack that joins an election
+abbrev pub lag : ℕ
+lag = 10
+
+module _ (me : Me) (now : ℕ) where
   -- f joins those outside of a quorum
-  abbrev join_outside : ℕ → Course → Result Course Which
+  abbrev pub join_outside : (f : ℕ) → Course → Result Course Which
   join_outside f x =
       let outside = with_rank x.state.prober.outside f in
       let y = x ▸ prober_is (record { outside = outside }) in
       if is_majority me.member.monitors outside then elect me now y else Ok y
 
   -- a marked monitor takes a whole copy of one that reaches its floor
-  abbrev copy_again : ℕ → ℕ → Course → Result Course Which
+  abbrev pub copy_again : (f last : ℕ) → Course → Result Course Which
   copy_again f last x =
-      if nat_le 1 last && nat_le x.view.floor last then Ok (full_sync me now f x) else dropped x
-
-  -- how many versions a monitor may lack that joins an election
-  abbrev lag : ℕ
-  lag = 10
+      if nat_le 1 last && nat_le x.readings.floor last then Ok (full_sync me now f x) else dropped x
 
   unfoldable pub hear_probe_reply : (f : ℕ) → (quorum : List Bool) → (first last : ℕ) → Course → Result Course Which
   hear_probe_reply f quorum first last x =
+      let w = x.readings in
       if not (same_phase x.state.phase phase.Probing) then dropped x else (
-      if x.view.marked then copy_again f last x else (
-      if nat_lt x.view.last first && nat_lt 1 first then Ok (full_sync me now f x) else (
-      if nat_lt (x.view.last + lag) last then Ok (recent_sync me now f x) else (
+      if w.marked then copy_again f last x else (
+      if nat_lt w.last first && nat_lt 1 first then Ok (full_sync me now f x) else (
+      if nat_lt (w.last + lag) last then Ok (recent_sync me now f x) else (
       if nat_lt 0 (count_of quorum) then elect me now x else join_outside f x))))

@@ -3,10 +3,10 @@ use Rattle.std.specs.Prelude.{ℕ, suc, List, Some, Result, Ok, [], ◌∷◌, E
 use Rattle.mon_bytes.specs.declared.command.Command.{Command}
 use Rattle.mon_bytes.specs.declared.command.CommandRefused.TheVariants as refused
 use Rattle.mon_bytes.specs.declared.command.CommandRefused.{CommandRefused}
-use Rattle.mon_msg.specs.Protocol.Course.{Course, ◌▸◌, ◌>>=◌, checked, only_if, clients_are, arm}
+use Rattle.mon_msg.specs.Protocol.Course.{Course, ◌▸◌, ◌>>=◌, checked, clients_are, arm_if}
 use Rattle.mon_msg.specs.Protocol.Leading.{has_queue, begin}
-use Rattle.mon_msg.specs.Protocol.Reading.{service_last}
 use Rattle.mon_msg.specs.Protocol.Sending.{answer}
+use Rattle.mon_msg.specs.Protocol.Services.{service_last}
 use Rattle.mon_msg.specs.Protocol.Value.{service_of, value}
 use Rattle.mon_msg.specs.declared.clients.Waiting.{Waiting}
 use Rattle.mon_msg.specs.declared.paxos.LeaderStage.TheVariants as stage
@@ -20,33 +20,34 @@ use Rattle.mon_tx.specs.declared.op.Op.{Op}
 use Rattle.mon_types.specs.declared.names.Which.TheVariants as which
 use Rattle.mon_types.specs.declared.names.Which.{Which}
 
+abbrev pub refusal : CommandRefused → Reply
+refusal refused.NoSuch = reply.NoSuch
+refusal (refused.TooLong len most) = reply.TooLong len most
+refusal (refused.MapFull would_be) = reply.MapFull would_be
+-- no command is refused so
+refusal refused.OutOfMemory = reply.Unavailable
+
+-- the monitor that was asked
+abbrev pub asked_of : Me → Origin → ℕ
+asked_of me (origin.Session session) = me.member.rank
+asked_of me (origin.Forwarded rank seq) = rank
+
 module _ (me : Me) (now : ℕ) where
-  abbrev pub refusal : CommandRefused → Reply
-  refusal refused.NoSuch = reply.NoSuch
-  refusal (refused.TooLong len most) = reply.TooLong len most
-  refusal (refused.MapFull would_be) = reply.MapFull would_be
-  -- no command is refused so
-  refusal refused.OutOfMemory = reply.Unavailable
-
-  -- the monitor that was asked
-  abbrev pub asked_of : Origin → ℕ
-  asked_of (origin.Session session) = me.member.rank
-  asked_of (origin.Forwarded rank seq) = rank
-
   abbrev pub begin_made : Origin → Result (List Op) CommandRefused → Course → Result Course Which
   begin_made o (Ok value) x = begin me now stage.Updating value (Some o) x
-  begin_made o (Err e) x = Ok (x ▸ answer me o (refusal e) ▸ only_if (has_queue me now x) (arm now timer.Propose))
+  begin_made o (Err e) x = Ok (x ▸ answer me o (refusal e) ▸ arm_if (has_queue x) now timer.Propose)
 
   -- a command makes the next version of its service
   unfoldable pub propose : Command → Origin → Course → Result Course Which
   propose c o x = do
-    _ ← checked which.Version (suc (service_last x.view (service_of c)))
-    begin_made o (value x.view c (asked_of o)) x
+    _ ← checked which.Version (suc (service_last x.readings (service_of c)))
+    begin_made o (value x.readings c (asked_of me o)) x
+
+  abbrev pub propose_first : List Waiting → Course → Result Course Which
+  propose_first [] x = Ok x
+  propose_first (w ∷ waiting) x =
+      x ▸ clients_are (record x.state.clients { queue = waiting }) ▸ propose w.command w.origin
 
   -- the first command that waits
   unfoldable pub propose_next : Course → Result Course Which
-  propose_next x = first_of_queue x.state.clients.queue
-    where
-      first_of_queue : List Waiting → Result Course Which
-      first_of_queue [] = Ok x
-      first_of_queue (w ∷ waiting) = x ▸ clients_are (record x.state.clients { queue = waiting }) ▸ propose w.command w.origin
+  propose_next x = propose_first x.state.clients.queue x

@@ -5,7 +5,7 @@ use Rattle.mon_msg.specs.Protocol.Changes.{spelled}
 use Rattle.mon_msg.specs.Protocol.Course.{Course}
 use Rattle.mon_msg.specs.Protocol.State.{State}
 use Rattle.mon_msg.specs.Protocol.Table.{react}
-use Rattle.mon_msg.specs.Protocol.View.{view, shared_entries}
+use Rattle.mon_msg.specs.Protocol.Readings.{readings_of, shared_entries}
 use Rattle.mon_msg.specs.declared.input.Input.{Input}
 use Rattle.mon_msg.specs.declared.plan.Sent.{Sent}
 use Rattle.mon_msg.specs.declared.view.Me.{Me}
@@ -21,13 +21,13 @@ pub record Reaction : Type 0 where
   -- what is remembered from then on
   pub state : State
 
-abbrev pub done_by : Course → Reaction
-done_by x = record { transaction = joined (spelled x.changes); sends = x.out; state = x.state }
+abbrev pub reaction_of : Course → Reaction
+reaction_of x = record { transaction = joined (spelled x.changes); sends = x.out; state = x.state }
 
-abbrev pub drawn : Result Course Which → Result Reaction Which
-drawn (Ok x) = Ok (done_by x)
-drawn (Err which) = Err which
+abbrev pub any_reaction : Result Course Which → Result Reaction Which
+any_reaction (Ok x) = Ok (reaction_of x)
+any_reaction (Err which) = Err which
 
 -- What a monitor does at an input at a moment, by its store and what it remembers; or which number runs out.
 abbrev pub reaction : Me → ℕ → Store → State → Input → Result Reaction Which
-reaction me now m s came = drawn (react me (shared_entries m) now (view m) s came)
+reaction me now m s came = any_reaction (react me (shared_entries m) now (readings_of m) s came)

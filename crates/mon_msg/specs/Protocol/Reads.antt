@@ -3,11 +3,11 @@ use Rattle.std.specs.Prelude.{ℕ, suc, Bool, not, ◌||◌, ◌==◌, nat_le, n
 use Rattle.mon_lease.specs.Lease.{stands, readable}
 use Rattle.mon_msg.specs.Protocol.Course.{Course}
 use Rattle.mon_msg.specs.Protocol.Phases.{is_member}
-use Rattle.mon_msg.specs.Protocol.Reading.{service_first, service_last, read_map, kept_from, may_tell}
+use Rattle.mon_msg.specs.Protocol.Services.{service_first, service_last, read_map, kept_from, may_tell}
 use Rattle.mon_msg.specs.Protocol.Records.{longest}
 use Rattle.mon_msg.specs.Protocol.Sending.{reply_to}
 use Rattle.mon_msg.specs.Protocol.State.{State, lease_of}
-use Rattle.mon_msg.specs.Protocol.View.{View}
+use Rattle.mon_msg.specs.Protocol.Readings.{Readings}
 use Rattle.mon_wire.specs.declared.reply.Reply.TheVariants as reply
 use Rattle.mon_wire.specs.declared.reply.Reply.{Reply}
 use Rattle.mon_wire.specs.declared.request.Service.{Service}
@@ -16,24 +16,27 @@ use Rattle.mon_msg.specs.declared.view.Me.{Me}
 use Rattle.mon_types.specs.declared.names.Which.{Which}
 
 -- what changed a service's map after version v, as much as one reply takes
-abbrev pub changes_after : View → Service → ℕ → List (List ℕ) → Reply
+abbrev pub changes_after : Readings → Service → ℕ → List (List ℕ) → Reply
 changes_after w s v kept = let told = longest may_tell kept in reply.Since s v told (nat_lt (length told) (length kept))
 
-abbrev pub shown : View → Service → Reply
+abbrev pub shown : Readings → Service → Reply
 shown w s = reply.Shown s w.last (service_last w s) (read_map w s)
 
 -- where they aren't kept any more, the whole map
-unfoldable pub since : View → Service → ℕ → Reply
-since w s v = if nat_le (service_first w s) (suc v) then changes_after w s v (kept_from w s (service_last w s - v) (suc v)) else shown w s
+unfoldable pub since : Readings → Service → ℕ → Reply
+since w s v =
+    if nat_le (service_first w s) (suc v)
+    then changes_after w s v (kept_from w s (service_last w s - v) (suc v))
+    else shown w s
 
 module _ (me : Me) (now : ℕ) where
   -- the lease stands, or nobody else is there
   abbrev pub is_standing : State → Bool
   is_standing s = me.member.monitors == 1 || stands (lease_of s) now
 
-  abbrev pub read : Session → (View → Reply) → Course → Result Course Which
+  abbrev pub read : Session → (Readings → Reply) → Course → Result Course Which
   read session reading x =
       if not (is_member x.state.phase) then Ok (reply_to session reply.Unavailable x) else (
-      if not (readable x.view.last me.member.monitors (lease_of x.state) now)
-      then Ok (reply_to session (reply.NotReadable x.view.last (is_standing x.state)) x)
-      else Ok (reply_to session (reading x.view) x))
+      if not (readable x.readings.last me.member.monitors (lease_of x.state) now)
+      then Ok (reply_to session (reply.NotReadable x.readings.last (is_standing x.state)) x)
+      else Ok (reply_to session (reading x.readings) x))

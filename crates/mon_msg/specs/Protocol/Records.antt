@@ -1,7 +1,8 @@
 -- The records of versions, the pending value, and runs of records.
-use Rattle.std.specs.Prelude.{ℕ, suc, Bool, ◌==◌, nat_le, List, Option, Some, None, Result, Ok, if◌then◌else◌, [], ◌∷◌, ◌++◌, Err, zero, ◌-◌, length}
+use Rattle.std.specs.Option.{option_map, option_and_then}
+use Rattle.std.specs.Prelude.{◌≡◌, ℕ, suc, ◌<◌, Bool, true, false, ◌==◌, nat_le, List, Option, Some, None, Result, Ok, if◌then◌else◌, [], ◌∷◌, ◌++◌, Err, zero, ◌-◌, length, take}
 use Rattle.mon_msg.specs.Protocol.Length.{fits}
-use Rattle.mon_msg.specs.Protocol.View.{View}
+use Rattle.mon_msg.specs.Protocol.Readings.{Readings}
 use Rattle.mon_wire.specs.declared.body.Body.TheVariants as body
 use Rattle.mon_msg.specs.declared.paxos.Found.{Found}
 use Rattle.mon_tx.specs.Decision.{Cell}
@@ -26,40 +27,41 @@ abbrev pub transaction_in : Cell → Option (List Op)
 transaction_in None = None
 transaction_in (Some bytes) = where_it_may_begin (transaction_of bytes)
 
--- the value that the record of a version spells; a record that is no transaction counts as none, and so does one with which a
--- BEGIN could not be sent
-unfoldable pub record_at : View → ℕ → Option (List Op)
-record_at w v = transaction_in (w.record_of v)
+-- The value that the record of a version spells, of the records that a store keeps. A record that is no transaction counts
+-- as none, and so does one with which a BEGIN could not be sent.
+unfoldable pub record_at : (records : ℕ → Cell) → ℕ → Option (List Op)
+record_at records v = transaction_in (records v)
+
+-- ---- the pending value
 
 -- a value that is too long to be proposed counts as none
 abbrev pub where_short : List Op → Option (List Op)
 where_short value = if nat_le (length (text value)) most_value then Some value else None
 
-abbrev pub found_as : ℕ → ℕ → Option (List Op) → Option Found
-found_as v pn None = None
-found_as v pn (Some value) = found_short (where_short value)
-  where
-    found_short : Option (List Op) → Option Found
-    found_short None = None
-    found_short (Some value) = Some (record { version = v; pn = pn; value = value })
+abbrev pub found_as : (v pn : ℕ) → Option (List Op) → Option Found
+found_as v pn value =
+    option_map (λ short. record { version = v; pn = pn; value = short }) (option_and_then where_short value)
 
--- the value that was accepted for the version after the last one
-unfoldable pub pending : View → Option Found
-pending w = if w.pending_v == suc w.last then found_as w.pending_v w.pending_pn (record_at w (suc w.last)) else None
+-- the value that was accepted last, for that version and under that number, if it is for the version after the last one
+unfoldable pub pending_of : (v pn last : ℕ) → (records : ℕ → Cell) → Option Found
+pending_of v pn last records = if v == suc last then found_as v pn (record_at records (suc last)) else None
+
+abbrev pub pending : Readings → Option Found
+pending w = pending_of w.pending_v w.pending_pn w.last w.record_of
 
 -- ---- runs
 
 -- the values of so many versions from v on, up to the first that has none
-unfoldable pub run_of : View → ℕ → ℕ → List (List Op)
-run_of w zero v = []
-run_of w (suc count) v = elim (record_at w v) as (λ _. List (List Op)) [
+unfoldable pub run_of : (records : ℕ → Cell) → (count v : ℕ) → List (List Op)
+run_of records zero v = []
+run_of records (suc count) v = elim (record_at records v) as (λ _. List (List Op)) [
   | None ↦ []
-  | Some value ↦ value ∷ run_of w count (suc v)
+  | Some value ↦ value ∷ run_of records count (suc v)
 ]
 
 -- the values from version v on, up to the last version or the first that has none
-abbrev pub run_from : View → ℕ → List (List Op)
-run_from w v = run_of w (suc w.last - v) v
+abbrev pub run_from : (records : ℕ → Cell) → (last v : ℕ) → List (List Op)
+run_from records last v = run_of records (suc last - v) v
 
 -- the longest beginning of a list that passes a test, of which each beginning passes it
 abbrev pub longest_onto : {A : Type 0} → (List A → Bool) → List A → List A → List A
@@ -68,3 +70,10 @@ longest_onto test done (x ∷ xs) = if test (done ++ x ∷ []) then longest_onto
 
 abbrev pub longest : {A : Type 0} → (List A → Bool) → List A → List A
 longest test xs = longest_onto test [] xs
+
+-- it is a beginning, of which each beginning but the empty one passes the test, and the next longer one doesn't
+pub record IsLongest {A : Type 0} (test : List A → Bool) (whole found : List A) : Type 0 where
+  pub rest : List A
+  pub begins : found ++ rest ≡ whole
+  pub passes : (k : ℕ) → k < length found → test (take (suc k) found) ≡ true
+  pub ends : (x : A) (more : List A) → rest ≡ x ∷ more → test (found ++ x ∷ []) ≡ false

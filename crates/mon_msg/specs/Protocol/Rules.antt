@@ -3,7 +3,7 @@ use Rattle.std.specs.List.{range_with_len}
 use Rattle.std.specs.Prelude.{ℕ, ◌+◌, ◌==◌, nat_le, nat_lt, List, if◌then◌else◌, [], ◌∷◌, ◌++◌, filter, ◌-◌, min, ◌%◌, map}
 use Rattle.mon_msg.specs.Puts.{put, put_number}
 use Rattle.mon_msg.specs.Protocol.Changes.{erase}
-use Rattle.mon_msg.specs.Protocol.Reading.{service_first}
+use Rattle.mon_msg.specs.Protocol.Services.{service_first}
 use Rattle.mon_tx.specs.Keys.{area_text}
 use Rattle.mon_tx.specs.declared.key.Area.TheVariants as area
 use Rattle.mon_tx.specs.declared.key.Area.{Area}

@@ -1,13 +1,14 @@
 -- What an event sends.
 use Rattle.std.specs.List.{range_with_len}
-use Rattle.std.specs.Prelude.{ℕ, Bool, not, ◌&&◌, ◌==◌, List, Option, Some, None, [], ◌∷◌, ◌++◌, filter}
-use Rattle.mon_msg.specs.Protocol.Course.{Course}
-use Rattle.mon_msg.specs.Protocol.View.{epoch_of}
+use Rattle.std.specs.Prelude.{ℕ, Bool, not, ◌&&◌, ◌==◌, List, Option, Some, None, [], ◌∷◌, filter, map}
+use Rattle.mon_msg.specs.Protocol.Course.{Course, say}
+use Rattle.mon_msg.specs.Protocol.Readings.{epoch_of}
 use Rattle.mon_wire.specs.declared.body.Body.TheVariants as body
 use Rattle.mon_wire.specs.declared.body.Body.{Body}
 use Rattle.mon_msg.specs.declared.plan.Origin.TheVariants as origin
 use Rattle.mon_msg.specs.declared.plan.Origin.{Origin}
 use Rattle.mon_msg.specs.declared.plan.Sent.TheVariants as sent
+use Rattle.mon_msg.specs.declared.plan.Sent.{Sent}
 use Rattle.mon_wire.specs.declared.reply.Reply.{Reply}
 use Rattle.mon_wire.specs.declared.request.Session.{Session}
 use Rattle.mon_msg.specs.declared.view.Me.{Me}
@@ -20,24 +21,34 @@ members me q = filter (λ k. has q k && not (k == me.member.rank)) (range_with_l
 abbrev pub others : Me → List ℕ
 others me = filter (λ k. not (k == me.member.rank)) (range_with_len 0 me.member.monitors)
 
--- a message in the epoch that the store tells now
-abbrev pub send : Me → ℕ → Body → Course → Course
-send me to b x = record x {
-  out = x.out ++ sent.Message to (record { from = me.member.rank; monitors = me.member.monitors; epoch = epoch_of x.view; body = b }) ∷ [];
-}
+-- ---- messages, in the epoch that the store tells now
+
+abbrev pub message_to : Me → (epoch : ℕ) → Body → (to : ℕ) → Sent
+message_to me epoch b to =
+    sent.Message to (record { from = me.member.rank; monitors = me.member.monitors; epoch = epoch; body = b })
 
 abbrev pub send_each : Me → List ℕ → Body → Course → Course
-send_each me [] b x = x
-send_each me (to ∷ more) b x = send_each me more b (send me to b x)
+send_each me ks b x = say (map (message_to me (epoch_of x.readings) b) ks) x
+
+abbrev pub send : Me → ℕ → Body → Course → Course
+send me to b x = say (message_to me (epoch_of x.readings) b to ∷ []) x
+
+-- ---- answers
 
 abbrev pub reply_to : Session → Reply → Course → Course
-reply_to session r x = record x { out = x.out ++ sent.Reply session r ∷ [] }
+reply_to session r = say (sent.Reply session r ∷ [])
 
 -- a session is here; the answer to a command that a peon handed on goes by way of that peon
+abbrev pub answer_to : Me → (epoch : ℕ) → Origin → Reply → Sent
+answer_to me epoch (origin.Session session) r = sent.Reply session r
+answer_to me epoch (origin.Forwarded rank seq) r = message_to me epoch (body.Route seq r) rank
+
 abbrev pub answer : Me → Origin → Reply → Course → Course
-answer me (origin.Session session) r x = reply_to session r x
-answer me (origin.Forwarded rank seq) r x = send me rank (body.Route seq r) x
+answer me o r x = say (answer_to me (epoch_of x.readings) o r ∷ []) x
+
+abbrev pub answers_to : Me → (epoch : ℕ) → Option Origin → Reply → List Sent
+answers_to me epoch None r = []
+answers_to me epoch (Some o) r = answer_to me epoch o r ∷ []
 
 abbrev pub answer_any : Me → Option Origin → Reply → Course → Course
-answer_any me None r x = x
-answer_any me (Some o) r x = answer me o r x
+answer_any me o r x = say (answers_to me (epoch_of x.readings) o r) x

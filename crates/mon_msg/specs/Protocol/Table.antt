@@ -4,7 +4,7 @@ use Rattle.election_rules.specs.Table.{start_scores}
 use Rattle.mon_bytes.specs.declared.entry.Entry.{Entry}
 use Rattle.mon_msg.specs.Protocol.Changes.{Boot, Epoch}
 use Rattle.mon_msg.specs.Protocol.Commands.{propose_due}
-use Rattle.mon_msg.specs.Protocol.Course.{Course, ◌▸◌, ◌>>=◌, checked, dropped, only_if, change, elector_is, arm, disarm}
+use Rattle.mon_msg.specs.Protocol.Course.{Course, ◌▸◌, ◌>>=◌, checked, dropped, change, change_if, elector_is, arm_if, disarm}
 use Rattle.mon_msg.specs.Protocol.Elections.{election_ends}
 use Rattle.mon_msg.specs.Protocol.Entering.{scores_count, bootstrap}
 use Rattle.mon_msg.specs.Protocol.Hearing.{deliver, hear_client}
@@ -15,7 +15,8 @@ use Rattle.mon_msg.specs.Protocol.Replay.{replay_step}
 use Rattle.mon_msg.specs.Protocol.Sending.{reply_to}
 use Rattle.mon_msg.specs.Protocol.State.{State}
 use Rattle.mon_msg.specs.Protocol.Timers.{end_of}
-use Rattle.mon_msg.specs.Protocol.View.{View}
+use Rattle.mon_msg.specs.Protocol.Readings.{Readings}
+use Rattle.mon_msg.specs.declared.election.Elector.{Elector}
 use Rattle.mon_msg.specs.declared.input.Input.TheVariants as input
 use Rattle.mon_msg.specs.declared.input.Input.{Input}
 use Rattle.mon_wire.specs.declared.phase.Phase.TheVariants as phase
@@ -27,63 +28,66 @@ use Rattle.mon_types.specs.Ranks.{no_ranks}
 use Rattle.mon_types.specs.declared.names.Which.TheVariants as which
 use Rattle.mon_types.specs.declared.names.Which.{Which}
 
-module _ (me : Me) (shared : List Entry) (now : ℕ) where
+module _ (me : Me) (now : ℕ) where
   -- under connectivity it begins to measure
-  abbrev start_scoring : (boot : ℕ) → Course → Course
-  start_scoring boot x =
-      x
-      ▸ elector_is (record x.state.elector { scores = start_scores me.member.rank boot; heard = no_ranks; pinged = now })
-      ▸ arm now timer.Ping
+  abbrev pub first_elector : (boot : ℕ) → Elector → Elector
+  first_elector boot elector =
+      if scores_count me.rule
+      then record elector { scores = start_scores me.member.rank boot; heard = no_ranks; pinged = now }
+      else elector
 
   -- it is counted, and the monitor bootstraps; an epoch that isn't there is put as 1
   unfoldable pub start : Course → Result Course Which
   start x = do
-    boot ← checked which.Boot (suc x.view.boot)
+    boot ← checked which.Boot (suc x.readings.boot)
     x
         ▸ change (Boot boot)
-        ▸ only_if (not (is_some x.view.epoch)) (change (Epoch 1))
-        ▸ only_if (scores_count me.rule) (start_scoring boot)
+        ▸ change_if (not (is_some x.readings.epoch)) (Epoch 1)
+        ▸ elector_is (first_elector boot x.state.elector)
+        ▸ arm_if (scores_count me.rule) now timer.Ping
         ▸ bootstrap me now
 
-  -- ---- timers
-
-  abbrev ring : Timer → Course → Result Course Which
-  ring timer.Probe x = bootstrap me now x
-  ring timer.Election x = election_ends me now x
-  ring timer.Collect x = bootstrap me now x
-  ring timer.Accept x = bootstrap me now x
-  ring timer.Renew x = renew me now x
-  ring timer.LeaseAck x = bootstrap me now x
-  ring timer.Lease x = bootstrap me now x
-  ring timer.Sync x = bootstrap me now x
-  ring timer.Step x = replay_step me now x
-  ring timer.Propose x = propose_due me now x
-  ring timer.Ping x = ping me now x
-
-  -- one that is armed is disarmed, and takes effect whether or not its moment has come
-  abbrev time : Timer → Course → Result Course Which
-  time t x = if is_some (end_of t x.state.timers) then x ▸ disarm t ▸ ring t else dropped x
-
-  -- ---- the join
-
   -- what comes before the start is dropped, and clients are told
-  abbrev before_start : Input → Course → Result Course Which
+  abbrev pub before_start : Input → Course → Result Course Which
   before_start input.Start x = start x
   before_start (input.Deliver m) x = dropped x
   before_start (input.Timer t) x = dropped x
   before_start (input.Client session r) x = Ok (reply_to session reply.Unavailable x)
 
-  abbrev running : Input → Course → Result Course Which
+  -- ---- timers
+
+  abbrev pub timer_comes : Timer → Course → Result Course Which
+  timer_comes timer.Probe x = bootstrap me now x
+  timer_comes timer.Election x = election_ends me now x
+  timer_comes timer.Collect x = bootstrap me now x
+  timer_comes timer.Accept x = bootstrap me now x
+  timer_comes timer.Renew x = renew me now x
+  timer_comes timer.LeaseAck x = bootstrap me now x
+  timer_comes timer.Lease x = bootstrap me now x
+  timer_comes timer.Sync x = bootstrap me now x
+  timer_comes timer.Step x = replay_step me now x
+  timer_comes timer.Propose x = propose_due me now x
+  timer_comes timer.Ping x = ping me now x
+
+  -- one that is armed is disarmed, and takes effect whether or not its moment has come
+  abbrev pub take_timer : Timer → Course → Result Course Which
+  take_timer t x = if is_some (end_of t x.state.timers) then x ▸ disarm t ▸ timer_comes t else dropped x
+
+-- ---- the join
+
+-- nothing is done yet
+abbrev pub at_rest : Readings → State → Course
+at_rest w s = record { readings = w; changes = []; state = s; out = [] }
+
+module _ (me : Me) (shared : List Entry) (now : ℕ) where
+  abbrev pub running : Input → Course → Result Course Which
   running input.Start x = dropped x
   running (input.Deliver m) x = deliver me shared now m x
-  running (input.Timer t) x = time t x
-  running (input.Client session r) x = hear_client me shared now session r x
+  running (input.Timer t) x = take_timer me now t x
+  running (input.Client session r) x = hear_client me now session r x
 
-  -- nothing is done yet
-  abbrev at_rest : View → State → Course
-  at_rest w s = record { view = w; changes = []; state = s; out = [] }
-
-  -- What a monitor does at an input, by what its store tells, what it remembers and what comes; or which number runs out.
-  -- `shared` are the entries of its store that are shared, in order.
-  unfoldable pub react : View → State → Input → Result Course Which
-  react w s came = if same_phase s.phase phase.Booting then before_start came (at_rest w s) else running came (at_rest w s)
+  -- What a monitor does at an input, by what its store tells, what it remembers and what comes; or which number runs
+  -- out. `shared` are the entries of its store that are shared, in order.
+  unfoldable pub react : Readings → State → Input → Result Course Which
+  react w s came =
+      if same_phase s.phase phase.Booting then before_start me now came (at_rest w s) else running came (at_rest w s)

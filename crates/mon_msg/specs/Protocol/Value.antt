@@ -13,9 +13,9 @@ use Rattle.mon_bytes.specs.declared.command.Command.{Command}
 use Rattle.mon_bytes.specs.declared.command.CommandRefused.TheVariants as refused
 use Rattle.mon_bytes.specs.declared.command.CommandRefused.{CommandRefused}
 use Rattle.mon_msg.specs.Protocol.Parts.{map_text}
-use Rattle.mon_msg.specs.Protocol.Reading.{service_first, service_last, read_map}
+use Rattle.mon_msg.specs.Protocol.Services.{service_first, service_last, read_map}
 use Rattle.mon_msg.specs.Protocol.Rules.{value_ops}
-use Rattle.mon_msg.specs.Protocol.View.{View}
+use Rattle.mon_msg.specs.Protocol.Readings.{Readings}
 use Rattle.mon_msg.specs.Puts.{area_of}
 use Rattle.mon_wire.specs.declared.reply.ShownMap.TheVariants as map
 use Rattle.mon_wire.specs.declared.reply.ShownMap.{ShownMap}
@@ -29,28 +29,30 @@ service_of (command.Set key value) = Kv
 service_of (command.Remove key) = Kv
 service_of (command.Log text) = Log
 
--- the incremental that a command makes of a map, spelled, and the map with it, where `asked` is the monitor that was asked
-abbrev pub made : ShownMap → ℕ → Command → Result (List ℕ × ShownMap) CommandRefused
-made (map.Kv m) asked c = made_kv (kv_made.made m c)
-  where
-    made_kv : Result KvInc CommandRefused → Result (List ℕ × ShownMap) CommandRefused
-    made_kv (Ok inc) = Ok (kv_text.inc_text inc, map.Kv (kv.with_inc m inc))
-    made_kv (Err e) = Err e
-made (map.Log es) asked (command.Log text) = made_log (log_made.made asked text)
-  where
-    made_log : Result LogInc CommandRefused → Result (List ℕ × ShownMap) CommandRefused
-    made_log (Ok inc) = Ok (log_text.inc_text inc, map.Log (log.with_inc es inc))
-    made_log (Err e) = Err e
+abbrev pub made_kv : kv.Kv → Result KvInc CommandRefused → Result (List ℕ × ShownMap) CommandRefused
+made_kv m (Ok inc) = Ok (kv_text.inc_text inc, map.Kv (kv.with_inc m inc))
+made_kv m (Err e) = Err e
+
+abbrev pub made_log : List LogInc → Result LogInc CommandRefused → Result (List ℕ × ShownMap) CommandRefused
+made_log es (Ok inc) = Ok (log_text.inc_text inc, map.Log (log.with_inc es inc))
+made_log es (Err e) = Err e
+
+-- the incremental that a command makes of a map, spelled, and the map with it; `asked` is the monitor that was asked
+abbrev pub made : ShownMap → (asked : ℕ) → Command → Result (List ℕ × ShownMap) CommandRefused
+made (map.Kv m) asked c = made_kv m (kv_made.made m c)
+made (map.Log es) asked (command.Log text) = made_log es (log_made.made asked text)
 made (map.Log es) asked c = Err refused.NoSuch
 
 -- the value of an incremental after which the map is `next`
-abbrev pub value_of : View → Service → List ℕ → ShownMap → List Op
-value_of w s incremental next = value_ops w.first w.last (area_of s) (suc (service_last w s)) (service_first w s) incremental (map_text next)
+abbrev pub value_of : Readings → Service → List ℕ → ShownMap → List Op
+value_of w s incremental next =
+    value_ops w.first w.last (area_of s) (suc (service_last w s)) (service_first w s) incremental (map_text next)
+
+abbrev pub value_if_made : Readings → Service
+    → Result (List ℕ × ShownMap) CommandRefused → Result (List Op) CommandRefused
+value_if_made w s (Ok (incremental, next)) = Ok (value_of w s incremental next)
+value_if_made w s (Err e) = Err e
 
 -- the value of a command over what a store tells, where `asked` is the monitor that was asked; or why there is none
-unfoldable pub value : View → Command → ℕ → Result (List Op) CommandRefused
-value w c asked = made_value (made (read_map w (service_of c)) asked c)
-  where
-    made_value : Result (List ℕ × ShownMap) CommandRefused → Result (List Op) CommandRefused
-    made_value (Ok (incremental, next)) = Ok (value_of w (service_of c) incremental next)
-    made_value (Err e) = Err e
+unfoldable pub value : Readings → Command → (asked : ℕ) → Result (List Op) CommandRefused
+value w c asked = value_if_made w (service_of c) (made (read_map w (service_of c)) asked c)

@@ -1,5 +1,5 @@
-use Rattle.mon_msg.proofs.Changed.{view-joined}
+use Rattle.mon_msg.proofs.Changed.{readings-joined}
 use Rattle.mon_msg.proofs.laws.law_changes.Goals as goal
 
 pub returns : goal.returns
-returns c = view-joined
+returns c = readings-joined

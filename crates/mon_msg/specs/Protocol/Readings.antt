@@ -14,7 +14,7 @@ use Rattle.mon_tx.specs.declared.key.Key.TheVariants as key
 use Rattle.mon_tx.specs.declared.key.Key.{Key}
 use Rattle.mon_tx.specs.declared.op.Op.{Op}
 
-pub record View : Type 0 where
+pub record Readings : Type 0 where
   -- the election epoch, where there is one
   pub epoch : Option ℕ
   -- how often the monitor was started
@@ -45,10 +45,10 @@ abbrev pub epoch_or_first : Option ℕ → ℕ
 epoch_or_first None = 1
 epoch_or_first (Some e) = e
 
-abbrev pub epoch_of : View → ℕ
+abbrev pub epoch_of : Readings → ℕ
 epoch_of w = epoch_or_first w.epoch
 
-abbrev pub promise_of : View → ℕ
+abbrev pub promise_of : Readings → ℕ
 promise_of w = or_zero w.promise
 
 -- a store is marked where this number is 1
@@ -59,8 +59,8 @@ marks c = number_in c == 1
 abbrev pub number_if_there : Cell → Option ℕ
 number_if_there c = option_map (λ bytes. number_in (Some bytes)) c
 
-unfoldable pub view : Store → View
-view m = record {
+unfoldable pub readings_of : Store → Readings
+readings_of m = record {
   epoch = number_if_there (cell m area.Monitor key.ElectionEpoch);
   boot = number m area.Monitor key.BootCount;
   last_pn = number_if_there (cell m area.Paxos key.LastPn);
@@ -89,7 +89,7 @@ abbrev pub cell_after : List Op → Area → Key → Cell → Cell
 cell_after ops a k before = or_before (decision ops (place a k)) before
 
 -- what is told after changes of the store
-unfoldable pub after : List Op → View → View
+unfoldable pub after : List Op → Readings → Readings
 after ops w = record {
   epoch = told_after number_if_there ops area.Monitor key.ElectionEpoch w.epoch;
   boot = number_after ops area.Monitor key.BootCount w.boot;
