@@ -1,24 +1,20 @@
 -- A fault that reading names is one that a call may answer.
-use Rattle.std.proofs.Common.{◌≡◌, Result, Err}
+use Rattle.std.proofs.Common.{◌≡◌, Bool, true, false, Result, Err}
+use Rattle.mon_bytes.specs.Answers.{Fails, Unless}
 use Rattle.mon_tx.specs.declared.refusal.TxRefused.{TxRefused}
-use Rattle.mon_tx.specs.declared.refusal.TxRefused.TheVariants as refused
-use Rattle.mon_tx.specs.Fields.{Fails}
+use Rattle.mon_tx.specs.Fields.{no_memory}
 
-pub fails : {Y : Type 0} (e : TxRefused) (read : Result Y TxRefused) → read ≡ Err e → Fails e read
-fails refused.OutOfMemory read h = tt
-fails (refused.Cut at) read h = h
-fails (refused.Kind at) read h = h
-fails (refused.Name at) read h = h
-fails (refused.TooLong len) read h = h
-fails (refused.Rest at) read h = h
-fails (refused.Range at) read h = h
+unless : (b : Bool) (P Q : Type 0) → Unless b P → (P → Q) → Unless b Q
+unless true P Q h step = tt
+unless false P Q h step = step h
+
+pub fails : {Y : Type 0} (e : TxRefused) (read : Result Y TxRefused) → read ≡ Err e → Fails no_memory e read
+fails e read h = by (no_memory e)
+  where
+    by : (b : Bool) → Unless b (read ≡ Err e)
+    by true = tt
+    by false = h
 
 -- a fault of a part is one of the whole
-pub fails_on : {X Y : Type 0} (e : TxRefused) (part : Result X TxRefused) (whole : Result Y TxRefused) → Fails e part → (part ≡ Err e → whole ≡ Err e) → Fails e whole
-fails_on refused.OutOfMemory part whole h step = tt
-fails_on (refused.Cut at) part whole h step = step h
-fails_on (refused.Kind at) part whole h step = step h
-fails_on (refused.Name at) part whole h step = step h
-fails_on (refused.TooLong len) part whole h step = step h
-fails_on (refused.Rest at) part whole h step = step h
-fails_on (refused.Range at) part whole h step = step h
+pub fails_on : {X Y : Type 0} (e : TxRefused) (part : Result X TxRefused) (whole : Result Y TxRefused) → Fails no_memory e part → (part ≡ Err e → whole ≡ Err e) → Fails no_memory e whole
+fails_on e part whole h step = unless (no_memory e) (part ≡ Err e) (whole ≡ Err e) h step

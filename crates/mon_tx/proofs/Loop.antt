@@ -4,7 +4,8 @@ use Rattle.std.proofs.lemmas.List.{append-nil}
 use Rattle.mon_bytes.specs.Reading.{Reading}
 use Rattle.mon_tx.specs.declared.op.Op.{Op}
 use Rattle.mon_tx.specs.declared.refusal.TxRefused.{TxRefused}
-use Rattle.mon_tx.specs.Fields.{◌>>=◌, Fails}
+use Rattle.mon_bytes.specs.Answers.{◌>>=◌, Fails}
+use Rattle.mon_tx.specs.Fields.{no_memory}
 use Rattle.mon_tx.specs.Decode.{op_at, ops_at}
 use Rattle.mon_tx.proofs.Faults.{fails_on}
 
@@ -30,7 +31,7 @@ stopped : (front : List Op) (format count i : ℕ) (c : Reading) (total : Result
 stopped front format count i c total e lt h so_far =
     let one : with_front front (ops_at format (count - i) c) ≡ Err e = rw (one_more format count i c lt, h) refl in sym so_far ∙ one
 
-pub ends : (e : TxRefused) (front : List Op) (format count i : ℕ) (c : Reading) (total : Result (List Op × Reading) TxRefused) → i < count → Fails e (op_at format c) → with_front front (ops_at format (count - i) c) ≡ total → Fails e total
+pub ends : (e : TxRefused) (front : List Op) (format count i : ℕ) (c : Reading) (total : Result (List Op × Reading) TxRefused) → i < count → Fails no_memory e (op_at format c) → with_front front (ops_at format (count - i) c) ≡ total → Fails no_memory e total
 ends e front format count i c total lt h so_far = fails_on e (op_at format c) total h (λ one. stopped front format count i c total e lt one so_far)
 
 pub is_done : (front : List Op) (format count i : ℕ) (c : Reading) (total : Result (List Op × Reading) TxRefused) → count ≤ i → with_front front (ops_at format (count - i) c) ≡ total → total ≡ Ok (front, c)

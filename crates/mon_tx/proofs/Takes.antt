@@ -9,6 +9,7 @@ use Rattle.byteorder.specs.Endian.{little_bytes, little_number}
 use Rattle.mon_bytes.specs.declared.cursor.Short.{Short}
 use Rattle.mon_bytes.specs.Reading.{IsBytes, Reading, moved, number, front}
 use Rattle.mon_bytes.specs.Texts.{is_word}
+use Rattle.mon_bytes.proofs.Formats.{bind_ok, at_fault_ok}
 use Rattle.mon_bytes.proofs.LittleEndian.{little_bytes-little_number, little_number-below}
 use Rattle.mon_tx.specs.declared.op.Op.{Op}
 use Rattle.mon_tx.specs.declared.op.Op.TheVariants.{Put, Erase, ErasePrefix, EraseRange}
@@ -30,13 +31,8 @@ IsBytes-take n bytes h i =
       | inr le ↦ rw (get_or_past (take n bytes) i 0 (omega (arith, length-take n bytes))) (omega arith)
     ]
 
-bind_ok : {A B : Type 0} (r : Result A TxRefused) (f : A → Result B TxRefused) (y : B) → (r >>= f) ≡ Ok y → (x : A) × (r ≡ Ok x) × (f x ≡ Ok y)
-bind_ok (Ok x) f y e = (x, refl, e)
-bind_ok (Err d) f y e = absurd cc
-
 cut_ok : {A : Type 0} (r : Result A Short) (x : A) → cut r ≡ Ok x → r ≡ Ok x
-cut_ok (Ok y) x e = let same : y ≡ x = cc in ap (λ z. Ok z) same
-cut_ok (Err s) x e = absurd cc
+cut_ok r x e = at_fault_ok (λ at. refused.Cut at) r x e
 
 guard_ok : {A E : Type 0} (b : Bool) (d : E) (r : Result A E) (y : A) → cond b (Err d) r ≡ Ok y → (b ≡ false) × (r ≡ Ok y)
 guard_ok true d r y e = absurd cc

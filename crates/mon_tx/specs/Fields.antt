@@ -1,39 +1,34 @@
 -- The fields of a transaction's text, and what a call that reads answers.
-use Rattle.std.specs.Prelude.{◌≡◌, ℕ, ◌+◌, ◌^◌, List, length, Result, Ok, Err, nat_lt, ◌==◌, if◌then◌else◌}
+use Rattle.std.specs.Prelude.{ℕ, ◌+◌, ◌^◌, Bool, true, false, List, length, Result, Ok, Err, nat_lt, ◌==◌, if◌then◌else◌}
 use Rattle.std.specs.List.{prefix_len}
 use Rattle.mon_bytes.specs.declared.cursor.Short.{Short}
 use Rattle.mon_bytes.specs.Reading.{Reading, number, front}
+use Rattle.mon_bytes.specs.Answers as answers
+use Rattle.mon_bytes.specs.Answers.{at_fault}
+pub use Rattle.mon_bytes.specs.Answers.{◌>>=◌}
 use Rattle.mon_bytes.specs.Texts.{graphic}
 use Rattle.mon_tx.specs.declared.refusal.TxRefused.{TxRefused}
 use Rattle.mon_tx.specs.declared.refusal.TxRefused.TheVariants as refused
 
-infixl 10 ◌>>=◌
-abbrev pub ◌>>=◌ : {A B : Type 0} → Result A TxRefused → (A → Result B TxRefused) → Result B TxRefused
-(Ok x) >>= f = f x
-(Err e) >>= f = Err e
+-- whether memory ran out
+abbrev pub no_memory : TxRefused → Bool
+no_memory refused.OutOfMemory = true
+no_memory e = false
 
 -- a field that doesn't fit is cut
 abbrev pub cut : {A : Type 0} → Result A Short → Result A TxRefused
-cut (Ok x) = Ok x
-cut (Err s) = Err (refused.Cut s.at)
+cut read = at_fault (λ at. refused.Cut at) read
 
 -- What a call that takes no memory answered and left is what reading gives.
-abbrev pub Reads : {X Y : Type 0} → (X → Y) → Result X TxRefused → Reading → Result (Y × Reading) TxRefused → Type 0
-Reads view (Ok x) new read = read ≡ Ok (view x, new)
-Reads view (Err e) new read = read ≡ Err e
+abbrev pub Scans : {X Y : Type 0} → (X → Y) → Result X TxRefused → Reading → Result (Y × Reading) TxRefused → Type 0
+Scans view result new read = answers.Reads (λ e. false) view result new read
 
 -- What a call answered and left is what reading gives, unless memory ran out.
-abbrev pub Fails : {Y : Type 0} → TxRefused → Result Y TxRefused → Type 0
-Fails refused.OutOfMemory read = Unit {0}
-Fails e read = read ≡ Err e
-
-abbrev pub Steps : {X Y : Type 0} → (X → Y) → Result X TxRefused → Reading → Result (Y × Reading) TxRefused → Type 0
-Steps view (Ok x) new read = read ≡ Ok (view x, new)
-Steps view (Err e) new read = Fails e read
+abbrev pub Reads : {X Y : Type 0} → (X → Y) → Result X TxRefused → Reading → Result (Y × Reading) TxRefused → Type 0
+Reads view result new read = answers.Reads no_memory view result new read
 
 abbrev pub Gives : {X Y : Type 0} → (X → Y) → Result X TxRefused → Result Y TxRefused → Type 0
-Gives view (Ok x) read = read ≡ Ok (view x)
-Gives view (Err e) read = Fails e read
+Gives view result read = answers.Gives no_memory view result read
 
 -- how many bytes stand before the first that isn't graphic
 abbrev pub graphic_front : List ℕ → ℕ

@@ -3,5 +3,6 @@ pub mod Decode
 pub mod Fields
 pub mod Keys
 pub mod Map
+pub mod Puts
 pub mod Spelled
 pub mod Text

@@ -37,14 +37,6 @@ fn op_len(op: &Op) -> u64
     }
 }
 
-fn put_word(out: &mut Out, word: &[u8]) -> Result<(), OutOfMemory>
-    requires { length word.now < 256 }
-    ensures { OnOk result (out.new ≡ out.old ++ length word.now ∷ word.now) }
-{
-    out.put_u8(word.len() as u8)?;
-    out.put_bytes(word)
-}
-
 fn put_op(out: &mut Out, op: &Op) -> Result<(), OutOfMemory>
     requires short { value_len op.now < 2 ^ 32 }
     requires upward { IsTrue (is_upward op.now) }
@@ -54,23 +46,23 @@ fn put_op(out: &mut Out, op: &Op) -> Result<(), OutOfMemory>
     match op {
         Op::Put { prefix, key, value } => {
             out.put_u8(1)?;
-            put_word(out, prefix.as_slice())?;
-            put_word(out, key.as_slice())?;
+            out.put_word(prefix.as_slice())?;
+            out.put_word(key.as_slice())?;
             out.put_u32(value.as_slice().len() as u32)?;
             out.put_bytes(value.as_slice())
         }
         Op::Erase { prefix, key } => {
             out.put_u8(2)?;
-            put_word(out, prefix.as_slice())?;
-            put_word(out, key.as_slice())
+            out.put_word(prefix.as_slice())?;
+            out.put_word(key.as_slice())
         }
         Op::ErasePrefix { prefix } => {
             out.put_u8(3)?;
-            put_word(out, prefix.as_slice())
+            out.put_word(prefix.as_slice())
         }
         Op::EraseRange { prefix, from, to } => {
             out.put_u8(4)?;
-            put_word(out, prefix.as_slice())?;
+            out.put_word(prefix.as_slice())?;
             out.put_u64(from.get())?;
             out.put_u64(to.get())
         }

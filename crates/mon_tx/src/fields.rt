@@ -3,7 +3,7 @@
 ghost use Rattle.std.specs.Prelude.{◌≡◌, ℕ, ◌≤◌, ◌<◌, ◌+◌, ◌^◌, List, length, IsTrue, IfOk};
 ghost use Rattle.std.specs.List.{list_all};
 ghost use Rattle.mon_bytes.specs.Texts.{graphic, is_word};
-ghost use Rattle.mon_tx.specs.Fields.{graphic_front, word_at, value_at, version_at, format_at, Reads};
+ghost use Rattle.mon_tx.specs.Fields.{graphic_front, word_at, value_at, version_at, format_at, Scans};
 
 use crate::refusal::TxRefused;
 use mon_bytes::Cursor;
@@ -25,7 +25,7 @@ fn graphic_front(bytes: &[u8]) -> usize
 /// A prefix or a key.
 #[tactic(auto, using(crate::proofs::Words::is_word_by), unfolding(crate::specs::Fields::word_at))]
 pub fn word_at<'a>(cursor: &mut Cursor<'a>, limit: u8) -> Result<&'a [u8], TxRefused>
-    ensures bytes { Reads (λ x. x.now) result cursor.new (word_at limit cursor.old) }
+    ensures bytes { Scans (λ x. x.now) result cursor.new (word_at limit cursor.old) }
     ensures word { IfOk result (λ x. IsTrue (is_word limit x.now)) }
 {
     let at = cursor.at();
@@ -45,7 +45,7 @@ pub fn word_at<'a>(cursor: &mut Cursor<'a>, limit: u8) -> Result<&'a [u8], TxRef
 /// A value.
 #[tactic(auto, unfolding(crate::specs::Fields::value_at))]
 pub fn value_at<'a>(cursor: &mut Cursor<'a>) -> Result<&'a [u8], TxRefused>
-    ensures bytes { Reads (λ x. x.now) result cursor.new (value_at cursor.old) }
+    ensures bytes { Scans (λ x. x.now) result cursor.new (value_at cursor.old) }
     ensures short { IfOk result (λ x. length x.now < 2 ^ 32) }
 {
     let n = cursor.take_u32()?;
@@ -55,7 +55,7 @@ pub fn value_at<'a>(cursor: &mut Cursor<'a>) -> Result<&'a [u8], TxRefused>
 /// A number of a range.
 #[tactic(auto, unfolding(crate::specs::Fields::version_at))]
 pub fn version_at(cursor: &mut Cursor<'_>) -> Result<Version, TxRefused>
-    ensures number { Reads (λ n. n) result cursor.new (version_at cursor.old) }
+    ensures number { Scans (λ n. n) result cursor.new (version_at cursor.old) }
     ensures fits { IfOk result (λ n. n ≤ 2 ^ 62) }
 {
     let at = cursor.at();
@@ -66,7 +66,7 @@ pub fn version_at(cursor: &mut Cursor<'_>) -> Result<Version, TxRefused>
 /// The first byte.
 #[tactic(auto, unfolding(crate::specs::Fields::format_at))]
 pub fn format_at(cursor: &mut Cursor<'_>) -> Result<u8, TxRefused>
-    ensures { Reads (λ n. n) result cursor.new (format_at cursor.old) }
+    ensures { Scans (λ n. n) result cursor.new (format_at cursor.old) }
 {
     let at = cursor.at();
     let format = cursor.take_u8()?;

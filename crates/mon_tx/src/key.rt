@@ -121,9 +121,6 @@ impl Area {
     pub fn prefix(self, alloc: Global) -> Result<Prefix, OutOfMemory>
         ensures { IfOk result (λ p. p ≡ area_text self) }
     {
-        match Prefix::new(Vec::from_slice(alloc, self.as_str().as_bytes())?) {
-            Some(prefix) => Ok(prefix),
-            None => unreachable!(),
-        }
+        Prefix::from_slice(alloc, self.as_str().as_bytes())
     }
 }

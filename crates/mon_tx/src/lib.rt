@@ -1,6 +1,7 @@
 //! Transactions on a monitor's map, their one spelling in bytes, and the names of the map's keys.
 #![tactic(auto)]
 
+mod changes;
 mod encode;
 mod fields;
 mod key;

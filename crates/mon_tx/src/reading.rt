@@ -3,7 +3,7 @@
 ghost use Rattle.std.specs.Prelude.{◌≡◌, ℕ, List, IsTrue, IfOk, Ok};
 ghost use Rattle.mon_tx.specs.declared.op.Op.{Op};
 ghost use Rattle.mon_tx.specs.Text.{text, is_upward};
-ghost use Rattle.mon_tx.specs.Fields.{Steps, Gives};
+ghost use Rattle.mon_tx.specs.Fields.{Reads, Gives};
 ghost use Rattle.mon_tx.specs.Decode.{op_at, ops_at, ops_of, transaction_of, HasText};
 
 use crate::encode::{MOST_BYTES, has_range};
@@ -17,7 +17,7 @@ use std::alloc::Global;
 
 #[tactic(auto, using(crate::proofs::Faults::fails))]
 fn copied_at(alloc: Global, format: u8, cursor: &mut Cursor<'_>) -> Result<Op, TxRefused>
-    ensures op { Steps (λ op. op) result cursor.new (op_at format cursor.old) }
+    ensures op { Reads (λ op. op) result cursor.new (op_at format cursor.old) }
     ensures upward { IfOk result (λ op. IsTrue (is_upward op)) }
 {
     match op_at(format, cursor) {
@@ -32,7 +32,7 @@ fn ops_at(
     count: u32,
     cursor: &mut Cursor<'_>,
 ) -> Result<Transaction, TxRefused>
-    ensures { Steps (λ tx. tx) result cursor.new (ops_at format count cursor.old) }
+    ensures { Reads (λ tx. tx) result cursor.new (ops_at format count cursor.old) }
 {
     let mut tx = Transaction::new(alloc);
     for _ in 0..count {

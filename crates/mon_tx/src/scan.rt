@@ -1,7 +1,7 @@
 //! Whether bytes spell a transaction, without memory.
 
 ghost use Rattle.std.specs.Prelude.{◌≡◌, is_ok};
-ghost use Rattle.mon_tx.specs.Fields.{Reads};
+ghost use Rattle.mon_tx.specs.Fields.{Scans};
 ghost use Rattle.mon_tx.specs.Decode.{ops_of, is_text};
 ghost use Rattle.mon_tx.specs.Spelled.{range_at, ranges_at};
 
@@ -11,9 +11,9 @@ use crate::refusal::TxRefused;
 use crate::spelled::op_at;
 use mon_bytes::Cursor;
 
-/// Reads over the next change, and says whether it is a range.
+/// Scans over the next change, and says whether it is a range.
 fn range_at(format: u8, cursor: &mut Cursor<'_>) -> Result<bool, TxRefused>
-    ensures { Reads (λ b. b) result cursor.new (range_at format cursor.old) }
+    ensures { Scans (λ b. b) result cursor.new (range_at format cursor.old) }
 {
     match op_at(format, cursor) {
         Ok(spelled) => Ok(spelled.is_range()),
@@ -21,9 +21,9 @@ fn range_at(format: u8, cursor: &mut Cursor<'_>) -> Result<bool, TxRefused>
     }
 }
 
-/// Reads over that many changes, and says whether a range is among them.
+/// Scans over that many changes, and says whether a range is among them.
 fn ranges_at(format: u8, count: u32, cursor: &mut Cursor<'_>) -> Result<bool, TxRefused>
-    ensures { Reads (λ b. b) result cursor.new (ranges_at format count cursor.old) }
+    ensures { Scans (λ b. b) result cursor.new (ranges_at format count cursor.old) }
 {
     let mut found = false;
     for _ in 0..count {

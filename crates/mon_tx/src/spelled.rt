@@ -1,9 +1,8 @@
 //! One change of a transaction's text, read without memory.
 
 ghost use Rattle.std.specs.Prelude.{◌≡◌, ℕ, List, IfOk, IsTrue};
-ghost use Rattle.mon_bytes.specs.Texts.{is_name, is_prefix};
 ghost use Rattle.mon_tx.specs.Text.{is_range, is_upward};
-ghost use Rattle.mon_tx.specs.Fields.{Reads};
+ghost use Rattle.mon_tx.specs.Fields.{Scans};
 ghost use Rattle.mon_tx.specs.Decode.{put_at, erase_at, erase_prefix_at, erase_range_at, op_at, OpFits};
 ghost use Rattle.mon_tx.specs.Spelled.{change};
 
@@ -38,7 +37,7 @@ pub enum Spelled<'a> {
 
 #[tactic(auto, unfolding(crate::specs::Decode::put_at))]
 fn put_at<'a>(cursor: &mut Cursor<'a>) -> Result<Spelled<'a>, TxRefused>
-    ensures op { Reads change result cursor.new (put_at cursor.old) }
+    ensures op { Scans change result cursor.new (put_at cursor.old) }
     ensures fits { IfOk result (λ x. OpFits (change x)) }
 {
     let prefix = word_at(cursor, 32)?;
@@ -49,7 +48,7 @@ fn put_at<'a>(cursor: &mut Cursor<'a>) -> Result<Spelled<'a>, TxRefused>
 
 #[tactic(auto, unfolding(crate::specs::Decode::erase_at))]
 fn erase_at<'a>(cursor: &mut Cursor<'a>) -> Result<Spelled<'a>, TxRefused>
-    ensures op { Reads change result cursor.new (erase_at cursor.old) }
+    ensures op { Scans change result cursor.new (erase_at cursor.old) }
     ensures fits { IfOk result (λ x. OpFits (change x)) }
 {
     let prefix = word_at(cursor, 32)?;
@@ -59,7 +58,7 @@ fn erase_at<'a>(cursor: &mut Cursor<'a>) -> Result<Spelled<'a>, TxRefused>
 
 #[tactic(auto, unfolding(crate::specs::Decode::erase_prefix_at))]
 fn erase_prefix_at<'a>(cursor: &mut Cursor<'a>) -> Result<Spelled<'a>, TxRefused>
-    ensures op { Reads change result cursor.new (erase_prefix_at cursor.old) }
+    ensures op { Scans change result cursor.new (erase_prefix_at cursor.old) }
     ensures fits { IfOk result (λ x. OpFits (change x)) }
 {
     let prefix = word_at(cursor, 32)?;
@@ -68,7 +67,7 @@ fn erase_prefix_at<'a>(cursor: &mut Cursor<'a>) -> Result<Spelled<'a>, TxRefused
 
 #[tactic(auto, unfolding(crate::specs::Decode::erase_range_at))]
 fn erase_range_at<'a>(cursor: &mut Cursor<'a>) -> Result<Spelled<'a>, TxRefused>
-    ensures op { Reads change result cursor.new (erase_range_at cursor.old) }
+    ensures op { Scans change result cursor.new (erase_range_at cursor.old) }
     ensures fits { IfOk result (λ x. OpFits (change x)) }
 {
     let prefix = word_at(cursor, 32)?;
@@ -85,7 +84,7 @@ fn erase_range_at<'a>(cursor: &mut Cursor<'a>) -> Result<Spelled<'a>, TxRefused>
 /// The next change of a text of that format.
 #[tactic(auto, unfolding(crate::specs::Decode::op_at))]
 pub fn op_at<'a>(format: u8, cursor: &mut Cursor<'a>) -> Result<Spelled<'a>, TxRefused>
-    ensures op { Reads change result cursor.new (op_at format cursor.old) }
+    ensures op { Scans change result cursor.new (op_at format cursor.old) }
     ensures fits { IfOk result (λ x. OpFits (change x)) }
 {
     let at = cursor.at();
@@ -101,26 +100,6 @@ pub fn op_at<'a>(format: u8, cursor: &mut Cursor<'a>) -> Result<Spelled<'a>, TxR
             }
         }
         _ => Err(TxRefused::Kind { at }),
-    }
-}
-
-fn prefix_of(alloc: Global, bytes: &[u8]) -> Result<Prefix, OutOfMemory>
-    requires { IsTrue (is_prefix bytes.now) }
-    ensures { IfOk result (λ prefix. prefix ≡ bytes.now) }
-{
-    match Prefix::new(Vec::from_slice(alloc, bytes)?) {
-        Some(prefix) => Ok(prefix),
-        None => unreachable!(),
-    }
-}
-
-fn name_of(alloc: Global, bytes: &[u8]) -> Result<Name, OutOfMemory>
-    requires { IsTrue (is_name bytes.now) }
-    ensures { IfOk result (λ name. name ≡ bytes.now) }
-{
-    match Name::new(Vec::from_slice(alloc, bytes)?) {
-        Some(name) => Ok(name),
-        None => unreachable!(),
     }
 }
 
@@ -142,19 +121,19 @@ impl<'a> Spelled<'a> {
     {
         Ok(match self {
             Spelled::Put { prefix, key, value } => Op::Put {
-                prefix: prefix_of(alloc, prefix)?,
-                key: name_of(alloc, key)?,
+                prefix: Prefix::from_slice(alloc, prefix)?,
+                key: Name::from_slice(alloc, key)?,
                 value: Bytes::new(Vec::from_slice(alloc, value)?),
             },
             Spelled::Erase { prefix, key } => Op::Erase {
-                prefix: prefix_of(alloc, prefix)?,
-                key: name_of(alloc, key)?,
+                prefix: Prefix::from_slice(alloc, prefix)?,
+                key: Name::from_slice(alloc, key)?,
             },
             Spelled::ErasePrefix { prefix } => Op::ErasePrefix {
-                prefix: prefix_of(alloc, prefix)?,
+                prefix: Prefix::from_slice(alloc, prefix)?,
             },
             Spelled::EraseRange { prefix, from, to } => Op::EraseRange {
-                prefix: prefix_of(alloc, prefix)?,
+                prefix: Prefix::from_slice(alloc, prefix)?,
                 from: *from,
                 to: *to,
             },

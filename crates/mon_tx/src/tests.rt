@@ -1,6 +1,5 @@
 use super::*;
-use mon_bytes::{Bytes, Name, Prefix};
-use mon_types::Version;
+use mon_bytes::Bytes;
 use std::alloc::Global;
 use std::test::Fail;
 
@@ -62,95 +61,30 @@ fn worked_texts_and_refusals(rt: HostRuntime) -> Result<(), Fail> {
 #[test]
 fn spoiled_texts(rt: HostRuntime) -> Result<(), Fail> {
     for row in [
-        (b"\x01\0\0\0\0".as_slice(), None),
-        (b"\x01\x01\0\0\0\x03\x01x".as_slice(), None),
         (b"\x01\x01\0\0\0\x03\x01~".as_slice(), None),
         (
             b"\x02\x01\0\0\0\x04\x01x\0\0\0\0\0\0\0\0\xfc\xff\xff\xff\xff\xff\xff?".as_slice(),
             None,
         ),
         (
-            b"\x02\x01\0\0\0\x04\x03log\0\0\0\0\0\0\0\0\xff\xff\xff\xff\xff\xff\xff?".as_slice(),
-            None,
-        ),
-        (
-            b"\x02\x01\0\0\0\x04\x02kvc\0\0\0\0\0\0\0\0\0\0\0\0 \0\0".as_slice(),
-            None,
-        ),
-        (
-            b"\x01\x01\0\0\0\x01\x03log\x037".as_slice(),
-            Some(TxRefused::Cut { at: 11 }),
-        ),
-        (b"\x01\0  \0".as_slice(), Some(TxRefused::Cut { at: 5 })),
-        (b"\x01\x08\0\0".as_slice(), Some(TxRefused::Cut { at: 1 })),
-        (
-            b"\x02\x01\0\0\0\x04\x02kv\x02\0\0\0\0\0\0\x01\0\0\0\0\0\0@".as_slice(),
-            Some(TxRefused::Cut { at: 17 }),
-        ),
-        (
             b"\x02\xff\xff\xff\xff\x04\x02kv\0\0\0\0\0\0\0\0\x02\0\0\0\0\0\0\0".as_slice(),
             Some(TxRefused::Cut { at: 25 }),
-        ),
-        (
-            b"\x01\x01\0\0\x02\x08mon_sync\x06full_7".as_slice(),
-            Some(TxRefused::Kind { at: 5 }),
-        ),
-        (
-            b"\x01\0\0\0\x10\x03\x01x\xc99".as_slice(),
-            Some(TxRefused::Kind { at: 8 }),
         ),
         (
             b"\x01\0\0\x01\0\x03\x02kv:".as_slice(),
             Some(TxRefused::Kind { at: 9 }),
         ),
         (
-            b"\x02\x02\0\0\0\x04\x08mon_sync\0\0\0\0\0\0\0\0\x8c\0!\0\0\0\0\0\0".as_slice(),
-            Some(TxRefused::Kind { at: 31 }),
-        ),
-        (
-            b"\x02\x02\0\0\0n_sync\0\0\0\0\0\0\0\0\x01\x03\0\0\0\0\0\0".as_slice(),
-            Some(TxRefused::Kind { at: 5 }),
-        ),
-        (b"\x02\0\0\0\0".as_slice(), Some(TxRefused::Kind { at: 0 })),
-        (
-            b"\x01\x01\0\0\0\x01\x02kv\x06full_\x0f7\0\0\0\0".as_slice(),
-            Some(TxRefused::Name { at: 15 }),
-        ),
-        (
             b"\x01\x01\0\0\0\x03\x1f!!!!!!\x9a!!!!!!!!!!!!!!!!!!!!!!!!".as_slice(),
             Some(TxRefused::Name { at: 13 }),
-        ),
-        (
-            b"\x02\x02\0\0\0\x03mon_sync\x04\x05paxos!\0\0\0\0\0\0\0\xfb\0\0\0\0\0\0\0".as_slice(),
-            Some(TxRefused::Name { at: 6 }),
-        ),
-        (
-            b"\x02\x01\0\0\0\x04\x01\xff\xff\xff\xff\xff\xff\xff\0\0\0\0\0\0\0@".as_slice(),
-            Some(TxRefused::Name { at: 7 }),
-        ),
-        (
-            b"\x02\x01\0\0\0\x04\x03log\x02\0\0\0\0\0\xd7\0\0\xfb\0\0\0\0\0\0\0\xfe\x0f".as_slice(),
-            Some(TxRefused::Range { at: 18 }),
-        ),
-        (
-            b"\x02\0\0\x01\0\x04\x08mon_sync\x01\0\0\0\0\0\0@c\0\0\0\0\0\0\0!".as_slice(),
-            Some(TxRefused::Range { at: 15 }),
         ),
         (
             b"\x02\x02\0\0\0\x04\x05pixos\x01\0\0\0\0\0\0\0\xff\xff\xff\xff\xff\xff\xff\xff\x02\x02kv\x01a".as_slice(),
             Some(TxRefused::Range { at: 20 }),
         ),
         (
-            b"\x01\0\0\0\0\x22\xff".as_slice(),
-            Some(TxRefused::Rest { at: 5 }),
-        ),
-        (
             b"\x02\0\0\0\0\x04\x02kvc\0\0\0\0\0\0\0\xff\xff\xff\xff\xff\xff\xff?".as_slice(),
             Some(TxRefused::Rest { at: 5 }),
-        ),
-        (
-            b"\x02\x01\0\0\0\x03\x01x".as_slice(),
-            Some(TxRefused::Kind { at: 0 }),
         ),
     ] {
         assert!(rt; as_the_row_says(rt, row)?, "{:?}", row.0);
@@ -174,46 +108,33 @@ fn a_text_has_at_most_4194304_bytes(rt: HostRuntime) -> Result<(), Fail> {
     Ok(())
 }
 
-#[test]
-fn spells_and_copies(rt: HostRuntime) -> Result<(), Fail> {
-    let alloc = rt.alloc();
+/// One change of each kind.
+fn one_of_each(alloc: Global) -> Result<Transaction, Fail> {
     let mut tx = Transaction::new(alloc);
-    tx.push(Op::Put {
-        prefix: Area::Kv.prefix(alloc)?,
-        key: Name::new(Vec::from_slice(alloc, b"a")?).ok_or("a key")?,
-        value: Bytes::new(Vec::from_slice(alloc, b"x")?),
-    })?;
-    tx.push(Op::ErasePrefix {
-        prefix: Prefix::new(Vec::from_slice(alloc, b"log")?).ok_or("a prefix")?,
-    })?;
-    assert_eq!(rt;
-        tx.encode()?.as_slice(),
-        b"\x01\x02\0\0\0\x01\x02kv\x01a\x01\0\0\0x\x03\x03log".as_slice()
-    );
-    tx.push(Op::Erase {
-        prefix: Area::Paxos.prefix(alloc)?,
-        key: Key::Full(751).name(alloc)?,
-    })?;
-    let copy = tx.copy()?;
-    assert_eq!(rt; copy.encode()?.as_slice(), tx.encode()?.as_slice());
-    assert_eq!(rt; copy.into_ops().len(), 3);
-    Ok(())
+    tx.put(Area::Kv, Key::Version(7), Bytes::new(b"x".to_vec(alloc)?))?;
+    tx.put_number(Area::Paxos, Key::LastCommitted, 258)?;
+    tx.erase(Area::Sync, Key::InSync)?;
+    tx.erase_range(Area::Paxos, 1, 251)?;
+    let prefix = Area::Logm.prefix(alloc)?;
+    tx.push(Op::ErasePrefix { prefix })?;
+    Ok(tx)
 }
 
+const TEXT: &[u8] =
+    b"\x01\x02kv\x017\x01\0\0\0x\x01\x05paxos\x0elast_committed\x08\0\0\0\x02\x01\0\0\0\0\0\0\x02\x08mon_sync\x07in_sync\x04\x05paxos\x01\0\0\0\0\0\0\0\xfb\0\0\0\0\0\0\0\x03\x04logm";
+
 #[test]
-fn a_range_has_the_second_format(rt: HostRuntime) -> Result<(), Fail> {
+fn changes_are_appended_in_order(rt: HostRuntime) -> Result<(), Fail> {
     let alloc = rt.alloc();
+    let changes = one_of_each(alloc)?;
     let mut tx = Transaction::new(alloc);
-    let (from, to) = (Version::new(1).ok_or("1")?, Version::new(251).ok_or("251")?);
-    tx.push(Op::EraseRange {
-        prefix: Area::Paxos.prefix(alloc)?,
-        from,
-        to,
-    })?;
-    assert_eq!(rt;
-        tx.encode()?.as_slice(),
-        b"\x02\x01\0\0\0\x04\x05paxos\x01\0\0\0\0\0\0\0\xfb\0\0\0\0\0\0\0".as_slice()
-    );
+    for head in [b"\x02\x05\0\0\0", b"\x02\x0a\0\0\0"] {
+        tx.append(&changes)?;
+        let text = tx.copy()?.encode()?;
+        assert!(rt; text.as_slice().starts_with(head), "{head:?}");
+        assert!(rt; text.as_slice().ends_with(TEXT), "{head:?}");
+    }
+    assert_eq!(rt; tx.into_ops().len(), 10);
     Ok(())
 }
 
@@ -224,7 +145,6 @@ fn names_of_keys(rt: HostRuntime) -> Result<(), Fail> {
         (Key::FirstCommitted, "first_committed"),
         (Key::Floor, "last_committed_floor"),
         (Key::Version(0), "0"),
-        (Key::Version(751), "751"),
         (Key::Full(700), "full_700"),
     ] {
         assert_eq!(rt; key.name(alloc)?.as_str(), text);

@@ -4,7 +4,7 @@ ghost use Rattle.mon_tx.specs.declared.op.Op.{Op};
 ghost use Rattle.mon_tx.specs.Text.{is_upward};
 
 use crate::op::Op;
-use mon_bytes::OutOfMemory;
+use mon_bytes::{OutOfMemory, TryCopy};
 use std::alloc::Global;
 use std::marker::Model;
 
@@ -78,5 +78,11 @@ impl Transaction {
             ops.push(op.copy(alloc)?)?;
         }
         Ok(Transaction { ops })
+    }
+}
+
+impl TryCopy for Transaction {
+    fn try_copy(&self, _alloc: Global) -> Result<Transaction, OutOfMemory> {
+        self.copy()
     }
 }
