@@ -4,3 +4,4 @@ pub mod Kept
 pub mod Loop
 pub mod Laws
 pub mod Again
+pub mod Removed

@@ -10,10 +10,10 @@ use mon_bytes::{Command, CommandRefused, Name, Text};
 use std::alloc::Global;
 
 /// The most bytes of a value.
-const MOST_VALUE: u64 = 65536;
+pub const MOST_VALUE: u64 = 65536;
 
 /// The most bytes of an encoded map.
-const MOST_MAP: u64 = 393216;
+pub const MOST_MAP: u64 = 393216;
 
 fn set(alloc: Global, map: &KvMap, key: &Name, value: &Text) -> Result<KvInc, CommandRefused>
     ensures made { Makes result (made map.now (Set key.now value.now)) }

@@ -11,8 +11,7 @@ pub(crate) fn put_name(out: &mut Out, name: &str) -> Result<(), OutOfMemory>
     requires { IsTrue (is_name name.now) }
     ensures { OnOk result (out.new ≡ out.old ++ key_text name.now) }
 {
-    out.put_u8(name.len() as u8)?;
-    out.put_bytes(name.as_bytes())
+    out.put_word(name.as_bytes())
 }
 
 impl KvInc {

@@ -7,7 +7,7 @@ mod inc;
 mod map;
 mod reading;
 
-pub use command::make;
+pub use command::{MOST_MAP, MOST_VALUE, make};
 pub use inc::KvInc;
 pub use map::KvMap;
 

@@ -141,6 +141,17 @@ impl KvMap {
         }
     }
 
+    /// What `size` would be after the incremental.
+    #[tactic(auto, using(crate::proofs::Removed::length_removed))]
+    pub fn size_after(&self, inc: &KvInc) -> u64
+        ensures { result ≡ length (map_text (with_inc self.now inc.now)) }
+    {
+        match inc {
+            KvInc::Set { key, value } => self.size_with(key, value),
+            KvInc::Remove { key } => self.size() - self.held(key.as_str()),
+        }
+    }
+
     /// What `size` would be with this value at the key.
     pub(crate) fn size_with(&self, key: &Name, value: &Text) -> u64
         ensures size { result ≡ length (map_text (insert self.now key.now value.now)) }

@@ -9,7 +9,7 @@ ghost use Rattle.map_kv.specs.Decode.{name_at, set_at, remove_at, inc_at, inc_of
 
 use crate::inc::KvInc;
 use crate::map::KvMap;
-use mon_bytes::{Cursor, MapRefused, Name, OutOfMemory, read_text};
+use mon_bytes::{Cursor, MapRefused, Name, read_text};
 use std::alloc::Global;
 use std::cmp::Ordering;
 
@@ -31,23 +31,13 @@ fn name_at<'a>(cursor: &mut Cursor<'a>) -> Result<&'a [u8], MapRefused>
     Ok(bytes)
 }
 
-fn name_of(alloc: Global, bytes: &[u8]) -> Result<Name, OutOfMemory>
-    requires { IsTrue (is_name bytes.now) }
-    ensures { IfOk result (λ name. name ≡ bytes.now) }
-{
-    match Name::new(Vec::from_slice(alloc, bytes).map_err(OutOfMemory::from)?) {
-        Some(name) => Ok(name),
-        None => unreachable!(),
-    }
-}
-
 #[tactic(auto, unfolding(crate::specs::Decode::set_at))]
 fn set_at(alloc: Global, cursor: &mut Cursor<'_>) -> Result<KvInc, MapRefused>
     ensures { Reads (λ x. x) result cursor.new (set_at cursor.old) }
 {
     let key = name_at(cursor)?;
     let value = read_text(alloc, cursor)?;
-    let key = name_of(alloc, key)?;
+    let key = Name::from_slice(alloc, key)?;
     Ok(KvInc::Set { key, value })
 }
 
@@ -56,7 +46,7 @@ fn remove_at(alloc: Global, cursor: &mut Cursor<'_>) -> Result<KvInc, MapRefused
     ensures { Reads (λ x. x) result cursor.new (remove_at cursor.old) }
 {
     let key = name_at(cursor)?;
-    let key = name_of(alloc, key)?;
+    let key = Name::from_slice(alloc, key)?;
     Ok(KvInc::Remove { key })
 }
 
@@ -105,7 +95,7 @@ fn entries_at(alloc: Global, count: u32, cursor: &mut Cursor<'_>) -> Result<KvMa
     for _ in 0..count {
         let key = key_at(before, cursor)?;
         let value = read_text(alloc, cursor)?;
-        map.put(name_of(alloc, key)?, value)?;
+        map.put(Name::from_slice(alloc, key)?, value)?;
         before = key;
     }
     Ok(map)

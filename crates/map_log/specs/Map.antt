@@ -1,11 +1,12 @@
 -- The cluster log's map is the list of its entries. The step that an entry takes on it.
 use Rattle.std.specs.Prelude.{Bool, List, [], ◌∷◌, ◌++◌, length, nat_lt, ◌||◌, if◌then◌else◌}
 use Rattle.map_log.specs.Text.{map_text}
+use Rattle.map_log.specs.declared.surplus.TheConstants.{MOST_ENTRIES, MOST_MAP}
 use Rattle.map_log.specs.declared.inc.LogInc.{LogInc}
 
--- more than 500 entries, or a text of more than 12,288 bytes
+-- too many entries, or too long a text
 abbrev pub is_above : List LogInc → Bool
-is_above es = nat_lt 500 (length es) || nat_lt 12288 (length (map_text es))
+is_above es = nat_lt MOST_ENTRIES (length es) || nat_lt MOST_MAP (length (map_text es))
 
 -- the entries without those that go from the front
 abbrev pub trimmed : List LogInc → List LogInc

@@ -9,7 +9,7 @@ use mon_types::Rank;
 use std::alloc::Global;
 
 /// The most bytes of a logged text.
-const MOST_TEXT: u64 = 1024;
+pub const MOST_TEXT: u64 = 1024;
 
 /// The entry of a text that the monitor `rank` is asked to log. `TooLong` comes exactly where the text is longer than 1,024
 /// bytes.

@@ -8,9 +8,10 @@ mod map;
 mod reading;
 mod surplus;
 
-pub use command::make;
+pub use command::{MOST_TEXT, make};
 pub use inc::LogInc;
 pub use map::LogMap;
+pub use surplus::{MOST_ENTRIES, MOST_MAP};
 
 #[cfg(test)]
 mod tests;

@@ -6,10 +6,10 @@ ghost use Rattle.map_log.specs.Text.{inc_size, size_of};
 use crate::inc::LogInc;
 
 /// The most entries of the map.
-const MOST_ENTRIES: usize = 500;
+pub const MOST_ENTRIES: usize = 500;
 
 /// The most bytes of the encoded map.
-const MOST_BYTES: u64 = 12288;
+pub const MOST_MAP: u64 = 12288;
 
 /// How many bytes an entry takes in the map's text.
 pub(crate) fn inc_size(inc: &LogInc) -> u64
@@ -31,7 +31,7 @@ pub(crate) fn surplus(entries: &[LogInc], size: u64) -> (usize, u64)
 {
     let mut size = size;
     for (i, inc) in entries.iter().enumerate() {
-        if entries.len() - i <= MOST_ENTRIES && size <= MOST_BYTES {
+        if entries.len() - i <= MOST_ENTRIES && size <= MOST_MAP {
             return (i, size);
         }
         size -= inc_size(inc);

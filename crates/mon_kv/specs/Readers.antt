@@ -10,6 +10,7 @@ use Rattle.mon_tx.specs.Map.{Place, place_cmp, Store, number_in}
 use Rattle.mon_tx.specs.Keys.{cell, number}
 use Rattle.mon_tx.specs.Decode.{is_text}
 use Rattle.mon_kv.specs.declared.entry_ref.EntryRef.{EntryRef}
+use Rattle.mon_kv.specs.declared.kv.TheConstants.{MOST_SIZE}
 use Rattle.mon_kv.specs.declared.next.Found.{Found}
 
 -- the election epoch, which counts as 1 where there is none
@@ -26,6 +27,10 @@ entry_size e = length e.0.0 + length e.0.1 + length e.1 + 16
 
 unfoldable pub size_of : Store → ℕ
 size_of m = sum_by entry_size (entries m)
+
+-- the most that the map of a store may count with
+abbrev pub most_size : ℕ
+most_size = MOST_SIZE
 
 -- an entry as a map has it
 abbrev pub entry_of : EntryRef → Place × List ℕ

@@ -46,9 +46,12 @@ impl Model for Kv {
     ghost invariant = { λ k. IsWhole k.areas × (k.size ≡ areas_size (entries k.areas)) };
 }
 
+/// The most that the map of a store may count with, as `size` counts.
+pub const MOST_SIZE: u64 = 268435456;
+
 /// The number that the bytes hold: eight bytes, the lowest first, and at most 2^62. It is 0 otherwise.
 #[tactic(auto, unfolding(mon_tx::specs::Map::number_in))]
-fn number_of(bytes: Option<&[u8]>) -> u64
+pub fn number_of(bytes: Option<&[u8]>) -> u64
     ensures value { result ≡ number_in (option_copied bytes.entry) }
     ensures most { result ≤ 2 ^ 62 }
 {

@@ -14,7 +14,7 @@ mod tree;
 
 pub use chunk::KeyRun;
 pub use entry_ref::EntryRef;
-pub use kv::Kv;
+pub use kv::{Kv, MOST_SIZE, number_of};
 pub use readers::Pending;
 
 #[cfg(test)]

@@ -1,6 +1,6 @@
 //! What a map tells by name.
 
-ghost use Rattle.std.specs.Prelude.{◌≡◌, ◌≤◌, ◌^◌};
+ghost use Rattle.std.specs.Prelude.{◌≡◌, ◌≤◌, ◌^◌, IfSome};
 ghost use Rattle.std.specs.Option.{option_copied, option_map};
 ghost use Rattle.mon_tx.specs.Keys.{cell, number};
 ghost use Rattle.mon_tx.specs.declared.key.Area.TheVariants as area;
@@ -99,7 +99,8 @@ impl Kv {
     /// version and its record is a transaction.
     #[tactic(auto, unfolding(crate::specs::Readers::pending))]
     pub fn pending(&self) -> Option<Pending<'_>>
-        ensures { option_map (λ p. (p.v, p.pn, p.value.now)) result ≡ pending self.now }
+        ensures value { option_map (λ p. (p.v, p.pn, p.value.now)) result ≡ pending self.now }
+        ensures most { IfSome result (λ p. (p.v ≤ 2 ^ 62) × (p.pn ≤ 2 ^ 62)) }
     {
         let v = self.last_committed() + 1;
         if self.number(b"paxos", b"pending_v") != v {

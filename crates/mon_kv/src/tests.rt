@@ -1,8 +1,8 @@
 use super::*;
 use crate::tree::Tree;
 use mon_bytes::{Bytes, KeyPlace, Name, Prefix};
-use mon_tx::{Op, Transaction};
-use mon_types::Version;
+use mon_tx::{Area, Key, Op, Transaction};
+use mon_types::GREATEST;
 use std::alloc::Global;
 use std::test::Fail;
 
@@ -69,63 +69,62 @@ fn goes_through_the_keys_in_order(rt: HostRuntime) -> Result<(), Fail> {
     Ok(())
 }
 
+/// A map where a record of version 1 waits, which was accepted.
+fn with_record(alloc: Global, record: &[u8]) -> Result<Kv, Fail> {
+    let mut tx = Transaction::new(alloc);
+    tx.put_number(Area::Paxos, Key::PendingV, 1)?;
+    tx.put_number(Area::Paxos, Key::PendingPn, 1)?;
+    set(&mut tx, alloc, b"paxos", b"1", record)?;
+    let mut kv = Kv::empty(alloc);
+    kv.apply(&tx)?;
+    Ok(kv)
+}
+
 #[test]
 fn a_value_waits_only_as_a_transaction(rt: HostRuntime) -> Result<(), Fail> {
     let alloc = rt.alloc();
     for (record, waits) in [
-        (b"\x01\0\0\0\0".as_slice(), true),
-        (b"\x01\0\0\0\0\0".as_slice(), false),
+        (b"\x01\0\0\0\0".as_slice(), Some((1, 1))),
+        (b"\x01\0\0\0\0\0".as_slice(), None),
     ] {
-        let mut tx = Transaction::new(alloc);
-        set(&mut tx, alloc, b"paxos", b"pending_v", ONE)?;
-        set(&mut tx, alloc, b"paxos", b"pending_pn", ONE)?;
-        set(&mut tx, alloc, b"paxos", b"1", record)?;
-        let mut kv = Kv::empty(alloc);
-        kv.apply(&tx)?;
-        assert_eq!(rt;
-            kv.pending().map(|p| (p.v, p.pn)),
-            if waits { Some((1, 1)) } else { None }
-        );
+        let kv = with_record(alloc, record)?;
+        assert_eq!(rt; kv.pending().map(|p| (p.v, p.pn)), waits);
     }
     Ok(())
 }
 
-fn erase_range(tx: &mut Transaction, alloc: Global, from: u64, to: u64) -> Result<(), Fail> {
-    let prefix = Prefix::new(b"paxos".to_vec(alloc)?).ok_or("a prefix")?;
-    let from = Version::new(from).ok_or("a version")?;
-    let to = Version::new(to).ok_or("a version")?;
-    if to.get() <= from.get() {
-        return Err(Fail::from("a range"));
+/// What a range leaves of the versions 99, 100 and 1000.
+fn after_range(alloc: Global, from: u64, to: u64) -> Result<Kv, Fail> {
+    let mut tx = Transaction::new(alloc);
+    for key in [
+        Key::Version(99),
+        Key::Version(100),
+        Key::Version(1000),
+        Key::FirstCommitted,
+    ] {
+        tx.put_number(Area::Paxos, key, 1)?;
     }
-    tx.push(Op::EraseRange { prefix, from, to })?;
-    Ok(())
+    if from < to && to <= GREATEST {
+        tx.erase_range(Area::Paxos, from, to)?;
+    }
+    let mut kv = Kv::empty(alloc);
+    kv.apply(&tx)?;
+    Ok(kv)
 }
 
 #[test]
 fn a_short_and_a_long_range_erase_the_numbers_in_them(rt: HostRuntime) -> Result<(), Fail> {
     let alloc = rt.alloc();
-    let none = 4u64 << 60;
     for (from, to, left, size) in [
-        (99, 101, [none, none, 1000], 77u64),
-        (99, 103, [none, none, 1000], 77),
-        (100, none, [99, none, none], 75),
-        (0, 99, [99, 100, 1000], 140),
-        (0, none, [none, none, none], 44),
+        (99u64, 101u64, (false, false, true), 77u64),
+        (99, 103, (false, false, true), 77),
+        (100, GREATEST, (true, false, false), 75),
+        (0, 99, (true, true, true), 140),
+        (0, GREATEST, (false, false, false), 44),
     ] {
-        let mut tx = Transaction::new(alloc);
-        for key in ["99", "100", "1000", "first_committed"] {
-            set(&mut tx, alloc, b"paxos", key.as_bytes(), ONE)?;
-        }
-        erase_range(&mut tx, alloc, from, to)?;
-        let mut kv = Kv::empty(alloc);
-        kv.apply(&tx)?;
-        for (version, stays) in [(99u64, left[0]), (100, left[1]), (1000, left[2])] {
-            assert_eq!(rt;
-                kv.stored(version).is_some(),
-                stays == version,
-                "{from} {to}"
-            );
-        }
+        let kv = after_range(alloc, from, to)?;
+        let stays = |v: u64| kv.stored(v).is_some();
+        assert_eq!(rt; (stays(99), stays(100), stays(1000)), left, "{from} {to}");
         assert_eq!(rt; (kv.first_committed(), kv.size()), (1, size), "{from} {to}");
     }
     Ok(())

@@ -1,4 +1,4 @@
-use Rattle.std.proofs.Common.{◌≡◌, ◌+◌, true, Some, sym, ap, ◌∙◌, rules}
+use Rattle.std.proofs.Common.{◌≡◌, ◌+◌, true, Some, sym, ap, ◌∙◌, rules, arith}
 use Rattle.std.specs.Option.{option_copied}
 use Rattle.mon_tx.specs.Decode.{is_text}
 use Rattle.mon_tx.specs.Keys.{cell, number}
@@ -8,12 +8,15 @@ use Rattle.mon_kv.specs.Readers.{pending}
 use Rattle.mon_kv.proofs.ReaderLaws.{waiting-some}
 use Rattle.mon_kv.proofs.kv.Kv.pending.Goals as goal
 
-pub returns : goal.returns
+pub returns-clause-value : goal.returns-clause-value
 unfolding pending
-returns c =
+returns-clause-value c =
     let m = c.args.self.now in
     let last = c.last_committed-v.result in
     let text : is_text c.in_ok-value.value.now ≡ true = search rules in
     let there : cell m area.Paxos (key.Version (last + 1)) ≡ Some c.in_ok-value.value.now = sym c.stored.ensures ∙ ap option_copied c.in_ok-value.was in
     let own : number m area.Paxos key.PendingV ≡ last + 1 = sym c.number.ensures.value ∙ c.if-number-v.false in
     rw (← c.last_committed-v.ensures.value, ← c.number-pn.ensures.value) (sym (waiting-some (number m area.Paxos key.PendingV) c.number-pn.result last (cell m area.Paxos (key.Version (last + 1))) c.in_ok-value.value.now own there text))
+
+pub returns-clause-most : goal.returns-clause-most
+returns-clause-most c = (omega (arith, c.number.ensures.most, c.if-number-v.false), c.number-pn.ensures.most)
