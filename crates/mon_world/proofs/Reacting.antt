@@ -218,7 +218,7 @@ module _ (now : ℕ) (m : Store) (s : State) (waits : Waits s) (session : Sessio
           once : (ops : List Op) → IsShortValue (view m) (service_of c) ops → joined (spelled (Learn (suc last) ops ∷ Last (suc last) ∷ [])) ≡ spelled (Learn (suc last) ops ∷ Last (suc last) ∷ [])
           once ops V =
               subst (λ (ops : List Op). joined (spelled (Learn (suc last) ops ∷ Last (suc last) ∷ [])) ≡ spelled (Learn (suc last) ops ∷ Last (suc last) ∷ [])) (sym V.is)
-              (commits_once (service_of c) (view m).first last n (service_first (view m) (service_of c)) V.draft.incremental V.draft.text)
+              (commits_once (service_of c) (view m).first last n (service_first (view m) (service_of c)) V.incremental V.text)
 
 -- a refusal for another cause than memory is the one that is wanted
 refusal_is : (e : CommandRefused) (wanted : Result (List Op) CommandRefused) → (e ≡ refused.OutOfMemory → ⊥) → Refuses e wanted → wanted ≡ Err e
@@ -243,7 +243,7 @@ refused-short to y (Err e) h = tt
 module _ (m : Store) (s : Service) (ops : List Op) (V : IsShortValue (view m) s ops) (last : (view m).last < 2 ^ 62) (fits : suc (service_last (view m) s) ≤ 2 ^ 62) where
   pub value-short : length (text ops) ≤ most_value
   value-short =
-      value_short (view m).first (view m).last (area_of s) (suc (service_last (view m) s)) (service_first (view m) s) V.draft.incremental V.draft.text ops V.is (omega arith) fits V.short.incremental V.short.text ops (older_itself ops)
+      value_short (view m).first (view m).last (area_of s) (suc (service_last (view m) s)) (service_first (view m) s) V.incremental V.text ops V.is (omega arith) fits V.short_incremental V.short_text ops (older_itself ops)
 
   pub committed-short : length (text (commit_tx (view m).last ops)) ≤ most
   committed-short = commit-short (view m).last ops last value-short

@@ -9,7 +9,6 @@ ghost use Rattle.mon_world.specs.Takes.{state_in};
 
 use crate::node::{Answer, stored_epoch};
 use mon_bytes::OutOfMemory;
-use mon_changes::version_of;
 use mon_kv::Kv;
 use mon_msg::{Items, Phase};
 use mon_types::{Epoch, Rank, Version};
@@ -20,7 +19,7 @@ use trace_text::{Outcome, Replied, Replies, StateLine, StepLine};
 fn last_of(kv: &Kv) -> Version
     ensures { result ≡ last_of kv.now }
 {
-    version_of(kv.last_committed())
+    Version::known(kv.last_committed())
 }
 
 /// Where the monitor stands, which leads itself.

@@ -16,7 +16,6 @@ ghost use Rattle.mon_world.specs.Node.{IsReaction, Reacts, start_tx, commit_tx};
 
 use crate::service::{changes, shown};
 use mon_bytes::{Bytes, Command, CommandRefused, OutOfMemory};
-use mon_changes::{append, put, put_number};
 use mon_kv::Kv;
 use mon_msg::{Reply, Request, Session, Timer};
 use mon_tx::{Area, EncodeRefused, Key, Transaction};
@@ -80,10 +79,10 @@ fn start_tx(alloc: Global, boot: u64, epoch: u64, pn: u64) -> Result<Transaction
     ensures { IfOk result (λ tx. tx ≡ start_tx boot epoch pn) }
 {
     let mut tx = Transaction::new(alloc);
-    put_number(alloc, &mut tx, Area::Monitor, Key::BootCount, boot)?;
-    put_number(alloc, &mut tx, Area::Monitor, Key::ElectionEpoch, epoch)?;
-    put_number(alloc, &mut tx, Area::Paxos, Key::LastPn, pn)?;
-    put_number(alloc, &mut tx, Area::Paxos, Key::AcceptedPn, pn)?;
+    tx.put_number(Area::Monitor, Key::BootCount, boot)?;
+    tx.put_number(Area::Monitor, Key::ElectionEpoch, epoch)?;
+    tx.put_number(Area::Paxos, Key::LastPn, pn)?;
+    tx.put_number(Area::Paxos, Key::AcceptedPn, pn)?;
     Ok(tx)
 }
 
@@ -121,9 +120,9 @@ fn commit_tx(alloc: Global, last: u64, ops: Transaction) -> Result<Transaction, 
         Err(EncodeRefused::TooLong { .. }) => unreachable!(),
     };
     let mut tx = Transaction::new(alloc);
-    put(alloc, &mut tx, Area::Paxos, Key::Version(last + 1), record)?;
-    append(alloc, &mut tx, &ops)?;
-    put_number(alloc, &mut tx, Area::Paxos, Key::LastCommitted, last + 1)?;
+    tx.put(Area::Paxos, Key::Version(last + 1), record)?;
+    tx.append(&ops)?;
+    tx.put_number(Area::Paxos, Key::LastCommitted, last + 1)?;
     Ok(tx)
 }
 

@@ -6,7 +6,6 @@ ghost use Rattle.mon_msg.specs.Protocol.View.{view};
 ghost use Rattle.mon_world.specs.Node.{where_readable};
 
 use mon_bytes::OutOfMemory;
-use mon_changes::version_of;
 use mon_kv::Kv;
 use mon_msg::{Reply, Service};
 use mon_types::Version;
@@ -28,7 +27,7 @@ fn unreadable(paxos: Version) -> Reply
 pub fn shown(alloc: Global, kv: &Kv, service: Service) -> Result<Reply, OutOfMemory>
     ensures { IfOk result (λ reply. reply ≡ where_readable (view kv.now) (reads.shown (view kv.now) service)) }
 {
-    let paxos = version_of(kv.last_committed());
+    let paxos = Version::known(kv.last_committed());
     if paxos.get() == 0 {
         return Ok(unreadable(paxos));
     }
@@ -45,7 +44,7 @@ pub fn changes(
 ) -> Result<Reply, OutOfMemory>
     ensures { IfOk result (λ reply. reply ≡ where_readable (view kv.now) (reads.since (view kv.now) service version)) }
 {
-    let paxos = version_of(kv.last_committed());
+    let paxos = Version::known(kv.last_committed());
     if paxos.get() == 0 {
         return Ok(unreadable(paxos));
     }

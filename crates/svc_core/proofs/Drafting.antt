@@ -31,7 +31,7 @@ use Rattle.mon_wire.specs.declared.request.Service.TheVariants as service
 use Rattle.svc_core.specs.Drafts.{drafted}
 use Rattle.svc_core.specs.Kinds.{kind}
 use Rattle.svc_core.specs.declared.made.Draft.{Draft}
-use Rattle.svc_core.proofs.MapSizes.{length-removed}
+use Rattle.map_kv.proofs.Removed.{length_removed}
 
 -- the map with the incremental that is made of it isn't too long
 pub made_short : (m : kv.Kv) (c : Command) (inc : KvInc) → length (kv_text.map_text m) ≤ 393216 → kv_made.made m c ≡ Ok inc → length (kv_text.map_text (kv.with_inc m inc)) ≤ 393216
@@ -43,7 +43,7 @@ made_short m (command.Set k v) inc h e =
 made_short m (command.Remove k) inc h e =
     let p = chosen_ok (contains_key m k) refused.NoSuch (Ok (kv_inc.Remove k)) inc e in
     let same = ok_is {E = CommandRefused} (kv_inc.Remove k) inc p.1 in
-    rw (← same) (omega (arith, length-removed m k))
+    rw (← same) (omega (arith, length_removed m k))
 made_short m (command.Log t) inc h e = absurd cc
 
 -- a text that is too long is refused whatever the cluster log is

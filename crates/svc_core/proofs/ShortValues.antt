@@ -16,4 +16,4 @@ pub short_value : (w : View) (c : Command) (s : Service) (n : ℕ) (d : Draft) (
 short_value w c s n d ops same number short is =
     let m : n ≡ suc (service_last w s) = omega (arith, number) in
     let as_next = rw m at is in
-    subst (λ (s : Service). IsShortValue w s ops) same (record { draft = d; is = as_next; short = short })
+    subst (λ (s : Service). IsShortValue w s ops) same (record { incremental = d.incremental; text = d.text; is = as_next; short_incremental = short.incremental; short_text = short.text })

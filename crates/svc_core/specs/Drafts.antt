@@ -1,6 +1,7 @@
 -- What a value is made of: the incremental, and the map's text where a full map is due.
-use Rattle.std.specs.Prelude.{◌≡◌, ℕ, suc, ◌≤◌, Bool, List, [], length, Result, Ok, Err, if◌then◌else◌}
+use Rattle.std.specs.Prelude.{◌≡◌, ℕ, suc, ◌+◌, ◌≤◌, Bool, List, [], length, Result, Ok, Err, if◌then◌else◌}
 use Rattle.mon_bytes.specs.declared.command.CommandRefused.{CommandRefused}
+use Rattle.map_kv.specs.declared.command.TheConstants.{MOST_MAP, MOST_VALUE}
 use Rattle.mon_msg.specs.Protocol.Parts.{map_text}
 use Rattle.mon_wire.specs.declared.reply.ShownMap.{ShownMap}
 use Rattle.mon_wire.specs.declared.request.Service.{Service}
@@ -11,6 +12,10 @@ use Rattle.mon_msg.specs.Puts.{area_of}
 use Rattle.mon_tx.specs.declared.op.Op.{Op}
 use Rattle.svc_core.specs.declared.made.Draft.{Draft}
 
+-- the longest incremental: a set of the longest key to the longest value
+abbrev pub most_incremental : ℕ
+most_incremental = MOST_VALUE + 261
+
 abbrev pub text_if : Bool → ShownMap → List ℕ
 text_if due next = if due then map_text next else []
 
@@ -20,11 +25,13 @@ drafted due (Err e) = Err e
 
 -- no longer than an incremental may be, and than a map's text may be
 pub record IsShort (d : Draft) : Type 0 where
-  pub incremental : length d.incremental ≤ 65797
-  pub text : length d.text ≤ 393216
+  pub incremental : length d.incremental ≤ most_incremental
+  pub text : length d.text ≤ MOST_MAP
 
--- the value of such a draft over a store
+-- the value that makes the next version of a service by an incremental and a map's text that are no longer than they may be
 pub record IsShortValue (w : View) (s : Service) (ops : List Op) : Type 0 where
-  pub draft : Draft
-  pub is : ops ≡ value_ops w.first w.last (area_of s) (suc (service_last w s)) (service_first w s) draft.incremental draft.text
-  pub short : IsShort draft
+  pub incremental : List ℕ
+  pub text : List ℕ
+  pub is : ops ≡ value_ops w.first w.last (area_of s) (suc (service_last w s)) (service_first w s) incremental text
+  pub short_incremental : length incremental ≤ most_incremental
+  pub short_text : length text ≤ MOST_MAP

@@ -15,7 +15,6 @@ use crate::reading::{Reading, read_whole};
 use crate::row::{full_latest, last_version};
 use crate::turn::{Turn, changes};
 use mon_bytes::OutOfMemory;
-use mon_changes::version_of;
 use mon_kv::Kv;
 use mon_msg::{Service, ShownMap};
 use mon_tx::{Op, Transaction};
@@ -88,7 +87,7 @@ fn read_kept(alloc: Global, kv: &Kv, service: Service) -> Result<Kept, OutOfMemo
     let Reading { map, reached } = read_whole(alloc, kv, service)?;
     if reached && full_latest(kv, service) <= last {
         return Ok(Kept::Followed(Known {
-            version: version_of(last),
+            version: Version::known(last),
             map,
         }));
     }
@@ -128,7 +127,7 @@ fn follow_known(
     }
     Ok(Followed {
         kept: Kept::Followed(Known {
-            version: version_of(version),
+            version: Version::known(version),
             map,
         }),
         applied: version.saturating_sub(before),

@@ -9,9 +9,9 @@ ghost use Rattle.mon_msg.specs.Protocol.View.{view};
 use crate::reading::read;
 use crate::row::{first_version, incremental, last_version};
 use mon_bytes::{Bytes, OutOfMemory};
-use mon_changes::version_of;
 use mon_kv::Kv;
 use mon_msg::{Incrementals, Reply, Service};
+use mon_types::Version;
 use std::alloc::Global;
 
 /// The most incrementals that are told, and the most bytes of them, with four for each.
@@ -55,8 +55,8 @@ pub fn shown(alloc: Global, kv: &Kv, service: Service) -> Result<Reply, OutOfMem
 {
     Ok(Reply::Shown {
         service,
-        paxos: version_of(kv.last_committed()),
-        version: version_of(last_version(kv, service)),
+        paxos: Version::known(kv.last_committed()),
+        version: Version::known(last_version(kv, service)),
         map: read(alloc, kv, service)?,
     })
 }
@@ -74,7 +74,7 @@ pub fn since(alloc: Global, kv: &Kv, service: Service, v: u64) -> Result<Reply, 
     let Changes { told, more } = told_after(alloc, kv, service, v)?;
     Ok(Reply::Since {
         service,
-        from: version_of(v),
+        from: Version::known(v),
         incrementals: told,
         more,
     })

@@ -4,7 +4,6 @@ ghost use Rattle.std.specs.Prelude.{◌≡◌, ◌+◌, ◌-◌, ◌<◌, ◌≤
 ghost use Rattle.mon_msg.specs.Protocol.Rules.{paxos_to, paxos_trim};
 
 use mon_bytes::OutOfMemory;
-use mon_changes::{erase_range, put_number};
 use mon_tx::{Area, Key, Op, Transaction};
 use std::alloc::Global;
 
@@ -18,7 +17,6 @@ const GOES: u64 = 500;
 
 /// Appends what trims the log: the versions from the first one on that go, and the first one that is kept.
 pub(crate) fn push_trim(
-    alloc: Global,
     tx: &mut Transaction,
     first: u64,
     last: u64,
@@ -31,8 +29,8 @@ pub(crate) fn push_trim(
         return Ok(());
     }
     let to = (last - KEEPS).min(first + GOES);
-    erase_range(alloc, tx, Area::Paxos, first, to)?;
-    put_number(alloc, tx, Area::Paxos, Key::FirstCommitted, to)
+    tx.erase_range(Area::Paxos, first, to)?;
+    tx.put_number(Area::Paxos, Key::FirstCommitted, to)
 }
 
 /// What trims a log that keeps the versions from `first` to `last`: nothing where 750 of them or fewer lie after the first
@@ -44,6 +42,6 @@ pub fn trim_ops(alloc: Global, first: u64, last: u64) -> Result<Vec<Op>, OutOfMe
     ensures { IfOk result (λ ops. ops.items ≡ paxos_trim first last) }
 {
     let mut tx = Transaction::new(alloc);
-    push_trim(alloc, &mut tx, first, last)?;
+    push_trim(&mut tx, first, last)?;
     Ok(tx.into_ops())
 }

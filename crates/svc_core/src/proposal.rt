@@ -48,11 +48,11 @@ fn value_tx(
     let last = kv.last_committed();
     let Draft { incremental, text } = made;
     let mut tx = Transaction::new(alloc);
-    push_paxos_begins(alloc, &mut tx, last)?;
-    push_new_version(alloc, &mut tx, area, n, incremental)?;
-    push_full_version(alloc, &mut tx, area, n, text)?;
-    push_service_trim(alloc, &mut tx, area, n, first_version(kv, service))?;
-    push_trim(alloc, &mut tx, kv.first_committed(), last)?;
+    push_paxos_begins(&mut tx, last)?;
+    push_new_version(&mut tx, area, n, incremental)?;
+    push_full_version(&mut tx, area, n, text)?;
+    push_service_trim(&mut tx, area, n, first_version(kv, service))?;
+    push_trim(&mut tx, kv.first_committed(), last)?;
     Ok(tx)
 }
 

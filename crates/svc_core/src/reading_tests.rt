@@ -3,7 +3,6 @@
 use crate::reading::read;
 use crate::tests::read_entries;
 use mon_bytes::Bytes;
-use mon_changes::{erase, put};
 use mon_kv::Kv;
 use mon_msg::{Service, ShownMap};
 use mon_tx::{Area, Key, Transaction};
@@ -13,13 +12,7 @@ use std::test::Fail;
 /// Puts a key of the key-value service.
 fn keep(alloc: Global, kv: &mut Kv, key: Key, value: &[u8]) -> Result<(), Fail> {
     let mut tx = Transaction::new(alloc);
-    put(
-        alloc,
-        &mut tx,
-        Area::Kv,
-        key,
-        Bytes::new(value.to_vec(alloc)?),
-    )?;
+    tx.put(Area::Kv, key, Bytes::new(value.to_vec(alloc)?))?;
     kv.apply(&tx)?;
     Ok(())
 }
@@ -27,7 +20,7 @@ fn keep(alloc: Global, kv: &mut Kv, key: Key, value: &[u8]) -> Result<(), Fail> 
 /// Takes one away.
 fn lose(alloc: Global, kv: &mut Kv, key: Key) -> Result<(), Fail> {
     let mut tx = Transaction::new(alloc);
-    erase(alloc, &mut tx, Area::Kv, key)?;
+    tx.erase(Area::Kv, key)?;
     kv.apply(&tx)?;
     Ok(())
 }

@@ -6,9 +6,7 @@ ghost use Rattle.mon_msg.specs.Protocol.Changes.{erase};
 ghost use Rattle.mon_msg.specs.Protocol.Rules.{full_every, begins, paxos_begins, new_version, full_version, full_between, service_trim, service_trimmed};
 
 use mon_bytes::{Bytes, OutOfMemory};
-use mon_changes::{erase, erase_range, put, put_number};
 use mon_tx::{Area, Key, Transaction};
-use std::alloc::Global;
 
 /// A full map is kept at each multiple of this.
 const FULL_EVERY: u64 = 25;
@@ -27,29 +25,27 @@ pub(crate) fn has_full(n: u64) -> bool
     n % FULL_EVERY == 0
 }
 
-fn push_begins(alloc: Global, tx: &mut Transaction, area: Area) -> Result<(), OutOfMemory>
+fn push_begins(tx: &mut Transaction, area: Area) -> Result<(), OutOfMemory>
     ensures { OnOk result (tx.new ≡ tx.old ++ begins area) }
 {
-    put_number(alloc, tx, area, Key::FirstCommitted, 1)
+    tx.put_number(area, Key::FirstCommitted, 1)
 }
 
 /// Appends the first version of the log, where it has none.
 pub(crate) fn push_paxos_begins(
-    alloc: Global,
     tx: &mut Transaction,
     last: u64,
 ) -> Result<(), OutOfMemory>
     ensures { OnOk result (tx.new ≡ tx.old ++ paxos_begins last) }
 {
     if last == 0 {
-        return push_begins(alloc, tx, Area::Paxos);
+        return push_begins(tx, Area::Paxos);
     }
     Ok(())
 }
 
 /// Appends the service's version `n`.
 pub(crate) fn push_new_version(
-    alloc: Global,
     tx: &mut Transaction,
     area: Area,
     n: u64,
@@ -57,16 +53,15 @@ pub(crate) fn push_new_version(
 ) -> Result<(), OutOfMemory>
     ensures { OnOk result (tx.new ≡ tx.old ++ new_version area n incremental) }
 {
-    put(alloc, tx, area, Key::Version(n), incremental)?;
+    tx.put(area, Key::Version(n), incremental)?;
     if n == 1 {
-        push_begins(alloc, tx, area)?;
+        push_begins(tx, area)?;
     }
-    put_number(alloc, tx, area, Key::LastCommitted, n)
+    tx.put_number(area, Key::LastCommitted, n)
 }
 
 /// Appends the full map at version `n`, where one is kept there.
 pub(crate) fn push_full_version(
-    alloc: Global,
     tx: &mut Transaction,
     area: Area,
     n: u64,
@@ -77,13 +72,12 @@ pub(crate) fn push_full_version(
     if !has_full(n) {
         return Ok(());
     }
-    put(alloc, tx, area, Key::Full(n), text)?;
-    put_number(alloc, tx, area, Key::FullLatest, n)
+    tx.put(area, Key::Full(n), text)?;
+    tx.put_number(area, Key::FullLatest, n)
 }
 
 /// Appends the erasures of the full maps from a version up to but not including another.
 fn push_full_erased(
-    alloc: Global,
     tx: &mut Transaction,
     area: Area,
     from: u64,
@@ -93,7 +87,7 @@ fn push_full_erased(
 {
     for v in from..to {
         if has_full(v) {
-            erase(alloc, tx, area, Key::Full(v))?;
+            tx.erase(area, Key::Full(v))?;
         }
     }
     Ok(())
@@ -101,7 +95,6 @@ fn push_full_erased(
 
 /// Appends what trims the service at version `n`, where `first` is its first one.
 pub(crate) fn push_service_trim(
-    alloc: Global,
     tx: &mut Transaction,
     area: Area,
     n: u64,
@@ -114,7 +107,7 @@ pub(crate) fn push_service_trim(
         return Ok(());
     }
     let to = (n - KEEPS).min(first + GOES);
-    erase_range(alloc, tx, area, first, to)?;
-    push_full_erased(alloc, tx, area, first, to)?;
-    put_number(alloc, tx, area, Key::FirstCommitted, to)
+    tx.erase_range(area, first, to)?;
+    push_full_erased(tx, area, first, to)?;
+    tx.put_number(area, Key::FirstCommitted, to)
 }

@@ -2,7 +2,6 @@ use super::*;
 use map_kv::KvMap;
 use map_log::LogMap;
 use mon_bytes::{Command, CommandRefused, Name, Text};
-use mon_changes::put_number;
 use mon_kv::Kv;
 use mon_msg::{Reply, Service, ShownMap};
 use mon_tx::{Area, Key, Op, Transaction};
@@ -43,7 +42,7 @@ fn made(alloc: Global, kv: &Kv, command: &Command) -> Result<Transaction, Comman
 /// Commits the value of a command as version `v` of the log.
 fn commit(alloc: Global, kv: &mut Kv, v: u64, command: &Command) -> Result<(), Fail> {
     let mut tx = made(alloc, kv, command)?;
-    put_number(alloc, &mut tx, Area::Paxos, Key::LastCommitted, v)?;
+    tx.put_number(Area::Paxos, Key::LastCommitted, v)?;
     kv.apply(&tx)?;
     Ok(())
 }

@@ -3,18 +3,16 @@
 ghost use Rattle.std.specs.Prelude.{◌≡◌, ◌+◌, ◌<◌, ◌≤◌, ◌^◌, true, Some, IfOk};
 ghost use Rattle.std.specs.Str.{bytes_eq};
 ghost use Rattle.mon_tx.specs.Keys.{key_text};
-ghost use Rattle.mon_tx.specs.Map.{number_in};
 ghost use Rattle.mon_tx.specs.declared.key.Key.TheVariants as keys;
 ghost use Rattle.svc_core.specs.Cache.{Went, after_put, after_op, after_ops};
 
 use crate::row::area_of;
 use crate::step::step;
-use byteorder::{ByteOrder, LittleEndian};
 use itoa::Buffer;
 use mon_bytes::OutOfMemory;
+use mon_kv::number_of;
 use mon_msg::{Service, ShownMap};
 use mon_tx::Op;
-use mon_types::GREATEST;
 use std::alloc::Global;
 
 /// A known map in the course of a transaction.
@@ -25,19 +23,6 @@ pub(crate) struct Turn {
     pub(crate) map: ShownMap,
     /// Whether the last version was told since it rose.
     pub(crate) told: bool,
-}
-
-/// The number that the bytes hold: eight bytes, the lowest first, and at most 2^62. It is 0 otherwise.
-#[tactic(auto, unfolding(mon_tx::specs::Map::number_in))]
-fn number_of(bytes: &[u8]) -> u64
-    ensures value { result ≡ number_in (Some bytes.now) }
-    ensures most { result ≤ 2 ^ 62 }
-{
-    if bytes.len() != 8 {
-        return 0;
-    }
-    let n = LittleEndian::read_u64(bytes);
-    if n <= GREATEST { n } else { 0 }
 }
 
 /// Whether a key is that of a version.
@@ -71,7 +56,7 @@ fn put(
     if key == b"first_committed".as_slice() {
         return Ok(true);
     }
-    if key != b"last_committed".as_slice() || number_of(value) != turn.version {
+    if key != b"last_committed".as_slice() || number_of(Some(value)) != turn.version {
         return Ok(false);
     }
     turn.told = true;

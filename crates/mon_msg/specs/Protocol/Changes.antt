@@ -2,6 +2,7 @@
 use Rattle.std.specs.Prelude.{ℕ, List, Option, Some, None, [], ◌∷◌, ◌++◌}
 use Rattle.mon_bytes.specs.declared.entry.Entry.{Entry}
 use Rattle.mon_msg.specs.Puts.{put, put_number}
+pub use Rattle.mon_tx.specs.Puts.{erase}
 use Rattle.mon_tx.specs.Keys.{area_text, key_text}
 use Rattle.mon_tx.specs.Text.{text}
 use Rattle.mon_tx.specs.declared.key.Area.TheVariants as area
@@ -33,9 +34,6 @@ pub data Change : Type 0 where
   Mark : (floor : ℕ) → (last_pn : Option ℕ) → (promise : Option ℕ) → Change
   -- it is over
   Unmark : Change
-
-abbrev pub erase : Area → Key → Op
-erase a k = Erase (area_text a) (key_text k)
 
 abbrev pub erase_all : Area → Op
 erase_all a = ErasePrefix (area_text a)
