@@ -10,7 +10,7 @@ use Rattle.mon_tx.proofs.After.{decision-append}
 use Rattle.mon_tx.proofs.Named.{decided-put, decided-erase, decided-erase_range}
 use Rattle.mon_tx.proofs.Ties.{same_area_itself}
 use Rattle.mon_msg.specs.Puts.{put}
-use Rattle.mon_msg.specs.Protocol.View.{cell_after}
+use Rattle.mon_msg.specs.Protocol.Readings.{cell_after}
 use Rattle.mon_msg.specs.Protocol.Changes.{erase}
 
 pub data Edit : Type 0 where

@@ -9,7 +9,7 @@ use Rattle.mon_tx.specs.Map.{Store, apply_op}
 use Rattle.mon_tx.specs.Text.{text}
 use Rattle.mon_msg.specs.Puts.{put_number}
 use Rattle.mon_msg.specs.Protocol.Records.{most_value}
-use Rattle.mon_msg.specs.Protocol.View.{View, view}
+use Rattle.mon_msg.specs.Protocol.Readings.{Readings, readings_of}
 use Rattle.log_model.specs.LogOfValues.{IsValue, AllValues}
 use Rattle.log_model.specs.Windows.{log_from, within, row_after, Keeps}
 use Rattle.log_model.proofs.Committed.{texts, shorts, grown}
@@ -30,18 +30,18 @@ module _ (log : List (List ℕ)) (c : ℕ) (h : c ≤ length log) where
       let S = all v (omega (arith, long)) in
       record {
         changes = S.changes;
-        value = subst (λ (m : Store). IsValue (view (apply_op (put_number area.Paxos key.LastCommitted v) m)) S.changes) (fold_stays fronts v (omega arith)) S.value;
+        value = subst (λ (m : Store). IsValue (readings_of (apply_op (put_number area.Paxos key.LastCommitted v) m)) S.changes) (fold_stays fronts v (omega arith)) S.value;
         spells = sym (entry_stays fronts (suc v) lt) ∙ S.spells;
       }
 
-  begun_keeps : (w : View) → Keeps log c w → Keeps (take c log) c w
+  begun_keeps : (w : Readings) → Keeps log c w → Keeps (take c log) c w
   begun_keeps w K = record {
     first = K.first;
     records = λ v le. K.records v le ∙ ap (λ (e : List ℕ). cond (within (log_from c) (suc c) v) (Some e) None) (entry_stays fronts v (omega (arith, long)));
     rows = λ s k. K.rows s k ∙ ap (λ (is : List (List ℕ)). row_after s is k) (incrementals_stay fronts s c (omega (arith, long)));
   }
 
-  module _ (all : AllValues log) (room : c < 2 ^ 62) (w : View) (K : Keeps log c w) (at : w.last ≡ c) (value : List Op) (V : IsValue w value) where
+  module _ (all : AllValues log) (room : c < 2 ^ 62) (w : Readings) (K : Keeps log c w) (at : w.last ≡ c) (value : List Op) (V : IsValue w value) where
     keeps_all : Keeps (take c log) (length (take c log)) w
     keeps_all = subst (λ (n : ℕ). Keeps (take c log) n w) (sym long) (begun_keeps w K)
 

@@ -21,11 +21,11 @@ use Rattle.mon_msg.specs.Puts.{put, put_number}
 use Rattle.mon_msg.specs.Fold.{entry, fold, incrementals}
 use Rattle.mon_msg.specs.Puts.{area_of}
 use Rattle.mon_msg.specs.Protocol.Parts.{map_text}
-use Rattle.mon_msg.specs.Protocol.Reading.{read_map}
+use Rattle.mon_msg.specs.Protocol.Services.{read_map}
 use Rattle.mon_msg.specs.Protocol.Records.{most_value}
 use Rattle.mon_msg.specs.Protocol.Rules.{value_ops}
 use Rattle.mon_msg.specs.Protocol.Value.{service_of, made, value}
-use Rattle.mon_msg.specs.Protocol.View.{View, view, after}
+use Rattle.mon_msg.specs.Protocol.Readings.{Readings, readings_of, after}
 use Rattle.log_model.specs.LogOfValues.{view_at, IsValue, SpellsValue, AllValues}
 use Rattle.log_model.specs.Windows.{Keeps, Shows}
 use Rattle.log_model.proofs.Lists.{length_push}
@@ -42,13 +42,13 @@ pub ops_again : (ops : List Op) → HasText ops → ops_in (text ops) ≡ ops
 unfolding ops_in
 ops_again ops h = ap ops_or_none (transaction_again ops h)
 
-pub next_at : (log : List (List ℕ)) (c : ℕ) → c < 2 ^ 62 → Holds log c → (w : View) → Keeps log c w → w.last ≡ c → (older : List Op) → (V : IsValue w older) → Next log c V.newer
+pub next_at : (log : List (List ℕ)) (c : ℕ) → c < 2 ^ 62 → Holds log c → (w : Readings) → Keeps log c w → w.last ≡ c → (older : List Op) → (V : IsValue w older) → Next log c V.newer
 next_at log c h H w K at older V = next_of log c w older (omega arith) K H.chains at V
 
-value_text : (log : List (List ℕ)) (c : ℕ) → c < 2 ^ 62 → Holds log c → (w : View) → Keeps log c w → w.last ≡ c → (older : List Op) → IsValue w older → HasText older
+value_text : (log : List (List ℕ)) (c : ℕ) → c < 2 ^ 62 → Holds log c → (w : Readings) → Keeps log c w → w.last ≡ c → (older : List Op) → IsValue w older → HasText older
 value_text log c h H w K at older V = let N = next_at log c h H w K at older V in has_text log c V.newer N h (H.chains.few N.service) older V.spelled
 
-value_short : (log : List (List ℕ)) (c : ℕ) → c < 2 ^ 62 → Holds log c → (w : View) → Keeps log c w → w.last ≡ c → (older : List Op) → IsValue w older → length (text older) ≤ most_value
+value_short : (log : List (List ℕ)) (c : ℕ) → c < 2 ^ 62 → Holds log c → (w : Readings) → Keeps log c w → w.last ≡ c → (older : List Op) → IsValue w older → length (text older) ≤ most_value
 value_short log c h H w K at older V = let N = next_at log c h H w K at older V in short log c V.newer N h (H.chains.few N.service) older V.spelled
 
 -- ---- all versions
@@ -64,13 +64,13 @@ holds log fits all (suc c) h =
     let S = all c (omega arith) in
     holds_more log c (omega arith) H S (spelled_text log c (omega arith) H S)
 
-pub keeps : (log : List (List ℕ)) → length log ≤ 2 ^ 62 → AllValues log → (c : ℕ) → c ≤ length log → Keeps log c (view (fold log c))
+pub keeps : (log : List (List ℕ)) → length log ≤ 2 ^ 62 → AllValues log → (c : ℕ) → c ≤ length log → Keeps log c (readings_of (fold log c))
 keeps log fits all c h = (holds log fits all c h).keeps
 
-pub nothing_above : (log : List (List ℕ)) → length log ≤ 2 ^ 62 → AllValues log → (c : ℕ) → c ≤ length log → (v : ℕ) → c < v → (view (fold log c)).record_of v ≡ None
+pub nothing_above : (log : List (List ℕ)) → length log ≤ 2 ^ 62 → AllValues log → (c : ℕ) → c ≤ length log → (v : ℕ) → c < v → (readings_of (fold log c)).record_of v ≡ None
 nothing_above log fits all c h v gt = (holds log fits all c h).above v gt
 
-pub learns : (log : List (List ℕ)) → length log ≤ 2 ^ 62 → AllValues log → (c : ℕ) → c < length log → (w : View) → Keeps log c w
+pub learns : (log : List (List ℕ)) → length log ≤ 2 ^ 62 → AllValues log → (c : ℕ) → c < length log → (w : Readings) → Keeps log c w
     → Keeps log (suc c) (after (put area.Paxos (key.Version (suc c)) (entry log (suc c)) ∷ ops_in (entry log (suc c))) w)
 learns log fits all c h w K =
     let H = holds log fits all c (omega arith) in
@@ -79,23 +79,23 @@ learns log fits all c h w K =
     let N = next_at log c (omega arith) H (view_at log c) (keeps_view log c (omega arith) H.keeps) (view_last log c (omega arith)) S.changes S.value in
     subst (λ (ops : List Op). Keeps log (suc c) (after (put area.Paxos (key.Version (suc c)) (entry log (suc c)) ∷ ops) w)) (sym e) (keeps_more log c S.changes S.value.newer S.value.spelled N e w (omega arith) K)
 
-pub shown : (log : List (List ℕ)) → length log ≤ 2 ^ 62 → AllValues log → (c : ℕ) → c ≤ length log → (w : View) → Keeps log c w → Shows log c w
+pub shown : (log : List (List ℕ)) → length log ≤ 2 ^ 62 → AllValues log → (c : ℕ) → c ≤ length log → (w : Readings) → Keeps log c w → Shows log c w
 shown log fits all c h w K = shows log c w (omega arith) (holds log fits all c h).chains K.rows
 
 -- what a value over such a store makes next
-pub next_in : (log : List (List ℕ)) → length log ≤ 2 ^ 62 → AllValues log → (c : ℕ) → c ≤ length log → c < 2 ^ 62 → (w : View) → Keeps log c w → w.last ≡ c → (older : List Op) → (V : IsValue w older) → Next log c V.newer
+pub next_in : (log : List (List ℕ)) → length log ≤ 2 ^ 62 → AllValues log → (c : ℕ) → c ≤ length log → c < 2 ^ 62 → (w : Readings) → Keeps log c w → w.last ≡ c → (older : List Op) → (V : IsValue w older) → Next log c V.newer
 next_in log fits all c h room w K at older V = next_at log c room (holds log fits all c h) w K at older V
 
-pub texts : (log : List (List ℕ)) → length log < 2 ^ 62 → AllValues log → (w : View) → Keeps log (length log) w → w.last ≡ length log → (value : List Op) → IsValue w value → HasText value
+pub texts : (log : List (List ℕ)) → length log < 2 ^ 62 → AllValues log → (w : Readings) → Keeps log (length log) w → w.last ≡ length log → (value : List Op) → IsValue w value → HasText value
 texts log fits all w K at older V = value_text log (length log) fits (holds log (omega arith) all (length log) (omega arith)) w K at older V
 
-pub shorts : (log : List (List ℕ)) → length log < 2 ^ 62 → AllValues log → (w : View) → Keeps log (length log) w → w.last ≡ length log → (value : List Op) → IsValue w value → length (text value) ≤ most_value
+pub shorts : (log : List (List ℕ)) → length log < 2 ^ 62 → AllValues log → (w : Readings) → Keeps log (length log) w → w.last ≡ length log → (value : List Op) → IsValue w value → length (text value) ≤ most_value
 shorts log fits all w K at older V = value_short log (length log) fits (holds log (omega arith) all (length log) (omega arith)) w K at older V
 
 -- ---- one more value
 
 -- a value is the same over all stores that keep the same
-value_by : (log : List (List ℕ)) (c : ℕ) (v w : View) → c ≤ 2 ^ 62 → Chains log c → Keeps log c v → Keeps log c w → v.last ≡ w.last → (command : Command) (asked : ℕ) → value v command asked ≡ value w command asked
+value_by : (log : List (List ℕ)) (c : ℕ) (v w : Readings) → c ≤ 2 ^ 62 → Chains log c → Keeps log c v → Keeps log c w → v.last ≡ w.last → (command : Command) (asked : ℕ) → value v command asked ≡ value w command asked
 unfolding value
 value_by log c v w fits C K J last command asked = by (made (read_map w s) asked command) refl
   where
@@ -121,12 +121,12 @@ value_by log c v w fits C K J last command asked = by (made (read_map w s) asked
         rw (p, q) (λ i. Ok (value_ops (first i) (last i) (area_of s) (suc (number_in (cells key.LastCommitted i))) (number_in (cells key.FirstCommitted i)) x (map_text next)))
 
 -- it is that over the log's fold
-pub value_told : (log : List (List ℕ)) → length log ≤ 2 ^ 62 → AllValues log → (w : View) → Keeps log (length log) w → w.last ≡ length log → (command : Command) (asked : ℕ) → value (view_at log (length log)) command asked ≡ value w command asked
+pub value_told : (log : List (List ℕ)) → length log ≤ 2 ^ 62 → AllValues log → (w : Readings) → Keeps log (length log) w → w.last ≡ length log → (command : Command) (asked : ℕ) → value (view_at log (length log)) command asked ≡ value w command asked
 value_told log fits all w K at command asked =
     let H = holds log fits all (length log) (omega arith) in
     value_by log (length log) (view_at log (length log)) w fits H.chains (keeps_view log (length log) fits H.keeps) K (view_last log (length log) fits ∙ sym at) command asked
 
-value_moved : (v w : View) (older : List Op) → ((command : Command) (asked : ℕ) → value v command asked ≡ value w command asked) → IsValue v older → IsValue w older
+value_moved : (v w : Readings) (older : List Op) → ((command : Command) (asked : ℕ) → value v command asked ≡ value w command asked) → IsValue v older → IsValue w older
 value_moved v w older alike V = record {
   command = V.command;
   form = V.form;
@@ -138,9 +138,9 @@ value_moved v w older alike V = record {
 }
 
 view_stays : (log : List (List ℕ)) (x : List ℕ) (c : ℕ) → c ≤ length log → view_at (log ++ x ∷ []) c ≡ view_at log c
-view_stays log x c h = ap (λ (m : Store). view (apply_op (put_number area.Paxos key.LastCommitted c) m)) (fold_stays (fronts_push log x) c h)
+view_stays log x c h = ap (λ (m : Store). readings_of (apply_op (put_number area.Paxos key.LastCommitted c) m)) (fold_stays (fronts_push log x) c h)
 
-pub grown : (log : List (List ℕ)) → length log < 2 ^ 62 → AllValues log → (w : View) → Keeps log (length log) w → w.last ≡ length log → (older : List Op) → IsValue w older → AllValues (log ++ text older ∷ [])
+pub grown : (log : List (List ℕ)) → length log < 2 ^ 62 → AllValues log → (w : Readings) → Keeps log (length log) w → w.last ≡ length log → (older : List Op) → IsValue w older → AllValues (log ++ text older ∷ [])
 grown log fits all w K at older V c h = by (cases_lt c (length log))
   where
     H : Holds log (length log)
@@ -152,7 +152,7 @@ grown log fits all w K at older V c h = by (cases_lt c (length log))
     newest : SpellsValue (log ++ text older ∷ []) (length log)
     newest = record {
       changes = older;
-      value = subst (λ (v : View). IsValue v older) (sym (view_stays log (text older) (length log) (omega arith)))
+      value = subst (λ (v : Readings). IsValue v older) (sym (view_stays log (text older) (length log) (omega arith)))
           (value_moved w (view_at log (length log)) older (value_by log (length log) w (view_at log (length log)) (omega arith) H.chains K there (at ∙ sym (view_last log (length log) (omega arith)))) V);
       spells = entry_push log (text older);
     }
@@ -162,7 +162,7 @@ grown log fits all w K at older V c h = by (cases_lt c (length log))
         let S = all c lt in
         record {
           changes = S.changes;
-          value = subst (λ (v : View). IsValue v S.changes) (sym (view_stays log (text older) c (omega arith))) S.value;
+          value = subst (λ (v : Readings). IsValue v S.changes) (sym (view_stays log (text older) c (omega arith))) S.value;
           spells = entry_stays (fronts_push log (text older)) (suc c) (omega arith) ∙ S.spells;
         }
     by (inr le) =
@@ -185,16 +185,16 @@ module _ (log : List (List ℕ)) (c : ℕ) (m : Store) (same : shared m ≡ fold
   same_row Kv k = same_cell area.Kv k refl
   same_row Log k = same_cell area.Logm k refl
 
-  pub keeps_shared : number m area.Paxos key.LastCommitted ≡ c → Keeps log c (view (fold log c)) → Keeps log c (view m)
-  unfolding view
+  pub keeps_shared : number m area.Paxos key.LastCommitted ≡ c → Keeps log c (readings_of (fold log c)) → Keeps log c (readings_of m)
+  unfolding readings_of
   keeps_shared at K = record {
     first = ap number_in (same_cell area.Paxos key.FirstCommitted refl) ∙ K.first;
     records = λ v h. same_cell area.Paxos (key.Version v) (rw (ne_eqb (last + 1) v (λ e. omega arith)) refl) ∙ K.records v h;
     rows = λ s k. same_row s k ∙ K.rows s k;
   }
 
-  pub shown_shared : length log ≤ 2 ^ 62 → AllValues log → c ≤ length log → Shows log c (view m)
-  unfolding view
+  pub shown_shared : length log ≤ 2 ^ 62 → AllValues log → c ≤ length log → Shows log c (readings_of m)
+  unfolding readings_of
   shown_shared fits all h =
       let H = holds log fits all c h in
-      shows log c (view m) (omega arith) H.chains (λ s k. same_row s k ∙ H.keeps.rows s k)
+      shows log c (readings_of m) (omega arith) H.chains (λ s k. same_row s k ∙ H.keeps.rows s k)

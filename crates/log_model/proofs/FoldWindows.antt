@@ -16,11 +16,11 @@ use Rattle.mon_msg.specs.Puts.{put}
 use Rattle.mon_msg.specs.Fold.{entry, fold, incrementals, map_after}
 use Rattle.mon_msg.specs.Joined.{joined}
 use Rattle.mon_msg.specs.Puts.{area_of}
-use Rattle.mon_msg.specs.Protocol.View.{cell_after}
+use Rattle.mon_msg.specs.Protocol.Readings.{cell_after}
 use Rattle.mon_msg.specs.Protocol.Changes.{Last}
 use Rattle.mon_msg.specs.Protocol.Parts.{map_text}
-use Rattle.mon_msg.specs.Protocol.View.{View, view, after}
-use Rattle.mon_msg.proofs.Changed.{view-apply, view-joined}
+use Rattle.mon_msg.specs.Protocol.Readings.{Readings, readings_of, after}
+use Rattle.mon_msg.proofs.Changed.{readings-apply, readings-joined}
 use Rattle.log_model.specs.LogOfValues.{view_at, SpellsValue}
 use Rattle.log_model.specs.Windows.{is_kept_key, within, is_full, row_after, Keeps, Shows}
 use Rattle.log_model.proofs.MapSteps.{chain_none}
@@ -53,16 +53,16 @@ row_none s BootCount = nothing (area_of s) BootCount
 row_none s InSync = nothing (area_of s) InSync
 row_none s Floor = nothing (area_of s) Floor
 
-keeps_none : (log : List (List ℕ)) → Keeps log 0 (view (fold log 0))
-unfolding view fold incrementals
+keeps_none : (log : List (List ℕ)) → Keeps log 0 (readings_of (fold log 0))
+unfolding readings_of fold incrementals
 keeps_none log = record {
   first = ap number_in (nothing area.Paxos FirstCommitted) ∙ none_read;
   records = λ v h. nothing area.Paxos (Version v) ∙ none_within v (entry log v);
   rows = row_none;
 }
 
-above_none : (log : List (List ℕ)) (v : ℕ) → 0 < v → (view (fold log 0)).record_of v ≡ None
-unfolding view fold
+above_none : (log : List (List ℕ)) (v : ℕ) → 0 < v → (readings_of (fold log 0)).record_of v ≡ None
+unfolding readings_of fold
 above_none log v h = nothing area.Paxos (Version v)
 
 others_none : (log : List (List ℕ)) (a : Area) (k : Key) → is_kept_key a k ≡ false → cell (fold log 0) a k ≡ None
@@ -75,27 +75,27 @@ chains_none log = record { chain = chain_none; few = λ s. omega arith }
 
 -- ---- what is told where the versions up to c are committed
 
-view_is : (log : List (List ℕ)) (c : ℕ) → c ≤ 2 ^ 62 → view_at log c ≡ record (view (fold log c)) { last = c }
+view_is : (log : List (List ℕ)) (c : ℕ) → c ≤ 2 ^ 62 → view_at log c ≡ record (readings_of (fold log c)) { last = c }
 unfolding joined
-view_is log c h = view-joined (Last c ∷ []) (h, tt) (fold log c)
+view_is log c h = readings-joined (Last c ∷ []) (h, tt) (fold log c)
 
 -- the last version isn't spoken of
-pub keeps_last : (log : List (List ℕ)) (c last : ℕ) (w : View) → Keeps log c w → Keeps log c (record w { last = last })
+pub keeps_last : (log : List (List ℕ)) (c last : ℕ) (w : Readings) → Keeps log c w → Keeps log c (record w { last = last })
 keeps_last log c last w K = record { first = K.first; records = K.records; rows = K.rows }
 
-pub keeps_view : (log : List (List ℕ)) (c : ℕ) → c ≤ 2 ^ 62 → Keeps log c (view (fold log c)) → Keeps log c (view_at log c)
-keeps_view log c h K = subst (Keeps log c) (sym (view_is log c h)) (keeps_last log c c (view (fold log c)) K)
+pub keeps_view : (log : List (List ℕ)) (c : ℕ) → c ≤ 2 ^ 62 → Keeps log c (readings_of (fold log c)) → Keeps log c (view_at log c)
+keeps_view log c h K = subst (Keeps log c) (sym (view_is log c h)) (keeps_last log c c (readings_of (fold log c)) K)
 
 pub view_last : (log : List (List ℕ)) (c : ℕ) → c ≤ 2 ^ 62 → (view_at log c).last ≡ c
-view_last log c h = ap (λ (w : View). w.last) (view_is log c h)
+view_last log c h = ap (λ (w : Readings). w.last) (view_is log c h)
 
 -- ---- one version more
 
-fold_more : (log : List (List ℕ)) (c : ℕ) (changes : List Op) → ops_in (entry log (suc c)) ≡ changes → view (fold log (suc c)) ≡ after (put area.Paxos (Version (suc c)) (entry log (suc c)) ∷ changes) (view (fold log c))
+fold_more : (log : List (List ℕ)) (c : ℕ) (changes : List Op) → ops_in (entry log (suc c)) ≡ changes → readings_of (fold log (suc c)) ≡ after (put area.Paxos (Version (suc c)) (entry log (suc c)) ∷ changes) (readings_of (fold log c))
 unfolding fold
 fold_more log c changes e =
-    view-apply (put area.Paxos (Version (suc c)) (entry log (suc c)) ∷ ops_in (entry log (suc c))) (fold log c)
-    ∙ ap (λ (ops : List Op). after (put area.Paxos (Version (suc c)) (entry log (suc c)) ∷ ops) (view (fold log c))) e
+    readings-apply (put area.Paxos (Version (suc c)) (entry log (suc c)) ∷ ops_in (entry log (suc c))) (fold log c)
+    ∙ ap (λ (ops : List Op). after (put area.Paxos (Version (suc c)) (entry log (suc c)) ∷ ops) (readings_of (fold log c))) e
 
 fold_cell : (log : List (List ℕ)) (c : ℕ) (changes : List Op) → ops_in (entry log (suc c)) ≡ changes → (a : Area) (k : Key)
     → cell (fold log (suc c)) a k ≡ cell_after (put area.Paxos (Version (suc c)) (entry log (suc c)) ∷ changes) a k (cell (fold log c) a k)
@@ -105,8 +105,8 @@ fold_cell log c changes e a k =
     ∙ ap (λ (ops : List Op). cell_after (put area.Paxos (Version (suc c)) (entry log (suc c)) ∷ ops) a k (cell (fold log c) a k)) e
 
 pub record Holds (log : List (List ℕ)) (c : ℕ) : Type 0 where
-  pub keeps : Keeps log c (view (fold log c))
-  pub above : (v : ℕ) → c < v → (view (fold log c)).record_of v ≡ None
+  pub keeps : Keeps log c (readings_of (fold log c))
+  pub above : (v : ℕ) → c < v → (readings_of (fold log c)).record_of v ≡ None
   pub others : (a : Area) (k : Key) → is_kept_key a k ≡ false → cell (fold log c) a k ≡ None
   pub chains : Chains log c
 
@@ -115,8 +115,8 @@ holds_none log = record { keeps = keeps_none log; above = above_none log; others
 
 pub holds_more : (log : List (List ℕ)) (c : ℕ) → suc c ≤ 2 ^ 62 → Holds log c → (S : SpellsValue log c) → ops_in (entry log (suc c)) ≡ S.changes → Holds log (suc c)
 holds_more log c fits H S e = record {
-  keeps = subst (Keeps log (suc c)) (sym (fold_more log c S.changes e)) (keeps_more log c S.changes S.value.newer S.value.spelled next e (view (fold log c)) fits H.keeps);
-  above = λ v gt. ap (λ (w : View). w.record_of v) (fold_more log c S.changes e) ∙ above_more log c S.changes S.value.newer S.value.spelled next e (view (fold log c)) H.above v gt;
+  keeps = subst (Keeps log (suc c)) (sym (fold_more log c S.changes e)) (keeps_more log c S.changes S.value.newer S.value.spelled next e (readings_of (fold log c)) fits H.keeps);
+  above = λ v gt. ap (λ (w : Readings). w.record_of v) (fold_more log c S.changes e) ∙ above_more log c S.changes S.value.newer S.value.spelled next e (readings_of (fold log c)) H.above v gt;
   others = λ a k h. fold_cell log c S.changes e a k ∙ ap (cell_after (put area.Paxos (Version (suc c)) (entry log (suc c)) ∷ S.changes) a k) (H.others a k h) ∙ others_more log c S.changes S.value.newer S.value.spelled next e a k h;
   chains = chains_more log c S.changes S.value.newer S.value.spelled next e H.chains;
 }
@@ -127,10 +127,10 @@ holds_more log c fits H S e = record {
 -- ---- what is shown
 
 -- the services' rows alone decide it
-abbrev pub KeepsRows : List (List ℕ) → ℕ → View → Type 0
+abbrev pub KeepsRows : List (List ℕ) → ℕ → Readings → Type 0
 KeepsRows log c w = (s : Service) (k : Key) → w.row s k ≡ row_after s (incrementals s log c) k
 
-pub shows : (log : List (List ℕ)) (c : ℕ) (w : View) → c ≤ 2 ^ 62 → Chains log c → KeepsRows log c w → Shows log c w
+pub shows : (log : List (List ℕ)) (c : ℕ) (w : Readings) → c ≤ 2 ^ 62 → Chains log c → KeepsRows log c w → Shows log c w
 shows log c w fits C rows = record {
   version = λ s. last_is w s (incrementals s log c) (record { cell = rows s }) (let f = C.few s in omega arith);
   map = λ s. map_is w s (incrementals s log c) (record { cell = rows s }) (let f = C.few s in omega arith) (C.chain s);

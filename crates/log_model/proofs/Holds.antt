@@ -8,7 +8,7 @@ use Rattle.mon_tx.specs.Map.{Place, place_cmp, Store, number_in}
 use Rattle.mon_tx.specs.Keys.{cell, number, shared}
 use Rattle.mon_tx.proofs.Places.{places_total, exact_places}
 use Rattle.mon_msg.specs.Fold.{entry, fold}
-use Rattle.mon_msg.specs.Protocol.View.{marks, view}
+use Rattle.mon_msg.specs.Protocol.Readings.{marks, readings_of}
 use Rattle.log_model.specs.LogOfValues.{AllValues}
 use Rattle.log_model.specs.Windows.{log_from, within, first_read, Keeps}
 use Rattle.log_model.proofs.Committed.{keeps, keeps_shared}
@@ -67,28 +67,28 @@ still_holds log m new h same = record {
 -- ---- what is read
 
 module _ (log : List (List ℕ)) (m : Store) (h : Holds log m) where
-  pub read_last : (view m).last ≡ length log
-  unfolding view
+  pub read_last : (readings_of m).last ≡ length log
+  unfolding readings_of
   read_last = h.last
 
-  pub read_unmarked : (view m).marked ≡ false
-  unfolding view
+  pub read_unmarked : (readings_of m).marked ≡ false
+  unfolding readings_of
   read_unmarked = ap marks h.unmarked ∙ ap (λ n. eqb n 1) number_none
 
-  pub read_settled : (view m).pending_v ≡ 0
-  unfolding view
+  pub read_settled : (readings_of m).pending_v ≡ 0
+  unfolding readings_of
   read_settled = h.settled
 
-  pub keeps_log : Keeps log (length log) (view m)
+  pub keeps_log : Keeps log (length log) (readings_of m)
   keeps_log = keeps_shared log (length log) m h.folded h.last (keeps log h.fits h.values (length log) (omega arith))
 
   first_number : number m area.Paxos key.FirstCommitted ≡ first_read log_from (length log)
-  unfolding view
+  unfolding readings_of
   first_number = keeps_log.first
 
   -- the records from the first one that is kept
   pub record_there : (v : ℕ) → max 1 (number m area.Paxos key.FirstCommitted) ≤ v → v ≤ length log → cell m area.Paxos (key.Version v) ≡ Some (entry log v)
-  unfolding view
+  unfolding readings_of
   record_there v low high = keeps_log.records v high ∙ here
     where
       from : log_from (length log) ≤ v

@@ -22,7 +22,7 @@ use Rattle.mon_msg.specs.Fold.{fold, incrementals}
 use Rattle.mon_msg.specs.Puts.{area_of}
 use Rattle.mon_msg.specs.Protocol.Changes.{erase}
 use Rattle.mon_msg.specs.Protocol.Parts.{map_text}
-use Rattle.mon_msg.specs.Protocol.View.{view}
+use Rattle.mon_msg.specs.Protocol.Readings.{readings_of}
 use Rattle.log_model.specs.LogOfValues.{IsOlder, none, same, range}
 use Rattle.log_model.specs.Windows.{is_kept_key, first_read, service_from, log_from}
 use Rattle.log_model.proofs.AreaEdits.{Edit, Set, Drop, DropRange, spelled}
@@ -36,7 +36,7 @@ use Rattle.log_model.proofs.Windows.{Next}
 -- ---- a monitor's own keys
 
 pub no_local : (log : List (List ℕ)) (c : ℕ) → Holds log c → (q : Place) → is_local c q ≡ true → get (fold log c) q ≡ None
-unfolding view
+unfolding readings_of
 no_local log c H q e =
     of_own (λ p. get (fold log c) p ≡ None) c (record {
       last_committed = paxos key.LastCommitted refl;

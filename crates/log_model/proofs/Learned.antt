@@ -20,9 +20,9 @@ use Rattle.mon_msg.specs.Puts.{put, put_number}
 use Rattle.mon_msg.specs.Fold.{entry, fold}
 use Rattle.mon_msg.specs.Joined.{joined}
 use Rattle.mon_msg.specs.Puts.{area_of}
-use Rattle.mon_msg.specs.Protocol.View.{cell_after}
+use Rattle.mon_msg.specs.Protocol.Readings.{cell_after}
 use Rattle.mon_msg.specs.Protocol.Changes.{Learn, Last, spelled}
-use Rattle.mon_msg.specs.Protocol.View.{view}
+use Rattle.mon_msg.specs.Protocol.Readings.{readings_of}
 use Rattle.mon_msg.proofs.Joining.{apply-joined}
 use Rattle.mon_msg.proofs.Afterwards.{apply-append}
 use Rattle.log_model.specs.LogOfValues.{AllValues, IsValue}
@@ -37,7 +37,7 @@ use Rattle.log_model.proofs.RowSteps.{log_stays, log_behind}
 use Rattle.log_model.proofs.Sharing.{OfOwn, shared_apply}
 use Rattle.log_model.proofs.Windows.{Next, log_cell_is, elsewhere_is}
 
-module _ (log : List (List ℕ)) (m : Store) (h : Holds log m) (ops : List Op) (V : IsValue (view m) ops) (room : length log < 2 ^ 62) where
+module _ (log : List (List ℕ)) (m : Store) (h : Holds log m) (ops : List Op) (V : IsValue (readings_of m) ops) (room : length log < 2 ^ 62) where
   abbrev pub c : ℕ
   c = length log
 
@@ -57,10 +57,10 @@ module _ (log : List (List ℕ)) (m : Store) (h : Holds log m) (ops : List Op) (
   length_more = length_push log (text ops)
 
   values_more : AllValues more
-  values_more = grown log room h.values (view m) (keeps_log log m h) (read_last log m h) ops V
+  values_more = grown log room h.values (readings_of m) (keeps_log log m h) (read_last log m h) ops V
 
   pub reads_ops : ops_in (text ops) ≡ ops
-  reads_ops = ops_again ops (texts log room h.values (view m) (keeps_log log m h) (read_last log m h) ops V)
+  reads_ops = ops_again ops (texts log room h.values (readings_of m) (keeps_log log m h) (read_last log m h) ops V)
 
   reads_entry : ops_in (entry more (suc c)) ≡ ops
   reads_entry = ap ops_in (entry_push log (text ops)) ∙ reads_ops
@@ -72,11 +72,11 @@ module _ (log : List (List ℕ)) (m : Store) (h : Holds log m) (ops : List Op) (
   folded_more : shared m ≡ fold more c
   folded_more = h.folded ∙ sym (fold_stays (fronts_push log (text ops)) c (omega arith))
 
-  keeps_more : Keeps more c (view m)
+  keeps_more : Keeps more c (readings_of m)
   keeps_more = keeps_shared more c m folded_more h.last (keeps more fits_more values_more c (omega (arith, length_more)))
 
   next : Next more c V.newer
-  next = next_in more fits_more values_more c (omega (arith, length_more)) room (view m) keeps_more (read_last log m h) ops V
+  next = next_in more fits_more values_more c (omega (arith, length_more)) room (readings_of m) keeps_more (read_last log m h) ops V
 
   -- ---- what the value leaves under the log's keys and elsewhere
 
@@ -153,11 +153,11 @@ module _ (log : List (List ℕ)) (m : Store) (h : Holds log m) (ops : List Op) (
 
   -- the record of the new version
   pub new_record : cell learned area.Paxos (key.Version (suc c)) ≡ Some (text ops)
-  unfolding view
+  unfolding readings_of
   new_record = keeps_new.records (suc c) (omega arith) ∙ here ∙ ap Some (entry_push log (text ops))
     where
-      keeps_new : Keeps more (suc c) (view learned)
-      keeps_new = subst (λ (n : ℕ). Keeps more n (view learned)) length_more (keeps_log more learned holds_learned)
+      keeps_new : Keeps more (suc c) (readings_of learned)
+      keeps_new = subst (λ (n : ℕ). Keeps more n (readings_of learned)) length_more (keeps_log more learned holds_learned)
 
       here : cond (within (log_from (suc c)) (suc (suc c)) (suc c)) (Some (entry more (suc c))) None ≡ Some (entry more (suc c))
       here = rw (le-leb (log_from (suc c)) (suc c) (log_high (suc c) (omega arith)), lt-ltb (suc c) (suc (suc c)) (omega arith)) refl

@@ -13,9 +13,9 @@ use Rattle.mon_wire.specs.declared.request.Service.TheVariants.{Kv, Log}
 use Rattle.mon_msg.specs.Fold.{entry, map_after}
 use Rattle.mon_msg.specs.Protocol.Maps.{next_map, spelled_map, empty_map}
 use Rattle.mon_msg.specs.Protocol.Parts.{map_text}
-use Rattle.mon_msg.specs.Protocol.Reading.{service_first, service_last, full_latest, read_on, full_map, read_map, kept_from}
+use Rattle.mon_msg.specs.Protocol.Services.{service_first, service_last, full_latest, read_on, full_map, read_map, kept_from}
 use Rattle.mon_msg.specs.Protocol.Reads.{changes_after, since}
-use Rattle.mon_msg.specs.Protocol.View.{View}
+use Rattle.mon_msg.specs.Protocol.Readings.{Readings}
 use Rattle.log_model.specs.Windows.{service_from, within, is_full, where_any, row_after, first_read}
 use Rattle.log_model.proofs.MapSteps.{Chain, read_back, after_last}
 
@@ -42,10 +42,10 @@ nothing_before Kv = refl
 nothing_before Log = refl
 
 -- a row that is that of incrementals
-pub record IsRow (w : View) (s : Service) (is : List (List ℕ)) : Type 0 where
+pub record IsRow (w : Readings) (s : Service) (is : List (List ℕ)) : Type 0 where
   pub cell : (k : Key) → w.row s k ≡ row_after s is k
 
-module _ (w : View) (s : Service) (is : List (List ℕ)) (row : IsRow w s is) (fits : length is ≤ 2 ^ 62) where
+module _ (w : Readings) (s : Service) (is : List (List ℕ)) (row : IsRow w s is) (fits : length is ≤ 2 ^ 62) where
   pub last_is : service_last w s ≡ length is
   last_is = ap number_in (row.cell key.LastCommitted) ∙ first_number (λ v. v) (length is) fits ∙ itself (length is)
     where

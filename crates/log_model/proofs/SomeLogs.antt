@@ -11,7 +11,7 @@ use Rattle.mon_wire.specs.declared.reply.ShownMap.{ShownMap}
 use Rattle.mon_wire.specs.declared.reply.ShownMap.TheVariants as map
 use Rattle.mon_wire.specs.declared.request.Service.TheVariants as service
 use Rattle.mon_msg.specs.Fold.{log_after_all, incrementals}
-use Rattle.mon_msg.specs.Protocol.Reading.{read_map}
+use Rattle.mon_msg.specs.Protocol.Services.{read_map}
 use Rattle.mon_msg.specs.Protocol.Value.{value, value_of, made}
 use Rattle.log_model.specs.LogOfValues.{view_at, IsValue, AllValues, LogOf}
 use Rattle.log_model.specs.Windows.{Keeps}

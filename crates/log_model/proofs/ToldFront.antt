@@ -3,7 +3,7 @@ use Rattle.std.proofs.Common.{◌≡◌, ℕ, suc, ◌+◌, ◌<◌, ◌≤◌, 
 use Rattle.std.proofs.lemmas.Bool.{cond_both, ltb-true, lt-ltb}
 use Rattle.std.proofs.lemmas.List.{append-nil}
 use Rattle.std.proofs.Math.ListN.{length-take, length-drop}
-use Rattle.mon_msg.specs.Protocol.Reading.{may_tell}
+use Rattle.mon_msg.specs.Protocol.Services.{may_tell}
 use Rattle.mon_msg.specs.Protocol.Records.{longest_onto, longest}
 
 module _ {A : Type 0} (test : List A → Bool) where

@@ -14,10 +14,10 @@ use Rattle.mon_wire.specs.declared.reply.ShownMap.TheVariants as map
 use Rattle.mon_msg.specs.Puts.{area_of}
 use Rattle.mon_msg.specs.Protocol.Maps.{most_map}
 use Rattle.mon_msg.specs.Protocol.Parts.{map_text}
-use Rattle.mon_msg.specs.Protocol.Reading.{service_first, service_last, read_map}
+use Rattle.mon_msg.specs.Protocol.Services.{service_first, service_last, read_map}
 use Rattle.mon_msg.specs.Protocol.Records.{most_value}
 use Rattle.mon_msg.specs.Protocol.Value.{service_of, made, value_of, value}
-use Rattle.mon_msg.specs.Protocol.View.{View}
+use Rattle.mon_msg.specs.Protocol.Readings.{Readings}
 use Rattle.log_model.specs.LogOfValues.{IsCommand, IsValue}
 use Rattle.log_model.proofs.KvSteps as kv_steps
 use Rattle.log_model.proofs.LogSteps as log_steps
@@ -61,7 +61,7 @@ most_short (command.Set k v) l h = h
 most_short (command.Remove k) l h = h
 most_short (command.Log t) l h = omega arith
 
-pub any_text : (w : View) (older : List Op) (V : IsValue w older) → w.last ≤ 2 ^ 62 → suc (service_last w (service_of V.command)) ≤ 2 ^ 62 → length (map_text (read_map w (service_of V.command))) ≤ most_map (service_of V.command)
+pub any_text : (w : Readings) (older : List Op) (V : IsValue w older) → w.last ≤ 2 ^ 62 → suc (service_last w (service_of V.command)) ≤ 2 ^ 62 → length (map_text (read_map w (service_of V.command))) ≤ most_map (service_of V.command)
     → HasText older × (length (text older) ≤ most_value)
 unfolding value
 any_text w older V at room h = by (made (read_map w (service_of V.command)) V.asked V.command) refl

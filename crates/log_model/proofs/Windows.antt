@@ -17,12 +17,12 @@ use Rattle.mon_wire.specs.declared.request.Service.TheVariants.{Kv, Log}
 use Rattle.mon_msg.specs.Puts.{put}
 use Rattle.mon_msg.specs.Fold.{entry, put_in, incrementals, map_after}
 use Rattle.mon_msg.specs.Puts.{area_of}
-use Rattle.mon_msg.specs.Protocol.View.{cell_after, number_after}
+use Rattle.mon_msg.specs.Protocol.Readings.{cell_after, number_after}
 use Rattle.mon_msg.specs.Protocol.Parts.{map_text}
-use Rattle.mon_msg.specs.Protocol.Reading.{read_map}
+use Rattle.mon_msg.specs.Protocol.Services.{read_map}
 use Rattle.mon_msg.specs.Protocol.Rules.{value_ops}
 use Rattle.mon_msg.specs.Protocol.Value.{service_of, made, value_of, value}
-use Rattle.mon_msg.specs.Protocol.View.{View, after}
+use Rattle.mon_msg.specs.Protocol.Readings.{Readings, after}
 use Rattle.mon_msg.proofs.Afterwards.{told}
 use Rattle.log_model.specs.LogOfValues.{IsOlder, same, IsValue}
 use Rattle.log_model.specs.Windows.{service_from, log_from, is_kept_key, where_any, service_row, row_after, record_after, first_read, Keeps}
@@ -90,7 +90,7 @@ pub record Chains (log : List (List ℕ)) (c : ℕ) : Type 0 where
   pub chain : (s : Service) → Chain s (incrementals s log c)
   pub few : (s : Service) → length (incrementals s log c) ≤ c
 
-pub row_of : (log : List (List ℕ)) (c : ℕ) (w : View) (s : Service) → Keeps log c w → IsRow w s (incrementals s log c)
+pub row_of : (log : List (List ℕ)) (c : ℕ) (w : Readings) (s : Service) → Keeps log c w → IsRow w s (incrementals s log c)
 row_of log c w s keeps = record { cell = keeps.rows s }
 
 -- the incremental and the map that a value makes
@@ -101,7 +101,7 @@ pub record Next (log : List (List ℕ)) (c : ℕ) (newer : List Op) : Type 0 whe
   pub makes : Makes service (map_after service (incrementals service log c)) incremental map
   pub ops : newer ≡ value_ops (first_read log_from c) c (area_of service) (suc (length (incrementals service log c))) (first_read service_from (length (incrementals service log c))) incremental (map_text map)
 
-pub next_of : (log : List (List ℕ)) (c : ℕ) (w : View) (older : List Op) → c ≤ 2 ^ 62 → Keeps log c w → Chains log c → w.last ≡ c → (V : IsValue w older) → Next log c V.newer
+pub next_of : (log : List (List ℕ)) (c : ℕ) (w : Readings) (older : List Op) → c ≤ 2 ^ 62 → Keeps log c w → Chains log c → w.last ≡ c → (V : IsValue w older) → Next log c V.newer
 unfolding value
 next_of log c w older fits keeps chains at V = by (made (read_map w s) V.asked V.command) refl
   where
@@ -255,12 +255,12 @@ module _ (log : List (List ℕ)) (c : ℕ) (older newer : List Op) (spelled : Is
   others_more area.Kv k h = absurd cc
   others_more area.Logm k h = absurd cc
 
-  pub above_more : (w : View) → ((v : ℕ) → c < v → w.record_of v ≡ None) → (v : ℕ) → suc c < v → (after with_record w).record_of v ≡ None
+  pub above_more : (w : Readings) → ((v : ℕ) → c < v → w.record_of v ≡ None) → (v : ℕ) → suc c < v → (after with_record w).record_of v ≡ None
   unfolding after
   above_more w above v gt =
       log_cell_is (key.Version v) (w.record_of v) ∙ ap (log_after c (entry log (suc c)) (key.Version v)) (above v (omega arith)) ∙ log_behind c v (entry log (suc c)) None gt
 
-  pub keeps_more : (w : View) → suc c ≤ 2 ^ 62 → Keeps log c w → Keeps log (suc c) (after with_record w)
+  pub keeps_more : (w : Readings) → suc c ≤ 2 ^ 62 → Keeps log c w → Keeps log (suc c) (after with_record w)
   unfolding after
   keeps_more w fits K = record { first = first; records = records; rows = λ u k. rows_more u k (w.row u k) (K.rows u k) }
     where

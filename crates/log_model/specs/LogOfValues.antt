@@ -17,7 +17,7 @@ use Rattle.mon_msg.specs.Puts.{put_number}
 use Rattle.mon_msg.specs.Fold.{entry, fold}
 use Rattle.mon_msg.specs.Protocol.Changes.{erase}
 use Rattle.mon_msg.specs.Protocol.Value.{value}
-use Rattle.mon_msg.specs.Protocol.View.{View, view}
+use Rattle.mon_msg.specs.Protocol.Readings.{Readings, readings_of}
 
 -- what every command is made of
 abbrev pub IsCommand : Command → Type 0
@@ -36,11 +36,11 @@ pub data IsOlder : List Op → List Op → Type 0 where
   range : (a : Area) (from to : ℕ) {ops older : List Op} → IsOlder ops older → IsOlder (EraseRange (area_text a) from to ∷ ops) (one_by_one a from to ++ older)
 
 -- what a store tells where the versions of a log up to v are committed
-abbrev pub view_at : List (List ℕ) → ℕ → View
-view_at log v = view (apply_op (put_number area.Paxos key.LastCommitted v) (fold log v))
+abbrev pub view_at : List (List ℕ) → ℕ → Readings
+view_at log v = readings_of (apply_op (put_number area.Paxos key.LastCommitted v) (fold log v))
 
 -- the changes are a value of a command that a monitor was asked, over what a store tells
-pub record IsValue (w : View) (older : List Op) : Type 0 where
+pub record IsValue (w : Readings) (older : List Op) : Type 0 where
   pub command : Command
   pub form : IsCommand command
   pub asked : ℕ

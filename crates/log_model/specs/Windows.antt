@@ -12,10 +12,10 @@ use Rattle.mon_wire.specs.declared.reply.Reply.TheVariants as reply
 use Rattle.mon_wire.specs.declared.request.Service.{Service}
 use Rattle.mon_msg.specs.Fold.{entry, incrementals, map_after, map_of_log, version_of_log}
 use Rattle.mon_msg.specs.Protocol.Parts.{map_text}
-use Rattle.mon_msg.specs.Protocol.Reading.{service_last, read_map}
+use Rattle.mon_msg.specs.Protocol.Services.{service_last, read_map}
 use Rattle.mon_msg.specs.Protocol.Reads.{changes_after, since}
 use Rattle.mon_msg.specs.Protocol.Rules.{full_every, service_keeps, service_goes, paxos_due, paxos_keeps}
-use Rattle.mon_msg.specs.Protocol.View.{View}
+use Rattle.mon_msg.specs.Protocol.Readings.{Readings}
 
 -- ---- which versions
 
@@ -83,14 +83,14 @@ first_read from zero = 0
 first_read from (suc n) = from (suc n)
 
 -- A store tells what the first c versions of a log leave. What it tells of later versions is left open.
-pub record Keeps (log : List (List ℕ)) (c : ℕ) (w : View) : Type 0 where
+pub record Keeps (log : List (List ℕ)) (c : ℕ) (w : Readings) : Type 0 where
   pub first : w.first ≡ first_read log_from c
   pub records : (v : ℕ) → v ≤ c → w.record_of v ≡ record_after log c v
   pub rows : (s : Service) (k : Key) → w.row s k ≡ row_after s (incrementals s log c) k
 
 -- What is shown of each service is what the first c versions of a log make of it, from nothing: its map, its version, and the
 -- incrementals after version v, unless so old ones aren't kept any more.
-pub record Shows (log : List (List ℕ)) (c : ℕ) (w : View) : Type 0 where
+pub record Shows (log : List (List ℕ)) (c : ℕ) (w : Readings) : Type 0 where
   pub version : (s : Service) → service_last w s ≡ version_of_log s log c
   pub map : (s : Service) → read_map w s ≡ map_of_log s log c
   pub since : (s : Service) (v : ℕ) → since w s v ≡ (if nat_le (first_read service_from (version_of_log s log c)) (suc v)

@@ -12,10 +12,10 @@ ghost use Rattle.mon_msg.specs.Puts.{put, put_number};
 ghost use Rattle.mon_msg.specs.Fold.{entry, fold};
 ghost use Rattle.mon_msg.specs.Protocol.Maps.{most_map};
 ghost use Rattle.mon_msg.specs.Protocol.Parts.{map_text};
-ghost use Rattle.mon_msg.specs.Protocol.Reading.{service_last, read_map, may_tell};
+ghost use Rattle.mon_msg.specs.Protocol.Services.{service_last, read_map, may_tell};
 ghost use Rattle.mon_msg.specs.Protocol.Records.{longest, most_value};
 ghost use Rattle.mon_msg.specs.Protocol.Value.{service_of};
-ghost use Rattle.mon_msg.specs.Protocol.View.{View, view, after};
+ghost use Rattle.mon_msg.specs.Protocol.Readings.{Readings, readings_of, after};
 ghost use Rattle.log_model.specs.LogOfValues.{AllValues, IsValue, LogOf};
 ghost use Rattle.log_model.specs.Windows.{Keeps, IsKeptKey, Shows};
 
@@ -24,19 +24,19 @@ ghost use Rattle.log_model.specs.Windows.{Keeps, IsKeptKey, Shows};
 /// kept them keeps them once it learns the next version. There are such logs of every length. A value over such a store has a
 /// text, which is short enough to be proposed, and with that text the versions before it are again such a log.
 pub fn law_windows()
-    ensures fold { (log : List (List ℕ)) → length log ≤ 2 ^ 62 → AllValues log → (c : ℕ) → c ≤ length log → Keeps log c (view (fold log c)) }
-    ensures above { (log : List (List ℕ)) → length log ≤ 2 ^ 62 → AllValues log → (c : ℕ) → c ≤ length log → (v : ℕ) → c < v → (view (fold log c)).record_of v ≡ None }
-    ensures learned { (log : List (List ℕ)) → length log ≤ 2 ^ 62 → AllValues log → (c : ℕ) → c < length log → (w : View)
+    ensures fold { (log : List (List ℕ)) → length log ≤ 2 ^ 62 → AllValues log → (c : ℕ) → c ≤ length log → Keeps log c (readings_of (fold log c)) }
+    ensures above { (log : List (List ℕ)) → length log ≤ 2 ^ 62 → AllValues log → (c : ℕ) → c ≤ length log → (v : ℕ) → c < v → (readings_of (fold log c)).record_of v ≡ None }
+    ensures learned { (log : List (List ℕ)) → length log ≤ 2 ^ 62 → AllValues log → (c : ℕ) → c < length log → (w : Readings)
         → Keeps log c w → Keeps log (suc c) (after (put area.Paxos (key.Version (suc c)) (entry log (suc c)) ∷ ops_in (entry log (suc c))) w) }
     ensures some { (n : ℕ) → n ≤ 2 ^ 62 → LogOf n }
-    ensures next { (log : List (List ℕ)) → AllValues log → (c : ℕ) → c ≤ length log → c < 2 ^ 62 → (w : View) → Keeps log c w → w.last ≡ c
+    ensures next { (log : List (List ℕ)) → AllValues log → (c : ℕ) → c ≤ length log → c < 2 ^ 62 → (w : Readings) → Keeps log c w → w.last ≡ c
         → (value : List Op) → IsValue w value → HasText value × (length (text value) ≤ most_value) × AllValues (take c log ++ text value ∷ []) }
 {}
 
 /// A value has a text that is short enough to be proposed, whatever the store tells that it is made over, where the store can
 /// hold the next numbers and its map is no longer than a map may be.
 pub fn law_proposed()
-    ensures { (w : View) (value : List Op) (made : IsValue w value) → w.last ≤ 2 ^ 62 → suc (service_last w (service_of made.command)) ≤ 2 ^ 62
+    ensures { (w : Readings) (value : List Op) (made : IsValue w value) → w.last ≤ 2 ^ 62 → suc (service_last w (service_of made.command)) ≤ 2 ^ 62
         → length (map_text (read_map w (service_of made.command))) ≤ most_map (service_of made.command) → HasText value × (length (text value) ≤ most_value) }
 {}
 
@@ -49,7 +49,7 @@ pub fn law_shared()
     ensures greatest { (log : List (List ℕ)) → length log ≤ 2 ^ 62 → AllValues log → (c : ℕ) → c ≤ length log → (at : Place) (bytes : List ℕ)
         → get (fold log c) at ≡ Some bytes → (at ≡ place area.Paxos key.FirstCommitted) ⊎ (place_cmp at (place area.Paxos key.FirstCommitted) ≡ Less) }
     ensures keeps { (log : List (List ℕ)) → length log ≤ 2 ^ 62 → AllValues log → (c : ℕ) → c ≤ length log → (m : Store)
-        → shared m ≡ fold log c → number m area.Paxos key.LastCommitted ≡ c → Keeps log c (view m) }
+        → shared m ≡ fold log c → number m area.Paxos key.LastCommitted ≡ c → Keeps log c (readings_of m) }
     ensures learned { (log : List (List ℕ)) → length log ≤ 2 ^ 62 → AllValues log → (c : ℕ) → c < length log → (m : Store)
         → shared m ≡ fold log c → number m area.Paxos key.LastCommitted ≡ c
         → shared (apply (put area.Paxos (key.Version (suc c)) (entry log (suc c)) ∷ (ops_in (entry log (suc c)) ++ put_number area.Paxos key.LastCommitted (suc c) ∷ [])) m) ≡ fold log (suc c) }
@@ -58,8 +58,8 @@ pub fn law_shared()
 /// What is shown of a service is what the log makes of it, however much was trimmed: its map, its version and its incrementals.
 /// As many of these as a reply may tell are the first ones, and it tells whether there are more.
 pub fn law_shown()
-    ensures kept { (log : List (List ℕ)) → length log ≤ 2 ^ 62 → AllValues log → (c : ℕ) → c ≤ length log → (w : View) → Keeps log c w → Shows log c w }
-    ensures shared { (log : List (List ℕ)) → length log ≤ 2 ^ 62 → AllValues log → (c : ℕ) → c ≤ length log → (m : Store) → shared m ≡ fold log c → Shows log c (view m) }
+    ensures kept { (log : List (List ℕ)) → length log ≤ 2 ^ 62 → AllValues log → (c : ℕ) → c ≤ length log → (w : Readings) → Keeps log c w → Shows log c w }
+    ensures shared { (log : List (List ℕ)) → length log ≤ 2 ^ 62 → AllValues log → (c : ℕ) → c ≤ length log → (m : Store) → shared m ≡ fold log c → Shows log c (readings_of m) }
     ensures first { (incrementals : List (List ℕ)) → longest may_tell incrementals ≡ take (length (longest may_tell incrementals)) incrementals }
     ensures more { (incrementals : List (List ℕ)) (v told : ℕ) → IsTrue (nat_lt told (length (drop v incrementals))) ↔ (v + told < length incrementals) }
 {}

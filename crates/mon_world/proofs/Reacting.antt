@@ -26,12 +26,12 @@ use Rattle.mon_msg.specs.Protocol.Commands.{text_length, most_text, is_too_long,
 use Rattle.mon_msg.specs.Protocol.Entering.{next_even}
 use Rattle.mon_msg.specs.Protocol.Proposing.{refusal}
 use Rattle.mon_msg.specs.Protocol.Reaction as protocol
-use Rattle.mon_msg.specs.Protocol.Reading.{service_first, service_last}
+use Rattle.mon_msg.specs.Protocol.Services.{service_first, service_last}
 use Rattle.mon_msg.specs.Protocol.Reads.{shown, since}
 use Rattle.mon_msg.specs.Protocol.State.{State, booting}
 use Rattle.mon_msg.specs.Protocol.Value.{service_of, value}
-use Rattle.mon_msg.specs.Protocol.View.{view, shared_entries, or_zero, epoch_of}
-use Rattle.mon_msg.specs.Protocol.View.{number_if_there, epoch_or_first}
+use Rattle.mon_msg.specs.Protocol.Readings.{readings_of, shared_entries, or_zero, epoch_of}
+use Rattle.mon_msg.specs.Protocol.Readings.{number_if_there, epoch_or_first}
 use Rattle.mon_kv.specs.Readers as readers
 use Rattle.mon_msg.specs.declared.input.Input.{Input}
 use Rattle.mon_msg.specs.declared.input.Input.TheVariants as input
@@ -60,8 +60,8 @@ use Rattle.mon_world.specs.Node.{Fails, Reacts, sends_of, IsReaction, start_tx, 
 use Rattle.mon_world.proofs.Sizes.{none-short, commit-short}
 
 -- the epoch as the map's reader tells it
-pub epoch_read : (m : Store) → readers.epoch m ≡ epoch_of (view m)
-unfolding view
+pub epoch_read : (m : Store) → readers.epoch m ≡ epoch_of (readings_of m)
+unfolding readings_of
 epoch_read m = by (cell m area.Monitor key.ElectionEpoch)
   where
     by : (c : Cell) → unwrap_or (number_if_there c) 1 ≡ epoch_or_first (number_if_there c)
@@ -81,12 +81,12 @@ unfolding number_in
 number_of None = refl
 number_of (Some bytes) = refl
 
-module _ (now : ℕ) (m : Store) (h : IsSettled (view m)) where
+module _ (now : ℕ) (m : Store) (h : IsSettled (readings_of m)) where
   abbrev boot : ℕ
-  boot = suc (view m).boot
+  boot = suc (readings_of m).boot
 
   abbrev epoch : ℕ
-  epoch = next_even (epoch_of (view m))
+  epoch = next_even (epoch_of (readings_of m))
 
   abbrev last_pn : ℕ
   last_pn = number_in (cell m area.Paxos key.LastPn)
@@ -100,8 +100,8 @@ module _ (now : ℕ) (m : Store) (h : IsSettled (view m)) where
   abbrev by_numbers : ℕ → ℕ → ℕ → Result protocol.Reaction Which
   by_numbers = started_by itself.member.most itself.member.in_map now m h.unmarked h.settled
 
-  same_number : number (view m) ≡ pn
-  unfolding view
+  same_number : number (readings_of m) ≡ pn
+  unfolding readings_of
   same_number = λ i. next_number (number_of (cell m area.Paxos key.LastPn) i) (number_of (cell m area.Paxos key.AcceptedPn) i) 0
 
   started : protocol.reaction itself now m (booting 0) input.Start ≡ by_numbers boot epoch pn
@@ -131,9 +131,9 @@ module _ (now : ℕ) (m : Store) (h : IsSettled (view m)) where
       let v : leb pn (2 ^ 62) ≡ true = le-leb _ _ p in
       let d = done itself.member.most itself.member.in_map now m h.unmarked h.settled boot epoch pn in
       record {
-        reaction = starting itself.member.most itself.member.in_map (shared_entries m) now (view m) boot epoch pn;
+        reaction = starting itself.member.most itself.member.in_map (shared_entries m) now (readings_of m) boot epoch pn;
         is = started ∙ rw (t, u, v) refl;
-        transaction = d.transaction ∙ start_ops (view m).epoch boot epoch pn ∙ sym tx;
+        transaction = d.transaction ∙ start_ops (readings_of m).epoch boot epoch pn ∙ sym tx;
         sends = d.sends ∙ rw none refl;
         waits = record { leads = d.leads; renews = d.renews };
       }
@@ -165,10 +165,10 @@ module _ (now : ℕ) (m : Store) (s : State) (waits : Waits s) (session : Sessio
     wanted = protocol.reaction itself now m s (input.Client session r)
 
     abbrev n : ℕ
-    n = suc (service_last (view m) (service_of c))
+    n = suc (service_last (readings_of m) (service_of c))
 
     abbrev last : ℕ
-    last = (view m).last
+    last = (readings_of m).last
 
     pub command-long : most_text c < text_length c → wanted ≡ Ok (stays (too_long c))
     command-long h = reaction-long itself.member.most itself.member.in_map now m s waits.leads r c session is (lt-ltb (most_text c) (text_length c) h)
@@ -177,32 +177,32 @@ module _ (now : ℕ) (m : Store) (s : State) (waits : Waits s) (session : Sessio
       not_long : is_too_long c ≡ false
       not_long = le-ltb (most_text c) (text_length c) short
 
-      made : (ops : List Op) → value (view m) c 0 ≡ Ok ops → wanted ≡ committed_by itself.member.most itself.member.in_map now m s waits.leads (service_of c) ops session
+      made : (ops : List Op) → value (readings_of m) c 0 ≡ Ok ops → wanted ≡ committed_by itself.member.most itself.member.in_map now m s waits.leads (service_of c) ops session
       made ops e = reaction-command itself.member.most itself.member.in_map now m s waits.leads r c ops session is not_long e
 
-      refusing : (e : CommandRefused) → value (view m) c 0 ≡ Err e → wanted ≡ cond (leb n (2 ^ 62)) (Ok (stays (refusal itself now e))) (Err which.Version)
+      refusing : (e : CommandRefused) → value (readings_of m) c 0 ≡ Err e → wanted ≡ cond (leb n (2 ^ 62)) (Ok (stays (refusal e))) (Err which.Version)
       refusing e q = reaction-refused itself.member.most itself.member.in_map now m s waits.leads r c e session is not_long q
 
       pub command-spent : 2 ^ 62 < n → wanted ≡ Err which.Version
-      command-spent above = by (value (view m) c 0) refl
+      command-spent above = by (value (readings_of m) c 0) refl
         where
           t : leb n (2 ^ 62) ≡ false
           t = lt-leb n (2 ^ 62) above
 
-          by : (v : Result (List Op) CommandRefused) → value (view m) c 0 ≡ v → wanted ≡ Err which.Version
+          by : (v : Result (List Op) CommandRefused) → value (readings_of m) c 0 ≡ v → wanted ≡ Err which.Version
           by (Ok ops) e = made ops e ∙ rw t refl
           by (Err k) e = refusing k e ∙ rw t refl
 
-      pub command-refused : n ≤ 2 ^ 62 → (e : CommandRefused) → value (view m) c 0 ≡ Err e → wanted ≡ Ok (stays (refusal itself now e))
+      pub command-refused : n ≤ 2 ^ 62 → (e : CommandRefused) → value (readings_of m) c 0 ≡ Err e → wanted ≡ Ok (stays (refusal e))
       command-refused fits e q = let t = le-leb n (2 ^ 62) fits in refusing e q ∙ rw t refl
 
-      pub command-full : n ≤ 2 ^ 62 → 2 ^ 62 < suc last → (ops : List Op) → value (view m) c 0 ≡ Ok ops → wanted ≡ Err which.Version
+      pub command-full : n ≤ 2 ^ 62 → 2 ^ 62 < suc last → (ops : List Op) → value (readings_of m) c 0 ≡ Ok ops → wanted ≡ Err which.Version
       command-full fits above ops e =
           let t = le-leb n (2 ^ 62) fits in
           let u = lt-leb (suc last) (2 ^ 62) above in
           made ops e ∙ rw (t, u) refl
 
-      pub command-done : n ≤ 2 ^ 62 → suc last ≤ 2 ^ 62 → (ops : List Op) → value (view m) c 0 ≡ Ok ops → IsShortValue (view m) (service_of c) ops
+      pub command-done : n ≤ 2 ^ 62 → suc last ≤ 2 ^ 62 → (ops : List Op) → value (readings_of m) c 0 ≡ Ok ops → IsShortValue (readings_of m) (service_of c) ops
           → (y : Reaction) → y.tx ≡ commit_tx last ops → y.answer ≡ Some (record { to = session; reply = reply.Done (suc last) }) → IsReaction y wanted
       command-done fits last_fits ops e V y tx answer =
           let t = le-leb n (2 ^ 62) fits in
@@ -215,10 +215,10 @@ module _ (now : ℕ) (m : Store) (s : State) (waits : Waits s) (session : Sessio
             waits = record { leads = record { active = refl; quorum = refl; queue = refl }; renews = record { end = waits.renews.end; timers = waits.renews.timers } };
           }
         where
-          once : (ops : List Op) → IsShortValue (view m) (service_of c) ops → joined (spelled (Learn (suc last) ops ∷ Last (suc last) ∷ [])) ≡ spelled (Learn (suc last) ops ∷ Last (suc last) ∷ [])
+          once : (ops : List Op) → IsShortValue (readings_of m) (service_of c) ops → joined (spelled (Learn (suc last) ops ∷ Last (suc last) ∷ [])) ≡ spelled (Learn (suc last) ops ∷ Last (suc last) ∷ [])
           once ops V =
               subst (λ (ops : List Op). joined (spelled (Learn (suc last) ops ∷ Last (suc last) ∷ [])) ≡ spelled (Learn (suc last) ops ∷ Last (suc last) ∷ [])) (sym V.is)
-              (commits_once (service_of c) (view m).first last n (service_first (view m) (service_of c)) V.incremental V.text)
+              (commits_once (service_of c) (readings_of m).first last n (service_first (readings_of m) (service_of c)) V.incremental V.text)
 
 -- a refusal for another cause than memory is the one that is wanted
 refusal_is : (e : CommandRefused) (wanted : Result (List Op) CommandRefused) → (e ≡ refused.OutOfMemory → ⊥) → Refuses e wanted → wanted ≡ Err e
@@ -227,12 +227,12 @@ refusal_is (refused.TooLong n longest) wanted not h = h
 refusal_is (refused.MapFull n) wanted not h = h
 refusal_is refused.OutOfMemory wanted not h = absurd (not refl)
 
-pub refused-reacts : (now : ℕ) (m : Store) (s : State) (waits : Waits s) (session : Session) (r : Request) (c : Command) → command_of r ≡ Some c → text_length c ≤ most_text c → suc (service_last (view m) (service_of c)) ≤ 2 ^ 62
-    → (e : CommandRefused) → Refuses e (value (view m) c 0) → (result : Result Reaction NodeStop) → IfOk result (λ x. x ≡ record { tx = []; answer = Some (record { to = session; reply = refusal itself now e }) }) → IfOk result (λ _. e ≡ refused.OutOfMemory → ⊥)
+pub refused-reacts : (now : ℕ) (m : Store) (s : State) (waits : Waits s) (session : Session) (r : Request) (c : Command) → command_of r ≡ Some c → text_length c ≤ most_text c → suc (service_last (readings_of m) (service_of c)) ≤ 2 ^ 62
+    → (e : CommandRefused) → Refuses e (value (readings_of m) c 0) → (result : Result Reaction NodeStop) → IfOk result (λ x. x ≡ record { tx = []; answer = Some (record { to = session; reply = refusal e }) }) → IfOk result (λ _. e ≡ refused.OutOfMemory → ⊥)
     → IfErr result (λ x. x ≡ stop.OutOfMemory) → Reacts result (protocol.reaction itself now m s (input.Client session r))
 refused-reacts now m s waits session r c is short fits e refuses (Ok x) answer kept memory =
-    answer-done now m s waits session (input.Client session r) x (refusal itself now e) (refusal itself now e) answer refl
-    (command-refused now m s waits session r c is short fits e (refusal_is e (value (view m) c 0) kept refuses))
+    answer-done now m s waits session (input.Client session r) x (refusal e) (refusal e) answer refl
+    (command-refused now m s waits session r c is short fits e (refusal_is e (value (readings_of m) c 0) kept refuses))
 refused-reacts now m s waits session r c is short fits e refuses (Err x) answer kept memory = subst (λ (x : NodeStop). Fails x (protocol.reaction itself now m s (input.Client session r))) (sym memory) tt
 
 pub refused-short : (to : Session) (y : Reply) (result : Result Reaction NodeStop) → IfOk result (λ x. x ≡ record { tx = []; answer = Some (record { to = to; reply = y }) }) → IfOk result (λ x. length (text x.tx) ≤ most)
@@ -240,13 +240,13 @@ refused-short to y (Ok x) h = none-short x.tx (ap (λ (x : Reaction). x.tx) h)
 refused-short to y (Err e) h = tt
 
 -- a value's text, and that of what commits it, where the numbers fit
-module _ (m : Store) (s : Service) (ops : List Op) (V : IsShortValue (view m) s ops) (last : (view m).last < 2 ^ 62) (fits : suc (service_last (view m) s) ≤ 2 ^ 62) where
+module _ (m : Store) (s : Service) (ops : List Op) (V : IsShortValue (readings_of m) s ops) (last : (readings_of m).last < 2 ^ 62) (fits : suc (service_last (readings_of m) s) ≤ 2 ^ 62) where
   pub value-short : length (text ops) ≤ most_value
   value-short =
-      value_short (view m).first (view m).last (area_of s) (suc (service_last (view m) s)) (service_first (view m) s) V.incremental V.text ops V.is (omega arith) fits V.short_incremental V.short_text ops (older_itself ops)
+      value_short (readings_of m).first (readings_of m).last (area_of s) (suc (service_last (readings_of m) s)) (service_first (readings_of m) s) V.incremental V.text ops V.is (omega arith) fits V.short_incremental V.short_text ops (older_itself ops)
 
-  pub committed-short : length (text (commit_tx (view m).last ops)) ≤ most
-  committed-short = commit-short (view m).last ops last value-short
+  pub committed-short : length (text (commit_tx (readings_of m).last ops)) ≤ most
+  committed-short = commit-short (readings_of m).last ops last value-short
 
 -- what isn't at most a number is above it
 pub above : (n m : ℕ) → (n ≤ m → false ≡ true) → m < n
@@ -255,12 +255,12 @@ above n m fails = elim (cases_lt m n) [ inl lt ↦ lt | inr le ↦ let lost = fa
 -- ---- readings
 
 pub show-is : (now : ℕ) (m : Store) (s : State) (waits : Waits s) (session : Session) (service : Service)
-    → protocol.reaction itself now m s (input.Client session (request.Show service)) ≡ Ok (answered itself.member.most itself.member.in_map now m s waits.leads session (cond (ltb 0 (view m).last) (shown (view m) service) (reply.NotReadable (view m).last true)))
-show-is now m s waits session service = reaction-show itself.member.most itself.member.in_map now m s waits.leads session service (ltb 0 (view m).last) refl
+    → protocol.reaction itself now m s (input.Client session (request.Show service)) ≡ Ok (answered itself.member.most itself.member.in_map now m s waits.leads session (cond (ltb 0 (readings_of m).last) (shown (readings_of m) service) (reply.NotReadable (readings_of m).last true)))
+show-is now m s waits session service = reaction-show itself.member.most itself.member.in_map now m s waits.leads session service (ltb 0 (readings_of m).last) refl
 
 pub since-is : (now : ℕ) (m : Store) (s : State) (waits : Waits s) (session : Session) (service : Service) (v : ℕ)
-    → protocol.reaction itself now m s (input.Client session (request.Since service v)) ≡ Ok (answered itself.member.most itself.member.in_map now m s waits.leads session (cond (ltb 0 (view m).last) (since (view m) service v) (reply.NotReadable (view m).last true)))
-since-is now m s waits session service v = reaction-since itself.member.most itself.member.in_map now m s waits.leads session service v (ltb 0 (view m).last) refl
+    → protocol.reaction itself now m s (input.Client session (request.Since service v)) ≡ Ok (answered itself.member.most itself.member.in_map now m s waits.leads session (cond (ltb 0 (readings_of m).last) (since (readings_of m) service v) (reply.NotReadable (readings_of m).last true)))
+since-is now m s waits session service v = reaction-since itself.member.most itself.member.in_map now m s waits.leads session service v (ltb 0 (readings_of m).last) refl
 
 -- ---- a timer
 

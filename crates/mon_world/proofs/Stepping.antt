@@ -9,7 +9,7 @@ use Rattle.mon_tx.specs.Map.{Store, apply}
 use Rattle.mon_tx.specs.declared.op.Op.{Op}
 use Rattle.mon_msg.specs.Protocol.Reaction as protocol
 use Rattle.mon_msg.specs.Protocol.State.{State, booting}
-use Rattle.mon_msg.specs.Protocol.View.{view, epoch_of}
+use Rattle.mon_msg.specs.Protocol.Readings.{readings_of, epoch_of}
 use Rattle.mon_msg.specs.declared.input.Input.{Input}
 use Rattle.mon_msg.specs.declared.input.Input.TheVariants as input
 use Rattle.mon_wire.specs.declared.phase.Timer.{Timer}
@@ -83,7 +83,7 @@ is_up : (b : Bool) (s : State) → b ≡ true → Waits s → IsUp b (Some s)
 is_up b s e h = subst (λ (b : Bool). IsUp b (Some s)) (sym e) h
 
 stands_at : (m : Store) (s : State) → Waits s → state_of m s ≡ state_in m
-stands_at m s h = λ i. record { phase = h.leads.active i; epoch = epoch_of (view m); last = last_of m }
+stands_at m s h = λ i. record { phase = h.leads.active i; epoch = epoch_of (readings_of m); last = last_of m }
 
 module _ (old new : World) (w : Model) (e : Event) (at : ℕ) (i : Input) (before : Option StateLine) (y : Reaction) (x : protocol.Reaction) where
   abbrev arrived : Arrival
@@ -111,7 +111,7 @@ module _ (old new : World) (w : Model) (e : Event) (at : ℕ) (i : Input) (befor
   grows_large : most_size < size_of (map_after w 0 x) → took w e arrived (Some (Ok x)) ≡ Err (happens.Full (size_of (map_after w 0 x)))
   grows_large large = rw (lt-ltb most_size (size_of (map_after w 0 x)) large) refl
 
-  stands_so : StandsFor old w → x.transaction ≡ y.tx → x.sends ≡ sends_of y.answer → Waits x.state → IsSettled (view (map_after w 0 x)) → IsStored new.site after → new.log ≡ log_after old.log after → StandsFor new (moved w e 0 x)
+  stands_so : StandsFor old w → x.transaction ≡ y.tx → x.sends ≡ sends_of y.answer → Waits x.state → IsSettled (readings_of (map_after w 0 x)) → IsStored new.site after → new.log ≡ log_after old.log after → StandsFor new (moved w e 0 x)
   unfolding moved
   stands_so stand tx sends waits settled stored log = record {
     map = stored.map ∙ ap Some (sym (kept tx));
@@ -122,7 +122,7 @@ module _ (old new : World) (w : Model) (e : Event) (at : ℕ) (i : Input) (befor
     silent = λ j. stand.silent j ++ (ap letters_in sends ∙ none_in y.answer) j;
   }
 
-  ran : (result : Result StepLine WorldStop) → StandsFor old w → before ≡ state_before w 0 i → x.transaction ≡ y.tx → x.sends ≡ sends_of y.answer → Waits x.state → IsSettled (view (map_after w 0 x))
+  ran : (result : Result StepLine WorldStop) → StandsFor old w → before ≡ state_before w 0 i → x.transaction ≡ y.tx → x.sends ≡ sends_of y.answer → Waits x.state → IsSettled (readings_of (map_after w 0 x))
       → Takes result new old.log (taken_line 0 before y after) after → Does result new (took w e arrived (Some (Ok x)))
   ran (Ok line) stand was tx sends waits settled takes =
       let small : size_of (map_after w 0 x) ≤ most_size = subst (λ (m : Store). size_of m ≤ most_size) (sym (kept tx)) takes.1.small in
@@ -150,8 +150,8 @@ same_map e = cc
 pub map_is : (site : SiteState) (m n : Store) → site.map ≡ Some m → site.map ≡ Some n → m ≡ n
 map_is site m n is too = same_map (sym is ∙ too)
 
-pub settled_here : (w : Model) (m : Store) → m ≡ w.store 0 → IsSettled (view (w.store 0)) → IsSettled (view m)
-settled_here w m is settled = subst (λ (m : Store). IsSettled (view m)) (sym is) settled
+pub settled_here : (w : Model) (m : Store) → m ≡ w.store 0 → IsSettled (readings_of (w.store 0)) → IsSettled (readings_of m)
+settled_here w m is settled = subst (λ (m : Store). IsSettled (readings_of m)) (sym is) settled
 
 -- ---- a start
 
@@ -166,7 +166,7 @@ module _ (old : World) (w : Model) (rank at : ℕ) (is_0 : rank ≡ 0) (m : Stor
       (λ takes.
       subst (Does result new) (sym (ap (λ (r : Result protocol.Reaction Which). took w (Start 0 at) (record { rank = 0; at = at; input = input.Start }) (Some r)) done))
       (ran old new w (Start 0 at) at input.Start None y r.reaction result stand refl r.transaction r.sends r.waits
-      (ok_has (λ x. IsSettled (view (apply x.transaction (w.store 0)))) (begins (w.store 0)) r.reaction done (start_settled at (w.store 0) stand.settled)) takes))
+      (ok_has (λ x. IsSettled (readings_of (apply x.transaction (w.store 0)))) (begins (w.store 0)) r.reaction done (start_settled at (w.store 0) stand.settled)) takes))
     where
       done : begins (w.store 0) ≡ Ok r.reaction
       done = ap begins (sym is) ∙ r.is
@@ -205,12 +205,12 @@ module _ (old : World) (w : Model) (at : ℕ) (event : Event) (i : Input) (stand
     (before_is : (s : State) → w.state 0 ≡ Some s → state_before w 0 i ≡ Some (state_of (w.store 0) s)) where
   pub up-ran : (result : Result StepLine WorldStop) (new : World) (m : Store) (before : StateLine) (y : Reaction) → is_some old.site.standing ≡ true → m ≡ w.store 0 → before ≡ state_in m
       → ((s : State) → Waits s → IsReaction y (protocol.reaction itself at m s i))
-      → ((s : State) → Waits s → IfOk (protocol.reaction itself at (w.store 0) s i) (λ x. IsSettled (view (apply x.transaction (w.store 0)))))
+      → ((s : State) → Waits s → IfOk (protocol.reaction itself at (w.store 0) s i) (λ x. IsSettled (readings_of (apply x.transaction (w.store 0)))))
       → Takes result new old.log (taken_line 0 (Some before) y (apply y.tx (w.store 0))) (apply y.tx (w.store 0)) → Does result new (step alone w event)
   up-ran result new m before y up is was reacts settles takes =
       subst (Does result new) (sym (comes known.state known.is ∙ ap (λ (r : Result protocol.Reaction Which). took w event (record { rank = 0; at = at; input = i }) (Some r)) done))
       (ran old new w event at i (Some before) y r.reaction result stand stood r.transaction r.sends r.waits
-      (ok_has (λ x. IsSettled (view (apply x.transaction (w.store 0)))) (protocol.reaction itself at (w.store 0) known.state i) r.reaction done (settles known.state known.waits)) takes)
+      (ok_has (λ x. IsSettled (readings_of (apply x.transaction (w.store 0)))) (protocol.reaction itself at (w.store 0) known.state i) r.reaction done (settles known.state known.waits)) takes)
     where
       known : Remembers w
       known = remembers (is_some old.site.standing) w up stand.up
@@ -282,11 +282,11 @@ module _ (old : World) (w : Model) (rank at : ℕ) (is_0 : rank ≡ 0) (t : Time
   stood_so : (s : State) → w.state 0 ≡ Some s → state_before w 0 (input.Timer t) ≡ Some (state_of (w.store 0) s)
   stood_so s was = rw was refl
 
-  settles : (s : State) → Waits s → IfOk (protocol.reaction itself at (w.store 0) s (input.Timer t)) (λ x. IsSettled (view (apply x.transaction (w.store 0))))
+  settles : (s : State) → Waits s → IfOk (protocol.reaction itself at (w.store 0) s (input.Timer t)) (λ x. IsSettled (readings_of (apply x.transaction (w.store 0))))
   settles s waits =
       let R = rings itself.member.most itself.member.in_map at (w.store 0) s waits t in
-      subst (λ (r : Result protocol.Reaction Which). IfOk r (λ x. IsSettled (view (apply x.transaction (w.store 0))))) (sym R.is)
-      (subst (λ (tx : List Op). IsSettled (view (apply tx (w.store 0)))) (sym R.stays.transaction) stand.settled)
+      subst (λ (r : Result protocol.Reaction Which). IfOk r (λ x. IsSettled (readings_of (apply x.transaction (w.store 0))))) (sym R.is)
+      (subst (λ (tx : List Op). IsSettled (readings_of (apply tx (w.store 0)))) (sym R.stays.transaction) stand.settled)
 
   pub rung-ran : (result : Result StepLine WorldStop) (new : World) (m : Store) (before : StateLine) (y : Reaction) → is_some old.site.standing ≡ true → m ≡ w.store 0 → before ≡ state_in m
       → ((s : State) → Waits s → IsReaction y (protocol.reaction itself at m s (input.Timer t)))

@@ -6,7 +6,7 @@ use Rattle.mon_tx.specs.declared.key.Area.TheVariants as area
 use Rattle.mon_tx.specs.declared.key.Key.TheVariants as key
 use Rattle.mon_tx.specs.Text.{text}
 use Rattle.mon_msg.specs.Puts.{put, put_number}
-use Rattle.mon_msg.specs.Protocol.View.{View}
+use Rattle.mon_msg.specs.Protocol.Readings.{Readings}
 use Rattle.mon_wire.specs.declared.reply.Reply.{Reply}
 use Rattle.mon_wire.specs.declared.reply.Reply.TheVariants.{NotReadable}
 use Rattle.mon_msg.specs.Protocol.Reaction as protocol
@@ -55,5 +55,5 @@ commit_tx last ops = put area.Paxos (key.Version (suc last)) (text ops) ∷ (ops
 -- ---- what is read
 
 -- a reply that is read of the map, once a version is committed
-abbrev pub where_readable : View → Reply → Reply
+abbrev pub where_readable : Readings → Reply → Reply
 where_readable w reply = if nat_lt 0 w.last then reply else NotReadable w.last true

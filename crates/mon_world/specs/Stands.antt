@@ -5,7 +5,7 @@ use Rattle.mon_kv.specs.Readers.{size_of}
 use Rattle.mon_store.specs.Checkpoint.{most_size}
 use Rattle.trace_text.specs.declared.step.StepLine.{StepLine}
 use Rattle.mon_msg.specs.Protocol.State.{State}
-use Rattle.mon_msg.specs.Protocol.View.{view}
+use Rattle.mon_msg.specs.Protocol.Readings.{readings_of}
 use Rattle.quorum_model.specs.Alone.{Waits, IsSettled}
 use Rattle.quorum_model.specs.Happens as happens
 use Rattle.quorum_model.specs.World as model
@@ -34,7 +34,7 @@ pub record StandsFor (world : World) (w : model.World) : Type 0 where
   pub up : IsUp (is_some world.site.standing) (w.state 0)
   pub log : world.log ≡ length w.log
   pub small : size_of (w.store 0) ≤ most_size
-  pub settled : IsSettled (view (w.store 0))
+  pub settled : IsSettled (readings_of (w.store 0))
   pub silent : w.letters ≡ []
 
 -- the run stops as it should, unless memory ran out

@@ -5,7 +5,7 @@ use Rattle.mon_tx.specs.Map.{Store}
 use Rattle.mon_msg.specs.Protocol.Phases.{same_phase}
 use Rattle.mon_msg.specs.Protocol.Reaction.{Reaction}
 use Rattle.mon_msg.specs.Protocol.State.{State}
-use Rattle.mon_msg.specs.Protocol.View.{view, epoch_of}
+use Rattle.mon_msg.specs.Protocol.Readings.{readings_of, epoch_of}
 use Rattle.mon_msg.specs.declared.input.Input.{Input}
 use Rattle.mon_msg.specs.declared.input.Input.TheVariants as input
 use Rattle.mon_msg.specs.declared.plan.Sent.{Sent}
@@ -25,7 +25,7 @@ use Rattle.trace_text.specs.declared.step.StateLine.{StateLine}
 use Rattle.trace_text.specs.declared.step.StepLine.{StepLine}
 
 abbrev pub state_of : Store → State → StateLine
-state_of m s = record { phase = s.phase; epoch = epoch_of (view m); last = last_of m }
+state_of m s = record { phase = s.phase; epoch = epoch_of (readings_of m); last = last_of m }
 
 abbrev pub same_state : StateLine → StateLine → Bool
 same_state a b = same_phase a.phase b.phase && (a.epoch == b.epoch && a.last == b.last)

@@ -3,7 +3,7 @@ use Rattle.std.specs.Prelude.{◌≡◌, ℕ, ◌≤◌, ◌<◌, true, [], leng
 use Rattle.mon_kv.specs.Readers.{size_of}
 use Rattle.mon_store.specs.Checkpoint.{most_size}
 use Rattle.mon_tx.specs.Map.{Store}
-use Rattle.mon_msg.specs.Protocol.View.{view, epoch_of}
+use Rattle.mon_msg.specs.Protocol.Readings.{readings_of, epoch_of}
 use Rattle.mon_wire.specs.declared.phase.Phase.TheVariants as phase
 use Rattle.quorum_model.specs.Growth.{last_of}
 use Rattle.trace_text.specs.declared.step.Outcome.TheVariants.{Ran}
@@ -37,7 +37,7 @@ Stores (Err e) site m = IsntStored e m
 
 -- where a monitor stands that leads itself
 abbrev pub state_in : Store → StateLine
-state_in m = record { phase = phase.Active; epoch = epoch_of (view m); last = last_of m }
+state_in m = record { phase = phase.Active; epoch = epoch_of (readings_of m); last = last_of m }
 
 -- the lines of a reaction of a monitor that leads itself, whose map is m after it
 abbrev pub taken_line : ℕ → Option StateLine → Reaction → Store → StepLine

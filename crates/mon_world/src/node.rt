@@ -8,7 +8,7 @@ ghost use Rattle.mon_msg.specs.Protocol.Proposing.{refusal as refusal_of};
 ghost use Rattle.mon_msg.specs.Protocol.Reaction.{reaction};
 ghost use Rattle.mon_msg.specs.Protocol.State.{State, booting};
 ghost use Rattle.mon_msg.specs.Protocol.Value.{service_of};
-ghost use Rattle.mon_msg.specs.Protocol.View.{view, epoch_of};
+ghost use Rattle.mon_msg.specs.Protocol.Readings.{readings_of, epoch_of};
 ghost use Rattle.quorum_model.specs.Alone.{Waits, IsSettled};
 ghost use Rattle.quorum_model.specs.Clients.{command_of};
 ghost use Rattle.quorum_model.specs.Monitors.{itself};
@@ -69,7 +69,7 @@ fn pn_of(n: u64) -> Pn
 /// The stored epoch; one that isn't there counts as 1.
 #[tactic(auto, using(crate::proofs::Reacting::epoch_read))]
 pub fn stored_epoch(kv: &Kv) -> u64
-    ensures value { result ≡ epoch_of (view kv.now) }
+    ensures value { result ≡ epoch_of (readings_of kv.now) }
     ensures most { result ≤ 2 ^ 62 }
 {
     kv.epoch()
@@ -89,7 +89,7 @@ fn start_tx(alloc: Global, boot: u64, epoch: u64, pn: u64) -> Result<Transaction
 /// A start: it is counted, and the monitor takes the next even epoch and collects with a new number from itself alone.
 pub fn start(alloc: Global, rank: Rank, kv: &Kv) -> Result<Reaction, NodeStop>
     requires { rank ≡ 0 }
-    ensures reaction { (now : ℕ) → IsSettled (view kv.now) → Reacts result (reaction itself now kv.now (booting 0) input.Start) }
+    ensures reaction { (now : ℕ) → IsSettled (readings_of kv.now) → Reacts result (reaction itself now kv.now (booting 0) input.Start) }
     ensures short { IfOk result (λ r. length (text r.tx) ≤ most) }
 {
     let boot = kv.boot_count() + 1;
@@ -149,7 +149,7 @@ fn lengths_of(command: &Command) -> (u64, u64)
 
 /// The answer to a command of which there is no value.
 fn refused(alloc: Global, to: Session, refusal: CommandRefused) -> Result<Reaction, NodeStop>
-    ensures answer { (now : ℕ) → IfOk result (λ r. r ≡ record { tx = []; answer = Some (record { to = to; reply = refusal_of itself now refusal }) }) }
+    ensures answer { IfOk result (λ r. r ≡ record { tx = []; answer = Some (record { to = to; reply = refusal_of refusal }) }) }
     ensures kept { IfOk result (λ _. refusal ≡ CommandRefused.OutOfMemory → ⊥) }
     ensures memory { IfErr result (λ e. e ≡ NodeStop.OutOfMemory) }
 {

@@ -2,7 +2,7 @@
 
 ghost use Rattle.std.specs.Prelude.{◌≡◌, true, IfOk};
 ghost use Rattle.mon_msg.specs.Protocol.Reads as reads;
-ghost use Rattle.mon_msg.specs.Protocol.View.{view};
+ghost use Rattle.mon_msg.specs.Protocol.Readings.{readings_of};
 ghost use Rattle.mon_world.specs.Node.{where_readable};
 
 use mon_bytes::OutOfMemory;
@@ -23,9 +23,9 @@ fn unreadable(paxos: Version) -> Reply
 }
 
 /// What a show of a service's map answers.
-#[tactic(auto, unfolding(mon_msg::specs::Protocol::View::view))]
+#[tactic(auto, unfolding(mon_msg::specs::Protocol::Readings::readings_of))]
 pub fn shown(alloc: Global, kv: &Kv, service: Service) -> Result<Reply, OutOfMemory>
-    ensures { IfOk result (λ reply. reply ≡ where_readable (view kv.now) (reads.shown (view kv.now) service)) }
+    ensures { IfOk result (λ reply. reply ≡ where_readable (readings_of kv.now) (reads.shown (readings_of kv.now) service)) }
 {
     let paxos = Version::known(kv.last_committed());
     if paxos.get() == 0 {
@@ -35,14 +35,14 @@ pub fn shown(alloc: Global, kv: &Kv, service: Service) -> Result<Reply, OutOfMem
 }
 
 /// What changed a service's map after a version.
-#[tactic(auto, unfolding(mon_msg::specs::Protocol::View::view))]
+#[tactic(auto, unfolding(mon_msg::specs::Protocol::Readings::readings_of))]
 pub fn changes(
     alloc: Global,
     kv: &Kv,
     service: Service,
     version: Version,
 ) -> Result<Reply, OutOfMemory>
-    ensures { IfOk result (λ reply. reply ≡ where_readable (view kv.now) (reads.since (view kv.now) service version)) }
+    ensures { IfOk result (λ reply. reply ≡ where_readable (readings_of kv.now) (reads.since (readings_of kv.now) service version)) }
 {
     let paxos = Version::known(kv.last_committed());
     if paxos.get() == 0 {

@@ -21,7 +21,7 @@ use Rattle.mon_msg.specs.Joined.{joined}
 use Rattle.mon_msg.specs.Protocol.Changes.{Learn, Last, spelled}
 use Rattle.mon_msg.specs.Protocol.Reaction.{Reaction}
 use Rattle.mon_msg.specs.Protocol.Value.{service_of, value}
-use Rattle.mon_msg.specs.Protocol.View.{view, epoch_of}
+use Rattle.mon_msg.specs.Protocol.Readings.{readings_of, epoch_of}
 use Rattle.quorum_model.specs.Alone.{Waits}
 use Rattle.quorum_model.specs.Clients.{command_of, made_by, letters_in, all_acknowledged, all_replied}
 use Rattle.quorum_model.specs.Clients.{command_of, incremental_of, made_by, letters_in, all_acknowledged, all_replied}
@@ -46,7 +46,7 @@ once_push [] a h k = (tt, tt)
 once_push (b ∷ before) a h k = (all_append (λ (c : Acknowledged). ¬ (c.version ≡ b.version)) before (a ∷ []) h.0 (k.0, tt), once_push before a h.1 k.1)
 
 module _ (w : World) (inv : Inv w) (at : ℕ) (session : Session) (request : Request) (command : Command) (is : command_of request ≡ Some command) (form : IsCommand command)
-    (ops : List Op) (valued : value (view (w.store 0)) command 0 ≡ Ok ops) (r : Reaction) (waits : Waits r.state) (room : length w.log < 2 ^ 62) where
+    (ops : List Op) (valued : value (readings_of (w.store 0)) command 0 ≡ Ok ops) (r : Reaction) (waits : Waits r.state) (room : length w.log < 2 ^ 62) where
   abbrev c : ℕ
   c = length w.log
 
@@ -66,9 +66,9 @@ module _ (w : World) (inv : Inv w) (at : ℕ) (session : Session) (request : Req
   m = apply r.transaction (w.store 0)
 
   abbrev epoch : ℕ
-  epoch = epoch_of (view m)
+  epoch = epoch_of (readings_of m)
 
-  V : IsValue (view (w.store 0)) ops
+  V : IsValue (readings_of (w.store 0)) ops
   V = record { command = command; form = form; asked = 0; rank = omega arith; newer = ops; made = valued; spelled = older_itself ops }
 
   module _ (transaction : r.transaction ≡ joined (spelled (Learn (suc c) ops ∷ Last (suc c) ∷ []))) (sends : r.sends ≡ sent.Reply session (reply.Done (suc c)) ∷ []) where
@@ -125,8 +125,8 @@ module _ (w : World) (inv : Inv w) (at : ℕ) (session : Session) (request : Req
     told : value (view_at (grown w.log m) c) command 0 ≡ Ok ops
     told =
         ap (λ (l : List (List ℕ)). value (view_at l c) command 0) same_log
-        ∙ ap (λ (s : Store). value (view (apply_op (put_number area.Paxos key.LastCommitted c) s)) command 0) (fold_stays (fronts_push w.log bytes) c (omega arith))
-        ∙ value_told w.log inv.holds.fits inv.holds.values (view (w.store 0)) (keeps_log w.log (w.store 0) inv.holds) (read_last w.log (w.store 0) inv.holds) command 0 ∙ valued
+        ∙ ap (λ (s : Store). value (readings_of (apply_op (put_number area.Paxos key.LastCommitted c) s)) command 0) (fold_stays (fronts_push w.log bytes) c (omega arith))
+        ∙ value_told w.log inv.holds.fits inv.holds.values (readings_of (w.store 0)) (keeps_log w.log (w.store 0) inv.holds) (read_last w.log (w.store 0) inv.holds) command 0 ∙ valued
 
     values : (v : ℕ) → c ≤ v → v < length (grown w.log m) → IsAsked committed v
     values v low high = subst (IsAsked committed) here (record {
@@ -155,7 +155,7 @@ module _ (w : World) (inv : Inv w) (at : ℕ) (session : Session) (request : Req
       where
         puts : put_in (service_of command) (ops_in (entry (grown w.log m) (suc c))) ≡ x ∷ []
         puts = ap (λ (l : List (List ℕ)). put_in (service_of command) (ops_in (entry l (suc c)))) same_log ∙ ap (λ (e : List ℕ). put_in (service_of command) (ops_in e)) (entry_push w.log bytes)
-            ∙ ap (put_in (service_of command)) reads_value ∙ puts_command (view (w.store 0)) command 0 ops valued
+            ∙ ap (put_in (service_of command)) reads_value ∙ puts_command (readings_of (w.store 0)) command 0 ops valued
 
     last_is : last_of m ≡ length (grown w.log m)
     last_is = ap last_of same_store ∙ holds.last ∙ ap length (sym same_log)

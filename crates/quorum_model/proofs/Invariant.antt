@@ -14,7 +14,7 @@ use Rattle.mon_msg.specs.Puts.{put_number}
 use Rattle.mon_msg.specs.Fold.{entry, fold, put_in, map_after, map_of_log}
 use Rattle.mon_msg.specs.Protocol.State.{State}
 use Rattle.mon_msg.specs.Protocol.Value.{value}
-use Rattle.mon_msg.specs.Protocol.View.{view}
+use Rattle.mon_msg.specs.Protocol.Readings.{readings_of}
 use Rattle.quorum_model.specs.Alone.{Waits}
 use Rattle.mon_kv.specs.Readers.{is_marked}
 use Rattle.quorum_model.specs.World.{World, Asked, Acknowledged, Replied, first_world}
@@ -120,7 +120,7 @@ module _ (w new : World) (grown : Grown w new) where
     command = h.command;
     is = h.is;
     ops = h.ops;
-    made = subst (λ (m : Store). value (view (apply_op (put_number area.Paxos key.LastCommitted v) m)) h.command h.by.rank ≡ Ok h.ops) (sym (fold_stays grown.fronts v (omega arith))) h.made;
+    made = subst (λ (m : Store). value (readings_of (apply_op (put_number area.Paxos key.LastCommitted v) m)) h.command h.by.rank ≡ Ok h.ops) (sym (fold_stays grown.fronts v (omega arith))) h.made;
     spells = entry_stays grown.fronts (suc v) lt ∙ h.spells;
   }
 

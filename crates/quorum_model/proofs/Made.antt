@@ -12,9 +12,9 @@ use Rattle.mon_wire.specs.declared.reply.ShownMap.TheVariants as map
 use Rattle.mon_msg.specs.Fold.{put_in}
 use Rattle.mon_msg.specs.Puts.{area_of}
 use Rattle.mon_msg.specs.Protocol.Parts.{map_text}
-use Rattle.mon_msg.specs.Protocol.Reading.{service_first, service_last, read_map}
+use Rattle.mon_msg.specs.Protocol.Services.{service_first, service_last, read_map}
 use Rattle.mon_msg.specs.Protocol.Value.{service_of, made, value_of, value}
-use Rattle.mon_msg.specs.Protocol.View.{View}
+use Rattle.mon_msg.specs.Protocol.Readings.{Readings}
 use Rattle.quorum_model.specs.Clients.{incremental_of}
 use Rattle.log_model.proofs.Puts.{puts_value}
 
@@ -44,7 +44,7 @@ made_is (map.Kv m) asked (command.Log t) x next e = absurd cc
 made_is (map.Log es) asked (command.Set k v) x next e = absurd cc
 made_is (map.Log es) asked (command.Remove k) x next e = absurd cc
 
-pub puts_command : (w : View) (c : Command) (asked : ℕ) (ops : List Op) → value w c asked ≡ Ok ops → put_in (service_of c) ops ≡ incremental_of asked c ∷ []
+pub puts_command : (w : Readings) (c : Command) (asked : ℕ) (ops : List Op) → value w c asked ≡ Ok ops → put_in (service_of c) ops ≡ incremental_of asked c ∷ []
 unfolding value
 puts_command w c asked ops h = by (made (read_map w (service_of c)) asked c) refl
   where

@@ -17,7 +17,7 @@ use Rattle.mon_msg.specs.Joined.{joined}
 use Rattle.mon_msg.specs.Fold.{incrementals, map_of_log, version_of_log}
 use Rattle.mon_msg.specs.Protocol.Changes.{Change, spelled}
 use Rattle.mon_msg.specs.Protocol.Reaction.{Reaction}
-use Rattle.mon_msg.specs.Protocol.View.{view, epoch_of}
+use Rattle.mon_msg.specs.Protocol.Readings.{readings_of, epoch_of}
 use Rattle.mon_msg.proofs.Joining.{apply-joined}
 use Rattle.quorum_model.specs.Alone.{Waits}
 use Rattle.quorum_model.specs.Clients.{made_by_event, with_asked, letters_in, acknowledged_by, all_acknowledged, all_replied}
@@ -114,7 +114,7 @@ module _ (w : World) (inv : Inv w) (e : Event) (r : Reaction) (cs : List Change)
   m = apply r.transaction (w.store 0)
 
   abbrev epoch : ℕ
-  epoch = epoch_of (view m)
+  epoch = epoch_of (readings_of m)
 
   abbrev acks : List Acknowledged
   acks = cond (leads r.state.phase) (all_acknowledged (suc w.events) r.state.leader.pn epoch (made_by_event e) r.sends) []

@@ -15,9 +15,9 @@ use Rattle.mon_wire.specs.declared.request.Service.{Service}
 use Rattle.mon_wire.specs.declared.request.Service.TheVariants.{Kv, Log}
 use Rattle.mon_msg.specs.Puts.{put, put_number}
 use Rattle.mon_msg.specs.Puts.{area_of}
-use Rattle.mon_msg.specs.Protocol.View.{cell_after}
+use Rattle.mon_msg.specs.Protocol.Readings.{cell_after}
 use Rattle.mon_msg.specs.Protocol.Rules.{paxos_to, value_ops}
-use Rattle.mon_msg.specs.Protocol.View.{marks, view}
+use Rattle.mon_msg.specs.Protocol.Readings.{marks, readings_of}
 use Rattle.quorum_model.specs.Alone.{IsSettled}
 use Rattle.log_model.proofs.AreaEdits.{Edit, Set, spelled, final, cell_after-append, cell_here, cell_elsewhere}
 use Rattle.log_model.proofs.Holds.{number_none}
@@ -25,12 +25,12 @@ use Rattle.log_model.proofs.Own.{Same}
 use Rattle.log_model.proofs.RuleEdits.{first_set, begun, log_cut}
 use Rattle.log_model.proofs.Windows.{learned, elsewhere, log_cell}
 
-pub settled_first : IsSettled (view empty)
-unfolding view
+pub settled_first : IsSettled (readings_of empty)
+unfolding readings_of
 settled_first = record { unmarked = ap marks (get-empty place_cmp _) ∙ ap (λ n. eqb n 1) number_none; settled = ap number_in (get-empty place_cmp _) ∙ number_none }
 
-pub settled_same : (m new : Store) → Same m new → IsSettled (view m) → IsSettled (view new)
-unfolding view
+pub settled_same : (m new : Store) → Same m new → IsSettled (readings_of m) → IsSettled (readings_of new)
+unfolding readings_of
 settled_same m new same h = record { unmarked = ap marks same.mark ∙ h.unmarked; settled = ap number_in same.pending ∙ h.settled }
 
 module _ (s : Service) (first last n service_first : ℕ) (x t bytes : List ℕ) where
@@ -57,8 +57,8 @@ module _ (s : Service) (first last n service_first : ℕ) (x t bytes : List ℕ)
       ∙ cond_both (ltb 750 (last - first)) (log_cut first (paxos_to first last)) [] (λ es. final es key.PendingV (final (begun last) key.PendingV c) ≡ final (begun last) key.PendingV c) (λ e. refl) (λ e. refl)
       ∙ cond_both (eqb last 0) (first_set 1) [] (λ es. final es key.PendingV c ≡ c) (λ e. refl) (λ e. refl)
 
-  pub settled_commit : (m : Store) → IsSettled (view m) → IsSettled (view (apply committing m))
-  unfolding view
+  pub settled_commit : (m : Store) → IsSettled (readings_of m) → IsSettled (readings_of (apply committing m))
+  unfolding readings_of
   settled_commit m h = record {
     unmarked = ap marks (get-apply committing m (place area.Sync key.InSync) ∙ mark_stays (cell m area.Sync key.InSync)) ∙ h.unmarked;
     settled = ap number_in (get-apply committing m (place area.Paxos key.PendingV) ∙ pending_stays (cell m area.Paxos key.PendingV)) ∙ h.settled;

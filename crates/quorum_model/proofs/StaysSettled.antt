@@ -14,11 +14,11 @@ use Rattle.mon_msg.specs.Protocol.Commands.{is_too_long, too_long}
 use Rattle.mon_msg.specs.Protocol.Parts.{map_text}
 use Rattle.mon_msg.specs.Protocol.Proposing.{refusal}
 use Rattle.mon_msg.specs.Protocol.Reaction.{Reaction, reaction}
-use Rattle.mon_msg.specs.Protocol.Reading.{service_first, service_last, read_map}
+use Rattle.mon_msg.specs.Protocol.Services.{service_first, service_last, read_map}
 use Rattle.mon_msg.specs.Protocol.Reads.{since}
 use Rattle.mon_msg.specs.Protocol.State.{State, booting}
 use Rattle.mon_msg.specs.Protocol.Value.{service_of, made, value_of, value}
-use Rattle.mon_msg.specs.Protocol.View.{View, view}
+use Rattle.mon_msg.specs.Protocol.Readings.{Readings, readings_of}
 use Rattle.mon_msg.specs.declared.input.Input.TheVariants as input
 use Rattle.mon_wire.specs.declared.reply.Reply.{Reply}
 use Rattle.mon_wire.specs.declared.reply.Reply.TheVariants as reply
@@ -40,12 +40,12 @@ all_ok P Q f (Ok r) h = f r h
 all_ok P Q f (Err which) h = tt
 
 -- a value is one of the rules', over what the store tells
-record IsMade (w : View) (c : Command) (ops : List Op) : Type 0 where
+record IsMade (w : Readings) (c : Command) (ops : List Op) : Type 0 where
   incremental : List ℕ
   next : ShownMap
   is : ops ≡ value_of w (service_of c) incremental next
 
-is_made : (w : View) (c : Command) (asked : ℕ) (ops : List Op) → value w c asked ≡ Ok ops → IsMade w c ops
+is_made : (w : Readings) (c : Command) (asked : ℕ) (ops : List Op) → value w c asked ≡ Ok ops → IsMade w c ops
 unfolding value
 is_made w c asked ops h = by (made (read_map w (service_of c)) asked c) refl
   where
@@ -53,9 +53,9 @@ is_made w c asked ops h = by (made (read_map w (service_of c)) asked c) refl
     by (Err e) p = let g = rw p at h in absurd cc
     by (Ok (x, next)) p = let g = rw p at h in let e : value_of w (service_of c) x next ≡ ops = cc in record { incremental = x; next = next; is = sym e }
 
-module _ (now : ℕ) (m : Store) (h : IsSettled (view m)) where
+module _ (now : ℕ) (m : Store) (h : IsSettled (readings_of m)) where
   abbrev After : Reaction → Type 0
-  After r = IsSettled (view (apply r.transaction m))
+  After r = IsSettled (readings_of (apply r.transaction m))
 
   own : (r : Reaction) → Starts r → After r
   own r s = settled_same m (apply r.transaction m) (subst (Same m) (sym (ap (λ (tx : List Op). apply tx m) s.transaction ∙ apply-joined _ m)) (same_changes s.changes m s.own)) h
@@ -63,12 +63,12 @@ module _ (now : ℕ) (m : Store) (h : IsSettled (view m)) where
   pub start_settled : IfOk (reaction itself now m (booting 0) input.Start) After
   start_settled = all_ok Starts After own _ (starts itself.member.most itself.member.in_map now m h.unmarked h.settled)
 
-  committed : (c : Command) (ops : List Op) → IsMade (view m) c ops → IsSettled (view (apply (joined (spelled (Learn (suc (view m).last) ops ∷ Last (suc (view m).last) ∷ []))) m))
+  committed : (c : Command) (ops : List Op) → IsMade (readings_of m) c ops → IsSettled (readings_of (apply (joined (spelled (Learn (suc (readings_of m).last) ops ∷ Last (suc (readings_of m).last) ∷ []))) m))
   committed c ops M =
-      subst (λ (n : Store). IsSettled (view n)) (sym (apply-joined (spelled (Learn (suc (view m).last) ops ∷ Last (suc (view m).last) ∷ [])) m))
-      (subst (λ (ops : List Op). IsSettled (view (apply (spelled (Learn (suc (view m).last) ops ∷ Last (suc (view m).last) ∷ [])) m))) (sym M.is)
-      (settled_commit (service_of c) (view m).first (view m).last (suc (service_last (view m) (service_of c))) (service_first (view m) (service_of c)) M.incremental (map_text M.next)
-      (text (value_of (view m) (service_of c) M.incremental M.next)) m h))
+      subst (λ (n : Store). IsSettled (readings_of n)) (sym (apply-joined (spelled (Learn (suc (readings_of m).last) ops ∷ Last (suc (readings_of m).last) ∷ [])) m))
+      (subst (λ (ops : List Op). IsSettled (readings_of (apply (spelled (Learn (suc (readings_of m).last) ops ∷ Last (suc (readings_of m).last) ∷ [])) m))) (sym M.is)
+      (settled_commit (service_of c) (readings_of m).first (readings_of m).last (suc (service_last (readings_of m) (service_of c))) (service_first (readings_of m) (service_of c)) M.incremental (map_text M.next)
+      (text (value_of (readings_of m) (service_of c) M.incremental M.next)) m h))
 
   module _ (s : State) (waits : Waits s) (session : Session) where
     abbrev came : Request → Result Reaction Which
@@ -83,16 +83,16 @@ module _ (now : ℕ) (m : Store) (h : IsSettled (view m)) where
     where_counted false y = tt
 
     command_settled : (r : Request) (c : Command) → command_of r ≡ Some c → IfOk (came r) After
-    command_settled r c is = by (is_too_long c) refl (value (view m) c 0) refl
+    command_settled r c is = by (is_too_long c) refl (value (readings_of m) c 0) refl
       where
-        by : (b : Bool) → is_too_long c ≡ b → (v : Result (List Op) CommandRefused) → value (view m) c 0 ≡ v → IfOk (came r) After
+        by : (b : Bool) → is_too_long c ≡ b → (v : Result (List Op) CommandRefused) → value (readings_of m) c 0 ≡ v → IfOk (came r) After
         by true long v e = subst (λ (x : Result Reaction Which). IfOk x After) (sym (reaction-long itself.member.most itself.member.in_map now m s waits.leads r c session is long)) (stays (too_long c))
         by false short (Err k) e =
             subst (λ (x : Result Reaction Which). IfOk x After) (sym (reaction-refused itself.member.most itself.member.in_map now m s waits.leads r c k session is short e))
-            (where_counted (leb (suc (service_last (view m) (service_of c))) (2 ^ 62)) (refusal (me itself.member.most itself.member.in_map) now k))
+            (where_counted (leb (suc (service_last (readings_of m) (service_of c))) (2 ^ 62)) (refusal k))
         by false short (Ok ops) e =
-            all_ok (Commits (view m) s ops session) After
-            (λ x C. subst (λ (tx : List Op). IsSettled (view (apply tx m))) (sym C.transaction) (committed c ops (is_made (view m) c 0 ops e))) _
+            all_ok (Commits (readings_of m) s ops session) After
+            (λ x C. subst (λ (tx : List Op). IsSettled (readings_of (apply tx m))) (sym C.transaction) (committed c ops (is_made (readings_of m) c 0 ops e))) _
             (commits itself.member.most itself.member.in_map now m s waits.leads r c ops session is short e)
 
     pub client_settled : (r : Request) → IfOk (came r) After
@@ -100,6 +100,6 @@ module _ (now : ℕ) (m : Store) (h : IsSettled (view m)) where
     client_settled (request.Remove k) = command_settled (request.Remove k) (command.Remove k) refl
     client_settled (request.Log t) = command_settled (request.Log t) (command.Log t) refl
     client_settled (request.Show service) =
-        subst (λ (x : Result Reaction Which). IfOk x After) (sym (reaction-show itself.member.most itself.member.in_map now m s waits.leads session service (ltb 0 (view m).last) refl)) (stays (cond (ltb 0 (view m).last) (reply.Shown service (view m).last (service_last (view m) service) (read_map (view m) service)) (reply.NotReadable (view m).last true)))
+        subst (λ (x : Result Reaction Which). IfOk x After) (sym (reaction-show itself.member.most itself.member.in_map now m s waits.leads session service (ltb 0 (readings_of m).last) refl)) (stays (cond (ltb 0 (readings_of m).last) (reply.Shown service (readings_of m).last (service_last (readings_of m) service) (read_map (readings_of m) service)) (reply.NotReadable (readings_of m).last true)))
     client_settled (request.Since service v) =
-        subst (λ (x : Result Reaction Which). IfOk x After) (sym (reaction-since itself.member.most itself.member.in_map now m s waits.leads session service v (ltb 0 (view m).last) refl)) (stays (cond (ltb 0 (view m).last) (since (view m) service v) (reply.NotReadable (view m).last true)))
+        subst (λ (x : Result Reaction Which). IfOk x After) (sym (reaction-since itself.member.most itself.member.in_map now m s waits.leads session service v (ltb 0 (readings_of m).last) refl)) (stays (cond (ltb 0 (readings_of m).last) (since (readings_of m) service v) (reply.NotReadable (readings_of m).last true)))

@@ -24,10 +24,10 @@ use Rattle.mon_msg.specs.Protocol.Changes.{Learn, Last, spelled}
 use Rattle.mon_msg.specs.Protocol.Commands.{is_too_long, too_long}
 use Rattle.mon_msg.specs.Protocol.Proposing.{refusal}
 use Rattle.mon_msg.specs.Protocol.Reaction.{Reaction, reaction}
-use Rattle.mon_msg.specs.Protocol.Reading.{service_last}
+use Rattle.mon_msg.specs.Protocol.Services.{service_last}
 use Rattle.mon_msg.specs.Protocol.State.{State}
 use Rattle.mon_msg.specs.Protocol.Value.{service_of, value}
-use Rattle.mon_msg.specs.Protocol.View.{view}
+use Rattle.mon_msg.specs.Protocol.Readings.{readings_of}
 use Rattle.quorum_model.specs.Alone.{Waits}
 use Rattle.quorum_model.specs.Clients.{command_of}
 use Rattle.quorum_model.specs.Events.{RequestFits, EventFits, AllFit}
@@ -123,9 +123,9 @@ module _ (w : World) (inv : Inv w) (s : State) (waits : Waits s) (at : ℕ) wher
     long_tells : (c : Command) → Tells w.log (too_long c)
     long_tells c = tt
 
-    value_keeps : (r : Request) (c : Command) → command_of r ≡ Some c → IsCommand c → (ops : List Op) → is_too_long c ≡ false → value (view (w.store 0)) c 0 ≡ Ok ops → Keeps r (came r)
+    value_keeps : (r : Request) (c : Command) → command_of r ≡ Some c → IsCommand c → (ops : List Op) → is_too_long c ≡ false → value (readings_of (w.store 0)) c 0 ≡ Ok ops → Keeps r (came r)
     value_keeps r c is form ops short valued =
-        on_reaction w (Client 0 at session r) (Commits (view (w.store 0)) s ops session)
+        on_reaction w (Client 0 at session r) (Commits (readings_of (w.store 0)) s ops session)
         (λ x h.
         let room : length w.log < 2 ^ 62 = let f = h.fits in omega (arith, last_is) in
         committed_keeps w inv at session r c is form ops valued x (record { leads = h.leads; renews = record { end = waits.renews.end; timers = h.timers ∙ waits.renews.timers } }) room
@@ -136,18 +136,18 @@ module _ (w : World) (inv : Inv w) (s : State) (waits : Waits s) (at : ℕ) wher
         done : ℕ → List Sent
         done v = sent.Reply session (reply.Done (suc v)) ∷ []
 
-        last_is : (view (w.store 0)).last ≡ length w.log
+        last_is : (readings_of (w.store 0)).last ≡ length w.log
         last_is = read_last w.log (w.store 0) inv.holds
 
     -- a command is too long, has no value, runs out of versions or is committed at once
     command_keeps : (r : Request) (c : Command) → command_of r ≡ Some c → IsCommand c → Keeps r (came r)
-    command_keeps r c is form = by (is_too_long c) refl (value (view (w.store 0)) c 0) refl
+    command_keeps r c is form = by (is_too_long c) refl (value (readings_of (w.store 0)) c 0) refl
       where
-        by : (b : Bool) → is_too_long c ≡ b → (v : Result (List Op) CommandRefused) → value (view (w.store 0)) c 0 ≡ v → Keeps r (came r)
+        by : (b : Bool) → is_too_long c ≡ b → (v : Result (List Op) CommandRefused) → value (readings_of (w.store 0)) c 0 ≡ v → Keeps r (came r)
         by true long v e = subst (Keeps r) (sym (reaction-long itself.member.most itself.member.in_map at (w.store 0) s waits.leads r c session is long)) (answer_keeps r (too_long c) (long_tells c))
         by false short (Err k) e =
             subst (Keeps r) (sym (reaction-refused itself.member.most itself.member.in_map at (w.store 0) s waits.leads r c k session is short e))
-            (refused_keeps r (refusal (me itself.member.most itself.member.in_map) at k) (leb (suc (service_last (view (w.store 0)) (service_of c))) (2 ^ 62)) (refusal_tells (me itself.member.most itself.member.in_map) at w.log k))
+            (refused_keeps r (refusal k) (leb (suc (service_last (readings_of (w.store 0)) (service_of c))) (2 ^ 62)) (refusal_tells w.log k))
         by false short (Ok ops) e = value_keeps r c is form ops short e
 
     request_keeps : (r : Request) → RequestFits r → Keeps r (came r)
@@ -155,11 +155,11 @@ module _ (w : World) (inv : Inv w) (s : State) (waits : Waits s) (at : ℕ) wher
     request_keeps (request.Remove k) fit = command_keeps (request.Remove k) (command.Remove k) refl fit
     request_keeps (request.Log t) fit = command_keeps (request.Log t) (command.Log t) refl fit
     request_keeps (request.Show service) fit =
-        subst (Keeps (request.Show service)) (sym (reaction-show itself.member.most itself.member.in_map at (w.store 0) s waits.leads session service (ltb 0 (view (w.store 0)).last) refl))
-        (answer_keeps (request.Show service) _ (show_tells w.log (w.store 0) inv.holds service (ltb 0 (view (w.store 0)).last)))
+        subst (Keeps (request.Show service)) (sym (reaction-show itself.member.most itself.member.in_map at (w.store 0) s waits.leads session service (ltb 0 (readings_of (w.store 0)).last) refl))
+        (answer_keeps (request.Show service) _ (show_tells w.log (w.store 0) inv.holds service (ltb 0 (readings_of (w.store 0)).last)))
     request_keeps (request.Since service v) fit =
-        subst (Keeps (request.Since service v)) (sym (reaction-since itself.member.most itself.member.in_map at (w.store 0) s waits.leads session service v (ltb 0 (view (w.store 0)).last) refl))
-        (answer_keeps (request.Since service v) _ (changes_tell w.log (w.store 0) inv.holds service v (ltb 0 (view (w.store 0)).last)))
+        subst (Keeps (request.Since service v)) (sym (reaction-since itself.member.most itself.member.in_map at (w.store 0) s waits.leads session service v (ltb 0 (readings_of (w.store 0)).last) refl))
+        (answer_keeps (request.Since service v) _ (changes_tell w.log (w.store 0) inv.holds service v (ltb 0 (readings_of (w.store 0)).last)))
 
 -- ---- an event
 

@@ -3,7 +3,7 @@ use Rattle.std.specs.Prelude.{◌≡◌, ℕ, false, List, [], Option, slice_set
 use Rattle.mon_msg.specs.Protocol.Sets.{only}
 use Rattle.mon_msg.specs.Protocol.State.{State}
 use Rattle.mon_msg.specs.Protocol.Timers.{index_of, unarmed}
-use Rattle.mon_msg.specs.Protocol.View.{View}
+use Rattle.mon_msg.specs.Protocol.Readings.{Readings}
 use Rattle.mon_wire.specs.declared.phase.Phase.TheVariants as phase
 use Rattle.mon_wire.specs.declared.phase.Timer.TheVariants as timer
 
@@ -27,6 +27,6 @@ pub record Waits (s : State) : Type 0 where
   pub renews : OnlyRenews s
 
 -- its store is under no synchronisation, and no value is pending
-pub record IsSettled (w : View) : Type 0 where
+pub record IsSettled (w : Readings) : Type 0 where
   pub unmarked : w.marked ≡ false
   pub settled : w.pending_v ≡ 0

@@ -6,7 +6,7 @@ use Rattle.mon_kv.specs.Readers.{size_of}
 use Rattle.mon_store.specs.Checkpoint.{most_size}
 use Rattle.mon_msg.specs.Protocol.Reaction.{Reaction}
 use Rattle.mon_msg.specs.Protocol.State.{State}
-use Rattle.mon_msg.specs.Protocol.View.{view, epoch_of}
+use Rattle.mon_msg.specs.Protocol.Readings.{readings_of, epoch_of}
 use Rattle.mon_wire.specs.declared.phase.Phase.{Phase}
 use Rattle.mon_wire.specs.declared.phase.Phase.TheVariants as phase
 use Rattle.quorum_model.specs.Monitors.{Monitors}
@@ -35,7 +35,7 @@ map_after w i r = apply r.transaction (w.store i)
 unfoldable pub moved : World → Event → ℕ → Reaction → World
 moved w e i r =
     let m = map_after w i r in
-    let epoch = epoch_of (view m) in
+    let epoch = epoch_of (readings_of m) in
     let event = suc w.events in
     record {
       store = put_at w.store i m;

@@ -11,8 +11,8 @@ use Rattle.mon_tx.specs.declared.key.Key.TheVariants as key
 use Rattle.mon_tx.specs.declared.op.Op.{Op}
 use Rattle.mon_tx.specs.declared.op.Op.TheVariants.{Put, Erase, ErasePrefix, EraseRange}
 use Rattle.mon_msg.specs.Protocol.Maps.{empty_map, next_map, spelled_map}
-use Rattle.mon_msg.specs.Protocol.Reading.{service_last, full_latest, full_map, read_on, read_map}
-use Rattle.mon_msg.specs.Protocol.View.{View, view}
+use Rattle.mon_msg.specs.Protocol.Services.{service_last, full_latest, full_map, read_on, read_map}
+use Rattle.mon_msg.specs.Protocol.Readings.{Readings, readings_of}
 use Rattle.mon_msg.specs.Puts.{area_of}
 use Rattle.mon_wire.specs.declared.reply.ShownMap.{ShownMap}
 use Rattle.mon_wire.specs.declared.request.Service.{Service}
@@ -27,28 +27,28 @@ use Rattle.svc_core.proofs.Starts.{read-full, reaches-full, read-empty, reaches-
 -- ---- readings up to a version
 
 -- the full map that a reading begins with, where there is one
-abbrev pub base : View → Service → Option ShownMap
+abbrev pub base : Readings → Service → Option ShownMap
 base w s = option_and_then (spelled_map s) (w.row s (key.Full (full_latest w s)))
 
-abbrev pub read_from : View → Service → ℕ → Option ShownMap → ShownMap
+abbrev pub read_from : Readings → Service → ℕ → Option ShownMap → ShownMap
 read_from w s n None = read_on w s n 1 (empty_map s)
 read_from w s n (Some m) = read_on w s (n - full_latest w s) (suc (full_latest w s)) m
 
-abbrev pub goes_from : View → Service → ℕ → Option ShownMap → Bool
+abbrev pub goes_from : Readings → Service → ℕ → Option ShownMap → Bool
 goes_from w s n None = goes_on w s n 1 (empty_map s)
 goes_from w s n (Some m) = goes_on w s (n - full_latest w s) (suc (full_latest w s)) m
 
-full-base : (w : View) (s : Service) → full_latest w s ≤ service_last w s → full_map w s ≡ base w s
+full-base : (w : Readings) (s : Service) → full_latest w s ≤ service_last w s → full_map w s ≡ base w s
 full-base w s le = ap (λ t. cond t (base w s) None) (le-leb _ _ le)
 
-pub read_map-from : (w : View) (s : Service) → full_latest w s ≤ service_last w s → read_map w s ≡ read_from w s (service_last w s) (base w s)
+pub read_map-from : (w : Readings) (s : Service) → full_latest w s ≤ service_last w s → read_map w s ≡ read_from w s (service_last w s) (base w s)
 read_map-from w s le = by (base w s) (full-base w s le)
   where
     by : (o : Option ShownMap) → full_map w s ≡ o → read_map w s ≡ read_from w s (service_last w s) o
     by None e = read-empty w s e
     by (Some m) e = read-full w s m e
 
-pub reaches-from : (w : View) (s : Service) → full_latest w s ≤ service_last w s → reaches_last w s ≡ goes_from w s (service_last w s) (base w s)
+pub reaches-from : (w : Readings) (s : Service) → full_latest w s ≤ service_last w s → reaches_last w s ≡ goes_from w s (service_last w s) (base w s)
 reaches-from w s le = by (base w s) (full-base w s le)
   where
     by : (o : Option ShownMap) → full_map w s ≡ o → reaches_last w s ≡ goes_from w s (service_last w s) o
@@ -57,12 +57,12 @@ reaches-from w s le = by (base w s) (full-base w s le)
 
 -- ---- the same row up to a version
 
-record Agrees (w x : View) (s : Service) (n : ℕ) : Type 0 where
+record Agrees (w x : Readings) (s : Service) (n : ℕ) : Type 0 where
   latest : x.row s key.FullLatest ≡ w.row s key.FullLatest
   full : (v : ℕ) → x.row s (key.Full v) ≡ w.row s (key.Full v)
   version : (v : ℕ) → v ≤ n → x.row s (key.Version v) ≡ w.row s (key.Version v)
 
-module _ (w x : View) (s : Service) (n : ℕ) (h : Agrees w x s n) where
+module _ (w x : Readings) (s : Service) (n : ℕ) (h : Agrees w x s n) where
   same_step : (v : ℕ) (m : ShownMap) → v ≤ n → step_at x s v m ≡ step_at w s v m
   same_step v m le = ap (option_and_then (next_map s m)) (h.version v le)
 
@@ -107,7 +107,7 @@ module _ (w x : View) (s : Service) (n : ℕ) (h : Agrees w x s n) where
 
 -- ---- one version more
 
-module _ (w : View) (s : Service) where
+module _ (w : Readings) (s : Service) where
   record Comes (count v : ℕ) (m next : ShownMap) : Type 0 where
     read : read_on w s count v m ≡ next
     goes : goes_on w s count v m ≡ true
@@ -143,13 +143,13 @@ module _ (w : View) (s : Service) where
 
 -- ---- a turn stands for a store
 
-pub record StandsFor (w : View) (s : Service) (t : Turn) : Type 0 where
+pub record StandsFor (w : Readings) (s : Service) (t : Turn) : Type 0 where
   pub read : read_from w s t.version (base w s) ≡ t.map
   pub goes : goes_from w s t.version (base w s) ≡ true
   pub not_newer : full_latest w s ≤ t.version
   pub told : t.told ≡ true → service_last w s ≡ t.version
 
-stands : (w x : View) (s : Service) (t : Turn) → Agrees w x s t.version → x.row s key.LastCommitted ≡ w.row s key.LastCommitted → StandsFor w s t → StandsFor x s t
+stands : (w x : Readings) (s : Service) (t : Turn) → Agrees w x s t.version → x.row s key.LastCommitted ≡ w.row s key.LastCommitted → StandsFor w s t → StandsFor x s t
 stands w x s t a last h = record {
   read = same_read w x s t.version a h.not_newer ∙ h.read;
   goes = same_goes w x s t.version a h.not_newer ∙ h.goes;
@@ -158,30 +158,30 @@ stands w x s t a last h = record {
 }
 
 -- a change of another prefix
-pub unchanged : (op : Op) (m : Store) (s : Service) (t : Turn) → bytes_eq (prefix_of op) (area_text (area_of s)) ≡ false → StandsFor (view m) s t → StandsFor (view (apply_op op m)) s t
+pub unchanged : (op : Op) (m : Store) (s : Service) (t : Turn) → bytes_eq (prefix_of op) (area_text (area_of s)) ≡ false → StandsFor (readings_of m) s t → StandsFor (readings_of (apply_op op m)) s t
 unchanged op m s t e h =
-    stands (view m) (view (apply_op op m)) s t
+    stands (readings_of m) (readings_of (apply_op op m)) s t
     (record { latest = row_stays op m s key.FullLatest e; full = λ v. row_stays op m s (key.Full v) e; version = λ v le. row_stays op m s (key.Version v) e })
     (row_stays op m s key.LastCommitted e) h
 
-module _ (m : Store) (s : Service) (value : List ℕ) (t : Turn) (h : StandsFor (view m) s t) where
-  abbrev with_put : Key → View
-  with_put k = view (apply_op (Put (area_text (area_of s)) (key_text k) value) m)
+module _ (m : Store) (s : Service) (value : List ℕ) (t : Turn) (h : StandsFor (readings_of m) s t) where
+  abbrev with_put : Key → Readings
+  with_put k = readings_of (apply_op (Put (area_text (area_of s)) (key_text k) value) m)
 
   pub first_put : StandsFor (with_put key.FirstCommitted) s t
   first_put =
-      stands (view m) (with_put key.FirstCommitted) s t
+      stands (readings_of m) (with_put key.FirstCommitted) s t
       (record { latest = row_put m s key.FirstCommitted value key.FullLatest; full = λ v. row_put m s key.FirstCommitted value (key.Full v); version = λ v le. row_put m s key.FirstCommitted value (key.Version v) })
       (row_put m s key.FirstCommitted value key.LastCommitted) h
 
   pub last_put : number_in (Some value) ≡ t.version → StandsFor (with_put key.LastCommitted) s (record { version = t.version; map = t.map; told = true })
   last_put e =
-      let a : Agrees (view m) (with_put key.LastCommitted) s t.version =
+      let a : Agrees (readings_of m) (with_put key.LastCommitted) s t.version =
       record { latest = row_put m s key.LastCommitted value key.FullLatest; full = λ v. row_put m s key.LastCommitted value (key.Full v); version = λ v le. row_put m s key.LastCommitted value (key.Version v) } in
       record {
-        read = same_read (view m) (with_put key.LastCommitted) s t.version a h.not_newer ∙ h.read;
-        goes = same_goes (view m) (with_put key.LastCommitted) s t.version a h.not_newer ∙ h.goes;
-        not_newer = let l = same_latest (view m) (with_put key.LastCommitted) s t.version a in rw l h.not_newer;
+        read = same_read (readings_of m) (with_put key.LastCommitted) s t.version a h.not_newer ∙ h.read;
+        goes = same_goes (readings_of m) (with_put key.LastCommitted) s t.version a h.not_newer ∙ h.goes;
+        not_newer = let l = same_latest (readings_of m) (with_put key.LastCommitted) s t.version a in rw l h.not_newer;
         told = λ _. ap number_in (row_put m s key.LastCommitted value key.LastCommitted) ∙ e;
       }
 
@@ -189,12 +189,12 @@ module _ (m : Store) (s : Service) (value : List ℕ) (t : Turn) (h : StandsFor 
   version_put next e =
       let k = key.Version (suc t.version) in
       let x = with_put k in
-      let below : (v : ℕ) → v ≤ t.version → x.row s (key.Version v) ≡ (view m).row s (key.Version v) =
-      λ v le. row_put m s k value (key.Version v) ∙ ap (λ b. cond b (Some value) ((view m).row s (key.Version v))) (ne_eqb v (suc t.version) (omega arith)) in
-      let a : Agrees (view m) x s t.version = record { latest = row_put m s k value key.FullLatest; full = λ v. row_put m s k value (key.Full v); version = below } in
-      let there : x.row s k ≡ Some value = row_put m s k value k ∙ ap (λ b. cond b (Some value) ((view m).row s k)) (eq-eqb (suc t.version) (suc t.version) refl) in
-      let l = same_latest (view m) x s t.version a in
+      let below : (v : ℕ) → v ≤ t.version → x.row s (key.Version v) ≡ (readings_of m).row s (key.Version v) =
+      λ v le. row_put m s k value (key.Version v) ∙ ap (λ b. cond b (Some value) ((readings_of m).row s (key.Version v))) (ne_eqb v (suc t.version) (omega arith)) in
+      let a : Agrees (readings_of m) x s t.version = record { latest = row_put m s k value key.FullLatest; full = λ v. row_put m s k value (key.Full v); version = below } in
+      let there : x.row s k ≡ Some value = row_put m s k value k ∙ ap (λ b. cond b (Some value) ((readings_of m).row s k)) (eq-eqb (suc t.version) (suc t.version) refl) in
+      let l = same_latest (readings_of m) x s t.version a in
       let le : full_latest x s ≤ t.version = rw l h.not_newer in
       let step : step_at x s (suc t.version) t.map ≡ Some next = ap (option_and_then (next_map s t.map)) there ∙ e in
-      let more = from_more x s t.version t.map next le (same_read (view m) x s t.version a h.not_newer ∙ h.read) (same_goes (view m) x s t.version a h.not_newer ∙ h.goes) step in
+      let more = from_more x s t.version t.map next le (same_read (readings_of m) x s t.version a h.not_newer ∙ h.read) (same_goes (readings_of m) x s t.version a h.not_newer ∙ h.goes) step in
       record { read = more.0; goes = more.1; not_newer = omega arith; told = λ e. absurd cc }

@@ -8,8 +8,8 @@ use Rattle.map_log.specs.declared.inc.LogInc.{LogInc}
 use Rattle.mon_tx.specs.declared.key.Key.TheVariants as key
 use Rattle.mon_tx.specs.Decision.{Cell}
 use Rattle.mon_msg.specs.Protocol.Maps.{empty_map, if_ok, most_map, short_map, with_incremental, next_map, spelled_map}
-use Rattle.mon_msg.specs.Protocol.Reading.{service_last, full_latest, full_map, read_on, read_map}
-use Rattle.mon_msg.specs.Protocol.View.{View}
+use Rattle.mon_msg.specs.Protocol.Services.{service_last, full_latest, full_map, read_on, read_map}
+use Rattle.mon_msg.specs.Protocol.Readings.{Readings}
 use Rattle.mon_wire.specs.declared.reply.ShownMap.{ShownMap}
 use Rattle.mon_wire.specs.declared.reply.ShownMap.TheVariants as map
 use Rattle.mon_wire.specs.declared.request.Service.{Service}
@@ -20,14 +20,14 @@ use Rattle.svc_core.proofs.Onwards.{read-none, read-some}
 use Rattle.svc_core.proofs.Starts.{read-full, read-empty}
 use Rattle.svc_core.proofs.Steps.{next_kind}
 
-step_kind : (w : View) (s : Service) (v : ℕ) (m x : ShownMap) → step_at w s v m ≡ Some x → kind x ≡ kind m
+step_kind : (w : Readings) (s : Service) (v : ℕ) (m x : ShownMap) → step_at w s v m ≡ Some x → kind x ≡ kind m
 step_kind w s v m x e = by (w.row s (key.Version v)) e
   where
     by : (c : Cell) → option_and_then (next_map s m) c ≡ Some x → kind x ≡ kind m
     by None e = absurd cc
     by (Some bytes) e = next_kind s m bytes x e
 
-on_kind : (w : View) (s : Service) (count v : ℕ) (m : ShownMap) → kind (read_on w s count v m) ≡ kind m
+on_kind : (w : Readings) (s : Service) (count v : ℕ) (m : ShownMap) → kind (read_on w s count v m) ≡ kind m
 unfolding read_on
 on_kind w s zero v m = refl
 on_kind w s (suc count) v m = by (step_at w s v m) refl (λ x. on_kind w s count (suc v) x)
@@ -50,7 +50,7 @@ spelled_kind service.Log bytes m e = by (leb (length bytes) 12288) (if_ok (log_d
     by true (Some x) e = let same : map.Log x ≡ m = cc in rw (← same) refl
     by false o e = absurd cc
 
-full_kind : (w : View) (s : Service) (m : ShownMap) → full_map w s ≡ Some m → kind m ≡ s
+full_kind : (w : Readings) (s : Service) (m : ShownMap) → full_map w s ≡ Some m → kind m ≡ s
 full_kind w s m e = by (leb (full_latest w s) (service_last w s)) (w.row s (key.Full (full_latest w s))) e
   where
     by : (b : Bool) (c : Cell) → cond b (option_and_then (spelled_map s) c) None ≡ Some m → kind m ≡ s
@@ -62,7 +62,7 @@ empty_kind : (s : Service) → kind (empty_map s) ≡ s
 empty_kind service.Kv = refl
 empty_kind service.Log = refl
 
-pub read_kind : (w : View) (s : Service) → kind (read_map w s) ≡ s
+pub read_kind : (w : Readings) (s : Service) → kind (read_map w s) ≡ s
 read_kind w s = by (full_map w s) refl
   where
     by : (o : Option ShownMap) → full_map w s ≡ o → kind (read_map w s) ≡ s

@@ -1,13 +1,13 @@
 -- Reading on, version by version.
 use Rattle.std.proofs.Common.{◌≡◌, ℕ, suc, ◌+◌, ◌-◌, ◌<◌, ◌≤◌, Bool, true, false, Option, Some, None, refl, sym, ap, ◌∙◌, arith}
-use Rattle.mon_msg.specs.Protocol.Reading.{read_on}
-use Rattle.mon_msg.specs.Protocol.View.{View}
+use Rattle.mon_msg.specs.Protocol.Services.{read_on}
+use Rattle.mon_msg.specs.Protocol.Readings.{Readings}
 use Rattle.mon_wire.specs.declared.reply.ShownMap.{ShownMap}
 use Rattle.mon_wire.specs.declared.request.Service.{Service}
 use Rattle.svc_core.specs.Kinds.{Stepped}
 use Rattle.svc_core.specs.Onward.{step_at, goes_on}
 
-module _ (w : View) (s : Service) where
+module _ (w : Readings) (s : Service) where
   pub read-none : (count v : ℕ) (m : ShownMap) → step_at w s v m ≡ None → read_on w s (suc count) v m ≡ m
   unfolding read_on
   read-none count v m e = ap (λ (o : Option ShownMap). elim o as (λ _. ShownMap) [ None ↦ m | Some next ↦ read_on w s count (suc v) next ]) e

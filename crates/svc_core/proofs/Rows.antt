@@ -16,7 +16,7 @@ use Rattle.mon_tx.proofs.After.{get-apply_op}
 use Rattle.mon_tx.proofs.Named.{decided-put}
 use Rattle.mon_tx.proofs.Places.{exact_places, is_equal}
 use Rattle.mon_tx.proofs.Ties.{same_text, same_area_itself}
-use Rattle.mon_msg.specs.Protocol.View.{view}
+use Rattle.mon_msg.specs.Protocol.Readings.{readings_of}
 use Rattle.mon_msg.specs.Puts.{area_of}
 use Rattle.mon_wire.specs.declared.request.Service.{Service}
 
@@ -49,14 +49,14 @@ decided-elsewhere (ErasePrefix prefix) q k e = ap (λ t. cond t (Some None) None
 decided-elsewhere (EraseRange prefix from to) q k e = ap (λ t. cond (t && is_within from to k) (Some None) None) (others_back prefix q e)
 
 -- a change of another prefix leaves the row
-pub row_stays : (op : Op) (m : Store) (s : Service) (k : Key) → bytes_eq (prefix_of op) (area_text (area_of s)) ≡ false → (view (apply_op op m)).row s k ≡ (view m).row s k
-unfolding view
+pub row_stays : (op : Op) (m : Store) (s : Service) (k : Key) → bytes_eq (prefix_of op) (area_text (area_of s)) ≡ false → (readings_of (apply_op op m)).row s k ≡ (readings_of m).row s k
+unfolding readings_of
 row_stays op m s k e =
     get-apply_op op m (place (area_of s) k) ∙ ap (λ d. or_before d (get m (place (area_of s) k))) (decided-elsewhere op (area_text (area_of s)) (key_text k) e)
 
 -- a put of a named key changes that key alone
-pub row_put : (m : Store) (s : Service) (n : Key) (value : List ℕ) (k : Key) → (view (apply_op (Put (area_text (area_of s)) (key_text n) value) m)).row s k ≡ cond (same_key k n) (Some value) ((view m).row s k)
-unfolding view
+pub row_put : (m : Store) (s : Service) (n : Key) (value : List ℕ) (k : Key) → (readings_of (apply_op (Put (area_text (area_of s)) (key_text n) value) m)).row s k ≡ cond (same_key k n) (Some value) ((readings_of m).row s k)
+unfolding readings_of
 row_put m s n value k =
     get-apply_op (Put (area_text (area_of s)) (key_text n) value) m (place (area_of s) k)
     ∙ ap (λ d. or_before d (get m (place (area_of s) k))) (decided-put (area_of s) n value (area_of s) k ∙ ap (λ t. cond (t && same_key k n) (Some (Some value)) None) (same_area_itself (area_of s)))

@@ -6,15 +6,15 @@ use Rattle.std.proofs.lemmas.List.Sums.{sum_by-append}
 use Rattle.std.specs.List.{sum_by}
 use Rattle.mon_tx.specs.Decision.{Cell}
 use Rattle.mon_tx.specs.declared.key.Key.TheVariants as key
-use Rattle.mon_msg.specs.Protocol.Reading.{kept_from, may_tell}
+use Rattle.mon_msg.specs.Protocol.Services.{kept_from, may_tell}
 use Rattle.mon_msg.specs.Protocol.Records.{longest_onto, longest}
-use Rattle.mon_msg.specs.Protocol.View.{View}
+use Rattle.mon_msg.specs.Protocol.Readings.{Readings}
 use Rattle.mon_wire.specs.declared.request.Service.{Service}
 
 abbrev size : List ℕ → ℕ
 size bytes = length bytes + 4
 
-module _ (w : View) (s : Service) where
+module _ (w : Readings) (s : Service) where
   kept-none : (count v : ℕ) → w.row s (key.Version v) ≡ None → kept_from w s (suc count) v ≡ []
   unfolding kept_from
   kept-none count v e = ap (λ (c : Cell). elim c as (λ _. List (List ℕ)) [ None ↦ [] | Some bytes ↦ bytes ∷ kept_from w s count (suc v) ]) e

@@ -9,8 +9,8 @@ use Rattle.mon_tx.specs.declared.key.Key.TheVariants as key
 use Rattle.mon_tx.specs.declared.op.Op.{Op}
 use Rattle.mon_tx.specs.declared.op.Op.TheVariants.{Put, Erase, ErasePrefix, EraseRange}
 use Rattle.mon_msg.specs.Protocol.Maps.{next_map}
-use Rattle.mon_msg.specs.Protocol.Reading.{service_last, full_latest, read_map}
-use Rattle.mon_msg.specs.Protocol.View.{View, view}
+use Rattle.mon_msg.specs.Protocol.Services.{service_last, full_latest, read_map}
+use Rattle.mon_msg.specs.Protocol.Readings.{Readings, readings_of}
 use Rattle.mon_msg.specs.Puts.{area_of}
 use Rattle.mon_wire.specs.declared.reply.ShownMap.{ShownMap}
 use Rattle.mon_wire.specs.declared.request.Service.{Service}
@@ -29,9 +29,9 @@ the_same t x e = cc
 module _ (s : Service) where
   -- where the store stands for the turn after a change
   abbrev Stands : Op → Store → Turn → Type 0
-  Stands op m x = StandsFor (view (apply_op op m)) s x
+  Stands op m x = StandsFor (readings_of (apply_op op m)) s x
 
-  put_followed : (m : Store) (k value : List ℕ) (t x : Turn) → StandsFor (view m) s t → after_put s k value t ≡ Some x → Stands (Put (area_text (area_of s)) k value) m x
+  put_followed : (m : Store) (k value : List ℕ) (t x : Turn) → StandsFor (readings_of m) s t → after_put s k value t ≡ Some x → Stands (Put (area_text (area_of s)) k value) m x
   put_followed m k value t x h e =
       by (bytes_eq k (key_text (key.Version (suc t.version)))) (bytes_eq k (key_text key.FirstCommitted)) (bytes_eq k (key_text key.LastCommitted)) (eqb (number_in (Some value)) t.version) (next_map s t.map value) refl refl refl refl refl e
     where
@@ -59,7 +59,7 @@ module _ (s : Service) where
   passed op m t x true h e = absurd cc
   passed op m t x false h e = let is = the_same t x e in rw (← is) (h refl)
 
-  op_followed : (op : Op) (m : Store) (t x : Turn) → StandsFor (view m) s t → after_op s op t ≡ Some x → Stands op m x
+  op_followed : (op : Op) (m : Store) (t x : Turn) → StandsFor (readings_of m) s t → after_op s op t ≡ Some x → Stands op m x
   op_followed (Put prefix k value) m t x h e = by (of_service s prefix) refl e
     where
       by : (b : Bool) → of_service s prefix ≡ b → cond b (after_put s k value t) (Some t) ≡ Some x → Stands (Put prefix k value) m x
@@ -69,17 +69,17 @@ module _ (s : Service) where
   op_followed (ErasePrefix prefix) m t x h e = passed (ErasePrefix prefix) m t x (of_service s prefix) (λ p. unchanged (ErasePrefix prefix) m s t p h) e
   op_followed (EraseRange prefix from to) m t x h e = passed (EraseRange prefix from to) m t x (of_service s prefix) (λ p. unchanged (EraseRange prefix from to) m s t p h) e
 
-  ops_followed : (ops : List Op) (m : Store) (t x : Turn) → StandsFor (view m) s t → after_ops s ops t ≡ Some x → StandsFor (view (apply ops m)) s x
+  ops_followed : (ops : List Op) (m : Store) (t x : Turn) → StandsFor (readings_of m) s t → after_ops s ops t ≡ Some x → StandsFor (readings_of (apply ops m)) s x
   ops_followed [] m t x h e = let is = the_same t x e in rw (← is) h
   ops_followed (op ∷ ops) m t x h e = by (after_op s op t) refl e (λ y h. ops_followed ops (apply_op op m) y x h)
     where
       by : (o : Option Turn) → after_op s op t ≡ o → option_and_then (after_ops s ops) o ≡ Some x
-          → ((y : Turn) → StandsFor (view (apply_op op m)) s y → after_ops s ops y ≡ Some x → StandsFor (view (apply ops (apply_op op m))) s x)
-          → StandsFor (view (apply ops (apply_op op m))) s x
+          → ((y : Turn) → StandsFor (readings_of (apply_op op m)) s y → after_ops s ops y ≡ Some x → StandsFor (readings_of (apply ops (apply_op op m))) s x)
+          → StandsFor (readings_of (apply ops (apply_op op m))) s x
       by None f e go = absurd cc
       by (Some y) f e go = go y (op_followed op m t y h f) e
 
-  begun : (w : View) (k : Known) → IsCurrent w s k → StandsFor w s (record { version = k.version; map = k.map; told = true })
+  begun : (w : Readings) (k : Known) → IsCurrent w s k → StandsFor w s (record { version = k.version; map = k.map; told = true })
   begun w k h =
       let le : full_latest w s ≤ service_last w s = let n = h.not_newer in let v = h.version_is in omega arith in
       record {
@@ -89,7 +89,7 @@ module _ (s : Service) where
         told = λ _. sym h.version_is;
       }
 
-  ended : (w : View) (t : Turn) → t.told ≡ true → StandsFor w s t → IsCurrent w s (record { version = t.version; map = t.map })
+  ended : (w : Readings) (t : Turn) → t.told ≡ true → StandsFor w s t → IsCurrent w s (record { version = t.version; map = t.map })
   ended w t told h =
       let last = h.told told in
       let le : full_latest w s ≤ service_last w s = let n = h.not_newer in omega arith in
@@ -100,19 +100,19 @@ module _ (s : Service) where
         not_newer = h.not_newer;
       }
 
-  pub current_after : (ops : List Op) (m : Store) (o : Option Known) → IfSome o (IsCurrent (view m) s) → IfSome (known_after s ops o) (IsCurrent (view (apply ops m)) s)
+  pub current_after : (ops : List Op) (m : Store) (o : Option Known) → IfSome o (IsCurrent (readings_of m) s) → IfSome (known_after s ops o) (IsCurrent (readings_of (apply ops m)) s)
   current_after ops m None h = tt
   current_after ops m (Some k) h = by (after_ops s ops (record { version = k.version; map = k.map; told = true })) refl
     where
-      by : (o : Option Turn) → after_ops s ops (record { version = k.version; map = k.map; told = true }) ≡ o → IfSome (option_and_then where_told o) (IsCurrent (view (apply ops m)) s)
+      by : (o : Option Turn) → after_ops s ops (record { version = k.version; map = k.map; told = true }) ≡ o → IfSome (option_and_then where_told o) (IsCurrent (readings_of (apply ops m)) s)
       by None e = tt
-      by (Some t) e = told t.told refl (ops_followed ops m (record { version = k.version; map = k.map; told = true }) t (begun (view m) k h) e)
+      by (Some t) e = told t.told refl (ops_followed ops m (record { version = k.version; map = k.map; told = true }) t (begun (readings_of m) k h) e)
         where
-          told : (b : Bool) → t.told ≡ b → StandsFor (view (apply ops m)) s t → IfSome (cond b (Some (record { version = t.version; map = t.map })) None) (IsCurrent (view (apply ops m)) s)
-          told true f g = ended (view (apply ops m)) t f g
+          told : (b : Bool) → t.told ≡ b → StandsFor (readings_of (apply ops m)) s t → IfSome (cond b (Some (record { version = t.version; map = t.map })) None) (IsCurrent (readings_of (apply ops m)) s)
+          told true f g = ended (readings_of (apply ops m)) t f g
           told false f g = tt
 
 pub follows_after : (old : Cache) (kv log : Kept) (ops : List Op) → known_in kv ≡ known_after service.Kv ops (known_in old.kv) → known_in log ≡ known_after service.Log ops (known_in old.log)
-    → (m : Store) → Follows old (view m) → (s : Service) → IfSome (known (record { kv = kv; log = log }) s) (IsCurrent (view (apply ops m)) s)
+    → (m : Store) → Follows old (readings_of m) → (s : Service) → IfSome (known (record { kv = kv; log = log }) s) (IsCurrent (readings_of (apply ops m)) s)
 follows_after old kv log ops a b m h service.Kv = rw a (current_after service.Kv ops m (known_in old.kv) (h service.Kv))
 follows_after old kv log ops a b m h service.Log = rw b (current_after service.Log ops m (known_in old.log) (h service.Log))

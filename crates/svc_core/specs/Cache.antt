@@ -3,8 +3,8 @@ use Rattle.std.specs.Option.{option_map, option_and_then}
 use Rattle.std.specs.Prelude.{◌≡◌, ℕ, suc, ◌+◌, ◌-◌, ◌≤◌, Bool, true, false, ◌&&◌, ◌==◌, nat_le, if◌then◌else◌, List, [], ◌∷◌, Option, Some, None, IfSome, Result, Ok, Err}
 use Rattle.std.specs.Str.{bytes_eq}
 use Rattle.mon_msg.specs.Protocol.Maps.{next_map}
-use Rattle.mon_msg.specs.Protocol.Reading.{service_last, full_latest, read_map}
-use Rattle.mon_msg.specs.Protocol.View.{View}
+use Rattle.mon_msg.specs.Protocol.Services.{service_last, full_latest, read_map}
+use Rattle.mon_msg.specs.Protocol.Readings.{Readings}
 use Rattle.mon_msg.specs.Puts.{area_of}
 use Rattle.mon_wire.specs.declared.reply.ShownMap.{ShownMap}
 use Rattle.mon_wire.specs.declared.request.Service.{Service}
@@ -43,20 +43,20 @@ known c s = known_in (kept_of c s)
 -- ---- following
 
 -- It is what is read there, the reading reaches the last version, and no full map is newer.
-pub record IsCurrent (w : View) (s : Service) (k : Known) : Type 0 where
+pub record IsCurrent (w : Readings) (s : Service) (k : Known) : Type 0 where
   pub map_is : k.map ≡ read_map w s
   pub version_is : k.version ≡ service_last w s
   pub reached : reaches_last w s ≡ true
   pub not_newer : full_latest w s ≤ k.version
 
 -- a cache follows a store of which each service that it knows is current
-abbrev pub Follows : Cache → View → Type 0
+abbrev pub Follows : Cache → Readings → Type 0
 Follows c w = (s : Service) → IfSome (known c s) (IsCurrent w s)
 
 -- ---- reading
 
 -- a service that wasn't known is known where its reading reaches the last version and no full map is newer
-abbrev pub known_once_read : View → Service → Option Known → Option Known
+abbrev pub known_once_read : Readings → Service → Option Known → Option Known
 known_once_read w s (Some k) = Some k
 known_once_read w s None =
     if reaches_last w s && nat_le (full_latest w s) (service_last w s) then Some (record { version = service_last w s; map = read_map w s }) else None
@@ -109,13 +109,13 @@ abbrev pub applied : Cache → Cache → ℕ
 applied before now = risen (known before service.Kv) (known now service.Kv) + risen (known before service.Log) (known now service.Log)
 
 -- What a cache knows once a service was read, where it follows the store. It keeps the map that was read.
-pub record IsAnswered (old new : Cache) (w : View) (s : Service) : Type 0 where
+pub record IsAnswered (old new : Cache) (w : Readings) (s : Service) : Type 0 where
   pub known_is : known new s ≡ known_once_read w s (known old s)
   pub others : (t : Service) → (t ≡ s → ⊥) → known new t ≡ known old t
   pub map_is : map_in (kept_of new s) ≡ Some (read_map w s)
   pub follows : Follows new w
 
 -- after want of memory it knows nothing
-abbrev pub Answers : {A E : Type 0} → Cache → View → Service → Result A E → Cache → Type 0
+abbrev pub Answers : {A E : Type 0} → Cache → Readings → Service → Result A E → Cache → Type 0
 Answers old w s (Ok x) new = IsAnswered old new w s
 Answers old w s (Err e) new = (t : Service) → known new t ≡ None

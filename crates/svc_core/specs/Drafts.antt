@@ -5,9 +5,9 @@ use Rattle.map_kv.specs.declared.command.TheConstants.{MOST_MAP, MOST_VALUE}
 use Rattle.mon_msg.specs.Protocol.Parts.{map_text}
 use Rattle.mon_wire.specs.declared.reply.ShownMap.{ShownMap}
 use Rattle.mon_wire.specs.declared.request.Service.{Service}
-use Rattle.mon_msg.specs.Protocol.Reading.{service_first, service_last}
+use Rattle.mon_msg.specs.Protocol.Services.{service_first, service_last}
 use Rattle.mon_msg.specs.Protocol.Rules.{value_ops}
-use Rattle.mon_msg.specs.Protocol.View.{View}
+use Rattle.mon_msg.specs.Protocol.Readings.{Readings}
 use Rattle.mon_msg.specs.Puts.{area_of}
 use Rattle.mon_tx.specs.declared.op.Op.{Op}
 use Rattle.svc_core.specs.declared.made.Draft.{Draft}
@@ -29,7 +29,7 @@ pub record IsShort (d : Draft) : Type 0 where
   pub text : length d.text ≤ MOST_MAP
 
 -- the value that makes the next version of a service by an incremental and a map's text that are no longer than they may be
-pub record IsShortValue (w : View) (s : Service) (ops : List Op) : Type 0 where
+pub record IsShortValue (w : Readings) (s : Service) (ops : List Op) : Type 0 where
   pub incremental : List ℕ
   pub text : List ℕ
   pub is : ops ≡ value_ops w.first w.last (area_of s) (suc (service_last w s)) (service_first w s) incremental text

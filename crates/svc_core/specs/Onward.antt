@@ -2,18 +2,18 @@
 use Rattle.std.specs.Option.{option_and_then}
 use Rattle.std.specs.Prelude.{ℕ, zero, suc, ◌-◌, Bool, true, false, Option, Some, None}
 use Rattle.mon_msg.specs.Protocol.Maps.{empty_map, next_map}
-use Rattle.mon_msg.specs.Protocol.Reading.{service_last, full_latest, full_map}
-use Rattle.mon_msg.specs.Protocol.View.{View}
+use Rattle.mon_msg.specs.Protocol.Services.{service_last, full_latest, full_map}
+use Rattle.mon_msg.specs.Protocol.Readings.{Readings}
 use Rattle.mon_wire.specs.declared.reply.ShownMap.{ShownMap}
 use Rattle.mon_wire.specs.declared.request.Service.{Service}
 use Rattle.mon_tx.specs.declared.key.Key.TheVariants as key
 
 -- the map after the incremental that made version v, where there is one that gives a map that isn't too long
-abbrev pub step_at : View → Service → ℕ → ShownMap → Option ShownMap
+abbrev pub step_at : Readings → Service → ℕ → ShownMap → Option ShownMap
 step_at w s v m = option_and_then (next_map s m) (w.row s (key.Version v))
 
 -- so many incrementals from version v on are there, are such and give maps that aren't too long
-unfoldable pub goes_on : View → Service → ℕ → ℕ → ShownMap → Bool
+unfoldable pub goes_on : Readings → Service → ℕ → ℕ → ShownMap → Bool
 goes_on w s zero v m = true
 goes_on w s (suc count) v m = elim (step_at w s v m) as (λ _. Bool) [
   | None ↦ false
@@ -21,7 +21,7 @@ goes_on w s (suc count) v m = elim (step_at w s v m) as (λ _. Bool) [
 ]
 
 -- the reading of a service's map ends at no version before the last one
-unfoldable pub reaches_last : View → Service → Bool
+unfoldable pub reaches_last : Readings → Service → Bool
 reaches_last w s = from_full (full_map w s)
   where
     from_full : Option ShownMap → Bool

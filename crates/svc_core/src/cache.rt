@@ -6,8 +6,8 @@ ghost use Rattle.std.specs.Io.BufRead.{Rests};
 ghost use Rattle.std.specs.Option.{option_copied, option_map};
 ghost use Rattle.mon_tx.specs.Map.{Store, apply};
 ghost use Rattle.mon_wire.specs.declared.request.Service as services;
-ghost use Rattle.mon_msg.specs.Protocol.Reading.{read_map};
-ghost use Rattle.mon_msg.specs.Protocol.View.{view};
+ghost use Rattle.mon_msg.specs.Protocol.Services.{read_map};
+ghost use Rattle.mon_msg.specs.Protocol.Readings.{readings_of};
 ghost use Rattle.svc_core.specs.Cache.{kept_of, known, known_in, map_in, Follows, known_once_read, known_after, risen, applied, Answers, IsAnswered};
 ghost use Rattle.svc_core.specs.contracts.cache.Cache.{the_row};
 
@@ -80,8 +80,8 @@ impl Kept {
 
 /// What is kept of a service once it was read: it is known where its reading reaches the last version and no full map is newer.
 fn read_kept(alloc: Global, kv: &Kv, service: Service) -> Result<Kept, OutOfMemory>
-    ensures known { IfOk result (λ kept. known_in kept ≡ known_once_read (view kv.now) service None) }
-    ensures map { IfOk result (λ kept. map_in kept ≡ Some (read_map (view kv.now) service)) }
+    ensures known { IfOk result (λ kept. known_in kept ≡ known_once_read (readings_of kv.now) service None) }
+    ensures map { IfOk result (λ kept. map_in kept ≡ Some (read_map (readings_of kv.now) service)) }
 {
     let last = last_version(kv, service);
     let Reading { map, reached } = read_whole(alloc, kv, service)?;
@@ -185,7 +185,7 @@ impl Cache {
     pub fn follow(&mut self, alloc: Global, tx: &Transaction) -> Result<u32, OutOfMemory>
         ensures known { OnOk result ((s : services.Service) → known self.new s ≡ known_after s tx.now (known self.old s)) }
         ensures applied { IfOk result (λ n. n ≡ min (applied self.old self.new) (2 ^ 32 - 1)) }
-        ensures follows { OnOk result ((m : Store) → Follows self.old (view m) → Follows self.new (view (apply tx.now m))) }
+        ensures follows { OnOk result ((m : Store) → Follows self.old (readings_of m) → Follows self.new (readings_of (apply tx.now m))) }
         ensures empty { OnErr result ((s : services.Service) → known self.new s ≡ None) }
     {
         let kv = mem::replace(&mut self.kv, Kept::Nothing);
@@ -199,8 +199,8 @@ impl Cache {
 
     /// Reads a service that isn't known.
     fn learn(&mut self, alloc: Global, kv: &Kv, service: Service) -> Result<(), OutOfMemory>
-        requires { Follows self.old (view kv.now) }
-        ensures ok { OnOk result (IsAnswered self.old self.new (view kv.now) service) }
+        requires { Follows self.old (readings_of kv.now) }
+        ensures ok { OnOk result (IsAnswered self.old self.new (readings_of kv.now) service) }
         ensures err { OnErr result ((s : services.Service) → known self.new s ≡ None) }
     {
         if self.kept(service).is_known() {
@@ -229,9 +229,9 @@ impl Cache {
         kv: &Kv,
         service: Service,
     ) -> Result<&ShownMap, OutOfMemory>
-        requires { Follows self.old (view kv.now) }
-        ensures* after { sem 𝓛 (Rests the_row self.entry (Answers self.old (view kv.now) service result)) }
-        ensures map { IfOk result (λ map. map.now ≡ read_map (view kv.now) service) }
+        requires { Follows self.old (readings_of kv.now) }
+        ensures* after { sem 𝓛 (Rests the_row self.entry (Answers self.old (readings_of kv.now) service result)) }
+        ensures map { IfOk result (λ map. map.now ≡ read_map (readings_of kv.now) service) }
     {
         self.learn(alloc, kv, service)?;
         match self.kept(service).map() {

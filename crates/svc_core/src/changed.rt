@@ -1,10 +1,10 @@
 //! What changed a service's map after a version.
 
 ghost use Rattle.std.specs.Prelude.{◌≡◌, ◌-◌, ◌≤◌, ◌^◌, suc, length, nat_lt, IfOk};
-ghost use Rattle.mon_msg.specs.Protocol.Reading.{service_last, kept_from, may_tell};
+ghost use Rattle.mon_msg.specs.Protocol.Services.{service_last, kept_from, may_tell};
 ghost use Rattle.mon_msg.specs.Protocol.Reads.{since, shown};
 ghost use Rattle.mon_msg.specs.Protocol.Records.{longest};
-ghost use Rattle.mon_msg.specs.Protocol.View.{view};
+ghost use Rattle.mon_msg.specs.Protocol.Readings.{readings_of};
 
 use crate::reading::read;
 use crate::row::{first_version, incremental, last_version};
@@ -29,8 +29,8 @@ struct Changes {
 /// The incrementals after version `v` up to the first that isn't there, as many as are told.
 fn told_after(alloc: Global, kv: &Kv, service: Service, v: u64) -> Result<Changes, OutOfMemory>
     requires { v ≤ 2 ^ 62 }
-    ensures told { IfOk result (λ c. c.told ≡ longest may_tell (kept_from (view kv.now) service (service_last (view kv.now) service - v) (suc v))) }
-    ensures more { IfOk result (λ c. c.more ≡ nat_lt (length c.told) (length (kept_from (view kv.now) service (service_last (view kv.now) service - v) (suc v)))) }
+    ensures told { IfOk result (λ c. c.told ≡ longest may_tell (kept_from (readings_of kv.now) service (service_last (readings_of kv.now) service - v) (suc v))) }
+    ensures more { IfOk result (λ c. c.more ≡ nat_lt (length c.told) (length (kept_from (readings_of kv.now) service (service_last (readings_of kv.now) service - v) (suc v)))) }
 {
     let last = last_version(kv, service);
     let mut told = Incrementals::new(Vec::new(alloc));
@@ -49,9 +49,9 @@ fn told_after(alloc: Global, kv: &Kv, service: Service, v: u64) -> Result<Change
 }
 
 /// A service's whole map as it is read, with the last versions of the log and of the service.
-#[tactic(auto, unfolding(mon_msg::specs::Protocol::View::view))]
+#[tactic(auto, unfolding(mon_msg::specs::Protocol::Readings::readings_of))]
 pub fn shown(alloc: Global, kv: &Kv, service: Service) -> Result<Reply, OutOfMemory>
-    ensures { IfOk result (λ reply. reply ≡ shown (view kv.now) service) }
+    ensures { IfOk result (λ reply. reply ≡ shown (readings_of kv.now) service) }
 {
     Ok(Reply::Shown {
         service,
@@ -66,7 +66,7 @@ pub fn shown(alloc: Global, kv: &Kv, service: Service) -> Result<Reply, OutOfMem
 #[tactic(auto, unfolding(mon_msg::specs::Protocol::Reads::since))]
 pub fn since(alloc: Global, kv: &Kv, service: Service, v: u64) -> Result<Reply, OutOfMemory>
     requires { v ≤ 2 ^ 62 }
-    ensures { IfOk result (λ reply. reply ≡ since (view kv.now) service v) }
+    ensures { IfOk result (λ reply. reply ≡ since (readings_of kv.now) service v) }
 {
     if first_version(kv, service) > v + 1 {
         return shown(alloc, kv, service);

@@ -4,9 +4,9 @@ ghost use Rattle.std.specs.Prelude.{◌≡◌, ℕ, IfOk};
 ghost use Rattle.map_kv.specs.Made.{IsOfKv};
 ghost use Rattle.mon_bytes.specs.Makes.{Makes};
 ghost use Rattle.mon_bytes.specs.declared.command.Command.TheVariants as command;
-ghost use Rattle.mon_msg.specs.Protocol.Reading.{read_map};
+ghost use Rattle.mon_msg.specs.Protocol.Services.{read_map};
 ghost use Rattle.mon_msg.specs.Protocol.Value.{made, service_of};
-ghost use Rattle.mon_msg.specs.Protocol.View.{view};
+ghost use Rattle.mon_msg.specs.Protocol.Readings.{readings_of};
 ghost use Rattle.svc_core.specs.Drafts.{drafted, IsShort};
 
 use crate::reading::read;
@@ -27,7 +27,7 @@ pub(crate) struct Draft {
 
 fn kv_made(alloc: Global, kv: &Kv, command: &Command, due: bool) -> Result<Draft, CommandRefused>
     requires { IsOfKv command.now }
-    ensures made { (asked : ℕ) → Makes result (drafted due (made (read_map (view kv.now) Service.Kv) asked command.now)) }
+    ensures made { (asked : ℕ) → Makes result (drafted due (made (read_map (readings_of kv.now) Service.Kv) asked command.now)) }
     ensures short { IfOk result IsShort }
 {
     let ShownMap::Kv(mut map) = read(alloc, kv, Service::Kv)? else {
@@ -56,7 +56,7 @@ fn log_made(
     asked: Rank,
     due: bool,
 ) -> Result<Draft, CommandRefused>
-    ensures made { Makes result (drafted due (made (read_map (view kv.now) Service.Log) asked (command.Log text.now))) }
+    ensures made { Makes result (drafted due (made (read_map (readings_of kv.now) Service.Log) asked (command.Log text.now))) }
     ensures short { IfOk result IsShort }
 {
     let inc = make_log(alloc, asked, text)?;
@@ -85,7 +85,7 @@ pub(crate) fn made(
     asked: Rank,
     due: bool,
 ) -> Result<Draft, CommandRefused>
-    ensures made { Makes result (drafted due (made (read_map (view kv.now) (service_of command.now)) asked command.now)) }
+    ensures made { Makes result (drafted due (made (read_map (readings_of kv.now) (service_of command.now)) asked command.now)) }
     ensures short { IfOk result IsShort }
 {
     match command {

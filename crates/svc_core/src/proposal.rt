@@ -2,10 +2,10 @@
 
 ghost use Rattle.std.specs.Prelude.{◌≡◌, ◌+◌, ◌<◌, ◌≤◌, ◌^◌, suc, length, IfOk};
 ghost use Rattle.mon_bytes.specs.Makes.{Makes};
-ghost use Rattle.mon_msg.specs.Protocol.Reading.{service_first, service_last};
+ghost use Rattle.mon_msg.specs.Protocol.Services.{service_first, service_last};
 ghost use Rattle.mon_msg.specs.Protocol.Rules.{value_ops};
 ghost use Rattle.mon_msg.specs.Protocol.Value.{service_of, value};
-ghost use Rattle.mon_msg.specs.Protocol.View.{view};
+ghost use Rattle.mon_msg.specs.Protocol.Readings.{readings_of};
 ghost use Rattle.mon_msg.specs.Puts.{area_of};
 ghost use Rattle.svc_core.specs.Drafts.{IsShortValue};
 
@@ -33,7 +33,7 @@ pub fn service_of(command: &Command) -> Service
 }
 
 /// The changes of the value that makes version `n` of a service.
-#[tactic(auto, unfolding(mon_msg::specs::Protocol::Rules::value_ops, mon_msg::specs::Protocol::View::view))]
+#[tactic(auto, unfolding(mon_msg::specs::Protocol::Rules::value_ops, mon_msg::specs::Protocol::Readings::readings_of))]
 fn value_tx(
     alloc: Global,
     kv: &Kv,
@@ -42,7 +42,7 @@ fn value_tx(
     made: Draft,
 ) -> Result<Transaction, OutOfMemory>
     requires { n ≤ 2 ^ 62 }
-    ensures { IfOk result (λ tx. tx ≡ value_ops (view kv.now).first (view kv.now).last (area_of service) n (service_first (view kv.now) service) made.incremental made.text) }
+    ensures { IfOk result (λ tx. tx ≡ value_ops (readings_of kv.now).first (readings_of kv.now).last (area_of service) n (service_first (readings_of kv.now) service) made.incremental made.text) }
 {
     let area = area_of(service);
     let last = kv.last_committed();
@@ -67,9 +67,9 @@ pub fn value(
     command: &Command,
     asked: Rank,
 ) -> Result<Transaction, CommandRefused>
-    requires { service_last (view kv.now) (service_of command.now) < 2 ^ 62 }
-    ensures made { Makes result (value (view kv.now) command.now asked) }
-    ensures short { IfOk result (IsShortValue (view kv.now) (service_of command.now)) }
+    requires { service_last (readings_of kv.now) (service_of command.now) < 2 ^ 62 }
+    ensures made { Makes result (value (readings_of kv.now) command.now asked) }
+    ensures short { IfOk result (IsShortValue (readings_of kv.now) (service_of command.now)) }
 {
     let service = service_of(command);
     let n = last_version(kv, service) + 1;

@@ -5,9 +5,9 @@ ghost use Rattle.std.specs.Option.{option_map};
 ghost use Rattle.map_kv.specs.Decode as kv_decode;
 ghost use Rattle.map_log.specs.Decode as log_decode;
 ghost use Rattle.mon_msg.specs.Protocol.Maps.{empty_map, if_ok, spelled_map};
-ghost use Rattle.mon_msg.specs.Protocol.Reading.{service_last, full_latest, full_map, read_on, read_map};
+ghost use Rattle.mon_msg.specs.Protocol.Services.{service_last, full_latest, full_map, read_on, read_map};
 ghost use Rattle.mon_msg.specs.Protocol.Parts.{map_text};
-ghost use Rattle.mon_msg.specs.Protocol.View.{view};
+ghost use Rattle.mon_msg.specs.Protocol.Readings.{readings_of};
 ghost use Rattle.svc_core.specs.Kinds.{IsMapOf, Stepped};
 ghost use Rattle.svc_core.specs.Onward.{step_at, goes_on, reaches_last};
 
@@ -72,11 +72,11 @@ fn spelled_map(
 }
 
 /// The newest full map, unless it is newer than the last version, is none or is too long.
-#[tactic(auto, unfolding(mon_msg::specs::Protocol::View::view))]
+#[tactic(auto, unfolding(mon_msg::specs::Protocol::Readings::readings_of))]
 fn full_map(alloc: Global, kv: &Kv, service: Service) -> Result<Option<ShownMap>, OutOfMemory>
-    ensures map { IfOk result (λ map. map ≡ full_map (view kv.now) service) }
+    ensures map { IfOk result (λ map. map ≡ full_map (readings_of kv.now) service) }
     ensures form { IfOk result (λ map. IfSome map (IsMapOf service)) }
-    ensures not_newer { IfOk result (λ map. IfSome map (λ _. full_latest (view kv.now) service ≤ service_last (view kv.now) service)) }
+    ensures not_newer { IfOk result (λ map. IfSome map (λ _. full_latest (readings_of kv.now) service ≤ service_last (readings_of kv.now) service)) }
 {
     let latest = full_latest(kv, service);
     if latest > last_version(kv, service) {
@@ -99,9 +99,9 @@ struct Base {
 /// The newest full map, or else the empty map.
 fn start(alloc: Global, kv: &Kv, service: Service) -> Result<Base, OutOfMemory>
     ensures form { IfOk result (λ s. IsMapOf service s.map) }
-    ensures not_newer { IfOk result (λ s. s.version ≤ service_last (view kv.now) service) }
-    ensures read { IfOk result (λ s. read_map (view kv.now) service ≡ read_on (view kv.now) service (service_last (view kv.now) service - s.version) (suc s.version) s.map) }
-    ensures reaches { IfOk result (λ s. reaches_last (view kv.now) service ≡ goes_on (view kv.now) service (service_last (view kv.now) service - s.version) (suc s.version) s.map) }
+    ensures not_newer { IfOk result (λ s. s.version ≤ service_last (readings_of kv.now) service) }
+    ensures read { IfOk result (λ s. read_map (readings_of kv.now) service ≡ read_on (readings_of kv.now) service (service_last (readings_of kv.now) service - s.version) (suc s.version) s.map) }
+    ensures reaches { IfOk result (λ s. reaches_last (readings_of kv.now) service ≡ goes_on (readings_of kv.now) service (service_last (readings_of kv.now) service - s.version) (suc s.version) s.map) }
 {
     match full_map(alloc, kv, service)? {
         Some(map) => Ok(Base {
@@ -123,7 +123,7 @@ fn step_at(
     v: u64,
     map: &mut ShownMap,
 ) -> Result<bool, OutOfMemory>
-    ensures step { IfOk result (Stepped map.old map.new (step_at (view kv.now) service v map.old)) }
+    ensures step { IfOk result (Stepped map.old map.new (step_at (readings_of kv.now) service v map.old)) }
     ensures form { IfOk result (λ _. IsMapOf service map.old → IsMapOf service map.new) }
 {
     match incremental(kv, service, v) {
@@ -144,8 +144,8 @@ fn read_on(
 ) -> Result<bool, OutOfMemory>
     requires form { IsMapOf service map.old }
     requires versions { v + count ≤ 2 ^ 63 }
-    ensures map { IfOk result (λ _. map.new ≡ read_on (view kv.now) service count v map.old) }
-    ensures all { IfOk result (λ all. all ≡ goes_on (view kv.now) service count v map.old) }
+    ensures map { IfOk result (λ _. map.new ≡ read_on (readings_of kv.now) service count v map.old) }
+    ensures all { IfOk result (λ all. all ≡ goes_on (readings_of kv.now) service count v map.old) }
     ensures form { IfOk result (λ _. IsMapOf service map.new) }
 {
     for i in 0..count {
@@ -165,8 +165,8 @@ pub(crate) struct Reading {
 
 /// Reads a service's map.
 pub(crate) fn read_whole(alloc: Global, kv: &Kv, service: Service) -> Result<Reading, OutOfMemory>
-    ensures map { IfOk result (λ r. r.map ≡ read_map (view kv.now) service) }
-    ensures reached { IfOk result (λ r. r.reached ≡ reaches_last (view kv.now) service) }
+    ensures map { IfOk result (λ r. r.map ≡ read_map (readings_of kv.now) service) }
+    ensures reached { IfOk result (λ r. r.reached ≡ reaches_last (readings_of kv.now) service) }
     ensures form { IfOk result (λ r. IsMapOf service r.map) }
 {
     let last = last_version(kv, service);
@@ -180,7 +180,7 @@ pub(crate) fn read_whole(alloc: Global, kv: &Kv, service: Service) -> Result<Rea
 /// long or is newer than the last version. It ends before the first incremental that isn't there, is none or gives too long a
 /// map.
 pub fn read(alloc: Global, kv: &Kv, service: Service) -> Result<ShownMap, OutOfMemory>
-    ensures map { IfOk result (λ map. map ≡ read_map (view kv.now) service) }
+    ensures map { IfOk result (λ map. map ≡ read_map (readings_of kv.now) service) }
     ensures form { IfOk result (IsMapOf service) }
 {
     Ok(read_whole(alloc, kv, service)?.map)

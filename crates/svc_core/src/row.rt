@@ -5,8 +5,8 @@ ghost use Rattle.std.specs.Option.{option_copied};
 ghost use Rattle.mon_tx.specs.Keys.{area_text};
 ghost use Rattle.mon_tx.specs.Map.{number_at};
 ghost use Rattle.mon_tx.specs.declared.key.Key.TheVariants as keys;
-ghost use Rattle.mon_msg.specs.Protocol.Reading.{service_first, service_last, full_latest};
-ghost use Rattle.mon_msg.specs.Protocol.View.{view};
+ghost use Rattle.mon_msg.specs.Protocol.Services.{service_first, service_last, full_latest};
+ghost use Rattle.mon_msg.specs.Protocol.Readings.{readings_of};
 ghost use Rattle.mon_msg.specs.Puts.{area_of};
 
 use itoa::Buffer;
@@ -33,36 +33,36 @@ fn number(kv: &Kv, service: Service, key: &[u8]) -> u64
 }
 
 /// The first version that is kept.
-#[tactic(auto, unfolding(mon_msg::specs::Protocol::View::view))]
+#[tactic(auto, unfolding(mon_msg::specs::Protocol::Readings::readings_of))]
 pub(crate) fn first_version(kv: &Kv, service: Service) -> u64
-    ensures value { result ≡ service_first (view kv.now) service }
+    ensures value { result ≡ service_first (readings_of kv.now) service }
     ensures most { result ≤ 2 ^ 62 }
 {
     number(kv, service, b"first_committed")
 }
 
 /// A service's last version, which is 0 where it has none.
-#[tactic(auto, unfolding(mon_msg::specs::Protocol::View::view))]
+#[tactic(auto, unfolding(mon_msg::specs::Protocol::Readings::readings_of))]
 pub fn last_version(kv: &Kv, service: Service) -> u64
-    ensures value { result ≡ service_last (view kv.now) service }
+    ensures value { result ≡ service_last (readings_of kv.now) service }
     ensures most { result ≤ 2 ^ 62 }
 {
     number(kv, service, b"last_committed")
 }
 
 /// The version of the newest full map.
-#[tactic(auto, unfolding(mon_msg::specs::Protocol::View::view))]
+#[tactic(auto, unfolding(mon_msg::specs::Protocol::Readings::readings_of))]
 pub(crate) fn full_latest(kv: &Kv, service: Service) -> u64
-    ensures value { result ≡ full_latest (view kv.now) service }
+    ensures value { result ≡ full_latest (readings_of kv.now) service }
     ensures most { result ≤ 2 ^ 62 }
 {
     number(kv, service, b"full_latest")
 }
 
 /// The bytes of the incremental that made a version, or `None` exactly where there are none.
-#[tactic(auto, using(mon_tx::proofs::Decimals::decimal_is), unfolding(mon_msg::specs::Protocol::View::view))]
+#[tactic(auto, using(mon_tx::proofs::Decimals::decimal_is), unfolding(mon_msg::specs::Protocol::Readings::readings_of))]
 pub(crate) fn incremental(kv: &Kv, service: Service, v: u64) -> Option<&[u8]>
-    ensures { option_copied result ≡ (view kv.now).row service (keys.Version v) }
+    ensures { option_copied result ≡ (readings_of kv.now).row service (keys.Version v) }
 {
     let mut digits = Buffer::new();
     kv.get(

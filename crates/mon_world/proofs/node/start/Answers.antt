@@ -5,7 +5,7 @@ use Rattle.mon_tx.specs.Map.{number_in}
 use Rattle.mon_tx.specs.declared.key.Area.TheVariants as area
 use Rattle.mon_tx.specs.declared.key.Key.TheVariants as key
 use Rattle.mon_msg.specs.Protocol.Entering.{next_even}
-use Rattle.mon_msg.specs.Protocol.View.{view, epoch_of}
+use Rattle.mon_msg.specs.Protocol.Readings.{readings_of, epoch_of}
 use Rattle.mon_tx.specs.Text.{text, most}
 use Rattle.mon_tx.specs.declared.op.Op.{Op}
 use Rattle.mon_world.specs.Node.{start_tx}
@@ -14,25 +14,25 @@ use Rattle.mon_world.proofs.Reacting.{start-boot, start-epoch, start-pn, start-d
 use Rattle.mon_world.proofs.node.start.Goals as goal
 
 pub returns-then-boot-gt-GREATEST-clause-reaction : goal.returns-then-boot-gt-GREATEST-clause-reaction
-unfolding view
+unfolding readings_of
 returns-then-boot-gt-GREATEST-clause-reaction c =
     λ now settled. start-boot now c.args.kv.now settled (omega (arith, c.if-boot-gt-GREATEST.true, c.boot_count-boot.ensures.value))
 
 pub returns-in_default-clause-reaction : goal.returns-in_default-clause-reaction
-unfolding view
+unfolding readings_of
 returns-in_default-clause-reaction c =
     λ now settled.
-    let w = view c.args.kv.now in
+    let w = readings_of c.args.kv.now in
     let e : next_even c.stored_epoch.result ≡ next_even (epoch_of w) = ap next_even c.stored_epoch.ensures.value in
     start-epoch now c.args.kv.now settled (omega (arith, c.if-boot-gt-GREATEST.false, c.boot_count-boot.ensures.value))
     (above (next_even (epoch_of w)) (2 ^ 62) (λ le. c.in_default.ensures.valid.1 (omega (arith, le, e))))
 
 pub returns-in_default-next_pn-clause-reaction : goal.returns-in_default-next_pn-clause-reaction
-unfolding view
+unfolding readings_of
 returns-in_default-next_pn-clause-reaction c =
     λ now settled.
     let m = c.args.kv.now in
-    let w = view m in
+    let w = readings_of m in
     let e : next_even c.stored_epoch.result ≡ next_even (epoch_of w) = ap next_even c.stored_epoch.ensures.value in
     let last : c.pn_of-last.result ≡ number_in (cell m area.Paxos key.LastPn) = c.pn_of-last.ensures ∙ c.last_pn.ensures.value in
     let promise : c.pn_of-promise.result ≡ number_in (cell m area.Paxos key.AcceptedPn) = c.pn_of-promise.ensures ∙ c.promise.ensures.value in
@@ -42,11 +42,11 @@ returns-in_default-next_pn-clause-reaction c =
     (above wanted (2 ^ 62) (λ le. c.in_default-next_pn.ensures.fits.1 (omega (arith, le, pn))))
 
 pub returns-clause-reaction : goal.returns-clause-reaction
-unfolding view
+unfolding readings_of
 returns-clause-reaction c =
     λ now settled.
     let m = c.args.kv.now in
-    let w = view m in
+    let w = readings_of m in
     let boot : c.boot_count-boot.result + 1 ≡ suc w.boot = omega (arith, c.boot_count-boot.ensures.value) in
     let e : c.in-Some.epoch ≡ next_even (epoch_of w) = c.in-Some.ensures.value ∙ ap next_even c.stored_epoch.ensures.value in
     let last : c.pn_of-last.result ≡ number_in (cell m area.Paxos key.LastPn) = c.pn_of-last.ensures ∙ c.last_pn.ensures.value in

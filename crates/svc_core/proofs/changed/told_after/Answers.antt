@@ -1,5 +1,5 @@
 use Rattle.std.proofs.Common.{◌≡◌, ◌≤◌, ◌<◌, ◌+◌, ◌⊎◌, inl, inr, length, sym, ap, arith}
-use Rattle.mon_msg.specs.Protocol.View.{view}
+use Rattle.mon_msg.specs.Protocol.Readings.{readings_of}
 use Rattle.svc_core.proofs.Tellings.{tells_more, tells_full, tells_gap, tells_last}
 use Rattle.svc_core.proofs.changed.told_after.Goals as goal
 use Rattle.svc_core.proofs.changed.told_after.Goals.{then-as_slice-eq-MOST_TOLD-via-then-as_slice-eq-MOST_TOLD, then-as_slice-eq-MOST_TOLD-via-else-as_slice-eq-MOST_TOLD+then-bytes-room}
@@ -7,12 +7,12 @@ use Rattle.svc_core.proofs.changed.told_after.Goals.{then-as_slice-eq-MOST_TOLD-
 pub returns-in_default-clause-told : goal.returns-in_default-clause-told
 returns-in_default-clause-told c =
     rw (← c.last_version-last.ensures.value)
-    (tells_gap (view c.args.kv.now) c.args.service c.last_version-last.result c.args.v c.loop-n.n c.loop-n.told c.loop-n.room c.loop-n-test.true (sym (rw c.in_default.is at c.incremental.ensures)) c.loop-n.invariant).0
+    (tells_gap (readings_of c.args.kv.now) c.args.service c.last_version-last.result c.args.v c.loop-n.n c.loop-n.told c.loop-n.room c.loop-n-test.true (sym (rw c.in_default.is at c.incremental.ensures)) c.loop-n.invariant).0
 
 pub returns-in_default-clause-more : goal.returns-in_default-clause-more
 returns-in_default-clause-more c =
     rw (← c.last_version-last.ensures.value)
-    (tells_gap (view c.args.kv.now) c.args.service c.last_version-last.result c.args.v c.loop-n.n c.loop-n.told c.loop-n.room c.loop-n-test.true (sym (rw c.in_default.is at c.incremental.ensures)) c.loop-n.invariant).1
+    (tells_gap (readings_of c.args.kv.now) c.args.service c.last_version-last.result c.args.v c.loop-n.n c.loop-n.told c.loop-n.room c.loop-n-test.true (sym (rw c.in_default.is at c.incremental.ensures)) c.loop-n.invariant).1
 
 pub returns-then-as_slice-eq-MOST_TOLD-clause-told : goal.returns-then-as_slice-eq-MOST_TOLD-clause-told
 returns-then-as_slice-eq-MOST_TOLD-clause-told c =
@@ -22,7 +22,7 @@ returns-then-as_slice-eq-MOST_TOLD-clause-told c =
       | then-as_slice-eq-MOST_TOLD-via-else-as_slice-eq-MOST_TOLD+then-bytes-room w ↦ inr w.if-bytes-room.true
     ] in
     rw (← c.last_version-last.ensures.value)
-    (tells_full (view c.args.kv.now) c.args.service c.last_version-last.result c.args.v c.loop-n.n c.loop-n.told c.loop-n.room c.in-Some.bytes.now c.loop-n-test.true (sym (rw c.in-Some.is at c.incremental.ensures)) full c.loop-n.invariant).0
+    (tells_full (readings_of c.args.kv.now) c.args.service c.last_version-last.result c.args.v c.loop-n.n c.loop-n.told c.loop-n.room c.in-Some.bytes.now c.loop-n-test.true (sym (rw c.in-Some.is at c.incremental.ensures)) full c.loop-n.invariant).0
 
 pub returns-then-as_slice-eq-MOST_TOLD-clause-more : goal.returns-then-as_slice-eq-MOST_TOLD-clause-more
 returns-then-as_slice-eq-MOST_TOLD-clause-more c =
@@ -32,20 +32,20 @@ returns-then-as_slice-eq-MOST_TOLD-clause-more c =
       | then-as_slice-eq-MOST_TOLD-via-else-as_slice-eq-MOST_TOLD+then-bytes-room w ↦ inr w.if-bytes-room.true
     ] in
     rw (← c.last_version-last.ensures.value)
-    (tells_full (view c.args.kv.now) c.args.service c.last_version-last.result c.args.v c.loop-n.n c.loop-n.told c.loop-n.room c.in-Some.bytes.now c.loop-n-test.true (sym (rw c.in-Some.is at c.incremental.ensures)) full c.loop-n.invariant).1
+    (tells_full (readings_of c.args.kv.now) c.args.service c.last_version-last.result c.args.v c.loop-n.n c.loop-n.told c.loop-n.room c.in-Some.bytes.now c.loop-n-test.true (sym (rw c.in-Some.is at c.incremental.ensures)) full c.loop-n.invariant).1
 
 pub loop-n-preserved : goal.loop-n-preserved
 loop-n-preserved c =
     let few : length c.loop-n.told < 65535 = omega (arith, ap length c.as_slice.ensures, c.loop-n.invariant.many) in
     rw (c.in_ok-push.ensures.ok, c.new-in-loop-n.ensures, c.in_ok-from_slice.ensures.items)
-    (tells_more (view c.args.kv.now) c.args.service c.last_version-last.result c.args.v c.loop-n.n c.loop-n.told c.loop-n.room c.in-Some.bytes.now c.loop-n-test.true (sym (rw c.in-Some.is at c.incremental.ensures)) few c.if-bytes-room.false c.loop-n.invariant)
+    (tells_more (readings_of c.args.kv.now) c.args.service c.last_version-last.result c.args.v c.loop-n.n c.loop-n.told c.loop-n.room c.in-Some.bytes.now c.loop-n-test.true (sym (rw c.in-Some.is at c.incremental.ensures)) few c.if-bytes-room.false c.loop-n.invariant)
 
 pub returns-clause-told : goal.returns-clause-told
 returns-clause-told c =
     rw (← c.last_version-last.ensures.value)
-    (tells_last (view c.args.kv.now) c.args.service c.last_version-last.result c.args.v c.loop-n.n c.loop-n.told c.loop-n.room c.loop-n-test.false c.loop-n.invariant).0
+    (tells_last (readings_of c.args.kv.now) c.args.service c.last_version-last.result c.args.v c.loop-n.n c.loop-n.told c.loop-n.room c.loop-n-test.false c.loop-n.invariant).0
 
 pub returns-clause-more : goal.returns-clause-more
 returns-clause-more c =
     rw (← c.last_version-last.ensures.value)
-    (tells_last (view c.args.kv.now) c.args.service c.last_version-last.result c.args.v c.loop-n.n c.loop-n.told c.loop-n.room c.loop-n-test.false c.loop-n.invariant).1
+    (tells_last (readings_of c.args.kv.now) c.args.service c.last_version-last.result c.args.v c.loop-n.n c.loop-n.told c.loop-n.room c.loop-n-test.false c.loop-n.invariant).1
