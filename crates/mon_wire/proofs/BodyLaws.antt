@@ -6,13 +6,13 @@ use Rattle.mon_wire.specs.declared.body.Body.{Body}
 use Rattle.mon_wire.specs.declared.body.Body.TheVariants as body
 use Rattle.mon_wire.specs.declared.kind.Kind.{Kind}
 use Rattle.mon_wire.specs.declared.kind.Kind.TheVariants as kind
-use Rattle.mon_wire.specs.Message.Format.{Format, nothing, ◌⊗◌, list, some, variant}
+use Rattle.mon_wire.specs.Message.Format.{faults, Format, nothing, ◌⊗◌, list, some, variant}
 use Rattle.mon_wire.specs.Message.Fields.{numeral, flag, set, value}
 use Rattle.mon_wire.specs.Message.Parts.{optional, cookie, told, place, entry, a_command}
 use Rattle.mon_wire.specs.Message.Client.{a_request, a_reply, a_routed}
 use Rattle.mon_wire.specs.Message.Scores.{table}
 use Rattle.mon_wire.specs.Message.Bodies.{probe_reply, scored, collect, last, begin, accept, commit, forward, route, granted, asked, chunk, last_chunk, request, reply, spelled, body_at}
-use Rattle.mon_wire.proofs.Formats.{IsLawful, nothing-lawful, list-lawful, some-lawful, TakesVariant, variant_takes}
+use Rattle.mon_bytes.proofs.Formats.{IsLawful, nothing-lawful, list-lawful, some-lawful, TakesVariant, variant_takes}
 use Rattle.mon_wire.proofs.FieldLaws.{numeral-lawful, flag-lawful, value-lawful}
 use Rattle.mon_wire.proofs.PartLaws.{then-lawful, optional-lawful, cookie-lawful, told-lawful, place-lawful, entry-lawful, a_command-lawful}
 use Rattle.mon_wire.proofs.ClientLaws.{a_request-lawful, a_reply-lawful, a_routed-lawful}
@@ -31,10 +31,10 @@ collect-lawful : IsLawful collect
 collect-lawful = then-lawful numeral (numeral ⊗ numeral) numeral-lawful accept-lawful
 
 values-lawful : IsLawful (list value)
-values-lawful = list-lawful value value-lawful
+values-lawful = list-lawful faults value value-lawful
 
 entries-lawful : IsLawful (list entry)
-entries-lawful = list-lawful entry entry-lawful
+entries-lawful = list-lawful faults entry entry-lawful
 
 last-lawful : IsLawful last
 last-lawful =
@@ -49,7 +49,7 @@ begin-lawful : IsLawful begin
 begin-lawful = then-lawful numeral (numeral ⊗ value) numeral-lawful (then-lawful numeral value numeral-lawful value-lawful)
 
 commit-lawful : IsLawful commit
-commit-lawful = then-lawful numeral (some value) numeral-lawful (some-lawful value value-lawful)
+commit-lawful = then-lawful numeral (some value) numeral-lawful (some-lawful faults value value-lawful)
 
 forward-lawful : IsLawful forward
 forward-lawful = then-lawful numeral a_command numeral-lawful a_command-lawful

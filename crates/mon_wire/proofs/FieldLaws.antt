@@ -20,16 +20,16 @@ use Rattle.mon_tx.proofs.Takes.{is_found}
 use Rattle.mon_tx.proofs.Words.{word_parts}
 use Rattle.mon_wire.specs.declared.request.Service.{Service}
 use Rattle.mon_wire.specs.declared.request.Service.TheVariants.{Kv, Log}
-use Rattle.mon_wire.specs.Message.Format.{◌>>=◌, cut}
+use Rattle.mon_wire.specs.Message.Format.{faults, ◌>>=◌, cut}
 use Rattle.mon_wire.specs.Message.Fields.{number_bytes, number_at, numeral, flag_byte, flag_at, flag, blob_at, blob, text_at, utf8, word_at, word, spelled_at, value_at, value, service_byte, service_at, service}
-use Rattle.mon_wire.proofs.Formats.{bind_ok, cut_ok, tested, above_zero, IsLawful}
+use Rattle.mon_bytes.proofs.Formats.{bind_ok, at_fault_ok, tested, above_zero, IsLawful}
 
 number_is_taken : (c : Reading) (x : ℕ × Reading) → IsBytes c.rest → number_at c ≡ Ok x → Takes c (number_bytes x.0) x.1 × (x.0 ≤ 2 ^ 62)
 unfolding number_at number_bytes
 number_is_taken c x fits e =
     let a = bind_ok (cut (number 8 c)) (λ n. cond (ltb (2 ^ 62) n.0) (Err (refused.At c.at fault.Number)) (Ok n)) x e in
     let g = guard_ok (ltb (2 ^ 62) a.0.0) (refused.At c.at fault.Number) (Ok a.0) x a.2 in
-    let t = number_takes 8 c a.0 fits (cut_ok (number 8 c) a.0 a.1) in
+    let t = number_takes 8 c a.0 fits (at_fault_ok faults.cut (number 8 c) a.0 a.1) in
     subst (λ (p : ℕ × Reading). Takes c (little_bytes 8 p.0) p.1 × (p.0 ≤ 2 ^ 62)) (ok_is a.0 x g.1) (t.0, ltb-false _ _ g.0)
 
 number_is_found : (c : Reading) (n : ℕ) (rest : List ℕ) → c.rest ≡ number_bytes n ++ rest → n ≤ 2 ^ 62 → Found (number_at c) n rest
@@ -52,7 +52,7 @@ unfolding flag_at
 flag_is_taken c x fits e =
     let a = bind_ok (cut (number 1 c)) (λ n. cond (ltb 1 n.0) (Err (refused.At c.at fault.Value)) (Ok (eqb n.0 1, n.1))) x e in
     let g = guard_ok (ltb 1 a.0.0) (refused.At c.at fault.Value) (Ok (eqb a.0.0 1, a.0.1)) x a.2 in
-    let t = byte_takes c a.0 fits (cut_ok (number 1 c) a.0 a.1) in
+    let t = byte_takes c a.0 fits (at_fault_ok faults.cut (number 1 c) a.0 a.1) in
     subst (λ (p : Bool × Reading). Takes c (flag_byte p.0 ∷ []) p.1 × Unit {0}) (ok_is (eqb a.0.0 1, a.0.1) x g.1)
     (subst (λ (n : ℕ). Takes c (n ∷ []) a.0.1) (sym (flag_back a.0.0 (ltb-false _ _ g.0))) t.0, tt)
 
@@ -69,8 +69,8 @@ flag-lawful = record { takes = flag_is_taken; found = flag_is_found }
 -- a length in four bytes, and so many bytes
 pub length_takes : (c : Reading) (n : ℕ × Reading) (bytes : List ℕ × Reading) → IsBytes c.rest → cut (number 4 c) ≡ Ok n → cut (front n.0 n.1) ≡ Ok bytes → Takes c (text_bytes bytes.0) bytes.1 × (length bytes.0 < 2 ^ 32)
 length_takes c n bytes fits first others =
-    let t0 = u32_takes c n fits (cut_ok (number 4 c) n first) in
-    let t1 = front_takes n.0 n.1 bytes t0.0.bytes (cut_ok (front n.0 n.1) bytes others) in
+    let t0 = u32_takes c n fits (at_fault_ok faults.cut (number 4 c) n first) in
+    let t1 = front_takes n.0 n.1 bytes t0.0.bytes (at_fault_ok faults.cut (front n.0 n.1) bytes others) in
     let all = Takes-then c n.1 bytes.1 (u32_bytes n.0) bytes.0 t0.0 t1.0 in
     (subst (λ (k : ℕ). Takes c (u32_bytes k ++ bytes.0) bytes.1) (sym t1.1) all, omega (arith, t0.1, t1.1))
 
@@ -128,8 +128,8 @@ word_is_taken most c x fits e =
     let high = guard_ok (ltb most n.0) none (cut (front n.0 n.1) >>= λ bytes. cond (is_word most bytes.0) (Ok bytes) (Err (refused.At n.1.at fault.Value))) x low.1 in
     let b = bind_ok (cut (front n.0 n.1)) (λ bytes. cond (is_word most bytes.0) (Ok bytes) (Err (refused.At n.1.at fault.Value))) x high.1 in
     let g = chosen_ok (is_word most b.0.0) (refused.At n.1.at fault.Value) (Ok b.0) x b.2 in
-    let t0 = byte_takes c n fits (cut_ok (number 1 c) n a.1) in
-    let t1 = front_takes n.0 n.1 b.0 t0.0.bytes (cut_ok (front n.0 n.1) b.0 b.1) in
+    let t0 = byte_takes c n fits (at_fault_ok faults.cut (number 1 c) n a.1) in
+    let t1 = front_takes n.0 n.1 b.0 t0.0.bytes (at_fault_ok faults.cut (front n.0 n.1) b.0 b.1) in
     let all = Takes-then c n.1 b.0.1 (n.0 ∷ []) b.0.0 t0.0 t1.0 in
     subst (λ (p : List ℕ × Reading). Takes c (length p.0 ∷ p.0) p.1 × IsTrue (is_word most p.0)) (ok_is b.0 x g.1)
     (subst (λ (k : ℕ). Takes c (k ∷ b.0.0) b.0.1) (sym t1.1) all, g.0)
@@ -189,7 +189,7 @@ service_is_taken : (c : Reading) (x : Service × Reading) → IsBytes c.rest →
 unfolding service_at
 service_is_taken c x fits e =
     let a = bind_ok (cut (number 1 c)) (λ n. cond (eqb n.0 1) (Ok (Kv, n.1)) (cond (eqb n.0 2) (Ok (Log, n.1)) (Err (refused.At c.at fault.Value)))) x e in
-    let t = byte_takes c a.0 fits (cut_ok (number 1 c) a.0 a.1) in
+    let t = byte_takes c a.0 fits (at_fault_ok faults.cut (number 1 c) a.0 a.1) in
     elim (tested a.0.0 1 (Ok (Kv, a.0.1)) (cond (eqb a.0.0 2) (Ok (Log, a.0.1)) (Err (refused.At c.at fault.Value))) x a.2) [
       | inl h ↦ subst (λ (p : Service × Reading). Takes c (service_byte p.0 ∷ []) p.1 × Unit {0}) (ok_is (Kv, a.0.1) x h.1) (subst (λ (n : ℕ). Takes c (n ∷ []) a.0.1) h.0 t.0, tt)
       | inr h ↦

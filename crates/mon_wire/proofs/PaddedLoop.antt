@@ -1,25 +1,13 @@
 -- Filling an array of fifteen from the front, as a loop does.
 use Rattle.std.proofs.Common.{◌≡◌, ℕ, suc, ◌-◌, ◌+◌, ◌≤◌, ◌<◌, List, [], ◌∷◌, ◌++◌, length, replicate, set, Result, Ok, Err, refl, sym, ap, ◌∙◌, append_assoc, arith}
 use Rattle.std.proofs.lemmas.List.{length-append}
+use Rattle.mon_types.proofs.Bits.{filled_one}
 use Rattle.mon_bytes.specs.Reading.{Reading}
+use Rattle.mon_bytes.proofs.Formats.{fails_on}
 use Rattle.mon_wire.specs.declared.refusal.MsgRefused.{MsgRefused}
-use Rattle.mon_wire.specs.declared.refusal.MsgRefused.TheVariants as refused
-use Rattle.mon_wire.specs.Message.Format.{◌>>=◌, Fails, Reader, items}
+use Rattle.mon_wire.specs.Message.Format.{no_memory, Fails, Reader, items}
 use Rattle.mon_wire.specs.Message.Scores.{padded_at}
-use Rattle.mon_wire.proofs.ItemsLoop.{with_front, goes_on, ends, is_done}
-
-set-seam : {A : Type 0} (front : List A) (x y : A) (more : List A) → set (front ++ x ∷ more) (length front) y ≡ front ++ y ∷ more
-set-seam [] x y more = refl
-set-seam {A} (f ∷ front) x y more = ap (λ (xs : List A). f ∷ xs) (set-seam front x y more)
-
-pub seam : {A : Type 0} (i : ℕ) (d : A) → i < 15 → replicate (15 - i) d ≡ d ∷ replicate (15 - (i + 1)) d
-seam i d lt = let k : 15 - i ≡ suc (15 - (i + 1)) = omega arith in rw k refl
-
-pub filled_one : {A : Type 0} (i : ℕ) (d x : A) (front xs : List A) → i < 15 → length front ≡ i → xs ≡ front ++ replicate (15 - i) d → set xs i x ≡ (front ++ x ∷ []) ++ replicate (15 - (i + 1)) d
-filled_one {A} i d x front xs lt count whole =
-    let cells : xs ≡ front ++ d ∷ replicate (15 - (i + 1)) d = whole ∙ ap (λ (ys : List A). front ++ ys) (seam i d lt) in
-    ap (λ (ys : List A). set ys i x) cells ∙ ap (λ (n : ℕ). set (front ++ d ∷ replicate (15 - (i + 1)) d) n x) (sym count) ∙ set-seam front d x (replicate (15 - (i + 1)) d)
-    ∙ sym (append_assoc front (x ∷ []) (replicate (15 - (i + 1)) d))
+use Rattle.mon_bytes.proofs.ItemsLoop.{with_front, goes_on, ends, is_done}
 
 with_front-nil : {A : Type 0} (r : Result (List A × Reading) MsgRefused) → with_front [] r ≡ r
 with_front-nil (Ok x) = refl
@@ -46,14 +34,10 @@ so_far_next read n i d c after x xs total few lt s h = record {
   more = goes_on read s.front n i c after x total lt h s.more;
 }
 
-fails_on : {A B : Type 0} (e : MsgRefused) (part : Result A MsgRefused) (more : A → Result B MsgRefused) → Fails e part → Fails e (part >>= more)
-fails_on refused.OutOfMemory part more h = tt
-fails_on (refused.At at fault) part more h = rw h refl
-
 pub so_far_ends : {A : Type 0} (read : Reader A) (e : MsgRefused) (n i : ℕ) (d : A) (c first : Reading) (xs : List A) → i < n → SoFar read n i d c xs (items read n first) → Fails e (read c) → Fails e (padded_at n d read first)
 unfolding padded_at
 so_far_ends read e n i d c first xs lt s h =
-    fails_on e (items read n first) (λ ys. Ok (ys.0 ++ replicate (15 - n) d, ys.1)) (ends read e s.front n i c (items read n first) lt h s.more)
+    fails_on no_memory e (items read n first) (λ ys. Ok (ys.0 ++ replicate (15 - n) d, ys.1)) (ends no_memory read e s.front n i c (items read n first) lt h s.more)
 
 pub so_far_done : {A : Type 0} (read : Reader A) (n i : ℕ) (d : A) (c first : Reading) (xs : List A) → n ≤ i → i ≤ n → SoFar read n i d c xs (items read n first) → padded_at n d read first ≡ Ok (xs, c)
 unfolding padded_at

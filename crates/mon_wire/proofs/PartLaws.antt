@@ -20,10 +20,10 @@ use Rattle.mon_wire.specs.declared.reply.ShownMap.{ShownMap}
 use Rattle.mon_wire.specs.declared.reply.ShownMap.TheVariants as map
 use Rattle.mon_wire.specs.declared.request.Service.{Service}
 use Rattle.mon_wire.specs.declared.request.Service.TheVariants as service
-use Rattle.mon_wire.specs.Message.Format.{◌>>=◌, cut, Format, nothing, ◌⊗◌, tagged}
+use Rattle.mon_wire.specs.Message.Format.{faults, ◌>>=◌, cut, Format, nothing, ◌⊗◌, tagged}
 use Rattle.mon_wire.specs.Message.Fields.{numeral, utf8, name, prefix, blob, value}
 use Rattle.mon_wire.specs.Message.Parts.{option_spelled, option_kinds, optional, cookie, told, key_place_spelled, key_place_kinds, key_place_at, key_place, place, entry, command_spelled, command_kinds, command_at, a_command, map_at, shown_map_at, shown_text, ShownFits, shown_map}
-use Rattle.mon_wire.proofs.Formats.{bind_ok, IsLawful, nothing-lawful, dependent-lawful, as_parts-lawful, variant_takes, choice_takes, variant_found}
+use Rattle.mon_bytes.proofs.Formats.{bind_ok, IsLawful, nothing-lawful, dependent-lawful, as_parts-lawful, variant_takes, choice_takes, variant_found}
 use Rattle.mon_wire.proofs.FieldLaws.{numeral-lawful, blob-lawful, utf8-lawful, word-lawful, value-lawful, length_takes, length_found, counted_bytes}
 
 pub then-lawful : {A B : Type 0} (f : Format A) (g : Format B) → IsLawful f → IsLawful g → IsLawful (f ⊗ g)
@@ -31,7 +31,7 @@ then-lawful f g lf lg = dependent-lawful f (λ x. g) lf (λ x. lg)
 
 pub optional-lawful : {A : Type 0} (f : Format A) → IsLawful f → IsLawful (optional f)
 optional-lawful {A} f lf = record {
-  takes = choice_takes (option_spelled f) (option_kinds f) (
+  takes = choice_takes faults (option_spelled f) (option_kinds f) (
     variant_takes (option_spelled f) 0 nothing (λ x. None) nothing-lawful (λ a. refl) (λ a. refl) (λ a h. h),
     (variant_takes (option_spelled f) 1 f (λ x. Some x) lf (λ a. refl) (λ a. refl) (λ a h. h), tt),
   );
@@ -39,8 +39,8 @@ optional-lawful {A} f lf = record {
 }
   where
     found : (c : Reading) (x : Option A) (rest : List ℕ) → c.rest ≡ (optional f).text x ++ rest → (optional f).Form x → Found (tagged (option_kinds f) c) x rest
-    found c None rest e form = variant_found (option_kinds f) nothing (λ x. None) 0 nothing-lawful (λ at d. refl) c tt rest e form
-    found c (Some x) rest e form = variant_found (option_kinds f) f (λ x. Some x) 1 lf (λ at d. refl) c x rest e form
+    found c None rest e form = variant_found faults (option_kinds f) nothing (λ x. None) 0 nothing-lawful (λ at d. refl) c tt rest e form
+    found c (Some x) rest e form = variant_found faults (option_kinds f) f (λ x. Some x) 1 lf (λ at d. refl) c x rest e form
 
 pub cookie-lawful : IsLawful cookie
 cookie-lawful = as_parts-lawful (numeral ⊗ numeral) (λ p. record { boot = p.0; seq = p.1 }) (λ k. (k.boot, k.seq)) (then-lawful numeral numeral numeral-lawful numeral-lawful) (λ x. refl) (λ y. refl)
@@ -55,7 +55,7 @@ after-lawful = then-lawful prefix name (word-lawful 32) (word-lawful 255)
 
 key_place_takes : (c : Reading) (x : KeyPlace × Reading) → IsBytes c.rest → key_place_at c ≡ Ok x → Takes c (key_place.text x.0) x.1 × key_place.Form x.0
 unfolding key_place_at
-key_place_takes = choice_takes key_place_spelled key_place_kinds (
+key_place_takes = choice_takes faults key_place_spelled key_place_kinds (
   variant_takes key_place_spelled 0 nothing (λ x. Start) nothing-lawful (λ a. refl) (λ a. refl) (λ a h. h),
   (
     variant_takes key_place_spelled 1 (prefix ⊗ name) (λ p. After p.0 p.1) after-lawful (λ a. refl) (λ a. refl) (λ a h. h),
@@ -65,9 +65,9 @@ key_place_takes = choice_takes key_place_spelled key_place_kinds (
 
 key_place_found : (c : Reading) (x : KeyPlace) (rest : List ℕ) → c.rest ≡ key_place.text x ++ rest → key_place.Form x → Found (key_place_at c) x rest
 unfolding key_place_at
-key_place_found c Start rest e form = variant_found key_place_kinds nothing (λ x. Start) 0 nothing-lawful (λ at d. refl) c tt rest e form
-key_place_found c (After p k) rest e form = variant_found key_place_kinds (prefix ⊗ name) (λ p. After p.0 p.1) 1 after-lawful (λ at d. refl) c (p, k) rest e form
-key_place_found c Done rest e form = variant_found key_place_kinds nothing (λ x. Done) 2 nothing-lawful (λ at d. refl) c tt rest e form
+key_place_found c Start rest e form = variant_found faults key_place_kinds nothing (λ x. Start) 0 nothing-lawful (λ at d. refl) c tt rest e form
+key_place_found c (After p k) rest e form = variant_found faults key_place_kinds (prefix ⊗ name) (λ p. After p.0 p.1) 1 after-lawful (λ at d. refl) c (p, k) rest e form
+key_place_found c Done rest e form = variant_found faults key_place_kinds nothing (λ x. Done) 2 nothing-lawful (λ at d. refl) c tt rest e form
 
 pub place-lawful : IsLawful place
 place-lawful =
@@ -86,7 +86,7 @@ set-lawful = then-lawful name utf8 (word-lawful 255) utf8-lawful
 
 command_takes : (c : Reading) (x : Command × Reading) → IsBytes c.rest → command_at c ≡ Ok x → Takes c (a_command.text x.0) x.1 × a_command.Form x.0
 unfolding command_at
-command_takes = choice_takes command_spelled command_kinds (
+command_takes = choice_takes faults command_spelled command_kinds (
   variant_takes command_spelled 1 (name ⊗ utf8) (λ p. command.Set p.0 p.1) set-lawful (λ a. refl) (λ a. refl) (λ a h. h),
   (
     variant_takes command_spelled 2 name (λ key. command.Remove key) (word-lawful 255) (λ a. refl) (λ a. refl) (λ a h. h),
@@ -96,9 +96,9 @@ command_takes = choice_takes command_spelled command_kinds (
 
 command_found : (c : Reading) (x : Command) (rest : List ℕ) → c.rest ≡ a_command.text x ++ rest → a_command.Form x → Found (command_at c) x rest
 unfolding command_at
-command_found c (command.Set key v) rest e form = variant_found command_kinds (name ⊗ utf8) (λ p. command.Set p.0 p.1) 1 set-lawful (λ at d. refl) c (key, v) rest e form
-command_found c (command.Remove key) rest e form = variant_found command_kinds name (λ key. command.Remove key) 2 (word-lawful 255) (λ at d. refl) c key rest e form
-command_found c (command.Log text) rest e form = variant_found command_kinds utf8 (λ text. command.Log text) 3 utf8-lawful (λ at d. refl) c text rest e form
+command_found c (command.Set key v) rest e form = variant_found faults command_kinds (name ⊗ utf8) (λ p. command.Set p.0 p.1) 1 set-lawful (λ at d. refl) c (key, v) rest e form
+command_found c (command.Remove key) rest e form = variant_found faults command_kinds name (λ key. command.Remove key) 2 (word-lawful 255) (λ at d. refl) c key rest e form
+command_found c (command.Log text) rest e form = variant_found faults command_kinds utf8 (λ text. command.Log text) 3 utf8-lawful (λ at d. refl) c text rest e form
 
 pub a_command-lawful : IsLawful a_command
 a_command-lawful = record { takes = command_takes; found = command_found }

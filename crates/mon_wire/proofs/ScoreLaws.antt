@@ -7,6 +7,8 @@ use Rattle.std.proofs.lemmas.Bool.Decides.{nat_tests}
 use Rattle.std.proofs.lemmas.List.{length-append, length-take, length-replicate, take_at, drop_at, take-append-drop}
 use Rattle.byteorder.specs.Endian.{little_bytes}
 use Rattle.byteorder.specs.Numbers.{little_number-reads_back}
+use Rattle.mon_types.specs.Ranks.{to_bits, low_bits, from_bits}
+use Rattle.mon_types.proofs.Bits.{to_bits-low_bits, length-low_bits, low_bits-to_bits}
 use Rattle.mon_bytes.specs.Reading.{IsBytes, Reading, number}
 use Rattle.mon_bytes.specs.Forms.{u32_bytes}
 use Rattle.mon_bytes.proofs.Fields.{guard_ok, ok_is, Takes, number_takes, Found, number_found}
@@ -14,62 +16,36 @@ use Rattle.mon_bytes.proofs.Forms.{u32_takes, u32_found}
 use Rattle.election_rules.specs.Table.{full, start_row}
 use Rattle.mon_wire.specs.declared.refusal.MsgKind.TheVariants as fault
 use Rattle.mon_wire.specs.declared.refusal.MsgRefused.TheVariants as refused
-use Rattle.mon_wire.specs.Message.Format.{cut, Format, ◌⊗◌, items}
-use Rattle.mon_wire.specs.Message.Fields.{numeral, number_of, bits, set_bytes, set_at, set}
+use Rattle.mon_wire.specs.Message.Format.{faults, cut, Format, ◌⊗◌, items}
+use Rattle.mon_wire.specs.Message.Fields.{numeral, set_bytes, set_at, set}
 use Rattle.mon_wire.specs.Message.Scores.{padded_at, IsPadded, padded, score_at, score, row, table}
-use Rattle.mon_wire.proofs.Formats.{bind_ok, cut_ok, IsLawful, items_takes, items_found, seen_as-lawful, as_parts-lawful}
-use Rattle.mon_wire.proofs.FieldLaws.{numeral-lawful, flag_back}
+use Rattle.mon_bytes.proofs.Formats.{bind_ok, at_fault_ok, IsLawful, items_takes, items_found, seen_as-lawful, as_parts-lawful}
+use Rattle.mon_wire.proofs.FieldLaws.{numeral-lawful}
 use Rattle.mon_wire.proofs.PartLaws.{then-lawful}
 
 -- ---- sets
 
-pub number_of-bits : (k n : ℕ) → n < 2 ^ k → number_of (bits k n) ≡ n
-number_of-bits zero n lt = omega arith
-number_of-bits (suc k) n lt =
-    let power = pow-suc 2 k in
-    let half : n / 2 < 2 ^ k = omega (arith, power, lt) in
-    let others = number_of-bits k (n / 2) half in
-    let low = flag_back (n % 2) (omega arith) in
-    omega (arith, others, low)
-
-pub length-bits : (k n : ℕ) → length (bits k n) ≡ k
-length-bits zero n = refl
-length-bits (suc k) n = omega (arith, length-bits k (n / 2))
-
-pub bits-number_of : (s : List Bool) → bits (length s) (number_of s) ≡ s
-bits-number_of [] = refl
-bits-number_of (true ∷ s) =
-    let m = number_of s in
-    let low : (1 + 2 * m) % 2 ≡ 1 = omega arith in
-    let half : (1 + 2 * m) / 2 ≡ m = omega arith in
-    rw (low, half) (ap (λ (t : List Bool). true ∷ t) (bits-number_of s))
-bits-number_of (false ∷ s) =
-    let m = number_of s in
-    let low : (0 + 2 * m) % 2 ≡ 0 = omega arith in
-    let half : (0 + 2 * m) / 2 ≡ m = omega arith in
-    rw (low, half) (ap (λ (t : List Bool). false ∷ t) (bits-number_of s))
-
-set_takes : (n : ℕ) → n ≤ 15 → (c : Reading) (x : List Bool × Reading) → IsBytes c.rest → set_at n c ≡ Ok x → Takes c (set_bytes x.0) x.1 × ((length x.0 ≡ 15) × (number_of x.0 < 2 ^ n))
-unfolding set_at set_bytes
+set_takes : (n : ℕ) → n ≤ 15 → (c : Reading) (x : List Bool × Reading) → IsBytes c.rest → set_at n c ≡ Ok x → Takes c (set_bytes x.0) x.1 × ((length x.0 ≡ 15) × (to_bits x.0 < 2 ^ n))
+unfolding set_at set_bytes from_bits
 set_takes n few c x fits e =
-    let a = bind_ok (cut (number 2 c)) (λ w. cond (leb (2 ^ n) w.0) (Err (refused.At c.at fault.Value)) (Ok (bits 15 w.0, w.1))) x e in
+    let a = bind_ok (cut (number 2 c)) (λ w. cond (leb (2 ^ n) w.0) (Err (refused.At c.at fault.Value)) (Ok (low_bits 15 w.0, w.1))) x e in
     let w = a.0.0 in
-    let g = guard_ok (leb (2 ^ n) w) (refused.At c.at fault.Value) (Ok (bits 15 w, a.0.1)) x a.2 in
-    let t = number_takes 2 c a.0 fits (cut_ok (number 2 c) a.0 a.1) in
+    let g = guard_ok (leb (2 ^ n) w) (refused.At c.at fault.Value) (Ok (low_bits 15 w, a.0.1)) x a.2 in
+    let t = number_takes 2 c a.0 fits (at_fault_ok faults.cut (number 2 c) a.0 a.1) in
     let low : w < 2 ^ n = grind (arith, nat_tests, g.0) in
     let most : 2 ^ n ≤ 2 ^ 15 = pow-le-pow_right (omega arith) few in
-    let same : number_of (bits 15 w) ≡ w = number_of-bits 15 w (omega (arith, low, most)) in
-    subst (λ (p : List Bool × Reading). Takes c (little_bytes 2 (number_of p.0)) p.1 × ((length p.0 ≡ 15) × (number_of p.0 < 2 ^ n))) (ok_is (bits 15 w, a.0.1) x g.1)
-    (subst (λ (m : ℕ). Takes c (little_bytes 2 m) a.0.1) (sym same) t.0, (length-bits 15 w, subst (λ (m : ℕ). m < 2 ^ n) (sym same) low))
+    let same : to_bits (low_bits 15 w) ≡ w = to_bits-low_bits 15 w (omega (arith, low, most)) in
+    subst (λ (p : List Bool × Reading). Takes c (little_bytes 2 (to_bits p.0)) p.1 × ((length p.0 ≡ 15) × (to_bits p.0 < 2 ^ n))) (ok_is (low_bits 15 w, a.0.1) x g.1)
+    (subst (λ (m : ℕ). Takes c (little_bytes 2 m) a.0.1) (sym same) t.0, (length-low_bits 15 w, subst (λ (m : ℕ). m < 2 ^ n) (sym same) low))
 
-set_found : (n : ℕ) → n ≤ 15 → (c : Reading) (s : List Bool) (rest : List ℕ) → c.rest ≡ set_bytes s ++ rest → (length s ≡ 15) × (number_of s < 2 ^ n) → Found (set_at n c) s rest
-unfolding set_at set_bytes
+set_found : (n : ℕ) → n ≤ 15 → (c : Reading) (s : List Bool) (rest : List ℕ) → c.rest ≡ set_bytes s ++ rest → (length s ≡ 15) × (to_bits s < 2 ^ n) → Found (set_at n c) s rest
+unfolding set_at set_bytes from_bits
 set_found n few c s rest e form =
-    let w = number_of s in
+    let w = to_bits s in
     let most : 2 ^ n ≤ 2 ^ 15 = pow-le-pow_right (omega arith) few in
     let a = number_found 2 c (little_bytes 2 w) rest w e refl (little_number-reads_back 2 w [] (omega (arith, form.1, most))) in
     let low : leb (2 ^ n) w ≡ false = grind (arith, nat_tests, form.1) in
-    let same : bits 15 w ≡ s = ap (λ (k : ℕ). bits k w) (sym form.0) ∙ bits-number_of s in
+    let same : low_bits 15 w ≡ s = ap (λ (k : ℕ). low_bits k w) (sym form.0) ∙ low_bits-to_bits s in
     (a.0, a.1, rw (a.2, low, same) refl)
 
 pub set-lawful : (n : ℕ) → n ≤ 15 → IsLawful (set n)
@@ -82,7 +58,7 @@ unfolding score_at
 score_takes c x fits e =
     let a = bind_ok (cut (number 4 c)) (λ n. cond (ltb full n.0) (Err (refused.At c.at fault.Value)) (Ok n)) x e in
     let g = guard_ok (ltb full a.0.0) (refused.At c.at fault.Value) (Ok a.0) x a.2 in
-    let t = u32_takes c a.0 fits (cut_ok (number 4 c) a.0 a.1) in
+    let t = u32_takes c a.0 fits (at_fault_ok faults.cut (number 4 c) a.0 a.1) in
     subst (λ (p : ℕ × Reading). Takes c (u32_bytes p.0) p.1 × (p.0 ≤ full)) (ok_is a.0 x g.1) (t.0, ltb-false _ _ g.0)
 
 score_found : (c : Reading) (n : ℕ) (rest : List ℕ) → c.rest ≡ u32_bytes n ++ rest → n ≤ full → Found (score_at c) n rest

@@ -10,11 +10,11 @@ use Rattle.mon_wire.specs.declared.message.Message.{Message}
 use Rattle.mon_wire.specs.declared.refusal.MsgKind.TheVariants as fault
 use Rattle.mon_wire.specs.declared.refusal.MsgRefused.{MsgRefused}
 use Rattle.mon_wire.specs.declared.refusal.MsgRefused.TheVariants as refused
-use Rattle.mon_wire.specs.Message.Format.{◌>>=◌, cut, Gives}
+use Rattle.mon_wire.specs.Message.Format.{faults, ◌>>=◌, cut, Gives}
 use Rattle.mon_wire.specs.Message.Fields.{number_bytes, number_at}
 use Rattle.mon_wire.specs.Message.Bodies.{spelled, body_at}
-use Rattle.mon_wire.specs.Message.Whole.{most, asking, kind_of, text, IsMessage, HasText, format_at, kind_at, sender_at, epoch_at, message_at, ended, message_of}
-use Rattle.mon_wire.proofs.Formats.{bind_ok, cut_ok, not_zero, above_zero}
+use Rattle.mon_wire.specs.Message.Whole.{most, asking, kind_of, text, IsMessage, HasText, format_at, kind_at, sender_at, epoch_at, message_at, ended, whole_at, message_of}
+use Rattle.mon_bytes.proofs.Formats.{bind_ok, at_fault_ok, not_zero, above_zero}
 use Rattle.mon_wire.proofs.FieldLaws.{numeral-lawful}
 use Rattle.mon_wire.proofs.BodyLaws.{kind_byte, body_takes, kind_in, tag-is, body_found}
 use Rattle.mon_wire.proofs.KindBytes.{byte_of_kind, kind_of_byte, kind_low, kind_high}
@@ -27,7 +27,7 @@ format_takes c x fits e =
     let a = bind_ok (cut (number 1 c)) (λ n. cond (eqb n.0 1) (Ok n) (Err (refused.At c.at fault.Format))) x e in
     let g = chosen_ok (eqb a.0.0 1) (refused.At c.at fault.Format) (Ok a.0) x a.2 in
     let one : a.0.0 ≡ 1 = eqb-true _ _ g.0 in
-    subst (λ (p : ℕ × Reading). Takes c (1 ∷ []) p.1) (ok_is a.0 x g.1) (subst (λ (n : ℕ). Takes c (n ∷ []) a.0.1) one (byte_takes c a.0 fits (cut_ok (number 1 c) a.0 a.1)).0)
+    subst (λ (p : ℕ × Reading). Takes c (1 ∷ []) p.1) (ok_is a.0 x g.1) (subst (λ (n : ℕ). Takes c (n ∷ []) a.0.1) one (byte_takes c a.0 fits (at_fault_ok faults.cut (number 1 c) a.0 a.1)).0)
 
 kind_takes : (c : Reading) (x : ℕ × Reading) → IsBytes c.rest → kind_at c ≡ Ok x → Takes c (x.0 ∷ []) x.1 × (1 ≤ x.0) × (x.0 ≤ 25)
 unfolding kind_at
@@ -37,7 +37,7 @@ kind_takes c x fits e =
     let low = guard_ok (eqb a.0.0 0) bad (cond (ltb 25 a.0.0) (Err bad) (Ok a.0)) x a.2 in
     let high = guard_ok (ltb 25 a.0.0) bad (Ok a.0) x low.1 in
     subst (λ (p : ℕ × Reading). Takes c (p.0 ∷ []) p.1 × (1 ≤ p.0) × (p.0 ≤ 25)) (ok_is a.0 x high.1)
-    ((byte_takes c a.0 fits (cut_ok (number 1 c) a.0 a.1)).0, not_zero a.0.0 low.0, ltb-false _ _ high.0)
+    ((byte_takes c a.0 fits (at_fault_ok faults.cut (number 1 c) a.0 a.1)).0, not_zero a.0.0 low.0, ltb-false _ _ high.0)
 
 asks_zero : (kind n : ℕ) → (eqb kind 24 && not (eqb n 0)) ≡ false → kind ≡ asking → n ≡ 0
 asks_zero kind n e is =
@@ -73,8 +73,8 @@ sender_takes kind c x fits e =
     let low = guard_ok (leb b.0.0 a.0.0) bad (cond (ltb 15 b.0.0) (Err bad) (cond (eqb kind 24 && not (eqb a.0.0 0)) (Err no) (Ok ((a.0.0, b.0.0), b.0.1)))) x b.2 in
     let high = guard_ok (ltb 15 b.0.0) bad (cond (eqb kind 24 && not (eqb a.0.0 0)) (Err no) (Ok ((a.0.0, b.0.0), b.0.1))) x low.1 in
     let ask = guard_ok (eqb kind 24 && not (eqb a.0.0 0)) no (Ok ((a.0.0, b.0.0), b.0.1)) x high.1 in
-    let t0 = byte_takes c a.0 fits (cut_ok (number 1 c) a.0 a.1) in
-    let t1 = byte_takes a.0.1 b.0 t0.0.bytes (cut_ok (number 1 a.0.1) b.0 b.1) in
+    let t0 = byte_takes c a.0 fits (at_fault_ok faults.cut (number 1 c) a.0 a.1) in
+    let t1 = byte_takes a.0.1 b.0 t0.0.bytes (at_fault_ok faults.cut (number 1 a.0.1) b.0 b.1) in
     let below : a.0.0 < b.0.0 = grind (arith, nat_tests, low.0) in
     subst (TakesSender kind c) (ok_is ((a.0.0, b.0.0), b.0.1) x ask.1)
     (record { all = Takes-then c a.0.1 b.0.1 (a.0.0 ∷ []) (b.0.0 ∷ []) t0.0 t1.0; sender = below; monitors = ltb-false _ _ high.0; asks = asks_zero kind a.0.0 ask.0 })
@@ -132,7 +132,7 @@ ended_ok x y e =
     (ok_is x.0 y g.1, nil_from_length x.1.rest (eqb-true _ _ g.0))
 
 message_of_takes : (bytes : List ℕ) (m : Message) → IsBytes bytes → message_of bytes ≡ Ok m → HasText m × (bytes ≡ text m)
-unfolding message_of
+unfolding message_of whole_at
 message_of_takes bytes m fits e =
     let c : Reading = record { at = 0; rest = bytes } in
     let g = guard_ok (ltb most (length bytes)) (refused.At 0 fault.TooLong) (message_at c >>= λ message. ended message) m e in
@@ -195,7 +195,7 @@ unfolding ended
 ended_found x c e = rw e refl
 
 pub message_again : (m : Message) → HasText m → message_of (text m) ≡ Ok m
-unfolding message_of
+unfolding message_of whole_at
 message_again m has =
     let short : ltb most (length (text m)) ≡ false = le-ltb _ _ has.short in
     let a = message_found (record { at = 0; rest = text m }) m refl has.form in

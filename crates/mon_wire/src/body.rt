@@ -1,11 +1,10 @@
 ghost use Rattle.std.specs.Prelude.{◌≡◌, IfOk};
 
-use crate::list::Items;
 use crate::parts::{Cookie, Place, Told};
 use crate::reply::Reply;
 use crate::request::Request;
 use election_rules::Scores;
-use mon_bytes::{Command, Entry};
+use mon_bytes::{Command, Entry, Items};
 use mon_tx::Transaction;
 use mon_types::{Pn, RankSet, Version};
 

@@ -1,10 +1,13 @@
 //! Bodies of messages, copied.
 
 ghost use Rattle.std.specs.Prelude.{◌≡◌, IfOk};
+ghost use Rattle.mon_wire.specs.declared.body.Body.TheVariants as body;
 
 use crate::body::Body;
-use crate::parts::Told;
-use mon_bytes::OutOfMemory;
+use crate::parts::{Cookie, Place, Told};
+use mon_bytes::{Entry, Items, OutOfMemory};
+use mon_tx::Transaction;
+use mon_types::Version;
 use std::alloc::Global;
 
 fn copied_told(pending: &Option<Told>) -> Result<Option<Told>, OutOfMemory>
@@ -14,6 +17,44 @@ fn copied_told(pending: &Option<Told>) -> Result<Option<Told>, OutOfMemory>
         None => Ok(None),
         Some(told) => Ok(Some(told.copy()?)),
     }
+}
+
+fn copied_chunk(
+    cookie: Cookie,
+    place: &Place,
+    values: &Items<Transaction>,
+    entries: &Items<Entry>,
+    done: bool,
+    alloc: Global,
+) -> Result<Body, OutOfMemory>
+    ensures { IfOk result (λ copied. copied ≡ body.Chunk cookie place.now values.now entries.now done) }
+{
+    Ok(Body::Chunk {
+        cookie,
+        place: place.copy(alloc)?,
+        values: values.copy(alloc)?,
+        entries: entries.copy(alloc)?,
+        done,
+    })
+}
+
+fn copied_last_chunk(
+    cookie: Cookie,
+    place: &Place,
+    values: &Items<Transaction>,
+    entries: &Items<Entry>,
+    last: Version,
+    alloc: Global,
+) -> Result<Body, OutOfMemory>
+    ensures { IfOk result (λ copied. copied ≡ body.LastChunk cookie place.now values.now entries.now last) }
+{
+    Ok(Body::LastChunk {
+        cookie,
+        place: place.copy(alloc)?,
+        values: values.copy(alloc)?,
+        entries: entries.copy(alloc)?,
+        last,
+    })
 }
 
 impl Body {
@@ -48,15 +89,18 @@ impl Body {
                 from,
                 values,
                 pending,
-            } => Body::Last {
-                pn: *pn,
-                first: *first,
-                last: *last,
-                whole: *whole,
-                from: *from,
-                values: values.copy(alloc)?,
-                pending: copied_told(pending)?,
-            },
+            } => {
+                let pending = copied_told(pending)?;
+                Body::Last {
+                    pn: *pn,
+                    first: *first,
+                    last: *last,
+                    whole: *whole,
+                    from: *from,
+                    values: values.copy(alloc)?,
+                    pending,
+                }
+            }
             Body::Begin { pn, version, value } => Body::Begin {
                 pn: *pn,
                 version: *version,
@@ -97,26 +141,14 @@ impl Body {
                 values,
                 entries,
                 done,
-            } => Body::Chunk {
-                cookie: *cookie,
-                place: place.copy(alloc)?,
-                values: values.copy(alloc)?,
-                entries: entries.copy(alloc)?,
-                done: *done,
-            },
+            } => return copied_chunk(*cookie, place, values, entries, *done, alloc),
             Body::LastChunk {
                 cookie,
                 place,
                 values,
                 entries,
                 last,
-            } => Body::LastChunk {
-                cookie: *cookie,
-                place: place.copy(alloc)?,
-                values: values.copy(alloc)?,
-                entries: entries.copy(alloc)?,
-                last: *last,
-            },
+            } => return copied_last_chunk(*cookie, place, values, entries, *last, alloc),
             Body::NoCookie { cookie } => Body::NoCookie { cookie: *cookie },
             Body::Ping { table } => Body::Ping { table: *table },
             Body::PingReply { table } => Body::PingReply { table: *table },

@@ -1,15 +1,20 @@
 //! Messages, spelled.
 
-ghost use Rattle.std.specs.Prelude.{◌≡◌, ℕ, ◌≤◌, ◌++◌, IfOk, OnOk};
+ghost use Rattle.std.specs.Prelude.{◌≡◌, ℕ, ◌≤◌, ◌∷◌, ◌++◌, IfOk, OnOk};
+ghost use Rattle.mon_wire.specs.Message.Fields.{number_bytes};
 ghost use Rattle.mon_wire.specs.Message.Bodies.{spelled};
-ghost use Rattle.mon_wire.specs.Message.Whole.{text, HasText};
+ghost use Rattle.mon_wire.specs.Message.Whole.{text, IsMessage, HasText};
 
 use crate::body::Body;
 use crate::message::Message;
-use crate::write_fields::{write_flag, write_number, write_set, write_value};
-use crate::write_lists::{write_entries, write_table, write_values};
-use crate::write_parts::{write_command, write_cookie, write_place, write_request, write_told};
-use crate::write_reply::write_reply;
+use crate::write_bodies::{
+    write_accept, write_asked, write_begin, write_chunk, write_collect, write_commit,
+    write_forward, write_found, write_granted, write_last_chunk, write_numbered_reply,
+    write_numbered_request, write_probe_reply,
+};
+use crate::write_fields::{write_number, write_set};
+use crate::write_lists::write_table;
+use crate::write_parts::write_cookie;
 use mon_bytes::{Out, OutOfMemory};
 use mon_types::Rank;
 use std::alloc::Global;
@@ -59,19 +64,11 @@ fn write_body(out: &mut Out, n: u8, own: Rank, body: &Body) -> Result<(), OutOfM
             quorum,
             first,
             last,
-        } => {
-            write_set(out, *quorum)?;
-            write_number(out, first.get())?;
-            write_number(out, last.get())
-        }
+        } => write_probe_reply(out, n, *quorum, *first, *last),
         Body::Propose { table } => write_table(out, n, own, table),
         Body::Ack => Ok(()),
         Body::Victory { quorum } => write_set(out, *quorum),
-        Body::Collect { pn, first, last } => {
-            write_number(out, pn.get())?;
-            write_number(out, first.get())?;
-            write_number(out, last.get())
-        }
+        Body::Collect { pn, first, last } => write_collect(out, *pn, *first, *last),
         Body::Last {
             pn,
             first,
@@ -81,86 +78,74 @@ fn write_body(out: &mut Out, n: u8, own: Rank, body: &Body) -> Result<(), OutOfM
             values,
             pending,
         } => {
-            write_number(out, pn.get())?;
-            write_number(out, first.get())?;
-            write_number(out, last.get())?;
-            write_flag(out, *whole)?;
-            write_number(out, from.get())?;
-            write_values(out, values.as_slice())?;
-            write_told(out, pending)
+            write_collect(out, *pn, *first, *last)?;
+            write_found(out, *whole, *from, values.as_slice(), pending)
         }
-        Body::Begin { pn, version, value } => {
-            write_number(out, pn.get())?;
-            write_number(out, version.get())?;
-            write_value(out, value)
-        }
-        Body::Accept { pn, version } => {
-            write_number(out, pn.get())?;
-            write_number(out, version.get())
-        }
-        Body::Commit { from, values } => {
-            write_number(out, from.get())?;
-            write_values(out, values.as_slice())
-        }
+        Body::Begin { pn, version, value } => write_begin(out, *pn, *version, value),
+        Body::Accept { pn, version } => write_accept(out, *pn, *version),
+        Body::Commit { from, values } => write_commit(out, *from, values.as_slice()),
         Body::Lease { last } => write_number(out, last.get()),
         Body::LeaseAck { last } => write_number(out, last.get()),
-        Body::Forward { seq, command } => {
-            write_number(out, *seq)?;
-            write_command(out, command)
-        }
-        Body::Route { seq, reply } => {
-            write_number(out, *seq)?;
-            write_reply(out, reply)
-        }
+        Body::Forward { seq, command } => write_forward(out, *seq, command),
+        Body::Route { seq, reply } => write_numbered_reply(out, *seq, reply),
         Body::GetCookieFull => Ok(()),
         Body::GetCookieRecent { last } => write_number(out, last.get()),
-        Body::Cookie { full, cookie, last } => {
-            write_flag(out, *full)?;
-            write_cookie(out, *cookie)?;
-            write_number(out, last.get())
-        }
-        Body::GetChunk { cookie, place } => {
-            write_cookie(out, *cookie)?;
-            write_place(out, place)
-        }
+        Body::Cookie { full, cookie, last } => write_granted(out, *full, *cookie, *last),
+        Body::GetChunk { cookie, place } => write_asked(out, *cookie, place),
         Body::Chunk {
             cookie,
             place,
             values,
             entries,
             done,
-        } => {
-            write_cookie(out, *cookie)?;
-            write_place(out, place)?;
-            write_values(out, values.as_slice())?;
-            write_entries(out, entries.as_slice())?;
-            write_flag(out, *done)
-        }
+        } => write_chunk(
+            out,
+            *cookie,
+            place,
+            values.as_slice(),
+            entries.as_slice(),
+            *done,
+        ),
         Body::LastChunk {
             cookie,
             place,
             values,
             entries,
             last,
-        } => {
-            write_cookie(out, *cookie)?;
-            write_place(out, place)?;
-            write_values(out, values.as_slice())?;
-            write_entries(out, entries.as_slice())?;
-            write_number(out, last.get())
-        }
+        } => write_last_chunk(
+            out,
+            *cookie,
+            place,
+            values.as_slice(),
+            entries.as_slice(),
+            *last,
+        ),
         Body::NoCookie { cookie } => write_cookie(out, *cookie),
         Body::Ping { table } => write_table(out, n, own, table),
         Body::PingReply { table } => write_table(out, n, own, table),
-        Body::Request { id, request } => {
-            write_number(out, *id)?;
-            write_request(out, request)
-        }
-        Body::Reply { id, reply } => {
-            write_number(out, *id)?;
-            write_reply(out, reply)
-        }
+        Body::Request { id, request } => write_numbered_request(out, *id, request),
+        Body::Reply { id, reply } => write_numbered_reply(out, *id, reply),
     }
+}
+
+/// Appends the header: the format, the body's kind, the sender, how many monitors there are, and the epoch.
+fn write_header(out: &mut Out, kind: u8, message: &Message) -> Result<(), OutOfMemory>
+    ensures { OnOk result (out.new ≡ out.old ++ (1 ∷ kind ∷ message.now.from ∷ message.now.monitors ∷ number_bytes message.now.epoch)) }
+{
+    out.put_u8(1)?;
+    out.put_u8(kind)?;
+    out.put_u8(message.from.get())?;
+    out.put_u8(message.monitors)?;
+    write_number(out, message.epoch.get())
+}
+
+fn write(out: &mut Out, message: &Message) -> Result<(), OutOfMemory>
+    requires { IsMessage message.now }
+    ensures { OnOk result (out.new ≡ out.old ++ text message.now) }
+{
+    let (n, own) = (message.monitors, message.from);
+    write_header(out, kind_byte(n, own, &message.body), message)?;
+    write_body(out, n, own, &message.body)
 }
 
 impl Message {
@@ -170,12 +155,7 @@ impl Message {
         ensures { IfOk result (λ bytes. bytes.items ≡ text self.now) }
     {
         let mut out = Out::new(alloc);
-        out.put_u8(1)?;
-        out.put_u8(kind_byte(self.monitors, self.from, &self.body))?;
-        out.put_u8(self.from.get())?;
-        out.put_u8(self.monitors)?;
-        write_number(&mut out, self.epoch.get())?;
-        write_body(&mut out, self.monitors, self.from, &self.body)?;
+        write(&mut out, self)?;
         Ok(out.into_bytes())
     }
 }

@@ -1,5 +1,5 @@
 /// The kinds of messages, in the order of their bytes from 1 on.
-#[derive(Clone, Copy, Debug, PartialEq, Eq)]
+#[derive(Clone, Copy)]
 pub(crate) enum Kind {
     Probe,
     ProbeReply,

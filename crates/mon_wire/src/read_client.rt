@@ -2,7 +2,7 @@
 
 ghost use Rattle.std.specs.Prelude.{◌≡◌};
 ghost use Rattle.mon_wire.specs.Message.Format.{◌⊗◌, Reads, variant, chosen};
-ghost use Rattle.mon_wire.specs.Message.Fields.{numeral, flag};
+ghost use Rattle.mon_wire.specs.Message.Fields.{numeral, flag, utf8, name, service};
 ghost use Rattle.mon_wire.specs.Message.Client.{request_at, shown, since, routed_kinds, routed_at, reply_at};
 
 use crate::fields::{read_count, read_flag, read_number, read_service, read_utf8, read_word};
@@ -14,6 +14,22 @@ use crate::request::Request;
 use mon_bytes::Cursor;
 use std::alloc::Global;
 
+fn read_set(alloc: Global, cursor: &mut Cursor<'_>) -> Result<Request, MsgRefused>
+    ensures { Reads (λ x. x) result cursor.new (variant (name ⊗ utf8) (λ p. Request.Set p.0 p.1) cursor.old) }
+{
+    let key = read_word(alloc, cursor)?;
+    let value = read_utf8(alloc, cursor)?;
+    Ok(Request::Set { key, value })
+}
+
+fn read_since_version(cursor: &mut Cursor<'_>) -> Result<Request, MsgRefused>
+    ensures { Reads (λ x. x) result cursor.new (variant (service ⊗ numeral) (λ p. Request.Since p.0 p.1) cursor.old) }
+{
+    let service = read_service(cursor)?;
+    let version = read_number(cursor)?;
+    Ok(Request::Since { service, version })
+}
+
 /// What a client asks.
 #[tactic(auto, unfolding(crate::specs::Message::Client::request_at))]
 pub(crate) fn read_request(alloc: Global, cursor: &mut Cursor<'_>) -> Result<Request, MsgRefused>
@@ -21,11 +37,7 @@ pub(crate) fn read_request(alloc: Global, cursor: &mut Cursor<'_>) -> Result<Req
 {
     let at = cursor.at();
     match cursor.take_u8()? {
-        1 => {
-            let key = read_word(alloc, cursor)?;
-            let value = read_utf8(alloc, cursor)?;
-            Ok(Request::Set { key, value })
-        }
+        1 => read_set(alloc, cursor),
         2 => Ok(Request::Remove {
             key: read_word(alloc, cursor)?,
         }),
@@ -35,11 +47,7 @@ pub(crate) fn read_request(alloc: Global, cursor: &mut Cursor<'_>) -> Result<Req
         4 => Ok(Request::Show {
             service: read_service(cursor)?,
         }),
-        5 => {
-            let service = read_service(cursor)?;
-            let version = read_number(cursor)?;
-            Ok(Request::Since { service, version })
-        }
+        5 => read_since_version(cursor),
         _ => Err(MsgRefused::At {
             at,
             kind: MsgKind::Value,

@@ -6,11 +6,9 @@ ghost use Rattle.mon_wire.specs.Message.Fields.{value, blob, value_at, blob_at};
 ghost use Rattle.mon_wire.specs.Message.Parts.{entry};
 
 use crate::fields::{read_blob, read_value};
-use crate::incrementals::Incrementals;
-use crate::list::Items;
 use crate::read_parts::read_entry;
 use crate::refusal::{MsgKind, MsgRefused};
-use mon_bytes::{Cursor, Entry};
+use mon_bytes::{Bytes, Cursor, Entry, Items};
 use mon_tx::Transaction;
 use std::alloc::Global;
 
@@ -48,10 +46,10 @@ fn so_many_blobs(
     alloc: Global,
     count: u16,
     cursor: &mut Cursor<'_>,
-) -> Result<Incrementals, MsgRefused>
+) -> Result<Items<Bytes>, MsgRefused>
     ensures { Reads (λ x. x) result cursor.new (items blob_at count cursor.old) }
 {
-    let mut blobs = Incrementals::new(Vec::new(alloc));
+    let mut blobs = Items::new(alloc);
     for _ in 0..count {
         let blob = read_blob(alloc, cursor)?;
         blobs.push(blob)?;
@@ -103,7 +101,7 @@ pub(crate) fn read_entries(
 pub(crate) fn read_incrementals(
     alloc: Global,
     cursor: &mut Cursor<'_>,
-) -> Result<Incrementals, MsgRefused>
+) -> Result<Items<Bytes>, MsgRefused>
     ensures { Reads (λ x. x) result cursor.new ((list blob).read cursor.old) }
 {
     let count = cursor.take_u16()?;

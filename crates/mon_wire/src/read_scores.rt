@@ -1,10 +1,9 @@
 //! Sets of ranks and tables of scores, read from left to right.
 
-ghost use Rattle.std.specs.Prelude.{◌≡◌, ℕ, ◌≤◌, ◌<◌, ◌^◌, nat_le, if◌then◌else◌};
-ghost use Rattle.mon_types.specs.Ranks.{with_rank};
+ghost use Rattle.std.specs.Prelude.{◌≡◌, ℕ, ◌≤◌, ◌<◌, ◌^◌, nat_le};
 ghost use Rattle.election_rules.specs.Table.{full, start_row};
 ghost use Rattle.mon_wire.specs.Message.Format.{Reads};
-ghost use Rattle.mon_wire.specs.Message.Fields.{bits, set_at};
+ghost use Rattle.mon_wire.specs.Message.Fields.{set_at};
 ghost use Rattle.mon_wire.specs.Message.Parts.{optional};
 ghost use Rattle.mon_wire.specs.Message.Scores.{padded_at, score_at, row, table};
 
@@ -13,32 +12,6 @@ use crate::refusal::{MsgKind, MsgRefused};
 use election_rules::{FULL, Row, Scores};
 use mon_bytes::Cursor;
 use mon_types::{Rank, RankSet};
-
-fn with_flag(ranks: RankSet, r: u8, flag: bool) -> RankSet
-    requires { r < 15 }
-    ensures { result ≡ if flag then with_rank ranks r else ranks }
-{
-    if !flag {
-        return ranks;
-    }
-    match Rank::new(r) {
-        Some(rank) => ranks.with(rank),
-        None => unreachable!(),
-    }
-}
-
-/// The set of the ranks whose bits are 1.
-fn ranks_of(number: u16) -> RankSet
-    ensures { result ≡ bits 15 number }
-{
-    let mut ranks = RankSet::empty();
-    let mut rest = number;
-    for r in 0..15u8 {
-        ranks = with_flag(ranks, r, rest % 2 == 1);
-        rest /= 2;
-    }
-    ranks
-}
 
 /// Whether a bit of rank `n` or above is 1.
 fn is_above(number: u16, n: u8) -> bool
@@ -62,7 +35,7 @@ pub(crate) fn read_set(n: u8, cursor: &mut Cursor<'_>) -> Result<RankSet, MsgRef
             kind: MsgKind::Value,
         });
     }
-    Ok(ranks_of(number))
+    Ok(RankSet::from_bits(number))
 }
 
 #[tactic(auto, unfolding(crate::specs::Message::Scores::score_at))]

@@ -3,7 +3,7 @@
 ghost use Rattle.std.specs.Prelude.{◌≡◌, ℕ, ◌≤◌, List, IfOk, Ok};
 ghost use Rattle.mon_wire.specs.declared.message.Message.{Message as Said};
 ghost use Rattle.mon_wire.specs.Message.Format.{Reads, Gives};
-ghost use Rattle.mon_wire.specs.Message.Whole.{text, HasText, kind_of, format_at, kind_at, sender_at, epoch_at, message_at, message_of};
+ghost use Rattle.mon_wire.specs.Message.Whole.{text, HasText, kind_of, format_at, kind_at, sender_at, epoch_at, message_at, ended, whole_at, message_of};
 
 use crate::fields::read_number;
 use crate::kind::Kind;
@@ -108,10 +108,10 @@ fn read_sender(kind: u8, cursor: &mut Cursor<'_>) -> Result<Member, MsgRefused>
             kind: MsgKind::Value,
         });
     }
-    match Rank::new(byte) {
-        Some(rank) => Ok(Member { rank, monitors }),
-        None => unreachable!(),
-    }
+    Ok(Member {
+        rank: Rank::known(byte),
+        monitors,
+    })
 }
 
 #[tactic(auto, unfolding(crate::specs::Message::Whole::epoch_at))]
@@ -147,7 +147,29 @@ fn read_message(alloc: Global, cursor: &mut Cursor<'_>) -> Result<Message, MsgRe
     })
 }
 
-#[tactic(auto, unfolding(crate::specs::Message::Whole::message_of, crate::specs::Message::Whole::ended))]
+/// The message, where nothing is left.
+#[tactic(auto, unfolding(crate::specs::Message::Whole::ended))]
+fn ended(message: Message, cursor: &Cursor<'_>) -> Result<Message, MsgRefused>
+    ensures { Gives (λ x. x) result (ended (message, cursor.now)) }
+{
+    if cursor.left() == 0 {
+        return Ok(message);
+    }
+    Err(MsgRefused::At {
+        at: cursor.at(),
+        kind: MsgKind::Rest,
+    })
+}
+
+#[tactic(auto, unfolding(crate::specs::Message::Whole::whole_at))]
+fn read_whole(alloc: Global, cursor: &mut Cursor<'_>) -> Result<Message, MsgRefused>
+    ensures { Gives (λ x. x) result (whole_at cursor.old) }
+{
+    let message = read_message(alloc, cursor)?;
+    ended(message, cursor)
+}
+
+#[tactic(auto, unfolding(crate::specs::Message::Whole::message_of))]
 fn read(alloc: Global, bytes: &[u8]) -> Result<Message, MsgRefused>
     ensures { Gives (λ x. x) result (message_of bytes.now) }
 {
@@ -157,15 +179,7 @@ fn read(alloc: Global, bytes: &[u8]) -> Result<Message, MsgRefused>
             kind: MsgKind::TooLong,
         });
     }
-    let mut cursor = Cursor::new(bytes);
-    let message = read_message(alloc, &mut cursor)?;
-    if cursor.left() != 0 {
-        return Err(MsgRefused::At {
-            at: cursor.at(),
-            kind: MsgKind::Rest,
-        });
-    }
-    Ok(message)
+    read_whole(alloc, &mut Cursor::new(bytes))
 }
 
 /// The message that the bytes spell, all of the bytes; a refusal names the first field at fault and what is wrong with it.

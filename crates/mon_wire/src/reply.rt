@@ -1,10 +1,9 @@
 ghost use Rattle.std.specs.Prelude.{◌≡◌, IfOk};
 
-use crate::incrementals::Incrementals;
 use crate::request::Service;
 use map_kv::KvMap;
 use map_log::LogMap;
-use mon_bytes::OutOfMemory;
+use mon_bytes::{Bytes, Items, OutOfMemory};
 use mon_types::Version;
 use std::alloc::Global;
 
@@ -47,7 +46,7 @@ pub enum Reply {
     Since {
         service: Service,
         from: Version,
-        incrementals: Incrementals,
+        incrementals: Items<Bytes>,
         more: bool,
     },
     /// The key that was to go isn't there.

@@ -1,18 +1,16 @@
 //! The fields of messages, spelled.
 
-ghost use Rattle.std.specs.Prelude.{◌≡◌, ℕ, ◌≤◌, ◌<◌, ◌^◌, ◌∷◌, [], ◌++◌, length, OnOk};
-ghost use Rattle.std.specs.List.{AllByRecursion};
-ghost use Rattle.mon_types.specs.Ranks.{has};
+ghost use Rattle.std.specs.Prelude.{◌≡◌, ℕ, ◌<◌, ◌^◌, ◌∷◌, [], ◌++◌, length, OnOk};
 ghost use Rattle.mon_bytes.specs.Forms.{text_bytes};
 ghost use Rattle.mon_tx.specs.Text.{text as transaction_text};
 ghost use Rattle.mon_tx.specs.Decode.{HasText};
 ghost use Rattle.mon_wire.specs.Message.Format.{u16_bytes};
-ghost use Rattle.mon_wire.specs.Message.Fields.{number_bytes, flag_byte, number_of, set_bytes, service_byte};
+ghost use Rattle.mon_wire.specs.Message.Fields.{number_bytes, flag_byte, set_bytes, service_byte};
 
 use crate::request::Service;
 use mon_bytes::{Out, OutOfMemory, write_count};
 use mon_tx::{EncodeRefused, Transaction};
-use mon_types::{Rank, RankSet};
+use mon_types::RankSet;
 
 #[tactic(auto, unfolding(crate::specs::Message::Fields::number_bytes))]
 pub(crate) fn write_number(out: &mut Out, number: u64) -> Result<(), OutOfMemory>
@@ -21,7 +19,7 @@ pub(crate) fn write_number(out: &mut Out, number: u64) -> Result<(), OutOfMemory
     out.put_u64(number)
 }
 
-#[tactic(auto, unfolding(crate::specs::Message::Format::u16_bytes))]
+#[tactic(auto, unfolding(mon_bytes::specs::Format::u16_bytes))]
 pub(crate) fn write_u16(out: &mut Out, count: u16) -> Result<(), OutOfMemory>
     ensures { OnOk result (out.new ≡ out.old ++ u16_bytes count) }
 {
@@ -34,34 +32,11 @@ pub(crate) fn write_flag(out: &mut Out, flag: bool) -> Result<(), OutOfMemory>
     if flag { out.put_u8(1) } else { out.put_u8(0) }
 }
 
-fn bit(ranks: RankSet, r: u8) -> u16
-    requires { r < 15 }
-    ensures value { result ≡ flag_byte (has ranks r) }
-    ensures most { result ≤ 1 }
-{
-    match Rank::new(r) {
-        Some(rank) => { if ranks.has(rank) { 1 } else { 0 } }
-        None => unreachable!(),
-    }
-}
-
-fn number_of(ranks: RankSet) -> u16
-    requires { length ranks ≡ 15 }
-    ensures { result ≡ number_of ranks }
-{
-    let mut number = 0u16;
-    for i in 0..15u8 {
-        number = 2 * number + bit(ranks, 14 - i);
-    }
-    number
-}
-
 #[tactic(auto, unfolding(crate::specs::Message::Fields::set_bytes))]
 pub(crate) fn write_set(out: &mut Out, ranks: RankSet) -> Result<(), OutOfMemory>
-    requires { length ranks ≡ 15 }
     ensures { OnOk result (out.new ≡ out.old ++ set_bytes ranks) }
 {
-    out.put_u16(number_of(ranks))
+    out.put_u16(ranks.to_bits())
 }
 
 pub(crate) fn write_bytes(out: &mut Out, bytes: &[u8]) -> Result<(), OutOfMemory>
@@ -70,14 +45,6 @@ pub(crate) fn write_bytes(out: &mut Out, bytes: &[u8]) -> Result<(), OutOfMemory
 {
     write_count(out, bytes.len() as u32)?;
     out.put_bytes(bytes)
-}
-
-pub(crate) fn write_word(out: &mut Out, word: &[u8]) -> Result<(), OutOfMemory>
-    requires { length word.now < 256 }
-    ensures { OnOk result (out.new ≡ out.old ++ length word.now ∷ word.now) }
-{
-    out.put_u8(word.len() as u8)?;
-    out.put_bytes(word)
 }
 
 pub(crate) fn write_value(out: &mut Out, value: &Transaction) -> Result<(), OutOfMemory>

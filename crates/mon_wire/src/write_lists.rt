@@ -9,7 +9,7 @@ ghost use Rattle.mon_wire.specs.Message.Fields.{value, blob};
 ghost use Rattle.mon_wire.specs.Message.Parts.{optional, entry};
 ghost use Rattle.mon_wire.specs.Message.Scores.{row, table};
 
-use crate::write_fields::{write_bytes, write_number, write_u16, write_value, write_word};
+use crate::write_fields::{write_bytes, write_number, write_u16, write_value};
 use election_rules::{Row, Scores};
 use mon_bytes::{Bytes, Entry, Out, OutOfMemory, write_count};
 use mon_tx::Transaction;
@@ -19,8 +19,8 @@ fn write_entry(out: &mut Out, held: &Entry) -> Result<(), OutOfMemory>
     requires { length held.now.value < 2 ^ 32 }
     ensures { OnOk result (out.new ≡ out.old ++ entry.text held.now) }
 {
-    write_word(out, held.prefix.as_slice())?;
-    write_word(out, held.key.as_slice())?;
+    out.put_word(held.prefix.as_slice())?;
+    out.put_word(held.key.as_slice())?;
     write_bytes(out, held.value.as_slice())
 }
 

@@ -3,12 +3,14 @@
 ghost use Rattle.std.specs.Prelude.{◌≡◌, ℕ, ◌≤◌, ◌<◌, ◌^◌, ◌++◌, length, OnOk};
 ghost use Rattle.mon_bytes.specs.Forms.{text_bytes};
 ghost use Rattle.mon_wire.specs.Message.Parts.{optional, cookie, told, key_place, place, a_command};
-ghost use Rattle.mon_wire.specs.Message.Client.{a_request};
+ghost use Rattle.mon_wire.specs.Message.Client.{request_spelled, a_request};
+ghost use Rattle.mon_wire.specs.Message.Fields.{name, utf8};
+ghost use Rattle.mon_wire.specs.Message.Format.{◌⊗◌};
 
 use crate::parts::{Cookie, Place, Told};
 use crate::request::Request;
-use crate::write_fields::{write_number, write_service, write_value, write_word};
-use mon_bytes::{Command, KeyPlace, Out, OutOfMemory, write_text};
+use crate::write_fields::{write_number, write_service, write_value};
+use mon_bytes::{Command, KeyPlace, Name, Out, OutOfMemory, Text, write_text};
 
 pub(crate) fn write_cookie(out: &mut Out, k: Cookie) -> Result<(), OutOfMemory>
     ensures { OnOk result (out.new ≡ out.old ++ cookie.text k) }
@@ -38,8 +40,8 @@ fn write_key_place(out: &mut Out, at: &KeyPlace) -> Result<(), OutOfMemory>
         KeyPlace::Start => out.put_u8(0),
         KeyPlace::After { prefix, key } => {
             out.put_u8(1)?;
-            write_word(out, prefix.as_slice())?;
-            write_word(out, key.as_slice())
+            out.put_word(prefix.as_slice())?;
+            out.put_word(key.as_slice())
         }
         KeyPlace::Done => out.put_u8(2),
     }
@@ -52,6 +54,15 @@ pub(crate) fn write_place(out: &mut Out, at: &Place) -> Result<(), OutOfMemory>
     write_key_place(out, &at.key)
 }
 
+/// A key and its value.
+fn write_set(out: &mut Out, key: &Name, value: &Text) -> Result<(), OutOfMemory>
+    requires { length value.now < 2 ^ 32 }
+    ensures { OnOk result (out.new ≡ out.old ++ (name ⊗ utf8).text (key.now, value.now)) }
+{
+    out.put_word(key.as_slice())?;
+    write_text(out, value)
+}
+
 pub(crate) fn write_command(out: &mut Out, command: &Command) -> Result<(), OutOfMemory>
     requires { a_command.Form command.now }
     ensures { OnOk result (out.new ≡ out.old ++ a_command.text command.now) }
@@ -59,12 +70,11 @@ pub(crate) fn write_command(out: &mut Out, command: &Command) -> Result<(), OutO
     match command {
         Command::Set { key, value } => {
             out.put_u8(1)?;
-            write_word(out, key.as_slice())?;
-            write_text(out, value)
+            write_set(out, key, value)
         }
         Command::Remove { key } => {
             out.put_u8(2)?;
-            write_word(out, key.as_slice())
+            out.put_word(key.as_slice())
         }
         Command::Log { text } => {
             out.put_u8(3)?;
@@ -73,32 +83,39 @@ pub(crate) fn write_command(out: &mut Out, command: &Command) -> Result<(), OutO
     }
 }
 
-pub(crate) fn write_request(out: &mut Out, request: &Request) -> Result<(), OutOfMemory>
-    requires { a_request.Form request.now }
-    ensures { OnOk result (out.new ≡ out.old ++ a_request.text request.now) }
+fn request_byte(request: &Request) -> u8
+    ensures { result ≡ (request_spelled request.now).tag }
 {
     match request {
-        Request::Set { key, value } => {
-            out.put_u8(1)?;
-            write_word(out, key.as_slice())?;
-            write_text(out, value)
-        }
-        Request::Remove { key } => {
-            out.put_u8(2)?;
-            write_word(out, key.as_slice())
-        }
-        Request::Log { text } => {
-            out.put_u8(3)?;
-            write_text(out, text)
-        }
-        Request::Show { service } => {
-            out.put_u8(4)?;
-            write_service(out, *service)
-        }
+        Request::Set { .. } => 1,
+        Request::Remove { .. } => 2,
+        Request::Log { .. } => 3,
+        Request::Show { .. } => 4,
+        Request::Since { .. } => 5,
+    }
+}
+
+/// What stands behind the kind.
+fn write_fields(out: &mut Out, request: &Request) -> Result<(), OutOfMemory>
+    requires { a_request.Form request.now }
+    ensures { OnOk result (out.new ≡ out.old ++ (request_spelled request.now).text) }
+{
+    match request {
+        Request::Set { key, value } => write_set(out, key, value),
+        Request::Remove { key } => out.put_word(key.as_slice()),
+        Request::Log { text } => write_text(out, text),
+        Request::Show { service } => write_service(out, *service),
         Request::Since { service, version } => {
-            out.put_u8(5)?;
             write_service(out, *service)?;
             write_number(out, version.get())
         }
     }
+}
+
+pub(crate) fn write_request(out: &mut Out, request: &Request) -> Result<(), OutOfMemory>
+    requires { a_request.Form request.now }
+    ensures { OnOk result (out.new ≡ out.old ++ a_request.text request.now) }
+{
+    out.put_u8(request_byte(request))?;
+    write_fields(out, request)
 }

@@ -10,7 +10,7 @@ use crate::reading::read;
 use crate::row::{first_version, incremental, last_version};
 use mon_bytes::{Bytes, OutOfMemory};
 use mon_kv::Kv;
-use mon_msg::{Incrementals, Reply, Service};
+use mon_msg::{Items, Reply, Service};
 use mon_types::Version;
 use std::alloc::Global;
 
@@ -22,7 +22,7 @@ const MOST_BYTES: usize = 524288;
 /// Incrementals in order, and whether one follows.
 #[derive(Drop)]
 struct Changes {
-    told: Incrementals,
+    told: Items<Bytes>,
     more: bool,
 }
 
@@ -33,7 +33,7 @@ fn told_after(alloc: Global, kv: &Kv, service: Service, v: u64) -> Result<Change
     ensures more { IfOk result (λ c. c.more ≡ nat_lt (length c.told) (length (kept_from (readings_of kv.now) service (service_last (readings_of kv.now) service - v) (suc v)))) }
 {
     let last = last_version(kv, service);
-    let mut told = Incrementals::new(Vec::new(alloc));
+    let mut told = Items::new(alloc);
     let mut room = MOST_BYTES;
     for n in v..last {
         let Some(bytes) = incremental(kv, service, n + 1) else {

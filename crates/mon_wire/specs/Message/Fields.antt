@@ -1,7 +1,8 @@
 -- The fields of messages.
-use Rattle.std.specs.Prelude.{◌≡◌, ℕ, zero, suc, ◌+◌, ◌*◌, ◌/◌, ◌%◌, ◌^◌, ◌<◌, ◌≤◌, Bool, true, false, List, [], ◌∷◌, length, Result, Ok, Err, IsTrue, nat_lt, nat_le, ◌==◌, if◌then◌else◌}
+use Rattle.std.specs.Prelude.{◌≡◌, ℕ, ◌^◌, ◌<◌, ◌≤◌, Bool, true, false, List, [], ◌∷◌, length, Result, Ok, Err, IsTrue, nat_lt, nat_le, ◌==◌, if◌then◌else◌}
 use Rattle.std.specs.Str.{is_utf8}
 use Rattle.byteorder.specs.Endian.{little_bytes}
+use Rattle.mon_types.specs.Ranks.{to_bits, from_bits}
 use Rattle.mon_bytes.specs.Reading.{Reading, number, front}
 use Rattle.mon_bytes.specs.Forms.{text_bytes}
 use Rattle.mon_bytes.specs.Texts.{is_word}
@@ -43,25 +44,17 @@ flag = record { text = λ b. flag_byte b ∷ []; read = flag_at; Form = λ b. Un
 
 -- ---- sets of ranks: bit r for rank r
 
-abbrev pub number_of : List Bool → ℕ
-number_of [] = 0
-number_of (b ∷ bs) = flag_byte b + 2 * number_of bs
-
-abbrev pub bits : ℕ → ℕ → List Bool
-bits zero n = []
-bits (suc k) n = (n % 2 == 1) ∷ bits k (n / 2)
-
 unfoldable pub set_bytes : List Bool → List ℕ
-set_bytes s = little_bytes 2 (number_of s)
+set_bytes s = little_bytes 2 (to_bits s)
 
 -- with no bit at n or above
 unfoldable pub set_at : ℕ → Reader (List Bool)
 set_at n c = do
   number ← cut (number 2 c)
-  if nat_le (2 ^ n) number.0 then Err (refused.At c.at fault.Value) else Ok (bits 15 number.0, number.1)
+  if nat_le (2 ^ n) number.0 then Err (refused.At c.at fault.Value) else Ok (from_bits number.0, number.1)
 
 abbrev pub set : ℕ → Format (List Bool)
-set n = record { text = set_bytes; read = set_at n; Form = λ s. (length s ≡ 15) × (number_of s < 2 ^ n) }
+set n = record { text = set_bytes; read = set_at n; Form = λ s. (length s ≡ 15) × (to_bits s < 2 ^ n) }
 
 -- ---- bytes with their length
 

@@ -86,9 +86,12 @@ message_at c = do
 unfoldable pub ended : {A : Type 0} → A × Reading → Result A MsgRefused
 ended x = if length x.1.rest == 0 then Ok x.0 else Err (refused.At x.1.at fault.Rest)
 
+-- the message that all of what is left spells
+unfoldable pub whole_at : Reading → Result Message MsgRefused
+whole_at c = do
+  message ← message_at c
+  ended message
+
 -- the message that the bytes spell, all of them, or the first fault
 unfoldable pub message_of : List ℕ → Result Message MsgRefused
-message_of bytes =
-    if nat_lt most (length bytes) then Err (refused.At 0 fault.TooLong) else (do
-      message ← message_at (record { at = 0; rest = bytes })
-      ended message)
+message_of bytes = if nat_lt most (length bytes) then Err (refused.At 0 fault.TooLong) else whole_at (record { at = 0; rest = bytes })

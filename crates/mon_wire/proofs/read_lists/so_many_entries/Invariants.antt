@@ -1,7 +1,7 @@
 use Rattle.std.proofs.Common.{◌≡◌, ◌-◌}
 use Rattle.mon_wire.specs.Message.Format.{items}
 use Rattle.mon_wire.specs.Message.Parts.{entry}
-use Rattle.mon_wire.proofs.ItemsLoop.{with_front}
+use Rattle.mon_bytes.proofs.ItemsLoop.{with_front}
 use Rattle.mon_wire.proofs.read_lists.so_many_entries.Given as goal
 
 abbrev pub invariant-loop : goal.invariant-loop
