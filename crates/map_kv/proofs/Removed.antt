@@ -1,20 +1,13 @@
 -- How long the map's text is without a key.
 use Rattle.std.proofs.Common.{◌≡◌, ℕ, ◌+◌, Bool, true, false, cond, List, length, nat_cmp, Option, Some, None, refl, ap, ◌∙◌, arith}
-use Rattle.std.specs.Cmp.{eq_by_cmp_equiv}
-use Rattle.std.specs.declared.cmp.Ordering.{Ordering}
-use Rattle.std.specs.declared.cmp.Ordering.TheVariants.{Less, Equal, Greater}
+use Rattle.std.specs.Cmp.{eq_by_cmp_equiv, Equal-is}
 use Rattle.std.specs.Cmp.Lexicographic.{slice_cmp, nat_list_cmp_total}
 use Rattle.std.specs.FinMap.{get, insert, remove, get-insert, get-remove, same_map, IsAntisymmetric, slice_cmp-IsAntisymmetric, nat_cmp-IsAntisymmetric}
-use Rattle.std.specs.Ordering.{eq_by_cmp, is_eq}
+use Rattle.std.specs.Ordering.{eq_by_cmp}
 use Rattle.map_kv.specs.Kept.{held}
 use Rattle.map_kv.specs.Map.{Kv}
 use Rattle.map_kv.specs.Text.{map_text}
 use Rattle.map_kv.proofs.Kept.{length-inserted}
-
-is_equal : (r : Ordering) → is_eq r ≡ true → r ≡ Equal
-is_equal Less e = absurd cc
-is_equal Equal e = refl
-is_equal Greater e = absurd cc
 
 exact : IsAntisymmetric (slice_cmp nat_cmp)
 exact = slice_cmp-IsAntisymmetric nat_cmp-IsAntisymmetric
@@ -33,7 +26,7 @@ none_gone : (m : Kv) (k : List ℕ) → get m k ≡ None → remove m k ≡ m
 none_gone m k none = same_map nat_list_cmp_total exact (remove m k) m (λ q. get-remove nat_list_cmp_total m k q ∙ at q (ties q k) refl)
   where
     at : (q : List ℕ) (b : Bool) → ties q k ≡ b → cond b None (get m q) ≡ get m q
-    at q true e = let same = exact q k (is_equal _ e) in rw (same, none) refl
+    at q true e = let same = exact q k ((Equal-is (slice_cmp nat_cmp q k)).0 e) in rw (same, none) refl
     at q false e = refl
 
 -- a key that was taken away can be put back
@@ -43,7 +36,7 @@ put_back m k v some =
     (λ q. get-insert nat_list_cmp_total (remove m k) k v q ∙ ap (cond (ties q k) (Some v)) (get-remove nat_list_cmp_total m k q) ∙ at q (ties q k) refl)
   where
     at : (q : List ℕ) (b : Bool) → ties q k ≡ b → cond b (Some v) (cond b None (get m q)) ≡ get m q
-    at q true e = let same = exact q k (is_equal _ e) in rw (same, some) refl
+    at q true e = let same = exact q k ((Equal-is (slice_cmp nat_cmp q k)).0 e) in rw (same, some) refl
     at q false e = refl
 
 pub length_removed : (m : Kv) (k : List ℕ) → length (map_text (remove m k)) + held k (get m k) ≡ length (map_text m)

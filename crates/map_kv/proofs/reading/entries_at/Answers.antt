@@ -23,7 +23,7 @@ pub loop-preserved : goal.loop-preserved
 loop-preserved c =
     let key = c.in_ok-key.key.now in
     let rises = key_rises c.loop.before.now c.loop.cursor (key, c.key_at.new.cursor) c.in_ok-key.ensures.bytes in
-    let after = ap entries (c.in_ok-put.ensures.ok ∙ ap (λ k. insert c.loop.map k c.in_ok-value.value) c.in_ok-name_of.ensures) ∙ entries_after c.loop.map c.loop.before.now key c.in_ok-value.value rises c.loop.invariant.1 in
+    let after = ap entries (c.in_ok-put.ensures.ok ∙ ap (λ k. insert c.loop.map k c.in_ok-value.value) c.in_ok-from_slice.ensures) ∙ entries_after c.loop.map c.loop.before.now key c.in_ok-value.value rises c.loop.invariant.1 in
     rw after (
       goes_on (entries c.loop.map) c.args.count c.loop.counter c.loop.before.now key c.in_ok-value.value c.loop.cursor c.key_at.new.cursor c.read_text.new.cursor (entries_at c.args.count [] c.args.cursor.now) c.loop-test.true c.in_ok-key.ensures.bytes c.in_ok-value.ensures c.loop.invariant.0,
       stays_above c.loop.before.now key c.in_ok-value.value (entries c.loop.map) rises c.loop.invariant.1,
