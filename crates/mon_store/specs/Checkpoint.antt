@@ -6,6 +6,7 @@ use Rattle.mon_bytes.specs.Texts.{is_name, is_prefix}
 use Rattle.mon_bytes.specs.Forms.{u32_bytes}
 use Rattle.mon_tx.specs.Map.{Place, Store}
 use Rattle.mon_tx.specs.Text.{word}
+pub use Rattle.mon_kv.specs.Readers.{most_size}
 
 abbrev pub Entry : Type 0
 Entry = Place × List ℕ
@@ -30,7 +31,3 @@ EntryFits e = IsTrue (is_prefix e.0.0) × IsTrue (is_name e.0.1) × (length e.1 
 pub record HasCheckpoint (m : Store) : Type 0 where
   pub each : AllByRecursion EntryFits (entries m)
   pub count : len m < 2 ^ 32
-
--- the most that the map of a store may count with
-abbrev pub most_size : ℕ
-most_size = 268435456

@@ -7,10 +7,8 @@ ghost use Rattle.mon_kv.specs.Readers.{entry_of, size_of};
 ghost use Rattle.mon_store.specs.Checkpoint.{value_text, entry_text, checkpoint_text, most_size, EntryFits, HasCheckpoint};
 
 use mon_bytes::{Out, OutOfMemory, write_count};
+pub use mon_kv::MOST_SIZE;
 use mon_kv::{EntryRef, Kv};
-
-/// The most that the map of a store may count with.
-pub const MOST_SIZE: u64 = 268435456;
 
 fn put_word(out: &mut Out, bytes: &[u8]) -> Result<(), OutOfMemory>
     requires { length bytes.now < 256 }
