@@ -7,23 +7,30 @@ mod run;
 mod status;
 #[cfg(test)]
 mod tests;
+mod words;
 
 use crate::run::run;
 use crate::status::Status;
+use crate::words::words_of;
 use mon_link::{StdinSource, StdoutSink};
-use std::io;
 use std::process::ExitCode;
 
-fn main(rt: HostRuntime) -> io::Result<ExitCode> {
-    let mut words = Vec::new(rt.alloc());
-    for word in std::env::args(&rt)?.skip(1) {
-        words.push(word)?;
-    }
-    let mut source = StdinSource::new(&rt);
-    let mut sink = StdoutSink::new(&rt);
-    let status = run(rt.alloc(), words.as_slice(), &mut source, &mut sink);
+fn main(rt: HostRuntime) -> ExitCode {
+    let status = match words_of(&rt) {
+        Ok(words) => {
+            let mut source = StdinSource::new(&rt);
+            let mut sink = StdoutSink::new(&rt);
+            run(rt.alloc(), words.as_slice(), &mut source, &mut sink)
+        }
+        Err(status) => status,
+    };
+    tell(&rt, status);
+    ExitCode::from(status.number())
+}
+
+/// Says on standard error how the program ends. Where that can't be written the number alone says it.
+fn tell(rt: &impl Eprint, status: Status) {
     if status != Status::Done {
-        eprintln!(rt; "{status}")?;
+        let _ = eprintln!(rt; "{status}");
     }
-    Ok(ExitCode::from(status.number()))
 }
