@@ -16,7 +16,8 @@ use Rattle.schedule_text.specs.Fields.{◌>>=◌, cut, digit, next, ended, field
 use Rattle.schedule_text.specs.Ranks.{behind, ranks_from, ranks_text, set_of}
 use Rattle.schedule_text.specs.Spelling.{spaced, rule_text, header, RuleFits}
 use Rattle.schedule_text.specs.Schedule.{disallow_of, connectivity_of, rule_of, monitors_at, header_at}
-use Rattle.schedule_text.proofs.Steps.{bind_ok, ok_is}
+use Rattle.mon_bytes.proofs.Fields.{ok_is}
+use Rattle.mon_bytes.proofs.Formats.{bind_ok}
 use Rattle.schedule_text.proofs.Numerals.{own}
 use Rattle.schedule_text.proofs.FieldLaws.{list_all-weaker, list_all-append, digit_graphic, cut_joined, cut_again, Reads-then, Reads-last, next_reads, IsWord, IsWord-printable, next_again, number_form, chosen_word, last_word, field_step, field_again, ended_takes}
 use Rattle.schedule_text.proofs.RankLaws.{cases_true, joined-behind, set_takes, set_again}

@@ -19,7 +19,8 @@ use Rattle.schedule_text.specs.Fields.{next, within, text_at}
 use Rattle.schedule_text.specs.Spelling.{spaced, request_text, plain_text, upset_text, event_text, request_fits, plain_fits, upset_fits, event_fits}
 use Rattle.schedule_text.specs.Requests.{set_at, remove_at, log_at, show_at, since_at, request_at}
 use Rattle.schedule_text.specs.Lines.{start_at, deliver_at, timer_at, client_at, plain_by, plain_at, upset_at, event_by, fields_event, event_at}
-use Rattle.schedule_text.proofs.Steps.{bind_ok, ok_is, chosen_ok}
+use Rattle.mon_bytes.proofs.Fields.{chosen_ok, ok_is}
+use Rattle.mon_bytes.proofs.Formats.{bind_ok}
 use Rattle.schedule_text.proofs.FieldLaws.{list_all-append, joined, Reads, Reads-then, Reads-last, next_reads, IsWord, IsWord-printable, next_again, IsForm, number_form, upto_form, rank_form, name_form, service_form, side_form, timer_form, chosen_word, last_word, field_step, field_last, field_again, ended_takes, text_takes, text_again}
 
 -- the rest of the line behind its first word

@@ -10,7 +10,7 @@ use Rattle.std.proofs.lemmas.Str.Parse.{IsDigitsTest, IsNumeralModel, numerals_b
 use Rattle.std.proofs.lemmas.Fmt.{decimal-digits_value, digits_decimal, digits_value-decimal, decimal_nonempty, first_decimal, decimal_digit}
 use Rattle.mon_bytes.proofs.Ascii.{both}
 use Rattle.schedule_text.specs.declared.refusal.ScheduleKind.TheVariants as kind
-use Rattle.schedule_text.proofs.Steps.{ok_is, chosen_ok}
+use Rattle.mon_bytes.proofs.Fields.{chosen_ok, ok_is}
 use Rattle.schedule_text.specs.Fields.{digit, is_numeral, within, number_of, rank_of}
 
 pub tells_digits : IsDigitsTest (λ ds. IsTrue (list_all digit ds))

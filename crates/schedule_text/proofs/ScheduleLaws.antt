@@ -15,7 +15,8 @@ use Rattle.schedule_text.specs.Fields.{◌>>=◌, within}
 use Rattle.schedule_text.specs.Lines.{event_at}
 use Rattle.schedule_text.specs.Spelling.{event_text, event_fits, header, ended_line, event_line, schedule_text, most_events, most_bytes, HasText}
 use Rattle.schedule_text.specs.Schedule.{onto, lines_of, on_line, on_first_line, header_at, event_line_at, events_at, whole_at, schedule_at, Fails, Gives}
-use Rattle.schedule_text.proofs.Steps.{answered, bind_ok, ok_is, guard_ok}
+use Rattle.mon_bytes.proofs.Fields.{guard_ok, ok_is}
+use Rattle.mon_bytes.proofs.Formats.{bind_ok}
 use Rattle.schedule_text.proofs.Numerals.{within_most}
 use Rattle.schedule_text.proofs.FieldLaws.{list_all-weaker}
 use Rattle.schedule_text.proofs.HeaderLaws.{header_takes, header_again, printable_header}
@@ -159,6 +160,9 @@ schedule_again s h =
     let split : lines_of (schedule_text s) ≡ (first ∷ (lines_of body).0, (lines_of body).1) =
     ap lines_of (append_assoc first (10 ∷ []) body) ∙ lines_of-line first body (IsLine-printable first (printable_header s.monitors s.rule h.monitors)) in
     rw (short, split, header_again s.monitors s.rule h.monitors h.rule, events_again s.monitors 0 s.events (few_monitors s.monitors h.monitors) h.each (omega (arith, h.count))) refl
+
+abbrev answered : Schedule → Result Schedule ScheduleRefused
+answered s = Ok s
 
 -- what a refusal says of bytes that are spelled so
 pub answers : (e : ScheduleRefused) (s : Schedule) → HasText s → (bytes : List ℕ) → bytes ≡ schedule_text s → Fails e (schedule_at bytes) → Fails e (answered s)

@@ -4,6 +4,7 @@ use Rattle.std.specs.List.{list_all}
 use Rattle.std.specs.Str.{bytes_eq}
 use Rattle.std.specs.Str.Parse.{digits_value}
 use Rattle.mon_bytes.specs.Texts.{is_name}
+pub use Rattle.mon_bytes.specs.Answers.{◌>>=◌}
 use Rattle.mon_types.specs.declared.names.Side.{Side}
 use Rattle.mon_types.specs.declared.names.Side.TheVariants as side
 use Rattle.mon_wire.specs.declared.phase.Timer.{Timer}
@@ -12,12 +13,6 @@ use Rattle.mon_wire.specs.declared.request.Service.TheVariants as service
 use Rattle.schedule_text.specs.declared.refusal.ScheduleKind.{ScheduleKind}
 use Rattle.schedule_text.specs.declared.refusal.ScheduleKind.TheVariants as kind
 use Rattle.schedule_text.specs.Words.{printable, timers, timer_text}
-
--- what is read next, where reading went well so far
-infixl 10 ◌>>=◌
-abbrev pub ◌>>=◌ : {A B E : Type 0} → Result A E → (A → Result B E) → Result B E
-(Ok x) >>= f = f x
-(Err e) >>= f = Err e
 
 -- What a function answered, seen by view, is what reading gives.
 abbrev pub Is : {X Y : Type 0} → (X → Y) → Result X ScheduleKind → Result Y ScheduleKind → Type 0

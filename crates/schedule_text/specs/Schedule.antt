@@ -1,6 +1,7 @@
 -- How a schedule is read, and which line is refused.
-use Rattle.std.specs.Prelude.{◌≡◌, ℕ, ◌+◌, List, [], ◌∷◌, length, Option, Some, None, Result, Ok, Err, codes, nat_lt, nat_le, ◌==◌, if◌then◌else◌}
+use Rattle.std.specs.Prelude.{ℕ, ◌+◌, Bool, true, false, List, [], ◌∷◌, length, Option, Some, None, Result, Ok, Err, codes, nat_lt, nat_le, ◌==◌, if◌then◌else◌}
 use Rattle.std.specs.Str.{bytes_eq}
+use Rattle.mon_bytes.specs.Answers as answers
 use Rattle.election_rules.specs.declared.rule.Rule.{Rule}
 use Rattle.election_rules.specs.declared.rule.Rule.TheVariants.{Classic, Disallow, Connectivity}
 use Rattle.schedule_text.specs.declared.event.Event.{Event}
@@ -96,11 +97,14 @@ unfoldable pub schedule_at : List ℕ → Result Schedule ScheduleRefused
 schedule_at bytes =
     if nat_lt most_bytes (length bytes) then Err (At 0 kind.TooLong) else whole_at (lines_of bytes).0 (lines_of bytes).1
 
+-- whether memory ran out
+abbrev pub no_memory : ScheduleRefused → Bool
+no_memory OutOfMemory = true
+no_memory (At line kind) = false
+
 -- What a call answered is what reading gives, unless memory ran out.
 abbrev pub Fails : {Y : Type 0} → ScheduleRefused → Result Y ScheduleRefused → Type 0
-Fails OutOfMemory read = Unit {0}
-Fails (At line kind) read = read ≡ Err (At line kind)
+Fails e read = answers.Fails no_memory e read
 
 abbrev pub Gives : {X Y : Type 0} → (X → Y) → Result X ScheduleRefused → Result Y ScheduleRefused → Type 0
-Gives view (Ok x) read = read ≡ Ok (view x)
-Gives view (Err e) read = Fails e read
+Gives view result read = answers.Gives no_memory view result read

@@ -1,8 +1,5 @@
-use mon_bytes::OutOfMemory;
 use mon_types::{Moment, Rank, Side};
 use mon_wire::{Request, Session};
-use std::alloc::Global;
-use std::marker::Model;
 
 /// What happens to a monitor from outside.
 #[derive(Debug, Drop)]
@@ -51,48 +48,4 @@ pub enum Event {
         image: u8,
         event: Plain,
     },
-}
-
-/// Events in order.
-#[derive(Debug, Drop)]
-pub struct Events {
-    events: Vec<Event>,
-}
-
-impl Model for Events {
-    ghost use Rattle.std.specs.Prelude.{List};
-    ghost use Rattle.schedule_text.specs.declared.event.Event.{Event};
-
-    ghost Value = { List Event };
-
-    ghost view = { λ x. x.events.items };
-}
-
-impl Events {
-    ghost use Rattle.std.specs.Prelude.{◌≡◌, [], ◌∷◌, ◌++◌, OnOk, OnErr};
-
-    /// No events. It takes no memory.
-    pub fn new(alloc: Global) -> Events
-        ensures { result ≡ [] }
-    {
-        Events {
-            events: Vec::new(alloc),
-        }
-    }
-
-    /// Appends an event. An `Err` leaves the events.
-    pub fn push(&mut self, event: Event) -> Result<(), OutOfMemory>
-        ensures ok { OnOk result (self.new ≡ self.old ++ event ∷ []) }
-        ensures err { OnErr result (self.new ≡ self.old) }
-    {
-        self.events.push(event)?;
-        Ok(())
-    }
-
-    /// The events.
-    pub fn as_slice(&self) -> &[Event]
-        ensures { result.now ≡ self.now }
-    {
-        self.events.as_slice()
-    }
 }

@@ -100,10 +100,7 @@ fn rank_of(field: &[u8], monitors: u8) -> Result<Rank, ScheduleKind>
         return Err(ScheduleKind::Number);
     }
     match value_of(field) {
-        Some(n) if n < u64::from(monitors) => match Rank::new(n as u8) {
-            Some(rank) => Ok(rank),
-            None => unreachable!(),
-        },
+        Some(n) if n < u64::from(monitors) => Ok(Rank::known(n as u8)),
         _ => Err(ScheduleKind::Rank),
     }
 }
@@ -292,20 +289,14 @@ impl<'a> Fields<'a> {
         ensures { Steps (λ n. n) result self.new (field_at (number_of 0 (2 ^ 62)) self.old) }
     {
         let n = self.number(0, GREATEST)?;
-        match Moment::new(n) {
-            Some(at) => Ok(at),
-            None => unreachable!(),
-        }
+        Ok(Moment::known(n))
     }
 
     pub fn version(&mut self) -> Result<Version, ScheduleKind>
         ensures { Steps (λ n. n) result self.new (field_at (number_of 0 (2 ^ 62)) self.old) }
     {
         let n = self.number(0, GREATEST)?;
-        match Version::new(n) {
-            Some(version) => Ok(version),
-            None => unreachable!(),
-        }
+        Ok(Version::known(n))
     }
 
     #[tactic(auto, unfolding(crate::specs::Fields::field_at))]

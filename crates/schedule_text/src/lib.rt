@@ -15,7 +15,7 @@ mod request;
 mod schedule;
 mod words;
 
-pub use event::{Event, Events, Plain};
+pub use event::{Event, Plain};
 pub use printer::{header_line, print};
 pub use ranks::{has_ranks, put_ranks};
 pub use reader::parse;

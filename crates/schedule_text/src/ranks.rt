@@ -17,16 +17,6 @@ use std::fmt::Write;
 /// How many ranks there are.
 pub const RANKS: u8 = 15;
 
-pub fn rank_of(n: u8) -> Rank
-    requires { n < 15 }
-    ensures { result ≡ n }
-{
-    match Rank::new(n) {
-        Some(rank) => rank,
-        None => unreachable!(),
-    }
-}
-
 fn comes_next(rank: Rank, rest: Option<&[u8]>) -> bool
     ensures { result ≡ comes_next rank (option_copied rest.entry) }
 {
@@ -66,7 +56,7 @@ pub fn set_of(monitors: u8, text: Option<&[u8]>) -> Result<RankSet, ScheduleKind
     let mut set = RankSet::empty();
     let mut rest = text;
     for n in 0..RANKS {
-        let rank = rank_of(n);
+        let rank = Rank::known(n);
         if is_taken(monitors, rank, rest) {
             set = set.with(rank);
             rest = behind_next(rest);
@@ -90,7 +80,7 @@ pub fn below(monitors: u8, set: RankSet) -> RankSet
 {
     let mut kept = RankSet::empty();
     for n in 0..RANKS {
-        let rank = rank_of(n);
+        let rank = Rank::known(n);
         if is_below(monitors, rank, set) {
             kept = kept.with(rank);
         }
@@ -103,7 +93,7 @@ pub fn has_ranks(set: RankSet) -> bool
     ensures { result ≡ is_some (ranks_text set) }
 {
     for n in 0..RANKS {
-        if set.has(rank_of(n)) {
+        if set.has(Rank::known(n)) {
             return true;
         }
     }
@@ -125,7 +115,7 @@ pub fn put_ranks(out: &mut String, set: RankSet) -> Result<(), AllocError>
 {
     let mut first = true;
     for n in 0..RANKS {
-        let rank = rank_of(n);
+        let rank = Rank::known(n);
         if set.has(rank) {
             put_rank(out, first, rank)?;
             first = false;

@@ -3,13 +3,15 @@ ghost use Rattle.schedule_text.specs.declared.schedule.Schedule.{Schedule};
 ghost use Rattle.schedule_text.specs.Spelling.{HasText, schedule_text};
 ghost use Rattle.schedule_text.specs.Schedule.{lines_of, on_first_line, header_at, event_line_at, events_at, whole_at, schedule_at, Gives};
 
-use crate::event::{Event, Events};
+use crate::event::Event;
 use crate::fields::cut_line;
 use crate::header::header_at;
 use crate::line::event_at;
 use crate::refusal::{LineRefused, ScheduleKind, ScheduleRefused};
 use crate::schedule::{MOST_BYTES, MOST_EVENTS, Schedule};
 use election_rules::Rule;
+use memchr::memchr_iter;
+use mon_bytes::{Items, OutOfMemory};
 use std::alloc::Global;
 
 fn at(line: u32, kind: ScheduleKind) -> ScheduleRefused
@@ -41,12 +43,20 @@ fn event_line_at(
     }
 }
 
+/// As many events as there are lines, so that their list has its room from the start.
+fn room_of(body: &[u8]) -> usize
+    ensures { result ≤ 200000 }
+{
+    memchr_iter(b'\n', body).count().min(MOST_EVENTS as usize)
+}
+
 /// The events of the lines behind the first.
-fn events_of(alloc: Global, monitors: u8, body: &[u8]) -> Result<Events, ScheduleRefused>
+fn events_of(alloc: Global, monitors: u8, body: &[u8]) -> Result<Items<Event>, ScheduleRefused>
     requires { monitors ≤ 15 }
     ensures { Gives (λ es. es) result (events_at monitors 0 (lines_of body.now).0 (lines_of body.now).1) }
 {
-    let mut events = Events::new(alloc);
+    let room = Vec::with_capacity(alloc, room_of(body)).map_err(OutOfMemory::from)?;
+    let mut events = Items::from_vec(room);
     let mut count: u32 = 0;
     let mut rest = body;
     loop {

@@ -6,11 +6,12 @@ ghost use Rattle.schedule_text.specs.Fields.{within};
 ghost use Rattle.schedule_text.specs.Ranks.{below};
 ghost use Rattle.schedule_text.specs.Spelling.{request_fits, plain_fits, upset_fits, event_fits, RuleFits};
 
-use crate::event::{Event, Events, Plain};
+use crate::event::{Event, Plain};
 use crate::fields::all_printable;
 use crate::length::text_len;
 use crate::ranks::{below, has_ranks};
 use election_rules::Rule;
+use mon_bytes::Items;
 use mon_types::{GREATEST, Moment, Rank, RankSet};
 use mon_wire::{Request, Session};
 
@@ -26,7 +27,7 @@ pub struct Schedule {
     /// How many monitors there are.
     pub monitors: u8,
     pub rule: Rule,
-    pub events: Events,
+    pub events: Items<Event>,
 }
 
 impl Schedule {

@@ -10,45 +10,36 @@ pub(crate) fn refused(alloc: Global, text: &[u8]) -> Option<(u32, ScheduleKind)>
     }
 }
 
+/// Schedules, with a stroke for each line feed, behind the line at fault and what is wrong with it.
+const FAULTS: &str = "\
+7 Number monitors 1 classic|start 0 0|client 0 1 1 1 set a x|deliver 1 2|timer 0 ping 3|start 0 4|deliver x 5|start 0 6|\n\
+1 Header monitors 3 disallow=3|start 0 0\n\
+3 Rank monitors 3 classic|start 0 0|start 3 0|start x 0|\n\
+2 Rank monitors 3 classic|start 9 0|start 0 0\n\
+2 End monitors 3 classic|start 0 0\n\
+3 Number monitors 3 classic|start 0 0|start 0 01|\n\
+3 Word monitors 3 classic|start 0 0|start 0 0 |start 0|\n\
+2 Word monitors 3 classic||start 0 0|\n\
+3 Word monitors 3 classic|start 0 0||\n\
+2 End monitors 3 classic|start \x7f 0\n\
+2 Rank monitors 1 classic|start 1 0|\n\
+3 Rank monitors 15 classic|start 14 0|start 15 0|\n";
+
+/// Whether the schedule has the fault that stands in front of it.
+fn is_refused_so(alloc: Global, row: &str) -> Result<bool, Fail> {
+    let mut words = row.splitn(3, ' ');
+    let (at, named) = (words.next(), words.next());
+    let text = words.next().ok_or("a schedule")?.replace(alloc, "|", "\n")?;
+    let (line, kind) = refused(alloc, text.as_bytes()).ok_or("a fault")?;
+    let (line, kind) = (format!(in alloc; "{line}")?, format!(in alloc; "{kind:?}")?);
+    Ok(at == Some(line.as_str()) && named == Some(kind.as_str()))
+}
+
 #[test]
 fn the_first_line_at_fault_is_named(rt: HostRuntime) -> Result<(), Fail> {
     let alloc = rt.alloc();
-    for (text, fault) in [
-        (
-            "monitors 1 classic\nstart 0 0\nclient 0 1 1 1 set a x\ndeliver 1 2\ntimer 0 ping 3\nstart 0 4\ndeliver x 5\nstart 0 6\n",
-            (7, ScheduleKind::Number),
-        ),
-        (
-            "monitors 3 disallow=3\nstart 0 0",
-            (1, ScheduleKind::Header),
-        ),
-        (
-            "monitors 3 classic\nstart 0 0\nstart 3 0\nstart x 0\n",
-            (3, ScheduleKind::Rank),
-        ),
-        (
-            "monitors 3 classic\nstart 9 0\nstart 0 0",
-            (2, ScheduleKind::Rank),
-        ),
-        ("monitors 3 classic\nstart 0 0", (2, ScheduleKind::End)),
-        (
-            "monitors 3 classic\nstart 0 0\nstart 0 01\n",
-            (3, ScheduleKind::Number),
-        ),
-        (
-            "monitors 3 classic\nstart 0 0\nstart 0 0 \nstart 0\n",
-            (3, ScheduleKind::Word),
-        ),
-        ("monitors 3 classic\n\nstart 0 0\n", (2, ScheduleKind::Word)),
-        ("monitors 3 classic\nstart 0 0\n\n", (3, ScheduleKind::Word)),
-        ("monitors 3 classic\nstart \x7f 0", (2, ScheduleKind::End)),
-        ("monitors 1 classic\nstart 1 0\n", (2, ScheduleKind::Rank)),
-        (
-            "monitors 15 classic\nstart 14 0\nstart 15 0\n",
-            (3, ScheduleKind::Rank),
-        ),
-    ] {
-        assert_eq!(rt; refused(alloc, text.as_bytes()), Some(fault), "{text}");
+    for row in FAULTS.lines() {
+        assert!(rt; is_refused_so(alloc, row)?, "{row}");
     }
     Ok(())
 }

@@ -11,7 +11,7 @@ pub loop-n-preserved : goal.loop-n-preserved
 loop-n-preserved c =
     let r = c.loop-n.n in
     let set = c.args.set in
-    let test : c.has.result ≡ has set r = c.has.ensures ∙ ap (has set) c.rank_of-rank.ensures in
+    let test : c.has.result ≡ has set r = c.has.ensures ∙ ap (has set) c.known-rank.ensures in
     elim c.if-has.branch [
       | then-has w ↦
           subst (λ len. Counting (r + 1) (15 - (r + 1)) len set) (sym w.len-is)

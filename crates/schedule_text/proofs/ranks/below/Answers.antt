@@ -12,10 +12,10 @@ loop-n-preserved c =
     let n = c.args.monitors in
     let r = c.loop-n.n in
     let set = c.args.set in
-    let test : c.is_below.result ≡ (ltb r n && has set r) = c.is_below.ensures ∙ ap (λ k. ltb k n && has set k) c.rank_of-rank.ensures in
+    let test : c.is_below.result ≡ (ltb r n && has set r) = c.is_below.ensures ∙ ap (λ k. ltb k n && has set k) c.known-rank.ensures in
     elim c.if-is_below.branch [
       | then-is_below w ↦
-          let kept = w.kept-is ∙ w.with-kept.ensures ∙ ap (with_rank c.loop-n.kept) c.rank_of-rank.ensures in
+          let kept = w.kept-is ∙ w.with-kept.ensures ∙ ap (with_rank c.loop-n.kept) c.known-rank.ensures in
           subst (λ s. Keeping n (r + 1) (15 - (r + 1)) s set) (sym kept) (keeping_taken n r c.loop-n.kept set c.loop-n-test.true (sym test ∙ w.if-is_below.true) c.loop-n.invariant)
       | else-is_below w ↦
           subst (λ s. Keeping n (r + 1) (15 - (r + 1)) s set) (sym w.kept-is) (keeping_left n r c.loop-n.kept set c.loop-n-test.true (sym test ∙ w.if-is_below.false) c.loop-n.invariant)

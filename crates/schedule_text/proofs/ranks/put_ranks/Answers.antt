@@ -13,10 +13,10 @@ loop-n-preserved c =
     let r = c.loop-n.n in
     let set = c.args.set in
     let before = string_bytes c.args.out.now in
-    let test : c.has.result ≡ has set r = c.has.ensures ∙ ap (has set) c.rank_of-rank.ensures in
+    let test : c.has.result ≡ has set r = c.has.ensures ∙ ap (has set) c.known-rank.ensures in
     elim c.if-has.branch [
       | then-has+in_ok-put_rank w ↦
-          let out = ap string_bytes w.out-is ∙ w.in_ok-put_rank.ensures ∙ ap (λ k. string_bytes c.loop-n.out ++ separator c.loop-n.first ∷ decimal k) c.rank_of-rank.ensures in
+          let out = ap string_bytes w.out-is ∙ w.in_ok-put_rank.ensures ∙ ap (λ k. string_bytes c.loop-n.out ++ separator c.loop-n.first ∷ decimal k) c.known-rank.ensures in
           subst (λ first. Putting (r + 1) (15 - (r + 1)) first set before (string_bytes c.if-has.out)) (sym w.first-is)
           (subst (λ bytes. Putting (r + 1) (15 - (r + 1)) false set before bytes) (sym out)
           (putting_taken r c.loop-n.first set before (string_bytes c.loop-n.out) c.loop-n-test.true (sym test ∙ w.if-has.true) c.loop-n.invariant))

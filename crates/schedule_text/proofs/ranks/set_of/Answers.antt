@@ -16,10 +16,10 @@ loop-n-preserved c =
     let r = c.loop-n.n in
     let text = option_copied c.args.text in
     let before = option_copied c.loop-n.rest in
-    let test : c.is_taken.result ≡ (ltb r n && comes_next r before) = c.is_taken.ensures ∙ ap (λ k. ltb k n && comes_next k before) c.rank_of-rank.ensures in
+    let test : c.is_taken.result ≡ (ltb r n && comes_next r before) = c.is_taken.ensures ∙ ap (λ k. ltb k n && comes_next k before) c.known-rank.ensures in
     elim c.if-is_taken.branch [
       | then-is_taken w ↦
-          let set = w.set-is ∙ w.with-set.ensures ∙ ap (with_rank c.loop-n.set) c.rank_of-rank.ensures in
+          let set = w.set-is ∙ w.with-set.ensures ∙ ap (with_rank c.loop-n.set) c.known-rank.ensures in
           let rest = ap option_copied w.rest-is ∙ w.behind_next-rest.ensures in
           subst (λ s. Reading n (r + 1) (15 - (r + 1)) s (option_copied c.if-is_taken.rest) text) (sym set)
           (subst (λ a. Reading n (r + 1) (15 - (r + 1)) (with_rank c.loop-n.set r) a text) (sym rest)

@@ -8,7 +8,7 @@ use Rattle.schedule_text.proofs.reader.events_of.Goals as goal
 
 pub returns-in_err-event : goal.returns-in_err-event
 returns-in_err-event c =
-    let p = err_from_is_err_and c.from_residual.result c.from_residual.ensures.1 in
+    let p = err_from_is_err_and c.from_residual-in_err-event.result c.from_residual-in_err-event.ensures.1 in
     let total = events_at c.args.monitors 0 (lines_of c.args.body.now).0 (lines_of c.args.body.now).1 in
     rw (p.1, p.2) (ends c.in_err-event.field-0.0 c.loop-after.events c.args.monitors c.loop-after.count c.loop-after.rest.now c.cut_line.result.0.now c.in-Some.after.now total
     (sym c.cut_line.ensures.first) (sym c.cut_line.ensures.rest ∙ ap option_copied c.in-Some.is) c.in_err-event.ensures.value c.loop-after.invariant.so_far)
