@@ -1,16 +1,19 @@
 -- The file of a new journal, while it is made and then.
-use Rattle.std.proofs.Common.{◌≡◌, ◌+◌, ◌≤◌, ◌<◌, ◌^◌, max, [], ◌∷◌, ◌++◌, length, List, ℕ, Option, Some, None, Bor, option_map, refl, ◌∙◌, subst, ap, arith, length-append}
+use Rattle.std.proofs.Common.{◌≡◌, ◌⊎◌, inl, ◌+◌, ◌≤◌, ◌<◌, ◌^◌, max, Bool, true, false, is_some, [], ◌∷◌, ◌++◌, length, List, ℕ, Option, Some, None, Bor, option_map, refl, ◌∙◌, subst, ap, arith, length-append}
 use Rattle.std.specs.Option.{ForSome}
 use Rattle.std.specs.Prelude.{IfSome}
 use Rattle.mon_types.specs.declared.member.Member.{Member}
-use Rattle.mon_disk.specs.Images.{Content, images, LeavesOnly, Only, written}
+use Rattle.mon_disk.specs.Calls.{Told}
+use Rattle.mon_disk.specs.Images.{Content, images, LeavesOnly, NoNew, Only, written}
 use Rattle.mon_journal.specs.declared.journal.Journal.{Journal}
 use Rattle.mon_journal.specs.Content.{Holds}
 use Rattle.mon_journal.specs.Written.{first_record, first_payloads, head_bytes, header_bytes, owner_of, created}
-use Rattle.mon_journal.specs.Steps.{TornFrom, CreatedFrom, Keeps}
+use Rattle.mon_journal.specs.Steps.{TornFrom, ClosedFrom, CreatedFrom, made_more, Made, Keeps}
+use Rattle.mon_journal.proofs.Counts.{count, few, more}
+use Rattle.mon_journal.proofs.Moments.{now}
 use Rattle.mon_journal.proofs.Keeping.{keeps_by}
 use Rattle.mon_journal.proofs.Headers.{IsShort, made, length-header}
-use Rattle.mon_journal.proofs.Makes.{one_write, two_writes, three_writes, is_there}
+use Rattle.mon_journal.proofs.Makes.{not_opening, shut_only, one_write, two_writes, three_writes, at_third, is_there}
 
 pub is_short : (first : Option (Bor (List ℕ))) → ForSome first (λ payload. length payload.now < 2 ^ 32) → IsShort (option_map (λ payload. payload.now) first)
 is_short None short payload e = absurd cc
@@ -40,19 +43,54 @@ module _ (member : Member) (generation : ℕ) (first : Option (List ℕ)) (from_
   long_more = omega (arith, long)
 
   module _ (old : Content) (reads : (file : List ℕ) → old.seen ≡ Some file → images old file) where
-    pub closing : (c1 : Content) → LeavesOnly old c1 (TornFrom old 0 (0 ∷ [])) → LeavesOnly old c1 (CreatedFrom old journal (first_payloads first))
-    closing c1 one = one_write head Q is_made (journal.next_gate + 1) long_more old reads c1 one
+    -- what the disk settles to
+    abbrev pub Left : Bool → List ℕ → Type 0
+    Left opening = Made old journal (first_payloads first) opening
 
-    pub heading : (c1 c2 : Content) (bytes : List ℕ) → bytes ≡ head → LeavesOnly old c1 (TornFrom old 0 (0 ∷ [])) → c1.seen ≡ written 0 (0 ∷ []) old.seen → Only c1 → LeavesOnly c1 c2 (TornFrom c1 1 bytes)
-        → LeavesOnly old c2 (CreatedFrom old journal (first_payloads first))
-    heading c1 c2 bytes is one seen1 only1 two =
-        two_writes head Q is_made (journal.next_gate + 1) long_more old reads c1 c2 one seen1 only1 (subst (λ (b : List ℕ). LeavesOnly c1 c2 (TornFrom c1 1 b)) is two)
+    abbrev pub Shut : List ℕ → Type 0
+    Shut c = images old c ⊎ ClosedFrom old (journal.next_gate + 1) c
 
-    pub opening : (c1 c2 c3 : Content) (bytes : List ℕ) → bytes ≡ head → LeavesOnly old c1 (TornFrom old 0 (0 ∷ [])) → c1.seen ≡ written 0 (0 ∷ []) old.seen → Only c1 → LeavesOnly c1 c2 (TornFrom c1 1 bytes)
-        → c2.seen ≡ written 1 bytes c1.seen → Only c2 → LeavesOnly c2 c3 (TornFrom c2 0 (1 ∷ [])) → LeavesOnly old c3 (CreatedFrom old journal (first_payloads first))
-    opening c1 c2 c3 bytes is one seen1 only1 two seen2 only2 three =
-        three_writes head Q is_made (journal.next_gate + 1) long_more old reads c1 c2 c3 one seen1 only1 (subst (λ (b : List ℕ). LeavesOnly c1 c2 (TornFrom c1 1 b)) is two)
-        (seen2 ∙ ap (λ (b : List ℕ). written 1 b c1.seen) is) only2 three
+    left_shut : (new : Content) → LeavesOnly old new Shut → (c : List ℕ) → images new c → Left false c
+    left_shut new so_far c left = not_opening head Q is_made (journal.next_gate + 1) long_more old reads false refl c (now old new Shut so_far c left)
+
+    -- no write yet
+    pub none_settles : (told : Option Told) → IfSome told (λ t. images old (t.settles t.made)) → IfSome told (λ s. IfSome told (λ t. Left (made_more 4 s t) (t.settles t.made)))
+    none_settles told settled = few 4 told told old Left (omega arith) (λ c left. not_opening head Q is_made (journal.next_gate + 1) long_more old reads false refl c (inl left)) settled
+
+    module _ (c1 : Content) (one : LeavesOnly old c1 (TornFrom old 0 (0 ∷ []))) where
+      closed : LeavesOnly old c1 Shut
+      closed = one_write head Q is_made (journal.next_gate + 1) long_more old reads c1 one
+
+      pub closing : LeavesOnly old c1 (CreatedFrom old journal (first_payloads first))
+      closing = shut_only head Q is_made (journal.next_gate + 1) long_more old reads c1 closed
+
+      pub closing_settles : (told last : Option Told) → count last ≤ count told + 2 → IfSome last (λ t. images c1 (t.settles t.made)) → IfSome told (λ s. IfSome last (λ t. Left (made_more 4 s t) (t.settles t.made)))
+      closing_settles told last most settled = few 4 told last c1 Left (omega (arith, most)) (left_shut c1 closed) settled
+
+      module _ (c2 : Content) (bytes : List ℕ) (is : bytes ≡ head) (seen1 : c1.seen ≡ written 0 (0 ∷ []) old.seen) (only1 : Only c1) (two : LeavesOnly c1 c2 (TornFrom c1 1 bytes)) where
+        second : LeavesOnly c1 c2 (TornFrom c1 1 head)
+        second = subst (λ (b : List ℕ). LeavesOnly c1 c2 (TornFrom c1 1 b)) is two
+
+        headed : LeavesOnly old c2 Shut
+        headed = two_writes head Q is_made (journal.next_gate + 1) long_more old reads c1 c2 one seen1 only1 second
+
+        pub heading : LeavesOnly old c2 (CreatedFrom old journal (first_payloads first))
+        heading = shut_only head Q is_made (journal.next_gate + 1) long_more old reads c2 headed
+
+        pub heading_settles : (told last : Option Told) → count last ≤ count told + 4 → IfSome last (λ t. images c2 (t.settles t.made)) → IfSome told (λ s. IfSome last (λ t. Left (made_more 4 s t) (t.settles t.made)))
+        heading_settles told last most settled = few 4 told last c2 Left most (left_shut c2 headed) settled
+
+        module _ (c3 : Content) (seen2 : c2.seen ≡ written 1 bytes c1.seen) (only2 : Only c2) (three : LeavesOnly c2 c3 (TornFrom c2 0 (1 ∷ []))) where
+          whole : c2.seen ≡ written 1 head c1.seen
+          whole = seen2 ∙ ap (λ (b : List ℕ). written 1 b c1.seen) is
+
+          pub opening : LeavesOnly old c3 (CreatedFrom old journal (first_payloads first))
+          opening = three_writes head Q is_made (journal.next_gate + 1) long_more old reads c1 c2 c3 one seen1 only1 second whole only2 three
+
+          pub opening_settles : (told mid last : Option Told) → (is_some told ≡ true → count mid ≡ count told + 4) → (is_some told ≡ true → (last ≡ mid) ⊎ (count mid < count last))
+              → IfSome mid (λ s. last ≡ Some s → NoNew c2 c3) → IfSome last (λ t. images c3 (t.settles t.made)) → IfSome told (λ s. IfSome last (λ t. Left (made_more 4 s t) (t.settles t.made)))
+          opening_settles told mid last all either none settled =
+              more 4 told mid last c2 c3 Left all either none (at_third head Q is_made (journal.next_gate + 1) long_more old reads c1 c2 c3 one seen1 only1 second whole only2 three) settled
 
     pub is_kept : (c1 c2 c3 : Content) (bytes : List ℕ) (known1 known2 known3 : ℕ) → bytes ≡ head → c1.seen ≡ written 0 (0 ∷ []) old.seen → c2.seen ≡ written 1 bytes c1.seen → c3.seen ≡ written 0 (1 ∷ []) c2.seen → Only c3
         → known2 ≡ max known1 (1 + length bytes) → known3 ≡ max known2 1 → Keeps journal (first_payloads first) known3 c3

@@ -1,5 +1,5 @@
 -- What the calls of a journal do on its disk.
-use Rattle.std.specs.Prelude.{◌≡◌, ◌⊎◌, ℕ, ◌≤◌, ◌<◌, ◌+◌, max, length, true, false, List, [], ◌∷◌, ◌++◌, Option, Some, None, Result, Ok, Err, IfSome}
+use Rattle.std.specs.Prelude.{◌≡◌, ◌≢◌, ◌⊎◌, ℕ, ◌≤◌, ◌<◌, ◌+◌, max, length, Bool, true, false, ◌&&◌, ◌==◌, nat_lt, List, [], ◌∷◌, ◌++◌, slice_index_or, Option, Some, None, Result, Ok, Err, IfSome}
 use Rattle.mon_types.specs.declared.names.Stop.{Stop}
 use Rattle.mon_types.specs.declared.names.Stop.TheVariants as stop
 use Rattle.mon_types.specs.Faults.{Rose}
@@ -57,6 +57,21 @@ ClosedFrom x most file = (content file ≡ None) × ((d : List ℕ) × images x 
 abbrev pub CreatedFrom : Content → Journal → List (List ℕ) → List ℕ → Type 0
 CreatedFrom x journal payloads file = images x file ⊎ ClosedFrom x (journal.next_gate + 1) file ⊎ Holds journal payloads file
 
+-- whether more than so many calls were made from one to the other
+abbrev pub made_more : ℕ → Told → Told → Bool
+made_more n before now = nat_lt (length before.made + n) (length now.made)
+
+-- the first where a test is passed, and else the second
+abbrev pub ByTest : Bool → Type 0 → Type 0 → Type 0
+ByTest true P Q = P
+ByTest false P Q = Q
+
+-- What is left of a file that is made: the new one where its gate is open and it was begun to be opened, and else what a
+-- crash might have left before, or a closed file.
+abbrev pub Made : Content → Journal → List (List ℕ) → Bool → List ℕ → Type 0
+Made x journal payloads opening file =
+    ByTest (slice_index_or file 0 0 == 1 && opening) (Holds journal payloads file) (images x file ⊎ ClosedFrom x (journal.next_gate + 1) file)
+
 -- the payloads that the disk tells
 abbrev pub payloads_told : Option (List ℕ) → List (List ℕ)
 payloads_told None = []
@@ -66,10 +81,11 @@ abbrev pub payloads_seen : Content → List (List ℕ)
 payloads_seen x = payloads_told x.seen
 
 -- The journal's store stands on the disk, where the disk tells it, and a crash leaves nothing else. Its first closed gate is
--- within the known length.
+-- closed there, and within the known length.
 pub record Stands (journal : Journal) (known : ℕ) (x : Content) : Type 0 where
   pub only : Only x
   pub holds : IfSome x.seen (λ file. Holds journal (payloads_of file) file)
+  pub shut : IfSome x.seen (λ file. slice_index_or file journal.next_gate 0 ≢ 1)
   pub reach : journal.next_gate < known
 
 -- and it has these payloads

@@ -1,8 +1,8 @@
-ghost use Rattle.std.specs.Prelude.{◌≡◌, ◌≤◌, ◌<◌, ◌^◌, Some, length, is_some, IfOk, IfErr, option_map};
+ghost use Rattle.std.specs.Prelude.{◌≡◌, ◌≤◌, ◌<◌, ◌^◌, Some, length, is_some, IfOk, IfErr, IfSome, option_map};
 ghost use Rattle.std.specs.Option.{ForSome};
 ghost use Rattle.mon_disk.specs.Images.{LeavesOnly};
 ghost use Rattle.mon_journal.specs.Written.{first_payloads, owner_of, created};
-ghost use Rattle.mon_journal.specs.Steps.{create_calls, CreatedFrom, Keeps, Makes, IsOutside, HasFault};
+ghost use Rattle.mon_journal.specs.Steps.{create_calls, CreatedFrom, made_more, Made, Keeps, Makes, IsOutside, HasFault};
 
 use crate::journal::{Form, Journal};
 use crate::spelled::head_bytes;
@@ -30,6 +30,9 @@ pub fn create<D: Disk>(
 
     // A crash at any moment of the call leaves what it might have left before, a closed file, or the new one.
     ensures any_moment { let payload = option_map (λ payload. payload.now) first.entry in LeavesOnly (D.content disk.old) (D.content disk.new) (CreatedFrom (D.content disk.old) (created member generation payload) (first_payloads payload)) }
+
+    // The disk settles to the new one where that gate is open then and more than four of the calls were made.
+    ensures settles { let payload = option_map (λ payload. payload.now) first.entry in IfSome (D.told disk.old) (λ s. IfSome (D.told disk.new) (λ t. Made (D.content disk.old) (created member generation payload) (first_payloads payload) (made_more 4 s t) (t.settles t.made))) }
 
     // Which writes and syncs were made, and when the disk's fault is told.
     ensures calls { Makes (create_calls (owner_of member) generation (option_map (λ payload. payload.now) first.entry)) (D.told disk.old) (D.told disk.new) result }
@@ -65,6 +68,9 @@ pub fn restart<D: Disk>(
 
     // A crash at any moment of the call leaves what it might have left before, a closed file, or the new one.
     ensures any_moment { LeavesOnly (D.content disk.old) (D.content disk.new) (CreatedFrom (D.content disk.old) (created member generation (Some checkpoint.now)) (first_payloads (Some checkpoint.now))) }
+
+    // The disk settles to the new one where that gate is open then and more than four of the calls were made.
+    ensures settles { IfSome (D.told disk.old) (λ s. IfSome (D.told disk.new) (λ t. Made (D.content disk.old) (created member generation (Some checkpoint.now)) (first_payloads (Some checkpoint.now)) (made_more 4 s t) (t.settles t.made))) }
 
     // Which writes and syncs were made, and when the disk's fault is told.
     ensures calls { Makes (create_calls (owner_of member) generation (Some checkpoint.now)) (D.told disk.old) (D.told disk.new) result }

@@ -1,11 +1,12 @@
-use Rattle.std.proofs.Common.{◌≡◌, [], ◌∷◌, length, List, ℕ, Bor, option_map, Ok, Err, ◌∙◌, subst, ap, arith}
+use Rattle.std.proofs.Common.{◌≡◌, ◌+◌, true, is_some, [], ◌∷◌, length, List, ℕ, Bor, option_map, Ok, Err, ◌∙◌, subst, ap, arith}
 use Rattle.std.proofs.lemmas.Result.{err_from_is_err_and}
 use Rattle.mon_journal.specs.declared.journal.Form.TheVariants.{Second}
 use Rattle.mon_disk.specs.declared.disk.DiskCall.TheVariants.{Write, Sync}
 use Rattle.mon_journal.specs.declared.journal.Journal.{Journal}
 use Rattle.mon_journal.specs.Written.{head_bytes, owner_of, created}
 use Rattle.mon_journal.specs.Steps.{Makes}
-use Rattle.mon_journal.proofs.Created.{reads_of, is_short, long, closing, heading, opening, is_kept}
+use Rattle.mon_journal.proofs.Counts.{count, at_most, all_made, begun}
+use Rattle.mon_journal.proofs.Created.{reads_of, is_short, long, none_settles, closing, closing_settles, heading, heading_settles, opening, opening_settles, is_kept}
 use Rattle.mon_journal.proofs.Called.{Done, stopped_before, same_stop, same_done, made_then}
 use Rattle.mon_journal.proofs.making.create.Goals as goal
 
@@ -17,22 +18,71 @@ returns-in_err-write_synced-clause-any_moment g c =
 pub returns-in_err-write_synced-2-clause-any_moment : goal.returns-in_err-write_synced-2-clause-any_moment
 returns-in_err-write_synced-2-clause-any_moment g c =
     heading c.args.member c.args.generation (option_map {T = Bor (List ℕ)} {U = List ℕ} (λ payload. payload.now) c.args.first) c.requires.from_one c.requires.most (is_short c.args.first c.requires.short)
-    (g.D.Disk.content c.args.disk.now) (reads_of (g.D.Disk.content c.args.disk.now) (g.met.D.Disk.as_read c.args.disk.now)) (g.D.Disk.content c.write_synced.new.disk) (g.D.Disk.content c.write_synced-2.new.disk)
-    c.deref.result.now (c.deref.ensures.value ∙ c.in_ok-head.ensures) c.write_synced.ensures.any_moment c.in_ok-write_synced.ensures.seen c.in_ok-write_synced.ensures.durable c.write_synced-2.ensures.any_moment
+    (g.D.Disk.content c.args.disk.now) (reads_of (g.D.Disk.content c.args.disk.now) (g.met.D.Disk.as_read c.args.disk.now)) (g.D.Disk.content c.write_synced.new.disk) c.write_synced.ensures.any_moment
+    (g.D.Disk.content c.write_synced-2.new.disk) c.deref.result.now (c.deref.ensures.value ∙ c.in_ok-head.ensures) c.in_ok-write_synced.ensures.seen c.in_ok-write_synced.ensures.durable c.write_synced-2.ensures.any_moment
 
 pub returns-in_err-write_synced-3-clause-any_moment : goal.returns-in_err-write_synced-3-clause-any_moment
 returns-in_err-write_synced-3-clause-any_moment g c =
     opening c.args.member c.args.generation (option_map {T = Bor (List ℕ)} {U = List ℕ} (λ payload. payload.now) c.args.first) c.requires.from_one c.requires.most (is_short c.args.first c.requires.short)
-    (g.D.Disk.content c.args.disk.now) (reads_of (g.D.Disk.content c.args.disk.now) (g.met.D.Disk.as_read c.args.disk.now)) (g.D.Disk.content c.write_synced.new.disk) (g.D.Disk.content c.write_synced-2.new.disk) (g.D.Disk.content c.write_synced-3.new.disk)
-    c.deref.result.now (c.deref.ensures.value ∙ c.in_ok-head.ensures) c.write_synced.ensures.any_moment c.in_ok-write_synced.ensures.seen c.in_ok-write_synced.ensures.durable c.write_synced-2.ensures.any_moment
-    c.in_ok-write_synced-2.ensures.seen c.in_ok-write_synced-2.ensures.durable c.write_synced-3.ensures.any_moment
+    (g.D.Disk.content c.args.disk.now) (reads_of (g.D.Disk.content c.args.disk.now) (g.met.D.Disk.as_read c.args.disk.now)) (g.D.Disk.content c.write_synced.new.disk) c.write_synced.ensures.any_moment
+    (g.D.Disk.content c.write_synced-2.new.disk) c.deref.result.now (c.deref.ensures.value ∙ c.in_ok-head.ensures) c.in_ok-write_synced.ensures.seen c.in_ok-write_synced.ensures.durable c.write_synced-2.ensures.any_moment
+    (g.D.Disk.content c.write_synced-3.new.disk) c.in_ok-write_synced-2.ensures.seen c.in_ok-write_synced-2.ensures.durable c.write_synced-3.ensures.any_moment
 
 pub returns-clause-any_moment : goal.returns-clause-any_moment
 returns-clause-any_moment g c =
     opening c.args.member c.args.generation (option_map {T = Bor (List ℕ)} {U = List ℕ} (λ payload. payload.now) c.args.first) c.requires.from_one c.requires.most (is_short c.args.first c.requires.short)
-    (g.D.Disk.content c.args.disk.now) (reads_of (g.D.Disk.content c.args.disk.now) (g.met.D.Disk.as_read c.args.disk.now)) (g.D.Disk.content c.write_synced.new.disk) (g.D.Disk.content c.write_synced-2.new.disk) (g.D.Disk.content c.write_synced-3.new.disk)
-    c.deref.result.now (c.deref.ensures.value ∙ c.in_ok-head.ensures) c.write_synced.ensures.any_moment c.in_ok-write_synced.ensures.seen c.in_ok-write_synced.ensures.durable c.write_synced-2.ensures.any_moment
-    c.in_ok-write_synced-2.ensures.seen c.in_ok-write_synced-2.ensures.durable c.write_synced-3.ensures.any_moment
+    (g.D.Disk.content c.args.disk.now) (reads_of (g.D.Disk.content c.args.disk.now) (g.met.D.Disk.as_read c.args.disk.now)) (g.D.Disk.content c.write_synced.new.disk) c.write_synced.ensures.any_moment
+    (g.D.Disk.content c.write_synced-2.new.disk) c.deref.result.now (c.deref.ensures.value ∙ c.in_ok-head.ensures) c.in_ok-write_synced.ensures.seen c.in_ok-write_synced.ensures.durable c.write_synced-2.ensures.any_moment
+    (g.D.Disk.content c.write_synced-3.new.disk) c.in_ok-write_synced-2.ensures.seen c.in_ok-write_synced-2.ensures.durable c.write_synced-3.ensures.any_moment
+
+-- ---- what the disk settles to
+
+pub returns-in_err-head-clause-settles : goal.returns-in_err-head-clause-settles
+returns-in_err-head-clause-settles g c =
+    none_settles c.args.member c.args.generation (option_map {T = Bor (List ℕ)} {U = List ℕ} (λ payload. payload.now) c.args.first) c.requires.from_one c.requires.most (is_short c.args.first c.requires.short)
+    (g.D.Disk.content c.args.disk.now) (reads_of (g.D.Disk.content c.args.disk.now) (g.met.D.Disk.as_read c.args.disk.now))
+    (g.D.Disk.told c.args.disk.now) (g.met.D.Disk.settled c.args.disk.now)
+
+pub returns-in_err-write_synced-clause-settles : goal.returns-in_err-write_synced-clause-settles
+returns-in_err-write_synced-clause-settles g c =
+    closing_settles c.args.member c.args.generation (option_map {T = Bor (List ℕ)} {U = List ℕ} (λ payload. payload.now) c.args.first) c.requires.from_one c.requires.most (is_short c.args.first c.requires.short)
+    (g.D.Disk.content c.args.disk.now) (reads_of (g.D.Disk.content c.args.disk.now) (g.met.D.Disk.as_read c.args.disk.now)) (g.D.Disk.content c.write_synced.new.disk) c.write_synced.ensures.any_moment
+    (g.D.Disk.told c.args.disk.now) (g.D.Disk.told c.write_synced.new.disk) (at_most Done (Write 0 (0 ∷ []) ∷ Sync ∷ []) (g.D.Disk.told c.args.disk.now) (g.D.Disk.told c.write_synced.new.disk) (Err c.in_err-write_synced.field-0.0) c.in_err-write_synced.ensures.calls) (g.met.D.Disk.settled c.write_synced.new.disk)
+
+pub returns-in_err-write_synced-2-clause-settles : goal.returns-in_err-write_synced-2-clause-settles
+returns-in_err-write_synced-2-clause-settles g c =
+    let first = (at_most Done (Write 0 (0 ∷ []) ∷ Sync ∷ []) (g.D.Disk.told c.args.disk.now) (g.D.Disk.told c.write_synced.new.disk) (Ok c.in_ok-write_synced.field-0) c.in_ok-write_synced.ensures.calls) in
+    let then_second = at_most Done (Write 1 c.deref.result.now ∷ Sync ∷ []) (g.D.Disk.told c.write_synced.new.disk) (g.D.Disk.told c.write_synced-2.new.disk) (Err c.in_err-write_synced-2.field-0.0) c.in_err-write_synced-2.ensures.calls in
+    heading_settles c.args.member c.args.generation (option_map {T = Bor (List ℕ)} {U = List ℕ} (λ payload. payload.now) c.args.first) c.requires.from_one c.requires.most (is_short c.args.first c.requires.short)
+    (g.D.Disk.content c.args.disk.now) (reads_of (g.D.Disk.content c.args.disk.now) (g.met.D.Disk.as_read c.args.disk.now)) (g.D.Disk.content c.write_synced.new.disk) c.write_synced.ensures.any_moment
+    (g.D.Disk.content c.write_synced-2.new.disk) c.deref.result.now (c.deref.ensures.value ∙ c.in_ok-head.ensures) c.in_ok-write_synced.ensures.seen c.in_ok-write_synced.ensures.durable c.write_synced-2.ensures.any_moment
+    (g.D.Disk.told c.args.disk.now) (g.D.Disk.told c.write_synced-2.new.disk) (omega (arith, first, then_second)) (g.met.D.Disk.settled c.write_synced-2.new.disk)
+
+pub returns-in_err-write_synced-3-clause-settles : goal.returns-in_err-write_synced-3-clause-settles
+returns-in_err-write_synced-3-clause-settles g c =
+    let all : is_some (g.D.Disk.told c.args.disk.now) ≡ true → (count (g.D.Disk.told c.write_synced-2.new.disk) ≡ count (g.D.Disk.told c.args.disk.now) + 4) × (is_some (g.D.Disk.told c.write_synced-2.new.disk) ≡ true) = λ some.
+    let first = all_made Done (Write 0 (0 ∷ []) ∷ Sync ∷ []) (g.D.Disk.told c.args.disk.now) (g.D.Disk.told c.write_synced.new.disk) c.in_ok-write_synced.field-0 some c.in_ok-write_synced.ensures.calls in
+    let then_second = all_made Done (Write 1 c.deref.result.now ∷ Sync ∷ []) (g.D.Disk.told c.write_synced.new.disk) (g.D.Disk.told c.write_synced-2.new.disk) c.in_ok-write_synced-2.field-0 first.1 c.in_ok-write_synced-2.ensures.calls in
+    (omega (arith, first.0, then_second.0), then_second.1) in
+    opening_settles c.args.member c.args.generation (option_map {T = Bor (List ℕ)} {U = List ℕ} (λ payload. payload.now) c.args.first) c.requires.from_one c.requires.most (is_short c.args.first c.requires.short)
+    (g.D.Disk.content c.args.disk.now) (reads_of (g.D.Disk.content c.args.disk.now) (g.met.D.Disk.as_read c.args.disk.now)) (g.D.Disk.content c.write_synced.new.disk) c.write_synced.ensures.any_moment
+    (g.D.Disk.content c.write_synced-2.new.disk) c.deref.result.now (c.deref.ensures.value ∙ c.in_ok-head.ensures) c.in_ok-write_synced.ensures.seen c.in_ok-write_synced.ensures.durable c.write_synced-2.ensures.any_moment
+    (g.D.Disk.content c.write_synced-3.new.disk) c.in_ok-write_synced-2.ensures.seen c.in_ok-write_synced-2.ensures.durable c.write_synced-3.ensures.any_moment
+    (g.D.Disk.told c.args.disk.now) (g.D.Disk.told c.write_synced-2.new.disk) (g.D.Disk.told c.write_synced-3.new.disk) (λ some. (all some).0) (λ some. begun Done (Write 0 (1 ∷ [])) (Sync ∷ []) (g.D.Disk.told c.write_synced-2.new.disk) (g.D.Disk.told c.write_synced-3.new.disk) (Err c.in_err-write_synced-3.field-0.0) (all some).1 c.in_err-write_synced-3.ensures.calls)
+    c.write_synced-3.ensures.not_begun (g.met.D.Disk.settled c.write_synced-3.new.disk)
+
+pub returns-clause-settles : goal.returns-clause-settles
+returns-clause-settles g c =
+    let all : is_some (g.D.Disk.told c.args.disk.now) ≡ true → (count (g.D.Disk.told c.write_synced-2.new.disk) ≡ count (g.D.Disk.told c.args.disk.now) + 4) × (is_some (g.D.Disk.told c.write_synced-2.new.disk) ≡ true) = λ some.
+    let first = all_made Done (Write 0 (0 ∷ []) ∷ Sync ∷ []) (g.D.Disk.told c.args.disk.now) (g.D.Disk.told c.write_synced.new.disk) c.in_ok-write_synced.field-0 some c.in_ok-write_synced.ensures.calls in
+    let then_second = all_made Done (Write 1 c.deref.result.now ∷ Sync ∷ []) (g.D.Disk.told c.write_synced.new.disk) (g.D.Disk.told c.write_synced-2.new.disk) c.in_ok-write_synced-2.field-0 first.1 c.in_ok-write_synced-2.ensures.calls in
+    (omega (arith, first.0, then_second.0), then_second.1) in
+    opening_settles c.args.member c.args.generation (option_map {T = Bor (List ℕ)} {U = List ℕ} (λ payload. payload.now) c.args.first) c.requires.from_one c.requires.most (is_short c.args.first c.requires.short)
+    (g.D.Disk.content c.args.disk.now) (reads_of (g.D.Disk.content c.args.disk.now) (g.met.D.Disk.as_read c.args.disk.now)) (g.D.Disk.content c.write_synced.new.disk) c.write_synced.ensures.any_moment
+    (g.D.Disk.content c.write_synced-2.new.disk) c.deref.result.now (c.deref.ensures.value ∙ c.in_ok-head.ensures) c.in_ok-write_synced.ensures.seen c.in_ok-write_synced.ensures.durable c.write_synced-2.ensures.any_moment
+    (g.D.Disk.content c.write_synced-3.new.disk) c.in_ok-write_synced-2.ensures.seen c.in_ok-write_synced-2.ensures.durable c.write_synced-3.ensures.any_moment
+    (g.D.Disk.told c.args.disk.now) (g.D.Disk.told c.write_synced-2.new.disk) (g.D.Disk.told c.write_synced-3.new.disk) (λ some. (all some).0) (λ some. begun Done (Write 0 (1 ∷ [])) (Sync ∷ []) (g.D.Disk.told c.write_synced-2.new.disk) (g.D.Disk.told c.write_synced-3.new.disk) (Ok c.in_ok-write_synced-3.field-0) (all some).1 c.in_ok-write_synced-3.ensures.calls)
+    c.write_synced-3.ensures.not_begun (g.met.D.Disk.settled c.write_synced-3.new.disk)
 
 pub returns-clause-journal : goal.returns-clause-journal
 returns-clause-journal g c =
