@@ -1,6 +1,6 @@
 pub mod Appending
 pub mod Called
-mod Counts
+pub mod Counts
 pub mod Created
 pub mod Files
 pub mod Finds

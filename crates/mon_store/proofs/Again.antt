@@ -1,5 +1,5 @@
 -- What is spelled so is read.
-use Rattle.std.proofs.Common.{◌≡◌, ℕ, ◌≤◌, ◌<◌, ◌^◌, false, ◌&&◌, ◌||◌, leb, ltb, eqb, List, [], ◌∷◌, ◌++◌, length, Ok, Less, Equal, Greater, Ordering, Result, Err, nat_cmp, IsTrue, T, refl, sym, ap, subst, ◌∙◌, append_assoc, arith}
+use Rattle.std.proofs.Common.{◌≡◌, ℕ, ◌≤◌, ◌<◌, ◌^◌, false, ◌&&◌, leb, ltb, eqb, List, [], ◌∷◌, ◌++◌, length, Ok, Less, Equal, Greater, Ordering, Result, Err, nat_cmp, IsTrue, T, refl, sym, ap, subst, ◌∙◌, append_assoc, arith}
 use Rattle.std.specs.Cmp.Lexicographic.{slice_cmp, nat_list_cmp_total}
 use Rattle.std.specs.List.{list_all, flat_map, AllByRecursion}
 use Rattle.std.specs.Ordering.{is_lt, ordering_then, ordering_reverse}
@@ -8,7 +8,7 @@ use Rattle.std.specs.FinMap.Entries.{below_all}
 use Rattle.std.proofs.lemmas.Bool.{leb-true, le-ltb}
 use Rattle.std.proofs.lemmas.Bool.Decides.{nat_tests}
 use Rattle.std.proofs.lemmas.List.{append-nil}
-use Rattle.mon_bytes.specs.Reading.{Reading, number}
+use Rattle.mon_bytes.specs.Reading.{Reading}
 use Rattle.mon_bytes.specs.Texts.{graphic, is_word}
 use Rattle.mon_bytes.specs.declared.command.MapRefused.{MapRefused}
 use Rattle.mon_bytes.specs.declared.command.MapRefused.TheVariants.{Form, OutOfMemory}
@@ -17,7 +17,7 @@ use Rattle.mon_bytes.proofs.Ascii.{both}
 use Rattle.mon_bytes.proofs.Fields.{Found, byte_found, front_found}
 use Rattle.mon_bytes.proofs.Forms.{u32_found, ended_found}
 use Rattle.mon_tx.specs.Map.{Place, place_cmp, Store}
-use Rattle.mon_store.specs.Checkpoint.{Entry, entry_text, value_text, checkpoint_text, EntryFits, HasCheckpoint}
+use Rattle.mon_store.specs.Checkpoint.{Entry, entry_text, checkpoint_text, EntryFits, HasCheckpoint}
 use Rattle.mon_store.specs.Decode.{word_at, value_at, prefix_at, key_at, entry_at, entries_at, map_at, checkpoint_of}
 use Rattle.mon_store.proofs.Order.{sorted_parts, above_parts}
 

@@ -1,22 +1,31 @@
 -- What two disks stand for while they are opened.
-use Rattle.std.proofs.Common.{◌≡◌, ℕ, List, length, Option, Some, None, Ok, Err, refl, ap, subst}
-use Rattle.std.specs.Prelude.{IfSome}
+use Rattle.std.proofs.Common.{◌≡◌, ℕ, ◌+◌, ◌≤◌, Bool, true, false, ◌&&◌, eqb, is_some, List, [], ◌∷◌, length, Option, Some, None, Result, Ok, Err, refl, ap, subst, arith}
+use Rattle.std.specs.Prelude.{IfSome, slice_index_or}
+use Rattle.std.proofs.lemmas.Bool.{le-ltb}
 use Rattle.mon_types.specs.declared.names.Side.{Side}
 use Rattle.mon_types.specs.declared.names.Side.TheVariants.{A, B}
 use Rattle.mon_types.specs.declared.member.Member.{Member}
-use Rattle.mon_disk.specs.Images.{Content, LeavesOnly}
+use Rattle.mon_disk.specs.declared.disk.DiskCall.TheVariants.{Sync}
+use Rattle.mon_disk.specs.Calls.{Told}
+use Rattle.mon_disk.specs.Images.{Content, images, LeavesOnly}
 use Rattle.mon_journal.specs.declared.stop.JournalStop.{JournalStop}
 use Rattle.mon_journal.specs.declared.stop.JournalStop.TheVariants as journal
 use Rattle.mon_journal.specs.declared.opening.Opened.{Opened}
 use Rattle.mon_journal.specs.declared.opening.Opened.TheVariants as disk
-use Rattle.mon_journal.specs.Content.{content, held_by}
-use Rattle.mon_journal.specs.Steps.{AlikeFrom, Opens}
+use Rattle.mon_journal.specs.Content.{Held, content, held_by}
+use Rattle.mon_journal.specs.Steps.{AlikeFrom, Opens, open_calls, made_more, Makes}
+use Rattle.mon_journal.proofs.Counts.{count, at_most, all_made}
 use Rattle.mon_store.specs.declared.stop.OpenStop.TheVariants.{DiskFault, OutOfMemory}
 use Rattle.mon_store.specs.Pair.{NotAStore, held_on, found, stands, opened}
-use Rattle.mon_store.specs.Moments.{Meanwhile}
-use Rattle.mon_store.specs.Opening.{held_in, named, Tells, AlikePair}
+use Rattle.mon_store.specs.Moments.{EachPair, Meanwhile}
+use Rattle.mon_store.specs.Opening.{held_in, named, Tells, AlikePair, Alike, Settled}
 use Rattle.mon_store.specs.Stood.{opens_as}
 use Rattle.mon_store.proofs.Moments.{first_goes, both_go}
+
+-- what is found goes by what they hold and how long they are
+pub alike_found : (c d e f : List ℕ) → content c ≡ content e → length c ≡ length e → content d ≡ content f → length d ≡ length f → found c d ≡ found e f
+unfolding found
+alike_found c d e f same_a long_a same_b long_b = rw (same_a, same_b, long_a, long_b) refl
 
 -- what two images stand for goes by what they hold and how long they are
 pub alike_stands : (c d e f : List ℕ) → content c ≡ content e → length c ≡ length e → content d ≡ content f → length d ≡ length f → stands c d ≡ stands e f
@@ -28,15 +37,63 @@ pub alike_opens : (member : Member) (c d e f : List ℕ) → content c ≡ conte
 unfolding opened found
 alike_opens member c d e f same_a long_a same_b long_b = rw (same_a, same_b, long_a, long_b) refl
 
+-- each holds what it held
+pub alike_pair : (member : Member) (a b : Content) (c d : List ℕ) → AlikeFrom a c → AlikeFrom b d → AlikePair member a b false c d
+alike_pair member a b c d g h = record {
+  on_a = g.0;
+  on_b = h.0;
+  left_a = g.1;
+  left_b = h.1;
+  stand = alike_stands c d g.0 h.0 g.2 g.3 h.2 h.3;
+  opens = alike_opens member c d g.0 h.0 g.2 g.3 h.2 h.3;
+  first = g.2;
+  second = h.2;
+}
+
 -- disk A is opened
-pub opened_a : (a a1 b : Content) → LeavesOnly a a1 (AlikeFrom a) → (member : Member) → Meanwhile a b a1 b (AlikePair member a b)
-opened_a a a1 b l member =
-    first_goes a a1 b (AlikeFrom a) (AlikePair member a b) l (λ c d h there. (h.0, d, h.1, there, alike_stands c d h.0 d h.2 h.3 refl refl, alike_opens member c d h.0 d h.2 h.3 refl refl))
+pub opened_a : (a a1 b : Content) → LeavesOnly a a1 (AlikeFrom a) → (member : Member) → Meanwhile a b a1 b (AlikePair member a b false)
+opened_a a a1 b l member = first_goes a a1 b (AlikeFrom a) (AlikePair member a b false) l (λ c d h there. alike_pair member a b c d h (d, there, refl, refl))
 
 -- and then disk B
-pub opened_b : (a a1 b b1 : Content) → LeavesOnly a a1 (AlikeFrom a) → LeavesOnly b b1 (AlikeFrom b) → (member : Member) → Meanwhile a b a1 b1 (AlikePair member a b)
-opened_b a a1 b b1 l k member =
-    both_go a a1 b b1 (AlikeFrom a) (AlikeFrom b) (AlikePair member a b) l k (λ c d g h. (g.0, h.0, g.1, h.1, alike_stands c d g.0 h.0 g.2 g.3 h.2 h.3, alike_opens member c d g.0 h.0 g.2 g.3 h.2 h.3))
+pub opened_b : (a a1 b b1 : Content) → LeavesOnly a a1 (AlikeFrom a) → LeavesOnly b b1 (AlikeFrom b) → (member : Member) → Meanwhile a b a1 b1 (AlikePair member a b false)
+opened_b a a1 b b1 l k member = both_go a a1 b b1 (AlikeFrom a) (AlikeFrom b) (AlikePair member a b false) l k (λ c d g h. alike_pair member a b c d g h)
+
+-- with nothing opened, and what they settle to then
+pub is_alike : (member : Member) (a b : Content) (c d : List ℕ) → AlikePair member a b false c d → Alike member a b c d
+is_alike member a b c d h = (false, h)
+
+pub both_settle : (member : Member) (a b x y : Content) (told now_a now_b : Option Told) → EachPair x y (AlikePair member a b false) → IfSome told (λ s. IfSome now_a (λ t. made_more 5 s t ≡ false))
+    → IfSome now_a (λ t. images x (t.settles t.made)) → IfSome now_b (λ t. images y (t.settles t.made)) → IfSome told (λ s. IfSome now_a (λ t. IfSome now_b (λ u. Settled member a b s t u)))
+both_settle member a b x y None now_a now_b each few left there = tt
+both_settle member a b x y (Some s) None now_b each few left there = tt
+both_settle member a b x y (Some s) (Some t) None each few left there = tt
+both_settle member a b x y (Some s) (Some t) (Some u) each few left there = rw few (by (eqb (slice_index_or (t.settles t.made) 0 0) 1))
+  where
+    by : (opened : Bool) → AlikePair member a b (opened && false) (t.settles t.made) (u.settles u.made)
+    by true = each (t.settles t.made) (u.settles u.made) left there
+    by false = each (t.settles t.made) (u.settles u.made) left there
+
+-- opening a disk makes three calls at most
+three : (k : Option (Result Held JournalStop)) → length (open_calls k) ≤ 3
+three None = omega arith
+three (Some (Ok held)) = omega arith
+three (Some (Err e)) = omega arith
+
+pub few_calls : (T : Type 0) (seen : Option (List ℕ)) (told now : Option Told) (result : Result T JournalStop) → IfSome seen (λ file. Makes (open_calls (content file)) told now result) → IfSome seen (λ file. IfSome told (λ s. IfSome now (λ t. made_more 5 s t ≡ false)))
+few_calls T None told now result made = tt
+few_calls T (Some file) None now result made = tt
+few_calls T (Some file) (Some s) None result made = tt
+few_calls T (Some file) (Some s) (Some t) result made = le-ltb _ _ (omega (arith, at_most T (open_calls (content file)) (Some s) (Some t) result made, three (content file)))
+
+pub when_some : {X : Type 0} (s : Option X) (P : Type 0) → is_some s ≡ true → IfSome s (λ x. P) → P
+when_some None P some h = absurd cc
+when_some (Some x) P some h = h
+
+-- opening a closed disk makes one
+pub one_call : (T : Type 0) (most : ℕ) (seen : Option (List ℕ)) (told now : Option Told) (x : T) → is_some seen ≡ true → IfSome seen (λ file. (content file ≡ None) × (length file ≤ most)) → IfSome seen (λ file. Makes {T = T} (open_calls (content file)) told now (Ok x))
+    → is_some told ≡ true → (count now ≡ count told + 1) × (is_some now ≡ true)
+one_call T most None told now x some closed made there = absurd cc
+one_call T most (Some file) told now x some closed made there = all_made T (Sync ∷ []) told now x there (subst (λ (k : Option (Result Held JournalStop)). Makes {T = T} (open_calls k) told now (Ok x)) closed.0 made)
 
 pub each_told : (s t : Option (List ℕ)) (P : List ℕ → List ℕ → Type 0) → ((x y : List ℕ) → s ≡ Some x → t ≡ Some y → P x y) → IfSome s (λ x. IfSome t (λ y. P x y))
 each_told None t P h = tt

@@ -1,31 +1,29 @@
 -- What two disks stand for while a transaction is applied, and then.
-use Rattle.std.proofs.Common.{◌≡◌, ◌≢◌, ℕ, ◌≤◌, Bool, true, false, cond, eqb, is_some, List, [], ◌∷◌, ◌++◌, length, Option, Some, None, Result, Ok, Err, refl, sym, ap, subst, ◌∙◌, arith}
+use Rattle.std.proofs.Common.{◌≡◌, ℕ, ◌≤◌, Bool, true, false, cond, eqb, is_some, List, [], ◌∷◌, ◌++◌, Option, Some, None, Result, Ok, Err, refl, sym, ap, subst, ◌∙◌}
 use Rattle.std.specs.Prelude.{IfSome, IfErr, OnOk, OnErr, slice_index_or}
 use Rattle.std.proofs.lemmas.Bool.{eqb-true}
 use Rattle.mon_types.specs.declared.names.Side.{Side}
 use Rattle.mon_types.specs.declared.names.Side.TheVariants.{A, B}
-use Rattle.mon_disk.specs.Images.{Content, images, Only, LeavesOnly}
+use Rattle.mon_disk.specs.Images.{Content, images, LeavesOnly}
 use Rattle.mon_tx.specs.declared.op.Op.{Op}
 use Rattle.mon_tx.specs.Map.{Store, apply}
 use Rattle.mon_tx.specs.Text.{text}
 use Rattle.mon_tx.specs.Decode.{HasText}
 use Rattle.mon_kv.specs.Readers.{size_of}
-use Rattle.mon_journal.specs.declared.stop.JournalStop.{JournalStop}
 use Rattle.mon_journal.specs.declared.journal.Journal.{Journal}
-use Rattle.mon_journal.specs.Content.{Held, content, payloads_of, held_by, appended, Holds}
-use Rattle.mon_journal.specs.Steps.{payloads_told, payloads_seen, Stands, Keeps}
+use Rattle.mon_journal.specs.Content.{content, payloads_of, held_by, appended}
+use Rattle.mon_journal.specs.Steps.{payloads_told, payloads_seen, Keeps}
 use Rattle.mon_store.specs.Checkpoint.{most_size}
 use Rattle.mon_store.specs.Payloads.{map_of}
-use Rattle.mon_store.specs.Pair.{stands}
 use Rattle.mon_store.specs.Moments.{Meanwhile, EachPair}
-use Rattle.mon_store.specs.Sound.{of_a, of_b, of_live, other_side, IsBelow, Sound, WithChange, StandFor, BeforeOrAfter}
+use Rattle.mon_store.specs.Sound.{of_a, of_b, of_live, other_side, IsBelow, Sound, WithChange, StandsOn, BeforeOrAfter}
 use Rattle.mon_store.specs.declared.stop.StoreStop.{StoreStop}
 use Rattle.mon_store.specs.declared.stop.StoreStop.TheVariants.{Broken, TooLong, Full, DiskFault, OutOfMemory}
 use Rattle.mon_store.specs.Refusals.{Refuses, LeavesDisk, breaks}
 use Rattle.mon_store.proofs.Payloads.{map_more}
-use Rattle.mon_store.proofs.Pairs.{stands_for}
+use Rattle.mon_store.proofs.OnPairs.{on_held, live_is}
 use Rattle.mon_store.proofs.Moments.{first_goes, second_goes}
-use Rattle.mon_store.proofs.Keeping.{holds_now}
+use Rattle.mon_store.proofs.Keeping.{holds_now, shut}
 
 -- ---- what a disk tells
 
@@ -39,43 +37,39 @@ told_below generation s d is h = subst (λ (t : Option (List ℕ)). IfSome t (λ
 pub is_told : (s : Option (List ℕ)) (c : List ℕ) → s ≡ Some c → is_some s ≡ true
 is_told s c is = ap is_some is
 
-live_is : (side : Side) (live other : List ℕ) → of_live side (of_a side live other) (of_b side live other) ≡ live
-live_is A live other = refl
-live_is B live other = refl
-
 module _ (journal : Journal) (m : Store) (known : ℕ) (live other : Content) (sound : Sound journal m known live other) (side : Side) where
   below_now : (d : List ℕ) → images other d → IsBelow journal.generation (content d)
   below_now d left = told_below journal.generation other.seen d (sound.only_other d left) sound.below
 
   -- a crash now leaves the map
-  pub stands_now : (c d : List ℕ) → images live c → images other d → StandFor m (of_a side c d) (of_b side c d)
+  pub stands_now : (c d : List ℕ) → images live c → images other d → StandsOn side journal m (of_a side c d) (of_b side c d)
   stands_now c d left there =
       let told = is_told live.seen c (sound.stands_live.only c left) in
-      stands_for side c d (held_by journal (payloads_seen live)) m (holds_now journal known live sound.stands_live c left) (below_now d there) (told_map m live.seen told sound.map)
+      on_held side c d journal (payloads_seen live) m (holds_now journal known live sound.stands_live c left) (below_now d there) (told_map m live.seen told sound.map)
+
+  abbrev Either : List Op → Bool → List ℕ → List ℕ → Type 0
+  Either ops b = StandsOn side (cond b (appended journal (text ops)) journal) (cond b (apply ops m) m)
 
   -- what a crash leaves of a record, together with the other disk
-  pub changes : (ops : List Op) → is_some live.seen ≡ true → (c d : List ℕ) → WithChange journal (payloads_seen live) m ops c → images other d → BeforeOrAfter side journal.next_gate m (apply ops m) (of_a side c d) (of_b side c d)
+  pub changes : (ops : List Op) → is_some live.seen ≡ true → (c d : List ℕ) → WithChange journal (payloads_seen live) m ops c → images other d → BeforeOrAfter side journal m ops (of_a side c d) (of_b side c d)
   changes ops told c d change there =
-      subst (λ (l : List ℕ). StandFor (cond (eqb (slice_index_or l journal.next_gate 0) 1) (apply ops m) m) (of_a side c d) (of_b side c d)) (sym (live_is side c d)) (by (eqb (slice_index_or c journal.next_gate 0) 1) refl change.0)
+      subst (λ (l : List ℕ). Either ops (eqb (slice_index_or l journal.next_gate 0) 1) (of_a side c d) (of_b side c d)) (sym (live_is side c d)) (by (eqb (slice_index_or c journal.next_gate 0) 1) refl change.0)
     where
       payloads : List (List ℕ)
       payloads = payloads_seen live
 
       by : (b : Bool) → eqb (slice_index_or c journal.next_gate 0) 1 ≡ b
-          → content c ≡ Some (Ok (cond b (held_by (appended journal (text ops)) (payloads ++ text ops ∷ [])) (held_by journal payloads))) → StandFor (cond b (apply ops m) m) (of_a side c d) (of_b side c d)
-      by false e is = stands_for side c d (held_by journal payloads) m is (below_now d there) (told_map m live.seen told sound.map)
+          → content c ≡ Some (Ok (cond b (held_by (appended journal (text ops)) (payloads ++ text ops ∷ [])) (held_by journal payloads))) → Either ops b (of_a side c d) (of_b side c d)
+      by false e is = on_held side c d journal payloads m is (below_now d there) (told_map m live.seen told sound.map)
       by true e is =
           let fits = change.1 (eqb-true _ _ e) in
-          stands_for side c d (held_by (appended journal (text ops)) (payloads ++ text ops ∷ [])) (apply ops m) is (below_now d there) (map_more payloads m ops (told_map m live.seen told sound.map) fits.0 fits.1)
+          on_held side c d (appended journal (text ops)) (payloads ++ text ops ∷ []) (apply ops m) is (below_now d there) (map_more payloads m ops (told_map m live.seen told sound.map) fits.0 fits.1)
 
   -- no change
-  pub changes_nothing : (ops : List Op) → apply ops m ≡ m → (c d : List ℕ) → images live c → images other d → BeforeOrAfter side journal.next_gate m (apply ops m) (of_a side c d) (of_b side c d)
-  changes_nothing ops same c d left there =
-      subst (λ (n : Store). StandFor n (of_a side c d) (of_b side c d)) (sym (either (eqb (slice_index_or (of_live side (of_a side c d) (of_b side c d)) journal.next_gate 0) 1))) (stands_now c d left there)
-    where
-      either : (b : Bool) → cond b (apply ops m) m ≡ m
-      either true = same
-      either false = refl
+  pub changes_nothing : (ops : List Op) (c d : List ℕ) → images live c → images other d → BeforeOrAfter side journal m ops (of_a side c d) (of_b side c d)
+  changes_nothing ops c d left there =
+      subst (λ (l : List ℕ). Either ops (eqb (slice_index_or l journal.next_gate 0) 1) (of_a side c d) (of_b side c d)) (sym (live_is side c d))
+      (subst (λ (b : Bool). Either ops b (of_a side c d) (of_b side c d)) (sym (shut journal known live sound.stands_live c left)) (stands_now c d left there))
 
   -- behind the record
   pub sound_after : (ops : List Op) (next : Journal) (reach : ℕ) (new : Content) → next ≡ appended journal (text ops) → HasText ops → size_of (apply ops m) ≤ most_size → is_some new.seen ≡ is_some live.seen
@@ -92,10 +86,6 @@ module _ (journal : Journal) (m : Store) (known : ℕ) (live other : Content) (s
       by None tells h = tt
       by (Some file) tells h = ap map_of h ∙ map_more (payloads_seen live) m ops (told_map m live.seen (sym tells) sound.map) form small
 
-pub no_change : (ops : List Op) (m : Store) → length ops ≡ 0 → apply ops m ≡ m
-no_change [] m none = refl
-no_change (op ∷ ops) m none = absurd (omega (arith, none))
-
 -- ---- by the disk that is live
 
 pub each_pair : {D : Type 0} (content_of : D → Content) (side : Side) (live other : D) (P : List ℕ → List ℕ → Type 0) → ((c d : List ℕ) → images (content_of live) c → images (content_of other) d → P (of_a side c d) (of_b side c d))
@@ -111,9 +101,9 @@ live_goes content_of B live new other Q P l h = second_goes (content_of other) (
 
 -- two disks of which one is live
 pub stands_pair : {D : Type 0} (content_of : D → Content) (known_of : D → ℕ) (a b : D) (side : Side) (j : Journal) (m : Store) → Sound j m (known_of (of_live side a b)) (content_of (of_live side a b)) (content_of (of_live (other_side side) a b))
-    → EachPair (content_of a) (content_of b) (StandFor m)
-stands_pair content_of known_of a b A j m sound = each_pair content_of A a b (StandFor m) (stands_now j m (known_of a) (content_of a) (content_of b) sound A)
-stands_pair content_of known_of a b B j m sound = each_pair content_of B b a (StandFor m) (stands_now j m (known_of b) (content_of b) (content_of a) sound B)
+    → EachPair (content_of a) (content_of b) (StandsOn side j m)
+stands_pair content_of known_of a b A j m sound = each_pair content_of A a b (StandsOn A j m) (stands_now j m (known_of a) (content_of a) (content_of b) sound A)
+stands_pair content_of known_of a b B j m sound = each_pair content_of B b a (StandsOn B j m) (stands_now j m (known_of b) (content_of b) (content_of a) sound B)
 
 -- ---- after the answer
 
@@ -143,6 +133,6 @@ module _ {D : Type 0} (content_of : D → Content) (known_of : D → ℕ) (journ
   sound_then ops next kv new (Err OutOfMemory) k whole = absurd cc
 
 pub safe_then : {D : Type 0} (content_of : D → Content) (known_of : D → ℕ) (next : Journal) (kv : Store) (new other : D) (side : Side) (result : Result (Unit {0}) StoreStop) → (breaks result ≡ false → Sound next kv (known_of new) (content_of new) (content_of other))
-    → OnOk result (EachPair (content_of (of_a side new other)) (content_of (of_b side new other)) (StandFor kv))
-safe_then content_of known_of next kv new other side (Ok x) sound = each_pair content_of side new other (StandFor kv) (stands_now next kv (known_of new) (content_of new) (content_of other) (sound refl) side)
+    → OnOk result (EachPair (content_of (of_a side new other)) (content_of (of_b side new other)) (StandsOn side next kv))
+safe_then content_of known_of next kv new other side (Ok x) sound = each_pair content_of side new other (StandsOn side next kv) (stands_now next kv (known_of new) (content_of new) (content_of other) (sound refl) side)
 safe_then content_of known_of next kv new other side (Err e) sound = tt

@@ -1,15 +1,14 @@
 -- What is read is spelled so.
-use Rattle.std.proofs.Common.{◌≡◌, ℕ, zero, suc, ◌+◌, ◌<◌, ◌^◌, true, false, cond, eqb, ltb, ◌||◌, List, [], ◌∷◌, ◌++◌, length, Result, Ok, Err, Less, Ordering, nat_cmp, IsTrue, T, refl, sym, ap, subst, ◌∙◌, arith}
+use Rattle.std.proofs.Common.{◌≡◌, ℕ, zero, suc, ◌+◌, ◌<◌, ◌^◌, cond, eqb, ltb, ◌||◌, List, [], ◌∷◌, ◌++◌, length, Ok, Err, Less, nat_cmp, IsTrue, T, refl, sym, ap, subst, ◌∙◌, arith}
 use Rattle.std.specs.Cmp.Lexicographic.{slice_cmp}
 use Rattle.std.specs.List.{flat_map, AllByRecursion}
 use Rattle.std.specs.Ordering.{is_lt}
 use Rattle.std.specs.FinMap.{entries, len, from_sorted, is_sorted, entries-from_sorted, len-entries}
 use Rattle.std.specs.FinMap.Entries.{below_all}
 use Rattle.std.proofs.lemmas.Bool.{eqb-true}
-use Rattle.mon_bytes.specs.declared.command.MapRefused.{MapRefused}
 use Rattle.mon_bytes.specs.declared.command.MapRefused.TheVariants.{Form}
 use Rattle.mon_bytes.specs.Reading.{IsBytes, Reading, number, front}
-use Rattle.mon_bytes.specs.Texts.{is_word, is_name, is_prefix}
+use Rattle.mon_bytes.specs.Texts.{is_word}
 use Rattle.mon_bytes.specs.Forms.{◌>>=◌, fitted, u32_bytes, ended}
 use Rattle.mon_bytes.proofs.Fields.{guard_ok, chosen_ok, ok_is, Takes, Takes-then, Takes-whole, front_takes, byte_takes}
 use Rattle.mon_bytes.proofs.Forms.{bind_ok, fitted_ok, u32_takes, ended_ok}

@@ -1,10 +1,10 @@
 -- The calls of two disks, joined from those of each.
-use Rattle.std.proofs.Common.{◌≡◌, ℕ, true, false, is_some, ◌⊎◌, inl, inr, List, [], ◌∷◌, ◌++◌, Option, Some, None, Result, Ok, Err, refl, sym, ap, subst, ◌∙◌}
+use Rattle.std.proofs.Common.{◌≡◌, true, is_some, inl, inr, List, [], ◌∷◌, ◌++◌, Option, Some, None, Result, Ok, Err, refl, ap, subst, ◌∙◌}
 use Rattle.std.specs.Prelude.{IfSome}
 use Rattle.mon_types.specs.declared.names.Side.{Side}
 use Rattle.mon_types.specs.declared.names.Side.TheVariants.{A, B}
 use Rattle.mon_disk.specs.declared.disk.DiskCall.{DiskCall}
-use Rattle.mon_disk.specs.Calls.{Told, and_made, fails_next}
+use Rattle.mon_disk.specs.Calls.{Told, and_made}
 use Rattle.mon_journal.specs.declared.stop.JournalStop.{JournalStop}
 use Rattle.mon_journal.specs.declared.stop.JournalStop.TheVariants as journal
 use Rattle.mon_journal.specs.Steps.{Makes}

@@ -1,21 +1,20 @@
 -- The disk that is live where two were opened.
-use Rattle.std.proofs.Common.{◌≡◌, ◌⊎◌, inl, inr, ℕ, ◌≤◌, ◌<◌, Bool, true, false, cond, eqb, ltb, List, [], length, Option, Some, None, Result, Ok, Err, refl, sym, ap, subst, ◌∙◌, arith}
-use Rattle.std.specs.Prelude.{IfSome}
+use Rattle.std.proofs.Common.{◌≡◌, ◌≢◌, ◌⊎◌, inl, inr, ℕ, ◌≤◌, ◌<◌, Bool, true, false, cond, eqb, ltb, List, [], length, Option, Some, None, Result, Ok, Err, refl, sym, ap, subst, ◌∙◌, arith}
+use Rattle.std.specs.Prelude.{IfSome, slice_index_or}
 use Rattle.std.proofs.lemmas.Bool.{ltb-true, ltb-false, eqb-false}
 use Rattle.mon_types.specs.declared.names.Side.{Side}
 use Rattle.mon_types.specs.declared.names.Side.TheVariants.{A, B}
 use Rattle.mon_disk.specs.Images.{Content, Only}
 use Rattle.mon_tx.specs.Map.{Store}
 use Rattle.mon_kv.specs.Readers.{size_of}
-use Rattle.mon_journal.specs.declared.stop.JournalStop.{JournalStop}
 use Rattle.mon_journal.specs.declared.journal.Journal.{Journal}
 use Rattle.mon_journal.specs.declared.opening.Opened.{Opened}
 use Rattle.mon_journal.specs.declared.opening.Opened.TheVariants as disk
-use Rattle.mon_journal.specs.Content.{Held, Header, content, payloads_of, header_of, held_by, Holds}
-use Rattle.mon_journal.specs.Steps.{Opens, Stands, Keeps}
+use Rattle.mon_journal.specs.Content.{Held, content, payloads_of, held_by, Holds}
+use Rattle.mon_journal.specs.Steps.{Opens, Stands}
 use Rattle.mon_store.specs.Checkpoint.{most_size}
 use Rattle.mon_store.specs.Payloads.{map_of}
-use Rattle.mon_store.specs.Pair.{Refusal, NotAStore, Found, Create, Live, new_store, newer, chosen}
+use Rattle.mon_store.specs.Pair.{Refusal, NotAStore, Found, Create, Live, newer, chosen}
 use Rattle.mon_store.specs.Sound.{of_live, other_side, IsBelow, Sound}
 use Rattle.mon_store.specs.Opening.{held_in, len_of}
 
@@ -90,8 +89,16 @@ same_held : (j k : Journal) (p q : List (List ℕ)) → held_by j p ≡ held_by 
 same_held j k p q is r = ap (λ (h : Held). record { header = h.header; payloads = r; next_gate = h.next_gate }) is
 
 stands_as : (j k : Journal) (p q : List (List ℕ)) (known : ℕ) (x : Content) → held_by j p ≡ held_by k q → Stands j known x → Stands k known x
-stands_as j k p q known x is s = record { only = s.only; holds = by x.seen s.holds; reach = subst (λ (n : ℕ). n < known) (ap (λ (h : Held). h.next_gate) is) s.reach }
+stands_as j k p q known x is s = record {
+  only = s.only;
+  holds = by x.seen s.holds;
+  shut = subst (λ (n : ℕ). IfSome x.seen (λ file. slice_index_or file n 0 ≢ 1)) gate s.shut;
+  reach = subst (λ (n : ℕ). n < known) gate s.reach;
+}
   where
+    gate : j.next_gate ≡ k.next_gate
+    gate = ap (λ (h : Held). h.next_gate) is
+
     by : (t : Option (List ℕ)) → IfSome t (λ file. Holds j (payloads_of file) file) → IfSome t (λ file. Holds k (payloads_of file) file)
     by None h = tt
     by (Some file) h = h ∙ ap (λ held. Some (Ok held)) (same_held j k p q is (payloads_of file))

@@ -1,54 +1,58 @@
 -- What two disks stand for while a store is created on them.
-use Rattle.std.proofs.Common.{◌≡◌, ℕ, ◌≤◌, max, false, true, ltb, is_some, List, [], length, inl, inr, Option, Some, None, Result, Ok, Err, refl, sym, ap, subst, ◌∙◌, arith}
-use Rattle.std.specs.Prelude.{IfSome, IfOk}
+use Rattle.std.proofs.Common.{◌≡◌, ◌⊎◌, ℕ, ◌+◌, ◌≤◌, max, Bool, false, true, ◌&&◌, eqb, ltb, is_some, List, [], length, inl, inr, Option, Some, None, Result, Ok, Err, refl, sym, ap, subst, ◌∙◌, arith}
+use Rattle.std.specs.Prelude.{IfSome, IfOk, slice_index_or}
 use Rattle.std.specs.FinMap.{empty}
 use Rattle.std.proofs.lemmas.Bool.{le-ltb}
 use Rattle.mon_types.specs.declared.names.Side.{Side}
 use Rattle.mon_types.specs.declared.names.Side.TheVariants.{A}
 use Rattle.mon_types.specs.declared.member.Member.{Member}
+use Rattle.mon_disk.specs.Calls.{Told}
 use Rattle.mon_disk.specs.Images.{Content, images, Only, LeavesOnly}
-use Rattle.mon_journal.specs.Content.{content, payloads_of, held_by}
-use Rattle.mon_journal.specs.Written.{created}
+use Rattle.mon_journal.specs.Content.{content, payloads_of, held_by, Holds}
+use Rattle.mon_journal.specs.Written.{owner_of, created}
 use Rattle.mon_journal.specs.declared.opening.Opened.{Opened}
 use Rattle.mon_journal.specs.declared.opening.Opened.TheVariants as disk
-use Rattle.mon_journal.specs.Steps.{AlikeFrom, CreatedFrom, Keeps, Opens}
+use Rattle.mon_journal.specs.Steps.{AlikeFrom, ByTest, ClosedFrom, CreatedFrom, made_more, Made, Keeps, Opens}
+use Rattle.mon_journal.proofs.Counts.{count}
 use Rattle.mon_store.specs.Payloads.{map_of}
-use Rattle.mon_store.specs.Pair.{found, stands, opened}
+use Rattle.mon_store.specs.Pair.{◌>>=◌, Create, found, map_found, stands, taken, opened}
 use Rattle.mon_store.specs.Moments.{WhileOpening}
-use Rattle.mon_store.specs.Opening.{held_in, len_of, AlikePair}
-use Rattle.mon_store.specs.Stood.{opens_as}
+use Rattle.mon_store.specs.Opening.{held_in, len_of, first_content, AlikePair, Alike, Settled}
+use Rattle.mon_store.specs.Stood.{standing_of, opens_as}
 use Rattle.mon_store.specs.declared.opening.Standing.{Standing}
 use Rattle.mon_store.specs.declared.stop.OpenStop.{OpenStop}
 use Rattle.mon_store.specs.Sound.{of_live, other_side, IsBelow, Sound}
 use Rattle.mon_store.proofs.Pairs.{stands_for, opens_live}
 use Rattle.mon_store.proofs.Sizes.{size_empty}
-use Rattle.mon_store.proofs.Moments.{then_first}
-use Rattle.mon_store.proofs.Alike.{alike_stands, alike_opens, opened_b}
+use Rattle.mon_store.proofs.Moments.{weaker, then_first}
+use Rattle.mon_store.proofs.Alike.{alike_found, alike_pair, is_alike, opened_b}
 
 -- no record makes the empty map
 map_nothing : map_of [] ≡ Ok empty
 unfolding map_of
 map_nothing = refl
 
--- two closed disks that a creation may begin on stand for the empty map
-empty_pair : (c d : List ℕ) → content c ≡ None → length c ≤ 26 → content d ≡ None → length d ≡ 0 → stands c d ≡ Ok empty
-unfolding stands found
-empty_pair c d none_c short none_d nothing =
+-- on two closed disks that a creation may begin on nothing is found
+empty_found : (c d : List ℕ) → content c ≡ None → length c ≤ 26 → content d ≡ None → length d ≡ 0 → found c d ≡ Ok Create
+unfolding found
+empty_found c d none_c short none_d nothing =
     let few : ltb 26 (length c) ≡ false = le-ltb _ _ short in
     let no_bytes : ltb 0 (length d) ≡ false = le-ltb _ _ (omega (arith, nothing)) in
     rw (none_c, none_d, few, no_bytes) refl
+
+-- and so they stand for the empty map
+empty_pair : (c d : List ℕ) → found c d ≡ Ok Create → stands c d ≡ Ok empty
+unfolding stands
+empty_pair c d nothing = ap (λ f. f >>= map_found) nothing
 
 -- the store that a member creates
 abbrev new_store : Member → Standing
 new_store member = record { side = A; journal = created member 1 None; kv = empty }
 
 -- and it creates it on them
-empty_opens : (member : Member) (c d : List ℕ) → content c ≡ None → length c ≤ 26 → content d ≡ None → length d ≡ 0 → opens_as member c d ≡ Ok (new_store member)
-unfolding opened found
-empty_opens member c d none_c short none_d nothing =
-    let few : ltb 26 (length c) ≡ false = le-ltb _ _ short in
-    let no_bytes : ltb 0 (length d) ≡ false = le-ltb _ _ (omega (arith, nothing)) in
-    rw (none_c, none_d, few, no_bytes) refl
+empty_opens : (member : Member) (c d : List ℕ) → found c d ≡ Ok Create → opens_as member c d ≡ Ok (new_store member)
+unfolding opened
+empty_opens member c d nothing = ap (λ f. (f >>= taken (owner_of member)) >>= (λ it. Ok (standing_of member it.0 it.1))) nothing
 
 -- what a closed disk holds that a crash leaves alone
 pub record Closed (before now : Content) (most : ℕ) : Type 0 where
@@ -74,43 +78,83 @@ module _ (member : Member) (a a1 a2 b b1 : Content) (la : LeavesOnly a a1 (Alike
   alike_b : (d : List ℕ) → images b1 d → AlikeFrom b d
   alike_b d left = lb.each b1.moment d lb.later (omega arith) left
 
-  -- each image of the empty map is like a pair from before
-  empty_then : (x : List ℕ) → images a1 x → (c d : List ℕ) → images b1 d → stands c d ≡ Ok empty → opens_as member c d ≡ Ok (new_store member) → AlikePair member a b c d
-  empty_then x left c d there is opens =
-      let g = alike_a x left in
-      let h = alike_b d there in
+  nothing_there : (x : List ℕ) → images a1 x → (d : List ℕ) → images b1 d → found x d ≡ Ok Create
+  nothing_there x left d there =
       let closed = closed_now a a1 26 ka x left in
       let none = closed_now b b1 0 kb d there in
-      let before : stands x d ≡ Ok empty = empty_pair x d closed.0 closed.1 none.0 (omega (arith, none.1)) in
-      let then_too : opens_as member x d ≡ Ok (new_store member) = empty_opens member x d closed.0 closed.1 none.0 (omega (arith, none.1)) in
-      (g.0, h.0, g.1, h.1, is ∙ sym before ∙ alike_stands x d g.0 h.0 g.2 g.3 h.2 h.3, opens ∙ sym then_too ∙ alike_opens member x d g.0 h.0 g.2 g.3 h.2 h.3)
+      empty_found x d closed.0 closed.1 none.0 (omega (arith, none.1))
 
-  during : (x : List ℕ) → images a1 x → (c d : List ℕ) → CreatedFrom a1 (created member 1 None) [] c → images b1 d → AlikePair member a b c d
-  during x read c d (inl left) there =
-      let g = alike_a c left in
+  -- each image of the empty map is like a pair from before
+  empty_then : (x : List ℕ) → images a1 x → (opening : Bool) (c d : List ℕ) → images b1 d → stands c d ≡ Ok empty → opens_as member c d ≡ Ok (new_store member) → content c ≡ first_content member opening x (Ok Create) → AlikePair member a b opening c d
+  empty_then x left opening c d there is opens holds =
+      let g = alike_a x left in
       let h = alike_b d there in
-      (g.0, h.0, g.1, h.1, alike_stands c d g.0 h.0 g.2 g.3 h.2 h.3, alike_opens member c d g.0 h.0 g.2 g.3 h.2 h.3)
-  during x read c d (inr (inl closed)) there =
+      let nothing = nothing_there x left d there in
+      let before : found g.0 h.0 ≡ Ok Create = sym (alike_found x d g.0 h.0 g.2 g.3 h.2 h.3) ∙ nothing in
+      record {
+        on_a = g.0;
+        on_b = h.0;
+        left_a = g.1;
+        left_b = h.1;
+        stand = is ∙ sym (empty_pair g.0 h.0 before);
+        opens = opens ∙ sym (empty_opens member g.0 h.0 before);
+        first = holds ∙ same_first opening x g.0 g.2 ∙ ap (first_content member opening g.0) (sym before);
+        second = h.2;
+      }
+    where
+      same_first : (opening : Bool) (x y : List ℕ) → content x ≡ content y → first_content member opening x (Ok Create) ≡ first_content member opening y (Ok Create)
+      same_first true x y same = refl
+      same_first false x y same = same
+
+  -- what is left of the file
+  during : (x : List ℕ) → images a1 x → (opening : Bool) (c d : List ℕ) → ByTest opening (Holds (created member 1 None) [] c) (images a1 c ⊎ ClosedFrom a1 26 c) → images b1 d → AlikePair member a b opening c d
+  during x read true c d holds there =
+      let none = closed_now b b1 0 kb d there in
+      let below : IsBelow 1 (content d) = subst (IsBelow 1) (sym none.0) tt in
+      let held = held_by (created member 1 None) [] in
+      empty_then x read true c d there (stands_for A c d held empty holds below map_nothing) (opens_live member A c d held empty holds below map_nothing refl) holds
+  during x read false c d (inl left) there = alike_pair member a b c d (alike_a c left) (alike_b d there)
+  during x read false c d (inr closed) there =
       let none = closed_now b b1 0 kb d there in
       let old = closed_now a a1 26 ka closed.1.0 closed.1.1 in
       let long : length c ≤ max (length closed.1.0) 26 = closed.1.2 in
       let short : length c ≤ 26 = omega (arith, old.1, long) in
-      empty_then x read c d there (empty_pair c d closed.0 short none.0 (omega (arith, none.1))) (empty_opens member c d closed.0 short none.0 (omega (arith, none.1)))
-  during x read c d (inr (inr holds)) there =
-      let none = closed_now b b1 0 kb d there in
-      let below : IsBelow 1 (content d) = subst (IsBelow 1) (sym none.0) tt in
-      let held = held_by (created member 1 None) [] in
-      empty_then x read c d there (stands_for A c d held empty holds below map_nothing) (opens_live member A c d held empty holds below map_nothing refl)
+      let nothing = empty_found c d closed.0 short none.0 (omega (arith, none.1)) in
+      empty_then x read false c d there (empty_pair c d nothing) (empty_opens member c d nothing) (closed.0 ∙ sym (closed_now a a1 26 ka x read).0)
 
-  -- the creation
-  pub opened_c : LeavesOnly a1 a2 (CreatedFrom a1 (created member 1 None) []) → is_some a.seen ≡ true → IfSome a1.seen (images a1) → WhileOpening a b a2 b1 (AlikePair member a b)
-  opened_c lc told read =
-      let x = there a1.seen (ap is_some ka.same ∙ told) read in
-      then_first a b a1 b1 a2 (CreatedFrom a1 (created member 1 None) []) (AlikePair member a b) (opened_b a a1 b b1 la lb member) lc (during x.0 x.1)
+  at_each : (x : List ℕ) → images a1 x → (c d : List ℕ) → CreatedFrom a1 (created member 1 None) [] c → images b1 d → Alike member a b c d
+  at_each x read c d (inl left) there = (false, during x read false c d (inl left) there)
+  at_each x read c d (inr (inl closed)) there = (false, during x read false c d (inr closed) there)
+  at_each x read c d (inr (inr holds)) there = (true, during x read true c d holds there)
+
+  -- an image that is read
+  read_of : is_some a.seen ≡ true → IfSome a1.seen (images a1) → (x : List ℕ) × images a1 x
+  read_of told read = there a1.seen (ap is_some ka.same ∙ told) read
     where
       there : (s : Option (List ℕ)) → is_some s ≡ true → IfSome s (images a1) → (x : List ℕ) × images a1 x
       there None some h = absurd cc
       there (Some x) some h = (x, h)
+
+  -- the creation
+  pub opened_c : LeavesOnly a1 a2 (CreatedFrom a1 (created member 1 None) []) → is_some a.seen ≡ true → IfSome a1.seen (images a1) → WhileOpening a b a2 b1 (Alike member a b)
+  opened_c lc told read =
+      let x = read_of told read in
+      then_first a b a1 b1 a2 (CreatedFrom a1 (created member 1 None) []) (Alike member a b) (weaker a b a1 b1 (AlikePair member a b false) (Alike member a b) (opened_b a a1 b b1 la lb member) (is_alike member a b)) lc (at_each x.0 x.1)
+
+  -- and what the disks settle to
+  pub settled_c : (told mid last other : Option Told) → is_some a.seen ≡ true → IfSome a1.seen (images a1) → (is_some told ≡ true → (count mid ≡ count told + 1) × (is_some mid ≡ true))
+      → IfSome mid (λ s. IfSome last (λ t. Made a1 (created member 1 None) [] (made_more 4 s t) (t.settles t.made))) → IfSome other (λ u. images b1 (u.settles u.made))
+      → IfSome told (λ s. IfSome last (λ t. IfSome other (λ u. Settled member a b s t u)))
+  settled_c None mid last other some read one made there = tt
+  settled_c (Some s) None last other some read one made there = let bad : false ≡ true = (one refl).1 in absurd cc
+  settled_c (Some s) (Some m) None other some read one made there = tt
+  settled_c (Some s) (Some m) (Some t) None some read one made there = tt
+  settled_c (Some s) (Some m) (Some t) (Some u) some read one made there =
+      let x = read_of some read in
+      let counts : length m.made + 4 ≡ length s.made + 5 = let o = (one refl).0 in omega (arith, o) in
+      let same : made_more 4 m t ≡ made_more 5 s t = ap (λ (n : ℕ). ltb n (length t.made)) counts in
+      let left : Made a1 (created member 1 None) [] (made_more 5 s t) (t.settles t.made) = subst (λ (b : Bool). Made a1 (created member 1 None) [] b (t.settles t.made)) same made in
+      during x.0 x.1 (eqb (slice_index_or (t.settles t.made) 0 0) 1 && made_more 5 s t) (t.settles t.made) (u.settles u.made) left there
 
   -- and how it stands
   pub sound_c : (known : ℕ) (m : Rattle.mon_tx.specs.Map.Store) → m ≡ empty → Keeps (created member 1 None) [] known a2 → Sound (created member 1 None) m known a2 b1

@@ -1,18 +1,16 @@
 -- What stands on the live disk while a transaction is appended.
-use Rattle.std.proofs.Common.{◌≡◌, ◌≢◌, ℕ, ◌+◌, ◌≤◌, ◌<◌, ◌^◌, Bool, true, false, cond, eqb, List, [], ◌∷◌, ◌++◌, length, Option, Some, None, Result, Ok, Err, refl, sym, ap, subst, ◌∙◌, arith}
-use Rattle.std.specs.Prelude.{IfSome, IsSome, slice_index_or}
-use Rattle.std.proofs.lemmas.Bool.{eqb-true}
-use Rattle.mon_disk.specs.Images.{Content, images, Only, LeavesOnly}
+use Rattle.std.proofs.Common.{◌≡◌, ◌≢◌, ℕ, ◌≤◌, true, false, cond, eqb, List, [], ◌∷◌, ◌++◌, Option, Some, Ok, sym, ap, subst, ◌∙◌, arith}
+use Rattle.std.specs.Prelude.{IfSome, slice_index_or}
+use Rattle.std.proofs.lemmas.Bool.Decides.{nat_tests}
+use Rattle.mon_disk.specs.Images.{Content, images, LeavesOnly}
 use Rattle.mon_tx.specs.declared.op.Op.{Op}
 use Rattle.mon_tx.specs.Map.{Store, apply}
 use Rattle.mon_tx.specs.Text.{text}
 use Rattle.mon_tx.specs.Decode.{HasText}
 use Rattle.mon_kv.specs.Readers.{size_of}
-use Rattle.mon_journal.specs.declared.stop.JournalStop.{JournalStop}
 use Rattle.mon_journal.specs.declared.journal.Journal.{Journal}
-use Rattle.mon_journal.specs.Content.{Held, content, payloads_of, held_by, appended, Holds, WithOrWithout}
+use Rattle.mon_journal.specs.Content.{held_by, appended, Holds, WithOrWithout}
 use Rattle.mon_journal.specs.Steps.{payloads_told, payloads_seen, Stands}
-use Rattle.mon_journal.proofs.Appending.{before_it}
 use Rattle.mon_journal.proofs.Keeping.{seen_holds}
 use Rattle.mon_store.specs.Checkpoint.{most_size}
 use Rattle.mon_store.specs.Sound.{WithChange}
@@ -26,17 +24,10 @@ module _ (journal : Journal) (known : ℕ) (x : Content) (stands : Stands journa
       by s holds e = subst (λ (t : Option (List ℕ)). Holds journal (payloads_told t) c) (sym e) (subst (λ (t : Option (List ℕ)). IfSome t (Holds journal (payloads_told t))) e holds)
 
   -- and its first closed gate is closed
-  shut : (c : List ℕ) → images x c → eqb (slice_index_or c journal.next_gate 0) 1 ≡ false
-  shut c left = by (eqb (slice_index_or c journal.next_gate 0) 1) refl (before_it journal [] (omega arith) x known stands c left)
-    where
-      by : (b : Bool) → eqb (slice_index_or c journal.next_gate 0) 1 ≡ b
-          → content c ≡ Some (Ok (cond b (held_by (appended journal []) (payloads_seen x ++ [] ∷ [])) (held_by journal (payloads_seen x)))) → b ≡ false
-      by false e h = refl
-      by true e h =
-          let both : Some (Ok (held_by (appended journal []) (payloads_seen x ++ [] ∷ []))) ≡ Some (Ok (held_by journal (payloads_seen x))) = sym h ∙ holds_now c left in
-          let same : held_by (appended journal []) (payloads_seen x ++ [] ∷ []) ≡ held_by journal (payloads_seen x) = cc in
-          let gates : journal.next_gate + 5 + 0 ≡ journal.next_gate = ap (λ (held : Held). held.next_gate) same in
-          absurd (omega (arith, gates))
+  pub shut : (c : List ℕ) → images x c → eqb (slice_index_or c journal.next_gate 0) 1 ≡ false
+  shut c left =
+      let not : slice_index_or c journal.next_gate 0 ≢ 1 = subst (λ (s : Option (List ℕ)). IfSome s (λ file. slice_index_or file journal.next_gate 0 ≢ 1)) (stands.only c left) stands.shut in
+      grind (arith, nat_tests)
 
   not_changed : (m : Store) (ops : List Op) (c : List ℕ) → images x c → WithChange journal (payloads_seen x) m ops c
   not_changed m ops c left = (

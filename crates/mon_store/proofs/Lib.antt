@@ -1,3 +1,4 @@
+pub mod OnPairs
 pub mod Order
 pub mod Loop
 pub mod Again

@@ -1,5 +1,5 @@
 -- Calls on one of two disks, or on both.
-use Rattle.std.proofs.Common.{◌≡◌, ℕ, ◌≤◌, List, Option, Some, None, refl, subst, arith}
+use Rattle.std.proofs.Common.{◌≡◌, ℕ, ◌≤◌, List, Option, Some, None, subst, arith}
 use Rattle.std.specs.Prelude.{IfSome}
 use Rattle.mon_disk.specs.Calls.{Told}
 use Rattle.mon_disk.specs.Images.{Content, images, LeavesOnly}
@@ -33,6 +33,9 @@ both_go a a1 b b1 Q R P l k h =
 -- no disk goes on
 pub none_goes : (a b : Content) (P : List ℕ → List ℕ → Type 0) → EachPair a b P → Meanwhile a b a b P
 none_goes a b P h = record { a = still a; b = still b; each = λ s t c d low high from to left there. h c d (stays a s c low high left) (stays b t d from to there) }
+
+pub weaker : (a b a1 b1 : Content) (P Q : List ℕ → List ℕ → Type 0) → Meanwhile a b a1 b1 P → ((c d : List ℕ) → P c d → Q c d) → Meanwhile a b a1 b1 Q
+weaker a b a1 b1 P Q m h = record { a = m.a; b = m.b; each = λ s t c d low high from to left there. h c d (m.each s t c d low high from to left there) }
 
 -- a call that ends with both
 pub ends : (a b a1 b1 : Content) (P : List ℕ → List ℕ → Type 0) → Meanwhile a b a1 b1 P → WhileOpening a b a1 b1 P

@@ -8,7 +8,7 @@ use Rattle.std.proofs.lemmas.List.{nil_from_length}
 use Rattle.mon_tx.specs.Map.{Place, place_cmp, Store}
 use Rattle.mon_tx.proofs.Places.{places_total}
 use Rattle.mon_store.specs.Checkpoint.{Entry}
-use Rattle.std.proofs.Common.{sym, length}
+use Rattle.std.proofs.Common.{sym}
 
 pub joined : (a b : Bool) → T a → T b → T (a && b)
 joined true b p q = q

@@ -1,19 +1,16 @@
 -- One more payload of a file, and a file that begins with a checkpoint.
-use Rattle.std.proofs.Common.{◌≡◌, ℕ, ◌+◌, ◌≤◌, Bool, true, false, cond, leb, eqb, List, [], ◌∷◌, ◌++◌, length, Option, Some, None, Result, Ok, Err, refl, sym, ap, subst, ◌∙◌, arith}
+use Rattle.std.proofs.Common.{◌≡◌, ℕ, ◌+◌, ◌≤◌, Bool, true, false, cond, eqb, List, [], ◌∷◌, ◌++◌, length, Option, Some, None, Ok, refl, sym, ap, subst, ◌∙◌}
 use Rattle.std.specs.FinMap.{empty}
 use Rattle.std.specs.List.{list_any}
 use Rattle.std.proofs.lemmas.Bool.{le-leb}
 use Rattle.mon_tx.specs.declared.op.Op.{Op}
 use Rattle.mon_tx.specs.Map.{Store, apply}
 use Rattle.mon_tx.specs.Text.{text, is_range}
-use Rattle.mon_tx.specs.Decode.{transaction_of, HasText}
+use Rattle.mon_tx.specs.Decode.{HasText}
 use Rattle.mon_tx.proofs.Again.{transaction_again}
 use Rattle.mon_kv.specs.Readers.{size_of}
-use Rattle.mon_journal.specs.declared.stop.JournalStop.{JournalStop}
-use Rattle.mon_journal.specs.declared.stop.JournalStop.TheVariants.{DiskFault, NotAStore, OutOfMemory}
 use Rattle.mon_store.specs.Checkpoint.{checkpoint_text, most_size, HasCheckpoint}
-use Rattle.mon_store.specs.Decode.{checkpoint_of}
-use Rattle.mon_store.specs.Payloads.{within, changed, after, restored, is_checkpoint, begun, at_fault, folded, map_of}
+use Rattle.mon_store.specs.Payloads.{within, changed, after, is_checkpoint, begun, at_fault, folded, map_of}
 use Rattle.mon_store.proofs.Again.{checkpoint_again}
 
 within_is : (m : Store) → size_of m ≤ most_size → within m ≡ Some m

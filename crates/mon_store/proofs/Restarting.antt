@@ -1,6 +1,6 @@
 -- What two disks stand for while a checkpoint begins a journal on the other one, and then.
-use Rattle.std.proofs.Common.{◌≡◌, ℕ, ◌+◌, ◌<◌, ◌≤◌, List, [], ◌∷◌, ◌⊎◌, inl, inr, Option, Some, None, Result, Ok, Err, refl, sym, ap, subst, ◌∙◌, arith}
-use Rattle.std.specs.Prelude.{IfSome}
+use Rattle.std.proofs.Common.{◌≡◌, ℕ, ◌+◌, ◌<◌, Bool, true, false, ◌&&◌, eqb, List, [], ◌∷◌, ◌⊎◌, inl, inr, Option, Some, None, Ok, Err, refl, sym, ap, subst, ◌∙◌, arith}
+use Rattle.std.specs.Prelude.{IfSome, slice_index_or}
 use Rattle.mon_types.specs.declared.names.Side.{Side}
 use Rattle.mon_types.specs.declared.names.Side.TheVariants.{A, B}
 use Rattle.mon_disk.specs.Images.{Content, images, LeavesOnly}
@@ -10,15 +10,16 @@ use Rattle.mon_tx.specs.Map.{Store}
 use Rattle.mon_journal.specs.declared.stop.JournalStop.{JournalStop}
 use Rattle.mon_journal.specs.declared.stop.JournalStop.TheVariants as journal
 use Rattle.mon_journal.specs.declared.journal.Journal.{Journal}
-use Rattle.mon_journal.specs.Content.{Held, content, payloads_of, held_by, Holds}
-use Rattle.mon_journal.specs.Steps.{Makes, IsOutside, Keeps, payloads_seen}
+use Rattle.mon_journal.specs.Content.{content, payloads_of, Holds}
+use Rattle.mon_journal.specs.Steps.{ByTest, ClosedFrom, made_more, Made, Makes, IsOutside, Keeps, payloads_seen}
+use Rattle.mon_journal.proofs.Counts.{few}
 use Rattle.mon_store.specs.Checkpoint.{checkpoint_text, HasCheckpoint}
 use Rattle.mon_store.specs.Payloads.{map_of}
-use Rattle.mon_store.specs.Moments.{Meanwhile, EachPair}
-use Rattle.mon_store.specs.Sound.{of_a, of_b, other_side, IsBelow, Sound, StandFor, Begins, next_journal}
+use Rattle.mon_store.specs.Moments.{Meanwhile}
+use Rattle.mon_store.specs.Sound.{of_a, of_b, of_live, other_side, IsBelow, Sound, StandsOn, Begins, BegunAs, next_journal, ThisOrNext, Restarted}
 use Rattle.mon_store.specs.Calls.{stop_of, MakesCalls}
 use Rattle.mon_store.proofs.Payloads.{map_checkpoint}
-use Rattle.mon_store.proofs.Pairs.{stands_for}
+use Rattle.mon_store.proofs.OnPairs.{on_held, turned, other_is}
 use Rattle.mon_store.proofs.Moments.{first_goes, second_goes}
 use Rattle.mon_store.proofs.Keeping.{holds_now}
 use Rattle.mon_store.proofs.Applying.{told_map, is_told, stands_now}
@@ -29,32 +30,72 @@ calls_err T calls old new journal.DiskFault outside made = made
 calls_err T calls old new (journal.NotAStore at) outside made = absurd outside
 calls_err T calls old new journal.OutOfMemory outside made = made
 
+-- no call on the other disk
+pub not_begun : (x : Content) (journal : Journal) (m : Store) (told : Option Told) → IfSome told (λ t. images x (t.settles t.made)) → IfSome told (λ s. IfSome told (λ t. BegunAs x journal m (made_more 4 s t) (t.settles t.made)))
+not_begun x journal m told left = few 4 told told x (BegunAs x journal m) (omega arith) (λ c there. by (eqb (slice_index_or c 0 0) 1) c there) left
+  where
+    by : (b : Bool) (c : List ℕ) → images x c → ByTest (b && false) (Holds journal (checkpoint_text m ∷ []) c × HasCheckpoint m) (images x c ⊎ ClosedFrom x (journal.next_gate + 1) c)
+    by true c there = inl there
+    by false c there = inl there
+
+-- and the calls that a journal made there
+pub has_begun : (x : Content) (journal : Journal) (m : Store) (old new : Option Told) → HasCheckpoint m → IfSome old (λ s. IfSome new (λ t. Made x journal (checkpoint_text m ∷ []) (made_more 4 s t) (t.settles t.made)))
+    → IfSome old (λ s. IfSome new (λ t. BegunAs x journal m (made_more 4 s t) (t.settles t.made)))
+has_begun x journal m None new form made = tt
+has_begun x journal m (Some s) None form made = tt
+has_begun x journal m (Some s) (Some t) form made = by (eqb (slice_index_or (t.settles t.made) 0 0) 1 && made_more 4 s t) made
+  where
+    by : (b : Bool) → ByTest b (Holds journal (checkpoint_text m ∷ []) (t.settles t.made)) (images x (t.settles t.made) ⊎ ClosedFrom x (journal.next_gate + 1) (t.settles t.made))
+        → ByTest b (Holds journal (checkpoint_text m ∷ []) (t.settles t.made) × HasCheckpoint m) (images x (t.settles t.made) ⊎ ClosedFrom x (journal.next_gate + 1) (t.settles t.made))
+    by true h = (h, form)
+    by false h = h
+
 below_next : (j : Journal) (payloads : List (List ℕ)) (file : List ℕ) → Holds j payloads file → IsBelow (j.generation + 1) (content file)
 below_next j payloads file holds = subst (IsBelow (j.generation + 1)) (sym holds) (let lt : j.generation < j.generation + 1 = omega arith in lt)
 
 module _ (j : Journal) (m : Store) (known : ℕ) (live other : Content) (sound : Sound j m known live other) (side : Side) where
-  turned : (c d : List ℕ) → StandFor m (of_a (other_side side) d c) (of_b (other_side side) d c) → StandFor m (of_a side c d) (of_b side c d)
-  turned = by side
-    where
-      by : (side : Side) (c d : List ℕ) → StandFor m (of_a (other_side side) d c) (of_b (other_side side) d c) → StandFor m (of_a side c d) (of_b side c d)
-      by A c d h = h
-      by B c d h = h
+  abbrev next : Journal
+  next = next_journal j m
+
+  shut_aside : (c d : List ℕ) → images live c → content d ≡ None → StandsOn side j m (of_a side c d) (of_b side c d)
+  shut_aside c d left closed =
+      let holds = holds_now j known live sound.stands_live c left in
+      on_held side c d j (payloads_seen live) m holds (subst (IsBelow j.generation) (sym closed) tt) (told_map m live.seen (is_told live.seen c (sound.stands_live.only c left)) sound.map)
+
+  next_stands : (c d : List ℕ) → images live c → Holds next (checkpoint_text m ∷ []) d → HasCheckpoint m → StandsOn (other_side side) next m (of_a side c d) (of_b side c d)
+  next_stands c d left holds form =
+      let below = below_next j (payloads_seen live) c (holds_now j known live sound.stands_live c left) in
+      turned side next m c d (on_held (other_side side) d c next (checkpoint_text m ∷ []) m holds below (map_checkpoint m form sound.size))
 
   -- while the journal is begun
-  pub begins : (c d : List ℕ) → images live c → Begins other (next_journal j m) m d → StandFor m (of_a side c d) (of_b side c d)
-  begins c d left (inl there) = stands_now j m known live other sound side c d left there
-  begins c d left (inr (inl closed)) =
-      let holds = holds_now j known live sound.stands_live c left in
-      let told = told_map m live.seen (is_told live.seen c (sound.stands_live.only c left)) sound.map in
-      stands_for side c d (held_by j (payloads_seen live)) m holds (subst (IsBelow j.generation) (sym closed.0) tt) told
-  begins c d left (inr (inr new)) =
-      let next = next_journal j m in
-      let below = below_next j (payloads_seen live) c (holds_now j known live sound.stands_live c left) in
-      turned c d (stands_for (other_side side) d c (held_by next (checkpoint_text m ∷ [])) m new.0 below (map_checkpoint m new.1 sound.size))
+  pub begins : (c d : List ℕ) → images live c → Begins other next m d → ThisOrNext side j m (of_a side c d) (of_b side c d)
+  begins c d left (inl there) = inl (stands_now j m known live other sound side c d left there)
+  begins c d left (inr (inl closed)) = inl (shut_aside c d left closed.0)
+  begins c d left (inr (inr new)) = inr (next_stands c d left new.0 new.1)
+
+  -- and what the two settle to
+  pub settles_as : (opening : Bool) (c d : List ℕ) → images live c → BegunAs other next m opening d → Restarted side j m other opening (of_a side c d) (of_b side c d)
+  settles_as opening c d left begun =
+      subst (λ (file : List ℕ). ByTest (eqb (slice_index_or file 0 0) 1 && opening) (StandsOn (other_side side) next m (of_a side c d) (of_b side c d)) (StandsOn side j m (of_a side c d) (of_b side c d) × (images other file ⊎ (content file ≡ None))))
+      (sym (other_is side c d)) (by (eqb (slice_index_or d 0 0) 1 && opening) begun)
+    where
+      by : (b : Bool) → ByTest b (Holds next (checkpoint_text m ∷ []) d × HasCheckpoint m) (images other d ⊎ ClosedFrom other (next.next_gate + 1) d)
+          → ByTest b (StandsOn (other_side side) next m (of_a side c d) (of_b side c d)) (StandsOn side j m (of_a side c d) (of_b side c d) × (images other d ⊎ (content d ≡ None)))
+      by true h = next_stands c d left h.0 h.1
+      by false (inl there) = (stands_now j m known live other sound side c d left there, inl there)
+      by false (inr closed) = (shut_aside c d left closed.0, inr closed.0)
+
+  -- over what both tell
+  pub settled : (l s t : Option Told) → IfSome l (λ u. images live (u.settles u.made)) → IfSome s (λ u. IfSome t (λ v. BegunAs other next m (made_more 4 u v) (v.settles v.made)))
+      → IfSome l (λ u. IfSome s (λ v. IfSome t (λ w. Restarted side j m other (made_more 4 v w) (of_a side (u.settles u.made) (w.settles w.made)) (of_b side (u.settles u.made) (w.settles w.made)))))
+  settled None s t left begun = tt
+  settled (Some u) None t left begun = tt
+  settled (Some u) (Some v) None left begun = tt
+  settled (Some u) (Some v) (Some w) left begun = settles_as (made_more 4 v w) (u.settles u.made) (w.settles w.made) left begun
 
   -- and when it stands
-  pub sound_next : (next : Journal) (reach : ℕ) (new : Content) → next ≡ next_journal j m → HasCheckpoint m → Keeps next (checkpoint_text m ∷ []) reach new → Sound next m reach new live
-  sound_next next reach new is form keeps = record {
+  pub sound_next : (made : Journal) (reach : ℕ) (new : Content) → made ≡ next → HasCheckpoint m → Keeps made (checkpoint_text m ∷ []) reach new → Sound made m reach new live
+  sound_next made reach new is form keeps = record {
     stands_live = keeps.stands;
     only_other = sound.stands_live.only;
     below = subst (λ (n : Journal). IfSome live.seen (λ file. IsBelow n.generation (content file))) (sym is) (older live.seen sound.stands_live.holds);
@@ -71,6 +112,14 @@ module _ (j : Journal) (m : Store) (known : ℕ) (live other : Content) (sound :
       by (Some file) h = ap map_of h ∙ map_checkpoint m form sound.size
 
 -- ---- by the disk that is live
+
+pub turned_live : {D : Type 0} (side : Side) (live other : D) → of_live side (of_a (other_side side) live other) (of_b (other_side side) live other) ≡ other
+turned_live A live other = refl
+turned_live B live other = refl
+
+pub turned_other : {D : Type 0} (side : Side) (live other : D) → of_live (other_side side) (of_a (other_side side) live other) (of_b (other_side side) live other) ≡ live
+turned_other A live other = refl
+turned_other B live other = refl
 
 module _ {D : Type 0} (content_of : D → Content) (live old new : D) (Q : List ℕ → Type 0) (P : List ℕ → List ℕ → Type 0) (l : LeavesOnly (content_of old) (content_of new) Q) where
   -- the other disk goes on

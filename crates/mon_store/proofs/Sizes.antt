@@ -1,14 +1,12 @@
 -- How long a checkpoint is, and how many entries a map has.
-use Rattle.std.proofs.Common.{◌≡◌, ℕ, suc, Bool, true, false, cond, None, ◌+◌, ◌*◌, ◌≤◌, ◌<◌, ◌^◌, List, [], ◌∷◌, ◌++◌, Some, IsTrue, length, T, refl, sym, ap, subst, ◌∙◌, append_assoc, length-append, arith}
+use Rattle.std.proofs.Common.{◌≡◌, ℕ, suc, ◌+◌, ◌*◌, ◌≤◌, List, [], ◌∷◌, ◌++◌, length, ap, ◌∙◌, length-append, arith}
 use Rattle.std.specs.List.{flat_map, sum_by}
 use Rattle.std.specs.FinMap.{entries, len, empty, len-entries}
-use Rattle.std.proofs.lemmas.List.Sums.{sum_by-cons, sum_by-append}
+use Rattle.std.proofs.lemmas.List.Sums.{sum_by-cons}
 use Rattle.mon_bytes.specs.Forms.{u32_bytes}
-use Rattle.mon_bytes.specs.Texts.{is_name, is_prefix}
 use Rattle.mon_bytes.proofs.Forms.{length-u32_bytes}
-use Rattle.mon_tx.specs.Map.{Place, place_cmp, Store}
-use Rattle.mon_kv.specs.Readers.{entry_size, size_of, entries_after}
-use Rattle.mon_kv.proofs.ChunkLaws.{entries_after-tail}
+use Rattle.mon_tx.specs.Map.{Store}
+use Rattle.mon_kv.specs.Readers.{entry_size, size_of}
 use Rattle.mon_store.specs.Checkpoint.{Entry, entry_text, value_text, checkpoint_text, most_size}
 use Rattle.mon_store.proofs.Order.{entries-empty}
 

@@ -1,14 +1,16 @@
 -- What opening two disks finds, and what they stand for meanwhile.
-use Rattle.std.specs.Prelude.{◌≡◌, ℕ, ◌≤◌, ◌⊎◌, List, Option, Some, None, Result, Ok, Err}
+use Rattle.std.specs.Prelude.{◌≡◌, ℕ, ◌≤◌, ◌⊎◌, Bool, true, ◌&&◌, ◌==◌, List, [], slice_index_or, Option, Some, None, Result, Ok, Err}
 use Rattle.mon_types.specs.Faults.{Rose}
 use Rattle.mon_types.specs.declared.member.Member.{Member}
 use Rattle.mon_disk.specs.Images.{Content, images}
+use Rattle.mon_disk.specs.Calls.{Told}
 use Rattle.mon_journal.specs.declared.stop.JournalStop.{JournalStop}
 use Rattle.mon_journal.specs.declared.stop.JournalStop.TheVariants as journal
 use Rattle.mon_journal.specs.declared.opening.Opened.{Opened}
 use Rattle.mon_journal.specs.declared.opening.Opened.TheVariants as disk
-use Rattle.mon_journal.specs.Written.{owner_of}
-use Rattle.mon_journal.specs.Content.{Held, held_by}
+use Rattle.mon_journal.specs.Written.{owner_of, created}
+use Rattle.mon_journal.specs.Content.{Held, content, held_by}
+use Rattle.mon_journal.specs.Steps.{made_more}
 use Rattle.mon_types.specs.declared.names.Side.{Side}
 use Rattle.mon_store.specs.declared.opening.Standing.{Standing}
 use Rattle.mon_store.specs.declared.stop.OpenStop.{OpenStop}
@@ -17,7 +19,7 @@ use Rattle.mon_store.specs.declared.stop.OpenStop.TheVariants as stop
 use Rattle.mon_store.specs.declared.choice.Choice.{Choice}
 use Rattle.mon_store.specs.declared.choice.Choice.TheVariants as choice
 use Rattle.mon_store.specs.Stood.{opens_as}
-use Rattle.mon_store.specs.Pair.{Refusal, NotAStore, Stranger, Found, Create, Live, stands}
+use Rattle.mon_store.specs.Pair.{Refusal, NotAStore, Stranger, Found, Create, Live, found, stands}
 
 -- what a disk was found to hold, and how long it is where that is nothing
 abbrev pub held_in : Opened → Option Held
@@ -59,10 +61,31 @@ pub record HasFaults {T : Type 0} (a_before a_now b_before b_now : ℕ) (result 
 abbrev pub Answers : Member → List ℕ → List ℕ → Result Standing OpenStop → Type 0
 Answers member a b result = Gives (λ s. s) result (opens_as member a b)
 
+-- what disk A holds where it held that and the two stood so: the first file of a new store, once that is opened
+abbrev pub first_content : Member → Bool → List ℕ → Result Found Refusal → Option (Result Held JournalStop)
+first_content member true file (Ok Create) = Some (Ok (held_by (created member 1 None) []))
+first_content member opening file place = content file
+
 -- Two images that stand for what two stood for that a crash might have left before, and that a member opens as it would have
--- opened those.
-abbrev pub AlikePair : Member → Content → Content → List ℕ → List ℕ → Type 0
-AlikePair member a b c d = (e : List ℕ) × (f : List ℕ) × images a e × images b f × (stands c d ≡ stands e f) × (opens_as member c d ≡ opens_as member e f)
+-- opened those. Each holds what that one held, but for the first file of a new store.
+pub record AlikePair (member : Member) (a b : Content) (opening : Bool) (c d : List ℕ) : Type 0 where
+  pub on_a : List ℕ
+  pub on_b : List ℕ
+  pub left_a : images a on_a
+  pub left_b : images b on_b
+  pub stand : stands c d ≡ stands on_a on_b
+  pub opens : opens_as member c d ≡ opens_as member on_a on_b
+  pub first : content c ≡ first_content member opening on_a (found on_a on_b)
+  pub second : content d ≡ content on_b
+
+abbrev pub Alike : Member → Content → Content → List ℕ → List ℕ → Type 0
+Alike member a b c d = (opening : Bool) × AlikePair member a b opening c d
+
+-- What they settle to: the first file is there where its gate is open and more than five calls were made on disk A, the sync
+-- with which opening begins, and more than four of its own.
+abbrev pub Settled : Member → Content → Content → Told → Told → Told → Type 0
+Settled member a b before now_a now_b =
+    AlikePair member a b (slice_index_or (now_a.settles now_a.made) 0 0 == 1 && made_more 5 before now_a) (now_a.settles now_a.made) (now_b.settles now_b.made)
 
 -- a disk's fault, or want of memory
 abbrev pub IsOutside : OpenStop → Type 0

@@ -1,5 +1,5 @@
 -- What a store's answers go back to.
-use Rattle.std.specs.Prelude.{◌≡◌, ℕ, ◌≤◌, ◌<◌, ◌-◌, ◌^◌, min, length, Bool, true, false, List, Result, Ok, Err}
+use Rattle.std.specs.Prelude.{◌≡◌, ◌≤◌, ◌<◌, ◌-◌, ◌^◌, min, length, Bool, true, false, List, Result, Ok, Err}
 use Rattle.mon_tx.specs.declared.op.Op.{Op}
 use Rattle.mon_tx.specs.Map.{Store, apply}
 use Rattle.mon_tx.specs.Text.{text, most}

@@ -12,12 +12,11 @@ use Rattle.mon_journal.specs.declared.stop.JournalStop.{JournalStop}
 use Rattle.mon_journal.specs.declared.journal.Form.{Form}
 use Rattle.mon_journal.specs.declared.journal.Form.TheVariants.{First, Second}
 use Rattle.mon_journal.specs.declared.journal.Journal.{Journal}
-use Rattle.mon_journal.specs.Content.{Held, content, payloads_of, Holds, WithOrWithout}
+use Rattle.mon_journal.specs.Content.{Held, content, payloads_of, Holds, appended, WithOrWithout}
 use Rattle.mon_journal.specs.Written.{created}
-use Rattle.mon_journal.specs.Steps.{Stands, ClosedFrom}
+use Rattle.mon_journal.specs.Steps.{ByTest, Stands, ClosedFrom}
 use Rattle.mon_store.specs.Checkpoint.{checkpoint_text, most_size, HasCheckpoint}
 use Rattle.mon_store.specs.Payloads.{map_of}
-use Rattle.mon_store.specs.Pair.{Refusal, stands}
 
 -- of the live one and the other, that of disk A, and that of disk B
 abbrev pub of_a : {X : Type 0} → Side → X → X → X
@@ -32,6 +31,10 @@ of_b B live other = live
 abbrev pub of_live : {X : Type 0} → Side → X → X → X
 of_live A a b = a
 of_live B a b = b
+
+abbrev pub other_side : Side → Side
+other_side A = B
+other_side B = A
 
 -- a closed file, or a store's file of a lower generation
 abbrev pub IsBelow : ℕ → Option (Result Held JournalStop) → Type 0
@@ -54,13 +57,19 @@ abbrev pub WithChange : Journal → List (List ℕ) → Store → List Op → Li
 WithChange journal payloads m ops file =
     WithOrWithout journal payloads (text ops) file × (slice_index_or file journal.next_gate 0 ≡ 1 → HasText ops × (size_of (apply ops m) ≤ most_size))
 
-abbrev pub StandFor : Store → List ℕ → List ℕ → Type 0
-StandFor m a b = stands a b ≡ Ok m
+-- A store stands on two images: the file of a journal is the live one and its payloads make the map, and the other file
+-- doesn't count.
+pub record StandsOn (side : Side) (journal : Journal) (m : Store) (a b : List ℕ) : Type 0 where
+  pub holds : Holds journal (payloads_of (of_live side a b)) (of_live side a b)
+  pub map : map_of (payloads_of (of_live side a b)) ≡ Ok m
+  pub below : IsBelow journal.generation (content (of_live (other_side side) a b))
 
--- Two images stand for a map, or for the one after a change: for that one exactly where the gate of its record is open in
--- the image of the live disk.
-abbrev pub BeforeOrAfter : Side → ℕ → Store → Store → List ℕ → List ℕ → Type 0
-BeforeOrAfter side gate before after a b = StandFor (if slice_index_or (of_live side a b) gate 0 == 1 then after else before) a b
+-- Two images on which a store stands before a change or after it: after it exactly where the gate of its record is open in the
+-- image of the live disk.
+abbrev pub BeforeOrAfter : Side → Journal → Store → List Op → List ℕ → List ℕ → Type 0
+BeforeOrAfter side journal m ops a b =
+    let is_open = slice_index_or (of_live side a b) journal.next_gate 0 == 1 in
+    StandsOn side (if is_open then appended journal (text ops) else journal) (if is_open then apply ops m else m) a b
 
 abbrev pub is_first : Form → Bool
 is_first First = true
@@ -76,10 +85,22 @@ is_due journal m =
 abbrev pub Begins : Content → Journal → Store → List ℕ → Type 0
 Begins x journal m file = images x file ⊎ ClosedFrom x (journal.next_gate + 1) file ⊎ (Holds journal (checkpoint_text m ∷ []) file × HasCheckpoint m)
 
+-- and what the disk settles to
+abbrev pub BegunAs : Content → Journal → Store → Bool → List ℕ → Type 0
+BegunAs x journal m opening file =
+    ByTest (slice_index_or file 0 0 == 1 && opening) (Holds journal (checkpoint_text m ∷ []) file × HasCheckpoint m) (images x file ⊎ ClosedFrom x (journal.next_gate + 1) file)
+
 -- the journal that a checkpoint begins
 abbrev pub next_journal : Journal → Store → Journal
 next_journal journal m = created journal.member (journal.generation + 1) (Some (checkpoint_text m))
 
-abbrev pub other_side : Side → Side
-other_side A = B
-other_side B = A
+-- A store stands on two images, or its next one does, which a checkpoint begins on the other disk.
+abbrev pub ThisOrNext : Side → Journal → Store → List ℕ → List ℕ → Type 0
+ThisOrNext side journal m a b = StandsOn side journal m a b ⊎ StandsOn (other_side side) (next_journal journal m) m a b
+
+-- The next one does where its gate is open and it was begun to be opened. Else the other disk holds what a crash might have left
+-- before, or is closed.
+abbrev pub Restarted : Side → Journal → Store → Content → Bool → List ℕ → List ℕ → Type 0
+Restarted side journal m x opening a b =
+    let file = of_live (other_side side) a b in
+    ByTest (slice_index_or file 0 0 == 1 && opening) (StandsOn (other_side side) (next_journal journal m) m a b) (StandsOn side journal m a b × (images x file ⊎ (content file ≡ None)))

@@ -81,7 +81,7 @@ pub(crate) fn breaks<T>(answer: &Result<T, StoreStop>) -> bool
 impl<D: Disk> Store<D> {
     ghost use Rattle.std.specs.Prelude.{IsTrue};
     ghost use Rattle.mon_store.specs.Moments.{Meanwhile, EachPair};
-    ghost use Rattle.mon_store.specs.Sound.{StandFor, BeforeOrAfter};
+    ghost use Rattle.mon_store.specs.Sound.{StandsOn, BeforeOrAfter};
     ghost use Rattle.mon_store.specs.Whole.{IsSound, disk_a, disk_b, Stays};
 
     /// Makes a transaction's changes: in the map, and with a record on the live disk. An empty one makes no call on a disk.
@@ -95,14 +95,14 @@ impl<D: Disk> Store<D> {
         ensures broken { self.new.broken ≡ (self.old.broken || breaks result) }
         ensures same { Stays tx.now self.old self.new result }
 
-        // A crash at any moment leaves the old map, or the new one exactly where the gate of its record is open.
-        ensures any_moment { self.old.broken ≡ false → IsTrue (is_some (D.content self.old.live).seen) → Meanwhile (D.content (disk_a self.old)) (D.content (disk_b self.old)) (D.content (disk_a self.new)) (D.content (disk_b self.new)) (BeforeOrAfter self.old.side self.old.journal.next_gate self.old.kv (apply tx.now self.old.kv)) }
+        // A crash at any moment leaves the store as it stood, or with the change exactly where the gate of its record is open.
+        ensures any_moment { self.old.broken ≡ false → IsTrue (is_some (D.content self.old.live).seen) → Meanwhile (D.content (disk_a self.old)) (D.content (disk_b self.old)) (D.content (disk_a self.new)) (D.content (disk_b self.new)) (BeforeOrAfter self.old.side self.old.journal self.old.kv tx.now) }
 
         // What the disks settle to, too, where they tell it.
-        ensures settles { self.old.broken ≡ false → IsTrue (is_some (D.content self.old.live).seen) → IfSome (D.told (disk_a self.new)) (λ s. IfSome (D.told (disk_b self.new)) (λ t. BeforeOrAfter self.old.side self.old.journal.next_gate self.old.kv (apply tx.now self.old.kv) (s.settles s.made) (t.settles t.made))) }
+        ensures settles { self.old.broken ≡ false → IsTrue (is_some (D.content self.old.live).seen) → IfSome (D.told (disk_a self.new)) (λ s. IfSome (D.told (disk_b self.new)) (λ t. BeforeOrAfter self.old.side self.old.journal self.old.kv tx.now (s.settles s.made) (t.settles t.made))) }
 
-        // After Ok it leaves the new map alone.
-        ensures safe { OnOk result (EachPair (D.content (disk_a self.new)) (D.content (disk_b self.new)) (StandFor self.new.kv)) }
+        // After Ok it leaves the store as it stands alone.
+        ensures safe { OnOk result (EachPair (D.content (disk_a self.new)) (D.content (disk_b self.new)) (StandsOn self.new.side self.new.journal self.new.kv)) }
 
         ensures journal { OnOk result (self.new.journal ≡ journal_after self.old.journal tx.now) }
         ensures journal_err { OnErr result (self.new.journal ≡ self.old.journal) }

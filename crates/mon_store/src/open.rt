@@ -37,8 +37,8 @@ impl<D: Disk> Store<D> {
     ghost use Rattle.std.specs.Prelude.{is_some, IfOk, IfSome, IsTrue};
     ghost use Rattle.mon_journal.specs.Written.{owner_of};
     ghost use Rattle.mon_store.specs.Moments.{WhileOpening, EachPair};
-    ghost use Rattle.mon_store.specs.Sound.{StandFor};
-    ghost use Rattle.mon_store.specs.Opening.{Answers, AlikePair, HasFaults};
+    ghost use Rattle.mon_store.specs.Sound.{StandsOn};
+    ghost use Rattle.mon_store.specs.Opening.{Answers, Alike, Settled, HasFaults};
     ghost use Rattle.mon_store.specs.OpeningCalls.{opening_calls, OpensWith};
     ghost use Rattle.mon_store.specs.Whole.{IsSound, a_after, b_after, answered};
 
@@ -58,11 +58,15 @@ impl<D: Disk> Store<D> {
         ensures answer { IfSome (D.content disks.a).seen (λ x. IfSome (D.content disks.b).seen (λ y. Answers member x y (answered result))) }
 
         // A crash at any moment leaves two files that stand for what two stood for that a crash might have left before, and that
-        // the member opens as it would have opened those.
-        ensures any_moment { IsTrue (is_some (D.content disks.a).seen) → IsTrue (is_some (D.content disks.b).seen) → WhileOpening (D.content disks.a) (D.content disks.b) (D.content (a_after result)) (D.content (b_after result)) (AlikePair member (D.content disks.a) (D.content disks.b)) }
+        // the member opens as it would have opened those. Each holds what it held then, but for the first file of a new store.
+        ensures any_moment { IsTrue (is_some (D.content disks.a).seen) → IsTrue (is_some (D.content disks.b).seen) → WhileOpening (D.content disks.a) (D.content disks.b) (D.content (a_after result)) (D.content (b_after result)) (Alike member (D.content disks.a) (D.content disks.b)) }
 
-        // After Ok it leaves the map alone.
-        ensures safe { IfOk result (λ store. EachPair (D.content (disk_a store)) (D.content (disk_b store)) (StandFor store.kv)) }
+        // What the disks settle to, too, where they tell it: the first file is there where its gate is open and its last write
+        // was begun.
+        ensures settles { IsTrue (is_some (D.content disks.a).seen) → IsTrue (is_some (D.content disks.b).seen) → IfSome (D.told disks.a) (λ s. IfSome (D.told (a_after result)) (λ t. IfSome (D.told (b_after result)) (λ u. Settled member (D.content disks.a) (D.content disks.b) s t u))) }
+
+        // After Ok a crash leaves the store as it stands alone.
+        ensures safe { IfOk result (λ store. EachPair (D.content (disk_a store)) (D.content (disk_b store)) (StandsOn store.side store.journal store.kv)) }
 
         ensures a_tells { is_some (D.content (a_after result)).seen ≡ is_some (D.content disks.a).seen }
         ensures b_tells { is_some (D.content (b_after result)).seen ≡ is_some (D.content disks.b).seen }

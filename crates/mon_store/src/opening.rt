@@ -1,12 +1,12 @@
 //! Opening the two disks of a store.
 
-ghost use Rattle.std.specs.Prelude.{◌≡◌, ◌≤◌, [], Option, is_some, Ok, Err, None, IfOk, IfErr, OnOk, IfSome, IsTrue};
+ghost use Rattle.std.specs.Prelude.{◌≡◌, ◌≤◌, false, [], Option, is_some, Ok, Err, None, IfOk, IfErr, OnOk, IfSome, IsTrue};
 ghost use Rattle.mon_types.specs.Faults.{Rose};
 ghost use Rattle.mon_disk.specs.Images.{LeavesOnly};
 ghost use Rattle.mon_disk.specs.Calls.{Told};
 ghost use Rattle.mon_kv.specs.Readers.{size_of};
-ghost use Rattle.mon_journal.specs.Content.{held_by};
-ghost use Rattle.mon_journal.specs.Steps.{AlikeFrom, CreatedFrom, Opens, Keeps, create_calls};
+ghost use Rattle.mon_journal.specs.Content.{content, held_by};
+ghost use Rattle.mon_journal.specs.Steps.{AlikeFrom, CreatedFrom, made_more, Made, Makes, Opens, Keeps, open_calls, create_calls};
 ghost use Rattle.mon_journal.specs.Written.{owner_of, created};
 ghost use Rattle.std.specs.FinMap.{empty};
 ghost use Rattle.mon_store.specs.Checkpoint.{most_size};
@@ -14,7 +14,7 @@ ghost use Rattle.mon_store.specs.Payloads.{map_of};
 ghost use Rattle.mon_store.specs.Pair.{Live, taken, found};
 ghost use Rattle.mon_store.specs.Moments.{Meanwhile, WhileOpening};
 ghost use Rattle.mon_store.specs.Sound.{of_live, Sound, other_side};
-ghost use Rattle.mon_store.specs.Opening.{named, Tells, Gives, Answers, IsOutside, IsNoFault, AlikePair, HasFaults};
+ghost use Rattle.mon_store.specs.Opening.{named, Tells, Gives, Answers, IsOutside, IsNoFault, AlikePair, Alike, Settled, HasFaults};
 ghost use Rattle.mon_store.specs.OpeningCalls.{calls_on, both_calls, opening_calls, MakesBoth, OpensWith};
 
 use crate::choice::{Choice, choose};
@@ -90,9 +90,11 @@ fn open_both<D: Disk>(alloc: Global, a: &mut D, b: &mut D) -> Result<Both, OpenS
     ensures refused { IfErr result (λ e. IfSome (D.content a.old).seen (λ x. IfSome (D.content b.old).seen (λ y. Tells e (found x y)))) }
     ensures a_moment { OnOk result (LeavesOnly (D.content a.old) (D.content a.new) (AlikeFrom (D.content a.old))) }
     ensures b_moment { OnOk result (LeavesOnly (D.content b.old) (D.content b.new) (AlikeFrom (D.content b.old))) }
-    ensures any_moment { (member : Member) → Meanwhile (D.content a.old) (D.content b.old) (D.content a.new) (D.content b.new) (AlikePair member (D.content a.old) (D.content b.old)) }
+    ensures any_moment { (member : Member) → Meanwhile (D.content a.old) (D.content b.old) (D.content a.new) (D.content b.new) (AlikePair member (D.content a.old) (D.content b.old) false) }
     ensures a_tells { is_some (D.content a.new).seen ≡ is_some (D.content a.old).seen }
     ensures b_tells { is_some (D.content b.new).seen ≡ is_some (D.content b.old).seen }
+    ensures few { IfSome (D.content a.old).seen (λ _. IfSome (D.told a.old) (λ s. IfSome (D.told a.new) (λ t. made_more 5 s t ≡ false))) }
+    ensures made { IfOk result (λ both. IfSome (D.content a.old).seen (λ x. Makes (open_calls (content x)) (D.told a.old) (D.told a.new) (Ok both.a))) }
     ensures calls { OpensWith both_calls (D.content a.old).seen (D.content b.old).seen (D.told a.old) (D.told b.old) (D.told a.new) (D.told b.new) result }
     ensures cause { HasFaults (D.faults a.old) (D.faults a.new) (D.faults b.old) (D.faults b.new) result }
 {
@@ -114,6 +116,7 @@ fn create_on<D: Disk>(alloc: Global, a: &mut D, member: &Member) -> Result<Stand
     ensures kept { IfOk result (λ s. Keeps s.journal [] (D.known a.new) (D.content a.new)) }
     ensures outside { IfErr result IsOutside }
     ensures any_moment { LeavesOnly (D.content a.old) (D.content a.new) (CreatedFrom (D.content a.old) (created member.now 1 None) []) }
+    ensures settles { IfSome (D.told a.old) (λ s. IfSome (D.told a.new) (λ t. Made (D.content a.old) (created member.now 1 None) [] (made_more 4 s t) (t.settles t.made))) }
     ensures tells { is_some (D.content a.new).seen ≡ is_some (D.content a.old).seen }
     ensures calls { (b : Option Told) → IsTrue (is_some (D.told a.old)) → MakesBoth (calls_on Side.A (create_calls (owner_of member.now) 1 None)) (D.told a.old) b (D.told a.new) b result }
     ensures cause { (D.faults a.old ≤ D.faults a.new) × (result ≡ Err OpenStop.DiskFault → Rose (D.faults a.old) (D.faults a.new)) }
@@ -139,7 +142,8 @@ pub(crate) fn open_disks<D: Disk>(
     ensures sound { IfOk result (λ s. Sound s.journal s.kv (D.known (of_live s.side a.new b.new)) (D.content (of_live s.side a.new b.new)) (D.content (of_live (other_side s.side) a.new b.new))) }
     ensures owner { IfOk result (λ s. owner_of s.journal.member ≡ owner_of member.now) }
     ensures answer { IfSome (D.content a.old).seen (λ x. IfSome (D.content b.old).seen (λ y. Answers member.now x y result)) }
-    ensures any_moment { IsTrue (is_some (D.content a.old).seen) → IsTrue (is_some (D.content b.old).seen) → WhileOpening (D.content a.old) (D.content b.old) (D.content a.new) (D.content b.new) (AlikePair member.now (D.content a.old) (D.content b.old)) }
+    ensures any_moment { IsTrue (is_some (D.content a.old).seen) → IsTrue (is_some (D.content b.old).seen) → WhileOpening (D.content a.old) (D.content b.old) (D.content a.new) (D.content b.new) (Alike member.now (D.content a.old) (D.content b.old)) }
+    ensures settles { IsTrue (is_some (D.content a.old).seen) → IsTrue (is_some (D.content b.old).seen) → IfSome (D.told a.old) (λ s. IfSome (D.told a.new) (λ t. IfSome (D.told b.new) (λ u. Settled member.now (D.content a.old) (D.content b.old) s t u))) }
     ensures a_tells { is_some (D.content a.new).seen ≡ is_some (D.content a.old).seen }
     ensures b_tells { is_some (D.content b.new).seen ≡ is_some (D.content b.old).seen }
     ensures calls { OpensWith (opening_calls (owner_of member.now)) (D.content a.old).seen (D.content b.old).seen (D.told a.old) (D.told b.old) (D.told a.new) (D.told b.new) result }

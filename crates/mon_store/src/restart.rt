@@ -1,10 +1,10 @@
-ghost use Rattle.std.specs.Prelude.{◌≡◌, ◌≤◌, ◌<◌, ◌+◌, ◌^◌, ◌||◌, true, false, [], ◌∷◌, ◌++◌, Ok, Err, Some, length, is_some, IfOk, IfErr, OnOk};
+ghost use Rattle.std.specs.Prelude.{◌≡◌, ◌≤◌, ◌<◌, ◌+◌, ◌^◌, ◌||◌, true, false, [], ◌∷◌, ◌++◌, Ok, Err, Some, length, is_some, IfOk, IfErr, IfSome, OnOk};
 ghost use Rattle.mon_kv.specs.Readers.{size_of};
 ghost use Rattle.mon_disk.specs.Images.{LeavesOnly};
 ghost use Rattle.mon_journal.specs.Written.{owner_of};
-ghost use Rattle.mon_journal.specs.Steps.{Keeps, create_calls};
+ghost use Rattle.mon_journal.specs.Steps.{Keeps, create_calls, made_more};
 ghost use Rattle.mon_store.specs.Checkpoint.{checkpoint_text, most_size, HasCheckpoint};
-ghost use Rattle.mon_store.specs.Sound.{is_first, is_due, other_side, next_journal, Begins};
+ghost use Rattle.mon_store.specs.Sound.{is_first, is_due, other_side, next_journal, Begins, BegunAs};
 ghost use Rattle.mon_store.specs.Calls.{MakesCalls, HasFault};
 ghost use Rattle.mon_store.specs.Refusals.{IsOutside, Restarts, breaks};
 
@@ -80,6 +80,9 @@ pub(crate) fn begin<D: Disk>(
     // A crash at any moment leaves what it might have left before, a closed file, or the new journal.
     ensures any_moment { LeavesOnly (D.content disk.old) (D.content disk.new) (Begins (D.content disk.old) (next_journal journal.now kv.now) kv.now) }
 
+    // The disk settles to the new one where its gate is open then and more than four of the calls were made.
+    ensures settles { IfSome (D.told disk.old) (λ s. IfSome (D.told disk.new) (λ t. BegunAs (D.content disk.old) (next_journal journal.now kv.now) kv.now (made_more 4 s t) (t.settles t.made))) }
+
     ensures calls { MakesCalls (create_calls (owner_of journal.now.member) (journal.now.generation + 1) (Some (checkpoint_text kv.now))) (D.told disk.old) (D.told disk.new) result }
     ensures cause { HasFault (D.faults disk.old) (D.faults disk.new) result }
 {
@@ -90,7 +93,7 @@ pub(crate) fn begin<D: Disk>(
 
 impl<D: Disk> Store<D> {
     ghost use Rattle.mon_store.specs.Moments.{Meanwhile, EachPair};
-    ghost use Rattle.mon_store.specs.Sound.{StandFor};
+    ghost use Rattle.mon_store.specs.Sound.{of_a, of_b, StandsOn, ThisOrNext, Restarted};
     ghost use Rattle.mon_store.specs.Calls.{restart_calls};
     ghost use Rattle.mon_store.specs.Whole.{IsSound, disk_a, disk_b, disk_of};
 
@@ -106,9 +109,13 @@ impl<D: Disk> Store<D> {
         ensures map { self.new.kv ≡ self.old.kv }
         ensures refused { result ≡ Err StoreStop.Broken → self.new ≡ self.old }
 
-        // A crash at any moment leaves the one map.
-        ensures any_moment { self.old.broken ≡ false → Meanwhile (D.content (disk_a self.old)) (D.content (disk_b self.old)) (D.content (disk_a self.new)) (D.content (disk_b self.new)) (StandFor self.old.kv) }
-        ensures safe { OnOk result (EachPair (D.content (disk_a self.new)) (D.content (disk_b self.new)) (StandFor self.new.kv)) }
+        // A crash at any moment leaves the store as it stood, or on the other disk with the next journal.
+        ensures any_moment { self.old.broken ≡ false → Meanwhile (D.content (disk_a self.old)) (D.content (disk_b self.old)) (D.content (disk_a self.new)) (D.content (disk_b self.new)) (ThisOrNext self.old.side self.old.journal self.old.kv) }
+
+        // The disks settle to the next one where its gate is open then and more than four of the calls were made.
+        ensures settles { self.old.broken ≡ false → IfSome (D.told (disk_of self.old.side self.new)) (λ l. IfSome (D.told self.old.other) (λ s. IfSome (D.told (disk_of (other_side self.old.side) self.new)) (λ t. Restarted self.old.side self.old.journal self.old.kv (D.content self.old.other) (made_more 4 s t) (of_a self.old.side (l.settles l.made) (t.settles t.made)) (of_b self.old.side (l.settles l.made) (t.settles t.made))))) }
+
+        ensures safe { OnOk result (EachPair (D.content (disk_a self.new)) (D.content (disk_b self.new)) (StandsOn self.new.side self.new.journal self.new.kv)) }
 
         // Where one was due the other disk is live.
         ensures live { result ≡ Ok true → self.new.side ≡ other_side self.old.side }

@@ -365,17 +365,21 @@ fn on_files(rt: &HostRuntime, a: &str, b: &str) -> Result<NodeDisks<FileDisk<Hos
     })
 }
 
+/// Makes the store on two files, with one transaction, and closes it.
+fn made_on_files(rt: &HostRuntime, a: &str, b: &str) -> Result<bool, Fail> {
+    let files = on_files(rt, a, b)?;
+    let mut store = opened(rt.alloc(), files.a, files.b)?;
+    let tx = mon_tx::decode(rt.alloc(), TEXT)?;
+    Ok(store.apply(&tx) == Ok(()))
+}
+
 #[test]
 fn files_are_made_and_opened_again(rt: HostRuntime) -> Result<(), Fail> {
-    let alloc = rt.alloc();
     let (a, b) = ("mon_store_test_a", "mon_store_test_b");
     let _old = (fs::remove_file(&rt, a), fs::remove_file(&rt, b));
+    assert!(rt; made_on_files(&rt, a, b)?);
     let files = on_files(&rt, a, b)?;
-    let mut store = opened(alloc, files.a, files.b)?;
-    let tx = mon_tx::decode(alloc, TEXT)?;
-    assert_eq!(rt; store.apply(&tx), Ok(()));
-    let files = on_files(&rt, a, b)?;
-    let store = opened(alloc, files.a, files.b)?;
+    let store = opened(rt.alloc(), files.a, files.b)?;
     assert_eq!(rt;
         (value(store.kv(), b"a"), value(store.kv(), b"b")),
         (b'x', b'.')

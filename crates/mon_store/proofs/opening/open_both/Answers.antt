@@ -1,9 +1,10 @@
-use Rattle.std.proofs.Common.{sym, subst}
+use Rattle.std.proofs.Common.{Ok, Err, sym, subst}
+use Rattle.mon_journal.specs.declared.opening.Opened.{Opened}
 use Rattle.std.specs.Prelude.{IfSome}
 use Rattle.mon_store.specs.declared.stop.OpenStop.{OpenStop}
 use Rattle.mon_store.specs.Pair.{found}
 use Rattle.mon_store.specs.Opening.{Tells}
-use Rattle.mon_store.proofs.Alike.{opened_a, opened_b, refused_a, refused_b}
+use Rattle.mon_store.proofs.Alike.{opened_a, opened_b, few_calls, refused_a, refused_b}
 use Rattle.mon_store.proofs.opening.open_both.Goals as goal
 
 pub returns-in-Err-clause-refused : goal.returns-in-Err-clause-refused
@@ -30,3 +31,12 @@ returns-in-Err-open-clause-refused g c =
 pub returns-in-Err-open-clause-any_moment : goal.returns-in-Err-open-clause-any_moment
 returns-in-Err-open-clause-any_moment g c =
     opened_b (g.D.Disk.content c.args.a.now) (g.D.Disk.content c.open.new.disk) (g.D.Disk.content c.args.b.now) (g.D.Disk.content c.open-2.new.disk) c.open.ensures.any_moment c.open-2.ensures.any_moment
+
+pub returns-in-Err-clause-few : goal.returns-in-Err-clause-few
+returns-in-Err-clause-few g c = few_calls Opened (g.D.Disk.content c.args.a.now).seen (g.D.Disk.told c.args.a.now) (g.D.Disk.told c.open.new.disk) (Err c.in-Err.stop) c.in-Err.ensures.calls
+
+pub returns-in-Ok-open-clause-few : goal.returns-in-Ok-open-clause-few
+returns-in-Ok-open-clause-few g c = few_calls Opened (g.D.Disk.content c.args.a.now).seen (g.D.Disk.told c.args.a.now) (g.D.Disk.told c.open.new.disk) (Ok c.in-Ok.opened) c.in-Ok.ensures.calls
+
+pub returns-in-Err-open-clause-few : goal.returns-in-Err-open-clause-few
+returns-in-Err-open-clause-few g c = few_calls Opened (g.D.Disk.content c.args.a.now).seen (g.D.Disk.told c.args.a.now) (g.D.Disk.told c.open.new.disk) (Ok c.in-Ok.opened) c.in-Ok.ensures.calls

@@ -1,15 +1,19 @@
-use Rattle.std.proofs.Common.{◌≡◌, ℕ, List, Ok, Err, sym, ap, ◌∙◌, ◌≤◌, arith}
+use Rattle.std.proofs.Common.{◌≡◌, ℕ, false, List, Ok, Err, sym, ap, ◌∙◌, ◌≤◌, arith}
+use Rattle.std.specs.Prelude.{IfSome}
+use Rattle.mon_journal.specs.declared.opening.Opened.{Opened}
+use Rattle.mon_journal.specs.Steps.{made_more}
 use Rattle.std.proofs.lemmas.Result.{err_from_is_err_and}
 use Rattle.mon_journal.specs.Content.{held_by}
 use Rattle.mon_journal.specs.Written.{owner_of}
 use Rattle.mon_store.specs.declared.opening.Both.{Both}
 use Rattle.mon_store.specs.declared.opening.Standing.{Standing}
 use Rattle.mon_store.specs.Pair.{Live, chosen}
-use Rattle.mon_store.specs.Opening.{held_in, len_of, found_of, AlikePair}
-use Rattle.mon_store.proofs.Moments.{ends}
+use Rattle.mon_store.specs.Opening.{held_in, len_of, found_of, AlikePair, Alike}
+use Rattle.mon_store.proofs.Moments.{weaker, ends, now}
+use Rattle.mon_store.proofs.Alike.{is_alike, both_settle, when_some, one_call}
 use Rattle.mon_store.proofs.Answering.{refused, not_chosen, answers_err, answers_new, answers_live}
 use Rattle.mon_store.proofs.Chosen.{chosen_new}
-use Rattle.mon_store.proofs.Creating.{closed_of, opened_c, sound_new}
+use Rattle.mon_store.proofs.Creating.{closed_of, opened_c, settled_c, sound_new}
 use Rattle.mon_store.proofs.OpenCalls.{calls_refused, calls_none, calls_live, calls_new}
 use Rattle.mon_store.proofs.opening.open_disks.Goals as goal
 
@@ -33,17 +37,32 @@ returns-in_err-both-clause-calls g c =
 pub returns-in_err-both-clause-any_moment : goal.returns-in_err-both-clause-any_moment
 returns-in_err-both-clause-any_moment g c = λ told_a told_b.
     let content = g.D.Disk.content in
-    ends (content c.args.a.now) (content c.args.b.now) (content c.open_both.new.a) (content c.open_both.new.b) (AlikePair c.args.member.now (content c.args.a.now) (content c.args.b.now)) (c.open_both.ensures.any_moment c.args.member.now)
+    let a = content c.args.a.now in
+    let b = content c.args.b.now in
+    let member = c.args.member.now in
+    let x = content c.open_both.new.a in
+    let y = content c.open_both.new.b in
+    ends a b x y (Alike member a b) (weaker a b x y (AlikePair member a b false) (Alike member a b) (c.open_both.ensures.any_moment member) (is_alike member a b))
 
 pub returns-in_err-choose-clause-any_moment : goal.returns-in_err-choose-clause-any_moment
 returns-in_err-choose-clause-any_moment g c = λ told_a told_b.
     let content = g.D.Disk.content in
-    ends (content c.args.a.now) (content c.args.b.now) (content c.open_both.new.a) (content c.open_both.new.b) (AlikePair c.args.member.now (content c.args.a.now) (content c.args.b.now)) (c.open_both.ensures.any_moment c.args.member.now)
+    let a = content c.args.a.now in
+    let b = content c.args.b.now in
+    let member = c.args.member.now in
+    let x = content c.open_both.new.a in
+    let y = content c.open_both.new.b in
+    ends a b x y (Alike member a b) (weaker a b x y (AlikePair member a b false) (Alike member a b) (c.open_both.ensures.any_moment member) (is_alike member a b))
 
 pub returns-in-Live-clause-any_moment : goal.returns-in-Live-clause-any_moment
 returns-in-Live-clause-any_moment g c = λ told_a told_b.
     let content = g.D.Disk.content in
-    ends (content c.args.a.now) (content c.args.b.now) (content c.open_both.new.a) (content c.open_both.new.b) (AlikePair c.args.member.now (content c.args.a.now) (content c.args.b.now)) (c.open_both.ensures.any_moment c.args.member.now)
+    let a = content c.args.a.now in
+    let b = content c.args.b.now in
+    let member = c.args.member.now in
+    let x = content c.open_both.new.a in
+    let y = content c.open_both.new.b in
+    ends a b x y (Alike member a b) (weaker a b x y (AlikePair member a b false) (Alike member a b) (c.open_both.ensures.any_moment member) (is_alike member a b))
 
 pub returns-in_err-choose-clause-answer : goal.returns-in_err-choose-clause-answer
 returns-in_err-choose-clause-answer g c =
@@ -133,3 +152,55 @@ returns-in-Live-clause-calls g c =
     calls_live c.in_ok-both.both.a c.in_ok-both.both.b s t (g.D.Disk.known a) (g.D.Disk.known b) (g.D.Disk.content a) (g.D.Disk.content b) c.in_ok-both.ensures.a c.in_ok-both.ensures.b (owner_of c.args.member.now)
     (g.D.Disk.told c.args.a.now) (g.D.Disk.told c.args.b.now) (g.D.Disk.told a) (g.D.Disk.told b) Both Standing c.in_ok-both.both c.in_ok-both.ensures.calls
     c.in-Live.side (held_by c.in-Live.journal c.in-Live.payloads.items) c.restore.result (c.in_ok-choose.ensures.found ∙ ap (λ x. Ok (found_of x)) c.in-Live.is) c.restore.ensures.no_fault
+
+pub returns-in_err-both-clause-settles : goal.returns-in_err-both-clause-settles
+returns-in_err-both-clause-settles g c = λ told_a told_b.
+    let content = g.D.Disk.content in
+    let told = g.D.Disk.told in
+    let a = content c.args.a.now in
+    let b = content c.args.b.now in
+    let member = c.args.member.now in
+    let both = c.open_both.new in
+    both_settle member a b (content both.a) (content both.b) (told c.args.a.now) (told both.a) (told both.b) (now a b (content both.a) (content both.b) (AlikePair member a b false) (c.open_both.ensures.any_moment member))
+    (when_some a.seen (IfSome (told c.args.a.now) (λ s. IfSome (told both.a) (λ t. made_more 5 s t ≡ false))) told_a c.open_both.ensures.few) (g.met.D.Disk.settled both.a) (g.met.D.Disk.settled both.b)
+
+pub returns-in_err-choose-clause-settles : goal.returns-in_err-choose-clause-settles
+returns-in_err-choose-clause-settles g c = λ told_a told_b.
+    let content = g.D.Disk.content in
+    let told = g.D.Disk.told in
+    let a = content c.args.a.now in
+    let b = content c.args.b.now in
+    let member = c.args.member.now in
+    let both = c.open_both.new in
+    both_settle member a b (content both.a) (content both.b) (told c.args.a.now) (told both.a) (told both.b) (now a b (content both.a) (content both.b) (AlikePair member a b false) (c.open_both.ensures.any_moment member))
+    (when_some a.seen (IfSome (told c.args.a.now) (λ s. IfSome (told both.a) (λ t. made_more 5 s t ≡ false))) told_a c.open_both.ensures.few) (g.met.D.Disk.settled both.a) (g.met.D.Disk.settled both.b)
+
+pub returns-in-Live-clause-settles : goal.returns-in-Live-clause-settles
+returns-in-Live-clause-settles g c = λ told_a told_b.
+    let content = g.D.Disk.content in
+    let told = g.D.Disk.told in
+    let a = content c.args.a.now in
+    let b = content c.args.b.now in
+    let member = c.args.member.now in
+    let both = c.open_both.new in
+    both_settle member a b (content both.a) (content both.b) (told c.args.a.now) (told both.a) (told both.b) (now a b (content both.a) (content both.b) (AlikePair member a b false) (c.open_both.ensures.any_moment member))
+    (when_some a.seen (IfSome (told c.args.a.now) (λ s. IfSome (told both.a) (λ t. made_more 5 s t ≡ false))) told_a c.open_both.ensures.few) (g.met.D.Disk.settled both.a) (g.met.D.Disk.settled both.b)
+
+pub returns-in-New-clause-settles : goal.returns-in-New-clause-settles
+returns-in-New-clause-settles g c = λ told_a told_b.
+    let content = g.D.Disk.content in
+    let known = g.D.Disk.known in
+    let told = g.D.Disk.told in
+    let a = c.open_both.new.a in
+    let b = c.open_both.new.b in
+    let x = content c.args.a.now in
+    let y = content c.args.b.now in
+    let on_a = c.in_ok-both.both.a in
+    let on_b = c.in_ok-both.both.b in
+    let n = chosen_new on_a on_b (c.in_ok-choose.ensures.found ∙ ap (λ x. Ok (found_of x)) c.in-New.is) in
+    let nothing : len_of on_b ≤ 0 = omega (arith, n.nothing) in
+    let closed_a = closed_of on_a x (content a) (known a) 26 n.none_a n.short c.in_ok-both.ensures.a in
+    settled_c c.args.member.now x (content a) (content c.create_on.new.a) y (content b) c.in_ok-both.ensures.a_moment c.in_ok-both.ensures.b_moment
+    closed_a (closed_of on_b y (content b) (known b) 0 n.none_b nothing c.in_ok-both.ensures.b)
+    (told c.args.a.now) (told a) (told c.create_on.new.a) (told b) told_a (g.met.D.Disk.as_read a)
+    (one_call Opened 26 x.seen (told c.args.a.now) (told a) on_a told_a closed_a.none c.in_ok-both.ensures.made) c.create_on.ensures.settles (g.met.D.Disk.settled b)

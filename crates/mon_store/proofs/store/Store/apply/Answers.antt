@@ -1,19 +1,16 @@
-use Rattle.std.proofs.Common.{◌≡◌, false, length, sym, ap, ◌∙◌}
-use Rattle.std.proofs.lemmas.Bool.{eqb-true}
-use Rattle.mon_tx.specs.Map.{apply}
+use Rattle.std.proofs.Common.{sym, ◌∙◌}
 use Rattle.mon_journal.specs.Steps.{payloads_seen}
-use Rattle.mon_store.specs.Sound.{of_a, of_b, Sound, WithChange, StandFor, BeforeOrAfter}
+use Rattle.mon_store.specs.Sound.{of_a, of_b, WithChange, StandsOn, BeforeOrAfter}
 use Rattle.mon_store.specs.Whole.{disk_a, disk_b}
-use Rattle.mon_store.specs.Refusals.{breaks}
 use Rattle.mon_store.proofs.Moments.{none_goes, now, settles_too}
-use Rattle.mon_store.proofs.Applying.{Kept, stands_now, changes, changes_nothing, no_change, each_pair, live_goes, sound_then, safe_then}
+use Rattle.mon_store.proofs.Applying.{Kept, stands_now, changes, changes_nothing, each_pair, live_goes, sound_then, safe_then}
 use Rattle.mon_store.proofs.store.Store.apply.Goals as goal
 
 pub returns-then-is_empty-clause-safe : goal.returns-then-is_empty-clause-safe
 returns-then-is_empty-clause-safe g c =
     let s = c.args.self.now in
     let content = g.D.Disk.content in
-    each_pair content s.side s.live s.other (StandFor s.kv) (stands_now s.journal s.kv (g.D.Disk.known s.live) (content s.live) (content s.other) (c.requires c.if-self.false) s.side)
+    each_pair content s.side s.live s.other (StandsOn s.side s.journal s.kv) (stands_now s.journal s.kv (g.D.Disk.known s.live) (content s.live) (content s.other) (c.requires c.if-self.false) s.side)
 
 pub returns-clause-sound : goal.returns-clause-sound
 returns-clause-sound g c = λ whole.
@@ -28,7 +25,7 @@ returns-clause-any_moment g c = λ whole told.
     let s = c.args.self.now in
     let content = g.D.Disk.content in
     let tx = c.args.tx.now in
-    live_goes content s.side s.live c.keep-answer.new.disk s.other (WithChange s.journal (payloads_seen (content s.live)) s.kv tx) (BeforeOrAfter s.side s.journal.next_gate s.kv (apply tx s.kv)) c.keep-answer.ensures.any_moment
+    live_goes content s.side s.live c.keep-answer.new.disk s.other (WithChange s.journal (payloads_seen (content s.live)) s.kv tx) (BeforeOrAfter s.side s.journal s.kv tx) c.keep-answer.ensures.any_moment
     (changes s.journal s.kv (g.D.Disk.known s.live) (content s.live) (content s.other) (c.requires whole) s.side tx told)
 
 pub returns-clause-safe : goal.returns-clause-safe
@@ -45,20 +42,18 @@ returns-then-is_empty-clause-any_moment g c = λ whole told.
     let s = c.args.self.now in
     let content = g.D.Disk.content in
     let tx = c.args.tx.now in
-    let none : length c.ops.result.now ≡ 0 = eqb-true _ _ (sym c.is_empty.ensures ∙ c.if-is_empty.true) in
-    none_goes (content (disk_a s)) (content (disk_b s)) (BeforeOrAfter s.side s.journal.next_gate s.kv (apply tx s.kv))
-    (each_pair content s.side s.live s.other (BeforeOrAfter s.side s.journal.next_gate s.kv (apply tx s.kv))
-    (changes_nothing s.journal s.kv (g.D.Disk.known s.live) (content s.live) (content s.other) (c.requires whole) s.side tx (no_change tx s.kv (ap length (sym c.ops.ensures.value) ∙ none))))
+    none_goes (content (disk_a s)) (content (disk_b s)) (BeforeOrAfter s.side s.journal s.kv tx)
+    (each_pair content s.side s.live s.other (BeforeOrAfter s.side s.journal s.kv tx)
+    (changes_nothing s.journal s.kv (g.D.Disk.known s.live) (content s.live) (content s.other) (c.requires whole) s.side tx))
 
 pub returns-then-is_empty-clause-settles : goal.returns-then-is_empty-clause-settles
 returns-then-is_empty-clause-settles g c = λ whole told.
     let s = c.args.self.now in
     let content = g.D.Disk.content in
     let tx = c.args.tx.now in
-    let none : length c.ops.result.now ≡ 0 = eqb-true _ _ (sym c.is_empty.ensures ∙ c.if-is_empty.true) in
-    settles_too (content (disk_a s)) (content (disk_b s)) (g.D.Disk.told (disk_a s)) (g.D.Disk.told (disk_b s)) (BeforeOrAfter s.side s.journal.next_gate s.kv (apply tx s.kv))
-    (each_pair content s.side s.live s.other (BeforeOrAfter s.side s.journal.next_gate s.kv (apply tx s.kv))
-    (changes_nothing s.journal s.kv (g.D.Disk.known s.live) (content s.live) (content s.other) (c.requires whole) s.side tx (no_change tx s.kv (ap length (sym c.ops.ensures.value) ∙ none))))
+    settles_too (content (disk_a s)) (content (disk_b s)) (g.D.Disk.told (disk_a s)) (g.D.Disk.told (disk_b s)) (BeforeOrAfter s.side s.journal s.kv tx)
+    (each_pair content s.side s.live s.other (BeforeOrAfter s.side s.journal s.kv tx)
+    (changes_nothing s.journal s.kv (g.D.Disk.known s.live) (content s.live) (content s.other) (c.requires whole) s.side tx))
     (g.met.D.Disk.settled (disk_a s)) (g.met.D.Disk.settled (disk_b s))
 
 pub returns-clause-settles : goal.returns-clause-settles
@@ -68,7 +63,7 @@ returns-clause-settles g c = λ whole told.
     let tx = c.args.tx.now in
     let new_a = of_a s.side c.keep-answer.new.disk s.other in
     let new_b = of_b s.side c.keep-answer.new.disk s.other in
-    let P = BeforeOrAfter s.side s.journal.next_gate s.kv (apply tx s.kv) in
+    let P = BeforeOrAfter s.side s.journal s.kv tx in
     settles_too (content new_a) (content new_b) (g.D.Disk.told new_a) (g.D.Disk.told new_b) P
     (now (content (disk_a s)) (content (disk_b s)) (content new_a) (content new_b) P (live_goes content s.side s.live c.keep-answer.new.disk s.other (WithChange s.journal (payloads_seen (content s.live)) s.kv tx) P c.keep-answer.ensures.any_moment
     (changes s.journal s.kv (g.D.Disk.known s.live) (content s.live) (content s.other) (c.requires whole) s.side tx told)))
