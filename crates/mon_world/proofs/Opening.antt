@@ -10,7 +10,7 @@ use Rattle.mon_store.specs.declared.stop.OpenStop.{OpenStop}
 use Rattle.mon_store.specs.declared.stop.OpenStop.TheVariants.{DiskFault, NotAStore, Stranger, OutOfMemory}
 use Rattle.mon_store.specs.Moments.{WhileOpening, EachPair}
 use Rattle.mon_store.specs.Stood.{Stood, opens_as}
-use Rattle.mon_store.specs.Opening.{Answers, AlikePair}
+use Rattle.mon_store.specs.Opening.{Answers, Alike}
 use Rattle.mon_world.specs.Disks.{content, opened_in, store_on, map_with, place_with, standing, OpensAs}
 
 none_there : (found : Option Stood) → is_some found ≡ true → found ≡ None → ⊥
@@ -42,15 +42,14 @@ unbroken store some = by store.broken refl some
 -- ---- a refusal
 
 -- each pair is opened as the disks were
-still_opens : (member : Member) (a b new_a new_b : MemoryState) (s : Stood) → EachPair (content a) (content b) (OpensAs member s) → WhileOpening (content a) (content b) (content new_a) (content new_b) (AlikePair member (content a) (content b))
+still_opens : (member : Member) (a b new_a new_b : MemoryState) (s : Stood) → EachPair (content a) (content b) (OpensAs member s) → WhileOpening (content a) (content b) (content new_a) (content new_b) (Alike member (content a) (content b))
     → EachPair (content new_a) (content new_b) (OpensAs member s)
 still_opens member a b new_a new_b s each w = λ c d left there.
-    let h = w.alone (content new_a).moment c d w.to (omega arith) left there in
-    let was : opens_as member h.0 h.1 ≡ Ok s = each h.0 h.1 h.2 h.3 in
-    h.5 ∙ was
+    let h = (w.alone (content new_a).moment c d w.to (omega arith) left there).1 in
+    h.opens ∙ each h.on_a h.on_b h.left_a h.left_b
 
 pub goes_back : (member : Member) (a b new_a new_b : MemoryState) (found : Option Stood) → is_some found ≡ true → IfSome found (λ s. EachPair (content a) (content b) (OpensAs member s))
-    → WhileOpening (content a) (content b) (content new_a) (content new_b) (AlikePair member (content a) (content b))
+    → WhileOpening (content a) (content b) (content new_a) (content new_b) (Alike member (content a) (content b))
     → (store_on member new_a new_b ≡ found) × IfSome (store_on member new_a new_b) (λ s. EachPair (content new_a) (content new_b) (OpensAs member s))
 goes_back member a b new_a new_b None some each w = absurd cc
 goes_back member a b new_a new_b (Some s) some each w =
