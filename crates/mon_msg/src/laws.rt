@@ -28,10 +28,8 @@ pub fn law_readings()
 /// What an event does to a store may be thought of without keys and bytes: the readers tell after its transaction what comes
 /// of playing its changes on what they told before. Every number in the changes has to be one that the store can hold.
 pub fn law_changes()
-    ensures {
-        (cs : List Change) → AllByRecursion Fits cs → (m : Store)
-        → readings_of (apply (joined (spelled cs)) m) ≡ played cs (readings_of m)
-    }
+    ensures { (cs : List Change) → AllByRecursion Fits cs → (m : Store)
+        → readings_of (apply (joined (spelled cs)) m) ≡ played cs (readings_of m) }
 {}
 
 /// The timer that comes next is armed, none is armed for an earlier moment, and no earlier kind for the same; there is none

@@ -15,8 +15,8 @@ pub use clients::{Asked, Clients, Waiting};
 pub use election::{Elector, Prober};
 pub use laws::{law_changes, law_due, law_joined, law_longest, law_readings};
 pub use mon_wire::{
-    Body, Cookie, Items, MOST_BYTES, Message, MsgKind, MsgRefused, Phase, Place,
-    Reply, Request, Service, Session, ShownMap, Timer, Told, TryCopy, decode, law_length,
+    Body, Cookie, Items, MOST_BYTES, Message, MsgKind, MsgRefused, Phase, Place, Reply, Request,
+    Service, Session, ShownMap, Timer, Told, TryCopy, decode, law_length,
 };
 pub use paxos::{Found, Leader, LeaderStage, Peon};
 pub use plan::{Arming, Next, Origin, Plan, RoleStop};
