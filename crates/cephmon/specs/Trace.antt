@@ -2,12 +2,11 @@
 use Rattle.std.specs.Prelude.{ℕ, suc, List, [], ◌∷◌, ◌++◌, length, Option, Some, None, Result, Ok, Err}
 use Rattle.quorum_model.specs.Happens.{Stop}
 use Rattle.quorum_model.specs.Monitors.{Monitors}
-use Rattle.quorum_model.specs.World.{World, first_world}
+use Rattle.quorum_model.specs.Scenes.{Scene, first_scene}
 use Rattle.schedule_text.specs.declared.event.Event as schedule
 use Rattle.trace_text.specs.declared.step.StepLine.{StepLine}
 use Rattle.schedule_text.specs.Spelling.{header, ended_line}
 use Rattle.trace_text.specs.Trace.{step_lines, end_text}
-use Rattle.mon_world.specs.Events.{event_of}
 use Rattle.mon_world.specs.Step.{step}
 
 -- the text of a trace, and what stopped its run, if anything did
@@ -18,19 +17,16 @@ pub record Trace : Type 0 where
 abbrev pub behind : List ℕ → Trace → Trace
 behind lines trace = record { text = lines ++ trace.text; stop = trace.stop }
 
--- an event's lines and the trace from its world on; what stops the run ends the trace before the event
-abbrev pub goes_on : ℕ → schedule.Event → (World → Trace) → Result (World × StepLine) Stop → Trace
+-- an event's lines and the trace from its scene on; what stops the run ends the trace before the event
+abbrev pub goes_on : {A : Type 0} → ℕ → schedule.Event → (A → Trace) → Result (A × StepLine) Stop → Trace
 goes_on number e follow (Ok done) = behind (step_lines number e done.1) (follow done.0)
 goes_on number e follow (Err stop) = record { text = []; stop = Some stop }
 
--- the trace of events, where so many came before, with the last line; an event that doesn't happen has no lines
-unfoldable pub trace_from : Monitors → ℕ → World → List schedule.Event → Trace
-trace_from ms n w [] = record { text = end_text n (length w.log); stop = None }
-trace_from ms n w (said ∷ events) = elim (event_of said) as (λ _. Trace) [
-  | None ↦ trace_from ms n w events
-  | Some e ↦ goes_on (suc n) said (λ next. trace_from ms (suc n) next events) (step ms w e)
-]
+-- the trace of events from a scene on, where so many came before, with the last line
+unfoldable pub trace_from : Monitors → ℕ → Scene → List schedule.Event → Trace
+trace_from ms n c [] = record { text = end_text n (length c.world.log); stop = None }
+trace_from ms n c (e ∷ events) = goes_on (suc n) e (λ next. trace_from ms (suc n) next events) (step ms c e)
 
 -- the trace of a schedule's run
 abbrev pub trace : Monitors → List schedule.Event → Trace
-trace ms events = behind (ended_line (header ms.count ms.rule)) (trace_from ms 0 first_world events)
+trace ms events = behind (ended_line (header ms.count ms.rule)) (trace_from ms 0 first_scene events)

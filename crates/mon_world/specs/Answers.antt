@@ -3,8 +3,7 @@ use Rattle.std.specs.Prelude.{◌≡◌, ◌≤◌, length, List, Option, None}
 use Rattle.mon_tx.specs.declared.op.Op.{Op}
 use Rattle.mon_tx.specs.Map.{Store, apply}
 use Rattle.mon_tx.specs.Text.{text, most}
-use Rattle.mon_kv.specs.Readers.{size_of}
-use Rattle.mon_store.specs.Checkpoint.{most_size}
+use Rattle.mon_kv.specs.Readers.{size_of, most_size}
 use Rattle.mon_store.specs.declared.stop.StoreStop.{StoreStop}
 use Rattle.mon_store.specs.declared.stop.StoreStop.TheVariants as store
 use Rattle.mon_store.specs.Refusals as kept

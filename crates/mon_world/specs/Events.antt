@@ -1,12 +1,26 @@
--- Which events of a schedule happen so far, and what happens by them.
+-- What the events of a schedule are to the model, and which of them happen so far.
 use Rattle.std.specs.Prelude.{Bool, true, false, ◌&&◌, Option, Some, None}
-use Rattle.quorum_model.specs.World.{Event}
+use Rattle.quorum_model.specs.Scenes.{Scheduled}
 use Rattle.quorum_model.specs.World as model
 use Rattle.schedule_text.specs.declared.event.Event as schedule
 use Rattle.schedule_text.specs.declared.event.Event.TheVariants as events
 use Rattle.schedule_text.specs.declared.event.Plain.{Plain}
 use Rattle.schedule_text.specs.declared.event.Plain.TheVariants as plain
 use Rattle.schedule_text.specs.Spelling.{event_fits}
+
+abbrev pub plain_event : Plain → model.Plain
+plain_event (plain.Start rank at) = model.Start rank at
+plain_event (plain.Deliver message at) = model.Deliver message at
+plain_event (plain.Timer rank kind at) = model.Expire rank kind at
+plain_event (plain.Client rank at session request) = model.Client rank at session request
+
+-- a crash and a fault of a disk are one to the model: the disk fails, and the monitor is down
+abbrev pub scheduled_of : schedule.Event → Scheduled
+scheduled_of (events.Plain p) = record { plain = plain_event p; upset = None }
+scheduled_of (events.Crash disk call image p) = record { plain = plain_event p; upset = Some (record { disk = disk; call = call; image = image }) }
+scheduled_of (events.Fail disk call image p) = record { plain = plain_event p; upset = Some (record { disk = disk; call = call; image = image }) }
+
+-- ---- what happens so far
 
 -- crashes and faults of disks don't happen yet
 abbrev pub is_built : schedule.Event → Bool
@@ -17,13 +31,7 @@ is_built other = false
 abbrev pub event_runs : schedule.Event → Bool
 event_runs event = event_fits 1 event && is_built event
 
--- what happens by a schedule's event
-abbrev pub event_of : schedule.Event → Option Event
-event_of (events.Plain event) = Some (plain_event event)
-  where
-    plain_event : Plain → Event
-    plain_event (plain.Start rank at) = model.Start rank at
-    plain_event (plain.Deliver message at) = model.Deliver message at
-    plain_event (plain.Timer rank kind at) = model.Ring rank kind at
-    plain_event (plain.Client rank at session request) = model.Client rank at session request
+-- what comes by a schedule's event
+abbrev pub event_of : schedule.Event → Option model.Plain
+event_of (events.Plain p) = Some (plain_event p)
 event_of other = None

@@ -1,13 +1,13 @@
 -- What the code's world stands for.
 use Rattle.std.specs.Prelude.{◌≡◌, ◌≤◌, Bool, true, false, [], length, Option, Some, None, is_some, Result, Ok, Err, IsTrue}
 use Rattle.mon_types.specs.declared.member.Member.{Member}
-use Rattle.mon_kv.specs.Readers.{size_of}
-use Rattle.mon_store.specs.Checkpoint.{most_size}
+use Rattle.mon_kv.specs.Readers.{size_of, most_size}
 use Rattle.trace_text.specs.declared.step.StepLine.{StepLine}
 use Rattle.mon_msg.specs.Protocol.State.{State}
 use Rattle.mon_msg.specs.Protocol.Readings.{readings_of}
 use Rattle.quorum_model.specs.Alone.{Waits, IsSettled}
 use Rattle.quorum_model.specs.Happens as happens
+use Rattle.quorum_model.specs.Scenes.{Scene}
 use Rattle.quorum_model.specs.World as model
 use Rattle.mon_world.specs.declared.stop.WorldStop.{WorldStop}
 use Rattle.mon_world.specs.declared.stop.WorldStop.TheVariants.{OutOfMemory, Spent, Full}
@@ -35,7 +35,7 @@ pub record StandsFor (world : World) (w : model.World) : Type 0 where
   pub log : world.log ≡ length w.log
   pub small : size_of (w.store 0) ≤ most_size
   pub settled : IsSettled (readings_of (w.store 0))
-  pub silent : w.letters ≡ []
+  pub silent : w.messages ≡ []
 
 -- the run stops as it should, unless memory ran out
 abbrev pub Stops : {Y : Type 0} → WorldStop → Result Y happens.Stop → Type 0
@@ -44,6 +44,11 @@ Stops (Spent which) wanted = wanted ≡ Err (happens.Spent which)
 Stops (Full would_be) wanted = wanted ≡ Err (happens.Full would_be)
 
 -- A call left a world, and answered an event's lines.
-abbrev pub Does : Result StepLine WorldStop → World → Result (model.World × StepLine) happens.Stop → Type 0
-Does (Ok line) new wanted = (next : model.World) × (wanted ≡ Ok (next, line)) × StandsFor new next
+abbrev pub DoesPlain : Result StepLine WorldStop → World → Result (model.World × StepLine) happens.Stop → Type 0
+DoesPlain (Ok line) new wanted = (next : model.World) × (wanted ≡ Ok (next, line)) × StandsFor new next
+DoesPlain (Err e) new wanted = Stops e wanted
+
+-- and so for an event of a schedule, over a scene
+abbrev pub Does : Result StepLine WorldStop → World → Result (Scene × StepLine) happens.Stop → Type 0
+Does (Ok line) new wanted = (next : Scene) × (wanted ≡ Ok (next, line)) × StandsFor new next.world
 Does (Err e) new wanted = Stops e wanted

@@ -1,6 +1,6 @@
 -- What an event's lines tell.
 use Rattle.std.specs.Prelude.{ℕ, suc, ◌&&◌, Bool, List, [], ◌∷◌, max, length, Option, Some, None, Result, Ok, Err, ◌==◌, if◌then◌else◌}
-use Rattle.mon_types.specs.declared.names.Which.{Which}
+use Rattle.mon_kv.specs.Readers.{is_marked}
 use Rattle.mon_tx.specs.Map.{Store}
 use Rattle.mon_msg.specs.Protocol.Phases.{same_phase}
 use Rattle.mon_msg.specs.Protocol.Reaction.{Reaction}
@@ -10,16 +10,20 @@ use Rattle.mon_msg.specs.declared.input.Input.{Input}
 use Rattle.mon_msg.specs.declared.input.Input.TheVariants as input
 use Rattle.mon_msg.specs.declared.plan.Sent.{Sent}
 use Rattle.mon_msg.specs.declared.plan.Sent.TheVariants as sent
-use Rattle.quorum_model.specs.Clients.{letters_in}
-use Rattle.mon_kv.specs.Readers.{is_marked}
+use Rattle.mon_world.specs.Events.{scheduled_of}
+use Rattle.quorum_model.specs.Clients.{messages_of}
 use Rattle.quorum_model.specs.Growth.{last_of}
-use Rattle.quorum_model.specs.Arrivals.{Arrival, arrival, reaction_to}
 use Rattle.quorum_model.specs.Happens.{Stop, map_after, happens}
+use Rattle.quorum_model.specs.Meets.{Meeting, NoMessage, Down, Reacts, meets}
 use Rattle.quorum_model.specs.Monitors.{Monitors}
-use Rattle.quorum_model.specs.World.{World, Event, Letter}
+use Rattle.quorum_model.specs.Scenes.{Scene, kept_at, scene_after}
+use Rattle.quorum_model.specs.Upsets.{Upset}
+use Rattle.quorum_model.specs.World.{World, Plain, Comes, Envelope}
+use Rattle.schedule_text.specs.declared.event.Event as schedule
+use Rattle.schedule_text.specs.declared.event.Event.TheVariants as events
 use Rattle.trace_text.specs.declared.step.Numbered.{Numbered}
 use Rattle.trace_text.specs.declared.step.Outcome.{Outcome}
-use Rattle.trace_text.specs.declared.step.Outcome.TheVariants.{Ran, Down, NoMessage}
+use Rattle.trace_text.specs.declared.step.Outcome.TheVariants as outcome
 use Rattle.trace_text.specs.declared.step.Replied.{Replied}
 use Rattle.trace_text.specs.declared.step.StateLine.{StateLine}
 use Rattle.trace_text.specs.declared.step.StepLine.{StepLine}
@@ -45,9 +49,9 @@ state_before w rank input.Start = None
 state_before w rank other = state_if_up (w.store rank) (w.state rank)
 
 -- messages, numbered from this one on
-abbrev pub numbered : ℕ → List Letter → List Numbered
+abbrev pub numbered : ℕ → List Envelope → List Numbered
 numbered n [] = []
-numbered n (letter ∷ letters) = record { number = n; to = letter.to; message = letter.message } ∷ numbered (suc n) letters
+numbered n (e ∷ es) = record { number = n; to = e.to; message = e.message } ∷ numbered (suc n) es
 
 abbrev pub replied : ℕ → List Sent → List Replied
 replied rank [] = []
@@ -58,37 +62,46 @@ replied rank (sent.Message to message ∷ sends) = replied rank sends
 abbrev pub log_after : ℕ → Store → ℕ
 log_after n m = if is_marked m then n else max n (last_of m)
 
--- the lines of a monitor that did what its reaction says
-abbrev pub ran_line : World → Arrival → Reaction → StepLine
-ran_line w a r = record {
-  outcome = Ran;
+-- the lines of a monitor of a rank that did what its reaction to an input says
+abbrev pub ran_line : World → ℕ → Input → Reaction → StepLine
+ran_line w rank came r = record {
+  outcome = outcome.Ran;
   ops = length r.transaction;
-  state = told (state_before w a.rank a.input) (state_of (map_after w a.rank r) r.state);
-  sent = numbered (suc (length w.letters)) (letters_in r.sends);
-  replies = replied a.rank r.sends;
+  state = told (state_before w rank came) (state_of (map_after w rank r) r.state);
+  sent = numbered (suc (length w.messages)) (messages_of r.sends);
+  replies = replied rank r.sends;
 }
 
--- the line of an event by which nothing happens
+-- one line, behind which nothing follows
 abbrev pub still_line : Outcome → StepLine
-still_line outcome = record { outcome = outcome; ops = 0; state = None; sent = []; replies = [] }
+still_line what = record { outcome = what; ops = 0; state = None; sent = []; replies = [] }
 
--- the lines of what came to a monitor: of one that is down, or that stops the run, nothing happens
-abbrev pub came_line : World → Arrival → Option (Result Reaction Which) → StepLine
-came_line w a (Some (Ok r)) = ran_line w a r
-came_line w a other = still_line Down
+-- the lines of what was met; a reaction that stops the run has none
+abbrev pub met_line : World → Meeting → StepLine
+met_line w (Reacts rank came (Ok r)) = ran_line w rank came r
+met_line w NoMessage = still_line outcome.NoMessage
+met_line w other = still_line outcome.Down
 
--- an event's lines
-abbrev pub line_of : Monitors → World → Event → StepLine
-line_of ms w e = by (arrival w e)
-  where
-    by : Option Arrival → StepLine
-    by None = still_line NoMessage
-    by (Some a) = came_line w a (reaction_to ms w a)
-
-abbrev pub with_line : StepLine → Result World Stop → Result (World × StepLine) Stop
+abbrev pub with_line : {A : Type 0} → StepLine → Result A Stop → Result (A × StepLine) Stop
 with_line line (Ok next) = Ok (next, line)
 with_line line (Err stop) = Err stop
 
--- the world after an event, with its lines, or what stops the run before it
-abbrev pub step : Monitors → World → Event → Result (World × StepLine) Stop
-step ms w e = with_line (line_of ms w e) (happens ms w e)
+-- the world after what comes, with its lines, or what stops the run before it
+abbrev pub plain_step : Monitors → World → Plain → Result (World × StepLine) Stop
+plain_step ms w p = with_line (met_line w (meets ms w p)) (happens ms w (Comes p))
+
+-- ---- with crashes
+
+-- a monitor that meets something in which its disk fails sends nothing, and what it writes is kept or lost
+abbrev pub upset_line : Scene → Upset → (Bool → Outcome) → Meeting → StepLine
+upset_line c u how (Reacts rank came result) = still_line (how (kept_at c u (Reacts rank came result)))
+upset_line c u how other = met_line c.world other
+
+abbrev pub line_of : Scene → schedule.Event → Meeting → StepLine
+line_of c (events.Plain p) met = met_line c.world met
+line_of c (events.Crash disk call image p) met = upset_line c (record { disk = disk; call = call; image = image }) outcome.Crashed met
+line_of c (events.Fail disk call image p) met = upset_line c (record { disk = disk; call = call; image = image }) outcome.Failed met
+
+-- the scene after an event of a schedule, with its lines, or what stops the run before it
+abbrev pub step : Monitors → Scene → schedule.Event → Result (Scene × StepLine) Stop
+step ms c e = with_line (line_of c e (meets ms c.world (scheduled_of e).plain)) (scene_after ms c (scheduled_of e))

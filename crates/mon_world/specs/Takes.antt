@@ -1,7 +1,6 @@
 -- What a monitor's reaction makes of the code's world.
 use Rattle.std.specs.Prelude.{◌≡◌, ℕ, ◌≤◌, ◌<◌, true, [], length, Option, Some, is_some, Result, Ok, Err}
-use Rattle.mon_kv.specs.Readers.{size_of}
-use Rattle.mon_store.specs.Checkpoint.{most_size}
+use Rattle.mon_kv.specs.Readers.{size_of, most_size}
 use Rattle.mon_tx.specs.Map.{Store}
 use Rattle.mon_msg.specs.Protocol.Readings.{readings_of, epoch_of}
 use Rattle.mon_wire.specs.declared.phase.Phase.TheVariants as phase

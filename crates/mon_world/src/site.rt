@@ -54,7 +54,7 @@ impl Model for Site {
 
     ghost use Rattle.mon_world.specs.Kept.{state_of, IsWhole};
 
-    ghost view = { state_of };
+    ghost readings_of = { state_of };
 
     ghost invariant = { IsWhole };
 }

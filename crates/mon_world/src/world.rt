@@ -63,10 +63,11 @@ impl World {
     ghost use Rattle.mon_tx.specs.Text.{text, most};
     ghost use Rattle.mon_wire.specs.declared.phase.Timer.{Timer};
     ghost use Rattle.quorum_model.specs.Monitors.{alone};
-    ghost use Rattle.quorum_model.specs.World.{World as Model, Event as Happening, first_world, Start, Ring, Client};
-    ghost use Rattle.mon_world.specs.Events.{event_runs, event_of};
-    ghost use Rattle.mon_world.specs.Stands.{IsItself, IsUsable, StandsFor, Does};
-    ghost use Rattle.mon_world.specs.Step.{step};
+    ghost use Rattle.quorum_model.specs.World.{World as Model, Plain as Coming, first_world, Start, Expire, Client};
+    ghost use Rattle.mon_world.specs.Events.{event_runs, plain_event};
+    ghost use Rattle.quorum_model.specs.Scenes.{Scene};
+    ghost use Rattle.mon_world.specs.Stands.{IsItself, IsUsable, StandsFor, DoesPlain, Does};
+    ghost use Rattle.mon_world.specs.Step.{plain_step, step};
     ghost use Rattle.mon_world.specs.Takes.{Takes, taken_line};
 
     /// The one monitor, which is down, with empty disks, and an empty log.
@@ -120,7 +121,7 @@ impl World {
     fn start(&mut self, rank: Rank) -> Result<StepLine, WorldStop>
         requires rank { rank ≡ 0 }
         requires usable { IsUsable self.old }
-        ensures does { (at : ℕ) (w : Model) → StandsFor self.old w → Does result self.new (step alone w (Start rank at)) }
+        ensures does { (at : ℕ) (w : Model) → StandsFor self.old w → DoesPlain result self.new (plain_step alone w (Start rank at)) }
         ensures usable { OnOk result (IsUsable self.new) }
         ensures member { self.new.site.member ≡ self.old.site.member }
     {
@@ -137,7 +138,7 @@ impl World {
     ) -> Result<StepLine, WorldStop>
         requires rank { rank ≡ 0 }
         requires usable { IsUsable self.old }
-        ensures does { (at : ℕ) (w : Model) → StandsFor self.old w → Does result self.new (step alone w (Client rank at session request.now)) }
+        ensures does { (at : ℕ) (w : Model) → StandsFor self.old w → DoesPlain result self.new (plain_step alone w (Client rank at session request.now)) }
         ensures usable { OnOk result (IsUsable self.new) }
         ensures member { self.new.site.member ≡ self.old.site.member }
     {
@@ -153,7 +154,7 @@ impl World {
     fn ring(&mut self, rank: Rank) -> Result<StepLine, WorldStop>
         requires rank { rank ≡ 0 }
         requires usable { IsUsable self.old }
-        ensures does { (t : Timer) (at : ℕ) (w : Model) → StandsFor self.old w → Does result self.new (step alone w (Ring rank t at)) }
+        ensures does { (t : Timer) (at : ℕ) (w : Model) → StandsFor self.old w → DoesPlain result self.new (plain_step alone w (Expire rank t at)) }
         ensures usable { OnOk result (IsUsable self.new) }
         ensures member { self.new.site.member ≡ self.old.site.member }
     {
@@ -170,7 +171,7 @@ impl World {
     fn plain(&mut self, event: &Plain) -> Result<StepLine, WorldStop>
         requires runs { IsTrue (event_runs (Event.Plain event.now)) }
         requires usable { IsUsable self.old }
-        ensures does { (w : Model) (e : Happening) → StandsFor self.old w → event_of (Event.Plain event.now) ≡ Some e → Does result self.new (step alone w e) }
+        ensures does { (w : Model) → StandsFor self.old w → DoesPlain result self.new (plain_step alone w (plain_event event.now)) }
         ensures usable { OnOk result (IsUsable self.new) }
         ensures member { self.new.site.member ≡ self.old.site.member }
     {
@@ -191,7 +192,7 @@ impl World {
     pub fn step(&mut self, event: &Event) -> Result<StepLine, WorldStop>
         requires runs { IsTrue (event_runs event.now) }
         requires usable { IsUsable self.old }
-        ensures does { (w : Model) (e : Happening) → StandsFor self.old w → event_of event.now ≡ Some e → Does result self.new (step alone w e) }
+        ensures does { (c : Scene) → StandsFor self.old c.world → Does result self.new (step alone c event.now) }
         ensures usable { OnOk result (IsUsable self.new) }
         ensures member { self.new.site.member ≡ self.old.site.member }
     {

@@ -1,6 +1,6 @@
 -- A command: the next version is committed and acknowledged.
-use Rattle.std.proofs.Common.{◌≡◌, ℕ, suc, ◌<◌, ◌≤◌, ◌^◌, cond, List, [], ◌∷◌, ◌++◌, length, Some, Ok, refl, sym, ap, subst, subst₂, ◌∙◌, arith}
-use Rattle.std.specs.List.{AllByRecursion}
+use Rattle.std.proofs.Common.{◌≡◌, ℕ, suc, ◌<◌, ◌≤◌, ◌^◌, cond, List, [], ◌∷◌, ◌++◌, length, Some, Ok, refl, sym, ap, subst, subst₂, ◌∙◌, arith, None}
+use Rattle.std.specs.List.{AllByRecursion, cons_option}
 use Rattle.std.specs.Option.{option_map}
 use Rattle.mon_bytes.specs.declared.command.Command.{Command}
 use Rattle.mon_tx.specs.declared.op.Op.{Op}
@@ -8,37 +8,41 @@ use Rattle.mon_tx.specs.declared.key.Area.TheVariants as area
 use Rattle.mon_tx.specs.declared.key.Key.TheVariants as key
 use Rattle.mon_tx.specs.Map.{Store, apply_op, apply}
 use Rattle.mon_tx.specs.Decision.{Cell}
+use Rattle.mon_tx.specs.Keys.{cell}
 use Rattle.mon_tx.specs.Text.{text}
 use Rattle.mon_tx.specs.Decode.{ops_in}
 use Rattle.mon_wire.specs.declared.phase.Phase.{Phase}
 use Rattle.mon_msg.specs.declared.plan.Sent.TheVariants as sent
 use Rattle.mon_wire.specs.declared.reply.Reply.TheVariants as reply
 use Rattle.mon_wire.specs.declared.request.Request.{Request}
+use Rattle.mon_wire.specs.declared.request.Service.{Service}
 use Rattle.mon_wire.specs.declared.request.Session.{Session}
 use Rattle.mon_msg.specs.Puts.{put_number}
 use Rattle.mon_msg.specs.Fold.{entry, put_in}
 use Rattle.mon_msg.specs.Joined.{joined}
 use Rattle.mon_msg.specs.Protocol.Changes.{Learn, Last, spelled}
+use Rattle.mon_msg.specs.Protocol.Phases.{is_leading}
 use Rattle.mon_msg.specs.Protocol.Reaction.{Reaction}
 use Rattle.mon_msg.specs.Protocol.Value.{service_of, value}
 use Rattle.mon_msg.specs.Protocol.Readings.{readings_of, epoch_of}
 use Rattle.quorum_model.specs.Alone.{Waits}
-use Rattle.quorum_model.specs.Clients.{command_of, made_by, letters_in, all_acknowledged, all_replied}
-use Rattle.quorum_model.specs.Clients.{command_of, incremental_of, made_by, letters_in, all_acknowledged, all_replied}
+use Rattle.quorum_model.specs.Acknowledging.{acknowledgement, acknowledgements_of, incremental_in}
+use Rattle.quorum_model.specs.Agree.{Among, IsAsked}
+use Rattle.quorum_model.specs.Clients.{command_of, incremental_of, made_by, messages_of, replies_of}
 use Rattle.quorum_model.specs.Growth.{last_of, bytes_or_none, grown}
-use Rattle.quorum_model.specs.Happens.{leads, moved}
+use Rattle.quorum_model.specs.Happens.{is_active, moved}
+use Rattle.quorum_model.specs.Kept.{AcknowledgedOnce, IsAnswered}
 use Rattle.log_model.specs.LogOfValues.{IsCommand, IsValue, view_at}
 use Rattle.quorum_model.specs.World.{World, Client, Asked, Acknowledged, Replied}
-use Rattle.quorum_model.specs.Safe.{Among, AcknowledgedOnce, IsAsked, IsAnswered}
 use Rattle.log_model.proofs.Committed.{value_told}
 use Rattle.quorum_model.proofs.Lists.{all_map, all_append, among_front, among_last, length_push}
 use Rattle.log_model.proofs.Logs.{Fronts, fronts_push, entry_push, fold_stays}
-use Rattle.quorum_model.proofs.Made.{puts_command}
+use Rattle.quorum_model.proofs.Made.{puts_command, first_put}
 use Rattle.log_model.proofs.Holds.{Holds, read_last, keeps_log}
 use Rattle.log_model.proofs.Older.{older_itself}
 use Rattle.log_model.proofs.Learned.{learned, reads_ops, holds_learned, new_record, learns}
 use Rattle.quorum_model.proofs.Invariant.{IsAck, Inv}
-use Rattle.quorum_model.proofs.Step.{after, IsNewAck, IsNewReply, keeps}
+use Rattle.quorum_model.proofs.Step.{after, Stores, IsNewAck, IsNewReply, Takes, crash_keeps, keeps}
 use Rattle.quorum_model.proofs.Quiet.{grown_by, first_rank}
 
 once_push : (before : List Acknowledged) (a : Acknowledged) → AcknowledgedOnce before → AllByRecursion (λ (b : Acknowledged). ¬ (a.version ≡ b.version)) before → AcknowledgedOnce (before ++ a ∷ [])
@@ -99,24 +103,32 @@ module _ (w : World) (inv : Inv w) (at : ℕ) (session : Session) (request : Req
     answer = record { event = suc w.events; rank = 0; epoch = epoch; last = last_of m; session = session; reply = reply.Done (suc c) }
 
     abbrev acks : List Acknowledged
-    acks = cond (leads r.state.phase) (all_acknowledged (suc w.events) r.state.leader.pn epoch (made_by 0 request) r.sends) []
+    acks = acknowledgements_of (suc w.events) m r.state r.sends
 
     abbrev replies : List Replied
-    replies = all_replied (suc w.events) 0 epoch (last_of m) r.sends
+    replies = replies_of (suc w.events) 0 m r.sends
 
     abbrev active : List (ℕ × ℕ)
-    active = cond (leads r.state.phase) ((epoch, 0) ∷ []) []
+    active = cond (is_active r.state.phase) ((epoch, 0) ∷ []) []
+
+    -- what the store keeps as the new version, and what that puts
+    made_kept : incremental_in (ops_in (bytes_or_none (cell m area.Paxos (key.Version (suc c))))) ≡ (service_of command, x)
+    made_kept =
+        ap (λ (s : Store). incremental_in (ops_in (bytes_or_none (cell s area.Paxos (key.Version (suc c)))))) same_store
+        ∙ ap (λ (record_ : Cell). incremental_in (ops_in (bytes_or_none record_))) (new_record w.log (w.store 0) inv.holds ops V room)
+        ∙ ap incremental_in reads_value ∙ first_put (readings_of (w.store 0)) command 0 ops valued
 
     one_ack : acks ≡ ack ∷ []
     one_ack =
-        ap (λ (p : Phase). cond (leads p) (all_acknowledged (suc w.events) r.state.leader.pn epoch (made_by 0 request) r.sends) []) waits.leads.active
-        ∙ (λ i. all_acknowledged (suc w.events) r.state.leader.pn epoch (made i) (sends i))
+        ap (acknowledgements_of (suc w.events) m r.state) sends
+        ∙ ap (λ (p : Phase). cons_option (option_map (acknowledgement (suc w.events) m r.state) (cond (is_leading p) (Some (suc c)) None)) []) waits.leads.active
+        ∙ ap (λ (made : Service × List ℕ). record { event = suc w.events; version = suc c; pn = r.state.leader.pn; epoch = epoch; service = made.0; incremental = made.1 } ∷ []) made_kept
 
     one_answer : replies ≡ answer ∷ []
-    one_answer = ap (all_replied (suc w.events) 0 epoch (last_of m)) sends
+    one_answer = ap (replies_of (suc w.events) 0 m) sends
 
     abbrev committed : World
-    committed = after w m r.state r.transaction (letters_in r.sends) (grown w.log m) (w.asked ++ asked ∷ []) acks replies active
+    committed = after w m r.state r.transaction (messages_of r.sends) (grown w.log m) (w.asked ++ asked ∷ []) acks replies active
 
     more : length (grown w.log m) ≡ suc c
     more = ap length same_log ∙ length_push w.log bytes
@@ -128,10 +140,10 @@ module _ (w : World) (inv : Inv w) (at : ℕ) (session : Session) (request : Req
         ∙ ap (λ (s : Store). value (readings_of (apply_op (put_number area.Paxos key.LastCommitted c) s)) command 0) (fold_stays (fronts_push w.log bytes) c (omega arith))
         ∙ value_told w.log inv.holds.fits inv.holds.values (readings_of (w.store 0)) (keeps_log w.log (w.store 0) inv.holds) (read_last w.log (w.store 0) inv.holds) command 0 ∙ valued
 
-    values : (v : ℕ) → c ≤ v → v < length (grown w.log m) → IsAsked committed v
-    values v low high = subst (IsAsked committed) here (record {
+    values : (v : ℕ) → c ≤ v → v < length (grown w.log m) → IsAsked (w.asked ++ asked ∷ []) (grown w.log m) v
+    values v low high = subst (IsAsked (w.asked ++ asked ∷ []) (grown w.log m)) here (record {
       by = asked;
-      asked = among_last asked w.asked;
+      was_asked = among_last asked w.asked;
       command = command;
       is = is;
       ops = ops;
@@ -173,19 +185,27 @@ module _ (w : World) (inv : Inv w) (at : ℕ) (session : Session) (request : Req
       made = made;
     }
 
-    pub committed_keeps : Inv (moved w (Client 0 at session request) 0 r)
-    unfolding moved
-    committed_keeps = keeps w inv m r.state r.transaction (letters_in r.sends) (grown w.log m) (w.asked ++ asked ∷ []) acks replies active (record {
+    stores : Stores w m r.transaction (grown w.log m) (w.asked ++ asked ∷ [])
+    stores = record {
       stored = refl;
       holds = subst₂ Holds (sym same_log) (sym same_store) holds;
       fronts = subst (Fronts w.log) (sym same_log) (fronts_push w.log bytes);
       asks = λ a h. among_front a w.asked (asked ∷ []) h;
       values = values;
+    }
+
+    moved_keeps : Inv (moved w (Client 0 at session request) 0 r)
+    unfolding moved
+    moved_keeps = keeps w inv m r.state r.transaction (messages_of r.sends) (grown w.log m) (w.asked ++ asked ∷ []) acks replies active (record {
+      stores = stores;
       acknowledges = subst (AllByRecursion (IsNewAck committed)) (sym one_ack) (is_ack, tt);
       once = subst (λ (more : List Acknowledged). AcknowledgedOnce (w.acknowledged ++ more)) (sym one_ack)
           (once_push w.acknowledged ack inv.once (all_map (IsAck w) _ (λ b h e. let l = h.within in absurd (omega arith)) w.acknowledged inv.acknowledged));
       answers = subst (AllByRecursion (IsNewReply committed)) (sym one_answer) ((record { event = omega arith; last = omega (arith, last_is); answered = is_answered; shows = tt }, refl, last_is), tt);
-      leaders = first_rank (leads r.state.phase) epoch;
-      silent = ap letters_in sends;
+      leaders = first_rank (is_active r.state.phase) epoch;
+      silent = ap messages_of sends;
       waits = waits;
     })
+
+    pub committed_keeps : Takes w (Client 0 at session request) r
+    committed_keeps = (moved_keeps, crash_keeps w inv (Client 0 at session request) r stores)

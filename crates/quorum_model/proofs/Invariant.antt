@@ -18,7 +18,10 @@ use Rattle.mon_msg.specs.Protocol.Readings.{readings_of}
 use Rattle.quorum_model.specs.Alone.{Waits}
 use Rattle.mon_kv.specs.Readers.{is_marked}
 use Rattle.quorum_model.specs.World.{World, Asked, Acknowledged, Replied, first_world}
-use Rattle.quorum_model.specs.Safe.{Among, Agrees, IsAsked, LeaderHas, IsKept, AcknowledgedOnce, IsAnswered, DoneIsAnswered, AreAfter, ShowsLog, after_transactions, Held, Fence, Safe}
+use Rattle.quorum_model.specs.Agree.{Among, Agrees, IsAsked, Agree}
+use Rattle.quorum_model.specs.Kept.{LeaderHas, IsKept, AcknowledgedOnce, IsAnswered, DoneIsAnswered, Kept}
+use Rattle.quorum_model.specs.Safe.{after_transactions, OneActive}
+use Rattle.quorum_model.specs.Shown.{AreAfter, ShowsLog, Shown, Fence}
 use Rattle.quorum_model.proofs.Lists.{all_map, among_all}
 use Rattle.log_model.proofs.Logs.{Fronts, entry_stays, fold_stays, incrementals_stay}
 use Rattle.log_model.proofs.Holds.{Holds, holds_nothing, record_there}
@@ -38,14 +41,14 @@ pub record IsReply (w : World) (r : Replied) : Type 0 where
 
 pub record Inv (w : World) : Type 0 where
   pub holds : Holds w.log (w.store 0)
-  pub values : (v : ℕ) → v < length w.log → IsAsked w v
+  pub values : (v : ℕ) → v < length w.log → IsAsked w.asked w.log v
   pub acknowledged : AllByRecursion (IsAck w) w.acknowledged
   pub once : AcknowledgedOnce w.acknowledged
   pub replied : AllByRecursion (IsReply w) w.replied
   pub fence : Fence w
   pub active : AllByRecursion (λ (p : ℕ × ℕ). p.1 ≡ 0) w.active
-  pub held : w.store 0 ≡ after_transactions (w.kept 0) empty
-  pub silent : w.letters ≡ []
+  pub held : w.store 0 ≡ after_transactions (w.transactions 0) empty
+  pub silent : w.messages ≡ []
   pub waits : IfSome (w.state 0) Waits
 
 pub at_first : Inv first_world
@@ -113,10 +116,10 @@ module _ (w new : World) (grown : Grown w new) where
     shows = shows_stays r r.reply h.last h.shows;
   }
 
-  pub value_stays : (v : ℕ) → v < length w.log → IsAsked w v → IsAsked new v
+  pub value_stays : (v : ℕ) → v < length w.log → IsAsked w.asked w.log v → IsAsked new.asked new.log v
   value_stays v lt h = record {
     by = h.by;
-    asked = grown.asked h.by h.asked;
+    was_asked = grown.asked h.by h.was_asked;
     command = h.command;
     is = h.is;
     ops = h.ops;
@@ -145,24 +148,27 @@ module _ (w : World) (inv : Inv w) where
       by zero lt = leader_has a (w.state 0) h.within
       by (suc i) lt = absurd (omega arith)
 
-  pub safe : Safe 1 w
-  safe = record {
-    agree = record { monitors = monitors; values = inv.values };
-    kept = record {
-      each = all_map (IsAck w) (IsKept 1 w) is_kept w.acknowledged inv.acknowledged;
-      once = inv.once;
-      answered = all_map (IsReply w) (λ r. DoneIsAnswered w r r.reply) (λ r h. h.answered) w.replied inv.replied;
-    };
-    shown = all_map (IsReply w) (λ r. ShowsLog w r r.reply) (λ r h. h.shows) w.replied inv.replied;
-    held = held;
-    one_active = λ e r s p q. among_all (λ (p : ℕ × ℕ). p.1 ≡ 0) (e, r) w.active inv.active p ∙ sym (among_all (λ (p : ℕ × ℕ). p.1 ≡ 0) (e, s) w.active inv.active q);
-    fence = inv.fence;
-  }
+  pub agree : Agree 1 w
+  agree = record { monitors = monitors; values = inv.values }
     where
       monitors : (i : ℕ) → i < 1 → ¬ (is_marked (w.store i) ≡ true) → Agrees w.log (w.store i)
       monitors zero lt unmarked = agrees
       monitors (suc i) lt unmarked = absurd (omega arith)
 
-      held : Held 1 w
-      held zero lt = inv.held
-      held (suc i) lt = absurd (omega arith)
+  pub kept : Kept 1 w
+  kept = record {
+    each = all_map (IsAck w) (IsKept 1 w) is_kept w.acknowledged inv.acknowledged;
+    once = inv.once;
+    answered = all_map (IsReply w) (λ r. DoneIsAnswered w r r.reply) (λ r h. h.answered) w.replied inv.replied;
+  }
+
+  pub shown : Shown w
+  shown = all_map (IsReply w) (λ r. ShowsLog w r r.reply) (λ r h. h.shows) w.replied inv.replied
+
+  pub one_active : OneActive w
+  one_active = λ e r s p q.
+      among_all (λ (p : ℕ × ℕ). p.1 ≡ 0) (e, r) w.active inv.active p ∙ sym (among_all (λ (p : ℕ × ℕ). p.1 ≡ 0) (e, s) w.active inv.active q)
+
+  pub folded : (i : ℕ) → i < 1 → w.store i ≡ after_transactions (w.transactions i) empty
+  folded zero lt = inv.held
+  folded (suc i) lt = absurd (omega arith)

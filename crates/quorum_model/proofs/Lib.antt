@@ -1,5 +1,6 @@
 pub mod Asking
 pub mod Commit
+pub mod Examples
 pub mod Invariant
 pub mod Lists
 pub mod Made

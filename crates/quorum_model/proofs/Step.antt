@@ -7,24 +7,38 @@ use Rattle.mon_tx.specs.declared.op.Op.{Op}
 use Rattle.mon_tx.specs.Map.{Store, apply}
 use Rattle.mon_wire.specs.declared.reply.Reply.{Reply}
 use Rattle.mon_wire.specs.declared.reply.Reply.TheVariants as reply
+use Rattle.mon_msg.specs.Protocol.Reaction.{Reaction}
 use Rattle.mon_msg.specs.Protocol.State.{State}
 use Rattle.quorum_model.specs.Alone.{Waits}
-use Rattle.quorum_model.specs.Happens.{put_at}
-use Rattle.quorum_model.specs.World.{World, Letter, Asked, Acknowledged, Replied}
-use Rattle.quorum_model.specs.Safe.{Among, IsAsked, AcknowledgedOnce, IsFenced, Fence, after_transactions}
+use Rattle.quorum_model.specs.Agree.{Among, IsAsked}
+use Rattle.quorum_model.specs.Clients.{with_asked}
+use Rattle.quorum_model.specs.Growth.{grown}
+use Rattle.quorum_model.specs.Happens.{put_at, map_after, kept_only, moved}
+use Rattle.quorum_model.specs.Kept.{AcknowledgedOnce}
+use Rattle.quorum_model.specs.Safe.{after_transactions}
+use Rattle.quorum_model.specs.Shown.{IsFenced, Fence}
+use Rattle.quorum_model.specs.World.{World, Plain, Envelope, Asked, Acknowledged, Replied}
 use Rattle.quorum_model.proofs.Lists.{all_map, all_append, all_both, among_front}
 use Rattle.log_model.proofs.Logs.{Fronts}
 use Rattle.log_model.proofs.Holds.{Holds}
 use Rattle.quorum_model.proofs.Invariant.{IsAck, IsReply, Inv, Grown, ack_stays, reply_stays, value_stays}
 
-module _ (w : World) (m : Store) (s : State) (tx : List Op) (letters : List Letter) (log : List (List ℕ)) (asked : List Asked) (acks : List Acknowledged) (replies : List Replied) (active : List (ℕ × ℕ)) where
+-- what an event's transaction makes of the store and of the log
+pub record Stores (w : World) (m : Store) (tx : List Op) (log : List (List ℕ)) (asked : List Asked) : Type 0 where
+  pub stored : m ≡ apply tx (w.store 0)
+  pub holds : Holds log m
+  pub fronts : Fronts w.log log
+  pub asks : (a : Asked) → Among a w.asked → Among a asked
+  pub values : (v : ℕ) → length w.log ≤ v → v < length log → IsAsked asked log v
+
+module _ (w : World) (m : Store) (s : State) (tx : List Op) (messages : List Envelope) (log : List (List ℕ)) (asked : List Asked) (acks : List Acknowledged) (replies : List Replied) (active : List (ℕ × ℕ)) where
   -- the world after the monitor did that
   abbrev pub after : World
   after = record {
     store = put_at w.store 0 m;
     state = put_at w.state 0 (Some s);
-    kept = put_at w.kept 0 (w.kept 0 ++ tx ∷ []);
-    letters = w.letters ++ letters;
+    transactions = put_at w.transactions 0 (w.transactions 0 ++ tx ∷ []);
+    messages = w.messages ++ messages;
     log = log;
     asked = asked;
     acknowledged = w.acknowledged ++ acks;
@@ -40,17 +54,13 @@ IsNewAck new a = IsAck new a × (a.event ≡ new.events)
 abbrev pub IsNewReply : World → Replied → Type 0
 IsNewReply new r = IsReply new r × (r.event ≡ new.events) × (r.last ≡ length new.log)
 
-pub record Does (w : World) (m : Store) (s : State) (tx : List Op) (letters : List Letter) (log : List (List ℕ)) (asked : List Asked) (acks : List Acknowledged) (replies : List Replied) (active : List (ℕ × ℕ)) : Type 0 where
-  pub stored : m ≡ apply tx (w.store 0)
-  pub holds : Holds log m
-  pub fronts : Fronts w.log log
-  pub asks : (a : Asked) → Among a w.asked → Among a asked
-  pub values : (v : ℕ) → length w.log ≤ v → v < length log → IsAsked (after w m s tx letters log asked acks replies active) v
-  pub acknowledges : AllByRecursion (IsNewAck (after w m s tx letters log asked acks replies active)) acks
+pub record Does (w : World) (m : Store) (s : State) (tx : List Op) (messages : List Envelope) (log : List (List ℕ)) (asked : List Asked) (acks : List Acknowledged) (replies : List Replied) (active : List (ℕ × ℕ)) : Type 0 where
+  pub stores : Stores w m tx log asked
+  pub acknowledges : AllByRecursion (IsNewAck (after w m s tx messages log asked acks replies active)) acks
   pub once : AcknowledgedOnce (w.acknowledged ++ acks)
-  pub answers : AllByRecursion (IsNewReply (after w m s tx letters log asked acks replies active)) replies
+  pub answers : AllByRecursion (IsNewReply (after w m s tx messages log asked acks replies active)) replies
   pub leaders : AllByRecursion (λ (p : ℕ × ℕ). p.1 ≡ 0) active
-  pub silent : letters ≡ []
+  pub silent : messages ≡ []
   pub waits : Waits s
 
 after_push : (txs : List (List Op)) (tx : List Op) (m : Store) → after_transactions (txs ++ tx ∷ []) m ≡ apply tx (after_transactions txs m)
@@ -68,25 +78,57 @@ fenced_by_event a r (reply.Shown s paxos version map) h = λ lt e. absurd (omega
 fenced_by_event a r (reply.Since s from told more) h = λ lt e. absurd (omega arith)
 fenced_by_event a r other h = tt
 
-module _ (w : World) (inv : Inv w) (m : Store) (s : State) (tx : List Op) (letters : List Letter) (log : List (List ℕ)) (asked : List Asked) (acks : List Acknowledged) (replies : List Replied) (active : List (ℕ × ℕ))
-    (does : Does w m s tx letters log asked acks replies active) where
-  abbrev new : World
-  new = after w m s tx letters log asked acks replies active
+-- ---- a crash that keeps the transaction
 
-  grown : Grown w new
-  grown = record {
-    fronts = does.fronts;
-    asked = does.asks;
+module _ (w : World) (inv : Inv w) (p : Plain) (r : Reaction) (stores : Stores w (map_after w 0 r) r.transaction (grown w.log (map_after w 0 r)) (with_asked p w.asked)) where
+  crashed : Grown w (kept_only w p 0 r)
+  unfolding kept_only
+  crashed = record { fronts = stores.fronts; asked = stores.asks; acknowledged = λ a h. h; events = omega arith }
+
+  crash_values : (v : ℕ) → v < length (grown w.log (map_after w 0 r)) → IsAsked (with_asked p w.asked) (grown w.log (map_after w 0 r)) v
+  unfolding kept_only
+  crash_values v lt = by (cases_lt v (length w.log))
+    where
+      by : (v < length w.log) ⊎ (length w.log ≤ v) → IsAsked (with_asked p w.asked) (grown w.log (map_after w 0 r)) v
+      by (inl old) = value_stays w (kept_only w p 0 r) crashed v old (inv.values v old)
+      by (inr le) = stores.values v le lt
+
+  pub crash_keeps : Inv (kept_only w p 0 r)
+  unfolding kept_only
+  crash_keeps = record {
+    holds = stores.holds;
+    values = crash_values;
+    acknowledged = all_map (IsAck w) (IsAck (kept_only w p 0 r)) (ack_stays w (kept_only w p 0 r) crashed) w.acknowledged inv.acknowledged;
+    once = inv.once;
+    replied = all_map (IsReply w) (IsReply (kept_only w p 0 r)) (reply_stays w (kept_only w p 0 r) crashed) w.replied inv.replied;
+    fence = inv.fence;
+    active = inv.active;
+    held = stores.stored ∙ ap (apply r.transaction) inv.held ∙ sym (after_push (w.transactions 0) r.transaction empty);
+    silent = inv.silent;
+    waits = tt;
+  }
+
+-- ---- an event that comes to its end
+
+module _ (w : World) (inv : Inv w) (m : Store) (s : State) (tx : List Op) (messages : List Envelope) (log : List (List ℕ)) (asked : List Asked) (acks : List Acknowledged) (replies : List Replied) (active : List (ℕ × ℕ))
+    (does : Does w m s tx messages log asked acks replies active) where
+  abbrev new : World
+  new = after w m s tx messages log asked acks replies active
+
+  grows : Grown w new
+  grows = record {
+    fronts = does.stores.fronts;
+    asked = does.stores.asks;
     acknowledged = λ a h. among_front a w.acknowledged acks h;
     events = omega arith;
   }
 
-  values : (v : ℕ) → v < length log → IsAsked new v
+  values : (v : ℕ) → v < length log → IsAsked asked log v
   values v lt = by (cases_lt v (length w.log))
     where
-      by : (v < length w.log) ⊎ (length w.log ≤ v) → IsAsked new v
-      by (inl old) = value_stays w new grown v old (inv.values v old)
-      by (inr le) = does.values v le lt
+      by : (v < length w.log) ⊎ (length w.log ≤ v) → IsAsked asked log v
+      by (inl old) = value_stays w new grows v old (inv.values v old)
+      by (inr le) = does.stores.values v le lt
 
   abbrev Fenced : Acknowledged → Replied → Type 0
   Fenced a r = IsFenced a r r.reply
@@ -95,7 +137,7 @@ module _ (w : World) (inv : Inv w) (m : Store) (s : State) (tx : List Op) (lette
   old_fence a h = all_append (Fenced a) w.replied replies h.1 (all_map (IsNewReply new) (Fenced a) by replies does.answers)
     where
       by : (r : Replied) → IsNewReply new r → Fenced a r
-      by r k = fenced_by_last a r r.reply (let i = h.0.within in let s = does.fronts.short in let l = k.2 in omega arith)
+      by r k = fenced_by_last a r r.reply (let i = h.0.within in let s = does.stores.fronts.short in let l = k.2 in omega arith)
 
   new_fence : (a : Acknowledged) → IsNewAck new a → AllByRecursion (Fenced a) (w.replied ++ replies)
   new_fence a h = all_append (Fenced a) w.replied replies (all_map (IsReply w) (Fenced a) old w.replied inv.replied) (all_map (IsNewReply new) (Fenced a) fresh replies does.answers)
@@ -113,14 +155,18 @@ module _ (w : World) (inv : Inv w) (m : Store) (s : State) (tx : List Op) (lette
 
   pub keeps : Inv new
   keeps = record {
-    holds = does.holds;
+    holds = does.stores.holds;
     values = values;
-    acknowledged = all_append (IsAck new) w.acknowledged acks (all_map (IsAck w) (IsAck new) (ack_stays w new grown) w.acknowledged inv.acknowledged) (all_map (IsNewAck new) (IsAck new) (λ a h. h.0) acks does.acknowledges);
+    acknowledged = all_append (IsAck new) w.acknowledged acks (all_map (IsAck w) (IsAck new) (ack_stays w new grows) w.acknowledged inv.acknowledged) (all_map (IsNewAck new) (IsAck new) (λ a h. h.0) acks does.acknowledges);
     once = does.once;
-    replied = all_append (IsReply new) w.replied replies (all_map (IsReply w) (IsReply new) (reply_stays w new grown) w.replied inv.replied) (all_map (IsNewReply new) (IsReply new) (λ r h. h.0) replies does.answers);
+    replied = all_append (IsReply new) w.replied replies (all_map (IsReply w) (IsReply new) (reply_stays w new grows) w.replied inv.replied) (all_map (IsNewReply new) (IsReply new) (λ r h. h.0) replies does.answers);
     fence = fence;
     active = all_append (λ (p : ℕ × ℕ). p.1 ≡ 0) w.active active inv.active does.leaders;
-    held = does.stored ∙ ap (apply tx) inv.held ∙ sym (after_push (w.kept 0) tx empty);
+    held = does.stores.stored ∙ ap (apply tx) inv.held ∙ sym (after_push (w.transactions 0) tx empty);
     silent = λ i. inv.silent i ++ does.silent i;
     waits = does.waits;
   }
+
+-- what is so after a reaction is so after an event that comes to its end, and after a crash that keeps the transaction
+abbrev pub Takes : World → Plain → Reaction → Type 0
+Takes w p r = Inv (moved w p 0 r) × Inv (kept_only w p 0 r)

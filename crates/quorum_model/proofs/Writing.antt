@@ -1,51 +1,75 @@
 -- What a monitor's store kept is what its events made it write.
-use Rattle.std.proofs.Common.{◌≡◌, ℕ, Bool, true, false, cond, eqb, ltb, List, [], ◌∷◌, ◌++◌, Option, Some, None, Result, Ok, Err, refl, sym, ap, ◌∙◌, append_assoc}
+use Rattle.std.proofs.Common.{◌≡◌, ℕ, Bool, true, false, cond, eqb, ltb, List, [], ◌∷◌, ◌++◌, Result, Ok, Err, refl, sym, ap, ◌∙◌, append_assoc}
 use Rattle.std.proofs.lemmas.Bool.{eqb-true}
 use Rattle.std.proofs.lemmas.List.{append-nil}
 use Rattle.mon_types.specs.declared.names.Which.{Which}
 use Rattle.mon_tx.specs.declared.op.Op.{Op}
-use Rattle.mon_kv.specs.Readers.{size_of}
-use Rattle.mon_store.specs.Checkpoint.{most_size}
+use Rattle.mon_kv.specs.Readers.{size_of, most_size}
 use Rattle.mon_msg.specs.Protocol.Reaction.{Reaction}
-use Rattle.quorum_model.specs.Arrivals.{Arrival, arrival, reaction_to}
-use Rattle.quorum_model.specs.Happens.{Stop, Full, map_after, unmoved, moved, after_reaction, happens, or_stay, run_from, run}
+use Rattle.mon_msg.specs.declared.input.Input.{Input}
+use Rattle.quorum_model.specs.Happens.{Stop, Full, map_after, unmoved, lost, kept_only, moved, unless_stopped, after_meeting, happens}
+use Rattle.quorum_model.specs.Meets.{Meeting, NoMessage, Down, Reacts, meets}
 use Rattle.quorum_model.specs.Monitors.{Monitors}
-use Rattle.quorum_model.specs.World.{World, Event, first_world}
-use Rattle.quorum_model.specs.Written.{written_by, written, where_on, all_written}
+use Rattle.quorum_model.specs.Runs.{goes_on, ran_from, run_from, run, writes_at, writes_of, where_on, all_writes}
+use Rattle.quorum_model.specs.World.{World, Plain, Event, Comes, Crash, first_world}
 
-kept_moved : (w : World) (e : Event) (rank : ℕ) (r : Reaction) (i : ℕ) → (moved w e rank r).kept i ≡ w.kept i ++ written_by i rank (Some (Ok r))
-unfolding moved
-kept_moved w e rank r i = by (eqb i rank) refl
+push_at : (w : World) (rank : ℕ) (r : Reaction) (i : ℕ)
+    → cond (eqb i rank) (w.transactions rank ++ r.transaction ∷ []) (w.transactions i) ≡ w.transactions i ++ cond (eqb i rank) (r.transaction ∷ []) []
+push_at w rank r i = by (eqb i rank) refl
   where
-    by : (b : Bool) → eqb i rank ≡ b → cond b (w.kept rank ++ r.transaction ∷ []) (w.kept i) ≡ w.kept i ++ cond b (r.transaction ∷ []) []
-    by true e = ap (λ (k : ℕ). w.kept k ++ r.transaction ∷ []) (sym (eqb-true i rank e))
-    by false e = sym (append-nil (w.kept i))
+    by : (b : Bool) → eqb i rank ≡ b → cond b (w.transactions rank ++ r.transaction ∷ []) (w.transactions i) ≡ w.transactions i ++ cond b (r.transaction ∷ []) []
+    by true e = ap (λ (k : ℕ). w.transactions k ++ r.transaction ∷ []) (sym (eqb-true i rank e))
+    by false e = sym (append-nil (w.transactions i))
 
-module _ (ms : Monitors) (es : List Event) (i : ℕ) (go_on : (next : World) → (run_from ms next es).kept i ≡ next.kept i ++ all_written ms next es i) (w : World) (e : Event) where
-  -- the run, and what is written, from a world on that the event made or from where it stopped
+module _ (ms : Monitors) (es : List Event) (i : ℕ) (others : (next : World) → (run_from ms next es).transactions i ≡ next.transactions i ++ all_writes ms next es i) (w : World) where
+  -- what the run's store kept, and what is written, from a world on that the event made or from where it stopped
   abbrev IsWritten : List (List Op) → Result World Stop → Type 0
-  IsWritten first next = (or_stay w (λ next. run_from ms next es) next).kept i ≡ w.kept i ++ where_on (λ next. first ++ all_written ms next es i) next
+  IsWritten first next =
+      (goes_on w (λ next. ran_from ms next es) next).world.transactions i ≡ w.transactions i ++ where_on (λ next. first ++ all_writes ms next es i) next
 
-  one : (rank : ℕ) (o : Option (Result Reaction Which)) → IsWritten (written_by i rank o) (after_reaction w e rank o)
-  unfolding unmoved
-  one rank None = go_on (unmoved w e)
-  one rank (Some (Err which)) = sym (append-nil (w.kept i))
-  one rank (Some (Ok r)) = by (ltb most_size (size_of (map_after w rank r)))
+  goes : (first : List (List Op)) (next : World) → next.transactions i ≡ w.transactions i ++ first → IsWritten first (Ok next)
+  goes first next e =
+      others next ∙ ap (λ (k : List (List Op)). k ++ all_writes ms next es i) e ∙ append_assoc (w.transactions i) first (all_writes ms next es i)
+
+  stays : (next : World) → next.transactions i ≡ w.transactions i → IsWritten [] (Ok next)
+  stays next e = goes [] next (e ∙ sym (append-nil (w.transactions i)))
+
+  reacts : (next : Reaction → World) (rank : ℕ) → ((r : Reaction) → (next r).transactions i ≡ cond (eqb i rank) (w.transactions rank ++ r.transaction ∷ []) (w.transactions i))
+      → (came : Input) (r : Result Reaction Which) → IsWritten (writes_at i (Reacts rank came r)) (unless_stopped next (w.store rank) r)
+  reacts next rank e came (Err which) = sym (append-nil (w.transactions i))
+  reacts next rank e came (Ok r) = by (ltb most_size (size_of (map_after w rank r)))
     where
-      by : (b : Bool) → IsWritten (written_by i rank (Some (Ok r))) (cond b (Err (Full (size_of (map_after w rank r)))) (Ok (moved w e rank r)))
-      by true = sym (append-nil (w.kept i))
-      by false =
-          go_on (moved w e rank r) ∙ ap (λ (k : List (List Op)). k ++ all_written ms (moved w e rank r) es i) (kept_moved w e rank r i)
-          ∙ append_assoc (w.kept i) (written_by i rank (Some (Ok r))) (all_written ms (moved w e rank r) es i)
+      by : (b : Bool) → IsWritten (writes_at i (Reacts rank came (Ok r))) (cond b (Err (Full (size_of (map_after w rank r)))) (Ok (next r)))
+      by true = sym (append-nil (w.transactions i))
+      by false = goes (writes_at i (Reacts rank came (Ok r))) (next r) (e r ∙ push_at w rank r i)
 
-  event : (o : Option Arrival) → arrival w e ≡ o → IsWritten (written ms w e i) (happens ms w e)
-  event None p = rw p (one 0 None)
-  event (Some a) p = rw p (one a.rank (reaction_to ms w a))
+  comes : (p : Plain) (met : Meeting) → IsWritten (writes_at i met) (after_meeting w (Comes p) met)
+  unfolding unmoved moved
+  comes p NoMessage = stays (unmoved w p) refl
+  comes p Down = stays (unmoved w p) refl
+  comes p (Reacts rank came r) = reacts (moved w p rank) rank (λ r. refl) came r
 
-kept_from : (ms : Monitors) (w : World) (es : List Event) (i : ℕ) → (run_from ms w es).kept i ≡ w.kept i ++ all_written ms w es i
-unfolding run_from all_written
-kept_from ms w [] i = sym (append-nil (w.kept i))
-kept_from ms w (e ∷ es) i = event ms es i (λ next. kept_from ms next es i) w e (arrival w e) refl
+  keeps : (p : Plain) (met : Meeting) → IsWritten (writes_at i met) (after_meeting w (Crash p true) met)
+  unfolding unmoved kept_only
+  keeps p NoMessage = stays (unmoved w p) refl
+  keeps p Down = stays (unmoved w p) refl
+  keeps p (Reacts rank came r) = reacts (kept_only w p rank) rank (λ r. refl) came r
 
-pub kept_all : (ms : Monitors) (events : List Event) (i : ℕ) → (run ms events).kept i ≡ all_written ms first_world events i
-kept_all ms events i = kept_from ms first_world events i
+  loses : (p : Plain) (met : Meeting) → IsWritten [] (after_meeting w (Crash p false) met)
+  unfolding unmoved lost
+  loses p NoMessage = stays (unmoved w p) refl
+  loses p Down = stays (unmoved w p) refl
+  loses p (Reacts rank came r) = stays (lost w p rank) refl
+
+  event : (e : Event) → IsWritten (writes_of ms w e i) (happens ms w e)
+  event (Comes p) = comes p (meets ms w p)
+  event (Crash p true) = keeps p (meets ms w p)
+  event (Crash p false) = loses p (meets ms w p)
+
+kept_from : (ms : Monitors) (w : World) (es : List Event) (i : ℕ) → (run_from ms w es).transactions i ≡ w.transactions i ++ all_writes ms w es i
+unfolding ran_from all_writes
+kept_from ms w [] i = sym (append-nil (w.transactions i))
+kept_from ms w (e ∷ es) i = event ms es i (λ next. kept_from ms next es i) w e
+
+pub all_kept : (ms : Monitors) (events : List Event) (i : ℕ) → (run ms events).transactions i ≡ all_writes ms first_world events i
+all_kept ms events i = kept_from ms first_world events i

@@ -2,83 +2,92 @@
 use Rattle.std.specs.Prelude.{ℕ, suc, nat_lt, Bool, true, false, cond, List, [], ◌∷◌, ◌++◌, Option, Some, None, Result, Ok, Err, ◌==◌, if◌then◌else◌}
 use Rattle.mon_types.specs.declared.names.Which.{Which}
 use Rattle.mon_tx.specs.Map.{Store, apply}
-use Rattle.mon_kv.specs.Readers.{size_of}
-use Rattle.mon_store.specs.Checkpoint.{most_size}
+use Rattle.mon_kv.specs.Readers.{size_of, most_size}
 use Rattle.mon_msg.specs.Protocol.Reaction.{Reaction}
-use Rattle.mon_msg.specs.Protocol.State.{State}
 use Rattle.mon_msg.specs.Protocol.Readings.{readings_of, epoch_of}
 use Rattle.mon_wire.specs.declared.phase.Phase.{Phase}
 use Rattle.mon_wire.specs.declared.phase.Phase.TheVariants as phase
+use Rattle.quorum_model.specs.Acknowledging.{acknowledgements_of}
+use Rattle.quorum_model.specs.Clients.{with_asked, messages_of, replies_of}
+use Rattle.quorum_model.specs.Growth.{grown}
+use Rattle.quorum_model.specs.Meets.{Meeting, NoMessage, Down, Reacts, meets}
 use Rattle.quorum_model.specs.Monitors.{Monitors}
-use Rattle.quorum_model.specs.World.{World, Event, first_world}
-use Rattle.quorum_model.specs.Arrivals.{Arrival, arrival, reaction_to}
-use Rattle.quorum_model.specs.Growth.{last_of, grown}
-use Rattle.quorum_model.specs.Clients.{made_by_event, with_asked, letters_in, all_replied, all_acknowledged}
+use Rattle.quorum_model.specs.World.{World, Plain, Event, Comes, Crash, plain_of, first_world}
 
-abbrev pub leads : Phase → Bool
-leads phase.Active = true
-leads phase.Updating = true
-leads other = false
+-- an active leader
+abbrev pub is_active : Phase → Bool
+is_active phase.Active = true
+is_active phase.Updating = true
+is_active other = false
 
 abbrev pub put_at : {A : Type 0} → (ℕ → A) → ℕ → A → ℕ → A
 put_at f i a j = if j == i then a else f j
 
--- it is counted, and what was asked counts; nothing else came of it
-unfoldable pub unmoved : World → Event → World
-unmoved w e = record w { asked = with_asked e w.asked; events = suc w.events }
+-- ---- what becomes of the world
 
--- the monitor's map after a reaction
+-- it is counted, and what was asked counts; nothing else came of it
+unfoldable pub unmoved : World → Plain → World
+unmoved w p = record w { asked = with_asked p w.asked; events = suc w.events }
+
+-- monitor i went down before it kept anything
+unfoldable pub lost : World → Plain → ℕ → World
+lost w p i = record w { state = put_at w.state i None; asked = with_asked p w.asked; events = suc w.events }
+
+-- the map of monitor i after a reaction
 abbrev pub map_after : World → ℕ → Reaction → Store
 map_after w i r = apply r.transaction (w.store i)
 
--- a monitor did what its reaction says: its transaction is kept, and then what it sends goes out
-unfoldable pub moved : World → Event → ℕ → Reaction → World
-moved w e i r =
+-- monitor i kept what its reaction writes, and went down before it sent anything
+unfoldable pub kept_only : World → Plain → ℕ → Reaction → World
+kept_only w p i r =
     let m = map_after w i r in
-    let epoch = epoch_of (readings_of m) in
+    record w {
+      store = put_at w.store i m;
+      state = put_at w.state i None;
+      transactions = put_at w.transactions i (w.transactions i ++ r.transaction ∷ []);
+      log = grown w.log m;
+      asked = with_asked p w.asked;
+      events = suc w.events;
+    }
+
+-- monitor i did what its reaction says: its transaction is kept, and then what it sends goes out
+unfoldable pub moved : World → Plain → ℕ → Reaction → World
+moved w p i r =
+    let m = map_after w i r in
     let event = suc w.events in
     record {
       store = put_at w.store i m;
       state = put_at w.state i (Some r.state);
-      kept = put_at w.kept i (w.kept i ++ r.transaction ∷ []);
-      letters = w.letters ++ letters_in r.sends;
+      transactions = put_at w.transactions i (w.transactions i ++ r.transaction ∷ []);
+      messages = w.messages ++ messages_of r.sends;
       log = grown w.log m;
-      asked = with_asked e w.asked;
-      acknowledged = w.acknowledged ++ cond (leads r.state.phase) (all_acknowledged event r.state.leader.pn epoch (made_by_event e) r.sends) [];
-      replied = w.replied ++ all_replied event i epoch (last_of m) r.sends;
-      active = w.active ++ cond (leads r.state.phase) ((epoch, i) ∷ []) [];
+      asked = with_asked p w.asked;
+      acknowledged = w.acknowledged ++ acknowledgements_of event m r.state r.sends;
+      replied = w.replied ++ replies_of event i m r.sends;
+      active = w.active ++ cond (is_active r.state.phase) ((epoch_of (readings_of m), i) ∷ []) [];
       events = event;
     }
+
+-- ---- an event
 
 -- what stops a run: a number that would pass 2^62, or a map that would be larger than a store keeps
 pub data Stop : Type 0 where
   Spent : (which : Which) → Stop
   Full : (would_be : ℕ) → Stop
 
-abbrev pub after_reaction : World → Event → ℕ → Option (Result Reaction Which) → Result World Stop
-after_reaction w e i None = Ok (unmoved w e)
-after_reaction w e i (Some (Err which)) = Err (Spent which)
-after_reaction w e i (Some (Ok r)) =
-    if nat_lt most_size (size_of (map_after w i r)) then Err (Full (size_of (map_after w i r))) else Ok (moved w e i r)
+-- the world after a reaction over a map, unless the reaction stops the run
+abbrev pub unless_stopped : (Reaction → World) → Store → Result Reaction Which → Result World Stop
+unless_stopped next m (Err which) = Err (Spent which)
+unless_stopped next m (Ok r) =
+    if nat_lt most_size (size_of (apply r.transaction m)) then Err (Full (size_of (apply r.transaction m))) else Ok (next r)
+
+-- a crash that loses what is written stops no run
+abbrev pub after_meeting : World → Event → Meeting → Result World Stop
+after_meeting w (Comes p) (Reacts i input result) = unless_stopped (moved w p i) (w.store i) result
+after_meeting w (Crash p true) (Reacts i input result) = unless_stopped (kept_only w p i) (w.store i) result
+after_meeting w (Crash p false) (Reacts i input result) = Ok (lost w p i)
+after_meeting w e other = Ok (unmoved w (plain_of e))
 
 -- what an event makes of the world, or what stops the run before it
 abbrev pub happens : Monitors → World → Event → Result World Stop
-happens ms w e = by (arrival w e)
-  where
-    by : Option Arrival → Result World Stop
-    by None = Ok (unmoved w e)
-    by (Some a) = after_reaction w e a.rank (reaction_to ms w a)
-
--- ---- a run
-
-abbrev pub or_stay : World → (World → World) → Result World Stop → World
-or_stay w go_on (Ok next) = go_on next
-or_stay w go_on (Err stop) = w
-
--- the world after events, up to the first that stops
-unfoldable pub run_from : Monitors → World → List Event → World
-run_from ms w [] = w
-run_from ms w (e ∷ es) = or_stay w (λ next. run_from ms next es) (happens ms w e)
-
-abbrev pub run : Monitors → List Event → World
-run ms events = run_from ms first_world events
+happens ms w e = after_meeting w e (meets ms w (plain_of e))

@@ -4,7 +4,7 @@ use Rattle.std.proofs.Common.{lit≤}
 use Rattle.std.proofs.lemmas.Bool.{ltb-true}
 use Rattle.election_rules.specs.declared.rule.Rule.{Rule}
 use Rattle.election_rules.specs.declared.rule.Rule.TheVariants.{Classic}
-use Rattle.mon_msg.specs.declared.view.Me.{Me}
+use Rattle.mon_msg.specs.declared.readings_of.Me.{Me}
 
 -- how many there are, at most 15, and the rule by which they elect
 pub record Monitors : Type 0 where
@@ -13,12 +13,12 @@ pub record Monitors : Type 0 where
   pub rule : Rule
 
 -- the monitor of a rank, where there is one
+abbrev pub me_if : (ms : Monitors) (rank : ℕ) (is_below : Bool) → nat_lt rank ms.count ≡ is_below → Option Me
+me_if ms rank true e = Some (record { member = record { rank = rank; monitors = ms.count; most = ms.most; in_map = ltb-true rank ms.count e }; rule = ms.rule })
+me_if ms rank false e = None
+
 abbrev pub me_of : Monitors → ℕ → Option Me
-me_of ms rank = by (nat_lt rank ms.count) refl
-  where
-    by : (is_below : Bool) → nat_lt rank ms.count ≡ is_below → Option Me
-    by true e = Some (record { member = record { rank = rank; monitors = ms.count; most = ms.most; in_map = ltb-true rank ms.count e }; rule = ms.rule })
-    by false e = None
+me_of ms rank = me_if ms rank (nat_lt rank ms.count) refl
 
 -- one monitor, which elects itself
 abbrev pub alone : Monitors

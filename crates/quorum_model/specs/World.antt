@@ -1,5 +1,5 @@
 -- All monitors of a map, what was sent among them, and what clients saw.
-use Rattle.std.specs.Prelude.{ℕ, List, [], Option, None}
+use Rattle.std.specs.Prelude.{ℕ, Bool, List, [], Option, None}
 use Rattle.std.specs.FinMap.{empty}
 use Rattle.mon_tx.specs.declared.op.Op.{Op}
 use Rattle.mon_tx.specs.Map.{Store}
@@ -13,20 +13,30 @@ use Rattle.mon_wire.specs.declared.request.Session.{Session}
 
 -- ---- what happens, and at which moment
 
-pub data Event : Type 0 where
-  -- a monitor forgets all that its store doesn't keep, and starts
-  Start : (rank : ℕ) → (at : ℕ) → Event
+-- what comes to a monitor
+pub data Plain : Type 0 where
+  -- it forgets all that its store doesn't keep, and starts
+  Start : (rank : ℕ) → (at : ℕ) → Plain
   -- the message of that number, counted from 1, comes to its receiver; it may come at any time after it was sent, and again
-  Deliver : (message : ℕ) → (at : ℕ) → Event
-  -- a timer comes
-  Ring : (rank : ℕ) → (timer : Timer) → (at : ℕ) → Event
+  Deliver : (message : ℕ) → (at : ℕ) → Plain
+  -- a timer expires
+  Expire : (rank : ℕ) → (timer : Timer) → (at : ℕ) → Plain
   -- a client asks
-  Client : (rank : ℕ) → (at : ℕ) → (session : Session) → (request : Request) → Event
+  Client : (rank : ℕ) → (at : ℕ) → (session : Session) → (request : Request) → Plain
+
+-- The monitor does what it does then; or it crashes in it, before it sends anything, and what it writes is kept or lost.
+pub data Event : Type 0 where
+  Comes : (plain : Plain) → Event
+  Crash : (plain : Plain) → (kept : Bool) → Event
+
+abbrev pub plain_of : Event → Plain
+plain_of (Comes p) = p
+plain_of (Crash p kept) = p
 
 -- ---- what there is
 
 -- a message, and to whom it goes
-pub record Letter : Type 0 where
+pub record Envelope : Type 0 where
   pub to : ℕ
   pub message : Message
 
@@ -36,8 +46,8 @@ pub record Asked : Type 0 where
   pub session : Session
   pub request : Request
 
--- a version that was acknowledged: by the event of this number, under the leader's number and in its epoch, with the
--- incremental that it made of a service
+-- A version that was acknowledged: by the event of this number, under the leader's proposal number and in its epoch; the
+-- service that it changes, and by which incremental.
 pub record Acknowledged : Type 0 where
   pub event : ℕ
   pub version : ℕ
@@ -59,9 +69,9 @@ pub record World : Type 0 where
   -- of each monitor: what its store keeps, what it remembers unless it is down, and the transactions that its store kept
   pub store : ℕ → Store
   pub state : ℕ → Option State
-  pub kept : ℕ → List (List Op)
+  pub transactions : ℕ → List (List Op)
   -- all messages that were ever sent, in order
-  pub letters : List Letter
+  pub messages : List Envelope
   -- the one log, of which each entry is the bytes of a version
   pub log : List (List ℕ)
   pub asked : List Asked
@@ -72,12 +82,13 @@ pub record World : Type 0 where
   -- how many events there were
   pub events : ℕ
 
+-- all stores are empty, and all monitors are down
 abbrev pub first_world : World
 first_world = record {
   store = λ _. empty;
   state = λ _. None;
-  kept = λ _. [];
-  letters = [];
+  transactions = λ _. [];
+  messages = [];
   log = [];
   asked = [];
   acknowledged = [];

@@ -1,0 +1,307 @@
+import sys, os, struct, json, subprocess, time
+sys.path.insert(0, os.path.dirname(os.path.abspath(__file__)))
+import antt
+from antt import *
+u32 = lambda n: struct.pack('<I', n)
+u64 = lambda n: struct.pack('<Q', n)
+TXC = {}
+def op_text(o):
+    w = lambda b: bytes([len(b)]) + B(b)
+    if o.n == 'Put': return b'\x01' + w(o.a[0]) + w(o.a[1]) + u32(len(o.a[2])) + B(o.a[2])
+    if o.n == 'Erase': return b'\x02' + w(o.a[0]) + w(o.a[1])
+    if o.n == 'ErasePrefix': return b'\x03' + w(o.a[0])
+    return b'\x04' + w(o.a[0]) + u64(o.a[1]) + u64(o.a[2])
+def tx_text(ops):
+    ops = tuple(ops)
+    t = TXC.get(ops)
+    if t is None:
+        t = bytes([2 if any(o.n == 'EraseRange' for o in ops) else 1]) + u32(len(ops)) + b''.join(map(op_text, ops))
+        TXC[ops] = t
+    return t
+class Bad(Exception): pass
+class Cur:
+    def __init__(s, b): s.b = b; s.i = 0
+    def take(s, n):
+        if s.i + n > len(s.b): raise Bad()
+        r = s.b[s.i:s.i+n]; s.i += n; return r
+    def u8(s): return s.take(1)[0]
+    def u32(s): return struct.unpack('<I', s.take(4))[0]
+    def u64(s): return struct.unpack('<Q', s.take(8))[0]
+def word(c, most):
+    n = c.u8()
+    if not 1 <= n <= most: raise Bad()
+    b = c.take(n)
+    if any(not 0x21 <= x <= 0x7e for x in b): raise Bad()
+    return b
+DEC = {}
+def tx_of(b):
+    b = B(b)
+    if b in DEC: return DEC[b]
+    try:
+        if len(b) > 4194304: raise Bad()
+        c = Cur(b); f = c.u8()
+        if f not in (1, 2): raise Bad()
+        n = c.u32(); ops = []
+        for _ in range(n):
+            k = c.u8()
+            if k == 1: p = word(c, 32); q = word(c, 255); ops.append(Con('Put', (p, q, c.take(c.u32()))))
+            elif k == 2: p = word(c, 32); ops.append(Con('Erase', (p, word(c, 255))))
+            elif k == 3: ops.append(Con('ErasePrefix', (word(c, 32),)))
+            elif k == 4 and f == 2:
+                p = word(c, 32); x = c.u64(); y = c.u64()
+                if not x < y <= 2**62: raise Bad()
+                ops.append(Con('EraseRange', (p, x, y)))
+            else: raise Bad()
+        if c.i != len(b): raise Bad()
+        if (f == 2) != any(o.n == 'EraseRange' for o in ops): raise Bad()
+        r = Ok(tuple(ops))
+    except Bad: r = Err(Con('x'))
+    DEC[b] = r
+    return r
+def within(a, b, k):
+    k = B(k)
+    return k.isdigit() and (k[:1] != b'0' or k == b'0') and a <= int(k) < b
+def apply_op(o, m):
+    d = dict(m.d)
+    app_in(o, d); return FinMap(d)
+def app_in(o, d):
+    if o.n == 'Put': d[(B(o.a[0]), B(o.a[1]))] = B(o.a[2])
+    elif o.n == 'Erase': d.pop((B(o.a[0]), B(o.a[1])), None)
+    elif o.n == 'ErasePrefix':
+        for k in [k for k in d if k[0] == o.a[0]]: del d[k]
+    else:
+        for k in [k for k in d if k[0] == o.a[0] and within(o.a[1], o.a[2], k[1])]: del d[k]
+def apply_tx(ops, m):
+    d = dict(m.d)
+    for o in ops: app_in(o, d)
+    return FinMap(d)
+def number_in(o):
+    if o.n == 'None': return 0
+    b = B(o.a[0])
+    if len(b) != 8: return 0
+    n = struct.unpack('<Q', b)[0]
+    return n if n <= 2**62 else 0
+def place_cmp(a, b): return cmp((B(a.a[0]), B(a.a[1])), (B(b.a[0]), B(b.a[1])))
+N = antt.NATIVE
+N['mon_tx.specs.Text.text'] = nat(1)(tx_text)
+N['mon_tx.specs.Decode.transaction_of'] = nat(1)(tx_of)
+N['mon_tx.specs.Map.apply'] = nat(2)(apply_tx)
+N['mon_tx.specs.Map.apply_op'] = nat(2)(apply_op)
+N['mon_tx.specs.Map.number_bytes'] = nat(1)(u64)
+N['mon_tx.specs.Map.number_in'] = nat(1)(number_in)
+N['mon_tx.specs.Map.is_within'] = nat(3)(within)
+N['mon_tx.specs.Map.place_cmp'] = nat(2)(place_cmp)
+N['mon_tx.specs.Keys.decimal_text'] = nat(1)(lambda n: str(n).encode())
+def inc_kv_text(i):
+    k = lambda b: bytes([len(b)]) + B(b)
+    if i.n == 'Set': return b'\x01' + k(i.a[0]) + u32(len(i.a[1])) + B(i.a[1])
+    return b'\x02' + k(i.a[0])
+def map_kv_text(m):
+    return u32(len(m.d)) + b''.join(bytes([len(k)]) + k + u32(len(v)) + v for k, v in sorted(m.d.items()))
+def u8s(b):
+    try: b.decode(); return b
+    except UnicodeDecodeError: raise Bad()
+def dec(f):
+    def g(b):
+        try:
+            c = Cur(B(b)); r = f(c)
+            if c.i != len(c.b): raise Bad()
+            return Ok(r)
+        except Bad: return Err(Con('x'))
+    return nat(1)(g)
+def kv_inc(c):
+    k = c.u8()
+    if k == 1: n = word(c, 255); return Con('Set', (n, u8s(c.take(c.u32()))))
+    if k == 2: return Con('Remove', (word(c, 255),))
+    raise Bad()
+def kv_map(c):
+    n = c.u32(); d = {}; last = b''
+    for _ in range(n):
+        k = word(c, 255)
+        if not last < k: raise Bad()
+        last = k; d[k] = u8s(c.take(c.u32()))
+    return FinMap(d)
+def log_inc(c):
+    r = c.u8()
+    if r > 14: raise Bad()
+    return Rec({'rank': r, 'text': u8s(c.take(c.u32()))})
+def log_map(c):
+    n = c.u32(); return tuple(log_inc(c) for _ in range(n))
+def log_inc_text(i): return bytes([i.d['rank']]) + u32(len(i.d['text'])) + B(i.d['text'])
+N['map_kv.specs.Text.inc_text'] = nat(1)(inc_kv_text)
+N['map_kv.specs.Text.map_text'] = nat(1)(map_kv_text)
+N['map_kv.specs.Decode.inc_of'] = dec(kv_inc)
+N['map_kv.specs.Decode.map_of'] = dec(kv_map)
+N['map_log.specs.Text.inc_text'] = nat(1)(log_inc_text)
+N['map_log.specs.Text.map_text'] = nat(1)(lambda es: u32(len(es)) + b''.join(map(log_inc_text, es)))
+N['map_log.specs.Decode.inc_of'] = dec(log_inc)
+N['map_log.specs.Decode.map_of'] = dec(log_map)
+
+PR = 'mon_msg.specs.Protocol.'
+def fn(p, n): return resolve(p, n)
+# what is shared is computed only for a message that asks for it
+def reaction(me, now, m, st, inp):
+    sh = ()
+    if inp.n == 'Deliver' and inp.a[0].d['body'].n == 'GetChunk': sh = app(fn(PR + 'View', 'shared_entries'), m)
+    res = apps(fn(PR + 'Table', 'react'), me, sh, now, app(fn(PR + 'View', 'view'), m), st, inp)
+    return app(fn(PR + 'Reaction', 'drawn'), res)
+N[PR + 'Reaction.reaction'] = nat(5)(reaction)
+N['mon_kv.specs.Readers.size_of'] = nat(1)(lambda m: sum(len(k[0]) + len(k[1]) + len(v) + 16 for k, v in m.d.items()))
+antt.STD.update({
+ 'ltb-true': nat(3)(lambda *a: TT), 'refl': TT,
+ 'filter_map': nat(2)(lambda f, xs: tuple(y.a[0] for y in (app(f, x) for x in xs) if y.n == 'Some')),
+ 'flat_map': nat(2)(lambda f, xs: tuple(y for x in xs for y in app(f, x))),
+ 'slice_get': nat(2)(lambda xs, i: Some(xs[i]) if i < len(xs) else NONE),
+ 'unwrap_or': nat(2)(lambda o, d: d if o.n == 'None' else o.a[0]),
+})
+PHASE = dict(Booting='booting', Probing='probing', Synchronizing='synchronizing', Electing='electing', Collecting='collecting', Previous='previous', Active='active', Updating='updating', Peon='peon')
+TIMER = dict(probe='Probe', election='Election', collect='Collect', accept='Accept', renew='Renew', leaseack='LeaseAck', lease='Lease', sync='Sync', step='Step', propose='Propose', ping='Ping')
+NAMES = dict(Probe='PROBE', ProbeReply='PROBE_REPLY', Propose='PROPOSE', Ack='ACK', Victory='VICTORY', Collect='COLLECT', Last='LAST', Begin='BEGIN', Accept='ACCEPT', Commit='COMMIT', Lease='LEASE', LeaseAck='LEASE_ACK', Forward='FORWARD', Route='ROUTE', GetCookieFull='GET_COOKIE_FULL', GetCookieRecent='GET_COOKIE_RECENT', Cookie='COOKIE', GetChunk='GET_CHUNK', Chunk='CHUNK', LastChunk='LAST_CHUNK', NoCookie='NO_COOKIE', Ping='PING', PingReply='PING_REPLY')
+def qset(q):
+    r = [str(i) for i, b in enumerate(q) if b]
+    return ','.join(r) or '-'
+def ck(c): return '%d.%d' % (c.d['boot'], c.d['seq'])
+def kp(k):
+    if k.n == 'Start': return 'start'
+    if k.n == 'Done': return 'done'
+    return B(k.a[0]).decode() + '/' + B(k.a[1]).decode()
+def fields(b):
+    a = b.a
+    k = b.n
+    if k == 'ProbeReply': return ' quorum=%s first=%d last=%d' % (qset(a[0]), a[1], a[2])
+    if k == 'Victory': return ' quorum=%s' % qset(a[0])
+    if k == 'Collect': return ' pn=%d first=%d last=%d' % a
+    if k == 'Last': return ' pn=%d first=%d last=%d whole=%d values=%d pending=%d' % (a[0], a[1], a[2], a[3], len(a[5]), 0 if a[6].n == 'None' else a[6].a[0].d['pn'])
+    if k in ('Begin', 'Accept'): return ' pn=%d v=%d' % (a[0], a[1])
+    if k == 'Commit': return ' v=%d..%d' % (a[0], a[0] + len(a[1]) - 1)
+    if k in ('Lease', 'LeaseAck', 'GetCookieRecent'): return ' last=%d' % a[0]
+    if k in ('Forward', 'Route'): return ' seq=%d' % a[0]
+    if k == 'Cookie': return ' full=%d cookie=%s last=%d' % (a[0], ck(a[1]), a[2])
+    if k == 'GetChunk': return ' cookie=%s at=%d key=%s' % (ck(a[0]), a[1].d['version'], kp(a[1].d['key']))
+    if k in ('Chunk', 'LastChunk'):
+        return ' cookie=%s at=%d key=%s values=%d keys=%d %s=%d' % (ck(a[0]), a[1].d['version'], kp(a[1].d['key']), len(a[2]), len(a[3]), 'done' if k == 'Chunk' else 'last', a[4])
+    if k == 'NoCookie': return ' cookie=%s' % ck(a[0])
+    return ''
+def jmap(m):
+    if m.n == 'Kv': o = {k.decode(): v.decode() for k, v in sorted(m.a[0].d.items())}
+    else: o = [[e.d['rank'], B(e.d['text']).decode()] for e in m.a[0]]
+    return json.dumps(o, separators=(',', ':'), ensure_ascii=False)
+def reply(r):
+    a = r.a; k = r.n
+    sv = lambda s: 'kv' if s.n == 'Kv' else 'log'
+    if k == 'Done': return 'done %d' % a
+    if k == 'Shown': return 'shown %s paxos=%d version=%d %s' % (sv(a[0]), a[1], a[2], jmap(a[3]))
+    if k == 'Since': return 'since %s from=%d to=%d count=%d more=%d' % (sv(a[0]), a[1], a[1] + len(a[2]), len(a[2]), a[3])
+    if k == 'NoSuch': return 'nosuch'
+    if k == 'TooLong': return 'toolong len=%d most=%d' % a
+    if k == 'MapFull': return 'mapfull would_be=%d' % a
+    if k == 'Unavailable': return 'unavailable'
+    if k == 'NotReadable': return 'notreadable has=%d lease=%d' % a
+    if k == 'Busy': return 'busy waiting=%d' % a
+def parse_client(ws, line, j):
+    # ws: fields after 'client'
+    r, t, c, i = int(ws[1]), int(ws[2]), int(ws[3]), int(ws[4]); kind = ws[5]
+    ses = Rec({'client': c, 'id': i})
+    rest = line.split(' ', 6)
+    if kind == 'set':
+        x = line.split(' ', 7); req = Con('Set', (x[6].encode(), x[7].encode()))
+    elif kind == 'remove': req = Con('Remove', (ws[6].encode(),))
+    elif kind == 'log': req = Con('Log', (rest[6].encode(),))
+    elif kind == 'show': req = Con('Show', (Con('Kv' if ws[6] == 'kv' else 'Log'),))
+    else: req = Con('Since', (Con('Kv' if ws[6] == 'kv' else 'Log'), int(ws[7])))
+    return r, t, ses, req
+def rule_of(text):
+    ranks = [int(x) for x in text.split('=')[1].split(',')] if '=' in text else []
+    set_ = tuple(i in ranks for i in range(15))
+    return Con('Classic') if text == 'classic' else Con('Disallow' if text.startswith('dis') else 'Connectivity', (set_,))
+def monitors_of(line):
+    h = line.split(' ')
+    return Rec({'count': int(h[1]), 'most': TT, 'rule': rule_of(h[2])})
+def plain_of(line):
+    ws = line.split(' ')
+    if ws[0] == 'start': return Con('Start', (int(ws[1]), int(ws[2])))
+    if ws[0] == 'deliver': return Con('Deliver', (int(ws[1]), int(ws[2])))
+    if ws[0] == 'timer': return Con('Timer', (int(ws[1]), Con(TIMER[ws[2]]), int(ws[3])))
+    r, t, session, request = parse_client(ws, line, 0)
+    return Con('Client', (r, t, session, request))
+def event_of(line):
+    ws = line.split(' ', 4)
+    if ws[0] not in ('crash', 'fail'): return Con('Plain', (plain_of(line),))
+    return Con(ws[0].capitalize(), (Con(ws[1].upper()), int(ws[2]), int(ws[3]), plain_of(ws[4])))
+def lines_of(line):
+    """the lines of a step, as a trace has them"""
+    d = line.d; o = d['outcome']; out = []
+    if o.n == 'Down': out.append('  down')
+    elif o.n == 'NoMessage': out.append('  none')
+    elif o.n in ('Crashed', 'Failed'): out.append('  %s %s' % (o.n.lower(), 'kept' if o.a[0] else 'lost'))
+    if d['ops']: out.append('  store %d' % d['ops'])
+    if d['state'].n == 'Some':
+        s = d['state'].a[0].d
+        out.append('  is %s epoch %d last %d' % (PHASE[s['phase'].n], s['epoch'], s['last']))
+    for x in d['sent']:
+        m = x.d['message'].d
+        out.append('  send %d %d>%d %s e=%d%s' % (x.d['number'], m['from'], x.d['to'], NAMES[m['body'].n], m['epoch'], fields(m['body'])))
+    for x in d['replies']:
+        out.append('  reply %d %d.%d %s' % (x.d['rank'], x.d['session'].d['client'], x.d['session'].d['id'], reply(x.d['reply'])))
+    return out
+OUTCOMES = {}
+def trace_of(schedule):
+    """the trace, and what stopped the run"""
+    lines = schedule.split('\n')[:-1]
+    ms = monitors_of(lines[0])
+    step = fn('mon_world.specs.Step', 'step')
+    scene = fn('quorum_model.specs.Scenes', 'first_scene')
+    out = [lines[0]]; scenes = [scene]
+    for number, line in enumerate(lines[1:], 1):
+        done = apps(step, ms, scene, event_of(line))
+        if done.n == 'Err': return '\n'.join(out) + '\n', done.a[0], scenes
+        scene, told = done.a[0].a
+        scene.d['world'] = flat(scene.d['world'], ms.d['count'])
+        scene.d['files'] = tabled(scene.d['files'], ms.d['count'])
+        o = told.d['outcome']; OUTCOMES[repr(o)] = OUTCOMES.get(repr(o), 0) + 1
+        scenes.append(scene)
+        out.append('%d %s' % (number, line)); out += lines_of(told)
+    out.append('end events=%d log=%d' % (len(lines) - 1, len(scene.d['world'].d['log'])))
+    return '\n'.join(out) + '\n', None, scenes
+# what is told of each rank is read once an event, so that no chain of updates grows
+def tabled(f, n):
+    values = [app(f, i) for i in range(n)]
+    return nat(1)(lambda i: values[i])
+def flat(w, n):
+    d = dict(w.d)
+    for k in ('store', 'state', 'transactions'): d[k] = tabled(d[k], n)
+    return Rec(d)
+def one(program, schedule, name):
+    p = subprocess.run([program, 'replay'], input=schedule.encode(), stdout=subprocess.PIPE, stderr=subprocess.PIPE)
+    want = p.stdout.decode()
+    got, stop, scenes = trace_of(schedule)
+    statuses = {0: None, 10: 'Spent', 13: 'Full'}
+    if got == want and statuses.get(p.returncode, '') == (stop.n if stop else None):
+        return True
+    a, b = got.split('\n'), want.split('\n')
+    for i, (x, y) in enumerate(zip(a, b)):
+        if x != y:
+            print('DIFF', name, 'line', i + 1, '\n  definitions', x[:300], '\n  program    ', y[:300])
+            for z in b[max(0, i - 6):i]: print('      ', z[:200])
+            break
+    else: print('DIFF length or status', name, len(a), len(b), p.returncode, stop)
+    open('diff_%s.txt' % name, 'w').write(schedule)
+    return False
+if __name__ == '__main__':
+    if sys.argv[1] == 'parse':
+        for c in ('mon_msg/specs/Protocol', 'mon_msg/specs', 'quorum_model/specs', 'mon_world/specs'):
+            for f in sorted(os.listdir(os.path.join(antt.ROOT, c))):
+                if f.endswith('.antt') and f != 'Lib.antt':
+                    m = module_of((c + '/' + f[:-5]).replace('/', '.')); print(c, f, len(m.defs), m.errors)
+        sys.exit()
+    program = sys.argv[1]
+    if sys.argv[2] == 'file':
+        t = time.time(); print(one(program, open(sys.argv[3]).read(), 'file'), '%.1fs' % (time.time() - t)); sys.exit()
+    profile, first, count, events = sys.argv[2], int(sys.argv[3]), int(sys.argv[4]), sys.argv[5]
+    good = 0; t = time.time()
+    for seed in range(first, first + count):
+        s = subprocess.run([program, 'gen', str(seed), events, profile], stdout=subprocess.PIPE).stdout.decode()
+        try: good += one(program, s, '%s_%d' % (profile, seed))
+        except Exception:
+            import traceback; traceback.print_exc(limit=6); open('diff_%s_%d.txt' % (profile, seed), 'w').write(s); print('EXC', profile, seed)
+    print(profile, 'same', good, 'of', count, '%.1fs' % (time.time() - t), OUTCOMES)

@@ -1,0 +1,3 @@
+-- Crashes, acknowledgements, growth and copies, computed.
+pub mod Crashes
+pub mod Growing

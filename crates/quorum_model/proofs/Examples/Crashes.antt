@@ -1,0 +1,43 @@
+-- A monitor that crashes: what it writes is kept or lost.
+use Rattle.std.proofs.Common.{◌≡◌, ℕ, Bool, true, false, cond, List, [], ◌∷◌, Option, Some, None, Ok, refl}
+use Rattle.std.specs.FinMap.{empty}
+use Rattle.mon_types.specs.declared.names.Side.{Side}
+use Rattle.mon_types.specs.declared.names.Side.TheVariants.{A, B}
+use Rattle.mon_tx.specs.Map.{Store}
+use Rattle.mon_msg.specs.Protocol.Reaction.{Reaction}
+use Rattle.quorum_model.specs.Files.{Files, no_files}
+use Rattle.quorum_model.specs.Happens.{lost}
+use Rattle.quorum_model.specs.Monitors.{alone}
+use Rattle.quorum_model.specs.Runs.{run, ran_from}
+use Rattle.quorum_model.specs.Upsets.{is_kept, opening_calls, stops, writes_nothing, files_cut}
+use Rattle.quorum_model.specs.World.{World, Event, Comes, Crash, Start, first_world}
+
+-- the first start of a monitor, in which a crash loses what it writes: its store stays empty, and it is down
+lost_start : run alone (Crash (Start 0 0) false ∷ []) ≡ record first_world { state = λ j. cond (Rattle.std.specs.Prelude.nat_eq j 0) None None; events = 1 }
+unfolding ran_from lost
+lost_start = refl
+
+-- whether the transaction of a first start is kept, of which the creation makes seven calls of disk a
+module _ (m : Store) (r : Reaction) (runs : stops m (Ok r) ≡ false) (writes : writes_nothing (Ok r) ≡ false) where
+  abbrev kept : Side → (call image : ℕ) → Bool
+  kept disk call image = is_kept no_files m (opening_calls disk no_files) (record { disk = disk; call = call; image = image }) (Ok r)
+
+  -- the gate is written by the tenth call
+  kept_start : kept A 10 1 ≡ true
+  kept_start = rw (runs, writes) refl
+
+  lost_gate : kept A 10 0 ≡ false
+  lost_gate = rw (runs, writes) refl
+
+  lost_record : kept A 9 1 ≡ false
+  lost_record = rw (runs, writes) refl
+
+  synced : kept A 12 0 ≡ true
+  synced = rw (runs, writes) refl
+
+  -- the other disk is only opened
+  before_opening : kept B 1 1 ≡ false
+  before_opening = rw (runs, writes) refl
+
+  after_opening : kept B 2 0 ≡ true
+  after_opening = rw (runs, writes) refl

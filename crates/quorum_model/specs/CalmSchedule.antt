@@ -1,0 +1,74 @@
+-- Calm schedules: each message comes once, in order and before anything else happens, no timer expires, and no time passes.
+use Rattle.std.specs.Prelude.{ℕ, zero, suc, nat_le, List, [], ◌∷◌, ◌++◌, length, map, Option, Some, None, if◌then◌else◌}
+use Rattle.std.specs.List.{filter_map, flat_map, range_with_len}
+use Rattle.mon_bytes.specs.declared.command.Command.{Command}
+use Rattle.mon_bytes.specs.declared.command.Command.TheVariants as command
+use Rattle.mon_wire.specs.declared.request.Request.{Request}
+use Rattle.mon_wire.specs.declared.request.Request.TheVariants as request
+use Rattle.mon_wire.specs.declared.request.Service.TheVariants as service
+use Rattle.mon_wire.specs.declared.request.Session.{Session}
+use Rattle.quorum_model.specs.Monitors.{Monitors}
+use Rattle.quorum_model.specs.Runs.{run, run_from}
+use Rattle.quorum_model.specs.World.{World, Event, Comes, Crash, Start, Deliver, Client, Plain}
+
+-- a command, and the rank that is asked
+abbrev pub Order : Type 0
+Order = ℕ × Command
+
+abbrev pub request_of : Command → Request
+request_of (command.Set key value) = request.Set key value
+request_of (command.Remove key) = request.Remove key
+request_of (command.Log text) = request.Log text
+
+-- the j-th request of a client, to a monitor
+abbrev pub asks : (j rank : ℕ) → Request → Event
+asks j rank r = Comes (Client rank 0 (record { client = 1; id = j }) r)
+
+-- the numbers of the messages that events deliver, in order
+abbrev pub number_delivered : Event → Option ℕ
+number_delivered (Comes (Deliver k at)) = Some k
+number_delivered other = None
+
+abbrev pub numbers_delivered : List Event → List ℕ
+numbers_delivered events = filter_map number_delivered events
+
+-- ---- deliveries
+
+-- each message from number k on that was sent by then or is sent by these events, in order, until none is left; at most so many
+unfoldable pub deliveries : Monitors → (most k : ℕ) → World → List Event
+deliveries ms zero k w = []
+deliveries ms (suc most) k w =
+    if nat_le k (length w.messages)
+    then Comes (Deliver k 0) ∷ deliveries ms most (suc k) (run_from ms w (Comes (Deliver k 0) ∷ []))
+    else []
+
+-- more than the starts or one command of 15 monitors send: that no message is left is said of a calm run
+abbrev pub most_sent : ℕ
+most_sent = 1000
+
+-- the events so far, more events, and then each message that wasn't delivered yet
+abbrev pub then_delivered : Monitors → List Event → List Event → List Event
+then_delivered ms before more =
+    let events = before ++ more in
+    events ++ deliveries ms most_sent (suc (length (numbers_delivered before))) (run ms events)
+
+-- ---- the schedule
+
+-- all monitors start
+abbrev pub starts : Monitors → List Event
+starts ms = then_delivered ms [] (map (λ i. Comes (Start i 0)) (range_with_len 0 ms.count))
+
+-- and then each command comes, of which the next is the j-th
+unfoldable pub asks_all : Monitors → (j : ℕ) → List Event → List Order → List Event
+asks_all ms j before [] = before
+asks_all ms j before (c ∷ cs) = asks_all ms (suc j) (then_delivered ms before (asks j c.0 (request_of c.1) ∷ [])) cs
+
+abbrev pub orders : Monitors → List Order → List Event
+orders ms cs = asks_all ms 1 (starts ms) cs
+
+-- at the end each monitor shows both maps
+abbrev pub shows : (j n : ℕ) → List Event
+shows j n = flat_map (λ i. asks j i (request.Show service.Kv) ∷ asks j i (request.Show service.Log) ∷ []) (range_with_len 0 n)
+
+abbrev pub calm_schedule : Monitors → List Order → List Event
+calm_schedule ms cs = orders ms cs ++ shows (suc (length cs)) ms.count

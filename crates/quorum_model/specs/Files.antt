@@ -1,0 +1,85 @@
+-- What a monitor's two disks hold, and what is left on them where a call fails.
+use Rattle.std.specs.Prelude.{ℕ, ◌+◌, ◌-◌, ◌*◌, ◌^◌, nat_lt, Bool, true, false, ◌&&◌, ◌||◌, List, [], ◌∷◌, length, Option, Some, None, is_some, ◌==◌, if◌then◌else◌}
+use Rattle.std.specs.FinMap.{entries}
+use Rattle.std.specs.List.{sum_by}
+use Rattle.std.specs.Option.{option_map}
+use Rattle.mon_types.specs.declared.names.Side.{Side}
+use Rattle.mon_types.specs.declared.names.Side.TheVariants.{A, B}
+use Rattle.mon_kv.specs.Readers.{size_of}
+use Rattle.mon_tx.specs.declared.op.Op.{Op}
+use Rattle.mon_tx.specs.Map.{Place, Store}
+use Rattle.mon_tx.specs.Text.{text}
+
+-- an open file: its generation, and the place of its first closed gate, behind which the next record is written
+pub record File : Type 0 where
+  pub generation : ℕ
+  pub gate : ℕ
+
+-- of each disk the file where it is open; a disk that is empty, or of which the first gate isn't open, is closed
+pub record Files : Type 0 where
+  pub a : Option File
+  pub b : Option File
+
+abbrev pub no_files : Files
+no_files = record { a = None; b = None }
+
+abbrev pub file_on : Side → Files → Option File
+file_on A f = f.a
+file_on B f = f.b
+
+abbrev pub with_file : Side → Option File → Files → Files
+with_file A file f = record { a = file; b = f.b }
+with_file B file f = record { a = f.a; b = file }
+
+abbrev pub other_side : Side → Side
+other_side A = B
+other_side B = A
+
+-- ---- which disk is live
+
+-- of two open files that of the greater generation; a store that isn't there is created on disk a
+abbrev pub live_of : Option File → Option File → Side
+live_of None None = A
+live_of (Some a) None = A
+live_of None (Some b) = B
+live_of (Some a) (Some b) = if nat_lt b.generation a.generation then A else B
+
+abbrev pub live_side : Files → Side
+live_side f = live_of f.a f.b
+
+abbrev pub is_created : Files → Bool
+is_created f = is_some f.a || is_some f.b
+
+-- ---- what a store's calls leave
+
+-- the place of the gate behind a record
+abbrev pub gate_after : (gate payload : ℕ) → ℕ
+gate_after gate payload = gate + 5 + payload
+
+-- opening creates a store that isn't there
+abbrev pub after_opening : Files → Files
+after_opening f = if is_created f then f else with_file A (Some (record { generation = 1; gate = 25 })) f
+
+-- the file behind a transaction; an empty one leaves it
+abbrev pub file_after : List Op → File → File
+file_after [] f = f
+file_after (op ∷ ops) f = record { generation = f.generation; gate = gate_after f.gate (length (text (op ∷ ops))) }
+
+abbrev pub after_append : List Op → Files → Files
+after_append ops f = with_file (live_side f) (option_map (file_after ops) (file_on (live_side f) f)) f
+
+-- how many bytes a checkpoint of a map has
+abbrev pub entry_length : Place × List ℕ → ℕ
+entry_length e = length e.0.0 + length e.0.1 + length e.1 + 6
+
+abbrev pub checkpoint_length : Store → ℕ
+checkpoint_length m = 5 + sum_by entry_length (entries m)
+
+-- A checkpoint of a map is due where the live file is longer than 1,048,576 bytes, and than four times what the map counts
+-- with. No generation passes 2^62.
+abbrev pub is_due : File → Store → Bool
+is_due f m = nat_lt f.generation (2 ^ 62) && (nat_lt 1048576 (f.gate + 1) && nat_lt (4 * size_of m) (f.gate + 1))
+
+-- the file that it makes
+abbrev pub checkpoint : File → Store → File
+checkpoint f m = record { generation = f.generation + 1; gate = gate_after 25 (checkpoint_length m) }

@@ -1,0 +1,52 @@
+-- What was acknowledged is kept.
+use Rattle.std.specs.Prelude.{◌≡◌, ℕ, ◌<◌, ◌≤◌, true, List, [], ◌∷◌, length, Option, Some, None}
+use Rattle.std.specs.List.{AllByRecursion}
+use Rattle.mon_tx.specs.Map.{Store}
+use Rattle.mon_tx.specs.Decode.{ops_in}
+use Rattle.mon_msg.specs.Fold.{entry, put_in}
+use Rattle.mon_msg.specs.Protocol.State.{State}
+use Rattle.mon_wire.specs.declared.reply.Reply.{Reply}
+use Rattle.mon_wire.specs.declared.reply.Reply.TheVariants as reply
+use Rattle.quorum_model.specs.Agree.{Among}
+use Rattle.quorum_model.specs.Clients.{made_by}
+use Rattle.quorum_model.specs.Growth.{last_of}
+use Rattle.quorum_model.specs.Happens.{is_active}
+use Rattle.quorum_model.specs.World.{World, Asked, Acknowledged, Replied}
+
+-- an active leader with a number of at least that of the acknowledgement has the version
+abbrev pub LeaderHas : Acknowledged → Option State → Store → Type 0
+LeaderHas a None m = Unit {0}
+LeaderHas a (Some s) m = is_active s.phase ≡ true → a.pn ≤ s.leader.pn → a.version ≤ last_of m
+
+-- the version is in the log and puts what was acknowledged, and every later leader has it
+pub record IsKept (n : ℕ) (w : World) (a : Acknowledged) : Type 0 where
+  pub some : 1 ≤ a.version
+  pub within : a.version ≤ length w.log
+  pub put : Among a.incremental (put_in a.service (ops_in (entry w.log a.version)))
+  pub leaders : (i : ℕ) → i < n → LeaderHas a (w.state i) (w.store i)
+
+-- no version is acknowledged twice
+abbrev pub AcknowledgedOnce : List Acknowledged → Type 0
+AcknowledgedOnce [] = Unit {0}
+AcknowledgedOnce (a ∷ others) = AllByRecursion (λ b. ¬ (b.version ≡ a.version)) others × AcknowledgedOnce others
+
+-- the version was acknowledged, by the reply's event or before it, for a command that its session asked of its monitor
+pub record IsAnswered (w : World) (r : Replied) (v : ℕ) : Type 0 where
+  pub acknowledged : Acknowledged
+  pub among : Among acknowledged w.acknowledged
+  pub version : acknowledged.version ≡ v
+  pub earlier : acknowledged.event ≤ r.event
+  pub asked : Asked
+  pub was_asked : Among asked w.asked
+  pub rank : asked.rank ≡ r.rank
+  pub session : asked.session ≡ r.session
+  pub made : made_by asked.rank asked.request ≡ Some (acknowledged.service, acknowledged.incremental)
+
+abbrev pub DoneIsAnswered : World → Replied → Reply → Type 0
+DoneIsAnswered w r (reply.Done v) = IsAnswered w r v
+DoneIsAnswered w r other = Unit {0}
+
+pub record Kept (n : ℕ) (w : World) : Type 0 where
+  pub each : AllByRecursion (IsKept n w) w.acknowledged
+  pub once : AcknowledgedOnce w.acknowledged
+  pub answered : AllByRecursion (λ r. DoneIsAnswered w r r.reply) w.replied

@@ -1,0 +1,33 @@
+-- What clients are shown is the log's, and isn't older than what was acknowledged in the same epoch.
+use Rattle.std.specs.Prelude.{◌≡◌, ℕ, ◌+◌, ◌<◌, ◌≤◌, ◌↔◌, Bool, IsTrue, List, length, take, drop}
+use Rattle.std.specs.List.{AllByRecursion}
+use Rattle.mon_msg.specs.Fold.{incrementals, map_of_log, version_of_log}
+use Rattle.mon_wire.specs.declared.reply.Reply.{Reply}
+use Rattle.mon_wire.specs.declared.reply.Reply.TheVariants as reply
+use Rattle.quorum_model.specs.World.{World, Acknowledged, Replied}
+
+-- these are the incrementals after the first `from` ones, and `more` tells whether others follow
+pub record AreAfter (all : List (List ℕ)) (from : ℕ) (told : List (List ℕ)) (more : Bool) : Type 0 where
+  pub same : told ≡ take (length told) (drop from all)
+  pub others : IsTrue more ↔ from + length told < length all
+
+-- a map is that of the log up to the monitor's last version, and so are the incrementals
+abbrev pub ShowsLog : World → Replied → Reply → Type 0
+ShowsLog w r (reply.Shown s paxos version map) =
+    (paxos ≡ r.last) × (map ≡ map_of_log s w.log r.last) × (version ≡ version_of_log s w.log r.last)
+ShowsLog w r (reply.Since s from told more) = AreAfter (incrementals s w.log r.last) from told more
+ShowsLog w r other = Unit {0}
+
+abbrev pub Shown : World → Type 0
+Shown w = AllByRecursion (λ r. ShowsLog w r r.reply) w.replied
+
+-- ---- the fence of an acknowledgement
+
+abbrev pub IsFenced : Acknowledged → Replied → Reply → Type 0
+IsFenced a r (reply.Shown s paxos version map) = a.event < r.event → a.epoch ≡ r.epoch → a.version ≤ r.last
+IsFenced a r (reply.Since s from told more) = a.event < r.event → a.epoch ≡ r.epoch → a.version ≤ r.last
+IsFenced a r other = Unit {0}
+
+-- what is shown or told after an acknowledgement, in its epoch, has that version
+abbrev pub Fence : World → Type 0
+Fence w = AllByRecursion (λ a. AllByRecursion (λ r. IsFenced a r r.reply) w.replied) w.acknowledged
