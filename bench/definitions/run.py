@@ -139,12 +139,16 @@ N['map_log.specs.Decode.map_of'] = dec(log_map)
 
 PR = 'mon_msg.specs.Protocol.'
 def fn(p, n): return resolve(p, n)
-# what is shared is computed only for a message that asks for it
+# a reaction is asked for several times in one event; what is shared is computed only for a message that asks for it
+LAST = [None, None]
 def reaction(me, now, m, st, inp):
+    asked = (me, now, m, st, inp)
+    if LAST[0] is not None and LAST[0][2] is m and LAST[0] == asked: return LAST[1]
     sh = ()
     if inp.n == 'Deliver' and inp.a[0].d['body'].n == 'GetChunk': sh = app(fn(PR + 'View', 'shared_entries'), m)
     res = apps(fn(PR + 'Table', 'react'), me, sh, now, app(fn(PR + 'View', 'view'), m), st, inp)
-    return app(fn(PR + 'Reaction', 'drawn'), res)
+    LAST[:] = [asked, app(fn(PR + 'Reaction', 'drawn'), res)]
+    return LAST[1]
 N[PR + 'Reaction.reaction'] = nat(5)(reaction)
 N['mon_kv.specs.Readers.size_of'] = nat(1)(lambda m: sum(len(k[0]) + len(k[1]) + len(v) + 16 for k, v in m.d.items()))
 antt.STD.update({
@@ -271,13 +275,97 @@ def flat(w, n):
     d = dict(w.d)
     for k in ('store', 'state', 'transactions'): d[k] = tabled(d[k], n)
     return Rec(d)
+# ---- what the definitions call safe and calm, asked of computed worlds
+
+QM = 'quorum_model.specs.'
+def last_of(m): return app(fn(QM + 'Growth', 'last_of'), m)
+def epoch_of(m): return app(fn(PR + 'View', 'epoch_of'), app(fn(PR + 'View', 'view'), m))
+def shared(m): return app(fn('mon_tx.specs.Keys', 'shared'), m)
+def folded(log, c): return apps(fn('mon_msg.specs.Fold', 'fold'), log, c)
+def entry(log, v): return apps(fn('mon_msg.specs.Fold', 'entry'), log, v)
+def unsafe(w, n):
+    """what of a world isn't safe; that transactions are those of the events is not asked"""
+    d = w.d; log = d['log']; bad = []
+    stores = [app(d['store'], i) for i in range(n)]; states = [app(d['state'], i) for i in range(n)]
+    lasts = [last_of(m) for m in stores]
+    for i, m in enumerate(stores):
+        if app(fn('mon_kv.specs.Readers', 'is_marked'), m): continue
+        first = max(1, number_in(fm_get(m, Tup(b'paxos', b'first_committed'))))
+        if not (lasts[i] <= len(log) and shared(m) == folded(log, lasts[i])
+                and all(fm_get(m, Tup(b'paxos', str(v).encode())) == Some(entry(log, v)) for v in range(first, lasts[i] + 1))): bad.append(('agree', i))
+    made = fn(QM + 'Clients', 'made_by'); command = fn(QM + 'Clients', 'command_of')
+    for v in range(len(log)):
+        view = apps(fn('log_model.specs.LogOfValues', 'view_at'), log, v)
+        asked = {repr((c.a[0], a.d['rank'] if c.a[0].n == 'Log' else 0)): (c.a[0], a.d['rank']) for a in d['asked'] for c in [app(command, a.d['request'])] if c.n == 'Some'}
+        values = (apps(fn(PR + 'Value', 'value'), view, c, r) for c, r in asked.values())
+        if not any(x.n == 'Ok' and B(tx_text(x.a[0])) == B(entry(log, v + 1)) for x in values): bad.append(('asked', v))
+    put_in = lambda s, v: apps(fn('mon_msg.specs.Fold', 'put_in'), s, app(fn('mon_tx.specs.Decode', 'ops_in'), entry(log, v)))
+    active = fn(QM + 'Happens', 'is_active'); seen = set()
+    for a in d['acknowledged']:
+        a = a.d
+        ok = 1 <= a['version'] <= len(log) and a['version'] not in seen and B(a['incremental']) in [B(x) for x in put_in(a['service'], a['version'])]
+        for i, s in enumerate(states):
+            if s.n == 'Some' and app(active, s.a[0].d['phase']) and a['pn'] <= s.a[0].d['leader'].d['pn'] and lasts[i] < a['version']: ok = False
+        seen.add(a['version'])
+        if not ok: bad.append(('kept', a['version']))
+    incs = lambda s, c: apps(fn('mon_msg.specs.Fold', 'incrementals'), s, log, c)
+    for r in d['replied']:
+        r = r.d; x = r['reply']
+        if x.n == 'Done':
+            answered = [a for a in d['acknowledged'] if a.d['version'] == x.a[0] and a.d['event'] <= r['event'] and any(
+                b.d['rank'] == r['rank'] and b.d['session'] == r['session'] and apps(made, b.d['rank'], b.d['request']) == Some(Tup(a.d['service'], a.d['incremental'])) for b in d['asked'])]
+            if not answered: bad.append(('answered', x.a[0]))
+        elif x.n == 'Shown':
+            service, paxos, version, shown = x.a
+            if not (paxos == r['last'] and version == len(incs(service, paxos)) and shown == apps(fn('mon_msg.specs.Fold', 'map_of_log'), service, log, paxos)): bad.append(('shown', r['event']))
+        elif x.n == 'Since':
+            service, at, told, more = x.a; others = incs(service, r['last'])[at:]
+            if [B(t) for t in told] != [B(t) for t in others[:len(told)]] or more != (len(told) < len(others)): bad.append(('since', r['event']))
+        if x.n in ('Shown', 'Since'):
+            for a in d['acknowledged']:
+                if a.d['event'] < r['event'] and a.d['epoch'] == r['epoch'] and r['last'] < a.d['version']: bad.append(('fence', r['event']))
+    for i, m in enumerate(stores):
+        if apps(fn(QM + 'Safe', 'after_transactions'), app(d['transactions'], i), FinMap({})) != m: bad.append(('held', i))
+    leaders = {}
+    for t in d['active']:
+        if leaders.setdefault(t.a[0], t.a[1]) != t.a[1]: bad.append(('one active', t.a[0]))
+    return bad
+def not_calm(ms, orders, events):
+    """what of the run of events isn't calm, in which these commands were asked"""
+    n = ms.d['count']; w = apps(fn(QM + 'Runs', 'run'), ms, events); d = w.d; log = d['log']; bad = []
+    if tuple(app(fn(QM + 'CalmSchedule', 'numbers_delivered'), events)) != tuple(range(1, len(d['messages']) + 1)): bad.append('once')
+    if tuple(map(B, log)) != tuple(map(B, apps(fn(QM + 'CalmRun', 'log_of'), (), orders))): bad.append('log')
+    if sum(1 for r in d['replied'] if r.d['reply'].n == 'Done') != len(log): bad.append('done')
+    leader = app(d['state'], 0).a[0]; everyone = lambda q: tuple(q) == tuple(i < n for i in range(15))
+    for i in range(n):
+        s = app(d['state'], i).a[0].d; m = app(d['store'], i); view = app(fn(PR + 'View', 'view'), m)
+        stands = lambda lease: apps(fn('mon_lease.specs.Lease', 'stands'), lease, 0)
+        l, p = s['leader'].d, s['peon'].d
+        if i == 0: ok = s['phase'].n == 'Active' and everyone(l['quorum']) and l['pn'] == 100 and stands(l['lease']) and l['acks'] == l['quorum'] and len(s['clients'].d['queue']) == 0
+        else: ok = s['phase'].n == 'Peon' and p['leader'] == 0 and everyone(p['quorum']) and stands(p['lease']) and leader.d['clients'].d['taken'][i] + 1 == s['clients'].d['next_seq']
+        ok = ok and epoch_of(m) == 2 and app(fn(PR + 'View', 'promise_of'), view) == 100 and app(fn(PR + 'Records', 'pending'), view).n == 'None'
+        ok = ok and last_of(m) == len(log) and shared(m) == folded(log, len(log)) and len(s['clients'].d['sessions']) == 0
+        if not ok: bad.append(i)
+    return bad
+def calm(n, orders):
+    ms = Rec({'count': n, 'most': TT, 'rule': Con('Classic')}); orders = tuple(orders)
+    events = apps(fn(QM + 'CalmSchedule', 'starts'), ms); bad = not_calm(ms, (), events)
+    for j, order in enumerate(orders):
+        events = apps(fn(QM + 'CalmSchedule', 'asks_all'), ms, j + 1, events, (order,)); bad += not_calm(ms, orders[:j + 1], events)
+    whole = apps(fn(QM + 'CalmSchedule', 'calm_schedule'), ms, orders)
+    if whole[:len(events)] != events or len(whole) != len(events) + 2 * n: bad.append('schedule')
+    w = apps(fn(QM + 'Runs', 'run'), ms, whole); bad += unsafe(w, n)
+    print('calm', n, 'messages', len(w.d['messages']), 'log', len(w.d['log']), 'acknowledged', len(w.d['acknowledged']), bad or 'all holds')
+    return not bad
 def one(program, schedule, name):
     p = subprocess.run([program, 'replay'], input=schedule.encode(), stdout=subprocess.PIPE, stderr=subprocess.PIPE)
     want = p.stdout.decode()
     got, stop, scenes = trace_of(schedule)
     statuses = {0: None, 10: 'Spent', 13: 'Full'}
     if got == want and statuses.get(p.returncode, '') == (stop.n if stop else None):
-        return True
+        bad = unsafe(scenes[-1].d['world'], int(schedule.split(' ')[1]))
+        if bad: print('UNSAFE', name, bad)
+        return not bad
     a, b = got.split('\n'), want.split('\n')
     for i, (x, y) in enumerate(zip(a, b)):
         if x != y:
@@ -293,6 +381,11 @@ if __name__ == '__main__':
             for f in sorted(os.listdir(os.path.join(antt.ROOT, c))):
                 if f.endswith('.antt') and f != 'Lib.antt':
                     m = module_of((c + '/' + f[:-5]).replace('/', '.')); print(c, f, len(m.defs), m.errors)
+        sys.exit()
+    if sys.argv[1] == 'calm':
+        name = lambda k: Con('Set', (b'k%d' % k, b'v'))
+        orders = [Tup(0, name(1)), Tup(1, Con('Log', (b'text',))), Tup(2, Con('Remove', (b'none',))), Tup(1, Con('Remove', (b'k1',))), Tup(0, name(2))]
+        for n in map(int, sys.argv[2:]): calm(n, [Tup(o.a[0] % n, o.a[1]) for o in orders])
         sys.exit()
     program = sys.argv[1]
     if sys.argv[2] == 'file':

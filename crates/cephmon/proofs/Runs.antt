@@ -1,7 +1,6 @@
 -- What each end of a run shows.
-use Rattle.std.proofs.Common.{◌≡◌, ℕ, ◌<◌, ◌≤◌, Bool, String, List, [], ◌∷◌, length, Option, Some, None, is_some, Err, slice_index_or, codes, sym, ap, subst, ◌∙◌, arith, inl, inr}
+use Rattle.std.proofs.Common.{◌≡◌, ℕ, ◌<◌, ◌≤◌, Bool, String, List, [], ◌∷◌, map, length, Option, Some, None, is_some, Err, slice_index_or, codes, sym, ap, subst, ◌∙◌, arith, inl, inr}
 use Rattle.std.specs.declared.alloc.Global.{Global}
-use Rattle.std.specs.List.{filter_map}
 use Rattle.std.specs.Bool.{OnTrue}
 use Rattle.std.specs.String.{string_bytes}
 use Rattle.std.specs.Str.{bytes_eq}
@@ -10,15 +9,15 @@ use Rattle.std.proofs.lemmas.Slice.Eq.{bytes_eq-Decides}
 use Rattle.std.specs.Io.KnownBytes.{Appends, IsAtEnd}
 use Rattle.mon_types.specs.declared.names.Which.{Which}
 use Rattle.mon_link.specs.Whole.{ReadsWhole, ConsumesFront, AppendsFront}
-use Rattle.quorum_model.specs.Happens.{run}
 use Rattle.quorum_model.specs.Happens as happens
 use Rattle.quorum_model.specs.Monitors.{alone}
 use Rattle.quorum_model.specs.Safe.{Safe}
+use Rattle.quorum_model.specs.Scenes.{events_of}
 use Rattle.quorum_model.proofs.Whole.{runs_are_safe}
 use Rattle.schedule_text.specs.declared.schedule.Schedule.{Schedule}
 use Rattle.schedule_text.specs.Spelling.{HasText, schedule_text}
 use Rattle.cephmon.specs.Built.{unbuilt}
-use Rattle.mon_world.specs.Events.{event_of}
+use Rattle.mon_world.specs.Events.{scheduled_of}
 use Rattle.cephmon.specs.Trace.{Trace, trace}
 use Rattle.cephmon.specs.declared.replay.ReplayStop.{ReplayStop}
 use Rattle.cephmon.specs.declared.replay.ReplayStop.TheVariants as stop
@@ -36,8 +35,8 @@ one_word (w ∷ []) word text b some few first is same =
     ap (λ (x : List ℕ). x ∷ []) (ap (λ (s : String Global). string_bytes s) (sym first) ∙ sym is ∙ spelled))
 one_word (w ∷ v ∷ more) word text b some few first is same = absurd (omega arith)
 
-is_safe : (s : Schedule) → HasText s → unbuilt s ≡ None → Safe 1 (run alone (filter_map event_of s.events))
-is_safe s h e = runs_are_safe (filter_map event_of s.events) (all_spoken s.events (all_run s h e))
+is_safe : (s : Schedule) → HasText s → unbuilt s ≡ None → Safe alone (events_of alone (map scheduled_of s.events))
+is_safe s h e = runs_are_safe (events_of alone (map scheduled_of s.events)) (all_spoken s.events (all_run s h e))
 
 replays : (bytes : List ℕ) (fact : Trace → Type 0) (s : Schedule) → HasText s → unbuilt s ≡ None → bytes ≡ schedule_text s → fact (trace alone s.events) → Replays bytes fact
 replays bytes fact s h b e t = record { schedule = s; form = h; built = b; text = e; safe = is_safe s h b; traced = t }

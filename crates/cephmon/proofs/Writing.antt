@@ -9,7 +9,7 @@ use Rattle.mon_types.specs.declared.names.Stop.TheVariants as outside
 use Rattle.mon_link.specs.Whole.{AppendsFront}
 use Rattle.quorum_model.specs.Monitors.{alone}
 use Rattle.quorum_model.specs.Happens as happens
-use Rattle.quorum_model.specs.World as model
+use Rattle.quorum_model.specs.Scenes.{Scene, first_scene}
 use Rattle.schedule_text.specs.declared.event.Event.{Event}
 use Rattle.trace_text.specs.declared.step.StepLine.{StepLine}
 use Rattle.trace_text.specs.Trace.{step_lines, end_text}
@@ -18,10 +18,9 @@ use Rattle.mon_world.specs.declared.stop.WorldStop.TheVariants as world_stop
 use Rattle.mon_world.specs.declared.world.World.{World}
 use Rattle.cephmon.specs.declared.replay.ReplayStop.{ReplayStop}
 use Rattle.cephmon.specs.declared.replay.ReplayStop.TheVariants as stop
-use Rattle.mon_world.specs.Events.{event_runs, event_of}
+use Rattle.mon_world.specs.Events.{event_runs}
 use Rattle.mon_world.specs.Step.{step}
 use Rattle.cephmon.specs.Trace.{Trace, behind, goes_on, trace_from}
-use Rattle.mon_world.proofs.Spoken.{happening}
 use Rattle.mon_world.specs.Stands.{StandsFor, Stops, Does}
 use Rattle.cephmon.specs.Replay.{Did, Writes, stop_of, fault_of}
 
@@ -66,28 +65,28 @@ writes_fault outside.OutOfMemory a b t p = p
 -- ---- an event
 
 -- memory ran out before its lines
-pub did_memory : (world : World) (a : Option (List ℕ)) (number : ℕ) (e : Event) (wanted : Result (model.World × StepLine) happens.Stop) → Did (Err stop.OutOfMemory) world a a number e wanted
+pub did_memory : (world : World) (a : Option (List ℕ)) (number : ℕ) (e : Event) (wanted : Result (Scene × StepLine) happens.Stop) → Did (Err stop.OutOfMemory) world a a number e wanted
 did_memory world a number e wanted follow = front_none a _
 
 -- the run stopped at it, or memory ran out
-pub did_stop : (s : WorldStop) (world : World) (a : Option (List ℕ)) (number : ℕ) (e : Event) (wanted : Result (model.World × StepLine) happens.Stop) → Stops s wanted
+pub did_stop : (s : WorldStop) (world : World) (a : Option (List ℕ)) (number : ℕ) (e : Event) (wanted : Result (Scene × StepLine) happens.Stop) → Stops s wanted
     → Did (Err (stop_of s)) world a a number e wanted
 did_stop world_stop.OutOfMemory world a number e wanted fails follow = front_none a _
 did_stop (world_stop.Spent which) world a number e wanted stops follow =
-    subst (λ (r : Result (model.World × StepLine) happens.Stop). Writes (Err (stop.Spent which)) a a (goes_on number e follow r)) (sym stops) (refl, Appends-nil a)
+    subst (λ (r : Result (Scene × StepLine) happens.Stop). Writes (Err (stop.Spent which)) a a (goes_on number e follow r)) (sym stops) (refl, Appends-nil a)
 did_stop (world_stop.Full would_be) world a number e wanted stops follow =
-    subst (λ (r : Result (model.World × StepLine) happens.Stop). Writes (Err (stop.Full would_be)) a a (goes_on number e follow r)) (sym stops) (refl, Appends-nil a)
+    subst (λ (r : Result (Scene × StepLine) happens.Stop). Writes (Err (stop.Full would_be)) a a (goes_on number e follow r)) (sym stops) (refl, Appends-nil a)
 
 -- its lines stopped on their way
-pub did_fault : (s : Stop) (line : StepLine) (world : World) (a b : Option (List ℕ)) (number : ℕ) (e : Event) (wanted : Result (model.World × StepLine) happens.Stop) (bs : List ℕ)
+pub did_fault : (s : Stop) (line : StepLine) (world : World) (a b : Option (List ℕ)) (number : ℕ) (e : Event) (wanted : Result (Scene × StepLine) happens.Stop) (bs : List ℕ)
     → bs ≡ step_lines number e line → Does (Ok line) world wanted → AppendsFront a b bs → Did (Err (fault_of s)) world a b number e wanted
 did_fault s line world a b number e wanted bs is does p follow =
     let front = front_first a b (step_lines number e line) (follow does.0).text (subst (AppendsFront a b) is p) in
-    subst (λ (r : Result (model.World × StepLine) happens.Stop). Writes (Err (fault_of s)) a b (goes_on number e follow r)) (sym does.1)
+    subst (λ (r : Result (Scene × StepLine) happens.Stop). Writes (Err (fault_of s)) a b (goes_on number e follow r)) (sym does.1)
     (writes_fault s a b (behind (step_lines number e line) (follow does.0)) front)
 
 -- its lines were written
-pub did_write : (line : StepLine) (world : World) (a b : Option (List ℕ)) (number : ℕ) (e : Event) (wanted : Result (model.World × StepLine) happens.Stop) (bs : List ℕ)
+pub did_write : (line : StepLine) (world : World) (a b : Option (List ℕ)) (number : ℕ) (e : Event) (wanted : Result (Scene × StepLine) happens.Stop) (bs : List ℕ)
     → bs ≡ step_lines number e line → Does (Ok line) world wanted → Appends a b bs → Did (Ok tt) world a b number e wanted
 did_write line world a b number e wanted bs is does p = ((does.0, line), does.1, does.2, subst (Appends a b) is p)
 
@@ -95,45 +94,35 @@ did_write line world a b number e wanted bs is does p = ((does.0, line), does.1,
 
 -- So many of the events were done, and written; the others are run too.
 pub record ComesTo (world : World) (old now : Option (List ℕ)) (es : List Event) (n : ℕ) : Type 0 where
-  next : model.World
+  next : Scene
   lines : List ℕ
-  stands : StandsFor world next
+  stands : StandsFor world next.world
   put : Appends old now lines
-  same : trace_from alone 0 model.first_world es ≡ behind lines (trace_from alone n next (drop n es))
+  same : trace_from alone 0 first_scene es ≡ behind lines (trace_from alone n next (drop n es))
   fits : IsTrue (list_all event_runs (drop n es))
 
 -- none was done
-pub begins : (world : World) (a : Option (List ℕ)) (es : List Event) → StandsFor world model.first_world → IsTrue (list_all event_runs es) → ComesTo world a a es 0
-begins world a es stands fits = record { next = model.first_world; lines = []; stands = stands; put = Appends-nil a; same = refl; fits = fits }
+pub begins : (world : World) (a : Option (List ℕ)) (es : List Event) → StandsFor world first_scene.world → IsTrue (list_all event_runs es) → ComesTo world a a es 0
+begins world a es stands fits = record { next = first_scene; lines = []; stands = stands; put = Appends-nil a; same = refl; fits = fits }
 
-one_more : (n : ℕ) (w : model.World) (e : Event) (h : model.Event) (es : List Event) → event_of e ≡ Some h
-    → trace_from alone n w (e ∷ es) ≡ goes_on (suc n) e (λ next. trace_from alone (suc n) next es) (step alone w h)
+one_more : (n : ℕ) (c : Scene) (e : Event) (es : List Event) → trace_from alone n c (e ∷ es) ≡ goes_on (suc n) e (λ next. trace_from alone (suc n) next es) (step alone c e)
 unfolding trace_from
-one_more n w e h es is = rw (is, trace_from) refl
+one_more n c e es = refl
 
 behind_behind : (xs ys : List ℕ) (t : Trace) → behind xs (behind ys t) ≡ behind (xs ++ ys) t
 behind_behind xs ys t = ap (λ (l : List ℕ). record { text = l; stop = t.stop }) (sym (append_assoc xs ys t.text))
 
--- what is known of the event that is done next
-record Next (e : Event) (es : List Event) : Type 0 where
-  happens : model.Event
-  is : event_of e ≡ Some happens
-  fits : IsTrue (list_all event_runs es)
-
-next_of : (e : Event) (rest es : List Event) → rest ≡ e ∷ es → IsTrue (list_all event_runs rest) → Next e es
-next_of e rest es is fits =
-    let all = both (event_runs e) (list_all event_runs es) (subst (λ (es : List Event). IsTrue (list_all event_runs es)) is fits) in
-    let so = happening e all.0 in
-    record { happens = so.0; is = so.1; fits = all.1 }
+-- the events behind the next one are run too
+others_fit : (e : Event) (rest es : List Event) → rest ≡ e ∷ es → IsTrue (list_all event_runs rest) → IsTrue (list_all event_runs es)
+others_fit e rest es is fits = (both (event_runs e) (list_all event_runs es) (subst (λ (es : List Event). IsTrue (list_all event_runs es)) is fits)).1
 
 -- one more event was done
 pub comes_on : (world new : World) (a b c : Option (List ℕ)) (es : List Event) (n number : ℕ) (e : Event) → number ≡ suc n → drop n es ≡ e ∷ drop (n + 1) es
     → ComesTo world a b es n
-    → ((w : model.World) (h : model.Event) → StandsFor world w → event_of e ≡ Some h → Did (Ok tt) new b c number e (step alone w h))
+    → ((s : Scene) → StandsFor world s.world → Did (Ok tt) new b c number e (step alone s e))
     → ComesTo new a c es (n + 1)
 comes_on world new a b c es n number e count rest so_far did =
-    let next = next_of e (drop n es) (drop (n + 1) es) rest so_far.fits in
-    let d = did so_far.next next.happens so_far.stands next.is in
+    let d = did so_far.next so_far.stands in
     let m : n + 1 ≡ suc n = omega arith in
     let lines = step_lines number e d.0.1 in
     record {
@@ -143,29 +132,28 @@ comes_on world new a b c es n number e count rest so_far did =
       put = Appends-trans a b c so_far.lines lines so_far.put d.3;
       same =
           so_far.same ∙ ap (λ (l : List Event). behind so_far.lines (trace_from alone n so_far.next l)) rest
-          ∙ ap (behind so_far.lines) (one_more n so_far.next e next.happens (drop (n + 1) es) next.is
+          ∙ ap (behind so_far.lines) (one_more n so_far.next e (drop (n + 1) es)
           ∙ ap (goes_on (suc n) e (λ next. trace_from alone (suc n) next (drop (n + 1) es))) d.1)
           ∙ (λ i. behind so_far.lines (behind (step_lines (sym count i) e d.0.1) (trace_from alone (sym m i) d.0.0 (drop (n + 1) es))))
           ∙ behind_behind so_far.lines lines (trace_from alone (n + 1) d.0.0 (drop (n + 1) es));
-      fits = next.fits;
+      fits = others_fit e (drop n es) (drop (n + 1) es) rest so_far.fits;
     }
 
 -- the event stopped, and all of them with it
 pub stops_at : (s : ReplayStop) (world new : World) (a b c : Option (List ℕ)) (es : List Event) (n number : ℕ) (e : Event) → number ≡ suc n → drop n es ≡ e ∷ drop (n + 1) es
     → ComesTo world a b es n
-    → ((w : model.World) (h : model.Event) → StandsFor world w → event_of e ≡ Some h → Did (Err s) new b c number e (step alone w h))
-    → Writes (Err s) a c (trace_from alone 0 model.first_world es)
+    → ((t : Scene) → StandsFor world t.world → Did (Err s) new b c number e (step alone t e))
+    → Writes (Err s) a c (trace_from alone 0 first_scene es)
 stops_at s world new a b c es n number e count rest so_far did =
-    let next = next_of e (drop n es) (drop (n + 1) es) rest so_far.fits in
-    let follow = λ (next : model.World). trace_from alone (suc n) next (drop (n + 1) es) in
-    let d : Writes (Err s) b c (goes_on (suc n) e follow (step alone so_far.next next.happens)) =
-    subst (λ (k : ℕ). Writes (Err s) b c (goes_on k e follow (step alone so_far.next next.happens))) count (did so_far.next next.happens so_far.stands next.is follow) in
-    let whole = so_far.same ∙ ap (behind so_far.lines) (ap (trace_from alone n so_far.next) rest ∙ one_more n so_far.next e next.happens (drop (n + 1) es) next.is) in
+    let follow = λ (next : Scene). trace_from alone (suc n) next (drop (n + 1) es) in
+    let d : Writes (Err s) b c (goes_on (suc n) e follow (step alone so_far.next e)) =
+    subst (λ (k : ℕ). Writes (Err s) b c (goes_on k e follow (step alone so_far.next e))) count (did so_far.next so_far.stands follow) in
+    let whole = so_far.same ∙ ap (behind so_far.lines) (ap (trace_from alone n so_far.next) rest ∙ one_more n so_far.next e (drop (n + 1) es)) in
     subst (Writes (Err s) a c) (sym whole) (writes_behind (Err s) a b c so_far.lines _ so_far.put d)
 
 -- the last line, of which something was written
 pub ends : (r : Result Unit ReplayStop) (world : World) (a b c : Option (List ℕ)) (es : List Event) (n : ℕ) → drop n es ≡ [] → ComesTo world a b es n
-    → Writes r b c (record { text = end_text n world.log; stop = None }) → Writes r a c (trace_from alone 0 model.first_world es)
+    → Writes r b c (record { text = end_text n world.log; stop = None }) → Writes r a c (trace_from alone 0 first_scene es)
 unfolding trace_from
 ends r world a b c es n none so_far w =
     let last : trace_from alone n so_far.next (drop n es) ≡ record { text = end_text n world.log; stop = None } =

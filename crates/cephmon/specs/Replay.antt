@@ -6,7 +6,7 @@ use Rattle.schedule_text.specs.declared.event.Event as schedule
 use Rattle.trace_text.specs.declared.step.StepLine.{StepLine}
 use Rattle.trace_text.specs.Trace.{step_lines}
 use Rattle.quorum_model.specs.Happens as happens
-use Rattle.quorum_model.specs.World as model
+use Rattle.quorum_model.specs.Scenes.{Scene}
 use Rattle.mon_world.specs.declared.stop.WorldStop.{WorldStop}
 use Rattle.mon_world.specs.declared.stop.WorldStop.TheVariants as world_stop
 use Rattle.mon_world.specs.declared.world.World.{World}
@@ -27,10 +27,10 @@ Writes (Err stop.OutOfMemory) old new trace = AppendsFront old new trace.text
 
 -- What a call that does one event left, and wrote to the sink: the event's lines; or what is written of any trace that
 -- goes on with it.
-abbrev pub Did : Result Unit ReplayStop → World → Option (List ℕ) → Option (List ℕ) → ℕ → schedule.Event → Result (model.World × StepLine) happens.Stop → Type 0
+abbrev pub Did : Result Unit ReplayStop → World → Option (List ℕ) → Option (List ℕ) → ℕ → schedule.Event → Result (Scene × StepLine) happens.Stop → Type 0
 Did (Ok done) world old new number e wanted =
-    (next : model.World × StepLine) × (wanted ≡ Ok next) × StandsFor world next.0 × Appends old new (step_lines number e next.1)
-Did (Err s) world old new number e wanted = (follow : model.World → Trace) → Writes (Err s) old new (goes_on number e follow wanted)
+    (next : Scene × StepLine) × (wanted ≡ Ok next) × StandsFor world next.0.world × Appends old new (step_lines number e next.1)
+Did (Err s) world old new number e wanted = (follow : Scene → Trace) → Writes (Err s) old new (goes_on number e follow wanted)
 
 -- how the stops of the parts end a replay
 abbrev pub stop_of : WorldStop → ReplayStop

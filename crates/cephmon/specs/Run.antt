@@ -1,6 +1,5 @@
 -- What a replay reads and writes, and the cause of each status.
 use Rattle.std.specs.Prelude.{◌≡◌, ℕ, ◌≤◌, ◌⊎◌, List, [], ◌∷◌, length, map, Option, Some, None, Err, String, string_bytes, codes}
-use Rattle.std.specs.List.{filter_map}
 use Rattle.std.specs.declared.alloc.Global.{Global}
 use Rattle.std.specs.Io.KnownBytes.{Appends, IsAtEnd}
 use Rattle.mon_types.specs.Faults.{Rose}
@@ -9,13 +8,14 @@ use Rattle.schedule_text.specs.declared.schedule.Schedule.{Schedule}
 use Rattle.schedule_text.specs.declared.refusal.ScheduleRefused.TheVariants.{At}
 use Rattle.schedule_text.specs.Spelling.{HasText, schedule_text}
 use Rattle.cephmon.specs.Built.{unbuilt, runnable_at}
-use Rattle.quorum_model.specs.Happens.{Stop, run}
+use Rattle.quorum_model.specs.Happens.{Stop}
 use Rattle.quorum_model.specs.Happens as happens
 use Rattle.quorum_model.specs.Monitors.{alone}
 use Rattle.quorum_model.specs.Safe.{Safe}
+use Rattle.quorum_model.specs.Scenes.{events_of}
 use Rattle.cephmon.specs.declared.status.Status.{Status}
 use Rattle.cephmon.specs.declared.status.Status.TheVariants as status
-use Rattle.mon_world.specs.Events.{event_of}
+use Rattle.mon_world.specs.Events.{scheduled_of}
 use Rattle.cephmon.specs.Trace.{Trace, trace}
 
 -- the one word `replay`
@@ -44,7 +44,7 @@ pub record Replays (bytes : List ℕ) (fact : Trace → Type 0) : Type 0 where
   pub form : HasText schedule
   pub built : unbuilt schedule ≡ None
   pub text : bytes ≡ schedule_text schedule
-  pub safe : Safe 1 (run alone (filter_map event_of schedule.events))
+  pub safe : Safe alone (events_of alone (map scheduled_of schedule.events))
   pub traced : fact (trace alone schedule.events)
 
 -- the whole trace went out, and its run came to the end, or this stopped it

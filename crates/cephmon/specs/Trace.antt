@@ -18,7 +18,7 @@ abbrev pub behind : List ℕ → Trace → Trace
 behind lines trace = record { text = lines ++ trace.text; stop = trace.stop }
 
 -- an event's lines and the trace from its scene on; what stops the run ends the trace before the event
-abbrev pub goes_on : {A : Type 0} → ℕ → schedule.Event → (A → Trace) → Result (A × StepLine) Stop → Trace
+abbrev pub goes_on : ℕ → schedule.Event → (Scene → Trace) → Result (Scene × StepLine) Stop → Trace
 goes_on number e follow (Ok done) = behind (step_lines number e done.1) (follow done.0)
 goes_on number e follow (Err stop) = record { text = []; stop = Some stop }
 

@@ -1,13 +1,13 @@
 //! The run of a schedule, whose lines are written as they come.
 
-ghost use Rattle.std.specs.Prelude.{◌≡◌, ℕ, ◌≤◌, IsTrue, OnOk, None, Some, Err, length};
+ghost use Rattle.std.specs.Prelude.{◌≡◌, ℕ, ◌≤◌, IsTrue, OnOk, None, Err, length};
 ghost use Rattle.std.specs.List.{list_all};
 ghost use Rattle.mon_types.specs.Faults.{Rose};
 ghost use Rattle.schedule_text.specs.Spelling.{HasText};
 ghost use Rattle.cephmon.specs.Built.{unbuilt};
 ghost use Rattle.quorum_model.specs.Monitors.{alone};
-ghost use Rattle.quorum_model.specs.World.{World as Model, Event as Happening, first_world};
-ghost use Rattle.mon_world.specs.Events.{event_runs, event_of};
+ghost use Rattle.quorum_model.specs.Scenes.{Scene, first_scene};
+ghost use Rattle.mon_world.specs.Events.{event_runs};
 ghost use Rattle.mon_world.specs.Stands.{IsUsable, StandsFor};
 ghost use Rattle.mon_world.specs.Step.{step};
 ghost use Rattle.cephmon.specs.Trace.{trace_from, trace};
@@ -80,8 +80,8 @@ fn do_event<K: Sink>(
 ) -> Result<(), ReplayStop>
     requires runs { IsTrue (event_runs event.now) }
     requires usable { IsUsable world.old }
-    ensures writes { (w : Model) (e : Happening) → StandsFor world.old w → event_of event.now ≡ Some e →
-        Did result world.new (K.held sink.old) (K.held sink.new) number event.now (step alone w e) }
+    ensures writes { (c : Scene) → StandsFor world.old c.world →
+        Did result world.new (K.held sink.old) (K.held sink.new) number event.now (step alone c event.now) }
     ensures usable { OnOk result (IsUsable world.new) }
     ensures later { K.faults sink.old ≤ K.faults sink.new }
     ensures fault { result ≡ Err ReplayStop.WriteFault → Rose (K.faults sink.old) (K.faults sink.new) }
@@ -96,7 +96,7 @@ fn do_event<K: Sink>(
 fn do_events<K: Sink>(alloc: Global, sink: &mut K, events: &[Event]) -> Result<(), ReplayStop>
     requires fits { IsTrue (list_all event_runs events.now) }
     requires count { length events.now ≤ 200000 }
-    ensures writes { Writes result (K.held sink.old) (K.held sink.new) (trace_from alone 0 first_world events.now) }
+    ensures writes { Writes result (K.held sink.old) (K.held sink.new) (trace_from alone 0 first_scene events.now) }
     ensures later { K.faults sink.old ≤ K.faults sink.new }
     ensures fault { result ≡ Err ReplayStop.WriteFault → Rose (K.faults sink.old) (K.faults sink.new) }
 {

@@ -3,6 +3,7 @@ pub mod Found
 pub mod Opening
 pub mod Kept
 pub mod Reacting
+pub mod Scenes
 pub mod Sizes
 pub mod Spoken
 pub mod Stepping

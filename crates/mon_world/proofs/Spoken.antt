@@ -1,6 +1,6 @@
 -- What is read of a schedule is made of events that the law speaks of.
-use Rattle.std.proofs.Common.{◌≡◌, ℕ, ◌-◌, ◌^◌, ◌<◌, Bool, false, ◌&&◌, leb, ltb, List, [], ◌∷◌, Option, Some, IsTrue, refl, arith}
-use Rattle.std.specs.List.{list_all, filter_map}
+use Rattle.std.proofs.Common.{◌≡◌, ℕ, ◌-◌, ◌^◌, ◌<◌, Bool, false, ◌&&◌, leb, ltb, List, [], ◌∷◌, map, IsTrue, arith}
+use Rattle.std.specs.List.{list_all, AllByRecursion}
 use Rattle.std.proofs.lemmas.Bool.Decides.{nat_tests}
 use Rattle.mon_bytes.specs.Texts.{is_name}
 use Rattle.mon_bytes.proofs.Ascii.{both}
@@ -8,16 +8,17 @@ use Rattle.mon_wire.specs.declared.phase.Timer.{Timer}
 use Rattle.mon_wire.specs.declared.request.Request.{Request}
 use Rattle.mon_wire.specs.declared.request.Request.TheVariants as request
 use Rattle.mon_wire.specs.declared.request.Session.{Session}
-use Rattle.quorum_model.specs.Events.{RequestFits, AllFit}
-use Rattle.quorum_model.specs.World as model
+use Rattle.quorum_model.specs.Events.{RequestFits, PlainFits, AllFit}
+use Rattle.quorum_model.specs.Monitors.{alone}
+use Rattle.quorum_model.specs.Scenes.{Scheduled, first_scene, events_of}
+use Rattle.quorum_model.proofs.Fitting.{all_fit}
 use Rattle.schedule_text.specs.declared.event.Event as schedule
 use Rattle.schedule_text.specs.declared.event.Event.TheVariants as events
 use Rattle.schedule_text.specs.declared.event.Plain.TheVariants as plain
 use Rattle.schedule_text.specs.Words.{printable}
 use Rattle.schedule_text.specs.Spelling.{request_fits, event_fits}
 use Rattle.schedule_text.proofs.FieldLaws.{is_utf8-printable}
-use Rattle.mon_world.specs.Events.{is_built, event_runs}
-use Rattle.mon_world.specs.Events.{event_of}
+use Rattle.mon_world.specs.Events.{scheduled_of, is_built, event_runs}
 
 lt_one : (n : ℕ) → IsTrue (ltb n 1) → n ≡ 0
 lt_one n h = grind (arith, nat_tests)
@@ -28,12 +29,6 @@ never b h = let lost : IsTrue false = (both b false h).1 in absurd cc
 -- both parts of an event that is run
 parts_of : (e : schedule.Event) → IsTrue (event_runs e) → IsTrue (event_fits 1 e) × IsTrue (is_built e)
 parts_of e h = both (event_fits 1 e) (is_built e) h
-
--- what happens by an event that is run
-pub happening : (e : schedule.Event) → IsTrue (event_runs e) → (h : model.Event) × (event_of e ≡ Some h)
-happening (events.Plain event) h = (_, refl)
-happening (events.Crash disk call image event) h = absurd (never (event_fits 1 (events.Crash disk call image event)) h)
-happening (events.Fail disk call image event) h = absurd (never (event_fits 1 (events.Fail disk call image event)) h)
 
 pub rank_runs : (rank at : ℕ) → IsTrue (event_runs (events.Plain (plain.Start rank at))) → rank ≡ 0
 rank_runs rank at h = lt_one rank (both (ltb rank 1) _ (parts_of (events.Plain (plain.Start rank at)) h).0).0
@@ -51,9 +46,6 @@ request_spoken (request.Log text) h = is_utf8-printable text h
 request_spoken (request.Show s) h = tt
 request_spoken (request.Since s version) h = tt
 
-pub some_is : {x y : model.Event} → ◌≡◌ {A = Option model.Event} (Some x) (Some y) → x ≡ y
-some_is e = cc
-
 last_of_five : (a b c d e : Bool) → IsTrue (a && (b && (c && (d && e)))) → IsTrue e
 last_of_five a b c d e h = (both d e (both c (d && e) (both b (c && (d && e)) (both a (b && (c && (d && e))) h).1).1).1).1
 
@@ -64,20 +56,19 @@ asked_fits rank at session asked h =
 below_one : (n : ℕ) → n ≡ 0 → n < 1
 below_one n e = omega arith
 
-unbuilt_runs : (fits others : Bool) → IsTrue ((fits && false) && others) → ⊥
-unbuilt_runs fits others h = never fits (both (fits && false) others h).0
+-- what is run may be met by one monitor
+event_spoken : (e : schedule.Event) → IsTrue (event_runs e) → PlainFits 1 (scheduled_of e).plain
+event_spoken (events.Plain (plain.Start rank at)) h = below_one rank (rank_runs rank at h)
+event_spoken (events.Plain (plain.Deliver message at)) h = tt
+event_spoken (events.Plain (plain.Timer rank kind at)) h = below_one rank (timer_rank_runs rank kind at h)
+event_spoken (events.Plain (plain.Client rank at session asked)) h =
+    (below_one rank (asked_rank_runs rank at session asked h), request_spoken asked (asked_fits rank at session asked h))
+event_spoken (events.Crash disk call image event) h = absurd (never (event_fits 1 (events.Crash disk call image event)) h)
+event_spoken (events.Fail disk call image event) h = absurd (never (event_fits 1 (events.Fail disk call image event)) h)
 
--- so many events that are run happen, and may be met by one monitor
-pub all_spoken : (es : List schedule.Event) → IsTrue (list_all event_runs es) → AllFit 1 (filter_map event_of es)
-all_spoken [] h = tt
-all_spoken (events.Plain (plain.Start rank at) ∷ es) h =
-    let parts = both (event_runs (events.Plain (plain.Start rank at))) (list_all event_runs es) h in (below_one rank (rank_runs rank at parts.0), all_spoken es parts.1)
-all_spoken (events.Plain (plain.Deliver message at) ∷ es) h =
-    let parts = both (event_runs (events.Plain (plain.Deliver message at))) (list_all event_runs es) h in (tt, all_spoken es parts.1)
-all_spoken (events.Plain (plain.Timer rank kind at) ∷ es) h =
-    let parts = both (event_runs (events.Plain (plain.Timer rank kind at))) (list_all event_runs es) h in (below_one rank (timer_rank_runs rank kind at parts.0), all_spoken es parts.1)
-all_spoken (events.Plain (plain.Client rank at session asked) ∷ es) h =
-    let parts = both (event_runs (events.Plain (plain.Client rank at session asked))) (list_all event_runs es) h in
-    ((below_one rank (asked_rank_runs rank at session asked parts.0), request_spoken asked (asked_fits rank at session asked parts.0)), all_spoken es parts.1)
-all_spoken (events.Crash disk call image event ∷ es) h = absurd (unbuilt_runs (event_fits 1 (events.Crash disk call image event)) (list_all event_runs es) h)
-all_spoken (events.Fail disk call image event ∷ es) h = absurd (unbuilt_runs (event_fits 1 (events.Fail disk call image event)) (list_all event_runs es) h)
+each_spoken : (es : List schedule.Event) → IsTrue (list_all event_runs es) → AllByRecursion (λ (e : Scheduled). PlainFits 1 e.plain) (map scheduled_of es)
+each_spoken [] h = tt
+each_spoken (e ∷ es) h = let parts = both (event_runs e) (list_all event_runs es) h in (event_spoken e parts.0, each_spoken es parts.1)
+
+pub all_spoken : (es : List schedule.Event) → IsTrue (list_all event_runs es) → AllFit 1 (events_of alone (map scheduled_of es))
+all_spoken es h = all_fit alone 1 first_scene (map scheduled_of es) (each_spoken es h)

@@ -26,7 +26,6 @@ use Rattle.quorum_model.specs.Monitors.{alone, itself}
 use Rattle.quorum_model.specs.World.{World as Model, Plain as Coming, Comes, Start, Deliver, Expire, Client, Envelope}
 use Rattle.quorum_model.proofs.Ringing.{rings}
 use Rattle.quorum_model.proofs.StaysSettled.{start_settled, client_settled}
-use Rattle.schedule_text.specs.declared.event.Event.TheVariants as events
 use Rattle.schedule_text.specs.declared.event.Plain.{Plain}
 use Rattle.schedule_text.specs.declared.event.Plain.TheVariants as plain
 use Rattle.trace_text.specs.declared.step.Outcome.TheVariants.{Ran, Down, NoMessage}
@@ -40,8 +39,7 @@ use Rattle.mon_world.specs.declared.stop.WorldStop.{WorldStop}
 use Rattle.mon_world.specs.declared.stop.WorldStop.TheVariants.{OutOfMemory, Spent, Full}
 use Rattle.mon_world.specs.declared.world.World.{World}
 use Rattle.mon_world.specs.Node.{Fails, sends_of, IsReaction}
-use Rattle.mon_world.specs.Events.{event_of}
-use Rattle.mon_world.proofs.Spoken.{some_is}
+use Rattle.mon_world.specs.Events.{plain_event}
 use Rattle.mon_world.specs.Site.{SiteState}
 use Rattle.mon_world.specs.Stands.{IsUp, StandsFor, Stops, DoesPlain}
 use Rattle.mon_world.specs.Step.{state_of, told, state_before, numbered, replied, with_line, met_line, plain_step, log_after, still_line, ran_line}
@@ -331,18 +329,3 @@ module _ (r : Result StepLine WorldStop) (old new : World) (event : Plain) where
   pub step-deliver : (k at : ℕ) → event ≡ plain.Deliver k at → ((k at : ℕ) (w : Model) → StandsFor old w → DoesPlain r new (plain_step alone w (Deliver k at)))
       → (w : Model) → StandsFor old w → DoesPlain r new (plain_step alone w (plain_event event))
   step-deliver k at so does w stand = comes_by (plain.Deliver k at) so w (does k at w stand)
-
--- the disks don't decide what a plain event does
-pub in_scene : (result : Result StepLine WorldStop) (new : World) (c : Scene) (p : Plain) → DoesPlain result new (plain_step alone c.world (plain_event p)) → Does result new (step alone c (events.Plain p))
-in_scene result new c p = by result (happens alone c.world (Comes (plain_event p)))
-  where
-    line : StepLine
-    line = met_line c.world (meets alone c.world (plain_event p))
-
-    files : ℕ → Files
-    files = all_files_after c None (meets alone c.world (plain_event p))
-
-    by : (result : Result StepLine WorldStop) (r : Result Model happens.Stop) → DoesPlain result new (with_line line r) → Does result new (with_line line (with_files files r))
-    by (Ok told) (Ok next) d = (record { world = next; files = files }, λ i. Ok (record { world = next; files = files }, told_is d.1 i), subst (StandsFor new) (next_is d.1) d.2)
-    by (Ok told) (Err stop) d = absurd cc
-    by (Err e) r d = by_stop e r d

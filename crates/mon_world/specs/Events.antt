@@ -17,8 +17,10 @@ plain_event (plain.Client rank at session request) = model.Client rank at sessio
 -- a crash and a fault of a disk are one to the model: the disk fails, and the monitor is down
 abbrev pub scheduled_of : schedule.Event → Scheduled
 scheduled_of (events.Plain p) = record { plain = plain_event p; upset = None }
-scheduled_of (events.Crash disk call image p) = record { plain = plain_event p; upset = Some (record { disk = disk; call = call; image = image }) }
-scheduled_of (events.Fail disk call image p) = record { plain = plain_event p; upset = Some (record { disk = disk; call = call; image = image }) }
+scheduled_of (events.Crash disk call image p) =
+    record { plain = plain_event p; upset = Some (record { disk = disk; call = call; image = image }) }
+scheduled_of (events.Fail disk call image p) =
+    record { plain = plain_event p; upset = Some (record { disk = disk; call = call; image = image }) }
 
 -- ---- what happens so far
 
@@ -30,8 +32,3 @@ is_built other = false
 -- what the one monitor may meet
 abbrev pub event_runs : schedule.Event → Bool
 event_runs event = event_fits 1 event && is_built event
-
--- what comes by a schedule's event
-abbrev pub event_of : schedule.Event → Option model.Plain
-event_of (events.Plain p) = Some (plain_event p)
-event_of other = None

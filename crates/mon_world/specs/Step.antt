@@ -99,8 +99,10 @@ upset_line c u how other = met_line c.world other
 
 abbrev pub line_of : Scene → schedule.Event → Meeting → StepLine
 line_of c (events.Plain p) met = met_line c.world met
-line_of c (events.Crash disk call image p) met = upset_line c (record { disk = disk; call = call; image = image }) outcome.Crashed met
-line_of c (events.Fail disk call image p) met = upset_line c (record { disk = disk; call = call; image = image }) outcome.Failed met
+line_of c (events.Crash disk call image p) met =
+    upset_line c (record { disk = disk; call = call; image = image }) outcome.Crashed met
+line_of c (events.Fail disk call image p) met =
+    upset_line c (record { disk = disk; call = call; image = image }) outcome.Failed met
 
 -- the scene after an event of a schedule, with its lines, or what stops the run before it
 abbrev pub step : Monitors → Scene → schedule.Event → Result (Scene × StepLine) Stop

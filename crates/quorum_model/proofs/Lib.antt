@@ -1,6 +1,7 @@
 pub mod Asking
 pub mod Commit
 pub mod Examples
+pub mod Fitting
 pub mod Invariant
 pub mod Lists
 pub mod Made

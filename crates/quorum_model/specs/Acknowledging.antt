@@ -45,7 +45,8 @@ done_by s (sent.Message to m) = done_by_route m.body
 abbrev pub record_kept : Store → ℕ → List Op
 record_kept m v = ops_in (bytes_or_none (cell m area.Paxos (key.Version v)))
 
--- The service and the incremental that a value puts. One that puts none counts as one without bytes, which no value puts.
+-- The service and the incremental that a value puts. One that puts none counts as one without bytes, which no value
+-- puts.
 abbrev pub kv_or_log : (kv log : List (List ℕ)) → Service × List ℕ
 kv_or_log (i ∷ is) others = (service.Kv, i)
 kv_or_log [] (i ∷ is) = (service.Log, i)
@@ -57,7 +58,14 @@ incremental_in ops = kv_or_log (put_in service.Kv ops) (put_in service.Log ops)
 abbrev pub acknowledgement : (event : ℕ) → Store → State → ℕ → Acknowledged
 acknowledgement event m s v =
     let made = incremental_in (record_kept m v) in
-    record { event = event; version = v; pn = s.leader.pn; epoch = epoch_of (readings_of m); service = made.0; incremental = made.1 }
+    record {
+      event = event;
+      version = v;
+      pn = s.leader.pn;
+      epoch = epoch_of (readings_of m);
+      service = made.0;
+      incremental = made.1;
+    }
 
 -- what the sends of an event acknowledge, after which the monitor keeps m and remembers s
 abbrev pub acknowledgements_of : (event : ℕ) → Store → State → List Sent → List Acknowledged

@@ -19,15 +19,16 @@ abbrev pub Among : {A : Type 0} → A → List A → Type 0
 Among x [] = ⊥
 Among x (y ∷ ys) = (x ≡ y) ⊎ Among x ys
 
--- A monitor's committed versions are entries of the log: those that it keeps are the same bytes, and what it shares with
--- others is the log's fold.
+-- A monitor's committed versions are entries of the log: those that it keeps are the same bytes, and what it shares is the
+-- log's fold.
 pub record Agrees (log : List (List ℕ)) (m : Store) : Type 0 where
   pub within : last_of m ≤ length log
-  pub records : (v : ℕ) → max 1 (number m area.Paxos key.FirstCommitted) ≤ v → v ≤ last_of m → cell m area.Paxos (key.Version v) ≡ Some (entry log v)
+  pub records : (v : ℕ) → max 1 (number m area.Paxos key.FirstCommitted) ≤ v → v ≤ last_of m
+      → cell m area.Paxos (key.Version v) ≡ Some (entry log v)
   pub folded : shared m ≡ fold log (last_of m)
 
--- Version v + 1 of the log spells the value of a command that a client asked, over the versions before it. A text for the
--- cluster log names the monitor that was asked.
+-- Version v + 1 of the log spells the value of a command that a client asked, over the versions before it. In a text for
+-- the cluster log stands the rank that was asked.
 pub record IsAsked (asked : List Asked) (log : List (List ℕ)) (v : ℕ) : Type 0 where
   pub by : Asked
   pub was_asked : Among by asked

@@ -1,4 +1,5 @@
--- Calm schedules: each message comes once, in order and before anything else happens, no timer expires, and no time passes.
+-- Calm schedules: each message comes once, in order and before anything else happens; no timer expires, and no time
+-- passes.
 use Rattle.std.specs.Prelude.{ℕ, zero, suc, nat_le, List, [], ◌∷◌, ◌++◌, length, map, Option, Some, None, if◌then◌else◌}
 use Rattle.std.specs.List.{filter_map, flat_map, range_with_len}
 use Rattle.mon_bytes.specs.declared.command.Command.{Command}
@@ -34,7 +35,8 @@ numbers_delivered events = filter_map number_delivered events
 
 -- ---- deliveries
 
--- each message from number k on that was sent by then or is sent by these events, in order, until none is left; at most so many
+-- Each message from number k on, in order, until none is left: those that were sent by then, and those that these events
+-- send. At most so many.
 unfoldable pub deliveries : Monitors → (most k : ℕ) → World → List Event
 deliveries ms zero k w = []
 deliveries ms (suc most) k w =
@@ -68,7 +70,8 @@ orders ms cs = asks_all ms 1 (starts ms) cs
 
 -- at the end each monitor shows both maps
 abbrev pub shows : (j n : ℕ) → List Event
-shows j n = flat_map (λ i. asks j i (request.Show service.Kv) ∷ asks j i (request.Show service.Log) ∷ []) (range_with_len 0 n)
+shows j n =
+    flat_map (λ i. asks j i (request.Show service.Kv) ∷ asks j i (request.Show service.Log) ∷ []) (range_with_len 0 n)
 
 abbrev pub calm_schedule : Monitors → List Order → List Event
 calm_schedule ms cs = orders ms cs ++ shows (suc (length cs)) ms.count

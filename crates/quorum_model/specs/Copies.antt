@@ -11,7 +11,8 @@ use Rattle.mon_msg.specs.Fold.{entry, fold}
 use Rattle.mon_msg.specs.Protocol.Places.{is_after}
 use Rattle.mon_msg.specs.Puts.{put}
 
--- A key that is a monitor's own whichever its last version is. Of a copy, which has none, every record counts as shared.
+-- A key that is a monitor's own whichever its last version is. So every record counts as shared, as it does of a copy, which
+-- has no last version.
 abbrev pub is_own : Place → Bool
 is_own at = is_local 0 at && is_local 1 at
 
@@ -36,11 +37,13 @@ pub record IsRecord (log : List (List ℕ)) (s e : ℕ) (at : Place) (held : Opt
 abbrev pub is_behind : KeyPlace → Place → Bool
 is_behind x at = is_after x (record { prefix = at.0; key = at.1; value = [] })
 
--- Of a log from version s to e, up to the place x, a store is a copy that may mix the versions: each shared key at or before x
--- is that of some version, and no key behind x is there; but the records of these versions may be there already.
+-- A copy of a log made while its versions went from s to e, and made up to the place x. Each shared key at or before x is as
+-- at one of these versions, and no shared key behind x is there; but the records of the versions after s may be there.
 pub record IsFuzzyCopy (log : List (List ℕ)) (s e : ℕ) (x : KeyPlace) (m : Store) : Type 0 where
-  pub made : (at : Place) → is_own at ≡ false → is_behind x at ≡ false → IsFolded log s e at (get m at) ⊎ IsRecord log s e at (get m at)
-  pub not_yet : (at : Place) → is_own at ≡ false → is_behind x at ≡ true → (get m at ≡ None) ⊎ IsRecord log s e at (get m at)
+  pub made : (at : Place) → is_own at ≡ false → is_behind x at ≡ false
+      → IsFolded log s e at (get m at) ⊎ IsRecord log s e at (get m at)
+  pub not_yet : (at : Place) → is_own at ≡ false → is_behind x at ≡ true
+      → (get m at ≡ None) ⊎ IsRecord log s e at (get m at)
 
 -- ---- how it catches up
 

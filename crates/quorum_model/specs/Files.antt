@@ -75,11 +75,11 @@ entry_length e = length e.0.0 + length e.0.1 + length e.1 + 6
 abbrev pub checkpoint_length : Store → ℕ
 checkpoint_length m = 5 + sum_by entry_length (entries m)
 
--- A checkpoint of a map is due where the live file is longer than 1,048,576 bytes, and than four times what the map counts
--- with. No generation passes 2^62.
+-- A checkpoint of a map is due where the live file has more than 1,048,576 bytes, up to and with its first closed gate, and
+-- more than four times what the map counts with. No generation passes 2^62.
 abbrev pub is_due : File → Store → Bool
 is_due f m = nat_lt f.generation (2 ^ 62) && (nat_lt 1048576 (f.gate + 1) && nat_lt (4 * size_of m) (f.gate + 1))
 
--- the file that it makes
+-- the file that it begins
 abbrev pub checkpoint : File → Store → File
 checkpoint f m = record { generation = f.generation + 1; gate = gate_after 25 (checkpoint_length m) }

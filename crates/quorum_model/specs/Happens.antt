@@ -79,7 +79,8 @@ pub data Stop : Type 0 where
 abbrev pub unless_stopped : (Reaction → World) → Store → Result Reaction Which → Result World Stop
 unless_stopped next m (Err which) = Err (Spent which)
 unless_stopped next m (Ok r) =
-    if nat_lt most_size (size_of (apply r.transaction m)) then Err (Full (size_of (apply r.transaction m))) else Ok (next r)
+    if nat_lt most_size (size_of (apply r.transaction m)) then Err (Full (size_of (apply r.transaction m)))
+    else Ok (next r)
 
 -- a crash that loses what is written stops no run
 abbrev pub after_meeting : World → Event → Meeting → Result World Stop

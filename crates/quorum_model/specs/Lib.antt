@@ -5,6 +5,7 @@ pub mod CalmRun
 pub mod CalmSchedule
 pub mod Clients
 pub mod Copies
+pub mod Cuts
 pub mod Events
 pub mod Files
 pub mod Growth

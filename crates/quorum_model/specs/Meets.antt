@@ -26,7 +26,8 @@ message_at es (suc k) = slice_get es k
 -- what comes by an event; a message that wasn't sent doesn't come
 abbrev pub arrival : World → Plain → Option Arrival
 arrival w (Start rank at) = Some (record { rank = rank; at = at; input = input.Start })
-arrival w (Deliver k at) = option_map (λ e. record { rank = e.to; at = at; input = input.Deliver e.message }) (message_at w.messages k)
+arrival w (Deliver k at) =
+    option_map (λ e. record { rank = e.to; at = at; input = input.Deliver e.message }) (message_at w.messages k)
 arrival w (Expire rank timer at) = Some (record { rank = rank; at = at; input = input.Timer timer })
 arrival w (Client rank at session r) = Some (record { rank = rank; at = at; input = input.Client session r })
 

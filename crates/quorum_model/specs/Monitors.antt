@@ -14,7 +14,10 @@ pub record Monitors : Type 0 where
 
 -- the monitor of a rank, where there is one
 abbrev pub me_if : (ms : Monitors) (rank : ℕ) (is_below : Bool) → nat_lt rank ms.count ≡ is_below → Option Me
-me_if ms rank true e = Some (record { member = record { rank = rank; monitors = ms.count; most = ms.most; in_map = ltb-true rank ms.count e }; rule = ms.rule })
+me_if ms rank true e = Some (record {
+  member = record { rank = rank; monitors = ms.count; most = ms.most; in_map = ltb-true rank ms.count e };
+  rule = ms.rule;
+})
 me_if ms rank false e = None
 
 abbrev pub me_of : Monitors → ℕ → Option Me
@@ -25,4 +28,7 @@ abbrev pub alone : Monitors
 alone = record { count = 1; most = lit≤ tt; rule = Classic }
 
 abbrev pub itself : Me
-itself = record { member = record { rank = 0; monitors = 1; most = lit≤ tt; in_map = ltb-true 0 1 refl }; rule = Classic }
+itself = record {
+  member = record { rank = 0; monitors = 1; most = lit≤ tt; in_map = ltb-true 0 1 refl };
+  rule = Classic;
+}

@@ -14,11 +14,13 @@ abbrev pub after_transactions : List (List Op) → Store → Store
 after_transactions [] m = m
 after_transactions (tx ∷ txs) m = after_transactions txs (apply tx m)
 
--- A store is what its transactions leave, in order; and these are all that its monitor's events wrote, but for those that a
--- crash lost.
+-- A store is what its transactions leave, in order; and these are all that its monitor's events wrote, but for those that
+-- a crash lost.
 pub record Held (ms : Monitors) (events : List Event) : Type 0 where
-  pub folded : (i : ℕ) → i < ms.count → (run ms events).store i ≡ after_transactions ((run ms events).transactions i) empty
-  pub whole : (i : ℕ) → i < ms.count → (run ms events).transactions i ≡ all_writes ms first_world events i
+  pub folded : (i : ℕ) → i < ms.count
+      → (run ms events).store i ≡ after_transactions ((run ms events).transactions i) empty
+  pub whole : (i : ℕ) → i < ms.count
+      → (run ms events).transactions i ≡ all_writes ms first_world events i
 
 -- no epoch has two active leaders
 abbrev pub OneActive : World → Type 0

@@ -7,11 +7,12 @@ use Rattle.mon_tx.specs.Map.{Store, apply}
 use Rattle.mon_msg.specs.Protocol.Reaction.{Reaction}
 use Rattle.mon_msg.specs.declared.input.Input.{Input}
 use Rattle.mon_msg.specs.declared.input.Input.TheVariants as input
+use Rattle.quorum_model.specs.Cuts.{after_checkpoint, files_cut}
 use Rattle.quorum_model.specs.Files.{Files, no_files, after_opening, after_append}
 use Rattle.quorum_model.specs.Happens.{Stop, happens, put_at}
 use Rattle.quorum_model.specs.Meets.{Meeting, NoMessage, Down, Reacts, meets}
 use Rattle.quorum_model.specs.Monitors.{Monitors}
-use Rattle.quorum_model.specs.Upsets.{Upset, opening_calls, is_kept, after_checkpoint, files_cut}
+use Rattle.quorum_model.specs.Upsets.{Upset, opening_calls, is_kept}
 use Rattle.quorum_model.specs.World.{World, Plain, Event, Comes, Crash, first_world}
 
 pub record Scene : Type 0 where
@@ -61,7 +62,8 @@ files_after None came f m ops = after_checkpoint (apply ops m) (after_append ops
 files_after (Some u) came f m ops = files_cut f m (opening_of came u.disk f) u ops
 
 abbrev pub all_files_after : Scene → Option Upset → Meeting → ℕ → Files
-all_files_after c u (Reacts i came result) = put_at c.files i (files_after u came (c.files i) (c.world.store i) (ops_of result))
+all_files_after c u (Reacts i came result) =
+    put_at c.files i (files_after u came (c.files i) (c.world.store i) (ops_of result))
 all_files_after c u other = c.files
 
 abbrev pub with_files : (ℕ → Files) → Result World Stop → Result Scene Stop
@@ -70,7 +72,8 @@ with_files files (Err stop) = Err stop
 
 -- the scene after what is scheduled, or what stops the run before it
 abbrev pub scene_after : Monitors → Scene → Scheduled → Result Scene Stop
-scene_after ms c e = with_files (all_files_after c e.upset (meets ms c.world e.plain)) (happens ms c.world (event_in ms c e))
+scene_after ms c e =
+    with_files (all_files_after c e.upset (meets ms c.world e.plain)) (happens ms c.world (event_in ms c e))
 
 -- ---- the run
 

@@ -17,14 +17,15 @@ use Rattle.mon_wire.specs.declared.request.Session.{Session}
 pub data Plain : Type 0 where
   -- it forgets all that its store doesn't keep, and starts
   Start : (rank : ℕ) → (at : ℕ) → Plain
-  -- the message of that number, counted from 1, comes to its receiver; it may come at any time after it was sent, and again
+  -- the message of that number, counted from 1, comes to its receiver: at any time after it was sent, and any number of
+  -- times
   Deliver : (message : ℕ) → (at : ℕ) → Plain
   -- a timer expires
   Expire : (rank : ℕ) → (timer : Timer) → (at : ℕ) → Plain
   -- a client asks
   Client : (rank : ℕ) → (at : ℕ) → (session : Session) → (request : Request) → Plain
 
--- The monitor does what it does then; or it crashes in it, before it sends anything, and what it writes is kept or lost.
+-- The monitor does what it does then; or it crashes before it sends anything, and what it writes is kept or lost.
 pub data Event : Type 0 where
   Comes : (plain : Plain) → Event
   Crash : (plain : Plain) → (kept : Bool) → Event
@@ -46,8 +47,8 @@ pub record Asked : Type 0 where
   pub session : Session
   pub request : Request
 
--- A version that was acknowledged: by the event of this number, under the leader's proposal number and in its epoch; the
--- service that it changes, and by which incremental.
+-- a version that was acknowledged: by the event of this number, under the leader's proposal number and in its epoch, with
+-- the service that it changes and the incremental that it puts
 pub record Acknowledged : Type 0 where
   pub event : ℕ
   pub version : ℕ
@@ -66,7 +67,7 @@ pub record Replied : Type 0 where
   pub reply : Reply
 
 pub record World : Type 0 where
-  -- of each monitor: what its store keeps, what it remembers unless it is down, and the transactions that its store kept
+  -- of each monitor: what its store keeps, what it remembers unless it is down, and the transactions that were kept
   pub store : ℕ → Store
   pub state : ℕ → Option State
   pub transactions : ℕ → List (List Op)

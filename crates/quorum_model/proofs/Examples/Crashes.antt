@@ -9,7 +9,7 @@ use Rattle.quorum_model.specs.Files.{Files, no_files}
 use Rattle.quorum_model.specs.Happens.{lost}
 use Rattle.quorum_model.specs.Monitors.{alone}
 use Rattle.quorum_model.specs.Runs.{run, ran_from}
-use Rattle.quorum_model.specs.Upsets.{is_kept, opening_calls, stops, writes_nothing, files_cut}
+use Rattle.quorum_model.specs.Upsets.{is_kept, opening_calls, stops, writes_nothing}
 use Rattle.quorum_model.specs.World.{World, Event, Comes, Crash, Start, first_world}
 
 -- the first start of a monitor, in which a crash loses what it writes: its store stays empty, and it is down

@@ -9,22 +9,22 @@ use Rattle.cephmon.proofs.replay.do_event.Goals as goal
 pub returns-in_err-step-clause-writes : goal.returns-in_err-step-clause-writes
 returns-in_err-step-clause-writes g c =
     let p = err_from_is_err_and c.from_residual.result c.from_residual.ensures.1 in
-    λ w h s is. rw (p.1, p.2) (did_stop c.in_err-step.field-0.0 c.step.new.self (g.K.Sink.held c.args.sink.now) c.args.number c.args.event.now (step alone w h) (c.in_err-step.ensures.does w h s is))
+    λ s stands. rw (p.1, p.2) (did_stop c.in_err-step.field-0.0 c.step.new.self (g.K.Sink.held c.args.sink.now) c.args.number c.args.event.now (step alone s c.args.event.now) (c.in_err-step.ensures.does s stands))
 
 pub returns-in_err-lines-clause-writes : goal.returns-in_err-lines-clause-writes
 returns-in_err-lines-clause-writes g c =
     let p = err_from_is_err_and c.from_residual-in_err-lines.result c.from_residual-in_err-lines.ensures.1 in
-    λ w h s is. rw (p.1, p.2) (did_memory c.step.new.self (g.K.Sink.held c.args.sink.now) c.args.number c.args.event.now (step alone w h))
+    λ s stands. rw (p.1, p.2) (did_memory c.step.new.self (g.K.Sink.held c.args.sink.now) c.args.number c.args.event.now (step alone s c.args.event.now))
 
 pub returns-in_err-write_all-clause-writes : goal.returns-in_err-write_all-clause-writes
 returns-in_err-write_all-clause-writes g c =
     let p = err_from_is_err_and c.from_residual-in_err-write_all.result c.from_residual-in_err-write_all.ensures.1 in
     let lines : c.as_slice.result.now ≡ step_lines c.args.number c.args.event.now c.in_ok-step.step = c.as_slice.ensures.value ∙ c.in_ok-lines.ensures in
-    λ w h s is. rw (p.1, p.2) (did_fault c.in_err-write_all.field-0.0 c.in_ok-step.step c.step.new.self (g.K.Sink.held c.args.sink.now) (g.K.Sink.held c.write_all.new.sink)
-    c.args.number c.args.event.now (step alone w h) c.as_slice.result.now lines (c.in_ok-step.ensures.does w h s is) c.in_err-write_all.ensures.part)
+    λ s stands. rw (p.1, p.2) (did_fault c.in_err-write_all.field-0.0 c.in_ok-step.step c.step.new.self (g.K.Sink.held c.args.sink.now) (g.K.Sink.held c.write_all.new.sink)
+    c.args.number c.args.event.now (step alone s c.args.event.now) c.as_slice.result.now lines (c.in_ok-step.ensures.does s stands) c.in_err-write_all.ensures.part)
 
 pub returns-clause-writes : goal.returns-clause-writes
 returns-clause-writes g c =
     let lines : c.as_slice.result.now ≡ step_lines c.args.number c.args.event.now c.in_ok-step.step = c.as_slice.ensures.value ∙ c.in_ok-lines.ensures in
-    λ w h s is. did_write c.in_ok-step.step c.step.new.self (g.K.Sink.held c.args.sink.now) (g.K.Sink.held c.write_all.new.sink)
-    c.args.number c.args.event.now (step alone w h) c.as_slice.result.now lines (c.in_ok-step.ensures.does w h s is) c.in_ok-write_all.ensures.whole
+    λ s stands. did_write c.in_ok-step.step c.step.new.self (g.K.Sink.held c.args.sink.now) (g.K.Sink.held c.write_all.new.sink)
+    c.args.number c.args.event.now (step alone s c.args.event.now) c.as_slice.result.now lines (c.in_ok-step.ensures.does s stands) c.in_ok-write_all.ensures.whole

@@ -1,0 +1,49 @@
+-- What is left on a monitor's disks where one of them fails within an event.
+use Rattle.std.specs.Prelude.{ℕ, ◌-◌, nat_le, nat_lt, ◌&&◌, ◌||◌, List, Option, Some, None, ◌==◌, if◌then◌else◌}
+use Rattle.mon_types.specs.declared.names.Side.{Side}
+use Rattle.mon_types.specs.declared.names.Side.TheVariants.{A, B}
+use Rattle.mon_tx.specs.declared.op.Op.{Op}
+use Rattle.mon_tx.specs.Map.{Store, apply}
+use Rattle.mon_msg.specs.Protocol.Sets.{is_empty}
+use Rattle.quorum_model.specs.Files.{File, Files, file_on, with_file, other_side, live_side, is_created, after_opening, after_append, is_due, checkpoint}
+use Rattle.quorum_model.specs.Upsets.{Upset, same_side, opens_gate}
+
+-- Six calls begin a file: its first gate is closed, what stands behind it is written, and the gate is opened, each with a
+-- sync. This is left of the disk where they fail from that call on.
+abbrev pub file_left : (call image : ℕ) → (old : Option File) → File → Option File
+file_left call image old new =
+    if nat_lt 6 call || (nat_lt 4 call && image == 1) then Some new
+    else (if nat_lt 2 call || (image == 1 || image == 3) then None else old)
+
+-- the checkpoint on the other disk, where the live file wants one, up to that call
+abbrev pub checkpoint_cut : (call image : ℕ) → Store → Side → Option File → Files → Files
+checkpoint_cut call image m other None f = f
+checkpoint_cut call image m other (Some live) f =
+    if is_due live m then with_file other (file_left call image (file_on other f) (checkpoint live m)) f else f
+
+abbrev pub checkpoint_begun : (call image : ℕ) → Store → Files → Files
+checkpoint_begun call image m f = checkpoint_cut call image m (other_side (live_side f)) (file_on (live_side f) f) f
+
+-- the whole of it
+abbrev pub after_checkpoint : Store → Files → Files
+after_checkpoint m f = checkpoint_begun 7 0 m f
+
+-- a transaction over a map, and the checkpoint behind it, where the calls of a disk fail from that call on
+abbrev pub append_cut : Files → Store → Side → (call image : ℕ) → List Op → Files
+append_cut f m disk call image ops =
+    if same_side disk (live_side f)
+    then (if nat_lt 4 call || is_empty ops then after_checkpoint (apply ops m) (after_append ops f)
+    else (if opens_gate call image then after_append ops f else f))
+    else checkpoint_begun call image (apply ops m) (after_append ops f)
+
+-- opening, where it fails at that call: a creation may be cut, and else the files stay
+abbrev pub opening_cut : Files → Side → (call image : ℕ) → Files
+opening_cut f B call image = f
+opening_cut f A call image =
+    if is_created f then f else with_file A (file_left (call - 1) image None (record { generation = 1; gate = 25 })) f
+
+-- what an event that writes this leaves of a monitor's files
+abbrev pub files_cut : Files → Store → (opening : ℕ) → Upset → List Op → Files
+files_cut f m opening u ops =
+    if nat_le u.call opening then opening_cut f u.disk u.call u.image
+    else append_cut (after_opening f) m u.disk (u.call - opening) u.image ops
