@@ -145,9 +145,9 @@ def reaction(me, now, m, st, inp):
     asked = (me, now, m, st, inp)
     if LAST[0] is not None and LAST[0][2] is m and LAST[0] == asked: return LAST[1]
     sh = ()
-    if inp.n == 'Deliver' and inp.a[0].d['body'].n == 'GetChunk': sh = app(fn(PR + 'View', 'shared_entries'), m)
-    res = apps(fn(PR + 'Table', 'react'), me, sh, now, app(fn(PR + 'View', 'view'), m), st, inp)
-    LAST[:] = [asked, app(fn(PR + 'Reaction', 'drawn'), res)]
+    if inp.n == 'Deliver' and inp.a[0].d['body'].n == 'GetChunk': sh = app(fn(PR + 'Readings', 'shared_entries'), m)
+    res = apps(fn(PR + 'Table', 'react'), me, sh, now, app(fn(PR + 'Readings', 'readings_of'), m), st, inp)
+    LAST[:] = [asked, app(fn(PR + 'Reaction', 'any_reaction'), res)]
     return LAST[1]
 N[PR + 'Reaction.reaction'] = nat(5)(reaction)
 N['mon_kv.specs.Readers.size_of'] = nat(1)(lambda m: sum(len(k[0]) + len(k[1]) + len(v) + 16 for k, v in m.d.items()))
@@ -279,7 +279,7 @@ def flat(w, n):
 
 QM = 'quorum_model.specs.'
 def last_of(m): return app(fn(QM + 'Growth', 'last_of'), m)
-def epoch_of(m): return app(fn(PR + 'View', 'epoch_of'), app(fn(PR + 'View', 'view'), m))
+def epoch_of(m): return app(fn(PR + 'Readings', 'epoch_of'), app(fn(PR + 'Readings', 'readings_of'), m))
 def shared(m): return app(fn('mon_tx.specs.Keys', 'shared'), m)
 def folded(log, c): return apps(fn('mon_msg.specs.Fold', 'fold'), log, c)
 def entry(log, v): return apps(fn('mon_msg.specs.Fold', 'entry'), log, v)
@@ -338,12 +338,12 @@ def not_calm(ms, orders, events):
     if sum(1 for r in d['replied'] if r.d['reply'].n == 'Done') != len(log): bad.append('done')
     leader = app(d['state'], 0).a[0]; everyone = lambda q: tuple(q) == tuple(i < n for i in range(15))
     for i in range(n):
-        s = app(d['state'], i).a[0].d; m = app(d['store'], i); view = app(fn(PR + 'View', 'view'), m)
+        s = app(d['state'], i).a[0].d; m = app(d['store'], i); view = app(fn(PR + 'Readings', 'readings_of'), m)
         stands = lambda lease: apps(fn('mon_lease.specs.Lease', 'stands'), lease, 0)
         l, p = s['leader'].d, s['peon'].d
         if i == 0: ok = s['phase'].n == 'Active' and everyone(l['quorum']) and l['pn'] == 100 and stands(l['lease']) and l['acks'] == l['quorum'] and len(s['clients'].d['queue']) == 0
         else: ok = s['phase'].n == 'Peon' and p['leader'] == 0 and everyone(p['quorum']) and stands(p['lease']) and leader.d['clients'].d['taken'][i] + 1 == s['clients'].d['next_seq']
-        ok = ok and epoch_of(m) == 2 and app(fn(PR + 'View', 'promise_of'), view) == 100 and app(fn(PR + 'Records', 'pending'), view).n == 'None'
+        ok = ok and epoch_of(m) == 2 and app(fn(PR + 'Readings', 'promise_of'), view) == 100 and app(fn(PR + 'Records', 'pending'), view).n == 'None'
         ok = ok and last_of(m) == len(log) and shared(m) == folded(log, len(log)) and len(s['clients'].d['sessions']) == 0
         if not ok: bad.append(i)
     return bad

@@ -17,11 +17,8 @@ use Rattle.mon_world.specs.Events.{plain_event}
 use Rattle.mon_world.specs.Stands.{StandsFor, Stops, DoesPlain, Does}
 use Rattle.mon_world.specs.Step.{with_line, met_line, plain_step, step}
 
-same_next : {next n : Model} {line told : StepLine} → ◌≡◌ {A = Result (Model × StepLine) happens.Stop} (Ok (next, line)) (Ok (n, told)) → n ≡ next
-same_next e = cc
-
-same_line : {next n : Model} {line told : StepLine} → ◌≡◌ {A = Result (Model × StepLine) happens.Stop} (Ok (next, line)) (Ok (n, told)) → line ≡ told
-same_line e = cc
+same_pair : (p q : Model × StepLine) → ◌≡◌ {A = Result (Model × StepLine) happens.Stop} (Ok p) (Ok q) → p ≡ q
+same_pair p q e = cc
 
 same_stop : {stop other : happens.Stop} → ◌≡◌ {A = Result (Model × StepLine) happens.Stop} (Err stop) (Err other) → stop ≡ other
 same_stop e = cc
@@ -43,7 +40,8 @@ module _ (new : World) (line : StepLine) (files : ℕ → Files) where
   does : (result : Result StepLine WorldStop) (r : Result Model happens.Stop) → DoesPlain result new (with_line line r) → Does result new (with_line line (with_files files r))
   does (Ok told) (Ok next) d =
       let c : Scene = record { world = next; files = files } in
-      (c, ap (λ (l : StepLine). Ok (c, l)) (same_line d.1), subst (StandsFor new) (same_next d.1) d.2)
+      let same = same_pair (next, line) (d.0, told) d.1 in
+      (c, ap (λ (p : Model × StepLine). Ok (c, p.1)) same, subst (λ (p : Model × StepLine). StandsFor new p.0) (sym same) d.2)
   does (Ok told) (Err stop) d = absurd (went_on (sym d.1))
   does (Err e) (Ok next) d = never_stops e (next, line) (record { world = next; files = files }, line) d
   does (Err e) (Err stop) d = stops_too e stop d

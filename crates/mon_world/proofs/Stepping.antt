@@ -203,7 +203,7 @@ module _ (old : World) (w : Model) (at : ℕ) (event : Coming) (i : Input) (stan
       → Takes result new old.log (taken_line 0 (Some before) y (apply y.tx (w.store 0))) (apply y.tx (w.store 0)) → DoesPlain result new (plain_step alone w event)
   up-ran result new m before y up is was reacts settles takes =
       subst (DoesPlain result new) (sym (comes known.state known.is ∙ ap (λ (r : Result protocol.Reaction Which). took w event i r) done))
-      (ran old new w event at i (Some before) y r.reaction result stand stood r.transaction r.sends r.waits
+      (ran old new w event i (Some before) y r.reaction result stand stood r.transaction r.sends r.waits
       (ok_has (λ x. IsSettled (readings_of (apply x.transaction (w.store 0)))) (protocol.reaction itself at (w.store 0) known.state i) r.reaction done (settles known.state known.waits)) takes)
     where
       known : Remembers w

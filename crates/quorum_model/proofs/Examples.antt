@@ -1,4 +1,3 @@
 -- Crashes, acknowledgements, growth and copies, computed.
-pub mod Calm
 pub mod Crashes
 pub mod Growing
