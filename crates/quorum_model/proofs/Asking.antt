@@ -36,7 +36,7 @@ use Rattle.mon_wire.specs.declared.request.Request.TheVariants as request
 use Rattle.mon_wire.specs.declared.request.Request.{Request}
 use Rattle.mon_wire.specs.declared.request.Service.{Service}
 use Rattle.mon_wire.specs.declared.request.Session.{Session}
-use Rattle.mon_msg.specs.declared.readings_of.Me.{Me}
+use Rattle.mon_msg.specs.declared.view.Me.{Me}
 use Rattle.quorum_model.specs.Clients.{command_of}
 use Rattle.quorum_model.specs.Alone.{LeadsItself}
 use Rattle.quorum_model.proofs.Starting.{tested, me}

@@ -8,7 +8,7 @@ use Rattle.mon_msg.specs.Protocol.Reaction.{Reaction, reaction}
 use Rattle.mon_msg.specs.Protocol.State.{State, booting}
 use Rattle.mon_msg.specs.declared.input.Input.{Input}
 use Rattle.mon_msg.specs.declared.input.Input.TheVariants as input
-use Rattle.mon_msg.specs.declared.readings_of.Me.{Me}
+use Rattle.mon_msg.specs.declared.view.Me.{Me}
 use Rattle.quorum_model.specs.Monitors.{Monitors, me_of}
 use Rattle.quorum_model.specs.World.{World, Plain, Start, Deliver, Expire, Client, Envelope}
 

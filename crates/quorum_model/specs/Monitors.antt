@@ -4,7 +4,7 @@ use Rattle.std.proofs.Common.{lit≤}
 use Rattle.std.proofs.lemmas.Bool.{ltb-true}
 use Rattle.election_rules.specs.declared.rule.Rule.{Rule}
 use Rattle.election_rules.specs.declared.rule.Rule.TheVariants.{Classic}
-use Rattle.mon_msg.specs.declared.readings_of.Me.{Me}
+use Rattle.mon_msg.specs.declared.view.Me.{Me}
 
 -- how many there are, at most 15, and the rule by which they elect
 pub record Monitors : Type 0 where
