@@ -56,7 +56,7 @@ there member (Open store) k some =
     }
 
 pub taken_out : (i : Inside) (s : SiteState) (a b : MemoryState) → IsWhole i → state_of i ≡ s → is_some s.map ≡ true → a ≡ a_of i.kept → b ≡ b_of i.kept → Found i.member a b s.map s.place s.standing
-taken_out i s a b k readings_of some is_a is_b = subst (λ (t : SiteState). is_some t.map ≡ true → Found i.member a b t.map t.place t.standing) readings_of (λ h. rw (is_a, is_b) (there i.member i.kept k h)) some
+taken_out i s a b k view some is_a is_b = subst (λ (t : SiteState). is_some t.map ≡ true → Found i.member a b t.map t.place t.standing) view (λ h. rw (is_a, is_b) (there i.member i.kept k h)) some
 
 -- where it stood
 pub as_before : (old place : Option Standing) (now : Standing) → IfSome old (λ s. place ≡ Some s) → Some now ≡ place → IfSome old (λ s. Some now ≡ Some s)

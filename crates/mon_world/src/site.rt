@@ -54,7 +54,7 @@ impl Model for Site {
 
     ghost use Rattle.mon_world.specs.Kept.{state_of, IsWhole};
 
-    ghost readings_of = { state_of };
+    ghost view = { state_of };
 
     ghost invariant = { IsWhole };
 }
