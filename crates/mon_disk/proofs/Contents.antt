@@ -1,15 +1,15 @@
 -- What a disk in memory tells of its moments.
-use Rattle.std.proofs.Common.{inl, inr, zero, ◌≡◌, ◌⊎◌, ⊎_elim, ℕ, suc, ◌≤◌, List, [], ◌∷◌, ◌++◌, map, length, get_or, refl, sym, ap, ◌∙◌, subst, arith, append_assoc}
+use Rattle.std.proofs.Common.{inl, inr, zero, ◌≡◌, ◌⊎◌, ⊎_elim, ℕ, suc, ◌≤◌, List, [], ◌∷◌, ◌++◌, map, length, get_or, refl, sym, ap, ◌∙◌, subst, arith, append_assoc, Some}
 use Rattle.std.proofs.lemmas.List.{append-nil, map-append, length-append}
 use Rattle.std.specs.List.{flat_map}
 use Rattle.mon_disk.specs.declared.disk.DiskCall.{DiskCall}
 use Rattle.mon_disk.specs.declared.disk.DiskCall.TheVariants.{Write, Sync}
-use Rattle.mon_disk.specs.Images.{Content, images, Torn, Follows, NoNew, Elapses}
-use Rattle.mon_disk.specs.Memory.{Lived}
+use Rattle.mon_disk.specs.Images.{Content, images, TornFrom, Only, LeavesOnly}
+use Rattle.mon_disk.specs.Memory.{Lived, settled}
 use Rattle.mon_disk.specs.MemoryDisk.{begins_with, with_calls, and_call, Leaves, beginnings, before_calls, earlier, content_of}
 use Rattle.mon_disk.specs.Laws.{as_now}
 use Rattle.mon_disk.proofs.Writes.{torn_not}
-use Rattle.mon_disk.proofs.Lives.{Cut, as_cut, write_left, sync_left}
+use Rattle.mon_disk.proofs.Lives.{Cut, as_cut, settled_left, write_left, sync_left}
 
 -- one call more: the life as it was is one of the earlier ones
 beginnings_more : (calls : List DiskCall) (call : DiskCall) → beginnings (calls ++ call ∷ []) ≡ beginnings calls ++ calls ∷ []
@@ -37,40 +37,32 @@ earlier_settled past life file =
     ∙ flat_more past life
     ∙ sym (append_assoc (flat_map (λ (l : Lived). before_calls l ++ l ∷ []) past) (before_calls life) (life ∷ []))
 
+-- what may be left now
 pub leaves_now : (past : List Lived) (life : Lived) (c : List ℕ) → images (content_of past life) c → Cut life c
 leaves_now past life c left = as_cut life c (subst (λ (l : Lived). Leaves l c) (as_now (earlier past life) life) left)
 
 pub left_now : (past : List Lived) (life : Lived) (c : List ℕ) → Cut life c → images (content_of past life) c
 left_now past life c left = subst (λ (l : Lived). Leaves l c) (sym (as_now (earlier past life) life)) (inr (inr left))
 
--- time that stands still
-pub unmoved : (x : Content) → Elapses x x
-unmoved x = record {
-  later = omega arith;
-  past = λ t c le left. left;
-  kept = λ t c le left. left;
-  within = λ t c from to left.
-      let same : t ≡ x.moment = omega (arith, from, to) in
-      inl (subst (λ (m : ℕ). x.images_at m c) same left);
-}
-
 -- one moment more
-one_more : (old new : Content) → new.moment ≡ suc old.moment
+one_more : (old new : Content) (P : List ℕ → Type 0) → new.moment ≡ suc old.moment
     → ((t : ℕ) (c : List ℕ) → t ≤ old.moment → new.images_at t c → old.images_at t c)
     → ((t : ℕ) (c : List ℕ) → t ≤ old.moment → old.images_at t c → new.images_at t c)
-    → Elapses old new
-one_more old new next back on = record {
+    → ((c : List ℕ) → images old c → P c)
+    → ((c : List ℕ) → images new c → P c)
+    → LeavesOnly old new P
+one_more old new P next back on before after = record {
   later = omega (arith, next);
   past = back;
   kept = on;
-  within = λ t c from to left.
+  each = λ t c from to left.
       ⊎_elim
-      (λ (before : t ≤ old.moment).
-      let same : t ≡ old.moment = omega (arith, from, before) in
-      inl (subst (λ (m : ℕ). old.images_at m c) same (back t c before left)))
-      (λ (after : suc old.moment ≤ t).
-      let same : t ≡ new.moment = omega (arith, to, after, next) in
-      inr (subst (λ (m : ℕ). new.images_at m c) same left))
+      (λ (still : t ≤ old.moment).
+      let same : t ≡ old.moment = omega (arith, from, still) in
+      before c (subst (λ (m : ℕ). old.images_at m c) same (back t c still left)))
+      (λ (past : suc old.moment ≤ t).
+      let same : t ≡ new.moment = omega (arith, to, past, next) in
+      after c (subst (λ (m : ℕ). new.images_at m c) same left))
       (le_or_gt t old.moment);
 }
   where
@@ -84,56 +76,47 @@ stays [] life next t le =
 stays (l ∷ lives) life next zero le = refl
 stays (l ∷ lives) life next (suc t) le = stays lives life next t (omega (arith, le))
 
-goes_to : (past more : List Lived) (life next : Lived) → earlier more next ≡ earlier past life ++ life ∷ [] → Elapses (content_of past life) (content_of more next)
-goes_to past more life next is =
-    let at : (t : ℕ) → t ≤ length (earlier past life) → get_or (earlier more next) t next ≡ get_or (earlier past life) t life =
-    λ t le. ap (λ (l : List Lived). get_or l t next) is ∙ stays (earlier past life) life next t le in
-    one_more
-    (content_of past life)
-    (content_of more next)
-    (ap length is ∙ omega (arith, length-append (earlier past life) (life ∷ [])))
-    (λ t c le left. subst (λ (l : Lived). Leaves l c) (at t le) left)
-    (λ t c le left. subst (λ (l : Lived). Leaves l c) (sym (at t le)) left)
+module _ (past more : List Lived) (life next : Lived) (is : earlier more next ≡ earlier past life ++ life ∷ []) where
+  at_moment : (t : ℕ) → t ≤ length (earlier past life) → get_or (earlier more next) t next ≡ get_or (earlier past life) t life
+  at_moment t le = ap (λ (l : List Lived). get_or l t next) is ∙ stays (earlier past life) life next t le
 
-pub elapses : (past : List Lived) (life : Lived) (call : DiskCall) → Elapses (content_of past life) (content_of past (and_call call life))
-elapses past life call = goes_to past past life (and_call call life) (earlier_call past life call)
+  goes_to : (P : List ℕ → Type 0) → ((c : List ℕ) → images (content_of past life) c → P c) → ((c : List ℕ) → images (content_of more next) c → P c)
+      → LeavesOnly (content_of past life) (content_of more next) P
+  goes_to P =
+      one_more
+      (content_of past life)
+      (content_of more next)
+      P
+      (ap length is ∙ omega (arith, length-append (earlier past life) (life ∷ [])))
+      (λ t c le left. subst (λ (l : Lived). Leaves l c) (at_moment t le) left)
+      (λ t c le left. subst (λ (l : Lived). Leaves l c) (sym (at_moment t le)) left)
 
-pub elapses_settled : (past : List Lived) (life : Lived) (file : List ℕ) → Elapses (content_of past life) (content_of (past ++ life ∷ []) (begins_with file))
-elapses_settled past life file = goes_to past (past ++ life ∷ []) life (begins_with file) (earlier_settled past life file)
+-- one call more
+pub write_goes : (past : List Lived) (life : Lived) (at : ℕ) (bytes : List ℕ) → LeavesOnly (content_of past life) (content_of past (and_call (Write at bytes) life)) (TornFrom (content_of past life) at bytes)
+write_goes past life at bytes =
+    let next = and_call (Write at bytes) life in
+    goes_to past past life next (earlier_call past life (Write at bytes)) (TornFrom (content_of past life) at bytes)
+    (λ c left. (c, left, torn_not at bytes c))
+    (λ c left.
+    let from = write_left life at bytes c (leaves_now past next c left) in
+    (from.0, left_now past life from.0 from.1, from.2))
 
-write_follows : (past : List Lived) (life : Lived) (at : ℕ) (bytes : List ℕ) → Follows (Torn at bytes) (content_of past life) (content_of past (and_call (Write at bytes) life))
-write_follows past life at bytes c left =
-    let from = write_left life at bytes c (leaves_now past (and_call (Write at bytes) life) c left) in
-    (from.0, left_now past life from.0 from.1, from.2)
+pub sync_goes : (past : List Lived) (life : Lived) → LeavesOnly (content_of past life) (content_of past (and_call Sync life)) (images (content_of past life))
+sync_goes past life =
+    let next = and_call Sync life in
+    goes_to past past life next (earlier_call past life Sync) (images (content_of past life))
+    (λ c left. left)
+    (λ c left. left_now past life c (sync_left life c (leaves_now past next c left)))
 
-sync_keeps : (past : List Lived) (life : Lived) → NoNew (content_of past life) (content_of past (and_call Sync life))
-sync_keeps past life c left = left_now past life c (sync_left life c (leaves_now past (and_call Sync life) c left))
+-- a disk that settled
+pub settled_only : (past : List Lived) (file : List ℕ) → Only (content_of past (begins_with file))
+settled_only past file c left = ap Some (sym (leaves_now past (begins_with file) c left))
 
--- a life that stayed, or that has one call more
-abbrev pub Noted : DiskCall → Lived → Lived → Type 0
-Noted call life next = (next ≡ life) ⊎ (next ≡ and_call call life)
-
-module _ (past lives : List Lived) (life next : Lived) (kept : lives ≡ past) where
-  -- what holds after the life stayed, and after one call more
-  noted : (P : Content → Type 0) (call : DiskCall) → P (content_of past life) → P (content_of past (and_call call life)) → Noted call life next → P (content_of lives next)
-  noted P call stayed more is =
-      let now : P (content_of past next) =
-      ⊎_elim
-      (λ (same : next ≡ life). subst (λ (l : Lived). P (content_of past l)) (sym same) stayed)
-      (λ (one : next ≡ and_call call life). subst (λ (l : Lived). P (content_of past l)) (sym one) more)
-      is in
-      subst (λ (ls : List Lived). P (content_of ls next)) (sym kept) now
-
-  pub noted_time : (call : DiskCall) → Noted call life next → Elapses (content_of past life) (content_of lives next)
-  noted_time call = noted (Elapses (content_of past life)) call (unmoved (content_of past life)) (elapses past life call)
-
-  pub noted_write : (at : ℕ) (bytes : List ℕ) → Noted (Write at bytes) life next → Follows (Torn at bytes) (content_of past life) (content_of lives next)
-  noted_write at bytes =
-      noted
-      (Follows (Torn at bytes) (content_of past life))
-      (Write at bytes)
-      (λ (c : List ℕ) left. (c, left, torn_not at bytes c))
-      (write_follows past life at bytes)
-
-  pub noted_sync : Noted Sync life next → NoNew (content_of past life) (content_of lives next)
-  noted_sync = noted (NoNew (content_of past life)) Sync (λ (c : List ℕ) left. left) (sync_keeps past life)
+pub settle_goes : (past : List Lived) (life : Lived) → LeavesOnly (content_of past life) (content_of (past ++ life ∷ []) (begins_with (settled life))) (images (content_of past life))
+settle_goes past life =
+    let more = past ++ life ∷ [] in
+    goes_to past more life (begins_with (settled life)) (earlier_settled past life (settled life)) (images (content_of past life))
+    (λ c left. left)
+    (λ c left.
+    let is : c ≡ settled life = leaves_now more (begins_with (settled life)) c left in
+    subst (images (content_of past life)) (sym is) (left_now past life (settled life) (settled_left life)))

@@ -1,5 +1,6 @@
+pub mod Answers
 pub mod Contents
+pub mod Following
 pub mod Lives
-pub mod Moments
 pub mod Upsets
 pub mod Writes

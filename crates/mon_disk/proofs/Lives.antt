@@ -8,7 +8,7 @@ use Rattle.mon_disk.specs.declared.life.Upset.{Upset}
 use Rattle.mon_disk.specs.Images.{overwritten, Torn}
 use Rattle.mon_disk.specs.Calls.{is_past}
 use Rattle.mon_disk.specs.Memory.{Lived, from_of, done_of, first_write, lost_of, done, begun, seen_after, LeftAfter, part, imaged, seen_of, settled_as, settled}
-use Rattle.mon_disk.specs.MemoryDisk.{with_calls, and_call, Leaves}
+use Rattle.mon_disk.specs.MemoryDisk.{with_calls, and_call, fails, Leaves}
 use Rattle.mon_disk.proofs.Writes.{torn_not, torn_whole, torn_part, length-part, one_byte}
 
 -- what became of the writes that aren't on the disk
@@ -98,10 +98,6 @@ lost_sync (Sync ∷ failed) = lost_sync failed
 fails_more : (from : ℕ) (calls : List DiskCall) (call : DiskCall) → from ≤ suc (length calls) → drop (pred from) (calls ++ call ∷ []) ≡ drop (pred from) calls ++ call ∷ []
 fails_more from calls call fails = drop-append-le (pred from) calls (call ∷ []) (omega (arith, fails))
 
--- whether the next call fails
-abbrev pub fails : Lived → Bool
-fails life = is_past (from_of life.upset) (suc (length life.calls))
-
 pub done_done : (life : Lived) (call : DiskCall) → fails life ≡ false → done (and_call call life) ≡ call ∷ done life
 done_done life call sound = done_more (from_of life.upset) life.calls call sound
 
@@ -169,7 +165,7 @@ sync_left life c left =
     (λ (failed : fails life ≡ true). rw (← sync_failed_of (from_of life.upset) life.calls failed, ← done_failed life Sync failed) left)
     (λ (sound : fails life ≡ false). rw (sync_only life c sound left) (seen_left life))
 
--- what a read gives and what the disk settles to are nothing else
+-- and that is all that a crash may leave
 pub as_cut : (life : Lived) (c : List ℕ) → Leaves life c → Cut life c
 as_cut life c left =
     ⊎_elim

@@ -4,11 +4,10 @@ use Rattle.std.specs.List.{flat_map}
 use Rattle.std.proofs.lemmas.List.{take_all, drop_all, length-append, length-map}
 use Rattle.mon_disk.specs.declared.disk.DiskCall.{DiskCall}
 use Rattle.mon_disk.specs.declared.life.Upset.{Upset}
-use Rattle.mon_disk.specs.Images.{Content, NoNew, Only, Elapses}
+use Rattle.mon_disk.specs.Images.{Content, images, LeavesOnly}
 use Rattle.mon_disk.specs.Memory.{Lived, first_write, done, lost_of, begun, LeftAfter, seen_after, seen_of}
-use Rattle.mon_disk.specs.MemoryDisk.{upset_life, begins_with, with_calls, Leaves, beginnings, before_calls, content_of}
+use Rattle.mon_disk.specs.MemoryDisk.{upset_life, with_calls, Leaves, beginnings, before_calls, content_of}
 use Rattle.mon_disk.proofs.Lives.{as_cut}
-use Rattle.mon_disk.proofs.Contents.{leaves_now}
 
 -- the life with an upset that no call has reached, and without one
 abbrev pub upset_after : List ℕ → Upset → List DiskCall → Lived
@@ -31,10 +30,7 @@ forth first u calls before c left =
     inr (inr (subst (λ (cs : List DiskCall). LeftAfter first cs c) (sym (all_begun first u calls before)) cut))
 
 back : (first : List ℕ) (u : Upset) (calls : List DiskCall) → length calls < u.from → (c : List ℕ) → Leaves (upset_after first u calls) c → Leaves (sound_life first calls) c
-back first u calls before c left =
-    let cut : LeftAfter first (reverse calls) c =
-    subst (λ (cs : List DiskCall). LeftAfter first cs c) (all_begun first u calls before) (as_cut (upset_after first u calls) c left) in
-    inr (inr cut)
+back first u calls before c left = inr (inr (subst (λ (cs : List DiskCall). LeftAfter first cs c) (all_begun first u calls before) (as_cut (upset_after first u calls) c left)))
 
 map_twice : {X Y Z : Type 0} (f : Y → Z) (g : X → Y) (xs : List X) → map f (map g xs) ≡ map (λ x. f (g x)) xs
 map_twice f g [] = refl
@@ -92,18 +88,14 @@ module _ (past : List Lived) (first : List ℕ) (calls : List DiskCall) (u : Ups
       behind P (λ l c left. left) lives (map (with_calls sound) (beginnings calls)) (map (with_calls upset) (beginnings calls)) sound upset t
       (λ s. along P (with_calls sound) (with_calls upset) calls s (λ cs le. forth first u cs (omega (arith, le, before))))
 
-  pub upset_crash : NoNew (content_of past (sound_life first calls)) (content_of past (upset_after first u calls))
-  upset_crash c left =
-      subst (λ (m : ℕ). (content_of past (sound_life first calls)).images_at m c) same_moment (at_back (content_of past (upset_after first u calls)).moment c left)
-
-  pub upset_time : Elapses (content_of past (sound_life first calls)) (content_of past (upset_after first u calls))
+  pub upset_time : LeavesOnly (content_of past (sound_life first calls)) (content_of past (upset_after first u calls)) (images (content_of past (sound_life first calls)))
   upset_time = record {
     later = omega (arith, same_moment);
     past = λ t c le left. at_back t c left;
     kept = λ t c le left. at_forth t c left;
-    within = λ t c from to left.
+    each = λ t c from to left.
         let now : t ≡ (content_of past (sound_life first calls)).moment = omega (arith, from, to, same_moment) in
-        inl (subst (λ (m : ℕ). (content_of past (sound_life first calls)).images_at m c) now (at_back t c left));
+        subst (λ (m : ℕ). (content_of past (sound_life first calls)).images_at m c) now (at_back t c left);
   }
 
 -- the same of a life without an upset, and with the one that begins
@@ -127,14 +119,5 @@ module _ (past lives : List Lived) (kept : lives ≡ past) (life next : Lived) (
   pub begins_seen : seen_of next ≡ seen_of life
   begins_seen = ap seen_of is ∙ upset_seen past life.first life.calls u before ∙ ap seen_of sound_is
 
-  pub begins_crash : NoNew (content_of past life) (content_of lives next)
-  begins_crash = on NoNew (upset_crash past life.first life.calls u before)
-
-  pub begins_time : Elapses (content_of past life) (content_of lives next)
-  begins_time = on Elapses (upset_time past life.first life.calls u before)
-
--- what a disk settles to is all that a crash may leave then
-pub settled_only : (past : List Lived) (file : List ℕ) → Only (content_of past (begins_with file))
-settled_only past file c left =
-    let is : c ≡ file = leaves_now past (begins_with file) c left in
-    ap Some (sym is)
+  pub begins_time : LeavesOnly (content_of past life) (content_of lives next) (images (content_of past life))
+  begins_time = on (λ x y. LeavesOnly x y (images x)) (upset_time past life.first life.calls u before)

@@ -1,8 +1,10 @@
--- What a disk tells of the writes and syncs that were made on it.
-use Rattle.std.specs.Prelude.{◌≡◌, ℕ, suc, Bool, true, false, nat_le, List, [], ◌∷◌, ◌++◌, length, Option, Some, None, Result, Ok, Err, IfSome}
+-- What a disk tells of itself, and what holds of the calls that are made on it.
+use Rattle.std.specs.Prelude.{◌≡◌, ◌⊎◌, ℕ, suc, Bool, true, false, nat_le, List, [], ◌∷◌, ◌++◌, length, Option, Some, None, IfSome, is_some}
+use Rattle.mon_types.specs.Faults.{risen}
 use Rattle.mon_types.specs.declared.names.Stop.{Stop}
 use Rattle.mon_types.specs.declared.names.Stop.TheVariants.{Failed, OutOfMemory}
 use Rattle.mon_disk.specs.declared.disk.DiskCall.{DiskCall}
+use Rattle.mon_disk.specs.Images.{Content, images, LeavesOnly}
 
 -- The writes and syncs in order, failed ones too; the number, from 1, of the first of them that fails, as each later one
 -- does then; and what the disk settles to, once a fault is over, after each list of calls that it might be given.
@@ -10,6 +12,16 @@ pub record Told : Type 0 where
   pub made : List DiskCall
   pub fails_from : Option ℕ
   pub settles : List DiskCall → List ℕ
+
+-- A disk at one moment: what it holds, and what a crash may leave of it; its known length; the calls that were made on it,
+-- where it tells them; how many calls failed so far; and how many found it without memory of its own. Both counts stand still
+-- at the last number of 64 bits.
+pub record DiskState : Type 1 where
+  pub content : Content
+  pub known : ℕ
+  pub told : Option Told
+  pub faults : ℕ
+  pub wants : ℕ
 
 -- one more call
 abbrev pub and_made : DiskCall → Option Told → Option Told
@@ -25,13 +37,44 @@ is_past (Some from) n = nat_le from n
 abbrev pub fails_next : Told → Bool
 fails_next t = is_past t.fails_from (suc (length t.made))
 
--- Failed comes exactly where the disk fails, and after want of memory no call was made.
-abbrev pub TellsCall : {T : Type 0} → DiskCall → Option Told → Option Told → Result T Stop → Type 0
-TellsCall call old new (Ok x) = (new ≡ and_made call old) × IfSome old (λ t. fails_next t ≡ false)
-TellsCall call old new (Err Failed) = (new ≡ and_made call old) × IfSome old (λ t. fails_next t ≡ true)
-TellsCall call old new (Err OutOfMemory) = new ≡ old
+-- Which of these writes and syncs were made, in this order: each of them, where none failed; or those up to the first that
+-- failed, which is where Failed comes; or those before memory ran out. A disk that tells its calls fails in none but these.
+abbrev pub Makes : List DiskCall → Option Stop → Option Told → Option Told → Type 0
+Makes [] stop old new = (new ≡ old) × IfSome old (λ t. stop ≡ Some Failed → ⊥)
+Makes (call ∷ calls) stop old new =
+    ((stop ≡ Some OutOfMemory) × (new ≡ old))
+    ⊎ ((stop ≡ Some Failed) × (new ≡ and_made call old) × IfSome old (λ t. fails_next t ≡ true))
+    ⊎ (IfSome old (λ t. fails_next t ≡ false) × Makes calls stop (and_made call old) new)
 
--- what is neither a write nor a sync never fails there, and isn't told
-pub record TellsNothing {T : Type 0} (old new : Option Told) (result : Result T Stop) : Type 0 where
-  pub same : new ≡ old
-  pub sound : IfSome old (λ t. result ≡ Err Failed → ⊥)
+-- A fault is counted where a call answers so, and nowhere else.
+abbrev pub faults_after : Option Stop → ℕ → ℕ
+faults_after None faults = faults
+faults_after (Some Failed) faults = risen faults
+faults_after (Some OutOfMemory) faults = faults
+
+-- The disk's own want of memory is counted too. What is built on a disk may want memory of its own, which isn't.
+abbrev pub MayWant : Option Stop → ℕ → ℕ → Type 0
+MayWant None old new = new ≡ old
+MayWant (Some Failed) old new = new ≡ old
+MayWant (Some OutOfMemory) old new = (new ≡ old) ⊎ (new ≡ risen old)
+
+-- What holds of every row of calls on a disk, from its state before them to that after them, whether they came to their end
+-- or to a stop: of one call, and of all that is built of them.
+pub record Called (calls : List DiskCall) (P : List ℕ → Type 0) (stop : Option Stop) (old new : DiskState) : Type 0 where
+  -- whether the disk tells what it holds stays
+  pub tells : is_some new.content.seen ≡ is_some old.content.seen
+  -- a crash at any moment of the calls leaves a file that has P
+  pub any_moment : LeavesOnly old.content new.content P
+  -- these writes and syncs were made, up to the stop
+  pub made : Makes calls stop old.told new.told
+  -- what the counts tell of the stop
+  pub faults : new.faults ≡ faults_after stop old.faults
+  pub wants : MayWant stop old.wants new.wants
+
+-- A call that wasn't made, since the disk had no memory for it.
+pub record Unmade (old new : DiskState) : Type 0 where
+  pub seen : new.content.seen ≡ old.content.seen
+  pub any_moment : LeavesOnly old.content new.content (images old.content)
+  pub known : new.known ≡ old.known
+  pub told : new.told ≡ old.told
+  pub wants : new.wants ≡ risen old.wants

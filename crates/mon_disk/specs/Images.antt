@@ -44,27 +44,16 @@ pub record Torn (at : ℕ) (bytes old new : List ℕ) : Type 0 where
   pub no_longer : length new ≤ max (length old) (at + length bytes)
   pub narrow : (byte : ℕ) → bytes ≡ byte ∷ [] → at < length old → TornByte at byte old new
 
--- a crash leaves what one of the old images became
-abbrev pub Follows : (List ℕ → List ℕ → Type 0) → Content → Content → Type 0
-Follows step old new = (c : List ℕ) → images new c → (d : List ℕ) × images old d × step d c
-
--- a crash leaves nothing that it might not have left before
-abbrev pub NoNew : Content → Content → Type 0
-NoNew old new = (c : List ℕ) → images new c → images old c
+-- what a write that begins on this disk may have become when a crash comes
+abbrev pub TornFrom : Content → ℕ → List ℕ → List ℕ → Type 0
+TornFrom x at bytes c = (d : List ℕ) × images x d × Torn at bytes d c
 
 -- a crash leaves what a read gives, and nothing else
 abbrev pub Only : Content → Type 0
 Only x = (c : List ℕ) → images x c → x.seen ≡ Some c
 
--- Time goes on in a call: what a crash might have left at an earlier moment stands, and at each moment of the call it
--- might have left what it might at the first, or may at the last.
-pub record Elapses (old new : Content) : Type 0 where
-  pub later : old.moment ≤ new.moment
-  pub past : (t : ℕ) (c : List ℕ) → t ≤ old.moment → new.images_at t c → old.images_at t c
-  pub kept : (t : ℕ) (c : List ℕ) → t ≤ old.moment → old.images_at t c → new.images_at t c
-  pub within : (t : ℕ) (c : List ℕ) → old.moment ≤ t → t ≤ new.moment → new.images_at t c → images old c ⊎ images new c
-
--- A crash at any moment from old to new leaves a file that has P.
+-- Time goes on from old to new: what a crash might have left at an earlier moment stands, and at each moment from old to new
+-- it leaves a file that has P.
 pub record LeavesOnly (old new : Content) (P : List ℕ → Type 0) : Type 0 where
   pub later : old.moment ≤ new.moment
   pub past : (t : ℕ) (c : List ℕ) → t ≤ old.moment → new.images_at t c → old.images_at t c

@@ -1,17 +1,23 @@
 -- A disk in memory: its lives, and what it tells of them.
-use Rattle.std.specs.Prelude.{◌≡◌, ◌⊎◌, ◌++◌, ◌+◌, ℕ, List, [], ◌∷◌, map, length, get_or, Some, None}
+use Rattle.std.specs.Prelude.{◌≡◌, ◌⊎◌, ◌++◌, ◌+◌, ℕ, suc, max, Bool, true, false, List, [], ◌∷◌, map, length, get_or, Option, Some, None}
 use Rattle.std.specs.List.{flat_map}
+use Rattle.mon_types.specs.Faults.{risen}
+use Rattle.mon_types.specs.declared.names.Stop.{Stop}
+use Rattle.mon_types.specs.declared.names.Stop.TheVariants.{Failed, OutOfMemory}
 use Rattle.mon_disk.specs.declared.disk.DiskCall.{DiskCall}
+use Rattle.mon_disk.specs.declared.disk.DiskCall.TheVariants.{Write, Sync}
 use Rattle.mon_disk.specs.Images.{Content}
-use Rattle.mon_disk.specs.Calls.{Told}
+use Rattle.mon_disk.specs.Calls.{Told, DiskState, is_past}
 use Rattle.mon_disk.specs.Memory.{Lived, LeftAfter, begun, seen_of, settled, from_of}
 
--- the lives that ended with a settling, oldest first, and the one that goes on; the known length; the faults
+-- the lives that ended with a settling, oldest first, and the one that goes on; the known length; the faults, and the wants
+-- of memory
 pub record MemoryState : Type 0 where
   pub past : List Lived
   pub life : Lived
   pub known : ℕ
   pub faults : ℕ
+  pub wants : ℕ
 
 -- a life that begins with what the disk then holds
 abbrev pub begins_with : List ℕ → Lived
@@ -52,6 +58,31 @@ content_of past life = record {
 abbrev pub tells : Lived → Told
 tells life = record { made = life.calls; fails_from = from_of life.upset; settles = λ calls. settled (with_calls life calls) }
 
+-- what the disk tells
+abbrev pub state_of : MemoryState → DiskState
+state_of d = record { content = content_of d.past d.life; known = d.known; told = Some (tells d.life); faults = d.faults; wants = d.wants }
+
+-- whether the next write or sync fails
+abbrev pub fails : Lived → Bool
+fails life = is_past (from_of life.upset) (suc (length life.calls))
+
+-- the known length after a call
+abbrev pub known_after : DiskCall → ℕ → ℕ
+known_after (Write at bytes) known = max known (at + length bytes)
+known_after Sync known = known
+
+-- The disk after a call that answered so: the call is noted where it was made, and else the want of memory is counted.
+abbrev pub after_call : DiskCall → Option Stop → MemoryState → MemoryState
+after_call call None d = record { past = d.past; life = and_call call d.life; known = known_after call d.known; faults = d.faults; wants = d.wants }
+after_call call (Some Failed) d = record { past = d.past; life = and_call call d.life; known = d.known; faults = risen d.faults; wants = d.wants }
+after_call call (Some OutOfMemory) d = record { past = d.past; life = d.life; known = d.known; faults = d.faults; wants = risen d.wants }
+
+-- A call is made or fails as the upset has it, where memory is left.
+abbrev pub IsFor : Option Stop → Lived → Type 0
+IsFor None life = fails life ≡ false
+IsFor (Some Failed) life = fails life ≡ true
+IsFor (Some OutOfMemory) life = Unit {0}
+
 -- the life in which the call-th write or sync from now is the first that fails
 abbrev pub upset_life : ℕ → ℕ → Lived → Lived
 upset_life call image life = record {
@@ -62,8 +93,8 @@ upset_life call image life = record {
 
 -- the disk after an upset
 abbrev pub upset_by : ℕ → ℕ → MemoryState → MemoryState
-upset_by call image d = record { past = d.past; life = upset_life call image d.life; known = d.known; faults = d.faults }
+upset_by call image d = record { past = d.past; life = upset_life call image d.life; known = d.known; faults = d.faults; wants = d.wants }
 
 -- the disk after it settled
 abbrev pub settle_of : MemoryState → MemoryState
-settle_of d = record { past = d.past ++ d.life ∷ []; life = begins_with (settled d.life); known = 0; faults = d.faults }
+settle_of d = record { past = d.past ++ d.life ∷ []; life = begins_with (settled d.life); known = 0; faults = d.faults; wants = d.wants }

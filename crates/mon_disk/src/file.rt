@@ -1,7 +1,7 @@
 //! A disk that is a file. It tells nothing of what it holds, only whether a call failed.
 
-ghost use Rattle.std.specs.Prelude.{◌≡◌, ◌≤◌, None, length};
-ghost use Rattle.mon_types.specs.Faults.{Rose};
+ghost use Rattle.std.specs.Prelude.{◌≡◌, None, length};
+ghost use Rattle.mon_types.specs.Faults.{risen};
 ghost use Rattle.mon_disk.specs.Images.{untold};
 
 use crate::disk::Disk;
@@ -55,7 +55,7 @@ impl<R: Files + Copy> FileDisk<R> {
     fn fail(&mut self) -> Stop
         ensures stop { result ≡ Stop.Failed }
         ensures known { self.new.known ≡ self.old.known }
-        ensures faults { (self.old.faults ≤ self.new.faults) × Rose self.old.faults self.new.faults }
+        ensures faults { self.new.faults ≡ risen self.old.faults }
     {
         self.faults = raised(self.faults);
         Stop::Failed
@@ -123,13 +123,7 @@ fn keep_name<R: Files>(rt: &R, path: &str) -> io::Result<()> {
 }
 
 impl<R: Files + Copy> Disk for FileDisk<R> {
-    ghost content = { λ _. untold };
-
-    ghost known = { λ d. d.known };
-
-    ghost told = { λ _. None };
-
-    ghost faults = { λ d. d.faults };
+    ghost state = { λ d. record { content = untold; known = d.known; told = None; faults = d.faults; wants = 0 } };
 
     ghost as_read = { λ _. tt };
 

@@ -1,10 +1,8 @@
-ghost use Rattle.std.specs.Prelude.{◌≡◌, ◌⊎◌, ◌≤◌, ◌+◌, ◌++◌, [], ◌∷◌, true, Some, None, Err, suc, length, OnOk, OnErr};
-ghost use Rattle.mon_types.specs.Faults.{risen};
-ghost use Rattle.mon_types.specs.declared.names.Stop.TheVariants.{Failed};
-ghost use Rattle.mon_disk.specs.Calls.{is_past};
-ghost use Rattle.mon_disk.specs.Images.{NoNew, Only, Elapses};
-ghost use Rattle.mon_disk.specs.Memory.{from_of, seen_of};
-ghost use Rattle.mon_disk.specs.MemoryDisk.{begins_with, and_call, content_of, tells, upset_by, settle_of};
+ghost use Rattle.std.specs.Prelude.{◌≡◌, ◌≤◌, [], ◌∷◌, true, Some, None, OnOk, OnErr};
+ghost use Rattle.std.specs.Result.{result_err};
+ghost use Rattle.mon_disk.specs.Images.{images, Only, LeavesOnly};
+ghost use Rattle.mon_disk.specs.Memory.{seen_of};
+ghost use Rattle.mon_disk.specs.MemoryDisk.{begins_with, content_of, state_of, fails, after_call, IsFor, upset_by, settle_of};
 ghost use Rattle.mon_disk.specs.Laws.{as_read, settles};
 
 use crate::disk::{Disk, DiskCall};
@@ -26,6 +24,7 @@ pub struct MemoryDisk {
     bytes: Vec<u8>,
     known: u64,
     faults: u64,
+    wants: u64,
 }
 
 impl Model for MemoryDisk {
@@ -35,7 +34,7 @@ impl Model for MemoryDisk {
 
     ghost Value = { MemoryState };
 
-    ghost view = { λ d. record { past = d.past.items; life = d.life; known = d.known; faults = d.faults } };
+    ghost view = { λ d. record { past = d.past.items; life = d.life; known = d.known; faults = d.faults; wants = d.wants } };
 
     ghost invariant = { λ d. (d.bytes.items ≡ seen_of d.life) × (d.known ≤ vec_len d.bytes) };
 }
@@ -43,7 +42,7 @@ impl Model for MemoryDisk {
 impl MemoryDisk {
     /// An empty disk, of which no call was made yet. It takes no memory.
     pub fn new(alloc: Global) -> MemoryDisk
-        ensures { result ≡ record { past = []; life = begins_with []; known = 0; faults = 0 } }
+        ensures { result ≡ record { past = []; life = begins_with []; known = 0; faults = 0; wants = 0 } }
     {
         MemoryDisk {
             alloc,
@@ -56,6 +55,7 @@ impl MemoryDisk {
             bytes: Vec::new(alloc),
             known: 0,
             faults: 0,
+            wants: 0,
         }
     }
 
@@ -67,8 +67,7 @@ impl MemoryDisk {
         requires image { image ≤ 3 }
         ensures state { self.new ≡ upset_by call image self.old }
         ensures seen { seen_of self.new.life ≡ seen_of self.old.life }
-        ensures crash { NoNew (content_of self.old.past self.old.life) (content_of self.new.past self.new.life) }
-        ensures time { Elapses (content_of self.old.past self.old.life) (content_of self.new.past self.new.life) }
+        ensures any_moment { let old = content_of self.old.past self.old.life in LeavesOnly old (content_of self.new.past self.new.life) (images old) }
     {
         self.life.upset(call, image);
     }
@@ -79,7 +78,7 @@ impl MemoryDisk {
         ensures ok { OnOk result (self.new ≡ settle_of self.old) }
         ensures err { OnErr result (self.new ≡ self.old) }
         ensures durable { OnOk result (Only (content_of self.new.past self.new.life)) }
-        ensures time { Elapses (content_of self.old.past self.old.life) (content_of self.new.past self.new.life) }
+        ensures any_moment { let old = content_of self.old.past self.old.life in LeavesOnly old (content_of self.new.past self.new.life) (images old) }
     {
         let file = self.life.settled(self.alloc, self.bytes.as_slice())?;
         let next = Life {
@@ -97,30 +96,70 @@ impl MemoryDisk {
         Ok(())
     }
 
+    /// Counts a want of memory.
+    fn lack(&mut self) -> Stop
+        ensures stop { result ≡ Stop.OutOfMemory }
+        ensures state { self.new ≡ after_call DiskCall.Sync (Some Stop.OutOfMemory) self.old }
+    {
+        self.wants = raised(self.wants);
+        Stop::OutOfMemory
+    }
+
     /// Notes a call that fails.
     fn fail(&mut self, call: DiskCall) -> Stop
-        requires fails { is_past (from_of self.old.life.upset) (suc (length self.old.life.calls)) ≡ true }
-        ensures failed { result ≡ Stop.Failed → self.new ≡ record { past = self.old.past; life = and_call call self.old.life; known = self.old.known; faults = risen self.old.faults } }
-        ensures no_memory { result ≡ Stop.OutOfMemory → self.new ≡ self.old }
-        ensures past { self.new.past ≡ self.old.past }
-        ensures life { (self.new.life ≡ self.old.life) ⊎ (self.new.life ≡ and_call call self.old.life) }
+        requires fails { fails self.old.life ≡ true }
+        ensures state { self.new ≡ after_call call (Some result) self.old }
+        ensures right { IsFor (Some result) self.old.life }
     {
         if self.life.note(call).is_err() {
-            return Stop::OutOfMemory;
+            return self.lack();
         }
         self.faults = raised(self.faults);
         Stop::Failed
     }
+
+    fn write(&mut self, at: u64, bytes: &[u8]) -> Result<(), Stop>
+        requires known { at ≤ self.old.known }
+        ensures state { self.new ≡ after_call (DiskCall.Write at bytes.now) (result_err result) self.old }
+        ensures right { IsFor (result_err result) self.old.life }
+    {
+        let Ok(copy) = Vec::from_slice(self.alloc, bytes) else {
+            return Err(self.lack());
+        };
+        let call = DiskCall::Write {
+            at,
+            bytes: Bytes::new(copy),
+        };
+        if self.life.fails() {
+            return Err(self.fail(call));
+        }
+        if self.life.note(call).is_err() {
+            return Err(self.lack());
+        }
+        if overwrite(&mut self.bytes, at as usize, bytes).is_err() {
+            self.life.take_back();
+            return Err(self.lack());
+        }
+        self.known = self.known.max(at + bytes.len() as u64);
+        Ok(())
+    }
+
+    fn keep(&mut self) -> Result<(), Stop>
+        ensures state { self.new ≡ after_call DiskCall.Sync (result_err result) self.old }
+        ensures right { IsFor (result_err result) self.old.life }
+    {
+        if self.life.fails() {
+            return Err(self.fail(DiskCall::Sync));
+        }
+        if self.life.note(DiskCall::Sync).is_err() {
+            return Err(self.lack());
+        }
+        Ok(())
+    }
 }
 
 impl Disk for MemoryDisk {
-    ghost content = { λ d. content_of d.past d.life };
-
-    ghost known = { λ d. d.known };
-
-    ghost told = { λ d. Some (tells d.life) };
-
-    ghost faults = { λ d. d.faults };
+    ghost state = { state_of };
 
     ghost as_read = { as_read };
 
@@ -139,34 +178,10 @@ impl Disk for MemoryDisk {
     }
 
     fn write_at(&mut self, at: u64, bytes: &[u8]) -> Result<(), Stop> {
-        let Ok(copy) = Vec::from_slice(self.alloc, bytes) else {
-            return Err(Stop::OutOfMemory);
-        };
-        let call = DiskCall::Write {
-            at,
-            bytes: Bytes::new(copy),
-        };
-        if self.life.fails() {
-            return Err(self.fail(call));
-        }
-        if self.life.note(call).is_err() {
-            return Err(Stop::OutOfMemory);
-        }
-        if overwrite(&mut self.bytes, at as usize, bytes).is_err() {
-            self.life.take_back();
-            return Err(Stop::OutOfMemory);
-        }
-        self.known = self.known.max(at + bytes.len() as u64);
-        Ok(())
+        self.write(at, bytes)
     }
 
     fn sync(&mut self) -> Result<(), Stop> {
-        if self.life.fails() {
-            return Err(self.fail(DiskCall::Sync));
-        }
-        if self.life.note(DiskCall::Sync).is_err() {
-            return Err(Stop::OutOfMemory);
-        }
-        Ok(())
+        self.keep()
     }
 }

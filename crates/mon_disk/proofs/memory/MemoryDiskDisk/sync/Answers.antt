@@ -1,25 +1,17 @@
-use Rattle.std.proofs.Common.{rules, ◌≡◌, inr}
+use Rattle.std.proofs.Common.{◌≡◌, [], ◌∷◌, sym, subst}
+use Rattle.std.specs.Result.{result_err}
 use Rattle.mon_disk.specs.declared.disk.DiskCall.TheVariants.{Sync}
-use Rattle.mon_disk.specs.MemoryDisk.{and_call}
-use Rattle.mon_disk.proofs.Contents.{noted_time, noted_sync}
+use Rattle.mon_disk.specs.Images.{images}
+use Rattle.mon_disk.specs.Calls.{Called}
+use Rattle.mon_disk.specs.MemoryDisk.{MemoryState, content_of, state_of}
+use Rattle.mon_disk.proofs.Answers.{sync_called}
 use Rattle.mon_disk.proofs.memory.MemoryDiskDisk.sync.Goals as goal
 
-pub returns-then-fails-clause-crash : goal.returns-then-fails-clause-crash
-returns-then-fails-clause-crash c =
-    noted_sync c.args.self.now.past c.fail.new.self.past c.args.self.now.life c.fail.new.self.life c.fail.ensures.past c.fail.ensures.life
-
-pub returns-then-fails-clause-time : goal.returns-then-fails-clause-time
-returns-then-fails-clause-time c =
-    noted_time c.args.self.now.past c.fail.new.self.past c.args.self.now.life c.fail.new.self.life c.fail.ensures.past Sync c.fail.ensures.life
-
-pub returns-clause-crash : goal.returns-clause-crash
-returns-clause-crash c =
-    let kept : c.self.inside.past.items ≡ c.args.self.now.past = search rules in
-    let more : c.note.new.self ≡ and_call Sync c.args.self.now.life = search rules in
-    noted_sync c.args.self.now.past c.self.inside.past.items c.args.self.now.life c.note.new.self kept (inr more)
-
-pub returns-clause-time : goal.returns-clause-time
-returns-clause-time c =
-    let kept : c.self.inside.past.items ≡ c.args.self.now.past = search rules in
-    let more : c.note.new.self ≡ and_call Sync c.args.self.now.life = search rules in
-    noted_time c.args.self.now.past c.self.inside.past.items c.args.self.now.life c.note.new.self kept Sync (inr more)
+pub returns-clause-call : goal.returns-clause-call
+returns-clause-call c =
+    let d = c.args.self.now in
+    let stop = result_err c.keep.result in
+    subst
+    (λ (new : MemoryState). Called (Sync ∷ []) (images (content_of d.past d.life)) stop (state_of d) (state_of new))
+    (sym c.keep.ensures.state)
+    (sync_called d stop c.keep.ensures.right)

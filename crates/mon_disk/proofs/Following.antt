@@ -1,0 +1,126 @@
+-- Calls of a disk that follow each other.
+use Rattle.std.proofs.Common.{◌≡◌, ◌⊎◌, ⊎_elim, inl, inr, ℕ, ◌≤◌, List, [], ◌∷◌, ◌++◌, Option, Some, None, refl, ap, ◌∙◌, subst, sym, arith}
+use Rattle.std.specs.Prelude.{IfSome, is_some}
+use Rattle.mon_types.specs.declared.names.Stop.{Stop}
+use Rattle.mon_types.specs.declared.names.Stop.TheVariants.{Failed, OutOfMemory}
+use Rattle.mon_disk.specs.declared.disk.DiskCall.{DiskCall}
+use Rattle.mon_disk.specs.Images.{Content, images, TornFrom, LeavesOnly}
+use Rattle.mon_disk.specs.Calls.{Told, DiskState, and_made, fails_next, faults_after, MayWant, Makes, Called}
+use Rattle.mon_disk.proofs.Writes.{torn_not}
+
+-- ---- what a crash may leave at each moment
+
+-- time that stands still
+pub still : (x : Content) (P : List ℕ → Type 0) → ((c : List ℕ) → images x c → P c) → LeavesOnly x x P
+still x P here = record {
+  later = omega arith;
+  past = λ t c le left. left;
+  kept = λ t c le left. left;
+  each = λ t c from to left.
+      let same : t ≡ x.moment = omega (arith, from, to) in
+      here c (subst (λ (m : ℕ). x.images_at m c) same left);
+}
+
+pub weaker : (old new : Content) (P R : List ℕ → Type 0) → LeavesOnly old new P → ((c : List ℕ) → P c → R c) → LeavesOnly old new R
+weaker old new P R so_far p = record { later = so_far.later; past = so_far.past; kept = so_far.kept; each = λ t c from to left. p c (so_far.each t c from to left) }
+
+-- moments, and moments after them
+pub then_more : (old mid new : Content) (P Q R : List ℕ → Type 0) → LeavesOnly old mid P → LeavesOnly mid new Q → ((c : List ℕ) → P c → R c) → ((c : List ℕ) → Q c → R c) → LeavesOnly old new R
+then_more old mid new P Q R first second p q = record {
+  later = omega (arith, first.later, second.later);
+  past = λ t c le left. first.past t c le (second.past t c (omega (arith, le, first.later)) left);
+  kept = λ t c le left. second.kept t c (omega (arith, le, first.later)) (first.kept t c le left);
+  each = λ t c from to left.
+      ⊎_elim
+      (λ (before : t ≤ mid.moment). p c (first.each t c from before (second.past t c before left)))
+      (λ (after : mid.moment ≤ t). q c (second.each t c after to left))
+      (le_or_ge t mid.moment);
+}
+  where
+    le_or_ge : (m n : ℕ) → (m ≤ n) ⊎ (n ≤ m)
+    le_or_ge m n = grind arith
+
+-- what may be left now is what may be left at some moment
+pub now : (old new : Content) (P : List ℕ → Type 0) → LeavesOnly old new P → (c : List ℕ) → images new c → P c
+now old new P so_far c left = so_far.each new.moment c so_far.later (omega arith) left
+
+-- what stands may be left of any write
+pub torn_none : (x : Content) (at : ℕ) (bytes c : List ℕ) → images x c → TornFrom x at bytes c
+torn_none x at bytes c left = (c, left, torn_not at bytes c)
+
+-- and what a disk settles to has it too
+pub settles_by : (old new : Content) (told : Option Told) (P : List ℕ → Type 0) → LeavesOnly old new P → IfSome told (λ t. images new (t.settles t.made)) → IfSome told (λ t. P (t.settles t.made))
+settles_by old new None P so_far settled = tt
+settles_by old new (Some t) P so_far settled = now old new P so_far (t.settles t.made) settled
+
+-- ---- which calls were made
+
+none_more : (call : DiskCall) (calls : List DiskCall) (s : Stop) (old new : Option Told) → Makes [] (Some s) old new → Makes (call ∷ calls) (Some s) old new
+none_more call calls OutOfMemory old new made = inl (refl, made.0)
+none_more call calls Failed None new made = inr (inl (refl, made.0, tt))
+none_more call calls Failed (Some t) new made = absurd (made.1 refl)
+
+-- a row that stopped makes no further ones
+pub stops : (calls more : List DiskCall) (s : Stop) (old new : Option Told) → Makes calls (Some s) old new → Makes (calls ++ more) (Some s) old new
+stops [] [] s old new made = made
+stops [] (call ∷ more) s old new made = none_more call more s old new made
+stops (call ∷ calls) more s old new (inl stopped) = inl stopped
+stops (call ∷ calls) more s old new (inr (inl failed)) = inr (inl failed)
+stops (call ∷ calls) more s old new (inr (inr (passes, rest))) = inr (inr (passes, stops calls more s (and_made call old) new rest))
+
+-- and one that came to its end is followed by them
+pub follows : (calls more : List DiskCall) (stop : Option Stop) (old mid new : Option Told) → Makes calls None old mid → Makes more stop mid new → Makes (calls ++ more) stop old new
+follows [] more stop old mid new made next = subst (λ (t : Option Told). Makes more stop t new) made.0 next
+follows (call ∷ calls) more stop old mid new (inl (is, same)) next = absurd cc
+follows (call ∷ calls) more stop old mid new (inr (inl (is, same, fails))) next = absurd cc
+follows (call ∷ calls) more stop old mid new (inr (inr (passes, rest))) next = inr (inr (passes, follows calls more stop (and_made call old) mid new rest next))
+
+-- ---- all of it
+
+-- before the first call
+pub none : (d : DiskState) (P : List ℕ → Type 0) → ((c : List ℕ) → images d.content c → P c) → Called [] P None d d
+none d P here = record { tells = refl; any_moment = still d.content P here; made = (refl, never d.told); faults = refl; wants = refl }
+  where
+    never : (told : Option Told) → IfSome told (λ t. ◌≡◌ {A = Option Stop} None (Some Failed) → ⊥)
+    never None = tt
+    never (Some t) = λ is. cc
+
+pub widened : {calls : List DiskCall} {stop : Option Stop} {old new : DiskState} (P R : List ℕ → Type 0) → Called calls P stop old new → ((c : List ℕ) → P c → R c) → Called calls R stop old new
+widened {old = old} {new = new} P R c p =
+    record { tells = c.tells; any_moment = weaker old.content new.content P R c.any_moment p; made = c.made; faults = c.faults; wants = c.wants }
+
+-- a row that came to its end, and one after it
+pub then_calls : {calls more : List DiskCall} {stop : Option Stop} {old mid new : DiskState} (P Q R : List ℕ → Type 0) → Called calls P None old mid → Called more Q stop mid new
+    → ((c : List ℕ) → P c → R c) → ((c : List ℕ) → Q c → R c) → Called (calls ++ more) R stop old new
+then_calls {calls = calls} {more = more} {stop = stop} {old = old} {mid = mid} {new = new} P Q R first second p q = record {
+  tells = second.tells ∙ first.tells;
+  any_moment = then_more old.content mid.content new.content P Q R first.any_moment second.any_moment p q;
+  made = follows calls more stop old.told mid.told new.told first.made second.made;
+  faults = second.faults ∙ ap (faults_after stop) first.faults;
+  wants = subst (λ (n : ℕ). MayWant stop n new.wants) first.wants second.wants;
+}
+
+-- a row that stopped: what would have come after it isn't made
+pub stopped_at : {calls : List DiskCall} {s : Stop} {old new : DiskState} (more : List DiskCall) (P R : List ℕ → Type 0) → Called calls P (Some s) old new → ((c : List ℕ) → P c → R c) → Called (calls ++ more) R (Some s) old new
+stopped_at {calls = calls} {s = s} {old = old} {new = new} more P R c p = record {
+  tells = c.tells;
+  any_moment = weaker old.content new.content P R c.any_moment p;
+  made = stops calls more s old.told new.told c.made;
+  faults = c.faults;
+  wants = c.wants;
+}
+
+-- a row that came to its end, after which what is built on the disk has no memory of its own
+pub without_memory : {calls : List DiskCall} {old new : DiskState} (P : List ℕ → Type 0) → Called calls P None old new → Called calls P (Some OutOfMemory) old new
+without_memory {calls = calls} {old = old} {new = new} P c =
+    record { tells = c.tells; any_moment = c.any_moment; made = end calls old.told new.told c.made; faults = c.faults; wants = inl c.wants }
+  where
+    never : (told : Option Told) → IfSome told (λ t. ◌≡◌ {A = Option Stop} (Some OutOfMemory) (Some Failed) → ⊥)
+    never None = tt
+    never (Some t) = λ is. cc
+
+    end : (calls : List DiskCall) (old new : Option Told) → Makes calls None old new → Makes calls (Some OutOfMemory) old new
+    end [] old new made = (made.0, never old)
+    end (call ∷ calls) old new (inl (is, same)) = absurd cc
+    end (call ∷ calls) old new (inr (inl (is, same, fails))) = absurd cc
+    end (call ∷ calls) old new (inr (inr (passes, rest))) = inr (inr (passes, end calls (and_made call old) new rest))
