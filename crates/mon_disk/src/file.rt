@@ -1,62 +1,89 @@
 //! A disk that is a file. It tells nothing of what it holds, only whether a call failed.
 
-ghost use Rattle.std.specs.Prelude.{◌≡◌, None, length};
+ghost use Rattle.std.specs.Prelude.{◌≡◌, None, length, is_some, IsErr, IsTrue, option_map};
 ghost use Rattle.mon_types.specs.Faults.{risen};
 ghost use Rattle.mon_disk.specs.Images.{untold};
 
+use crate::device::DeviceFile;
 use crate::disk::Disk;
 use crate::faults::raised;
 use mon_types::Stop;
+use std::alloc::Global;
 use std::fs::{File, Files, OpenFile, OpenOptions};
 use std::io;
-use std::io::{ErrorKind, Read, Seek, SeekFrom, Write};
+use std::io::{Error, ErrorKind, Read, Seek, SeekFrom, Write};
+use std::os::unix::fs::OpenOptionsExt;
 use std::path::Path;
 
-/// The file of a name.
+/// The file of a name. From its first call on it is locked. After a call that failed each later one fails too: the system may
+/// have lost what was written before and then answer that all is well.
 #[derive(Drop)]
-pub struct FileDisk<R: Files + Copy> {
+pub struct FileDisk<R: Files + Copy>
+where
+    R::File: DeviceFile,
+{
     rt: R,
     path: String,
     file: Option<R::File>,
+    failure: Option<Error>,
     known: u64,
     faults: u64,
 }
 
-impl<R: Files + Copy> FileDisk<R> {
-    /// The file of that name, which the first call opens, and makes where it isn't there.
+impl<R: Files + Copy> FileDisk<R>
+where
+    R::File: DeviceFile,
+{
+    /// The file of that name, which the first call opens. Where it isn't there it is made, for its owner alone to read. What
+    /// isn't a regular file, and one that is locked, fails.
     pub fn named(rt: &R, path: String) -> FileDisk<R>
-        ensures { result ≡ record { rt = rt.now; path = path; file = None; known = 0; faults = 0 } }
+        ensures { result ≡ record { rt = rt.now; path = path; file = None; failure = None; known = 0; faults = 0 } }
     {
         FileDisk {
             rt: *rt,
             path,
             file: None,
+            failure: None,
             known: 0,
             faults: 0,
         }
+    }
+
+    /// What the system said to the first call that failed.
+    pub fn failure(&self) -> Option<&Error>
+        ensures { option_map (λ error. error.now) result ≡ self.now.failure }
+    {
+        self.failure.as_ref()
     }
 
     /// Opens the file, unless it is open.
     fn open(&mut self) -> io::Result<()>
         ensures known { self.new.known ≡ self.old.known }
         ensures faults { self.new.faults ≡ self.old.faults }
+        ensures given_up { IsTrue (is_some self.old.failure) → IsErr result }
     {
+        if self.failure.is_some() {
+            return Err(ErrorKind::Other.into());
+        }
         if self.file.is_none() {
-            let mut options = OpenOptions::new();
-            options.read(true).write(true).create(true);
-            let file = options.open(&self.rt, self.path.as_str())?;
-            keep_name(&self.rt, self.path.as_str())?;
+            let file = settled(&self.rt, self.path.as_str())?;
+            keep_name(&self.rt, *self.path.allocator(), self.path.as_str())?;
             self.file = Some(file);
         }
         Ok(())
     }
 
-    /// Counts a fault.
-    fn fail(&mut self) -> Stop
+    /// Counts a fault, keeps what the system said first, and gives the file up.
+    fn fail(&mut self, said: Error) -> Stop
         ensures stop { result ≡ Stop.Failed }
         ensures known { self.new.known ≡ self.old.known }
         ensures faults { self.new.faults ≡ risen self.old.faults }
+        ensures given_up { IsTrue (is_some self.new.failure) }
     {
+        self.file = None;
+        if self.failure.is_none() {
+            self.failure = Some(said);
+        }
         self.faults = raised(self.faults);
         Stop::Failed
     }
@@ -64,6 +91,7 @@ impl<R: Files + Copy> FileDisk<R> {
     fn length(&mut self) -> io::Result<u64>
         ensures known { self.new.known ≡ self.old.known }
         ensures faults { self.new.faults ≡ self.old.faults }
+        ensures given_up { IsTrue (is_some self.old.failure) → IsErr result }
     {
         self.open()?;
         match &self.file {
@@ -76,6 +104,7 @@ impl<R: Files + Copy> FileDisk<R> {
         ensures room { length into.new ≡ length into.old }
         ensures known { self.new.known ≡ self.old.known }
         ensures faults { self.new.faults ≡ self.old.faults }
+        ensures given_up { IsTrue (is_some self.old.failure) → IsErr result }
     {
         self.open()?;
         match &mut self.file {
@@ -90,6 +119,7 @@ impl<R: Files + Copy> FileDisk<R> {
     fn put(&mut self, at: u64, bytes: &[u8]) -> io::Result<()>
         ensures known { self.new.known ≡ self.old.known }
         ensures faults { self.new.faults ≡ self.old.faults }
+        ensures given_up { IsTrue (is_some self.old.failure) → IsErr result }
     {
         self.open()?;
         match &mut self.file {
@@ -104,25 +134,46 @@ impl<R: Files + Copy> FileDisk<R> {
     fn keep(&mut self) -> io::Result<()>
         ensures known { self.new.known ≡ self.old.known }
         ensures faults { self.new.faults ≡ self.old.faults }
+        ensures given_up { IsTrue (is_some self.old.failure) → IsErr result }
     {
         self.open()?;
         match &self.file {
-            Some(file) => file.sync_all(),
+            Some(file) => file.sync_data(),
             None => Err(ErrorKind::NotFound.into()),
         }
     }
 }
 
-/// Syncs the folder of a file, so that the name of one that was just made lasts over a crash.
-fn keep_name<R: Files>(rt: &R, path: &str) -> io::Result<()> {
-    let folder = match Path::new(path).parent() {
-        Some(folder) if !folder.to_string_lossy().is_empty() => folder,
-        _ => Path::new("."),
-    };
+/// The file of a name, opened for this process alone. A read gives what is on the device: a sync of an earlier process that
+/// failed leaves the system's copies other than that.
+fn settled<R: Files>(rt: &R, path: &str) -> io::Result<R::File>
+where
+    R::File: DeviceFile,
+{
+    let mut options = OpenOptions::new();
+    options.read(true).write(true).create(true);
+    options.mode(0o600);
+    let file = options.open(rt, path)?.claim()?;
+    if !file.metadata()?.is_file() {
+        return Err(Error::new(ErrorKind::Unsupported, "not a regular file"));
+    }
+    file.sync_all()?;
+    file.forget_pages()?;
+    Ok(file)
+}
+
+/// Syncs the folder that a file's name stands in, that of its target where the name is a link, so that the name of a file that
+/// was just made lasts over a crash.
+fn keep_name<R: Files>(rt: &R, alloc: Global, path: &str) -> io::Result<()> {
+    let path = rt.canonicalize(alloc, path)?;
+    let folder = path.parent().unwrap_or(Path::new("/"));
     File::open(rt, folder)?.sync_all()
 }
 
-impl<R: Files + Copy> Disk for FileDisk<R> {
+impl<R: Files + Copy> Disk for FileDisk<R>
+where
+    R::File: DeviceFile,
+{
     ghost state = { λ d. record { content = untold; known = d.known; told = None; faults = d.faults; wants = 0 } };
 
     ghost as_read = { λ _. tt };
@@ -135,34 +186,34 @@ impl<R: Files + Copy> Disk for FileDisk<R> {
                 self.known = length;
                 Ok(length)
             }
-            Err(_) => Err(self.fail()),
+            Err(said) => Err(self.fail(said)),
         }
     }
 
     fn read(&mut self, at: u64, into: &mut [u8]) -> Result<(), Stop> {
         match self.take(at, into) {
             Ok(()) => Ok(()),
-            Err(_) => Err(self.fail()),
+            Err(said) => Err(self.fail(said)),
         }
     }
 
     fn write_at(&mut self, at: u64, bytes: &[u8]) -> Result<(), Stop> {
         let Some(end) = at.checked_add(bytes.len() as u64) else {
-            return Err(self.fail());
+            return Err(self.fail(ErrorKind::FileTooLarge.into()));
         };
         match self.put(at, bytes) {
             Ok(()) => {
                 self.known = self.known.max(end);
                 Ok(())
             }
-            Err(_) => Err(self.fail()),
+            Err(said) => Err(self.fail(said)),
         }
     }
 
     fn sync(&mut self) -> Result<(), Stop> {
         match self.keep() {
             Ok(()) => Ok(()),
-            Err(_) => Err(self.fail()),
+            Err(said) => Err(self.fail(said)),
         }
     }
 }

@@ -1,6 +1,7 @@
 //! A monitor's disks: what a crash may leave of them, a disk in memory that can be made to fail, and one that is a file.
 #![tactic(auto)]
 
+mod device;
 mod disk;
 mod faults;
 mod file;
@@ -9,10 +10,13 @@ mod memory;
 mod node;
 mod settling;
 
+pub use device::DeviceFile;
 pub use disk::{Disk, DiskCall};
 pub use file::FileDisk;
 pub use memory::MemoryDisk;
 pub use node::NodeDisks;
 
+#[cfg(test)]
+mod asked;
 #[cfg(test)]
 mod tests;

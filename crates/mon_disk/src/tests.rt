@@ -2,6 +2,7 @@ use super::*;
 use mon_types::Stop;
 use std::alloc::Global;
 use std::fs;
+use std::io::ErrorKind;
 use std::test::Fail;
 
 /// What a disk gives to a reading of all of it.
@@ -110,13 +111,31 @@ fn a_file_is_made_and_opened_again(rt: HostRuntime) -> Result<(), Fail> {
     disk.write_at(3, b"def")?;
     disk.write_at(1, b"XY")?;
     disk.sync()?;
+    let mut second = FileDisk::named(&rt, String::from_str(alloc, name)?);
+    assert_eq!(rt; second.sync(), Err(Stop::Failed), "it is locked");
+    drop(disk);
+    assert_eq!(rt; second.sync(), Err(Stop::Failed), "it was given up");
     let mut again = FileDisk::named(&rt, String::from_str(alloc, name)?);
     assert_eq!(rt;
         contents(alloc, &mut again)?.as_slice(),
         b"aXYdef".as_slice()
     );
-    let mut nowhere = FileDisk::named(&rt, String::from_str(alloc, "mon_disk_no_folder/file")?);
-    assert_eq!(rt; nowhere.sync(), Err(Stop::Failed));
     fs::remove_file(&rt, name)?;
+    Ok(())
+}
+
+#[test]
+fn what_is_no_file_fails(rt: HostRuntime) -> Result<(), Fail> {
+    let alloc = rt.alloc();
+    for (name, kind) in [
+        ("mon_disk_no_folder/file", ErrorKind::NotFound),
+        ("/dev/null", ErrorKind::Unsupported),
+        (".", ErrorKind::IsADirectory),
+    ] {
+        let mut disk = FileDisk::named(&rt, String::from_str(alloc, name)?);
+        assert_eq!(rt; disk.len(), Err(Stop::Failed), "{name}");
+        let said = disk.failure().map(|error| error.kind());
+        assert_eq!(rt; said, Some(kind), "{name}");
+    }
     Ok(())
 }
