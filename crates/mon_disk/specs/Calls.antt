@@ -6,16 +6,16 @@ use Rattle.mon_types.specs.declared.names.Stop.TheVariants.{Failed, OutOfMemory}
 use Rattle.mon_disk.specs.declared.disk.DiskCall.{DiskCall}
 use Rattle.mon_disk.specs.Images.{Content, images, LeavesOnly}
 
--- The writes and syncs in order, failed ones too; the number, from 1, of the first of them that fails, as each later one
--- does then; and what the disk settles to, once a fault is over, after each list of calls that it might be given.
+-- The writes and syncs in order, failed ones too; the number, from 1, of the first of them that fails, as each later
+-- one does then; and what the disk settles to, once a fault is over, after each list of calls that it might be given.
 pub record Told : Type 0 where
   pub made : List DiskCall
   pub fails_from : Option ℕ
   pub settles : List DiskCall → List ℕ
 
--- A disk at one moment: what it holds, and what a crash may leave of it; its known length; the calls that were made on it,
--- where it tells them; how many calls failed so far; and how many found it without memory of its own. Both counts stand still
--- at the last number of 64 bits.
+-- A disk at one moment: what it holds, and what a crash may leave of it; its known length; the calls that were made on
+-- it, where it tells them; how many calls failed so far; and how many found it without memory of its own. Both counts
+-- stand still at the last number of 64 bits.
 pub record DiskState : Type 1 where
   pub content : Content
   pub known : ℕ
@@ -37,8 +37,9 @@ is_past (Some from) n = nat_le from n
 abbrev pub fails_next : Told → Bool
 fails_next t = is_past t.fails_from (suc (length t.made))
 
--- Which of these writes and syncs were made, in this order: each of them, where none failed; or those up to the first that
--- failed, which is where Failed comes; or those before memory ran out. A disk that tells its calls fails in none but these.
+-- Which of these writes and syncs were made, in this order: each of them, where none failed; or those up to the first
+-- that failed, which is where Failed comes; or those before memory ran out. A disk that tells its calls fails in none
+-- but these.
 abbrev pub Makes : List DiskCall → Option Stop → Option Told → Option Told → Type 0
 Makes [] stop old new = (new ≡ old) × IfSome old (λ t. stop ≡ Some Failed → ⊥)
 Makes (call ∷ calls) stop old new =
@@ -58,8 +59,8 @@ MayWant None old new = new ≡ old
 MayWant (Some Failed) old new = new ≡ old
 MayWant (Some OutOfMemory) old new = (new ≡ old) ⊎ (new ≡ risen old)
 
--- What holds of every row of calls on a disk, from its state before them to that after them, whether they came to their end
--- or to a stop: of one call, and of all that is built of them.
+-- What holds of every row of calls on a disk, from its state before them to that after them, whether they came to their
+-- end or to a stop: of one call, and of all that is built of them.
 pub record Called (calls : List DiskCall) (P : List ℕ → Type 0) (stop : Option Stop) (old new : DiskState) : Type 0 where
   -- whether the disk tells what it holds stays
   pub tells : is_some new.content.seen ≡ is_some old.content.seen

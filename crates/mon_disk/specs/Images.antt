@@ -52,8 +52,8 @@ TornFrom x at bytes c = (d : List ℕ) × images x d × Torn at bytes d c
 abbrev pub Only : Content → Type 0
 Only x = (c : List ℕ) → images x c → x.seen ≡ Some c
 
--- Time goes on from old to new: what a crash might have left at an earlier moment stands, and at each moment from old to new
--- it leaves a file that has P.
+-- Time goes on from old to new: what a crash might have left at an earlier moment stands, and at each moment from old
+-- to new it leaves a file that has P.
 pub record LeavesOnly (old new : Content) (P : List ℕ → Type 0) : Type 0 where
   pub later : old.moment ≤ new.moment
   pub past : (t : ℕ) (c : List ℕ) → t ≤ old.moment → new.images_at t c → old.images_at t c

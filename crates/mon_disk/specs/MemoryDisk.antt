@@ -10,8 +10,8 @@ use Rattle.mon_disk.specs.Images.{Content}
 use Rattle.mon_disk.specs.Calls.{Told, DiskState, is_past}
 use Rattle.mon_disk.specs.Memory.{Lived, LeftAfter, begun, seen_of, settled, from_of}
 
--- the lives that ended with a settling, oldest first, and the one that goes on; the known length; the faults, and the wants
--- of memory
+-- the lives that ended with a settling, oldest first, and the one that goes on; the known length; the faults, and the
+-- wants of memory
 pub record MemoryState : Type 0 where
   pub past : List Lived
   pub life : Lived

@@ -11,8 +11,8 @@ use std::path::PathBuf;
 use std::rc::Rc;
 use std::test::Fail;
 
-/// The calls so far, a letter each; the number, from 1, of the one that fails; and the bytes of the one file, and where its
-/// next read or write begins.
+/// The calls so far, a letter each; the number, from 1, of the one that fails; and the bytes of the one file, and where
+/// its next read or write begins.
 #[derive(Clone, Copy)]
 struct Asked {
     calls: [u8; 32],

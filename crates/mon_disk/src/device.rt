@@ -15,8 +15,8 @@ pub trait DeviceFile: Sized {
 }
 
 impl DeviceFile for File {
-    /// The handle gets a number above those of the standard streams: what is written to one that was closed must not land in
-    /// the file.
+    /// The handle gets a number above those of the standard streams: what is written to one that was closed must not
+    /// land in the file.
     fn claim(self) -> io::Result<File> {
         let file = if self.as_raw_fd() <= 2 {
             self.try_clone()?

@@ -18,15 +18,15 @@ pub enum DiskCall {
 
 /// A file of bytes that lasts over a crash, but for what was written since the last sync that answered `Ok`.
 ///
-/// Of each call `call` says what goes unchanged through all that is built of such calls: whether the disk tells what it holds
-/// stays; what a crash leaves at each moment of the call; which writes and syncs were made; and what the disk counted, a fault
-/// where it answered `Failed`, its want of memory where it answered `OutOfMemory`, and nothing where it answered `Ok`. After
-/// want of memory the call wasn't made.
+/// Of each call `call` says what goes unchanged through all that is built of such calls: whether the disk tells what it
+/// holds stays; what a crash leaves at each moment of the call; which writes and syncs were made; and what the disk
+/// counted, a fault where it answered `Failed`, its want of memory where it answered `OutOfMemory`, and nothing where
+/// it answered `Ok`. After want of memory the call wasn't made.
 pub trait Disk {
-    /// What a read gives and what a crash may leave, now and at each earlier moment, where the disk tells it; a real file
-    /// doesn't. The known length: the greatest of what `len` last told, 0 before the first, and the ends of the writes that
-    /// were answered `Ok` since. The writes and syncs that were made, where the disk tells them. The faults so far, and the
-    /// disk's own wants of memory.
+    /// What a read gives and what a crash may leave, now and at each earlier moment, where the disk tells it; a real
+    /// file doesn't. The known length: the greatest of what `len` last told, 0 before the first, and the ends of the
+    /// writes that were answered `Ok` since. The writes and syncs that were made, where the disk tells them. The faults
+    /// so far, and the disk's own wants of memory.
     ghost state: { Self → DiskState };
 
     /// The length in bytes. It is the known length then.

@@ -15,8 +15,8 @@ use std::io::{Error, ErrorKind, Read, Seek, SeekFrom, Write};
 use std::os::unix::fs::OpenOptionsExt;
 use std::path::Path;
 
-/// The file of a name. From its first call on it is locked. After a call that failed each later one fails too: the system may
-/// have lost what was written before and then answer that all is well.
+/// The file of a name. From its first call on it is locked. After a call that failed each later one fails too: the
+/// system may have lost what was written before and then answer that all is well.
 #[derive(Drop)]
 pub struct FileDisk<R: Files + Copy>
 where
@@ -34,8 +34,8 @@ impl<R: Files + Copy> FileDisk<R>
 where
     R::File: DeviceFile,
 {
-    /// The file of that name, which the first call opens. Where it isn't there it is made, for its owner alone to read. What
-    /// isn't a regular file, and one that is locked, fails.
+    /// The file of that name, which the first call opens. Where it isn't there it is made, for its owner alone to read.
+    /// What isn't a regular file, and one that is locked, fails.
     pub fn named(rt: &R, path: String) -> FileDisk<R>
         ensures { result ≡ record { rt = rt.now; path = path; file = None; failure = None; known = 0; faults = 0 } }
     {
@@ -144,8 +144,8 @@ where
     }
 }
 
-/// The file of a name, opened for this process alone. A read gives what is on the device: a sync of an earlier process that
-/// failed leaves the system's copies other than that.
+/// The file of a name, opened for this process alone. A read gives what is on the device: a sync of an earlier process
+/// that failed leaves the system's copies other than that.
 fn settled<R: Files>(rt: &R, path: &str) -> io::Result<R::File>
 where
     R::File: DeviceFile,
@@ -162,8 +162,8 @@ where
     Ok(file)
 }
 
-/// Syncs the folder that a file's name stands in, that of its target where the name is a link, so that the name of a file that
-/// was just made lasts over a crash.
+/// Syncs the folder that a file's name stands in, that of its target where the name is a link, so that the name of a
+/// file that was just made lasts over a crash.
 fn keep_name<R: Files>(rt: &R, alloc: Global, path: &str) -> io::Result<()> {
     let path = rt.canonicalize(alloc, path)?;
     let folder = path.parent().unwrap_or(Path::new("/"));

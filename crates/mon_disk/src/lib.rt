@@ -1,4 +1,5 @@
-//! A monitor's disks: what a crash may leave of them, a disk in memory that can be made to fail, and one that is a file.
+//! A monitor's disks: what a crash may leave of them, a disk in memory that can be made to fail, and one that is a
+//! file.
 #![tactic(auto)]
 
 mod device;

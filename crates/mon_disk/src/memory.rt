@@ -14,8 +14,8 @@ use std::alloc::Global;
 use std::marker::Model;
 use std::mem;
 
-/// A disk in memory, empty at first. It tells what it holds, what a crash may leave and what calls were made, and can be
-/// upset: then it fails from a call on, until it settles to an image that a crash may leave.
+/// A disk in memory, empty at first. It tells what it holds, what a crash may leave and what calls were made, and can
+/// be upset: then it fails from a call on, until it settles to an image that a crash may leave.
 #[derive(Drop)]
 pub struct MemoryDisk {
     alloc: Global,
