@@ -5,15 +5,13 @@ use Rattle.std.proofs.lemmas.Bool.{cases_eq}
 use Rattle.std.proofs.lemmas.Bool.Decides.{nat_tests}
 use Rattle.mon_bytes.specs.Forms.{u32_bytes}
 use Rattle.mon_bytes.proofs.Forms.{length-u32_bytes}
-use Rattle.mon_disk.specs.Images.{Content, images, Only, Torn, LeavesOnly, overwritten, written}
+use Rattle.mon_disk.specs.Images.{Content, images, Only, Torn, TornFrom, overwritten, written}
 use Rattle.mon_journal.specs.declared.journal.Journal.{Journal}
 use Rattle.mon_journal.specs.Content.{Held, content, payloads_of, held_by, Holds, appended, WithOrWithout}
 use Rattle.mon_journal.specs.Written.{payload_bytes}
-use Rattle.mon_journal.specs.Steps.{payloads_told, payloads_seen, Stands, Keeps, TornFrom}
+use Rattle.mon_journal.specs.Steps.{payloads_told, payloads_seen, Stands, Keeps}
 use Rattle.mon_journal.proofs.Keeping.{keeps_by, seen_holds}
 use Rattle.mon_journal.proofs.Files.{FileParts, parts_of_file, same_shut, one_opened}
-use Rattle.mon_disk.proofs.Moments.{started}
-use Rattle.mon_journal.proofs.Moments.{then_more}
 use Rattle.mon_journal.proofs.Gates.{torn_behind, written_behind, torn_gate, written_gate, gate_is}
 
 -- the record and the closed gate behind it
@@ -121,23 +119,12 @@ module _ (journal : Journal) (payload : List ℕ) (short : length payload < 2 ^ 
     pub before_it : (c : List ℕ) → images old c → P (payloads_seen old) c
     before_it c left = first old.seen c (seen_holds journal known old stands) (stands.only c left)
 
-    -- no call yet
-    pub not_begun : LeavesOnly old old (P (payloads_seen old))
-    not_begun = started old (P (payloads_seen old)) before_it
-
-    behind_it : (c : List ℕ) → TornFrom old (journal.next_gate + 1) (body payload) c → P (payloads_seen old) c
+    pub behind_it : (c : List ℕ) → TornFrom old (journal.next_gate + 1) (body payload) c → P (payloads_seen old) c
     behind_it c (d, left, torn) = second old.seen d c (seen_holds journal known old stands) (stands.only d left) torn
 
-    -- the first write
-    pub half : (mid : Content) → LeavesOnly old mid (TornFrom old (journal.next_gate + 1) (body payload)) → LeavesOnly old mid (P (payloads_seen old))
-    half mid one = record { later = one.later; past = one.past; kept = one.kept; each = λ t c from to left. behind_it c (one.each t c from to left) }
-
-    -- the second, behind it
-    pub whole : (mid new : Content) → LeavesOnly old mid (TornFrom old (journal.next_gate + 1) (body payload)) → mid.seen ≡ written (journal.next_gate + 1) (body payload) old.seen → Only mid
-        → LeavesOnly mid new (TornFrom mid journal.next_gate (1 ∷ [])) → LeavesOnly old new (P (payloads_seen old))
-    whole mid new one seen only two =
-        then_more old mid new (TornFrom old (journal.next_gate + 1) (body payload)) (TornFrom mid journal.next_gate (1 ∷ [])) (P (payloads_seen old)) one two behind_it
-        (λ c (d, left, torn). third old.seen mid.seen d c (seen_holds journal known old stands) seen (only d left) torn)
+    -- the second write, behind the first
+    pub in_second : (mid : Content) → mid.seen ≡ written (journal.next_gate + 1) (body payload) old.seen → Only mid → (c : List ℕ) → TornFrom mid journal.next_gate (1 ∷ []) c → P (payloads_seen old) c
+    in_second mid seen only c (d, left, torn) = third old.seen mid.seen d c (seen_holds journal known old stands) seen (only d left) torn
 
     pub is_kept : (mid new : Content) (known1 known2 : ℕ) → mid.seen ≡ written (journal.next_gate + 1) (body payload) old.seen → new.seen ≡ written journal.next_gate (1 ∷ []) mid.seen → Only new
         → known1 ≡ max known (journal.next_gate + 1 + length (body payload)) → known2 ≡ max known1 (journal.next_gate + 1) → Keeps (appended journal payload) (payloads_seen old ++ payload ∷ []) known2 new

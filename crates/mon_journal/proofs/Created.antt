@@ -4,13 +4,13 @@ use Rattle.std.specs.Option.{ForSome}
 use Rattle.std.specs.Prelude.{IfSome}
 use Rattle.mon_types.specs.declared.member.Member.{Member}
 use Rattle.mon_disk.specs.Calls.{Told}
-use Rattle.mon_disk.specs.Images.{Content, images, LeavesOnly, NoNew, Only, written}
+use Rattle.mon_disk.specs.Images.{Content, images, TornFrom, LeavesOnly, Only, written}
 use Rattle.mon_journal.specs.declared.journal.Journal.{Journal}
 use Rattle.mon_journal.specs.Content.{Holds}
 use Rattle.mon_journal.specs.Written.{first_record, first_payloads, head_bytes, header_bytes, owner_of, created}
-use Rattle.mon_journal.specs.Steps.{TornFrom, ClosedFrom, CreatedFrom, made_more, Made, Keeps}
+use Rattle.mon_journal.specs.Steps.{ClosedFrom, CreatedFrom, made_more, Made, Keeps}
 use Rattle.mon_journal.proofs.Counts.{count, few, more}
-use Rattle.mon_journal.proofs.Moments.{now}
+use Rattle.mon_disk.proofs.Following.{now}
 use Rattle.mon_journal.proofs.Keeping.{keeps_by}
 use Rattle.mon_journal.proofs.Headers.{IsShort, made, length-header}
 use Rattle.mon_journal.proofs.Makes.{not_opening, shut_only, one_write, two_writes, three_writes, at_third, is_there}
@@ -88,9 +88,9 @@ module _ (member : Member) (generation : ℕ) (first : Option (List ℕ)) (from_
           opening = three_writes head Q is_made (journal.next_gate + 1) long_more old reads c1 c2 c3 one seen1 only1 second whole only2 three
 
           pub opening_settles : (told mid last : Option Told) → (is_some told ≡ true → count mid ≡ count told + 4) → (is_some told ≡ true → (last ≡ mid) ⊎ (count mid < count last))
-              → IfSome mid (λ s. last ≡ Some s → NoNew c2 c3) → IfSome last (λ t. images c3 (t.settles t.made)) → IfSome told (λ s. IfSome last (λ t. Left (made_more 4 s t) (t.settles t.made)))
+              → IfSome mid (λ s. last ≡ Some s → LeavesOnly c2 c3 (images c2)) → IfSome last (λ t. images c3 (t.settles t.made)) → IfSome told (λ s. IfSome last (λ t. Left (made_more 4 s t) (t.settles t.made)))
           opening_settles told mid last all either none settled =
-              more 4 told mid last c2 c3 Left all either none (at_third head Q is_made (journal.next_gate + 1) long_more old reads c1 c2 c3 one seen1 only1 second whole only2 three) settled
+              more 4 told mid last c3 Left (LeavesOnly c2 c3 (images c2)) all either none (at_third head Q is_made (journal.next_gate + 1) long_more old reads c1 c2 c3 one seen1 only1 second whole only2 three) settled
 
     pub is_kept : (c1 c2 c3 : Content) (bytes : List ℕ) (known1 known2 known3 : ℕ) → bytes ≡ head → c1.seen ≡ written 0 (0 ∷ []) old.seen → c2.seen ≡ written 1 bytes c1.seen → c3.seen ≡ written 0 (1 ∷ []) c2.seen → Only c3
         → known2 ≡ max known1 (1 + length bytes) → known3 ≡ max known2 1 → Keeps journal (first_payloads first) known3 c3

@@ -1,20 +1,22 @@
 -- What opening finds, and what a crash leaves meanwhile.
 use Rattle.std.proofs.Common.{◌≡◌, ◌≢◌, ◌⊎◌, ℕ, ◌+◌, ◌<◌, max, true, false, List, [], ◌∷◌, ◌++◌, length, Option, Some, None, Result, Ok, Err, inl, inr, refl, sym, ap, subst, ◌∙◌, length-append, arith}
 use Rattle.std.specs.Prelude.{IfSome}
+use Rattle.mon_types.specs.declared.names.Stop.{Stop}
+use Rattle.mon_types.specs.declared.names.Stop.TheVariants as stop
+use Rattle.mon_disk.specs.declared.disk.DiskCall.{DiskCall}
 use Rattle.mon_disk.specs.declared.disk.DiskCall.TheVariants.{Write, Sync}
-use Rattle.mon_disk.specs.Calls.{Told, and_made, fails_next}
-use Rattle.mon_disk.specs.Images.{Content, images, Only, Torn, LeavesOnly, overwritten, written}
+use Rattle.mon_disk.specs.Calls.{DiskState, Called}
+use Rattle.mon_disk.specs.Images.{Content, images, Only, Torn, TornFrom, overwritten, written}
+use Rattle.mon_disk.proofs.Following.{now, widened, then_calls, stopped_at, without_memory}
 use Rattle.mon_journal.specs.declared.stop.JournalStop.{JournalStop}
 use Rattle.mon_journal.specs.declared.stop.JournalStop.TheVariants.{DiskFault, NotAStore, OutOfMemory}
 use Rattle.mon_journal.specs.declared.journal.Journal.{Journal}
 use Rattle.mon_journal.specs.Content.{Held, held_at, is_closed, content, held_by, Holds, Fails, IsOfForm}
-use Rattle.mon_journal.specs.Steps.{TornFrom, Keeps, Makes, open_calls, AlikeFrom, Opens}
+use Rattle.mon_journal.specs.Steps.{Keeps, stop_in, IsOutside, open_calls, AlikeFrom, Opens, OpensBy}
 use Rattle.mon_journal.proofs.Local.{from}
 use Rattle.mon_journal.proofs.Keeping.{keeps_by}
 use Rattle.mon_journal.proofs.Files.{FileParts, parts_of_file, same_shut}
 use Rattle.mon_journal.proofs.Gates.{torn_gate, written_gate}
-use Rattle.mon_journal.proofs.Moments.{now, then_more}
-use Rattle.mon_journal.proofs.Called.{same_done, made_then}
 
 pub is_none : (file : List ℕ) → is_closed file ≡ true → content file ≡ None
 unfolding content
@@ -28,11 +30,44 @@ pub closed_found : (s : Option (List ℕ)) (bytes : List ℕ) (len : ℕ) → If
 closed_found None bytes len whole closed is = tt
 closed_found (Some file) bytes len whole closed is = (ap content whole ∙ is_none bytes closed, is ∙ ap length (sym whole))
 
-pub closed_calls : {T U : Type 0} (s : Option (List ℕ)) (bytes : List ℕ) (old new : Option Told) (x : T) (y : U) → IfSome s (λ file. file ≡ bytes) → is_closed bytes ≡ true → Makes {T = T} (Sync ∷ []) old new (Ok x)
-    → IfSome s (λ file. Makes {T = U} (open_calls (content file)) old new (Ok y))
-closed_calls None bytes old new x y whole closed made = tt
-closed_calls {U = U} (Some file) bytes old new x y whole closed made =
-    subst (λ (k : Option (Result Held JournalStop)). Makes {T = U} (open_calls k) old new (Ok y)) (sym (ap content whole ∙ is_none bytes closed)) (same_done (Sync ∷ []) old new x y made)
+-- the calls behind the first sync, of a file that is seen
+abbrev rest_calls : Option (Result Held JournalStop) → List DiskCall
+rest_calls (Some (Ok held)) = Write held.next_gate (0 ∷ []) ∷ Sync ∷ []
+rest_calls (Some (Err e)) = []
+rest_calls None = []
+
+all_calls : (k : Option (Result Held JournalStop)) → Sync ∷ rest_calls k ≡ open_calls k
+all_calls (Some (Ok held)) = refl
+all_calls (Some (Err e)) = refl
+all_calls None = refl
+
+abbrev rest_seen : Option (List ℕ) → List DiskCall
+rest_seen None = []
+rest_seen (Some file) = rest_calls (content file)
+
+each_seen : (s : Option (List ℕ)) → IfSome s (λ file. Sync ∷ rest_seen s ≡ open_calls (content file))
+each_seen None = tt
+each_seen (Some file) = all_calls (content file)
+
+itself : (x : Content) (c : List ℕ) → images x c → AlikeFrom x c
+itself x c left = (c, left, refl, refl)
+
+-- a stop at the sync, or behind it for want of memory
+pub stopped_first : (old new : DiskState) (stop : Stop) → Called (Sync ∷ []) (images old.content) (Some stop) old new → OpensBy (Some stop) old new
+stopped_first old new stop c = (Sync ∷ rest_seen old.content.seen, stopped_at (rest_seen old.content.seen) (images old.content) (AlikeFrom old.content) c (itself old.content), each_seen old.content.seen)
+
+pub refused_first : (T : Type 0) (e : JournalStop) (old new : DiskState) → IsOutside e → Called (Sync ∷ []) (images old.content) (stop_in {T = T} (Err e)) old new → OpensBy (stop_in {T = T} (Err e)) old new
+refused_first T DiskFault old new outside c = stopped_first old new stop.Failed c
+refused_first T OutOfMemory old new outside c = stopped_first old new stop.OutOfMemory c
+refused_first T (NotAStore at) old new outside c = absurd outside
+
+-- the sync alone
+pub closed_calls : (old new : DiskState) (bytes : List ℕ) → IfSome old.content.seen (λ file. file ≡ bytes) → is_closed bytes ≡ true → Called (Sync ∷ []) (images old.content) None old new → OpensBy None old new
+closed_calls old new bytes whole closed c = (Sync ∷ [], widened (images old.content) (AlikeFrom old.content) c (itself old.content), each old.content.seen whole)
+  where
+    each : (s : Option (List ℕ)) → IfSome s (λ file. file ≡ bytes) → IfSome s (λ file. Sync ∷ [] ≡ open_calls (content file))
+    each None h = tt
+    each (Some file) h = ap open_calls (sym (ap content h ∙ is_none bytes closed))
 
 pub fault_found : (e : JournalStop) (s : Option (List ℕ)) (bytes : List ℕ) (known : ℕ) (new : Content) → Only new → new.seen ≡ s → IfSome s (λ file. file ≡ bytes) → is_closed bytes ≡ false → Fails e (held_at (from 0 bytes))
     → Opens s known new (Err e)
@@ -44,31 +79,16 @@ fault_found (NotAStore at) s bytes known new only seen whole is_open fails = (on
     each None whole = tt
     each (Some file) whole = ap content whole ∙ is_some bytes is_open ∙ ap (λ (r : Result Held JournalStop). Some r) fails
 
-never : (U : Type 0) (e : JournalStop) (t : Option Told) → (e ≡ DiskFault → ⊥) → IfSome t (λ u. ◌≡◌ {A = Result U JournalStop} (Err e) (Err DiskFault) → ⊥)
-never U e None other = tt
-never U e (Some t) other = λ is. let same : e ≡ DiskFault = cc in other same
-
-synced : {T : Type 0} (old new : Option Told) (x : T) → Makes {T = T} (Sync ∷ []) old new (Ok x) → IfSome old (λ t. fails_next t ≡ false) × (new ≡ and_made Sync old)
-synced old new x (inl (is, same)) = absurd cc
-synced old new x (inr (inl (is, same, fails))) = absurd cc
-synced old new x (inr (inr (passes, rest))) = (passes, rest.0)
-
-memory_after : (U : Type 0) (k : Option (Result Held JournalStop)) (old new : Option Told) → IfSome old (λ t. fails_next t ≡ false) → new ≡ and_made Sync old → Makes {T = U} (open_calls k) old new (Err OutOfMemory)
-memory_after U None old new passes is = inr (inr (passes, (is, never U OutOfMemory (and_made Sync old) (λ e. cc))))
-memory_after U (Some (Err e)) old new passes is = inr (inr (passes, (is, never U OutOfMemory (and_made Sync old) (λ e. cc))))
-memory_after U (Some (Ok held)) old new passes is = inr (inr (passes, inl (refl, is)))
-
--- memory ran out, or the form is at fault, once the disk was synced
-pub fault_calls : (T U : Type 0) (e : JournalStop) (s : Option (List ℕ)) (bytes : List ℕ) (old new : Option Told) (x : T) → IfSome s (λ file. file ≡ bytes) → is_closed bytes ≡ false → IsOfForm e → Fails e (held_at (from 0 bytes))
-    → Makes {T = T} (Sync ∷ []) old new (Ok x) → IfSome s (λ file. Makes {T = U} (open_calls (content file)) old new (Err e))
-fault_calls T U e None bytes old new x whole is_open form fails made = tt
-fault_calls T U DiskFault (Some file) bytes old new x whole is_open form fails made = absurd form
-fault_calls T U OutOfMemory (Some file) bytes old new x whole is_open form fails made = let m = synced old new x made in memory_after U (content file) old new m.0 m.1
-fault_calls T U (NotAStore at) (Some file) bytes old new x whole is_open form fails made =
-    let m = synced old new x made in
-    let is : content file ≡ Some (Err (NotAStore at)) = ap content whole ∙ is_some bytes is_open ∙ ap (λ (r : Result Held JournalStop). Some r) fails in
-    let calls : Makes {T = U} (Sync ∷ []) old new (Err (NotAStore at)) = inr (inr (m.0, (m.1, never U (NotAStore at) (and_made Sync old) (λ e. cc)))) in
-    subst (λ (k : Option (Result Held JournalStop)). Makes {T = U} (open_calls k) old new (Err (NotAStore at))) (sym is) calls
+-- the form is at fault, or memory ran out
+pub fault_calls : (T : Type 0) (e : JournalStop) (old new : DiskState) (bytes : List ℕ) → IfSome old.content.seen (λ file. file ≡ bytes) → is_closed bytes ≡ false → IsOfForm e → Fails e (held_at (from 0 bytes))
+    → Called (Sync ∷ []) (images old.content) None old new → OpensBy (stop_in {T = T} (Err e)) old new
+fault_calls T DiskFault old new bytes whole is_open form fails c = absurd form
+fault_calls T OutOfMemory old new bytes whole is_open form fails c = stopped_first old new stop.OutOfMemory (without_memory (images old.content) c)
+fault_calls T (NotAStore at) old new bytes whole is_open form fails c = (Sync ∷ [], widened (images old.content) (AlikeFrom old.content) c (itself old.content), each old.content.seen whole)
+  where
+    each : (s : Option (List ℕ)) → IfSome s (λ file. file ≡ bytes) → IfSome s (λ file. Sync ∷ [] ≡ open_calls (content file))
+    each None h = tt
+    each (Some file) h = ap open_calls (sym (ap content h ∙ is_some bytes is_open ∙ ap (λ (r : Result Held JournalStop). Some r) fails))
 
 module _ (bytes : List ℕ) (journal : Journal) (payloads : List (List ℕ)) (is_open : is_closed bytes ≡ false) (read : held_at (from 0 bytes) ≡ Ok (held_by journal payloads)) where
   abbrev held : Held
@@ -125,17 +145,18 @@ module _ (bytes : List ℕ) (journal : Journal) (payloads : List (List ℕ)) (is
   told_whole None d whole e = absurd cc
   told_whole (Some file) d whole e = let same : d ≡ file = cc in same ∙ whole
 
-  pub alike : (old mid new : Content) → LeavesOnly old mid (images old) → mid.seen ≡ old.seen → IfSome old.seen (λ file. file ≡ bytes) → Only mid → LeavesOnly mid new (TornFrom mid journal.next_gate (0 ∷ [])) → LeavesOnly old new (AlikeFrom old)
-  alike old mid new one seen whole only two =
-      then_more old mid new (images old) (TornFrom mid journal.next_gate (0 ∷ [])) (AlikeFrom old) one two (λ c left. (c, left, refl, refl)) (λ c (d, left, torn).
-      let is : d ≡ bytes = told_whole old.seen d whole (sym seen ∙ only d left) in
-      let a = torn_alike c (subst (λ (f : List ℕ). Torn journal.next_gate (0 ∷ []) f c) is torn) in
-      (d, now old mid (images old) one d left, a.0 ∙ ap content (sym is), a.1 ∙ ap length (sym is)))
-
-  pub live_calls : {T U : Type 0} (s : Option (List ℕ)) (old mid new : Option Told) (x : T) (result : Result U JournalStop) → IfSome s (λ file. file ≡ bytes) → Makes {T = T} (Sync ∷ []) old mid (Ok x)
-      → Makes {T = U} (Write journal.next_gate (0 ∷ []) ∷ Sync ∷ []) mid new result → IfSome s (λ file. Makes {T = U} (open_calls (content file)) old new result)
-  live_calls None old mid new x result whole one two = tt
-  live_calls {U = U} (Some file) old mid new x result whole one two =
-      let is : content file ≡ Some (Ok held) = ap content whole ∙ holds in
-      let calls : Makes {T = U} (Sync ∷ Write journal.next_gate (0 ∷ []) ∷ Sync ∷ []) old new result = made_then (Sync ∷ []) (Write journal.next_gate (0 ∷ []) ∷ Sync ∷ []) old mid new x result one two in
-      subst (λ (k : Option (Result Held JournalStop)). Makes {T = U} (open_calls k) old new result) (sym is) calls
+  -- the sync, and then zero at the first closed gate
+  pub live_calls : (old mid new : DiskState) (stop : Option Stop) → IfSome old.content.seen (λ file. file ≡ bytes) → mid.content.seen ≡ old.content.seen → Only mid.content → Called (Sync ∷ []) (images old.content) None old mid
+      → Called (Write journal.next_gate (0 ∷ []) ∷ Sync ∷ []) (TornFrom mid.content journal.next_gate (0 ∷ [])) stop mid new → OpensBy stop old new
+  live_calls old mid new stop whole seen only one two = (
+    Sync ∷ Write journal.next_gate (0 ∷ []) ∷ Sync ∷ [],
+    then_calls (images old.content) (TornFrom mid.content journal.next_gate (0 ∷ [])) (AlikeFrom old.content) one two (itself old.content) (λ c (d, left, torn).
+        let is : d ≡ bytes = told_whole old.content.seen d whole (sym seen ∙ only d left) in
+        let a = torn_alike c (subst (λ (f : List ℕ). Torn journal.next_gate (0 ∷ []) f c) is torn) in
+        (d, now old.content mid.content (images old.content) one.any_moment d left, a.0 ∙ ap content (sym is), a.1 ∙ ap length (sym is))),
+    each old.content.seen whole,
+  )
+    where
+      each : (s : Option (List ℕ)) → IfSome s (λ file. file ≡ bytes) → IfSome s (λ file. Sync ∷ Write journal.next_gate (0 ∷ []) ∷ Sync ∷ [] ≡ open_calls (content file))
+      each None h = tt
+      each (Some file) h = ap open_calls (sym (ap content h ∙ holds))

@@ -1,6 +1,5 @@
 pub mod Appending
-pub mod Called
-pub mod Counts
+mod Counts
 pub mod Created
 pub mod Files
 pub mod Finds
@@ -9,7 +8,7 @@ pub mod Headers
 pub mod Keeping
 pub mod Local
 pub mod Makes
-pub mod Moments
 pub mod Parts
 pub mod RecordParts
 pub mod Spells
+pub mod Stops

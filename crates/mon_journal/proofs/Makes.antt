@@ -3,11 +3,11 @@ use Rattle.std.proofs.Common.{◌≡◌, ◌≢◌, ◌⊎◌, ℕ, ◌+◌, ◌
 use Rattle.std.specs.Prelude.{IfSome}
 use Rattle.std.proofs.lemmas.Bool.{cases_eq}
 use Rattle.std.proofs.lemmas.Bool.Decides.{nat_tests}
-use Rattle.mon_disk.specs.Images.{Content, images, Only, NoNew, Torn, LeavesOnly, overwritten, written}
+use Rattle.mon_disk.specs.Images.{Content, images, Only, Torn, TornFrom, LeavesOnly, overwritten, written}
 use Rattle.mon_journal.specs.Content.{content}
-use Rattle.mon_journal.specs.Steps.{ByTest, ClosedFrom, TornFrom}
+use Rattle.mon_journal.specs.Steps.{ByTest, ClosedFrom}
 use Rattle.mon_journal.proofs.Gates.{torn_behind, written_behind, torn_gate, written_gate}
-use Rattle.mon_journal.proofs.Moments.{now, then_more, weaker}
+use Rattle.mon_disk.proofs.Following.{now, then_more, weaker}
 
 pub closed_gate : (gate : ℕ) (bytes : List ℕ) → gate ≢ 1 → content (gate ∷ bytes) ≡ None
 unfolding content
@@ -133,9 +133,9 @@ module _ (head : List ℕ) (Q : List ℕ → Type 0) (is_made : (tail : List ℕ
     three_writes = then_more old c2 c3 Shut (TornFrom c2 0 (1 ∷ [])) R (two_writes c1 c2 one seen1 only1 two) three wider (λ c torn. opened_or c (in_third c torn))
 
     -- once it was begun to be opened, and where it wasn't
-    pub at_third : (opening : Bool) → (opening ≡ false → NoNew c2 c3) → (c : List ℕ) → images c3 c → Opens opening c
+    pub at_third : (opening : Bool) → (opening ≡ false → LeavesOnly c2 c3 (images c2)) → (c : List ℕ) → images c3 c → Opens opening c
     at_third true none c left = in_third c (now c2 c3 (TornFrom c2 0 (1 ∷ [])) three c left)
-    at_third false none c left = not_opening false refl c (now old c2 Shut (two_writes c1 c2 one seen1 only1 two) c (none refl c left))
+    at_third false none c left = not_opening false refl c (now old c2 Shut (two_writes c1 c2 one seen1 only1 two) c (now c2 c3 (images c2) (none refl) c left))
 
   pub is_there : (c1 c2 c3 : Content) → c1.seen ≡ written 0 (0 ∷ []) old.seen → c2.seen ≡ written 1 head c1.seen → c3.seen ≡ written 0 (1 ∷ []) c2.seen → IfSome c3.seen Q
   is_there c1 c2 c3 seen1 seen2 seen3 = fourth old.seen c1.seen c2.seen c3.seen seen1 seen2 seen3

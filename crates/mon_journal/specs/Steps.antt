@@ -2,11 +2,11 @@
 use Rattle.std.specs.Prelude.{◌≡◌, ◌≢◌, ◌⊎◌, ℕ, ◌≤◌, ◌<◌, ◌+◌, max, length, Bool, true, false, ◌&&◌, ◌==◌, nat_lt, List, [], ◌∷◌, ◌++◌, slice_index_or, Option, Some, None, Result, Ok, Err, IfSome}
 use Rattle.mon_types.specs.declared.names.Stop.{Stop}
 use Rattle.mon_types.specs.declared.names.Stop.TheVariants as stop
-use Rattle.mon_types.specs.Faults.{Rose}
+use Rattle.mon_types.specs.Faults.{risen}
 use Rattle.mon_disk.specs.declared.disk.DiskCall.{DiskCall}
 use Rattle.mon_disk.specs.declared.disk.DiskCall.TheVariants.{Write, Sync}
-use Rattle.mon_disk.specs.Images.{Content, images, Only, Torn}
-use Rattle.mon_disk.specs.Calls.{Told, and_made, fails_next}
+use Rattle.mon_disk.specs.Images.{Content, images, Only}
+use Rattle.mon_disk.specs.Calls.{Told, DiskState, Called}
 use Rattle.mon_journal.specs.declared.stop.JournalStop.{JournalStop}
 use Rattle.mon_journal.specs.declared.stop.JournalStop.TheVariants.{DiskFault, NotAStore, OutOfMemory}
 use Rattle.mon_journal.specs.declared.journal.Journal.{Journal}
@@ -21,14 +21,12 @@ abbrev pub stopped : Stop → JournalStop
 stopped stop.Failed = DiskFault
 stopped stop.OutOfMemory = OutOfMemory
 
--- Which of these writes and syncs were made, in this order: each of them, where none failed; or those up to the first that
--- failed, which is where DiskFault comes; or those before memory ran out. A disk that tells its calls fails in none but these.
-abbrev pub Makes : {T : Type 0} → List DiskCall → Option Told → Option Told → Result T JournalStop → Type 0
-Makes [] old new result = (new ≡ old) × IfSome old (λ t. result ≡ Err DiskFault → ⊥)
-Makes (call ∷ calls) old new result =
-    ((result ≡ Err OutOfMemory) × (new ≡ old))
-    ⊎ ((result ≡ Err DiskFault) × (new ≡ and_made call old) × IfSome old (λ t. fails_next t ≡ true))
-    ⊎ (IfSome old (λ t. fails_next t ≡ false) × Makes calls (and_made call old) new result)
+-- what stopped a journal's calls on its disk: nothing, where the file's form is at fault
+abbrev pub stop_in : {T : Type 0} → Result T JournalStop → Option Stop
+stop_in (Ok x) = None
+stop_in (Err DiskFault) = Some stop.Failed
+stop_in (Err OutOfMemory) = Some stop.OutOfMemory
+stop_in (Err (NotAStore at)) = None
 
 -- the disk's fault, or want of memory
 abbrev pub IsOutside : JournalStop → Type 0
@@ -36,10 +34,9 @@ IsOutside DiskFault = Unit {0}
 IsOutside OutOfMemory = Unit {0}
 IsOutside (NotAStore at) = ⊥
 
--- The count of faults never falls, and DiskFault is answered only where it rose.
-pub record HasFault {T : Type 0} (before now : ℕ) (result : Result T JournalStop) : Type 0 where
-  pub later : before ≤ now
-  pub failed : result ≡ Err DiskFault → Rose before now
+-- The journal's want of memory came before the first call on its disk, or it is the disk's own.
+abbrev pub WantsFirst : {D T : Type 0} → (D → DiskState) → Result T JournalStop → D → D → Type 0
+WantsFirst state result old new = result ≡ Err OutOfMemory → (new ≡ old) ⊎ ((state new).wants ≡ risen (state old).wants)
 
 -- a record behind a closed gate, with a closed gate behind it; and then that gate is opened
 abbrev pub append_calls : ℕ → List ℕ → List DiskCall
@@ -93,10 +90,6 @@ pub record Keeps (journal : Journal) (payloads : List (List ℕ)) (known : ℕ) 
   pub stands : Stands journal known x
   pub payloads_are : IfSome x.seen (λ file. payloads_of file ≡ payloads)
 
--- what a crash may leave of a write that begins on this disk
-abbrev pub TornFrom : Content → ℕ → List ℕ → List ℕ → Type 0
-TornFrom x at bytes file = (d : List ℕ) × images x d × Torn at bytes d file
-
 -- ---- opening
 
 -- an open store's first closed gate is written as zero
@@ -108,6 +101,11 @@ open_calls None = Sync ∷ []
 -- a file that stands for the same as one that a crash might have left before, and is as long
 abbrev pub AlikeFrom : Content → List ℕ → Type 0
 AlikeFrom x file = (d : List ℕ) × images x d × (content file ≡ content d) × (length file ≡ length d)
+
+-- The calls of opening were made, of a file that is seen those.
+abbrev pub OpensBy : Option Stop → DiskState → DiskState → Type 0
+OpensBy stop old new =
+    (calls : List DiskCall) × Called calls (AlikeFrom old.content) stop old new × IfSome old.content.seen (λ file. calls ≡ open_calls (content file))
 
 -- What opening answered is what the disk held, where the disk tells it, and stands on it safe from a crash.
 abbrev pub Opens : Option (List ℕ) → ℕ → Content → Result Opened JournalStop → Type 0

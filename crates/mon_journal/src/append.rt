@@ -1,7 +1,7 @@
-ghost use Rattle.std.specs.Prelude.{◌≡◌, ◌<◌, ◌^◌, ◌++◌, [], ◌∷◌, length, is_some, OnOk, OnErr, IfErr, IfSome};
-ghost use Rattle.mon_disk.specs.Images.{LeavesOnly};
+ghost use Rattle.std.specs.Prelude.{◌≡◌, ◌<◌, ◌^◌, ◌++◌, [], ◌∷◌, length, OnOk, OnErr, IfErr, IfSome};
+ghost use Rattle.mon_disk.specs.Calls.{Called};
 ghost use Rattle.mon_journal.specs.Content.{appended, WithOrWithout};
-ghost use Rattle.mon_journal.specs.Steps.{append_calls, payloads_seen, Stands, Keeps, Makes, IsOutside, HasFault};
+ghost use Rattle.mon_journal.specs.Steps.{append_calls, payloads_seen, Stands, Keeps, stop_in, IsOutside, WantsFirst};
 
 use crate::journal::Journal;
 use crate::spelled::record_body;
@@ -21,22 +21,21 @@ impl Journal {
         payload: &[u8],
     ) -> Result<(), JournalStop>
         requires short { length payload.now < 2 ^ 32 }
-        requires stands { Stands self.old (D.known disk.old) (D.content disk.old) }
-        ensures kept { OnOk result (Keeps self.new (payloads_seen (D.content disk.old) ++ payload.now ∷ []) (D.known disk.new) (D.content disk.new)) }
-        ensures journal { OnOk result (self.new ≡ appended self.old payload.now) }
-        ensures tells { is_some (D.content disk.new).seen ≡ is_some (D.content disk.old).seen }
-        ensures journal_err { OnErr result (self.new ≡ self.old) }
+        requires stands { Stands self.old (D.state disk.old).known (D.state disk.old).content }
 
-        // A crash at any moment of the call leaves the payloads from before it, and the new one where its gate is open.
-        ensures any_moment { LeavesOnly (D.content disk.old) (D.content disk.new) (WithOrWithout self.old (payloads_seen (D.content disk.old)) payload.now) }
+        // Its writes and syncs are made. A crash at any moment of the call leaves the payloads from before it, and the new one
+        // where its gate is open.
+        ensures call { let old = D.state disk.old in Called (append_calls self.old.next_gate payload.now)
+            (WithOrWithout self.old (payloads_seen old.content) payload.now) (stop_in result) old (D.state disk.new) }
 
         // What the disk settles to, too, where it tells it.
-        ensures settles { IfSome (D.told disk.new) (λ t. WithOrWithout self.old (payloads_seen (D.content disk.old)) payload.now (t.settles t.made)) }
+        ensures settles { IfSome (D.state disk.new).told (λ t. WithOrWithout self.old (payloads_seen (D.state disk.old).content) payload.now (t.settles t.made)) }
 
-        // Which writes and syncs were made, and when the disk's fault is told.
-        ensures calls { Makes (append_calls self.old.next_gate payload.now) (D.told disk.old) (D.told disk.new) result }
+        ensures kept { OnOk result (Keeps self.new (payloads_seen (D.state disk.old).content ++ payload.now ∷ []) (D.state disk.new).known (D.state disk.new).content) }
+        ensures journal { OnOk result (self.new ≡ appended self.old payload.now) }
+        ensures journal_err { OnErr result (self.new ≡ self.old) }
         ensures outside { IfErr result IsOutside }
-        ensures cause { HasFault (D.faults disk.old) (D.faults disk.new) result }
+        ensures no_memory { WantsFirst D.state result disk.old disk.new }
     {
         let body = record_body(alloc, payload)?;
         // A file ends below the last place that a number can tell.

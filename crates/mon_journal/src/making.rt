@@ -1,8 +1,8 @@
-ghost use Rattle.std.specs.Prelude.{◌≡◌, ◌≤◌, ◌<◌, ◌^◌, Some, length, is_some, IfOk, IfErr, IfSome, option_map};
+ghost use Rattle.std.specs.Prelude.{◌≡◌, ◌≤◌, ◌<◌, ◌^◌, Some, length, IfOk, IfErr, IfSome, option_map};
 ghost use Rattle.std.specs.Option.{ForSome};
-ghost use Rattle.mon_disk.specs.Images.{LeavesOnly};
+ghost use Rattle.mon_disk.specs.Calls.{Called};
 ghost use Rattle.mon_journal.specs.Written.{first_payloads, owner_of, created};
-ghost use Rattle.mon_journal.specs.Steps.{create_calls, CreatedFrom, made_more, Made, Keeps, Makes, IsOutside, HasFault};
+ghost use Rattle.mon_journal.specs.Steps.{create_calls, CreatedFrom, made_more, Made, Keeps, stop_in, IsOutside, WantsFirst};
 
 use crate::journal::{Form, Journal};
 use crate::spelled::head_bytes;
@@ -25,19 +25,19 @@ pub fn create<D: Disk>(
     requires most { generation ≤ 2 ^ 62 }
     requires short { ForSome first (λ payload. length payload.now < 2 ^ 32) }
     ensures journal { IfOk result (λ journal. journal ≡ created member generation (option_map (λ payload. payload.now) first.entry)) }
-    ensures kept { IfOk result (λ journal. Keeps journal (first_payloads (option_map (λ payload. payload.now) first.entry)) (D.known disk.new) (D.content disk.new)) }
-    ensures tells { is_some (D.content disk.new).seen ≡ is_some (D.content disk.old).seen }
+    ensures kept { IfOk result (λ journal. let payload = option_map (λ payload. payload.now) first.entry in Keeps journal (first_payloads payload) (D.state disk.new).known (D.state disk.new).content) }
 
-    // A crash at any moment of the call leaves what it might have left before, a closed file, or the new one.
-    ensures any_moment { let payload = option_map (λ payload. payload.now) first.entry in LeavesOnly (D.content disk.old) (D.content disk.new) (CreatedFrom (D.content disk.old) (created member generation payload) (first_payloads payload)) }
+    // Its writes and syncs are made. A crash at any moment of the call leaves what it might have left before, a closed file, or
+    // the new one.
+    ensures call { let old = D.state disk.old in let payload = option_map (λ payload. payload.now) first.entry in Called (create_calls (owner_of member) generation payload)
+        (CreatedFrom old.content (created member generation payload) (first_payloads payload)) (stop_in result) old (D.state disk.new) }
 
     // The disk settles to the new one where that gate is open then and more than four of the calls were made.
-    ensures settles { let payload = option_map (λ payload. payload.now) first.entry in IfSome (D.told disk.old) (λ s. IfSome (D.told disk.new) (λ t. Made (D.content disk.old) (created member generation payload) (first_payloads payload) (made_more 4 s t) (t.settles t.made))) }
+    ensures settles { let old = D.state disk.old in let payload = option_map (λ payload. payload.now) first.entry in IfSome old.told (λ s. IfSome (D.state disk.new).told
+        (λ t. Made old.content (created member generation payload) (first_payloads payload) (made_more 4 s t) (t.settles t.made))) }
 
-    // Which writes and syncs were made, and when the disk's fault is told.
-    ensures calls { Makes (create_calls (owner_of member) generation (option_map (λ payload. payload.now) first.entry)) (D.told disk.old) (D.told disk.new) result }
     ensures outside { IfErr result IsOutside }
-    ensures cause { HasFault (D.faults disk.old) (D.faults disk.new) result }
+    ensures no_memory { WantsFirst D.state result disk.old disk.new }
 {
     let head = head_bytes(alloc, &member, generation, first)?;
     write_synced(disk, 0, &[0])?;
@@ -63,19 +63,19 @@ pub fn restart<D: Disk>(
     requires most { generation ≤ 2 ^ 62 }
     requires short { length checkpoint.now < 2 ^ 32 }
     ensures journal { IfOk result (λ journal. journal ≡ created member generation (Some checkpoint.now)) }
-    ensures kept { IfOk result (λ journal. Keeps journal (first_payloads (Some checkpoint.now)) (D.known disk.new) (D.content disk.new)) }
-    ensures tells { is_some (D.content disk.new).seen ≡ is_some (D.content disk.old).seen }
+    ensures kept { IfOk result (λ journal. Keeps journal (first_payloads (Some checkpoint.now)) (D.state disk.new).known (D.state disk.new).content) }
 
-    // A crash at any moment of the call leaves what it might have left before, a closed file, or the new one.
-    ensures any_moment { LeavesOnly (D.content disk.old) (D.content disk.new) (CreatedFrom (D.content disk.old) (created member generation (Some checkpoint.now)) (first_payloads (Some checkpoint.now))) }
+    // Its writes and syncs are made. A crash at any moment of the call leaves what it might have left before, a closed file, or
+    // the new one.
+    ensures call { let old = D.state disk.old in Called (create_calls (owner_of member) generation (Some checkpoint.now))
+        (CreatedFrom old.content (created member generation (Some checkpoint.now)) (first_payloads (Some checkpoint.now))) (stop_in result) old (D.state disk.new) }
 
     // The disk settles to the new one where that gate is open then and more than four of the calls were made.
-    ensures settles { IfSome (D.told disk.old) (λ s. IfSome (D.told disk.new) (λ t. Made (D.content disk.old) (created member generation (Some checkpoint.now)) (first_payloads (Some checkpoint.now)) (made_more 4 s t) (t.settles t.made))) }
+    ensures settles { let old = D.state disk.old in IfSome old.told (λ s. IfSome (D.state disk.new).told
+        (λ t. Made old.content (created member generation (Some checkpoint.now)) (first_payloads (Some checkpoint.now)) (made_more 4 s t) (t.settles t.made))) }
 
-    // Which writes and syncs were made, and when the disk's fault is told.
-    ensures calls { Makes (create_calls (owner_of member) generation (Some checkpoint.now)) (D.told disk.old) (D.told disk.new) result }
     ensures outside { IfErr result IsOutside }
-    ensures cause { HasFault (D.faults disk.old) (D.faults disk.new) result }
+    ensures no_memory { WantsFirst D.state result disk.old disk.new }
 {
     create(alloc, disk, member, generation, Some(checkpoint))
 }

@@ -1,7 +1,4 @@
-ghost use Rattle.std.specs.Prelude.{◌≡◌, is_some, IfSome};
-ghost use Rattle.mon_disk.specs.Images.{LeavesOnly};
-ghost use Rattle.mon_journal.specs.Content.{content};
-ghost use Rattle.mon_journal.specs.Steps.{open_calls, AlikeFrom, Opens, Makes, HasFault};
+ghost use Rattle.mon_journal.specs.Steps.{Opens, OpensBy, stop_in};
 
 use crate::journal::Journal;
 use crate::loading::load;
@@ -30,15 +27,11 @@ pub enum Opened {
 /// closed gate. Its time is linear in the file's length, and it takes no memory for a payload that the file only claims to
 /// have.
 pub fn open<D: Disk>(alloc: Global, disk: &mut D) -> Result<Opened, JournalStop>
-    ensures found { Opens (D.content disk.old).seen (D.known disk.new) (D.content disk.new) result }
-    ensures tells { is_some (D.content disk.new).seen ≡ is_some (D.content disk.old).seen }
+    ensures found { Opens (D.state disk.old).content.seen (D.state disk.new).known (D.state disk.new).content result }
 
-    // A crash at any moment of the call leaves a file that stands for what one did that it might have left before.
-    ensures any_moment { LeavesOnly (D.content disk.old) (D.content disk.new) (AlikeFrom (D.content disk.old)) }
-
-    // Which writes and syncs were made, and when the disk's fault is told.
-    ensures calls { IfSome (D.content disk.old).seen (λ file. Makes (open_calls (content file)) (D.told disk.old) (D.told disk.new) result) }
-    ensures cause { HasFault (D.faults disk.old) (D.faults disk.new) result }
+    // Which writes and syncs were made. A crash at any moment of the call leaves a file that stands for what one did that it
+    // might have left before.
+    ensures call { OpensBy (stop_in result) (D.state disk.old) (D.state disk.new) }
 {
     let file = load(alloc, disk)?;
     if is_closed(&file) {

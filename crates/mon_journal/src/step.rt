@@ -1,28 +1,28 @@
 //! A write that is on the disk before the next one begins.
 
-ghost use Rattle.std.specs.Prelude.{◌≡◌, ◌≤◌, ◌+◌, max, length, [], ◌∷◌, is_some, Some, OnOk, IfErr, IfSome};
-ghost use Rattle.mon_disk.specs.Images.{Only, LeavesOnly, NoNew, written};
+ghost use Rattle.std.specs.Prelude.{◌≡◌, ◌≤◌, ◌+◌, max, length, [], ◌∷◌, Some, Err, OnOk, IfSome};
+ghost use Rattle.std.specs.Result.{result_err};
+ghost use Rattle.mon_types.specs.Faults.{risen};
+ghost use Rattle.mon_types.specs.declared.names.Stop.TheVariants.{OutOfMemory};
+ghost use Rattle.mon_disk.specs.Images.{Only, LeavesOnly, TornFrom, images, written};
+ghost use Rattle.mon_disk.specs.Calls.{Called};
 ghost use Rattle.mon_disk.specs.declared.disk.DiskCall.TheVariants.{Write, Sync};
-ghost use Rattle.mon_journal.specs.Steps.{Makes, IsOutside, HasFault, TornFrom};
 
-use crate::stop::JournalStop;
 use mon_disk::Disk;
+use mon_types::Stop;
 
 /// Writes over what is there, and syncs.
-pub fn write_synced<D: Disk>(disk: &mut D, at: u64, bytes: &[u8]) -> Result<(), JournalStop>
-    requires { at ≤ D.known disk.old }
-    ensures seen { OnOk result ((D.content disk.new).seen ≡ written at bytes.now (D.content disk.old).seen) }
-    ensures durable { OnOk result (Only (D.content disk.new)) }
-    ensures tells { is_some (D.content disk.new).seen ≡ is_some (D.content disk.old).seen }
-    ensures known { OnOk result (D.known disk.new ≡ max (D.known disk.old) (at + length bytes.now)) }
-    ensures any_moment { LeavesOnly (D.content disk.old) (D.content disk.new) (TornFrom (D.content disk.old) at bytes.now) }
+pub fn write_synced<D: Disk>(disk: &mut D, at: u64, bytes: &[u8]) -> Result<(), Stop>
+    requires { at ≤ (D.state disk.old).known }
+    ensures call { Called (Write at bytes.now ∷ Sync ∷ []) (TornFrom (D.state disk.old).content at bytes.now) (result_err result)
+        (D.state disk.old) (D.state disk.new) }
+    ensures seen { OnOk result ((D.state disk.new).content.seen ≡ written at bytes.now (D.state disk.old).content.seen) }
+    ensures durable { OnOk result (Only (D.state disk.new).content) }
+    ensures known { OnOk result ((D.state disk.new).known ≡ max (D.state disk.old).known (at + length bytes.now)) }
+    ensures no_memory { result ≡ Err OutOfMemory → (D.state disk.new).wants ≡ risen (D.state disk.old).wants }
 
     // Where no call was made a crash leaves nothing new.
-    ensures not_begun { IfSome (D.told disk.old) (λ s. D.told disk.new ≡ Some s → NoNew (D.content disk.old) (D.content disk.new)) }
-
-    ensures calls { Makes (Write at bytes.now ∷ Sync ∷ []) (D.told disk.old) (D.told disk.new) result }
-    ensures outside { IfErr result IsOutside }
-    ensures cause { HasFault (D.faults disk.old) (D.faults disk.new) result }
+    ensures not_begun { let old = D.state disk.old in IfSome old.told (λ s. (D.state disk.new).told ≡ Some s → LeavesOnly old.content (D.state disk.new).content (images old.content)) }
 {
     disk.write_at(at, bytes)?;
     disk.sync()?;
