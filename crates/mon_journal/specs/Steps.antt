@@ -34,9 +34,14 @@ IsOutside DiskFault = Unit {0}
 IsOutside OutOfMemory = Unit {0}
 IsOutside (NotAStore at) = ⊥
 
--- The journal's want of memory came before the first call on its disk, or it is the disk's own.
-abbrev pub WantsFirst : {D T : Type 0} → (D → DiskState) → Result T JournalStop → D → D → Type 0
-WantsFirst state result old new = result ≡ Err OutOfMemory → (new ≡ old) ⊎ ((state new).wants ≡ risen (state old).wants)
+-- What is built on a disk, and the disk, may both want memory. Here its own want of memory came before its first call on the
+-- disk, or else it is the disk's.
+abbrev pub WantsFirst : {D E T : Type 0} → (D → DiskState) → E → Result T E → D → D → Type 0
+WantsFirst state no_memory result old new = result ≡ Err no_memory → (new ≡ old) ⊎ ((state new).wants ≡ risen (state old).wants)
+
+-- any file, where what a crash leaves is told apart from the calls
+abbrev pub Any : List ℕ → Type 0
+Any file = Unit {0}
 
 -- a record behind a closed gate, with a closed gate behind it; and then that gate is opened
 abbrev pub append_calls : ℕ → List ℕ → List DiskCall

@@ -35,7 +35,7 @@ impl Journal {
         ensures journal { OnOk result (self.new ≡ appended self.old payload.now) }
         ensures journal_err { OnErr result (self.new ≡ self.old) }
         ensures outside { IfErr result IsOutside }
-        ensures no_memory { WantsFirst D.state result disk.old disk.new }
+        ensures no_memory { WantsFirst D.state JournalStop.OutOfMemory result disk.old disk.new }
     {
         let body = record_body(alloc, payload)?;
         // A file ends below the last place that a number can tell.

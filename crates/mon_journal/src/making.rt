@@ -37,7 +37,7 @@ pub fn create<D: Disk>(
         (λ t. Made old.content (created member generation payload) (first_payloads payload) (made_more 4 s t) (t.settles t.made))) }
 
     ensures outside { IfErr result IsOutside }
-    ensures no_memory { WantsFirst D.state result disk.old disk.new }
+    ensures no_memory { WantsFirst D.state JournalStop.OutOfMemory result disk.old disk.new }
 {
     let head = head_bytes(alloc, &member, generation, first)?;
     write_synced(disk, 0, &[0])?;
@@ -75,7 +75,7 @@ pub fn restart<D: Disk>(
         (λ t. Made old.content (created member generation (Some checkpoint.now)) (first_payloads (Some checkpoint.now)) (made_more 4 s t) (t.settles t.made))) }
 
     ensures outside { IfErr result IsOutside }
-    ensures no_memory { WantsFirst D.state result disk.old disk.new }
+    ensures no_memory { WantsFirst D.state JournalStop.OutOfMemory result disk.old disk.new }
 {
     create(alloc, disk, member, generation, Some(checkpoint))
 }

@@ -7,10 +7,10 @@ use Rattle.mon_types.specs.declared.names.Stop.{Stop}
 use Rattle.mon_disk.specs.Images.{TornFrom}
 use Rattle.mon_disk.specs.Calls.{Called}
 use Rattle.mon_disk.proofs.Following.{none, stopped_at, then_calls, without_memory}
-use Rattle.mon_journal.specs.Steps.{create_calls, CreatedFrom}
+use Rattle.mon_journal.specs.Steps.{Any, create_calls, CreatedFrom}
 use Rattle.mon_journal.proofs.Counts.{count, at_most, all_made, begun}
 use Rattle.mon_journal.proofs.Created.{reads_of, is_short, long, none_settles, closing, closing_settles, heading, heading_settles, opening, opening_settles, is_kept}
-use Rattle.mon_journal.proofs.Stops.{stop_back, Any, with_moments}
+use Rattle.mon_journal.proofs.Stops.{stop_back, with_moments}
 use Rattle.mon_journal.proofs.making.create.Goals as goal
 
 pub returns-in_err-write_synced-clause-call : goal.returns-in_err-write_synced-clause-call
