@@ -1,5 +1,5 @@
 pub mod Appending
-mod Counts
+pub mod Counts
 pub mod Created
 pub mod Files
 pub mod Finds
@@ -11,4 +11,4 @@ pub mod Makes
 pub mod Parts
 pub mod RecordParts
 pub mod Spells
-pub mod Stops
+mod Stops

@@ -5,15 +5,17 @@ use Rattle.std.proofs.lemmas.Bool.{le-ltb}
 use Rattle.mon_types.specs.declared.names.Side.{Side}
 use Rattle.mon_types.specs.declared.names.Side.TheVariants.{A, B}
 use Rattle.mon_types.specs.declared.member.Member.{Member}
+use Rattle.mon_disk.specs.declared.disk.DiskCall.{DiskCall}
 use Rattle.mon_disk.specs.declared.disk.DiskCall.TheVariants.{Sync}
-use Rattle.mon_disk.specs.Calls.{Told}
+use Rattle.mon_types.specs.declared.names.Stop.{Stop}
+use Rattle.mon_disk.specs.Calls.{Told, DiskState, Makes}
 use Rattle.mon_disk.specs.Images.{Content, images, LeavesOnly}
 use Rattle.mon_journal.specs.declared.stop.JournalStop.{JournalStop}
 use Rattle.mon_journal.specs.declared.stop.JournalStop.TheVariants as journal
 use Rattle.mon_journal.specs.declared.opening.Opened.{Opened}
 use Rattle.mon_journal.specs.declared.opening.Opened.TheVariants as disk
 use Rattle.mon_journal.specs.Content.{Held, content, held_by}
-use Rattle.mon_journal.specs.Steps.{AlikeFrom, Opens, open_calls, made_more, Makes}
+use Rattle.mon_journal.specs.Steps.{AlikeFrom, Opens, OpensBy, open_calls, made_more}
 use Rattle.mon_journal.proofs.Counts.{count, at_most, all_made}
 use Rattle.mon_store.specs.declared.stop.OpenStop.TheVariants.{DiskFault, OutOfMemory}
 use Rattle.mon_store.specs.Pair.{NotAStore, held_on, found, stands, opened}
@@ -73,27 +75,35 @@ both_settle member a b x y (Some s) (Some t) (Some u) each few left there = rw f
     by true = each (t.settles t.made) (u.settles u.made) left there
     by false = each (t.settles t.made) (u.settles u.made) left there
 
+-- the calls of opening a disk that tells what it holds
+pub made_by : (stop : Option Stop) (old new : DiskState) → OpensBy stop old new → IfSome old.content.seen (λ file. Makes (open_calls (content file)) stop old.told new.told)
+made_by stop old new (calls, called, are) = by old.content.seen are
+  where
+    by : (s : Option (List ℕ)) → IfSome s (λ file. calls ≡ open_calls (content file)) → IfSome s (λ file. Makes (open_calls (content file)) stop old.told new.told)
+    by None h = tt
+    by (Some file) h = subst (λ (cs : List DiskCall). Makes cs stop old.told new.told) h called.made
+
 -- opening a disk makes three calls at most
 three : (k : Option (Result Held JournalStop)) → length (open_calls k) ≤ 3
 three None = omega arith
 three (Some (Ok held)) = omega arith
 three (Some (Err e)) = omega arith
 
-pub few_calls : (T : Type 0) (seen : Option (List ℕ)) (told now : Option Told) (result : Result T JournalStop) → IfSome seen (λ file. Makes (open_calls (content file)) told now result) → IfSome seen (λ file. IfSome told (λ s. IfSome now (λ t. made_more 5 s t ≡ false)))
-few_calls T None told now result made = tt
-few_calls T (Some file) None now result made = tt
-few_calls T (Some file) (Some s) None result made = tt
-few_calls T (Some file) (Some s) (Some t) result made = le-ltb _ _ (omega (arith, at_most T (open_calls (content file)) (Some s) (Some t) result made, three (content file)))
+pub few_calls : (seen : Option (List ℕ)) (told now : Option Told) (stop : Option Stop) → IfSome seen (λ file. Makes (open_calls (content file)) stop told now) → IfSome seen (λ file. IfSome told (λ s. IfSome now (λ t. made_more 5 s t ≡ false)))
+few_calls None told now stop made = tt
+few_calls (Some file) None now stop made = tt
+few_calls (Some file) (Some s) None stop made = tt
+few_calls (Some file) (Some s) (Some t) stop made = le-ltb _ _ (omega (arith, at_most (open_calls (content file)) (Some s) (Some t) stop made, three (content file)))
 
 pub when_some : {X : Type 0} (s : Option X) (P : Type 0) → is_some s ≡ true → IfSome s (λ x. P) → P
 when_some None P some h = absurd cc
 when_some (Some x) P some h = h
 
 -- opening a closed disk makes one
-pub one_call : (T : Type 0) (most : ℕ) (seen : Option (List ℕ)) (told now : Option Told) (x : T) → is_some seen ≡ true → IfSome seen (λ file. (content file ≡ None) × (length file ≤ most)) → IfSome seen (λ file. Makes {T = T} (open_calls (content file)) told now (Ok x))
+pub one_call : (most : ℕ) (seen : Option (List ℕ)) (told now : Option Told) → is_some seen ≡ true → IfSome seen (λ file. (content file ≡ None) × (length file ≤ most)) → IfSome seen (λ file. Makes (open_calls (content file)) None told now)
     → is_some told ≡ true → (count now ≡ count told + 1) × (is_some now ≡ true)
-one_call T most None told now x some closed made there = absurd cc
-one_call T most (Some file) told now x some closed made there = all_made T (Sync ∷ []) told now x there (subst (λ (k : Option (Result Held JournalStop)). Makes {T = T} (open_calls k) told now (Ok x)) closed.0 made)
+one_call most None told now some closed made there = absurd cc
+one_call most (Some file) told now some closed made there = all_made (Sync ∷ []) told now there (subst (λ (k : Option (Result Held JournalStop)). Makes (open_calls k) None told now) closed.0 made)
 
 pub each_told : (s t : Option (List ℕ)) (P : List ℕ → List ℕ → Type 0) → ((x y : List ℕ) → s ≡ Some x → t ≡ Some y → P x y) → IfSome s (λ x. IfSome t (λ y. P x y))
 each_told None t P h = tt
@@ -122,9 +132,3 @@ refused_b journal.DiskFault on s t known_a known new_a new h k = each_told s t (
 refused_b journal.OutOfMemory on s t known_a known new_a new h k = each_told s t (λ x y. Tells OutOfMemory (found x y)) (λ x y p q. tt)
 refused_b (journal.NotAStore at) on s t known_a known new_a new h k =
     each_told s t (λ x y. found x y ≡ Err (NotAStore B at)) (λ x y p q. rw (holds on s known_a new_a x p h A, at_some t y (λ file. content file ≡ Some (Err (journal.NotAStore at))) q k.2) refl)
-
--- a fault of a disk
-pub is_fault : (side : Side) (e : JournalStop) → named side e ≡ DiskFault → e ≡ journal.DiskFault
-is_fault side journal.DiskFault is = refl
-is_fault side (journal.NotAStore at) is = absurd cc
-is_fault side journal.OutOfMemory is = absurd cc

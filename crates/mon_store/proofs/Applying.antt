@@ -4,6 +4,7 @@ use Rattle.std.specs.Prelude.{IfSome, IfErr, OnOk, OnErr, slice_index_or}
 use Rattle.std.proofs.lemmas.Bool.{eqb-true}
 use Rattle.mon_types.specs.declared.names.Side.{Side}
 use Rattle.mon_types.specs.declared.names.Side.TheVariants.{A, B}
+use Rattle.mon_disk.specs.Calls.{DiskState}
 use Rattle.mon_disk.specs.Images.{Content, images, LeavesOnly}
 use Rattle.mon_tx.specs.declared.op.Op.{Op}
 use Rattle.mon_tx.specs.Map.{Store, apply}
@@ -88,28 +89,28 @@ module _ (journal : Journal) (m : Store) (known : ℕ) (live other : Content) (s
 
 -- ---- by the disk that is live
 
-pub each_pair : {D : Type 0} (content_of : D → Content) (side : Side) (live other : D) (P : List ℕ → List ℕ → Type 0) → ((c d : List ℕ) → images (content_of live) c → images (content_of other) d → P (of_a side c d) (of_b side c d))
-    → EachPair (content_of (of_a side live other)) (content_of (of_b side live other)) P
-each_pair content_of A live other P h = λ c d left there. h c d left there
-each_pair content_of B live other P h = λ c d there left. h d c left there
+pub each_pair : {D : Type 0} (state : D → DiskState) (side : Side) (live other : D) (P : List ℕ → List ℕ → Type 0) → ((c d : List ℕ) → images (state live).content c → images (state other).content d → P (of_a side c d) (of_b side c d))
+    → EachPair (state (of_a side live other)).content (state (of_b side live other)).content P
+each_pair state A live other P h = λ c d left there. h c d left there
+each_pair state B live other P h = λ c d there left. h d c left there
 
-pub live_goes : {D : Type 0} (content_of : D → Content) (side : Side) (live new other : D) (Q : List ℕ → Type 0) (P : List ℕ → List ℕ → Type 0) → LeavesOnly (content_of live) (content_of new) Q
-    → ((c d : List ℕ) → Q c → images (content_of other) d → P (of_a side c d) (of_b side c d))
-    → Meanwhile (content_of (of_a side live other)) (content_of (of_b side live other)) (content_of (of_a side new other)) (content_of (of_b side new other)) P
-live_goes content_of A live new other Q P l h = first_goes (content_of live) (content_of new) (content_of other) Q P l h
-live_goes content_of B live new other Q P l h = second_goes (content_of other) (content_of live) (content_of new) Q P l (λ c d there left. h d c left there)
+pub live_goes : {D : Type 0} (state : D → DiskState) (side : Side) (live new other : D) (Q : List ℕ → Type 0) (P : List ℕ → List ℕ → Type 0) → LeavesOnly (state live).content (state new).content Q
+    → ((c d : List ℕ) → Q c → images (state other).content d → P (of_a side c d) (of_b side c d))
+    → Meanwhile (state (of_a side live other)).content (state (of_b side live other)).content (state (of_a side new other)).content (state (of_b side new other)).content P
+live_goes state A live new other Q P l h = first_goes (state live).content (state new).content (state other).content Q P l h
+live_goes state B live new other Q P l h = second_goes (state other).content (state live).content (state new).content Q P l (λ c d there left. h d c left there)
 
 -- two disks of which one is live
-pub stands_pair : {D : Type 0} (content_of : D → Content) (known_of : D → ℕ) (a b : D) (side : Side) (j : Journal) (m : Store) → Sound j m (known_of (of_live side a b)) (content_of (of_live side a b)) (content_of (of_live (other_side side) a b))
-    → EachPair (content_of a) (content_of b) (StandsOn side j m)
-stands_pair content_of known_of a b A j m sound = each_pair content_of A a b (StandsOn A j m) (stands_now j m (known_of a) (content_of a) (content_of b) sound A)
-stands_pair content_of known_of a b B j m sound = each_pair content_of B b a (StandsOn B j m) (stands_now j m (known_of b) (content_of b) (content_of a) sound B)
+pub stands_pair : {D : Type 0} (state : D → DiskState) (a b : D) (side : Side) (j : Journal) (m : Store) → Sound j m (state (of_live side a b)).known (state (of_live side a b)).content (state (of_live (other_side side) a b)).content
+    → EachPair (state a).content (state b).content (StandsOn side j m)
+stands_pair state a b A j m sound = each_pair state A a b (StandsOn A j m) (stands_now j m (state a).known (state a).content (state b).content sound A)
+stands_pair state a b B j m sound = each_pair state B b a (StandsOn B j m) (stands_now j m (state b).known (state b).content (state a).content sound B)
 
 -- ---- after the answer
 
 -- what is known of a store after a transaction was kept or refused
-pub record Kept {D : Type 0} (content_of : D → Content) (known_of : D → ℕ) (journal : Journal) (m : Store) (live : D) (ops : List Op) (next : Journal) (kv : Store) (new : D) (result : Result (Unit {0}) StoreStop) : Type 0 where
-  pub keeps : OnOk result (Keeps next (payloads_seen (content_of live) ++ text ops ∷ []) (known_of new) (content_of new))
+pub record Kept {D : Type 0} (state : D → DiskState) (journal : Journal) (m : Store) (live : D) (ops : List Op) (next : Journal) (kv : Store) (new : D) (result : Result (Unit {0}) StoreStop) : Type 0 where
+  pub keeps : OnOk result (Keeps next (payloads_seen (state live).content ++ text ops ∷ []) (state new).known (state new).content)
   pub appends : OnOk result (next ≡ appended journal (text ops))
   pub stays : OnErr result (next ≡ journal)
   pub form : OnOk result (HasText ops)
@@ -117,22 +118,22 @@ pub record Kept {D : Type 0} (content_of : D → Content) (known_of : D → ℕ)
   pub size : OnOk result (size_of (apply ops m) ≤ most_size)
   pub refused : IfErr result (Refuses ops m kv)
   pub disk : IfErr result (LeavesDisk live new)
-  pub tells : is_some (content_of new).seen ≡ is_some (content_of live).seen
+  pub tells : is_some (state new).content.seen ≡ is_some (state live).content.seen
 
-module _ {D : Type 0} (content_of : D → Content) (known_of : D → ℕ) (journal : Journal) (m : Store) (live other : D) (sound : Sound journal m (known_of live) (content_of live) (content_of other)) (side : Side) where
-  pub sound_then : (ops : List Op) (next : Journal) (kv : Store) (new : D) (result : Result (Unit {0}) StoreStop) → Kept content_of known_of journal m live ops next kv new result → breaks result ≡ false → Sound next kv (known_of new) (content_of new) (content_of other)
+module _ {D : Type 0} (state : D → DiskState) (journal : Journal) (m : Store) (live other : D) (sound : Sound journal m (state live).known (state live).content (state other).content) (side : Side) where
+  pub sound_then : (ops : List Op) (next : Journal) (kv : Store) (new : D) (result : Result (Unit {0}) StoreStop) → Kept state journal m live ops next kv new result → breaks result ≡ false → Sound next kv (state new).known (state new).content (state other).content
   sound_then ops next kv new (Ok x) k whole =
-      subst (λ (n : Store). Sound next n (known_of new) (content_of new) (content_of other)) (sym k.map)
-      (sound_after journal m (known_of live) (content_of live) (content_of other) sound side ops next (known_of new) (content_of new) k.appends k.form k.size k.tells k.keeps)
+      subst (λ (n : Store). Sound next n (state new).known (state new).content (state other).content) (sym k.map)
+      (sound_after journal m (state live).known (state live).content (state other).content sound side ops next (state new).known (state new).content k.appends k.form k.size k.tells k.keeps)
   sound_then ops next kv new (Err (TooLong len)) k whole =
-      subst (λ (n : Store). Sound next n (known_of new) (content_of new) (content_of other)) (sym k.refused.2)
-      (subst (λ (j : Journal). Sound j m (known_of new) (content_of new) (content_of other)) (sym k.stays) (subst (λ (d : D). Sound journal m (known_of d) (content_of d) (content_of other)) (sym k.disk) sound))
+      subst (λ (n : Store). Sound next n (state new).known (state new).content (state other).content) (sym k.refused.2)
+      (subst (λ (j : Journal). Sound j m (state new).known (state new).content (state other).content) (sym k.stays) (subst (λ (d : D). Sound journal m (state d).known (state d).content (state other).content) (sym k.disk) sound))
   sound_then ops next kv new (Err Broken) k whole = absurd k.refused
   sound_then ops next kv new (Err (Full would_be)) k whole = absurd cc
   sound_then ops next kv new (Err DiskFault) k whole = absurd cc
   sound_then ops next kv new (Err OutOfMemory) k whole = absurd cc
 
-pub safe_then : {D : Type 0} (content_of : D → Content) (known_of : D → ℕ) (next : Journal) (kv : Store) (new other : D) (side : Side) (result : Result (Unit {0}) StoreStop) → (breaks result ≡ false → Sound next kv (known_of new) (content_of new) (content_of other))
-    → OnOk result (EachPair (content_of (of_a side new other)) (content_of (of_b side new other)) (StandsOn side next kv))
-safe_then content_of known_of next kv new other side (Ok x) sound = each_pair content_of side new other (StandsOn side next kv) (stands_now next kv (known_of new) (content_of new) (content_of other) (sound refl) side)
-safe_then content_of known_of next kv new other side (Err e) sound = tt
+pub safe_then : {D : Type 0} (state : D → DiskState) (next : Journal) (kv : Store) (new other : D) (side : Side) (result : Result (Unit {0}) StoreStop) → (breaks result ≡ false → Sound next kv (state new).known (state new).content (state other).content)
+    → OnOk result (EachPair (state (of_a side new other)).content (state (of_b side new other)).content (StandsOn side next kv))
+safe_then state next kv new other side (Ok x) sound = each_pair state side new other (StandsOn side next kv) (stands_now next kv (state new).known (state new).content (state other).content (sound refl) side)
+safe_then state next kv new other side (Err e) sound = tt

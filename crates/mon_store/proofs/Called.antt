@@ -4,14 +4,15 @@ use Rattle.std.specs.Prelude.{IfSome}
 use Rattle.mon_types.specs.declared.names.Side.{Side}
 use Rattle.mon_types.specs.declared.names.Side.TheVariants.{A, B}
 use Rattle.mon_disk.specs.declared.disk.DiskCall.{DiskCall}
-use Rattle.mon_disk.specs.Calls.{Told, and_made}
+use Rattle.mon_types.specs.declared.names.Stop.TheVariants as disk
+use Rattle.mon_disk.specs.Calls.{Told, and_made, Makes}
 use Rattle.mon_journal.specs.declared.stop.JournalStop.{JournalStop}
 use Rattle.mon_journal.specs.declared.stop.JournalStop.TheVariants as journal
-use Rattle.mon_journal.specs.Steps.{Makes}
+use Rattle.mon_journal.specs.Steps.{stop_in as of_journal, IsOutside as IsDisks}
 use Rattle.mon_store.specs.declared.stop.OpenStop.{OpenStop}
 use Rattle.mon_store.specs.declared.stop.OpenStop.TheVariants.{DiskFault, OutOfMemory}
 use Rattle.mon_store.specs.declared.stop.OpenStop.TheVariants as stop
-use Rattle.mon_store.specs.Opening.{named}
+use Rattle.mon_store.specs.Opening.{named, stop_in, IsOutside}
 use Rattle.mon_store.specs.OpeningCalls.{calls_on, MakesBoth}
 
 still_told : (call : DiskCall) (s : Option Told) → is_some s ≡ true → is_some (and_made call s) ≡ true
@@ -22,41 +23,48 @@ at_told : (s : Option Told) (P : Type 0) → is_some s ≡ true → IfSome s (λ
 at_told None P some h = absurd cc
 at_told (Some t) P some h = h
 
--- the outside refused the one where it refused the other
-pub record Same {T U : Type 0} (one : Result T JournalStop) (other : Result U OpenStop) : Type 0 where
-  pub memory : one ≡ Err journal.OutOfMemory → other ≡ Err OutOfMemory
-  pub fault : one ≡ Err journal.DiskFault → other ≡ Err DiskFault
-  pub back : other ≡ Err DiskFault → one ≡ Err journal.DiskFault
+-- the outside refused a journal's call where it refused the store
+pub stop_named : (T U : Type 0) (side : Side) (e : JournalStop) → stop_in {T = U} (Err (named side e)) ≡ of_journal {T = T} (Err e)
+stop_named T U side journal.DiskFault = refl
+stop_named T U side (journal.NotAStore at) = refl
+stop_named T U side journal.OutOfMemory = refl
 
-pub same_ok : {T U : Type 0} (x : T) (y : U) → Same {T = T} {U = U} (Ok x) (Ok y)
-same_ok x y = record { memory = λ h. absurd cc; fault = λ h. absurd cc; back = λ h. absurd cc }
+pub outside_named : (side : Side) (e : JournalStop) → IsDisks e → IsOutside (named side e)
+outside_named side journal.DiskFault outside = tt
+outside_named side (journal.NotAStore at) outside = absurd outside
+outside_named side journal.OutOfMemory outside = tt
 
-pub same_err : {T U : Type 0} (side : Side) (e : JournalStop) → Same {T = T} {U = U} (Err e) (Err (named side e))
-same_err side journal.DiskFault = record { memory = λ h. absurd cc; fault = λ h. refl; back = λ h. refl }
-same_err side (journal.NotAStore at) = record { memory = λ h. absurd cc; fault = λ h. absurd cc; back = λ h. absurd cc }
-same_err side journal.OutOfMemory = record { memory = λ h. refl; fault = λ h. absurd cc; back = λ h. absurd cc }
+no_memory_of : {U : Type 0} (other : Result U OpenStop) → stop_in other ≡ Some disk.OutOfMemory → other ≡ Err OutOfMemory
+no_memory_of (Ok x) is = absurd cc
+no_memory_of (Err DiskFault) is = absurd cc
+no_memory_of (Err OutOfMemory) is = refl
+no_memory_of (Err (stop.NotAStore side at)) is = absurd cc
+no_memory_of (Err (stop.Stranger kept asked)) is = absurd cc
 
-module _ (T U : Type 0) (one : Result T JournalStop) (other : Result U OpenStop) (same : Same one other) where
+fault_of : {U : Type 0} (other : Result U OpenStop) → stop_in other ≡ Some disk.Failed → other ≡ Err DiskFault
+fault_of (Ok x) is = absurd cc
+fault_of (Err DiskFault) is = refl
+fault_of (Err OutOfMemory) is = absurd cc
+fault_of (Err (stop.NotAStore side at)) is = absurd cc
+fault_of (Err (stop.Stranger kept asked)) is = absurd cc
+
+module _ (U : Type 0) (other : Result U OpenStop) where
+  if_not : (s : Option Told) → IfSome s (λ t. stop_in other ≡ Some disk.Failed → ⊥) → other ≡ Err DiskFault → IfSome s (λ t. ⊥)
+  if_not None m h = tt
+  if_not (Some t) m h = m (ap (λ (r : Result U OpenStop). stop_in r) h)
+
   -- calls of disk A alone
-  pub on_a : (calls : List DiskCall) (a new_a b : Option Told) → is_some a ≡ true → Makes calls a new_a one → MakesBoth (calls_on A calls) a b new_a b other
+  pub on_a : (calls : List DiskCall) (a new_a b : Option Told) → is_some a ≡ true → Makes calls (stop_in other) a new_a → MakesBoth (calls_on A calls) a b new_a b other
   on_a [] a new_a b some m = (m.0, refl, λ h. at_told a ⊥ some (if_not a m.1 h))
-    where
-      if_not : (s : Option Told) → IfSome s (λ t. one ≡ Err journal.DiskFault → ⊥) → other ≡ Err DiskFault → IfSome s (λ t. ⊥)
-      if_not None m h = tt
-      if_not (Some t) m h = m (same.back h)
-  on_a (call ∷ calls) a new_a b some (inl m) = inl (same.memory m.0, m.1, refl)
-  on_a (call ∷ calls) a new_a b some (inr (inl m)) = inr (inl (same.fault m.0, m.1, refl, m.2))
+  on_a (call ∷ calls) a new_a b some (inl m) = inl (no_memory_of other m.0, m.1, refl)
+  on_a (call ∷ calls) a new_a b some (inr (inl m)) = inr (inl (fault_of other m.0, m.1, refl, m.2))
   on_a (call ∷ calls) a new_a b some (inr (inr m)) = inr (inr (m.0, on_a calls (and_made call a) new_a b (still_told call a some) m.1))
 
   -- and of disk B alone
-  pub on_b : (calls : List DiskCall) (a b new_b : Option Told) → is_some b ≡ true → Makes calls b new_b one → MakesBoth (calls_on B calls) a b a new_b other
+  pub on_b : (calls : List DiskCall) (a b new_b : Option Told) → is_some b ≡ true → Makes calls (stop_in other) b new_b → MakesBoth (calls_on B calls) a b a new_b other
   on_b [] a b new_b some m = (refl, m.0, λ h. at_told b ⊥ some (if_not b m.1 h))
-    where
-      if_not : (s : Option Told) → IfSome s (λ t. one ≡ Err journal.DiskFault → ⊥) → other ≡ Err DiskFault → IfSome s (λ t. ⊥)
-      if_not None m h = tt
-      if_not (Some t) m h = m (same.back h)
-  on_b (call ∷ calls) a b new_b some (inl m) = inl (same.memory m.0, refl, m.1)
-  on_b (call ∷ calls) a b new_b some (inr (inl m)) = inr (inl (same.fault m.0, refl, m.1, m.2))
+  on_b (call ∷ calls) a b new_b some (inl m) = inl (no_memory_of other m.0, refl, m.1)
+  on_b (call ∷ calls) a b new_b some (inr (inl m)) = inr (inl (fault_of other m.0, refl, m.1, m.2))
   on_b (call ∷ calls) a b new_b some (inr (inr m)) = inr (inr (m.0, on_b calls a (and_made call b) new_b (still_told call b some) m.1))
 
 -- some calls, and then others

@@ -4,6 +4,7 @@ use Rattle.std.specs.Prelude.{IfSome, slice_index_or}
 use Rattle.std.proofs.lemmas.Bool.{ltb-true, ltb-false, eqb-false}
 use Rattle.mon_types.specs.declared.names.Side.{Side}
 use Rattle.mon_types.specs.declared.names.Side.TheVariants.{A, B}
+use Rattle.mon_disk.specs.Calls.{DiskState}
 use Rattle.mon_disk.specs.Images.{Content, Only}
 use Rattle.mon_tx.specs.Map.{Store}
 use Rattle.mon_kv.specs.Readers.{size_of}
@@ -136,8 +137,8 @@ sound_open on other j payloads m s t known known_other x y is less map small h k
     record { stands_live = live.0; only_other = aside.0; below = aside.1; map = live.1; size = small }
 
 -- by the side of the live one
-pub sound_live : {D : Type 0} (content_of : D → Content) (known_of : D → ℕ) (a b : Opened) (on_a on_b : D) (s t : Option (List ℕ)) (side : Side) (j : Journal) (payloads : List (List ℕ)) (m : Store) → Chosen side (held_by j payloads) a b → map_of payloads ≡ Ok m → size_of m ≤ most_size
-    → Opens s (known_of on_a) (content_of on_a) (Ok a) → Opens t (known_of on_b) (content_of on_b) (Ok b)
-    → Sound j m (known_of (of_live side on_a on_b)) (content_of (of_live side on_a on_b)) (content_of (of_live (other_side side) on_a on_b))
-sound_live content_of known_of a b on_a on_b s t A j payloads m is map small h k = sound_open a b j payloads m s t (known_of on_a) (known_of on_b) (content_of on_a) (content_of on_b) is.live is.other map small h k
-sound_live content_of known_of a b on_a on_b s t B j payloads m is map small h k = sound_open b a j payloads m t s (known_of on_b) (known_of on_a) (content_of on_b) (content_of on_a) is.live is.other map small k h
+pub sound_live : {D : Type 0} (state : D → DiskState) (a b : Opened) (on_a on_b : D) (s t : Option (List ℕ)) (side : Side) (j : Journal) (payloads : List (List ℕ)) (m : Store) → Chosen side (held_by j payloads) a b → map_of payloads ≡ Ok m → size_of m ≤ most_size
+    → Opens s (state on_a).known (state on_a).content (Ok a) → Opens t (state on_b).known (state on_b).content (Ok b)
+    → Sound j m (state (of_live side on_a on_b)).known (state (of_live side on_a on_b)).content (state (of_live (other_side side) on_a on_b)).content
+sound_live state a b on_a on_b s t A j payloads m is map small h k = sound_open a b j payloads m s t (state on_a).known (state on_b).known (state on_a).content (state on_b).content is.live is.other map small h k
+sound_live state a b on_a on_b s t B j payloads m is map small h k = sound_open b a j payloads m t s (state on_b).known (state on_a).known (state on_b).content (state on_a).content is.live is.other map small k h

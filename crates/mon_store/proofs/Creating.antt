@@ -6,7 +6,7 @@ use Rattle.std.proofs.lemmas.Bool.{le-ltb}
 use Rattle.mon_types.specs.declared.names.Side.{Side}
 use Rattle.mon_types.specs.declared.names.Side.TheVariants.{A}
 use Rattle.mon_types.specs.declared.member.Member.{Member}
-use Rattle.mon_disk.specs.Calls.{Told}
+use Rattle.mon_disk.specs.Calls.{Told, DiskState}
 use Rattle.mon_disk.specs.Images.{Content, images, Only, LeavesOnly}
 use Rattle.mon_journal.specs.Content.{content, payloads_of, held_by, Holds}
 use Rattle.mon_journal.specs.Written.{owner_of, created}
@@ -175,14 +175,14 @@ module _ (member : Member) (a a1 a2 b b1 : Content) (la : LeavesOnly a a1 (Alike
       by (Some file) h = ap map_of h ∙ map_nothing ∙ ap (λ n. Ok n) (sym is)
 
 -- whatever the creation answers
-pub sound_new : {D : Type 0} (content_of : D → Content) (known_of : D → ℕ) (member : Member) (before_a before_b : Content) (on_a mid_a on_b : D) → LeavesOnly before_a (content_of mid_a) (AlikeFrom before_a) → LeavesOnly before_b (content_of on_b) (AlikeFrom before_b)
-    → Closed before_a (content_of mid_a) 26 → Closed before_b (content_of on_b) 0 → (result : Result Standing OpenStop) → IfOk result (λ s. s.side ≡ A) → IfOk result (λ s. s.journal ≡ created member 1 None) → IfOk result (λ s. s.kv ≡ empty)
-    → IfOk result (λ s. Keeps s.journal [] (known_of on_a) (content_of on_a))
-    → IfOk result (λ s. Sound s.journal s.kv (known_of (of_live s.side on_a on_b)) (content_of (of_live s.side on_a on_b)) (content_of (of_live (other_side s.side) on_a on_b)))
-sound_new content_of known_of member before_a before_b on_a mid_a on_b la lb ka kb (Err e) side journal map kept = tt
-sound_new content_of known_of member before_a before_b on_a mid_a on_b la lb ka kb (Ok s) side journal map kept =
-    let keeps : Keeps (created member 1 None) [] (known_of on_a) (content_of on_a) = subst (λ j. Keeps j [] (known_of on_a) (content_of on_a)) journal kept in
-    let sound : Sound (created member 1 None) s.kv (known_of on_a) (content_of on_a) (content_of on_b) =
-    sound_c member before_a (content_of mid_a) (content_of on_a) before_b (content_of on_b) la lb ka kb (known_of on_a) s.kv map keeps in
-    subst (λ (t : Side). Sound s.journal s.kv (known_of (of_live t on_a on_b)) (content_of (of_live t on_a on_b)) (content_of (of_live (other_side t) on_a on_b))) (sym side)
-    (subst (λ j. Sound j s.kv (known_of on_a) (content_of on_a) (content_of on_b)) (sym journal) sound)
+pub sound_new : {D : Type 0} (state : D → DiskState) (member : Member) (before_a before_b : Content) (on_a mid_a on_b : D) → LeavesOnly before_a (state mid_a).content (AlikeFrom before_a) → LeavesOnly before_b (state on_b).content (AlikeFrom before_b)
+    → Closed before_a (state mid_a).content 26 → Closed before_b (state on_b).content 0 → (result : Result Standing OpenStop) → IfOk result (λ s. s.side ≡ A) → IfOk result (λ s. s.journal ≡ created member 1 None) → IfOk result (λ s. s.kv ≡ empty)
+    → IfOk result (λ s. Keeps s.journal [] (state on_a).known (state on_a).content)
+    → IfOk result (λ s. Sound s.journal s.kv (state (of_live s.side on_a on_b)).known (state (of_live s.side on_a on_b)).content (state (of_live (other_side s.side) on_a on_b)).content)
+sound_new state member before_a before_b on_a mid_a on_b la lb ka kb (Err e) side journal map kept = tt
+sound_new state member before_a before_b on_a mid_a on_b la lb ka kb (Ok s) side journal map kept =
+    let keeps : Keeps (created member 1 None) [] (state on_a).known (state on_a).content = subst (λ j. Keeps j [] (state on_a).known (state on_a).content) journal kept in
+    let sound : Sound (created member 1 None) s.kv (state on_a).known (state on_a).content (state on_b).content =
+    sound_c member before_a (state mid_a).content (state on_a).content before_b (state on_b).content la lb ka kb (state on_a).known s.kv map keeps in
+    subst (λ (t : Side). Sound s.journal s.kv (state (of_live t on_a on_b)).known (state (of_live t on_a on_b)).content (state (of_live (other_side t) on_a on_b)).content) (sym side)
+    (subst (λ j. Sound j s.kv (state on_a).known (state on_a).content (state on_b).content) (sym journal) sound)

@@ -1,18 +1,15 @@
 -- What stands on the live disk while a transaction is appended.
-use Rattle.std.proofs.Common.{◌≡◌, ◌≢◌, ℕ, ◌≤◌, true, false, cond, eqb, List, [], ◌∷◌, ◌++◌, Option, Some, Ok, sym, ap, subst, ◌∙◌, arith}
+use Rattle.std.proofs.Common.{◌≡◌, ◌≢◌, ℕ, true, false, cond, eqb, List, [], ◌∷◌, ◌++◌, Option, Some, Ok, sym, ap, subst, ◌∙◌, arith}
 use Rattle.std.specs.Prelude.{IfSome, slice_index_or}
 use Rattle.std.proofs.lemmas.Bool.Decides.{nat_tests}
-use Rattle.mon_disk.specs.Images.{Content, images, LeavesOnly}
+use Rattle.mon_disk.specs.Images.{Content, images}
 use Rattle.mon_tx.specs.declared.op.Op.{Op}
-use Rattle.mon_tx.specs.Map.{Store, apply}
+use Rattle.mon_tx.specs.Map.{Store}
 use Rattle.mon_tx.specs.Text.{text}
-use Rattle.mon_tx.specs.Decode.{HasText}
-use Rattle.mon_kv.specs.Readers.{size_of}
 use Rattle.mon_journal.specs.declared.journal.Journal.{Journal}
-use Rattle.mon_journal.specs.Content.{held_by, appended, Holds, WithOrWithout}
+use Rattle.mon_journal.specs.Content.{held_by, appended, Holds}
 use Rattle.mon_journal.specs.Steps.{payloads_told, payloads_seen, Stands}
 use Rattle.mon_journal.proofs.Keeping.{seen_holds}
-use Rattle.mon_store.specs.Checkpoint.{most_size}
 use Rattle.mon_store.specs.Sound.{WithChange}
 
 module _ (journal : Journal) (known : ℕ) (x : Content) (stands : Stands journal known x) where
@@ -29,23 +26,8 @@ module _ (journal : Journal) (known : ℕ) (x : Content) (stands : Stands journa
       let not : slice_index_or c journal.next_gate 0 ≢ 1 = subst (λ (s : Option (List ℕ)). IfSome s (λ file. slice_index_or file journal.next_gate 0 ≢ 1)) (stands.only c left) stands.shut in
       grind (arith, nat_tests)
 
-  not_changed : (m : Store) (ops : List Op) (c : List ℕ) → images x c → WithChange journal (payloads_seen x) m ops c
+  pub not_changed : (m : Store) (ops : List Op) (c : List ℕ) → images x c → WithChange journal (payloads_seen x) m ops c
   not_changed m ops c left = (
     holds_now c left ∙ ap (λ b. Some (Ok (cond b (held_by (appended journal (text ops)) (payloads_seen x ++ text ops ∷ [])) (held_by journal (payloads_seen x))))) (sym (shut c left)),
     λ gate. let both : true ≡ false = sym (ap (λ n. eqb n 1) gate) ∙ shut c left in absurd cc,
   )
-
-  -- before the first call
-  pub not_begun : (m : Store) (ops : List Op) → LeavesOnly x x (WithChange journal (payloads_seen x) m ops)
-  not_begun m ops = record {
-    later = omega arith;
-    past = λ t c le h. h;
-    kept = λ t c le h. h;
-    each = λ t c low high left. let now : t ≡ x.moment = omega (arith, low, high) in not_changed m ops c (subst (λ n. x.images_at n c) now left);
-  }
-
--- a record of a transaction that has a text and fits
-pub begun : (journal : Journal) (payloads : List (List ℕ)) (m : Store) (ops : List Op) (old new : Content) → HasText ops → size_of (apply ops m) ≤ most_size
-    → LeavesOnly old new (WithOrWithout journal payloads (text ops)) → LeavesOnly old new (WithChange journal payloads m ops)
-begun journal payloads m ops old new form small l =
-    record { later = l.later; past = l.past; kept = l.kept; each = λ t c from to left. (l.each t c from to left, λ gate. (form, small)) }

@@ -3,6 +3,7 @@ pub mod Order
 pub mod Loop
 pub mod Again
 pub mod Sizes
+pub mod Stops
 pub mod Walks
 pub mod Folds
 pub mod Payloads
@@ -17,4 +18,5 @@ pub mod Creating
 pub mod Answering
 pub mod Called
 pub mod OpenCalls
+pub mod Counting
 pub mod Back

@@ -5,23 +5,24 @@ use Rattle.mon_types.specs.declared.names.Side.{Side}
 use Rattle.mon_types.specs.declared.names.Side.TheVariants.{A, B}
 use Rattle.mon_disk.specs.declared.disk.DiskCall.{DiskCall}
 use Rattle.mon_disk.specs.Images.{Content}
-use Rattle.mon_disk.specs.Calls.{Told}
+use Rattle.mon_types.specs.declared.names.Stop.{Stop}
+use Rattle.mon_disk.specs.Calls.{Told, Makes}
 use Rattle.mon_journal.specs.declared.stop.JournalStop.{JournalStop}
 use Rattle.mon_journal.specs.declared.stop.JournalStop.TheVariants as journal
 use Rattle.mon_journal.specs.declared.opening.Opened.{Opened}
 use Rattle.mon_journal.specs.Content.{Held, content}
 use Rattle.mon_journal.specs.Fields.{Owner}
-use Rattle.mon_journal.specs.Steps.{Makes, Opens, open_calls, create_calls}
+use Rattle.mon_journal.specs.Steps.{Opens, open_calls, create_calls, stop_in as of_journal}
 use Rattle.mon_store.specs.declared.stop.OpenStop.{OpenStop}
 use Rattle.mon_store.specs.declared.stop.OpenStop.TheVariants.{DiskFault, OutOfMemory}
 use Rattle.mon_store.specs.declared.stop.OpenStop.TheVariants as stop
 use Rattle.mon_store.specs.Pair.{Refusal, NotAStore, Stranger, Found, Create, Live, held_on, chosen, found}
 use Rattle.mon_journal.specs.Written.{owner_of}
-use Rattle.mon_store.specs.Opening.{held_in, len_of, named, Tells, IsRefusal, IsNoFault}
+use Rattle.mon_store.specs.Opening.{held_in, len_of, named, Tells, IsRefusal, IsNoFault, stop_in}
 use Rattle.mon_store.specs.OpeningCalls.{calls_on, unless_refused, both_calls, creation, opening_calls, MakesBoth, OpensWith}
 use Rattle.mon_store.proofs.Alike.{at_some, holds}
 use Rattle.mon_store.proofs.Answering.{found_is}
-use Rattle.mon_store.proofs.Called.{Same, same_ok, same_err, on_a, on_b, both_then, both_stop, still_a}
+use Rattle.mon_store.proofs.Called.{stop_named, on_a, on_b, both_then, both_stop, still_a}
 
 -- what is told of both disks
 pub each_known : (s t : Option (List ℕ)) (p q : Option Told) (P : List ℕ → List ℕ → Type 0) → ((x y : List ℕ) → s ≡ Some x → t ≡ Some y → is_some p ≡ true → is_some q ≡ true → P x y)
@@ -44,12 +45,12 @@ at_known s t p q P x y is_x is_y some_p some_q h =
 
 module _ (s t : Option (List ℕ)) (told_a told_b : Option Told) where
   -- disk A is refused
-  pub calls_a : (U : Type 0) (e : JournalStop) (known : ℕ) (new : Content) (new_a : Option Told) → Opens s known new (Err e) → IfSome s (λ x. Makes {T = Opened} (open_calls (content x)) told_a new_a (Err e))
+  pub calls_a : (U : Type 0) (e : JournalStop) (known : ℕ) (new : Content) (new_a : Option Told) → Opens s known new (Err e) → IfSome s (λ x. Makes (open_calls (content x)) (of_journal {T = Opened} (Err e)) told_a new_a)
       → OpensWith {T = U} both_calls s t told_a told_b new_a told_b (Err (named A e))
   calls_a U e known new new_a opens makes = each_known s t told_a told_b (λ x y. MakesBoth {T = U} (both_calls x y) told_a told_b new_a told_b (Err (named A e))) (λ x y is_x is_y some_a some_b.
       both_stop U U (named A e) (calls_on A (open_calls (content x))) (unless_refused (held_on A (content x)) (calls_on B (open_calls (content y)))) told_a told_b new_a told_b
       (none e x (calls_on B (open_calls (content y))) is_x opens)
-      (on_a Opened U (Err e) (Err (named A e)) (same_err A e) (open_calls (content x)) told_a new_a told_b some_a (at_some s x (λ x. Makes {T = Opened} (open_calls (content x)) told_a new_a (Err e)) is_x makes)))
+      (on_a U (Err (named A e)) (open_calls (content x)) told_a new_a told_b some_a (subst (λ (k : Option Stop). Makes (open_calls (content x)) k told_a new_a) (sym (stop_named Opened U A e)) (at_some s x (λ x. Makes (open_calls (content x)) (of_journal {T = Opened} (Err e)) told_a new_a) is_x makes))))
     where
       none : (e : JournalStop) (x : List ℕ) (more : List (Side × DiskCall)) → s ≡ Some x → Opens s known new (Err e) → (named A e ≡ OutOfMemory → ⊥) → (named A e ≡ DiskFault → ⊥) → unless_refused (held_on A (content x)) more ≡ []
       none journal.DiskFault x more is opens p q = absurd (q refl)
@@ -58,14 +59,14 @@ module _ (s t : Option (List ℕ)) (told_a told_b : Option Told) where
           ap (λ (c : Option (Result Held JournalStop)). unless_refused (held_on A c) more) (at_some s x (λ file. content file ≡ Some (Err (journal.NotAStore at))) is opens.2)
 
   -- disk A is opened, and disk B is opened or refused
-  pub calls_b : (U : Type 0) (on : Opened) (one : Result Opened JournalStop) (other : Result U OpenStop) (known : ℕ) (new : Content) (new_a new_b : Option Told) → Same one other → Opens s known new (Ok on)
-      → IfSome s (λ x. Makes {T = Opened} (open_calls (content x)) told_a new_a (Ok on)) → IfSome t (λ y. Makes {T = Opened} (open_calls (content y)) told_b new_b one)
+  pub calls_b : (U : Type 0) (on : Opened) (other : Result U OpenStop) (known : ℕ) (new : Content) (new_a new_b : Option Told) → Opens s known new (Ok on)
+      → IfSome s (λ x. Makes (open_calls (content x)) None told_a new_a) → IfSome t (λ y. Makes (open_calls (content y)) (stop_in other) told_b new_b)
       → OpensWith {T = U} both_calls s t told_a told_b new_a new_b other
-  calls_b U on one other known new new_a new_b same opens makes_a makes_b = each_known s t told_a told_b (λ x y. MakesBoth {T = U} (both_calls x y) told_a told_b new_a new_b other) (λ x y is_x is_y some_a some_b.
+  calls_b U on other known new new_a new_b opens makes_a makes_b = each_known s t told_a told_b (λ x y. MakesBoth {T = U} (both_calls x y) told_a told_b new_a new_b other) (λ x y is_x is_y some_a some_b.
       let open_a : MakesBoth {T = Opened} (calls_on A (open_calls (content x))) told_a told_b new_a told_b (Ok on) =
-      on_a Opened Opened (Ok on) (Ok on) (same_ok on on) (open_calls (content x)) told_a new_a told_b some_a (at_some s x (λ x. Makes {T = Opened} (open_calls (content x)) told_a new_a (Ok on)) is_x makes_a) in
+      on_a Opened (Ok on) (open_calls (content x)) told_a new_a told_b some_a (at_some s x (λ x. Makes (open_calls (content x)) None told_a new_a) is_x makes_a) in
       let open_b : MakesBoth {T = U} (calls_on B (open_calls (content y))) new_a told_b new_a new_b other =
-      on_b Opened U one other same (open_calls (content y)) new_a told_b new_b some_b (at_some t y (λ y. Makes {T = Opened} (open_calls (content y)) told_b new_b one) is_y makes_b) in
+      on_b U other (open_calls (content y)) new_a told_b new_b some_b (at_some t y (λ y. Makes (open_calls (content y)) (stop_in other) told_b new_b) is_y makes_b) in
       let both : unless_refused (held_on A (content x)) (calls_on B (open_calls (content y))) ≡ calls_on B (open_calls (content y)) =
       ap (λ (r : Result (Option Held) Refusal). unless_refused r (calls_on B (open_calls (content y)))) (holds on s known new x is_x opens A) in
       rw both (both_then Opened U (calls_on A (open_calls (content x))) (calls_on B (open_calls (content y))) told_a told_b new_a told_b new_a new_b on other open_a open_b))
@@ -109,7 +110,7 @@ no_fault OutOfMemory other is = cc
 no_fault (stop.NotAStore side at) other is = cc
 no_fault (stop.Stranger kept asked) other is = cc
 
-refusal_no_fault : (e : OpenStop) → IsRefusal e → IsNoFault e
+pub refusal_no_fault : (e : OpenStop) → IsRefusal e → IsNoFault e
 refusal_no_fault DiskFault is = is
 refusal_no_fault OutOfMemory is = tt
 refusal_no_fault (stop.NotAStore side at) is = tt

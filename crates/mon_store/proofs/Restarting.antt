@@ -1,34 +1,30 @@
 -- What two disks stand for while a checkpoint begins a journal on the other one, and then.
-use Rattle.std.proofs.Common.{◌≡◌, ℕ, ◌+◌, ◌<◌, Bool, true, false, ◌&&◌, eqb, List, [], ◌∷◌, ◌⊎◌, inl, inr, Option, Some, None, Ok, Err, refl, sym, ap, subst, ◌∙◌, arith}
+use Rattle.std.proofs.Common.{◌≡◌, ℕ, ◌+◌, ◌<◌, Bool, true, false, ◌&&◌, eqb, List, [], ◌∷◌, ◌⊎◌, inl, inr, Option, Some, None, Ok, refl, sym, ap, subst, ◌∙◌, arith}
 use Rattle.std.specs.Prelude.{IfSome, slice_index_or}
 use Rattle.mon_types.specs.declared.names.Side.{Side}
 use Rattle.mon_types.specs.declared.names.Side.TheVariants.{A, B}
 use Rattle.mon_disk.specs.Images.{Content, images, LeavesOnly}
-use Rattle.mon_disk.specs.declared.disk.DiskCall.{DiskCall}
-use Rattle.mon_disk.specs.Calls.{Told}
+use Rattle.mon_disk.specs.Calls.{Told, DiskState}
 use Rattle.mon_tx.specs.Map.{Store}
-use Rattle.mon_journal.specs.declared.stop.JournalStop.{JournalStop}
-use Rattle.mon_journal.specs.declared.stop.JournalStop.TheVariants as journal
 use Rattle.mon_journal.specs.declared.journal.Journal.{Journal}
 use Rattle.mon_journal.specs.Content.{content, payloads_of, Holds}
-use Rattle.mon_journal.specs.Steps.{ByTest, ClosedFrom, made_more, Made, Makes, IsOutside, Keeps, payloads_seen}
+use Rattle.mon_journal.specs.Steps.{ByTest, ClosedFrom, CreatedFrom, made_more, Made, Keeps, payloads_seen}
 use Rattle.mon_journal.proofs.Counts.{few}
 use Rattle.mon_store.specs.Checkpoint.{checkpoint_text, HasCheckpoint}
 use Rattle.mon_store.specs.Payloads.{map_of}
 use Rattle.mon_store.specs.Moments.{Meanwhile}
 use Rattle.mon_store.specs.Sound.{of_a, of_b, of_live, other_side, IsBelow, Sound, StandsOn, Begins, BegunAs, next_journal, ThisOrNext, Restarted}
-use Rattle.mon_store.specs.Calls.{stop_of, MakesCalls}
 use Rattle.mon_store.proofs.Payloads.{map_checkpoint}
 use Rattle.mon_store.proofs.OnPairs.{on_held, turned, other_is}
 use Rattle.mon_store.proofs.Moments.{first_goes, second_goes}
 use Rattle.mon_store.proofs.Keeping.{holds_now}
 use Rattle.mon_store.proofs.Applying.{told_map, is_told, stands_now}
 
--- a call that the journal stopped
-pub calls_err : (T : Type 0) (calls : List DiskCall) (old new : Option Told) (e : JournalStop) → IsOutside e → Makes {T = T} calls old new (Err e) → MakesCalls {T = T} calls old new (Err (stop_of e))
-calls_err T calls old new journal.DiskFault outside made = made
-calls_err T calls old new (journal.NotAStore at) outside made = absurd outside
-calls_err T calls old new journal.OutOfMemory outside made = made
+-- what is left of a file with a checkpoint
+pub as_begins : (x : Content) (journal : Journal) (m : Store) → HasCheckpoint m → (c : List ℕ) → CreatedFrom x journal (checkpoint_text m ∷ []) c → Begins x journal m c
+as_begins x journal m form c (inl left) = inl left
+as_begins x journal m form c (inr (inl closed)) = inr (inl closed)
+as_begins x journal m form c (inr (inr holds)) = inr (inr (holds, form))
 
 -- no call on the other disk
 pub not_begun : (x : Content) (journal : Journal) (m : Store) (told : Option Told) → IfSome told (λ t. images x (t.settles t.made)) → IfSome told (λ s. IfSome told (λ t. BegunAs x journal m (made_more 4 s t) (t.settles t.made)))
@@ -121,19 +117,19 @@ pub turned_other : {D : Type 0} (side : Side) (live other : D) → of_live (othe
 turned_other A live other = refl
 turned_other B live other = refl
 
-module _ {D : Type 0} (content_of : D → Content) (live old new : D) (Q : List ℕ → Type 0) (P : List ℕ → List ℕ → Type 0) (l : LeavesOnly (content_of old) (content_of new) Q) where
+module _ {D : Type 0} (state : D → DiskState) (live old new : D) (Q : List ℕ → Type 0) (P : List ℕ → List ℕ → Type 0) (l : LeavesOnly (state old).content (state new).content Q) where
   -- the other disk goes on
-  pub other_goes : (side : Side) → ((c d : List ℕ) → images (content_of live) c → Q d → P (of_a side c d) (of_b side c d))
-      → Meanwhile (content_of (of_a side live old)) (content_of (of_b side live old)) (content_of (of_a side live new)) (content_of (of_b side live new)) P
-  other_goes A h = second_goes (content_of live) (content_of old) (content_of new) Q P l h
-  other_goes B h = first_goes (content_of old) (content_of new) (content_of live) Q P l (λ c d left there. h d c there left)
+  pub other_goes : (side : Side) → ((c d : List ℕ) → images (state live).content c → Q d → P (of_a side c d) (of_b side c d))
+      → Meanwhile (state (of_a side live old)).content (state (of_b side live old)).content (state (of_a side live new)).content (state (of_b side live new)).content P
+  other_goes A h = second_goes (state live).content (state old).content (state new).content Q P l h
+  other_goes B h = first_goes (state old).content (state new).content (state live).content Q P l (λ c d left there. h d c there left)
 
-  turned_round : (side : Side) → ((c d : List ℕ) → images (content_of live) c → Q d → P (of_a side c d) (of_b side c d))
-      → Meanwhile (content_of (of_a side live old)) (content_of (of_b side live old)) (content_of (of_a (other_side side) new live)) (content_of (of_b (other_side side) new live)) P
+  turned_round : (side : Side) → ((c d : List ℕ) → images (state live).content c → Q d → P (of_a side c d) (of_b side c d))
+      → Meanwhile (state (of_a side live old)).content (state (of_b side live old)).content (state (of_a (other_side side) new live)).content (state (of_b (other_side side) new live)).content P
   turned_round A h = other_goes A h
   turned_round B h = other_goes B h
 
   -- and then is live
-  pub other_takes : (side after : Side) (x y : D) → x ≡ new → y ≡ live → after ≡ other_side side → ((c d : List ℕ) → images (content_of live) c → Q d → P (of_a side c d) (of_b side c d))
-      → Meanwhile (content_of (of_a side live old)) (content_of (of_b side live old)) (content_of (of_a after x y)) (content_of (of_b after x y)) P
+  pub other_takes : (side after : Side) (x y : D) → x ≡ new → y ≡ live → after ≡ other_side side → ((c d : List ℕ) → images (state live).content c → Q d → P (of_a side c d) (of_b side c d))
+      → Meanwhile (state (of_a side live old)).content (state (of_b side live old)).content (state (of_a after x y)).content (state (of_b after x y)).content P
   other_takes side after x y is_new is_live is_turned h = rw (is_new, is_live, is_turned) (turned_round side h)

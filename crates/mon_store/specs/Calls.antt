@@ -1,8 +1,8 @@
 -- Which writes and syncs a store's call makes.
-use Rattle.std.specs.Prelude.{◌≡◌, ℕ, ◌≤◌, ◌+◌, List, [], ◌∷◌, Option, Some, Result, Ok, Err, if◌then◌else◌}
-use Rattle.mon_types.specs.Faults.{Rose}
+use Rattle.std.specs.Prelude.{ℕ, ◌+◌, List, [], ◌∷◌, Option, Some, None, Result, Ok, Err, if◌then◌else◌}
+use Rattle.mon_types.specs.declared.names.Stop.{Stop}
+use Rattle.mon_types.specs.declared.names.Stop.TheVariants as stop
 use Rattle.mon_disk.specs.declared.disk.DiskCall.{DiskCall}
-use Rattle.mon_disk.specs.Calls.{Told}
 use Rattle.mon_tx.specs.declared.op.Op.{Op}
 use Rattle.mon_tx.specs.Map.{Store}
 use Rattle.mon_tx.specs.Text.{text}
@@ -10,7 +10,7 @@ use Rattle.mon_journal.specs.declared.stop.JournalStop.TheVariants as journal
 use Rattle.mon_journal.specs.declared.journal.Journal.{Journal}
 use Rattle.mon_journal.specs.Content.{appended}
 use Rattle.mon_journal.specs.Written.{owner_of}
-use Rattle.mon_journal.specs.Steps.{Makes, append_calls, create_calls}
+use Rattle.mon_journal.specs.Steps.{append_calls, create_calls}
 use Rattle.mon_store.specs.declared.stop.StoreStop.{StoreStop}
 use Rattle.mon_store.specs.declared.stop.StoreStop.TheVariants.{Broken, TooLong, Full, DiskFault, OutOfMemory}
 use Rattle.mon_store.specs.Checkpoint.{checkpoint_text}
@@ -22,14 +22,23 @@ stop_of journal.DiskFault = DiskFault
 stop_of (journal.NotAStore at) = DiskFault
 stop_of journal.OutOfMemory = OutOfMemory
 
--- the calls of a disk that were made: none, where the store refused before
-abbrev pub MakesCalls : {T : Type 0} → List DiskCall → Option Told → Option Told → Result T StoreStop → Type 0
-MakesCalls calls old new (Ok x) = Makes calls old new (Ok x)
-MakesCalls {T = T} calls old new (Err DiskFault) = Makes {T = T} calls old new (Err journal.DiskFault)
-MakesCalls {T = T} calls old new (Err OutOfMemory) = Makes {T = T} calls old new (Err journal.OutOfMemory)
-MakesCalls calls old new (Err Broken) = new ≡ old
-MakesCalls calls old new (Err (TooLong len)) = new ≡ old
-MakesCalls calls old new (Err (Full would_be)) = new ≡ old
+-- what stopped a store's calls on a disk: nothing, where it refused before them
+abbrev pub stop_in : {T : Type 0} → Result T StoreStop → Option Stop
+stop_in (Ok x) = None
+stop_in (Err DiskFault) = Some stop.Failed
+stop_in (Err OutOfMemory) = Some stop.OutOfMemory
+stop_in (Err Broken) = None
+stop_in (Err (TooLong len)) = None
+stop_in (Err (Full would_be)) = None
+
+-- the calls on a disk: none, where the store refused before them
+abbrev pub unless_early : {T : Type 0} → Result T StoreStop → List DiskCall → List DiskCall
+unless_early (Ok x) calls = calls
+unless_early (Err DiskFault) calls = calls
+unless_early (Err OutOfMemory) calls = calls
+unless_early (Err Broken) calls = []
+unless_early (Err (TooLong len)) calls = []
+unless_early (Err (Full would_be)) calls = []
 
 -- an empty transaction makes none
 abbrev pub apply_calls : ℕ → List Op → List DiskCall
@@ -40,11 +49,6 @@ apply_calls gate (op ∷ ops) = append_calls gate (text (op ∷ ops))
 abbrev pub journal_after : Journal → List Op → Journal
 journal_after journal [] = journal
 journal_after journal (op ∷ ops) = appended journal (text (op ∷ ops))
-
--- The count of faults never falls, and DiskFault is answered only where it rose.
-pub record HasFault {T : Type 0} (before now : ℕ) (result : Result T StoreStop) : Type 0 where
-  pub later : before ≤ now
-  pub failed : result ≡ Err DiskFault → Rose before now
 
 -- what a transaction's refusal is to the store
 abbrev pub unspelled : Rattle.mon_tx.specs.declared.encode.EncodeRefused.EncodeRefused → StoreStop

@@ -1,9 +1,10 @@
 -- What opening two disks finds, and what they stand for meanwhile.
-use Rattle.std.specs.Prelude.{◌≡◌, ℕ, ◌≤◌, ◌⊎◌, Bool, true, ◌&&◌, ◌==◌, List, [], slice_index_or, Option, Some, None, Result, Ok, Err}
-use Rattle.mon_types.specs.Faults.{Rose}
+use Rattle.std.specs.Prelude.{◌≡◌, ℕ, ◌⊎◌, Bool, true, ◌&&◌, ◌==◌, List, [], slice_index_or, Option, Some, None, Result, Ok, Err}
+use Rattle.mon_types.specs.declared.names.Stop.{Stop}
+use Rattle.mon_types.specs.declared.names.Stop.TheVariants as disk_stop
 use Rattle.mon_types.specs.declared.member.Member.{Member}
 use Rattle.mon_disk.specs.Images.{Content, images}
-use Rattle.mon_disk.specs.Calls.{Told}
+use Rattle.mon_disk.specs.Calls.{Told, DiskState, faults_after, MayWant}
 use Rattle.mon_journal.specs.declared.stop.JournalStop.{JournalStop}
 use Rattle.mon_journal.specs.declared.stop.JournalStop.TheVariants as journal
 use Rattle.mon_journal.specs.declared.opening.Opened.{Opened}
@@ -51,11 +52,21 @@ abbrev pub Gives : {X Y : Type 0} → (X → Y) → Result X OpenStop → Result
 Gives view (Ok x) read = read ≡ Ok (view x)
 Gives view (Err e) read = Tells e read
 
--- The counts of faults never fall, and DiskFault is answered only where one of them rose.
-pub record HasFaults {T : Type 0} (a_before a_now b_before b_now : ℕ) (result : Result T OpenStop) : Type 0 where
-  pub a_later : a_before ≤ a_now
-  pub b_later : b_before ≤ b_now
-  pub failed : result ≡ Err DiskFault → Rose a_before a_now ⊎ Rose b_before b_now
+-- what stopped opening: nothing, where what the disks hold is refused
+abbrev pub stop_in : {T : Type 0} → Result T OpenStop → Option Stop
+stop_in (Ok x) = None
+stop_in (Err DiskFault) = Some disk_stop.Failed
+stop_in (Err OutOfMemory) = Some disk_stop.OutOfMemory
+stop_in (Err (stop.NotAStore disk at)) = None
+stop_in (Err (stop.Stranger kept asked)) = None
+
+-- what a disk counted: a fault where that was the stop, its want of memory maybe where that was, and else nothing
+abbrev pub Counts : Option Stop → DiskState → DiskState → Type 0
+Counts stop old new = (new.faults ≡ faults_after stop old.faults) × MayWant stop old.wants new.wants
+
+-- what two disks counted, of which one was called last
+abbrev pub BothCount : Option Stop → DiskState → DiskState → DiskState → DiskState → Type 0
+BothCount stop a b new_a new_b = (Counts stop a new_a × Counts None b new_b) ⊎ (Counts None a new_a × Counts stop b new_b)
 
 -- What opening answers, unless the outside refused.
 abbrev pub Answers : Member → List ℕ → List ℕ → Result Standing OpenStop → Type 0

@@ -1,6 +1,6 @@
 -- A store in use.
-use Rattle.std.specs.Prelude.{◌≡◌, ℕ, false, List, [], ◌∷◌, Result, Ok, Err}
-use Rattle.mon_disk.specs.Images.{Content}
+use Rattle.std.specs.Prelude.{◌≡◌, false, List, [], ◌∷◌, Result, Ok, Err}
+use Rattle.mon_disk.specs.Calls.{DiskState}
 use Rattle.mon_store.specs.declared.store.Store.{Store}
 use Rattle.mon_store.specs.declared.opening.Standing.{Standing}
 use Rattle.mon_tx.specs.declared.op.Op.{Op}
@@ -12,8 +12,8 @@ use Rattle.mon_types.specs.declared.names.Side.{Side}
 use Rattle.mon_store.specs.Sound.{Sound, of_a, of_b, of_live}
 
 -- a store that isn't broken stands on its disks, and has their map
-abbrev pub IsSound : {D : Type 0} → (D → ℕ) → (D → Content) → Store D → Type 0
-IsSound known content store = store.broken ≡ false → Sound store.journal store.kv (known store.live) (content store.live) (content store.other)
+abbrev pub IsSound : {D : Type 0} → (D → DiskState) → Store D → Type 0
+IsSound state store = store.broken ≡ false → Sound store.journal store.kv (state store.live).known (state store.live).content (state store.other).content
 
 -- its disks
 abbrev pub disk_a : {D : Type 0} → Store D → D

@@ -1,14 +1,14 @@
-ghost use Rattle.std.specs.Prelude.{◌≡◌, ◌≤◌, ◌||◌, false, [], ◌∷◌, ◌++◌, length, is_some, IfOk, IfErr, OnOk, OnErr, IfSome};
+ghost use Rattle.std.specs.Prelude.{◌≡◌, ◌≤◌, ◌||◌, false, [], ◌∷◌, ◌++◌, length, IfOk, IfErr, OnOk, OnErr, IfSome};
 ghost use Rattle.mon_tx.specs.Map.{apply};
 ghost use Rattle.mon_tx.specs.Text.{text, most};
 ghost use Rattle.mon_tx.specs.Decode.{HasText};
 ghost use Rattle.mon_kv.specs.Readers.{size_of};
-ghost use Rattle.mon_disk.specs.Images.{LeavesOnly};
-ghost use Rattle.mon_journal.specs.Steps.{Stands, Keeps, append_calls, payloads_seen};
+ghost use Rattle.mon_disk.specs.Calls.{Called};
+ghost use Rattle.mon_journal.specs.Steps.{Stands, Keeps, Any, WantsFirst, append_calls, payloads_seen};
 ghost use Rattle.mon_journal.specs.Content.{appended};
 ghost use Rattle.mon_store.specs.Checkpoint.{most_size};
 ghost use Rattle.mon_store.specs.Sound.{WithChange};
-ghost use Rattle.mon_store.specs.Calls.{MakesCalls, HasFault, apply_calls, journal_after};
+ghost use Rattle.mon_store.specs.Calls.{stop_in, unless_early, apply_calls, journal_after};
 ghost use Rattle.mon_store.specs.Refusals.{Refuses, IsEarly, LeavesDisk, Answers, breaks};
 
 use crate::checkpoint::MOST_SIZE;
@@ -46,22 +46,21 @@ pub(crate) fn keep<D: Disk>(
     kv: &mut Kv,
     tx: &Transaction,
 ) -> Result<(), StoreStop>
-    requires { Stands journal.old (D.known disk.old) (D.content disk.old) }
-    ensures kept { OnOk result (Keeps journal.new (payloads_seen (D.content disk.old) ++ text tx.now ∷ []) (D.known disk.new) (D.content disk.new)) }
+    requires { Stands journal.old (D.state disk.old).known (D.state disk.old).content }
+    ensures kept { OnOk result (Keeps journal.new (payloads_seen (D.state disk.old).content ++ text tx.now ∷ []) (D.state disk.new).known (D.state disk.new).content) }
     ensures journal { OnOk result (journal.new ≡ appended journal.old (text tx.now)) }
     ensures journal_err { OnErr result (journal.new ≡ journal.old) }
-    ensures tells { is_some (D.content disk.new).seen ≡ is_some (D.content disk.old).seen }
     ensures form { OnOk result (HasText tx.now) }
     ensures map { OnOk result (kv.new ≡ apply tx.now kv.old) }
     ensures size { OnOk result (size_of (apply tx.now kv.old) ≤ most_size) }
     ensures refused { IfErr result (Refuses tx.now kv.old kv.new) }
     ensures disk { IfErr result (LeavesDisk disk.old disk.new) }
 
-    // A crash at any moment leaves the payloads from before, and the transaction where its gate is open.
-    ensures any_moment { LeavesOnly (D.content disk.old) (D.content disk.new) (WithChange journal.old (payloads_seen (D.content disk.old)) kv.old tx.now) }
-
-    ensures calls { MakesCalls (append_calls journal.old.next_gate (text tx.now)) (D.told disk.old) (D.told disk.new) result }
-    ensures cause { HasFault (D.faults disk.old) (D.faults disk.new) result }
+    // Its writes and syncs are made. A crash at any moment leaves the payloads from before, and the transaction where its gate is
+    // open.
+    ensures call { let old = D.state disk.old in Called (unless_early result (append_calls journal.old.next_gate (text tx.now)))
+        (WithChange journal.old (payloads_seen old.content) kv.old tx.now) (stop_in result) old (D.state disk.new) }
+    ensures no_memory { WantsFirst D.state StoreStop.OutOfMemory result disk.old disk.new }
 {
     let text = prepare(kv, tx)?;
     journal.append(alloc, disk, &text)?;
@@ -79,7 +78,7 @@ pub(crate) fn breaks<T>(answer: &Result<T, StoreStop>) -> bool
 }
 
 impl<D: Disk> Store<D> {
-    ghost use Rattle.std.specs.Prelude.{IsTrue};
+    ghost use Rattle.std.specs.Prelude.{is_some, IsTrue};
     ghost use Rattle.mon_store.specs.Moments.{Meanwhile, EachPair};
     ghost use Rattle.mon_store.specs.Sound.{StandsOn, BeforeOrAfter};
     ghost use Rattle.mon_store.specs.Whole.{IsSound, disk_a, disk_b, Stays};
@@ -89,31 +88,31 @@ impl<D: Disk> Store<D> {
     /// nothing changed. Each later refusal breaks the store: OutOfMemory; Full, where the map would be too large; DiskFault.
     /// After DiskFault, and after OutOfMemory, the disks stand for the old map or for the new one.
     pub fn apply(&mut self, tx: &Transaction) -> Result<(), StoreStop>
-        requires { IsSound D.known D.content self.old }
-        ensures sound { IsSound D.known D.content self.new }
+        requires { IsSound D.state self.old }
+        ensures sound { IsSound D.state self.new }
         ensures answer { Answers tx.now self.old.kv self.new.kv self.old.broken result }
         ensures broken { self.new.broken ≡ (self.old.broken || breaks result) }
         ensures same { Stays tx.now self.old self.new result }
 
         // A crash at any moment leaves the store as it stood, or with the change exactly where the gate of its record is open.
-        ensures any_moment { self.old.broken ≡ false → IsTrue (is_some (D.content self.old.live).seen) → Meanwhile (D.content (disk_a self.old)) (D.content (disk_b self.old)) (D.content (disk_a self.new)) (D.content (disk_b self.new)) (BeforeOrAfter self.old.side self.old.journal self.old.kv tx.now) }
+        ensures any_moment { self.old.broken ≡ false → IsTrue (is_some (D.state self.old.live).content.seen) → Meanwhile (D.state (disk_a self.old)).content (D.state (disk_b self.old)).content (D.state (disk_a self.new)).content (D.state (disk_b self.new)).content (BeforeOrAfter self.old.side self.old.journal self.old.kv tx.now) }
 
         // What the disks settle to, too, where they tell it.
-        ensures settles { self.old.broken ≡ false → IsTrue (is_some (D.content self.old.live).seen) → IfSome (D.told (disk_a self.new)) (λ s. IfSome (D.told (disk_b self.new)) (λ t. BeforeOrAfter self.old.side self.old.journal self.old.kv tx.now (s.settles s.made) (t.settles t.made))) }
+        ensures settles { self.old.broken ≡ false → IsTrue (is_some (D.state self.old.live).content.seen) → IfSome (D.state (disk_a self.new)).told (λ s. IfSome (D.state (disk_b self.new)).told (λ t. BeforeOrAfter self.old.side self.old.journal self.old.kv tx.now (s.settles s.made) (t.settles t.made))) }
 
         // After Ok it leaves the store as it stands alone.
-        ensures safe { OnOk result (EachPair (D.content (disk_a self.new)) (D.content (disk_b self.new)) (StandsOn self.new.side self.new.journal self.new.kv)) }
+        ensures safe { OnOk result (EachPair (D.state (disk_a self.new)).content (D.state (disk_b self.new)).content (StandsOn self.new.side self.new.journal self.new.kv)) }
 
         ensures journal { OnOk result (self.new.journal ≡ journal_after self.old.journal tx.now) }
         ensures journal_err { OnErr result (self.new.journal ≡ self.old.journal) }
-        ensures tells { is_some (D.content self.new.live).seen ≡ is_some (D.content self.old.live).seen }
         ensures disk { IfErr result (LeavesDisk self.old.live self.new.live) }
         ensures other { self.new.other ≡ self.old.other }
         ensures side { self.new.side ≡ self.old.side }
 
-        // Which writes and syncs were made on the live disk, and when its fault is told.
-        ensures calls { MakesCalls (apply_calls self.old.journal.next_gate tx.now) (D.told self.old.live) (D.told self.new.live) result }
-        ensures cause { HasFault (D.faults self.old.live) (D.faults self.new.live) result }
+        // Which writes and syncs were made on the live disk, and what it counted. Want of memory that it didn't count came before
+        // the first of them.
+        ensures call { Called (unless_early result (apply_calls self.old.journal.next_gate tx.now)) Any (stop_in result) (D.state self.old.live) (D.state self.new.live) }
+        ensures no_memory { WantsFirst D.state StoreStop.OutOfMemory result self.old.live self.new.live }
     {
         if self.broken {
             return Err(StoreStop::Broken);

@@ -38,7 +38,7 @@ impl<D: Disk> Store<D> {
     ghost use Rattle.mon_journal.specs.Written.{owner_of};
     ghost use Rattle.mon_store.specs.Moments.{WhileOpening, EachPair};
     ghost use Rattle.mon_store.specs.Sound.{StandsOn};
-    ghost use Rattle.mon_store.specs.Opening.{Answers, Alike, Settled, HasFaults};
+    ghost use Rattle.mon_store.specs.Opening.{Answers, Alike, Settled, stop_in, BothCount};
     ghost use Rattle.mon_store.specs.OpeningCalls.{opening_calls, OpensWith};
     ghost use Rattle.mon_store.specs.Whole.{IsSound, a_after, b_after, answered};
 
@@ -50,30 +50,30 @@ impl<D: Disk> Store<D> {
         disks: NodeDisks<D>,
         member: Member,
     ) -> Result<Store<D>, OpenRefused<D>>
-        ensures sound { IfOk result (IsSound D.known D.content) }
+        ensures sound { IfOk result (IsSound D.state) }
         ensures broken { IfOk result (λ store. store.broken ≡ false) }
         ensures owner { IfOk result (λ store. owner_of store.journal.member ≡ owner_of member) }
 
         // What stands on the two disks is what they held, and each refusal goes back to it.
-        ensures answer { IfSome (D.content disks.a).seen (λ x. IfSome (D.content disks.b).seen (λ y. Answers member x y (answered result))) }
+        ensures answer { IfSome (D.state disks.a).content.seen (λ x. IfSome (D.state disks.b).content.seen (λ y. Answers member x y (answered result))) }
 
         // A crash at any moment leaves two files that stand for what two stood for that a crash might have left before, and that
         // the member opens as it would have opened those. Each holds what it held then, but for the first file of a new store.
-        ensures any_moment { IsTrue (is_some (D.content disks.a).seen) → IsTrue (is_some (D.content disks.b).seen) → WhileOpening (D.content disks.a) (D.content disks.b) (D.content (a_after result)) (D.content (b_after result)) (Alike member (D.content disks.a) (D.content disks.b)) }
+        ensures any_moment { IsTrue (is_some (D.state disks.a).content.seen) → IsTrue (is_some (D.state disks.b).content.seen) → WhileOpening (D.state disks.a).content (D.state disks.b).content (D.state (a_after result)).content (D.state (b_after result)).content (Alike member (D.state disks.a).content (D.state disks.b).content) }
 
         // What the disks settle to, too, where they tell it: the first file is there where its gate is open and its last write
         // was begun.
-        ensures settles { IsTrue (is_some (D.content disks.a).seen) → IsTrue (is_some (D.content disks.b).seen) → IfSome (D.told disks.a) (λ s. IfSome (D.told (a_after result)) (λ t. IfSome (D.told (b_after result)) (λ u. Settled member (D.content disks.a) (D.content disks.b) s t u))) }
+        ensures settles { IsTrue (is_some (D.state disks.a).content.seen) → IsTrue (is_some (D.state disks.b).content.seen) → IfSome (D.state disks.a).told (λ s. IfSome (D.state (a_after result)).told (λ t. IfSome (D.state (b_after result)).told (λ u. Settled member (D.state disks.a).content (D.state disks.b).content s t u))) }
 
         // After Ok a crash leaves the store as it stands alone.
-        ensures safe { IfOk result (λ store. EachPair (D.content (disk_a store)) (D.content (disk_b store)) (StandsOn store.side store.journal store.kv)) }
+        ensures safe { IfOk result (λ store. EachPair (D.state (disk_a store)).content (D.state (disk_b store)).content (StandsOn store.side store.journal store.kv)) }
 
-        ensures a_tells { is_some (D.content (a_after result)).seen ≡ is_some (D.content disks.a).seen }
-        ensures b_tells { is_some (D.content (b_after result)).seen ≡ is_some (D.content disks.b).seen }
+        ensures a_tells { is_some (D.state (a_after result)).content.seen ≡ is_some (D.state disks.a).content.seen }
+        ensures b_tells { is_some (D.state (b_after result)).content.seen ≡ is_some (D.state disks.b).content.seen }
 
-        // Which writes and syncs were made on the two disks, and when a fault is told.
-        ensures calls { OpensWith (opening_calls (owner_of member)) (D.content disks.a).seen (D.content disks.b).seen (D.told disks.a) (D.told disks.b) (D.told (a_after result)) (D.told (b_after result)) (answered result) }
-        ensures cause { HasFaults (D.faults disks.a) (D.faults (a_after result)) (D.faults disks.b) (D.faults (b_after result)) (answered result) }
+        // Which writes and syncs were made on the two disks, and what they counted.
+        ensures calls { OpensWith (opening_calls (owner_of member)) (D.state disks.a).content.seen (D.state disks.b).content.seen (D.state disks.a).told (D.state disks.b).told (D.state (a_after result)).told (D.state (b_after result)).told (answered result) }
+        ensures counts { BothCount (stop_in (answered result)) (D.state disks.a) (D.state disks.b) (D.state (a_after result)) (D.state (b_after result)) }
     {
         let NodeDisks { mut a, mut b } = disks;
         match open_disks(alloc, &mut a, &mut b, &member) {

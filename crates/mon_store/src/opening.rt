@@ -1,12 +1,11 @@
 //! Opening the two disks of a store.
 
-ghost use Rattle.std.specs.Prelude.{◌≡◌, ◌≤◌, false, [], Option, is_some, Ok, Err, None, IfOk, IfErr, OnOk, IfSome, IsTrue};
-ghost use Rattle.mon_types.specs.Faults.{Rose};
+ghost use Rattle.std.specs.Prelude.{◌≡◌, ◌≤◌, false, [], is_some, Ok, None, IfOk, IfErr, OnOk, IfSome, IsTrue};
 ghost use Rattle.mon_disk.specs.Images.{LeavesOnly};
-ghost use Rattle.mon_disk.specs.Calls.{Told};
+ghost use Rattle.mon_disk.specs.Calls.{Called, Makes};
 ghost use Rattle.mon_kv.specs.Readers.{size_of};
 ghost use Rattle.mon_journal.specs.Content.{content, held_by};
-ghost use Rattle.mon_journal.specs.Steps.{AlikeFrom, CreatedFrom, made_more, Made, Makes, Opens, Keeps, open_calls, create_calls};
+ghost use Rattle.mon_journal.specs.Steps.{AlikeFrom, CreatedFrom, made_more, Made, Opens, Keeps, open_calls, create_calls};
 ghost use Rattle.mon_journal.specs.Written.{owner_of, created};
 ghost use Rattle.std.specs.FinMap.{empty};
 ghost use Rattle.mon_store.specs.Checkpoint.{most_size};
@@ -14,8 +13,8 @@ ghost use Rattle.mon_store.specs.Payloads.{map_of};
 ghost use Rattle.mon_store.specs.Pair.{Live, taken, found};
 ghost use Rattle.mon_store.specs.Moments.{Meanwhile, WhileOpening};
 ghost use Rattle.mon_store.specs.Sound.{of_live, Sound, other_side};
-ghost use Rattle.mon_store.specs.Opening.{named, Tells, Gives, Answers, IsOutside, IsNoFault, AlikePair, Alike, Settled, HasFaults};
-ghost use Rattle.mon_store.specs.OpeningCalls.{calls_on, both_calls, opening_calls, MakesBoth, OpensWith};
+ghost use Rattle.mon_store.specs.Opening.{named, Tells, Gives, Answers, IsOutside, IsNoFault, AlikePair, Alike, Settled, stop_in, BothCount};
+ghost use Rattle.mon_store.specs.OpeningCalls.{both_calls, opening_calls, OpensWith};
 
 use crate::choice::{Choice, choose};
 use crate::fold::fold;
@@ -85,18 +84,18 @@ struct Both {
 
 /// Opens disk A and then disk B.
 fn open_both<D: Disk>(alloc: Global, a: &mut D, b: &mut D) -> Result<Both, OpenStop>
-    ensures a { IfOk result (λ both. Opens (D.content a.old).seen (D.known a.new) (D.content a.new) (Ok both.a)) }
-    ensures b { IfOk result (λ both. Opens (D.content b.old).seen (D.known b.new) (D.content b.new) (Ok both.b)) }
-    ensures refused { IfErr result (λ e. IfSome (D.content a.old).seen (λ x. IfSome (D.content b.old).seen (λ y. Tells e (found x y)))) }
-    ensures a_moment { OnOk result (LeavesOnly (D.content a.old) (D.content a.new) (AlikeFrom (D.content a.old))) }
-    ensures b_moment { OnOk result (LeavesOnly (D.content b.old) (D.content b.new) (AlikeFrom (D.content b.old))) }
-    ensures any_moment { (member : Member) → Meanwhile (D.content a.old) (D.content b.old) (D.content a.new) (D.content b.new) (AlikePair member (D.content a.old) (D.content b.old) false) }
-    ensures a_tells { is_some (D.content a.new).seen ≡ is_some (D.content a.old).seen }
-    ensures b_tells { is_some (D.content b.new).seen ≡ is_some (D.content b.old).seen }
-    ensures few { IfSome (D.content a.old).seen (λ _. IfSome (D.told a.old) (λ s. IfSome (D.told a.new) (λ t. made_more 5 s t ≡ false))) }
-    ensures made { IfOk result (λ both. IfSome (D.content a.old).seen (λ x. Makes (open_calls (content x)) (D.told a.old) (D.told a.new) (Ok both.a))) }
-    ensures calls { OpensWith both_calls (D.content a.old).seen (D.content b.old).seen (D.told a.old) (D.told b.old) (D.told a.new) (D.told b.new) result }
-    ensures cause { HasFaults (D.faults a.old) (D.faults a.new) (D.faults b.old) (D.faults b.new) result }
+    ensures a { IfOk result (λ both. Opens (D.state a.old).content.seen (D.state a.new).known (D.state a.new).content (Ok both.a)) }
+    ensures b { IfOk result (λ both. Opens (D.state b.old).content.seen (D.state b.new).known (D.state b.new).content (Ok both.b)) }
+    ensures refused { IfErr result (λ e. IfSome (D.state a.old).content.seen (λ x. IfSome (D.state b.old).content.seen (λ y. Tells e (found x y)))) }
+    ensures a_moment { OnOk result (LeavesOnly (D.state a.old).content (D.state a.new).content (AlikeFrom (D.state a.old).content)) }
+    ensures b_moment { OnOk result (LeavesOnly (D.state b.old).content (D.state b.new).content (AlikeFrom (D.state b.old).content)) }
+    ensures any_moment { (member : Member) → Meanwhile (D.state a.old).content (D.state b.old).content (D.state a.new).content (D.state b.new).content (AlikePair member (D.state a.old).content (D.state b.old).content false) }
+    ensures a_tells { is_some (D.state a.new).content.seen ≡ is_some (D.state a.old).content.seen }
+    ensures b_tells { is_some (D.state b.new).content.seen ≡ is_some (D.state b.old).content.seen }
+    ensures few { IfSome (D.state a.old).content.seen (λ _. IfSome (D.state a.old).told (λ s. IfSome (D.state a.new).told (λ t. made_more 5 s t ≡ false))) }
+    ensures made { OnOk result (IfSome (D.state a.old).content.seen (λ x. Makes (open_calls (content x)) None (D.state a.old).told (D.state a.new).told)) }
+    ensures calls { OpensWith both_calls (D.state a.old).content.seen (D.state b.old).content.seen (D.state a.old).told (D.state b.old).told (D.state a.new).told (D.state b.new).told result }
+    ensures counts { BothCount (stop_in result) (D.state a.old) (D.state b.old) (D.state a.new) (D.state b.new) }
 {
     let on_a = match open(alloc, a) {
         Ok(opened) => opened,
@@ -113,13 +112,10 @@ fn create_on<D: Disk>(alloc: Global, a: &mut D, member: &Member) -> Result<Stand
     ensures side { IfOk result (λ s. s.side ≡ Side.A) }
     ensures journal { IfOk result (λ s. s.journal ≡ created member.now 1 None) }
     ensures map { IfOk result (λ s. s.kv ≡ empty) }
-    ensures kept { IfOk result (λ s. Keeps s.journal [] (D.known a.new) (D.content a.new)) }
+    ensures kept { IfOk result (λ s. Keeps s.journal [] (D.state a.new).known (D.state a.new).content) }
     ensures outside { IfErr result IsOutside }
-    ensures any_moment { LeavesOnly (D.content a.old) (D.content a.new) (CreatedFrom (D.content a.old) (created member.now 1 None) []) }
-    ensures settles { IfSome (D.told a.old) (λ s. IfSome (D.told a.new) (λ t. Made (D.content a.old) (created member.now 1 None) [] (made_more 4 s t) (t.settles t.made))) }
-    ensures tells { is_some (D.content a.new).seen ≡ is_some (D.content a.old).seen }
-    ensures calls { (b : Option Told) → IsTrue (is_some (D.told a.old)) → MakesBoth (calls_on Side.A (create_calls (owner_of member.now) 1 None)) (D.told a.old) b (D.told a.new) b result }
-    ensures cause { (D.faults a.old ≤ D.faults a.new) × (result ≡ Err OpenStop.DiskFault → Rose (D.faults a.old) (D.faults a.new)) }
+    ensures call { Called (create_calls (owner_of member.now) 1 None) (CreatedFrom (D.state a.old).content (created member.now 1 None) []) (stop_in result) (D.state a.old) (D.state a.new) }
+    ensures settles { IfSome (D.state a.old).told (λ s. IfSome (D.state a.new).told (λ t. Made (D.state a.old).content (created member.now 1 None) [] (made_more 4 s t) (t.settles t.made))) }
 {
     let journal = match create(alloc, a, *member, 1, None) {
         Ok(journal) => journal,
@@ -139,15 +135,15 @@ pub(crate) fn open_disks<D: Disk>(
     b: &mut D,
     member: &Member,
 ) -> Result<Standing, OpenStop>
-    ensures sound { IfOk result (λ s. Sound s.journal s.kv (D.known (of_live s.side a.new b.new)) (D.content (of_live s.side a.new b.new)) (D.content (of_live (other_side s.side) a.new b.new))) }
+    ensures sound { IfOk result (λ s. Sound s.journal s.kv (D.state (of_live s.side a.new b.new)).known (D.state (of_live s.side a.new b.new)).content (D.state (of_live (other_side s.side) a.new b.new)).content) }
     ensures owner { IfOk result (λ s. owner_of s.journal.member ≡ owner_of member.now) }
-    ensures answer { IfSome (D.content a.old).seen (λ x. IfSome (D.content b.old).seen (λ y. Answers member.now x y result)) }
-    ensures any_moment { IsTrue (is_some (D.content a.old).seen) → IsTrue (is_some (D.content b.old).seen) → WhileOpening (D.content a.old) (D.content b.old) (D.content a.new) (D.content b.new) (Alike member.now (D.content a.old) (D.content b.old)) }
-    ensures settles { IsTrue (is_some (D.content a.old).seen) → IsTrue (is_some (D.content b.old).seen) → IfSome (D.told a.old) (λ s. IfSome (D.told a.new) (λ t. IfSome (D.told b.new) (λ u. Settled member.now (D.content a.old) (D.content b.old) s t u))) }
-    ensures a_tells { is_some (D.content a.new).seen ≡ is_some (D.content a.old).seen }
-    ensures b_tells { is_some (D.content b.new).seen ≡ is_some (D.content b.old).seen }
-    ensures calls { OpensWith (opening_calls (owner_of member.now)) (D.content a.old).seen (D.content b.old).seen (D.told a.old) (D.told b.old) (D.told a.new) (D.told b.new) result }
-    ensures cause { HasFaults (D.faults a.old) (D.faults a.new) (D.faults b.old) (D.faults b.new) result }
+    ensures answer { IfSome (D.state a.old).content.seen (λ x. IfSome (D.state b.old).content.seen (λ y. Answers member.now x y result)) }
+    ensures any_moment { IsTrue (is_some (D.state a.old).content.seen) → IsTrue (is_some (D.state b.old).content.seen) → WhileOpening (D.state a.old).content (D.state b.old).content (D.state a.new).content (D.state b.new).content (Alike member.now (D.state a.old).content (D.state b.old).content) }
+    ensures settles { IsTrue (is_some (D.state a.old).content.seen) → IsTrue (is_some (D.state b.old).content.seen) → IfSome (D.state a.old).told (λ s. IfSome (D.state a.new).told (λ t. IfSome (D.state b.new).told (λ u. Settled member.now (D.state a.old).content (D.state b.old).content s t u))) }
+    ensures a_tells { is_some (D.state a.new).content.seen ≡ is_some (D.state a.old).content.seen }
+    ensures b_tells { is_some (D.state b.new).content.seen ≡ is_some (D.state b.old).content.seen }
+    ensures calls { OpensWith (opening_calls (owner_of member.now)) (D.state a.old).content.seen (D.state b.old).content.seen (D.state a.old).told (D.state b.old).told (D.state a.new).told (D.state b.new).told result }
+    ensures counts { BothCount (stop_in result) (D.state a.old) (D.state b.old) (D.state a.new) (D.state b.new) }
 {
     let both = open_both(alloc, a, b)?;
     match choose(both.a, both.b)? {

@@ -1,11 +1,11 @@
-ghost use Rattle.std.specs.Prelude.{◌≡◌, ◌≤◌, ◌<◌, ◌+◌, ◌^◌, ◌||◌, true, false, [], ◌∷◌, ◌++◌, Ok, Err, Some, length, is_some, IfOk, IfErr, IfSome, OnOk};
+ghost use Rattle.std.specs.Prelude.{◌≡◌, ◌≤◌, ◌<◌, ◌+◌, ◌^◌, ◌||◌, true, false, [], ◌∷◌, ◌++◌, Ok, Err, Some, length, IfOk, IfErr, IfSome, OnOk};
 ghost use Rattle.mon_kv.specs.Readers.{size_of};
-ghost use Rattle.mon_disk.specs.Images.{LeavesOnly};
+ghost use Rattle.mon_disk.specs.Calls.{Called};
 ghost use Rattle.mon_journal.specs.Written.{owner_of};
-ghost use Rattle.mon_journal.specs.Steps.{Keeps, create_calls, made_more};
+ghost use Rattle.mon_journal.specs.Steps.{Keeps, Any, WantsFirst, create_calls, made_more};
 ghost use Rattle.mon_store.specs.Checkpoint.{checkpoint_text, most_size, HasCheckpoint};
 ghost use Rattle.mon_store.specs.Sound.{is_first, is_due, other_side, next_journal, Begins, BegunAs};
-ghost use Rattle.mon_store.specs.Calls.{MakesCalls, HasFault};
+ghost use Rattle.mon_store.specs.Calls.{stop_in, unless_early};
 ghost use Rattle.mon_store.specs.Refusals.{IsOutside, Restarts, breaks};
 
 use crate::checkpoint::write_checkpoint;
@@ -72,19 +72,18 @@ pub(crate) fn begin<D: Disk>(
     requires size { size_of kv.now ≤ most_size }
     requires generation { journal.now.generation < 2 ^ 62 }
     ensures journal { IfOk result (λ next. next ≡ next_journal journal.now kv.now) }
-    ensures kept { IfOk result (λ next. Keeps next (checkpoint_text kv.now ∷ []) (D.known disk.new) (D.content disk.new)) }
+    ensures kept { IfOk result (λ next. Keeps next (checkpoint_text kv.now ∷ []) (D.state disk.new).known (D.state disk.new).content) }
     ensures form { OnOk result (HasCheckpoint kv.now) }
-    ensures tells { is_some (D.content disk.new).seen ≡ is_some (D.content disk.old).seen }
     ensures outside { IfErr result IsOutside }
+    ensures no_memory { WantsFirst D.state StoreStop.OutOfMemory result disk.old disk.new }
 
-    // A crash at any moment leaves what it might have left before, a closed file, or the new journal.
-    ensures any_moment { LeavesOnly (D.content disk.old) (D.content disk.new) (Begins (D.content disk.old) (next_journal journal.now kv.now) kv.now) }
+    // Its writes and syncs are made. A crash at any moment leaves what it might have left before, a closed file, or the new
+    // journal.
+    ensures call { let old = D.state disk.old in Called (create_calls (owner_of journal.now.member) (journal.now.generation + 1) (Some (checkpoint_text kv.now)))
+        (Begins old.content (next_journal journal.now kv.now) kv.now) (stop_in result) old (D.state disk.new) }
 
     // The disk settles to the new one where its gate is open then and more than four of the calls were made.
-    ensures settles { IfSome (D.told disk.old) (λ s. IfSome (D.told disk.new) (λ t. BegunAs (D.content disk.old) (next_journal journal.now kv.now) kv.now (made_more 4 s t) (t.settles t.made))) }
-
-    ensures calls { MakesCalls (create_calls (owner_of journal.now.member) (journal.now.generation + 1) (Some (checkpoint_text kv.now))) (D.told disk.old) (D.told disk.new) result }
-    ensures cause { HasFault (D.faults disk.old) (D.faults disk.new) result }
+    ensures settles { IfSome (D.state disk.old).told (λ s. IfSome (D.state disk.new).told (λ t. BegunAs (D.state disk.old).content (next_journal journal.now kv.now) kv.now (made_more 4 s t) (t.settles t.made))) }
 {
     let text = checkpoint(alloc, kv)?;
     let member = journal.member;
@@ -102,30 +101,30 @@ impl<D: Disk> Store<D> {
     /// longer than 1,048,576 bytes and than four times the map's size, up to and with its first closed gate. Broken is
     /// answered where an earlier call broke the store. DiskFault and OutOfMemory break it.
     pub fn restart_if_due(&mut self) -> Result<bool, StoreStop>
-        requires { IsSound D.known D.content self.old }
-        ensures sound { IsSound D.known D.content self.new }
+        requires { IsSound D.state self.old }
+        ensures sound { IsSound D.state self.new }
         ensures answer { Restarts self.old.broken (is_due self.old.journal self.old.kv) result }
         ensures broken { self.new.broken ≡ (self.old.broken || breaks result) }
         ensures map { self.new.kv ≡ self.old.kv }
         ensures refused { result ≡ Err StoreStop.Broken → self.new ≡ self.old }
 
         // A crash at any moment leaves the store as it stood, or on the other disk with the next journal.
-        ensures any_moment { self.old.broken ≡ false → Meanwhile (D.content (disk_a self.old)) (D.content (disk_b self.old)) (D.content (disk_a self.new)) (D.content (disk_b self.new)) (ThisOrNext self.old.side self.old.journal self.old.kv) }
+        ensures any_moment { self.old.broken ≡ false → Meanwhile (D.state (disk_a self.old)).content (D.state (disk_b self.old)).content (D.state (disk_a self.new)).content (D.state (disk_b self.new)).content (ThisOrNext self.old.side self.old.journal self.old.kv) }
 
         // The disks settle to the next one where its gate is open then and more than four of the calls were made.
-        ensures settles { self.old.broken ≡ false → IfSome (D.told (disk_of self.old.side self.new)) (λ l. IfSome (D.told self.old.other) (λ s. IfSome (D.told (disk_of (other_side self.old.side) self.new)) (λ t. Restarted self.old.side self.old.journal self.old.kv (D.content self.old.other) (made_more 4 s t) (of_a self.old.side (l.settles l.made) (t.settles t.made)) (of_b self.old.side (l.settles l.made) (t.settles t.made))))) }
+        ensures settles { self.old.broken ≡ false → IfSome (D.state (disk_of self.old.side self.new)).told (λ l. IfSome (D.state self.old.other).told (λ s. IfSome (D.state (disk_of (other_side self.old.side) self.new)).told (λ t. Restarted self.old.side self.old.journal self.old.kv (D.state self.old.other).content (made_more 4 s t) (of_a self.old.side (l.settles l.made) (t.settles t.made)) (of_b self.old.side (l.settles l.made) (t.settles t.made))))) }
 
-        ensures safe { OnOk result (EachPair (D.content (disk_a self.new)) (D.content (disk_b self.new)) (StandsOn self.new.side self.new.journal self.new.kv)) }
+        ensures safe { OnOk result (EachPair (D.state (disk_a self.new)).content (D.state (disk_b self.new)).content (StandsOn self.new.side self.new.journal self.new.kv)) }
 
         // Where one was due the other disk is live.
         ensures live { result ≡ Ok true → self.new.side ≡ other_side self.old.side }
         ensures journal { result ≡ Ok true → self.new.journal ≡ next_journal self.old.journal self.old.kv }
         ensures same { result ≡ Ok false → self.new ≡ self.old }
 
-        // Which writes and syncs were made on the other disk, and when its fault is told. The live one stays as it is.
-        ensures calls { MakesCalls (restart_calls self.old.journal self.old.kv) (D.told self.old.other) (D.told (disk_of (other_side self.old.side) self.new)) result }
-        ensures cause { HasFault (D.faults self.old.other) (D.faults (disk_of (other_side self.old.side) self.new)) result }
-        ensures tells { is_some (D.content (disk_of (other_side self.old.side) self.new)).seen ≡ is_some (D.content self.old.other).seen }
+        // Which writes and syncs were made on the other disk, and what it counted. Want of memory that it didn't count came before
+        // the first of them. The live one stays as it is.
+        ensures call { Called (unless_early result (restart_calls self.old.journal self.old.kv)) Any (stop_in result) (D.state self.old.other) (D.state (disk_of (other_side self.old.side) self.new)) }
+        ensures no_memory { WantsFirst D.state StoreStop.OutOfMemory result self.old.other (disk_of (other_side self.old.side) self.new) }
         ensures untouched { disk_of self.old.side self.new ≡ self.old.live }
     {
         if self.broken {

@@ -68,7 +68,7 @@ fn put(alloc: Global, key: &[u8], value: &[u8]) -> Result<Transaction, Fail> {
 
 /// The store of rank 0 of 1 on two disks.
 fn opened<D: Disk + Drop>(alloc: Global, a: D, b: D) -> Result<Store<D>, Fail>
-    ensures sound { IfOk result (IsSound D.known D.content) }
+    ensures sound { IfOk result (IsSound D.state) }
     ensures broken { IfOk result (λ store. store.broken ≡ false) }
 {
     match Store::open(alloc, NodeDisks { a, b }, member(0, 1)?) {
@@ -149,7 +149,7 @@ fn a_record_is_kept_where_its_gate_is_open(rt: HostRuntime) -> Result<(), Fail> 
 
 /// A store whose file is longer than 1,048,576 bytes, with `kv/a` = `x` at its end.
 fn long_store<D: Disk + Drop>(alloc: Global, a: D, b: D) -> Result<Store<D>, Fail>
-    ensures { IfOk result (IsSound D.known D.content) }
+    ensures { IfOk result (IsSound D.state) }
 {
     let mut store = opened(alloc, a, b)?;
     let zeros = vec![in alloc; 0u8; 4096]?;

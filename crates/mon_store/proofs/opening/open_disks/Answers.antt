@@ -1,67 +1,68 @@
-use Rattle.std.proofs.Common.{◌≡◌, ℕ, false, List, Ok, Err, sym, ap, ◌∙◌, ◌≤◌, arith}
+use Rattle.std.proofs.Common.{◌≡◌, ℕ, false, List, None, Ok, Err, sym, ap, ◌∙◌, ◌≤◌, arith}
 use Rattle.std.specs.Prelude.{IfSome}
-use Rattle.mon_journal.specs.declared.opening.Opened.{Opened}
-use Rattle.mon_journal.specs.Steps.{made_more}
+use Rattle.mon_journal.specs.Steps.{made_more, create_calls}
 use Rattle.std.proofs.lemmas.Result.{err_from_is_err_and}
 use Rattle.mon_journal.specs.Content.{held_by}
 use Rattle.mon_journal.specs.Written.{owner_of}
 use Rattle.mon_store.specs.declared.opening.Both.{Both}
 use Rattle.mon_store.specs.declared.opening.Standing.{Standing}
 use Rattle.mon_store.specs.Pair.{Live, chosen}
-use Rattle.mon_store.specs.Opening.{held_in, len_of, found_of, AlikePair, Alike}
+use Rattle.mon_store.specs.Opening.{held_in, len_of, found_of, AlikePair, Alike, stop_in}
 use Rattle.mon_store.proofs.Moments.{weaker, ends, now}
 use Rattle.mon_store.proofs.Alike.{is_alike, both_settle, when_some, one_call}
 use Rattle.mon_store.proofs.Answering.{refused, not_chosen, answers_err, answers_new, answers_live}
 use Rattle.mon_store.proofs.Chosen.{chosen_new}
 use Rattle.mon_store.proofs.Creating.{closed_of, opened_c, settled_c, sound_new}
-use Rattle.mon_store.proofs.OpenCalls.{calls_refused, calls_none, calls_live, calls_new}
+use Rattle.mon_store.proofs.Called.{on_a}
+use Rattle.mon_store.proofs.OpenCalls.{calls_refused, refusal_no_fault, calls_none, calls_live, calls_new}
+use Rattle.mon_store.proofs.Counting.{of_calls, then_a, whatever, same_refusal}
 use Rattle.mon_store.proofs.opening.open_disks.Goals as goal
 
 pub returns-in_err-both-clause-answer : goal.returns-in_err-both-clause-answer
 returns-in_err-both-clause-answer g c =
     let p = err_from_is_err_and c.from_residual.result c.from_residual.ensures.1 in
     let e = c.in_err-both.field-0.0 in
-    let s = (g.D.Disk.content c.args.a.now).seen in
-    let t = (g.D.Disk.content c.args.b.now).seen in
+    let s = (g.D.Disk.state c.args.a.now).content.seen in
+    let t = (g.D.Disk.state c.args.b.now).content.seen in
     answers_err c.args.member.now e s t c.from_residual.result (p.1 ∙ ap (λ x. Err x) p.2) (refused (owner_of c.args.member.now) e s t c.in_err-both.ensures.refused)
 
 pub returns-in_err-both-clause-calls : goal.returns-in_err-both-clause-calls
 returns-in_err-both-clause-calls g c =
     let p = err_from_is_err_and c.from_residual.result c.from_residual.ensures.1 in
-    let s = (g.D.Disk.content c.args.a.now).seen in
-    let t = (g.D.Disk.content c.args.b.now).seen in
+    let s = (g.D.Disk.state c.args.a.now).content.seen in
+    let t = (g.D.Disk.state c.args.b.now).content.seen in
     rw (p.1, p.2)
-    (calls_refused s t (g.D.Disk.told c.args.a.now) (g.D.Disk.told c.args.b.now) Both Standing (owner_of c.args.member.now) c.in_err-both.field-0.0 (g.D.Disk.told c.open_both.new.a) (g.D.Disk.told c.open_both.new.b)
+    (calls_refused s t (g.D.Disk.state c.args.a.now).told (g.D.Disk.state c.args.b.now).told Both Standing (owner_of c.args.member.now) c.in_err-both.field-0.0 (g.D.Disk.state c.open_both.new.a).told (g.D.Disk.state c.open_both.new.b).told
     c.in_err-both.ensures.refused c.in_err-both.ensures.calls)
 
 pub returns-in_err-both-clause-any_moment : goal.returns-in_err-both-clause-any_moment
 returns-in_err-both-clause-any_moment g c = λ told_a told_b.
-    let content = g.D.Disk.content in
-    let a = content c.args.a.now in
-    let b = content c.args.b.now in
+    let state = g.D.Disk.state in
+    let a = (state c.args.a.now).content in
+    let b = (state c.args.b.now).content in
     let member = c.args.member.now in
-    let x = content c.open_both.new.a in
-    let y = content c.open_both.new.b in
+    let x = (state c.open_both.new.a).content in
+    let y = (state c.open_both.new.b).content in
     ends a b x y (Alike member a b) (weaker a b x y (AlikePair member a b false) (Alike member a b) (c.open_both.ensures.any_moment member) (is_alike member a b))
 
 pub returns-in_err-choose-clause-any_moment : goal.returns-in_err-choose-clause-any_moment
 returns-in_err-choose-clause-any_moment g c = λ told_a told_b.
-    let content = g.D.Disk.content in
-    let a = content c.args.a.now in
-    let b = content c.args.b.now in
+    let state = g.D.Disk.state in
+    let a = (state c.args.a.now).content in
+    let b = (state c.args.b.now).content in
     let member = c.args.member.now in
-    let x = content c.open_both.new.a in
-    let y = content c.open_both.new.b in
+    let x = (state c.open_both.new.a).content in
+    let y = (state c.open_both.new.b).content in
     ends a b x y (Alike member a b) (weaker a b x y (AlikePair member a b false) (Alike member a b) (c.open_both.ensures.any_moment member) (is_alike member a b))
 
 pub returns-in-Live-clause-any_moment : goal.returns-in-Live-clause-any_moment
 returns-in-Live-clause-any_moment g c = λ told_a told_b.
-    let content = g.D.Disk.content in
-    let a = content c.args.a.now in
-    let b = content c.args.b.now in
+    let state = g.D.Disk.state in
+    let a = (state c.args.a.now).content in
+    let b = (state c.args.b.now).content in
     let member = c.args.member.now in
-    let x = content c.open_both.new.a in
-    let y = content c.open_both.new.b in
+    let x = (state c.open_both.new.a).content in
+    let y = (state c.open_both.new.b).content in
     ends a b x y (Alike member a b) (weaker a b x y (AlikePair member a b false) (Alike member a b) (c.open_both.ensures.any_moment member) (is_alike member a b))
 
 pub returns-in_err-choose-clause-answer : goal.returns-in_err-choose-clause-answer
@@ -70,137 +71,155 @@ returns-in_err-choose-clause-answer g c =
     let e = c.in_err-choose.field-0.0 in
     let a = c.open_both.new.a in
     let b = c.open_both.new.b in
-    let s = (g.D.Disk.content c.args.a.now).seen in
-    let t = (g.D.Disk.content c.args.b.now).seen in
+    let s = (g.D.Disk.state c.args.a.now).content.seen in
+    let t = (g.D.Disk.state c.args.b.now).content.seen in
     answers_err c.args.member.now e s t c.from_residual-in_err-choose.result (p.1 ∙ ap (λ x. Err x) p.2)
-    (not_chosen c.in_ok-both.both.a c.in_ok-both.both.b s t (g.D.Disk.known a) (g.D.Disk.known b) (g.D.Disk.content a) (g.D.Disk.content b) c.in_ok-both.ensures.a c.in_ok-both.ensures.b c.args.member.now e c.in_err-choose.ensures.found)
+    (not_chosen c.in_ok-both.both.a c.in_ok-both.both.b s t (g.D.Disk.state a).known (g.D.Disk.state b).known (g.D.Disk.state a).content (g.D.Disk.state b).content c.in_ok-both.ensures.a c.in_ok-both.ensures.b c.args.member.now e c.in_err-choose.ensures.found)
 
 pub returns-in_err-choose-clause-calls : goal.returns-in_err-choose-clause-calls
 returns-in_err-choose-clause-calls g c =
     let p = err_from_is_err_and c.from_residual-in_err-choose.result c.from_residual-in_err-choose.ensures.1 in
     let a = c.open_both.new.a in
     let b = c.open_both.new.b in
-    let s = (g.D.Disk.content c.args.a.now).seen in
-    let t = (g.D.Disk.content c.args.b.now).seen in
+    let s = (g.D.Disk.state c.args.a.now).content.seen in
+    let t = (g.D.Disk.state c.args.b.now).content.seen in
     rw (p.1, p.2)
-    (calls_none c.in_ok-both.both.a c.in_ok-both.both.b s t (g.D.Disk.known a) (g.D.Disk.known b) (g.D.Disk.content a) (g.D.Disk.content b) c.in_ok-both.ensures.a c.in_ok-both.ensures.b (owner_of c.args.member.now)
-    (g.D.Disk.told c.args.a.now) (g.D.Disk.told c.args.b.now) (g.D.Disk.told a) (g.D.Disk.told b) Both Standing c.in_ok-both.both c.in_ok-both.ensures.calls c.in_err-choose.field-0.0 c.in_err-choose.ensures.refused c.in_err-choose.ensures.found)
+    (calls_none c.in_ok-both.both.a c.in_ok-both.both.b s t (g.D.Disk.state a).known (g.D.Disk.state b).known (g.D.Disk.state a).content (g.D.Disk.state b).content c.in_ok-both.ensures.a c.in_ok-both.ensures.b (owner_of c.args.member.now)
+    (g.D.Disk.state c.args.a.now).told (g.D.Disk.state c.args.b.now).told (g.D.Disk.state a).told (g.D.Disk.state b).told Both Standing c.in_ok-both.both c.in_ok-both.ensures.calls c.in_err-choose.field-0.0 c.in_err-choose.ensures.refused c.in_err-choose.ensures.found)
 
 pub returns-in-New-clause-sound : goal.returns-in-New-clause-sound
 returns-in-New-clause-sound g c =
-    let content = g.D.Disk.content in
-    let known = g.D.Disk.known in
+    let state = g.D.Disk.state in
     let a = c.open_both.new.a in
     let b = c.open_both.new.b in
     let n = chosen_new c.in_ok-both.both.a c.in_ok-both.both.b (c.in_ok-choose.ensures.found ∙ ap (λ x. Ok (found_of x)) c.in-New.is) in
     let nothing : len_of c.in_ok-both.both.b ≤ 0 = omega (arith, n.nothing) in
-    sound_new content known c.args.member.now (content c.args.a.now) (content c.args.b.now) c.create_on.new.a a b c.in_ok-both.ensures.a_moment c.in_ok-both.ensures.b_moment
-    (closed_of c.in_ok-both.both.a (content c.args.a.now) (content a) (known a) 26 n.none_a n.short c.in_ok-both.ensures.a) (closed_of c.in_ok-both.both.b (content c.args.b.now) (content b) (known b) 0 n.none_b nothing c.in_ok-both.ensures.b)
+    sound_new state c.args.member.now (state c.args.a.now).content (state c.args.b.now).content c.create_on.new.a a b c.in_ok-both.ensures.a_moment c.in_ok-both.ensures.b_moment
+    (closed_of c.in_ok-both.both.a (state c.args.a.now).content (state a).content (state a).known 26 n.none_a n.short c.in_ok-both.ensures.a) (closed_of c.in_ok-both.both.b (state c.args.b.now).content (state b).content (state b).known 0 n.none_b nothing c.in_ok-both.ensures.b)
     c.create_on.result c.create_on.ensures.side c.create_on.ensures.journal c.create_on.ensures.map c.create_on.ensures.kept
 
 pub returns-in-New-clause-answer : goal.returns-in-New-clause-answer
 returns-in-New-clause-answer g c =
     let a = c.open_both.new.a in
     let b = c.open_both.new.b in
-    let s = (g.D.Disk.content c.args.a.now).seen in
-    let t = (g.D.Disk.content c.args.b.now).seen in
-    answers_new c.in_ok-both.both.a c.in_ok-both.both.b s t (g.D.Disk.known a) (g.D.Disk.known b) (g.D.Disk.content a) (g.D.Disk.content b) c.in_ok-both.ensures.a c.in_ok-both.ensures.b c.args.member.now
+    let s = (g.D.Disk.state c.args.a.now).content.seen in
+    let t = (g.D.Disk.state c.args.b.now).content.seen in
+    answers_new c.in_ok-both.both.a c.in_ok-both.both.b s t (g.D.Disk.state a).known (g.D.Disk.state b).known (g.D.Disk.state a).content (g.D.Disk.state b).content c.in_ok-both.ensures.a c.in_ok-both.ensures.b c.args.member.now
     c.create_on.result (c.in_ok-choose.ensures.found ∙ ap (λ x. Ok (found_of x)) c.in-New.is) c.create_on.ensures.side c.create_on.ensures.journal c.create_on.ensures.map c.create_on.ensures.outside
 
 pub returns-in-New-clause-any_moment : goal.returns-in-New-clause-any_moment
 returns-in-New-clause-any_moment g c = λ told_a told_b.
-    let content = g.D.Disk.content in
-    let known = g.D.Disk.known in
+    let state = g.D.Disk.state in
     let a = c.open_both.new.a in
     let b = c.open_both.new.b in
     let n = chosen_new c.in_ok-both.both.a c.in_ok-both.both.b (c.in_ok-choose.ensures.found ∙ ap (λ x. Ok (found_of x)) c.in-New.is) in
     let nothing : len_of c.in_ok-both.both.b ≤ 0 = omega (arith, n.nothing) in
-    opened_c c.args.member.now (content c.args.a.now) (content a) (content c.create_on.new.a) (content c.args.b.now) (content b) c.in_ok-both.ensures.a_moment c.in_ok-both.ensures.b_moment
-    (closed_of c.in_ok-both.both.a (content c.args.a.now) (content a) (known a) 26 n.none_a n.short c.in_ok-both.ensures.a) (closed_of c.in_ok-both.both.b (content c.args.b.now) (content b) (known b) 0 n.none_b nothing c.in_ok-both.ensures.b)
-    c.create_on.ensures.any_moment told_a (g.met.D.Disk.as_read a)
+    opened_c c.args.member.now (state c.args.a.now).content (state a).content (state c.create_on.new.a).content (state c.args.b.now).content (state b).content c.in_ok-both.ensures.a_moment c.in_ok-both.ensures.b_moment
+    (closed_of c.in_ok-both.both.a (state c.args.a.now).content (state a).content (state a).known 26 n.none_a n.short c.in_ok-both.ensures.a) (closed_of c.in_ok-both.both.b (state c.args.b.now).content (state b).content (state b).known 0 n.none_b nothing c.in_ok-both.ensures.b)
+    c.create_on.ensures.call.any_moment told_a (g.met.D.Disk.as_read a)
 
 pub returns-in-New-clause-calls : goal.returns-in-New-clause-calls
 returns-in-New-clause-calls g c =
     let a = c.open_both.new.a in
     let b = c.open_both.new.b in
-    let s = (g.D.Disk.content c.args.a.now).seen in
-    let t = (g.D.Disk.content c.args.b.now).seen in
-    calls_new c.in_ok-both.both.a c.in_ok-both.both.b s t (g.D.Disk.known a) (g.D.Disk.known b) (g.D.Disk.content a) (g.D.Disk.content b) c.in_ok-both.ensures.a c.in_ok-both.ensures.b (owner_of c.args.member.now)
-    (g.D.Disk.told c.args.a.now) (g.D.Disk.told c.args.b.now) (g.D.Disk.told a) (g.D.Disk.told b) Both Standing c.in_ok-both.both c.in_ok-both.ensures.calls
-    c.create_on.result (g.D.Disk.told c.create_on.new.a) (c.in_ok-choose.ensures.found ∙ ap (λ x. Ok (found_of x)) c.in-New.is) (c.create_on.ensures.calls (g.D.Disk.told b))
+    let s = (g.D.Disk.state c.args.a.now).content.seen in
+    let t = (g.D.Disk.state c.args.b.now).content.seen in
+    calls_new c.in_ok-both.both.a c.in_ok-both.both.b s t (g.D.Disk.state a).known (g.D.Disk.state b).known (g.D.Disk.state a).content (g.D.Disk.state b).content c.in_ok-both.ensures.a c.in_ok-both.ensures.b (owner_of c.args.member.now)
+    (g.D.Disk.state c.args.a.now).told (g.D.Disk.state c.args.b.now).told (g.D.Disk.state a).told (g.D.Disk.state b).told Both Standing c.in_ok-both.both c.in_ok-both.ensures.calls
+    c.create_on.result (g.D.Disk.state c.create_on.new.a).told (c.in_ok-choose.ensures.found ∙ ap (λ x. Ok (found_of x)) c.in-New.is) (λ some. on_a Standing c.create_on.result (create_calls (owner_of c.args.member.now) 1 None) (g.D.Disk.state a).told (g.D.Disk.state c.create_on.new.a).told (g.D.Disk.state b).told some c.create_on.ensures.call.made)
 
 pub returns-in-Live-clause-answer : goal.returns-in-Live-clause-answer
 returns-in-Live-clause-answer g c =
     let a = c.open_both.new.a in
     let b = c.open_both.new.b in
-    let s = (g.D.Disk.content c.args.a.now).seen in
-    let t = (g.D.Disk.content c.args.b.now).seen in
+    let s = (g.D.Disk.state c.args.a.now).content.seen in
+    let t = (g.D.Disk.state c.args.b.now).content.seen in
     let side = c.in-Live.side in
     let j = c.in-Live.journal in
     let payloads = c.as_slice.result.now in
     let is : chosen (held_in c.in_ok-both.both.a) (held_in c.in_ok-both.both.b) (len_of c.in_ok-both.both.a) (len_of c.in_ok-both.both.b) ≡ Ok (Live side (held_by j payloads)) =
     c.in_ok-choose.ensures.found ∙ ap (λ x. Ok (found_of x)) c.in-Live.is ∙ ap (λ (ps : List (List ℕ)). Ok (Live side (held_by j ps))) (sym c.as_slice.ensures.value) in
-    answers_live c.in_ok-both.both.a c.in_ok-both.both.b s t (g.D.Disk.known a) (g.D.Disk.known b) (g.D.Disk.content a) (g.D.Disk.content b) c.in_ok-both.ensures.a c.in_ok-both.ensures.b c.args.member.now
+    answers_live c.in_ok-both.both.a c.in_ok-both.both.b s t (g.D.Disk.state a).known (g.D.Disk.state b).known (g.D.Disk.state a).content (g.D.Disk.state b).content c.in_ok-both.ensures.a c.in_ok-both.ensures.b c.args.member.now
     c.restore.result side j payloads is c.restore.ensures.answer c.restore.ensures.side c.restore.ensures.journal c.restore.ensures.owner
 
 pub returns-in-Live-clause-calls : goal.returns-in-Live-clause-calls
 returns-in-Live-clause-calls g c =
     let a = c.open_both.new.a in
     let b = c.open_both.new.b in
-    let s = (g.D.Disk.content c.args.a.now).seen in
-    let t = (g.D.Disk.content c.args.b.now).seen in
-    calls_live c.in_ok-both.both.a c.in_ok-both.both.b s t (g.D.Disk.known a) (g.D.Disk.known b) (g.D.Disk.content a) (g.D.Disk.content b) c.in_ok-both.ensures.a c.in_ok-both.ensures.b (owner_of c.args.member.now)
-    (g.D.Disk.told c.args.a.now) (g.D.Disk.told c.args.b.now) (g.D.Disk.told a) (g.D.Disk.told b) Both Standing c.in_ok-both.both c.in_ok-both.ensures.calls
+    let s = (g.D.Disk.state c.args.a.now).content.seen in
+    let t = (g.D.Disk.state c.args.b.now).content.seen in
+    calls_live c.in_ok-both.both.a c.in_ok-both.both.b s t (g.D.Disk.state a).known (g.D.Disk.state b).known (g.D.Disk.state a).content (g.D.Disk.state b).content c.in_ok-both.ensures.a c.in_ok-both.ensures.b (owner_of c.args.member.now)
+    (g.D.Disk.state c.args.a.now).told (g.D.Disk.state c.args.b.now).told (g.D.Disk.state a).told (g.D.Disk.state b).told Both Standing c.in_ok-both.both c.in_ok-both.ensures.calls
     c.in-Live.side (held_by c.in-Live.journal c.in-Live.payloads.items) c.restore.result (c.in_ok-choose.ensures.found ∙ ap (λ x. Ok (found_of x)) c.in-Live.is) c.restore.ensures.no_fault
 
 pub returns-in_err-both-clause-settles : goal.returns-in_err-both-clause-settles
 returns-in_err-both-clause-settles g c = λ told_a told_b.
-    let content = g.D.Disk.content in
-    let told = g.D.Disk.told in
-    let a = content c.args.a.now in
-    let b = content c.args.b.now in
+    let state = g.D.Disk.state in
+    let a = (state c.args.a.now).content in
+    let b = (state c.args.b.now).content in
     let member = c.args.member.now in
     let both = c.open_both.new in
-    both_settle member a b (content both.a) (content both.b) (told c.args.a.now) (told both.a) (told both.b) (now a b (content both.a) (content both.b) (AlikePair member a b false) (c.open_both.ensures.any_moment member))
-    (when_some a.seen (IfSome (told c.args.a.now) (λ s. IfSome (told both.a) (λ t. made_more 5 s t ≡ false))) told_a c.open_both.ensures.few) (g.met.D.Disk.settled both.a) (g.met.D.Disk.settled both.b)
+    both_settle member a b (state both.a).content (state both.b).content (state c.args.a.now).told (state both.a).told (state both.b).told (now a b (state both.a).content (state both.b).content (AlikePair member a b false) (c.open_both.ensures.any_moment member))
+    (when_some a.seen (IfSome (state c.args.a.now).told (λ s. IfSome (state both.a).told (λ t. made_more 5 s t ≡ false))) told_a c.open_both.ensures.few) (g.met.D.Disk.settled both.a) (g.met.D.Disk.settled both.b)
 
 pub returns-in_err-choose-clause-settles : goal.returns-in_err-choose-clause-settles
 returns-in_err-choose-clause-settles g c = λ told_a told_b.
-    let content = g.D.Disk.content in
-    let told = g.D.Disk.told in
-    let a = content c.args.a.now in
-    let b = content c.args.b.now in
+    let state = g.D.Disk.state in
+    let a = (state c.args.a.now).content in
+    let b = (state c.args.b.now).content in
     let member = c.args.member.now in
     let both = c.open_both.new in
-    both_settle member a b (content both.a) (content both.b) (told c.args.a.now) (told both.a) (told both.b) (now a b (content both.a) (content both.b) (AlikePair member a b false) (c.open_both.ensures.any_moment member))
-    (when_some a.seen (IfSome (told c.args.a.now) (λ s. IfSome (told both.a) (λ t. made_more 5 s t ≡ false))) told_a c.open_both.ensures.few) (g.met.D.Disk.settled both.a) (g.met.D.Disk.settled both.b)
+    both_settle member a b (state both.a).content (state both.b).content (state c.args.a.now).told (state both.a).told (state both.b).told (now a b (state both.a).content (state both.b).content (AlikePair member a b false) (c.open_both.ensures.any_moment member))
+    (when_some a.seen (IfSome (state c.args.a.now).told (λ s. IfSome (state both.a).told (λ t. made_more 5 s t ≡ false))) told_a c.open_both.ensures.few) (g.met.D.Disk.settled both.a) (g.met.D.Disk.settled both.b)
 
 pub returns-in-Live-clause-settles : goal.returns-in-Live-clause-settles
 returns-in-Live-clause-settles g c = λ told_a told_b.
-    let content = g.D.Disk.content in
-    let told = g.D.Disk.told in
-    let a = content c.args.a.now in
-    let b = content c.args.b.now in
+    let state = g.D.Disk.state in
+    let a = (state c.args.a.now).content in
+    let b = (state c.args.b.now).content in
     let member = c.args.member.now in
     let both = c.open_both.new in
-    both_settle member a b (content both.a) (content both.b) (told c.args.a.now) (told both.a) (told both.b) (now a b (content both.a) (content both.b) (AlikePair member a b false) (c.open_both.ensures.any_moment member))
-    (when_some a.seen (IfSome (told c.args.a.now) (λ s. IfSome (told both.a) (λ t. made_more 5 s t ≡ false))) told_a c.open_both.ensures.few) (g.met.D.Disk.settled both.a) (g.met.D.Disk.settled both.b)
+    both_settle member a b (state both.a).content (state both.b).content (state c.args.a.now).told (state both.a).told (state both.b).told (now a b (state both.a).content (state both.b).content (AlikePair member a b false) (c.open_both.ensures.any_moment member))
+    (when_some a.seen (IfSome (state c.args.a.now).told (λ s. IfSome (state both.a).told (λ t. made_more 5 s t ≡ false))) told_a c.open_both.ensures.few) (g.met.D.Disk.settled both.a) (g.met.D.Disk.settled both.b)
 
 pub returns-in-New-clause-settles : goal.returns-in-New-clause-settles
 returns-in-New-clause-settles g c = λ told_a told_b.
-    let content = g.D.Disk.content in
-    let known = g.D.Disk.known in
-    let told = g.D.Disk.told in
+    let state = g.D.Disk.state in
     let a = c.open_both.new.a in
     let b = c.open_both.new.b in
-    let x = content c.args.a.now in
-    let y = content c.args.b.now in
+    let x = (state c.args.a.now).content in
+    let y = (state c.args.b.now).content in
     let on_a = c.in_ok-both.both.a in
     let on_b = c.in_ok-both.both.b in
     let n = chosen_new on_a on_b (c.in_ok-choose.ensures.found ∙ ap (λ x. Ok (found_of x)) c.in-New.is) in
     let nothing : len_of on_b ≤ 0 = omega (arith, n.nothing) in
-    let closed_a = closed_of on_a x (content a) (known a) 26 n.none_a n.short c.in_ok-both.ensures.a in
-    settled_c c.args.member.now x (content a) (content c.create_on.new.a) y (content b) c.in_ok-both.ensures.a_moment c.in_ok-both.ensures.b_moment
-    closed_a (closed_of on_b y (content b) (known b) 0 n.none_b nothing c.in_ok-both.ensures.b)
-    (told c.args.a.now) (told a) (told c.create_on.new.a) (told b) told_a (g.met.D.Disk.as_read a)
-    (one_call Opened 26 x.seen (told c.args.a.now) (told a) on_a told_a closed_a.none c.in_ok-both.ensures.made) c.create_on.ensures.settles (g.met.D.Disk.settled b)
+    let closed_a = closed_of on_a x (state a).content (state a).known 26 n.none_a n.short c.in_ok-both.ensures.a in
+    settled_c c.args.member.now x (state a).content (state c.create_on.new.a).content y (state b).content c.in_ok-both.ensures.a_moment c.in_ok-both.ensures.b_moment
+    closed_a (closed_of on_b y (state b).content (state b).known 0 n.none_b nothing c.in_ok-both.ensures.b)
+    (state c.args.a.now).told (state a).told (state c.create_on.new.a).told (state b).told told_a (g.met.D.Disk.as_read a)
+    (one_call 26 x.seen (state c.args.a.now).told (state a).told told_a closed_a.none c.in_ok-both.ensures.made) c.create_on.ensures.settles (g.met.D.Disk.settled b)
+
+pub returns-in_err-both-clause-counts : goal.returns-in_err-both-clause-counts
+returns-in_err-both-clause-counts g c =
+    let p = err_from_is_err_and c.from_residual.result c.from_residual.ensures.1 in
+    rw (p.1, p.2, same_refusal Standing Both c.in_err-both.field-0.0) c.in_err-both.ensures.counts
+
+pub returns-in_err-choose-clause-counts : goal.returns-in_err-choose-clause-counts
+returns-in_err-choose-clause-counts g c =
+    let p = err_from_is_err_and c.from_residual-in_err-choose.result c.from_residual-in_err-choose.ensures.1 in
+    let e = c.in_err-choose.field-0.0 in
+    let state = g.D.Disk.state in
+    rw (p.1, p.2) (whatever Standing (Err e) (state c.args.a.now) (state c.args.b.now) (state c.open_both.new.a) (state c.open_both.new.b) (refusal_no_fault e c.in_err-choose.ensures.refused) c.in_ok-both.ensures.counts)
+
+pub returns-in-Live-clause-counts : goal.returns-in-Live-clause-counts
+returns-in-Live-clause-counts g c =
+    let state = g.D.Disk.state in
+    whatever Standing c.restore.result (state c.args.a.now) (state c.args.b.now) (state c.open_both.new.a) (state c.open_both.new.b) c.restore.ensures.no_fault c.in_ok-both.ensures.counts
+
+pub returns-in-New-clause-counts : goal.returns-in-New-clause-counts
+returns-in-New-clause-counts g c =
+    let state = g.D.Disk.state in
+    then_a (stop_in c.create_on.result) (state c.args.a.now) (state c.args.b.now) (state c.open_both.new.a) (state c.create_on.new.a) (state c.open_both.new.b) c.in_ok-both.ensures.counts (of_calls c.create_on.ensures.call)
+
+pub returns-in-New-clause-a_tells : goal.returns-in-New-clause-a_tells
+returns-in-New-clause-a_tells g c = c.create_on.ensures.call.tells ∙ c.open_both.ensures.a_tells

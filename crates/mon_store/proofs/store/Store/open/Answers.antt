@@ -4,4 +4,4 @@ use Rattle.mon_store.proofs.store.Store.open.Goals as goal
 pub returns-in-Ok-clause-safe : goal.returns-in-Ok-clause-safe
 returns-in-Ok-clause-safe g c =
     let found = c.in-Ok.found in
-    rw (c.on.ensures.a, c.on.ensures.b, c.on.ensures.side, c.on.ensures.journal, c.on.ensures.map) (stands_pair g.D.Disk.content g.D.Disk.known c.open_disks.new.a c.open_disks.new.b found.side found.journal found.kv c.in-Ok.ensures.sound)
+    rw (c.on.ensures.a, c.on.ensures.b, c.on.ensures.side, c.on.ensures.journal, c.on.ensures.map) (stands_pair g.D.Disk.state c.open_disks.new.a c.open_disks.new.b found.side found.journal found.kv c.in-Ok.ensures.sound)
