@@ -1,14 +1,14 @@
 -- What a call on a disk in memory tells, by its answer.
-use Rattle.std.proofs.Common.{◌≡◌, inl, inr, ℕ, ◌≤◌, List, [], ◌∷◌, Option, Some, None, true, false, refl, ap, ◌∙◌, subst, sym, arith}
+use Rattle.std.proofs.Common.{◌≡◌, inl, inr, ℕ, List, [], ◌∷◌, Option, Some, None, refl, ap, ◌∙◌, sym}
 use Rattle.mon_types.specs.declared.names.Stop.{Stop}
 use Rattle.mon_types.specs.declared.names.Stop.TheVariants.{Failed, OutOfMemory}
 use Rattle.mon_disk.specs.declared.disk.DiskCall.TheVariants.{Write, Sync}
-use Rattle.mon_disk.specs.Images.{Content, images, written, TornFrom, Only, LeavesOnly}
+use Rattle.mon_disk.specs.Images.{images, TornFrom, Only}
 use Rattle.mon_disk.specs.Calls.{Called, Unmade}
 use Rattle.mon_disk.specs.Memory.{seen_of}
 use Rattle.mon_disk.specs.MemoryDisk.{MemoryState, and_call, content_of, state_of, after_call, IsFor}
 use Rattle.mon_disk.proofs.Writes.{torn_not}
-use Rattle.mon_disk.proofs.Lives.{seen_written, seen_synced, sync_only}
+use Rattle.mon_disk.proofs.Lives.{seen_synced, sync_only}
 use Rattle.mon_disk.proofs.Contents.{leaves_now, write_goes, sync_goes}
 use Rattle.mon_disk.proofs.Following.{still}
 

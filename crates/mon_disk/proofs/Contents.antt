@@ -1,12 +1,12 @@
 -- What a disk in memory tells of its moments.
-use Rattle.std.proofs.Common.{inl, inr, zero, ◌≡◌, ◌⊎◌, ⊎_elim, ℕ, suc, ◌≤◌, List, [], ◌∷◌, ◌++◌, map, length, get_or, refl, sym, ap, ◌∙◌, subst, arith, append_assoc, Some}
+use Rattle.std.proofs.Common.{inr, zero, ◌≡◌, ◌⊎◌, ⊎_elim, ℕ, suc, ◌≤◌, List, [], ◌∷◌, ◌++◌, map, length, get_or, refl, sym, ap, ◌∙◌, subst, arith, append_assoc, Some}
 use Rattle.std.proofs.lemmas.List.{append-nil, map-append, length-append}
 use Rattle.std.specs.List.{flat_map}
 use Rattle.mon_disk.specs.declared.disk.DiskCall.{DiskCall}
 use Rattle.mon_disk.specs.declared.disk.DiskCall.TheVariants.{Write, Sync}
 use Rattle.mon_disk.specs.Images.{Content, images, TornFrom, Only, LeavesOnly}
-use Rattle.mon_disk.specs.Memory.{Lived, settled}
-use Rattle.mon_disk.specs.MemoryDisk.{begins_with, with_calls, and_call, Leaves, beginnings, before_calls, earlier, content_of}
+use Rattle.mon_disk.specs.Memory.{begins_with, Lived, settled}
+use Rattle.mon_disk.specs.MemoryDisk.{with_calls, and_call, Leaves, beginnings, before_calls, earlier, content_of}
 use Rattle.mon_disk.specs.Laws.{as_now}
 use Rattle.mon_disk.proofs.Writes.{torn_not}
 use Rattle.mon_disk.proofs.Lives.{Cut, as_cut, settled_left, write_left, sync_left}

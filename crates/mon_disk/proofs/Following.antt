@@ -1,11 +1,11 @@
 -- Calls of a disk that follow each other.
-use Rattle.std.proofs.Common.{◌≡◌, ◌⊎◌, ⊎_elim, inl, inr, ℕ, ◌≤◌, List, [], ◌∷◌, ◌++◌, Option, Some, None, refl, ap, ◌∙◌, subst, sym, arith}
-use Rattle.std.specs.Prelude.{IfSome, is_some}
+use Rattle.std.proofs.Common.{◌≡◌, ◌⊎◌, ⊎_elim, inl, inr, ℕ, ◌≤◌, List, [], ◌∷◌, ◌++◌, Option, Some, None, refl, ap, ◌∙◌, subst, arith}
+use Rattle.std.specs.Prelude.{IfSome}
 use Rattle.mon_types.specs.declared.names.Stop.{Stop}
 use Rattle.mon_types.specs.declared.names.Stop.TheVariants.{Failed, OutOfMemory}
 use Rattle.mon_disk.specs.declared.disk.DiskCall.{DiskCall}
 use Rattle.mon_disk.specs.Images.{Content, images, TornFrom, LeavesOnly}
-use Rattle.mon_disk.specs.Calls.{Told, DiskState, and_made, fails_next, faults_after, MayWant, Makes, Called}
+use Rattle.mon_disk.specs.Calls.{Told, DiskState, and_made, faults_after, MayWant, Makes, Called}
 use Rattle.mon_disk.proofs.Writes.{torn_not}
 
 -- ---- what a crash may leave at each moment

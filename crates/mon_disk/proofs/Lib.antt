@@ -1,6 +1,9 @@
 pub mod Answers
+pub mod Below
 pub mod Contents
 pub mod Following
+pub mod Holds
 pub mod Lives
 pub mod Upsets
+pub mod Walks
 pub mod Writes

@@ -1,14 +1,13 @@
 -- One call more in the life of a disk in memory.
-use Rattle.std.proofs.Common.{Bool, true, false, ◌≡◌, ◌⊎◌, ⊎_elim, ℕ, suc, pred, nat_le, ◌-◌, ◌<◌, ◌≤◌, List, [], ◌∷◌, ◌++◌, length, take, drop, reverse, Option, Some, None, refl, sym, ap, ◌∙◌, subst, arith}
+use Rattle.std.proofs.Common.{Bool, true, false, ◌≡◌, ◌⊎◌, ⊎_elim, ℕ, suc, pred, nat_le, ◌<◌, ◌≤◌, List, [], ◌∷◌, ◌++◌, length, take, drop, reverse, Option, Some, None, refl, sym, ap, ◌∙◌, subst, arith}
 use Rattle.std.proofs.lemmas.Bool.Decides.{nat_tests}
 use Rattle.std.proofs.lemmas.List.{take_all, drop_all, take-append-le, drop-append-le, length-append, reverse-append}
 use Rattle.mon_disk.specs.declared.disk.DiskCall.{DiskCall}
 use Rattle.mon_disk.specs.declared.disk.DiskCall.TheVariants.{Write, Sync}
-use Rattle.mon_disk.specs.declared.life.Upset.{Upset}
 use Rattle.mon_disk.specs.Images.{overwritten, Torn}
 use Rattle.mon_disk.specs.Calls.{is_past}
-use Rattle.mon_disk.specs.Memory.{Lived, from_of, done_of, first_write, lost_of, done, begun, seen_after, LeftAfter, part, imaged, seen_of, settled_as, settled}
-use Rattle.mon_disk.specs.MemoryDisk.{with_calls, and_call, fails, Leaves}
+use Rattle.mon_disk.specs.Memory.{Upset, Lived, from_of, done_of, first_write, lost_of, done, begun, seen_after, LeftAfter, part, imaged, seen_of, settled_as, settled}
+use Rattle.mon_disk.specs.MemoryDisk.{and_call, fails, Leaves}
 use Rattle.mon_disk.proofs.Writes.{torn_not, torn_whole, torn_part, length-part, one_byte}
 
 -- what became of the writes that aren't on the disk
@@ -56,7 +55,7 @@ later from n test = grind (arith, nat_tests)
 reached : (from n : ℕ) → nat_le from n ≡ true → from ≤ n
 reached from n test = grind (arith, nat_tests)
 
-length_more : (calls : List DiskCall) (call : DiskCall) → length (calls ++ call ∷ []) ≡ suc (length calls)
+pub length_more : (calls : List DiskCall) (call : DiskCall) → length (calls ++ call ∷ []) ≡ suc (length calls)
 length_more calls call = omega (arith, length-append calls (call ∷ []))
 
 newest : (calls : List DiskCall) (call : DiskCall) → reverse (calls ++ call ∷ []) ≡ call ∷ reverse calls
@@ -104,16 +103,36 @@ done_done life call sound = done_more (from_of life.upset) life.calls call sound
 pub done_failed : (life : Lived) (call : DiskCall) → fails life ≡ true → done (and_call call life) ≡ done life
 done_failed life call fails = ap reverse (done_stays (from_of life.upset) life.calls call fails)
 
-begun_done : (life : Lived) (call : DiskCall) → fails life ≡ false → begun (and_call call life) ≡ call ∷ done life
+pub begun_done : (life : Lived) (call : DiskCall) → fails life ≡ false → begun (and_call call life) ≡ call ∷ done life
 begun_done life call sound =
     let o = from_of life.upset in
     let more : is_past o (length (life.calls ++ call ∷ [])) ≡ false = ap (is_past o) (length_more life.calls call) ∙ sound in
     ap (λ (cs : List DiskCall). cs ++ done (and_call call life)) (none_lost o (life.calls ++ call ∷ []) more) ∙ done_done life call sound
 
-begun_sound : (life : Lived) → fails life ≡ false → begun life ≡ done life
+pub begun_sound : (life : Lived) → fails life ≡ false → begun life ≡ done life
 begun_sound life sound =
     let o = from_of life.upset in
     ap (λ (cs : List DiskCall). cs ++ done life) (none_lost o life.calls (sound_before o (length life.calls) sound))
+
+-- the first write that failed, after one more call
+pub lost_done : (life : Lived) (call : DiskCall) → fails life ≡ false → lost_of (from_of life.upset) life.calls ≡ lost_of (from_of life.upset) (life.calls ++ call ∷ [])
+lost_done life call sound =
+    let o = from_of life.upset in
+    let more : is_past o (length (life.calls ++ call ∷ [])) ≡ false = ap (is_past o) (length_more life.calls call) ∙ sound in
+    none_lost o life.calls (sound_before o (length life.calls) sound) ∙ sym (none_lost o (life.calls ++ call ∷ []) more)
+
+first_twice : (failed more : List DiskCall) → first_write (failed ++ more) ≡ first_write (first_write failed ++ more)
+first_twice [] more = refl
+first_twice (Write at bytes ∷ failed) more = refl
+first_twice (Sync ∷ failed) more = first_twice failed more
+
+lost_write_of : (o : Option ℕ) (calls : List DiskCall) (call : DiskCall) → is_past o (suc (length calls)) ≡ true → lost_of o (calls ++ call ∷ []) ≡ first_write (lost_of o calls ++ call ∷ [])
+lost_write_of None calls call failed = absurd (cc failed)
+lost_write_of (Some from) calls call failed =
+    ap first_write (fails_more from calls call (reached from (suc (length calls)) failed)) ∙ first_twice (drop (pred from) calls) (call ∷ [])
+
+pub lost_write : (life : Lived) (at : ℕ) (bytes : List ℕ) → fails life ≡ true → lost_of (from_of life.upset) (life.calls ++ Write at bytes ∷ []) ≡ first_write (lost_of (from_of life.upset) life.calls ++ Write at bytes ∷ [])
+lost_write life at bytes failed = lost_write_of (from_of life.upset) life.calls (Write at bytes) failed
 
 -- what a read gives after one more call
 pub seen_written : (life : Lived) (at : ℕ) (bytes : List ℕ) → fails life ≡ false → seen_of (and_call (Write at bytes) life) ≡ overwritten at bytes (seen_of life)
@@ -141,6 +160,9 @@ sync_failed_of : (u : Option ℕ) (calls : List DiskCall) → is_past u (suc (le
 sync_failed_of None calls failed = absurd (cc failed)
 sync_failed_of (Some from) calls failed =
     ap first_write (fails_more from calls Sync (reached from (suc (length calls)) failed)) ∙ lost_sync (drop (pred from) calls)
+
+pub lost_still : (life : Lived) → fails life ≡ true → lost_of (from_of life.upset) (life.calls ++ Sync ∷ []) ≡ lost_of (from_of life.upset) life.calls
+lost_still life failed = sync_failed_of (from_of life.upset) life.calls failed
 
 by_test : {P : Type 0} (b : Bool) → (b ≡ true → P) → (b ≡ false → P) → P
 by_test true yes_ no_ = yes_ refl
@@ -172,8 +194,3 @@ as_cut life c left =
     (λ (read : c ≡ seen_of life). subst (Cut life) (sym read) (seen_left life))
     (λ (rest : (c ≡ settled life) ⊎ Cut life c). ⊎_elim (λ (image : c ≡ settled life). subst (Cut life) (sym image) (settled_left life)) (λ (cut : Cut life c). cut) rest)
     left
-
-pub back : (life : Lived) (call : DiskCall) → with_calls life (take (length (life.calls ++ call ∷ []) - 1) (life.calls ++ call ∷ [])) ≡ life
-back life call =
-    let n = length (life.calls ++ call ∷ []) - 1 in
-    ap (with_calls life) (take-append-le n life.calls (call ∷ []) (omega (arith, length_more life.calls call)) ∙ take_all n life.calls (omega (arith, length_more life.calls call)))

@@ -1,11 +1,10 @@
 -- An upset that begins changes nothing of what a disk in memory tells of its moments so far.
-use Rattle.std.proofs.Common.{inl, inr, ◌≡◌, ℕ, zero, suc, pred, ◌+◌, ◌<◌, ◌≤◌, List, [], ◌∷◌, ◌++◌, map, length, get_or, reverse, Option, Some, None, refl, sym, ap, ◌∙◌, subst, arith}
+use Rattle.std.proofs.Common.{inr, ◌≡◌, ℕ, zero, suc, pred, ◌+◌, ◌<◌, ◌≤◌, List, [], ◌∷◌, ◌++◌, map, length, get_or, reverse, Option, Some, None, refl, sym, ap, ◌∙◌, subst, arith}
 use Rattle.std.specs.List.{flat_map}
 use Rattle.std.proofs.lemmas.List.{take_all, drop_all, length-append, length-map}
 use Rattle.mon_disk.specs.declared.disk.DiskCall.{DiskCall}
-use Rattle.mon_disk.specs.declared.life.Upset.{Upset}
 use Rattle.mon_disk.specs.Images.{Content, images, LeavesOnly}
-use Rattle.mon_disk.specs.Memory.{Lived, first_write, done, lost_of, begun, LeftAfter, seen_after, seen_of}
+use Rattle.mon_disk.specs.Memory.{Upset, Lived, first_write, done, lost_of, begun, LeftAfter, seen_after, seen_of}
 use Rattle.mon_disk.specs.MemoryDisk.{upset_life, with_calls, Leaves, beginnings, before_calls, content_of}
 use Rattle.mon_disk.proofs.Lives.{as_cut}
 
@@ -16,10 +15,10 @@ upset_after first u calls = record { first = first; calls = calls; upset = Some 
 abbrev pub sound_life : List ℕ → List DiskCall → Lived
 sound_life first calls = record { first = first; calls = calls; upset = None }
 
-all_done : (first : List ℕ) (u : Upset) (calls : List DiskCall) → length calls < u.from → done (upset_after first u calls) ≡ reverse calls
+pub all_done : (first : List ℕ) (u : Upset) (calls : List DiskCall) → length calls < u.from → done (upset_after first u calls) ≡ reverse calls
 all_done first u calls before = ap reverse (take_all (pred u.from) calls (omega (arith, before)))
 
-all_begun : (first : List ℕ) (u : Upset) (calls : List DiskCall) → length calls < u.from → begun (upset_after first u calls) ≡ reverse calls
+pub all_begun : (first : List ℕ) (u : Upset) (calls : List DiskCall) → length calls < u.from → begun (upset_after first u calls) ≡ reverse calls
 all_begun first u calls before =
     let none : lost_of (Some u.from) calls ≡ [] = ap first_write (drop_all (pred u.from) calls (omega (arith, before))) in
     ap (λ (cs : List DiskCall). cs ++ done (upset_after first u calls)) none ∙ all_done first u calls before

@@ -11,7 +11,7 @@ pub length-overwritten : (at : ℕ) (bytes file : List ℕ) → at ≤ length fi
 length-overwritten at bytes file le =
     omega (arith, length-append (take at file ++ bytes) (drop (at + length bytes) file), length-append (take at file) bytes, length-take at file, length-drop (at + length bytes) file)
 
-take-overwritten : (m at : ℕ) (bytes file : List ℕ) → m ≤ at → at ≤ length file → take m (overwritten at bytes file) ≡ take m file
+pub take-overwritten : (m at : ℕ) (bytes file : List ℕ) → m ≤ at → at ≤ length file → take m (overwritten at bytes file) ≡ take m file
 take-overwritten m at bytes file le within =
     let front : length (take at file) ≡ at = omega (arith, length-take at file) in
     let both = length-append (take at file) bytes in
@@ -19,7 +19,7 @@ take-overwritten m at bytes file le within =
     ∙ take-append-le m (take at file) bytes (omega (arith, front, le))
     ∙ take-take m at file le
 
-drop-overwritten : (n at : ℕ) (bytes file : List ℕ) → at + length bytes ≤ n → at ≤ length file → drop n (overwritten at bytes file) ≡ drop n file
+pub drop-overwritten : (n at : ℕ) (bytes file : List ℕ) → at + length bytes ≤ n → at ≤ length file → drop n (overwritten at bytes file) ≡ drop n file
 drop-overwritten n at bytes file le within =
     let k = n - (at + length bytes) in
     let split : at + length bytes + k ≡ n = omega (arith, le) in

@@ -2,8 +2,12 @@
 use Rattle.std.specs.Prelude.{◌≡◌, ◌==◌, ◌++◌, ◌-◌, ◌/◌, ℕ, pred, List, [], ◌∷◌, length, take, drop, replicate, reverse, Option, Some, None, if◌then◌else◌}
 use Rattle.mon_disk.specs.declared.disk.DiskCall.{DiskCall}
 use Rattle.mon_disk.specs.declared.disk.DiskCall.TheVariants.{Write, Sync}
-use Rattle.mon_disk.specs.declared.life.Upset.{Upset}
 use Rattle.mon_disk.specs.Images.{overwritten, Torn}
+
+-- from which write or sync on a disk fails, by their number from 1, and the image that it then settles to
+pub record Upset : Type 0 where
+  pub from : ℕ
+  pub image : ℕ
 
 -- A disk's life since it was made or last settled: what it held then, the writes and syncs since, failed ones too, and
 -- the upset, if one stands.
@@ -11,6 +15,15 @@ pub record Lived : Type 0 where
   pub first : List ℕ
   pub calls : List DiskCall
   pub upset : Option Upset
+
+-- the lives that ended with a settling, oldest first, and the one that goes on
+pub record Lives : Type 0 where
+  pub past : List Lived
+  pub life : Lived
+
+-- a life that begins with what the disk then holds
+abbrev pub begins_with : List ℕ → Lived
+begins_with file = record { first = file; calls = []; upset = None }
 
 -- the number, from 1, of the first call that fails
 abbrev pub from_of : Option Upset → Option ℕ

@@ -6,9 +6,11 @@ use Rattle.mon_types.specs.declared.names.Stop.{Stop}
 use Rattle.mon_types.specs.declared.names.Stop.TheVariants.{Failed, OutOfMemory}
 use Rattle.mon_disk.specs.declared.disk.DiskCall.{DiskCall}
 use Rattle.mon_disk.specs.declared.disk.DiskCall.TheVariants.{Write, Sync}
+use Rattle.mon_disk.specs.declared.history.Step.{Step}
+use Rattle.mon_disk.specs.declared.history.Step.TheVariants as step
 use Rattle.mon_disk.specs.Images.{Content}
 use Rattle.mon_disk.specs.Calls.{Told, DiskState, is_past}
-use Rattle.mon_disk.specs.Memory.{Lived, LeftAfter, begun, seen_of, settled, from_of}
+use Rattle.mon_disk.specs.Memory.{Lived, Lives, begins_with, LeftAfter, begun, seen_of, settled, from_of}
 
 -- the lives that ended with a settling, oldest first, and the one that goes on; the known length; the faults, and the
 -- wants of memory
@@ -18,10 +20,6 @@ pub record MemoryState : Type 0 where
   pub known : ℕ
   pub faults : ℕ
   pub wants : ℕ
-
--- a life that begins with what the disk then holds
-abbrev pub begins_with : List ℕ → Lived
-begins_with file = record { first = file; calls = []; upset = None }
 
 -- the life with these calls
 abbrev pub with_calls : Lived → List DiskCall → Lived
@@ -98,3 +96,10 @@ upset_by call image d = record { past = d.past; life = upset_life call image d.l
 -- the disk after it settled
 abbrev pub settle_of : MemoryState → MemoryState
 settle_of d = record { past = d.past ++ d.life ∷ []; life = begins_with (settled d.life); known = 0; faults = d.faults; wants = d.wants }
+
+-- the lives after what happens to a disk
+abbrev pub lives_after : Step → Lives → Lives
+lives_after (step.Write at bytes) d = record { past = d.past; life = and_call (Write at bytes.now) d.life }
+lives_after step.Sync d = record { past = d.past; life = and_call Sync d.life }
+lives_after (step.Upset call image) d = record { past = d.past; life = upset_life call image d.life }
+lives_after step.Settle d = record { past = d.past ++ d.life ∷ []; life = begins_with (settled d.life) }

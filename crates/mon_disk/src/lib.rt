@@ -6,14 +6,18 @@ mod device;
 mod disk;
 mod faults;
 mod file;
-mod life;
+mod history;
+mod holding;
+mod law;
 mod memory;
 mod node;
-mod settling;
+mod undoing;
+mod unsynced;
 
 pub use device::DeviceFile;
 pub use disk::{Disk, DiskCall};
 pub use file::FileDisk;
+pub use law::law_images;
 pub use memory::MemoryDisk;
 pub use node::NodeDisks;
 

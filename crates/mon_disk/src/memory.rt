@@ -1,42 +1,48 @@
-ghost use Rattle.std.specs.Prelude.{◌≡◌, ◌≤◌, [], ◌∷◌, true, Some, None, OnOk, OnErr};
+ghost use Rattle.std.specs.Prelude.{◌≡◌, ◌≤◌, [], Some, None, OnOk, OnErr};
 ghost use Rattle.std.specs.Result.{result_err};
 ghost use Rattle.mon_disk.specs.Images.{images, Only, LeavesOnly};
-ghost use Rattle.mon_disk.specs.Memory.{seen_of};
-ghost use Rattle.mon_disk.specs.MemoryDisk.{begins_with, content_of, state_of, fails, after_call, IsFor, upset_by, settle_of};
+ghost use Rattle.mon_disk.specs.Memory.{begins_with, seen_of};
+ghost use Rattle.mon_disk.specs.MemoryDisk.{content_of, state_of, after_call, IsFor, upset_by, settle_of};
 ghost use Rattle.mon_disk.specs.Laws.{as_read, settles};
 
 use crate::disk::{Disk, DiskCall};
 use crate::faults::raised;
-use crate::life::{Life, overwrite};
-use mon_bytes::{Bytes, OutOfMemory};
+use crate::history::{History, Step};
+use crate::holding::Holding;
+use mon_bytes::OutOfMemory;
 use mon_types::Stop;
 use std::alloc::Global;
 use std::marker::Model;
-use std::mem;
 
 /// A disk in memory, empty at first. It tells what it holds, what a crash may leave and what calls were made, and can
-/// be upset: then it fails from a call on, until it settles to an image that a crash may leave.
+/// be upset: then it fails from a call on, until it settles to an image that a crash may leave. Beside what a read
+/// gives it takes memory for the writes since the last sync alone; what else it went through is known to proofs only.
 #[derive(Drop)]
 pub struct MemoryDisk {
     alloc: Global,
-    past: Vec<Life>,
-    life: Life,
-    bytes: Vec<u8>,
+    held: Holding,
+    history: History,
     known: u64,
     faults: u64,
     wants: u64,
 }
 
 impl Model for MemoryDisk {
-    ghost use Rattle.std.specs.Prelude.{◌≡◌, ◌≤◌, vec_len};
-    ghost use Rattle.mon_disk.specs.Memory.{seen_of};
+    ghost use Rattle.std.specs.Prelude.{◌≤◌, length};
+    ghost use Rattle.mon_disk.specs.Holding.{Holds};
     ghost use Rattle.mon_disk.specs.MemoryDisk.{MemoryState};
 
     ghost Value = { MemoryState };
 
-    ghost view = { λ d. record { past = d.past.items; life = d.life; known = d.known; faults = d.faults; wants = d.wants } };
+    ghost view = { λ d. record {
+      past = d.history.lives.past;
+      life = d.history.lives.life;
+      known = d.known;
+      faults = d.faults;
+      wants = d.wants;
+    } };
 
-    ghost invariant = { λ d. (d.bytes.items ≡ seen_of d.life) × (d.known ≤ vec_len d.bytes) };
+    ghost invariant = { λ d. Holds d.held d.history.lives.life × (d.known ≤ length d.held.bytes) };
 }
 
 impl MemoryDisk {
@@ -46,13 +52,8 @@ impl MemoryDisk {
     {
         MemoryDisk {
             alloc,
-            past: Vec::new(alloc),
-            life: Life {
-                first: Vec::new(alloc),
-                calls: Vec::new(alloc),
-                upset: None,
-            },
-            bytes: Vec::new(alloc),
+            held: Holding::of(alloc, Vec::new(alloc)),
+            history: History::new(),
             known: 0,
             faults: 0,
             wants: 0,
@@ -69,7 +70,8 @@ impl MemoryDisk {
         ensures seen { seen_of self.new.life ≡ seen_of self.old.life }
         ensures any_moment { let old = content_of self.old.past self.old.life in LeavesOnly old (content_of self.new.past self.new.life) (images old) }
     {
-        self.life.upset(call, image);
+        self.held.upset(call, image);
+        self.history = self.history.then(&Step::Upset { call, image });
     }
 
     /// Turns the disk into what a crash leaves: the image of its upset, which ends, or what a read gives where none
@@ -80,18 +82,9 @@ impl MemoryDisk {
         ensures durable { OnOk result (Only (content_of self.new.past self.new.life)) }
         ensures any_moment { let old = content_of self.old.past self.old.life in LeavesOnly old (content_of self.new.past self.new.life) (images old) }
     {
-        let file = self.life.settled(self.alloc, self.bytes.as_slice())?;
-        let next = Life {
-            first: Vec::from_slice(self.alloc, file.as_slice())?,
-            calls: Vec::new(self.alloc),
-            upset: None,
-        };
-        let ended = mem::replace(&mut self.life, next);
-        if let Err(failed) = self.past.push(ended) {
-            self.life = failed.value;
-            return Err(OutOfMemory);
-        }
-        self.bytes = file;
+        let file = self.held.settled(self.alloc)?;
+        self.held = Holding::of(self.alloc, file);
+        self.history = self.history.then(&Step::Settle);
         self.known = 0;
         Ok(())
     }
@@ -105,42 +98,24 @@ impl MemoryDisk {
         Stop::OutOfMemory
     }
 
-    /// Notes a call that fails.
-    fn fail(&mut self, call: DiskCall) -> Stop
-        requires fails { fails self.old.life ≡ true }
-        ensures state { self.new ≡ after_call call (Some result) self.old }
-        ensures right { IsFor (Some result) self.old.life }
-    {
-        if self.life.note(call).is_err() {
-            return self.lack();
-        }
-        self.faults = raised(self.faults);
-        Stop::Failed
-    }
-
     fn write(&mut self, at: u64, bytes: &[u8]) -> Result<(), Stop>
         requires known { at ≤ self.old.known }
         ensures state { self.new ≡ after_call (DiskCall.Write at bytes.now) (result_err result) self.old }
         ensures right { IsFor (result_err result) self.old.life }
     {
-        let Ok(copy) = Vec::from_slice(self.alloc, bytes) else {
+        if self.held.fails() {
+            if self.held.lose(self.alloc, at, bytes).is_err() {
+                return Err(self.lack());
+            }
+            self.history = self.history.then(&Step::Write { at, bytes });
+            self.faults = raised(self.faults);
+            return Err(Stop::Failed);
+        }
+        let Ok(end) = self.held.write(self.alloc, at, bytes) else {
             return Err(self.lack());
         };
-        let call = DiskCall::Write {
-            at,
-            bytes: Bytes::new(copy),
-        };
-        if self.life.fails() {
-            return Err(self.fail(call));
-        }
-        if self.life.note(call).is_err() {
-            return Err(self.lack());
-        }
-        if overwrite(&mut self.bytes, at as usize, bytes).is_err() {
-            self.life.take_back();
-            return Err(self.lack());
-        }
-        self.known = self.known.max(at + bytes.len() as u64);
+        self.history = self.history.then(&Step::Write { at, bytes });
+        self.known = self.known.max(end);
         Ok(())
     }
 
@@ -148,12 +123,14 @@ impl MemoryDisk {
         ensures state { self.new ≡ after_call DiskCall.Sync (result_err result) self.old }
         ensures right { IsFor (result_err result) self.old.life }
     {
-        if self.life.fails() {
-            return Err(self.fail(DiskCall::Sync));
+        if self.held.fails() {
+            self.held.count();
+            self.history = self.history.then(&Step::Sync);
+            self.faults = raised(self.faults);
+            return Err(Stop::Failed);
         }
-        if self.life.note(DiskCall::Sync).is_err() {
-            return Err(self.lack());
-        }
+        self.held.sync();
+        self.history = self.history.then(&Step::Sync);
         Ok(())
     }
 }
@@ -166,14 +143,14 @@ impl Disk for MemoryDisk {
     ghost settled = { settles };
 
     fn len(&mut self) -> Result<u64, Stop> {
-        let length = self.bytes.len() as u64;
+        let length = self.held.as_slice().len() as u64;
         self.known = length;
         Ok(length)
     }
 
     fn read(&mut self, at: u64, into: &mut [u8]) -> Result<(), Stop> {
         let from = at as usize;
-        into.copy_from_slice(&self.bytes[from..from + into.len()]);
+        into.copy_from_slice(&self.held.as_slice()[from..from + into.len()]);
         Ok(())
     }
 

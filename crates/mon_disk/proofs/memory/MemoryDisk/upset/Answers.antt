@@ -1,16 +1,12 @@
 use Rattle.std.proofs.Common.{rules, ◌≡◌}
 use Rattle.mon_disk.specs.MemoryDisk.{upset_life}
-use Rattle.mon_disk.proofs.Upsets.{begins_seen, begins_time}
+use Rattle.mon_disk.proofs.Upsets.{begins_time}
 use Rattle.mon_disk.proofs.memory.MemoryDisk.upset.Goals as goal
-
-pub returns-clause-seen : goal.returns-clause-seen
-returns-clause-seen c =
-    let kept : c.self.inside.past.items ≡ c.args.self.now.past = search rules in
-    let next : c.upset.new.self ≡ upset_life c.args.call c.args.image c.args.self.now.life = search rules in
-    begins_seen c.args.self.now.past c.self.inside.past.items kept c.args.self.now.life c.upset.new.self c.args.call c.args.image c.requires.none c.requires.first next
 
 pub returns-clause-any_moment : goal.returns-clause-any_moment
 returns-clause-any_moment c =
-    let kept : c.self.inside.past.items ≡ c.args.self.now.past = search rules in
-    let next : c.upset.new.self ≡ upset_life c.args.call c.args.image c.args.self.now.life = search rules in
-    begins_time c.args.self.now.past c.self.inside.past.items kept c.args.self.now.life c.upset.new.self c.args.call c.args.image c.requires.none c.requires.first next
+    let d = c.args.self.now in
+    let lives = c.then-self-inside.result.lives in
+    let kept : lives.past ≡ d.past = search rules in
+    let next : lives.life ≡ upset_life c.args.call c.args.image d.life = search rules in
+    begins_time d.past lives.past kept d.life lives.life c.args.call c.args.image c.requires.none c.requires.first next

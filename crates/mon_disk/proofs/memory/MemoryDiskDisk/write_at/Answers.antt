@@ -1,4 +1,4 @@
-use Rattle.std.proofs.Common.{◌≡◌, [], ◌∷◌, sym, subst}
+use Rattle.std.proofs.Common.{[], ◌∷◌, sym, subst}
 use Rattle.std.specs.Result.{result_err}
 use Rattle.mon_disk.specs.declared.disk.DiskCall.TheVariants.{Write}
 use Rattle.mon_disk.specs.Images.{TornFrom}
