@@ -332,10 +332,12 @@ def unsafe(w, n):
     return bad
 def not_calm(ms, orders, events):
     """what of the run of events isn't calm, in which these commands were asked"""
-    n = ms.d['count']; w = apps(fn(QM + 'Runs', 'run'), ms, events); d = w.d; log = d['log']; bad = []
+    n = ms.d['count']; ran = apps(fn(QM + 'Runs', 'ran'), ms, events).d; d = ran['world'].d; log = d['log']; bad = []
+    if ran['stop'].n != 'None': bad.append('stop')
     if tuple(app(fn(QM + 'CalmSchedule', 'numbers_delivered'), events)) != tuple(range(1, len(d['messages']) + 1)): bad.append('once')
     if tuple(map(B, log)) != tuple(map(B, apps(fn(QM + 'CalmRun', 'log_of'), (), orders))): bad.append('log')
     if sum(1 for r in d['replied'] if r.d['reply'].n == 'Done') != len(log): bad.append('done')
+    if app(fn(QM + 'CalmRun', 'answers'), ran['world']) != apps(fn(QM + 'CalmRun', 'answers_of'), 1, (), orders): bad.append('answered')
     leader = app(d['state'], 0).a[0]; everyone = lambda q: tuple(q) == tuple(i < n for i in range(15))
     for i in range(n):
         s = app(d['state'], i).a[0].d; m = app(d['store'], i); view = app(fn(PR + 'Readings', 'readings_of'), m)
@@ -343,7 +345,7 @@ def not_calm(ms, orders, events):
         l, p = s['leader'].d, s['peon'].d
         if i == 0: ok = s['phase'].n == 'Active' and everyone(l['quorum']) and l['pn'] == 100 and stands(l['lease']) and l['acks'] == l['quorum'] and len(s['clients'].d['queue']) == 0
         else: ok = s['phase'].n == 'Peon' and p['leader'] == 0 and everyone(p['quorum']) and stands(p['lease']) and leader.d['clients'].d['taken'][i] + 1 == s['clients'].d['next_seq']
-        ok = ok and epoch_of(m) == 2 and app(fn(PR + 'Readings', 'promise_of'), view) == 100 and app(fn(PR + 'Records', 'pending'), view).n == 'None'
+        ok = ok and epoch_of(m) == 2 and app(fn(PR + 'Readings', 'promise_of'), view) == 100 and app(fn('mon_kv.specs.Readers', 'pending'), m).n == 'None'
         ok = ok and last_of(m) == len(log) and shared(m) == folded(log, len(log)) and len(s['clients'].d['sessions']) == 0
         if not ok: bad.append(i)
     return bad
@@ -352,9 +354,12 @@ def calm(n, orders):
     events = apps(fn(QM + 'CalmSchedule', 'starts'), ms); bad = not_calm(ms, (), events)
     for j, order in enumerate(orders):
         events = apps(fn(QM + 'CalmSchedule', 'asks_all'), ms, j + 1, events, (order,)); bad += not_calm(ms, orders[:j + 1], events)
-    whole = apps(fn(QM + 'CalmSchedule', 'calm_schedule'), ms, orders)
+    whole = apps(fn(QM + 'CalmSchedule', 'calm_schedule'), n, TT, orders)
     if whole[:len(events)] != events or len(whole) != len(events) + 2 * n: bad.append('schedule')
-    w = apps(fn(QM + 'Runs', 'run'), ms, whole); bad += unsafe(w, n)
+    ran = apps(fn(QM + 'Runs', 'ran'), ms, whole).d; w = ran['world']; bad += unsafe(w, n)
+    if ran['stop'].n != 'None': bad.append('stop')
+    shown = apps(fn(QM + 'CalmRun', 'answers_shown'), len(orders) + 1, n, w.d['log'])
+    if app(fn(QM + 'CalmRun', 'answers'), w) != apps(fn(QM + 'CalmRun', 'answers_of'), 1, (), orders) + shown: bad.append('shown')
     print('calm', n, 'messages', len(w.d['messages']), 'log', len(w.d['log']), 'acknowledged', len(w.d['acknowledged']), bad or 'all holds')
     return not bad
 def one(program, schedule, name):
@@ -385,7 +390,7 @@ if __name__ == '__main__':
     if sys.argv[1] == 'calm':
         name = lambda k: Con('Set', (b'k%d' % k, b'v'))
         orders = [Tup(0, name(1)), Tup(1, Con('Log', (b'text',))), Tup(2, Con('Remove', (b'none',))), Tup(1, Con('Remove', (b'k1',))), Tup(0, name(2))]
-        for n in map(int, sys.argv[2:]): calm(n, [Tup(o.a[0] % n, o.a[1]) for o in orders])
+        for n in map(int, sys.argv[2:]): calm(n, []); calm(n, [Tup(o.a[0] % n, o.a[1]) for o in orders])
         sys.exit()
     program = sys.argv[1]
     if sys.argv[2] == 'file':

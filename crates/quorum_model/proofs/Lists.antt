@@ -1,5 +1,5 @@
 -- What is among the members of a list.
-use Rattle.std.proofs.Common.{◌≡◌, List, [], ◌∷◌, ◌++◌, inl, inr, refl, sym, subst}
+use Rattle.std.proofs.Common.{List, [], ◌∷◌, ◌++◌, inl, inr, refl, sym, subst}
 use Rattle.std.specs.List.{AllByRecursion}
 use Rattle.quorum_model.specs.Agree.{Among}
 pub use Rattle.log_model.proofs.Lists.{all_map, all_append, all_both, length_push}

@@ -1,5 +1,5 @@
 -- An event that changes the monitor's own numbers alone, and acknowledges nothing.
-use Rattle.std.proofs.Common.{◌≡◌, ℕ, suc, ◌-◌, Bool, true, false, cond, eqb, List, [], ◌∷◌, ◌++◌, length, Option, Some, None, refl, sym, ap, subst, ◌∙◌, append-nil, arith}
+use Rattle.std.proofs.Common.{◌≡◌, ℕ, suc, ◌-◌, Bool, true, false, cond, eqb, List, [], ◌∷◌, ◌++◌, length, None, refl, sym, ap, subst, ◌∙◌, append-nil, arith}
 use Rattle.std.specs.List.{AllByRecursion, cons_option}
 use Rattle.std.specs.Option.{option_map}
 use Rattle.mon_tx.specs.declared.op.Op.{Op}
@@ -12,8 +12,6 @@ use Rattle.mon_msg.specs.declared.plan.Sent.{Sent}
 use Rattle.mon_msg.specs.declared.plan.Sent.TheVariants as sent
 use Rattle.mon_wire.specs.declared.reply.Reply.{Reply}
 use Rattle.mon_wire.specs.declared.reply.Reply.TheVariants as reply
-use Rattle.mon_wire.specs.declared.request.Service.{Service}
-use Rattle.mon_wire.specs.declared.request.Session.{Session}
 use Rattle.mon_msg.specs.Joined.{joined}
 use Rattle.mon_msg.specs.Fold.{incrementals, map_of_log, version_of_log}
 use Rattle.mon_msg.specs.Protocol.Changes.{Change, spelled}
@@ -27,7 +25,7 @@ use Rattle.quorum_model.specs.Acknowledging.{done_in, acknowledgement, acknowled
 use Rattle.quorum_model.specs.Agree.{Among}
 use Rattle.quorum_model.specs.Clients.{with_asked, messages_of, replies_of}
 use Rattle.quorum_model.specs.Growth.{last_of, records_after, grown}
-use Rattle.quorum_model.specs.Happens.{is_active, moved, kept_only}
+use Rattle.quorum_model.specs.Happens.{is_active, moved}
 use Rattle.quorum_model.specs.World.{World, Plain, Client, Asked, Acknowledged, Replied}
 use Rattle.quorum_model.specs.Kept.{AcknowledgedOnce, DoneIsAnswered}
 use Rattle.quorum_model.specs.Shown.{AreAfter, ShowsLog}

@@ -5,7 +5,6 @@ use Rattle.mon_bytes.specs.declared.command.CommandRefused.{CommandRefused}
 use Rattle.mon_bytes.specs.declared.command.CommandRefused.TheVariants as refused
 use Rattle.mon_wire.specs.declared.reply.Reply.TheVariants as reply
 use Rattle.mon_wire.specs.declared.request.Service.{Service}
-use Rattle.mon_msg.specs.declared.view.Me.{Me}
 use Rattle.mon_msg.specs.Fold.{incrementals, map_of_log, version_of_log}
 use Rattle.mon_msg.specs.Protocol.Proposing.{refusal}
 use Rattle.mon_msg.specs.Protocol.Services.{may_tell}

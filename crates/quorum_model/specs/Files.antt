@@ -1,5 +1,5 @@
 -- What a monitor's two disks hold, and what is left on them where a call fails.
-use Rattle.std.specs.Prelude.{ℕ, ◌+◌, ◌-◌, ◌*◌, ◌^◌, nat_lt, Bool, true, false, ◌&&◌, ◌||◌, List, [], ◌∷◌, length, Option, Some, None, is_some, ◌==◌, if◌then◌else◌}
+use Rattle.std.specs.Prelude.{ℕ, ◌+◌, ◌*◌, ◌^◌, nat_lt, Bool, ◌&&◌, ◌||◌, List, [], ◌∷◌, length, Option, Some, None, is_some, if◌then◌else◌}
 use Rattle.std.specs.FinMap.{entries}
 use Rattle.std.specs.List.{sum_by}
 use Rattle.std.specs.Option.{option_map}

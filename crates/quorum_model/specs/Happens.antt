@@ -1,5 +1,5 @@
 -- What an event makes of the world, and a run of events.
-use Rattle.std.specs.Prelude.{ℕ, suc, nat_lt, Bool, true, false, cond, List, [], ◌∷◌, ◌++◌, Option, Some, None, Result, Ok, Err, ◌==◌, if◌then◌else◌}
+use Rattle.std.specs.Prelude.{ℕ, suc, nat_lt, Bool, true, false, cond, [], ◌∷◌, ◌++◌, Some, None, Result, Ok, Err, ◌==◌, if◌then◌else◌}
 use Rattle.mon_types.specs.declared.names.Which.{Which}
 use Rattle.mon_tx.specs.Map.{Store, apply}
 use Rattle.mon_kv.specs.Readers.{size_of, most_size}
@@ -10,9 +10,9 @@ use Rattle.mon_wire.specs.declared.phase.Phase.TheVariants as phase
 use Rattle.quorum_model.specs.Acknowledging.{acknowledgements_of}
 use Rattle.quorum_model.specs.Clients.{with_asked, messages_of, replies_of}
 use Rattle.quorum_model.specs.Growth.{grown}
-use Rattle.quorum_model.specs.Meets.{Meeting, NoMessage, Down, Reacts, meets}
+use Rattle.quorum_model.specs.Meets.{Meeting, Reacts, meets}
 use Rattle.quorum_model.specs.Monitors.{Monitors}
-use Rattle.quorum_model.specs.World.{World, Plain, Event, Comes, Crash, plain_of, first_world}
+use Rattle.quorum_model.specs.World.{World, Plain, Event, Comes, Crash, plain_of}
 
 -- an active leader
 abbrev pub is_active : Phase → Bool

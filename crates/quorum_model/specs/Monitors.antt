@@ -23,9 +23,12 @@ me_if ms rank false e = None
 abbrev pub me_of : Monitors → ℕ → Option Me
 me_of ms rank = me_if ms rank (nat_lt rank ms.count) refl
 
+abbrev pub classic : (n : ℕ) → n ≤ 15 → Monitors
+classic n most = record { count = n; most = most; rule = Classic }
+
 -- one monitor, which elects itself
 abbrev pub alone : Monitors
-alone = record { count = 1; most = lit≤ tt; rule = Classic }
+alone = classic 1 (lit≤ tt)
 
 abbrev pub itself : Me
 itself = record {

@@ -1,10 +1,10 @@
 -- A run of events, and what it makes a monitor's store keep.
-use Rattle.std.specs.Prelude.{ℕ, true, false, List, [], ◌∷◌, ◌++◌, Option, Some, None, Result, Ok, Err, ◌==◌, if◌then◌else◌}
+use Rattle.std.specs.Prelude.{ℕ, false, List, [], ◌∷◌, ◌++◌, Option, Some, None, Result, Ok, Err, ◌==◌, if◌then◌else◌}
 use Rattle.mon_tx.specs.declared.op.Op.{Op}
 use Rattle.quorum_model.specs.Happens.{Stop, happens}
-use Rattle.quorum_model.specs.Meets.{Meeting, NoMessage, Down, Reacts, meets}
+use Rattle.quorum_model.specs.Meets.{Meeting, Reacts, meets}
 use Rattle.quorum_model.specs.Monitors.{Monitors}
-use Rattle.quorum_model.specs.World.{World, Event, Comes, Crash, plain_of, first_world}
+use Rattle.quorum_model.specs.World.{World, Event, Crash, plain_of, first_world}
 
 -- the world after events, up to the first that stops the run, and what stopped it, if anything did
 pub record Ran : Type 0 where

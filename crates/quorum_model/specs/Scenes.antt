@@ -1,5 +1,5 @@
 -- The run of a schedule: the world, and what the disks hold, by which it is decided what a scheduled crash keeps.
-use Rattle.std.specs.Prelude.{ℕ, Bool, true, false, List, [], ◌∷◌, Option, Some, None, Result, Ok, Err}
+use Rattle.std.specs.Prelude.{ℕ, Bool, false, List, [], ◌∷◌, Option, Some, None, Result, Ok, Err}
 use Rattle.mon_types.specs.declared.names.Side.{Side}
 use Rattle.mon_types.specs.declared.names.Which.{Which}
 use Rattle.mon_tx.specs.declared.op.Op.{Op}
@@ -10,7 +10,7 @@ use Rattle.mon_msg.specs.declared.input.Input.TheVariants as input
 use Rattle.quorum_model.specs.Cuts.{after_checkpoint, files_cut}
 use Rattle.quorum_model.specs.Files.{Files, no_files, after_opening, after_append}
 use Rattle.quorum_model.specs.Happens.{Stop, happens, put_at}
-use Rattle.quorum_model.specs.Meets.{Meeting, NoMessage, Down, Reacts, meets}
+use Rattle.quorum_model.specs.Meets.{Meeting, Reacts, meets}
 use Rattle.quorum_model.specs.Monitors.{Monitors}
 use Rattle.quorum_model.specs.Upsets.{Upset, opening_calls, is_kept}
 use Rattle.quorum_model.specs.World.{World, Plain, Event, Comes, Crash, first_world}
