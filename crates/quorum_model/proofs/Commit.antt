@@ -140,12 +140,14 @@ module _ (w : World) (inv : Inv w) (at : ℕ) (session : Session) (request : Req
         ∙ ap (λ (s : Store). value (readings_of (apply_op (put_number area.Paxos key.LastCommitted c) s)) command 0) (fold_stays (fronts_push w.log bytes) c (omega arith))
         ∙ value_told w.log inv.holds.fits inv.holds.values (readings_of (w.store 0)) (keeps_log w.log (w.store 0) inv.holds) (read_last w.log (w.store 0) inv.holds) command 0 ∙ valued
 
-    values : (v : ℕ) → c ≤ v → v < length (grown w.log m) → IsAsked (w.asked ++ asked ∷ []) (grown w.log m) v
-    values v low high = subst (IsAsked (w.asked ++ asked ∷ []) (grown w.log m)) here (record {
+    values : (v : ℕ) → c ≤ v → v < length (grown w.log m) → IsAsked 1 (w.asked ++ asked ∷ []) (grown w.log m) v
+    values v low high = subst (IsAsked 1 (w.asked ++ asked ∷ []) (grown w.log m)) here (record {
       by = asked;
       was_asked = among_last asked w.asked;
+      rank = omega arith;
       command = command;
       is = is;
+      form = form;
       ops = ops;
       made = told;
       spells = ap (λ (l : List (List ℕ)). entry l (suc c)) same_log ∙ entry_push w.log bytes;

@@ -41,7 +41,7 @@ pub record IsReply (w : World) (r : Replied) : Type 0 where
 
 pub record Inv (w : World) : Type 0 where
   pub holds : Holds w.log (w.store 0)
-  pub values : (v : ℕ) → v < length w.log → IsAsked w.asked w.log v
+  pub values : (v : ℕ) → v < length w.log → IsAsked 1 w.asked w.log v
   pub acknowledged : AllByRecursion (IsAck w) w.acknowledged
   pub once : AcknowledgedOnce w.acknowledged
   pub replied : AllByRecursion (IsReply w) w.replied
@@ -116,12 +116,14 @@ module _ (w new : World) (grown : Grown w new) where
     shows = shows_stays r r.reply h.last h.shows;
   }
 
-  pub value_stays : (v : ℕ) → v < length w.log → IsAsked w.asked w.log v → IsAsked new.asked new.log v
+  pub value_stays : (v : ℕ) → v < length w.log → IsAsked 1 w.asked w.log v → IsAsked 1 new.asked new.log v
   value_stays v lt h = record {
     by = h.by;
     was_asked = grown.asked h.by h.was_asked;
+    rank = h.rank;
     command = h.command;
     is = h.is;
+    form = h.form;
     ops = h.ops;
     made = subst (λ (m : Store). value (readings_of (apply_op (put_number area.Paxos key.LastCommitted v) m)) h.command h.by.rank ≡ Ok h.ops) (sym (fold_stays grown.fronts v (omega arith))) h.made;
     spells = entry_stays grown.fronts (suc v) lt ∙ h.spells;

@@ -29,7 +29,7 @@ pub record Stores (w : World) (m : Store) (tx : List Op) (log : List (List ℕ))
   pub holds : Holds log m
   pub fronts : Fronts w.log log
   pub asks : (a : Asked) → Among a w.asked → Among a asked
-  pub values : (v : ℕ) → length w.log ≤ v → v < length log → IsAsked asked log v
+  pub values : (v : ℕ) → length w.log ≤ v → v < length log → IsAsked 1 asked log v
 
 module _ (w : World) (m : Store) (s : State) (tx : List Op) (messages : List Envelope) (log : List (List ℕ)) (asked : List Asked) (acks : List Acknowledged) (replies : List Replied) (active : List (ℕ × ℕ)) where
   -- the world after the monitor did that
@@ -85,11 +85,11 @@ module _ (w : World) (inv : Inv w) (p : Plain) (r : Reaction) (stores : Stores w
   unfolding kept_only
   crashed = record { fronts = stores.fronts; asked = stores.asks; acknowledged = λ a h. h; events = omega arith }
 
-  crash_values : (v : ℕ) → v < length (grown w.log (map_after w 0 r)) → IsAsked (with_asked p w.asked) (grown w.log (map_after w 0 r)) v
+  crash_values : (v : ℕ) → v < length (grown w.log (map_after w 0 r)) → IsAsked 1 (with_asked p w.asked) (grown w.log (map_after w 0 r)) v
   unfolding kept_only
   crash_values v lt = by (cases_lt v (length w.log))
     where
-      by : (v < length w.log) ⊎ (length w.log ≤ v) → IsAsked (with_asked p w.asked) (grown w.log (map_after w 0 r)) v
+      by : (v < length w.log) ⊎ (length w.log ≤ v) → IsAsked 1 (with_asked p w.asked) (grown w.log (map_after w 0 r)) v
       by (inl old) = value_stays w (kept_only w p 0 r) crashed v old (inv.values v old)
       by (inr le) = stores.values v le lt
 
@@ -123,10 +123,10 @@ module _ (w : World) (inv : Inv w) (m : Store) (s : State) (tx : List Op) (messa
     events = omega arith;
   }
 
-  values : (v : ℕ) → v < length log → IsAsked asked log v
+  values : (v : ℕ) → v < length log → IsAsked 1 asked log v
   values v lt = by (cases_lt v (length w.log))
     where
-      by : (v < length w.log) ⊎ (length w.log ≤ v) → IsAsked asked log v
+      by : (v < length w.log) ⊎ (length w.log ≤ v) → IsAsked 1 asked log v
       by (inl old) = value_stays w new grows v old (inv.values v old)
       by (inr le) = does.stores.values v le lt
 

@@ -12,7 +12,7 @@ use Rattle.mon_msg.specs.Fold.{entry, fold}
 use Rattle.mon_msg.specs.Protocol.Value.{value}
 use Rattle.quorum_model.specs.Clients.{command_of}
 use Rattle.quorum_model.specs.Growth.{last_of}
-use Rattle.log_model.specs.LogOfValues.{view_at}
+use Rattle.log_model.specs.LogOfValues.{IsCommand, view_at}
 use Rattle.quorum_model.specs.World.{World, Asked}
 
 abbrev pub Among : {A : Type 0} → A → List A → Type 0
@@ -27,13 +27,15 @@ pub record Agrees (log : List (List ℕ)) (m : Store) : Type 0 where
       → cell m area.Paxos (key.Version v) ≡ Some (entry log v)
   pub folded : shared m ≡ fold log (last_of m)
 
--- Version v + 1 of the log spells the value of a command that a client asked, over the versions before it. In a text for
--- the cluster log stands the rank that was asked.
-pub record IsAsked (asked : List Asked) (log : List (List ℕ)) (v : ℕ) : Type 0 where
+-- Version v + 1 of the log spells the value of a command that a client asked one of n monitors, over the versions before it.
+-- In a text for the cluster log stands the rank that was asked.
+pub record IsAsked (n : ℕ) (asked : List Asked) (log : List (List ℕ)) (v : ℕ) : Type 0 where
   pub by : Asked
   pub was_asked : Among by asked
+  pub rank : by.rank < n
   pub command : Command
   pub is : command_of by.request ≡ Some command
+  pub form : IsCommand command
   pub ops : List Op
   pub made : value (view_at log v) command by.rank ≡ Ok ops
   pub spells : entry log (suc v) ≡ text ops
@@ -41,4 +43,4 @@ pub record IsAsked (asked : List Asked) (log : List (List ℕ)) (v : ℕ) : Type
 -- a monitor under a full synchronisation has no committed versions
 pub record Agree (n : ℕ) (w : World) : Type 0 where
   pub monitors : (i : ℕ) → i < n → ¬ (is_marked (w.store i) ≡ true) → Agrees w.log (w.store i)
-  pub values : (v : ℕ) → v < length w.log → IsAsked w.asked w.log v
+  pub values : (v : ℕ) → v < length w.log → IsAsked n w.asked w.log v
