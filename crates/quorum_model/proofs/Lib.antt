@@ -12,5 +12,6 @@ pub mod Starting
 pub mod StaysSettled
 pub mod Step
 pub mod Telling
+pub mod Values
 pub mod Whole
 pub mod Writing
