@@ -16,11 +16,7 @@ const KEEPS: u64 = 500;
 const GOES: u64 = 500;
 
 /// Appends what trims the log: the versions from the first one on that go, and the first one that is kept.
-pub(crate) fn push_trim(
-    tx: &mut Transaction,
-    first: u64,
-    last: u64,
-) -> Result<(), OutOfMemory>
+pub(crate) fn push_trim(tx: &mut Transaction, first: u64, last: u64) -> Result<(), OutOfMemory>
     requires first { first ≤ 2 ^ 62 }
     requires last { last ≤ 2 ^ 62 }
     ensures { OnOk result (tx.new ≡ tx.old ++ paxos_trim first last) }

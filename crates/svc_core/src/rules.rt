@@ -32,10 +32,7 @@ fn push_begins(tx: &mut Transaction, area: Area) -> Result<(), OutOfMemory>
 }
 
 /// Appends the first version of the log, where it has none.
-pub(crate) fn push_paxos_begins(
-    tx: &mut Transaction,
-    last: u64,
-) -> Result<(), OutOfMemory>
+pub(crate) fn push_paxos_begins(tx: &mut Transaction, last: u64) -> Result<(), OutOfMemory>
     ensures { OnOk result (tx.new ≡ tx.old ++ paxos_begins last) }
 {
     if last == 0 {
@@ -77,12 +74,7 @@ pub(crate) fn push_full_version(
 }
 
 /// Appends the erasures of the full maps from a version up to but not including another.
-fn push_full_erased(
-    tx: &mut Transaction,
-    area: Area,
-    from: u64,
-    to: u64,
-) -> Result<(), OutOfMemory>
+fn push_full_erased(tx: &mut Transaction, area: Area, from: u64, to: u64) -> Result<(), OutOfMemory>
     ensures { OnOk result (tx.new ≡ tx.old ++ map (λ v. erase area (key.Full v)) (full_between from to)) }
 {
     for v in from..to {
