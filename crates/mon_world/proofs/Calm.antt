@@ -1,21 +1,20 @@
 -- A disk that was never upset fails in no call, and none upsets it.
-use Rattle.std.proofs.Common.{◌≡◌, true, false, inl, inr, List, [], ◌∷◌, ◌++◌, length, suc, Option, Some, None, Result, Ok, Err, refl, sym, ap, subst}
+use Rattle.std.proofs.Common.{◌≡◌, true, false, inl, inr, ℕ, List, [], ◌∷◌, ◌++◌, length, suc, Option, Some, None, Result, Err, refl, sym, ap, subst}
 use Rattle.std.specs.Prelude.{IfSome}
 use Rattle.mon_types.specs.declared.names.Side.{Side}
 use Rattle.mon_types.specs.declared.names.Side.TheVariants.{A, B}
 use Rattle.mon_disk.specs.declared.disk.DiskCall.{DiskCall}
 use Rattle.mon_disk.specs.declared.life.Upset.{Upset}
-use Rattle.mon_disk.specs.Calls.{Told, is_past, fails_next}
+use Rattle.mon_types.specs.declared.names.Stop.{Stop}
+use Rattle.mon_types.specs.declared.names.Stop.TheVariants as disk
+use Rattle.mon_disk.specs.Calls.{Told, is_past, fails_next, Makes, Called}
 use Rattle.mon_disk.specs.Memory.{from_of}
-use Rattle.mon_disk.specs.MemoryDisk.{MemoryState, tells}
-use Rattle.mon_journal.specs.declared.stop.JournalStop.{JournalStop}
-use Rattle.mon_journal.specs.declared.stop.JournalStop.TheVariants as journal
-use Rattle.mon_journal.specs.Steps.{Makes}
+use Rattle.mon_disk.specs.MemoryDisk.{MemoryState, tells, state_of}
 use Rattle.mon_store.specs.declared.stop.StoreStop.{StoreStop}
-use Rattle.mon_store.specs.declared.stop.StoreStop.TheVariants.{Broken, TooLong, Full, DiskFault, OutOfMemory}
+use Rattle.mon_store.specs.declared.stop.StoreStop.TheVariants.{DiskFault}
 use Rattle.mon_store.specs.declared.stop.OpenStop.{OpenStop}
 use Rattle.mon_store.specs.declared.stop.OpenStop.TheVariants as opening
-use Rattle.mon_store.specs.Calls.{MakesCalls}
+use Rattle.mon_store.specs.Calls.{stop_in, unless_early}
 use Rattle.mon_store.specs.OpeningCalls.{MakesBoth}
 
 -- a disk that fails in no call, where it tells its calls
@@ -31,21 +30,12 @@ never_next t calm = ap (λ from. is_past from (suc (length t.made))) calm
 goes_on : (t : Told) (new : Option Told) → t.fails_from ≡ None → new ≡ Some t → NeverFails new
 goes_on t new calm is = subst (λ (s : Option Told). NeverFails s) (sym is) calm
 
--- the calls of a journal
-makes_calm : {T : Type 0} (result : Result T JournalStop) (calls : List DiskCall) (t : Told) (new : Option Told) → t.fails_from ≡ None → Makes calls (Some t) new result → (result ≡ Err journal.DiskFault → ⊥) × NeverFails new
-makes_calm result [] t new calm m = (m.1, goes_on t new calm m.0)
-makes_calm result (call ∷ calls) t new calm (inl m) = (λ h. let other : result ≡ Err journal.OutOfMemory = m.0 in cc, goes_on t new calm m.1)
-makes_calm result (call ∷ calls) t new calm (inr (inl m)) = let fails : fails_next t ≡ true = m.2 in let not : fails_next t ≡ false = never_next t calm in absurd cc
-makes_calm result (call ∷ calls) t new calm (inr (inr m)) = makes_calm result calls (one_more call t) new calm m.1
-
--- the calls of a store
-pub calls_calm : {T : Type 0} (calls : List DiskCall) (t : Told) (new : Option Told) (result : Result T StoreStop) → t.fails_from ≡ None → MakesCalls calls (Some t) new result → (result ≡ Err DiskFault → ⊥) × NeverFails new
-calls_calm calls t new (Ok x) calm m = (λ h. cc, (makes_calm (Ok x) calls t new calm m).1)
-calls_calm {T = T} calls t new (Err DiskFault) calm m = absurd ((makes_calm {T = T} (Err journal.DiskFault) calls t new calm m).0 refl)
-calls_calm {T = T} calls t new (Err OutOfMemory) calm m = (λ h. cc, (makes_calm {T = T} (Err journal.OutOfMemory) calls t new calm m).1)
-calls_calm calls t new (Err Broken) calm m = (λ h. cc, goes_on t new calm m)
-calls_calm calls t new (Err (TooLong len)) calm m = (λ h. cc, goes_on t new calm m)
-calls_calm calls t new (Err (Full would_be)) calm m = (λ h. cc, goes_on t new calm m)
+-- the calls of one
+makes_calm : (stop : Option Stop) (calls : List DiskCall) (t : Told) (new : Option Told) → t.fails_from ≡ None → Makes calls stop (Some t) new → (stop ≡ Some disk.Failed → ⊥) × NeverFails new
+makes_calm stop [] t new calm m = (m.1, goes_on t new calm m.0)
+makes_calm stop (call ∷ calls) t new calm (inl m) = (λ h. let other : stop ≡ Some disk.OutOfMemory = m.0 in cc, goes_on t new calm m.1)
+makes_calm stop (call ∷ calls) t new calm (inr (inl m)) = let fails : fails_next t ≡ true = m.2 in let not : fails_next t ≡ false = never_next t calm in absurd cc
+makes_calm stop (call ∷ calls) t new calm (inr (inr m)) = makes_calm stop calls (one_more call t) new calm m.1
 
 -- the calls of an opening
 module _ {T : Type 0} (result : Result T OpenStop) where
@@ -65,11 +55,11 @@ none_stands None h = refl
 none_stands (Some u) h = absurd cc
 
 -- after a store's calls on a disk
-pub stays_calm : {T : Type 0} (calls : List DiskCall) (old new : MemoryState) (result : Result T StoreStop) → old.life.upset ≡ None → MakesCalls calls (Some (tells old.life)) (Some (tells new.life)) result
+pub stays_calm : {T : Type 0} (calls : List DiskCall) (P : List ℕ → Type 0) (old new : MemoryState) (result : Result T StoreStop) → old.life.upset ≡ None → Called (unless_early result calls) P (stop_in result) (state_of old) (state_of new)
     → (result ≡ Err DiskFault → ⊥) × (new.life.upset ≡ None)
-stays_calm calls old new result calm m =
-    let c = calls_calm calls (tells old.life) (Some (tells new.life)) result (ap from_of calm) m in
-    (c.0, none_stands new.life.upset c.1)
+stays_calm {T = T} calls P old new result calm called =
+    let c = makes_calm (stop_in result) (unless_early result calls) (tells old.life) (Some (tells new.life)) (ap from_of calm) called.made in
+    (λ is. c.0 (ap (λ (r : Result T StoreStop). stop_in r) is), none_stands new.life.upset c.1)
 
 -- after those of an opening on two
 pub both_stay_calm : {T : Type 0} (calls : List (Side × DiskCall)) (a b new_a new_b : MemoryState) (result : Result T OpenStop) → a.life.upset ≡ None → b.life.upset ≡ None

@@ -66,7 +66,7 @@ as_before (Some s) place now in_use is = is ∙ in_use
 -- ---- two empty disks
 
 abbrev pub new_disk : MemoryState
-new_disk = record { past = []; life = begins_with []; known = 0; faults = 0 }
+new_disk = record { past = []; life = begins_with []; known = 0; faults = 0; wants = 0 }
 
 abbrev new_store : Member → Stood
 new_store member = record { side = A; journal = created member 1 None; kv = empty }

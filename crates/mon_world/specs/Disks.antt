@@ -3,7 +3,7 @@ use Rattle.std.specs.Prelude.{◌≡◌, false, List, Option, Some, None, Result
 use Rattle.mon_types.specs.declared.member.Member.{Member}
 use Rattle.mon_disk.specs.Images.{Content}
 use Rattle.mon_disk.specs.Memory.{seen_of}
-use Rattle.mon_disk.specs.MemoryDisk.{MemoryState, content_of}
+use Rattle.mon_disk.specs.MemoryDisk.{MemoryState, content_of, state_of}
 use Rattle.mon_tx.specs.Map.{Store}
 use Rattle.mon_journal.specs.Written.{owner_of}
 use Rattle.mon_store.specs.declared.store.Store as kept
@@ -16,9 +16,6 @@ use Rattle.mon_world.specs.Site.{Standing}
 -- what a disk holds, and what a crash may leave of it
 abbrev pub content : MemoryState → Content
 content d = content_of d.past d.life
-
-abbrev pub known : MemoryState → ℕ
-known d = d.known
 
 -- the store that a member opens on two disks, if it opens one
 abbrev pub opened_in : Result Stood Refusal → Option Stood
@@ -63,7 +60,7 @@ opened_as store = record { side = store.side; journal = store.journal; kv = stor
 
 -- it stands on its disks, and neither was ever upset
 pub record IsSafe (store : kept.Store MemoryState) : Type 0 where
-  pub sound : IsSound known content store
+  pub sound : IsSound state_of store
   pub calm_a : (disk_a store).life.upset ≡ None
   pub calm_b : (disk_b store).life.upset ≡ None
 
