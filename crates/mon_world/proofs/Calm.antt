@@ -4,7 +4,7 @@ use Rattle.std.specs.Prelude.{IfSome}
 use Rattle.mon_types.specs.declared.names.Side.{Side}
 use Rattle.mon_types.specs.declared.names.Side.TheVariants.{A, B}
 use Rattle.mon_disk.specs.declared.disk.DiskCall.{DiskCall}
-use Rattle.mon_disk.specs.declared.life.Upset.{Upset}
+use Rattle.mon_disk.specs.Memory.{Upset}
 use Rattle.mon_types.specs.declared.names.Stop.{Stop}
 use Rattle.mon_types.specs.declared.names.Stop.TheVariants as disk
 use Rattle.mon_disk.specs.Calls.{Told, is_past, fails_next, Makes, Called}

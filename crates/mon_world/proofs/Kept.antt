@@ -5,7 +5,8 @@ use Rattle.std.specs.FinMap.{empty}
 use Rattle.mon_types.specs.declared.names.Side.TheVariants.{A}
 use Rattle.mon_types.specs.declared.member.Member.{Member}
 use Rattle.mon_disk.specs.Images.{images}
-use Rattle.mon_disk.specs.MemoryDisk.{MemoryState, begins_with}
+use Rattle.mon_disk.specs.Memory.{begins_with}
+use Rattle.mon_disk.specs.MemoryDisk.{MemoryState}
 use Rattle.mon_tx.specs.Map.{Store}
 use Rattle.mon_journal.specs.Content.{content}
 use Rattle.mon_journal.specs.Written.{created}
