@@ -22,4 +22,6 @@ pub use payloads::Payloads;
 pub use stop::JournalStop;
 
 #[cfg(test)]
+mod stopping;
+#[cfg(test)]
 mod tests;
