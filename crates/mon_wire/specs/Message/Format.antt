@@ -15,7 +15,7 @@ unfoldable pub use Rattle.mon_bytes.specs.Format.{items, u16_bytes}
 -- whether memory ran out
 abbrev pub no_memory : MsgRefused → Bool
 no_memory refused.OutOfMemory = true
-no_memory (refused.At at kind) = false
+no_memory (refused.At _ _) = false
 
 abbrev pub faults : Faults MsgRefused
 faults = record { cut = λ at. refused.At at fault.Cut; value = λ at. refused.At at fault.Value }
