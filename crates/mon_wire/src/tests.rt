@@ -1,3 +1,6 @@
+ghost use Rattle.std.specs.Prelude.{IfOk};
+ghost use Rattle.mon_wire.specs.Message.Whole.{HasText};
+
 use super::*;
 use std::alloc::Global;
 use std::test::Fail;
@@ -143,14 +146,43 @@ fn fault(alloc: Global, bytes: &[u8]) -> Result<Option<(MsgKind, usize)>, Fail> 
     }
 }
 
+/// A copy of a message.
+fn copied(alloc: Global, message: &Message) -> Result<Message, Fail>
+    requires { HasText message.now }
+    ensures { IfOk result HasText }
+{
+    match message.copy(alloc) {
+        Ok(copy) => Ok(copy),
+        Err(_) => Err(Fail::from("out of memory")),
+    }
+}
+
+/// A copy of the message that these bytes spell.
+fn copy_of(alloc: Global, bytes: &[u8]) -> Result<Message, Fail>
+    ensures { IfOk result HasText }
+{
+    match decode(alloc, bytes) {
+        Ok(message) => copied(alloc, &message),
+        Err(_) => Err(Fail::from("a message")),
+    }
+}
+
+/// The bytes of a message, and how long it says it is.
+fn spelled(alloc: Global, message: &Message) -> Result<(Vec<u8>, usize), Fail>
+    requires { HasText message.now }
+{
+    match message.encode(alloc) {
+        Ok(text) => Ok((text, message.len())),
+        Err(_) => Err(Fail::from("out of memory")),
+    }
+}
+
 /// The bytes of a copy of the message that these bytes spell, and how long it says it is.
 fn spelled_again(alloc: Global, bytes: &[u8]) -> Result<(Vec<u8>, usize), Fail> {
-    let Ok(message) = decode(alloc, bytes) else {
-        return Err(Fail::from("a message"));
-    };
-    let copied = message.copy(alloc)?;
-    let len = copied.len();
-    Ok((copied.encode(alloc)?, len))
+    match copy_of(alloc, bytes) {
+        Ok(message) => spelled(alloc, &message),
+        Err(why) => Err(why),
+    }
 }
 
 #[test]
