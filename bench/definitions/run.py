@@ -153,6 +153,7 @@ N[PR + 'Reaction.reaction'] = nat(5)(reaction)
 N['mon_kv.specs.Readers.size_of'] = nat(1)(lambda m: sum(len(k[0]) + len(k[1]) + len(v) + 16 for k, v in m.d.items()))
 antt.STD.update({
  'ltb-true': nat(3)(lambda *a: TT), 'refl': TT,
+ 'is_err': nat(1)(lambda r: r.n == 'Err'),
  'filter_map': nat(2)(lambda f, xs: tuple(y.a[0] for y in (app(f, x) for x in xs) if y.n == 'Some')),
  'flat_map': nat(2)(lambda f, xs: tuple(y for x in xs for y in app(f, x))),
  'slice_get': nat(2)(lambda xs, i: Some(xs[i]) if i < len(xs) else NONE),

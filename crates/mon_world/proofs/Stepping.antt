@@ -2,6 +2,7 @@
 use Rattle.std.proofs.Common.{◌≡◌, ℕ, zero, suc, ◌+◌, ◌-◌, Bool, true, false, cond, max, List, [], ◌++◌, length, Option, Some, None, Result, Ok, Err, IfOk, refl, sym, ap, subst, ◌∙◌, arith, length-append}
 use Rattle.std.specs.Prelude.{◌≤◌, ◌<◌, is_some, slice_get}
 use Rattle.std.proofs.lemmas.Bool.{le-ltb, lt-ltb}
+use Rattle.std.proofs.lemmas.List.FromFn.{length-map-range_with_len}
 use Rattle.mon_kv.specs.Readers.{size_of, most_size}
 use Rattle.mon_types.specs.declared.names.Which.{Which}
 use Rattle.mon_tx.specs.Map.{Store, apply}
@@ -18,12 +19,12 @@ use Rattle.mon_wire.specs.declared.request.Session.{Session}
 use Rattle.quorum_model.specs.Clients.{messages_of}
 use Rattle.quorum_model.specs.Alone.{Waits, IsSettled}
 use Rattle.mon_kv.specs.Readers.{is_marked}
-use Rattle.quorum_model.specs.Growth.{last_of, records_after, grown}
+use Rattle.quorum_model.specs.Growth.{last_of, record_in, records_behind, grown}
 use Rattle.quorum_model.specs.Happens.{map_after, after_meeting, unmoved, moved}
 use Rattle.quorum_model.specs.Happens as happens
 use Rattle.quorum_model.specs.Meets.{Reacts, message_at}
 use Rattle.quorum_model.specs.Monitors.{alone, itself}
-use Rattle.quorum_model.specs.World.{World as Model, Plain as Coming, Comes, Start, Deliver, Expire, Client, Envelope}
+use Rattle.quorum_model.specs.World.{World as Model, Plain as Coming, Comes, Start, Deliver, Ring, Client, Envelope}
 use Rattle.quorum_model.proofs.Ringing.{rings}
 use Rattle.quorum_model.proofs.StaysSettled.{start_settled, client_settled}
 use Rattle.schedule_text.specs.declared.event.Plain.{Plain}
@@ -47,10 +48,6 @@ use Rattle.mon_world.specs.Takes.{IsStored, Takes, state_in, taken_line, stop_of
 
 -- ---- the log's length
 
-records-length : (m : Store) (v count : ℕ) → length (records_after m v count) ≡ count
-records-length m v zero = refl
-records-length m v (suc count) = ap suc (records-length m (suc v) count)
-
 max-minus : (a b : ℕ) → a + (b - a) ≡ max a b
 max-minus a b = omega arith
 
@@ -58,9 +55,9 @@ grown-length : (log : List (List ℕ)) (m : Store) → length (grown log m) ≡ 
 unfolding grown
 grown-length log m = by (is_marked m)
   where
-    by : (b : Bool) → length (cond b log (log ++ records_after m (length log) (last_of m - length log))) ≡ cond b (length log) (max (length log) (last_of m))
+    by : (b : Bool) → length (cond b log (log ++ records_behind m (length log) (last_of m - length log))) ≡ cond b (length log) (max (length log) (last_of m))
     by true = refl
-    by false = length-append log _ ∙ ap (λ n. length log + n) (records-length m (length log) (last_of m - length log)) ∙ max-minus (length log) (last_of m)
+    by false = length-append log _ ∙ ap (λ n. length log + n) (length-map-range_with_len (record_in m) (suc (length log)) (last_of m - length log)) ∙ max-minus (length log) (last_of m)
 
 -- ---- a monitor that did what its reaction says
 
@@ -265,7 +262,7 @@ module _ (old : World) (w : Model) (rank at : ℕ) (is_0 : rank ≡ 0) (session 
 
 module _ (old : World) (w : Model) (rank at : ℕ) (is_0 : rank ≡ 0) (t : Timer) (stand : StandsFor old w) where
   abbrev rung : Coming
-  rung = Expire 0 t at
+  rung = Ring 0 t at
 
   comes_to : (s : State) → w.state 0 ≡ Some s → plain_step alone w rung ≡ took w rung (input.Timer t) (protocol.reaction itself at (w.store 0) s (input.Timer t))
   comes_to s was = rw was refl
@@ -284,13 +281,13 @@ module _ (old : World) (w : Model) (rank at : ℕ) (is_0 : rank ≡ 0) (t : Time
 
   pub rung-ran : (result : Result StepLine WorldStop) (new : World) (m : Store) (before : StateLine) (y : Reaction) → is_some old.site.standing ≡ true → m ≡ w.store 0 → before ≡ state_in m
       → ((s : State) → Waits s → IsReaction y (protocol.reaction itself at m s (input.Timer t)))
-      → Takes result new old.log (taken_line rank (Some before) y (apply y.tx (w.store 0))) (apply y.tx (w.store 0)) → DoesPlain result new (plain_step alone w (Expire rank t at))
+      → Takes result new old.log (taken_line rank (Some before) y (apply y.tx (w.store 0))) (apply y.tx (w.store 0)) → DoesPlain result new (plain_step alone w (Ring rank t at))
   rung-ran result new m before y up is was reacts =
-      subst (λ (rank : ℕ). Takes result new old.log (taken_line rank (Some before) y (apply y.tx (w.store 0))) (apply y.tx (w.store 0)) → DoesPlain result new (plain_step alone w (Expire rank t at))) (sym is_0)
+      subst (λ (rank : ℕ). Takes result new old.log (taken_line rank (Some before) y (apply y.tx (w.store 0))) (apply y.tx (w.store 0)) → DoesPlain result new (plain_step alone w (Ring rank t at))) (sym is_0)
       (up-ran old w at rung (input.Timer t) stand comes_to none_there stood_so result new m before y up is was reacts settles)
 
-  pub rung-down : is_some old.site.standing ≡ false → DoesPlain (Ok (still_line Down)) old (plain_step alone w (Expire rank t at))
-  rung-down off = subst (λ (rank : ℕ). DoesPlain (Ok (still_line Down)) old (plain_step alone w (Expire rank t at))) (sym is_0) (down old w at rung (input.Timer t) stand comes_to none_there stood_so off)
+  pub rung-down : is_some old.site.standing ≡ false → DoesPlain (Ok (still_line Down)) old (plain_step alone w (Ring rank t at))
+  rung-down off = subst (λ (rank : ℕ). DoesPlain (Ok (still_line Down)) old (plain_step alone w (Ring rank t at))) (sym is_0) (down old w at rung (input.Timer t) stand comes_to none_there stood_so off)
 
 -- ---- a message, of which none was sent
 
@@ -322,7 +319,7 @@ module _ (r : Result StepLine WorldStop) (old new : World) (event : Plain) where
       → (w : Model) → StandsFor old w → DoesPlain r new (plain_step alone w (plain_event event))
   step-client rank at session request so does w stand = comes_by (plain.Client rank at session request) so w (does at w stand)
 
-  pub step-timer : (rank : ℕ) (t : Timer) (at : ℕ) → event ≡ plain.Timer rank t at → ((t : Timer) (at : ℕ) (w : Model) → StandsFor old w → DoesPlain r new (plain_step alone w (Expire rank t at)))
+  pub step-timer : (rank : ℕ) (t : Timer) (at : ℕ) → event ≡ plain.Timer rank t at → ((t : Timer) (at : ℕ) (w : Model) → StandsFor old w → DoesPlain r new (plain_step alone w (Ring rank t at)))
       → (w : Model) → StandsFor old w → DoesPlain r new (plain_step alone w (plain_event event))
   step-timer rank t at so does w stand = comes_by (plain.Timer rank t at) so w (does t at w stand)
 

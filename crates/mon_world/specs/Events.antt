@@ -11,7 +11,7 @@ use Rattle.schedule_text.specs.Spelling.{event_fits}
 abbrev pub plain_event : Plain → model.Plain
 plain_event (plain.Start rank at) = model.Start rank at
 plain_event (plain.Deliver message at) = model.Deliver message at
-plain_event (plain.Timer rank kind at) = model.Expire rank kind at
+plain_event (plain.Timer rank kind at) = model.Ring rank kind at
 plain_event (plain.Client rank at session request) = model.Client rank at session request
 
 -- a crash and a fault of a disk are one to the model: the disk fails, and the monitor is down

@@ -63,7 +63,7 @@ impl World {
     ghost use Rattle.mon_tx.specs.Text.{text, most};
     ghost use Rattle.mon_wire.specs.declared.phase.Timer.{Timer};
     ghost use Rattle.quorum_model.specs.Monitors.{alone};
-    ghost use Rattle.quorum_model.specs.World.{World as Model, Plain as Coming, first_world, Start, Expire, Client};
+    ghost use Rattle.quorum_model.specs.World.{World as Model, Plain as Coming, first_world, Start, Ring, Client};
     ghost use Rattle.mon_world.specs.Events.{event_runs, plain_event};
     ghost use Rattle.quorum_model.specs.Scenes.{Scene};
     ghost use Rattle.mon_world.specs.Stands.{IsItself, IsUsable, StandsFor, DoesPlain, Does};
@@ -154,7 +154,7 @@ impl World {
     fn ring(&mut self, rank: Rank) -> Result<StepLine, WorldStop>
         requires rank { rank ≡ 0 }
         requires usable { IsUsable self.old }
-        ensures does { (t : Timer) (at : ℕ) (w : Model) → StandsFor self.old w → DoesPlain result self.new (plain_step alone w (Expire rank t at)) }
+        ensures does { (t : Timer) (at : ℕ) (w : Model) → StandsFor self.old w → DoesPlain result self.new (plain_step alone w (Ring rank t at)) }
         ensures usable { OnOk result (IsUsable self.new) }
         ensures member { self.new.site.member ≡ self.old.site.member }
     {

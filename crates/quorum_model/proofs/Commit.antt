@@ -1,6 +1,8 @@
 -- A command: the next version is committed and acknowledged.
+use Rattle.std.specs.Prelude.{unwrap_or}
 use Rattle.std.proofs.Common.{◌≡◌, ℕ, suc, ◌<◌, ◌≤◌, ◌^◌, cond, List, [], ◌∷◌, ◌++◌, length, Some, Ok, refl, sym, ap, subst, subst₂, ◌∙◌, arith, None}
-use Rattle.std.specs.List.{AllByRecursion, cons_option}
+use Rattle.std.specs.List.{AllByRecursion, Contains, cons_option}
+use Rattle.std.proofs.lemmas.List.Elements.{Contains-push, Contains-append_left}
 use Rattle.std.specs.Option.{option_map}
 use Rattle.mon_bytes.specs.declared.command.Command.{Command}
 use Rattle.mon_tx.specs.declared.op.Op.{Op}
@@ -8,7 +10,6 @@ use Rattle.mon_tx.specs.declared.key.Area.TheVariants as area
 use Rattle.mon_tx.specs.declared.key.Key.TheVariants as key
 use Rattle.mon_tx.specs.Map.{Store, apply_op, apply}
 use Rattle.mon_tx.specs.Decision.{Cell}
-use Rattle.mon_tx.specs.Keys.{cell}
 use Rattle.mon_tx.specs.Text.{text}
 use Rattle.mon_tx.specs.Decode.{ops_in}
 use Rattle.mon_wire.specs.declared.phase.Phase.{Phase}
@@ -27,15 +28,15 @@ use Rattle.mon_msg.specs.Protocol.Value.{service_of, value}
 use Rattle.mon_msg.specs.Protocol.Readings.{readings_of, epoch_of}
 use Rattle.quorum_model.specs.Alone.{Waits}
 use Rattle.quorum_model.specs.Acknowledging.{acknowledgement, acknowledgements_of, incremental_in}
-use Rattle.quorum_model.specs.Agree.{Among, IsAsked}
+use Rattle.quorum_model.specs.Agree.{IsAsked}
 use Rattle.quorum_model.specs.Clients.{command_of, incremental_of, made_by, messages_of, replies_of}
-use Rattle.quorum_model.specs.Growth.{last_of, bytes_or_none, grown}
+use Rattle.quorum_model.specs.Growth.{last_of, record_in, grown}
 use Rattle.quorum_model.specs.Happens.{is_active, moved}
 use Rattle.quorum_model.specs.Kept.{AcknowledgedOnce, IsAnswered}
 use Rattle.log_model.specs.LogOfValues.{IsCommand, IsValue, view_at}
 use Rattle.quorum_model.specs.World.{World, Client, Asked, Acknowledged, Replied}
 use Rattle.log_model.proofs.Committed.{value_told}
-use Rattle.quorum_model.proofs.Lists.{all_map, all_append, among_front, among_last, length_push}
+use Rattle.quorum_model.proofs.Lists.{all_map, all_append, length_push}
 use Rattle.log_model.proofs.Logs.{Fronts, fronts_push, entry_push, fold_stays}
 use Rattle.quorum_model.proofs.Made.{puts_command, first_put}
 use Rattle.log_model.proofs.Holds.{Holds, read_last, keeps_log}
@@ -91,7 +92,7 @@ module _ (w : World) (inv : Inv w) (at : ℕ) (session : Session) (request : Req
     same_log : grown w.log m ≡ log
     same_log =
         ap (grown w.log) same_store ∙ grown_by w.log learned_store 1 holds.unmarked (let e = holds.last in omega (arith, length_push w.log bytes))
-        ∙ ap (λ (record_ : Cell). w.log ++ bytes_or_none record_ ∷ []) (new_record w.log (w.store 0) inv.holds ops V room)
+        ∙ ap (λ (record_ : Cell). w.log ++ unwrap_or record_ [] ∷ []) (new_record w.log (w.store 0) inv.holds ops V room)
 
     abbrev asked : Asked
     asked = record { rank = 0; session = session; request = request }
@@ -112,10 +113,10 @@ module _ (w : World) (inv : Inv w) (at : ℕ) (session : Session) (request : Req
     active = cond (is_active r.state.phase) ((epoch, 0) ∷ []) []
 
     -- what the store keeps as the new version, and what that puts
-    made_kept : incremental_in (ops_in (bytes_or_none (cell m area.Paxos (key.Version (suc c))))) ≡ (service_of command, x)
+    made_kept : incremental_in (ops_in (record_in m (suc c))) ≡ (service_of command, x)
     made_kept =
-        ap (λ (s : Store). incremental_in (ops_in (bytes_or_none (cell s area.Paxos (key.Version (suc c)))))) same_store
-        ∙ ap (λ (record_ : Cell). incremental_in (ops_in (bytes_or_none record_))) (new_record w.log (w.store 0) inv.holds ops V room)
+        ap (λ (s : Store). incremental_in (ops_in (record_in s (suc c)))) same_store
+        ∙ ap (λ (record_ : Cell). incremental_in (ops_in (unwrap_or record_ []))) (new_record w.log (w.store 0) inv.holds ops V room)
         ∙ ap incremental_in reads_value ∙ first_put (readings_of (w.store 0)) command 0 ops valued
 
     one_ack : acks ≡ ack ∷ []
@@ -143,7 +144,7 @@ module _ (w : World) (inv : Inv w) (at : ℕ) (session : Session) (request : Req
     values : (v : ℕ) → c ≤ v → v < length (grown w.log m) → IsAsked 1 (w.asked ++ asked ∷ []) (grown w.log m) v
     values v low high = subst (IsAsked 1 (w.asked ++ asked ∷ []) (grown w.log m)) here (record {
       by = asked;
-      was_asked = among_last asked w.asked;
+      was_asked = Contains-push w.asked asked;
       rank = omega arith;
       command = command;
       is = is;
@@ -162,7 +163,7 @@ module _ (w : World) (inv : Inv w) (at : ℕ) (session : Session) (request : Req
         event = omega arith;
         some = omega arith;
         within = omega (arith, more);
-        put = subst (Among x) (sym puts) (among_last x []);
+        put = subst (λ (puts : List (List ℕ)). Contains puts x) (sym puts) (Contains-push [] x);
       },
       refl,
     )
@@ -177,11 +178,11 @@ module _ (w : World) (inv : Inv w) (at : ℕ) (session : Session) (request : Req
     is_answered : IsAnswered committed answer (suc c)
     is_answered = record {
       acknowledged = ack;
-      among = subst (λ (more : List Acknowledged). Among ack (w.acknowledged ++ more)) (sym one_ack) (among_last ack w.acknowledged);
+      among = subst (λ (more : List Acknowledged). Contains (w.acknowledged ++ more) ack) (sym one_ack) (Contains-push w.acknowledged ack);
       version = refl;
       earlier = omega arith;
       asked = asked;
-      was_asked = among_last asked w.asked;
+      was_asked = Contains-push w.asked asked;
       rank = refl;
       session = refl;
       made = made;
@@ -192,7 +193,7 @@ module _ (w : World) (inv : Inv w) (at : ℕ) (session : Session) (request : Req
       stored = refl;
       holds = subst₂ Holds (sym same_log) (sym same_store) holds;
       fronts = subst (Fronts w.log) (sym same_log) (fronts_push w.log bytes);
-      asks = λ a h. among_front a w.asked (asked ∷ []) h;
+      asks = λ a h. Contains-append_left w.asked (asked ∷ []) a h;
       values = values;
     }
 

@@ -1,3 +1,4 @@
--- Crashes, acknowledgements, growth and copies, computed.
+-- Crashes, acknowledgements, growth and calm runs, computed.
+pub mod Calm
 pub mod Crashes
 pub mod Growing

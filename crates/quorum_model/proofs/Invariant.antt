@@ -1,7 +1,7 @@
 -- What holds of one monitor's world after every event, and that it is safe.
 use Rattle.std.specs.Prelude.{IfSome}
 use Rattle.std.proofs.Common.{◌≡◌, ℕ, zero, suc, ◌<◌, ◌≤◌, true, List, [], length, Option, Some, None, Ok, refl, sym, ap, subst, ◌∙◌, arith}
-use Rattle.std.specs.List.{AllByRecursion}
+use Rattle.std.specs.List.{AllByRecursion, Contains}
 use Rattle.std.specs.FinMap.{empty}
 use Rattle.mon_tx.specs.declared.key.Area.TheVariants as area
 use Rattle.mon_tx.specs.declared.key.Key.TheVariants as key
@@ -18,11 +18,11 @@ use Rattle.mon_msg.specs.Protocol.Readings.{readings_of}
 use Rattle.quorum_model.specs.Alone.{Waits}
 use Rattle.mon_kv.specs.Readers.{is_marked}
 use Rattle.quorum_model.specs.World.{World, Asked, Acknowledged, Replied, first_world}
-use Rattle.quorum_model.specs.Agree.{Among, Agrees, IsAsked, Agree}
+use Rattle.quorum_model.specs.Agree.{Agrees, IsAsked, Agree}
 use Rattle.quorum_model.specs.Kept.{LeaderHas, IsKept, AcknowledgedOnce, IsAnswered, DoneIsAnswered, Kept}
 use Rattle.quorum_model.specs.Safe.{after_transactions, OneActive}
 use Rattle.quorum_model.specs.Shown.{AreAfter, ShowsLog, Shown, Fence}
-use Rattle.quorum_model.proofs.Lists.{all_map, among_all}
+use Rattle.quorum_model.proofs.Lists.{all_map, all_contained}
 use Rattle.log_model.proofs.Logs.{Fronts, entry_stays, fold_stays, incrementals_stay}
 use Rattle.log_model.proofs.Holds.{Holds, holds_nothing, record_there}
 
@@ -31,7 +31,7 @@ pub record IsAck (w : World) (a : Acknowledged) : Type 0 where
   pub event : a.event ≤ w.events
   pub some : 1 ≤ a.version
   pub within : a.version ≤ length w.log
-  pub put : Among a.incremental (put_in a.service (ops_in (entry w.log a.version)))
+  pub put : Contains (put_in a.service (ops_in (entry w.log a.version))) a.incremental
 
 pub record IsReply (w : World) (r : Replied) : Type 0 where
   pub event : r.event ≤ w.events
@@ -69,8 +69,8 @@ at_first = record {
 
 pub record Grown (w new : World) : Type 0 where
   pub fronts : Fronts w.log new.log
-  pub asked : (a : Asked) → Among a w.asked → Among a new.asked
-  pub acknowledged : (a : Acknowledged) → Among a w.acknowledged → Among a new.acknowledged
+  pub asked : (a : Asked) → Contains w.asked a → Contains new.asked a
+  pub acknowledged : (a : Acknowledged) → Contains w.acknowledged a → Contains new.acknowledged a
   pub events : w.events ≤ new.events
 
 module _ (w new : World) (grown : Grown w new) where
@@ -79,7 +79,7 @@ module _ (w new : World) (grown : Grown w new) where
     event = let e = h.event in let g = grown.events in omega arith;
     some = h.some;
     within = let e = h.within in let g = grown.fronts.short in omega arith;
-    put = subst (λ (e : List ℕ). Among a.incremental (put_in a.service (ops_in e))) (sym (entry_stays grown.fronts a.version h.within)) h.put;
+    put = subst (λ (e : List ℕ). Contains (put_in a.service (ops_in e)) a.incremental) (sym (entry_stays grown.fronts a.version h.within)) h.put;
   }
 
   answer_stays : (r : Replied) (v : ℕ) → IsAnswered w r v → IsAnswered new r v
@@ -169,7 +169,7 @@ module _ (w : World) (inv : Inv w) where
 
   pub one_active : OneActive w
   one_active = λ e r s p q.
-      among_all (λ (p : ℕ × ℕ). p.1 ≡ 0) (e, r) w.active inv.active p ∙ sym (among_all (λ (p : ℕ × ℕ). p.1 ≡ 0) (e, s) w.active inv.active q)
+      all_contained (λ (p : ℕ × ℕ). p.1 ≡ 0) (e, r) w.active inv.active p ∙ sym (all_contained (λ (p : ℕ × ℕ). p.1 ≡ 0) (e, s) w.active inv.active q)
 
   pub folded : (i : ℕ) → i < 1 → w.store i ≡ after_transactions (w.transactions i) empty
   folded zero lt = inv.held

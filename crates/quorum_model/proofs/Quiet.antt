@@ -1,6 +1,7 @@
 -- An event that changes the monitor's own numbers alone, and acknowledges nothing.
 use Rattle.std.proofs.Common.{◌≡◌, ℕ, suc, ◌-◌, Bool, true, false, cond, eqb, List, [], ◌∷◌, ◌++◌, length, None, refl, sym, ap, subst, ◌∙◌, append-nil, arith}
-use Rattle.std.specs.List.{AllByRecursion, cons_option}
+use Rattle.std.specs.List.{AllByRecursion, Contains, cons_option}
+use Rattle.std.proofs.lemmas.List.Elements.{Contains-append_left}
 use Rattle.std.specs.Option.{option_map}
 use Rattle.mon_tx.specs.declared.op.Op.{Op}
 use Rattle.mon_tx.specs.declared.key.Area.TheVariants as area
@@ -22,14 +23,12 @@ use Rattle.mon_msg.specs.Protocol.Readings.{readings_of, epoch_of}
 use Rattle.mon_msg.proofs.Joining.{apply-joined}
 use Rattle.quorum_model.specs.Alone.{Waits}
 use Rattle.quorum_model.specs.Acknowledging.{done_in, acknowledgement, acknowledgements_of}
-use Rattle.quorum_model.specs.Agree.{Among}
 use Rattle.quorum_model.specs.Clients.{with_asked, messages_of, replies_of}
-use Rattle.quorum_model.specs.Growth.{last_of, records_after, grown}
+use Rattle.quorum_model.specs.Growth.{last_of, records_behind, grown}
 use Rattle.quorum_model.specs.Happens.{is_active, moved}
 use Rattle.quorum_model.specs.World.{World, Plain, Client, Asked, Acknowledged, Replied}
 use Rattle.quorum_model.specs.Kept.{AcknowledgedOnce, DoneIsAnswered}
 use Rattle.quorum_model.specs.Shown.{AreAfter, ShowsLog}
-use Rattle.quorum_model.proofs.Lists.{among_front}
 use Rattle.log_model.proofs.Logs.{Fronts, fronts_itself}
 use Rattle.log_model.proofs.Own.{IsOwn, Same, same_changes}
 use Rattle.log_model.proofs.Holds.{Holds, number_none, still_holds}
@@ -38,20 +37,20 @@ use Rattle.quorum_model.proofs.Step.{after, Stores, IsNewAck, IsNewReply, Takes,
 
 -- ---- the log
 
-pub grown_by : (log : List (List ℕ)) (m : Store) (count : ℕ) → cell m area.Sync key.InSync ≡ None → last_of m - length log ≡ count → grown log m ≡ log ++ records_after m (length log) count
+pub grown_by : (log : List (List ℕ)) (m : Store) (count : ℕ) → cell m area.Sync key.InSync ≡ None → last_of m - length log ≡ count → grown log m ≡ log ++ records_behind m (length log) count
 unfolding grown
 grown_by log m count unmarked e =
-    ap (λ (c : Cell). cond (eqb (number_in c) 1) log (log ++ records_after m (length log) (last_of m - length log))) unmarked
-    ∙ ap (λ n. cond (eqb n 1) log (log ++ records_after m (length log) (last_of m - length log))) number_none
-    ∙ ap (λ n. log ++ records_after m (length log) n) e
+    ap (λ (c : Cell). cond (eqb (number_in c) 1) log (log ++ records_behind m (length log) (last_of m - length log))) unmarked
+    ∙ ap (λ n. cond (eqb n 1) log (log ++ records_behind m (length log) (last_of m - length log))) number_none
+    ∙ ap (λ n. log ++ records_behind m (length log) n) e
 
 grown_not : (log : List (List ℕ)) (m : Store) → Holds log m → grown log m ≡ log
 grown_not log m h = grown_by log m 0 h.unmarked (let e = h.last in omega arith) ∙ append-nil log
 
 -- ---- what is asked, and who is active
 
-pub asked_before : (p : Plain) (a : Asked) (asked : List Asked) → Among a asked → Among a (with_asked p asked)
-asked_before (Client rank at session r) a asked h = among_front a asked _ h
+pub asked_before : (p : Plain) (a : Asked) (asked : List Asked) → Contains asked a → Contains (with_asked p asked) a
+asked_before (Client rank at session r) a asked h = Contains-append_left asked _ a h
 asked_before other a asked h = h
 
 pub first_rank : (b : Bool) (epoch : ℕ) → AllByRecursion (λ (p : ℕ × ℕ). p.1 ≡ 0) (cond b ((epoch, 0) ∷ []) [])

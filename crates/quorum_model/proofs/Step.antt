@@ -1,7 +1,8 @@
 -- What an event must do to the one monitor's world so that the invariant lasts.
 use Rattle.std.proofs.Common.{◌≡◌, ℕ, suc, ◌<◌, ◌≤◌, List, [], ◌∷◌, ◌++◌, length, Some, refl, sym, ap, ◌∙◌, ◌⊎◌, inl, inr, arith}
 use Rattle.std.proofs.lemmas.Bool.{cases_lt}
-use Rattle.std.specs.List.{AllByRecursion}
+use Rattle.std.specs.List.{AllByRecursion, Contains}
+use Rattle.std.proofs.lemmas.List.Elements.{Contains-append_left}
 use Rattle.std.specs.FinMap.{empty}
 use Rattle.mon_tx.specs.declared.op.Op.{Op}
 use Rattle.mon_tx.specs.Map.{Store, apply}
@@ -10,7 +11,7 @@ use Rattle.mon_wire.specs.declared.reply.Reply.TheVariants as reply
 use Rattle.mon_msg.specs.Protocol.Reaction.{Reaction}
 use Rattle.mon_msg.specs.Protocol.State.{State}
 use Rattle.quorum_model.specs.Alone.{Waits}
-use Rattle.quorum_model.specs.Agree.{Among, IsAsked}
+use Rattle.quorum_model.specs.Agree.{IsAsked}
 use Rattle.quorum_model.specs.Clients.{with_asked}
 use Rattle.quorum_model.specs.Growth.{grown}
 use Rattle.quorum_model.specs.Happens.{put_at, map_after, kept_only, moved}
@@ -18,7 +19,7 @@ use Rattle.quorum_model.specs.Kept.{AcknowledgedOnce}
 use Rattle.quorum_model.specs.Safe.{after_transactions}
 use Rattle.quorum_model.specs.Shown.{IsFenced, Fence}
 use Rattle.quorum_model.specs.World.{World, Plain, Envelope, Asked, Acknowledged, Replied}
-use Rattle.quorum_model.proofs.Lists.{all_map, all_append, all_both, among_front}
+use Rattle.quorum_model.proofs.Lists.{all_map, all_append, all_both}
 use Rattle.log_model.proofs.Logs.{Fronts}
 use Rattle.log_model.proofs.Holds.{Holds}
 use Rattle.quorum_model.proofs.Invariant.{IsAck, IsReply, Inv, Grown, ack_stays, reply_stays, value_stays}
@@ -28,7 +29,7 @@ pub record Stores (w : World) (m : Store) (tx : List Op) (log : List (List ℕ))
   pub stored : m ≡ apply tx (w.store 0)
   pub holds : Holds log m
   pub fronts : Fronts w.log log
-  pub asks : (a : Asked) → Among a w.asked → Among a asked
+  pub asks : (a : Asked) → Contains w.asked a → Contains asked a
   pub values : (v : ℕ) → length w.log ≤ v → v < length log → IsAsked 1 asked log v
 
 module _ (w : World) (m : Store) (s : State) (tx : List Op) (messages : List Envelope) (log : List (List ℕ)) (asked : List Asked) (acks : List Acknowledged) (replies : List Replied) (active : List (ℕ × ℕ)) where
@@ -119,7 +120,7 @@ module _ (w : World) (inv : Inv w) (m : Store) (s : State) (tx : List Op) (messa
   grows = record {
     fronts = does.stores.fronts;
     asked = does.stores.asks;
-    acknowledged = λ a h. among_front a w.acknowledged acks h;
+    acknowledged = λ a h. Contains-append_left w.acknowledged acks a h;
     events = omega arith;
   }
 

@@ -30,13 +30,13 @@ use Rattle.mon_msg.specs.Protocol.Readings.{readings_of}
 use Rattle.quorum_model.specs.Alone.{Waits}
 use Rattle.quorum_model.specs.Clients.{command_of}
 use Rattle.quorum_model.specs.Events.{RequestFits, PlainFits, AllFit}
-use Rattle.quorum_model.specs.Happens.{Stop, Full, map_after, unmoved, lost, kept_only, moved, unless_stopped, after_meeting, happens}
+use Rattle.quorum_model.specs.Happens.{Stop, Full, map_after, unmoved, lost, kept_only, moved, unless_stopped, in_world, after_meeting, happens}
 use Rattle.quorum_model.specs.Meets.{Meeting, NoMessage, Down, Reacts, message_at, meeting, meets}
 use Rattle.log_model.specs.LogOfValues.{IsCommand}
 use Rattle.quorum_model.specs.Monitors.{alone, itself}
 use Rattle.quorum_model.specs.Runs.{goes_on, ran_from, run_from, run}
 use Rattle.quorum_model.specs.Safe.{Safe}
-use Rattle.quorum_model.specs.World.{World, Plain, Start, Deliver, Expire, Client, Event, Comes, Crash, plain_of, Envelope, first_world}
+use Rattle.quorum_model.specs.World.{World, Plain, Start, Deliver, Ring, Client, Event, Comes, Crash, plain_of, Envelope, first_world}
 use Rattle.quorum_model.proofs.Lists.{all_map}
 use Rattle.log_model.proofs.Logs.{fronts_itself}
 use Rattle.quorum_model.proofs.Starting.{me, Starts, starts}
@@ -97,13 +97,16 @@ no_message messages e (suc k) = ap (λ (es : List Envelope). slice_get es k) e
 
 -- unless it stops the run: where the event comes to its end, and where a crash keeps the transaction
 abbrev Keeps : World → Plain → Result Reaction Which → Type 0
-Keeps w p result = IfOk (unless_stopped (moved w p 0) (w.store 0) result) Inv × IfOk (unless_stopped (kept_only w p 0) (w.store 0) result) Inv
+Keeps w p result =
+    IfOk (in_world (moved w p 0) (unless_stopped (w.store 0) result)) Inv × IfOk (in_world (kept_only w p 0) (unless_stopped (w.store 0) result)) Inv
 
 module _ (w : World) (p : Plain) where
   where_small : (r : Reaction) → Takes w p r → Keeps w p (Ok r)
   where_small r takes = by (ltb most_size (size_of (map_after w 0 r)))
     where
-      by : (b : Bool) → IfOk (cond b (Err (Full (size_of (map_after w 0 r)))) (Ok (moved w p 0 r))) Inv × IfOk (cond b (Err (Full (size_of (map_after w 0 r)))) (Ok (kept_only w p 0 r))) Inv
+      by : (b : Bool)
+          → let small : Result Reaction Stop = cond b (Err (Full (size_of (map_after w 0 r)))) (Ok r) in
+          IfOk (in_world (moved w p 0) small) Inv × IfOk (in_world (kept_only w p 0) small) Inv
       by true = (tt, tt)
       by false = takes
 
@@ -118,13 +121,13 @@ start_keeps w at inv =
     (starts itself.member.most itself.member.in_map at (w.store 0) (read_unmarked w.log (w.store 0) inv.holds) (read_settled w.log (w.store 0) inv.holds))
 
 module _ (w : World) (inv : Inv w) (s : State) (waits : Waits s) (at : ℕ) where
-  timer_keeps : (t : Timer) → Keeps w (Expire 0 t at) (reaction (me itself.member.most itself.member.in_map) at (w.store 0) s (input.Timer t))
+  timer_keeps : (t : Timer) → Keeps w (Ring 0 t at) (reaction (me itself.member.most itself.member.in_map) at (w.store 0) s (input.Timer t))
   unfolding joined
   timer_keeps t =
       let r = rings itself.member.most itself.member.in_map at (w.store 0) s waits t in
-      subst (Keeps w (Expire 0 t at)) (sym r.is)
-      (where_small w (Expire 0 t at) r.reaction
-      (calm_keeps w inv (Expire 0 t at) r.reaction [] tt r.stays.transaction (subst (AllByRecursion _) (sym r.stays.sends) tt) r.stays.waits))
+      subst (Keeps w (Ring 0 t at)) (sym r.is)
+      (where_small w (Ring 0 t at) r.reaction
+      (calm_keeps w inv (Ring 0 t at) r.reaction [] tt r.stays.transaction (subst (AllByRecursion _) (sym r.stays.sends) tt) r.stays.waits))
 
   module _ (session : Session) where
     abbrev came : Request → Result Reaction Which
@@ -198,12 +201,12 @@ met_keeps : (w : World) (p : Plain) → Inv w → PlainFits 1 p → KeepsAt w p 
 met_keeps w (Start zero at) inv fit = (refl, start_keeps w at inv)
 met_keeps w (Start (suc i) at) inv fit = absurd (omega arith)
 met_keeps w (Deliver k at) inv fit = rw (no_message w.messages inv.silent k) tt
-met_keeps w (Expire zero t at) inv fit = by (w.state 0) inv.waits
+met_keeps w (Ring zero t at) inv fit = by (w.state 0) inv.waits
   where
-    by : (v : Option State) → IfSome v Waits → KeepsAt w (Expire 0 t at) (meeting (record { rank = 0; at = at; input = input.Timer t }) (w.store 0) (Some itself) v)
+    by : (v : Option State) → IfSome v Waits → KeepsAt w (Ring 0 t at) (meeting (record { rank = 0; at = at; input = input.Timer t }) (w.store 0) (Some itself) v)
     by None waits = tt
     by (Some s) waits = (refl, timer_keeps w inv s waits at t)
-met_keeps w (Expire (suc i) t at) inv fit = absurd (omega arith)
+met_keeps w (Ring (suc i) t at) inv fit = absurd (omega arith)
 met_keeps w (Client zero at session r) inv fit = by (w.state 0) inv.waits
   where
     by : (v : Option State) → IfSome v Waits → KeepsAt w (Client 0 at session r) (meeting (record { rank = 0; at = at; input = input.Client session r }) (w.store 0) (Some itself) v)

@@ -7,7 +7,7 @@ use Rattle.mon_tx.specs.declared.op.Op.{Op}
 use Rattle.mon_kv.specs.Readers.{size_of, most_size}
 use Rattle.mon_msg.specs.Protocol.Reaction.{Reaction}
 use Rattle.mon_msg.specs.declared.input.Input.{Input}
-use Rattle.quorum_model.specs.Happens.{Stop, Full, map_after, unmoved, lost, kept_only, moved, unless_stopped, after_meeting, happens}
+use Rattle.quorum_model.specs.Happens.{Stop, Full, map_after, unmoved, lost, kept_only, moved, unless_stopped, in_world, after_meeting, happens}
 use Rattle.quorum_model.specs.Meets.{Meeting, NoMessage, Down, Reacts, meets}
 use Rattle.quorum_model.specs.Monitors.{Monitors}
 use Rattle.quorum_model.specs.Runs.{goes_on, ran_from, run_from, run, writes_at, writes_of, where_on, all_writes}
@@ -35,11 +35,11 @@ module _ (ms : Monitors) (es : List Event) (i : ℕ) (others : (next : World) �
   stays next e = goes [] next (e ∙ sym (append-nil (w.transactions i)))
 
   reacts : (next : Reaction → World) (rank : ℕ) → ((r : Reaction) → (next r).transactions i ≡ cond (eqb i rank) (w.transactions rank ++ r.transaction ∷ []) (w.transactions i))
-      → (came : Input) (r : Result Reaction Which) → IsWritten (writes_at i (Reacts rank came r)) (unless_stopped next (w.store rank) r)
+      → (came : Input) (r : Result Reaction Which) → IsWritten (writes_at i (Reacts rank came r)) (in_world next (unless_stopped (w.store rank) r))
   reacts next rank e came (Err which) = sym (append-nil (w.transactions i))
   reacts next rank e came (Ok r) = by (ltb most_size (size_of (map_after w rank r)))
     where
-      by : (b : Bool) → IsWritten (writes_at i (Reacts rank came (Ok r))) (cond b (Err (Full (size_of (map_after w rank r)))) (Ok (next r)))
+      by : (b : Bool) → IsWritten (writes_at i (Reacts rank came (Ok r))) (in_world next (cond b (Err (Full (size_of (map_after w rank r)))) (Ok r)))
       by true = sym (append-nil (w.transactions i))
       by false = goes (writes_at i (Reacts rank came (Ok r))) (next r) (e r ∙ push_at w rank r i)
 

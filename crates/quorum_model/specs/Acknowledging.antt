@@ -2,11 +2,8 @@
 use Rattle.std.specs.Prelude.{ℕ, List, [], ◌∷◌, Option, Some, None, if◌then◌else◌}
 use Rattle.std.specs.List.{filter_map}
 use Rattle.std.specs.Option.{option_map}
-use Rattle.mon_tx.specs.declared.key.Area.TheVariants as area
-use Rattle.mon_tx.specs.declared.key.Key.TheVariants as key
 use Rattle.mon_tx.specs.declared.op.Op.{Op}
 use Rattle.mon_tx.specs.Decode.{ops_in}
-use Rattle.mon_tx.specs.Keys.{cell}
 use Rattle.mon_tx.specs.Map.{Store}
 use Rattle.mon_msg.specs.Fold.{put_in}
 use Rattle.mon_msg.specs.Protocol.Phases.{is_leading}
@@ -20,7 +17,7 @@ use Rattle.mon_wire.specs.declared.reply.Reply.{Reply}
 use Rattle.mon_wire.specs.declared.reply.Reply.TheVariants as reply
 use Rattle.mon_wire.specs.declared.request.Service.{Service}
 use Rattle.mon_wire.specs.declared.request.Service.TheVariants as service
-use Rattle.quorum_model.specs.Growth.{bytes_or_none}
+use Rattle.quorum_model.specs.Growth.{record_in}
 use Rattle.quorum_model.specs.World.{Acknowledged}
 
 -- ---- the version that a send says is done
@@ -41,9 +38,9 @@ done_by s (sent.Message to m) = done_by_route m.body
 
 -- ---- what it acknowledges
 
--- what a monitor keeps as a version
+-- the changes that a monitor keeps as a version
 abbrev pub record_kept : Store → ℕ → List Op
-record_kept m v = ops_in (bytes_or_none (cell m area.Paxos (key.Version v)))
+record_kept m v = ops_in (record_in m v)
 
 -- The service and the incremental that a value puts. One that puts none counts as one without bytes, which no value
 -- puts.

@@ -1,5 +1,6 @@
 -- Agreement: no two monitors disagree on what is committed, and each version is what a client asked.
-use Rattle.std.specs.Prelude.{◌≡◌, ℕ, suc, ◌<◌, ◌≤◌, max, ◌⊎◌, true, List, [], ◌∷◌, length, Some, Ok}
+use Rattle.std.specs.Prelude.{◌≡◌, ℕ, suc, ◌<◌, ◌≤◌, max, true, List, length, Some, Ok}
+use Rattle.std.specs.List.{Contains}
 use Rattle.mon_bytes.specs.declared.command.Command.{Command}
 use Rattle.mon_tx.specs.declared.op.Op.{Op}
 use Rattle.mon_tx.specs.declared.key.Area.TheVariants as area
@@ -15,10 +16,6 @@ use Rattle.quorum_model.specs.Growth.{last_of}
 use Rattle.log_model.specs.LogOfValues.{IsCommand, view_at}
 use Rattle.quorum_model.specs.World.{World, Asked}
 
-abbrev pub Among : {A : Type 0} → A → List A → Type 0
-Among x [] = ⊥
-Among x (y ∷ ys) = (x ≡ y) ⊎ Among x ys
-
 -- A monitor's committed versions are entries of the log: those that it keeps are the same bytes, and what it shares is the
 -- log's fold.
 pub record Agrees (log : List (List ℕ)) (m : Store) : Type 0 where
@@ -31,7 +28,7 @@ pub record Agrees (log : List (List ℕ)) (m : Store) : Type 0 where
 -- In a text for the cluster log stands the rank that was asked.
 pub record IsAsked (n : ℕ) (asked : List Asked) (log : List (List ℕ)) (v : ℕ) : Type 0 where
   pub by : Asked
-  pub was_asked : Among by asked
+  pub was_asked : Contains asked by
   pub rank : by.rank < n
   pub command : Command
   pub is : command_of by.request ≡ Some command

@@ -1,6 +1,8 @@
 -- The copy of another monitor's store that a full synchronisation makes, while the other's log goes on.
-use Rattle.std.specs.Prelude.{◌≡◌, ℕ, zero, suc, ◌-◌, ◌<◌, ◌≤◌, ◌⊎◌, Bool, true, false, not, ◌&&◌, List, [], ◌∷◌, Option, Some, None}
+use Rattle.std.specs.Prelude.{◌≡◌, ℕ, suc, ◌-◌, ◌<◌, ◌≤◌, ◌⊎◌, Bool, true, false, not, ◌&&◌, List, [], ◌∷◌, Option, Some, None}
 use Rattle.std.specs.FinMap.{get, retain_keys}
+use Rattle.std.specs.List.{range_with_len}
+use Rattle.std.specs.List as list
 use Rattle.mon_bytes.specs.declared.entry.KeyPlace.{KeyPlace}
 use Rattle.mon_tx.specs.declared.key.Area.TheVariants as area
 use Rattle.mon_tx.specs.declared.key.Key.TheVariants as key
@@ -33,16 +35,16 @@ pub record IsRecord (log : List (List ℕ)) (s e : ℕ) (at : Place) (held : Opt
   pub place : at ≡ place area.Paxos (key.Version version)
   pub is : held ≡ Some (entry log version)
 
--- whether a place is behind the one up to which a copy was made
-abbrev pub is_behind : KeyPlace → Place → Bool
-is_behind x at = is_after x (record { prefix = at.0; key = at.1; value = [] })
+-- whether a place comes after the one up to which a copy was made
+abbrev pub is_past : KeyPlace → Place → Bool
+is_past x at = is_after x (record { prefix = at.0; key = at.1; value = [] })
 
 -- A copy of a log made while its versions went from s to e, and made up to the place x. Each shared key at or before x is as
--- at one of these versions, and no shared key behind x is there; but the records of the versions after s may be there.
+-- at one of these versions, and no shared key after x is there; but the records of the versions after s may be there.
 pub record IsFuzzyCopy (log : List (List ℕ)) (s e : ℕ) (x : KeyPlace) (m : Store) : Type 0 where
-  pub made : (at : Place) → is_own at ≡ false → is_behind x at ≡ false
+  pub made : (at : Place) → is_own at ≡ false → is_past x at ≡ false
       → IsFolded log s e at (get m at) ⊎ IsRecord log s e at (get m at)
-  pub not_yet : (at : Place) → is_own at ≡ false → is_behind x at ≡ true
+  pub not_yet : (at : Place) → is_own at ≡ false → is_past x at ≡ true
       → (get m at ≡ None) ⊎ IsRecord log s e at (get m at)
 
 -- ---- how it catches up
@@ -51,14 +53,9 @@ pub record IsFuzzyCopy (log : List (List ℕ)) (s e : ℕ) (x : KeyPlace) (m : S
 abbrev pub with_version : List (List ℕ) → ℕ → Store → Store
 with_version log v m = apply (put area.Paxos (key.Version v) (entry log v) ∷ ops_in (entry log v)) m
 
--- a copy behind so many versions from the one after s on
-unfoldable pub with_versions : List (List ℕ) → (s count : ℕ) → Store → Store
-with_versions log s zero m = m
-with_versions log s (suc count) m = with_versions log (suc s) count (with_version log (suc s) m)
-
 -- a copy of a log from s, behind all versions up to e
 abbrev pub catch_up : List (List ℕ) → (s e : ℕ) → Store → Store
-catch_up log s e m = with_versions log s (e - s) m
+catch_up log s e m = list.fold (λ m v. with_version log v m) m (range_with_len (suc s) (e - s))
 
 -- what is shared of a copy, all of its records with it
 abbrev pub shared_with_records : Store → Store

@@ -1,30 +1,31 @@
 -- What is left on a monitor's disks where one of them fails within an event.
-use Rattle.std.specs.Prelude.{ℕ, ◌-◌, nat_le, nat_lt, ◌&&◌, ◌||◌, List, Option, Some, None, ◌==◌, if◌then◌else◌}
+use Rattle.std.specs.Prelude.{ℕ, ◌-◌, nat_le, nat_lt, ◌||◌, List, Option, Some, None, if◌then◌else◌}
 use Rattle.mon_types.specs.declared.names.Side.{Side}
 use Rattle.mon_types.specs.declared.names.Side.TheVariants.{A, B}
+use Rattle.mon_types.specs.Sides.{other}
 use Rattle.mon_tx.specs.declared.op.Op.{Op}
 use Rattle.mon_tx.specs.Map.{Store, apply}
 use Rattle.mon_msg.specs.Protocol.Sets.{is_empty}
-use Rattle.quorum_model.specs.Files.{File, Files, file_on, with_file, other_side, live_side, is_created, after_opening, after_append, is_due, checkpoint}
-use Rattle.quorum_model.specs.Upsets.{Upset, same_side, opens_gate}
+use Rattle.quorum_model.specs.Files.{File, Files, file_on, with_file, live_side, is_created, after_opening, after_append, is_due, checkpoint}
+use Rattle.quorum_model.specs.Upsets.{Upset, same_side, opens_gate, closes_gate}
 
--- Six calls begin a file: its first gate is closed, what stands behind it is written, and the gate is opened, each with a
--- sync. This is left of the disk where they fail from that call on.
+-- Six calls begin a file: its header's gate is closed, what stands behind it is written, and the gate is opened, each with a
+-- sync. Where they fail from that call on, the disk has the new file once the gate was opened; none once it was closed; and
+-- else what it had.
 abbrev pub file_left : (call image : ℕ) → (old : Option File) → File → Option File
 file_left call image old new =
-    if nat_lt 6 call || (nat_lt 4 call && image == 1) then Some new
-    else (if nat_lt 2 call || (image == 1 || image == 3) then None else old)
+    if opens_gate 5 call image then Some new else (if closes_gate 1 call image then None else old)
 
 -- the checkpoint on the other disk, where the live file wants one, up to that call
 abbrev pub checkpoint_cut : (call image : ℕ) → Store → Side → Option File → Files → Files
-checkpoint_cut call image m other None f = f
-checkpoint_cut call image m other (Some live) f =
-    if is_due live m then with_file other (file_left call image (file_on other f) (checkpoint live m)) f else f
+checkpoint_cut call image m side None f = f
+checkpoint_cut call image m side (Some live) f =
+    if is_due live m then with_file side (file_left call image (file_on side f) (checkpoint live m)) f else f
 
 abbrev pub checkpoint_begun : (call image : ℕ) → Store → Files → Files
-checkpoint_begun call image m f = checkpoint_cut call image m (other_side (live_side f)) (file_on (live_side f) f) f
+checkpoint_begun call image m f = checkpoint_cut call image m (other (live_side f)) (file_on (live_side f) f) f
 
--- the whole of it
+-- the whole of it: a seventh call never comes
 abbrev pub after_checkpoint : Store → Files → Files
 after_checkpoint m f = checkpoint_begun 7 0 m f
 
@@ -33,10 +34,10 @@ abbrev pub append_cut : Files → Store → Side → (call image : ℕ) → List
 append_cut f m disk call image ops =
     if same_side disk (live_side f)
     then (if nat_lt 4 call || is_empty ops then after_checkpoint (apply ops m) (after_append ops f)
-    else (if opens_gate call image then after_append ops f else f))
+    else (if opens_gate 3 call image then after_append ops f else f))
     else checkpoint_begun call image (apply ops m) (after_append ops f)
 
--- opening, where it fails at that call: a creation may be cut, and else the files stay
+-- Opening, where it fails at that call: a creation may be cut, and else the files stay. The first call is the sync before it.
 abbrev pub opening_cut : Files → Side → (call image : ℕ) → Files
 opening_cut f B call image = f
 opening_cut f A call image =

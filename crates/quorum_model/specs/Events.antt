@@ -4,7 +4,7 @@ use Rattle.std.specs.List.{AllByRecursion}
 use Rattle.mon_wire.specs.declared.request.Request.{Request}
 use Rattle.quorum_model.specs.Clients.{command_of}
 use Rattle.log_model.specs.LogOfValues.{IsCommand}
-use Rattle.quorum_model.specs.World.{Plain, Start, Deliver, Expire, Client, Event, plain_of}
+use Rattle.quorum_model.specs.World.{Plain, Start, Deliver, Ring, Client, Event, plain_of}
 
 -- a command's name is one, and its text is one
 abbrev pub RequestFits : Request → Type 0
@@ -14,7 +14,7 @@ RequestFits r = IfSome (command_of r) IsCommand
 abbrev pub PlainFits : ℕ → Plain → Type 0
 PlainFits n (Start rank at) = rank < n
 PlainFits n (Deliver message at) = Unit {0}
-PlainFits n (Expire rank timer at) = rank < n
+PlainFits n (Ring rank timer at) = rank < n
 PlainFits n (Client rank at session r) = (rank < n) × RequestFits r
 
 abbrev pub AllFit : ℕ → List Event → Type 0

@@ -5,9 +5,10 @@ use Rattle.std.specs.List.{sum_by}
 use Rattle.std.specs.Option.{option_map}
 use Rattle.mon_types.specs.declared.names.Side.{Side}
 use Rattle.mon_types.specs.declared.names.Side.TheVariants.{A, B}
+use Rattle.mon_kv.specs.Chunks.{entry_len}
 use Rattle.mon_kv.specs.Readers.{size_of}
 use Rattle.mon_tx.specs.declared.op.Op.{Op}
-use Rattle.mon_tx.specs.Map.{Place, Store}
+use Rattle.mon_tx.specs.Map.{Store}
 use Rattle.mon_tx.specs.Text.{text}
 
 -- an open file: its generation, and the place of its first closed gate, behind which the next record is written
@@ -15,7 +16,7 @@ pub record File : Type 0 where
   pub generation : ℕ
   pub gate : ℕ
 
--- of each disk the file where it is open; a disk that is empty, or of which the first gate isn't open, is closed
+-- of each disk the file where it is open; a disk that is empty, or of which the header's gate isn't open, is closed
 pub record Files : Type 0 where
   pub a : Option File
   pub b : Option File
@@ -30,10 +31,6 @@ file_on B f = f.b
 abbrev pub with_file : Side → Option File → Files → Files
 with_file A file f = record { a = file; b = f.b }
 with_file B file f = record { a = f.a; b = file }
-
-abbrev pub other_side : Side → Side
-other_side A = B
-other_side B = A
 
 -- ---- which disk is live
 
@@ -69,14 +66,11 @@ abbrev pub after_append : List Op → Files → Files
 after_append ops f = with_file (live_side f) (option_map (file_after ops) (file_on (live_side f) f)) f
 
 -- how many bytes a checkpoint of a map has
-abbrev pub entry_length : Place × List ℕ → ℕ
-entry_length e = length e.0.0 + length e.0.1 + length e.1 + 6
-
 abbrev pub checkpoint_length : Store → ℕ
-checkpoint_length m = 5 + sum_by entry_length (entries m)
+checkpoint_length m = 5 + sum_by entry_len (entries m)
 
--- A checkpoint of a map is due where the live file has more than 1,048,576 bytes, up to and with its first closed gate, and
--- more than four times what the map counts with. No generation passes 2^62.
+-- A checkpoint of a map is due where the live file is longer than 1,048,576 bytes up to and with its first closed gate, and
+-- than four times what the map counts with. No generation passes 2^62. In a run from empty disks no file has the first header.
 abbrev pub is_due : File → Store → Bool
 is_due f m = nat_lt f.generation (2 ^ 62) && (nat_lt 1048576 (f.gate + 1) && nat_lt (4 * size_of m) (f.gate + 1))
 

@@ -1,4 +1,4 @@
--- What an event makes of the world, and a run of events.
+-- What an event makes of the world.
 use Rattle.std.specs.Prelude.{ℕ, suc, nat_lt, Bool, true, false, cond, [], ◌∷◌, ◌++◌, Some, None, Result, Ok, Err, ◌==◌, if◌then◌else◌}
 use Rattle.mon_types.specs.declared.names.Which.{Which}
 use Rattle.mon_tx.specs.Map.{Store, apply}
@@ -75,17 +75,21 @@ pub data Stop : Type 0 where
   Spent : (which : Which) → Stop
   Full : (would_be : ℕ) → Stop
 
--- the world after a reaction over a map, unless the reaction stops the run
-abbrev pub unless_stopped : (Reaction → World) → Store → Result Reaction Which → Result World Stop
-unless_stopped next m (Err which) = Err (Spent which)
-unless_stopped next m (Ok r) =
-    if nat_lt most_size (size_of (apply r.transaction m)) then Err (Full (size_of (apply r.transaction m)))
-    else Ok (next r)
+-- a reaction over a map, unless it stops the run
+abbrev pub unless_stopped : Store → Result Reaction Which → Result Reaction Stop
+unless_stopped m (Err which) = Err (Spent which)
+unless_stopped m (Ok r) =
+    if nat_lt most_size (size_of (apply r.transaction m)) then Err (Full (size_of (apply r.transaction m))) else Ok r
+
+-- the world that it makes
+abbrev pub in_world : (Reaction → World) → Result Reaction Stop → Result World Stop
+in_world next (Ok r) = Ok (next r)
+in_world next (Err stop) = Err stop
 
 -- a crash that loses what is written stops no run
 abbrev pub after_meeting : World → Event → Meeting → Result World Stop
-after_meeting w (Comes p) (Reacts i input result) = unless_stopped (moved w p i) (w.store i) result
-after_meeting w (Crash p true) (Reacts i input result) = unless_stopped (kept_only w p i) (w.store i) result
+after_meeting w (Comes p) (Reacts i input result) = in_world (moved w p i) (unless_stopped (w.store i) result)
+after_meeting w (Crash p true) (Reacts i input result) = in_world (kept_only w p i) (unless_stopped (w.store i) result)
 after_meeting w (Crash p false) (Reacts i input result) = Ok (lost w p i)
 after_meeting w e other = Ok (unmoved w (plain_of e))
 

@@ -1,13 +1,12 @@
 -- What was acknowledged is kept.
 use Rattle.std.specs.Prelude.{◌≡◌, ℕ, ◌<◌, ◌≤◌, true, List, [], ◌∷◌, length, Option, Some, None}
-use Rattle.std.specs.List.{AllByRecursion}
+use Rattle.std.specs.List.{AllByRecursion, Contains}
 use Rattle.mon_tx.specs.Map.{Store}
 use Rattle.mon_tx.specs.Decode.{ops_in}
 use Rattle.mon_msg.specs.Fold.{entry, put_in}
 use Rattle.mon_msg.specs.Protocol.State.{State}
 use Rattle.mon_wire.specs.declared.reply.Reply.{Reply}
 use Rattle.mon_wire.specs.declared.reply.Reply.TheVariants as reply
-use Rattle.quorum_model.specs.Agree.{Among}
 use Rattle.quorum_model.specs.Clients.{made_by}
 use Rattle.quorum_model.specs.Growth.{last_of}
 use Rattle.quorum_model.specs.Happens.{is_active}
@@ -22,7 +21,7 @@ LeaderHas a (Some s) m = is_active s.phase ≡ true → a.pn ≤ s.leader.pn →
 pub record IsKept (n : ℕ) (w : World) (a : Acknowledged) : Type 0 where
   pub some : 1 ≤ a.version
   pub within : a.version ≤ length w.log
-  pub put : Among a.incremental (put_in a.service (ops_in (entry w.log a.version)))
+  pub put : Contains (put_in a.service (ops_in (entry w.log a.version))) a.incremental
   pub leaders : (i : ℕ) → i < n → LeaderHas a (w.state i) (w.store i)
 
 -- no version is acknowledged twice
@@ -33,11 +32,11 @@ AcknowledgedOnce (a ∷ others) = AllByRecursion (λ b. ¬ (b.version ≡ a.vers
 -- the version was acknowledged, by the reply's event or before it, for a command that its session asked of its monitor
 pub record IsAnswered (w : World) (r : Replied) (v : ℕ) : Type 0 where
   pub acknowledged : Acknowledged
-  pub among : Among acknowledged w.acknowledged
+  pub among : Contains w.acknowledged acknowledged
   pub version : acknowledged.version ≡ v
   pub earlier : acknowledged.event ≤ r.event
   pub asked : Asked
-  pub was_asked : Among asked w.asked
+  pub was_asked : Contains w.asked asked
   pub rank : asked.rank ≡ r.rank
   pub session : asked.session ≡ r.session
   pub made : made_by asked.rank asked.request ≡ Some (acknowledged.service, acknowledged.incremental)

@@ -10,7 +10,7 @@ use Rattle.mon_msg.specs.declared.input.Input.{Input}
 use Rattle.mon_msg.specs.declared.input.Input.TheVariants as input
 use Rattle.mon_msg.specs.declared.view.Me.{Me}
 use Rattle.quorum_model.specs.Monitors.{Monitors, me_of}
-use Rattle.quorum_model.specs.World.{World, Plain, Start, Deliver, Expire, Client, Envelope}
+use Rattle.quorum_model.specs.World.{World, Plain, Start, Deliver, Ring, Client, Envelope}
 
 -- to whom, when and what
 pub record Arrival : Type 0 where
@@ -28,7 +28,7 @@ abbrev pub arrival : World → Plain → Option Arrival
 arrival w (Start rank at) = Some (record { rank = rank; at = at; input = input.Start })
 arrival w (Deliver k at) =
     option_map (λ e. record { rank = e.to; at = at; input = input.Deliver e.message }) (message_at w.messages k)
-arrival w (Expire rank timer at) = Some (record { rank = rank; at = at; input = input.Timer timer })
+arrival w (Ring rank timer at) = Some (record { rank = rank; at = at; input = input.Timer timer })
 arrival w (Client rank at session r) = Some (record { rank = rank; at = at; input = input.Client session r })
 
 -- what a monitor of this rank remembers when an input comes, unless it is down: one that starts has forgotten all

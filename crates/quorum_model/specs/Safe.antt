@@ -1,9 +1,10 @@
 -- What holds in every run: no two monitors disagree, nothing acknowledged is lost, and what is shown is the log's.
 use Rattle.std.specs.Prelude.{◌≡◌, ℕ, ◌<◌, List, [], ◌∷◌}
+use Rattle.std.specs.List.{Contains}
 use Rattle.std.specs.FinMap.{empty}
 use Rattle.mon_tx.specs.declared.op.Op.{Op}
 use Rattle.mon_tx.specs.Map.{Store, apply}
-use Rattle.quorum_model.specs.Agree.{Among, Agree}
+use Rattle.quorum_model.specs.Agree.{Agree}
 use Rattle.quorum_model.specs.Kept.{Kept}
 use Rattle.quorum_model.specs.Monitors.{Monitors}
 use Rattle.quorum_model.specs.Runs.{run, all_writes}
@@ -24,7 +25,7 @@ pub record Held (ms : Monitors) (events : List Event) : Type 0 where
 
 -- no epoch has two active leaders
 abbrev pub OneActive : World → Type 0
-OneActive w = (e r s : ℕ) → Among (e, r) w.active → Among (e, s) w.active → r ≡ s
+OneActive w = (e r s : ℕ) → Contains w.active (e, r) → Contains w.active (e, s) → r ≡ s
 
 -- the run of these events is safe
 pub record Safe (ms : Monitors) (events : List Event) : Type 0 where

@@ -12,7 +12,7 @@ use Rattle.quorum_model.specs.Files.{Files, no_files, after_opening, after_appen
 use Rattle.quorum_model.specs.Happens.{Stop, happens, put_at}
 use Rattle.quorum_model.specs.Meets.{Meeting, Reacts, meets}
 use Rattle.quorum_model.specs.Monitors.{Monitors}
-use Rattle.quorum_model.specs.Upsets.{Upset, opening_calls, is_kept}
+use Rattle.quorum_model.specs.Upsets.{Upset, opening_count, crash_keeps}
 use Rattle.quorum_model.specs.World.{World, Plain, Event, Comes, Crash, first_world}
 
 pub record Scene : Type 0 where
@@ -31,12 +31,12 @@ pub record Scheduled : Type 0 where
 
 -- a start opens the disks
 abbrev pub opening_of : Input → Side → Files → ℕ
-opening_of input.Start disk f = opening_calls disk f
+opening_of input.Start disk f = opening_count disk f
 opening_of other disk f = 0
 
 -- whether what is written at a meeting is kept
 abbrev pub kept_at : Scene → Upset → Meeting → Bool
-kept_at c u (Reacts i came result) = is_kept (c.files i) (c.world.store i) (opening_of came u.disk (c.files i)) u result
+kept_at c u (Reacts i came result) = crash_keeps (c.files i) (c.world.store i) (opening_of came u.disk (c.files i)) u result
 kept_at c u other = false
 
 abbrev pub event_at : Scene → Plain → Option Upset → Meeting → Event

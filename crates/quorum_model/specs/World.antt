@@ -20,8 +20,8 @@ pub data Plain : Type 0 where
   -- the message of that number, counted from 1, comes to its receiver: at any time after it was sent, and any number of
   -- times
   Deliver : (message : ℕ) → (at : ℕ) → Plain
-  -- a timer expires
-  Expire : (rank : ℕ) → (timer : Timer) → (at : ℕ) → Plain
+  -- that timer rings, whether or not its moment has come
+  Ring : (rank : ℕ) → (timer : Timer) → (at : ℕ) → Plain
   -- a client asks
   Client : (rank : ℕ) → (at : ℕ) → (session : Session) → (request : Request) → Plain
 

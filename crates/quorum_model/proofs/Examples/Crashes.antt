@@ -9,7 +9,7 @@ use Rattle.quorum_model.specs.Files.{no_files}
 use Rattle.quorum_model.specs.Happens.{lost}
 use Rattle.quorum_model.specs.Monitors.{alone}
 use Rattle.quorum_model.specs.Runs.{run, ran_from}
-use Rattle.quorum_model.specs.Upsets.{is_kept, opening_calls, stops, writes_nothing}
+use Rattle.quorum_model.specs.Upsets.{crash_keeps, opening_count, stops, writes_nothing}
 use Rattle.quorum_model.specs.World.{Crash, Start, first_world}
 
 -- the first start of a monitor, in which a crash loses what it writes: its store stays empty, and it is down
@@ -20,7 +20,7 @@ lost_start = refl
 -- whether the transaction of a first start is kept, of which the creation makes seven calls of disk a
 module _ (m : Store) (r : Reaction) (runs : stops m (Ok r) ≡ false) (writes : writes_nothing (Ok r) ≡ false) where
   abbrev kept : Side → (call image : ℕ) → Bool
-  kept disk call image = is_kept no_files m (opening_calls disk no_files) (record { disk = disk; call = call; image = image }) (Ok r)
+  kept disk call image = crash_keeps no_files m (opening_count disk no_files) (record { disk = disk; call = call; image = image }) (Ok r)
 
   -- the gate is written by the tenth call
   kept_start : kept A 10 1 ≡ true
