@@ -1,3 +1,4 @@
+pub mod AnyValue
 pub mod AreaEdits
 pub mod Beginnings
 pub mod Committed
@@ -16,13 +17,18 @@ pub mod Own
 pub mod Places
 pub mod PutOnce
 pub mod Puts
+pub mod ReadMaps
+pub mod Records
 pub mod RowReadings
 pub mod RowSteps
 pub mod RuleCells
 pub mod RuleEdits
+pub mod SharedEntries
 pub mod Sharing
 pub mod SomeLogs
+pub mod Spares
 pub mod TextSizes
+pub mod TextsWithin
 pub mod ToldFront
 pub mod ValueSizes
 pub mod Windows

@@ -21,6 +21,7 @@ use Rattle.mon_msg.specs.Protocol.Readings.{Readings}
 use Rattle.log_model.specs.LogOfValues.{IsCommand, IsValue}
 use Rattle.log_model.proofs.KvSteps as kv_steps
 use Rattle.log_model.proofs.LogSteps as log_steps
+use Rattle.log_model.proofs.ReadMaps.{read_map_short}
 use Rattle.log_model.proofs.TextSizes.{value_short, value_text}
 
 -- an incremental and the map that it makes
@@ -61,17 +62,17 @@ most_short (command.Set k v) l h = h
 most_short (command.Remove k) l h = h
 most_short (command.Log t) l h = omega arith
 
-pub any_text : (w : Readings) (older : List Op) (V : IsValue w older) → w.last ≤ 2 ^ 62 → suc (service_last w (service_of V.command)) ≤ 2 ^ 62 → length (map_text (read_map w (service_of V.command))) ≤ most_map (service_of V.command)
+pub any_text : (w : Readings) (older : List Op) (V : IsValue w older) → w.last ≤ 2 ^ 62 → suc (service_last w (service_of V.command)) ≤ 2 ^ 62
     → HasText older × (length (text older) ≤ most_value)
 unfolding value
-any_text w older V at room h = by (made (read_map w (service_of V.command)) V.asked V.command) refl
+any_text w older V at room = by (made (read_map w (service_of V.command)) V.asked V.command) refl
   where
     by : (r : Result (List ℕ × ShownMap) CommandRefused) → made (read_map w (service_of V.command)) V.asked V.command ≡ r → HasText older × (length (text older) ≤ most_value)
     by (Err e) p = let g = rw p at V.made in absurd cc
     by (Ok (x, next)) p =
         let g = rw p at V.made in
         let is : V.newer ≡ value_of w (service_of V.command) x next = cc in
-        let short = made_short V.command V.asked (read_map w (service_of V.command)) (x, next) V.form (most_short V.command _ h) p in
+        let short = made_short V.command V.asked (read_map w (service_of V.command)) (x, next) V.form (most_short V.command _ (read_map_short w (service_of V.command))) p in
         let s = service_of V.command in (
           value_text w.first w.last (area_of s) (suc (service_last w s)) (service_first w s) x (map_text next) V.newer is at room short.0 short.1 older V.spelled,
           value_short w.first w.last (area_of s) (suc (service_last w s)) (service_first w s) x (map_text next) V.newer is at room short.0 short.1 older V.spelled,

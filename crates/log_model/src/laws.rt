@@ -10,9 +10,7 @@ ghost use Rattle.mon_tx.specs.Map.{Place, place_cmp, Store, apply};
 ghost use Rattle.mon_tx.specs.Text.{text};
 ghost use Rattle.mon_msg.specs.Puts.{put, put_number};
 ghost use Rattle.mon_msg.specs.Fold.{entry, fold};
-ghost use Rattle.mon_msg.specs.Protocol.Maps.{most_map};
-ghost use Rattle.mon_msg.specs.Protocol.Parts.{map_text};
-ghost use Rattle.mon_msg.specs.Protocol.Services.{service_last, read_map, may_tell};
+ghost use Rattle.mon_msg.specs.Protocol.Services.{service_last, may_tell};
 ghost use Rattle.mon_msg.specs.Protocol.Records.{longest, most_value};
 ghost use Rattle.mon_msg.specs.Protocol.Value.{service_of};
 ghost use Rattle.mon_msg.specs.Protocol.Readings.{Readings, readings_of, after};
@@ -34,10 +32,10 @@ pub fn law_windows()
 {}
 
 /// A value has a text that is short enough to be proposed, whatever the store tells that it is made over, where the store can
-/// hold the next numbers and its map is no longer than a map may be.
+/// hold the next numbers.
 pub fn law_proposed()
     ensures { (w : Readings) (value : List Op) (made : IsValue w value) → w.last ≤ 2 ^ 62 → suc (service_last w (service_of made.command)) ≤ 2 ^ 62
-        → length (map_text (read_map w (service_of made.command))) ≤ most_map (service_of made.command) → HasText value × (length (text value) ≤ most_value) }
+        → HasText value × (length (text value) ≤ most_value) }
 {}
 
 /// What monitors share along such a log. Its fold has keys of versions alone, of which none is a monitor's own or above that of

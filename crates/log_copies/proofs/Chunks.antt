@@ -1,0 +1,44 @@
+-- What a chunk holds of a log: the values of the versions after its place, and of the fold behind them what lies between its place
+-- and the one where the next chunk goes on.
+use Rattle.std.proofs.Common.{◌≡◌, ℕ, suc, ◌+◌, ◌≤◌, Bool, true, false, not, ◌&&◌, List, length}
+use Rattle.std.specs.FinMap.{empty, retain_keys}
+use Rattle.mon_bytes.specs.declared.entry.Entry.{Entry}
+use Rattle.mon_bytes.specs.declared.entry.KeyPlace.{KeyPlace}
+use Rattle.mon_bytes.specs.declared.entry.KeyPlace.TheVariants as key_place
+use Rattle.mon_tx.specs.declared.key.Area.TheVariants as area
+use Rattle.mon_tx.specs.declared.key.Key.TheVariants as key
+use Rattle.mon_tx.specs.declared.op.Op.{Op}
+use Rattle.mon_tx.specs.Keys.{place}
+use Rattle.mon_tx.specs.Map.{Place, apply}
+use Rattle.mon_wire.specs.declared.body.Body.{Body}
+use Rattle.mon_wire.specs.declared.body.Body.TheVariants as body
+use Rattle.mon_wire.specs.declared.parts.Place.{Place as ChunkPlace}
+use Rattle.mon_msg.specs.Fold.{fold}
+use Rattle.mon_msg.specs.Protocol.Changes.{spelled}
+use Rattle.mon_msg.specs.Protocol.Chunks.{copy_changes}
+use Rattle.mon_msg.specs.Protocol.Places.{after_entries}
+use Rattle.log_copies.specs.Copies.{is_past}
+use Rattle.log_model.proofs.Records.{AreVersions}
+
+-- after the one place, and at or before the other
+abbrev pub between : KeyPlace → KeyPlace → Place → Bool
+between x y at = is_past x at && not (is_past y at)
+
+-- the entries carry a copy from the place on to the key y
+pub record Continues (log : List (List ℕ)) (p : ChunkPlace) (y : KeyPlace) (values : List (List Op)) (entries : List Entry) : Type 0 where
+  pub within : p.version + length values ≤ length log
+  pub versions : AreVersions log (suc p.version) values
+  pub onward : (at : Place) → is_past y at ≡ true → is_past p.key at ≡ true
+  pub made : apply (spelled (copy_changes entries)) empty ≡ retain_keys (fold log (p.version + length values)) (between p.key y)
+
+-- the key of the log's first version comes after the place
+abbrev pub IsOpen : KeyPlace → Type 0
+IsOpen x = is_past x (place area.Paxos key.FirstCommitted) ≡ true
+
+-- A chunk carries a copy on up to its last entry, and one that isn't the last leaves something behind it. The last one carries it to
+-- the end.
+abbrev pub ChunkOf : List (List ℕ) → Body → Type 0
+ChunkOf log (body.Chunk cookie p values entries done) =
+    Continues log p (after_entries entries p.key) values entries × (IsOpen p.key → (done ≡ false) × IsOpen (after_entries entries p.key))
+ChunkOf log (body.LastChunk cookie p values entries last) = Continues log p key_place.Done values entries × (last ≡ p.version + length values)
+ChunkOf log other = Unit {0}

@@ -1,0 +1,92 @@
+-- How a full synchronisation begins and ends: it gives up all that is shared, and in the end shares the fold.
+use Rattle.std.proofs.Common.{◌≡◌, ℕ, suc, ◌+◌, ◌≤◌, ◌^◌, Bool, true, false, not, ◌&&◌, cond, List, [], ◌∷◌, ◌++◌, length, Option, Some, None, inl, refl, sym, ap, subst, ◌∙◌, arith}
+use Rattle.std.specs.FinMap.{get, get-empty, empty, same_map}
+use Rattle.std.specs.Ordering.{eq_by_cmp}
+use Rattle.mon_bytes.specs.declared.entry.KeyPlace.TheVariants as key_place
+use Rattle.mon_tx.specs.declared.key.Area.{Area}
+use Rattle.mon_tx.specs.declared.key.Area.TheVariants as area
+use Rattle.mon_tx.specs.declared.key.Key.{Key}
+use Rattle.mon_tx.specs.declared.key.Key.TheVariants as key
+use Rattle.mon_tx.specs.declared.op.Op.{Op}
+use Rattle.mon_tx.specs.Decision.{Cell, Decision, decided, decision, later, or_before}
+use Rattle.mon_tx.specs.Keys.{place, cell, number, is_local, shared}
+use Rattle.mon_tx.specs.Map.{Place, place_cmp, Store, apply, number_in, number_bytes}
+use Rattle.mon_tx.proofs.After.{get-apply}
+use Rattle.mon_tx.proofs.Named.{decided-put, decided-erase}
+use Rattle.mon_tx.proofs.Places.{places_total, exact_places, number_in-bytes}
+use Rattle.mon_msg.specs.Fold.{fold}
+use Rattle.mon_msg.specs.Puts.{put_number}
+use Rattle.mon_msg.specs.Protocol.Changes.{erase, Last, Unmark, spelled}
+use Rattle.log_copies.specs.Copies.{is_own, IsFuzzyCopy, shared_with_records}
+use Rattle.log_copies.proofs.Own.{own_number, own_local}
+use Rattle.log_copies.proofs.Versions.{copy_is}
+use Rattle.log_model.specs.LogOfValues.{AllValues}
+use Rattle.log_model.proofs.Committed.{holds}
+use Rattle.log_model.proofs.KeptKeys.{no_local}
+use Rattle.log_model.proofs.Places.{same_place, get_kept, is_shared, shared_is}
+use Rattle.log_model.proofs.Spares.{is_number}
+
+-- ---- changes of a monitor's own numbers decide no key that is shared
+
+module _ (a : Area) (k : Key) (own : is_number a k ≡ true) (at : Place) (not_own : is_own at ≡ false) where
+  apart : eq_by_cmp place_cmp at (place a k) ≡ false
+  apart = by (eq_by_cmp place_cmp at (place a k)) refl
+    where
+      by : (b : Bool) → eq_by_cmp place_cmp at (place a k) ≡ b → b ≡ false
+      by true t = let g : false ≡ true = sym not_own ∙ ap is_own (same_place at (place a k) t) ∙ own_number a k own in absurd cc
+      by false t = refl
+
+  pub number_put : (n : ℕ) → decided (put_number a k n) at ≡ None
+  number_put n = ap (λ b. cond b (Some (Some (number_bytes n))) None) apart
+
+  pub number_erased : decided (erase a k) at ≡ None
+  number_erased = ap (λ b. cond b (Some None) None) apart
+
+-- ---- the end
+
+module _ (log : List (List ℕ)) (fits : length log ≤ 2 ^ 62) (all : AllValues log) (e : ℕ) (le : e ≤ length log) (m : Store) (copy : IsFuzzyCopy log e e key_place.Done m) where
+  abbrev pub ended : Store
+  ended = apply (spelled (Last e ∷ Unmark ∷ [])) m
+
+  abbrev ops : List Op
+  ops = spelled (Last e ∷ Unmark ∷ [])
+
+  pub ended_last : number ended area.Paxos key.LastCommitted ≡ e
+  ended_last = ap number_in (get-apply ops m (place area.Paxos key.LastCommitted) ∙ ap (λ (d : Decision). or_before d (get m (place area.Paxos key.LastCommitted))) decides) ∙ number_in-bytes e (omega arith)
+    where
+      decides : decision ops (place area.Paxos key.LastCommitted) ≡ Some (Some (number_bytes e))
+      decides = λ i.
+          later (later (later None (decided-erase area.Sync key.Floor area.Paxos key.LastCommitted i)) (decided-erase area.Sync key.InSync area.Paxos key.LastCommitted i))
+          (decided-put area.Paxos key.LastCommitted (number_bytes e) area.Paxos key.LastCommitted i)
+
+  as_before : (at : Place) → is_own at ≡ false → get ended at ≡ get m at
+  as_before at shared = get-apply ops m at ∙ (λ i.
+      or_before (later (later (later None (number_erased area.Sync key.Floor refl at shared i)) (number_erased area.Sync key.InSync refl at shared i))
+      (number_put area.Paxos key.LastCommitted refl at shared e i)) (get m at))
+
+  copied : (at : Place) → is_own at ≡ false → get m at ≡ get (fold log e) at
+  copied at shared = ap (λ b. cond (not b) (get m at) None) (sym shared) ∙ sym (get_kept m (λ q. not (is_own q)) at) ∙ ap (λ (n : Store). get n at) (copy_is log fits all e le m copy)
+
+  -- what is shared is the fold at the last version
+  pub ended_shared : shared ended ≡ fold log e
+  ended_shared = shared_is ended e ended_last ∙ same_map places_total exact_places _ _ (λ at. get_kept ended (is_shared e) at ∙ by at (is_local e at) refl)
+    where
+      by : (at : Place) (b : Bool) → is_local e at ≡ b → cond (not b) (get ended at) None ≡ get (fold log e) at
+      by at true t = sym (no_local log e (holds log fits all e le) at t)
+      by at false t = as_before at not_own ∙ copied at not_own
+        where
+          not_own : is_own at ≡ false
+          not_own = other (is_own at) refl
+            where
+              other : (b : Bool) → is_own at ≡ b → b ≡ false
+              other true o = let g : true ≡ false = sym (own_local e at o) ∙ t in absurd cc
+              other false o = refl
+
+-- ---- the beginning
+
+-- nothing is shared, so it is a copy from whatever version, of which nothing is made
+pub copy_begins : (log : List (List ℕ)) (s : ℕ) (m : Store) → shared_with_records m ≡ empty → IsFuzzyCopy log s s key_place.Start m
+copy_begins log s m none = record {
+  made = λ at shared here. absurd cc;
+  not_yet = λ at shared past. inl (ap (λ b. cond (not b) (get m at) None) (sym shared) ∙ sym (get_kept m (λ q. not (is_own q)) at) ∙ ap (λ (n : Store). get n at) none ∙ get-empty place_cmp at);
+}

@@ -1,0 +1,9 @@
+pub mod Own
+pub mod Versions
+pub mod Chunks
+pub mod Taken
+pub mod Ordered
+pub mod Given
+pub mod Replayed
+pub mod Ends
+pub mod Shape
