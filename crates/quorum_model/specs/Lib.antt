@@ -4,7 +4,6 @@ pub mod Alone
 pub mod CalmRun
 pub mod CalmSchedule
 pub mod Clients
-pub mod Copies
 pub mod Cuts
 pub mod Events
 pub mod Files
