@@ -1,0 +1,10 @@
+pub mod Fitting
+pub mod Kept
+pub mod Learning
+pub mod Loops
+pub mod Picking
+pub mod Planning
+pub mod Reading
+pub mod Running
+pub mod Standing
+pub mod Values

@@ -1,0 +1,24 @@
+-- Runs of records that a message takes.
+use Rattle.std.specs.Prelude.{ℕ, ◌+◌, Bool, ◌&&◌, nat_le, nat_lt, List, Option, Some, None, if◌then◌else◌, length, sum_by}
+use Rattle.mon_msg.specs.Protocol.Parts.{value_length}
+use Rattle.mon_msg.specs.Protocol.Records.{run_from, longest}
+use Rattle.mon_tx.specs.Decision.{Cell}
+use Rattle.mon_tx.specs.declared.op.Op.{Op}
+
+-- how much a message takes besides values of the versions from `from` on: another number where they reach the last version
+abbrev pub besides : (last from plain at_end : ℕ) → List (List Op) → ℕ
+besides last from plain at_end values = if nat_lt last (from + length values) then at_end else plain
+
+-- whether a message takes them, and they are no more than a list of a message has
+abbrev pub have_room : (last from plain at_end : ℕ) → List (List Op) → Bool
+have_room last from plain at_end values =
+    nat_le (besides last from plain at_end values + sum_by value_length values) 1048576 && nat_le (length values) 65535
+
+-- the longest run of records from a version on that a message takes
+unfoldable pub run_within : (records : ℕ → Cell) → (last from plain at_end : ℕ) → List (List Op)
+run_within records last from plain at_end = longest (have_room last from plain at_end) (run_from records last from)
+
+-- a value that still has room
+abbrev pub where_room : (room : ℕ) → Option (List Op) → Option (List Op)
+where_room room None = None
+where_room room (Some value) = if nat_le (value_length value) room then Some value else None

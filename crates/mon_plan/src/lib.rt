@@ -1,0 +1,22 @@
+//! What the roles of a monitor share: what they read of its store, what they write, and the parts of their plans.
+#![tactic(auto)]
+
+mod join;
+mod plans;
+mod records;
+mod sends;
+mod stored;
+mod writers;
+
+pub use join::joined;
+pub use plans::{armed, disarmed, message, planned, stay};
+pub use records::{MOST_VALUE, Run};
+pub use sends::{answer, members, others, send_each};
+pub use stored::Stored;
+pub use writers::{
+    learn, put_boot, put_copies, put_epoch, put_last, put_learned, put_mark, put_numbers,
+    put_promise, put_records, put_unmark, put_vote,
+};
+
+#[cfg(test)]
+mod tests;

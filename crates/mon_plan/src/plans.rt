@@ -1,0 +1,85 @@
+//! Plans, part by part.
+
+ghost use Rattle.std.specs.Prelude.{◌≡◌, ◌+◌, ◌≤◌, ◌^◌, [], min};
+ghost use Rattle.mon_msg.specs.Protocol.Sending.{message_to};
+ghost use Rattle.mon_msg.specs.Protocol.Timers.{length_of};
+ghost use Rattle.mon_msg.specs.declared.plan.Next.TheVariants as next;
+
+use mon_msg::plan::Sent;
+use mon_msg::{Arming, Body, Items, Me, Message, Next, Plan, Timer};
+use mon_tx::Transaction;
+use mon_types::{Epoch, GREATEST, Moment, Rank};
+use std::alloc::Global;
+
+/// A plan that writes, sends and arms nothing. It takes no memory.
+pub fn planned<S: Drop>(alloc: Global, state: S, next: Next) -> Plan<S>
+    ensures { result ≡ record { tx = []; out = []; timers = []; state = state; next = next } }
+{
+    Plan {
+        tx: Transaction::new(alloc),
+        out: Items::new(alloc),
+        timers: Items::new(alloc),
+        state,
+        next,
+    }
+}
+
+/// Nothing is done. It takes no memory.
+pub fn stay<S: Drop>(alloc: Global, state: S) -> Plan<S>
+    ensures { result ≡ record { tx = []; out = []; timers = []; state = state; next = next.Stay } }
+{
+    planned(alloc, state, Next::Stay)
+}
+
+/// A message of this monitor in an epoch.
+pub fn message(me: &Me, epoch: Epoch, body: Body, to: Rank) -> Sent
+    ensures { result ≡ message_to me.now epoch body to }
+{
+    Sent::Message {
+        to,
+        message: Message {
+            from: me.member.rank,
+            monitors: me.member.monitors,
+            epoch,
+            body,
+        },
+    }
+}
+
+/// How long a timer takes, in milliseconds.
+fn length_of(kind: Timer) -> u64
+    ensures value { result ≡ length_of kind }
+    ensures most { result ≤ 60000 }
+{
+    match kind {
+        Timer::Probe => 2_000,
+        Timer::Election => 5_000,
+        Timer::Collect => 10_000,
+        Timer::Accept => 10_000,
+        Timer::Renew => 3_000,
+        Timer::LeaseAck => 10_000,
+        Timer::Lease => 10_000,
+        Timer::Sync => 60_000,
+        Timer::Step => 0,
+        Timer::Propose => 0,
+        Timer::Ping => 2_000,
+    }
+}
+
+/// A timer is armed for the moment at which its time is over, or for the greatest moment where that is later.
+pub fn armed(now: Moment, kind: Timer) -> Arming
+    ensures { result ≡ Arming.Arm kind (min (now + length_of kind) (2 ^ 62)) }
+{
+    let end = (now.get() + length_of(kind)).min(GREATEST);
+    Arming::Arm {
+        kind,
+        end: Moment::known(end),
+    }
+}
+
+/// A timer is disarmed.
+pub fn disarmed(kind: Timer) -> Arming
+    ensures { result ≡ Arming.Disarm kind }
+{
+    Arming::Disarm { kind }
+}

@@ -1,0 +1,182 @@
+//! The values that a store's records spell, the pending one among them, and runs of them.
+
+ghost use Rattle.std.specs.Prelude.{◌≡◌, ℕ, ◌+◌, ◌-◌, ◌≤◌, ◌^◌, sum_by, length, min, Some, IfOk, IfSome, is_some, if◌then◌else◌};
+ghost use Rattle.mon_tx.specs.Text.{text};
+ghost use Rattle.mon_msg.specs.Protocol.Parts.{value_length};
+ghost use Rattle.mon_msg.specs.Protocol.Readings.{readings_of};
+ghost use Rattle.mon_msg.specs.Protocol.Records.{record_at, transaction_in, found_as, pending};
+ghost use Rattle.mon_plan.specs.Runs.{run_within, where_room};
+
+use crate::stored::Stored;
+use mon_bytes::{Items, OutOfMemory};
+use mon_msg::{Found, MOST_BYTES};
+use mon_tx::{Transaction, TxRefused, decode, is_text};
+use mon_types::Version;
+use std::alloc::Global;
+
+/// The longest value that is proposed, in bytes.
+pub const MOST_VALUE: usize = 524_288;
+
+/// The longest text of a value of which a BEGIN may be sent, in bytes: that of a message without what it takes besides.
+const MOST_BEGUN: usize = 1_048_544;
+
+/// The most items of a message's list.
+const MOST_ITEMS: usize = 65_535;
+
+/// The value that bytes spell of which a BEGIN may be sent. What is longer isn't decoded.
+fn value_in(alloc: Global, bytes: &[u8]) -> Result<Option<Transaction>, OutOfMemory>
+    ensures value { IfOk result (λ value. value ≡ transaction_in (Some bytes.now)) }
+    ensures bytes { IfOk result (λ value. IfSome value (λ ops. bytes.now ≡ text ops)) }
+{
+    if bytes.len() > MOST_BEGUN {
+        return Ok(None);
+    }
+    match decode(alloc, bytes) {
+        Ok(value) => Ok(Some(value)),
+        Err(TxRefused::OutOfMemory) => Err(OutOfMemory),
+        Err(_) => Ok(None),
+    }
+}
+
+/// How many bytes a value takes in a list of a message.
+fn value_len(value: &Transaction) -> usize
+    ensures { result ≡ min (value_length value.now) (2 ^ 64 - 1) }
+{
+    (value.text_len() as usize).saturating_add(4)
+}
+
+/// The value that bytes spell, where it takes at most so many bytes. What is longer isn't decoded.
+fn value_fitting(
+    alloc: Global,
+    bytes: &[u8],
+    room: usize,
+) -> Result<Option<Transaction>, OutOfMemory>
+    ensures { IfOk result (λ value. value ≡ where_room room (transaction_in (Some bytes.now))) }
+{
+    if room < 4 {
+        return Ok(None);
+    }
+    if bytes.len() > room - 4 {
+        return Ok(None);
+    }
+    value_in(alloc, bytes)
+}
+
+/// Whether a value that is waiting counts: whether it may be proposed.
+fn counts(value: &[u8]) -> bool
+    ensures { (v pn : ℕ) → result ≡ is_some (found_as v pn (transaction_in (Some value.now))) }
+{
+    if value.len() > MOST_VALUE {
+        return false;
+    }
+    is_text(value)
+}
+
+/// Values of consecutive versions, and how many bytes they take in a list of a message.
+#[derive(Debug, Drop)]
+pub struct Run {
+    pub values: Items<Transaction>,
+    pub bytes: usize,
+}
+
+/// How many bytes a message has room for with so many of values already, and as many besides as at the last version or before.
+fn room_at(is_last: bool, plain: usize, at_end: usize, bytes: usize) -> usize
+    ensures { result ≡ 1048576 - (if is_last then at_end else plain) - bytes }
+{
+    let besides = if is_last { at_end } else { plain };
+    MOST_BYTES.saturating_sub(besides).saturating_sub(bytes)
+}
+
+impl<'a> Stored<'a> {
+    /// The value that the record of a version spells. A record that is no transaction counts as none, and so does one of
+    /// which no BEGIN may be sent.
+    #[tactic(auto, unfolding(mon_msg::specs::Protocol::Records::record_at))]
+    pub fn record_at(&self, alloc: Global, v: u64) -> Result<Option<Transaction>, OutOfMemory>
+        ensures { IfOk result (λ value. value ≡ record_at (readings_of self.now).record_of v) }
+    {
+        match self.stored(v) {
+            Some(bytes) => value_in(alloc, bytes),
+            None => Ok(None),
+        }
+    }
+
+    /// The same, where the value takes at most so many bytes in a list of a message. A longer one isn't decoded.
+    #[tactic(auto, unfolding(mon_msg::specs::Protocol::Records::record_at))]
+    fn value_within(
+        &self,
+        alloc: Global,
+        v: u64,
+        room: usize,
+    ) -> Result<Option<Transaction>, OutOfMemory>
+        ensures { IfOk result (λ value. value ≡ where_room room (record_at (readings_of self.now).record_of v)) }
+    {
+        match self.stored(v) {
+            Some(bytes) => value_fitting(alloc, bytes, room),
+            None => Ok(None),
+        }
+    }
+
+    /// Whether a value was accepted for the version after the last one that counts: a transaction that may be proposed. It
+    /// takes no memory.
+    #[tactic(auto, unfolding(mon_msg::specs::Protocol::Records::pending_of, mon_msg::specs::Protocol::Records::record_at))]
+    pub fn has_pending(&self) -> bool
+        ensures { result ≡ is_some (pending (readings_of self.now)) }
+    {
+        let next = self.last().get() + 1;
+        if self.pending_v() != next {
+            return false;
+        }
+        match self.stored(next) {
+            Some(bytes) => counts(bytes),
+            None => false,
+        }
+    }
+
+    /// The value that was accepted for the version after the last one, with its number, where it counts.
+    #[tactic(auto, unfolding(mon_msg::specs::Protocol::Records::pending_of, mon_msg::specs::Protocol::Records::record_at))]
+    pub fn pending(&self, alloc: Global) -> Result<Option<Found>, OutOfMemory>
+        ensures { IfOk result (λ found. found ≡ pending (readings_of self.now)) }
+    {
+        if !self.has_pending() {
+            return Ok(None);
+        }
+        let next = self.last().get() + 1;
+        let Some(value) = self.record_at(alloc, next)? else {
+            return Ok(None);
+        };
+        let version = Version::known(self.pending_v());
+        let pn = self.pending_pn();
+        Ok(Some(Found { version, pn, value }))
+    }
+
+    /// The longest run of records from version `from` on, up to the last version or the first that has none, which a
+    /// message takes that has `plain` bytes besides, or `at_end` where the run reaches the last version. Each record is
+    /// decoded once, and none that has no room.
+    pub fn run(
+        &self,
+        alloc: Global,
+        from: u64,
+        plain: usize,
+        at_end: usize,
+    ) -> Result<Run, OutOfMemory>
+        ensures values { IfOk result (λ run. run.values ≡ run_within (readings_of self.now).record_of (readings_of self.now).last from plain at_end) }
+        ensures bytes { IfOk result (λ run. run.bytes ≡ sum_by value_length run.values) }
+        ensures few { IfOk result (λ run. length run.values ≤ 65535) }
+    {
+        let last = self.last().get();
+        let mut values = Items::new(alloc);
+        let mut bytes = 0;
+        for v in from..last + 1 {
+            if values.as_slice().len() == MOST_ITEMS {
+                return Ok(Run { values, bytes });
+            }
+            let room = room_at(v == last, plain, at_end, bytes);
+            let Some(value) = self.value_within(alloc, v, room)? else {
+                return Ok(Run { values, bytes });
+            };
+            bytes += value_len(&value);
+            values.push(value)?;
+        }
+        Ok(Run { values, bytes })
+    }
+}
