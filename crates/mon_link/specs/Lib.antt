@@ -1,2 +1,5 @@
+pub mod Clocks
+pub mod Links
 pub mod Memory
+pub mod MemoryLinks
 pub mod Whole

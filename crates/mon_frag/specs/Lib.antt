@@ -1,0 +1,4 @@
+pub mod Headers
+pub mod Keeping
+pub mod Pieces
+pub mod Whole

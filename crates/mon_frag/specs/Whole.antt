@@ -1,0 +1,63 @@
+-- What peers send, what comes of it, and what an assembly answers to that.
+use Rattle.std.specs.Prelude.{◌≡◌, ◌≤◌, ◌<◌, ◌^◌, ℕ, false, List, [], ◌∷◌, length, Option, Some, None, Ok, Err}
+use Rattle.std.specs.List.{Any, Contains, AllByRecursion}
+use Rattle.mon_link.specs.declared.link.Peer.{Peer}
+use Rattle.mon_frag.specs.declared.partial.Partial.{Partial}
+use Rattle.mon_frag.specs.Pieces.{pieces_of}
+use Rattle.mon_frag.specs.Headers.{is_piece}
+use Rattle.mon_frag.specs.Keeping.{Taken, Outcome, taken}
+
+-- a message that a peer sent, and the numbers that it sent it under
+pub record Message : Type 0 where
+  pub from : Peer
+  pub boot : ℕ
+  pub seq : ℕ
+  pub bytes : List ℕ
+
+-- a message that can be cut, and isn't taken for a piece
+pub record IsMessage (m : Message) : Type 0 where
+  pub most : length m.bytes ≤ 1048576
+  pub boot : m.boot < 2 ^ 64
+  pub seq : m.seq < 2 ^ 64
+  pub no_piece : is_piece m.bytes ≡ false
+
+-- These are messages, and no two of one peer's share their numbers.
+pub record AreSent (sent : List Message) : Type 0 where
+  pub messages : (m : Message) → Contains sent m → IsMessage m
+  pub numbered : (m n : Message) → Contains sent m → Contains sent n → m.from ≡ n.from → m.boot ≡ n.boot → m.seq ≡ n.seq → m.bytes ≡ n.bytes
+
+-- bytes from a peer
+pub record FromPeer : Type 0 where
+  pub from : Peer
+  pub bytes : List ℕ
+
+-- They are a datagram of a message that this peer sent.
+abbrev pub IsDatagram : List Message → FromPeer → Type 0
+IsDatagram sent d = (m : Message) × Contains sent m × (m.from ≡ d.from) × Contains (pieces_of m.bytes m.boot m.seq) d.bytes
+
+-- They are a whole message that this peer sent.
+abbrev pub IsWhole : List Message → FromPeer → Type 0
+IsWhole sent d = (m : Message) × Contains sent m × (m.from ≡ d.from) × (m.bytes ≡ d.bytes)
+
+-- what is answered to datagrams in the order in which they come, and from whom it is
+abbrev pub and_answered : Peer → Option (List ℕ) → List FromPeer → List FromPeer
+and_answered from None later = later
+and_answered from (Some bytes) later = record { from = from; bytes = bytes } ∷ later
+
+abbrev pub answer_in : Outcome → Option (List ℕ)
+answer_in (Ok t) = t.answer
+answer_in (Err e) = None
+
+abbrev pub kept_in : List Partial → Outcome → List Partial
+kept_in old (Ok t) = t.kept
+kept_in old (Err e) = old
+
+abbrev pub answered : List Partial → List FromPeer → List FromPeer
+answered kept [] = []
+answered kept (d ∷ later) =
+    and_answered d.from (answer_in (taken kept d.from d.bytes)) (answered (kept_in kept (taken kept d.from d.bytes)) later)
+
+abbrev pub AllWhole : Type 0
+AllWhole =
+    (sent : List Message) (came : List FromPeer) → AreSent sent → AllByRecursion (IsDatagram sent) came
+    → AllByRecursion (IsWhole sent) (answered [] came)

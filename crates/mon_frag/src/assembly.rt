@@ -1,0 +1,216 @@
+ghost use Rattle.std.specs.Prelude.{◌≡◌, ◌<◌, nat_lt, if◌then◌else◌, None, ◌≤◌, ◌++◌, [], ◌∷◌, IfOk, IfSome, OnOk, OnErr, Some, length, slice_get};
+ghost use Rattle.std.specs.List.{position};
+ghost use Rattle.mon_frag.specs.Headers.{is_piece};
+ghost use Rattle.mon_frag.specs.Keeping.{Takes, taken, piece_taken, at_found, joined_with, first_of, oldest_against, is_client, is_of, same_peer, without};
+
+use crate::cutting::DATAGRAM;
+use crate::header::{Header, PART, behind_header, read_header};
+use crate::partial::{Joined, Partial, is_same};
+use crate::refused::FragRefused;
+use mon_bytes::{Bytes, OutOfMemory};
+use mon_link::Peer;
+use std::alloc::Global;
+use std::marker::Model;
+
+/// The messages of which not all pieces came yet: at most four of each monitor, one of each client, and 64 of all clients
+/// together.
+#[derive(Drop)]
+pub struct Assembly {
+    kept: Vec<Partial>,
+}
+
+impl Model for Assembly {
+    ghost use Rattle.std.specs.Prelude.{List};
+    ghost use Rattle.mon_frag.specs.declared.partial.Partial.{Partial};
+
+    ghost Value = { List Partial };
+
+    ghost view = { λ a. a.kept.items };
+}
+
+/// The place of the first one from a peer.
+fn place_from(kept: &[Partial], from: &Peer) -> Option<usize>
+    ensures { result ≡ position (λ p. same_peer from.now p.from) kept.now }
+{
+    kept.iter().position(|p| is_same(from, &p.from))
+}
+
+/// The place of the first one from a peer, where there are `most` of them.
+fn first_from(kept: &[Partial], from: &Peer, most: usize) -> Option<usize>
+    ensures { result ≡ first_of most (λ p. same_peer from.now p.from) kept.now }
+{
+    if kept.iter().filter(|p| is_same(from, &p.from)).count() < most {
+        return None;
+    }
+    place_from(kept, from)
+}
+
+/// Whether a peer is a client.
+fn is_from_client(from: &Peer) -> bool
+    ensures { result ≡ is_client from.now }
+{
+    match from {
+        Peer::Monitor(_) => false,
+        Peer::Client(_) => true,
+    }
+}
+
+/// The place of the first one from a client.
+fn place_from_clients(kept: &[Partial]) -> Option<usize>
+    ensures { result ≡ position (λ p. is_client p.from) kept.now }
+{
+    kept.iter().position(|p| is_from_client(&p.from))
+}
+
+/// The place of the first one from a client, where there are 64 of them.
+fn first_from_clients(kept: &[Partial]) -> Option<usize>
+    ensures { result ≡ first_of 64 (λ p. is_client p.from) kept.now }
+{
+    if kept.iter().filter(|p| is_from_client(&p.from)).count() < 64 {
+        return None;
+    }
+    place_from_clients(kept)
+}
+
+/// The place of the message that a peer sent under these numbers.
+fn place_of(kept: &[Partial], from: &Peer, boot: u64, seq: u64) -> Option<usize>
+    ensures place { result ≡ position (is_of from.now boot seq) kept.now }
+    ensures within { IfSome result (λ i. i < length kept.now) }
+{
+    kept.iter().position(|p| p.is_of(from, boot, seq))
+}
+
+/// The place of the one that goes for a new one.
+fn oldest(kept: &[Partial], from: &Peer) -> Option<usize>
+    ensures place { result ≡ oldest_against from.now kept.now }
+    ensures within { IfSome result (λ i. i < length kept.now) }
+{
+    match from {
+        Peer::Monitor(_) => first_from(kept, from, 4),
+        Peer::Client(_) => match first_from(kept, from, 1) {
+            Some(own) => Some(own),
+            None => first_from_clients(kept),
+        },
+    }
+}
+
+impl Assembly {
+    /// Nothing came yet. It takes no memory.
+    pub fn new(alloc: Global) -> Assembly
+        ensures { result ≡ [] }
+    {
+        Assembly {
+            kept: Vec::new(alloc),
+        }
+    }
+
+    /// Keeps what is begun, in the place of the one that goes for it.
+    #[tactic(auto, using(crate::proofs::Lists::remove_earlier))]
+    fn keep(&mut self, partial: Partial) -> Result<(), OutOfMemory>
+        ensures ok { OnOk result (self.new ≡ without self.old (oldest_against partial.from self.old) ++ partial ∷ []) }
+        ensures err { OnErr result (self.new ≡ self.old) }
+    {
+        let going = oldest(self.kept.as_slice(), &partial.from);
+        self.kept.push(partial)?;
+        if let Some(at) = going {
+            let _ = self.kept.remove(at);
+        }
+        Ok(())
+    }
+
+    /// Takes the first piece of a message.
+    fn begin(
+        &mut self,
+        alloc: Global,
+        from: Peer,
+        header: Header,
+        bytes: &[u8],
+    ) -> Result<Option<Bytes>, FragRefused>
+        requires { header.place < header.total }
+        ensures { Takes result self.old self.new (at_found from header bytes.now self.old None) }
+    {
+        let partial = Partial::begin(alloc, from, header, bytes)?;
+        self.keep(partial)?;
+        Ok(None)
+    }
+
+    /// Takes a piece of the message at a place.
+    #[tactic(auto, using(crate::proofs::Lists::joined_ok))]
+    fn add(
+        &mut self,
+        alloc: Global,
+        at: usize,
+        header: Header,
+        bytes: &[u8],
+    ) -> Result<Option<Bytes>, FragRefused>
+        requires { at < length self.old }
+        ensures { Takes result self.old self.new (joined_with header bytes.now self.old at (slice_get self.old at)) }
+    {
+        let partial = &self.kept[at];
+        match partial.join(alloc, header, bytes)? {
+            Joined::Clash => Err(FragRefused::Clash),
+            Joined::Known => Ok(None),
+            Joined::More => {
+                let bytes = copied(alloc, bytes)?;
+                let partial = &mut self.kept[at];
+                partial.parts.put((header.place / PART) as usize, bytes);
+                Ok(None)
+            }
+            Joined::Whole(message) => {
+                let _ = self.kept.remove(at);
+                Ok(Some(message))
+            }
+        }
+    }
+
+    /// Takes a piece.
+    fn take_piece(
+        &mut self,
+        alloc: Global,
+        from: Peer,
+        header: Header,
+        bytes: &[u8],
+    ) -> Result<Option<Bytes>, FragRefused>
+        requires { header.place < header.total }
+        ensures { Takes result self.old self.new (piece_taken from bytes.now self.old header) }
+    {
+        match place_of(self.kept.as_slice(), &from, header.boot, header.seq) {
+            Some(at) => self.add(alloc, at, header, bytes),
+            None => self.begin(alloc, from, header, bytes),
+        }
+    }
+
+    /// Takes a datagram from a peer, and answers a message where one is whole then: the datagram itself, where it doesn't
+    /// begin with the byte 02, or that of which it is the last piece to come. A piece of a new message drops the oldest
+    /// message of which there is no room for both: one of the same peer, or else, of a client, of any client.
+    pub fn take(&mut self, from: Peer, datagram: &[u8]) -> Result<Option<Bytes>, FragRefused>
+        ensures { Takes result self.old self.new (taken self.old from datagram.now) }
+    {
+        let alloc = *self.kept.allocator();
+        if datagram.len() > DATAGRAM {
+            return Err(FragRefused::TooLong);
+        }
+        if !begins_a_piece(datagram) {
+            return Ok(Some(copied(alloc, datagram)?));
+        }
+        let header = read_header(datagram)?;
+        self.take_piece(alloc, from, header, behind_header(datagram))
+    }
+}
+
+/// The bytes in memory of their own.
+fn copied(alloc: Global, bytes: &[u8]) -> Result<Bytes, OutOfMemory>
+    ensures { IfOk result (λ x. x ≡ bytes.now) }
+{
+    Ok(Bytes::new(Vec::from_slice(alloc, bytes)?))
+}
+
+/// Whether a datagram is a piece of a message.
+fn begins_a_piece(datagram: &[u8]) -> bool
+    ensures { result ≡ is_piece datagram.now }
+{
+    match datagram {
+        [first, ..] => *first == 2,
+        [] => false,
+    }
+}

@@ -1,0 +1,111 @@
+ghost use Rattle.std.specs.Prelude.{◌≡◌, ◌<◌, drop, IfOk};
+ghost use Rattle.mon_frag.specs.Headers.{fields_of, formed, header_of};
+
+use crate::refused::FragRefused;
+use mon_bytes::Cursor;
+use mon_types::GREATEST;
+
+/// The bytes of a piece in front of those of its message.
+const HEADER: usize = 28;
+
+/// The most bytes of a message that a piece has.
+pub const PART: u32 = 59_000;
+
+/// The least and the most bytes of a message that is cut.
+const LEAST: u32 = 60_001;
+
+const MOST: u32 = 1_048_576;
+
+/// What stands in front of the bytes of a piece.
+#[derive(Clone, Copy)]
+pub struct Header {
+    pub zero_1: u8,
+    pub zero_2: u8,
+    pub zero_3: u8,
+    pub boot: u64,
+    pub seq: u64,
+    pub total: u32,
+    pub place: u32,
+}
+
+/// The fields of a header. One that doesn't fit is `Cut`.
+#[tactic(auto, unfolding(crate::specs::Headers::fields_at))]
+fn read_fields(datagram: &[u8]) -> Result<Header, FragRefused>
+    ensures { result ≡ fields_of datagram.now }
+{
+    let mut cursor = Cursor::new(datagram);
+    let _mark = cursor.take_u8()?;
+    let zero_1 = cursor.take_u8()?;
+    let zero_2 = cursor.take_u8()?;
+    let zero_3 = cursor.take_u8()?;
+    let boot = cursor.take_u64()?;
+    let seq = cursor.take_u64()?;
+    let total = cursor.take_u32()?;
+    let place = cursor.take_u32()?;
+    Ok(Header {
+        zero_1,
+        zero_2,
+        zero_3,
+        boot,
+        seq,
+        total,
+        place,
+    })
+}
+
+/// Whether the fields are in their form, where so many bytes follow them. The first that isn't is `Form`.
+fn check(count: usize, header: Header) -> Result<Header, FragRefused>
+    ensures form { result ≡ formed count header }
+    ensures within { IfOk result (λ h. h.place < h.total) }
+{
+    let Header {
+        boot,
+        seq,
+        total,
+        place,
+        ..
+    } = header;
+    if header.zero_1 != 0 {
+        return Err(FragRefused::Form { at: 1 });
+    }
+    if header.zero_2 != 0 {
+        return Err(FragRefused::Form { at: 2 });
+    }
+    if header.zero_3 != 0 {
+        return Err(FragRefused::Form { at: 3 });
+    }
+    if boot > GREATEST {
+        return Err(FragRefused::Form { at: 4 });
+    }
+    if seq > GREATEST {
+        return Err(FragRefused::Form { at: 12 });
+    }
+    if total < LEAST || total > MOST {
+        return Err(FragRefused::Form { at: 20 });
+    }
+    if place % PART != 0 || place >= total {
+        return Err(FragRefused::Form { at: 24 });
+    }
+    if count != PART.min(total - place) as usize {
+        return Err(FragRefused::Form { at: 28 });
+    }
+    Ok(header)
+}
+
+/// The bytes of a piece behind its header.
+#[tactic(auto, using(std::proofs::lemmas::List::drop_min))]
+pub fn behind_header(datagram: &[u8]) -> &[u8]
+    ensures { result.now ≡ drop 28 datagram.now }
+{
+    let (_, bytes) = datagram.split_at(HEADER.min(datagram.len()));
+    bytes
+}
+
+/// The header of a piece.
+pub fn read_header(datagram: &[u8]) -> Result<Header, FragRefused>
+    ensures header { result ≡ header_of datagram.now }
+    ensures within { IfOk result (λ h. h.place < h.total) }
+{
+    let header = read_fields(datagram)?;
+    check(behind_header(datagram).len(), header)
+}

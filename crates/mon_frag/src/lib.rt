@@ -1,0 +1,17 @@
+//! Messages that are longer than a datagram: cut into pieces, and put together again.
+#![tactic(auto)]
+
+mod assembly;
+mod cutting;
+mod header;
+mod law;
+mod partial;
+mod refused;
+
+pub use assembly::Assembly;
+pub use cutting::pieces;
+pub use law::law_whole;
+pub use refused::FragRefused;
+
+#[cfg(test)]
+mod tests;

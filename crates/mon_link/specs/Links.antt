@@ -1,0 +1,83 @@
+-- What a link tells of itself, and what each call makes of it.
+use Rattle.std.specs.Prelude.{◌≡◌, ℕ, List, [], ◌∷◌, ◌++◌, length, Option, IfSome, option_map, Result, Ok, Err, if◌then◌else◌}
+use Rattle.mon_types.specs.Faults.{risen}
+use Rattle.mon_types.specs.declared.names.Stop.{Stop}
+use Rattle.mon_types.specs.declared.names.Stop.TheVariants.{Failed, OutOfMemory}
+use Rattle.mon_link.specs.declared.link.Peer.{Peer}
+use Rattle.mon_link.specs.declared.link.Got.{Got}
+use Rattle.mon_link.specs.declared.link.Got.TheVariants.{Closed}
+use Rattle.mon_link.specs.declared.link.Outgoing.{Outgoing}
+use Rattle.mon_link.specs.Memory.{fails_next}
+
+-- What is still to come, in order; the datagrams that were to be sent and the waits that were asked, failed ones too; and
+-- the numbers, from 1, of the calls that fail.
+pub record Told : Type 0 where
+  pub left : List Got
+  pub sent : List Outgoing
+  pub waits : List ℕ
+  pub failing_next : List ℕ
+  pub failing_send : List ℕ
+
+-- A link at one moment: what it tells, where it does, how often nothing could be had of it, and how many datagrams it
+-- couldn't send. Both counts stand still at the last number of 64 bits.
+pub record LinkState : Type 0 where
+  pub told : Option Told
+  pub faults : ℕ
+  pub losses : ℕ
+
+-- a count that rises where a call fails, and nowhere else
+abbrev pub count_after : {T : Type 0} → Result T Stop → ℕ → ℕ
+count_after (Ok x) count = count
+count_after (Err Failed) count = risen count
+count_after (Err OutOfMemory) count = count
+
+-- a call answers what is wanted, unless memory ran out
+abbrev pub Answers : {T : Type 0} → Result T Stop → Result T Stop → Type 0
+Answers (Ok x) wanted = wanted ≡ Ok x
+Answers (Err Failed) wanted = wanted ≡ Err Failed
+Answers (Err OutOfMemory) wanted = Unit {0}
+
+-- ---- what comes
+
+-- at the end the link is closed
+abbrev pub first_of : List Got → Got
+first_of [] = Closed
+first_of (got ∷ left) = got
+
+abbrev pub others : List Got → List Got
+others [] = []
+others (got ∷ left) = left
+
+abbrev pub next_answer : Told → Result Got Stop
+next_answer t = if fails_next t.failing_next (length t.waits) then Err Failed else Ok (first_of t.left)
+
+-- a call that fails has given nothing
+abbrev pub next_leaves : ℕ → Result Got Stop → Told → Told
+next_leaves wait (Ok got) t = record t { left = others t.left; waits = t.waits ++ wait ∷ [] }
+next_leaves wait (Err Failed) t = record t { waits = t.waits ++ wait ∷ [] }
+next_leaves wait (Err OutOfMemory) t = t
+
+pub record CallsNext (wait : ℕ) (result : Result Got Stop) (old new : LinkState) : Type 0 where
+  pub answer : IfSome old.told (λ t. Answers result (next_answer t))
+  pub told : new.told ≡ option_map (next_leaves wait result) old.told
+  pub faults : new.faults ≡ count_after result old.faults
+  pub losses : new.losses ≡ old.losses
+
+-- ---- what goes
+
+abbrev pub send_answer : Told → Result (Unit {0}) Stop
+send_answer t = if fails_next t.failing_send (length t.sent) then Err Failed else Ok tt
+
+abbrev pub asked_to_send : Peer → List ℕ → Told → Told
+asked_to_send to bytes t = record t { sent = t.sent ++ record { to = to; bytes = bytes } ∷ [] }
+
+abbrev pub send_leaves : Peer → List ℕ → Result (Unit {0}) Stop → Told → Told
+send_leaves to bytes (Ok x) t = asked_to_send to bytes t
+send_leaves to bytes (Err Failed) t = asked_to_send to bytes t
+send_leaves to bytes (Err OutOfMemory) t = t
+
+pub record CallsSend (to : Peer) (bytes : List ℕ) (result : Result (Unit {0}) Stop) (old new : LinkState) : Type 0 where
+  pub answer : IfSome old.told (λ t. Answers result (send_answer t))
+  pub told : new.told ≡ option_map (send_leaves to bytes result) old.told
+  pub faults : new.faults ≡ old.faults
+  pub losses : new.losses ≡ count_after result old.losses

@@ -1,0 +1,42 @@
+ghost use Rattle.mon_link.specs.Links.{LinkState, CallsNext, CallsSend};
+
+use mon_bytes::Bytes;
+use mon_types::{Rank, Stop};
+
+/// Who is at the other end of a link.
+#[derive(Clone, Copy, Debug, PartialEq, Eq)]
+pub enum Peer {
+    Monitor(Rank),
+    Client(u32),
+}
+
+/// What came.
+#[derive(Debug, Drop)]
+pub enum Got {
+    Datagram { from: Peer, bytes: Bytes },
+    /// Nothing came in time.
+    Idle,
+    /// Nothing will come.
+    Closed,
+}
+
+/// A datagram that was to be sent.
+#[derive(Debug, Drop)]
+pub struct Outgoing {
+    pub to: Peer,
+    pub bytes: Bytes,
+}
+
+/// Datagrams that come and go. Any of them may be lost on its way, come twice, or come late.
+pub trait Link {
+    /// What the link tells, where it does: what is still to come, and what it was asked. The faults and losses so far.
+    ghost state: { Self → LinkState };
+
+    /// What comes next, after at most `wait` milliseconds. Only where it fails is a fault counted.
+    fn next(&mut self, wait: u64) -> Result<Got, Stop>
+        ensures { CallsNext wait result (state self.old) (state self.new) };
+
+    /// Sends a datagram. One that couldn't be sent is counted as a loss, and as no fault.
+    fn send(&mut self, to: Peer, bytes: &[u8]) -> Result<(), Stop>
+        ensures { CallsSend to bytes.now result (state self.old) (state self.new) };
+}

@@ -1,0 +1,118 @@
+ghost use Rattle.std.specs.Prelude.{◌≡◌, [], Some};
+
+use crate::link::{Got, Link, Outgoing, Peer};
+use crate::outside::raised;
+use mon_bytes::Bytes;
+use mon_types::Stop;
+use std::alloc::Global;
+use std::marker::Model;
+use std::vec::IntoIter;
+
+/// A link that gives a list, and then `Closed`, and keeps what it was asked.
+#[derive(Drop)]
+pub struct MemoryLink {
+    alloc: Global,
+    got: IntoIter<Got>,
+    sent: Vec<Outgoing>,
+    waits: Vec<u64>,
+    failing_next: Vec<u64>,
+    failing_send: Vec<u64>,
+    faults: u64,
+    losses: u64,
+}
+
+impl Model for MemoryLink {
+    ghost use Rattle.std.specs.Vec.Iter.{into_iter_items};
+    ghost use Rattle.mon_link.specs.MemoryLinks.{MemoryTalk};
+
+    ghost Value = { MemoryTalk };
+
+    ghost view = { λ l. record {
+      told = record {
+        left = into_iter_items l.got;
+        sent = l.sent.items;
+        waits = l.waits.items;
+        failing_next = l.failing_next.items;
+        failing_send = l.failing_send.items;
+      };
+      faults = l.faults;
+      losses = l.losses;
+    } };
+}
+
+impl MemoryLink {
+    /// A link that gives these, of which no call was made yet. The lists name the calls that fail, by their numbers from 1.
+    /// It takes no memory.
+    pub fn new(
+        alloc: Global,
+        got: Vec<Got>,
+        failing_next: Vec<u64>,
+        failing_send: Vec<u64>,
+    ) -> MemoryLink
+        ensures { result ≡ record {
+          told = record { left = got.items; sent = []; waits = []; failing_next = failing_next.items; failing_send = failing_send.items };
+          faults = 0;
+          losses = 0;
+        } }
+    {
+        MemoryLink {
+            alloc,
+            got: got.into_iter(),
+            sent: Vec::new(alloc),
+            waits: Vec::new(alloc),
+            failing_next,
+            failing_send,
+            faults: 0,
+            losses: 0,
+        }
+    }
+
+    /// The datagrams that were to be sent, in order.
+    pub fn sent(&self) -> &[Outgoing]
+        ensures { result.now ≡ self.now.told.sent }
+    {
+        self.sent.as_slice()
+    }
+
+    /// The waits that were asked, in milliseconds and in order.
+    pub fn waits(&self) -> &[u64]
+        ensures { result.now ≡ self.now.told.waits }
+    {
+        self.waits.as_slice()
+    }
+}
+
+impl Link for MemoryLink {
+    ghost state = { λ l. record { told = Some l.told; faults = l.faults; losses = l.losses } };
+
+    fn next(&mut self, wait: u64) -> Result<Got, Stop> {
+        let fails = self.failing_next.contains(&raised(self.waits.len() as u64));
+        if self.waits.push(wait).is_err() {
+            return Err(Stop::OutOfMemory);
+        }
+        if fails {
+            self.faults = raised(self.faults);
+            return Err(Stop::Failed);
+        }
+        match self.got.next() {
+            Some(got) => Ok(got),
+            None => Ok(Got::Closed),
+        }
+    }
+
+    fn send(&mut self, to: Peer, bytes: &[u8]) -> Result<(), Stop> {
+        let fails = self.failing_send.contains(&raised(self.sent.len() as u64));
+        let Ok(bytes) = Vec::from_slice(self.alloc, bytes) else {
+            return Err(Stop::OutOfMemory);
+        };
+        let bytes = Bytes::new(bytes);
+        if self.sent.push(Outgoing { to, bytes }).is_err() {
+            return Err(Stop::OutOfMemory);
+        }
+        if fails {
+            self.losses = raised(self.losses);
+            return Err(Stop::Failed);
+        }
+        Ok(())
+    }
+}
