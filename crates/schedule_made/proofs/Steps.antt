@@ -1,0 +1,73 @@
+-- One more event, or round, of those that are to come.
+use Rattle.std.proofs.Common.{◌≡◌, ℕ, suc, ◌+◌, ◌-◌, ◌<◌, ◌≤◌, List, [], ◌∷◌, ◌++◌, map, take, sym, ap, ◌∙◌, arith, append_assoc}
+use Rattle.std.specs.List.{range_with_len}
+use Rattle.std.proofs.lemmas.List.{append-nil}
+use Rattle.std.proofs.lemmas.List.FromFn.{map-range_with_len_more}
+use Rattle.rand_pcg.specs.Lcg.{Lcg}
+use Rattle.schedule_text.specs.declared.event.Event.{Event}
+use Rattle.schedule_made.specs.Draws.{passed}
+use Rattle.schedule_made.specs.Made.{deliver, deliveries, round, rounds, turn, turns}
+
+pub deliveries_more : (first message at : ℕ) → first ≤ message → deliveries first (message + 1 - first) at ≡ deliveries first (message - first) at ++ deliver message at ∷ []
+unfolding deliveries
+deliveries_more first message at le =
+    let n : message + 1 - first ≡ message - first + 1 = omega arith in
+    ap (λ k. map (λ m. deliver m at) (range_with_len first k)) n
+    ∙ map-range_with_len_more (λ m. deliver m at) first (message - first) message (omega arith)
+
+pub deliveries_none : (first at : ℕ) → deliveries first (first - first) at ≡ []
+unfolding deliveries
+deliveries_none first at =
+    let n : first - first ≡ 0 = omega arith in
+    ap (λ k. map (λ m. deliver m at) (range_with_len first k)) n
+
+pub rounds_more : (n j : ℕ) (g : Lcg) → j < n → rounds (n - j) j g ≡ round j g ++ rounds (n - (j + 1)) (j + 1) (passed 5 g)
+unfolding rounds
+rounds_more n j g lt =
+    let left : n - j ≡ suc (n - (j + 1)) = omega arith in
+    let next : suc j ≡ j + 1 = omega arith in
+    ap (λ k. rounds k j g) left ∙ ap (λ k. round j g ++ rounds (n - (j + 1)) k (passed 5 g)) next
+
+pub rounds_none : (n j : ℕ) (g : Lcg) → n ≤ j → rounds (n - j) j g ≡ []
+unfolding rounds
+rounds_none n j g le = let none : n - j ≡ 0 = omega arith in ap (λ k. rounds k j g) none
+
+pub turns_more : (n i next : ℕ) (g : Lcg) → i < n → turns (n - i) i next g ≡ (turn i next g).event ∷ turns (n - (i + 1)) (i + 1) (turn i next g).next (passed (turn i next g).draws g)
+unfolding turns
+turns_more n i next g lt =
+    let left : n - i ≡ suc (n - (i + 1)) = omega arith in
+    let more : suc i ≡ i + 1 = omega arith in
+    ap (λ k. turns k i next g) left
+    ∙ ap (λ k. (turn i next g).event ∷ turns (n - (i + 1)) k (turn i next g).next (passed (turn i next g).draws g)) more
+
+pub turns_none : (n i next : ℕ) (g : Lcg) → n ≤ i → turns (n - i) i next g ≡ []
+unfolding turns
+turns_none n i next g le = let none : n - i ≡ 0 = omega arith in ap (λ k. turns k i next g) none
+
+-- ---- loops over what is to come, of which so many events count
+
+module _ (most : ℕ) (whole before : List Event) where
+  pub rounds_step : (j : ℕ) (after : List Event) (g h : Lcg) → j < most
+      → take most whole ≡ take most (before ++ rounds (most - j) j g) → after ≡ before ++ round j g → h ≡ passed 5 g
+      → take most whole ≡ take most (after ++ rounds (most - (j + 1)) (j + 1) h)
+  rounds_step j after g h lt so_far adds passes =
+      so_far
+      ∙ ap (λ l. take most (before ++ l)) (rounds_more most j g lt)
+      ∙ ap (take most) (sym (append_assoc before (round j g) (rounds (most - (j + 1)) (j + 1) (passed 5 g))))
+      ∙ (λ i. take most (sym adds i ++ rounds (most - (j + 1)) (j + 1) (sym passes i)))
+
+  pub rounds_end : (j : ℕ) (g : Lcg) → most ≤ j → take most whole ≡ take most (before ++ rounds (most - j) j g) → take most before ≡ take most whole
+  rounds_end j g le so_far = sym (so_far ∙ ap (λ l. take most (before ++ l)) (rounds_none most j g le) ∙ ap (take most) (append-nil before))
+
+  pub turns_step : (n i next : ℕ) (event : Event) (after : List Event) (g h : Lcg) (later : ℕ) → i < n
+      → take most whole ≡ take most (before ++ turns (n - i) i next g)
+      → event ≡ (turn i next g).event → after ≡ before ++ event ∷ [] → h ≡ passed (turn i next g).draws g → later ≡ (turn i next g).next
+      → take most whole ≡ take most (after ++ turns (n - (i + 1)) (i + 1) later h)
+  turns_step n i next event after g h later lt so_far is adds passes nexts =
+      so_far
+      ∙ ap (λ l. take most (before ++ l)) (turns_more n i next g lt)
+      ∙ ap (take most) (sym (append_assoc before ((turn i next g).event ∷ []) (turns (n - (i + 1)) (i + 1) (turn i next g).next (passed (turn i next g).draws g))))
+      ∙ (λ k. take most (sym (adds ∙ ap (λ e. before ++ e ∷ []) is) k ++ turns (n - (i + 1)) (i + 1) (sym nexts k) (sym passes k)))
+
+  pub turns_end : (n i next : ℕ) (g : Lcg) → n ≤ i → take most whole ≡ take most (before ++ turns (n - i) i next g) → take most before ≡ take most whole
+  turns_end n i next g le so_far = sym (so_far ∙ ap (λ l. take most (before ++ l)) (turns_none n i next g le) ∙ ap (take most) (append-nil before))
