@@ -1,5 +1,5 @@
 -- How a full synchronisation begins and ends: it gives up all that is shared, and in the end shares the fold.
-use Rattle.std.proofs.Common.{◌≡◌, ℕ, suc, ◌+◌, ◌≤◌, ◌^◌, Bool, true, false, not, ◌&&◌, cond, List, [], ◌∷◌, ◌++◌, length, Option, Some, None, inl, refl, sym, ap, subst, ◌∙◌, arith}
+use Rattle.std.proofs.Common.{◌≡◌, ℕ, ◌≤◌, ◌^◌, Bool, true, false, not, cond, List, [], ◌∷◌, length, Some, None, inl, refl, sym, ap, ◌∙◌, arith}
 use Rattle.std.specs.FinMap.{get, get-empty, empty, same_map}
 use Rattle.std.specs.Ordering.{eq_by_cmp}
 use Rattle.mon_bytes.specs.declared.entry.KeyPlace.TheVariants as key_place
@@ -8,8 +8,8 @@ use Rattle.mon_tx.specs.declared.key.Area.TheVariants as area
 use Rattle.mon_tx.specs.declared.key.Key.{Key}
 use Rattle.mon_tx.specs.declared.key.Key.TheVariants as key
 use Rattle.mon_tx.specs.declared.op.Op.{Op}
-use Rattle.mon_tx.specs.Decision.{Cell, Decision, decided, decision, later, or_before}
-use Rattle.mon_tx.specs.Keys.{place, cell, number, is_local, shared}
+use Rattle.mon_tx.specs.Decision.{Decision, decided, decision, later, or_before}
+use Rattle.mon_tx.specs.Keys.{place, number, is_local, shared}
 use Rattle.mon_tx.specs.Map.{Place, place_cmp, Store, apply, number_in, number_bytes}
 use Rattle.mon_tx.proofs.After.{get-apply}
 use Rattle.mon_tx.proofs.Named.{decided-put, decided-erase}

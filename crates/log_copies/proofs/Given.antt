@@ -1,8 +1,8 @@
 -- The chunk that a monitor of the log gives carries a copy on.
-use Rattle.std.proofs.Common.{◌≡◌, ℕ, zero, suc, ◌+◌, ◌-◌, ◌≤◌, ◌<◌, ◌^◌, Bool, true, false, not, ◌&&◌, ◌||◌, cond, leb, List, [], ◌∷◌, ◌++◌, length, map, Option, Some, None, Less, ◌⊎◌, inl, inr, T, refl, sym, ap, subst, ◌∙◌, arith, length-append}
+use Rattle.std.proofs.Common.{◌≡◌, ℕ, zero, suc, ◌+◌, ◌-◌, ◌≤◌, ◌<◌, ◌^◌, Bool, true, false, not, ◌&&◌, ◌||◌, cond, leb, List, [], ◌∷◌, ◌++◌, length, map, Some, None, Less, ◌⊎◌, inl, inr, T, refl, sym, ap, subst, ◌∙◌, arith, length-append}
 use Rattle.std.proofs.lemmas.Bool.{and_parts, leb-true, leb-false}
 use Rattle.std.proofs.lemmas.List.{append-nil, nil_from_length}
-use Rattle.std.specs.FinMap.{get, entries, empty, find, is_sorted, retain_keys, get-empty, get-entries, entries_sorted, same_map}
+use Rattle.std.specs.FinMap.{get, entries, empty, find, is_sorted, get-empty, get-entries, entries_sorted, same_map}
 use Rattle.std.specs.FinMap.Entries.{below_all, where_key, is_sorted-where_key, find-where_key}
 use Rattle.std.specs.List.{AllByRecursion, filter}
 use Rattle.mon_bytes.specs.declared.entry.Entry.{Entry}
@@ -24,7 +24,7 @@ use Rattle.mon_msg.specs.Protocol.Changes.{spelled}
 use Rattle.mon_msg.specs.Protocol.Chunks.{copy_changes}
 use Rattle.mon_msg.specs.Protocol.Length.{fits}
 use Rattle.mon_msg.specs.Protocol.Places.{is_after, is_done, after_entries}
-use Rattle.mon_msg.specs.Protocol.Providing.{reach, is_finished, chunk_with, given_values, given_entries, chunk}
+use Rattle.mon_msg.specs.Protocol.Providing.{reach, is_finished, chunk_with, given_values, chunk}
 use Rattle.mon_msg.specs.Protocol.Readings.{readings_of, shared_entries}
 use Rattle.mon_msg.specs.Protocol.Records.{run_from, longest, IsLongest}
 use Rattle.mon_msg.proofs.Runs.{longest_is}

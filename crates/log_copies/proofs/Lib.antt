@@ -7,3 +7,7 @@ pub mod Given
 pub mod Replayed
 pub mod Ends
 pub mod Shape
+pub mod UnderWay
+pub mod Copying
+pub mod Replaying
+pub mod Whole

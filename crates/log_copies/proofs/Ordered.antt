@@ -2,7 +2,7 @@
 use Rattle.std.proofs.Common.{◌≡◌, ℕ, Bool, true, false, not, ◌&&◌, cond, List, [], ◌∷◌, ◌++◌, map, Option, Some, None, Less, Equal, Greater, T, refl, sym, ap, subst, ◌∙◌}
 use Rattle.std.specs.declared.cmp.Ordering.{Ordering}
 use Rattle.std.specs.FinMap.{get, get-empty, empty, find, is_sorted}
-use Rattle.std.specs.List.{AllByRecursion, filter}
+use Rattle.std.specs.List.{AllByRecursion}
 use Rattle.std.specs.Ordering.{eq_by_cmp, is_eq, is_lt, ordering_reverse}
 use Rattle.mon_bytes.specs.declared.entry.Entry.{Entry}
 use Rattle.mon_bytes.specs.declared.entry.KeyPlace.{KeyPlace}
@@ -12,7 +12,7 @@ use Rattle.mon_tx.specs.Decision.{Decision, decided, decision, later, or_before}
 use Rattle.mon_tx.specs.Map.{Place, place_cmp, apply}
 use Rattle.mon_tx.proofs.After.{get-apply}
 use Rattle.mon_tx.proofs.Places.{places_total, exact_places}
-use Rattle.map_kv.proofs.Pairs.{first, second, less}
+use Rattle.map_kv.proofs.Pairs.{first, second}
 use Rattle.mon_msg.specs.Protocol.Changes.{spelled}
 use Rattle.mon_msg.specs.Protocol.Chunks.{copy_changes}
 use Rattle.mon_msg.specs.Protocol.Places.{is_after, after_entries}

@@ -1,5 +1,5 @@
 -- Which keys a store has: a monitor's own, and those that a full synchronisation gives up before it begins.
-use Rattle.std.proofs.Common.{◌≡◌, ℕ, ◌≤◌, ◌^◌, Bool, true, false, not, ◌&&◌, ◌||◌, cond, List, [], ◌∷◌, ◌++◌, length, Option, Some, None, ◌⊎◌, inl, inr, refl, sym, ap, subst, ◌∙◌, arith}
+use Rattle.std.proofs.Common.{◌≡◌, ℕ, ◌≤◌, ◌^◌, Bool, true, false, not, ◌&&◌, ◌||◌, cond, List, [], ◌∷◌, ◌++◌, length, Option, Some, None, ◌⊎◌, inl, inr, refl, sym, ap, ◌∙◌, arith}
 use Rattle.std.proofs.lemmas.List.{append-nil}
 use Rattle.std.specs.FinMap.{get, get-empty, empty, same_map}
 use Rattle.std.specs.List.{AllByRecursion}
@@ -12,29 +12,22 @@ use Rattle.mon_tx.specs.declared.key.Key.{Key}
 use Rattle.mon_tx.specs.declared.key.Key.TheVariants as key
 use Rattle.mon_tx.specs.declared.op.Op.{Op}
 use Rattle.mon_tx.specs.declared.op.Op.TheVariants.{Put, Erase, ErasePrefix, EraseRange}
-use Rattle.mon_tx.specs.Decision.{Cell, Decision, decided, decision, later, or_before}
+use Rattle.mon_tx.specs.Decision.{Cell, decided, decision, later, or_before}
 use Rattle.mon_tx.specs.Keys.{area_text, place, number, shared, is_local}
 use Rattle.mon_tx.specs.Map.{Place, place_cmp, Store, is_within, apply_op, apply}
-use Rattle.mon_tx.proofs.After.{get-apply, get-apply_op, decision-append}
+use Rattle.mon_tx.proofs.After.{get-apply, get-apply_op}
 use Rattle.mon_tx.proofs.Places.{places_total, exact_places}
 use Rattle.mon_msg.specs.Fold.{fold}
 use Rattle.mon_msg.specs.Protocol.Changes.{Mark, put_back, ops_of, spelled}
-use Rattle.log_copies.specs.Copies.{is_own, is_past, IsFolded, IsRecord, IsFuzzyCopy, shared_with_records}
+use Rattle.log_copies.specs.Copies.{is_own, is_past, IsRecord, IsFuzzyCopy, shared_with_records}
+use Rattle.log_copies.specs.Synchronizing.{is_given_up, IsShaped}
 use Rattle.log_copies.proofs.Ends.{number_put}
 use Rattle.log_copies.proofs.Own.{own_number}
 use Rattle.log_model.specs.LogOfValues.{AllValues}
-use Rattle.log_model.specs.Windows.{is_kept_key, IsKeptKey}
+use Rattle.log_model.specs.Windows.{is_kept_key}
 use Rattle.log_model.proofs.FoldKeys.{kept_is}
 use Rattle.log_model.proofs.Places.{same_place, get_kept, is_shared, shared_is}
 use Rattle.log_model.proofs.Sharing.{of_own}
-
--- the keys of the log and of the services
-abbrev pub is_given_up : Place → Bool
-is_given_up at = bytes_eq at.0 (area_text area.Kv) || (bytes_eq at.0 (area_text area.Logm) || bytes_eq at.0 (area_text area.Paxos))
-
--- there are no other keys than these and the monitor's own
-abbrev pub IsShaped : Store → Type 0
-IsShaped m = (at : Place) → is_own at ≡ false → is_given_up at ≡ false → get m at ≡ None
 
 pub empty_shaped : IsShaped empty
 empty_shaped at shared out = get-empty place_cmp at
@@ -118,6 +111,11 @@ module _ (log : List (List ℕ)) (fits : length log ≤ 2 ^ 62) (all : AllValues
       by : (b : Bool) → is_local last at ≡ b → get m at ≡ None
       by false t = sym (ap (λ (s : Store). get s at) (shared_is m last refl) ∙ get_kept m (is_shared last) at ∙ ap (λ b. cond (not b) (get m at) None) t) ∙ ap (λ (s : Store). get s at) same ∙ fold_shaped c le at out
       by true t = let g : true ≡ false = sym (local_given last at t not_own) ∙ out in absurd cc
+
+-- a store of which nothing is shared
+pub nothing_shaped : (m : Store) → shared_with_records m ≡ empty → IsShaped m
+nothing_shaped m none at not_own out =
+    sym (get_kept m (λ q. not (is_own q)) at ∙ ap (λ b. cond (not b) (get m at) None) not_own) ∙ ap (λ (n : Store). get n at) none ∙ get-empty place_cmp at
 
 -- ---- what a full synchronisation gives up
 

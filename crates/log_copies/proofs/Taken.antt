@@ -1,5 +1,5 @@
 -- A chunk's records and entries carry a copy on.
-use Rattle.std.proofs.Common.{◌≡◌, ℕ, suc, ◌+◌, ◌≤◌, ◌<◌, Bool, true, false, not, ◌&&◌, cond, List, [], ◌∷◌, ◌++◌, length, Option, Some, None, ◌⊎◌, inl, inr, refl, sym, ap, subst, ◌∙◌, arith, append_assoc}
+use Rattle.std.proofs.Common.{◌≡◌, ℕ, suc, ◌+◌, ◌≤◌, ◌<◌, Bool, true, false, not, ◌&&◌, cond, List, [], ◌∷◌, ◌++◌, length, Some, None, ◌⊎◌, inl, inr, refl, sym, ap, subst, ◌∙◌, arith, append_assoc}
 use Rattle.std.specs.FinMap.{get, get-empty, empty}
 use Rattle.std.specs.Ordering.{eq_by_cmp}
 use Rattle.mon_bytes.specs.declared.entry.Entry.{Entry}
@@ -16,10 +16,11 @@ use Rattle.mon_tx.proofs.After.{get-apply, decision-append}
 use Rattle.mon_wire.specs.declared.parts.Place.{Place as ChunkPlace}
 use Rattle.mon_msg.specs.Fold.{entry, fold}
 use Rattle.mon_msg.specs.Puts.{put}
-use Rattle.mon_msg.specs.Protocol.Changes.{Change, Copy, ops_of, spelled}
+use Rattle.mon_msg.specs.Protocol.Changes.{Change, ops_of, spelled}
 use Rattle.mon_msg.specs.Protocol.Chunks.{record_changes, copy_changes}
 use Rattle.log_copies.specs.Copies.{is_own, is_past, IsFolded, IsRecord, IsFuzzyCopy}
 use Rattle.log_copies.proofs.Chunks.{between, Continues}
+use Rattle.log_copies.proofs.Own.{record_shared}
 use Rattle.log_model.proofs.Places.{same_place, get_kept}
 use Rattle.log_model.proofs.Records.{AreVersions}
 
@@ -192,3 +193,15 @@ module _ (log : List (List ℕ)) (p : ChunkPlace) (y : KeyPlace) (values : List 
       by : (at : Place) → is_own at ≡ false → is_past y at ≡ false → (b : Bool) → is_past p.key at ≡ b → IsMade at (get taken at)
       by at shared in_time true past = here at shared past in_time
       by at shared in_time false earlier = before at shared earlier
+
+  -- a monitor's own key is as it was, where the fold has none
+  pub own_kept : (at : Place) → is_own at ≡ true → get (fold log e) at ≡ None → get taken at ≡ get m at
+  own_kept at own none = unput at (nothing_put at (entries_are at ∙ absent (between p.key y at))) ∙ by (records_decide log values p.version e at refl C.versions)
+    where
+      absent : (b : Bool) → cond b (get (fold log e) at) None ≡ None
+      absent true = none
+      absent false = refl
+
+      by : (decision records at ≡ None) ⊎ IsNew log p.version e at (decision records at) → or_before (decision records at) (get m at) ≡ get m at
+      by (inl h) = ap (λ (d : Decision). or_before d (get m at)) h
+      by (inr n) = let g : true ≡ false = sym own ∙ ap is_own n.place ∙ record_shared n.version in absurd cc

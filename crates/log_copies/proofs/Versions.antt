@@ -1,7 +1,7 @@
 -- A copy that is behind one more version of the log, and one that is behind all of them.
-use Rattle.std.proofs.Common.{◌≡◌, ℕ, zero, suc, ◌+◌, ◌-◌, ◌≤◌, ◌<◌, ◌^◌, Bool, true, false, not, ◌&&◌, cond, eqb, List, [], ◌∷◌, length, Option, Some, None, ◌⊎◌, inl, inr, refl, sym, ap, subst, ◌∙◌, arith}
+use Rattle.std.proofs.Common.{◌≡◌, ℕ, zero, suc, ◌+◌, ◌-◌, ◌≤◌, ◌<◌, ◌^◌, Bool, true, false, not, cond, List, ◌∷◌, length, Some, None, ◌⊎◌, inl, inr, refl, sym, ap, subst, ◌∙◌, arith}
 use Rattle.std.proofs.lemmas.Bool.{cases_eq, eq-eqb}
-use Rattle.std.specs.FinMap.{get, retain_keys, same_map}
+use Rattle.std.specs.FinMap.{get, same_map}
 use Rattle.std.specs.List as list
 use Rattle.std.specs.List.{range_with_len}
 use Rattle.mon_bytes.specs.declared.entry.KeyPlace.TheVariants as key_place
@@ -11,7 +11,7 @@ use Rattle.mon_tx.specs.declared.op.Op.{Op}
 use Rattle.mon_tx.specs.Decision.{Cell, Decision, decided, decision, later, or_before}
 use Rattle.mon_tx.specs.Decode.{ops_in}
 use Rattle.mon_tx.specs.Keys.{place}
-use Rattle.mon_tx.specs.Map.{Place, Store, apply}
+use Rattle.mon_tx.specs.Map.{Place, Store}
 use Rattle.mon_tx.proofs.After.{get-apply}
 use Rattle.mon_tx.proofs.Named.{decided-put}
 use Rattle.mon_tx.proofs.Places.{places_total, exact_places}

@@ -7,14 +7,19 @@ use Rattle.mon_tx.specs.Decode.{HasText, ops_in, transaction_of}
 use Rattle.mon_tx.specs.Text.{text}
 use Rattle.mon_tx.proofs.Again.{transaction_again}
 use Rattle.mon_msg.specs.Fold.{entry}
+use Rattle.mon_msg.specs.Protocol.Changes.{Learn, ops_of, spelled}
+use Rattle.mon_msg.specs.Protocol.Learning.{learn_changes}
 use Rattle.mon_msg.specs.Protocol.Readings.{Readings}
 use Rattle.mon_msg.specs.Protocol.Records.{may_begin, where_it_may_begin, transaction_in, record_at, run_of, run_from}
 use Rattle.mon_msg.specs.Protocol.Replay.{most_versions, most_bytes, more_of, step_of}
 use Rattle.log_model.specs.LogOfValues.{view_at, AllValues}
 use Rattle.log_model.specs.Windows.{log_from, within, Keeps}
+use Rattle.log_model.proofs.AnyValue.{value_spares}
 use Rattle.log_model.proofs.Beginnings.{begun_text}
 use Rattle.log_model.proofs.Committed.{ops_again, keeps}
 use Rattle.log_model.proofs.FoldWindows.{keeps_view, view_last}
+use Rattle.log_model.proofs.Older.{decides_same}
+use Rattle.log_model.proofs.Spares.{Spares, by_name, at_name, spares_append, spares_learned}
 
 -- a version's value: its text is the log's entry, which is read as it
 pub record IsVersion (log : List (List ℕ)) (v : ℕ) (x : List Op) : Type 0 where
@@ -153,3 +158,23 @@ module _ (log : List (List ℕ)) (fits : length log ≤ 2 ^ 62) (all : AllValues
                 versions = (held_version log fits all v (omega arith) (records (suc v)) (held v (omega arith) (omega arith)) x t, rest.versions);
                 few = (let f = rest.few in omega arith);
               })
+
+-- ---- versions spare a monitor's own numbers
+
+module _ (log : List (List ℕ)) (fits : length log ≤ 2 ^ 62) (all : AllValues log) where
+  changes_spare : (v : ℕ) (lt : v < length log) → Spares ((all v lt).changes)
+  changes_spare v lt =
+      let V = (all v lt).value in
+      let newer = value_spares (view_at log v) V.command V.asked V.newer V.made in
+      by_name ((all v lt).changes) (λ a k e. decides_same V.spelled a k ∙ at_name V.newer newer a k e)
+
+  pub version_spares : (v : ℕ) → v < length log → (x : List Op) → IsVersion log (suc v) x → Spares x
+  version_spares v lt x V =
+      let S = all v lt in
+      let has = value_has_text log fits all v lt in
+      subst Spares (sym (ap ops_in S.spells ∙ ops_again S.changes has) ∙ V.reads) (changes_spare v lt)
+
+  pub versions_spare : (values : List (List Op)) (v : ℕ) → v + length values ≤ length log → AreVersions log (suc v) values → Spares (spelled (learn_changes (suc v) values))
+  versions_spare [] v le h = by_name [] (λ a k e. refl)
+  versions_spare (x ∷ values) v le h =
+      spares_append (ops_of (Learn (suc v) x)) (spelled (learn_changes (suc (suc v)) values)) (spares_learned (suc v) x (version_spares v (omega arith) x h.0)) (versions_spare values (suc v) (omega arith) h.1)

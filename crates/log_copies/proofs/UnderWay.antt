@@ -1,0 +1,166 @@
+-- A full synchronisation under way: what the monitor's store holds at each stage.
+use Rattle.std.proofs.Common.{◌≡◌, ℕ, suc, ◌≤◌, ◌^◌, true, false, ◌&&◌, eqb, leb, List, [], length, Option, Some, None, IfSome, ◌⊎◌, Result, Ok, refl, sym, ap, subst, ◌∙◌, arith}
+use Rattle.std.proofs.lemmas.Bool.{and_parts, leb-true, eqb-true, cond_both}
+use Rattle.std.proofs.lemmas.Map.Lookups.{exact_bytes}
+use Rattle.std.proofs.lemmas.Map.Text.{is_eq-slice_cmp}
+use Rattle.std.specs.FinMap.{empty}
+use Rattle.std.specs.Option.{option_map}
+use Rattle.std.specs.Str.{bytes_eq}
+use Rattle.byteorder.specs.Endian.{little_number}
+use Rattle.mon_bytes.proofs.Fields.{ok_is}
+use Rattle.mon_bytes.specs.declared.entry.KeyPlace.{KeyPlace}
+use Rattle.mon_bytes.specs.declared.entry.KeyPlace.TheVariants as key_place
+use Rattle.mon_tx.specs.declared.key.Area.{Area}
+use Rattle.mon_tx.specs.declared.key.Area.TheVariants as area
+use Rattle.mon_tx.specs.declared.key.Key.{Key}
+use Rattle.mon_tx.specs.declared.key.Key.TheVariants as key
+use Rattle.mon_tx.specs.declared.op.Op.{Op}
+use Rattle.mon_tx.specs.Decision.{Cell}
+use Rattle.mon_tx.specs.Keys.{cell}
+use Rattle.mon_tx.specs.Map.{Store, apply, number_in}
+use Rattle.mon_tx.proofs.Places.{is_equal}
+use Rattle.mon_types.specs.declared.names.Which.{Which}
+use Rattle.mon_wire.specs.declared.parts.Place.{Place as ChunkPlace}
+use Rattle.mon_wire.specs.declared.phase.Phase.TheVariants as phase
+use Rattle.mon_msg.specs.Joined.{joined}
+use Rattle.mon_msg.specs.Protocol.Changes.{spelled}
+use Rattle.mon_msg.specs.Protocol.Course.{Course}
+use Rattle.mon_msg.specs.Protocol.Phases.{same_phase}
+use Rattle.mon_msg.specs.Protocol.Places.{same_key_place, same_place}
+use Rattle.mon_msg.specs.Protocol.Played.{IsShort}
+use Rattle.mon_msg.specs.Protocol.Readings.{marks, number_if_there, readings_of}
+use Rattle.mon_msg.specs.Protocol.Records.{pending_of, found_as, record_at}
+use Rattle.mon_msg.specs.Protocol.State.{State}
+use Rattle.mon_msg.specs.Protocol.Synchronizing.{pending_version, floor_of}
+use Rattle.mon_msg.specs.Protocol.Table.{at_rest}
+use Rattle.mon_msg.specs.declared.synchronisation.SyncStage.{SyncStage}
+use Rattle.mon_msg.specs.declared.synchronisation.SyncStage.TheVariants as sync
+use Rattle.mon_msg.proofs.Joining.{apply-joined}
+use Rattle.log_copies.specs.Copies.{IsFuzzyCopy, shared_with_records}
+use Rattle.log_copies.specs.Synchronizing.{IsShaped, written, SameNumbers, IsSynchronized}
+use Rattle.log_copies.proofs.Chunks.{IsOpen}
+use Rattle.log_model.proofs.Spares.{is_number}
+
+-- ---- numbers that are read are short
+
+pub number_short : (c : Cell) → number_in c ≤ 2 ^ 62
+unfolding number_in
+number_short None = omega arith
+number_short (Some bytes) =
+    let n = little_number 8 bytes in
+    cond_both (eqb (length bytes) 8 && leb n (2 ^ 62)) n 0 (λ z. z ≤ 2 ^ 62) (λ e. leb-true n (2 ^ 62) (and_parts (eqb (length bytes) 8) (leb n (2 ^ 62)) e).1) (λ e. omega arith)
+
+pub there_short : (c : Cell) → IfSome (number_if_there c) IsShort
+there_short None = tt
+there_short (Some bytes) = number_short (Some bytes)
+
+pending_low : (v pn last : ℕ) (records : ℕ → Cell) → pending_version (pending_of v pn last records) ≤ v
+unfolding pending_of
+pending_low v pn last records = cond_both (eqb v (suc last)) _ None (λ f. pending_version f ≤ v) (λ e. by (record_at records (suc last))) (λ e. omega arith)
+  where
+    some : (o : Option (List Op)) → pending_version (option_map (λ short. record { version = v; pn = pn; value = short }) o) ≤ v
+    some None = omega arith
+    some (Some x) = omega arith
+
+    by : (o : Option (List Op)) → pending_version (found_as v pn o) ≤ v
+    by None = omega arith
+    by (Some x) = some _
+
+pub floor_short : (m : Store) → floor_of (readings_of m) ≤ 2 ^ 62
+unfolding readings_of
+floor_short m =
+    let a = number_short (cell m area.Sync key.Floor) in
+    let b = number_short (cell m area.Paxos key.LastCommitted) in
+    let c = number_short (cell m area.Paxos key.PendingV) in
+    let p = pending_low (number_in (cell m area.Paxos key.PendingV)) (number_in (cell m area.Paxos key.PendingPn)) (number_in (cell m area.Paxos key.LastCommitted)) (λ v. cell m area.Paxos (key.Version v)) in
+    omega (arith, a, b, c, p)
+
+-- ---- places that are the same
+
+bytes_same : (a b : List ℕ) → bytes_eq a b ≡ true → a ≡ b
+bytes_same a b e = exact_bytes a b (is_equal _ (is_eq-slice_cmp a b ∙ e))
+
+key_same : (a b : KeyPlace) → same_key_place a b ≡ true → a ≡ b
+key_same key_place.Start key_place.Start e = refl
+key_same (key_place.After p k) (key_place.After q l) e =
+    let parts = and_parts (bytes_eq p q) (bytes_eq k l) e in
+    λ i. key_place.After (bytes_same p q parts.0 i) (bytes_same k l parts.1 i)
+key_same key_place.Done key_place.Done e = refl
+key_same a b e = absurd cc
+
+pub place_same : (a b : ChunkPlace) → same_place a b ≡ true → a ≡ b
+place_same a b e =
+    let parts = and_parts (eqb a.version b.version) (same_key_place a.key b.key) e in
+    λ i. record { version = eqb-true a.version b.version parts.0 i; key = key_same a.key b.key parts.1 i }
+
+-- ---- under way
+
+-- a store tells the same of its own numbers
+abbrev pub SameCells : Store → Store → Type 0
+SameCells m n = (a : Area) (k : Key) → is_number a k ≡ true → cell n a k ≡ cell m a k
+
+module _ (log : List (List ℕ)) (before : Store) where
+  abbrev pub floor : ℕ
+  floor = floor_of (readings_of before)
+
+  -- what a marked store tells of itself
+  pub record Noted (m : Store) : Type 0 where
+    pub numbers : SameNumbers (readings_of before) (readings_of m)
+    pub kept_floor : (readings_of m).floor ≡ floor
+    pub marked : (readings_of m).marked ≡ true
+
+  pub still_noted : (m n : Store) → SameCells m n → Noted m → Noted n
+  unfolding readings_of
+  still_noted m n same N =
+      let numbers = N.numbers in
+      record {
+        numbers = record {
+          last_pn = ap number_if_there (same area.Paxos key.LastPn refl) ∙ numbers.last_pn;
+          promise = ap number_if_there (same area.Paxos key.AcceptedPn refl) ∙ numbers.promise;
+          epoch = ap number_if_there (same area.Monitor key.ElectionEpoch refl) ∙ numbers.epoch;
+        };
+        kept_floor = ap number_in (same area.Sync key.Floor refl) ∙ N.kept_floor;
+        marked = ap marks (same area.Sync key.InSync refl) ∙ N.marked;
+      }
+
+  pub record Chunking (m : Store) (start : ℕ) (p : ChunkPlace) : Type 0 where
+    pub above : floor ≤ start
+    pub order : start ≤ p.version
+    pub within : p.version ≤ length log
+    pub goes_on : IsOpen p.key
+    pub copy : IsFuzzyCopy log start p.version p.key m
+
+  pub record Replaying (m : Store) (next end : ℕ) : Type 0 where
+    pub done : ℕ
+    pub is : next ≡ suc done
+    pub above : floor ≤ done
+    pub order : done ≤ end
+    pub within : end ≤ length log
+    pub copy : IsFuzzyCopy log done end key_place.Done m
+
+  abbrev pub InStage : Store → SyncStage → ℕ → ChunkPlace → Type 0
+  InStage m sync.Cookie start p = shared_with_records m ≡ empty
+  InStage m sync.Chunks start p = Chunking m start p
+  InStage m (sync.Replay next end) start p = Replaying m next end
+
+  pub record UnderWay (m : Store) (s : State) : Type 0 where
+    pub in_phase : s.phase ≡ phase.Synchronizing
+    pub full : s.requester.full ≡ true
+    pub noted : Noted m
+    pub stage : InStage m s.requester.stage s.requester.start s.requester.place
+
+  -- it was given up, or it is finished
+  pub record Over (m : Store) (s : State) : Type 0 where
+    pub left : same_phase s.phase phase.Synchronizing ≡ false
+    pub shaped : IsShaped m
+    pub outcome : ((readings_of m).marked ≡ true) ⊎ IsSynchronized log before m
+
+  abbrev pub Stands : Store → State → Type 0
+  Stands m s = UnderWay m s ⊎ Over m s
+
+  -- nothing is written
+  pub unwritten : (m : Store) (s t : State) → (s ≡ t) → Stands m s → Stands (apply (joined (spelled [])) m) t
+  unwritten m s t same I = subst (λ (n : Store). Stands n t) (sym (apply-joined [] m)) (subst (λ (u : State). Stands m u) same I)
+
+  pub stays : (m : Store) (s : State) (x : Course) → ◌≡◌ {A = Result Course Which} (Ok (at_rest (readings_of m) s)) (Ok x) → Stands m s → Stands (written m x) x.state
+  stays m s x e I = subst (λ (y : Course). Stands (written m y) y.state) (ok_is (at_rest (readings_of m) s) x e) (unwritten m s s refl I)
