@@ -1,0 +1,19 @@
+use Rattle.std.proofs.Common.{◌≡◌, ℕ, List, IfOk, sym, ap, subst, ◌∙◌}
+use Rattle.mon_msg.specs.Protocol.Answers.{told_values}
+use Rattle.mon_msg.specs.Protocol.Readings.{readings_of}
+use Rattle.mon_plan.specs.Runs.{run_within}
+use Rattle.mon_plan.proofs.Fitting.{told_values-run}
+use Rattle.mon_tx.specs.declared.op.Op.{Op}
+use Rattle.paxos_peon.proofs.answer.told_values.Goals as goal
+
+pub returns-then-tells_none-clause-values : goal.returns-then-tells_none-clause-values
+returns-then-tells_none-clause-values c = λ n promise. rw (sym c.tells_none.ensures ∙ c.if-tells_none.true) c.new.ensures
+
+pub returns-clause-values : goal.returns-clause-values
+returns-clause-values c =
+    λ n promise.
+    let w = readings_of c.args.stored.now in
+    let same : run_within w.record_of w.last c.get.result 48 48 ≡ told_values n promise w.first w.last w.record_of c.args.from =
+    ap (λ v. run_within w.record_of w.last v 48 48) c.get.ensures.value
+    ∙ sym (told_values-run n promise w.first w.last w.record_of c.args.from (sym c.tells_none.ensures ∙ c.if-tells_none.false)) in
+    subst (λ (vs : List (List Op)). IfOk c.run.result (λ run. run.values ≡ vs)) same c.run.ensures.values

@@ -1,0 +1,65 @@
+use Rattle.std.proofs.Common.{◌≡◌, ℕ, suc, ◌≤◌, ◌<◌, ◌^◌, ◌++◌, cond, ltb, List, [], ◌∷◌, None, refl, ap, sym, subst, ◌∙◌, arith}
+use Rattle.std.specs.List.{AllByRecursion}
+use Rattle.mon_msg.specs.Protocol.Answers.{answer_of}
+use Rattle.mon_msg.specs.Protocol.Changes.{spelled}
+use Rattle.mon_msg.specs.Protocol.Course.{Course, peon_is}
+use Rattle.mon_msg.specs.Protocol.Peon.{hear_collect}
+use Rattle.mon_msg.specs.Protocol.Played.{Fits}
+use Rattle.mon_msg.specs.Protocol.Readings.{readings_of, epoch_of, promise_of}
+use Rattle.mon_msg.specs.Protocol.Records.{pending}
+use Rattle.mon_msg.specs.Protocol.Sending.{message_to}
+use Rattle.mon_msg.specs.declared.plan.Next.TheVariants as next
+use Rattle.mon_msg.specs.declared.plan.Sent.{Sent}
+use Rattle.mon_tx.specs.declared.op.Op.{Op}
+use Rattle.mon_wire.specs.declared.body.Body.{Body}
+use Rattle.mon_plan.proofs.Kept.{kept-peon}
+use Rattle.mon_plan.proofs.Learning.{above}
+use Rattle.mon_plan.proofs.Planning.{does, only_acts}
+use Rattle.paxos_peon.specs.Rows.{IsOurs, promised}
+use Rattle.paxos_peon.proofs.CollectLaws.{told_with, collect-behind, collect-spent, collect-told}
+use Rattle.paxos_peon.proofs.collecting.collect.Goals as goal
+
+pub returns-then-get : goal.returns-then-get
+returns-then-get c =
+    λ now e.
+    let s = c.args.state.now in
+    let w = readings_of c.args.stored.now in
+    only_acts c.args.me.now now peon_is (IsOurs w s s.leader e) (λ x. x) (hear_collect c.args.me.now now s.leader e c.args.pn c.args.leader_first c.args.leader_last)
+    [] tt s (λ x b. kept-peon s x b.role) next.Bootstrap (λ x. refl)
+    (λ x b.
+    collect-behind w s s.leader e x b c.args.me.now now c.args.pn c.args.leader_first c.args.leader_last
+    (omega (arith, c.if-get.true, c.get.ensures.value, c.get-2.ensures.value, c.last.ensures.value)))
+    c.planned.result c.planned.ensures
+
+pub returns-in_default : goal.returns-in_default
+returns-in_default c =
+    λ now e x b.
+    let s = c.args.state.now in
+    collect-spent (readings_of c.args.stored.now) s s.leader e x b c.args.me.now now c.args.pn c.args.leader_first c.args.leader_last
+    (omega (arith, c.if-get.false, c.get.ensures.value, c.get-2.ensures.value, c.last.ensures.value))
+    (let over = above (suc c.args.leader_last) (2 ^ 62) (λ le. c.in_default.ensures.valid.1 (omega (arith, le))) in omega (arith, over))
+
+pub returns : goal.returns
+returns c =
+    λ now e.
+    let me = c.args.me.now in
+    let s = c.args.state.now in
+    let w = readings_of c.args.stored.now in
+    let old = promise_of w in
+    let new : c.in_ok-promise.promise ≡ cond (ltb old c.args.pn) c.args.pn old = c.in_ok-promise.ensures.number ∙ ap (λ (k : ℕ). cond (ltb k c.args.pn) c.args.pn k) c.promise.ensures in
+    let from : c.in-Some.next ≡ suc c.args.leader_last = omega (arith, c.in-Some.ensures.value) in
+    does me now peon_is (IsOurs w s s.leader e) (λ x. x) (hear_collect me now s.leader e c.args.pn c.args.leader_first c.args.leader_last)
+    (promised old c.args.pn) (subst (λ (k : ℕ). AllByRecursion Fits (promised k c.args.pn)) c.promise.ensures c.in_ok-promise.ensures.fit)
+    (message_to me (epoch_of w) (told_with me c.args.leader_last (cond (ltb old c.args.pn) c.args.pn old) w) s.leader ∷ []) [] (record s { lease = None }) next.Stay
+    (λ x b.
+    collect-told w s s.leader e x b me now c.args.pn c.args.leader_first c.args.leader_last
+    (omega (arith, c.if-get.false, c.get.ensures.value, c.get-2.ensures.value, c.last.ensures.value))
+    (let short = c.in-Some.ensures.valid.0 refl in omega (arith, short)))
+    (record { tx = c.promised.new.tx; out = c.push.new.self; timers = c.new.result; state = c.without_lease.result; next = next.Stay })
+    (c.in_ok-promise.ensures.changes ∙ ap (λ (t : List Op). t ++ spelled (promised c.promise.result c.args.pn)) c.new-tx.ensures ∙ ap (λ (k : ℕ). spelled (promised k c.args.pn)) c.promise.ensures)
+    (c.in_ok-push.ensures.ok ∙ ap (λ (l : List Sent). l ++ c.message.result ∷ []) c.new-out.ensures
+    ∙ ap (λ (m : Sent). m ∷ [])
+    (c.message.ensures ∙ ap (λ (k : ℕ). message_to me k c.in_ok-answer.answer s.leader) c.epoch.ensures
+    ∙ ap (λ (b : Body). message_to me (epoch_of w) b s.leader)
+    (c.in_ok-answer.ensures me.member.monitors ∙ (λ i. answer_of me.member.monitors (new i) w.first w.last w.record_of (pending w) (from i)))))
+    c.new.ensures c.without_lease.ensures refl

@@ -1,0 +1,45 @@
+use Rattle.std.proofs.Common.{◌≡◌, ℕ, ◌+◌, ◌^◌, min, ◌++◌, List, [], ◌∷◌, refl, ap, sym, ◌∙◌}
+use Rattle.mon_lease.specs.Lease.{extended}
+use Rattle.mon_msg.specs.Protocol.Course.{Course, peon_is}
+use Rattle.mon_msg.specs.Protocol.Peon.{hear_lease}
+use Rattle.mon_msg.specs.Protocol.Readings.{readings_of, epoch_of}
+use Rattle.mon_msg.specs.Protocol.Sending.{message_to}
+use Rattle.mon_msg.specs.Protocol.Timers.{length_of}
+use Rattle.mon_msg.specs.declared.plan.Arming.TheVariants as arming
+use Rattle.mon_msg.specs.declared.plan.Arming.{Arming}
+use Rattle.mon_msg.specs.declared.plan.Next.TheVariants as next
+use Rattle.mon_msg.specs.declared.plan.Sent.{Sent}
+use Rattle.mon_wire.specs.declared.body.Body.TheVariants as body
+use Rattle.mon_wire.specs.declared.phase.Timer.TheVariants as timer
+use Rattle.mon_plan.proofs.Kept.{kept-peon}
+use Rattle.mon_plan.proofs.Planning.{does, only_acts}
+use Rattle.paxos_peon.specs.Rows.{IsOurs}
+use Rattle.paxos_peon.proofs.LeaseLaws.{lease-dropped, lease-taken}
+use Rattle.paxos_peon.proofs.leasing.lease.Goals as goal
+
+pub returns-then-is_refused : goal.returns-then-is_refused
+returns-then-is_refused c =
+    λ e.
+    let s = c.args.state.now in
+    let w = readings_of c.args.stored.now in
+    only_acts c.args.me.now c.args.now peon_is (IsOurs w s s.leader e) (λ x. x) (hear_lease c.args.me.now c.args.now s.leader e c.args.version)
+    [] tt s (λ x b. kept-peon s x b.role) next.Stay (λ x. refl)
+    (λ x b. lease-dropped w s s.leader e x b c.args.me.now c.args.now c.args.version (sym c.is_refused.ensures ∙ c.if-is_refused.true))
+    c.stay.result c.stay.ensures
+
+pub returns : goal.returns
+returns c =
+    λ e.
+    let me = c.args.me.now in
+    let s = c.args.state.now in
+    let w = readings_of c.args.stored.now in
+    does me c.args.now peon_is (IsOurs w s s.leader e) (λ x. x) (hear_lease me c.args.now s.leader e c.args.version)
+    [] tt (message_to me (epoch_of w) (body.LeaseAck w.last) s.leader ∷ []) (arming.Arm timer.Lease (min (c.args.now + length_of timer.Lease) (2 ^ 62)) ∷ [])
+    (record s { lease = extended c.args.now }) next.Stay
+    (λ x b. lease-taken w s s.leader e x b me c.args.now c.args.version (sym c.is_refused.ensures ∙ c.if-is_refused.false))
+    (record { tx = c.new.result; out = c.push-2.new.self; timers = c.push.new.self; state = c.with_lease.result; next = next.Stay })
+    c.new.ensures
+    (c.in_ok-push-2.ensures.ok ∙ ap (λ (l : List Sent). l ++ c.message.result ∷ []) c.new-out.ensures
+    ∙ ap (λ (m : Sent). m ∷ []) (c.message.ensures ∙ (λ i. message_to me (c.epoch.ensures i) (body.LeaseAck (c.last.ensures.value i)) s.leader)))
+    (c.in_ok-push.ensures.ok ∙ ap (λ (l : List Arming). l ++ c.armed.result ∷ []) c.new-timers.ensures ∙ ap (λ (a : Arming). a ∷ []) c.armed.ensures)
+    c.with_lease.ensures refl

@@ -1,0 +1,42 @@
+-- The inputs of a peon, and what is known where its rows are answered.
+use Rattle.std.specs.Prelude.{◌≡◌, ℕ, Bool, true, false, List, [], ◌∷◌, nat_lt, if◌then◌else◌}
+use Rattle.mon_msg.specs.Protocol.Changes.{Change, Promise}
+use Rattle.mon_msg.specs.Protocol.Course.{Course}
+use Rattle.mon_msg.specs.Protocol.Peon.{of_leader}
+use Rattle.mon_msg.specs.Protocol.Readings.{Readings}
+use Rattle.mon_msg.specs.declared.input.Input.TheVariants as input
+use Rattle.mon_msg.specs.declared.input.Input.{Input}
+use Rattle.mon_msg.specs.declared.paxos.Peon.{Peon}
+use Rattle.mon_wire.specs.declared.body.Body.TheVariants as body
+use Rattle.mon_wire.specs.declared.body.Body.{Body}
+use Rattle.mon_wire.specs.declared.phase.Timer.TheVariants as timer
+use Rattle.mon_wire.specs.declared.phase.Timer.{Timer}
+
+-- what a leader tells its peons
+abbrev pub is_told : Body → Bool
+is_told (body.Collect pn first last) = true
+is_told (body.Begin pn v value) = true
+is_told (body.Commit from values) = true
+is_told (body.Lease last) = true
+is_told b = false
+
+abbrev pub is_rung : Timer → Bool
+is_rung timer.Lease = true
+is_rung t = false
+
+-- what a peon answers
+abbrev pub is_input : Input → Bool
+is_input input.Start = false
+is_input (input.Deliver m) = is_told m.body
+is_input (input.Timer t) = is_rung t
+is_input (input.Client session r) = false
+
+-- An event under way at a peon that hears of its leader f, in its epoch e: the store tells this, and the role remembers that.
+pub record IsOurs (w : Readings) (state : Peon) (f e : ℕ) (x : Course) : Type 0 where
+  pub readings : x.readings ≡ w
+  pub role : x.state.peon ≡ state
+  pub ours : of_leader f e x ≡ true
+
+-- a number above the own one is promised
+abbrev pub promised : (old pn : ℕ) → List Change
+promised old pn = if nat_lt old pn then Promise pn ∷ [] else []

@@ -1,0 +1,77 @@
+//! The leader asks what was accepted.
+
+ghost use Rattle.std.specs.Prelude.{◌≡◌, ℕ, ◌++◌, nat_lt, None, IfOk, OnOk, if◌then◌else◌};
+ghost use Rattle.std.specs.List.{AllByRecursion};
+ghost use Rattle.mon_msg.specs.Protocol.Changes.{spelled};
+ghost use Rattle.mon_msg.specs.Protocol.Course.{peon_is};
+ghost use Rattle.mon_msg.specs.Protocol.Peon.{hear_collect};
+ghost use Rattle.mon_msg.specs.Protocol.Played.{Fits};
+ghost use Rattle.mon_msg.specs.Protocol.Readings.{readings_of};
+ghost use Rattle.mon_plan.specs.Plans.{PlansRow};
+ghost use Rattle.paxos_peon.specs.Rows.{IsOurs, promised};
+
+use crate::answer::answer;
+use mon_bytes::{Items, OutOfMemory};
+use mon_lease::Lease;
+use mon_msg::{Me, Next, Peon, Plan, RoleStop};
+use mon_plan::{Stored, message, planned, put_promise};
+use mon_tx::Transaction;
+use mon_types::{Pn, Version, Which};
+use std::alloc::Global;
+
+/// What a peon remembers, without a lease.
+pub fn without_lease(state: &Peon) -> Peon
+    ensures { result ≡ record state.now { lease = None } }
+{
+    Peon {
+        lease: Lease::none(),
+        ..*state
+    }
+}
+
+/// A number above the own one is promised. It answers the promise from then on.
+fn promised(tx: &mut Transaction, old: Pn, pn: Pn) -> Result<Pn, OutOfMemory>
+    ensures number { IfOk result (λ n. n ≡ if nat_lt old pn then pn else old) }
+    ensures changes { OnOk result (tx.new ≡ tx.old ++ spelled (promised old pn)) }
+    ensures fit { AllByRecursion Fits (promised old pn) }
+{
+    if pn.get() > old.get() {
+        put_promise(tx, pn)?;
+        return Ok(pn);
+    }
+    Ok(old)
+}
+
+/// The leader collects under a number, and keeps these versions itself.
+pub fn collect(
+    alloc: Global,
+    stored: &Stored<'_>,
+    me: &Me,
+    state: &Peon,
+    pn: Pn,
+    leader_first: Version,
+    leader_last: Version,
+) -> Result<Plan<Peon>, RoleStop>
+    ensures { (now e : ℕ) → let f = state.now.leader in PlansRow me.now now peon_is (IsOurs (readings_of stored.now) state.now f e) (hear_collect me.now now f e pn leader_first leader_last) result }
+{
+    if leader_first.get() > stored.last().get() + 1 {
+        return Ok(planned(alloc, *state, Next::Bootstrap));
+    }
+    let Some(next) = leader_last.plus_one() else {
+        return Err(RoleStop::Spent {
+            which: Which::Version,
+        });
+    };
+    let mut tx = Transaction::new(alloc);
+    let promise = promised(&mut tx, stored.promise(), pn)?;
+    let answer = answer(alloc, stored, promise, next)?;
+    let mut out = Items::new(alloc);
+    out.push(message(me, stored.epoch(), answer, state.leader))?;
+    Ok(Plan {
+        tx,
+        out,
+        timers: Items::new(alloc),
+        state: without_lease(state),
+        next: Next::Stay,
+    })
+}

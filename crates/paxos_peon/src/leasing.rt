@@ -1,0 +1,64 @@
+//! The leader gives a lease.
+
+ghost use Rattle.std.specs.Prelude.{◌≡◌, ℕ, ◌==◌, ◌||◌, not, is_some};
+ghost use Rattle.mon_msg.specs.Protocol.Course.{peon_is};
+ghost use Rattle.mon_msg.specs.Protocol.Peon.{hear_lease};
+ghost use Rattle.mon_msg.specs.Protocol.Readings.{readings_of};
+ghost use Rattle.mon_msg.specs.Protocol.Records.{pending};
+ghost use Rattle.mon_lease.specs.Lease.{extended};
+ghost use Rattle.mon_plan.specs.Plans.{PlansRow};
+ghost use Rattle.paxos_peon.specs.Rows.{IsOurs};
+
+use mon_bytes::Items;
+use mon_lease::Lease;
+use mon_msg::{Body, Me, Next, Peon, Plan, RoleStop, Timer};
+use mon_plan::{Stored, armed, message, stay};
+use mon_tx::Transaction;
+use mon_types::{Moment, Version};
+use std::alloc::Global;
+
+/// What a peon remembers, with a lease that is given now.
+fn with_lease(state: &Peon, now: Moment) -> Peon
+    ensures { result ≡ record state.now { lease = extended now } }
+{
+    let mut lease = Lease::none();
+    lease.extend(now);
+    Peon { lease, ..*state }
+}
+
+/// Whether a lease for a version isn't taken: it is for another version than the last one, or a value is pending.
+fn is_refused(stored: &Stored<'_>, version: Version) -> bool
+    ensures { result ≡ (not (version == (readings_of stored.now).last) || is_some (pending (readings_of stored.now))) }
+{
+    version.get() != stored.last().get() || stored.has_pending()
+}
+
+/// The leader gives a lease for a version.
+pub fn lease(
+    alloc: Global,
+    stored: &Stored<'_>,
+    me: &Me,
+    state: &Peon,
+    version: Version,
+    now: Moment,
+) -> Result<Plan<Peon>, RoleStop>
+    ensures { (e : ℕ) → let f = state.now.leader in PlansRow me.now now peon_is (IsOurs (readings_of stored.now) state.now f e) (hear_lease me.now now f e version) result }
+{
+    if is_refused(stored, version) {
+        return Ok(stay(alloc, *state));
+    }
+    let mut timers = Items::new(alloc);
+    timers.push(armed(now, Timer::Lease))?;
+    let mut out = Items::new(alloc);
+    let taken = Body::LeaseAck {
+        last: stored.last(),
+    };
+    out.push(message(me, stored.epoch(), taken, state.leader))?;
+    Ok(Plan {
+        tx: Transaction::new(alloc),
+        out,
+        timers,
+        state: with_lease(state, now),
+        next: Next::Stay,
+    })
+}

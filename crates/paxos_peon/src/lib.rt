@@ -1,0 +1,10 @@
+//! A monitor that follows a leader: it tells what it accepted, accepts values, learns what is committed, and holds a lease.
+#![tactic(auto)]
+
+mod answer;
+mod collecting;
+mod inputs;
+mod leasing;
+mod values;
+
+pub use inputs::step;
