@@ -11,3 +11,6 @@ pub mod UnderWay
 pub mod Copying
 pub mod Replaying
 pub mod Whole
+pub mod Learning
+pub mod Growing
+pub mod Telling

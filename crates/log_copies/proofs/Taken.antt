@@ -73,10 +73,10 @@ records_decide log (x ∷ values) v e at is h = by (decision (spelled (record_ch
 
 -- ---- a copy up to a later version
 
-folded_more : (log : List (List ℕ)) (s e f : ℕ) (at : Place) (c : Cell) → e ≤ f → IsFolded log s e at c → IsFolded log s f at c
+pub folded_more : (log : List (List ℕ)) (s e f : ℕ) (at : Place) (c : Cell) → e ≤ f → IsFolded log s e at c → IsFolded log s f at c
 folded_more log s e f at c le h = record { version = h.version; from = h.from; to = (let t = h.to in omega arith); is = h.is }
 
-record_more : (log : List (List ℕ)) (s e f : ℕ) (at : Place) (c : Cell) → e ≤ f → IsRecord log s e at c → IsRecord log s f at c
+pub record_more : (log : List (List ℕ)) (s e f : ℕ) (at : Place) (c : Cell) → e ≤ f → IsRecord log s e at c → IsRecord log s f at c
 record_more log s e f at c le h = record { version = h.version; from = h.from; to = (let t = h.to in omega arith); place = h.place; is = h.is }
 
 module _ (log : List (List ℕ)) (p : ChunkPlace) (y : KeyPlace) (values : List (List Op)) (entries : List Entry) (C : Continues log p y values entries)

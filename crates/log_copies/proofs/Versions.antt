@@ -29,12 +29,12 @@ module _ (log : List (List ℕ)) where
   abbrev pub version : ℕ → List Op
   version v = put area.Paxos (key.Version v) (entry log v) ∷ ops_in (entry log v)
 
-  fold_next : (u : ℕ) (at : Place) → get (fold log (suc u)) at ≡ or_before (decision (version (suc u)) at) (get (fold log u) at)
+  pub fold_next : (u : ℕ) (at : Place) → get (fold log (suc u)) at ≡ or_before (decision (version (suc u)) at) (get (fold log u) at)
   unfolding fold
   fold_next u at = get-apply (version (suc u)) (fold log u) at
 
   -- a version decides its own record
-  record_decided : (v : ℕ) (at : Place) → at ≡ place area.Paxos (key.Version v) → decision (version v) at ≡ None → ⊥
+  pub record_decided : (v : ℕ) (at : Place) → at ≡ place area.Paxos (key.Version v) → decision (version v) at ≡ None → ⊥
   record_decided v at is none = let g = sym (sym (ap (decided (put area.Paxos (key.Version v) (entry log v))) is ∙ put_decides) ∙ undecided (decision (ops_in (entry log v)) at) _ none) in absurd cc
     where
       put_decides : decided (put area.Paxos (key.Version v) (entry log v)) (place area.Paxos (key.Version v)) ≡ Some (Some (entry log v))

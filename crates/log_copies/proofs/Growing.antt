@@ -1,0 +1,90 @@
+-- What was said of a log lasts when the log grows.
+use Rattle.std.proofs.Common.{◌≡◌, ℕ, suc, ◌+◌, ◌≤◌, ◌<◌, ◌^◌, List, [], ◌∷◌, ◌++◌, length, Some, None, ◌⊎◌, inl, inr, sym, ap, subst, ◌∙◌, arith}
+use Rattle.std.specs.FinMap.{get, retain_keys}
+use Rattle.mon_bytes.specs.declared.entry.Entry.{Entry}
+use Rattle.mon_bytes.specs.declared.entry.KeyPlace.{KeyPlace}
+use Rattle.mon_tx.specs.declared.op.Op.{Op}
+use Rattle.mon_tx.specs.Decision.{Cell}
+use Rattle.mon_tx.specs.Decode.{ops_in}
+use Rattle.mon_tx.specs.Map.{Place, Store, apply}
+use Rattle.mon_tx.specs.Text.{text}
+use Rattle.mon_wire.specs.declared.body.Body.{Body}
+use Rattle.mon_wire.specs.declared.body.Body.TheVariants as body
+use Rattle.mon_wire.specs.declared.parts.Place.{Place as ChunkPlace}
+use Rattle.mon_msg.specs.Joined.{joined}
+use Rattle.mon_msg.specs.Protocol.Changes.{Learn, Last, spelled}
+use Rattle.mon_msg.specs.Protocol.Readings.{Readings}
+use Rattle.log_copies.specs.Copies.{IsFolded, IsRecord, IsFuzzyCopy}
+use Rattle.log_copies.specs.Synchronizing.{HasVersions}
+use Rattle.log_copies.proofs.Chunks.{between, Continues, ChunkOf}
+use Rattle.log_copies.proofs.Learning.{learned}
+use Rattle.log_model.specs.LogOfValues.{AllValues, IsValue}
+use Rattle.log_model.specs.Windows.{Keeps}
+use Rattle.log_model.proofs.Committed.{grown, ops_again, texts}
+use Rattle.log_model.proofs.Lists.{length_push}
+use Rattle.log_model.proofs.Logs.{Fronts, fronts_push, entry_push, entry_stays, fold_stays}
+use Rattle.log_model.proofs.Records.{IsVersion, AreVersions}
+
+module _ {log more : List (List ℕ)} (F : Fronts log more) where
+  pub versions_stay : (c : ℕ) (m : Store) → HasVersions log c m → HasVersions more c m
+  versions_stay c m V = record { within = (let w = V.within in let s = F.short in omega arith); last = V.last; folded = V.folded ∙ sym (fold_stays F c V.within) }
+
+  pub values_stay : (xs : List (List Op)) (v : ℕ) → v + length xs ≤ length log → AreVersions log (suc v) xs → AreVersions more (suc v) xs
+  values_stay [] v le h = tt
+  values_stay (x ∷ xs) v le h =
+      let one = h.0 in
+      let same = entry_stays F (suc v) (omega arith) in
+      (record { spells = same ∙ one.spells; reads = ap ops_in same ∙ one.reads }, values_stay xs (suc v) (omega arith) h.1)
+
+  folded_stays : (s e : ℕ) → e ≤ length log → (at : Place) (c : Cell) → IsFolded log s e at c → IsFolded more s e at c
+  folded_stays s e le at c h =
+      record { version = h.version; from = h.from; to = h.to; is = h.is ∙ ap (λ (m : Store). get m at) (sym (fold_stays F h.version (let t = h.to in omega arith))) }
+
+  record_stays : (s e : ℕ) → e ≤ length log → (at : Place) (c : Cell) → IsRecord log s e at c → IsRecord more s e at c
+  record_stays s e le at c h = record { version = h.version; from = h.from; to = h.to; place = h.place; is = h.is ∙ ap (λ (x : List ℕ). Some x) (sym (entry_stays F h.version (let t = h.to in omega arith))) }
+
+  pub copy_stays : (s e : ℕ) (x : KeyPlace) (m : Store) → e ≤ length log → IsFuzzyCopy log s e x m → IsFuzzyCopy more s e x m
+  copy_stays s e x m le copy = record {
+    made = λ at shared here. by at (copy.made at shared here);
+    not_yet = λ at shared past. behind at (copy.not_yet at shared past);
+  }
+    where
+      by : (at : Place) → IsFolded log s e at (get m at) ⊎ IsRecord log s e at (get m at) → IsFolded more s e at (get m at) ⊎ IsRecord more s e at (get m at)
+      by at (inl h) = inl (folded_stays s e le at _ h)
+      by at (inr h) = inr (record_stays s e le at _ h)
+
+      behind : (at : Place) → (get m at ≡ None) ⊎ IsRecord log s e at (get m at) → (get m at ≡ None) ⊎ IsRecord more s e at (get m at)
+      behind at (inl h) = inl h
+      behind at (inr h) = inr (record_stays s e le at _ h)
+
+  carries_stay : (p : ChunkPlace) (y : KeyPlace) (values : List (List Op)) (entries : List Entry) → Continues log p y values entries → Continues more p y values entries
+  carries_stay p y values entries C = record {
+    within = (let w = C.within in let s = F.short in omega arith);
+    versions = values_stay values p.version C.within C.versions;
+    onward = C.onward;
+    made = C.made ∙ ap (λ (m : Store). retain_keys m (between p.key y)) (sym (fold_stays F (p.version + length values) C.within));
+  }
+
+  pub chunk_stays : (b : Body) → ChunkOf log b → ChunkOf more b
+  chunk_stays (body.Chunk cookie p values entries done) h = (carries_stay p _ values entries h.0, h.1)
+  chunk_stays (body.LastChunk cookie p values entries last) h = (carries_stay p _ values entries h.0, h.1)
+  chunk_stays other h = tt
+
+-- ---- a monitor that has the whole log commits one more value, over what any store tells that keeps the log
+
+module _ (log : List (List ℕ)) (room : length log < 2 ^ 62) (all : AllValues log) (w : Readings) (K : Keeps log (length log) w) (at : w.last ≡ length log) (x : List Op) (value : IsValue w x) where
+  abbrev pub more : List (List ℕ)
+  more = log ++ text x ∷ []
+
+  pub more_values : AllValues more
+  more_values = grown log room all w K at x value
+
+  pub new_version : IsVersion more (suc (length log)) x
+  new_version = record { spells = entry_push log (text x); reads = ap ops_in (entry_push log (text x)) ∙ ops_again x (texts log room all w K at x value) }
+
+  pub committed : (m : Store) → HasVersions log (length log) m → HasVersions more (suc (length log)) (apply (joined (spelled (Learn (suc (length log)) x ∷ Last (suc (length log)) ∷ []))) m)
+  committed m V =
+      let long = length_push log (text x) in
+      let same : suc (length log) + 0 ≡ suc (length log) = omega arith in
+      subst (λ (e : ℕ). HasVersions more e (apply (joined (spelled (Learn (suc (length log)) x ∷ Last e ∷ []))) m)) same
+      (learned more (omega (arith, long)) more_values (length log) m (versions_stay (fronts_push log (text x)) (length log) m V) x [] (new_version, tt) (omega (arith, long)))
