@@ -1,0 +1,57 @@
+-- What a monitor has once it learned or copied values.
+use Rattle.mon_bytes.specs.declared.command.Command.{Command}
+use Rattle.mon_msg.specs.Protocol.Changes.{Change, Last}
+use Rattle.mon_msg.specs.Protocol.Course.{Course, change, change_all, ◌▸◌}
+use Rattle.mon_msg.specs.Protocol.Learning.{learn, learn_changes}
+use Rattle.mon_msg.specs.Protocol.Played.{played}
+use Rattle.mon_msg.specs.declared.view.Me.{Me}
+use Rattle.mon_tx.specs.declared.op.Op.{Op}
+use Rattle.mon_types.specs.declared.names.Which.TheVariants as which
+use Rattle.mon_wire.specs.declared.request.Session.{Session}
+use Rattle.quorum_history.proofs.History.{ALevel, Accepted, Ext, Ghost, Had, Handed}
+use Rattle.quorum_history.proofs.Holds.{At, Disk, With}
+use Rattle.quorum_history.proofs.Numbers.{copies, learns, with_last}
+use Rattle.quorum_walk.proofs.FineCourses.{Calm, IsCalm, Val}
+use Rattle.quorum_walk.proofs.FineReading.{all_spare, learned_calm}
+use Rattle.quorum_walk.proofs.Lists.{all_append}
+use Rattle.quorum_walk.proofs.Sparing.{Own, learned_own, own_of}
+use Rattle.quorum_walk.proofs.Walk.{Then, done, where_fits}
+use Rattle.std.proofs.Common.{List, [], arith, false, length, refl, subst, suc, sym, true, ℕ, ◌++◌, ◌+◌, ◌<◌, ◌∷◌, ◌≡◌, ◌≤◌}
+use Rattle.std.proofs.lemmas.List.{append_assoc}
+use Rattle.std.specs.List.{AllByRecursion}
+
+-- a course that learned the values of the versions from v on, up to the last one
+abbrev pub learned_by : (v : ℕ) → List (List Op) → (last : ℕ) → Course → Course
+learned_by v values last x = x ▸ change_all (learn_changes v values) ▸ change (Last last)
+
+pub learn_then : (R : Course → Type 0) (v : ℕ) (values : List (List Op)) (x : Course) → (values ≡ [] → R x) → ((last : ℕ) → suc last ≡ v + length values → v ≤ last → R (learned_by v values last x)) → Then R (learn v values x)
+unfolding learn
+learn_then R v [] x p f = done (p refl)
+learn_then R v (value ∷ values) x p f = where_fits R which.Version (v + length values) _ (λ _. done (f (v + length values) (omega arith) (omega arith)))
+
+module _ (me : Me) (g : Ghost) where
+  abbrev i : ℕ
+  i = me.member.rank
+
+  -- What holds may depend on its own numbers, which learning leaves but for the last version.
+  pub learned_at : (P : Ghost → Type 0) (Q : Own → Ghost → Type 0) (v : ℕ) (values : List (List Op)) (last : ℕ) (x : Course) → AllByRecursion Val values → x.readings.marked ≡ false → x.readings.last < last → At me g P x
+      → ((h k : Ghost) → Ext i g h → Ext i h k → Disk h i (own_of x.readings) x.readings.record_of → P h → Had k ALevel i last → ((j w p : ℕ) (y : List Op) → Accepted k j w p y → Accepted h j w p y) → ((e seq : ℕ) (s : Session) (c : Command) → Handed k i e seq s c → Handed h i e seq s c)
+      → Q (with_last last (own_of x.readings)) k)
+      → At me g (Q (with_last last (own_of (played (learn_changes v values) x.readings)))) (learned_by v values last x)
+  learned_at P Q v values last x V u lt A f =
+      let n = me.member.monitors in
+      let w = played (learn_changes v values) x.readings in
+      let more = learn_changes v values ++ Last last ∷ [] in
+      let B : With n i g (with_last last (own_of x.readings)) w.record_of (x.changes ++ more) x.out (Q (with_last last (own_of x.readings))) =
+      learns P (Q (with_last last (own_of x.readings))) w.record_of last more (all_append IsCalm (learn_changes v values) (Last last ∷ []) (learned_calm v values) (tt, tt)) u lt A f in
+      let C = subst (λ (z : Own). With n i g (with_last last z) w.record_of (x.changes ++ more) x.out (Q (with_last last z))) (sym (learned_own v values x.readings (all_spare values V))) B in
+      subst (λ (cs : List Change). With n i g (with_last last (own_of w)) w.record_of cs x.out (Q (with_last last (own_of w)))) (sym (append_assoc x.changes (learn_changes v values) (Last last ∷ []))) C
+
+  -- changes of a marked store that leave its own numbers
+  pub changed_at : (P : Ghost → Type 0) (Q : Own → Ghost → Type 0) (cs : List Change) (x : Course) → Calm cs → own_of (played cs x.readings) ≡ own_of x.readings → x.readings.marked ≡ true → At me g P x
+      → ((h k : Ghost) → Ext i g h → Ext i h k → P h → Q (own_of x.readings) k) → At me g (Q (own_of (played cs x.readings))) (x ▸ change_all cs)
+  changed_at P Q cs x calm same u A f =
+      let n = me.member.monitors in
+      let w = played cs x.readings in
+      let B : With n i g (own_of x.readings) w.record_of (x.changes ++ cs) x.out (Q (own_of x.readings)) = copies P (Q (own_of x.readings)) w.record_of cs calm u A f in
+      subst (λ (z : Own). With n i g z w.record_of (x.changes ++ cs) x.out (Q z)) (sym same) B

@@ -1,0 +1,244 @@
+-- Which values go round, that numbers fit, and that a course tells what it writes. Nothing here speaks of other monitors or of a
+-- phase.
+use Rattle.log_model.specs.LogOfValues.{IsCommand, IsValue}
+use Rattle.mon_bytes.specs.declared.command.Command.TheVariants as command
+use Rattle.mon_bytes.specs.declared.command.Command.{Command}
+use Rattle.mon_bytes.specs.declared.entry.Entry.{Entry}
+use Rattle.mon_msg.specs.Protocol.Changes.{Boot, Change, Copy, Epoch, Last, Learn, Mark, Numbers, Promise, Record, Unmark, Vote, ops_of}
+use Rattle.mon_msg.specs.Protocol.Course.{Course}
+use Rattle.mon_msg.specs.Protocol.Played.{Fits, IsShort, play, played}
+use Rattle.mon_msg.specs.Protocol.Readings.{Readings, cell_after, epoch_of, epoch_or_first}
+use Rattle.mon_msg.specs.Protocol.Records.{most_value, transaction_in}
+use Rattle.mon_msg.specs.Protocol.Sending.{message_to}
+use Rattle.mon_msg.specs.Protocol.Services.{service_last}
+use Rattle.mon_msg.specs.Protocol.Value.{service_of, value}
+use Rattle.mon_msg.specs.declared.clients.Waiting.{Waiting}
+use Rattle.mon_msg.specs.declared.paxos.Found.{Found}
+use Rattle.mon_msg.specs.declared.plan.Origin.TheVariants as origin
+use Rattle.mon_msg.specs.declared.plan.Origin.{Origin}
+use Rattle.mon_msg.specs.declared.plan.Sent.TheVariants as sent
+use Rattle.mon_msg.specs.declared.plan.Sent.{Sent}
+use Rattle.mon_msg.specs.declared.synchronisation.SyncStage.TheVariants as sync
+use Rattle.mon_msg.specs.declared.synchronisation.SyncStage.{SyncStage}
+use Rattle.mon_msg.specs.declared.view.Me.{Me}
+use Rattle.mon_tx.specs.Decision.{Cell, decision}
+use Rattle.mon_tx.specs.Keys.{place}
+use Rattle.mon_tx.specs.Text.{text}
+use Rattle.mon_tx.specs.declared.key.Area.TheVariants as area
+use Rattle.mon_tx.specs.declared.key.Key.TheVariants as key
+use Rattle.mon_tx.specs.declared.op.Op.{Op}
+use Rattle.mon_wire.specs.declared.body.Body.TheVariants as body
+use Rattle.mon_wire.specs.declared.body.Body.{Body}
+use Rattle.mon_wire.specs.declared.message.Message.{Message}
+use Rattle.mon_wire.specs.declared.parts.Told.{Told}
+use Rattle.mon_wire.specs.declared.request.Request.TheVariants as request
+use Rattle.mon_wire.specs.declared.request.Request.{Request}
+use Rattle.quorum_walk.proofs.Lists.{all_append, all_of}
+use Rattle.quorum_walk.proofs.Sparing.{EntrySpares, Own, Spares, own_of, played_more}
+use Rattle.quorum_walk.proofs.Walk.{Then, done}
+use Rattle.std.proofs.Common.{IfSome, List, None, Ok, Option, Some, [], ap, inl, inr, length, map, refl, subst, suc, sym, ℕ, ◌++◌, ◌∙◌, ◌∷◌, ◌≡◌, ◌≤◌, ◌⊎◌}
+use Rattle.std.specs.List.{AllByRecursion}
+
+-- a value that may be proposed and learned: one of a command, over what some store tells
+pub record Val (x : List Op) : Type 0 where
+  pub over : Readings
+  pub value : IsValue over x
+  pub spares : Spares x
+  pub reads : transaction_in (Some (text x)) ≡ Some x
+  pub short : length (text x) ≤ most_value
+  -- no record but its own
+  pub records : (u : ℕ) → (decision x (place area.Paxos (key.Version u)) ≡ None) ⊎ (decision x (place area.Paxos (key.Version u)) ≡ Some None)
+
+-- every value that a command makes is such
+abbrev pub Made : Type 0
+Made = (w : Readings) (c : Command) (asked : ℕ) (x : List Op) → IsCommand c → asked ≤ 14 → IsShort w.last → IsShort (suc (service_last w (service_of c))) → value w c asked ≡ Ok x → Val x
+
+-- what it spells, if it spells a transaction, is such a value
+abbrev pub CellFine : Cell → Type 0
+CellFine c = (x : List Op) → transaction_in c ≡ Some x → Val x
+
+pub record EntryFine (e : Entry) : Type 0 where
+  pub spares : EntrySpares e
+  pub cells : (u : ℕ) (c : Cell) → CellFine c → CellFine (cell_after (ops_of (Copy e)) area.Paxos (key.Version u) c)
+
+-- ---- a monitor
+
+pub record OwnFine (o : Own) : Type 0 where
+  pub epoch : IsShort (epoch_or_first o.epoch)
+  pub last_pn : IfSome o.last_pn IsShort
+  pub promise : IfSome o.promise IsShort
+  pub pending : IsShort o.pending_v
+  pub last : IsShort o.last
+  pub floor : IsShort o.floor
+
+abbrev pub RecordsFine : (ℕ → Cell) → Type 0
+RecordsFine records = (v : ℕ) → CellFine (records v)
+
+pub record ReadingsFine (w : Readings) : Type 0 where
+  pub own : OwnFine (own_of w)
+  pub records : RecordsFine w.record_of
+
+abbrev pub StageFine : SyncStage → Type 0
+StageFine sync.Cookie = Unit {0}
+StageFine sync.Chunks = Unit {0}
+StageFine (sync.Replay next end) = IsShort end
+
+abbrev pub FoundFine : Option Found → Type 0
+FoundFine found = IfSome found (λ f. Val f.value)
+
+-- a command that has its form, asked of a monitor of the map
+abbrev pub OriginFine : Origin → Type 0
+OriginFine (origin.Session s) = Unit {0}
+OriginFine (origin.Forwarded f seq) = f ≤ 14
+
+abbrev pub WaitingFine : Waiting → Type 0
+WaitingFine w = IsCommand w.command × OriginFine w.origin
+
+pub record StateFine (f : Option Found) (v : Option (List Op)) (p : ℕ) (s : SyncStage) (q : List Waiting) : Type 0 where
+  pub found : FoundFine f
+  pub value : IfSome v Val
+  pub pn : IsShort p
+  pub stage : StageFine s
+  pub queue : AllByRecursion WaitingFine q
+
+-- ---- messages
+
+-- what a request asks has its form
+abbrev pub RequestFine : Request → Type 0
+RequestFine (request.Set key value) = IsCommand (command.Set key value)
+RequestFine (request.Remove key) = IsCommand (command.Remove key)
+RequestFine (request.Log text) = IsCommand (command.Log text)
+RequestFine other = Unit {0}
+
+abbrev pub ToldFine : Option Told → Type 0
+ToldFine told = IfSome told (λ t. Val t.value)
+
+abbrev pub BodyFine : Body → Type 0
+BodyFine (body.Collect pn first last) = IsShort pn
+BodyFine (body.Last pn first last whole from values pending) = AllByRecursion Val values × ToldFine pending
+BodyFine (body.Begin pn v value) = IsShort pn × IsShort v × Val value
+BodyFine (body.Commit from values) = AllByRecursion Val values
+BodyFine (body.Forward seq c) = IsCommand c
+BodyFine (body.Chunk cookie p values entries done) = AllByRecursion Val values × AllByRecursion EntryFine entries
+BodyFine (body.LastChunk cookie p values entries last) = AllByRecursion Val values × AllByRecursion EntryFine entries × IsShort last
+BodyFine other = Unit {0}
+
+abbrev pub MessageFine : Message → Type 0
+MessageFine m = IsShort m.epoch × BodyFine m.body
+
+abbrev pub SentFine : Sent → Type 0
+SentFine (sent.Message to m) = MessageFine m
+SentFine (sent.Reply to r) = Unit {0}
+
+-- ---- changes
+
+-- numbers fit, and values and entries leave what is a monitor's own
+abbrev pub Fit : Change → Type 0
+Fit (Learn v value) = Spares value
+Fit (Copy entry) = EntrySpares entry
+Fit other = Fits other
+
+pub fit_fits : (cs : List Change) → AllByRecursion Fit cs → AllByRecursion Fits cs
+fit_fits [] k = tt
+fit_fits (Learn v value ∷ cs) k = (tt, fit_fits cs k.1)
+fit_fits (Copy entry ∷ cs) k = (tt, fit_fits cs k.1)
+fit_fits (Boot n ∷ cs) k = (k.0, fit_fits cs k.1)
+fit_fits (Epoch n ∷ cs) k = (k.0, fit_fits cs k.1)
+fit_fits (Numbers n ∷ cs) k = (k.0, fit_fits cs k.1)
+fit_fits (Promise n ∷ cs) k = (k.0, fit_fits cs k.1)
+fit_fits (Vote v pn value ∷ cs) k = (k.0, fit_fits cs k.1)
+fit_fits (Record v value ∷ cs) k = (k.0, fit_fits cs k.1)
+fit_fits (Last n ∷ cs) k = (k.0, fit_fits cs k.1)
+fit_fits (Mark f l p ∷ cs) k = (k.0, fit_fits cs k.1)
+fit_fits (Unmark ∷ cs) k = (k.0, fit_fits cs k.1)
+
+-- a vote comes last, if at all
+abbrev pub IsCalm : Change → Type 0
+IsCalm (Vote v pn value) = ⊥
+IsCalm other = Unit {0}
+
+abbrev pub Calm : List Change → Type 0
+Calm = AllByRecursion IsCalm
+
+pub record EndsInVote (cs : List Change) : Type 0 where
+  pub before : List Change
+  pub calm : Calm before
+  pub v : ℕ
+  pub pn : ℕ
+  pub value : List Op
+  pub is : cs ≡ before ++ Vote v pn value ∷ []
+
+abbrev pub Shaped : List Change → Type 0
+Shaped cs = Calm cs ⊎ EndsInVote cs
+
+-- ---- a course, begun where the readers told w0
+
+pub record FineAt (Shape : List Change → Type 0) (w0 w : Readings) (cs : List Change) (found : Option Found) (value : Option (List Op)) (pn : ℕ) (stage : SyncStage) (queue : List Waiting) (out : List Sent) : Type 0 where
+  pub shape : Shape cs
+  pub tells : w ≡ played cs w0
+  pub fits : AllByRecursion Fit cs
+  pub readings : ReadingsFine w
+  pub state : StateFine found value pn stage queue
+  pub sends : AllByRecursion SentFine out
+
+abbrev pub FineOf : (List Change → Type 0) → Readings → Course → Type 0
+FineOf Shape w0 x = FineAt Shape w0 x.readings x.changes x.state.leader.found x.state.leader.value x.state.leader.pn x.state.requester.stage x.state.clients.queue x.out
+
+-- before a vote, and when it is over
+abbrev pub Fine : Readings → Course → Type 0
+Fine = FineOf Calm
+
+abbrev pub Ended : Readings → Course → Type 0
+Ended = FineOf Shaped
+
+module _ {S : List Change → Type 0} {w0 w : Readings} {cs : List Change} {found : Option Found} {value : Option (List Op)} {pn : ℕ} {stage : SyncStage} {queue : List Waiting} {out : List Sent} where
+  pub more_sent : (more : List Sent) → FineAt S w0 w cs found value pn stage queue out → AllByRecursion SentFine more → FineAt S w0 w cs found value pn stage queue (out ++ more)
+  more_sent more A k = record { shape = A.shape; tells = A.tells; fits = A.fits; readings = A.readings; state = A.state; sends = all_append SentFine out more A.sends k }
+
+  -- a message to each of some, and to one
+  pub tells_fine : (me : Me) (b : Body) (tos : List ℕ) → FineAt S w0 w cs found value pn stage queue out → BodyFine b
+      → FineAt S w0 w cs found value pn stage queue (out ++ map (message_to me (epoch_of w) b) tos)
+  tells_fine me b tos A k = more_sent (map (message_to me (epoch_of w) b) tos) A (all_of SentFine (message_to me (epoch_of w) b) (λ to. (A.readings.own.epoch, k)) tos)
+
+  pub tell_fine : (me : Me) (b : Body) (to : ℕ) → FineAt S w0 w cs found value pn stage queue out → BodyFine b
+      → FineAt S w0 w cs found value pn stage queue (out ++ message_to me (epoch_of w) b to ∷ [])
+  tell_fine me b to A k = more_sent (message_to me (epoch_of w) b to ∷ []) A ((A.readings.own.epoch, k), tt)
+
+  pub state_fine : (f : Option Found) (v : Option (List Op)) (p : ℕ) (s : SyncStage) (q : List Waiting) → FineAt S w0 w cs found value pn stage queue out → StateFine f v p s q
+      → FineAt S w0 w cs f v p s q out
+  state_fine f v p s q A k = record { shape = A.shape; tells = A.tells; fits = A.fits; readings = A.readings; state = k; sends = A.sends }
+
+module _ {w0 w : Readings} {cs : List Change} {found : Option Found} {value : Option (List Op)} {pn : ℕ} {stage : SyncStage} {queue : List Waiting} {out : List Sent} where
+  pub changes_fine : (more : List Change) → FineAt Calm w0 w cs found value pn stage queue out → Calm more → AllByRecursion Fit more → ReadingsFine (played more w)
+      → FineAt Calm w0 (played more w) (cs ++ more) found value pn stage queue out
+  changes_fine more A c f r = record {
+    shape = all_append IsCalm cs more A.shape c;
+    tells = ap (played more) A.tells ∙ sym (played_more cs more w0);
+    fits = all_append Fit cs more A.fits f;
+    readings = r;
+    state = A.state;
+    sends = A.sends;
+  }
+
+  -- a number alone
+  pub number_fine : (c : Change) → FineAt Calm w0 w cs found value pn stage queue out → IsCalm c → Fit c → (play c w).record_of ≡ w.record_of → OwnFine (own_of (play c w))
+      → FineAt Calm w0 (play c w) (cs ++ c ∷ []) found value pn stage queue out
+  number_fine c A calm f same o = changes_fine (c ∷ []) A (calm, tt) (f, tt) (record { own = o; records = subst RecordsFine (sym same) A.readings.records })
+
+  pub vote_fine : (v p : ℕ) (x : List Op) → FineAt Calm w0 w cs found value pn stage queue out → Fit (Vote v p x) → ReadingsFine (play (Vote v p x) w)
+      → FineAt Shaped w0 (play (Vote v p x) w) (cs ++ Vote v p x ∷ []) found value pn stage queue out
+  vote_fine v p x A f r = record {
+    shape = inr (record { before = cs; calm = A.shape; v = v; pn = p; value = x; is = refl });
+    tells = ap (play (Vote v p x)) A.tells ∙ sym (played_more cs (Vote v p x ∷ []) w0);
+    fits = all_append Fit cs (Vote v p x ∷ []) A.fits (f, tt);
+    readings = r;
+    state = A.state;
+    sends = A.sends;
+  }
+
+  pub ended_at : FineAt Calm w0 w cs found value pn stage queue out → FineAt Shaped w0 w cs found value pn stage queue out
+  ended_at A = record { shape = inl A.shape; tells = A.tells; fits = A.fits; readings = A.readings; state = A.state; sends = A.sends }
+
+-- nothing more is done
+pub over : (w0 : Readings) {x : Course} → Fine w0 x → Then (Ended w0) (Ok x)
+over w0 A = done (ended_at A)

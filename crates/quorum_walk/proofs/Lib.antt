@@ -1,0 +1,13 @@
+pub mod FineActs
+pub mod FineClients
+pub mod FineCourses
+pub mod FineElections
+pub mod FinePaxos
+pub mod FineReading
+pub mod FineSync
+pub mod FineTable
+pub mod Lists
+pub mod Parity
+pub mod Ranks
+pub mod Sparing
+pub mod Walk
