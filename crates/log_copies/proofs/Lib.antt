@@ -14,3 +14,5 @@ pub mod Whole
 pub mod Learning
 pub mod Growing
 pub mod Telling
+pub mod Aside
+pub mod Events
