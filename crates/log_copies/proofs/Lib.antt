@@ -16,3 +16,4 @@ pub mod Growing
 pub mod Telling
 pub mod Aside
 pub mod Events
+pub mod Leaving
