@@ -19,7 +19,7 @@ use Rattle.mon_msg.specs.Protocol.State.{State}
 use Rattle.mon_msg.specs.declared.synchronisation.SyncStage.{SyncStage}
 use Rattle.mon_msg.specs.declared.synchronisation.SyncStage.TheVariants as sync
 use Rattle.log_copies.specs.Copies.{IsFolded, IsRecord, IsFuzzyCopy}
-use Rattle.log_copies.specs.Synchronizing.{HasVersions}
+use Rattle.log_copies.specs.Versions.{HasVersions}
 use Rattle.log_copies.proofs.Chunks.{between, Continues, ChunkOf}
 use Rattle.log_copies.proofs.Learning.{learned}
 use Rattle.log_copies.proofs.UnderWay.{Noted, InStage, Marked}

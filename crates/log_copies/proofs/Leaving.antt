@@ -1,7 +1,7 @@
 -- A monitor's own changes leave the versions that it has: its numbers, its epoch, its starts, and a vote for the next version.
-use Rattle.std.proofs.Common.{◌≡◌, ℕ, suc, ◌+◌, Bool, true, false, not, ◌&&◌, ◌||◌, cond, List, [], ◌∷◌, ◌++◌, Option, Some, None, refl, sym, ap, subst, ◌∙◌, arith}
+use Rattle.std.proofs.Common.{◌≡◌, ℕ, ◌+◌, Bool, true, false, not, ◌&&◌, cond, List, [], ◌∷◌, ◌++◌, Option, Some, None, refl, sym, ap, subst, ◌∙◌, arith}
 use Rattle.std.proofs.lemmas.Bool.{eq-eqb}
-use Rattle.std.specs.FinMap.{get, retain_keys, same_map}
+use Rattle.std.specs.FinMap.{get, same_map}
 use Rattle.std.specs.List.{AllByRecursion}
 use Rattle.std.specs.Ordering.{eq_by_cmp}
 use Rattle.mon_tx.specs.declared.key.Area.{Area}
@@ -9,7 +9,7 @@ use Rattle.mon_tx.specs.declared.key.Area.TheVariants as area
 use Rattle.mon_tx.specs.declared.key.Key.{Key}
 use Rattle.mon_tx.specs.declared.key.Key.TheVariants as key
 use Rattle.mon_tx.specs.declared.op.Op.{Op}
-use Rattle.mon_tx.specs.Decision.{Decision, decided, decision, later, or_before}
+use Rattle.mon_tx.specs.Decision.{Decision, decision, later, or_before}
 use Rattle.mon_tx.specs.Keys.{place, number, is_local, same_area, same_key}
 use Rattle.mon_tx.specs.Map.{Place, place_cmp, Store, apply, number_in, number_bytes}
 use Rattle.mon_tx.specs.Text.{text}
@@ -20,7 +20,7 @@ use Rattle.mon_msg.specs.Joined.{joined}
 use Rattle.mon_msg.specs.Puts.{put}
 use Rattle.mon_msg.specs.Protocol.Changes.{Change, Boot, Epoch, Numbers, Promise, Vote, Record, Learn, Last, Copy, Mark, Unmark, ops_of, spelled}
 use Rattle.mon_msg.proofs.Joining.{apply-joined}
-use Rattle.log_copies.specs.Synchronizing.{HasVersions}
+use Rattle.log_copies.specs.Versions.{HasVersions, IsOwnChange}
 use Rattle.log_model.proofs.Places.{same_place, get_kept, is_shared, shared_is, local_named, tied}
 
 -- changes of what a monitor with c versions doesn't share, but for its last version
@@ -50,15 +50,6 @@ one c a k bytes own other = record {
         by : (b : Bool) → eq_by_cmp place_cmp at (place a k) ≡ b → b ≡ false
         by true t = let g : false ≡ true = sym h ∙ ap (is_local c) (same_place at (place a k) t) ∙ local_named c a k ∙ own in absurd cc
         by false t = refl
-
--- a monitor's own changes where it has c versions
-abbrev pub IsOwnChange : ℕ → Change → Type 0
-IsOwnChange c (Boot n) = Unit {0}
-IsOwnChange c (Epoch e) = Unit {0}
-IsOwnChange c (Numbers pn) = Unit {0}
-IsOwnChange c (Promise pn) = Unit {0}
-IsOwnChange c (Vote v pn value) = v ≡ suc c
-IsOwnChange c other = ⊥
 
 change_leaves : (c : ℕ) (x : Change) → IsOwnChange c x → Leaves c (ops_of x)
 change_leaves c (Boot n) h = one c area.Monitor key.BootCount (number_bytes n) refl refl

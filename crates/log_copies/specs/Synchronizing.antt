@@ -3,16 +3,12 @@ use Rattle.std.specs.FinMap.{get}
 use Rattle.std.specs.Prelude.{◌≡◌, ℕ, ◌≤◌, Bool, true, false, ◌||◌, List, length, filter, None, Ok}
 use Rattle.std.specs.Str.{bytes_eq}
 use Rattle.mon_tx.specs.declared.key.Area.TheVariants as area
-use Rattle.mon_tx.specs.declared.key.Key.TheVariants as key
-use Rattle.mon_tx.specs.Keys.{area_text, number, shared}
-use Rattle.mon_tx.specs.Map.{Place, Store, apply}
+use Rattle.mon_tx.specs.Keys.{area_text}
+use Rattle.mon_tx.specs.Map.{Place, Store}
 use Rattle.mon_wire.specs.declared.body.Body.{Body}
 use Rattle.mon_wire.specs.declared.body.Body.TheVariants as body
 use Rattle.mon_wire.specs.declared.parts.Cookie.{Cookie}
 use Rattle.mon_wire.specs.declared.parts.Place.{Place as ChunkPlace}
-use Rattle.mon_msg.specs.Fold.{fold}
-use Rattle.mon_msg.specs.Joined.{joined}
-use Rattle.mon_msg.specs.Protocol.Changes.{spelled}
 use Rattle.mon_msg.specs.Protocol.Course.{Course}
 use Rattle.mon_msg.specs.Protocol.Places.{is_after}
 use Rattle.mon_msg.specs.Protocol.Providing.{chunk}
@@ -24,12 +20,7 @@ use Rattle.mon_msg.specs.declared.input.Input.{Input}
 use Rattle.mon_msg.specs.declared.input.Input.TheVariants as input
 use Rattle.mon_msg.specs.declared.view.Me.{Me}
 use Rattle.log_copies.specs.Copies.{is_own}
-
--- the store of a monitor of the log that has its first c versions
-pub record HasVersions (log : List (List ℕ)) (c : ℕ) (m : Store) : Type 0 where
-  pub within : c ≤ length log
-  pub last : number m area.Paxos key.LastCommitted ≡ c
-  pub folded : shared m ≡ fold log c
+use Rattle.log_copies.specs.Versions.{HasVersions, behind}
 
 -- the keys of the services and of the log, which a full synchronisation gives up when it begins
 abbrev pub is_given_up : Place → Bool
@@ -41,7 +32,7 @@ IsShaped m = (at : Place) → is_own at ≡ false → is_given_up at ≡ false �
 
 -- ---- what may come
 
--- the chunk that such a monitor gives, among n monitors, for a place that it has reached
+-- the chunk that a monitor of the log gives, among n monitors, for a place that it has reached
 pub record IsGiven (log : List (List ℕ)) (n : ℕ) (b : Body) : Type 0 where
   pub last : ℕ
   pub store : Store
@@ -66,7 +57,7 @@ InputMayCome log n other = Unit {0}
 
 -- the store once an event's changes are written
 abbrev pub written : Store → Course → Store
-written m x = apply (joined (spelled x.changes)) m
+written m x = behind x.changes m
 
 -- The store and the memory of a monitor, whose store was `before` when it began to synchronise, after further events as long as it is
 -- marked: whatever comes to it, and whenever it crashes.
