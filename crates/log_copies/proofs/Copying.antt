@@ -1,5 +1,5 @@
 -- The rows by which a full synchronisation begins, and by which it takes its cookie and its chunks.
-use Rattle.std.proofs.Common.{◌≡◌, ℕ, suc, ◌+◌, ◌≤◌, ◌^◌, Bool, true, false, not, ◌&&◌, ◌||◌, cond, leb, ltb, List, [], ◌∷◌, ◌++◌, length, inl, inr, Result, Ok, Err, refl, sym, ap, subst, ◌∙◌, arith}
+use Rattle.std.proofs.Common.{◌≡◌, ◌⊎◌, ℕ, suc, ◌+◌, ◌≤◌, ◌^◌, Bool, true, false, not, ◌&&◌, ◌||◌, cond, leb, ltb, List, [], ◌∷◌, ◌++◌, length, inl, inr, Result, Ok, Err, refl, sym, ap, subst, ◌∙◌, arith}
 use Rattle.std.proofs.lemmas.Bool.{and_parts, ltb-false, le-leb}
 use Rattle.std.specs.FinMap.{empty}
 use Rattle.mon_bytes.proofs.Fields.{ok_is}
@@ -16,6 +16,7 @@ use Rattle.mon_wire.specs.declared.body.Body.TheVariants as body
 use Rattle.mon_wire.specs.declared.parts.Cookie.{Cookie}
 use Rattle.mon_wire.specs.declared.parts.Place.{Place as ChunkPlace}
 use Rattle.mon_types.specs.declared.names.Which.TheVariants as which
+use Rattle.mon_wire.specs.declared.phase.Phase.{Phase}
 use Rattle.mon_wire.specs.declared.phase.Phase.TheVariants as phase
 use Rattle.mon_wire.specs.declared.phase.Timer.TheVariants as timer
 use Rattle.mon_msg.specs.declared.synchronisation.SyncStage.{SyncStage}
@@ -30,49 +31,53 @@ use Rattle.mon_msg.specs.Protocol.Entering.{bootstrap}
 use Rattle.mon_msg.specs.Protocol.Phases.{same_phase}
 use Rattle.mon_msg.specs.Protocol.Places.{after_entries, same_place, is_cookie}
 use Rattle.mon_msg.specs.Protocol.Played.{play}
-use Rattle.mon_msg.specs.Protocol.Readings.{Readings, readings_of}
+use Rattle.mon_msg.specs.Protocol.Readings.{Readings, epoch_of, readings_of}
 use Rattle.mon_msg.specs.Protocol.State.{State}
-use Rattle.mon_msg.specs.Protocol.Synchronizing.{full_sync}
+use Rattle.mon_msg.specs.Protocol.Synchronizing.{floor_of, full_sync}
 use Rattle.mon_msg.specs.Protocol.Table.{at_rest}
 use Rattle.mon_msg.proofs.Changed.{readings-joined}
 use Rattle.mon_msg.proofs.Joining.{apply-joined}
 use Rattle.log_copies.specs.Copies.{IsFuzzyCopy, shared_with_records}
-use Rattle.log_copies.specs.Synchronizing.{IsShaped, written}
+use Rattle.log_copies.specs.Synchronizing.{IsShaped, written, SameNumbers}
 use Rattle.log_copies.proofs.Chunks.{Continues, IsOpen, ChunkOf}
 use Rattle.log_copies.proofs.Ends.{copy_begins}
 use Rattle.log_copies.proofs.Own.{own_number, own_local}
 use Rattle.log_copies.proofs.Shape.{nothing_shared}
 use Rattle.log_copies.proofs.Taken.{taken, own_kept, carried_on}
-use Rattle.log_copies.proofs.UnderWay.{floor_short, there_short, place_same, SameCells, floor, Noted, still_noted, Chunking, InStage, UnderWay, Stands, stays}
+use Rattle.log_copies.proofs.UnderWay.{floor_short, there_short, place_same, SameCells, Noted, still_noted, Chunking, InStage, UnderWay, Marked, Stands, stays}
 use Rattle.log_model.specs.LogOfValues.{AllValues}
 use Rattle.log_model.proofs.Committed.{holds}
 use Rattle.log_model.proofs.KeptKeys.{no_local}
 
-module _ (log : List (List ℕ)) (fits : length log ≤ 2 ^ 62) (all : AllValues log) (me : Me) (before : Store) where
+module _ (log : List (List ℕ)) (fits : length log ≤ 2 ^ 62) (all : AllValues log) (me : Me) (before : Readings) (floor : ℕ) where
   -- ---- it begins
 
-  module _ (now from : ℕ) (s : State) (shaped : IsShaped before) where
+  module _ (now from : ℕ) (m : Store) (s : State) (numbers : SameNumbers before (readings_of m)) (low : floor ≤ floor_of (readings_of m)) (shaped : IsShaped m) where
     abbrev w : Readings
-    w = readings_of before
+    w = readings_of m
 
     abbrev mark : List Change
-    mark = Mark (floor log before) w.last_pn w.promise ∷ []
+    mark = Mark (floor_of w) w.last_pn w.promise ∷ []
 
-    told : readings_of (apply (joined (spelled mark)) before) ≡ play (Mark (floor log before) w.last_pn w.promise) w
+    told : readings_of (apply (joined (spelled mark)) m) ≡ play (Mark (floor_of w) w.last_pn w.promise) w
     unfolding readings_of
-    told = readings-joined mark ((floor_short before, there_short (cell before area.Paxos key.LastPn), there_short (cell before area.Paxos key.AcceptedPn)), tt) before
+    told = readings-joined mark ((floor_short m, there_short (cell m area.Paxos key.LastPn), there_short (cell m area.Paxos key.AcceptedPn)), tt) m
 
-    pub begun : UnderWay log before (written before (full_sync me now from (at_rest w s))) ((full_sync me now from (at_rest w s)).state)
+    pub begun : UnderWay log before floor (written m (full_sync me now from (at_rest w s))) ((full_sync me now from (at_rest w s)).state)
     unfolding full_sync
     begun = record {
       in_phase = refl;
       full = refl;
       noted = record {
-        numbers = record { last_pn = ap (λ (v : Readings). v.last_pn) told; promise = ap (λ (v : Readings). v.promise) told; epoch = ap (λ (v : Readings). v.epoch) told };
-        kept_floor = ap (λ (v : Readings). v.floor) told;
+        numbers = record {
+          last_pn = ap (λ (v : Readings). v.last_pn) told ∙ numbers.last_pn;
+          promise = ap (λ (v : Readings). v.promise) told ∙ numbers.promise;
+          epoch = ap (λ (v : Readings). epoch_of v) told ∙ numbers.epoch;
+        };
+        kept_floor = omega (arith, ap (λ (v : Readings). v.floor) told);
         marked = ap (λ (v : Readings). v.marked) told;
       };
-      stage = ap shared_with_records (apply-joined (spelled mark) before) ∙ nothing_shared (floor log before) w.last_pn w.promise before shaped;
+      stage = ap shared_with_records (apply-joined (spelled mark) m) ∙ nothing_shared (floor_of w) w.last_pn w.promise m shaped;
     }
 
   -- ---- a row at a monitor
@@ -82,13 +87,17 @@ module _ (log : List (List ℕ)) (fits : length log ≤ 2 ^ 62) (all : AllValues
     x0 = at_rest (readings_of m) s
 
     -- only a monitor that synchronises takes what comes
-    is_under_way : Stands log before m s → same_phase s.phase phase.Synchronizing ≡ true → UnderWay log before m s
+    is_under_way : Marked log before floor m s → same_phase s.phase phase.Synchronizing ≡ true → UnderWay log before floor m s
     is_under_way (inl U) h = U
-    is_under_way (inr O) h = let g : true ≡ false = sym h ∙ O.left in absurd cc
+    is_under_way (inr W) h = by W.in_phase
+      where
+        by : (s.phase ≡ phase.Probing) ⊎ (s.phase ≡ phase.Booting) → UnderWay log before floor m s
+        by (inl e) = let g : true ≡ false = sym h ∙ ap (λ (p : Phase). same_phase p phase.Synchronizing) e in absurd cc
+        by (inr e) = let g : true ≡ false = sym h ∙ ap (λ (p : Phase). same_phase p phase.Synchronizing) e in absurd cc
 
     -- ---- a cookie
 
-    in_cookie : (g : SyncStage) (start : ℕ) (p : ChunkPlace) → awaits_cookie g ≡ true → InStage log before m g start p → shared_with_records m ≡ empty
+    in_cookie : (g : SyncStage) (start : ℕ) (p : ChunkPlace) → awaits_cookie g ≡ true → InStage log before floor m g start p → shared_with_records m ≡ empty
     in_cookie sync.Cookie start p e h = h
     in_cookie sync.Chunks start p e h = absurd cc
     in_cookie (sync.Replay next end) start p e h = absurd cc
@@ -102,34 +111,34 @@ module _ (log : List (List ℕ)) (fits : length log ≤ 2 ^ 62) (all : AllValues
     neither true b e = (refl, e)
     neither false b e = absurd cc
 
-    pub takes_cookie : (now f : ℕ) (full : Bool) (c : Cookie) (last : ℕ) (x : Course) → last ≤ length log → hear_cookie me now f full c last x0 ≡ Ok x → Stands log before m s → Stands log before (written m x) x.state
+    pub takes_cookie : (now f : ℕ) (full : Bool) (c : Cookie) (last : ℕ) (x : Course) → last ≤ length log → hear_cookie me now f full c last x0 ≡ Ok x → Marked log before floor m s → Stands log before floor (written m x) x.state
     unfolding hear_cookie
     takes_cookie now f full c last x le h I =
         by (not (of_provider f x0 && awaits_cookie s.requester.stage && same_flag full s.requester.full) || (full && ltb last (readings_of m).floor)) refl h
       where
         begins : of_provider f x0 ≡ true → awaits_cookie s.requester.stage ≡ true → same_flag full s.requester.full ≡ true → (full && ltb last (readings_of m).floor) ≡ false
-            → start_chunks me now c (first_place full last (readings_of m).last) x0 ≡ x → Stands log before (written m x) x.state
+            → start_chunks me now c (first_place full last (readings_of m).last) x0 ≡ x → Stands log before floor (written m x) x.state
         begins p a g l is =
             let U = is_under_way I (and_parts (same_phase s.phase phase.Synchronizing) _ p).0 in
             let whole = flags full s.requester.full g U.full in
             let N = U.noted in
-            let reached : floor log before ≤ last = omega (arith, ltb-false last (readings_of m).floor (sym (ap (λ b. b && ltb last (readings_of m).floor) whole) ∙ l), N.kept_floor) in
+            let reached : floor ≤ last = omega (arith, ltb-false last (readings_of m).floor (sym (ap (λ b. b && ltb last (readings_of m).floor) whole) ∙ l), N.kept_floor) in
             let place_is : first_place full last (readings_of m).last ≡ record { version = last; key = key_place.Start } = ap (λ b. first_place b last (readings_of m).last) whole in
             let none = in_cookie s.requester.stage s.requester.start s.requester.place a U.stage in
-            let chunking : Chunking log before m last (record { version = last; key = key_place.Start }) =
+            let chunking : Chunking log before floor m last (record { version = last; key = key_place.Start }) =
             record { above = reached; order = omega arith; within = le; goes_on = refl; copy = copy_begins log last m none } in
-            subst (λ (y : Course). Stands log before (written m y) y.state) is
-            (subst (λ (n : Store). Stands log before n ((start_chunks me now c (first_place full last (readings_of m).last) x0).state)) (sym (apply-joined [] m))
-            (inl (record {
+            subst (λ (y : Course). Stands log before floor (written m y) y.state) is
+            (subst (λ (n : Store). Stands log before floor n ((start_chunks me now c (first_place full last (readings_of m).last) x0).state)) (sym (apply-joined [] m))
+            (inl (inl (record {
               in_phase = U.in_phase;
               full = U.full;
               noted = U.noted;
-              stage = subst (λ (q : ChunkPlace). Chunking log before m q.version q) (sym place_is) chunking;
-            })))
+              stage = subst (λ (q : ChunkPlace). Chunking log before floor m q.version q) (sym place_is) chunking;
+            }))))
 
         by : (t : Bool) → (not (of_provider f x0 && awaits_cookie s.requester.stage && same_flag full s.requester.full) || (full && ltb last (readings_of m).floor)) ≡ t
-            → ◌≡◌ {A = Result Course Which} (cond t (Ok x0) (Ok (start_chunks me now c (first_place full last (readings_of m).last) x0))) (Ok x) → Stands log before (written m x) x.state
-        by true t e = stays log before m s x e I
+            → ◌≡◌ {A = Result Course Which} (cond t (Ok x0) (Ok (start_chunks me now c (first_place full last (readings_of m).last) x0))) (Ok x) → Stands log before floor (written m x) x.state
+        by true t e = stays log before floor m s x e I
         by false t e =
             let parts = neither (of_provider f x0 && awaits_cookie s.requester.stage && same_flag full s.requester.full) (full && ltb last (readings_of m).floor) t in
             let ours = and_parts (of_provider f x0 && awaits_cookie s.requester.stage) (same_flag full s.requester.full) parts.0 in
@@ -138,19 +147,19 @@ module _ (log : List (List ℕ)) (fits : length log ≤ 2 ^ 62) (all : AllValues
 
     -- ---- chunks
 
-    in_chunks : (g : SyncStage) (start : ℕ) (p : ChunkPlace) → takes_chunks g ≡ true → InStage log before m g start p → Chunking log before m start p
+    in_chunks : (g : SyncStage) (start : ℕ) (p : ChunkPlace) → takes_chunks g ≡ true → InStage log before floor m g start p → Chunking log before floor m start p
     in_chunks sync.Cookie start p e h = absurd cc
     in_chunks sync.Chunks start p e h = h
     in_chunks (sync.Replay next end) start p e h = absurd cc
 
     -- one of the provider's, for exactly our place
     pub record Ours (p : ChunkPlace) : Type 0 where
-      pub under_way : UnderWay log before m s
+      pub under_way : UnderWay log before floor m s
       pub taking : takes_chunks s.requester.stage ≡ true
       pub at_place : p ≡ s.requester.place
-      pub chunking : Chunking log before m s.requester.start s.requester.place
+      pub chunking : Chunking log before floor m s.requester.start s.requester.place
 
-    ours : (f : ℕ) (c : Cookie) (p : ChunkPlace) → Stands log before m s → is_ours f c p x0 ≡ true → Ours p
+    ours : (f : ℕ) (c : Cookie) (p : ChunkPlace) → Marked log before floor m s → is_ours f c p x0 ≡ true → Ours p
     ours f c p I h =
         let a = and_parts (of_provider f x0 && takes_chunks s.requester.stage && is_cookie c s.requester.cookie) (same_place p s.requester.place) h in
         let b = and_parts (of_provider f x0 && takes_chunks s.requester.stage) (is_cookie c s.requester.cookie) a.0 in
@@ -178,8 +187,8 @@ module _ (log : List (List ℕ)) (fits : length log ≤ 2 ^ 62) (all : AllValues
           let full = U.full in
           rw (short, full) refl
 
-      chunked : Chunking log before m s.requester.start p
-      chunked = subst (λ (q : ChunkPlace). Chunking log before m s.requester.start q) (sym O.at_place) O.chunking
+      chunked : Chunking log before floor m s.requester.start p
+      chunked = subst (λ (q : ChunkPlace). Chunking log before floor m s.requester.start q) (sym O.at_place) O.chunking
 
       start_low : s.requester.start ≤ p.version
       start_low = let K = chunked in K.order
@@ -193,8 +202,8 @@ module _ (log : List (List ℕ)) (fits : length log ≤ 2 ^ 62) (all : AllValues
       pub copied_written : IsFuzzyCopy log s.requester.start version y (written m moved)
       copied_written = subst (λ (n : Store). IsFuzzyCopy log s.requester.start version y n) (sym wrote) copied
 
-      pub noted_written : Noted log before (written m moved)
-      noted_written = let U = O.under_way in still_noted log before m (written m moved) same U.noted
+      pub noted_written : Noted log before floor (written m moved)
+      noted_written = let U = O.under_way in still_noted log before floor m (written m moved) same U.noted
         where
           same : SameCells m (written m moved)
           same a k own =
@@ -203,34 +212,34 @@ module _ (log : List (List ℕ)) (fits : length log ≤ 2 ^ 62) (all : AllValues
               ∙ own_kept log p y values entries C s.requester.start start_low m K.copy (place a k) (own_number a k own)
               (no_local log version (holds log fits all version C.within) (place a k) (own_local version (place a k) (own_number a k own)))
 
-      in_stage : (n : Store) (g : SyncStage) (q : ChunkPlace) → takes_chunks g ≡ true → Chunking log before n s.requester.start q → InStage log before n g s.requester.start q
+      in_stage : (n : Store) (g : SyncStage) (q : ChunkPlace) → takes_chunks g ≡ true → Chunking log before floor n s.requester.start q → InStage log before floor n g s.requester.start q
       in_stage n sync.Cookie q e h = absurd cc
       in_stage n sync.Chunks q e h = h
       in_stage n (sync.Replay from to) q e h = absurd cc
 
       -- the next chunk goes on behind this one
-      pub goes_on : next ≡ record { version = version; key = y } → IsOpen y → UnderWay log before (written m moved) ((moved).state)
+      pub goes_on : next ≡ record { version = version; key = y } → IsOpen y → UnderWay log before floor (written m moved) ((moved).state)
       goes_on is open_there =
           let U = O.under_way in
           let K = chunked in
-          let chunking : Chunking log before (written m moved) s.requester.start (record { version = version; key = y }) =
+          let chunking : Chunking log before floor (written m moved) s.requester.start (record { version = version; key = y }) =
           record { above = K.above; order = (let o = K.order in omega arith); within = C.within; goes_on = open_there; copy = copied_written } in
           record {
             in_phase = U.in_phase;
             full = U.full;
             noted = noted_written;
-            stage = in_stage (written m moved) s.requester.stage next O.taking (subst (λ (q : ChunkPlace). Chunking log before (written m moved) s.requester.start q) (sym is) chunking);
+            stage = in_stage (written m moved) s.requester.stage next O.taking (subst (λ (q : ChunkPlace). Chunking log before floor (written m moved) s.requester.start q) (sym is) chunking);
           }
 
     pub takes_chunk : (now f : ℕ) (c : Cookie) (p : ChunkPlace) (values : List (List Op)) (entries : List Entry) (done : Bool) (x : Course) → ChunkOf log (body.Chunk c p values entries done)
-        → hear_chunk me now f c p values entries done x0 ≡ Ok x → Stands log before m s → Stands log before (written m x) x.state
+        → hear_chunk me now f c p values entries done x0 ≡ Ok x → Marked log before floor m s → Stands log before floor (written m x) x.state
     unfolding hear_chunk
     takes_chunk now f c p values entries done x K h I = by (is_ours f c p x0) refl h
       where
         y : KeyPlace
         y = after_entries entries p.key
 
-        one : (O : Ours p) → take_and_ask me now c p values entries done x0 ≡ Ok x → Stands log before (written m x) x.state
+        one : (O : Ours p) → take_and_ask me now c p values entries done x0 ≡ Ok x → Stands log before floor (written m x) x.state
         one O e =
             let Q = chunked p values entries done (after_entries entries p.key) K.0 O in
             let flag = K.1 Q.goes_on in
@@ -239,31 +248,31 @@ module _ (log : List (List ℕ)) (fits : length log ≤ 2 ^ 62) (all : AllValues
             let asked : Course = ask_chunk me now c (next_place p (p.version + length values) entries done) (moved p values entries done (after_entries entries p.key) K.0 O) in
             let is : asked ≡ x =
             ok_is asked x (sym (ap (λ (r : Result Course Which). r >>= λ z. Ok (ask_chunk me now c z.state.requester.place z)) (take_is p values entries done (after_entries entries p.key) K.0 O)) ∙ e) in
-            subst (λ (z : Course). Stands log before (written m z) z.state) is (inl (goes_on_asked (goes_on p values entries done (after_entries entries p.key) K.0 O place_is flag.1)))
+            subst (λ (z : Course). Stands log before floor (written m z) z.state) is (inl (inl (goes_on_asked (goes_on p values entries done (after_entries entries p.key) K.0 O place_is flag.1))))
           where
-            goes_on_asked : UnderWay log before (written m (moved p values entries done (after_entries entries p.key) K.0 O)) ((moved p values entries done (after_entries entries p.key) K.0 O).state)
-                → UnderWay log before (written m (moved p values entries done (after_entries entries p.key) K.0 O))
+            goes_on_asked : UnderWay log before floor (written m (moved p values entries done (after_entries entries p.key) K.0 O)) ((moved p values entries done (after_entries entries p.key) K.0 O).state)
+                → UnderWay log before floor (written m (moved p values entries done (after_entries entries p.key) K.0 O))
                 ((ask_chunk me now c (next_place p (p.version + length values) entries done) (moved p values entries done (after_entries entries p.key) K.0 O)).state)
             goes_on_asked U = record { in_phase = U.in_phase; full = U.full; noted = U.noted; stage = U.stage }
 
-        by : (t : Bool) → is_ours f c p x0 ≡ t → cond t (take_and_ask me now c p values entries done x0) (Ok x0) ≡ Ok x → Stands log before (written m x) x.state
+        by : (t : Bool) → is_ours f c p x0 ≡ t → cond t (take_and_ask me now c p values entries done x0) (Ok x0) ≡ Ok x → Stands log before floor (written m x) x.state
         by true t e = one (ours f c p I t) e
-        by false t e = stays log before m s x e I
+        by false t e = stays log before floor m s x e I
 
     -- ---- the last chunk
 
     pub takes_last : (now f : ℕ) (c : Cookie) (p : ChunkPlace) (values : List (List Op)) (entries : List Entry) (last : ℕ) (x : Course) → ChunkOf log (body.LastChunk c p values entries last)
-        → hear_last_chunk me now f c p values entries last x0 ≡ Ok x → Stands log before m s → Stands log before (written m x) x.state
+        → hear_last_chunk me now f c p values entries last x0 ≡ Ok x → Marked log before floor m s → Stands log before floor (written m x) x.state
     unfolding hear_last_chunk
     takes_last now f c p values entries last x K h I = by (is_ours f c p x0) refl h
       where
-        replays : (O : Ours p) (x1 : Course) → moved p values entries true key_place.Done K.0 O ≡ x1 → begin_replay now last x1 ≡ Ok x → Stands log before (written m x) x.state
+        replays : (O : Ours p) (x1 : Course) → moved p values entries true key_place.Done K.0 O ≡ x1 → begin_replay now last x1 ≡ Ok x → Stands log before floor (written m x) x.state
         replays O x1 is e = in_range (leb (suc x1.state.requester.start) (2 ^ 62)) e
           where
             started : Course → Course
             started z = z ▸ requester_is (record z.state.requester { stage = sync.Replay (suc z.state.requester.start) last }) ▸ disarm timer.Sync ▸ arm now timer.Step
 
-            begun_replay : UnderWay log before (written m (moved p values entries true key_place.Done K.0 O)) ((started (moved p values entries true key_place.Done K.0 O)).state)
+            begun_replay : UnderWay log before floor (written m (moved p values entries true key_place.Done K.0 O)) ((started (moved p values entries true key_place.Done K.0 O)).state)
             begun_replay =
                 let U = O.under_way in
                 let Q = chunked p values entries true key_place.Done K.0 O in
@@ -284,11 +293,11 @@ module _ (log : List (List ℕ)) (fits : length log ≤ 2 ^ 62) (all : AllValues
 
             in_range : (t : Bool)
                 → (cond {A = Result ℕ Which} t (Ok (suc x1.state.requester.start)) (Err which.Version) >>= λ next. Ok (x1 ▸ requester_is (record x1.state.requester { stage = sync.Replay next last }) ▸ disarm timer.Sync ▸ arm now timer.Step)) ≡ Ok x
-                → Stands log before (written m x) x.state
-            in_range true r = subst (λ (z : Course). Stands log before (written m z) z.state) (ap started is ∙ ok_is (started x1) x r) (inl begun_replay)
+                → Stands log before floor (written m x) x.state
+            in_range true r = subst (λ (z : Course). Stands log before floor (written m z) z.state) (ap started is ∙ ok_is (started x1) x r) (inl (inl begun_replay))
             in_range false r = absurd cc
 
-        one : (O : Ours p) → take_last me now p values entries last x0 ≡ Ok x → Stands log before (written m x) x.state
+        one : (O : Ours p) → take_last me now p values entries last x0 ≡ Ok x → Stands log before floor (written m x) x.state
         one O e =
             let U = O.under_way in
             let full : (moved p values entries true key_place.Done K.0 O).state.requester.full ≡ true = U.full in
@@ -296,6 +305,6 @@ module _ (log : List (List ℕ)) (fits : length log ≤ 2 ^ 62) (all : AllValues
             (sym (ap (λ b. cond b (begin_replay now last (moved p values entries true key_place.Done K.0 O)) (bootstrap me now (moved p values entries true key_place.Done K.0 O))) full)
             ∙ sym (ap (λ (r : Result Course Which). r >>= λ z. replay_or_end me now last z) (take_is p values entries true key_place.Done K.0 O)) ∙ e)
 
-        by : (t : Bool) → is_ours f c p x0 ≡ t → cond t (take_last me now p values entries last x0) (Ok x0) ≡ Ok x → Stands log before (written m x) x.state
+        by : (t : Bool) → is_ours f c p x0 ≡ t → cond t (take_last me now p values entries last x0) (Ok x0) ≡ Ok x → Stands log before floor (written m x) x.state
         by true t e = one (ours f c p I t) e
-        by false t e = stays log before m s x e I
+        by false t e = stays log before floor m s x e I

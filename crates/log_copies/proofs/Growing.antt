@@ -3,6 +3,7 @@ use Rattle.std.proofs.Common.{◌≡◌, ℕ, suc, ◌+◌, ◌≤◌, ◌<◌, 
 use Rattle.std.specs.FinMap.{get, retain_keys}
 use Rattle.mon_bytes.specs.declared.entry.Entry.{Entry}
 use Rattle.mon_bytes.specs.declared.entry.KeyPlace.{KeyPlace}
+use Rattle.mon_bytes.specs.declared.entry.KeyPlace.TheVariants as key_place
 use Rattle.mon_tx.specs.declared.op.Op.{Op}
 use Rattle.mon_tx.specs.Decision.{Cell}
 use Rattle.mon_tx.specs.Decode.{ops_in}
@@ -14,10 +15,14 @@ use Rattle.mon_wire.specs.declared.parts.Place.{Place as ChunkPlace}
 use Rattle.mon_msg.specs.Joined.{joined}
 use Rattle.mon_msg.specs.Protocol.Changes.{Learn, Last, spelled}
 use Rattle.mon_msg.specs.Protocol.Readings.{Readings}
+use Rattle.mon_msg.specs.Protocol.State.{State}
+use Rattle.mon_msg.specs.declared.synchronisation.SyncStage.{SyncStage}
+use Rattle.mon_msg.specs.declared.synchronisation.SyncStage.TheVariants as sync
 use Rattle.log_copies.specs.Copies.{IsFolded, IsRecord, IsFuzzyCopy}
-use Rattle.log_copies.specs.Synchronizing.{HasVersions}
+use Rattle.log_copies.specs.Versions.{HasVersions}
 use Rattle.log_copies.proofs.Chunks.{between, Continues, ChunkOf}
 use Rattle.log_copies.proofs.Learning.{learned}
+use Rattle.log_copies.proofs.UnderWay.{Noted, InStage, Marked}
 use Rattle.log_model.specs.LogOfValues.{AllValues, IsValue}
 use Rattle.log_model.specs.Windows.{Keeps}
 use Rattle.log_model.proofs.Committed.{grown, ops_again, texts}
@@ -69,6 +74,34 @@ module _ {log more : List (List ℕ)} (F : Fronts log more) where
   chunk_stays (body.Chunk cookie p values entries done) h = (carries_stay p _ values entries h.0, h.1)
   chunk_stays (body.LastChunk cookie p values entries last) h = (carries_stay p _ values entries h.0, h.1)
   chunk_stays other h = tt
+
+  -- ---- of a marked monitor, and of one that is finished
+
+  module _ (before : Readings) (floor : ℕ) where
+    in_stage_stays : (m : Store) (g : SyncStage) (start : ℕ) (p : ChunkPlace) → InStage log before floor m g start p → InStage more before floor m g start p
+    in_stage_stays m sync.Cookie start p h = h
+    in_stage_stays m sync.Chunks start p h = record {
+      above = h.above;
+      order = h.order;
+      within = (let w = h.within in let s = F.short in omega arith);
+      goes_on = h.goes_on;
+      copy = copy_stays start p.version p.key m h.within h.copy;
+    }
+    in_stage_stays m (sync.Replay next end) start p h = record {
+      done = h.done;
+      is = h.is;
+      above = h.above;
+      order = h.order;
+      within = (let w = h.within in let s = F.short in omega arith);
+      copy = copy_stays h.done end key_place.Done m h.within h.copy;
+    }
+
+    noted_stays : (m : Store) → Noted log before floor m → Noted more before floor m
+    noted_stays m N = record { numbers = N.numbers; kept_floor = N.kept_floor; marked = N.marked }
+
+    pub marked_stays : (m : Store) (s : State) → Marked log before floor m s → Marked more before floor m s
+    marked_stays m s (inl U) = inl (record { in_phase = U.in_phase; full = U.full; noted = noted_stays m U.noted; stage = in_stage_stays m s.requester.stage s.requester.start s.requester.place U.stage })
+    marked_stays m s (inr W) = inr (record { in_phase = W.in_phase; noted = noted_stays m W.noted; shaped = W.shaped })
 
 -- ---- a monitor that has the whole log commits one more value, over what any store tells that keeps the log
 

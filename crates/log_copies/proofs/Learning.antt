@@ -19,7 +19,7 @@ use Rattle.mon_msg.specs.Protocol.Learning.{learn_changes}
 use Rattle.mon_msg.proofs.Afterwards.{apply-append}
 use Rattle.mon_msg.proofs.Joining.{apply-joined}
 use Rattle.log_copies.specs.Copies.{is_own, IsFolded, IsRecord, IsFuzzyCopy, with_version}
-use Rattle.log_copies.specs.Synchronizing.{HasVersions}
+use Rattle.log_copies.specs.Versions.{HasVersions}
 use Rattle.log_copies.proofs.Ends.{number_put}
 use Rattle.log_copies.proofs.Own.{own_number, own_local}
 use Rattle.log_copies.proofs.Replayed.{learned_version, replayed}

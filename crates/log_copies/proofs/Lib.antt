@@ -14,3 +14,6 @@ pub mod Whole
 pub mod Learning
 pub mod Growing
 pub mod Telling
+pub mod Aside
+pub mod Events
+pub mod Leaving

@@ -1,27 +1,32 @@
 -- What a monitor of the log tells of it: its records, the runs of them that it sends, and what it shows.
-use Rattle.std.proofs.Common.{◌≡◌, ℕ, zero, suc, ◌+◌, ◌-◌, ◌≤◌, ◌<◌, ◌^◌, max, Bool, true, false, cond, leb, List, [], ◌∷◌, length, take, drop, Some, None, ◌⊎◌, inl, inr, IsTrue, refl, sym, ap, subst, ◌∙◌, arith}
+use Rattle.std.proofs.Common.{◌≡◌, ℕ, zero, suc, ◌+◌, ◌-◌, ◌≤◌, ◌<◌, ◌^◌, max, Bool, true, false, cond, leb, List, [], ◌∷◌, ◌++◌, map, length, take, drop, Some, None, ◌⊎◌, inl, inr, IsTrue, refl, sym, ap, subst, ◌∙◌, arith}
 use Rattle.std.specs.Prelude.{◌↔◌}
 use Rattle.std.proofs.lemmas.Bool.{cases_lt, le-leb, lt-ltb}
+use Rattle.std.proofs.lemmas.List.{get_or_past}
 use Rattle.mon_tx.specs.declared.key.Area.TheVariants as area
 use Rattle.mon_tx.specs.declared.key.Key.TheVariants as key
 use Rattle.mon_tx.specs.declared.op.Op.{Op}
 use Rattle.mon_tx.specs.Keys.{cell, number}
+use Rattle.mon_tx.specs.Decode.{ops_in}
 use Rattle.mon_tx.specs.Map.{Store}
+use Rattle.mon_tx.specs.Text.{text}
 use Rattle.mon_wire.specs.declared.reply.Reply.{Reply}
 use Rattle.mon_wire.specs.declared.reply.Reply.TheVariants as reply
 use Rattle.mon_wire.specs.declared.request.Service.{Service}
 use Rattle.mon_msg.specs.Fold.{entry, incrementals, map_after, map_of_log, version_of_log}
-use Rattle.mon_msg.specs.Protocol.Learning.{news, news_from}
+use Rattle.mon_msg.specs.Protocol.Changes.{Last}
+use Rattle.mon_msg.specs.Protocol.Learning.{learn_changes, news, news_from}
 use Rattle.mon_msg.specs.Protocol.Readings.{readings_of}
 use Rattle.mon_msg.specs.Protocol.Reads.{changes_after, shown, since}
 use Rattle.mon_msg.specs.Protocol.Records.{run_of, run_from, longest}
 use Rattle.mon_msg.specs.Protocol.Services.{may_tell}
-use Rattle.log_copies.specs.Synchronizing.{HasVersions}
+use Rattle.log_copies.specs.Versions.{HasVersions, values_from, behind}
+use Rattle.log_copies.proofs.Learning.{learned}
 use Rattle.log_model.specs.LogOfValues.{AllValues}
 use Rattle.log_model.specs.Windows.{log_from, within, service_from, first_read, Keeps, Shows}
-use Rattle.log_model.proofs.Committed.{keeps, keeps_shared, shown_shared}
+use Rattle.log_model.proofs.Committed.{ops_again, keeps, keeps_shared, shown_shared}
 use Rattle.log_model.proofs.Logs.{Fronts, incrementals_stay}
-use Rattle.log_model.proofs.Records.{AreVersions, run_versions, run_from_length, keeps_held}
+use Rattle.log_model.proofs.Records.{IsVersion, AreVersions, value_has_text, run_versions, run_from_length, keeps_held}
 use Rattle.log_model.proofs.RowReadings.{read_some}
 use Rattle.log_model.proofs.ToldFront.{told_front, told_others}
 
@@ -108,3 +113,51 @@ module _ (log : List (List ℕ)) (fits : length log ≤ 2 ^ 62) (all : AllValues
       by : (b : Bool) → IsTold log c (cond b (changes_after (readings_of m) s v (drop v (incrementals s log c))) (reply.Shown s (readings_of m).last (version_of_log s log c) (map_of_log s log c)))
       by true = let kept = drop v (incrementals s log c) in (told_front kept, told_others (incrementals s log c) v (length (longest may_tell kept)))
       by false = (read_last, refl, refl)
+
+-- ---- values of versions
+
+-- a version that is spelled is within the log
+one_within : (log : List (List ℕ)) (v : ℕ) (x : List Op) → IsVersion log (suc v) x → v < length log
+one_within log v x V = by (cases_lt v (length log))
+  where
+    by : (v < length log) ⊎ (length log ≤ v) → v < length log
+    by (inl lt) = lt
+    by (inr le) = let none : [] ≡ text x = sym (get_or_past log v [] le) ∙ V.spells in absurd cc
+
+pub versions_within : (log : List (List ℕ)) (xs : List (List Op)) (v : ℕ) (x : List Op) → AreVersions log (suc v) (x ∷ xs) → v + length (x ∷ xs) ≤ length log
+versions_within log [] v x h = let lt = one_within log v x h.0 in omega arith
+versions_within log (y ∷ xs) v x h = let rest = versions_within log xs (suc v) y h.1 in omega arith
+
+-- they are those that the entries spell
+pub versions_are : (log : List (List ℕ)) (xs : List (List Op)) (v : ℕ) → AreVersions log v xs → xs ≡ values_from log v (length xs)
+versions_are log [] v h = refl
+versions_are log (x ∷ xs) v h =
+    let rest = versions_are log xs (suc v) h.1 in
+    let next : suc v ≡ v + 1 = omega arith in
+    let same : values_from log (suc v) (length xs) ≡ values_from log (v + 1) (length xs) = ap (λ (u : ℕ). values_from log u (length xs)) next in
+    (λ i. sym h.0.reads i ∷ (rest ∙ same) i)
+
+pub are_versions : (log : List (List ℕ)) → length log ≤ 2 ^ 62 → AllValues log → (count v : ℕ) → v + count ≤ length log → AreVersions log (suc v) (values_from log (suc v) count)
+are_versions log fits all zero v le = tt
+are_versions log fits all (suc count) v le =
+    let S = all v (omega arith) in
+    let has = value_has_text log fits all v (omega arith) in
+    let next : suc (suc v) ≡ suc v + 1 = omega arith in
+    let back : ops_in (entry log (suc v)) ≡ S.changes = ap ops_in S.spells ∙ ops_again S.changes has in (
+      record { spells = S.spells ∙ ap text (sym back); reads = refl },
+      subst (λ (u : ℕ). AreVersions log (suc (suc v)) (values_from log u count)) next (are_versions log fits all count (suc v) (omega arith)),
+    )
+
+values_length : (log : List (List ℕ)) (count v : ℕ) → length (values_from log v count) ≡ count
+values_length log zero v = refl
+values_length log (suc count) v = ap suc (values_length log count (v + 1))
+
+-- the next ones of which are learned
+pub learned_values : (log : List (List ℕ)) → length log ≤ 2 ^ 62 → AllValues log → (c : ℕ) (m : Store) → HasVersions log c m → (count : ℕ) → suc c + count ≤ length log
+    → HasVersions log (suc c + count) (behind (learn_changes (suc c) (values_from log (suc c) (suc count)) ++ Last (suc c + count) ∷ []) m)
+learned_values log fits all c m V count le =
+    let first = ops_in (entry log (suc c)) in
+    let rest = values_from log (suc c + 1) count in
+    let long : length rest ≡ count = values_length log count (suc c + 1) in
+    subst (λ (n : ℕ). HasVersions log (suc c + n) (behind (learn_changes (suc c) (first ∷ rest) ++ Last (suc c + n) ∷ []) m)) long
+    (learned log fits all c m V first rest (are_versions log fits all (suc count) c (omega arith)) (omega (arith, long)))

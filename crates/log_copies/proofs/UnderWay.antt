@@ -1,5 +1,5 @@
 -- A full synchronisation under way: what the monitor's store holds at each stage.
-use Rattle.std.proofs.Common.{◌≡◌, ℕ, suc, ◌≤◌, ◌^◌, true, false, ◌&&◌, eqb, leb, List, [], length, Option, Some, None, IfSome, ◌⊎◌, Result, Ok, refl, sym, ap, subst, ◌∙◌, arith}
+use Rattle.std.proofs.Common.{◌≡◌, inl, ℕ, suc, ◌≤◌, ◌^◌, true, ◌&&◌, eqb, leb, List, [], length, Option, Some, None, IfSome, ◌⊎◌, Result, Ok, refl, sym, ap, subst, ◌∙◌, arith}
 use Rattle.std.proofs.lemmas.Bool.{and_parts, leb-true, eqb-true, cond_both}
 use Rattle.std.proofs.lemmas.Map.Lookups.{exact_bytes}
 use Rattle.std.proofs.lemmas.Map.Text.{is_eq-slice_cmp}
@@ -25,10 +25,9 @@ use Rattle.mon_wire.specs.declared.phase.Phase.TheVariants as phase
 use Rattle.mon_msg.specs.Joined.{joined}
 use Rattle.mon_msg.specs.Protocol.Changes.{spelled}
 use Rattle.mon_msg.specs.Protocol.Course.{Course}
-use Rattle.mon_msg.specs.Protocol.Phases.{same_phase}
 use Rattle.mon_msg.specs.Protocol.Places.{same_key_place, same_place}
 use Rattle.mon_msg.specs.Protocol.Played.{IsShort}
-use Rattle.mon_msg.specs.Protocol.Readings.{marks, number_if_there, readings_of}
+use Rattle.mon_msg.specs.Protocol.Readings.{Readings, epoch_or_first, marks, number_if_there, readings_of}
 use Rattle.mon_msg.specs.Protocol.Records.{pending_of, found_as, record_at}
 use Rattle.mon_msg.specs.Protocol.State.{State}
 use Rattle.mon_msg.specs.Protocol.Synchronizing.{pending_version, floor_of}
@@ -99,14 +98,12 @@ place_same a b e =
 abbrev pub SameCells : Store → Store → Type 0
 SameCells m n = (a : Area) (k : Key) → is_number a k ≡ true → cell n a k ≡ cell m a k
 
-module _ (log : List (List ℕ)) (before : Store) where
-  abbrev pub floor : ℕ
-  floor = floor_of (readings_of before)
-
+-- `before` is what the store told at first, and `floor` what is to be reached
+module _ (log : List (List ℕ)) (before : Readings) (floor : ℕ) where
   -- what a marked store tells of itself
   pub record Noted (m : Store) : Type 0 where
-    pub numbers : SameNumbers (readings_of before) (readings_of m)
-    pub kept_floor : (readings_of m).floor ≡ floor
+    pub numbers : SameNumbers before (readings_of m)
+    pub kept_floor : floor ≤ (readings_of m).floor
     pub marked : (readings_of m).marked ≡ true
 
   pub still_noted : (m n : Store) → SameCells m n → Noted m → Noted n
@@ -117,9 +114,9 @@ module _ (log : List (List ℕ)) (before : Store) where
         numbers = record {
           last_pn = ap number_if_there (same area.Paxos key.LastPn refl) ∙ numbers.last_pn;
           promise = ap number_if_there (same area.Paxos key.AcceptedPn refl) ∙ numbers.promise;
-          epoch = ap number_if_there (same area.Monitor key.ElectionEpoch refl) ∙ numbers.epoch;
+          epoch = ap (λ (c : Cell). epoch_or_first (number_if_there c)) (same area.Monitor key.ElectionEpoch refl) ∙ numbers.epoch;
         };
-        kept_floor = ap number_in (same area.Sync key.Floor refl) ∙ N.kept_floor;
+        kept_floor = (let k = N.kept_floor in omega (arith, ap number_in (same area.Sync key.Floor refl)));
         marked = ap marks (same area.Sync key.InSync refl) ∙ N.marked;
       }
 
@@ -143,24 +140,29 @@ module _ (log : List (List ℕ)) (before : Store) where
   InStage m sync.Chunks start p = Chunking m start p
   InStage m (sync.Replay next end) start p = Replaying m next end
 
+  -- it takes a copy
   pub record UnderWay (m : Store) (s : State) : Type 0 where
     pub in_phase : s.phase ≡ phase.Synchronizing
     pub full : s.requester.full ≡ true
     pub noted : Noted m
     pub stage : InStage m s.requester.stage s.requester.start s.requester.place
 
-  -- it was given up, or it is finished
-  pub record Over (m : Store) (s : State) : Type 0 where
-    pub left : same_phase s.phase phase.Synchronizing ≡ false
+  -- it looks for another monitor, or is not started yet
+  pub record Waits (m : Store) (s : State) : Type 0 where
+    pub in_phase : (s.phase ≡ phase.Probing) ⊎ (s.phase ≡ phase.Booting)
+    pub noted : Noted m
     pub shaped : IsShaped m
-    pub outcome : ((readings_of m).marked ≡ true) ⊎ IsSynchronized log before m
 
+  abbrev pub Marked : Store → State → Type 0
+  Marked m s = UnderWay m s ⊎ Waits m s
+
+  -- or it is finished
   abbrev pub Stands : Store → State → Type 0
-  Stands m s = UnderWay m s ⊎ Over m s
+  Stands m s = Marked m s ⊎ IsSynchronized log before floor m
 
   -- nothing is written
-  pub unwritten : (m : Store) (s t : State) → (s ≡ t) → Stands m s → Stands (apply (joined (spelled [])) m) t
-  unwritten m s t same I = subst (λ (n : Store). Stands n t) (sym (apply-joined [] m)) (subst (λ (u : State). Stands m u) same I)
+  pub unwritten : (m : Store) (s : State) → Marked m s → Stands (apply (joined (spelled [])) m) s
+  unwritten m s I = subst (λ (n : Store). Stands n s) (sym (apply-joined [] m)) (inl I)
 
-  pub stays : (m : Store) (s : State) (x : Course) → ◌≡◌ {A = Result Course Which} (Ok (at_rest (readings_of m) s)) (Ok x) → Stands m s → Stands (written m x) x.state
-  stays m s x e I = subst (λ (y : Course). Stands (written m y) y.state) (ok_is (at_rest (readings_of m) s) x e) (unwritten m s s refl I)
+  pub stays : (m : Store) (s : State) (x : Course) → ◌≡◌ {A = Result Course Which} (Ok (at_rest (readings_of m) s)) (Ok x) → Marked m s → Stands (written m x) x.state
+  stays m s x e I = subst (λ (y : Course). Stands (written m y) y.state) (ok_is (at_rest (readings_of m) s) x e) (unwritten m s I)

@@ -1,21 +1,22 @@
--- A full synchronisation from monitors of one log: it is under way, or it is over.
-use Rattle.std.proofs.Common.{◌≡◌, ℕ, ◌≤◌, ◌<◌, ◌^◌, true, false, List, length, inl, inr, Ok, sym, subst, ◌∙◌}
-use Rattle.mon_bytes.specs.declared.entry.Entry.{Entry}
+-- A full synchronisation from monitors of one log, from its beginning on: it is under way, or it is finished.
+use Rattle.std.proofs.Common.{◌≡◌, ℕ, ◌≤◌, ◌<◌, ◌^◌, true, false, List, length, inl, inr, refl, sym, subst, ◌∙◌, arith}
 use Rattle.mon_tx.specs.Map.{Store}
 use Rattle.mon_wire.specs.declared.body.Body.{Body}
 use Rattle.mon_wire.specs.declared.body.Body.TheVariants as body
+use Rattle.mon_msg.specs.declared.input.Input.{Input}
+use Rattle.mon_msg.specs.declared.input.Input.TheVariants as input
 use Rattle.mon_msg.specs.declared.view.Me.{Me}
 use Rattle.mon_msg.specs.Protocol.Course.{Course}
-use Rattle.mon_msg.specs.Protocol.Hearing.{hear}
-use Rattle.mon_msg.specs.Protocol.Readings.{readings_of}
-use Rattle.mon_msg.specs.Protocol.State.{State}
-use Rattle.mon_msg.specs.Protocol.Table.{at_rest}
-use Rattle.log_copies.specs.Synchronizing.{IsShaped, IsGiven, MayCome, written, Synchronizes, begins, hears, steps, IsSynchronized}
+use Rattle.mon_msg.specs.Protocol.Readings.{readings_of, shared_entries}
+use Rattle.mon_msg.specs.Protocol.State.{State, booting}
+use Rattle.mon_msg.specs.Protocol.Synchronizing.{floor_of}
+use Rattle.log_copies.specs.Synchronizing.{IsShaped, IsGiven, MayCome, InputMayCome, written, Synchronizes, begins, goes_on, forgets, IsSynchronized}
 use Rattle.log_copies.proofs.Chunks.{ChunkOf}
-use Rattle.log_copies.proofs.Copying.{begun, takes_cookie, takes_chunk, takes_last}
+use Rattle.log_copies.proofs.Copying.{begun}
+use Rattle.log_copies.proofs.Events.{BodyOf, InputOf, marked_is, marked_shaped, reacts}
 use Rattle.log_copies.proofs.Given.{given}
-use Rattle.log_copies.proofs.Replaying as replaying
-use Rattle.log_copies.proofs.UnderWay.{UnderWay, Stands}
+use Rattle.log_copies.proofs.Shape.{monitor_shaped}
+use Rattle.log_copies.proofs.UnderWay.{Marked, Stands}
 use Rattle.log_model.specs.LogOfValues.{AllValues}
 
 module _ (log : List (List ℕ)) (fits : length log ≤ 2 ^ 62) (all : AllValues log) (me : Me) (several : 1 < me.member.monitors) (before : Store) (shaped : IsShaped before) where
@@ -23,26 +24,51 @@ module _ (log : List (List ℕ)) (fits : length log ≤ 2 ^ 62) (all : AllValues
   unfolding readings_of
   chunk_is b G = let P = G.provider in subst (ChunkOf log) (sym G.is) (given log fits all G.last P.within G.store P.folded P.last G.place G.reached G.cookie me.member.monitors)
 
-  heard : (m : Store) (s : State) (shared : List Entry) (now f e : ℕ) (b : Body) (x : Course) → MayCome log me.member.monitors b → hear me shared now f e b (at_rest (readings_of m) s) ≡ Ok x
-      → Stands log before m s → Stands log before (written m x) x.state
-  heard m s shared now f e (body.Cookie full cookie last) x h q I = takes_cookie log fits all me before m s now f full cookie last x h q I
-  heard m s shared now f e (body.Chunk cookie p values entries done) x h q I = takes_chunk log fits all me before m s now f cookie p values entries done x (chunk_is _ h) q I
-  heard m s shared now f e (body.LastChunk cookie p values entries last) x h q I = takes_last log fits all me before m s now f cookie p values entries last x (chunk_is _ h) q I
-  heard m s shared now f e b x h q I = absurd h
+  of_log : (b : Body) → MayCome log me.member.monitors b → BodyOf log b
+  of_log (body.Cookie full cookie last) h = h
+  of_log (body.Chunk cookie p values entries done) h = chunk_is _ h
+  of_log (body.LastChunk cookie p values entries last) h = chunk_is _ h
+  of_log other h = tt
 
-  stands : {m : Store} {s : State} → Synchronizes log me before m s → Stands log before m s
-  stands (begins now from s x e) = inl (subst (λ (z : Course). UnderWay log before (written before z) z.state) e (begun log fits all me before now from s shaped))
-  stands (hears m s shared now f e b x run h q) = heard m s shared now f e b x h q (stands run)
-  stands (steps m s now x run q) = replaying.steps log fits all me several before m s now x q (stands run)
+  input_of_log : (came : Input) → InputMayCome log me.member.monitors came → InputOf log came
+  input_of_log (input.Deliver d) h = of_log d.body h
+  input_of_log other h = tt
+
+  abbrev floor : ℕ
+  floor = floor_of (readings_of before)
+
+  is_marked : (m : Store) (s : State) → Stands log (readings_of before) floor m s → (readings_of m).marked ≡ true → Marked log (readings_of before) floor m s
+  is_marked m s (inl M) h = M
+  is_marked m s (inr S) h = let g : true ≡ false = sym h ∙ S.unmarked in absurd cc
+
+  forgotten : (m : Store) (s : State) → Stands log (readings_of before) floor m s → Stands log (readings_of before) floor m (booting me.member.rank)
+  forgotten m s (inl M) = inl (inr (record {
+    in_phase = inr refl;
+    noted = marked_is log fits all me several (readings_of before) floor 0 m s M;
+    shaped = marked_shaped log fits all me several (readings_of before) floor 0 m s M;
+  }))
+  forgotten m s (inr S) = inr S
+
+  stands : {m : Store} {s : State} → Synchronizes log me before m s → Stands log (readings_of before) floor m s
+  stands (begins now from s x e) =
+      subst (λ (z : Course). Stands log (readings_of before) floor (written before z) z.state) e
+      (inl (inl (begun log fits all me (readings_of before) floor now from before s (record { last_pn = refl; promise = refl; epoch = refl }) (omega arith) shaped)))
+  stands (goes_on m s now came x run h comes e) =
+      reacts log fits all me several (readings_of before) floor now m s (is_marked m s (stands run) h) (shared_entries m) came x (input_of_log came comes) e
+  stands (forgets m s run) = forgotten m s (stands run)
 
   -- whenever it breaks off, another one may begin
   pub stays_shaped : (m : Store) (s : State) → Synchronizes log me before m s → IsShaped m
-  stays_shaped m s run = elim (stands run) [ inl U ↦ replaying.under_way_shaped log fits all me several before m s U | inr O ↦ O.shaped ]
+  stays_shaped m s run = by (stands run)
+    where
+      by : Stands log (readings_of before) floor m s → IsShaped m
+      by (inl M) = marked_shaped log fits all me several (readings_of before) floor 0 m s M
+      by (inr S) = let V = S.versions in monitor_shaped log fits all S.last V.within m V.folded
 
   -- where the mark is gone it is finished
-  pub law : (m : Store) (s : State) → Synchronizes log me before m s → (readings_of m).marked ≡ false → IsSynchronized log before m
+  pub law : (m : Store) (s : State) → Synchronizes log me before m s → (readings_of m).marked ≡ false → IsSynchronized log (readings_of before) (floor_of (readings_of before)) m
   law m s run unmarked = by (stands run)
     where
-      by : Stands log before m s → IsSynchronized log before m
-      by (inl U) = let N = U.noted in let g : true ≡ false = sym N.marked ∙ unmarked in absurd cc
-      by (inr O) = elim O.outcome [ inl marked ↦ (let g : true ≡ false = sym marked ∙ unmarked in absurd cc) | inr done ↦ done ]
+      by : Stands log (readings_of before) floor m s → IsSynchronized log (readings_of before) floor m
+      by (inl M) = let N = marked_is log fits all me several (readings_of before) floor 0 m s M in let g : true ≡ false = sym N.marked ∙ unmarked in absurd cc
+      by (inr S) = S

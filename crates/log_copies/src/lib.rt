@@ -3,4 +3,4 @@
 
 mod laws;
 
-pub use laws::{law_caught_up, law_synchronized};
+pub use laws::{law_caught_up, law_learned, law_synchronized};

@@ -1,0 +1,295 @@
+-- What an event leaves of a marked monitor: it still takes a copy, or looks for another monitor, or it is finished.
+use Rattle.std.proofs.Common.{◌≡◌, ℕ, suc, ◌≤◌, ◌<◌, ◌^◌, Bool, true, false, not, ◌&&◌, cond, leb, List, [], ◌∷◌, length, Option, Some, None, is_some, ◌⊎◌, inl, inr, Result, Ok, Err, refl, sym, ap, subst, ◌∙◌, arith, lit≤}
+use Rattle.std.proofs.lemmas.Bool.{leb-true, lt-ltb}
+use Rattle.mon_bytes.proofs.Fields.{ok_is}
+use Rattle.mon_tx.specs.declared.key.Area.TheVariants as area
+use Rattle.mon_tx.specs.declared.key.Key.TheVariants as key
+use Rattle.mon_tx.specs.Map.{Store, apply}
+use Rattle.mon_types.specs.declared.names.Which.{Which}
+use Rattle.mon_types.specs.declared.names.Which.TheVariants as which
+use Rattle.mon_wire.specs.declared.body.Body.{Body}
+use Rattle.mon_wire.specs.declared.body.Body.TheVariants as body
+use Rattle.mon_wire.specs.declared.message.Message.{Message}
+use Rattle.mon_wire.specs.declared.phase.Phase.{Phase}
+use Rattle.mon_wire.specs.declared.phase.Phase.TheVariants as phase
+use Rattle.mon_wire.specs.declared.phase.Timer.{Timer}
+use Rattle.mon_wire.specs.declared.phase.Timer.TheVariants as timer
+use Rattle.mon_wire.specs.declared.reply.Reply.TheVariants as reply
+use Rattle.mon_msg.specs.declared.input.Input.{Input}
+use Rattle.mon_msg.specs.declared.input.Input.TheVariants as input
+use Rattle.mon_msg.specs.declared.synchronisation.Requester.{Requester}
+use Rattle.mon_msg.specs.declared.view.Me.{Me}
+use Rattle.mon_bytes.specs.declared.entry.Entry.{Entry}
+use Rattle.mon_msg.specs.Joined.{joined}
+use Rattle.mon_msg.specs.Protocol.Changes.{Change, Boot, Epoch, spelled}
+use Rattle.mon_msg.specs.Protocol.Course.{Course, ◌▸◌, ◌>>=◌, change, change_if, elector_is, arm_if, disarm}
+use Rattle.mon_msg.specs.Protocol.Entering.{bootstrap, scores_count}
+use Rattle.mon_msg.specs.Protocol.Hearing.{is_heard, hear, deliver}
+use Rattle.mon_msg.specs.Protocol.Phases.{same_phase}
+use Rattle.mon_msg.specs.Protocol.Played.{played}
+use Rattle.mon_msg.specs.Protocol.Probing.{hear_probe_reply, copy_again}
+use Rattle.mon_msg.specs.Protocol.Readings.{Readings, epoch_or_first, epoch_of, readings_of}
+use Rattle.mon_msg.specs.Protocol.Sending.{reply_to}
+use Rattle.mon_msg.specs.Protocol.State.{State}
+use Rattle.mon_msg.specs.Protocol.Synchronizing.{full_sync}
+use Rattle.mon_msg.specs.Protocol.Table.{at_rest, first_elector, start, before_start, running, timer_comes, take_timer, react}
+use Rattle.mon_msg.specs.Protocol.Timers.{end_of}
+use Rattle.mon_msg.proofs.Changed.{readings-joined}
+use Rattle.mon_msg.proofs.Joining.{apply-joined}
+use Rattle.log_copies.specs.Synchronizing.{IsShaped, written}
+use Rattle.log_copies.proofs.Aside.{IsAside, probing_aside, synchronizing_aside, Still, IsElse, hears_else, hears_client, IsElseTimer, rings_else}
+use Rattle.log_copies.proofs.Chunks.{ChunkOf}
+use Rattle.log_copies.proofs.Copying.{begun, takes_cookie, takes_chunk, takes_last}
+use Rattle.log_copies.proofs.Own.{own_number}
+use Rattle.log_copies.proofs.Replaying.{under_way_shaped, steps}
+use Rattle.log_copies.proofs.Shape.{still_shaped}
+use Rattle.log_copies.proofs.UnderWay.{Noted, Marked, Stands, stays, InStage}
+use Rattle.log_model.specs.LogOfValues.{AllValues}
+
+-- cookies are of monitors of the log, and chunks hold what is the log's; whatever else comes may
+abbrev pub BodyOf : List (List ℕ) → Body → Type 0
+BodyOf log (body.Cookie full cookie last) = last ≤ length log
+BodyOf log (body.Chunk cookie p values entries done) = ChunkOf log (body.Chunk cookie p values entries done)
+BodyOf log (body.LastChunk cookie p values entries last) = ChunkOf log (body.LastChunk cookie p values entries last)
+BodyOf log other = Unit {0}
+
+abbrev pub InputOf : List (List ℕ) → Input → Type 0
+InputOf log (input.Deliver m) = BodyOf log m.body
+InputOf log other = Unit {0}
+
+module _ (log : List (List ℕ)) (fits : length log ≤ 2 ^ 62) (all : AllValues log) (me : Me) (several : 1 < me.member.monitors) (before : Readings) (floor : ℕ) (now : ℕ) (m : Store) where
+  pub marked_is : (s : State) → Marked log before floor m s → Noted log before floor m
+  marked_is s (inl U) = U.noted
+  marked_is s (inr W) = W.noted
+
+  pub marked_shaped : (s : State) → Marked log before floor m s → IsShaped m
+  marked_shaped s (inl U) = under_way_shaped log fits all me several before floor m s U
+  marked_shaped s (inr W) = W.shaped
+
+  -- ---- what leaves the store, and the synchronisation or its phase
+
+  module _ (s : State) (I : Marked log before floor m s) (y : Course) where
+    unchanged : y.changes ≡ [] → m ≡ written m y
+    unchanged none = sym (ap (λ (cs : List Change). apply (joined (spelled cs)) m) none ∙ apply-joined [] m)
+
+    waits : y.changes ≡ [] → (y.state.phase ≡ phase.Probing) ⊎ (y.state.phase ≡ phase.Booting) → Stands log before floor (written m y) y.state
+    waits none p =
+        inl (inr (record { in_phase = p; noted = subst (Noted log before floor) (unchanged none) (marked_is s I); shaped = subst IsShaped (unchanged none) (marked_shaped s I) }))
+
+    keeps : y.changes ≡ [] → y.state.phase ≡ s.phase → y.state.requester ≡ s.requester → Stands log before floor (written m y) y.state
+    keeps none p r = by I
+      where
+        moved : (n : Store) → m ≡ n → (q : Requester) → s.requester ≡ q → InStage log before floor m s.requester.stage s.requester.start s.requester.place → InStage log before floor n q.stage q.start q.place
+        moved n is q same h = subst (λ (n : Store). InStage log before floor n q.stage q.start q.place) is (subst (λ (q : Requester). InStage log before floor m q.stage q.start q.place) same h)
+
+        by : Marked log before floor m s → Stands log before floor (written m y) y.state
+        by (inl U) = inl (inl (record {
+          in_phase = p ∙ U.in_phase;
+          full = ap (λ (q : Requester). q.full) r ∙ U.full;
+          noted = subst (Noted log before floor) (unchanged none) U.noted;
+          stage = moved (written m y) (unchanged none) y.state.requester (sym r) U.stage;
+        }))
+        by (inr W) = waits none (elim W.in_phase [ inl e ↦ inl (p ∙ e) | inr e ↦ inr (p ∙ e) ])
+
+    -- from a course at which nothing is changed
+    still : (x : Course) → x.changes ≡ [] → x.state.phase ≡ s.phase → x.state.requester ≡ s.requester → Still x y → Stands log before floor (written m y) y.state
+    still x none p r (inl S) = keeps (S.changes ∙ none) (S.phase ∙ p) (S.requester ∙ r)
+    still x none p r (inr A) = waits (A.changes ∙ none) (inl A.phase)
+
+  -- ---- a monitor that runs
+
+  module _ (s : State) (I : Marked log before floor m s) (shared : List Entry) (A : IsAside s.phase) where
+    abbrev x0 : Course
+    x0 = at_rest (readings_of m) s
+
+    is_marked : (readings_of m).marked ≡ true
+    is_marked = let N = marked_is s I in N.marked
+
+    -- it takes another whole copy, or goes on
+    probe_reply : (f : ℕ) (quorum : List Bool) (first last : ℕ) (y : Course) → hear_probe_reply me now f quorum first last x0 ≡ Ok y → Stands log before floor (written m y) y.state
+    unfolding hear_probe_reply
+    probe_reply f quorum first last y e = by (not (same_phase s.phase phase.Probing)) _ e
+      where
+        again : (b : Bool) → ◌≡◌ {A = Result Course Which} (cond b (Ok (full_sync me now f x0)) (Ok x0)) (Ok y) → Stands log before floor (written m y) y.state
+        again true q =
+            let N = marked_is s I in
+            subst (λ (z : Course). Stands log before floor (written m z) z.state) (ok_is (full_sync me now f x0) y q)
+            (inl (inl (begun log fits all me before floor now f m s N.numbers (let k = N.kept_floor in omega arith) (marked_shaped s I))))
+        again false q = stays log before floor m s y q I
+
+        marked_one : (b : Bool) (r : Result Course Which) → b ≡ true → cond b (copy_again me now f last x0) r ≡ Ok y → Stands log before floor (written m y) y.state
+        marked_one true r h q = again (leb 1 last && leb (readings_of m).floor last) q
+        marked_one false r h q = absurd cc
+
+        by : (b : Bool) (rest : Result Course Which) → ◌≡◌ {A = Result Course Which} (cond b (Ok x0) (cond (readings_of m).marked (copy_again me now f last x0) rest)) (Ok y) → Stands log before floor (written m y) y.state
+        by true rest q = stays log before floor m s y q I
+        by false rest q = marked_one (readings_of m).marked rest is_marked q
+
+    other : (f t : ℕ) (b : Body) (y : Course) → IsElse me several now x0 y A is_marked b → hear me shared now f t b x0 ≡ Ok y → Stands log before floor (written m y) y.state
+    other f t b y h e = still s I y x0 refl refl refl (hears_else me several now x0 y A is_marked shared f t b h e)
+
+    other_timer : (t : Timer) (y : Course) → IsElseTimer me several now (disarm t x0) y A is_marked t → timer_comes me now t (disarm t x0) ≡ Ok y → Stands log before floor (written m y) y.state
+    other_timer t y h e = still s I y (disarm t x0) refl refl refl (rings_else me several now (disarm t x0) y A is_marked t h e)
+
+    heard : (f t : ℕ) (b : Body) (y : Course) → BodyOf log b → hear me shared now f t b x0 ≡ Ok y → Stands log before floor (written m y) y.state
+    heard f t (body.Cookie full cookie last) y h e = takes_cookie log fits all me before floor m s now f full cookie last y h e I
+    heard f t (body.Chunk cookie p values entries done) y h e = takes_chunk log fits all me before floor m s now f cookie p values entries done y h e I
+    heard f t (body.LastChunk cookie p values entries last) y h e = takes_last log fits all me before floor m s now f cookie p values entries last y h e I
+    heard f t (body.ProbeReply quorum first last) y h e = probe_reply f quorum first last y e
+    heard f t body.Probe y h e = other f t body.Probe y tt e
+    heard f t (body.Propose table) y h e = other f t (body.Propose table) y tt e
+    heard f t body.Ack y h e = other f t body.Ack y tt e
+    heard f t (body.Victory quorum) y h e = other f t (body.Victory quorum) y tt e
+    heard f t (body.Collect pn first own) y h e = other f t (body.Collect pn first own) y tt e
+    heard f t (body.Last pn first own whole from values pending) y h e = other f t (body.Last pn first own whole from values pending) y tt e
+    heard f t (body.Begin pn v value) y h e = other f t (body.Begin pn v value) y tt e
+    heard f t (body.Accept pn v) y h e = other f t (body.Accept pn v) y tt e
+    heard f t (body.Commit from values) y h e = other f t (body.Commit from values) y tt e
+    heard f t (body.Lease own) y h e = other f t (body.Lease own) y tt e
+    heard f t (body.LeaseAck own) y h e = other f t (body.LeaseAck own) y tt e
+    heard f t (body.Forward seq c) y h e = other f t (body.Forward seq c) y tt e
+    heard f t (body.Route seq r) y h e = other f t (body.Route seq r) y tt e
+    heard f t body.GetCookieFull y h e = other f t body.GetCookieFull y tt e
+    heard f t (body.GetCookieRecent own) y h e = other f t (body.GetCookieRecent own) y tt e
+    heard f t (body.GetChunk cookie p) y h e = other f t (body.GetChunk cookie p) y tt e
+    heard f t (body.NoCookie cookie) y h e = other f t (body.NoCookie cookie) y tt e
+    heard f t (body.Ping table) y h e = other f t (body.Ping table) y tt e
+    heard f t (body.PingReply table) y h e = other f t (body.PingReply table) y tt e
+    heard f t (body.Request id r) y h e = other f t (body.Request id r) y tt e
+    heard f t (body.Reply id r) y h e = other f t (body.Reply id r) y tt e
+
+    delivered : (d : Message) (y : Course) → BodyOf log d.body → deliver me shared now d x0 ≡ Ok y → Stands log before floor (written m y) y.state
+    delivered d y h = by (is_heard me d)
+      where
+        by : (b : Bool) → ◌≡◌ {A = Result Course Which} (cond b (hear me shared now d.from d.epoch d.body x0) (Ok x0)) (Ok y) → Stands log before floor (written m y) y.state
+        by true e = heard d.from d.epoch d.body y h e
+        by false e = stays log before floor m s y e I
+
+    -- a timer that was armed is disarmed first
+    step : (y : Course) → timer_comes me now timer.Step (disarm timer.Step x0) ≡ Ok y → Stands log before floor (written m y) y.state
+    step y e = steps log fits all me several before floor m ((disarm timer.Step x0).state) now y e (disarmed I)
+      where
+        disarmed : Marked log before floor m s → Marked log before floor m ((disarm timer.Step x0).state)
+        disarmed (inl U) = inl (record { in_phase = U.in_phase; full = U.full; noted = U.noted; stage = U.stage })
+        disarmed (inr W) = inr (record { in_phase = W.in_phase; noted = W.noted; shaped = W.shaped })
+
+    rung : (t : Timer) (y : Course) → timer_comes me now t (disarm t x0) ≡ Ok y → Stands log before floor (written m y) y.state
+    rung timer.Step y e = step y e
+    rung timer.Probe y e = other_timer timer.Probe y tt e
+    rung timer.Election y e = other_timer timer.Election y tt e
+    rung timer.Collect y e = other_timer timer.Collect y tt e
+    rung timer.Accept y e = other_timer timer.Accept y tt e
+    rung timer.Renew y e = other_timer timer.Renew y tt e
+    rung timer.LeaseAck y e = other_timer timer.LeaseAck y tt e
+    rung timer.Lease y e = other_timer timer.Lease y tt e
+    rung timer.Sync y e = other_timer timer.Sync y tt e
+    rung timer.Propose y e = other_timer timer.Propose y tt e
+    rung timer.Ping y e = other_timer timer.Ping y tt e
+
+    takes_timer : (t : Timer) (y : Course) → take_timer me now t x0 ≡ Ok y → Stands log before floor (written m y) y.state
+    takes_timer t y = by (is_some (end_of t s.timers))
+      where
+        by : (b : Bool) → ◌≡◌ {A = Result Course Which} (cond b (timer_comes me now t (disarm t x0)) (Ok x0)) (Ok y) → Stands log before floor (written m y) y.state
+        by true e = rung t y e
+        by false e = stays log before floor m s y e I
+
+    runs : (came : Input) (y : Course) → InputOf log came → running me shared now came x0 ≡ Ok y → Stands log before floor (written m y) y.state
+    runs input.Start y h e = stays log before floor m s y e I
+    runs (input.Deliver d) y h e = delivered d y h e
+    runs (input.Timer t) y h e = takes_timer t y e
+    runs (input.Client session r) y h e = still s I y x0 refl refl refl (hears_client me several now x0 y A is_marked session r e)
+
+  -- ---- a monitor that starts
+
+  module _ (s : State) (I : Marked log before floor m s) where
+    abbrev w : Readings
+    w = readings_of m
+
+    abbrev first_epoch : List Change
+    first_epoch = cond (not (is_some w.epoch)) (Epoch 1 ∷ []) []
+
+    abbrev started : List Change
+    started = Boot (suc w.boot) ∷ first_epoch
+
+    starts : suc w.boot ≤ 2 ^ 62 → (y : Course) → y.changes ≡ started → y.state.phase ≡ phase.Probing → Stands log before floor (written m y) y.state
+    starts short y changes probing = inl (inr (record { in_phase = inl probing; noted = subst (Noted log before floor) wrote noted; shaped = subst IsShaped wrote shaped }))
+      where
+        after : Store
+        after = apply (joined (spelled (Boot (suc (readings_of m).boot) ∷ cond (not (is_some (readings_of m).epoch)) (Epoch 1 ∷ []) []))) m
+
+        wrote : apply (joined (spelled (Boot (suc (readings_of m).boot) ∷ cond (not (is_some (readings_of m).epoch)) (Epoch 1 ∷ []) []))) m ≡ written m y
+        wrote = ap (λ (cs : List Change). apply (joined (spelled cs)) m) (sym changes)
+
+        noted : Noted log before floor (apply (joined (spelled (Boot (suc (readings_of m).boot) ∷ cond (not (is_some (readings_of m).epoch)) (Epoch 1 ∷ []) []))) m)
+        noted = by (readings_of m).epoch refl
+          where
+            N : Noted log before floor m
+            N = marked_is s I
+
+            of_told : (cs : List Change) → readings_of (apply (joined (spelled cs)) m) ≡ played cs (readings_of m) → (played cs (readings_of m)).last_pn ≡ (readings_of m).last_pn
+                → (played cs (readings_of m)).promise ≡ (readings_of m).promise → epoch_of (played cs (readings_of m)) ≡ epoch_of (readings_of m) → (played cs (readings_of m)).floor ≡ (readings_of m).floor
+                → (played cs (readings_of m)).marked ≡ (readings_of m).marked → Noted log before floor (apply (joined (spelled cs)) m)
+            of_told cs told pn promise epoch low mark =
+                let numbers = (N).numbers in
+                record {
+                  numbers = record {
+                    last_pn = ap (λ (v : Readings). v.last_pn) told ∙ pn ∙ numbers.last_pn;
+                    promise = ap (λ (v : Readings). v.promise) told ∙ promise ∙ numbers.promise;
+                    epoch = ap (λ (v : Readings). epoch_of v) told ∙ epoch ∙ numbers.epoch;
+                  };
+                  kept_floor = (let k = (N).kept_floor in omega (arith, ap (λ (v : Readings). v.floor) told, low));
+                  marked = ap (λ (v : Readings). v.marked) told ∙ mark ∙ (N).marked;
+                }
+
+            by : (o : Option ℕ) → (readings_of m).epoch ≡ o → Noted log before floor (apply (joined (spelled (Boot (suc (readings_of m).boot) ∷ cond (not (is_some (readings_of m).epoch)) (Epoch 1 ∷ []) []))) m)
+            by (Some e) is =
+                let none : cond (not (is_some (readings_of m).epoch)) (Epoch 1 ∷ []) [] ≡ [] = ap (λ (p : Option ℕ). cond (not (is_some p)) (Epoch 1 ∷ []) []) is in
+                subst (λ (cs : List Change). Noted log before floor (apply (joined (spelled (Boot (suc (readings_of m).boot) ∷ cs))) m)) (sym none)
+                (of_told (Boot (suc (readings_of m).boot) ∷ []) (readings-joined (Boot (suc (readings_of m).boot) ∷ []) (short, tt) m) refl refl refl refl refl)
+            by None is =
+                let one : cond (not (is_some (readings_of m).epoch)) (Epoch 1 ∷ []) [] ≡ Epoch 1 ∷ [] = ap (λ (p : Option ℕ). cond (not (is_some p)) (Epoch 1 ∷ []) []) is in
+                subst (λ (cs : List Change). Noted log before floor (apply (joined (spelled (Boot (suc (readings_of m).boot) ∷ cs))) m)) (sym one)
+                (of_told (Boot (suc (readings_of m).boot) ∷ Epoch 1 ∷ []) (readings-joined (Boot (suc (readings_of m).boot) ∷ Epoch 1 ∷ []) (short, (lit≤ tt, tt)) m) refl refl
+                (sym (ap epoch_or_first is)) refl refl)
+
+        shaped : IsShaped (apply (joined (spelled (Boot (suc (readings_of m).boot) ∷ cond (not (is_some (readings_of m).epoch)) (Epoch 1 ∷ []) []))) m)
+        shaped = subst IsShaped (sym (apply-joined (spelled (Boot (suc (readings_of m).boot) ∷ cond (not (is_some (readings_of m).epoch)) (Epoch 1 ∷ []) [])) m)) (by (not (is_some (readings_of m).epoch)))
+          where
+            by : (b : Bool) → IsShaped (apply (spelled (Boot (suc (readings_of m).boot) ∷ cond b (Epoch 1 ∷ []) [])) m)
+            by true = still_shaped (spelled (Boot (suc (readings_of m).boot) ∷ Epoch 1 ∷ [])) m (inl (own_number area.Monitor key.BootCount refl), (inl (own_number area.Monitor key.ElectionEpoch refl), tt)) (marked_shaped s I)
+            by false = still_shaped (spelled (Boot (suc (readings_of m).boot) ∷ [])) m (inl (own_number area.Monitor key.BootCount refl), tt) (marked_shaped s I)
+
+    begins : (y : Course) → start me now (at_rest w s) ≡ Ok y → Stands log before floor (written m y) y.state
+    unfolding start bootstrap
+    begins y e = by (leb (suc w.boot) (2 ^ 62)) refl e
+      where
+        by : (b : Bool) → leb (suc (readings_of m).boot) (2 ^ 62) ≡ b
+            → (cond {A = Result ℕ Which} b (Ok (suc (readings_of m).boot)) (Err which.Boot) >>= λ boot.
+            at_rest (readings_of m) s ▸ change (Boot boot) ▸ change_if (not (is_some (readings_of m).epoch)) (Epoch 1) ▸ elector_is (first_elector me now boot s.elector) ▸ arm_if (scores_count me.rule) now timer.Ping ▸ bootstrap me now) ≡ Ok y
+            → Stands log before floor (written m y) y.state
+        by true t q = let g = rw (lt-ltb 1 me.member.monitors several) at q in starts (leb-true (suc (readings_of m).boot) (2 ^ 62) t) y (ap (λ (z : Course). z.changes) (sym (ok_is _ y g))) (ap (λ (z : Course). z.state.phase) (sym (ok_is _ y g)))
+        by false t q = absurd cc
+
+    comes_before : (came : Input) (y : Course) → before_start me now came (at_rest w s) ≡ Ok y → Stands log before floor (written m y) y.state
+    comes_before input.Start y e = begins y e
+    comes_before (input.Deliver d) y e = stays log before floor m s y e I
+    comes_before (input.Timer t) y e = stays log before floor m s y e I
+    comes_before (input.Client session r) y e =
+        let told : Course = reply_to session reply.Unavailable (at_rest w s) in
+        subst (λ (z : Course). Stands log before floor (written m z) z.state) (ok_is told y e) (keeps s I told refl refl refl)
+
+  -- ---- whatever comes
+
+  pub reacts : (s : State) → Marked log before floor m s → (shared : List Entry) (came : Input) (y : Course) → InputOf log came → react me shared now (readings_of m) s came ≡ Ok y → Stands log before floor (written m y) y.state
+  unfolding react
+  reacts s I shared came y h e = by I
+    where
+      before_it : s.phase ≡ phase.Booting → Stands log before floor (written m y) y.state
+      before_it p = comes_before s I came y (sym (ap (λ (q : Phase). cond (same_phase q phase.Booting) (before_start me now came (at_rest (readings_of m) s)) (running me shared now came (at_rest (readings_of m) s))) p) ∙ e)
+
+      after_it : same_phase s.phase phase.Booting ≡ false → IsAside s.phase → Stands log before floor (written m y) y.state
+      after_it p A = runs s I shared A came y h (sym (ap (λ b. cond b (before_start me now came (at_rest (readings_of m) s)) (running me shared now came (at_rest (readings_of m) s))) p) ∙ e)
+
+      by : Marked log before floor m s → Stands log before floor (written m y) y.state
+      by (inl U) = after_it (ap (λ (q : Phase). same_phase q phase.Booting) U.in_phase) (subst IsAside (sym U.in_phase) synchronizing_aside)
+      by (inr W) = elim W.in_phase [ inl p ↦ after_it (ap (λ (q : Phase). same_phase q phase.Booting) p) (subst IsAside (sym p) probing_aside) | inr p ↦ before_it p ]

@@ -1,0 +1,99 @@
+-- A monitor's own changes leave the versions that it has: its numbers, its epoch, its starts, and a vote for the next version.
+use Rattle.std.proofs.Common.{◌≡◌, ℕ, ◌+◌, Bool, true, false, not, ◌&&◌, cond, List, [], ◌∷◌, ◌++◌, Option, Some, None, refl, sym, ap, subst, ◌∙◌, arith}
+use Rattle.std.proofs.lemmas.Bool.{eq-eqb}
+use Rattle.std.specs.FinMap.{get, same_map}
+use Rattle.std.specs.List.{AllByRecursion}
+use Rattle.std.specs.Ordering.{eq_by_cmp}
+use Rattle.mon_tx.specs.declared.key.Area.{Area}
+use Rattle.mon_tx.specs.declared.key.Area.TheVariants as area
+use Rattle.mon_tx.specs.declared.key.Key.{Key}
+use Rattle.mon_tx.specs.declared.key.Key.TheVariants as key
+use Rattle.mon_tx.specs.declared.op.Op.{Op}
+use Rattle.mon_tx.specs.Decision.{Decision, decision, later, or_before}
+use Rattle.mon_tx.specs.Keys.{place, number, is_local, same_area, same_key}
+use Rattle.mon_tx.specs.Map.{Place, place_cmp, Store, apply, number_in, number_bytes}
+use Rattle.mon_tx.specs.Text.{text}
+use Rattle.mon_tx.proofs.After.{get-apply, decision-append}
+use Rattle.mon_tx.proofs.Named.{decided-put}
+use Rattle.mon_tx.proofs.Places.{places_total, exact_places}
+use Rattle.mon_msg.specs.Joined.{joined}
+use Rattle.mon_msg.specs.Puts.{put}
+use Rattle.mon_msg.specs.Protocol.Changes.{Change, Boot, Epoch, Numbers, Promise, Vote, Record, Learn, Last, Copy, Mark, Unmark, ops_of, spelled}
+use Rattle.mon_msg.proofs.Joining.{apply-joined}
+use Rattle.log_copies.specs.Versions.{HasVersions, IsOwnChange}
+use Rattle.log_model.proofs.Places.{same_place, get_kept, is_shared, shared_is, local_named, tied}
+
+-- changes of what a monitor with c versions doesn't share, but for its last version
+record Leaves (c : ℕ) (ops : List Op) : Type 0 where
+  shared : (at : Place) → is_local c at ≡ false → decision ops at ≡ None
+  last : decision ops (place area.Paxos key.LastCommitted) ≡ None
+
+leaves_none : (c : ℕ) → Leaves c []
+leaves_none c = record { shared = λ at h. refl; last = refl }
+
+leaves_append : (c : ℕ) (a b : List Op) → Leaves c a → Leaves c b → Leaves c (a ++ b)
+leaves_append c a b L M = record {
+  shared = λ at h. decision-append a b at ∙ (λ i. later (M.shared at h i) (L.shared at h i));
+  last = decision-append a b (place area.Paxos key.LastCommitted) ∙ (λ i. later (M.last i) (L.last i));
+}
+
+-- a put of a key that isn't shared
+one : (c : ℕ) (a : Area) (k : Key) (bytes : List ℕ) → tied c a k ≡ true → (same_area area.Paxos a && same_key key.LastCommitted k) ≡ false → Leaves c (put a k bytes ∷ [])
+one c a k bytes own other = record {
+  shared = λ at h. ap (λ b. cond b (Some (Some bytes)) None) (apart at h);
+  last = decided-put a k bytes area.Paxos key.LastCommitted ∙ ap (λ b. cond b (Some (Some bytes)) None) other;
+}
+  where
+    apart : (at : Place) → is_local c at ≡ false → eq_by_cmp place_cmp at (place a k) ≡ false
+    apart at h = by (eq_by_cmp place_cmp at (place a k)) refl
+      where
+        by : (b : Bool) → eq_by_cmp place_cmp at (place a k) ≡ b → b ≡ false
+        by true t = let g : false ≡ true = sym h ∙ ap (is_local c) (same_place at (place a k) t) ∙ local_named c a k ∙ own in absurd cc
+        by false t = refl
+
+change_leaves : (c : ℕ) (x : Change) → IsOwnChange c x → Leaves c (ops_of x)
+change_leaves c (Boot n) h = one c area.Monitor key.BootCount (number_bytes n) refl refl
+change_leaves c (Epoch e) h = one c area.Monitor key.ElectionEpoch (number_bytes e) refl refl
+change_leaves c (Numbers pn) h =
+    leaves_append c (put area.Paxos key.LastPn (number_bytes pn) ∷ []) (put area.Paxos key.AcceptedPn (number_bytes pn) ∷ []) (one c area.Paxos key.LastPn (number_bytes pn) refl refl)
+    (one c area.Paxos key.AcceptedPn (number_bytes pn) refl refl)
+change_leaves c (Promise pn) h = one c area.Paxos key.AcceptedPn (number_bytes pn) refl refl
+change_leaves c (Vote v pn value) h =
+    leaves_append c (put area.Paxos (key.Version v) (text value) ∷ []) (put area.Paxos key.PendingV (number_bytes v) ∷ put area.Paxos key.PendingPn (number_bytes pn) ∷ [])
+    (one c area.Paxos (key.Version v) (text value) next refl)
+    (leaves_append c (put area.Paxos key.PendingV (number_bytes v) ∷ []) (put area.Paxos key.PendingPn (number_bytes pn) ∷ []) (one c area.Paxos key.PendingV (number_bytes v) refl refl)
+    (one c area.Paxos key.PendingPn (number_bytes pn) refl refl))
+  where
+    next : tied c area.Paxos (key.Version v) ≡ true
+    next = rw (eq-eqb (c + 1) v (omega arith)) refl
+change_leaves c (Record v value) h = absurd h
+change_leaves c (Learn v value) h = absurd h
+change_leaves c (Last v) h = absurd h
+change_leaves c (Copy e) h = absurd h
+change_leaves c (Mark floor a b) h = absurd h
+change_leaves c Unmark h = absurd h
+
+changes_leave : (c : ℕ) (cs : List Change) → AllByRecursion (IsOwnChange c) cs → Leaves c (spelled cs)
+changes_leave c [] h = leaves_none c
+changes_leave c (x ∷ cs) h = leaves_append c (ops_of x) (spelled cs) (change_leaves c x h.0) (changes_leave c cs h.1)
+
+module _ (log : List (List ℕ)) (c : ℕ) (m : Store) (V : HasVersions log c m) where
+  left : (ops : List Op) → Leaves c ops → HasVersions log c (apply ops m)
+  left ops L = record {
+    within = V.within;
+    last = last;
+    folded = shared_is (apply ops m) c last ∙ same_map places_total exact_places _ _ (λ at. get_kept (apply ops m) (is_shared c) at ∙ by at (is_local c at) refl ∙ sym (get_kept m (is_shared c) at))
+        ∙ sym (shared_is m c V.last) ∙ V.folded;
+  }
+    where
+      last : number (apply ops m) area.Paxos key.LastCommitted ≡ c
+      last =
+          ap number_in (get-apply ops m (place area.Paxos key.LastCommitted) ∙ ap (λ (d : Decision). or_before d (get m (place area.Paxos key.LastCommitted))) L.last) ∙ V.last
+
+      by : (at : Place) (b : Bool) → is_local c at ≡ b → cond (not (is_local c at)) (get (apply ops m) at) None ≡ cond (not (is_local c at)) (get m at) None
+      by at true t = rw t refl
+      by at false t = ap (λ (x : Option (List ℕ)). cond (not (is_local c at)) x None) (get-apply ops m at ∙ ap (λ (d : Decision). or_before d (get m at)) (L.shared at t))
+
+  -- the versions stay
+  pub still_has : (cs : List Change) → AllByRecursion (IsOwnChange c) cs → HasVersions log c (apply (joined (spelled cs)) m)
+  still_has cs h = subst (HasVersions log c) (sym (apply-joined (spelled cs) m)) (left (spelled cs) (changes_leave c cs h))
