@@ -16,7 +16,7 @@ fn change(alloc: Global, tx: &mut Transaction, line: &str) -> Result<(), Fail> {
         Some((prefix, key)) => (prefix, Some(key)),
         None => (at, None),
     };
-    let prefix = Prefix::from_slice(alloc, prefix.as_bytes())?;
+    let prefix = Prefix::new(prefix.as_bytes().to_vec(alloc)?).ok_or("a prefix")?;
     let Some(key) = key else {
         tx.push(Op::ErasePrefix { prefix })?;
         return Ok(());
@@ -72,6 +72,7 @@ fn a_store_is_read_after_changes(rt: HostRuntime) -> Result<(), Fail> {
     let mut kv = Kv::empty(alloc);
     kv.apply(&tx)?;
     let value = changes(alloc, "paxos/1 paxos/last_pn")?;
+    assert!(rt; value.text_len() < 1_000);
     let mut tx = Transaction::new(alloc);
     learn(&mut tx, 2, &[value])?;
     let stored = Stored::after(alloc, &kv, &tx)?;
