@@ -17,3 +17,7 @@ pub mod Telling
 pub mod Aside
 pub mod Events
 pub mod Leaving
+pub mod Acts
+pub mod Rows
+pub mod Agreeing
+pub mod Unmarked
