@@ -21,3 +21,4 @@ pub mod Acts
 pub mod Rows
 pub mod Agreeing
 pub mod Unmarked
+pub mod Sending
