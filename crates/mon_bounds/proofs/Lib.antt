@@ -13,4 +13,5 @@ pub mod Reading
 pub mod Sizes
 pub mod Table
 pub mod Tables
+pub mod Texts
 pub mod Values

@@ -38,6 +38,7 @@ IsRequest (request.Log text) = MayAsk (command.Log text)
 IsRequest (request.Show s) = Unit {0}
 IsRequest (request.Since s version) = IsNumber version
 
+-- a message that is one and isn't too long, and a request that a client gave a number
 abbrev pub MayCome : Input → Type 0
 MayCome input.Start = Unit {0}
 MayCome (input.Deliver m) = IsMessage m × IsTrue (fits m.monitors m.body)
@@ -70,6 +71,7 @@ answer_in me epoch session r = record {
   body = body.Reply session.id r;
 }
 
+-- a message to a monitor of the map, or an answer
 abbrev pub MaySend : Me → Sent → Type 0
 MaySend me (sent.Message to m) = (to < me.member.monitors) × MayGo m
 MaySend me (sent.Reply to r) = (epoch : ℕ) → IsNumber epoch → MayGo (answer_in me epoch to r)

@@ -49,6 +49,7 @@ pub record IsWaiting (n : ℕ) (w : Waiting) : Type 0 where
   pub short : text_length w.command ≤ most_text w.command
   pub origin : IsOrigin n w.origin
 
+-- a copy's replay ends with a version
 abbrev pub EndsWithin : SyncStage → Type 0
 EndsWithin sync.Cookie = Unit {0}
 EndsWithin sync.Chunks = Unit {0}

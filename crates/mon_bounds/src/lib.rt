@@ -3,4 +3,4 @@
 
 mod laws;
 
-pub use laws::law_reaction_fits;
+pub use laws::{law_message_fits, law_reaction_fits};
