@@ -28,7 +28,7 @@ use Rattle.mon_wire.specs.declared.request.Request.{Request}
 use Rattle.mon_wire.specs.declared.request.Session.{Session}
 use Rattle.quorum_history.proofs.Frame.{accepted_lasts}
 use Rattle.quorum_history.proofs.Growing.{grows_by, grows_not}
-use Rattle.quorum_history.proofs.History.{ALevel, ANumber, APromise, AnEpoch, Ask, Asks, Ext, Ghost, Glob, Rising, asking, ext_refl, least}
+use Rattle.quorum_history.proofs.History.{ALevel, ANumber, APromise, AnEpoch, Ask, Asks, Entry, Ext, Ghost, Glob, Rising, asking, ext_refl, least}
 use Rattle.quorum_history.proofs.Holds.{Good, core, level_in, number_of}
 use Rattle.quorum_history.proofs.Numbers.{level_is}
 use Rattle.quorum_history.proofs.Rows.{InputHolds, react_holds}
@@ -47,7 +47,7 @@ use Rattle.quorum_model.specs.World.{Client, Comes, Crash, Deliver, Envelope, Ev
 use Rattle.quorum_walk.proofs.FineCourses.{CellFine, Ended, EntryFine, Fine, ReadingsFine, fit_fits}
 use Rattle.quorum_walk.proofs.FineReading.{missing_fine}
 use Rattle.quorum_walk.proofs.FineTable.{ComesFine, react_fine}
-use Rattle.quorum_walk.proofs.Lists.{all_append, all_get}
+use Rattle.quorum_walk.proofs.Lists.{Among, all_append, all_get}
 use Rattle.quorum_walk.proofs.Sparing.{own_of}
 use Rattle.quorum_walk.proofs.Walk.{Then}
 use Rattle.std.proofs.Common.{Bool, Err, IfSome, List, None, Ok, Option, Result, Some, [], ap, arith, cond, eqb, false, inl, inr, ltb, refl, subst, suc, sym, true, zero, ℕ, ◌++◌, ◌∙◌, ◌∷◌, ◌≡◌, ◌≤◌, ◌⊎◌}
@@ -154,7 +154,7 @@ ask_ext k a g = record { roles = grows_not _ g.roles; hands = grows_not _ g.hand
 ask_glob : (n : ℕ) (a : Ask) (g : Ghost) → Glob n g → Glob n (with_ask a g)
 ask_glob n a g G = record { roles = G.roles; hands = record { once = G.hands.once; asked = λ i e seq s c t. inr (G.hands.asked i e seq s c t) }; triples = G.triples }
 
-asked : (n : ℕ) (store : ℕ → Store) (state : ℕ → Option State) (txs : ℕ → List (List Op)) (messages : List Envelope) (pairs : List (ℕ × ℕ)) (i : ℕ) (s : Session) (c : Command) → Inv n store state txs messages pairs → (J : Inv n store state txs messages pairs) × Asks J.g i s c
+asked : (n : ℕ) (store : ℕ → Store) (state : ℕ → Option State) (txs : ℕ → List (List Op)) (messages : List Envelope) (pairs : List (ℕ × ℕ)) (i : ℕ) (s : Session) (c : Command) → (I : Inv n store state txs messages pairs) → (J : Inv n store state txs messages pairs) × Asks J.g i s c × ((r : Entry) → Among r I.g.roles → Among r J.g.roles)
 asked n store state txs messages pairs i s c I =
     let a = asking i s c in
     let h = with_ask a I.g in (
@@ -168,6 +168,7 @@ asked n store state txs messages pairs i s c I =
         active = active_last n 0 I.g h (ask_ext 0 a I.g) pairs I.active;
       },
       inl refl,
+      λ r a. a,
     )
 
 -- ---- an event
@@ -180,75 +181,90 @@ member_of ms rank lt = record { member = record { rank = rank; monitors = ms.cou
 
 module _ (ms : Monitors) (w : World) where
   -- nothing comes of it
-  nothing_comes : (p : Plain) → InvOf ms w → InvOf ms (unmoved w p)
-  unfolding unmoved
-  nothing_comes p I = I
+  abbrev After : InvOf ms w → World → Type 0
+  After I next = (J : InvOf ms next) × ((r : Entry) → Among r I.g.roles → Among r J.g.roles)
 
-  abbrev Keeps : Event → Meeting → Type 0
-  Keeps e met = IfOk (after_meeting w e met) (InvOf ms)
+  nothing_comes : (p : Plain) (I : InvOf ms w) → After I (unmoved w p)
+  unfolding unmoved
+  nothing_comes p I = (I, λ r a. a)
+
+  abbrev Keeps : InvOf ms w → Event → Meeting → Type 0
+  Keeps I e met = IfOk (after_meeting w e met) (After I)
 
   module _ (I : InvOf ms w) (rank : ℕ) (lt : ltb rank ms.count ≡ true) (at : ℕ) (s : State) (came : Input) (k : OnState ms.count I.g rank (readings_of (w.store rank)) (Some s)) (z : StateFits s)
       (c : InputHolds (member_of ms rank lt) at I.g made (readings_of (w.store rank)) came)
       (d : (S : AllByRecursion EntryFine (shared_entries (w.store rank))) → ComesFine (member_of ms rank lt) at (readings_of (w.store rank)) made (shared_entries (w.store rank)) S came) where
-    reacts : (e : Event) (r : Result Course Which) → react (member_of ms rank lt) (shared_entries (w.store rank)) at (readings_of (w.store rank)) s came ≡ r → Keeps e (Reacts rank came (any_reaction r))
-    unfolding moved kept_only lost
-    reacts (Comes p) (Ok x) q = unless_full (InvOf ms) (w.store rank) (moved w p rank) (reaction_of x)
-        (goes_on_holds w.store w.state w.transactions w.messages w.active (member_of ms rank lt) I at s came k z c (d (sharing (w.store rank) (I.mine rank).fine.records)) x q)
+    reacts : (e : Event) (r : Result Course Which) → react (member_of ms rank lt) (shared_entries (w.store rank)) at (readings_of (w.store rank)) s came ≡ r → Keeps I e (Reacts rank came (any_reaction r))
+    unfolding moved kept_only lost goes_on_holds goes_down_holds lost_holds
+    reacts (Comes p) (Ok x) q = unless_full (After I) (w.store rank) (moved w p rank) (reaction_of x) (
+      goes_on_holds w.store w.state w.transactions w.messages w.active (member_of ms rank lt) I at s came k z c (d (sharing (w.store rank) (I.mine rank).fine.records)) x q,
+      (good w.store w.state w.transactions w.messages w.active (member_of ms rank lt) I at s came k z c (d (sharing (w.store rank) (I.mine rank).fine.records)) x q).ext.roles.keeps,
+    )
     reacts (Comes p) (Err which) q = tt
-    reacts (Crash p true) (Ok x) q = unless_full (InvOf ms) (w.store rank) (kept_only w p rank) (reaction_of x)
-        (goes_down_holds w.store w.state w.transactions w.messages w.active (member_of ms rank lt) I at s came k z c (d (sharing (w.store rank) (I.mine rank).fine.records)) x q)
+    reacts (Crash p true) (Ok x) q = unless_full (After I) (w.store rank) (kept_only w p rank) (reaction_of x) (
+      goes_down_holds w.store w.state w.transactions w.messages w.active (member_of ms rank lt) I at s came k z c (d (sharing (w.store rank) (I.mine rank).fine.records)) x q,
+      (good w.store w.state w.transactions w.messages w.active (member_of ms rank lt) I at s came k z c (d (sharing (w.store rank) (I.mine rank).fine.records)) x q).ext.roles.keeps,
+    )
     reacts (Crash p true) (Err which) q = tt
-    reacts (Crash p false) r q = lost_holds ms.count w.store w.state w.transactions w.messages w.active rank I
+    reacts (Crash p false) r q = (lost_holds ms.count w.store w.state w.transactions w.messages w.active rank I, λ r a. a)
 
-  not_there : (e : Event) (met : Meeting) → (met ≡ Down) ⊎ (met ≡ NoMessage) → InvOf ms w → Keeps e met
-  not_there (Comes p) met (inl q) I = subst (Keeps (Comes p)) (sym q) (nothing_comes p I)
-  not_there (Comes p) met (inr q) I = subst (Keeps (Comes p)) (sym q) (nothing_comes p I)
-  not_there (Crash p true) met (inl q) I = subst (Keeps (Crash p true)) (sym q) (nothing_comes p I)
-  not_there (Crash p true) met (inr q) I = subst (Keeps (Crash p true)) (sym q) (nothing_comes p I)
-  not_there (Crash p false) met (inl q) I = subst (Keeps (Crash p false)) (sym q) (nothing_comes p I)
-  not_there (Crash p false) met (inr q) I = subst (Keeps (Crash p false)) (sym q) (nothing_comes p I)
+  not_there : (e : Event) (met : Meeting) → (met ≡ Down) ⊎ (met ≡ NoMessage) → (I : InvOf ms w) → Keeps I e met
+  not_there (Comes p) met (inl q) I = subst (Keeps I (Comes p)) (sym q) (nothing_comes p I)
+  not_there (Comes p) met (inr q) I = subst (Keeps I (Comes p)) (sym q) (nothing_comes p I)
+  not_there (Crash p true) met (inl q) I = subst (Keeps I (Crash p true)) (sym q) (nothing_comes p I)
+  not_there (Crash p true) met (inr q) I = subst (Keeps I (Crash p true)) (sym q) (nothing_comes p I)
+  not_there (Crash p false) met (inl q) I = subst (Keeps I (Crash p false)) (sym q) (nothing_comes p I)
+  not_there (Crash p false) met (inr q) I = subst (Keeps I (Crash p false)) (sym q) (nothing_comes p I)
+
+  -- from an earlier history
+  earlier : (I J : InvOf ms w) → ((r : Entry) → Among r I.g.roles → Among r J.g.roles) → (e : Event) (met : Meeting) → Keeps J e met → Keeps I e met
+  earlier I J grow e met = by (after_meeting w e met)
+    where
+      by : (r : Result World Stop) → IfOk r (After J) → IfOk r (After I)
+      by (Ok v) k = (k.0, λ r a. k.1 r (grow r a))
+      by (Err stop) k = tt
 
   -- something comes to a monitor that is up, down or not there
   arrives : (e : Event) (a : Arrival) (I : InvOf ms w) (o : Option State) → OnState ms.count I.g a.rank (readings_of (w.store a.rank)) o → IfSome o StateFits
       → ((lt : ltb a.rank ms.count ≡ true) → InputHolds (member_of ms a.rank lt) a.at I.g made (readings_of (w.store a.rank)) a.input)
       → ((lt : ltb a.rank ms.count ≡ true) (S : AllByRecursion EntryFine (shared_entries (w.store a.rank))) → ComesFine (member_of ms a.rank lt) a.at (readings_of (w.store a.rank)) made (shared_entries (w.store a.rank)) S a.input)
-      → (b : Bool) (q : ltb a.rank ms.count ≡ b) → Keeps e (meeting a (w.store a.rank) (me_if ms a.rank b q) o)
+      → (b : Bool) (q : ltb a.rank ms.count ≡ b) → Keeps I e (meeting a (w.store a.rank) (me_if ms a.rank b q) o)
   arrives e a I (Some s) k z c d true q = reacts I a.rank q a.at s a.input k z (c q) (d q) e _ refl
   arrives e a I None k z c d true q = not_there e Down (inl refl) I
   arrives e a I (Some s) k z c d false q = not_there e Down (inl refl) I
   arrives e a I None k z c d false q = not_there e Down (inl refl) I
 
-  abbrev at_rank : Event → Arrival → Type 0
-  at_rank e a = Keeps e (meeting_at ms w (Some a))
+  abbrev at_rank : InvOf ms w → Event → Arrival → Type 0
+  at_rank I e a = Keeps I e (meeting_at ms w (Some a))
 
   comes_to : (e : Event) (rank at : ℕ) (input : Input) (I : InvOf ms w) → OnState ms.count I.g rank (readings_of (w.store rank)) (state_at rank (w.state rank) input) → IfSome (state_at rank (w.state rank) input) StateFits
       → ((lt : ltb rank ms.count ≡ true) → InputHolds (member_of ms rank lt) at I.g made (readings_of (w.store rank)) input)
       → ((lt : ltb rank ms.count ≡ true) (S : AllByRecursion EntryFine (shared_entries (w.store rank))) → ComesFine (member_of ms rank lt) at (readings_of (w.store rank)) made (shared_entries (w.store rank)) S input)
-      → at_rank e (record { rank = rank; at = at; input = input })
+      → at_rank I e (record { rank = rank; at = at; input = input })
   comes_to e rank at input I k z c d = arrives e (record { rank = rank; at = at; input = input }) I (state_at rank (w.state rank) input) k z c d (ltb rank ms.count) refl
 
-  delivered : (e : Event) (at : ℕ) (I : InvOf ms w) (o : Option Envelope) → IfSome o (EnvelopeHolds ms.count I.g) → IfSome o EnvelopeFine → Keeps e (meeting_at ms w (option_map (λ v. record { rank = v.to; at = at; input = input.Deliver v.message }) o))
+  delivered : (e : Event) (at : ℕ) (I : InvOf ms w) (o : Option Envelope) → IfSome o (EnvelopeHolds ms.count I.g) → IfSome o EnvelopeFine → Keeps I e (meeting_at ms w (option_map (λ v. record { rank = v.to; at = at; input = input.Deliver v.message }) o))
   delivered e at I None k z = not_there e NoMessage (inr refl) I
   delivered e at I (Some v) k z = comes_to e v.to at (input.Deliver v.message) I (I.mine v.to).state (I.mine v.to).fits (λ lt. k) (λ lt S. (let a = k.0 in let b = ms.most in omega arith, z))
 
-  asks_for : (e : Event) (rank at : ℕ) (s : Session) (r : Request) → RequestFits r → InvOf ms w → at_rank e (record { rank = rank; at = at; input = input.Client s r })
+  asks_for : (e : Event) (rank at : ℕ) (s : Session) (r : Request) → RequestFits r → (I : InvOf ms w) → at_rank I e (record { rank = rank; at = at; input = input.Client s r })
   asks_for e rank at s (request.Set key value) F I = let J = asked ms.count w.store w.state w.transactions w.messages w.active rank s (command.Set key value) I in
-      comes_to e rank at (input.Client s (request.Set key value)) J.0 (J.0.mine rank).state (J.0.mine rank).fits (λ lt. J.1) (λ lt S. F)
+      earlier I J.0 J.2 e (meeting_at ms w (Some (record { rank = rank; at = at; input = input.Client s (request.Set key value) }))) (comes_to e rank at (input.Client s (request.Set key value)) J.0 (J.0.mine rank).state (J.0.mine rank).fits (λ lt. J.1) (λ lt S. F))
   asks_for e rank at s (request.Remove key) F I = let J = asked ms.count w.store w.state w.transactions w.messages w.active rank s (command.Remove key) I in
-      comes_to e rank at (input.Client s (request.Remove key)) J.0 (J.0.mine rank).state (J.0.mine rank).fits (λ lt. J.1) (λ lt S. F)
+      earlier I J.0 J.2 e (meeting_at ms w (Some (record { rank = rank; at = at; input = input.Client s (request.Remove key) }))) (comes_to e rank at (input.Client s (request.Remove key)) J.0 (J.0.mine rank).state (J.0.mine rank).fits (λ lt. J.1) (λ lt S. F))
   asks_for e rank at s (request.Log text) F I = let J = asked ms.count w.store w.state w.transactions w.messages w.active rank s (command.Log text) I in
-      comes_to e rank at (input.Client s (request.Log text)) J.0 (J.0.mine rank).state (J.0.mine rank).fits (λ lt. J.1) (λ lt S. F)
+      earlier I J.0 J.2 e (meeting_at ms w (Some (record { rank = rank; at = at; input = input.Client s (request.Log text) }))) (comes_to e rank at (input.Client s (request.Log text)) J.0 (J.0.mine rank).state (J.0.mine rank).fits (λ lt. J.1) (λ lt S. F))
   asks_for e rank at s (request.Show v) F I = comes_to e rank at (input.Client s (request.Show v)) I (I.mine rank).state (I.mine rank).fits (λ lt. tt) (λ lt S. tt)
   asks_for e rank at s (request.Since v k) F I = comes_to e rank at (input.Client s (request.Since v k)) I (I.mine rank).state (I.mine rank).fits (λ lt. tt) (λ lt S. tt)
 
-  comes : (e : Event) (p : Plain) → PlainFits ms.count p → InvOf ms w → Keeps e (meets ms w p)
+  comes : (e : Event) (p : Plain) → PlainFits ms.count p → (I : InvOf ms w) → Keeps I e (meets ms w p)
   comes e (Start rank at) F I = comes_to e rank at input.Start I tt (record { found = tt; value = tt; pn = omega arith; stage = tt; queue = tt }) (λ lt. tt) (λ lt S. tt)
   comes e (Deliver zero at) F I = not_there e NoMessage (inr refl) I
   comes e (Deliver (suc k) at) F I = delivered e at I (slice_get w.messages k) (all_get (EnvelopeHolds ms.count I.g) w.messages k I.sent) (all_get EnvelopeFine w.messages k I.sizes)
   comes e (Ring rank timer at) F I = comes_to e rank at (input.Timer timer) I (I.mine rank).state (I.mine rank).fits (λ lt. tt) (λ lt S. tt)
   comes e (Client rank at s r) F I = asks_for e rank at s r F.1 I
 
-  pub event_holds : (e : Event) → PlainFits ms.count (plain_of e) → InvOf ms w → IfOk (happens ms w e) (InvOf ms)
+  pub event_holds : (e : Event) → PlainFits ms.count (plain_of e) → (I : InvOf ms w) → IfOk (happens ms w e) (After I)
   event_holds e F I = comes e (plain_of e) F I
 
 -- ---- runs
@@ -329,7 +345,7 @@ nothing_fine = record {
 no_transaction : (v p : ℕ) (bytes : List ℕ) → AcceptedIn [] v p bytes → ⊥
 no_transaction v p bytes a = let lt = a.among.1 in omega arith
 
-at_first : (ms : Monitors) → InvOf ms first_world
+pub at_first : (ms : Monitors) → InvOf ms first_world
 unfolding readings_of number_in
 at_first ms = record {
   g = none;
@@ -342,14 +358,29 @@ at_first ms = record {
   active = tt;
 }
 
-run_holds : (ms : Monitors) (w : World) (events : List Event) → AllFit ms.count events → InvOf ms w → InvOf ms (run_from ms w events)
+-- what holds after events that follow, with a history that goes on
+abbrev pub GoesOn : (ms : Monitors) (w next : World) → InvOf ms w → Type 0
+GoesOn ms w next I = (J : InvOf ms next) × ((r : Entry) → Among r I.g.roles → Among r J.g.roles)
+
+run_holds : (ms : Monitors) (w : World) (events : List Event) → AllFit ms.count events → (I : InvOf ms w) → GoesOn ms w (run_from ms w events) I
 unfolding ran_from
-run_holds ms w [] F I = I
+run_holds ms w [] F I = (I, λ r a. a)
 run_holds ms w (e ∷ es) F I = by (happens ms w e) (event_holds ms w e F.0 I) (λ next. run_holds ms next es F.1)
   where
-    by : (r : Result World Stop) → IfOk r (InvOf ms) → ((next : World) → InvOf ms next → InvOf ms (run_from ms next es)) → InvOf ms (goes_on w (λ next. ran_from ms next es) r).world
-    by (Ok next) k ih = ih next k
-    by (Err stop) k ih = I
+    by : (r : Result World Stop) → IfOk r (λ next. GoesOn ms w next I) → ((next : World) (J : InvOf ms next) → GoesOn ms next (run_from ms next es) J) → GoesOn ms w (goes_on w (λ next. ran_from ms next es) r).world I
+    by (Ok next) k ih = let z = ih next k.0 in (z.0, λ r a. z.1 r (k.1 r a))
+    by (Err stop) k ih = (I, λ r a. a)
 
 pub all_runs : (ms : Monitors) (events : List Event) → AllFit ms.count events → InvOf ms (run ms events)
-all_runs ms events F = run_holds ms first_world events F (at_first ms)
+all_runs ms events F = (run_holds ms first_world events F (at_first ms)).0
+
+-- a run, and one that goes on
+pub both_runs : (ms : Monitors) (w : World) (a b : List Event) → AllFit ms.count (a ++ b) → InvOf ms w → (I : InvOf ms (run_from ms w a)) × (J : InvOf ms (run_from ms w (a ++ b))) × ((r : Entry) → Among r I.g.roles → Among r J.g.roles)
+unfolding ran_from
+both_runs ms w [] b F I = let z = run_holds ms w b F I in (I, z.0, z.1)
+both_runs ms w (e ∷ a) b F I = by (happens ms w e) (event_holds ms w e F.0 I) (λ next. both_runs ms next a b F.1)
+  where
+    by : (r : Result World Stop) → IfOk r (λ next. GoesOn ms w next I) → ((next : World) → InvOf ms next → (I : InvOf ms (run_from ms next a)) × (J : InvOf ms (run_from ms next (a ++ b))) × ((r : Entry) → Among r I.g.roles → Among r J.g.roles))
+        → (I : InvOf ms (goes_on w (λ next. ran_from ms next a) r).world) × (J : InvOf ms (goes_on w (λ next. ran_from ms next (a ++ b)) r).world) × ((r : Entry) → Among r I.g.roles → Among r J.g.roles)
+    by (Ok next) k ih = ih next k.0
+    by (Err stop) k ih = (I, I, λ r a. a)

@@ -4,4 +4,4 @@
 
 mod laws;
 
-pub use laws::law_one_active;
+pub use laws::{law_elections, law_one_active, law_promises, law_values};
