@@ -1,5 +1,6 @@
--- What an event leaves of the versions of the log that an unmarked monitor has: the rows of elections, of values and of clients.
-use Rattle.std.proofs.Common.{◌≡◌, ℕ, suc, ◌+◌, ◌≤◌, ◌<◌, ◌^◌, Bool, true, false, not, ◌&&◌, ◌||◌, cond, eqb, leb, ltb, is_some, List, [], ◌∷◌, length, Option, Some, None, IfSome, Result, Ok, Err, refl, sym, subst}
+-- What an event leaves of the versions of the log that an unmarked monitor has, and what it sends: the rows of elections, of values and
+-- of clients.
+use Rattle.std.proofs.Common.{◌≡◌, ℕ, suc, ◌+◌, ◌≤◌, ◌<◌, ◌^◌, Bool, true, false, not, ◌&&◌, ◌||◌, cond, eqb, leb, ltb, is_some, List, [], ◌∷◌, ◌++◌, length, Option, Some, None, IfSome, Result, Ok, Err, refl, sym, subst}
 use Rattle.std.proofs.lemmas.Bool.{and_parts, eqb-true, ltb-false}
 use Rattle.election_rules.specs.declared.scores.Scores.{Scores}
 use Rattle.mon_bytes.specs.declared.command.Command.{Command}
@@ -17,8 +18,8 @@ use Rattle.mon_msg.specs.declared.paxos.LeaderStage.TheVariants as stage
 use Rattle.mon_msg.specs.declared.plan.Origin.{Origin}
 use Rattle.mon_msg.specs.declared.plan.Origin.TheVariants as origin
 use Rattle.mon_msg.specs.declared.view.Me.{Me}
-use Rattle.mon_msg.specs.Protocol.Changes.{Epoch, Promise, Vote}
-use Rattle.mon_msg.specs.Protocol.Commands.{most_waiting, is_too_long, wait_under, hand_on, may_propose, at_leader, at_peon, ask, hear_forward, propose_due}
+use Rattle.mon_msg.specs.Protocol.Changes.{Change, Epoch, Promise, Vote}
+use Rattle.mon_msg.specs.Protocol.Commands.{most_waiting, is_too_long, too_long, wait_under, hand_on, may_propose, at_leader, at_peon, ask, hear_forward, propose_due}
 use Rattle.mon_msg.specs.Protocol.Course.{Course, change, elector_is, clients_are, leader_is}
 use Rattle.mon_msg.specs.Protocol.Elections.{is_allowed, stands_before, may_defer, table_or, merge, is_whole, weigh, hear_propose, count_ack, hear_ack, election_ends, hear_victory}
 use Rattle.mon_msg.specs.Protocol.Leader.{all_answered, is_one_of, of_member, note_told, note, hear_whole, hear_answer, hear_last, commit_any, hear_accept}
@@ -26,21 +27,27 @@ use Rattle.mon_msg.specs.Protocol.Leading.{has_queue}
 use Rattle.mon_msg.specs.Protocol.Learning.{learn, news, news_from}
 use Rattle.mon_msg.specs.Protocol.Peon.{of_leader, cancel, promise, answer_collect, hear_collect, hear_begin, hear_commit}
 use Rattle.mon_msg.specs.Protocol.Phases.{same_phase, is_leading, is_peon, votes}
-use Rattle.mon_msg.specs.Protocol.Proposing.{asked_of, begin_made, propose, propose_first, propose_next}
+use Rattle.mon_msg.specs.Protocol.Proposing.{asked_of, refusal, begin_made, propose, propose_first, propose_next}
 use Rattle.mon_msg.specs.Protocol.Found.{counts}
-use Rattle.mon_msg.specs.Protocol.Readings.{promise_of, epoch_of}
+use Rattle.mon_msg.specs.Protocol.Readings.{Readings, promise_of, epoch_of}
 use Rattle.mon_msg.specs.Protocol.Services.{service_last}
-use Rattle.mon_msg.specs.Protocol.Sending.{members, send}
+use Rattle.mon_msg.specs.Protocol.Sending.{members, send, message_to, answer_to}
 use Rattle.mon_types.specs.Ranks.{has, with_rank}
 use Rattle.std.specs.Prelude.{slice_set, slice_index_or}
 use Rattle.mon_msg.specs.Protocol.Answers.{last_answer}
 use Rattle.mon_msg.specs.Protocol.Reads.{is_standing}
+use Rattle.mon_wire.specs.declared.body.Body.{Body}
 use Rattle.mon_wire.specs.declared.body.Body.TheVariants as body
+use Rattle.mon_wire.specs.declared.reply.Reply.{Reply}
+use Rattle.mon_wire.specs.declared.reply.Reply.TheVariants as reply
+use Rattle.mon_msg.specs.declared.plan.Sent.{Sent}
+use Rattle.mon_msg.specs.declared.plan.Sent.TheVariants as sent
+use Rattle.log_copies.proofs.Sending.{BodyTells, answer_tells}
 use Rattle.mon_msg.specs.Protocol.Entering.{is_even, bootstrap, elect, adopt}
 use Rattle.mon_msg.specs.Protocol.Sets.{is_empty, are_within, is_majority}
 use Rattle.mon_msg.specs.Protocol.State.{State, quorum_of}
 use Rattle.mon_msg.specs.Protocol.Value.{service_of, value}
-use Rattle.log_copies.proofs.Acts.{Then, done, and_then, where_fits, by_test, Has, changes, changes_if, learns, commits, begins, settles, collects, bootstraps, elects, wins, adopts}
+use Rattle.log_copies.proofs.Acts.{Then, done, and_then, where_fits, by_test, HasAt, Has, says_one, says_answer, says_reply, changes, changes_if, learns, commits, begins, settles, collects, bootstraps, elects, wins, adopts}
 use Rattle.log_copies.proofs.Telling.{news_versions, news_begin}
 use Rattle.log_model.specs.LogOfValues.{AllValues}
 use Rattle.log_model.proofs.Records.{IsVersion, AreVersions}
@@ -84,6 +91,17 @@ module _ (log : List (List ℕ)) (fits : length log ≤ 2 ^ 62) (all : AllValues
   ok : {x : Course} → OnLog x → Then OnLog (Ok x)
   ok {x} H = done OnLog x H
 
+  -- ---- and something is sent
+
+  pub sends : {w : Readings} {cs : List Change} {out : List Sent} (e : ℕ) (b : Body) (to : ℕ) → BodyTells log b → HasAt log fits all m w cs out → HasAt log fits all m w cs (out ++ message_to me e b to ∷ [])
+  sends e b to h H = says_one log fits all m me e b to h H
+
+  tells_answer : {w : Readings} {cs : List Change} {out : List Sent} (e : ℕ) (o : Origin) (r : Reply) → HasAt log fits all m w cs out → HasAt log fits all m w cs (out ++ answer_to me e o r ∷ [])
+  tells_answer e o r H = says_answer log fits all m me e o r H
+
+  pub tells_reply : {w : Readings} {cs : List Change} {out : List Sent} (session : Session) (r : Reply) → HasAt log fits all m w cs out → HasAt log fits all m w cs (out ++ sent.Reply session r ∷ [])
+  tells_reply session r H = says_reply log fits all m session r H
+
   pub boots : (x : Course) → OnLog x → Then OnLog (bootstrap me now x)
   boots x H = bootstraps log fits all m me several now x H
 
@@ -94,7 +112,7 @@ module _ (log : List (List ℕ)) (fits : length log ≤ 2 ^ 62) (all : AllValues
 
   weighs : (table : Scores) (f : ℕ) (x : Course) → OnLog x → Then OnLog (weigh me now table f x)
   weighs table f x H =
-      branch {b = is_allowed me f && stands_before me table f me.member.rank} (λ t. branch {b = may_defer me table f x.state.elector.deferred} (λ u. ok H) (λ u. ok H))
+      branch {b = is_allowed me f && stands_before me table f me.member.rank} (λ t. branch {b = may_defer me table f x.state.elector.deferred} (λ u. done OnLog _ (sends (epoch_of x.readings) body.Ack f tt H)) (λ u. ok H))
       (λ t. branch {b = not (is_some x.state.elector.deferred) && not x.state.elector.candidate} (λ u. anew_votes x H) (λ u. ok H))
 
   pub proposed : (f e : ℕ) (table : Option Scores) (x : Course) → OnLog x → Then OnLog (hear_propose me now f e table x)
@@ -136,7 +154,9 @@ module _ (log : List (List ℕ)) (fits : length log ≤ 2 ^ 62) (all : AllValues
   promises : (f pn last : ℕ) (x : Course) → OnLog x → Then OnLog (answer_collect me f pn last x)
   promises f pn last x H =
       let y = promise pn (cancel x) in
-      where_fits OnLog which.Version (suc last) (λ from. Ok (send me f (last_answer me.member.monitors y.readings from) y)) (ok (changes_if log fits all m (ltb (promise_of x.readings) pn) (Promise pn) (cancel x) tt H))
+      let K : OnLog y = changes_if log fits all m (ltb (promise_of x.readings) pn) (Promise pn) (cancel x) tt H in
+      where_fits OnLog which.Version (suc last) (λ from. Ok (send me f (last_answer me.member.monitors y.readings from) y))
+      (done OnLog _ (sends (epoch_of y.readings) (last_answer me.member.monitors y.readings (suc last)) f (answer_tells log fits all me.member.monitors y.readings (let V = K.has in V.within) K.keeps last) K))
 
   pub collect_comes : (f e pn first last : ℕ) (x : Course) → OnLog x → Then OnLog (hear_collect me now f e pn first last x)
   unfolding hear_collect
@@ -145,7 +165,8 @@ module _ (log : List (List ℕ)) (fits : length log ≤ 2 ^ 62) (all : AllValues
 
   pub begin_comes : (f e pn v : ℕ) (value : List Op) (x : Course) → OnLog x → Then OnLog (hear_begin me f e pn v value x)
   unfolding hear_begin
-  begin_comes f e pn v value x H = branch {b = not (of_leader f e x && eqb pn (promise_of x.readings) && eqb v (suc x.readings.last))} (λ t. ok H) (λ t. ok (changes log fits all m (Vote v pn value) x.readings x.changes (next (of_leader f e x && eqb pn (promise_of x.readings)) t) H))
+  begin_comes f e pn v value x H = branch {b = not (of_leader f e x && eqb pn (promise_of x.readings) && eqb v (suc x.readings.last))} (λ t. ok H) (λ t. done OnLog _
+      (sends (epoch_of x.readings) (body.Accept pn v) f tt (changes log fits all m (Vote v pn value) x.readings x.changes (next (of_leader f e x && eqb pn (promise_of x.readings)) t) H)))
     where
       next : (a : Bool) → not (a && eqb v (suc x.readings.last)) ≡ false → v ≡ suc x.readings.last
       next true t = eqb-true v (suc x.readings.last) (turned (eqb v (suc x.readings.last)) t)
@@ -224,7 +245,7 @@ module _ (log : List (List ℕ)) (fits : length log ≤ 2 ^ 62) (all : AllValues
 
   made_value : (o : Origin) (r : Result (List Op) CommandRefused) (x : Course) → HasOthers me x.state.leader.quorum → OnLog x → Then OnLog (begin_made me now o r x)
   made_value o (Ok value) x others H = begins log fits all m me several now stage.Updating value (Some o) x others H
-  made_value o (Err e) x others H = ok H
+  made_value o (Err e) x others H = done OnLog _ (tells_answer (epoch_of x.readings) o (refusal e) H)
 
   proposes : (c : Command) (o : Origin) (x : Course) → HasOthers me x.state.leader.quorum → OnLog x → Then OnLog (propose me now c o x)
   unfolding propose
@@ -233,19 +254,22 @@ module _ (log : List (List ℕ)) (fits : length log ≤ 2 ^ 62) (all : AllValues
 
   leads_command : (c : Command) (o : Origin) (x : Course) → HasOthers me x.state.leader.quorum → OnLog x → Then OnLog (at_leader me now c o x)
   leads_command c o x others H =
-      branch {b = is_too_long c} (λ t. ok H) (λ t. branch {b = may_propose me now x && not (has_queue x)} (λ u. proposes c o x others H)
-      (λ u. branch {b = leb most_waiting (length x.state.clients.queue)} (λ v. ok H) (λ v. ok H)))
+      branch {b = is_too_long c} (λ t. done OnLog _ (tells_answer (epoch_of x.readings) o (too_long c) H)) (λ t. branch {b = may_propose me now x && not (has_queue x)} (λ u. proposes c o x others H)
+      (λ u. branch {b = leb most_waiting (length x.state.clients.queue)} (λ v. done OnLog _ (tells_answer (epoch_of x.readings) o (reply.Busy most_waiting) H)) (λ v. ok H)))
 
   hands_on : (c : Command) (s : Session) (x : Course) → OnLog x → Then OnLog (hand_on me c s x)
-  hands_on c s x H = where_fits OnLog which.Seq x.state.clients.next_seq (λ seq. Ok (send me x.state.peon.leader (body.Forward seq c) (wait_under seq s x))) (ok H)
+  hands_on c s x H =
+      where_fits OnLog which.Seq x.state.clients.next_seq (λ seq. Ok (send me x.state.peon.leader (body.Forward seq c) (wait_under seq s x)))
+      (done OnLog _ (sends (epoch_of x.readings) (body.Forward x.state.clients.next_seq c) x.state.peon.leader tt H))
 
   peon_command : (c : Command) (s : Session) (x : Course) → OnLog x → Then OnLog (at_peon me c s x)
   peon_command c s x H =
-      branch {b = is_too_long c} (λ t. ok H) (λ t. branch {b = leb most_waiting (length x.state.clients.sessions)} (λ u. ok H) (λ u. hands_on c s x H))
+      branch {b = is_too_long c} (λ t. done OnLog _ (tells_reply s (too_long c) H))
+      (λ t. branch {b = leb most_waiting (length x.state.clients.sessions)} (λ u. done OnLog _ (tells_reply s (reply.Busy most_waiting) H)) (λ u. hands_on c s x H))
 
   pub asked : (s : Session) (c : Command) (x : Course) → (is_leading x.state.phase ≡ true → HasOthers me x.state.leader.quorum) → OnLog x → Then OnLog (ask me now s c x)
   unfolding ask
-  asked s c x leads H = branch {b = is_leading x.state.phase} (λ t. leads_command c (origin.Session s) x (leads t) H) (λ t. branch {b = is_peon x.state.phase} (λ u. peon_command c s x H) (λ u. ok H))
+  asked s c x leads H = branch {b = is_leading x.state.phase} (λ t. leads_command c (origin.Session s) x (leads t) H) (λ t. branch {b = is_peon x.state.phase} (λ u. peon_command c s x H) (λ u. done OnLog _ (tells_reply s reply.Unavailable H)))
 
   pub forwarded : (f e seq : ℕ) (c : Command) (x : Course) → (is_leading x.state.phase ≡ true → HasOthers me x.state.leader.quorum) → OnLog x → Then OnLog (hear_forward me now f e seq c x)
   unfolding hear_forward

@@ -1,13 +1,18 @@
 -- What monitors tell each other of the log.
-use Rattle.std.proofs.Common.{◌≡◌, ℕ, suc, ◌+◌, ◌-◌, ◌≤◌, ◌<◌, ◌^◌, Bool, true, false, ◌||◌, cond, ltb, List, [], ◌∷◌, ◌++◌, length, map, Option, Some, None, ◌⊎◌, inl, inr, sym, ap, subst, ◌∙◌, arith}
+use Rattle.std.proofs.Common.{◌≡◌, ℕ, suc, ◌+◌, ◌-◌, ◌≤◌, ◌<◌, ◌^◌, Bool, true, false, ◌&&◌, ◌||◌, cond, ltb, List, [], ◌∷◌, ◌++◌, length, map, Option, Some, None, ◌⊎◌, inl, inr, sym, ap, subst, ◌∙◌, arith}
 use Rattle.std.proofs.lemmas.Bool.{cases_lt, cond_both, ne_eqb}
 use Rattle.std.specs.List.{AllByRecursion, flat_map}
 use Rattle.std.specs.Prelude.{slice_index_or}
 use Rattle.mon_tx.specs.declared.op.Op.{Op}
+use Rattle.mon_tx.specs.Decision.{Cell}
 use Rattle.mon_tx.specs.Text.{text}
 use Rattle.mon_wire.specs.declared.body.Body.{Body}
 use Rattle.mon_wire.specs.declared.body.Body.TheVariants as body
 use Rattle.mon_wire.specs.declared.parts.Told.{Told}
+use Rattle.mon_wire.specs.declared.parts.Cookie.{Cookie}
+use Rattle.mon_wire.specs.declared.parts.Place.{Place as ChunkPlace}
+use Rattle.mon_bytes.specs.declared.entry.Entry.{Entry}
+use Rattle.mon_msg.specs.Protocol.Providing.{reach, is_finished, chunk_with, given_values, given_entries, chunk}
 use Rattle.mon_msg.specs.declared.plan.Sent.{Sent}
 use Rattle.mon_msg.specs.declared.plan.Sent.TheVariants as sent
 use Rattle.mon_msg.specs.declared.view.Me.{Me}
@@ -51,6 +56,15 @@ AllTell log sends = AllByRecursion (SentTells log) sends
 
 pub more_tell : (log : List (List ℕ)) (a b : List Sent) → AllTell log a → AllTell log b → AllTell log (a ++ b)
 more_tell log a b h k = all_append (SentTells log) a b h k
+
+-- the chunk that is given
+pub chunk_tells : (log : List (List ℕ)) (last : ℕ) (c : Cookie) (p : ChunkPlace) (left : List Entry) (n : ℕ) (records : ℕ → Cell) → ChunkOf log (chunk last c p left n records) → BodyTells log (chunk last c p left n records)
+unfolding chunk
+chunk_tells log last c p left n records = with_entries (given_values last c p left n records) (given_entries last c p left n (given_values last c p left n records))
+  where
+    with_entries : (values : List (List Op)) (es : List Entry) → ChunkOf log (chunk_with last c p left values es) → BodyTells log (chunk_with last c p left values es)
+    with_entries values es =
+        cond_both (reach last p values && is_finished p left es) (body.LastChunk c p values es last) (body.Chunk c p values es (is_finished p left es)) (λ b. ChunkOf log b → BodyTells log b) (λ t h. h) (λ t h. h)
 
 -- one body to some monitors
 pub each_tells : (log : List (List ℕ)) (me : Me) (e : ℕ) (b : Body) (ks : List ℕ) → BodyTells log b → AllTell log (map (message_to me e b) ks)

@@ -21,14 +21,14 @@ use Rattle.mon_msg.specs.declared.view.Me.{Me}
 use Rattle.mon_msg.specs.Protocol.Changes.{Boot, Epoch}
 use Rattle.mon_msg.specs.Protocol.Course.{Course, ◌▸◌, change, change_if, elector_is, prober_is, arm_if, disarm}
 use Rattle.mon_msg.specs.Protocol.Elections.{is_whole}
-use Rattle.mon_msg.specs.Protocol.Entering.{scores_count}
+use Rattle.mon_msg.specs.Protocol.Entering.{own_table, scores_count}
 use Rattle.mon_msg.specs.Protocol.Hearing.{is_heard, hear, hear_client}
 use Rattle.mon_msg.specs.Protocol.Leader.{renew}
 use Rattle.mon_msg.specs.Protocol.Leading.{extend}
 use Rattle.mon_msg.specs.Protocol.Phases.{same_phase, is_leading}
-use Rattle.mon_msg.specs.Protocol.Pings.{ping}
+use Rattle.mon_msg.specs.Protocol.Pings.{measure, ping}
 use Rattle.mon_msg.specs.Protocol.Probing.{lag, join_outside, hear_probe_reply}
-use Rattle.mon_msg.specs.Protocol.Readings.{Readings, readings_of}
+use Rattle.mon_msg.specs.Protocol.Readings.{Readings, epoch_of, readings_of, shared_entries}
 use Rattle.mon_msg.specs.Protocol.Reads.{shown, since}
 use Rattle.mon_msg.specs.Protocol.Sets.{are_within, is_majority}
 use Rattle.mon_msg.specs.Protocol.State.{State}
@@ -38,10 +38,14 @@ use Rattle.mon_msg.specs.Protocol.Timers.{end_of}
 use Rattle.mon_msg.proofs.Joining.{apply-joined}
 use Rattle.log_copies.specs.Synchronizing.{written}
 use Rattle.log_copies.specs.Versions.{HasVersions}
-use Rattle.log_copies.proofs.Acts.{Then, done, where_fits, changes, changes_if, asks_versions}
+use Rattle.log_copies.proofs.Sending.{AllTell}
+use Rattle.log_copies.proofs.Telling.{monitor_keeps}
+use Rattle.mon_wire.specs.declared.reply.Reply.TheVariants as reply
+use Rattle.mon_msg.specs.Protocol.Sending.{members, others}
+use Rattle.log_copies.proofs.Acts.{says_each, Then, done, where_fits, changes, changes_if, asks_versions}
 use Rattle.log_copies.proofs.Agreeing.{IsRecent, Here, stay, again, probe_comes, lease_comes, lease_ack_comes, route_comes, get_cookie_full, get_cookie_recent, get_chunk, cookie_comes, no_cookie, ping_comes, ping_reply, chunk_comes, last_chunk_comes, steps_none, reads}
 use Rattle.log_copies.proofs.Copying.{begun}
-use Rattle.log_copies.proofs.Rows.{branch, HasOthers, anew_votes, proposed, acked, election_over, victory, collect_comes, begin_comes, commit_comes, last_comes, accept_comes, asked, forwarded, proposes_due}
+use Rattle.log_copies.proofs.Rows.{tells_reply, branch, HasOthers, anew_votes, proposed, acked, election_over, victory, collect_comes, begin_comes, commit_comes, last_comes, accept_comes, asked, forwarded, proposes_due}
 use Rattle.log_copies.proofs.Shape.{monitor_shaped}
 use Rattle.log_copies.proofs.UnderWay.{UnderWay}
 use Rattle.log_model.specs.LogOfValues.{AllValues}
@@ -61,6 +65,7 @@ BodyFits log me w s f (body.Last pn first last whole from values pending) = (fro
 BodyFits log me w s f (body.Accept pn v) =
     are_within me.member.monitors s.leader.quorum (with_rank s.leader.accepted f) ≡ true → IfSome s.leader.value (λ value. IsVersion log (suc w.last) value)
 BodyFits log me w s f (body.Commit from values) = AreVersions log from values
+BodyFits log me w s f (body.GetChunk cookie p) = p.version ≤ w.last
 BodyFits log me w s f (body.Chunk cookie p values entries end) = AreVersions log (suc p.version) values
 BodyFits log me w s f (body.LastChunk cookie p values entries last) = AreVersions log (suc p.version) values
 BodyFits log me w s f other = Unit {0}
@@ -104,7 +109,10 @@ module _ (log : List (List ℕ)) (fits : length log ≤ 2 ^ 62) (all : AllValues
 
   -- ---- a monitor that runs
 
-  module _ (s : State) (unmarked : (readings_of m).marked ≡ false) (S : Situated me (readings_of m) s) (shared : List Entry) where
+  module _ (s : State) (unmarked : (readings_of m).marked ≡ false) (V : HasVersions log (readings_of m).last m) (S : Situated me (readings_of m) s) where
+    abbrev shared : List Entry
+    shared = shared_entries m
+
     heard : (f t : ℕ) (b : Body) (x : Course) → x ≡ at_rest (readings_of m) s → On x → BodyFits log me (readings_of m) s f b → Then (Out x) (hear me shared now f t b x)
     heard f t b x is H h = subst (λ (z : Course). On z → Then (Out z) (hear me shared now f t b z)) (sym is) (λ K. by f t b h K) H
       where
@@ -126,7 +134,7 @@ module _ (log : List (List ℕ)) (fits : length log ≤ 2 ^ 62) (all : AllValues
         by f t body.GetCookieFull h H = weaker (get_cookie_full log fits all m me several now f (at_rest (readings_of m) s) H)
         by f t (body.GetCookieRecent last) h H = weaker (get_cookie_recent log fits all m me several now f last (at_rest (readings_of m) s) H)
         by f t (body.Cookie full cookie last) h H = weaker (cookie_comes log fits all m me several now f full cookie last (at_rest (readings_of m) s) H)
-        by f t (body.GetChunk cookie p) h H = weaker (get_chunk log fits all m me several now shared f cookie p (at_rest (readings_of m) s) H)
+        by f t (body.GetChunk cookie p) h H = weaker (get_chunk log fits all m me several now f cookie p (at_rest (readings_of m) s) V refl h H)
         by f t (body.Chunk cookie p values entries end) h H = weaker (chunk_comes log fits all m me several now (at_rest (readings_of m) s) S.recent H f cookie p values entries end h)
         by f t (body.LastChunk cookie p values entries last) h H = weaker (last_chunk_comes log fits all m me several now (at_rest (readings_of m) s) S.recent H f cookie p values entries last h)
         by f t (body.NoCookie cookie) h H = weaker (no_cookie log fits all m me several now f cookie (at_rest (readings_of m) s) H)
@@ -149,7 +157,7 @@ module _ (log : List (List ℕ)) (fits : length log ≤ 2 ^ 62) (all : AllValues
 
       extends : On x0 → On (extend me now (disarm timer.Renew x0))
       unfolding extend
-      extends H = H
+      extends H = says_each log fits all m me (epoch_of (readings_of m)) (body.Lease (readings_of m).last) (members me s.leader.quorum) tt H
 
       rung : (t : Timer) → Then On (timer_comes me now t (disarm t x0))
       unfolding renew ping
@@ -157,13 +165,13 @@ module _ (log : List (List ℕ)) (fits : length log ≤ 2 ^ 62) (all : AllValues
       rung timer.Election = election_over log fits all m me several now (disarm timer.Election x0) S.elects H
       rung timer.Collect = again log fits all m me several now (disarm timer.Collect x0) H
       rung timer.Accept = again log fits all m me several now (disarm timer.Accept x0) H
-      rung timer.Renew = branch {b = not (same_phase s.phase phase.Active)} (λ t. stay log fits all m me several now H) (λ t. stay log fits all m me several now (extends H))
+      rung timer.Renew = branch {b = not (same_phase s.phase phase.Active)} (λ t. stay log fits all m me several now H) (λ t. done On _ (extends H))
       rung timer.LeaseAck = again log fits all m me several now (disarm timer.LeaseAck x0) H
       rung timer.Lease = again log fits all m me several now (disarm timer.Lease x0) H
       rung timer.Sync = again log fits all m me several now (disarm timer.Sync x0) H
       rung timer.Step = steps_none log fits all m me several now (disarm timer.Step x0) S.recent H
       rung timer.Propose = proposes_due log fits all m me several now (disarm timer.Propose x0) S.leads H
-      rung timer.Ping = stay log fits all m me several now H
+      rung timer.Ping = done On _ (says_each log fits all m me (epoch_of (readings_of m)) (body.Ping (own_table me (elector_is (measure me now s.elector) (disarm timer.Ping x0)))) (others me) tt H)
 
       runs : (came : Input) → InputFits log me (readings_of m) s came → Then (Out x0) (running me shared now came x0)
       runs input.Start h = weaker (stay log fits all m me several now H)
@@ -187,23 +195,30 @@ module _ (log : List (List ℕ)) (fits : length log ≤ 2 ^ 62) (all : AllValues
   starting s input.Start H = starts s H
   starting s (input.Deliver d) H = stay log fits all m me several now H
   starting s (input.Timer t) H = stay log fits all m me several now H
-  starting s (input.Client session r) H = stay log fits all m me several now H
+  starting s (input.Client session r) H = done On _ (tells_reply log fits all m me several now session reply.Unavailable H)
 
   -- ---- whatever comes
 
-  pub agrees : (s : State) → HasVersions log (readings_of m).last m → (readings_of m).marked ≡ false → Situated me (readings_of m) s → (shared : List Entry) (came : Input) → InputFits log me (readings_of m) s came
-      → (y : Course) → react me shared now (readings_of m) s came ≡ Ok y → HasVersions log y.readings.last (written m y) ⊎ UnderWay log (readings_of m) (floor_of (readings_of m)) (written m y) y.state
+  asks_copy : (f : ℕ) (s : State) → AllTell log (full_sync me now f (at_rest (readings_of m) s)).out
+  unfolding full_sync
+  asks_copy f s = (tt, tt)
+
+  pub agrees : (s : State) → HasVersions log (readings_of m).last m → (readings_of m).marked ≡ false → Situated me (readings_of m) s → (came : Input) → InputFits log me (readings_of m) s came → (y : Course)
+      → react me (shared_entries m) now (readings_of m) s came ≡ Ok y → (HasVersions log y.readings.last (written m y) ⊎ UnderWay log (readings_of m) (floor_of (readings_of m)) (written m y) y.state) × AllTell log y.out
   unfolding react
-  agrees s V unmarked S shared came h y e = by ((walked).holds y e)
+  agrees s V unmarked S came h y e = by ((walked).holds y e)
     where
       here : On (at_rest (readings_of m) s)
-      here = record { has = subst (HasVersions log (readings_of m).last) (sym (apply-joined [] m)) V }
+      here = record { has = subst (HasVersions log (readings_of m).last) (sym (apply-joined [] m)) V; keeps = monitor_keeps log fits all (readings_of m).last m V; tells = tt }
 
-      walked : Then (Out (at_rest (readings_of m) s)) (cond (same_phase s.phase phase.Booting) (before_start me now came (at_rest (readings_of m) s)) (running me shared now came (at_rest (readings_of m) s)))
-      walked = branch {b = same_phase s.phase phase.Booting} (λ t. weaker (starting s came here)) (λ t. runs s unmarked S shared here came h)
+      walked : Then (Out (at_rest (readings_of m) s)) (cond (same_phase s.phase phase.Booting) (before_start me now came (at_rest (readings_of m) s)) (running me (shared_entries m) now came (at_rest (readings_of m) s)))
+      walked = branch {b = same_phase s.phase phase.Booting} (λ t. weaker (starting s came here)) (λ t. runs s unmarked V S here came h)
 
-      by : Out (at_rest (readings_of m) s) y → HasVersions log y.readings.last (written m y) ⊎ UnderWay log (readings_of m) (floor_of (readings_of m)) (written m y) y.state
-      by (inl H) = inl H.has
-      by (inr M) = inr (subst (λ (z : Course). UnderWay log (readings_of m) (floor_of (readings_of m)) (written m z) z.state) (sym M.is)
-          (begun log fits all me (readings_of m) (floor_of (readings_of m)) now M.from m s (record { last_pn = refl; promise = refl; epoch = refl }) (omega arith)
-          (monitor_shaped log fits all (readings_of m).last V.within m V.folded)))
+      by : Out (at_rest (readings_of m) s) y → (HasVersions log y.readings.last (written m y) ⊎ UnderWay log (readings_of m) (floor_of (readings_of m)) (written m y) y.state) × AllTell log y.out
+      by (inl H) = (inl H.has, H.tells)
+      by (inr M) = (
+        inr (subst (λ (z : Course). UnderWay log (readings_of m) (floor_of (readings_of m)) (written m z) z.state) (sym M.is)
+            (begun log fits all me (readings_of m) (floor_of (readings_of m)) now M.from m s (record { last_pn = refl; promise = refl; epoch = refl }) (omega arith)
+            (monitor_shaped log fits all (readings_of m).last V.within m V.folded))),
+        subst (λ (z : Course). AllTell log z.out) (sym M.is) (asks_copy M.from s),
+      )
