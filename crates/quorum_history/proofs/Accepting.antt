@@ -1,5 +1,5 @@
 -- The elementary step by which a monitor accepts a value.
-use Rattle.mon_msg.specs.Protocol.Changes.{Change, Vote}
+use Rattle.mon_msg.specs.Protocol.Changes.{Change, Numbers, Vote}
 use Rattle.mon_msg.specs.Protocol.Played.{with_record}
 use Rattle.mon_msg.specs.Protocol.Sets.{is_majority}
 use Rattle.mon_msg.specs.declared.plan.Sent.{Sent}
@@ -7,7 +7,7 @@ use Rattle.mon_tx.specs.Decision.{Cell}
 use Rattle.mon_tx.specs.Text.{text}
 use Rattle.mon_tx.specs.declared.op.Op.{Op}
 use Rattle.quorum_history.proofs.Growing.{grows_by, grows_not}
-use Rattle.quorum_history.proofs.History.{ALevel, ANumber, APromise, Accepted, AnEpoch, Entry, Ext, Ghost, Glob, HadIn, Hand, NewTriple, Refuses, Rising, Sign, Triple, TriplesHold, triple}
+use Rattle.quorum_history.proofs.History.{ALevel, ANumber, APromise, Accepted, AnEpoch, Entry, Ext, Ghost, Glob, Had, HadIn, Hand, NewTriple, Refuses, Rising, Sign, Triple, TriplesHold, triple}
 use Rattle.quorum_history.proofs.Holds.{Disk, Kept, Numbered, Tied, With, level_in, number_in_own, number_of, promise_in}
 use Rattle.quorum_history.proofs.Numbers.{level_is}
 use Rattle.quorum_history.proofs.Steps.{further, refuses_later}
@@ -133,8 +133,13 @@ pub accepted_cases : (i v p : ℕ) (x : List Op) (g : Ghost) (j w q : ℕ) (y : 
 accepted_cases i v p x g j w q y a = elim a [ inl e ↦ inr (ap (λ (t : Triple). t.i) e, ap (λ (t : Triple). t.v) e, ap (λ (t : Triple). t.p) e, ap (λ (t : Triple). t.x) e) | inr o ↦ inl o ]
 
 accepted_tied : (i v p : ℕ) (x : List Op) (g h : Ghost) (cs : List Change) → Tied i g h cs → Tied i g (accepted i v p x h) (cs ++ Vote v p x ∷ [])
-accepted_tied i v p x g h cs T = record { votes = λ w q y a. votes w q y (among_append (Vote w q y) cs (Vote v p x ∷ []) a); only = λ j w q y a. only j w q y a }
+accepted_tied i v p x g h cs T = record { votes = λ w q y a. votes w q y (among_append (Vote w q y) cs (Vote v p x ∷ []) a); only = λ j w q y a. only j w q y a; made = λ q a. made q (among_append (Numbers q) cs (Vote v p x ∷ []) a) }
   where
+    made : (q : ℕ) → Among (Numbers q) cs ⊎ Among (Numbers q) (Vote v p x ∷ []) → (q % 100 ≡ i) × ((r : ℕ) → Had g ANumber i r → r < q)
+    made q (inl o) = T.made q o
+    made q (inr (inl e)) = absurd cc
+    made q (inr (inr k)) = absurd k
+
     new : (w q : ℕ) (y : List Op) → Vote w q y ≡ Vote v p x → triple i w q y ≡ triple i v p x
     new w q y e = let a : w ≡ v = cc in let b : q ≡ p = cc in let c : y ≡ x = cc in λ k. triple i (a k) (b k) (c k)
 

@@ -279,7 +279,7 @@ module _ (me : Me) (now : ℕ) (g : Ghost) where
       let o = own_of x.readings in
       let o2 = with_number pn o in
       let found = pending x.readings in
-      let B = collects (ReignsAt x q) (λ k. GathersIn k i (core (collect_with me now q pn x))) pn low (omega arith) own A (λ h E G D p.
+      let B = collects (ReignsAt x q) (λ k. GathersIn k i (core (collect_with me now q pn x))) pn low lt own A (λ h E G D p.
       let k = signed i o2 h in (
         record {
           reigns = reigns_last i h k E i (epoch_of x.readings) x.readings.marked q x.state.clients.queue p;

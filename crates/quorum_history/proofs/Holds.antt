@@ -1,6 +1,6 @@
 -- What holds of a monitor in its phase, and of what it says, in a history.
 use Rattle.mon_bytes.specs.declared.command.Command.{Command}
-use Rattle.mon_msg.specs.Protocol.Changes.{Change, Vote}
+use Rattle.mon_msg.specs.Protocol.Changes.{Change, Numbers, Vote}
 use Rattle.mon_msg.specs.Protocol.Course.{Course}
 use Rattle.mon_msg.specs.Protocol.Entering.{is_even}
 use Rattle.mon_msg.specs.Protocol.Readings.{epoch_or_first, or_zero}
@@ -316,10 +316,11 @@ SentHolds g i (sent.Reply to r) = Unit {0}
 
 -- ---- what a row keeps: a history further on, in which this holds of what it leaves
 
--- i accepted in this event what its changes say, and nothing else
+-- i accepted in this event what its changes say, and nothing else; and each number that it made is its own, and new
 pub record Tied (i : ℕ) (g h : Ghost) (cs : List Change) : Type 0 where
   pub votes : (v p : ℕ) (x : List Op) → Among (Vote v p x) cs → Accepted h i v p x
   pub only : (j v p : ℕ) (x : List Op) → Accepted h j v p x → Accepted g j v p x ⊎ ((j ≡ i) × Among (Vote v p x) cs)
+  pub made : (p : ℕ) → Among (Numbers p) cs → (p % 100 ≡ i) × ((q : ℕ) → Had g ANumber i q → q < p)
 
 pub record With (n i : ℕ) (g : Ghost) (o : Own) (records : ℕ → Cell) (cs : List Change) (out : List Sent) (P : Ghost → Type 0) : Type 0 where
   pub h : Ghost

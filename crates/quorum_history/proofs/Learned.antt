@@ -1,6 +1,7 @@
 -- What a monitor has once it learned or copied values.
 use Rattle.mon_bytes.specs.declared.command.Command.{Command}
 use Rattle.mon_msg.specs.Protocol.Changes.{Change, Last}
+use Rattle.mon_msg.specs.Protocol.Chunks.{copy_changes, record_changes}
 use Rattle.mon_msg.specs.Protocol.Course.{Course, change, change_all, ◌▸◌}
 use Rattle.mon_msg.specs.Protocol.Learning.{learn, learn_changes}
 use Rattle.mon_msg.specs.Protocol.Played.{played}
@@ -11,10 +12,11 @@ use Rattle.mon_wire.specs.declared.request.Session.{Session}
 use Rattle.quorum_history.proofs.History.{ALevel, Accepted, Ext, Ghost, Had, Handed}
 use Rattle.quorum_history.proofs.Holds.{At, Disk, With}
 use Rattle.quorum_history.proofs.Numbers.{copies, learns, with_last}
-use Rattle.quorum_walk.proofs.FineCourses.{Calm, IsCalm, Val}
-use Rattle.quorum_walk.proofs.FineReading.{all_spare, learned_calm}
+use Rattle.quorum_history.proofs.Steps.{IsPlain, Plain}
+use Rattle.quorum_walk.proofs.FineCourses.{Val}
+use Rattle.quorum_walk.proofs.FineReading.{all_spare}
 use Rattle.quorum_walk.proofs.Lists.{all_append}
-use Rattle.quorum_walk.proofs.Sparing.{Own, learned_own, own_of}
+use Rattle.quorum_walk.proofs.Sparing.{Copied, Own, learned_own, own_of}
 use Rattle.quorum_walk.proofs.Walk.{Then, done, where_fits}
 use Rattle.std.proofs.Common.{List, [], arith, false, length, refl, subst, suc, sym, true, ℕ, ◌++◌, ◌+◌, ◌<◌, ◌∷◌, ◌≡◌, ◌≤◌}
 use Rattle.std.proofs.lemmas.List.{append_assoc}
@@ -28,6 +30,18 @@ pub learn_then : (R : Course → Type 0) (v : ℕ) (values : List (List Op)) (x 
 unfolding learn
 learn_then R v [] x p f = done (p refl)
 learn_then R v (value ∷ values) x p f = where_fits R which.Version (v + length values) _ (λ _. done (f (v + length values) (omega arith) (omega arith)))
+
+pub learned_plain : (v : ℕ) (values : List (List Op)) → Plain (learn_changes v values)
+learned_plain v [] = tt
+learned_plain v (x ∷ xs) = (tt, learned_plain (suc v) xs)
+
+pub recorded_plain : (v : ℕ) (values : List (List Op)) → Plain (record_changes v values)
+recorded_plain v [] = tt
+recorded_plain v (x ∷ xs) = (tt, recorded_plain (suc v) xs)
+
+pub copied_plain : (es : List Copied) → Plain (copy_changes es)
+copied_plain [] = tt
+copied_plain (e ∷ es) = (tt, copied_plain es)
 
 module _ (me : Me) (g : Ghost) where
   abbrev i : ℕ
@@ -43,12 +57,12 @@ module _ (me : Me) (g : Ghost) where
       let w = played (learn_changes v values) x.readings in
       let more = learn_changes v values ++ Last last ∷ [] in
       let B : With n i g (with_last last (own_of x.readings)) w.record_of (x.changes ++ more) x.out (Q (with_last last (own_of x.readings))) =
-      learns P (Q (with_last last (own_of x.readings))) w.record_of last more (all_append IsCalm (learn_changes v values) (Last last ∷ []) (learned_calm v values) (tt, tt)) u lt A f in
+      learns P (Q (with_last last (own_of x.readings))) w.record_of last more (all_append IsPlain (learn_changes v values) (Last last ∷ []) (learned_plain v values) (tt, tt)) u lt A f in
       let C = subst (λ (z : Own). With n i g (with_last last z) w.record_of (x.changes ++ more) x.out (Q (with_last last z))) (sym (learned_own v values x.readings (all_spare values V))) B in
       subst (λ (cs : List Change). With n i g (with_last last (own_of w)) w.record_of cs x.out (Q (with_last last (own_of w)))) (sym (append_assoc x.changes (learn_changes v values) (Last last ∷ []))) C
 
   -- changes of a marked store that leave its own numbers
-  pub changed_at : (P : Ghost → Type 0) (Q : Own → Ghost → Type 0) (cs : List Change) (x : Course) → Calm cs → own_of (played cs x.readings) ≡ own_of x.readings → x.readings.marked ≡ true → At me g P x
+  pub changed_at : (P : Ghost → Type 0) (Q : Own → Ghost → Type 0) (cs : List Change) (x : Course) → Plain cs → own_of (played cs x.readings) ≡ own_of x.readings → x.readings.marked ≡ true → At me g P x
       → ((h k : Ghost) → Ext i g h → Ext i h k → P h → Q (own_of x.readings) k) → At me g (Q (own_of (played cs x.readings))) (x ▸ change_all cs)
   changed_at P Q cs x calm same u A f =
       let n = me.member.monitors in

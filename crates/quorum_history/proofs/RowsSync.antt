@@ -30,14 +30,14 @@ use Rattle.quorum_history.proofs.ActsLeading.{sound}
 use Rattle.quorum_history.proofs.Frame.{stage_lasts}
 use Rattle.quorum_history.proofs.History.{ALevel, Ext, Ghost, Had, ext_trans, had_lasts}
 use Rattle.quorum_history.proofs.Holds.{At, BodyHolds, Core, Good, Nothing, RequestsIn, StageHolds, With, core, core_of}
-use Rattle.quorum_history.proofs.Learned.{changed_at, learn_then, learned_at}
+use Rattle.quorum_history.proofs.Learned.{changed_at, copied_plain, learn_then, learned_at, learned_plain, recorded_plain}
 use Rattle.quorum_history.proofs.Numbers.{ends_copy, had_down, level_is, unmarked_at}
 use Rattle.quorum_history.proofs.Phases.{as_known, in_known, no}
 use Rattle.quorum_history.proofs.RowsElections.{own_level}
 use Rattle.quorum_history.proofs.Runs.{longest_short, run_short}
 use Rattle.quorum_history.proofs.Steps.{tells, weaken}
 use Rattle.quorum_walk.proofs.FineCourses.{EntryFine, RecordsFine, Val}
-use Rattle.quorum_walk.proofs.FineReading.{all_spare, copied_calm, entries_spare, learned_calm, recorded_calm, step_of_fine}
+use Rattle.quorum_walk.proofs.FineReading.{all_spare, entries_spare, step_of_fine}
 use Rattle.quorum_walk.proofs.Sparing.{Copied, Own, copied_own, learned_own, own_of, records_own}
 use Rattle.quorum_walk.proofs.Walk.{Then, and_then, and_three, by_test, done, where_fits}
 use Rattle.std.proofs.Common.{Bool, IfSome, List, None, Ok, Option, Some, [], ap, arith, cond, eqb, false, length, ltb, not, refl, subst, suc, sym, true, ℕ, ◌&&◌, ◌++◌, ◌+◌, ◌-◌, ◌<◌, ◌||◌, ◌∙◌, ◌∷◌, ◌≡◌, ◌≤◌}
@@ -185,9 +185,9 @@ module _ (me : Me) (now : ℕ) (g : Ghost) where
       let marked : x.readings.marked ≡ true = sym B.fact.0 ∙ full in
       let y = x ▸ change_all (record_changes (suc p.version) values) in
       let first = records_own (suc p.version) values x.readings in
-      let C = changed_at me g (λ h. RequestsIn h (core x)) (λ o h. RequestsIn h (core_of o x.state)) (record_changes (suc p.version) values) x (recorded_calm (suc p.version) values) first marked B
+      let C = changed_at me g (λ h. RequestsIn h (core x)) (λ o h. RequestsIn h (core_of o x.state)) (record_changes (suc p.version) values) x (recorded_plain (suc p.version) values) first marked B
       (λ h k X E r. (r.0, stage_lasts i h k E x.readings.last x.readings.floor x.state.requester.provider x.state.requester.full x.state.requester.start x.state.requester.place.version x.state.requester.stage r.1)) in
-      let D = changed_at me g (λ h. RequestsIn h (core_of (own_of y.readings) x.state)) (λ o h. (x.state.requester.full ≡ o.marked) × StageOf h (core_of o (placed next x).state) sync.Chunks) (copy_changes entries) y (copied_calm entries) (copied_own entries y.readings (entries_spare entries V))
+      let D = changed_at me g (λ h. RequestsIn h (core_of (own_of y.readings) x.state)) (λ o h. (x.state.requester.full ≡ o.marked) × StageOf h (core_of o (placed next x).state) sync.Chunks) (copy_changes entries) y (copied_plain entries) (copied_own entries y.readings (entries_spare entries V))
       (ap (λ (o : Own). o.marked) first ∙ marked) C
       (λ h k X E r. (
         r.0,
@@ -299,7 +299,7 @@ module _ (me : Me) (now : ℕ) (g : Ghost) where
       let cs = learn_changes next values in
       let y = x ▸ change_all cs in
       let same = learned_own next values x.readings (all_spare values V) in
-      let C = changed_at me g (λ h. RequestsIn h (core x)) (λ o h. (x.state.requester.full ≡ o.marked) × (x.state.requester.full ≡ true) × (o.floor ≤ x.state.requester.start) × (x.state.requester.start < next) × (next ≤ suc end)) cs x (learned_calm next values) same marked B
+      let C = changed_at me g (λ h. RequestsIn h (core x)) (λ o h. (x.state.requester.full ≡ o.marked) × (x.state.requester.full ≡ true) × (o.floor ≤ x.state.requester.start) × (x.state.requester.start < next) × (next ≤ suc end)) cs x (learned_plain next values) same marked B
       (λ h k X E r. let q = subst (StageOf h (core x)) s r.1 in (r.0, q.0, q.1, q.2, q.3)) in
       let z : Course = y ▸ change (Last end) ▸ change Unmark in
       by_test (ltb end (next + length values))

@@ -1,10 +1,11 @@
 -- The elementary steps: what is said, numbers that rise, an epoch that is entered, and a command that is handed on.
 use Rattle.mon_bytes.specs.declared.command.Command.{Command}
-use Rattle.mon_msg.specs.Protocol.Changes.{Boot, Change, Copy, Epoch, Last, Learn, Mark, Numbers, Promise, Record, Unmark, Vote}
+use Rattle.mon_msg.specs.Protocol.Changes.{Change, Epoch, Numbers, Vote}
 use Rattle.mon_msg.specs.Protocol.Commands.{ask}
 use Rattle.mon_msg.specs.Protocol.Entering.{is_even}
 use Rattle.mon_msg.specs.Protocol.Sending.{message_to}
 use Rattle.mon_msg.specs.Protocol.Sets.{is_majority}
+use Rattle.mon_msg.specs.Protocol.Value.{made}
 use Rattle.mon_msg.specs.declared.plan.Sent.{Sent}
 use Rattle.mon_msg.specs.declared.view.Me.{Me}
 use Rattle.mon_tx.specs.Decision.{Cell}
@@ -14,12 +15,11 @@ use Rattle.mon_wire.specs.declared.body.Body.{Body}
 use Rattle.mon_wire.specs.declared.request.Session.{Session}
 use Rattle.quorum_history.proofs.Frame.{accepted_below, sent_lasts}
 use Rattle.quorum_history.proofs.Growing.{grows_by, grows_more, grows_not}
-use Rattle.quorum_history.proofs.History.{ALevel, ANumber, APromise, AnEpoch, Asks, Entered, Entry, Ext, Ghost, Glob, HadIn, Hand, Handed, HandsHold, Refuses, Rising, RolesHold, Sign, Triple, entry, ext_trans, had_lasts, hand, sign, triple}
+use Rattle.quorum_history.proofs.History.{ALevel, ANumber, APromise, AnEpoch, Asks, Entered, Entry, Ext, Ghost, Glob, Had, HadIn, Hand, Handed, HandsHold, Refuses, Rising, RolesHold, Sign, Triple, entry, ext_trans, had_lasts, hand, sign, triple}
 use Rattle.quorum_history.proofs.Holds.{BodyHolds, Disk, Kept, Numbered, SentHolds, Tied, With, epoch_in, level_in, number_in_own, number_of, promise_in}
-use Rattle.quorum_walk.proofs.FineCourses.{Calm}
-use Rattle.quorum_walk.proofs.Lists.{Among, all_append, all_map, all_of, among_append, among_left}
+use Rattle.quorum_walk.proofs.Lists.{Among, all_among, all_append, all_map, all_of, among_append, among_left}
 use Rattle.quorum_walk.proofs.Sparing.{Own}
-use Rattle.std.proofs.Common.{Bool, List, Some, [], ap, arith, inl, inr, map, refl, subst, suc, sym, true, ℕ, ◌++◌, ◌<◌, ◌∙◌, ◌∷◌, ◌≡◌, ◌≤◌, ◌⊎◌}
+use Rattle.std.proofs.Common.{Bool, List, Some, [], ap, arith, inl, inr, map, refl, subst, suc, sym, true, ℕ, ◌%◌, ◌++◌, ◌<◌, ◌∙◌, ◌∷◌, ◌≡◌, ◌≤◌, ◌⊎◌}
 use Rattle.std.specs.List.{AllByRecursion}
 
 -- ---- with no new history
@@ -46,31 +46,30 @@ module _ (me : Me) {g : Ghost} {o : Own} {records : ℕ → Cell} {cs : List Cha
       → With me.member.monitors me.member.rank g o records cs (out ++ message_to me (epoch_in o) b to ∷ []) P
   tells P b to A f = says P _ A (λ h E G D p. ((refl, record { epoch = D.numbers.now AnEpoch; body = f h E G D p }), tt))
 
--- ---- what changes say of votes
+-- ---- changes without votes and new numbers
 
-pub no_vote : (v p : ℕ) (x : List Op) (cs : List Change) → Calm cs → Among (Vote v p x) cs → ⊥
-no_vote v p x [] k a = a
-no_vote v p x (Vote w q y ∷ cs) k a = k.0
-no_vote v p x (Boot n ∷ cs) k a = elim a [ inl e ↦ (absurd cc) | inr o ↦ no_vote v p x cs k.1 o ]
-no_vote v p x (Epoch n ∷ cs) k a = elim a [ inl e ↦ (absurd cc) | inr o ↦ no_vote v p x cs k.1 o ]
-no_vote v p x (Numbers n ∷ cs) k a = elim a [ inl e ↦ (absurd cc) | inr o ↦ no_vote v p x cs k.1 o ]
-no_vote v p x (Promise n ∷ cs) k a = elim a [ inl e ↦ (absurd cc) | inr o ↦ no_vote v p x cs k.1 o ]
-no_vote v p x (Record u y ∷ cs) k a = elim a [ inl e ↦ (absurd cc) | inr o ↦ no_vote v p x cs k.1 o ]
-no_vote v p x (Learn u y ∷ cs) k a = elim a [ inl e ↦ (absurd cc) | inr o ↦ no_vote v p x cs k.1 o ]
-no_vote v p x (Last n ∷ cs) k a = elim a [ inl e ↦ (absurd cc) | inr o ↦ no_vote v p x cs k.1 o ]
-no_vote v p x (Copy y ∷ cs) k a = elim a [ inl e ↦ (absurd cc) | inr o ↦ no_vote v p x cs k.1 o ]
-no_vote v p x (Mark a b c ∷ cs) k d = elim d [ inl e ↦ (absurd cc) | inr o ↦ no_vote v p x cs k.1 o ]
-no_vote v p x (Unmark ∷ cs) k a = elim a [ inl e ↦ (absurd cc) | inr o ↦ no_vote v p x cs k.1 o ]
+abbrev pub IsPlain : Change → Type 0
+IsPlain (Vote v pn value) = ⊥
+IsPlain (Numbers pn) = ⊥
+IsPlain other = Unit {0}
+
+abbrev pub Plain : List Change → Type 0
+Plain = AllByRecursion IsPlain
 
 pub tied_refl : (i : ℕ) (g : Ghost) → Tied i g g []
-tied_refl i g = record { votes = λ v p x a. absurd a; only = λ j v p x a. inl a }
+tied_refl i g = record { votes = λ v p x a. absurd a; only = λ j v p x a. inl a; made = λ p a. absurd a }
 
 -- no triple was added since
-tied_more : (i : ℕ) (g h k : Ghost) (cs more : List Change) → Calm more → ((t : Triple) → Among t h.accepts → Among t k.accepts) → ((t : Triple) → Among t k.accepts → Among t h.accepts) → Tied i g h cs → Tied i g k (cs ++ more)
-tied_more i g h k cs more calm forth back T = record {
-  votes = λ v p x a. elim (among_append (Vote v p x) cs more a) [ inl o ↦ forth (triple i v p x) (T.votes v p x o) | inr w ↦ absurd (no_vote v p x more calm w) ];
+pub tied_more : (i : ℕ) (g h k : Ghost) (cs more : List Change) → ((v p : ℕ) (x : List Op) → Among (Vote v p x) more → ⊥) → ((p : ℕ) → Among (Numbers p) more → (p % 100 ≡ i) × ((q : ℕ) → Had g ANumber i q → q < p))
+    → ((t : Triple) → Among t h.accepts → Among t k.accepts) → ((t : Triple) → Among t k.accepts → Among t h.accepts) → Tied i g h cs → Tied i g k (cs ++ more)
+tied_more i g h k cs more none made forth back T = record {
+  votes = λ v p x a. elim (among_append (Vote v p x) cs more a) [ inl o ↦ forth (triple i v p x) (T.votes v p x o) | inr w ↦ absurd (none v p x w) ];
   only = λ j v p x a. elim (T.only j v p x (back (triple j v p x) a)) [ inl o ↦ inl o | inr w ↦ inr (w.0, among_left (Vote v p x) cs more w.1) ];
+  made = λ p a. elim (among_append (Numbers p) cs more a) [ inl o ↦ T.made p o | inr w ↦ made p w ];
 }
+
+plainly : (i : ℕ) (g h k : Ghost) (cs more : List Change) → Plain more → ((t : Triple) → Among t h.accepts → Among t k.accepts) → ((t : Triple) → Among t k.accepts → Among t h.accepts) → Tied i g h cs → Tied i g k (cs ++ more)
+plainly i g h k cs more plain forth back T = tied_more i g h k cs more (λ v p x a. all_among IsPlain (Vote v p x) more a plain) (λ p a. absurd (all_among IsPlain (Numbers p) more a plain)) forth back T
 
 -- ---- with a new history
 
@@ -99,7 +98,7 @@ signed_ext i o g = record {
 is_number : (o : Own) (i j m : ℕ) (k z : Rising) → sign k j m ≡ sign z i (number_of o z) → m ≡ number_of o k
 is_number o i j m k z e = ap (λ (s : Sign). s.n) e ∙ ap (number_of o) (sym (ap (λ (s : Sign). s.kind) e))
 
-signed_numbers : (i : ℕ) (o o2 : Own) (g : Ghost) → ((k : Rising) → number_of o k ≤ number_of o2 k) → Numbered g.signs i o → Numbered (signed i o2 g).signs i o2
+pub signed_numbers : (i : ℕ) (o o2 : Own) (g : Ghost) → ((k : Rising) → number_of o k ≤ number_of o2 k) → Numbered g.signs i o → Numbered (signed i o2 g).signs i o2
 signed_numbers i o o2 g up N = record { now = now; top = top }
   where
     now : (k : Rising) → HadIn (signed i o2 g).signs k i (number_of o2 k)
@@ -131,7 +130,7 @@ signed_numbers i o o2 g up N = record { now = now; top = top }
 pub refuses_later : (i : ℕ) (g h : Ghost) (E : Ext i g h) (Q : List Bool) (v r : ℕ) (y : List Op) → Refuses g.signs g.accepts Q v r y → Refuses h.signs h.accepts Q v r y
 refuses_later i g h E Q v r y k = record { m = k.m; within = k.within; above = had_lasts E APromise k.m (suc r) k.above; never = λ a. k.never (accepted_below i g h E k.m v r (suc r) y k.above (omega arith) a) }
 
-signed_glob : (n i : ℕ) (o : Own) (g : Ghost) → Glob n g → Glob n (signed i o g)
+pub signed_glob : (n i : ℕ) (o : Own) (g : Ghost) → Glob n g → Glob n (signed i o g)
 signed_glob n i o g G = record {
   roles = G.roles;
   hands = G.hands;
@@ -146,7 +145,7 @@ signed_glob n i o g G = record {
 }
 
 -- changes without a vote, after which no number is lower
-pub moves : {n i : ℕ} {g : Ghost} {o : Own} {records : ℕ → Cell} {cs : List Change} {out : List Sent} (P Q : Ghost → Type 0) (o2 : Own) (records2 : ℕ → Cell) (more : List Change) → Calm more → ((k : Rising) → number_of o k ≤ number_of o2 k)
+pub moves : {n i : ℕ} {g : Ghost} {o : Own} {records : ℕ → Cell} {cs : List Change} {out : List Sent} (P Q : Ghost → Type 0) (o2 : Own) (records2 : ℕ → Cell) (more : List Change) → Plain more → ((k : Rising) → number_of o k ≤ number_of o2 k)
     → (A : With n i g o records cs out P) → ((h : Ghost) → Ext i g h → Glob n h → Disk h i o records → P h → Kept h.roles h.hands h.accepts i o2 records2)
     → ((h : Ghost) → Ext i g h → Ext i h (signed i o2 h) → Glob n h → Disk h i o records → P h → Q (signed i o2 h)) → With n i g o2 records2 (cs ++ more) out Q
 moves {n} {i} {g} {o} {records} {cs} P Q o2 records2 more calm up A keep f =
@@ -154,7 +153,7 @@ moves {n} {i} {g} {o} {records} {cs} P Q o2 records2 more calm up A keep f =
     let k = signed i o2 h in
     let E = signed_ext i o2 h in
     further P Q o2 records2 (cs ++ more) A k E (signed_glob n i o2 h A.glob) (record { numbers = signed_numbers i o o2 h up A.disk.numbers; kept = keep h A.ext A.glob A.disk A.fact })
-    (tied_more i g h k cs more calm (λ t a. a) (λ t a. a) A.tied) (f h A.ext E A.glob A.disk A.fact)
+    (plainly i g h k cs more calm (λ t a. a) (λ t a. a) A.tied) (f h A.ext E A.glob A.disk A.fact)
 
 -- ---- an epoch
 
@@ -265,7 +264,7 @@ enters {n} {i} {g} {o} {records} {cs} P Q e l q lt A may f =
     further P Q o2 records (cs ++ Epoch e ∷ []) A k E
     (record { roles = entered_roles n i e l q h (epoch_in o) lt (λ f m w a. A.disk.kept.roles f m w a) A.glob.roles M; hands = G.hands; triples = G.triples })
     (record { numbers = signed_numbers i o o2 h (epoch_up e o (omega arith)) A.disk.numbers; kept = entered_kept i e l q h.roles h.hands h.accepts o2 records refl kept })
-    (tied_more i g h k cs (Epoch e ∷ []) (tt, tt) (λ t a. a) (λ t a. a) A.tied)
+    (plainly i g h k cs (Epoch e ∷ []) (tt, tt) (λ t a. a) (λ t a. a) A.tied)
     (f h k E A.disk.kept A.fact (inl refl) (λ seq s c a. a))
 
 -- ---- a command that is handed on
@@ -321,4 +320,4 @@ hands_on {n} {i} {g} {o} {records} {cs} P Q seq s c A ask fresh f =
     further P Q o records cs A k E
     (record { roles = A.glob.roles; hands = handed_hold i e seq s c h (ask h A.ext A.fact) (fresh h A.fact) A.glob.hands; triples = A.glob.triples })
     (record { numbers = A.disk.numbers; kept = handed_kept i e seq s c h.roles h.hands h.accepts o records refl A.disk.kept })
-    (record { votes = A.tied.votes; only = A.tied.only }) (f h E A.fact)
+    (record { votes = A.tied.votes; only = A.tied.only; made = A.tied.made }) (f h E A.fact)

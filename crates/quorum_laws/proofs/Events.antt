@@ -28,15 +28,17 @@ use Rattle.mon_wire.specs.declared.request.Request.{Request}
 use Rattle.mon_wire.specs.declared.request.Session.{Session}
 use Rattle.quorum_history.proofs.Frame.{accepted_lasts}
 use Rattle.quorum_history.proofs.Growing.{grows_by, grows_not}
-use Rattle.quorum_history.proofs.History.{ALevel, ANumber, APromise, AnEpoch, Ask, Asks, Entry, Ext, Ghost, Glob, Rising, asking, ext_refl, least}
+use Rattle.quorum_history.proofs.History.{ALevel, ANumber, APromise, AnEpoch, Ask, Asks, Entry, Ext, Ghost, Glob, Rising, asking, ext_refl, had_lasts, least}
 use Rattle.quorum_history.proofs.Holds.{Good, core, level_in, number_of}
 use Rattle.quorum_history.proofs.Numbers.{level_is}
 use Rattle.quorum_history.proofs.Rows.{InputHolds, react_holds}
 use Rattle.quorum_history.proofs.Steps.{tied_refl}
 use Rattle.quorum_laws.proofs.Invariant.{EnvelopeFine, EnvelopeHolds, Inv, InvOf, Mine, OnState, StateFits, TriplesKept, WasActive}
 use Rattle.quorum_laws.proofs.Values.{made, sharing}
-use Rattle.quorum_laws.proofs.Whole.{active_last, at_put, envelopes_last, envelopes_of, fine_envelopes, mine_lasts, triples_kept, was_active}
+use Rattle.quorum_laws.proofs.Voting.{collects_number}
+use Rattle.quorum_laws.proofs.Whole.{active_last, at_put, envelopes_last, envelopes_of, fine_envelopes, held_after, mine_lasts, raised_after, triples_kept, was_active}
 use Rattle.quorum_laws.specs.Accepting.{AcceptedIn}
+use Rattle.quorum_laws.specs.Promises.{Collects, last_number}
 use Rattle.quorum_model.specs.Clients.{messages_of}
 use Rattle.quorum_model.specs.Events.{AllFit, PlainFits, RequestFits}
 use Rattle.quorum_model.specs.Happens.{Full, Stop, after_meeting, happens, in_world, is_active, kept_only, lost, moved, put_at, unless_stopped, unmoved}
@@ -50,7 +52,7 @@ use Rattle.quorum_walk.proofs.FineTable.{ComesFine, react_fine}
 use Rattle.quorum_walk.proofs.Lists.{Among, all_append, all_get}
 use Rattle.quorum_walk.proofs.Sparing.{own_of}
 use Rattle.quorum_walk.proofs.Walk.{Then}
-use Rattle.std.proofs.Common.{Bool, Err, IfSome, List, None, Ok, Option, Result, Some, [], ap, arith, cond, eqb, false, inl, inr, ltb, refl, subst, suc, sym, true, zero, ℕ, ◌++◌, ◌∙◌, ◌∷◌, ◌≡◌, ◌≤◌, ◌⊎◌}
+use Rattle.std.proofs.Common.{Bool, Err, IfSome, List, None, Ok, Option, Result, Some, [], ap, arith, cond, eqb, false, inl, inr, ltb, refl, subst, suc, sym, true, zero, ℕ, ◌%◌, ◌++◌, ◌<◌, ◌∙◌, ◌∷◌, ◌≡◌, ◌≤◌, ◌⊎◌}
 use Rattle.std.proofs.lemmas.Bool.{cond_both, false≢true, ltb-true}
 use Rattle.std.specs.FinMap.{empty, get-empty}
 use Rattle.std.specs.List.{AllByRecursion}
@@ -107,6 +109,13 @@ module _ (store : ℕ → Store) (state : ℕ → Option State) (txs : ℕ → L
     triples : TriplesKept good.h (put_at txs i (txs i ++ tx ∷ []))
     triples = triples_kept i I.g good.h x.changes good.tied ended.shape ended.fits good.glob.triples.some txs I.triples (accepted_lasts i I.g good.h good.ext)
 
+    -- a number that it collects under is its own, and new
+    collects_new : (pn : ℕ) → Collects tx pn → (pn % 100 ≡ i) × (last_number m < pn)
+    collects_new pn C = let made = good.tied.made pn (collects_number x.changes ended.shape ended.fits pn C) in (made.0, made.1 (last_number m) ((I.mine i).disk.numbers.now ANumber))
+
+    last_up : last_number m ≤ last_number next
+    last_up = subst (λ (w : Readings). last_number m ≤ or_zero w.last_pn) (sym same) (good.disk.numbers.top ANumber (last_number m) (had_lasts good.ext ANumber i (last_number m) ((I.mine i).disk.numbers.now ANumber)))
+
     now_active : AllByRecursion (WasActive n good.h) (cond (is_active x.state.phase) ((epoch_of (readings_of next), i) ∷ []) [])
     now_active = cond_both (is_active x.state.phase) ((epoch_of (readings_of next), i) ∷ []) [] (AllByRecursion (WasActive n good.h))
         (λ e. (subst (λ (w : Readings). WasActive n good.h (epoch_of w, i)) (sym same) (was_active n good.h i (core x) x.state.phase e good.fact), tt)) (λ _. tt)
@@ -118,6 +127,8 @@ module _ (store : ℕ → Store) (state : ℕ → Option State) (txs : ℕ → L
       glob = good.glob;
       mine = all_mine (Some x.state) ended.state good.fact;
       triples = triples;
+      held = held_after store txs i tx I.held;
+      raised = raised_after store txs i tx I.held I.raised collects_new last_up;
       sent = all_append (EnvelopeHolds n good.h) messages (messages_of x.out) (envelopes_last n i I.g good.h good.ext messages I.sent) (envelopes_of n good.h i me.member.in_map x.out good.sent);
       sizes = all_append EnvelopeFine messages (messages_of x.out) I.sizes (fine_envelopes x.out ended.sends);
       active = all_append (WasActive n good.h) pairs _ (active_last n i I.g good.h good.ext pairs I.active) now_active;
@@ -130,6 +141,8 @@ module _ (store : ℕ → Store) (state : ℕ → Option State) (txs : ℕ → L
       glob = good.glob;
       mine = all_mine None tt tt;
       triples = triples;
+      held = held_after store txs i tx I.held;
+      raised = raised_after store txs i tx I.held I.raised collects_new last_up;
       sent = envelopes_last n i I.g good.h good.ext messages I.sent;
       sizes = I.sizes;
       active = active_last n i I.g good.h good.ext pairs I.active;
@@ -137,7 +150,7 @@ module _ (store : ℕ → Store) (state : ℕ → Option State) (txs : ℕ → L
 
 -- it goes down before it kept anything
 lost_holds : (n : ℕ) (store : ℕ → Store) (state : ℕ → Option State) (txs : ℕ → List (List Op)) (messages : List Envelope) (pairs : List (ℕ × ℕ)) (i : ℕ) → Inv n store state txs messages pairs → Inv n store (put_at state i None) txs messages pairs
-lost_holds n store state txs messages pairs i I = record { g = I.g; glob = I.glob; mine = λ j. by j (eqb j i); triples = I.triples; sent = I.sent; sizes = I.sizes; active = I.active }
+lost_holds n store state txs messages pairs i I = record { g = I.g; glob = I.glob; mine = λ j. by j (eqb j i); triples = I.triples; held = I.held; raised = I.raised; sent = I.sent; sizes = I.sizes; active = I.active }
   where
     by : (j : ℕ) (t : Bool) → Mine n I.g j (readings_of (store j)) (cond t None (state j))
     by j true = record { fine = (I.mine j).fine; fits = tt; disk = (I.mine j).disk; state = tt }
@@ -163,6 +176,8 @@ asked n store state txs messages pairs i s c I =
         glob = ask_glob n a I.g I.glob;
         mine = λ j. mine_lasts n (suc j) I.g h (ask_ext (suc j) a I.g) j (readings_of (store j)) (state j) (λ e. omega arith) (I.mine j);
         triples = record { kept = I.triples.kept; known = I.triples.known };
+        held = I.held;
+        raised = I.raised;
         sent = envelopes_last n 0 I.g h (ask_ext 0 a I.g) messages I.sent;
         sizes = I.sizes;
         active = active_last n 0 I.g h (ask_ext 0 a I.g) pairs I.active;
@@ -353,6 +368,8 @@ at_first ms = record {
   mine = λ i. unknown ms.count i (readings_of empty) nothing_fine (ap (λ (c : Cell). epoch_or_first (number_if_there c)) (nothing_there area.Monitor key.ElectionEpoch)) (ap (λ (c : Cell). or_zero (number_if_there c)) (nothing_there area.Paxos key.LastPn))
       (ap (λ (c : Cell). or_zero (number_if_there c)) (nothing_there area.Paxos key.AcceptedPn)) (ap marks (nothing_there area.Sync key.InSync)) (no_number area.Paxos key.LastCommitted) (no_number area.Paxos key.PendingV) (no_number area.Paxos key.PendingPn);
   triples = record { kept = λ i v p x a. absurd a; known = λ i v p bytes a. absurd (no_transaction v p bytes a) };
+  held = λ i. refl;
+  raised = λ i. tt;
   sent = tt;
   sizes = tt;
   active = tt;

@@ -8,11 +8,14 @@ use Rattle.mon_types.specs.Ranks.{has}
 use Rattle.quorum_history.proofs.History.{Accepted, Entered, Ghost, Glob, Joined}
 use Rattle.quorum_history.proofs.Holds.{Disk, InPhase, MessageHolds, core_of}
 use Rattle.quorum_laws.specs.Accepting.{AcceptedIn}
+use Rattle.quorum_laws.specs.Promises.{NumbersRise}
 use Rattle.quorum_model.specs.Monitors.{Monitors}
+use Rattle.quorum_model.specs.Safe.{after_transactions}
 use Rattle.quorum_model.specs.World.{Envelope, World}
 use Rattle.quorum_walk.proofs.FineCourses.{MessageFine, ReadingsFine, StateFine}
 use Rattle.quorum_walk.proofs.Sparing.{own_of}
 use Rattle.std.proofs.Common.{Bool, IfSome, List, None, Option, Some, true, ℕ, ◌<◌, ◌≡◌}
+use Rattle.std.specs.FinMap.{empty}
 use Rattle.std.specs.List.{AllByRecursion}
 
 abbrev pub OnState : ℕ → Ghost → ℕ → Readings → Option State → Type 0
@@ -49,6 +52,8 @@ pub record Inv (n : ℕ) (store : ℕ → Store) (state : ℕ → Option State) 
   pub glob : Glob n g
   pub mine : (i : ℕ) → Mine n g i (readings_of (store i)) (state i)
   pub triples : TriplesKept g transactions
+  pub held : (i : ℕ) → store i ≡ after_transactions (transactions i) empty
+  pub raised : (i : ℕ) → NumbersRise i empty (transactions i)
   pub sent : AllByRecursion (EnvelopeHolds n g) messages
   pub sizes : AllByRecursion EnvelopeFine messages
   pub active : AllByRecursion (WasActive n g) pairs

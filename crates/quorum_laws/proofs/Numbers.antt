@@ -14,7 +14,7 @@ use Rattle.quorum_history.proofs.Runs.{pending_cases}
 use Rattle.quorum_laws.proofs.Invariant.{InvOf}
 use Rattle.quorum_laws.proofs.Reading.{accepted_as, as_accepted, at_least, sent_fine, sent_holds}
 use Rattle.quorum_laws.specs.Accepting.{HasAccepted, readings_at}
-use Rattle.quorum_laws.specs.Promises.{AllRemember, AnswerCovers, AnswersCover, CarriesValues, CollectHolds, IsSomeValue, NumbersHold, PromiseHolds, Remembers, RemembersIn, ValuesAlone}
+use Rattle.quorum_laws.specs.Promises.{AllNumbersRise, AllRemember, AnswerCovers, AnswersCover, CarriesValues, CollectHolds, IsSomeValue, NumbersHold, PromiseHolds, Remembers, RemembersIn, ValuesAlone}
 use Rattle.quorum_model.specs.Monitors.{Monitors}
 use Rattle.quorum_model.specs.World.{World}
 use Rattle.quorum_walk.proofs.FineCourses.{BodyFine, ToldFine, Val}
@@ -53,6 +53,9 @@ module _ (ms : Monitors) (w : World) (I : InvOf ms w) where
     accepted = accepted_low;
     owner = by_owner;
   }
+
+  pub numbers_rise : AllNumbersRise w
+  numbers_rise i = I.raised i
 
   -- ---- what was accepted is not forgotten
 

@@ -5,6 +5,7 @@ use Rattle.mon_msg.specs.Protocol.Readings.{Readings}
 use Rattle.mon_msg.specs.Protocol.State.{State}
 use Rattle.mon_msg.specs.declared.plan.Sent.TheVariants as sent
 use Rattle.mon_msg.specs.declared.plan.Sent.{Sent}
+use Rattle.mon_tx.specs.Map.{Store, apply}
 use Rattle.mon_tx.specs.Text.{text}
 use Rattle.mon_tx.specs.declared.op.Op.{Op}
 use Rattle.mon_wire.specs.declared.phase.Phase.TheVariants as phase
@@ -16,16 +17,19 @@ use Rattle.quorum_history.proofs.Phases.{no}
 use Rattle.quorum_laws.proofs.Invariant.{EnvelopeFine, EnvelopeHolds, Mine, OnState, TriplesKept, WasActive}
 use Rattle.quorum_laws.proofs.Voting.{accepts_vote, vote_accepted}
 use Rattle.quorum_laws.specs.Accepting.{AcceptedIn, Accepts}
+use Rattle.quorum_laws.specs.Promises.{Collects, NumbersRise, last_number}
 use Rattle.quorum_model.specs.Clients.{messages_of}
 use Rattle.quorum_model.specs.Happens.{is_active, put_at}
+use Rattle.quorum_model.specs.Safe.{after_transactions}
 use Rattle.quorum_model.specs.World.{Envelope}
 use Rattle.quorum_walk.proofs.FineCourses.{Fit, SentFine, Shaped}
 use Rattle.quorum_walk.proofs.Lists.{Among, all_map}
 use Rattle.quorum_walk.proofs.Ranks.{within_at}
 use Rattle.quorum_walk.proofs.Sparing.{own_of}
-use Rattle.std.proofs.Common.{Bool, List, None, Option, Some, [], arith, cond, eqb, false, inl, inr, refl, subst, suc, sym, true, zero, ℕ, ◌++◌, ◌<◌, ◌∷◌, ◌≡◌, ◌≤◌}
+use Rattle.std.proofs.Common.{Bool, List, None, Option, Some, [], ap, arith, cond, eqb, false, inl, inr, refl, subst, suc, sym, true, zero, ℕ, ◌%◌, ◌++◌, ◌<◌, ◌∙◌, ◌∷◌, ◌≡◌, ◌≤◌}
 use Rattle.std.proofs.lemmas.Bool.{eq-eqb, eqb-false, eqb-true}
 use Rattle.std.proofs.lemmas.List.Elements.{Contains-append_cases, Contains-append_left, Contains-append_right}
+use Rattle.std.specs.FinMap.{empty}
 use Rattle.std.specs.List.{AllByRecursion, Contains}
 use Rattle.std.specs.Prelude.{slice_index_or}
 
@@ -135,3 +139,23 @@ module _ (i : ℕ) (g h : Ghost) (cs : List Change) (T : Tied i g h cs) (S : Sha
 
   pub triples_kept : TriplesKept h after_txs
   triples_kept = record { kept = kept; known = known }
+
+-- ---- transactions
+
+after_push : (txs : List (List Op)) (u : List Op) (m : Store) → after_transactions (txs ++ u ∷ []) m ≡ apply u (after_transactions txs m)
+after_push [] u m = refl
+after_push (t ∷ txs) u m = after_push txs u (apply t m)
+
+-- a transaction more
+rise_push : (i : ℕ) (txs : List (List Op)) (u : List Op) (m : Store) → NumbersRise i m txs → ((pn : ℕ) → Collects u pn → (pn % 100 ≡ i) × (last_number (after_transactions txs m) < pn))
+    → last_number (after_transactions txs m) ≤ last_number (apply u (after_transactions txs m)) → NumbersRise i m (txs ++ u ∷ [])
+rise_push i [] u m h new up = (new, up, tt)
+rise_push i (t ∷ txs) u m h new up = (h.0, h.1, rise_push i txs u (apply t m) h.2 new up)
+
+module _ (store : ℕ → Store) (txs : ℕ → List (List Op)) (i : ℕ) (tx : List Op) (held : (j : ℕ) → store j ≡ after_transactions (txs j) empty) where
+  pub held_after : (j : ℕ) → put_at store i (apply tx (store i)) j ≡ after_transactions (put_at txs i (txs i ++ tx ∷ []) j) empty
+  held_after = at_put (λ (j : ℕ) (m : Store) (us : List (List Op)). m ≡ after_transactions us empty) store txs i (apply tx (store i)) (txs i ++ tx ∷ []) (ap (apply tx) (held i) ∙ sym (after_push (txs i) tx empty)) (λ j ne. held j)
+
+  pub raised_after : ((j : ℕ) → NumbersRise j empty (txs j)) → ((pn : ℕ) → Collects tx pn → (pn % 100 ≡ i) × (last_number (store i) < pn)) → last_number (store i) ≤ last_number (apply tx (store i)) → (j : ℕ) → NumbersRise j empty (put_at txs i (txs i ++ tx ∷ []) j)
+  raised_after raised new up = at_put (λ (j : ℕ) (m : Store) (us : List (List Op)). NumbersRise j empty us) store txs i (store i) (txs i ++ tx ∷ [])
+      (rise_push i (txs i) tx empty (raised i) (subst (λ (m : Store). (pn : ℕ) → Collects tx pn → (pn % 100 ≡ i) × (last_number m < pn)) (held i) new) (subst (λ (m : Store). last_number m ≤ last_number (apply tx m)) (held i) up)) (λ j ne. raised j)

@@ -1,16 +1,18 @@
 -- What monitors promised, and what a promise covers.
 use Rattle.log_model.specs.LogOfValues.{IsValue}
 use Rattle.mon_msg.specs.Protocol.Places.{is_done}
-use Rattle.mon_msg.specs.Protocol.Readings.{Readings, or_zero, promise_of}
+use Rattle.mon_msg.specs.Protocol.Readings.{Readings, or_zero, promise_of, readings_of}
 use Rattle.mon_msg.specs.Protocol.Records.{pending, record_at}
 use Rattle.mon_msg.specs.declared.paxos.Found.{Found}
+use Rattle.mon_tx.specs.Map.{Store, apply}
 use Rattle.mon_tx.specs.declared.op.Op.{Op}
 use Rattle.mon_wire.specs.declared.body.Body.TheVariants as body
 use Rattle.mon_wire.specs.declared.body.Body.{Body}
 use Rattle.mon_wire.specs.declared.parts.Told.{Told}
-use Rattle.quorum_laws.specs.Accepting.{HasAccepted, readings_at}
+use Rattle.quorum_laws.specs.Accepting.{HasAccepted, put_alone, readings_at}
 use Rattle.quorum_model.specs.World.{Envelope, World}
-use Rattle.std.proofs.Common.{Bool, IfSome, List, Option, Some, false, suc, true, ℕ, ◌%◌, ◌<◌, ◌≡◌, ◌≤◌, ◌⊎◌}
+use Rattle.std.proofs.Common.{Bool, IfSome, List, Option, Some, [], false, suc, true, ℕ, ◌%◌, ◌<◌, ◌∷◌, ◌≡◌, ◌≤◌, ◌⊎◌}
+use Rattle.std.specs.FinMap.{empty}
 use Rattle.std.specs.List.{AllByRecursion, Contains}
 
 -- ---- numbers
@@ -36,6 +38,25 @@ pub record NumbersHold (w : World) : Type 0 where
   -- the rank whose number it is made it, and accepted the value too
   pub owner : (i v pn : ℕ) (bytes : List ℕ) → HasAccepted w i v pn bytes
       → HasAccepted w (pn % 100) v pn bytes × (pn ≤ or_zero (readings_at w (pn % 100)).last_pn)
+
+-- A transaction collects under a number: it puts it as the last one that the monitor made, and begins no full synchronisation.
+pub record Collects (transaction : List Op) (pn : ℕ) : Type 0 where
+  pub number : (put_alone transaction).last_pn ≡ Some pn
+  pub unmarked : (put_alone transaction).marked ≡ false
+
+-- the last number that a store's monitor made
+abbrev pub last_number : Store → ℕ
+last_number m = or_zero (readings_of m).last_pn
+
+-- Along the transactions of monitor i, from a store on, its last number never falls, and each that collects raises it to a number
+-- of its rank. So a number belongs to one rank and to one collect.
+abbrev pub NumbersRise : ℕ → Store → List (List Op) → Type 0
+NumbersRise i m [] = Unit {0}
+NumbersRise i m (tx ∷ txs) =
+    ((pn : ℕ) → Collects tx pn → (pn % 100 ≡ i) × (last_number m < pn)) × (last_number m ≤ last_number (apply tx m)) × NumbersRise i (apply tx m) txs
+
+abbrev pub AllNumbersRise : World → Type 0
+AllNumbersRise w = (i : ℕ) → NumbersRise i empty (w.transactions i)
 
 -- ---- what was accepted is not forgotten
 

@@ -1,6 +1,6 @@
 -- The acts leave values that go round and numbers that fit.
 use Rattle.election_rules.specs.Ranking.{allows}
-use Rattle.mon_msg.specs.Protocol.Changes.{Epoch, Mark, Numbers, Vote}
+use Rattle.mon_msg.specs.Protocol.Changes.{Epoch, Numbers, Vote}
 use Rattle.mon_msg.specs.Protocol.Collecting.{begin_found, collect, collect_with, commits_to, commits_with, missed, reign, settle}
 use Rattle.mon_msg.specs.Protocol.Course.{Course, change, forget_clients, in_phase, leader_is, prober_is, ◌▸◌}
 use Rattle.mon_msg.specs.Protocol.Entering.{adopt, bootstrap, elect, in_next_epoch, in_odd_epoch, is_even, next_even, own_table, win}
@@ -28,7 +28,7 @@ use Rattle.mon_types.specs.declared.names.Which.TheVariants as which
 use Rattle.mon_wire.specs.declared.body.Body.TheVariants as body
 use Rattle.mon_wire.specs.declared.phase.Phase.TheVariants as phase
 use Rattle.mon_wire.specs.declared.reply.Reply.{Reply}
-use Rattle.quorum_walk.proofs.FineCourses.{Calm, Ended, Fine, FineAt, FoundFine, ReadingsFine, SentFine, StageFine, StateFine, Val, changes_fine, more_sent, number_fine, over, state_fine, tell_fine, tells_fine, vote_fine}
+use Rattle.quorum_walk.proofs.FineCourses.{Calm, Ended, Fine, FineAt, FoundFine, ReadingsFine, SentFine, StageFine, StateFine, Val, mark_fine, more_sent, number_fine, over, state_fine, tell_fine, tells_fine, vote_fine}
 use Rattle.quorum_walk.proofs.FineReading.{learn_fine, longest_fine, missing_fine, pending_fine, put_fine, run_fine}
 use Rattle.quorum_walk.proofs.Lists.{all_flat_map}
 use Rattle.quorum_walk.proofs.Walk.{Then, and_then, by_test, done, where_fits}
@@ -189,7 +189,7 @@ module _ (me : Me) (now : ℕ) (w0 : Readings) where
   pub staged_fine : (s : SyncStage) (x : Course) → Fine w0 x → StageFine s → FineAt Calm w0 x.readings x.changes x.state.leader.found x.state.leader.value x.state.leader.pn s x.state.clients.queue x.out
   staged_fine s x A k = state_fine x.state.leader.found x.state.leader.value x.state.leader.pn s x.state.clients.queue A (record { found = A.state.found; value = A.state.value; pn = A.state.pn; stage = k; queue = A.state.queue })
 
-  pub full_sync_fine : (f : ℕ) (x : Course) → Fine w0 x → Fine w0 (full_sync me now f x)
+  pub full_sync_fine : (f : ℕ) (x : Course) → Fine w0 x → Ended w0 (full_sync me now f x)
   unfolding full_sync
   full_sync_fine f x A =
       let floor = floor_of x.readings in
@@ -198,10 +198,11 @@ module _ (me : Me) (now : ℕ) (w0 : Readings) where
       let l = O.last in
       let m = O.floor in
       let short : IsShort floor = omega arith in
-      let c = Mark floor x.readings.last_pn x.readings.promise in
-      let B = changes_fine (c ∷ []) A (tt, tt) ((short, O.last_pn, O.promise), tt)
+      let B = mark_fine floor x.readings.last_pn x.readings.promise A (short, O.last_pn, O.promise)
       (record { own = record { epoch = O.epoch; last_pn = O.last_pn; promise = O.promise; pending = omega arith; last = omega arith; floor = short }; records = λ v. missing_fine }) in
-      tell_fine me body.GetCookieFull f (staged_fine sync.Cookie (change c x) B tt) tt
+      let leader = x.state.leader in
+      let S : StateFine leader.found leader.value leader.pn sync.Cookie x.state.clients.queue = record { found = A.state.found; value = A.state.value; pn = A.state.pn; stage = tt; queue = A.state.queue } in
+      tell_fine me body.GetCookieFull f (state_fine leader.found leader.value leader.pn sync.Cookie x.state.clients.queue B S) tt
 
   pub recent_sync_fine : (f : ℕ) (x : Course) → Fine w0 x → Fine w0 (recent_sync me now f x)
   unfolding recent_sync

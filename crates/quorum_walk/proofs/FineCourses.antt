@@ -8,7 +8,7 @@ use Rattle.mon_msg.specs.Protocol.Changes.{Boot, Change, Copy, Epoch, Last, Lear
 use Rattle.mon_msg.specs.Protocol.Course.{Course}
 use Rattle.mon_msg.specs.Protocol.Played.{Fits, IsShort, play, played}
 use Rattle.mon_msg.specs.Protocol.Readings.{Readings, cell_after, epoch_of, epoch_or_first}
-use Rattle.mon_msg.specs.Protocol.Records.{most_value, transaction_in}
+use Rattle.mon_msg.specs.Protocol.Records.{most_value, pending, transaction_in}
 use Rattle.mon_msg.specs.Protocol.Sending.{message_to}
 use Rattle.mon_msg.specs.Protocol.Services.{service_last}
 use Rattle.mon_msg.specs.Protocol.Value.{service_of, value}
@@ -152,9 +152,10 @@ fit_fits (Last n ∷ cs) k = (k.0, fit_fits cs k.1)
 fit_fits (Mark f l p ∷ cs) k = (k.0, fit_fits cs k.1)
 fit_fits (Unmark ∷ cs) k = (k.0, fit_fits cs k.1)
 
--- a vote comes last, if at all
+-- a vote or a mark comes last, if at all
 abbrev pub IsCalm : Change → Type 0
 IsCalm (Vote v pn value) = ⊥
+IsCalm (Mark floor last_pn promise) = ⊥
 IsCalm other = Unit {0}
 
 abbrev pub Calm : List Change → Type 0
@@ -168,8 +169,16 @@ pub record EndsInVote (cs : List Change) : Type 0 where
   pub value : List Op
   pub is : cs ≡ before ++ Vote v pn value ∷ []
 
+pub record EndsInMark (cs : List Change) : Type 0 where
+  pub before : List Change
+  pub calm : Calm before
+  pub floor : ℕ
+  pub last_pn : Option ℕ
+  pub promise : Option ℕ
+  pub is : cs ≡ before ++ Mark floor last_pn promise ∷ []
+
 abbrev pub Shaped : List Change → Type 0
-Shaped cs = Calm cs ⊎ EndsInVote cs
+Shaped cs = Calm cs ⊎ (EndsInVote cs ⊎ EndsInMark cs)
 
 -- ---- a course, begun where the readers told w0
 
@@ -228,9 +237,20 @@ module _ {w0 w : Readings} {cs : List Change} {found : Option Found} {value : Op
   pub vote_fine : (v p : ℕ) (x : List Op) → FineAt Calm w0 w cs found value pn stage queue out → Fit (Vote v p x) → ReadingsFine (play (Vote v p x) w)
       → FineAt Shaped w0 (play (Vote v p x) w) (cs ++ Vote v p x ∷ []) found value pn stage queue out
   vote_fine v p x A f r = record {
-    shape = inr (record { before = cs; calm = A.shape; v = v; pn = p; value = x; is = refl });
+    shape = inr (inl (record { before = cs; calm = A.shape; v = v; pn = p; value = x; is = refl }));
     tells = ap (play (Vote v p x)) A.tells ∙ sym (played_more cs (Vote v p x ∷ []) w0);
     fits = all_append Fit cs (Vote v p x ∷ []) A.fits (f, tt);
+    readings = r;
+    state = A.state;
+    sends = A.sends;
+  }
+
+  pub mark_fine : (floor : ℕ) (last_pn promised : Option ℕ) → FineAt Calm w0 w cs found value pn stage queue out → Fit (Mark floor last_pn promised) → ReadingsFine (play (Mark floor last_pn promised) w)
+      → FineAt Shaped w0 (play (Mark floor last_pn promised) w) (cs ++ Mark floor last_pn promised ∷ []) found value pn stage queue out
+  mark_fine floor last_pn promised A f r = record {
+    shape = inr (inr (record { before = cs; calm = A.shape; floor = floor; last_pn = last_pn; promise = promised; is = refl }));
+    tells = ap (play (Mark floor last_pn promised)) A.tells ∙ sym (played_more cs (Mark floor last_pn promised ∷ []) w0);
+    fits = all_append Fit cs (Mark floor last_pn promised ∷ []) A.fits (f, tt);
     readings = r;
     state = A.state;
     sends = A.sends;

@@ -16,7 +16,7 @@ use Rattle.mon_wire.specs.declared.body.Body.TheVariants as body
 use Rattle.mon_wire.specs.declared.phase.Phase.TheVariants as phase
 use Rattle.quorum_walk.proofs.FineActs.{adopt_fine, elect_fine, epoch_fine, full_sync_fine, recent_sync_fine, win_fine}
 use Rattle.quorum_walk.proofs.FineCourses.{Ended, Fine, over, tell_fine}
-use Rattle.quorum_walk.proofs.Walk.{Then, by_test}
+use Rattle.quorum_walk.proofs.Walk.{Then, by_test, done}
 use Rattle.std.proofs.Common.{Bool, List, Option, eqb, leb, ltb, not, suc, ℕ, ◌&&◌, ◌+◌, ◌||◌}
 use Rattle.std.specs.Prelude.{is_some}
 
@@ -31,8 +31,8 @@ module _ (me : Me) (now : ℕ) (w0 : Readings) where
       let y : Course = prober_is (record { outside = with_rank x.state.prober.outside f }) x in
       let B : Fine w0 y = A in
       by_test (not (same_phase x.state.phase phase.Probing)) (λ _. over w0 A) (λ _.
-      by_test x.readings.marked (λ _. by_test (leb 1 last && leb x.readings.floor last) (λ _. over w0 (full_sync_fine me now w0 f x A)) (λ _. over w0 A)) (λ _.
-      by_test (ltb x.readings.last first && ltb 1 first) (λ _. over w0 (full_sync_fine me now w0 f x A)) (λ _.
+      by_test x.readings.marked (λ _. by_test (leb 1 last && leb x.readings.floor last) (λ _. done (full_sync_fine me now w0 f x A)) (λ _. over w0 A)) (λ _.
+      by_test (ltb x.readings.last first && ltb 1 first) (λ _. done (full_sync_fine me now w0 f x A)) (λ _.
       by_test (ltb (x.readings.last + lag) last) (λ _. over w0 (recent_sync_fine me now w0 f x A)) (λ _.
       by_test (ltb 0 (count_of q)) (λ _. elect_fine me now w0 x A) (λ _.
       by_test (is_majority me.member.monitors (with_rank x.state.prober.outside f)) (λ _. elect_fine me now w0 y B) (λ _. over w0 B))))))
