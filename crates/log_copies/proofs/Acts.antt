@@ -83,6 +83,9 @@ module _ (log : List (List ℕ)) (fits : length log ≤ 2 ^ 62) (all : AllValues
   abbrev pub Has : Course → Type 0
   Has x = HasAt x.readings x.changes x.out
 
+  pub within : {w : Readings} {cs : List Change} {out : List Sent} → HasAt w cs out → w.last ≤ length log
+  within H = let V = H.has in V.within
+
   -- ---- what is sent
 
   pub says : {w : Readings} {cs : List Change} {out : List Sent} (sends : List Sent) → AllTell log sends → HasAt w cs out → HasAt w cs (out ++ sends)
@@ -151,13 +154,13 @@ module _ (log : List (List ℕ)) (fits : length log ≤ 2 ^ 62) (all : AllValues
           subst (λ (u : ℕ). HasVersions log (u + length values) (behind (learn_changes u (value ∷ values) ++ Last (u + length values) ∷ []) (behind x.changes m))) (sym is)
           (learned log fits all x.readings.last (behind x.changes m) H.has value values W (let r = versions_within log values x.readings.last value W in omega arith))
 
-      within : x.readings.last + length (value ∷ values) ≤ length log
-      within = versions_within log values x.readings.last value W
+      known : x.readings.last + length (value ∷ values) ≤ length log
+      known = versions_within log values x.readings.last value W
 
       kept : Keeps log (v + length values) (record (played (learn_changes v (value ∷ values)) x.readings) { last = v + length values })
       kept =
           subst (λ (u : ℕ). Keeps log (u + length values) (record (played (learn_changes u (value ∷ values)) x.readings) { last = u + length values })) (sym is)
-          (keeps_noted log fits all (value ∷ values) x.readings.last (suc x.readings.last + length values) (omega arith) (let r = within in omega arith) W x.readings H.keeps)
+          (keeps_noted log fits all (value ∷ values) x.readings.last (suc x.readings.last + length values) (omega arith) (let r = known in omega arith) W x.readings H.keeps)
 
       wrote : behind ((x.changes ++ learn_changes v (value ∷ values)) ++ Last (v + length values) ∷ []) m ≡ behind (learn_changes v (value ∷ values) ++ Last (v + length values) ∷ []) (behind x.changes m)
       wrote = ap (λ (cs : List Change). behind cs m) (append_assoc x.changes (learn_changes v (value ∷ values)) (Last (v + length values) ∷ [])) ∙ behind_append x.changes _ m
@@ -167,7 +170,7 @@ module _ (log : List (List ℕ)) (fits : length log ≤ 2 ^ 62) (all : AllValues
   module _ (me : Me) (several : 1 < me.member.monitors) (now : ℕ) where
     pub is_active : (x : Course) → Has x → Has (be_active me now x)
     unfolding be_active extend
-    is_active x H = says_each me (epoch_of x.readings) (body.Lease x.readings.last) (members me x.state.leader.quorum) tt H
+    is_active x H = says_each me (epoch_of x.readings) (body.Lease x.readings.last) (members me x.state.leader.quorum) (within H) H
 
     pub commits : (value : List Op) (x : Course) → IsVersion log (suc x.readings.last) value → Has x → Then Has (commit me now value x)
     unfolding commit be_active extend
@@ -175,7 +178,7 @@ module _ (log : List (List ℕ)) (fits : length log ≤ 2 ^ 62) (all : AllValues
         let v = suc x.readings.last in
         and_then Has Has (learn v (value ∷ []) x) _ (learns v (value ∷ []) x refl (V, tt) H) (λ y K. done Has _
         (says (answers_to me (epoch_of y.readings) y.state.leader.origin (reply.Done v)) (any_tell me (epoch_of y.readings) y.state.leader.origin (reply.Done v))
-        (says_each me (epoch_of y.readings) (body.Lease y.readings.last) (members me y.state.leader.quorum) tt
+        (says_each me (epoch_of y.readings) (body.Lease y.readings.last) (members me y.state.leader.quorum) (within K)
         (says_each me (epoch_of y.readings) (body.Commit v (value ∷ [])) (members me y.state.leader.quorum) (V, tt) K))))
 
     -- whoever's quorum isn't itself alone
@@ -197,7 +200,7 @@ module _ (log : List (List ℕ)) (fits : length log ≤ 2 ^ 62) (all : AllValues
         let w = x.readings in
         let ks = members me x.state.leader.quorum in
         begins_found x.state.leader.found _ several
-        (says (flat_map (commits_to me w x.state.leader.lasts) ks) (all_commits_tell log fits all me w x.state.leader.lasts (let V = H.has in V.within) H.keeps ks) H)
+        (says (flat_map (commits_to me w x.state.leader.lasts) ks) (all_commits_tell log fits all me w x.state.leader.lasts (within H) H.keeps ks) H)
 
     pub collects : (q : List Bool) (above : ℕ) (x : Course) → is_empty (members me q) ≡ false → Has x → Then Has (collect me now q above x)
     unfolding collect collect_with
@@ -205,7 +208,7 @@ module _ (log : List (List ℕ)) (fits : length log ≤ 2 ^ 62) (all : AllValues
         let pn = next_number (or_zero x.readings.last_pn) (max (promise_of x.readings) above) me.member.rank in
         where_fits Has which.Pn pn (λ n. cond (is_empty (members me q)) (settle me now (collect_with me now q n x)) (Ok (collect_with me now q n x)))
         (by_test Has (is_empty (members me q)) (settle me now (collect_with me now q pn x)) (Ok (collect_with me now q pn x)) (λ t. absurd (let g : true ≡ false = sym t ∙ several in cc))
-        (λ t. done Has (collect_with me now q pn x) (says_each me (epoch_of x.readings) (body.Collect pn x.readings.first x.readings.last) (members me q) tt (changes (Numbers pn) x.readings x.changes tt H))))
+        (λ t. done Has (collect_with me now q pn x) (says_each me (epoch_of x.readings) (body.Collect pn x.readings.first x.readings.last) (members me q) (within H) (changes (Numbers pn) x.readings x.changes tt H))))
 
     pub reigns : (q : List Bool) (x : Course) → is_empty (members me q) ≡ false → Has x → Then Has (reign me now q x)
     unfolding reign
@@ -236,4 +239,4 @@ module _ (log : List (List ℕ)) (fits : length log ≤ 2 ^ 62) (all : AllValues
 
     pub asks_versions : (f : ℕ) (x : Course) → Has x → Has (recent_sync me now f x)
     unfolding recent_sync
-    asks_versions f x H = says_one me (epoch_of x.readings) (body.GetCookieRecent x.readings.last) f tt H
+    asks_versions f x H = says_one me (epoch_of x.readings) (body.GetCookieRecent x.readings.last) f (within H) H

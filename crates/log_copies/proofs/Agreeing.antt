@@ -45,7 +45,7 @@ use Rattle.mon_msg.specs.Protocol.Reads.{is_standing, read}
 use Rattle.mon_msg.specs.Protocol.Records.{pending}
 use Rattle.mon_msg.specs.Protocol.Replay.{step_in, replay_step}
 use Rattle.mon_msg.specs.Protocol.State.{quorum_of, lease_of}
-use Rattle.log_copies.proofs.Acts.{says, Then, done, and_then, where_fits, learns}
+use Rattle.log_copies.proofs.Acts.{within, says, Then, done, and_then, where_fits, learns}
 use Rattle.log_copies.proofs.Rows.{branch, OnLog, boots, sends, tells_reply}
 use Rattle.log_copies.proofs.UnderWay.{place_same}
 use Rattle.log_model.specs.LogOfValues.{AllValues}
@@ -79,13 +79,13 @@ module _ (log : List (List ℕ)) (fits : length log ≤ 2 ^ 62) (all : AllValues
 
   pub probe_comes : (f : ℕ) (x : Course) → Here x → Then Here (hear_probe me f x)
   unfolding hear_probe
-  probe_comes f x H = branch {b = x.readings.marked} (λ t. stay H) (λ t. tells x (epoch_of x.readings) (body.ProbeReply (quorum_of x.state) x.readings.first x.readings.last) f tt H)
+  probe_comes f x H = branch {b = x.readings.marked} (λ t. stay H) (λ t. tells x (epoch_of x.readings) (body.ProbeReply (quorum_of x.state) x.readings.first x.readings.last) f (within log fits all m H) H)
 
   pub lease_comes : (f e last : ℕ) (x : Course) → Here x → Then Here (hear_lease me now f e last x)
   unfolding hear_lease
   lease_comes f e last x H =
       branch {b = not (of_leader f e x) || not (eqb last x.readings.last) || is_some (pending x.readings)} (λ t. stay H)
-      (λ t. done Here _ (sends log fits all m me several now (epoch_of x.readings) (body.LeaseAck x.readings.last) f tt H))
+      (λ t. done Here _ (sends log fits all m me several now (epoch_of x.readings) (body.LeaseAck x.readings.last) f (within log fits all m H) H))
 
   pub lease_ack_comes : (f e last : ℕ) (x : Course) → Here x → Then Here (hear_lease_ack me f e last x)
   unfolding hear_lease_ack
@@ -105,7 +105,7 @@ module _ (log : List (List ℕ)) (fits : length log ≤ 2 ^ 62) (all : AllValues
   grants : (full : Bool) (f : ℕ) (x : Course) → Here x → Then Here (grant me full f x)
   grants full f x H =
       where_fits Here which.Cookie x.state.provider.next_cookie _ (done Here _
-      (sends log fits all m me several now (epoch_of x.readings) (body.Cookie full (record { boot = x.readings.boot; seq = x.state.provider.next_cookie }) x.readings.last) f (let V = H.has in V.within) H))
+      (sends log fits all m me several now (epoch_of x.readings) (body.Cookie full (record { boot = x.readings.boot; seq = x.state.provider.next_cookie }) x.readings.last) f (within log fits all m H) H))
 
   pub get_cookie_full : (f : ℕ) (x : Course) → Here x → Then Here (hear_get_cookie_full me f x)
   unfolding hear_get_cookie_full

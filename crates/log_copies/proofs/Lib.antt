@@ -22,3 +22,4 @@ pub mod Rows
 pub mod Agreeing
 pub mod Unmarked
 pub mod Sending
+pub mod Asking

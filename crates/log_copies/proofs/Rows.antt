@@ -47,7 +47,7 @@ use Rattle.mon_msg.specs.Protocol.Entering.{is_even, bootstrap, elect, adopt}
 use Rattle.mon_msg.specs.Protocol.Sets.{is_empty, are_within, is_majority}
 use Rattle.mon_msg.specs.Protocol.State.{State, quorum_of}
 use Rattle.mon_msg.specs.Protocol.Value.{service_of, value}
-use Rattle.log_copies.proofs.Acts.{Then, done, and_then, where_fits, by_test, HasAt, Has, says_one, says_answer, says_reply, changes, changes_if, learns, commits, begins, settles, collects, bootstraps, elects, wins, adopts}
+use Rattle.log_copies.proofs.Acts.{Then, done, and_then, where_fits, by_test, HasAt, Has, within, says_one, says_answer, says_reply, changes, changes_if, learns, commits, begins, settles, collects, bootstraps, elects, wins, adopts}
 use Rattle.log_copies.proofs.Telling.{news_versions, news_begin}
 use Rattle.log_model.specs.LogOfValues.{AllValues}
 use Rattle.log_model.proofs.Records.{IsVersion, AreVersions}
@@ -156,7 +156,7 @@ module _ (log : List (List ℕ)) (fits : length log ≤ 2 ^ 62) (all : AllValues
       let y = promise pn (cancel x) in
       let K : OnLog y = changes_if log fits all m (ltb (promise_of x.readings) pn) (Promise pn) (cancel x) tt H in
       where_fits OnLog which.Version (suc last) (λ from. Ok (send me f (last_answer me.member.monitors y.readings from) y))
-      (done OnLog _ (sends (epoch_of y.readings) (last_answer me.member.monitors y.readings (suc last)) f (answer_tells log fits all me.member.monitors y.readings (let V = K.has in V.within) K.keeps last) K))
+      (done OnLog _ (sends (epoch_of y.readings) (last_answer me.member.monitors y.readings (suc last)) f (answer_tells log fits all me.member.monitors y.readings (within log fits all m K) K.keeps last) K))
 
   pub collect_comes : (f e pn first last : ℕ) (x : Course) → OnLog x → Then OnLog (hear_collect me now f e pn first last x)
   unfolding hear_collect

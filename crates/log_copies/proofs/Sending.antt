@@ -38,10 +38,15 @@ use Rattle.log_model.proofs.FoldWindows.{keeps_last}
 use Rattle.log_model.proofs.Lists.{all_append}
 use Rattle.log_model.proofs.Records.{IsVersion, AreVersions, first_versions, run_versions, keeps_held}
 
--- told values are the log's, in order; so are chunks, and a cookie's last version is the log's
+-- told values are the log's, in order; so are chunks, and last versions
 abbrev pub BodyTells : List (List ℕ) → Body → Type 0
-BodyTells log (body.Last pn first last whole from values pending) = AreVersions log from values
+BodyTells log (body.Last pn first last whole from values pending) = (last ≤ length log) × AreVersions log from values
 BodyTells log (body.Commit from values) = AreVersions log from values
+BodyTells log (body.ProbeReply quorum first last) = last ≤ length log
+BodyTells log (body.Collect pn first last) = last ≤ length log
+BodyTells log (body.Lease last) = last ≤ length log
+BodyTells log (body.LeaseAck last) = last ≤ length log
+BodyTells log (body.GetCookieRecent last) = last ≤ length log
 BodyTells log (body.Cookie full cookie last) = last ≤ length log
 BodyTells log (body.Chunk cookie p values entries done) = ChunkOf log (body.Chunk cookie p values entries done)
 BodyTells log (body.LastChunk cookie p values entries last) = ChunkOf log (body.LastChunk cookie p values entries last)
@@ -118,7 +123,7 @@ module _ (log : List (List ℕ)) (short : length log ≤ 2 ^ 62) (all : AllValue
       with_values : (vs : List (List Op)) → AreVersions log (suc v) vs → (told : Option Told) → BodyTells log (answer_with n (promise_of w) w.first w.last (suc v) vs told)
       with_values vs h told =
           cond_both (tells_all n (promise_of w) w.first w.last (suc v) vs told) (body.Last (promise_of w) w.first w.last true (suc v) vs told) (body.Last (promise_of w) w.first w.last false (suc v) vs None) (BodyTells log)
-          (λ t. h) (λ t. h)
+          (λ t. (le, h)) (λ t. (le, h))
 
   -- ---- the readers still keep the log
 

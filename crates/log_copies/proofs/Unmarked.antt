@@ -42,7 +42,7 @@ use Rattle.log_copies.proofs.Sending.{AllTell}
 use Rattle.log_copies.proofs.Telling.{monitor_keeps}
 use Rattle.mon_wire.specs.declared.reply.Reply.TheVariants as reply
 use Rattle.mon_msg.specs.Protocol.Sending.{members, others}
-use Rattle.log_copies.proofs.Acts.{says_each, Then, done, where_fits, changes, changes_if, asks_versions}
+use Rattle.log_copies.proofs.Acts.{within, says_each, Then, done, where_fits, changes, changes_if, asks_versions}
 use Rattle.log_copies.proofs.Agreeing.{IsRecent, Here, stay, again, probe_comes, lease_comes, lease_ack_comes, route_comes, get_cookie_full, get_cookie_recent, get_chunk, cookie_comes, no_cookie, ping_comes, ping_reply, chunk_comes, last_chunk_comes, steps_none, reads}
 use Rattle.log_copies.proofs.Copying.{begun}
 use Rattle.log_copies.proofs.Rows.{tells_reply, branch, HasOthers, anew_votes, proposed, acked, election_over, victory, collect_comes, begin_comes, commit_comes, last_comes, accept_comes, asked, forwarded, proposes_due}
@@ -157,7 +157,7 @@ module _ (log : List (List ℕ)) (fits : length log ≤ 2 ^ 62) (all : AllValues
 
       extends : On x0 → On (extend me now (disarm timer.Renew x0))
       unfolding extend
-      extends H = says_each log fits all m me (epoch_of (readings_of m)) (body.Lease (readings_of m).last) (members me s.leader.quorum) tt H
+      extends H = says_each log fits all m me (epoch_of (readings_of m)) (body.Lease (readings_of m).last) (members me s.leader.quorum) (within log fits all m H) H
 
       rung : (t : Timer) → Then On (timer_comes me now t (disarm t x0))
       unfolding renew ping
