@@ -8,3 +8,6 @@ mod leasing;
 mod values;
 
 pub use inputs::step;
+
+#[cfg(test)]
+mod tests;
