@@ -17,3 +17,8 @@ pub mod Telling
 pub mod Aside
 pub mod Events
 pub mod Leaving
+pub mod Acts
+pub mod Rows
+pub mod Agreeing
+pub mod Unmarked
+pub mod Sending

@@ -1,5 +1,5 @@
 -- What a peon does when its leader collects.
-use Rattle.std.proofs.Common.{◌≡◌, ℕ, suc, ◌≤◌, ◌<◌, ◌^◌, Bool, true, false, not, cond, leb, ltb, List, [], ◌∷◌, None, Result, Ok, Err, refl, sym, ap, ◌∙◌, ◌++◌, append-nil, arith}
+use Rattle.std.proofs.Common.{◌≡◌, ℕ, suc, ◌≤◌, ◌<◌, ◌^◌, Bool, true, false, cond, ltb, List, [], ◌∷◌, None, Result, Ok, Err, refl, ap, ◌∙◌, ◌++◌, append-nil, arith}
 use Rattle.std.proofs.lemmas.Bool.{le-leb, lt-leb, le-ltb, lt-ltb}
 use Rattle.mon_msg.specs.Protocol.Answers.{answer_of, last_answer}
 use Rattle.mon_msg.specs.Protocol.Changes.{Change, Promise}

@@ -1,5 +1,5 @@
 -- What a peon does at a lease.
-use Rattle.std.proofs.Common.{◌≡◌, ℕ, ◌+◌, ◌^◌, Bool, true, false, not, ◌||◌, List, [], ◌∷◌, min, is_some, Ok, refl, sym, ap, ◌∙◌}
+use Rattle.std.proofs.Common.{◌≡◌, ℕ, ◌+◌, ◌^◌, Bool, true, false, not, ◌||◌, [], ◌∷◌, min, is_some, Ok, refl, ap, ◌∙◌}
 use Rattle.std.specs.Bool.{◌==◌}
 use Rattle.mon_lease.specs.Lease as lease
 use Rattle.mon_msg.specs.Protocol.Course.{Course, peon_is}

@@ -1,5 +1,5 @@
 -- What is so of an event under way is so of what is known of it.
-use Rattle.std.proofs.Common.{◌≡◌, ℕ, List, subst}
+use Rattle.std.proofs.Common.{ℕ, List, subst}
 use Rattle.mon_msg.specs.Protocol.Changes.{Change, spelled}
 use Rattle.mon_msg.specs.Protocol.Course.{Course}
 use Rattle.mon_msg.specs.Protocol.Readings.{Readings}

@@ -102,7 +102,7 @@ voted_numbers ss i v p o N = record {
   top = λ k m a. subst (λ (z : ℕ). m ≤ z) (same_numbers v p o k) (N.top k m a);
 }
 
-record_is : (v u : ℕ) (bytes : List ℕ) (records : ℕ → Cell) → u ≡ v → with_record v bytes records u ≡ Some bytes
+pub record_is : (v u : ℕ) (bytes : List ℕ) (records : ℕ → Cell) → u ≡ v → with_record v bytes records u ≡ Some bytes
 record_is v u bytes records e = rw (eq-eqb u v e) refl
 
 accepted_kept : (rs : List Entry) (hs : List Hand) (i v p : ℕ) (x : List Op) (g : Ghost) (o : Own) (records : ℕ → Cell) → MayAccept i g o v p x → Kept rs hs g.accepts i o records

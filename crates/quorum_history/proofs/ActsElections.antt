@@ -18,7 +18,7 @@ use Rattle.mon_wire.specs.declared.phase.Phase.TheVariants as phase
 use Rattle.quorum_history.proofs.ActsLeading.{reign_holds}
 use Rattle.quorum_history.proofs.History.{ALevel, Accepted, Ghost, Glob, Had, had_lasts}
 use Rattle.quorum_history.proofs.Holds.{Disk, Good, Nothing, Reigns, RequestsIn, Sound, Waits, core}
-use Rattle.quorum_history.proofs.Numbers.{had_down, marks, pending_is}
+use Rattle.quorum_history.proofs.Numbers.{begins_copy, had_down, pending_is}
 use Rattle.quorum_history.proofs.Steps.{enters, rises, tells, tells_each, weaken}
 use Rattle.quorum_walk.proofs.Parity.{even_next, next_above, odd_of_even}
 use Rattle.quorum_walk.proofs.Ranks.{alone_major, has_only, has_only_is, nobody}
@@ -102,7 +102,7 @@ module _ (me : Me) (now : ℕ) (g : Ghost) where
       let w = x.readings in
       let floor = floor_of w in
       let c = Mark floor w.last_pn w.promise in
-      let B = marks Nothing (λ h. RequestsIn h (core (full_sync me now f x))) (λ v. None) floor (c ∷ []) (tt, tt) (omega arith) (omega arith) (λ h G D. reached_floor h w G D) A (λ h k E p. (refl, λ e. absurd (false≢true (sym e)))) in
+      let B = begins_copy Nothing (λ h. RequestsIn h (core (full_sync me now f x))) (λ v. None) floor (c ∷ []) (tt, tt) (omega arith) (omega arith) (λ h G D. reached_floor h w G D) A (λ h k E p. (refl, λ e. absurd (false≢true (sym e)))) in
       tells me _ body.GetCookieFull f B (λ h E G D p. tt)
 
   pub recent_sync_holds : (f last : ℕ) (x : Course) → x.readings.marked ≡ false → x.readings.last ≤ last → Had g ALevel f last → Sound me g x → Good me g (recent_sync me now f x)

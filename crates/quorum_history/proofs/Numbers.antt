@@ -198,10 +198,10 @@ module _ {n i : ℕ} {g : Ghost} {o : Own} {records : ℕ → Cell} {cs : List C
   pub copies : (more : List Change) → Calm more → o.marked ≡ true → With n i g o records cs out P → ((h k : Ghost) → Ext i g h → Ext i h k → P h → Q k) → With n i g o records2 (cs ++ more) out Q
   copies more calm u A f = moves P Q o records2 more calm (λ k. omega arith) A (λ h E G D q. records_kept h.roles h.hands h.accepts i o records records2 u D.kept) (λ h E F G D q. f h (signed i o h) E F q)
 
-  pub marks : (floor : ℕ) (more : List Change) → Calm more → o.floor ≤ floor → o.last ≤ floor → ((h : Ghost) → Glob n h → Disk h i o records → (v p : ℕ) (x : List Op) → Accepted h i v p x → o.pending_v ≡ v → v ≤ floor)
+  pub begins_copy : (floor : ℕ) (more : List Change) → Calm more → o.floor ≤ floor → o.last ≤ floor → ((h : Ghost) → Glob n h → Disk h i o records → (v p : ℕ) (x : List Op) → Accepted h i v p x → o.pending_v ≡ v → v ≤ floor)
       → With n i g o records cs out P → ((h k : Ghost) → Ext i h k → P h → Q k) → With n i g (marked_at floor o) records2 (cs ++ more) out Q
-  marks floor more calm a b c A f = moves P Q (marked_at floor o) records2 more calm (mark_up floor o a b) A
+  begins_copy floor more calm a b c A f = moves P Q (marked_at floor o) records2 more calm (mark_up floor o a b) A
       (λ h E G D q. mark_kept h.roles h.hands h.accepts i floor o records records2 a b (c h G D) D.kept) (λ h E F G D q. f h (signed i (marked_at floor o) h) F q)
 
-  pub unmarks : (end : ℕ) (more : List Change) → Calm more → o.marked ≡ true → o.floor ≤ end → With n i g o records cs out P → ((h k : Ghost) → Ext i h k → P h → Q k) → With n i g (unmarked_at end o) records2 (cs ++ more) out Q
-  unmarks end more calm u le A f = moves P Q (unmarked_at end o) records2 more calm (unmark_up end o u le) A (λ h E G D q. unmark_kept h.roles h.hands h.accepts i end o records records2 u le D.kept) (λ h E F G D q. f h (signed i (unmarked_at end o) h) F q)
+  pub ends_copy : (end : ℕ) (more : List Change) → Calm more → o.marked ≡ true → o.floor ≤ end → With n i g o records cs out P → ((h k : Ghost) → Ext i h k → P h → Q k) → With n i g (unmarked_at end o) records2 (cs ++ more) out Q
+  ends_copy end more calm u le A f = moves P Q (unmarked_at end o) records2 more calm (unmark_up end o u le) A (λ h E G D q. unmark_kept h.roles h.hands h.accepts i end o records records2 u le D.kept) (λ h E F G D q. f h (signed i (unmarked_at end o) h) F q)

@@ -31,7 +31,7 @@ use Rattle.quorum_history.proofs.Frame.{stage_lasts}
 use Rattle.quorum_history.proofs.History.{ALevel, Ext, Ghost, Had, ext_trans, had_lasts}
 use Rattle.quorum_history.proofs.Holds.{At, BodyHolds, Core, Good, Nothing, RequestsIn, StageHolds, With, core, core_of}
 use Rattle.quorum_history.proofs.Learned.{changed_at, learn_then, learned_at}
-use Rattle.quorum_history.proofs.Numbers.{had_down, level_is, unmarked_at, unmarks}
+use Rattle.quorum_history.proofs.Numbers.{ends_copy, had_down, level_is, unmarked_at}
 use Rattle.quorum_history.proofs.Phases.{as_known, in_known, no}
 use Rattle.quorum_history.proofs.RowsElections.{own_level}
 use Rattle.quorum_history.proofs.Runs.{longest_short, run_short}
@@ -305,7 +305,7 @@ module _ (me : Me) (now : ℕ) (g : Ghost) where
       by_test (ltb end (next + length values))
       (λ _.
       let D : With n i g (unmarked_at end (own_of y.readings)) y.readings.record_of (y.changes ++ Last end ∷ Unmark ∷ []) x.out Nothing =
-      unmarks _ Nothing y.readings.record_of end (Last end ∷ Unmark ∷ []) (tt, (tt, tt)) (ap (λ (o : Own). o.marked) same ∙ marked) (let q = C.fact in let a = q.2 in let b = q.3 in let c = q.4 in omega arith) C (λ h k E p. tt) in
+      ends_copy _ Nothing y.readings.record_of end (Last end ∷ Unmark ∷ []) (tt, (tt, tt)) (ap (λ (o : Own). o.marked) same ∙ marked) (let q = C.fact in let a = q.2 in let b = q.3 in let c = q.4 in omega arith) C (λ h k E p. tt) in
       bootstrap_holds me now g z (subst (λ (ds : List Change). With n i g (unmarked_at end (own_of y.readings)) y.readings.record_of ds x.out Nothing) (sym (append_assoc y.changes (Last end ∷ []) (Unmark ∷ []))) D))
       (λ t. let ge = ltb-false end (next + length values) t in
       let w : Course = y ▸ requester_is (record y.state.requester { stage = sync.Replay (next + length values) end }) ▸ arm now timer.Step in

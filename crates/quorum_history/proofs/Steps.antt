@@ -48,7 +48,7 @@ module _ (me : Me) {g : Ghost} {o : Own} {records : ℕ → Cell} {cs : List Cha
 
 -- ---- what changes say of votes
 
-no_vote : (v p : ℕ) (x : List Op) (cs : List Change) → Calm cs → Among (Vote v p x) cs → ⊥
+pub no_vote : (v p : ℕ) (x : List Op) (cs : List Change) → Calm cs → Among (Vote v p x) cs → ⊥
 no_vote v p x [] k a = a
 no_vote v p x (Vote w q y ∷ cs) k a = k.0
 no_vote v p x (Boot n ∷ cs) k a = elim a [ inl e ↦ (absurd cc) | inr o ↦ no_vote v p x cs k.1 o ]

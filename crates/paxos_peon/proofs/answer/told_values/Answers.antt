@@ -1,4 +1,4 @@
-use Rattle.std.proofs.Common.{◌≡◌, ℕ, List, IfOk, sym, ap, subst, ◌∙◌}
+use Rattle.std.proofs.Common.{◌≡◌, List, IfOk, sym, ap, subst, ◌∙◌}
 use Rattle.mon_msg.specs.Protocol.Answers.{told_values}
 use Rattle.mon_msg.specs.Protocol.Readings.{readings_of}
 use Rattle.mon_plan.specs.Runs.{run_within}

@@ -1,8 +1,8 @@
-use Rattle.std.proofs.Common.{◌≡◌, ℕ, suc, ◌≤◌, ◌<◌, ◌^◌, ◌++◌, cond, ltb, List, [], ◌∷◌, None, refl, ap, sym, subst, ◌∙◌, arith}
+use Rattle.std.proofs.Common.{◌≡◌, ℕ, suc, ◌^◌, ◌++◌, cond, ltb, List, [], ◌∷◌, None, refl, ap, subst, ◌∙◌, arith}
 use Rattle.std.specs.List.{AllByRecursion}
 use Rattle.mon_msg.specs.Protocol.Answers.{answer_of}
 use Rattle.mon_msg.specs.Protocol.Changes.{spelled}
-use Rattle.mon_msg.specs.Protocol.Course.{Course, peon_is}
+use Rattle.mon_msg.specs.Protocol.Course.{peon_is}
 use Rattle.mon_msg.specs.Protocol.Peon.{hear_collect}
 use Rattle.mon_msg.specs.Protocol.Played.{Fits}
 use Rattle.mon_msg.specs.Protocol.Readings.{readings_of, epoch_of, promise_of}

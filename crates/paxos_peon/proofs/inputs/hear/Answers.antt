@@ -1,7 +1,6 @@
-use Rattle.std.proofs.Common.{◌≡◌, ℕ, true, ◌≤◌, List, [], length, IsTrue, refl, ap, sym, subst, ◌∙◌}
+use Rattle.std.proofs.Common.{◌≤◌, List, [], length, IsTrue, refl, sym, subst, ◌∙◌}
 use Rattle.std.specs.List.{AllByRecursion}
-use Rattle.std.proofs.lemmas.Bool.{and_parts, eqb-true}
-use Rattle.mon_msg.specs.Protocol.Course.{Course, peon_is}
+use Rattle.mon_msg.specs.Protocol.Course.{peon_is}
 use Rattle.mon_msg.specs.Protocol.Hearing.{hear}
 use Rattle.mon_msg.specs.Protocol.Length.{fits}
 use Rattle.mon_msg.specs.Protocol.Peon.{hear_collect, hear_begin, hear_commit, hear_lease}
@@ -13,9 +12,9 @@ use Rattle.mon_wire.specs.declared.body.Body.{Body}
 use Rattle.mon_plan.specs.Plans.{PlansRow}
 use Rattle.mon_plan.specs.Seen.{IsMet}
 use Rattle.mon_plan.proofs.Kept.{kept-peon}
-use Rattle.mon_plan.proofs.Planning.{only_acts, weaken}
+use Rattle.mon_plan.proofs.Planning.{only_acts}
 use Rattle.paxos_peon.specs.Rows.{IsOurs}
-use Rattle.paxos_peon.proofs.HearLaws.{others, of_leader-row, hear-dropped, begun-short, committed-short, committed-few}
+use Rattle.paxos_peon.proofs.HearLaws.{others, of_leader-row, hear-dropped, committed-short}
 use Rattle.paxos_peon.proofs.inputs.hear.Goals as goal
 
 pub returns-then-not-is_ours : goal.returns-then-not-is_ours

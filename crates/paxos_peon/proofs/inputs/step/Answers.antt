@@ -1,5 +1,5 @@
-use Rattle.std.proofs.Common.{◌≡◌, [], IsTrue, Ok, refl, sym, subst}
-use Rattle.mon_msg.specs.Protocol.Course.{Course, peon_is}
+use Rattle.std.proofs.Common.{[], IsTrue, Ok, refl, sym, subst}
+use Rattle.mon_msg.specs.Protocol.Course.{peon_is}
 use Rattle.mon_msg.specs.Protocol.Readings.{readings_of}
 use Rattle.mon_msg.specs.Protocol.Table.{timer_comes}
 use Rattle.mon_msg.specs.declared.input.Input.TheVariants as input

@@ -1,6 +1,6 @@
-use Rattle.std.proofs.Common.{◌≡◌, ℕ, ◌+◌, ◌^◌, min, ◌++◌, List, [], ◌∷◌, refl, ap, sym, ◌∙◌}
+use Rattle.std.proofs.Common.{◌+◌, ◌^◌, min, ◌++◌, List, [], ◌∷◌, refl, ap, sym, ◌∙◌}
 use Rattle.mon_lease.specs.Lease.{extended}
-use Rattle.mon_msg.specs.Protocol.Course.{Course, peon_is}
+use Rattle.mon_msg.specs.Protocol.Course.{peon_is}
 use Rattle.mon_msg.specs.Protocol.Peon.{hear_lease}
 use Rattle.mon_msg.specs.Protocol.Readings.{readings_of, epoch_of}
 use Rattle.mon_msg.specs.Protocol.Sending.{message_to}

@@ -1,8 +1,8 @@
-use Rattle.std.proofs.Common.{◌≡◌, ℕ, suc, ◌+◌, ◌-◌, ◌≤◌, ◌<◌, ◌++◌, List, [], length, length-drop, take, drop, min, Ok, refl, ap, sym, subst, ◌∙◌, arith}
+use Rattle.std.proofs.Common.{ℕ, suc, ◌+◌, ◌-◌, ◌≤◌, ◌++◌, List, [], length, length-drop, take, drop, min, Ok, refl, ap, sym, subst, ◌∙◌, arith}
 use Rattle.std.specs.List.{AllByRecursion}
 use Rattle.std.proofs.lemmas.Bool.{ltb-false}
 use Rattle.mon_msg.specs.Protocol.Changes.{spelled}
-use Rattle.mon_msg.specs.Protocol.Course.{Course, peon_is}
+use Rattle.mon_msg.specs.Protocol.Course.{peon_is}
 use Rattle.mon_msg.specs.Protocol.Peon.{hear_commit}
 use Rattle.mon_msg.specs.Protocol.Readings.{readings_of}
 use Rattle.mon_msg.specs.Protocol.State.{State}

@@ -1,0 +1,157 @@
+-- What monitors tell each other of the log.
+use Rattle.std.proofs.Common.{◌≡◌, ℕ, suc, ◌+◌, ◌-◌, ◌≤◌, ◌<◌, ◌^◌, Bool, true, false, ◌&&◌, ◌||◌, cond, ltb, List, [], ◌∷◌, ◌++◌, length, map, Option, Some, None, ◌⊎◌, inl, inr, sym, ap, subst, ◌∙◌, arith}
+use Rattle.std.proofs.lemmas.Bool.{cases_lt, cond_both, ne_eqb}
+use Rattle.std.specs.List.{AllByRecursion, flat_map}
+use Rattle.std.specs.Prelude.{slice_index_or}
+use Rattle.mon_tx.specs.declared.op.Op.{Op}
+use Rattle.mon_tx.specs.Decision.{Cell}
+use Rattle.mon_tx.specs.Text.{text}
+use Rattle.mon_wire.specs.declared.body.Body.{Body}
+use Rattle.mon_wire.specs.declared.body.Body.TheVariants as body
+use Rattle.mon_wire.specs.declared.parts.Told.{Told}
+use Rattle.mon_wire.specs.declared.parts.Cookie.{Cookie}
+use Rattle.mon_wire.specs.declared.parts.Place.{Place as ChunkPlace}
+use Rattle.mon_bytes.specs.declared.entry.Entry.{Entry}
+use Rattle.mon_msg.specs.Protocol.Providing.{reach, is_finished, chunk_with, given_values, given_entries, chunk}
+use Rattle.mon_msg.specs.declared.plan.Sent.{Sent}
+use Rattle.mon_msg.specs.declared.plan.Sent.TheVariants as sent
+use Rattle.mon_msg.specs.declared.view.Me.{Me}
+use Rattle.mon_msg.specs.Protocol.Answers.{told_of, told_values, tells_all, answer_with, answer_of, last_answer}
+use Rattle.mon_msg.specs.Protocol.Changes.{Change, Boot, Epoch, Numbers, Promise, Vote, Record, Learn, Last, Copy, Mark, Unmark}
+use Rattle.mon_msg.specs.Protocol.Collecting.{missed, commits_with, commits_to}
+use Rattle.mon_msg.specs.Protocol.Learning.{learn_changes}
+use Rattle.mon_msg.specs.Protocol.Length.{fits}
+use Rattle.mon_msg.specs.Protocol.Played.{play, played}
+use Rattle.mon_msg.specs.Protocol.Readings.{Readings, promise_of, epoch_of, after}
+use Rattle.mon_msg.specs.Protocol.Records.{pending, run_of, run_from, longest}
+use Rattle.mon_msg.specs.Protocol.Sending.{message_to}
+use Rattle.mon_msg.specs.Puts.{put}
+use Rattle.mon_msg.proofs.Runs.{longest_is}
+use Rattle.mon_tx.specs.declared.key.Area.TheVariants as area
+use Rattle.mon_tx.specs.declared.key.Key.TheVariants as key
+use Rattle.log_copies.specs.Versions.{IsOwnChange}
+use Rattle.log_copies.proofs.Chunks.{ChunkOf}
+use Rattle.log_model.specs.LogOfValues.{AllValues}
+use Rattle.log_model.specs.Windows.{Keeps}
+use Rattle.log_model.proofs.Committed as committed
+use Rattle.log_model.proofs.FoldWindows.{keeps_last}
+use Rattle.log_model.proofs.Lists.{all_append}
+use Rattle.log_model.proofs.Records.{IsVersion, AreVersions, first_versions, run_versions, keeps_held}
+
+-- told values are the log's, in order; so are chunks, and a cookie's last version is the log's
+abbrev pub BodyTells : List (List ℕ) → Body → Type 0
+BodyTells log (body.Last pn first last whole from values pending) = AreVersions log from values
+BodyTells log (body.Commit from values) = AreVersions log from values
+BodyTells log (body.Cookie full cookie last) = last ≤ length log
+BodyTells log (body.Chunk cookie p values entries done) = ChunkOf log (body.Chunk cookie p values entries done)
+BodyTells log (body.LastChunk cookie p values entries last) = ChunkOf log (body.LastChunk cookie p values entries last)
+BodyTells log other = Unit {0}
+
+abbrev pub SentTells : List (List ℕ) → Sent → Type 0
+SentTells log (sent.Message to m) = BodyTells log m.body
+SentTells log (sent.Reply session r) = Unit {0}
+
+abbrev pub AllTell : List (List ℕ) → List Sent → Type 0
+AllTell log sends = AllByRecursion (SentTells log) sends
+
+pub more_tell : (log : List (List ℕ)) (a b : List Sent) → AllTell log a → AllTell log b → AllTell log (a ++ b)
+more_tell log a b h k = all_append (SentTells log) a b h k
+
+-- the chunk that is given
+pub chunk_tells : (log : List (List ℕ)) (last : ℕ) (c : Cookie) (p : ChunkPlace) (left : List Entry) (n : ℕ) (records : ℕ → Cell) → ChunkOf log (chunk last c p left n records) → BodyTells log (chunk last c p left n records)
+unfolding chunk
+chunk_tells log last c p left n records = with_entries (given_values last c p left n records) (given_entries last c p left n (given_values last c p left n records))
+  where
+    with_entries : (values : List (List Op)) (es : List Entry) → ChunkOf log (chunk_with last c p left values es) → BodyTells log (chunk_with last c p left values es)
+    with_entries values es =
+        cond_both (reach last p values && is_finished p left es) (body.LastChunk c p values es last) (body.Chunk c p values es (is_finished p left es)) (λ b. ChunkOf log b → BodyTells log b) (λ t h. h) (λ t h. h)
+
+-- one body to some monitors
+pub each_tells : (log : List (List ℕ)) (me : Me) (e : ℕ) (b : Body) (ks : List ℕ) → BodyTells log b → AllTell log (map (message_to me e b) ks)
+each_tells log me e b [] h = tt
+each_tells log me e b (k ∷ ks) h = (h, each_tells log me e b ks h)
+
+module _ (log : List (List ℕ)) (short : length log ≤ 2 ^ 62) (all : AllValues log) where
+  -- ---- what is told where the readers keep the log
+
+  pub run_keeps : (c : ℕ) → c ≤ length log → (w : Readings) → Keeps log c w → (v : ℕ) → AreVersions log (suc v) (run_from w.record_of c (suc v))
+  unfolding run_of
+  run_keeps c le w K v = by (cases_lt c v)
+    where
+      by : (c < v) ⊎ (v ≤ c) → AreVersions log (suc v) (run_from w.record_of c (suc v))
+      by (inl above) = let none : suc c - suc v ≡ 0 = omega arith in subst (λ (n : ℕ). AreVersions log (suc v) (run_of w.record_of n (suc v))) (sym none) (nothing v)
+        where
+          nothing : (v : ℕ) → AreVersions log (suc v) (run_of w.record_of 0 (suc v))
+          nothing v = tt
+      by (inr within) = run_versions log short all w.record_of (suc c - suc v) v (omega arith) (λ u from to. keeps_held log short all c w K (suc u) (omega arith))
+
+  longest_versions : (test : List (List Op) → Bool) (v : ℕ) (xs : List (List Op)) → AreVersions log v xs → AreVersions log v (longest test xs)
+  longest_versions test v xs h = let L = longest_is test xs in first_versions log (longest test xs) L.rest v (subst (AreVersions log v) (sym L.begins) h)
+
+  -- a member gets the versions that it lacks
+  commits_tell : (me : Me) (w : Readings) (lasts : List ℕ) → w.last ≤ length log → Keeps log w.last w → (to : ℕ) → AllTell log (commits_to me w lasts to)
+  unfolding missed
+  commits_tell me w lasts le K to =
+      let told = slice_index_or lasts to 0 in
+      let W = longest_versions (λ values. fits me.member.monitors (body.Commit (suc told) values)) (suc told) (run_from w.record_of w.last (suc told)) (run_keeps w.last le w K told) in
+      cond_both (ltb told w.last) (commits_with me (epoch_of w) told (missed me.member.monitors w.record_of w.last told) to) [] (AllTell log)
+      (λ t. by told (longest (λ values. fits me.member.monitors (body.Commit (suc told) values)) (run_from w.record_of w.last (suc told))) W) (λ t. tt)
+    where
+      by : (told : ℕ) (values : List (List Op)) → AreVersions log (suc told) values → AllTell log (commits_with me (epoch_of w) told values to)
+      by told [] h = tt
+      by told (x ∷ values) h = (h, tt)
+
+  pub all_commits_tell : (me : Me) (w : Readings) (lasts : List ℕ) → w.last ≤ length log → Keeps log w.last w → (ks : List ℕ) → AllTell log (flat_map (commits_to me w lasts) ks)
+  all_commits_tell me w lasts le K [] = tt
+  all_commits_tell me w lasts le K (k ∷ ks) = more_tell log (commits_to me w lasts k) (flat_map (commits_to me w lasts) ks) (commits_tell me w lasts le K k) (all_commits_tell me w lasts le K ks)
+
+  -- and so does a leader that collects
+  pub answer_tells : (n : ℕ) (w : Readings) → w.last ≤ length log → Keeps log w.last w → (v : ℕ) → BodyTells log (last_answer n w (suc v))
+  unfolding answer_of
+  answer_tells n w le K v = with_values (told_values n (promise_of w) w.first w.last w.record_of (suc v)) values (told_of (pending w))
+    where
+      values : AreVersions log (suc v) (told_values n (promise_of w) w.first w.last w.record_of (suc v))
+      values =
+          cond_both (ltb w.last (suc v) || ltb (suc v) w.first) [] (longest (λ vs. fits n (body.Last (promise_of w) w.first w.last false (suc v) vs None)) (run_from w.record_of w.last (suc v))) (AreVersions log (suc v))
+          (λ t. tt) (λ t. longest_versions (λ vs. fits n (body.Last (promise_of w) w.first w.last false (suc v) vs None)) (suc v) (run_from w.record_of w.last (suc v)) (run_keeps w.last le w K v))
+
+      with_values : (vs : List (List Op)) → AreVersions log (suc v) vs → (told : Option Told) → BodyTells log (answer_with n (promise_of w) w.first w.last (suc v) vs told)
+      with_values vs h told =
+          cond_both (tells_all n (promise_of w) w.first w.last (suc v) vs told) (body.Last (promise_of w) w.first w.last true (suc v) vs told) (body.Last (promise_of w) w.first w.last false (suc v) vs None) (BodyTells log)
+          (λ t. h) (λ t. h)
+
+  -- ---- the readers still keep the log
+
+  pub keeps_own : (c : Change) (w : Readings) → IsOwnChange w.last c → Keeps log w.last w → Keeps log (play c w).last (play c w)
+  keeps_own (Boot n) w h K = record { first = K.first; records = K.records; rows = K.rows }
+  keeps_own (Epoch e) w h K = record { first = K.first; records = K.records; rows = K.rows }
+  keeps_own (Numbers pn) w h K = record { first = K.first; records = K.records; rows = K.rows }
+  keeps_own (Promise pn) w h K = record { first = K.first; records = K.records; rows = K.rows }
+  keeps_own (Vote v pn value) w h K = record {
+    first = K.first;
+    records = λ u le. ap (λ b. cond b (Some (text value)) (w.record_of u)) (ne_eqb u v (λ e. omega arith)) ∙ K.records u le;
+    rows = K.rows;
+  }
+  keeps_own (Record v value) w h K = absurd h
+  keeps_own (Learn v value) w h K = absurd h
+  keeps_own (Last v) w h K = absurd h
+  keeps_own (Copy e) w h K = absurd h
+  keeps_own (Mark floor a b) w h K = absurd h
+  keeps_own Unmark w h K = absurd h
+
+  keeps_one : (c : ℕ) → c < length log → (x : List Op) → IsVersion log (suc c) x → (w : Readings) → Keeps log c w → Keeps log (suc c) (play (Learn (suc c) x) w)
+  keeps_one c lt x V w K = subst (Keeps log (suc c)) (λ i. after (put area.Paxos (key.Version (suc c)) (V.spells i) ∷ V.reads i) w) (committed.learns log short all c lt w K)
+
+  pub keeps_learned : (values : List (List Op)) (c : ℕ) → c + length values ≤ length log → AreVersions log (suc c) values → (w : Readings) → Keeps log c w
+      → Keeps log (c + length values) (played (learn_changes (suc c) values) w)
+  keeps_learned [] c le h w K = subst (λ (n : ℕ). Keeps log n w) (omega arith) K
+  keeps_learned (x ∷ values) c le h w K =
+      let same : suc c + length values ≡ c + length (x ∷ values) = omega arith in
+      subst (λ (n : ℕ). Keeps log n (played (learn_changes (suc (suc c)) values) (play (Learn (suc c) x) w))) same
+      (keeps_learned values (suc c) (omega arith) h.1 (play (Learn (suc c) x) w) (keeps_one c (omega arith) x h.0 w K))
+
+  -- and once their last version is noted
+  pub keeps_noted : (values : List (List Op)) (c e : ℕ) → c + length values ≡ e → e ≤ length log → AreVersions log (suc c) values → (w : Readings) → Keeps log c w
+      → Keeps log e (record (played (learn_changes (suc c) values) w) { last = e })
+  keeps_noted values c e is le h w K =
+      keeps_last log e e (played (learn_changes (suc c) values) w) (subst (λ (n : ℕ). Keeps log n (played (learn_changes (suc c) values) w)) is (keeps_learned values c (omega arith) h w K))

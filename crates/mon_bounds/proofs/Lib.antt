@@ -1,0 +1,17 @@
+pub mod Acts
+pub mod Clients
+pub mod Copies
+pub mod Courses
+pub mod Elections
+pub mod Joins
+pub mod MapForms
+pub mod Maps
+pub mod Messages
+pub mod Paxos
+pub mod RankSets
+pub mod Reading
+pub mod Sizes
+pub mod Table
+pub mod Tables
+pub mod Texts
+pub mod Values

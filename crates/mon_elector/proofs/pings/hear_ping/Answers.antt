@@ -1,0 +1,44 @@
+use Rattle.std.proofs.Common.{◌≡◌, ℕ, List, [], ◌∷◌, ◌++◌, Option, None, Some, refl, sym, ap, ◌∙◌}
+use Rattle.election_rules.specs.declared.scores.Scores.{Scores}
+use Rattle.mon_msg.specs.Protocol.Course.{elector_is}
+use Rattle.mon_msg.specs.Protocol.Pings.{hear_ping, with_heard}
+use Rattle.mon_msg.specs.Protocol.Readings.{readings_of, epoch_of}
+use Rattle.mon_msg.specs.Protocol.Sending.{message_to}
+use Rattle.mon_msg.specs.declared.election.Elector.{Elector}
+use Rattle.mon_msg.specs.declared.plan.Next.TheVariants as next
+use Rattle.mon_msg.specs.declared.plan.Sent.{Sent}
+use Rattle.mon_plan.proofs.Planning.{does}
+use Rattle.mon_wire.specs.declared.body.Body.TheVariants as body
+use Rattle.mon_elector.specs.Rows.{table_told}
+use Rattle.mon_elector.proofs.Known.{Met, stays}
+use Rattle.mon_elector.proofs.PingLaws as laws
+use Rattle.mon_elector.proofs.pings.hear_ping.Goals as goal
+
+none_is : (t : Option Scores) → ((x : Scores) → t ≡ Some x → ⊥) → t ≡ None
+none_is None no_some = refl
+none_is (Some x) no_some = absurd (no_some x refl)
+
+pub returns-in_default : goal.returns-in_default
+returns-in_default c =
+    λ now.
+    let w = readings_of c.args.stored.now in
+    stays c.args.me.now now w c.args.view.now c.args.state.now (hear_ping c.args.me.now c.args.from c.args.table.now) c.stay.result c.stay.ensures
+    (λ x b. ap (λ (t : Option Scores). hear_ping c.args.me.now c.args.from t x) (none_is c.args.table.now c.in_default.not-Some) ∙ laws.ping-untold c.args.me.now c.args.from x)
+
+pub returns : goal.returns
+returns c =
+    λ now.
+    let me = c.args.me.now in
+    let s = c.args.state.now in
+    let w = readings_of c.args.stored.now in
+    let f = c.args.from in
+    let table = c.in-Some.table in
+    let told : c.table_told-table.result ≡ table_told me.rule (with_heard f table s).scores = c.table_told-table.ensures ∙ ap (λ (t : Elector). table_told me.rule t.scores) c.with_heard-heard.ensures in
+    does me now elector_is (Met me now w c.args.view.now s) (λ x. x) (hear_ping me f c.args.table.now)
+    [] tt (message_to me (epoch_of w) (body.PingReply (table_told me.rule (with_heard f table s).scores)) f ∷ []) [] (with_heard f table s) next.Stay
+    (λ x b. ap (λ (t : Option Scores). hear_ping me f t x) c.in-Some.is ∙ laws.ping-answered me now w c.args.view.now s x b f table)
+    (record { tx = c.new.result; out = c.push.new.self; timers = c.new-2.result; state = c.with_heard-heard.result; next = next.Stay })
+    c.new.ensures
+    (c.in_ok-push.ensures.ok ∙ ap (λ (l : List Sent). l ++ c.message.result ∷ []) c.new-out.ensures
+    ∙ ap (λ (m : Sent). m ∷ []) (c.message.ensures ∙ (λ i. message_to me (c.epoch.ensures i) (body.PingReply (told i)) f)))
+    c.new-2.ensures c.with_heard-heard.ensures refl

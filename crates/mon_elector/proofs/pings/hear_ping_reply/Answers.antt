@@ -1,0 +1,27 @@
+use Rattle.std.proofs.Common.{◌≡◌, ℕ, List, [], Option, sym, ap, ◌∙◌}
+use Rattle.election_rules.specs.declared.scores.Scores.{Scores}
+use Rattle.mon_msg.specs.Protocol.Pings.{hear_ping_reply, with_heard}
+use Rattle.mon_msg.specs.Protocol.Readings.{readings_of}
+use Rattle.mon_msg.specs.declared.plan.Next.TheVariants as next
+use Rattle.mon_elector.proofs.Known.{plan_of, stays, plans}
+use Rattle.mon_elector.proofs.PingLaws as laws
+use Rattle.mon_elector.proofs.pings.hear_ping_reply.Goals as goal
+
+pub returns-in-None : goal.returns-in-None
+returns-in-None c =
+    λ now.
+    let w = readings_of c.args.stored.now in
+    stays c.args.me.now now w c.args.view.now c.args.state.now (hear_ping_reply c.args.from c.args.table.now) c.stay.result c.stay.ensures
+    (λ x b. ap (λ (t : Option Scores). hear_ping_reply c.args.from t x) c.in-None.is ∙ laws.ping_reply-untold c.args.from x)
+
+pub returns-in-Some : goal.returns-in-Some
+returns-in-Some c =
+    λ now.
+    let s = c.args.state.now in
+    let w = readings_of c.args.stored.now in
+    let f = c.args.from in
+    let table = c.in-Some.table in
+    plans c.args.me.now now w c.args.view.now s (hear_ping_reply f c.args.table.now) c.stay-in-Some.result
+    [] tt [] [] (with_heard f table s) next.Stay
+    (c.stay-in-Some.ensures ∙ (λ i. plan_of [] [] [] (c.with_heard.ensures i) next.Stay))
+    (λ x b. ap (λ (t : Option Scores). hear_ping_reply f t x) c.in-Some.is ∙ laws.ping_reply-noted c.args.me.now now w c.args.view.now s x b f table)

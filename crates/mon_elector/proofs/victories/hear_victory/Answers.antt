@@ -1,0 +1,51 @@
+use Rattle.std.proofs.Common.{◌≡◌, ℕ, ◌+◌, ◌^◌, List, [], ◌∷◌, min, sym, ap, ◌∙◌}
+use Rattle.mon_msg.specs.Protocol.Changes.{Epoch}
+use Rattle.mon_msg.specs.Protocol.Elections.{hear_victory}
+use Rattle.mon_msg.specs.Protocol.Readings.{readings_of}
+use Rattle.mon_msg.specs.declared.plan.Arming.TheVariants as arming
+use Rattle.mon_msg.specs.declared.plan.Next.TheVariants as next
+use Rattle.mon_wire.specs.declared.phase.Timer.TheVariants as timer
+use Rattle.mon_elector.proofs.Known.{plan_of, stays, plans}
+use Rattle.mon_elector.proofs.VictoryLaws as laws
+use Rattle.mon_elector.proofs.victories.hear_victory.Goals as goal
+
+pub returns-then-is_deaf_to_winners : goal.returns-then-is_deaf_to_winners
+returns-then-is_deaf_to_winners c =
+    let w = readings_of c.args.stored.now in
+    stays c.args.me.now c.args.now w c.args.view.now c.args.state.now (hear_victory c.args.me.now c.args.now c.args.from c.args.epoch c.args.quorum) c.stay.result c.stay.ensures
+    (λ x b. laws.victory-deaf c.args.me.now c.args.now w c.args.view.now c.args.state.now x b c.args.from c.args.epoch c.args.quorum (sym c.is_deaf_to_winners.ensures ∙ c.if-is_deaf_to_winners.true))
+
+pub returns-then-is_reached : goal.returns-then-is_reached
+returns-then-is_reached c =
+    let w = readings_of c.args.stored.now in
+    stays c.args.me.now c.args.now w c.args.view.now c.args.state.now (hear_victory c.args.me.now c.args.now c.args.from c.args.epoch c.args.quorum) c.stay-then-is_reached.result c.stay-then-is_reached.ensures
+    (λ x b. laws.victory-reached c.args.me.now c.args.now w c.args.view.now c.args.state.now x b c.args.from c.args.epoch c.args.quorum (sym c.is_deaf_to_winners.ensures ∙ c.if-is_deaf_to_winners.false) (sym c.is_reached.ensures ∙ c.if-is_reached.true))
+
+pub returns-then-not-is_next : goal.returns-then-not-is_next
+returns-then-not-is_next c =
+    let me = c.args.me.now in
+    let s = c.args.state.now in
+    let w = readings_of c.args.stored.now in
+    let e = c.args.epoch in
+    plans me c.args.now w c.args.view.now s (hear_victory me c.args.now c.args.from e c.args.quorum) c.in_ok-enter_epoch.field-0
+    (Epoch e ∷ []) (c.in_ok-enter_epoch.ensures.fit, tt) [] [] s next.Elect c.in_ok-enter_epoch.ensures.plan
+    (λ x b. laws.victory-later me c.args.now w c.args.view.now s x b c.args.from e c.args.quorum (sym c.is_deaf_to_winners.ensures ∙ c.if-is_deaf_to_winners.false) (sym c.is_reached.ensures ∙ c.if-is_reached.false) (sym c.is_next.ensures ∙ c.if-not-is_next.true))
+
+pub returns-then-not-may_follow : goal.returns-then-not-may_follow
+returns-then-not-may_follow c =
+    let w = readings_of c.args.stored.now in
+    stays c.args.me.now c.args.now w c.args.view.now c.args.state.now (hear_victory c.args.me.now c.args.now c.args.from c.args.epoch c.args.quorum) c.stay-then-not-may_follow.result c.stay-then-not-may_follow.ensures
+    (λ x b. laws.victory-dropped c.args.me.now c.args.now w c.args.view.now c.args.state.now x b c.args.from c.args.epoch c.args.quorum (sym c.is_deaf_to_winners.ensures ∙ c.if-is_deaf_to_winners.false) (sym c.is_reached.ensures ∙ c.if-is_reached.false) (sym c.is_next.ensures ∙ c.if-not-is_next.false)
+    (sym c.may_follow.ensures ∙ c.if-not-may_follow.true))
+
+pub returns : goal.returns
+returns c =
+    let me = c.args.me.now in
+    let s = c.args.state.now in
+    let w = readings_of c.args.stored.now in
+    let e = c.args.epoch in
+    plans me c.args.now w c.args.view.now s (hear_victory me c.args.now c.args.from e c.args.quorum) c.in_ok-enter_epoch_until.field-0
+    (Epoch e ∷ []) (c.in_ok-enter_epoch_until.ensures.fit, tt) [] (arming.Arm timer.Lease (min (c.args.now + 10000) (2 ^ 62)) ∷ []) s (next.Follow c.args.from c.args.quorum)
+    (c.in_ok-enter_epoch_until.ensures.plan ∙ (λ i. plan_of (Epoch e ∷ []) [] (c.armed-arming.ensures i ∷ []) s (next.Follow c.args.from c.args.quorum)))
+    (λ x b. laws.victory-followed me c.args.now w c.args.view.now s x b c.args.from e c.args.quorum (sym c.is_deaf_to_winners.ensures ∙ c.if-is_deaf_to_winners.false) (sym c.is_reached.ensures ∙ c.if-is_reached.false) (sym c.is_next.ensures ∙ c.if-not-is_next.false)
+    (sym c.may_follow.ensures ∙ c.if-not-may_follow.false))

@@ -1,0 +1,69 @@
+-- The inputs of an elector, and what is known where its rows and its act are answered.
+use Rattle.std.specs.Prelude.{◌≡◌, ℕ, suc, ◌≤◌, ◌<◌, ◌^◌, Bool, true, false, List, Option, Some, None, Result, Ok, Err, if◌then◌else◌, [], ◌∷◌, map}
+use Rattle.election_rules.specs.declared.rule.Rule.{Rule}
+use Rattle.election_rules.specs.declared.scores.Scores.{Scores}
+use Rattle.mon_msg.specs.Protocol.Changes.{Epoch, spelled}
+use Rattle.mon_msg.specs.Protocol.Course.{Course, elector_is}
+use Rattle.mon_msg.specs.Protocol.Entering.{scores_count}
+use Rattle.mon_msg.specs.Protocol.Readings.{Readings, epoch_of}
+use Rattle.mon_msg.specs.Protocol.Sending.{others, message_to}
+use Rattle.mon_msg.specs.Protocol.Sets.{only}
+use Rattle.mon_msg.specs.Protocol.Timers.{length_of}
+use Rattle.mon_msg.specs.declared.election.Elector.{Elector}
+use Rattle.mon_msg.specs.declared.input.Input.TheVariants as input
+use Rattle.mon_msg.specs.declared.input.Input.{Input}
+use Rattle.mon_msg.specs.declared.plan.Next.TheVariants as next
+use Rattle.mon_msg.specs.declared.plan.Plan.{Plan}
+use Rattle.mon_msg.specs.declared.plan.RoleStop.TheVariants as stop
+use Rattle.mon_msg.specs.declared.plan.RoleStop.{RoleStop}
+use Rattle.mon_msg.specs.declared.view.Me.{Me}
+use Rattle.mon_msg.specs.declared.view.View.{View}
+use Rattle.mon_plan.specs.Plans.{PlansRow}
+use Rattle.mon_plan.specs.Seen.{IsMet}
+use Rattle.mon_types.specs.declared.names.Which.TheVariants as which
+use Rattle.mon_types.specs.declared.names.Which.{Which}
+use Rattle.mon_wire.specs.declared.body.Body.TheVariants as body
+use Rattle.mon_wire.specs.declared.body.Body.{Body}
+use Rattle.mon_wire.specs.declared.phase.Timer.TheVariants as timer
+use Rattle.mon_wire.specs.declared.phase.Timer.{Timer}
+
+-- what monitors say to each other of elections and of their connections
+abbrev pub is_told : Body → Bool
+is_told (body.Propose table) = true
+is_told body.Ack = true
+is_told (body.Victory quorum) = true
+is_told (body.Ping table) = true
+is_told (body.PingReply table) = true
+is_told b = false
+
+abbrev pub is_rung : Timer → Bool
+is_rung timer.Election = true
+is_rung timer.Ping = true
+is_rung t = false
+
+-- what an elector answers
+abbrev pub is_input : Input → Bool
+is_input input.Start = false
+is_input (input.Deliver m) = is_told m.body
+is_input (input.Timer t) = is_rung t
+is_input (input.Client session r) = false
+
+-- a row, where the store tells this, the other roles are seen so, and the elector remembers that
+abbrev pub PlansElection : Me → (now : ℕ) → Readings → View → Elector → (Course → Result Course Which) → Result (Plan Elector) RoleStop → Type 0
+PlansElection me now w view s row result = PlansRow me now elector_is (IsMet me now w view (λ state. state.elector) s) row result
+
+-- An event under way where an election is called: the epoch is this, and the elector remembers that.
+pub record IsCalled (e : ℕ) (s : Elector) (x : Course) : Type 0 where
+  pub epoch : epoch_of x.readings ≡ e
+  pub role : x.state.elector ≡ s
+
+-- the own table, where scores count
+abbrev pub table_told : Rule → Scores → Option Scores
+table_told rule scores = if scores_count rule then Some scores else None
+
+-- the next epoch begins in which those lead who deferred to it, unless no number is left for it
+abbrev pub Wins : (epoch : ℕ) → Elector → (acked : List Bool) → Result (Plan Elector) RoleStop → Type 0
+Wins epoch s acked (Ok p) =
+    (suc epoch ≤ 2 ^ 62) × (p ≡ record { tx = spelled (Epoch (suc epoch) ∷ []); out = []; timers = []; state = s; next = next.Win acked })
+Wins epoch s acked (Err stop.OutOfMemory) = Unit {0}
+Wins epoch s acked (Err (stop.Spent spent)) = (spent ≡ which.Epoch) × (2 ^ 62 < suc epoch)

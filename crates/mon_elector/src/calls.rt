@@ -1,0 +1,80 @@
+//! The monitor calls an election.
+
+ghost use Rattle.std.specs.Prelude.{◌≡◌, ◌+◌, ◌^◌, [], ◌∷◌, None, true, min, map, IfOk};
+ghost use Rattle.mon_msg.specs.Protocol.Changes.{Epoch as ToEpoch, spelled};
+ghost use Rattle.mon_msg.specs.Protocol.Course.{elector_is};
+ghost use Rattle.mon_msg.specs.Protocol.Sending.{others, message_to};
+ghost use Rattle.mon_msg.specs.Protocol.Sets.{only};
+ghost use Rattle.mon_msg.specs.declared.plan.Arming.TheVariants as arming;
+ghost use Rattle.mon_msg.specs.declared.plan.Next.TheVariants as next;
+ghost use Rattle.mon_plan.specs.Plans.{PlansAct};
+ghost use Rattle.mon_wire.specs.declared.body.Body.TheVariants as body;
+ghost use Rattle.mon_wire.specs.declared.phase.Timer.TheVariants as timer;
+ghost use Rattle.mon_elector.specs.Rows.{IsCalled, table_told};
+
+use crate::seen::{is_even, table_told};
+use crate::steps::{tell_others, tell_until, to_epoch};
+use mon_bytes::OutOfMemory;
+use mon_msg::{Body, Elector, Me, Plan, RoleStop, Timer};
+use mon_plan::armed;
+use mon_tx::Transaction;
+use mon_types::{Epoch, Moment, RankSet, Which};
+use std::alloc::Global;
+
+/// The elector that stands for election.
+fn standing(me: &Me, state: &Elector) -> Elector
+    ensures { result ≡ record state.now { candidate = true; acked = only me.now.member.rank; deferred = None } }
+{
+    Elector {
+        candidate: true,
+        acked: RankSet::empty().with(me.member.rank),
+        deferred: None,
+        ..*state
+    }
+}
+
+/// It asks all others to defer to it.
+fn call(
+    alloc: Global,
+    me: &Me,
+    tx: Transaction,
+    epoch: Epoch,
+    state: &Elector,
+    now: Moment,
+) -> Result<Plan<Elector>, OutOfMemory>
+    ensures { IfOk result (λ p. p ≡ record {
+      tx = tx;
+      out = map (message_to me.now epoch (body.Propose (table_told me.now.rule state.now.scores))) (others me.now);
+      timers = arming.Arm timer.Election (min (now + 5000) (2 ^ 62)) ∷ [];
+      state = record state.now { candidate = true; acked = only me.now.member.rank; deferred = None };
+      next = next.Stay;
+    }) }
+{
+    let table = table_told(&me.rule, &state.scores);
+    let out = tell_others(alloc, me, epoch, &Body::Propose { table })?;
+    let arming = armed(now, Timer::Election);
+    tell_until(alloc, tx, out, standing(me, state), arming)
+}
+
+/// What an elector does where its monitor calls an election, after what came before it in the event: the epoch is the one that
+/// the store tells then. An even epoch ends: the election is in the next one. `Spent` names the epoch exactly where that would
+/// pass 2^62.
+pub fn enter(
+    alloc: Global,
+    me: &Me,
+    epoch: Epoch,
+    state: &Elector,
+    now: Moment,
+) -> Result<Plan<Elector>, RoleStop>
+    ensures { PlansAct me.now now elector_is (IsCalled epoch state.now) next.Elect result }
+{
+    if !is_even(epoch) {
+        return Ok(call(alloc, me, Transaction::new(alloc), epoch, state, now)?);
+    }
+    let Some(odd) = epoch.plus_one() else {
+        return Err(RoleStop::Spent {
+            which: Which::Epoch,
+        });
+    };
+    Ok(call(alloc, me, to_epoch(alloc, odd)?, odd, state, now)?)
+}

@@ -1,0 +1,95 @@
+//! What an elector does at each of its inputs.
+
+ghost use Rattle.std.specs.Prelude.{◌≡◌, List, IsTrue};
+ghost use Rattle.mon_bytes.specs.declared.entry.Entry.{Entry};
+ghost use Rattle.mon_msg.specs.Protocol.Hearing.{hear};
+ghost use Rattle.mon_msg.specs.Protocol.Readings.{readings_of};
+ghost use Rattle.mon_msg.specs.Protocol.Table.{timer_comes};
+ghost use Rattle.mon_plan.specs.Inputs.{row};
+ghost use Rattle.mon_elector.specs.Rows.{is_told, is_rung, is_input, PlansElection};
+
+use crate::acks::{election_ends, hear_ack};
+use crate::pings::{hear_ping, hear_ping_reply, ping};
+use crate::proposals::hear_propose;
+use crate::victories::hear_victory;
+use mon_kv::Kv;
+use mon_msg::input::Input;
+use mon_msg::{Body, Elector, Me, Message, Plan, RoleStop, Timer, View};
+use mon_plan::Stored;
+use mon_types::Moment;
+use std::alloc::Global;
+
+/// A message of another monitor.
+fn hear(
+    alloc: Global,
+    stored: &Stored<'_>,
+    me: &Me,
+    view: &View,
+    state: &Elector,
+    message: &Message,
+    now: Moment,
+) -> Result<Plan<Elector>, RoleStop>
+    requires { IsTrue (is_told message.now.body) }
+    ensures { (shared : List Entry) → PlansElection me.now now (readings_of stored.now) view.now state.now
+        (hear me.now shared now message.now.from message.now.epoch message.now.body) result }
+{
+    let from = message.from;
+    let epoch = message.epoch;
+    match &message.body {
+        Body::Propose { table } => {
+            hear_propose(alloc, stored, me, view, state, from, epoch, table, now)
+        }
+        Body::Ack => hear_ack(alloc, stored, me, view, state, from, epoch),
+        Body::Victory { quorum } => {
+            hear_victory(alloc, stored, me, view, state, from, epoch, *quorum, now)
+        }
+        Body::Ping { table } => hear_ping(alloc, stored, me, view, state, from, table),
+        Body::PingReply { table } => {
+            Ok(hear_ping_reply(alloc, stored, me, view, state, from, table))
+        }
+        _ => unreachable!(),
+    }
+}
+
+/// A timer, which was armed and is disarmed.
+fn ring(
+    alloc: Global,
+    stored: &Stored<'_>,
+    me: &Me,
+    view: &View,
+    state: &Elector,
+    timer: Timer,
+    now: Moment,
+) -> Result<Plan<Elector>, RoleStop>
+    requires { IsTrue (is_rung timer) }
+    ensures { PlansElection me.now now (readings_of stored.now) view.now state.now (timer_comes me.now now timer) result }
+{
+    match timer {
+        Timer::Election => election_ends(alloc, stored, me, view, state),
+        Timer::Ping => ping(alloc, stored, me, view, state, now),
+        _ => unreachable!(),
+    }
+}
+
+/// What an elector does at a PROPOSE, ACK, VICTORY, PING or PING_REPLY that is heard, and when the timer of an election or the one
+/// to ping, which was armed, comes and is disarmed: its row of the protocol's table. What is dropped takes no memory. `Spent`
+/// names the epoch that the monitor would lead in, where that would pass 2^62.
+pub fn step(
+    alloc: Global,
+    kv: &Kv,
+    me: &Me,
+    view: &View,
+    state: &Elector,
+    input: &Input,
+    now: Moment,
+) -> Result<Plan<Elector>, RoleStop>
+    requires { IsTrue (is_input input.now) }
+    ensures { (shared : List Entry) → PlansElection me.now now (readings_of kv.now) view.now state.now (row me.now shared now input.now) result }
+{
+    let stored = Stored::of(alloc, kv);
+    match input {
+        Input::Deliver(message) => hear(alloc, &stored, me, view, state, message, now),
+        Input::Timer(timer) => ring(alloc, &stored, me, view, state, *timer, now),
+        Input::Start | Input::Client(..) => unreachable!(),
+    }
+}

@@ -1,0 +1,169 @@
+//! What an elector asks of what it sees and remembers.
+
+ghost use Rattle.std.specs.Prelude.{◌≡◌, ◌&&◌, ◌||◌, ◌==◌, not, nat_lt, nat_le, suc, is_some};
+ghost use Rattle.election_rules.specs.Ranking.{outranks as is_before};
+ghost use Rattle.mon_msg.specs.Protocol.Elections.{is_allowed, stands_before, may_defer, is_whole, table_or};
+ghost use Rattle.mon_msg.specs.Protocol.Entering.{is_even, scores_count};
+ghost use Rattle.mon_msg.specs.Protocol.Phases.{votes, same_phase};
+ghost use Rattle.mon_msg.specs.Protocol.Readings.{epoch_of, readings_of};
+ghost use Rattle.mon_msg.specs.Protocol.Sets.{is_majority};
+ghost use Rattle.mon_types.specs.Ranks.{has};
+ghost use Rattle.mon_wire.specs.declared.phase.Phase.TheVariants as phase_is;
+ghost use Rattle.mon_elector.specs.Rows.{table_told};
+
+use election_rules::{Rule, Scores, outranks};
+use mon_msg::{Elector, Me, Phase, View};
+use mon_plan::Stored;
+use mon_types::{Epoch, Rank, RankSet};
+
+/// Whether a monitor in this phase takes part in elections.
+fn votes(phase: Phase) -> bool
+    ensures { result ≡ votes phase }
+{
+    match phase {
+        Phase::Booting | Phase::Probing | Phase::Synchronizing => false,
+        Phase::Electing
+        | Phase::Collecting
+        | Phase::Previous
+        | Phase::Active
+        | Phase::Updating
+        | Phase::Peon => true,
+    }
+}
+
+/// Whether a monitor in this phase is in an election.
+pub fn is_electing(phase: Phase) -> bool
+    ensures { result ≡ same_phase phase phase_is.Electing }
+{
+    matches!(phase, Phase::Electing)
+}
+
+/// Whether an epoch is one of a quorum.
+pub fn is_even(epoch: Epoch) -> bool
+    ensures { result ≡ is_even epoch }
+{
+    epoch.get() % 2 == 0
+}
+
+/// Whether what a candidate says in an epoch is dropped: the monitor takes no part in elections, or nobody stands then.
+pub fn is_deaf(view: &View, epoch: Epoch) -> bool
+    ensures { result ≡ (not (votes view.now.phase) || is_even epoch) }
+{
+    !votes(view.phase) || is_even(epoch)
+}
+
+/// Whether what a winner says in an epoch is dropped: the monitor takes no part in elections, or nobody leads then.
+pub fn is_deaf_to_winners(view: &View, epoch: Epoch) -> bool
+    ensures { result ≡ (not (votes view.now.phase) || not (is_even epoch)) }
+{
+    !votes(view.phase) || !is_even(epoch)
+}
+
+/// Whether an epoch is before the monitor's own.
+pub fn is_past(stored: &Stored<'_>, epoch: Epoch) -> bool
+    ensures { result ≡ nat_lt epoch (epoch_of (readings_of stored.now)) }
+{
+    epoch.get() < stored.epoch().get()
+}
+
+/// Whether an epoch is after the monitor's own.
+pub fn is_later(stored: &Stored<'_>, epoch: Epoch) -> bool
+    ensures { result ≡ nat_lt (epoch_of (readings_of stored.now)) epoch }
+{
+    stored.epoch().get() < epoch.get()
+}
+
+/// Whether an epoch is the monitor's own or before it.
+pub fn is_reached(stored: &Stored<'_>, epoch: Epoch) -> bool
+    ensures { result ≡ nat_le epoch (epoch_of (readings_of stored.now)) }
+{
+    epoch.get() <= stored.epoch().get()
+}
+
+/// Whether an epoch is the one after the monitor's own.
+pub fn is_next(stored: &Stored<'_>, epoch: Epoch) -> bool
+    ensures { result ≡ (epoch == suc (epoch_of (readings_of stored.now))) }
+{
+    epoch.get() == stored.epoch().get() + 1
+}
+
+/// Whether a candidate of an earlier epoch makes the monitor call an election: one that is outside of its quorum.
+pub fn is_left_out(stored: &Stored<'_>, view: &View, from: Rank) -> bool
+    ensures { result ≡ (is_even (epoch_of (readings_of stored.now)) && not (has view.now.quorum from)) }
+{
+    is_even(stored.epoch()) && !view.quorum.has(from)
+}
+
+/// The table that a message tells, or else the own one.
+pub fn table_or<'a>(table: &'a Option<Scores>, own: &'a Scores) -> &'a Scores
+    ensures { result.now ≡ table_or table.now own.now }
+{
+    match table {
+        Some(table) => table,
+        None => own,
+    }
+}
+
+/// Whether a candidate may lead, and stands before this monitor.
+pub fn is_better(me: &Me, table: &Scores, from: Rank) -> bool
+    ensures { result ≡ (is_allowed me.now from && stands_before me.now table.now from me.now.member.rank) }
+{
+    me.rule.allows(from) && outranks(&me.rule, me.member.monitors, table, from, me.member.rank)
+}
+
+/// Whether the monitor may defer to a candidate: it deferred to nobody yet, or to this one, or to one that stands behind it.
+pub fn may_defer(me: &Me, table: &Scores, from: Rank, deferred: Option<Rank>) -> bool
+    ensures { result ≡ may_defer me.now table.now from deferred }
+{
+    match deferred {
+        None => true,
+        Some(other) => {
+            from == other || outranks(&me.rule, me.member.monitors, table, from, other)
+        }
+    }
+}
+
+/// Whether a monitor doesn't take part in its own epoch's election yet.
+pub fn is_idle(state: &Elector) -> bool
+    ensures { result ≡ (not (is_some state.now.deferred) && not state.now.candidate) }
+{
+    state.deferred.is_none() && !state.candidate
+}
+
+/// Whether these are all monitors of the map, and this one may lead them.
+pub fn leads_all(me: &Me, acked: RankSet) -> bool
+    ensures { result ≡ (is_whole me.now acked && is_allowed me.now me.now.member.rank) }
+{
+    acked.count() == me.member.monitors && me.rule.allows(me.member.rank)
+}
+
+/// Whether more than half of the map's monitors are in a set.
+fn is_majority(me: &Me, ranks: RankSet) -> bool
+    ensures { result ≡ is_majority me.now.member.monitors ranks }
+{
+    2 * u16::from(ranks.count()) > u16::from(me.member.monitors)
+}
+
+/// Whether a candidate wins once the election's time is over.
+pub fn may_win(me: &Me, state: &Elector) -> bool
+    ensures { result ≡ (state.now.candidate && is_allowed me.now me.now.member.rank && is_majority me.now.member.monitors state.now.acked) }
+{
+    state.candidate && me.rule.allows(me.member.rank) && is_majority(me, state.acked)
+}
+
+/// Whether the monitor may follow a leader in a quorum: both are in it, and it is a majority.
+pub fn may_follow(me: &Me, quorum: RankSet, leader: Rank) -> bool
+    ensures { result ≡ (has quorum me.now.member.rank && has quorum leader && is_majority me.now.member.monitors quorum) }
+{
+    quorum.has(me.member.rank) && quorum.has(leader) && is_majority(me, quorum)
+}
+
+/// The table that a monitor tells: its own, where scores count.
+pub fn table_told(rule: &Rule, scores: &Scores) -> Option<Scores>
+    ensures { result ≡ table_told rule.now scores.now }
+{
+    match rule {
+        Rule::Classic | Rule::Disallow(_) => None,
+        Rule::Connectivity(_) => Some(*scores),
+    }
+}

@@ -1,0 +1,221 @@
+//! The steps of which an elector's plans are made.
+
+ghost use Rattle.std.specs.Prelude.{◌≡◌, ◌+◌, ◌≤◌, ◌^◌, [], ◌∷◌, Some, None, suc, true, false, min, map, IfOk};
+ghost use Rattle.mon_msg.specs.Protocol.Changes.{Epoch as ToEpoch, spelled};
+ghost use Rattle.mon_msg.specs.Protocol.Elections.{merged_if_told};
+ghost use Rattle.mon_msg.specs.Protocol.Played.{Fits};
+ghost use Rattle.mon_msg.specs.Protocol.Readings.{epoch_of, readings_of};
+ghost use Rattle.mon_msg.specs.Protocol.Sending.{message_to, others};
+ghost use Rattle.mon_msg.specs.declared.plan.Arming.TheVariants as arming;
+ghost use Rattle.mon_msg.specs.declared.plan.Next.TheVariants as next;
+ghost use Rattle.mon_types.specs.Ranks.{no_ranks};
+ghost use Rattle.mon_wire.specs.declared.body.Body.TheVariants as body;
+ghost use Rattle.mon_elector.specs.Rows.{Wins};
+
+use election_rules::Scores;
+use mon_bytes::{Items, OutOfMemory};
+use mon_msg::plan::Sent;
+use mon_msg::{Arming, Body, Elector, Me, Next, Plan, RoleStop};
+use mon_plan::{Stored, message, others, put_epoch, send_each};
+use mon_tx::Transaction;
+use mon_types::{Epoch, Rank, RankSet, Which};
+use std::alloc::Global;
+
+/// The elector with what a message tells of connections.
+pub fn merged(table: &Option<Scores>, state: &Elector) -> Elector
+    ensures { result ≡ record state.now { scores = merged_if_told table.now state.now.scores } }
+{
+    let mut scores = state.scores;
+    if let Some(table) = table {
+        scores.merge(table);
+    }
+    Elector { scores, ..*state }
+}
+
+/// The elector in an election that another monitor called.
+pub fn joining(state: &Elector) -> Elector
+    ensures { result ≡ record state.now { candidate = false; acked = no_ranks; deferred = None } }
+{
+    Elector {
+        candidate: false,
+        acked: RankSet::empty(),
+        deferred: None,
+        ..*state
+    }
+}
+
+/// The elector that defers to a candidate.
+fn deferring(state: &Elector, from: Rank) -> Elector
+    ensures { result ≡ record state.now { candidate = false; acked = no_ranks; deferred = Some from } }
+{
+    Elector {
+        candidate: false,
+        acked: RankSet::empty(),
+        deferred: Some(from),
+        ..*state
+    }
+}
+
+/// The transaction that puts an epoch.
+pub fn to_epoch(alloc: Global, epoch: Epoch) -> Result<Transaction, OutOfMemory>
+    ensures changes { IfOk result (λ tx. tx ≡ spelled (ToEpoch epoch ∷ [])) }
+    ensures fit { Fits (ToEpoch epoch) }
+{
+    let mut tx = Transaction::new(alloc);
+    put_epoch(&mut tx, epoch)?;
+    Ok(tx)
+}
+
+/// An epoch begins, and then an act.
+pub fn enter_epoch(
+    alloc: Global,
+    epoch: Epoch,
+    state: Elector,
+    next: Next,
+) -> Result<Plan<Elector>, OutOfMemory>
+    ensures plan { IfOk result (λ p. p ≡ record { tx = spelled (ToEpoch epoch ∷ []); out = []; timers = []; state = state; next = next }) }
+    ensures fit { Fits (ToEpoch epoch) }
+{
+    Ok(Plan {
+        tx: to_epoch(alloc, epoch)?,
+        out: Items::new(alloc),
+        timers: Items::new(alloc),
+        state,
+        next,
+    })
+}
+
+/// The same with a timer.
+pub fn enter_epoch_until(
+    alloc: Global,
+    epoch: Epoch,
+    state: Elector,
+    arming: Arming,
+    next: Next,
+) -> Result<Plan<Elector>, OutOfMemory>
+    ensures plan { IfOk result (λ p. p ≡ record { tx = spelled (ToEpoch epoch ∷ []); out = []; timers = arming ∷ []; state = state; next = next }) }
+    ensures fit { Fits (ToEpoch epoch) }
+{
+    let tx = to_epoch(alloc, epoch)?;
+    let mut timers = Items::new(alloc);
+    timers.push(arming)?;
+    Ok(Plan {
+        tx,
+        out: Items::new(alloc),
+        timers,
+        state,
+        next,
+    })
+}
+
+/// The same message to all others.
+pub fn tell_others(
+    alloc: Global,
+    me: &Me,
+    epoch: Epoch,
+    body: &Body,
+) -> Result<Items<Sent>, OutOfMemory>
+    ensures { IfOk result (λ out. out ≡ map (message_to me.now epoch body.now) (others me.now)) }
+{
+    let ranks = others(alloc, me)?;
+    let mut out = Items::new(alloc);
+    send_each(alloc, &mut out, me, epoch, ranks.as_slice(), body)?;
+    Ok(out)
+}
+
+/// It tells the others, and arms a timer.
+pub fn tell_until(
+    alloc: Global,
+    tx: Transaction,
+    out: Items<Sent>,
+    state: Elector,
+    arming: Arming,
+) -> Result<Plan<Elector>, OutOfMemory>
+    ensures { IfOk result (λ p. p ≡ record { tx = tx; out = out; timers = arming ∷ []; state = state; next = next.Stay }) }
+{
+    let mut timers = Items::new(alloc);
+    timers.push(arming)?;
+    Ok(Plan {
+        tx,
+        out,
+        timers,
+        state,
+        next: Next::Stay,
+    })
+}
+
+/// It defers to a candidate of its own epoch.
+pub fn defer(
+    alloc: Global,
+    me: &Me,
+    epoch: Epoch,
+    state: &Elector,
+    from: Rank,
+) -> Result<Plan<Elector>, OutOfMemory>
+    ensures { IfOk result (λ p. p ≡ record {
+      tx = [];
+      out = message_to me.now epoch body.Ack from ∷ [];
+      timers = [];
+      state = record state.now { candidate = false; acked = no_ranks; deferred = Some from };
+      next = next.Stay;
+    }) }
+{
+    let mut out = Items::new(alloc);
+    out.push(message(me, epoch, Body::Ack, from))?;
+    Ok(Plan {
+        tx: Transaction::new(alloc),
+        out,
+        timers: Items::new(alloc),
+        state: deferring(state, from),
+        next: Next::Stay,
+    })
+}
+
+/// It joins the election of a later epoch, and defers to the candidate that called it.
+pub fn join_and_defer(
+    alloc: Global,
+    me: &Me,
+    epoch: Epoch,
+    state: &Elector,
+    from: Rank,
+    arming: Arming,
+) -> Result<Plan<Elector>, OutOfMemory>
+    ensures plan { IfOk result (λ p. p ≡ record {
+      tx = spelled (ToEpoch epoch ∷ []);
+      out = message_to me.now epoch body.Ack from ∷ [];
+      timers = arming ∷ [];
+      state = record state.now { candidate = false; acked = no_ranks; deferred = Some from };
+      next = next.Electing;
+    }) }
+    ensures fit { Fits (ToEpoch epoch) }
+{
+    let tx = to_epoch(alloc, epoch)?;
+    let mut out = Items::new(alloc);
+    out.push(message(me, epoch, Body::Ack, from))?;
+    let mut timers = Items::new(alloc);
+    timers.push(arming)?;
+    Ok(Plan {
+        tx,
+        out,
+        timers,
+        state: deferring(state, from),
+        next: Next::Electing,
+    })
+}
+
+/// It wins, and leads those who deferred to it in the next epoch.
+pub fn win(
+    alloc: Global,
+    stored: &Stored<'_>,
+    state: Elector,
+    acked: RankSet,
+) -> Result<Plan<Elector>, RoleStop>
+    ensures { Wins (epoch_of (readings_of stored.now)) state acked result }
+{
+    let Some(epoch) = stored.epoch().plus_one() else {
+        return Err(RoleStop::Spent {
+            which: Which::Epoch,
+        });
+    };
+    Ok(enter_epoch(alloc, epoch, state, Next::Win { quorum: acked })?)
+}

@@ -1,0 +1,57 @@
+-- What holds of all monitors after every event, with some history.
+use Rattle.mon_msg.specs.Protocol.Readings.{Readings, readings_of}
+use Rattle.mon_msg.specs.Protocol.State.{State}
+use Rattle.mon_tx.specs.Map.{Store}
+use Rattle.mon_tx.specs.Text.{text}
+use Rattle.mon_tx.specs.declared.op.Op.{Op}
+use Rattle.mon_types.specs.Ranks.{has}
+use Rattle.quorum_history.proofs.History.{Accepted, Entered, Ghost, Glob, Joined}
+use Rattle.quorum_history.proofs.Holds.{Disk, InPhase, MessageHolds, core_of}
+use Rattle.quorum_laws.specs.Accepting.{AcceptedIn}
+use Rattle.quorum_model.specs.Monitors.{Monitors}
+use Rattle.quorum_model.specs.World.{Envelope, World}
+use Rattle.quorum_walk.proofs.FineCourses.{MessageFine, ReadingsFine, StateFine}
+use Rattle.quorum_walk.proofs.Sparing.{own_of}
+use Rattle.std.proofs.Common.{Bool, IfSome, List, None, Option, Some, true, ℕ, ◌<◌, ◌≡◌}
+use Rattle.std.specs.List.{AllByRecursion}
+
+abbrev pub OnState : ℕ → Ghost → ℕ → Readings → Option State → Type 0
+OnState n g i w None = Unit {0}
+OnState n g i w (Some s) = InPhase n g i (core_of (own_of w) s) s.phase
+
+abbrev pub StateFits : State → Type 0
+StateFits s = StateFine s.leader.found s.leader.value s.leader.pn s.requester.stage s.clients.queue
+
+abbrev pub EnvelopeFine : Envelope → Type 0
+EnvelopeFine e = MessageFine e.message
+
+abbrev pub EnvelopeHolds : ℕ → Ghost → Envelope → Type 0
+EnvelopeHolds n g e = (e.message.from < n) × MessageHolds g e.to e.message
+
+-- the leader had its whole quorum in the epoch
+abbrev pub WasActive : ℕ → Ghost → ℕ × ℕ → Type 0
+WasActive n g c = (q : List Bool) × Entered g c.1 c.0 c.1 q × ((m : ℕ) → m < n → has q m ≡ true → Joined g m c.0 c.1)
+
+-- one monitor's store and what it remembers
+pub record Mine (n : ℕ) (g : Ghost) (i : ℕ) (w : Readings) (s : Option State) : Type 0 where
+  pub fine : ReadingsFine w
+  pub fits : IfSome s StateFits
+  pub disk : Disk g i (own_of w) w.record_of
+  pub state : OnState n g i w s
+
+-- what was accepted is what the kept transactions accept
+pub record TriplesKept (g : Ghost) (transactions : ℕ → List (List Op)) : Type 0 where
+  pub kept : (i v p : ℕ) (x : List Op) → Accepted g i v p x → AcceptedIn (transactions i) v p (text x)
+  pub known : (i v p : ℕ) (bytes : List ℕ) → AcceptedIn (transactions i) v p bytes → (x : List Op) × (bytes ≡ text x) × Accepted g i v p x
+
+pub record Inv (n : ℕ) (store : ℕ → Store) (state : ℕ → Option State) (transactions : ℕ → List (List Op)) (messages : List Envelope) (pairs : List (ℕ × ℕ)) : Type 0 where
+  pub g : Ghost
+  pub glob : Glob n g
+  pub mine : (i : ℕ) → Mine n g i (readings_of (store i)) (state i)
+  pub triples : TriplesKept g transactions
+  pub sent : AllByRecursion (EnvelopeHolds n g) messages
+  pub sizes : AllByRecursion EnvelopeFine messages
+  pub active : AllByRecursion (WasActive n g) pairs
+
+abbrev pub InvOf : Monitors → World → Type 0
+InvOf ms w = Inv ms.count w.store w.state w.transactions w.messages w.active

@@ -1,0 +1,9 @@
+pub mod Chosen
+pub mod Elections
+pub mod Events
+pub mod Invariant
+pub mod Numbers
+pub mod Reading
+pub mod Values
+pub mod Voting
+pub mod Whole

@@ -1,0 +1,35 @@
+-- What the log's laws tell of values: each that a command makes goes round, and so does what a store shares.
+use Rattle.log_model.proofs.AnyValue.{value_reads, value_records, value_spares}
+use Rattle.log_model.proofs.Older.{older_itself}
+use Rattle.log_model.proofs.SharedEntries.{shared_records, shared_spares}
+use Rattle.mon_msg.specs.Protocol.Changes.{Copy, ops_of}
+use Rattle.mon_msg.specs.Protocol.Readings.{cell_after, readings_of, shared_entries}
+use Rattle.mon_tx.specs.Decision.{Cell}
+use Rattle.mon_tx.specs.Map.{Store}
+use Rattle.mon_tx.specs.declared.key.Area.TheVariants as area
+use Rattle.mon_tx.specs.declared.key.Key.TheVariants as key
+use Rattle.quorum_walk.proofs.FineCourses.{CellFine, EntryFine, Made, RecordsFine}
+use Rattle.quorum_walk.proofs.Lists.{all_both, all_map}
+use Rattle.quorum_walk.proofs.Sparing.{Copied, Spares}
+use Rattle.std.proofs.Common.{ℕ}
+use Rattle.std.specs.List.{AllByRecursion}
+
+pub made : Made
+made w c asked x form rank last next e =
+    let r = value_reads w c asked x e form rank last next in
+    record {
+      over = w;
+      value = record { command = c; form = form; asked = asked; rank = rank; newer = x; made = e; spelled = older_itself x };
+      spares = value_spares w c asked x e;
+      reads = r.1;
+      short = r.0;
+      records = value_records w c asked x e;
+    }
+
+entry_fine : (e : Copied) → Spares (ops_of (Copy e)) × ((u : ℕ) (c : Cell) → CellFine c → CellFine (cell_after (ops_of (Copy e)) area.Paxos (key.Version u) c)) → EntryFine e
+entry_fine e h = record { spares = h.0; cells = h.1 }
+
+-- the entries that a store shares, where its records go round
+pub sharing : (m : Store) → RecordsFine (readings_of m).record_of → AllByRecursion EntryFine (shared_entries m)
+unfolding readings_of
+sharing m R = all_map _ EntryFine entry_fine (shared_entries m) (all_both _ _ (shared_entries m) (shared_spares m) (shared_records m CellFine R))

@@ -1,0 +1,4 @@
+pub mod Accepting
+pub mod Elections
+pub mod Promises
+pub mod Values

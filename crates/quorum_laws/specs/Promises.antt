@@ -1,0 +1,95 @@
+-- What monitors promised, and what a promise covers.
+use Rattle.log_model.specs.LogOfValues.{IsValue}
+use Rattle.mon_msg.specs.Protocol.Places.{is_done}
+use Rattle.mon_msg.specs.Protocol.Readings.{Readings, or_zero, promise_of}
+use Rattle.mon_msg.specs.Protocol.Records.{pending, record_at}
+use Rattle.mon_msg.specs.declared.paxos.Found.{Found}
+use Rattle.mon_tx.specs.declared.op.Op.{Op}
+use Rattle.mon_wire.specs.declared.body.Body.TheVariants as body
+use Rattle.mon_wire.specs.declared.body.Body.{Body}
+use Rattle.mon_wire.specs.declared.parts.Told.{Told}
+use Rattle.quorum_laws.specs.Accepting.{HasAccepted, readings_at}
+use Rattle.quorum_model.specs.World.{Envelope, World}
+use Rattle.std.proofs.Common.{Bool, IfSome, List, Option, Some, false, suc, true, ℕ, ◌%◌, ◌<◌, ◌≡◌, ◌≤◌, ◌⊎◌}
+use Rattle.std.specs.List.{AllByRecursion, Contains}
+
+-- ---- numbers
+
+-- A leader collects under numbers of its rank alone, of which its store keeps the greatest.
+abbrev pub CollectHolds : World → ℕ → Body → Type 0
+CollectHolds w from (body.Collect pn first last) = (pn % 100 ≡ from) × (pn ≤ or_zero (readings_at w from).last_pn)
+CollectHolds w from other = Unit {0}
+
+-- a monitor promised each number under which it answers or accepts
+abbrev pub PromiseHolds : World → ℕ → Body → Type 0
+PromiseHolds w from (body.Last pn first last whole lowest values told) = pn ≤ promise_of (readings_at w from)
+PromiseHolds w from (body.Accept pn v) = pn ≤ promise_of (readings_at w from)
+PromiseHolds w from other = Unit {0}
+
+pub record NumbersHold (w : World) : Type 0 where
+  pub collects : (e : Envelope) → Contains w.messages e → CollectHolds w e.message.from e.message.body
+  pub promises : (e : Envelope) → Contains w.messages e → PromiseHolds w e.message.from e.message.body
+  pub own : (i : ℕ) → (or_zero (readings_at w i).last_pn ≡ 0) ⊎ (or_zero (readings_at w i).last_pn % 100 ≡ i)
+  pub order : (i : ℕ) → or_zero (readings_at w i).last_pn ≤ promise_of (readings_at w i)
+  pub pending : (i : ℕ) → (readings_at w i).pending_pn ≤ promise_of (readings_at w i)
+  pub accepted : (i v pn : ℕ) (bytes : List ℕ) → HasAccepted w i v pn bytes → pn ≤ promise_of (readings_at w i)
+  -- the rank whose number it is made it, and accepted the value too
+  pub owner : (i v pn : ℕ) (bytes : List ℕ) → HasAccepted w i v pn bytes
+      → HasAccepted w (pn % 100) v pn bytes × (pn ≤ or_zero (readings_at w (pn % 100)).last_pn)
+
+-- ---- what was accepted is not forgotten
+
+-- the pending value is for this version, under this number or a greater one
+pub record IsPending (w : Readings) (v pn : ℕ) : Type 0 where
+  pub found : Found
+  pub is : pending w ≡ Some found
+  pub version : found.version ≡ v
+  pub number : pn ≤ found.pn
+
+-- the version is committed or pending, or the floor of a full synchronisation reaches it
+abbrev pub RemembersIn : (is_marked : Bool) → Readings → (v pn : ℕ) → Type 0
+RemembersIn true w v pn = v ≤ w.floor
+RemembersIn false w v pn = (v ≤ w.last) ⊎ IsPending w v pn
+
+abbrev pub Remembers : Readings → (v pn : ℕ) → Type 0
+Remembers w v pn = RemembersIn w.marked w v pn
+
+abbrev pub AllRemember : World → Type 0
+AllRemember w = (i v pn : ℕ) (bytes : List ℕ) → HasAccepted w i v pn bytes → Remembers (readings_at w i) v pn
+
+-- ---- answers
+
+pub record IsTold (told : Option Told) (last v pn : ℕ) : Type 0 where
+  pub next : v ≡ suc last
+  pub value : Told
+  pub tells : told ≡ Some value
+  pub number : pn ≤ value.pn
+
+-- A whole answer covers all that its monitor accepted under lower numbers, then and ever after: by the last version that it
+-- tells, or by the pending value.
+abbrev pub AnswerCovers : World → ℕ → Body → Type 0
+AnswerCovers w from (body.Last pn first last true lowest values told) =
+    (v lower : ℕ) (bytes : List ℕ) → HasAccepted w from v lower bytes → lower < pn → (v ≤ last) ⊎ IsTold told last v lower
+AnswerCovers w from other = Unit {0}
+
+abbrev pub AnswersCover : World → Type 0
+AnswersCover w = (e : Envelope) → Contains w.messages e → AnswerCovers w e.message.from e.message.body
+
+-- ---- values
+
+-- changes that some store makes of a command
+abbrev pub IsSomeValue : List Op → Type 0
+IsSomeValue changes = (over : Readings) × IsValue over changes
+
+abbrev pub CarriesValues : Body → Type 0
+CarriesValues (body.Last pn first last whole lowest values told) = AllByRecursion IsSomeValue values × IfSome told (λ t. IsSomeValue t.value)
+CarriesValues (body.Begin pn v value) = IsSomeValue value
+CarriesValues (body.Commit from values) = AllByRecursion IsSomeValue values
+CarriesValues (body.Chunk cookie p values entries is_done) = AllByRecursion IsSomeValue values
+CarriesValues (body.LastChunk cookie p values entries last) = AllByRecursion IsSomeValue values
+CarriesValues other = Unit {0}
+
+-- what messages carry as values, and what records spell, are values of commands
+pub record ValuesAlone (w : World) : Type 0 where
+  pub messages : (e : Envelope) → Contains w.messages e → CarriesValues e.message.body
+  pub records : (i v : ℕ) (changes : List Op) → record_at (readings_at w i).record_of v ≡ Some changes → IsSomeValue changes

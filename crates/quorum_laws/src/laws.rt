@@ -1,0 +1,44 @@
+ghost use Rattle.std.specs.Prelude.{◌≡◌, ℕ, Bool, List, ◌++◌};
+ghost use Rattle.quorum_model.specs.Events.{AllFit};
+ghost use Rattle.quorum_model.specs.Monitors.{Monitors};
+ghost use Rattle.quorum_model.specs.Runs.{run};
+ghost use Rattle.quorum_model.specs.Safe.{OneActive};
+ghost use Rattle.quorum_model.specs.World.{Event};
+ghost use Rattle.quorum_laws.specs.Elections.{EpochsSent, IsMember, IsQuorum};
+ghost use Rattle.quorum_laws.specs.Promises.{AllRemember, AnswersCover, NumbersHold, ValuesAlone};
+ghost use Rattle.quorum_laws.specs.Values.{IsChosen, LeadersKnow, LeavesNoRoom, OneValue};
+
+/// No epoch has two active leaders, in no run of any monitors: whatever is lost, repeated or late, and wherever monitors crash.
+pub fn law_one_active()
+    ensures { (ms : Monitors) (events : List Event) → AllFit ms.count events → OneActive (run ms events) }
+{}
+
+/// A monitor's epoch is at least each that it sent. Who leads or follows is in the quorum of its leader, which is a majority of the
+/// map, in an even epoch; and whenever it is in a quorum in that epoch again, it is the same quorum under the same leader.
+pub fn law_elections()
+    ensures epochs { (ms : Monitors) (events : List Event) → AllFit ms.count events → EpochsSent (run ms events) }
+    ensures quorums { (ms : Monitors) (events : List Event) → AllFit ms.count events → (i e l : ℕ) (q : List Bool)
+        → IsMember (run ms events) i e l q → IsQuorum ms.count i e l q }
+    ensures once { (ms : Monitors) (before after : List Event) → AllFit ms.count (before ++ after) → (i e l k : ℕ) (q r : List Bool)
+        → IsMember (run ms before) i e l q → IsMember (run ms (before ++ after)) i e k r → (l ≡ k) × (q ≡ r) }
+{}
+
+/// What a promise forbids. A monitor's numbers are its own, and it promised each under which it answered or accepted. What it accepted
+/// it doesn't forget: the version is committed or pending, or a full synchronisation must reach it. A whole answer covers what its
+/// monitor accepted under lower numbers, for ever. And all that is sent or kept as a value is one of a command.
+pub fn law_promises()
+    ensures numbers { (ms : Monitors) (events : List Event) → AllFit ms.count events → NumbersHold (run ms events) }
+    ensures remembered { (ms : Monitors) (events : List Event) → AllFit ms.count events → AllRemember (run ms events) }
+    ensures covered { (ms : Monitors) (events : List Event) → AllFit ms.count events → AnswersCover (run ms events) }
+    ensures values { (ms : Monitors) (events : List Event) → AllFit ms.count events → ValuesAlone (run ms events) }
+{}
+
+/// No two values are chosen for one version. One number carries one value for a version, and a value that was accepted leaves no room
+/// for another one under a lower number. A leader that has heard its quorum knows what was accepted before.
+pub fn law_values()
+    ensures one { (ms : Monitors) (events : List Event) → AllFit ms.count events → OneValue (run ms events) }
+    ensures room { (ms : Monitors) (events : List Event) → AllFit ms.count events → LeavesNoRoom ms.count (run ms events) }
+    ensures chosen { (ms : Monitors) (events : List Event) → AllFit ms.count events → (v : ℕ) (bytes other : List ℕ)
+        → IsChosen ms.count (run ms events) v bytes → IsChosen ms.count (run ms events) v other → bytes ≡ other }
+    ensures leaders { (ms : Monitors) (events : List Event) → AllFit ms.count events → LeadersKnow (run ms events) }
+{}

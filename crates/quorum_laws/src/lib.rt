@@ -1,0 +1,7 @@
+//! The laws of elections, promises and accepted values: for any monitors, up to fifteen under any rule, and every list of events,
+//! crashes among them.
+#![tactic(auto)]
+
+mod laws;
+
+pub use laws::{law_elections, law_one_active, law_promises, law_values};

@@ -1,0 +1,31 @@
+use Rattle.std.proofs.Common.{◌++◌, List, [], ◌∷◌, refl, ap, ◌∙◌, arith}
+use Rattle.mon_msg.specs.Protocol.Course.{provider_is}
+use Rattle.mon_msg.specs.Protocol.Providing.{grant}
+use Rattle.mon_msg.specs.Protocol.Readings.{readings_of, epoch_of}
+use Rattle.mon_msg.specs.Protocol.Sending.{message_to}
+use Rattle.mon_msg.specs.declared.plan.Next.TheVariants as next
+use Rattle.mon_msg.specs.declared.plan.Sent.{Sent}
+use Rattle.mon_wire.specs.declared.body.Body.TheVariants as body
+use Rattle.mon_plan.proofs.Planning.{does}
+use Rattle.sync_provider.specs.Rows.{Holds}
+use Rattle.sync_provider.proofs.RowLaws.{cookie_of, with_cookie, grant-spent, grant-given}
+use Rattle.sync_provider.proofs.cookies.grant.Goals as goal
+
+pub returns-then-state-gt-GREATEST : goal.returns-then-state-gt-GREATEST
+returns-then-state-gt-GREATEST c =
+    λ now x b. grant-spent (readings_of c.args.stored.now) c.args.state.now x b c.args.me.now c.args.to c.args.full (omega arith)
+
+pub returns : goal.returns
+returns c =
+    λ now.
+    let me = c.args.me.now in
+    let s = c.args.state.now in
+    let w = readings_of c.args.stored.now in
+    does me now provider_is (Holds w s) (λ x. x) (grant me c.args.full c.args.to)
+    [] tt (message_to me (epoch_of w) (body.Cookie c.args.full (cookie_of w s) w.last) c.args.to ∷ []) [] (with_cookie c.args.to (cookie_of w s) s) next.Stay
+    (λ x b. grant-given w s x b me c.args.to c.args.full (omega arith))
+    (record { tx = c.new.result; out = c.push.new.self; timers = c.new-2.result; state = c.with_cookie.result; next = next.Stay })
+    c.new.ensures
+    (c.in_ok-push.ensures.ok ∙ ap (λ (l : List Sent). l ++ c.message.result ∷ []) c.new-out.ensures
+    ∙ ap (λ (m : Sent). m ∷ []) (c.message.ensures ∙ (λ i. message_to me (c.epoch.ensures i) (body.Cookie c.args.full (record { boot = c.boot.ensures.value i; seq = s.next_cookie }) (c.last.ensures.value i)) c.args.to)))
+    c.new-2.ensures (c.with_cookie.ensures ∙ (λ i. with_cookie c.args.to (record { boot = c.boot.ensures.value i; seq = s.next_cookie }) s)) refl

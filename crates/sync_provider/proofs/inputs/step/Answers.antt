@@ -1,0 +1,23 @@
+use Rattle.std.proofs.Common.{sym, subst}
+use Rattle.mon_msg.specs.Protocol.Course.{provider_is}
+use Rattle.mon_msg.specs.Protocol.Hearing.{hear}
+use Rattle.mon_msg.specs.Protocol.Readings.{readings_of, shared_entries}
+use Rattle.mon_msg.specs.declared.input.Input.{Input}
+use Rattle.mon_plan.specs.Inputs.{row}
+use Rattle.mon_plan.specs.Plans.{PlansRow}
+use Rattle.mon_plan.specs.Seen.{IsMet}
+use Rattle.mon_plan.proofs.Planning.{weaken}
+use Rattle.sync_provider.specs.Rows.{Holds}
+use Rattle.sync_provider.proofs.inputs.step.Goals as goal
+
+pub returns : goal.returns
+returns c =
+    let me = c.args.me.now in
+    let s = c.args.state.now in
+    let w = readings_of c.args.kv.now in
+    let m = c.in-Deliver.message in
+    let met = IsMet me c.args.now w c.args.view.now (λ st. st.provider) s in
+    let shared = shared_entries c.args.kv.now in
+    subst (λ (came : Input). PlansRow me c.args.now provider_is met (row me shared c.args.now came) c.hear.result) (sym c.in-Deliver.is)
+    (weaken me c.args.now provider_is (Holds w s) met (λ x. x) (hear me shared c.args.now m.from m.epoch m.body) c.hear.result
+    (λ x b. record { readings = b.readings; role = b.role }) c.hear.ensures)

@@ -1,0 +1,36 @@
+-- The inputs of a provider, and what is known where its rows are answered.
+use Rattle.std.specs.Prelude.{◌≡◌, Bool, true, false, List, filter}
+use Rattle.mon_bytes.specs.declared.entry.Entry.{Entry}
+use Rattle.mon_bytes.specs.declared.entry.KeyPlace.{KeyPlace}
+use Rattle.mon_msg.specs.Protocol.Course.{Course}
+use Rattle.mon_msg.specs.Protocol.Places.{is_after}
+use Rattle.mon_msg.specs.Protocol.Readings.{Readings, shared_entries}
+use Rattle.mon_msg.specs.declared.input.Input.TheVariants as input
+use Rattle.mon_msg.specs.declared.input.Input.{Input}
+use Rattle.mon_msg.specs.declared.synchronisation.Provider.{Provider}
+use Rattle.mon_tx.specs.Map.{Store}
+use Rattle.mon_wire.specs.declared.body.Body.TheVariants as body
+use Rattle.mon_wire.specs.declared.body.Body.{Body}
+
+-- what a monitor asks from which it synchronises
+abbrev pub is_asked : Body → Bool
+is_asked body.GetCookieFull = true
+is_asked (body.GetCookieRecent last) = true
+is_asked (body.GetChunk cookie place) = true
+is_asked b = false
+
+-- what a provider answers
+abbrev pub is_input : Input → Bool
+is_input input.Start = false
+is_input (input.Deliver m) = is_asked m.body
+is_input (input.Timer t) = false
+is_input (input.Client session r) = false
+
+-- An event under way at a provider: the store tells this, and the role remembers that.
+pub record Holds (w : Readings) (state : Provider) (x : Course) : Type 0 where
+  pub readings : x.readings ≡ w
+  pub role : x.state.provider ≡ state
+
+-- the shared entries that are left behind a place, in order
+abbrev pub left_after : Store → KeyPlace → List Entry
+left_after m at = filter (is_after at) (shared_entries m)

@@ -1,0 +1,128 @@
+//! A monitor asks for what follows the place that it has come to.
+
+ghost use Rattle.std.specs.Prelude.{◌≡◌, ℕ, suc, ◌+◌, ◌||◌, not, nat_lt, ◌≤◌, nat_le, false, None, if◌then◌else◌, length, slice_index_or, sum_by, IfOk};
+ghost use Rattle.mon_msg.specs.Protocol.Course.{provider_is};
+ghost use Rattle.mon_msg.specs.Protocol.Parts.{value_length};
+ghost use Rattle.mon_msg.specs.Protocol.Places.{is_cookie};
+ghost use Rattle.mon_msg.specs.Protocol.Providing.{chunk, given_values, reach, hear_get_chunk};
+ghost use Rattle.mon_msg.specs.Protocol.Readings.{readings_of, shared_entries};
+ghost use Rattle.mon_wire.specs.declared.parts.Cookie.{Cookie};
+ghost use Rattle.mon_plan.specs.Plans.{PlansRow};
+ghost use Rattle.sync_provider.specs.Rows.{Holds, left_after};
+
+use crate::cookies::{answer, lacks};
+use crate::entries::{BESIDES, BESIDES_LAST, given_entries, is_end, place_len};
+use mon_bytes::{Items, OutOfMemory};
+use mon_kv::{KeyRun, Kv};
+use mon_msg::{Body, Cookie, Me, Place, Plan, Provider, RoleStop};
+use mon_plan::{Run, Stored};
+use mon_types::{Rank, Version};
+use std::alloc::Global;
+
+/// How many bytes a chunk takes besides its place, its values and its entries, where it would be the last one or not.
+fn besides(is_last: bool) -> usize
+    ensures { result ≡ if is_last then 40 else 33 }
+{
+    if is_last { BESIDES_LAST } else { BESIDES }
+}
+
+/// As many of the records behind a place as a chunk takes.
+fn given_values(
+    alloc: Global,
+    kv: &Kv,
+    stored: &Stored<'_>,
+    place: &Place,
+) -> Result<Run, OutOfMemory>
+    requires { stored.now ≡ kv.now }
+    ensures values { IfOk result (λ run. (n : ℕ) (c : Cookie) → let w = readings_of kv.now in run.values ≡ given_values w.last c place.now (left_after kv.now place.now.key) n w.record_of) }
+    ensures bytes { IfOk result (λ run. run.bytes ≡ sum_by value_length run.values) }
+    ensures few { IfOk result (λ run. length run.values ≤ 65535) }
+{
+    let len = place_len(place);
+    let end = is_end(kv, place)?;
+    let next = place.version.get() + 1;
+    stored.run(alloc, next, BESIDES + len, besides(end) + len)
+}
+
+/// Whether the records behind a place reach the last version.
+fn reaches(last: Version, place: &Place, count: usize) -> bool
+    requires { count ≤ 65535 }
+    ensures { result ≡ nat_le last (place.now.version + count) }
+{
+    last.get() <= place.version.get() + count as u64
+}
+
+/// What follows a place, under this cookie: the last chunk where nothing is left behind it.
+fn chunk(alloc: Global, kv: &Kv, cookie: Cookie, place: &Place) -> Result<Body, OutOfMemory>
+    ensures { (n : ℕ) → let w = readings_of kv.now in IfOk result (λ body. body ≡ chunk w.last cookie place.now (left_after kv.now place.now.key) n w.record_of) }
+{
+    let stored = Stored::of(alloc, kv);
+    let last = stored.last();
+    let Run { values, bytes } = given_values(alloc, kv, &stored, place)?;
+    let whole = reaches(last, place, values.len());
+    let len = place_len(place).saturating_add(bytes);
+    let KeyRun { entries, done } = given_entries(kv, place, len, whole)?;
+    let place = place.copy(alloc)?;
+    let entries = Items::from_vec(entries);
+    let is_last = whole & done;
+    if is_last {
+        return Ok(Body::LastChunk {
+            cookie,
+            place,
+            values,
+            entries,
+            last,
+        });
+    }
+    Ok(Body::Chunk {
+        cookie,
+        place,
+        values,
+        entries,
+        done,
+    })
+}
+
+/// Whether a monitor has that cookie.
+fn is_known(state: &Provider, of: Rank, cookie: Cookie) -> bool
+    ensures { result ≡ is_cookie cookie (slice_index_or state.now.cookies of None) }
+{
+    match state.cookies[usize::from(of.get())] {
+        None => false,
+        Some(known) => cookie.boot == known.boot && cookie.seq == known.seq,
+    }
+}
+
+/// Whether nothing is given: the cookie isn't the monitor's, or some of the versions behind the place aren't kept any more.
+fn is_refused(
+    stored: &Stored<'_>,
+    state: &Provider,
+    to: Rank,
+    cookie: Cookie,
+    place: &Place,
+) -> bool
+    ensures { result ≡ (not (is_cookie cookie (slice_index_or state.now.cookies to None)) || nat_lt (suc place.now.version) (readings_of stored.now).first) }
+{
+    !is_known(state, to, cookie) || lacks(stored, place.version)
+}
+
+/// A monitor asks for what follows a place, under its cookie.
+pub fn give_chunk(
+    alloc: Global,
+    kv: &Kv,
+    me: &Me,
+    state: &Provider,
+    to: Rank,
+    cookie: Cookie,
+    place: &Place,
+) -> Result<Plan<Provider>, RoleStop>
+    requires { (readings_of kv.now).marked ≡ false }
+    ensures { (now : ℕ) → PlansRow me.now now provider_is (Holds (readings_of kv.now) state.now) (hear_get_chunk me.now (shared_entries kv.now) to cookie place.now) result }
+{
+    let stored = Stored::of(alloc, kv);
+    if is_refused(&stored, state, to, cookie, place) {
+        return answer(alloc, &stored, me, state, to, Body::NoCookie { cookie });
+    }
+    let body = chunk(alloc, kv, cookie, place)?;
+    answer(alloc, &stored, me, state, to, body)
+}

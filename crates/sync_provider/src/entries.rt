@@ -1,0 +1,125 @@
+//! How much of a monitor's shared entries a chunk takes.
+
+ghost use Rattle.std.specs.Prelude.{◌≡◌, ℕ, ◌+◌, ◌-◌, ◌≤◌, ◌<◌, ◌^◌, List, [], false, nat_le, take, min, sum_by, length, IfOk};
+ghost use Rattle.mon_tx.specs.declared.op.Op.{Op};
+ghost use Rattle.mon_msg.specs.Protocol.Parts.{entry_length, key_place_length, place_length, value_length};
+ghost use Rattle.mon_msg.specs.Protocol.Providing.{is_finished, reach};
+ghost use Rattle.mon_wire.specs.declared.parts.Cookie.{Cookie};
+ghost use Rattle.sync_provider.specs.Rows.{left_after};
+ghost use Rattle.sync_provider.specs.Taken.{IsTaken, IsGiven};
+
+use mon_bytes::{Entry, KeyPlace, OutOfMemory};
+use mon_kv::{KeyRun, Kv};
+use mon_msg::{MOST_BYTES, Place};
+
+/// How many bytes a CHUNK takes besides its place, its values and its entries.
+pub const BESIDES: usize = 33;
+
+/// How many a LAST_CHUNK takes.
+pub const BESIDES_LAST: usize = 40;
+
+/// The most items of a message's list.
+const MOST_ITEMS: usize = 65_535;
+
+fn key_place_len(at: &KeyPlace) -> usize
+    ensures value { result ≡ key_place_length at.now }
+    ensures most { result < 2 ^ 10 }
+{
+    match at {
+        KeyPlace::Start => 1,
+        KeyPlace::After { prefix, key } => 3 + prefix.as_slice().len() + key.as_slice().len(),
+        KeyPlace::Done => 1,
+    }
+}
+
+/// How many bytes a place takes in a message.
+pub fn place_len(at: &Place) -> usize
+    ensures value { result ≡ place_length at.now }
+    ensures most { result < 2 ^ 11 }
+{
+    8 + key_place_len(&at.key)
+}
+
+fn entry_len(entry: &Entry) -> usize
+    ensures { result ≡ min (entry_length entry.now) (2 ^ 64 - 1) }
+{
+    let words = 6 + entry.prefix.as_slice().len() + entry.key.as_slice().len();
+    words.saturating_add(entry.value.as_slice().len())
+}
+
+fn entries_len(entries: &[Entry]) -> usize
+    ensures { result ≡ min (sum_by entry_length entries.now) (2 ^ 64 - 1) }
+{
+    let mut len = 0usize;
+    for entry in entries {
+        len = len.saturating_add(entry_len(entry));
+    }
+    len
+}
+
+/// Whether no shared entry is left behind a place.
+pub fn is_end(kv: &Kv, place: &Place) -> Result<bool, OutOfMemory>
+    ensures { IfOk result (λ end. end ≡ is_finished place.now (left_after kv.now place.now.key) []) }
+{
+    let found = kv.chunk_from(&place.key, 0, 0)?;
+    Ok(found.done)
+}
+
+/// Whether a last chunk whose place and values take so many bytes has room for these entries.
+fn are_last(entries: &[Entry], bytes: usize) -> bool
+    ensures { result ≡ nat_le (40 + bytes + sum_by entry_length entries.now) 1048576 }
+{
+    entries_len(entries)
+        .saturating_add(bytes)
+        .saturating_add(BESIDES_LAST)
+        <= MOST_BYTES
+}
+
+/// The same run without its last entry, behind which that one is left.
+fn without_last(run: KeyRun) -> KeyRun
+    ensures entries { result.entries.items ≡ take (length run.entries.items - 1) run.entries.items }
+    ensures done { result.done ≡ false }
+{
+    let mut entries = run.entries;
+    let _last = entries.pop();
+    KeyRun {
+        entries,
+        done: false,
+    }
+}
+
+/// As many of the shared entries behind a place as a chunk takes whose place and values take so many bytes, and whether none is
+/// left behind them. Each entry is copied once.
+fn longest_entries(kv: &Kv, place: &Place, bytes: usize) -> Result<KeyRun, OutOfMemory>
+    ensures { IfOk result (IsTaken (left_after kv.now place.now.key) bytes) }
+{
+    let room = MOST_BYTES.saturating_sub(BESIDES).saturating_sub(bytes);
+    let found = kv.chunk_from(&place.key, room, MOST_ITEMS)?;
+    if !found.done {
+        return Ok(found);
+    }
+    if found.entries.is_empty() {
+        return Ok(found);
+    }
+    if are_last(&found.entries, bytes) {
+        return Ok(found);
+    }
+    Ok(without_last(found))
+}
+
+/// The entries of a chunk whose place and values take so many bytes, and whether none is left behind them. There are none
+/// where the values don't reach the last version.
+pub fn given_entries(
+    kv: &Kv,
+    place: &Place,
+    bytes: usize,
+    reaches: bool,
+) -> Result<KeyRun, OutOfMemory>
+    ensures { IfOk result (λ run. (last n : ℕ) (c : Cookie) (values : List (List Op)) → reach last place.now values ≡ reaches → length values ≤ 65535
+        → bytes ≡ place_length place.now + sum_by value_length values → IsGiven last c place.now (left_after kv.now place.now.key) n values run) }
+{
+    if !reaches {
+        return kv.chunk_from(&place.key, 0, 0);
+    }
+    longest_entries(kv, place, bytes)
+}

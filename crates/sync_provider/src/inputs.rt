@@ -1,0 +1,69 @@
+//! What a provider does at each of its inputs.
+
+ghost use Rattle.std.specs.Prelude.{◌≡◌, IsTrue};
+ghost use Rattle.mon_msg.specs.Protocol.Course.{provider_is};
+ghost use Rattle.mon_msg.specs.Protocol.Hearing.{hear};
+ghost use Rattle.mon_msg.specs.Protocol.Readings.{readings_of, shared_entries};
+ghost use Rattle.mon_plan.specs.Inputs.{row};
+ghost use Rattle.mon_plan.specs.Plans.{PlansRow};
+ghost use Rattle.mon_plan.specs.Seen.{IsMet};
+ghost use Rattle.sync_provider.specs.Rows.{is_asked, is_input, Holds};
+
+use crate::chunk::give_chunk;
+use crate::cookies::{grant, grant_recent};
+use mon_kv::Kv;
+use mon_msg::input::Input;
+use mon_msg::{Body, Me, Message, Plan, Provider, RoleStop, View};
+use mon_plan::{Stored, stay};
+use mon_types::Moment;
+use std::alloc::Global;
+
+/// A message of a monitor that synchronises, or is about to. A monitor that is marked itself drops it.
+fn hear(
+    alloc: Global,
+    kv: &Kv,
+    me: &Me,
+    state: &Provider,
+    message: &Message,
+    now: Moment,
+) -> Result<Plan<Provider>, RoleStop>
+    requires { IsTrue (is_asked message.now.body) }
+    ensures { PlansRow me.now now provider_is (Holds (readings_of kv.now) state.now)
+        (hear me.now (shared_entries kv.now) now message.now.from message.now.epoch message.now.body) result }
+{
+    let stored = Stored::of(alloc, kv);
+    if stored.is_marked() {
+        return Ok(stay(alloc, *state));
+    }
+    match &message.body {
+        Body::GetCookieFull => grant(alloc, &stored, me, state, message.from, true),
+        Body::GetCookieRecent { last } => {
+            grant_recent(alloc, &stored, me, state, message.from, *last)
+        }
+        Body::GetChunk { cookie, place } => {
+            give_chunk(alloc, kv, me, state, message.from, *cookie, place)
+        }
+        _ => unreachable!(),
+    }
+}
+
+/// What a provider does at a GET_COOKIE_FULL, GET_COOKIE_RECENT or GET_CHUNK that is heard: its row of the protocol's table.
+/// A monitor that is marked drops them without taking memory. `Spent` names the cookie's number where that would pass 2^62.
+pub fn step(
+    alloc: Global,
+    kv: &Kv,
+    me: &Me,
+    view: &View,
+    state: &Provider,
+    input: &Input,
+    now: Moment,
+) -> Result<Plan<Provider>, RoleStop>
+    requires { IsTrue (is_input input.now) }
+    ensures { PlansRow me.now now provider_is (IsMet me.now now (readings_of kv.now) view.now (λ s. s.provider) state.now)
+        (row me.now (shared_entries kv.now) now input.now) result }
+{
+    match input {
+        Input::Deliver(message) => hear(alloc, kv, me, state, message, now),
+        Input::Start | Input::Timer(_) | Input::Client(..) => unreachable!(),
+    }
+}

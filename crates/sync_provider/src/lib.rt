@@ -1,0 +1,9 @@
+//! A monitor from which others synchronise: it gives them cookies, and what follows the places that they have come to.
+#![tactic(auto)]
+
+mod chunk;
+mod cookies;
+mod entries;
+mod inputs;
+
+pub use inputs::step;
