@@ -1,0 +1,4 @@
+pub mod Planned
+pub mod ProposalLaws
+pub mod CommandLaws
+pub mod HandedOnLaws

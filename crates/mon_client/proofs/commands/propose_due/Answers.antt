@@ -1,0 +1,60 @@
+use Rattle.std.proofs.Common.{◌≡◌, ℕ, ◌<◌, List, [], ◌∷◌, length, Ok, refl, ap, sym, ◌∙◌, arith}
+use Rattle.std.proofs.lemmas.Bool.{eqb-true, eqb-false}
+use Rattle.std.proofs.lemmas.List.{nil_from_length}
+use Rattle.mon_msg.specs.Protocol.Commands.{propose_due}
+use Rattle.mon_msg.specs.Protocol.Course.{Course, clients_are}
+use Rattle.mon_msg.specs.Protocol.Proposing.{propose}
+use Rattle.mon_msg.specs.Protocol.Readings.{readings_of}
+use Rattle.mon_msg.specs.declared.clients.Clients.{Clients}
+use Rattle.mon_plan.proofs.Planning.{weaken, instead}
+use Rattle.mon_client.proofs.Planned.{keeps}
+use Rattle.mon_client.proofs.CommandLaws.{Met, same, under_way, due-not_free, due-free, next-none, next-first}
+use Rattle.mon_client.proofs.commands.propose_due.Goals as goal
+
+pub returns-then-not-may_propose : goal.returns-then-not-may_propose
+returns-then-not-may_propose c =
+    let me = c.args.me.now in
+    let w = readings_of c.args.kv.now in
+    let v = c.args.view.now in
+    let s = c.args.state.now in
+    keeps me c.args.now (Met me c.args.now w v s c.in_ok-clients.clients c.in_ok-clients.ensures) (propose_due me c.args.now) c.in_ok-clients.clients
+    (λ x b.
+    due-not_free me c.args.now w v x (under_way me c.args.now w v s x b) (sym c.may_propose.ensures ∙ c.if-not-may_propose.true)
+    ∙ ap (λ (y : Course). Ok y) (same me c.args.now w v s c.in_ok-clients.clients c.in_ok-clients.ensures x b))
+    c.stay.result c.stay.ensures
+
+pub returns-then-is_empty : goal.returns-then-is_empty
+returns-then-is_empty c =
+    let me = c.args.me.now in
+    let w = readings_of c.args.kv.now in
+    let v = c.args.view.now in
+    let s = c.args.state.now in
+    let none : c.in_ok-clients.clients.queue ≡ [] = nil_from_length c.in_ok-clients.clients.queue (eqb-true (length c.in_ok-clients.clients.queue) 0 (sym c.is_empty.ensures ∙ c.if-is_empty.true)) in
+    keeps me c.args.now (Met me c.args.now w v s c.in_ok-clients.clients c.in_ok-clients.ensures) (propose_due me c.args.now) c.in_ok-clients.clients
+    (λ x b.
+    due-free me c.args.now w v x (under_way me c.args.now w v s x b) (sym c.may_propose.ensures ∙ c.if-not-may_propose.false)
+    ∙ next-none me c.args.now x (ap (λ (t : Clients). t.queue) (b.role ∙ sym c.in_ok-clients.ensures) ∙ none)
+    ∙ ap (λ (y : Course). Ok y) (same me c.args.now w v s c.in_ok-clients.clients c.in_ok-clients.ensures x b))
+    c.stay-then-is_empty.result c.stay-then-is_empty.ensures
+
+pub take_first-first-requires : goal.take_first-first-requires
+take_first-first-requires c =
+    let some = eqb-false (length c.in_ok-clients.clients.queue) 0 (sym c.is_empty.ensures ∙ c.if-is_empty.false) in
+    omega arith
+
+pub returns : goal.returns
+returns c =
+    let me = c.args.me.now in
+    let w = readings_of c.args.kv.now in
+    let v = c.args.view.now in
+    let s = c.args.state.now in
+    let met = Met me c.args.now w v s c.in_ok-clients.clients c.in_ok-clients.ensures in
+    let first = c.take_first-first.result.0 in
+    let rest = c.take_first-first.result.1 in
+    instead me c.args.now clients_are met (λ x. x)
+    (λ x. propose me c.args.now first.command first.origin (clients_are rest x)) (propose_due me c.args.now) c.propose.result
+    (λ x b.
+    due-free me c.args.now w v x (under_way me c.args.now w v s x b) (sym c.may_propose.ensures ∙ c.if-not-may_propose.false)
+    ∙ next-first me c.args.now x first rest (b.role ∙ sym c.in_ok-clients.ensures ∙ c.take_first-first.ensures))
+    (weaken me c.args.now clients_are (λ x. x.readings ≡ w) met (λ x. x)
+    (λ x. propose me c.args.now first.command first.origin (clients_are rest x)) c.propose.result (λ x b. b.readings) c.propose.ensures)

@@ -1,0 +1,41 @@
+use Rattle.std.proofs.Common.{◌≡◌, ℕ, not, ◌==◌, filter, map, List, [], Ok, refl, ap, sym, ◌∙◌}
+use Rattle.mon_msg.specs.Protocol.Commands.{hear_route}
+use Rattle.mon_msg.specs.Protocol.Course.{Course, clients_are}
+use Rattle.mon_msg.specs.Protocol.Readings.{readings_of}
+use Rattle.mon_msg.specs.declared.clients.Asked.{Asked}
+use Rattle.mon_msg.specs.declared.plan.Next.TheVariants as next
+use Rattle.mon_msg.specs.declared.plan.Sent.TheVariants as sent
+use Rattle.mon_plan.proofs.Planning.{sending-is}
+use Rattle.mon_client.proofs.Planned.{plans, keeps}
+use Rattle.mon_client.proofs.CommandLaws.{Met, same}
+use Rattle.mon_client.proofs.HandedOnLaws.{route-of_others, route-replies}
+use Rattle.mon_client.proofs.handed_on.route.Goals as goal
+
+pub returns-then-not-is_of_leader : goal.returns-then-not-is_of_leader
+returns-then-not-is_of_leader c =
+    λ me now.
+    let w = readings_of c.args.kv.now in
+    let v = c.args.view.now in
+    let s = c.args.state.now in
+    keeps me now (Met me now w v s c.in_ok-clients.clients c.in_ok-clients.ensures) (hear_route c.args.from c.args.epoch c.args.seq c.args.reply.now) c.in_ok-clients.clients
+    (λ x b.
+    route-of_others me now w v s x b c.args.from c.args.epoch c.args.seq c.args.reply.now (sym c.is_of_leader.ensures ∙ c.if-not-is_of_leader.true)
+    ∙ ap (λ (y : Course). Ok y) (same me now w v s c.in_ok-clients.clients c.in_ok-clients.ensures x b))
+    c.stay.result c.stay.ensures
+
+pub returns : goal.returns
+returns c =
+    λ me now.
+    let w = readings_of c.args.kv.now in
+    let v = c.args.view.now in
+    let s = c.args.state.now in
+    let after = record c.in_ok-clients.clients { sessions = c.in_ok-clients-2.field-0 } in
+    let kept = c.in_ok-clients-2.ensures ∙ ap (λ (l : List Asked). filter (λ a. not (a.seq == c.args.seq)) l) c.as_slice-sessions.ensures in
+    let told = c.in_ok-out.ensures ∙ ap (λ (l : List Asked). map (λ a. sent.Reply a.session c.args.reply.now) (filter (λ a. a.seq == c.args.seq) l)) c.as_slice-sessions.ensures in
+    plans me now (Met me now w v s c.in_ok-clients.clients c.in_ok-clients.ensures) (hear_route c.args.from c.args.epoch c.args.seq c.args.reply.now) c.in_ok-out.out [] after next.Stay
+    (λ x b.
+    route-replies me now w v s x b c.args.from c.args.epoch c.args.seq c.args.reply.now (sym c.is_of_leader.ensures ∙ c.if-not-is_of_leader.false)
+    after (λ i. record (c.in_ok-clients.ensures i) { sessions = kept i }) c.in_ok-out.out told
+    ∙ ap (λ (y : Course). Ok y) (sym (sending-is c.in_ok-out.out (clients_are after x))))
+    (record { tx = c.new.result; out = c.in_ok-out.out; timers = c.new-2.result; state = after; next = next.Stay })
+    (λ i. record { tx = c.new.ensures i; out = c.in_ok-out.out; timers = c.new-2.ensures i; state = after; next = next.Stay })

@@ -1,0 +1,25 @@
+use Rattle.std.proofs.Common.{◌≡◌, ℕ, List, [], ◌∷◌, Ok, refl, ap, sym, ◌∙◌}
+use Rattle.mon_msg.specs.Protocol.Course.{Course, say, clients_are}
+use Rattle.mon_msg.specs.Protocol.Readings.{readings_of}
+use Rattle.mon_msg.specs.Protocol.Reads.{since, read}
+use Rattle.mon_msg.specs.declared.plan.Next.TheVariants as next
+use Rattle.mon_msg.specs.declared.plan.Sent.TheVariants as sent
+use Rattle.mon_client.proofs.Planned.{plan_of, answers}
+use Rattle.mon_client.proofs.CommandLaws.{Met, same, under_way}
+use Rattle.mon_client.proofs.HandedOnLaws.{told_by, read-is}
+use Rattle.mon_client.proofs.reads.since.Goals as goal
+
+pub returns : goal.returns
+returns c =
+    λ me now.
+    let w = readings_of c.args.kv.now in
+    let v = c.args.view.now in
+    let s = c.args.state.now in
+    let told = told_by w v c.args.service c.args.version in
+    answers me now (Met me now w v s c.in_ok-clients.clients c.in_ok-clients.ensures) (read me now c.args.session (λ r. since r c.args.service c.args.version))
+    (sent.Reply c.args.session told) c.in_ok-clients.clients
+    (λ x b.
+    read-is me now w v x (under_way me now w v s x b) c.args.session c.args.service c.args.version
+    ∙ ap (λ (y : Course). Ok (say (sent.Reply c.args.session told ∷ []) y)) (same me now w v s c.in_ok-clients.clients c.in_ok-clients.ensures x b))
+    c.in_ok-answered.field-0
+    (c.in_ok-answered.ensures ∙ (λ i. plan_of (sent.Reply c.args.session (c.in_ok-reply.ensures i) ∷ []) [] c.in_ok-clients.clients next.Stay))

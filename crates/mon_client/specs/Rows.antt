@@ -1,0 +1,41 @@
+-- The inputs that clients' commands and reads are made of, and what is known where their rows are answered.
+use Rattle.std.specs.Prelude.{◌≡◌, ℕ, Bool, true, false}
+use Rattle.mon_msg.specs.Protocol.Course.{Course}
+use Rattle.mon_msg.specs.Protocol.Readings.{Readings}
+use Rattle.mon_msg.specs.declared.input.Input.TheVariants as input
+use Rattle.mon_msg.specs.declared.input.Input.{Input}
+use Rattle.mon_msg.specs.declared.view.Me.{Me}
+use Rattle.mon_msg.specs.declared.view.View.{View}
+use Rattle.mon_plan.specs.Seen.{IsSeen}
+use Rattle.mon_wire.specs.declared.body.Body.TheVariants as body
+use Rattle.mon_wire.specs.declared.body.Body.{Body}
+use Rattle.mon_wire.specs.declared.phase.Timer.TheVariants as timer
+use Rattle.mon_wire.specs.declared.phase.Timer.{Timer}
+use Rattle.mon_wire.specs.declared.request.Request.TheVariants as request
+use Rattle.mon_wire.specs.declared.request.Request.{Request}
+
+-- what a peon hands on, and what its leader answers
+abbrev pub is_told : Body → Bool
+is_told (body.Forward seq c) = true
+is_told (body.Route seq r) = true
+is_told b = false
+
+abbrev pub is_rung : Timer → Bool
+is_rung timer.Propose = true
+is_rung t = false
+
+-- a map is shown from what the monitor keeps of it, and not here
+abbrev pub is_asked : Request → Bool
+is_asked (request.Show s) = false
+is_asked r = true
+
+abbrev pub is_input : Input → Bool
+is_input input.Start = false
+is_input (input.Deliver m) = is_told m.body
+is_input (input.Timer t) = is_rung t
+is_input (input.Client session r) = is_asked r
+
+-- An event under way, whatever is remembered of clients: the store tells this, and the other roles are seen so.
+pub record IsUnderWay (me : Me) (now : ℕ) (w : Readings) (view : View) (x : Course) : Type 0 where
+  pub readings : x.readings ≡ w
+  pub seen : IsSeen me now x.readings x.state view

@@ -1,0 +1,75 @@
+//! What clients are told at once.
+
+ghost use Rattle.std.specs.Prelude.{◌≡◌, ◌<◌, [], ◌∷◌, IfOk};
+ghost use Rattle.mon_msg.specs.Protocol.Commands.{most_text, text_length, is_too_long, too_long};
+ghost use Rattle.mon_msg.specs.Protocol.Readings.{epoch_of, readings_of};
+ghost use Rattle.mon_msg.specs.declared.plan.Next.TheVariants as next;
+
+use mon_bytes::{Command, Items, OutOfMemory};
+use mon_kv::Kv;
+use mon_msg::plan::Sent;
+use mon_msg::{Clients, Next, Plan, Reply};
+use mon_plan::Stored;
+use mon_tx::Transaction;
+use mon_types::Epoch;
+use std::alloc::Global;
+
+/// The own epoch.
+pub fn epoch(alloc: Global, kv: &Kv) -> Epoch
+    ensures { result ≡ epoch_of (readings_of kv.now) }
+{
+    Stored::of(alloc, kv).epoch()
+}
+
+/// Someone is answered, and nothing else is done.
+pub fn answered(alloc: Global, clients: Clients, sent: Sent) -> Result<Plan<Clients>, OutOfMemory>
+    ensures { IfOk result
+        (λ plan. plan ≡ record { tx = []; out = sent ∷ []; timers = []; state = clients; next = next.Stay }) }
+{
+    let mut out = Items::new(alloc);
+    out.push(sent)?;
+    Ok(Plan {
+        tx: Transaction::new(alloc),
+        out,
+        timers: Items::new(alloc),
+        state: clients,
+        next: Next::Stay,
+    })
+}
+
+/// The longest value or text of a command.
+fn most_text(command: &Command) -> u64
+    ensures { result ≡ most_text command.now }
+{
+    match command {
+        Command::Set { .. } => 65_536,
+        Command::Remove { .. } => 0,
+        Command::Log { .. } => 1_024,
+    }
+}
+
+/// How long its value or text is.
+fn text_length(command: &Command) -> u64
+    ensures { result ≡ text_length command.now }
+{
+    match command {
+        Command::Set { value, .. } => value.as_slice().len() as u64,
+        Command::Remove { .. } => 0,
+        Command::Log { text } => text.as_slice().len() as u64,
+    }
+}
+
+pub fn is_too_long(command: &Command) -> bool
+    ensures { result ≡ is_too_long command.now }
+{
+    text_length(command) > most_text(command)
+}
+
+pub fn too_long(command: &Command) -> Reply
+    ensures { result ≡ too_long command.now }
+{
+    Reply::TooLong {
+        len: text_length(command),
+        most: most_text(command),
+    }
+}

@@ -1,0 +1,120 @@
+//! What a monitor does at each input that its clients' commands and reads are made of.
+
+ghost use Rattle.std.specs.Prelude.{◌≡◌, List, IsTrue};
+ghost use Rattle.mon_bytes.specs.declared.entry.Entry.{Entry};
+ghost use Rattle.mon_msg.specs.Protocol.Course.{clients_are};
+ghost use Rattle.mon_msg.specs.Protocol.Hearing.{hear, hear_client};
+ghost use Rattle.mon_msg.specs.Protocol.Readings.{readings_of};
+ghost use Rattle.mon_plan.specs.Inputs.{may_come, row};
+ghost use Rattle.mon_plan.specs.Plans.{PlansRow};
+ghost use Rattle.mon_plan.specs.Seen.{IsMet};
+ghost use Rattle.mon_client.specs.Rows.{is_told, is_asked, is_input};
+
+use crate::commands::{ask, propose_due};
+use crate::handed_on::{forward, route};
+use crate::reads::since;
+use mon_bytes::{Command, OutOfMemory};
+use mon_kv::Kv;
+use mon_msg::input::Input;
+use mon_msg::{Body, Clients, Me, Message, Plan, Request, RoleStop, Session, View};
+use mon_types::Moment;
+use std::alloc::Global;
+
+/// A message that is heard of another monitor.
+fn hear(
+    alloc: Global,
+    kv: &Kv,
+    me: &Me,
+    view: &View,
+    state: &Clients,
+    message: &Message,
+    now: Moment,
+) -> Result<Plan<Clients>, RoleStop>
+    requires { IsTrue (is_told message.now.body) }
+    ensures { (shared : List Entry) → PlansRow me.now now clients_are
+        (IsMet me.now now (readings_of kv.now) view.now (λ s. s.clients) state.now)
+        (hear me.now shared now message.now.from message.now.epoch message.now.body) result }
+{
+    let (from, epoch) = (message.from, message.epoch);
+    match &message.body {
+        Body::Forward { seq, command } => forward(
+            alloc, kv, me, view, state, from, epoch, *seq, command, now,
+        ),
+        Body::Route { seq, reply } => route(alloc, kv, view, state, from, epoch, *seq, reply),
+        _ => unreachable!(),
+    }
+}
+
+/// What a client asks for.
+fn client(
+    alloc: Global,
+    kv: &Kv,
+    me: &Me,
+    view: &View,
+    state: &Clients,
+    session: Session,
+    request: &Request,
+    now: Moment,
+) -> Result<Plan<Clients>, RoleStop>
+    requires { IsTrue (is_asked request.now) }
+    ensures { PlansRow me.now now clients_are
+        (IsMet me.now now (readings_of kv.now) view.now (λ s. s.clients) state.now)
+        (hear_client me.now now session request.now) result }
+{
+    match request {
+        Request::Set { key, value } => {
+            let command = Command::Set {
+                key: key.copy(alloc)?,
+                value: value.copy(alloc)?,
+            };
+            ask(alloc, kv, me, view, state, session, command, now)
+        }
+        Request::Remove { key } => {
+            let command = Command::Remove {
+                key: key.copy(alloc)?,
+            };
+            ask(alloc, kv, me, view, state, session, command, now)
+        }
+        Request::Log { text } => {
+            let command = Command::Log {
+                text: text.copy(alloc)?,
+            };
+            ask(alloc, kv, me, view, state, session, command, now)
+        }
+        Request::Since { service, version } => since(
+            alloc, kv, view, state, session, *service, *version,
+        ),
+        Request::Show { .. } => unreachable!(),
+    }
+}
+
+/// What a monitor does where a client asks for a change or for what changed, at a FORWARD or ROUTE that is heard, and
+/// when the timer that proposes, which was armed, comes and is disarmed: its row of the protocol's table. A FORWARD
+/// counts where it is of a member of the quorum that the monitor leads, in its epoch, with a greater number than those
+/// before; a ROUTE where it is of the leader that it follows, in its epoch. Else nothing is done. `Spent` names the
+/// version of the command's service after its last one, or the number of a command that is handed on, where that would
+/// pass 2^62.
+pub fn step(
+    alloc: Global,
+    kv: &Kv,
+    me: &Me,
+    view: &View,
+    state: &Clients,
+    input: &Input,
+    now: Moment,
+) -> Result<Plan<Clients>, RoleStop>
+    requires input { IsTrue (is_input input.now) }
+    requires fits { IsTrue (may_come me.now.member.monitors input.now) }
+    ensures { (shared : List Entry) → PlansRow me.now now clients_are
+        (IsMet me.now now (readings_of kv.now) view.now (λ s. s.clients) state.now)
+        (row me.now shared now input.now) result }
+{
+    match input {
+        Input::Deliver(message) => hear(alloc, kv, me, view, state, message, now),
+        Input::Client(session, request) => client(
+            alloc, kv, me, view, state, *session, request, now,
+        ),
+        Input::Timer(_) => propose_due(alloc, kv, me, view, state, now),
+        Input::Start => unreachable!(),
+    }
+}

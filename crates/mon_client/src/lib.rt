@@ -1,0 +1,11 @@
+//! Clients' commands and reads: which commands wait at a leader, which clients at a peon, and what a peon hands on.
+#![tactic(auto)]
+
+mod answers;
+mod commands;
+mod handed_on;
+mod inputs;
+mod proposals;
+mod reads;
+
+pub use inputs::step;
