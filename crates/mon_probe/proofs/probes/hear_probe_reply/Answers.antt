@@ -1,0 +1,86 @@
+use Rattle.std.proofs.Common.{◌≡◌, ℕ, Bool, List, [], ◌∷◌, refl, sym, ap, ◌∙◌}
+use Rattle.mon_msg.specs.Protocol.Probing.{hear_probe_reply}
+use Rattle.mon_msg.specs.Protocol.Readings.{readings_of}
+use Rattle.mon_msg.specs.Protocol.Sets.{is_majority}
+use Rattle.mon_msg.specs.declared.plan.Next.TheVariants as next
+use Rattle.mon_types.specs.Ranks.{with_rank}
+use Rattle.mon_probe.proofs.Known.{plan_of, acts, plans}
+use Rattle.mon_probe.proofs.ProbeLaws as laws
+use Rattle.mon_probe.proofs.probes.hear_probe_reply.Goals as goal
+
+pub returns-then-not-is_probing : goal.returns-then-not-is_probing
+returns-then-not-is_probing c =
+    λ now.
+    let w = readings_of c.args.stored.now in
+    acts c.args.me.now now w c.args.view.now c.args.state.now (hear_probe_reply c.args.me.now now c.args.from c.args.quorum c.args.first c.args.last) c.stay.result next.Stay (λ x. refl) c.stay.ensures
+    (λ x b. laws.reply-elsewhere c.args.me.now now w c.args.view.now c.args.state.now x b c.args.from c.args.quorum c.args.first c.args.last (sym c.is_probing.ensures ∙ c.if-not-is_probing.true))
+
+pub returns-then-reaches_floor : goal.returns-then-reaches_floor
+returns-then-reaches_floor c =
+    λ now.
+    let w = readings_of c.args.stored.now in
+    acts c.args.me.now now w c.args.view.now c.args.state.now (hear_probe_reply c.args.me.now now c.args.from c.args.quorum c.args.first c.args.last) c.planned.result (next.FullSync c.args.from) (λ x. refl) c.planned.ensures
+    (λ x b. laws.reply-copied c.args.me.now now w c.args.view.now c.args.state.now x b c.args.from c.args.quorum c.args.first c.args.last (sym c.is_probing.ensures ∙ c.if-not-is_probing.false) (sym c.is_marked.ensures ∙ c.if-is_marked.true)
+    (sym c.reaches_floor.ensures ∙ c.if-reaches_floor.true))
+
+pub returns-then-is_marked : goal.returns-then-is_marked
+returns-then-is_marked c =
+    λ now.
+    let w = readings_of c.args.stored.now in
+    acts c.args.me.now now w c.args.view.now c.args.state.now (hear_probe_reply c.args.me.now now c.args.from c.args.quorum c.args.first c.args.last) c.stay-then-is_marked.result next.Stay (λ x. refl) c.stay-then-is_marked.ensures
+    (λ x b. laws.reply-short c.args.me.now now w c.args.view.now c.args.state.now x b c.args.from c.args.quorum c.args.first c.args.last (sym c.is_probing.ensures ∙ c.if-not-is_probing.false) (sym c.is_marked.ensures ∙ c.if-is_marked.true)
+    (sym c.reaches_floor.ensures ∙ c.if-reaches_floor.false))
+
+pub returns-then-is_cut_off : goal.returns-then-is_cut_off
+returns-then-is_cut_off c =
+    λ now.
+    let w = readings_of c.args.stored.now in
+    acts c.args.me.now now w c.args.view.now c.args.state.now (hear_probe_reply c.args.me.now now c.args.from c.args.quorum c.args.first c.args.last) c.planned-then-is_cut_off.result (next.FullSync c.args.from) (λ x. refl) c.planned-then-is_cut_off.ensures
+    (λ x b. laws.reply-cut_off c.args.me.now now w c.args.view.now c.args.state.now x b c.args.from c.args.quorum c.args.first c.args.last (sym c.is_probing.ensures ∙ c.if-not-is_probing.false) (sym c.is_marked.ensures ∙ c.if-is_marked.false)
+    (sym c.is_cut_off.ensures ∙ c.if-is_cut_off.true))
+
+pub returns-then-is_behind : goal.returns-then-is_behind
+returns-then-is_behind c =
+    λ now.
+    let w = readings_of c.args.stored.now in
+    acts c.args.me.now now w c.args.view.now c.args.state.now (hear_probe_reply c.args.me.now now c.args.from c.args.quorum c.args.first c.args.last) c.planned-then-is_behind.result (next.RecentSync c.args.from) (λ x. refl) c.planned-then-is_behind.ensures
+    (λ x b. laws.reply-behind c.args.me.now now w c.args.view.now c.args.state.now x b c.args.from c.args.quorum c.args.first c.args.last (sym c.is_probing.ensures ∙ c.if-not-is_probing.false) (sym c.is_marked.ensures ∙ c.if-is_marked.false)
+    (sym c.is_cut_off.ensures ∙ c.if-is_cut_off.false) (sym c.is_behind.ensures ∙ c.if-is_behind.true))
+
+pub returns-then-is_quorum : goal.returns-then-is_quorum
+returns-then-is_quorum c =
+    λ now.
+    let w = readings_of c.args.stored.now in
+    acts c.args.me.now now w c.args.view.now c.args.state.now (hear_probe_reply c.args.me.now now c.args.from c.args.quorum c.args.first c.args.last) c.planned-then-is_quorum.result next.Elect (λ x. refl) c.planned-then-is_quorum.ensures
+    (λ x b. laws.reply-quorum c.args.me.now now w c.args.view.now c.args.state.now x b c.args.from c.args.quorum c.args.first c.args.last (sym c.is_probing.ensures ∙ c.if-not-is_probing.false) (sym c.is_marked.ensures ∙ c.if-is_marked.false)
+    (sym c.is_cut_off.ensures ∙ c.if-is_cut_off.false) (sym c.is_behind.ensures ∙ c.if-is_behind.false) (sym c.is_quorum.ensures ∙ c.if-is_quorum.true))
+
+pub returns-then-is_majority : goal.returns-then-is_majority
+returns-then-is_majority c =
+    λ now.
+    let me = c.args.me.now in
+    let s = c.args.state.now in
+    let w = readings_of c.args.stored.now in
+    let f = c.args.from in
+    let enough = ap (λ (q : List Bool). is_majority me.member.monitors q) c.with-outside.ensures in
+    plans me now w c.args.view.now s (hear_probe_reply me now f c.args.quorum c.args.first c.args.last) c.planned-then-is_majority.result
+    [] tt [] [] (record { outside = with_rank s.outside f }) next.Elect
+    (c.planned-then-is_majority.ensures ∙ (λ i. plan_of [] [] [] (record { outside = c.with-outside.ensures i }) next.Elect))
+    (λ x b. laws.reply-elects me now w c.args.view.now s x b f c.args.quorum c.args.first c.args.last (sym c.is_probing.ensures ∙ c.if-not-is_probing.false) (sym c.is_marked.ensures ∙ c.if-is_marked.false)
+    (sym c.is_cut_off.ensures ∙ c.if-is_cut_off.false) (sym c.is_behind.ensures ∙ c.if-is_behind.false) (sym c.is_quorum.ensures ∙ c.if-is_quorum.false)
+    (sym (c.is_majority.ensures ∙ enough) ∙ c.if-is_majority.true))
+
+pub returns : goal.returns
+returns c =
+    λ now.
+    let me = c.args.me.now in
+    let s = c.args.state.now in
+    let w = readings_of c.args.stored.now in
+    let f = c.args.from in
+    let enough = ap (λ (q : List Bool). is_majority me.member.monitors q) c.with-outside.ensures in
+    plans me now w c.args.view.now s (hear_probe_reply me now f c.args.quorum c.args.first c.args.last) c.stay-2.result
+    [] tt [] [] (record { outside = with_rank s.outside f }) next.Stay
+    (c.stay-2.ensures ∙ (λ i. plan_of [] [] [] (record { outside = c.with-outside.ensures i }) next.Stay))
+    (λ x b. laws.reply-waits me now w c.args.view.now s x b f c.args.quorum c.args.first c.args.last (sym c.is_probing.ensures ∙ c.if-not-is_probing.false) (sym c.is_marked.ensures ∙ c.if-is_marked.false)
+    (sym c.is_cut_off.ensures ∙ c.if-is_cut_off.false) (sym c.is_behind.ensures ∙ c.if-is_behind.false) (sym c.is_quorum.ensures ∙ c.if-is_quorum.false)
+    (sym (c.is_majority.ensures ∙ enough) ∙ c.if-is_majority.false))

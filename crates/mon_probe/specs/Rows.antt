@@ -1,0 +1,45 @@
+-- The inputs of a prober, and what is known where its rows and its act are answered.
+use Rattle.std.specs.Prelude.{◌≡◌, ℕ, Bool, true, false, nat_lt, Result}
+use Rattle.mon_msg.specs.Protocol.Course.{Course, prober_is}
+use Rattle.mon_msg.specs.Protocol.Readings.{Readings, epoch_of}
+use Rattle.mon_msg.specs.declared.election.Prober.{Prober}
+use Rattle.mon_msg.specs.declared.input.Input.TheVariants as input
+use Rattle.mon_msg.specs.declared.input.Input.{Input}
+use Rattle.mon_msg.specs.declared.plan.Plan.{Plan}
+use Rattle.mon_msg.specs.declared.plan.RoleStop.{RoleStop}
+use Rattle.mon_msg.specs.declared.view.Me.{Me}
+use Rattle.mon_msg.specs.declared.view.View.{View}
+use Rattle.mon_plan.specs.Plans.{PlansRow}
+use Rattle.mon_plan.specs.Seen.{IsMet}
+use Rattle.mon_types.specs.declared.names.Which.{Which}
+use Rattle.mon_wire.specs.declared.body.Body.TheVariants as body
+use Rattle.mon_wire.specs.declared.body.Body.{Body}
+use Rattle.mon_wire.specs.declared.phase.Timer.TheVariants as timer
+use Rattle.mon_wire.specs.declared.phase.Timer.{Timer}
+
+-- what monitors say to each other while one of them probes
+abbrev pub is_told : Body → Bool
+is_told body.Probe = true
+is_told (body.ProbeReply quorum first last) = true
+is_told b = false
+
+abbrev pub is_rung : Timer → Bool
+is_rung timer.Probe = true
+is_rung t = false
+
+-- what a prober answers
+abbrev pub is_input : Input → Bool
+is_input input.Start = false
+is_input (input.Deliver m) = is_told m.body
+is_input (input.Timer t) = is_rung t
+is_input (input.Client session r) = false
+
+-- a row, where the store tells this, the other roles are seen so, and the prober remembers that
+abbrev pub PlansProbe : Me → (now : ℕ) → Readings → View → Prober → (Course → Result Course Which) → Result (Plan Prober) RoleStop → Type 0
+PlansProbe me now w view s row result = PlansRow me now prober_is (IsMet me now w view (λ state. state.prober) s) row result
+
+-- An event under way where a monitor begins anew: the epoch is this, and where it is alone in its map the store tells of a
+-- mark what it told before the event.
+pub record IsBegun (me : Me) (w : Readings) (e : ℕ) (x : Course) : Type 0 where
+  pub epoch : epoch_of x.readings ≡ e
+  pub marked : nat_lt 1 me.member.monitors ≡ false → x.readings.marked ≡ w.marked

@@ -1,0 +1,116 @@
+//! A monitor begins anew.
+
+ghost use Rattle.std.specs.Prelude.{◌≡◌, ◌+◌, ◌^◌, [], ◌∷◌, min, map, IfOk};
+ghost use Rattle.mon_msg.specs.Protocol.Changes.{Epoch as ToEpoch, spelled};
+ghost use Rattle.mon_msg.specs.Protocol.Course.{prober_is};
+ghost use Rattle.mon_msg.specs.Protocol.Played.{Fits};
+ghost use Rattle.mon_msg.specs.Protocol.Readings.{readings_of};
+ghost use Rattle.mon_msg.specs.Protocol.Sending.{others, message_to};
+ghost use Rattle.mon_msg.specs.Protocol.Sets.{only};
+ghost use Rattle.mon_msg.specs.declared.plan.Arming.TheVariants as arming;
+ghost use Rattle.mon_msg.specs.declared.plan.Next.TheVariants as next;
+ghost use Rattle.mon_plan.specs.Plans.{PlansAct};
+ghost use Rattle.mon_wire.specs.declared.body.Body.TheVariants as body;
+ghost use Rattle.mon_wire.specs.declared.phase.Timer.TheVariants as timer;
+ghost use Rattle.mon_probe.specs.Rows.{IsBegun};
+
+use crate::seen::{has_others, may_lead, next_even};
+use mon_bytes::{Items, OutOfMemory};
+use mon_kv::Kv;
+use mon_msg::plan::Sent;
+use mon_msg::{Body, Me, Next, Plan, Prober, RoleStop, Timer};
+use mon_plan::{armed, others, put_epoch, send_each, stay};
+use mon_tx::Transaction;
+use mon_types::{Epoch, Moment, RankSet, Which};
+use std::alloc::Global;
+
+/// The prober that knows of itself alone.
+fn alone(me: &Me) -> Prober
+    ensures { result ≡ record { outside = only me.now.member.rank } }
+{
+    Prober {
+        outside: RankSet::empty().with(me.member.rank),
+    }
+}
+
+/// A PROBE to each of the others.
+fn probes(alloc: Global, me: &Me, epoch: Epoch) -> Result<Items<Sent>, OutOfMemory>
+    ensures { IfOk result (λ out. out ≡ map (message_to me.now epoch body.Probe) (others me.now)) }
+{
+    let ranks = others(alloc, me)?;
+    let mut out = Items::new(alloc);
+    send_each(alloc, &mut out, me, epoch, ranks.as_slice(), &Body::Probe)?;
+    Ok(out)
+}
+
+/// It asks all others.
+fn ask(alloc: Global, me: &Me, epoch: Epoch, now: Moment) -> Result<Plan<Prober>, OutOfMemory>
+    ensures { IfOk result (λ p. p ≡ record {
+      tx = [];
+      out = map (message_to me.now epoch body.Probe) (others me.now);
+      timers = arming.Arm timer.Probe (min (now + 2000) (2 ^ 62)) ∷ [];
+      state = record { outside = only me.now.member.rank };
+      next = next.Stay;
+    }) }
+{
+    let out = probes(alloc, me, epoch)?;
+    let mut timers = Items::new(alloc);
+    timers.push(armed(now, Timer::Probe))?;
+    Ok(Plan {
+        tx: Transaction::new(alloc),
+        out,
+        timers,
+        state: alone(me),
+        next: Next::Stay,
+    })
+}
+
+/// It leads its map, in which it is alone.
+fn lead(alloc: Global, me: &Me, epoch: Epoch) -> Result<Plan<Prober>, OutOfMemory>
+    ensures plan { IfOk result (λ p. p ≡ record {
+      tx = spelled (ToEpoch epoch ∷ []);
+      out = [];
+      timers = [];
+      state = record { outside = only me.now.member.rank };
+      next = next.Win (only me.now.member.rank);
+    }) }
+    ensures fit { Fits (ToEpoch epoch) }
+{
+    let mut tx = Transaction::new(alloc);
+    put_epoch(&mut tx, epoch)?;
+    Ok(Plan {
+        tx,
+        out: Items::new(alloc),
+        timers: Items::new(alloc),
+        state: alone(me),
+        next: Next::Win {
+            quorum: RankSet::empty().with(me.member.rank),
+        },
+    })
+}
+
+/// What a prober does where its monitor begins anew, after what came before it in the event: the epoch is the one that the store
+/// tells then, and the map is that of before. One of several asks the others. One that is alone, may lead and isn't marked wins
+/// the next greater even epoch, and another one waits. `Spent` names that epoch exactly where it would pass 2^62.
+pub fn enter(
+    alloc: Global,
+    kv: &Kv,
+    me: &Me,
+    epoch: Epoch,
+    now: Moment,
+) -> Result<Plan<Prober>, RoleStop>
+    ensures { PlansAct me.now now prober_is (IsBegun me.now (readings_of kv.now) epoch) next.Bootstrap result }
+{
+    if has_others(me) {
+        return Ok(ask(alloc, me, epoch, now)?);
+    }
+    if !may_lead(alloc, kv, me) {
+        return Ok(stay(alloc, alone(me)));
+    }
+    let Some(even) = next_even(epoch) else {
+        return Err(RoleStop::Spent {
+            which: Which::Epoch,
+        });
+    };
+    Ok(lead(alloc, me, even)?)
+}

@@ -1,0 +1,65 @@
+//! What a prober does at each of its inputs.
+
+ghost use Rattle.std.specs.Prelude.{◌≡◌, ℕ, List, IsTrue};
+ghost use Rattle.mon_bytes.specs.declared.entry.Entry.{Entry};
+ghost use Rattle.mon_msg.specs.Protocol.Hearing.{hear};
+ghost use Rattle.mon_msg.specs.Protocol.Readings.{readings_of};
+ghost use Rattle.mon_plan.specs.Inputs.{row};
+ghost use Rattle.mon_probe.specs.Rows.{is_told, is_input, PlansProbe};
+
+use crate::probes::{hear_probe, hear_probe_reply};
+use mon_kv::Kv;
+use mon_msg::input::Input;
+use mon_msg::{Body, Me, Message, Next, Plan, Prober, RoleStop, View};
+use mon_plan::{Stored, planned};
+use mon_types::Moment;
+use std::alloc::Global;
+
+/// A message of another monitor.
+fn hear(
+    alloc: Global,
+    stored: &Stored<'_>,
+    me: &Me,
+    view: &View,
+    state: &Prober,
+    message: &Message,
+) -> Result<Plan<Prober>, RoleStop>
+    requires { IsTrue (is_told message.now.body) }
+    ensures { (shared : List Entry) (now : ℕ) → PlansProbe me.now now (readings_of stored.now) view.now state.now
+        (hear me.now shared now message.now.from message.now.epoch message.now.body) result }
+{
+    let from = message.from;
+    match &message.body {
+        Body::Probe => hear_probe(alloc, stored, me, view, state, from),
+        Body::ProbeReply {
+            quorum,
+            first,
+            last,
+        } => Ok(hear_probe_reply(alloc, stored, me, view, state, from, *quorum, *first, *last)),
+        _ => unreachable!(),
+    }
+}
+
+/// What a prober does at a PROBE or PROBE_REPLY that is heard, and when the timer to probe, which was armed, comes and is
+/// disarmed: its row of the protocol's table. What is dropped takes no memory, and no number runs out.
+pub fn step(
+    alloc: Global,
+    kv: &Kv,
+    me: &Me,
+    view: &View,
+    state: &Prober,
+    input: &Input,
+    now: Moment,
+) -> Result<Plan<Prober>, RoleStop>
+    requires { IsTrue (is_input input.now) }
+    ensures { (shared : List Entry) → PlansProbe me.now now (readings_of kv.now) view.now state.now (row me.now shared now input.now) result }
+{
+    match input {
+        Input::Deliver(message) => {
+            let stored = Stored::of(alloc, kv);
+            hear(alloc, &stored, me, view, state, message)
+        }
+        Input::Timer(_) => Ok(planned(alloc, *state, Next::Bootstrap)),
+        Input::Start | Input::Client(..) => unreachable!(),
+    }
+}
