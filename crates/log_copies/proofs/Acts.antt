@@ -39,7 +39,10 @@ use Rattle.mon_msg.proofs.Afterwards.{apply-append}
 use Rattle.mon_msg.proofs.Joining.{apply-joined}
 use Rattle.log_copies.specs.Versions.{HasVersions, behind, IsOwnChange}
 use Rattle.log_copies.proofs.Learning.{learned}
-use Rattle.log_copies.proofs.Leaving.{still_has}
+use Rattle.mon_tx.specs.declared.key.Area.TheVariants as area
+use Rattle.mon_tx.specs.declared.key.Key.TheVariants as key
+use Rattle.mon_tx.specs.Keys.{cell}
+use Rattle.log_copies.proofs.Leaving.{still_has, mark_kept, mark_learned}
 use Rattle.log_copies.proofs.Taken.{spelled_append}
 use Rattle.log_copies.proofs.Telling.{versions_within}
 use Rattle.log_model.specs.LogOfValues.{AllValues}
@@ -78,6 +81,7 @@ module _ (log : List (List ℕ)) (fits : length log ≤ 2 ^ 62) (all : AllValues
   pub record HasAt (w : Readings) (cs : List Change) (out : List Sent) : Type 0 where
     pub has : HasVersions log w.last (behind cs m)
     pub keeps : Keeps log w.last w
+    pub mark : cell (behind cs m) area.Sync key.InSync ≡ cell m area.Sync key.InSync
     pub tells : AllTell log out
 
   abbrev pub Has : Course → Type 0
@@ -89,7 +93,7 @@ module _ (log : List (List ℕ)) (fits : length log ≤ 2 ^ 62) (all : AllValues
   -- ---- what is sent
 
   pub says : {w : Readings} {cs : List Change} {out : List Sent} (sends : List Sent) → AllTell log sends → HasAt w cs out → HasAt w cs (out ++ sends)
-  says {out = out} sends h H = record { has = H.has; keeps = H.keeps; tells = more_tell log out sends H.tells h }
+  says {out = out} sends h H = record { has = H.has; keeps = H.keeps; mark = H.mark; tells = more_tell log out sends H.tells h }
 
   pub says_each : {w : Readings} {cs : List Change} {out : List Sent} (me : Me) (e : ℕ) (b : Body) (ks : List ℕ) → BodyTells log b → HasAt w cs out → HasAt w cs (out ++ map (message_to me e b) ks)
   says_each me e b ks h H = says (map (message_to me e b) ks) (each_tells log me e b ks h) H
@@ -129,6 +133,7 @@ module _ (log : List (List ℕ)) (fits : length log ≤ 2 ^ 62) (all : AllValues
   pub changes : (c : Change) (w : Readings) (cs : List Change) {out : List Sent} → IsOwnChange w.last c → HasAt w cs out → HasAt (play c w) (cs ++ c ∷ []) out
   changes c w cs own H = record {
     keeps = keeps_own log fits all c w own H.keeps;
+    mark = ap (λ (n : Store). cell n area.Sync key.InSync) (behind_append cs (c ∷ []) m) ∙ mark_kept w.last (c ∷ []) (own, tt) (behind cs m) ∙ H.mark;
     tells = H.tells;
     has = subst (λ (n : ℕ). HasVersions log n (behind (cs ++ c ∷ []) m)) (sym (last_stays c w w.last own))
         (subst (HasVersions log w.last) (sym (behind_append cs (c ∷ []) m)) (still_has log w.last (behind cs m) H.has (c ∷ []) (own, tt)));
@@ -136,12 +141,12 @@ module _ (log : List (List ℕ)) (fits : length log ≤ 2 ^ 62) (all : AllValues
 
   pub changes_if : (b : Bool) (c : Change) (x : Course) → IsOwnChange x.readings.last c → Has x → Has (change_if b c x)
   changes_if true c x own H = changes c x.readings x.changes own H
-  changes_if false c x own H = record { keeps = H.keeps; tells = H.tells; has = subst (λ (cs : List Change). HasVersions log x.readings.last (behind cs m)) (sym (append-nil x.changes)) H.has }
+  changes_if false c x own H = record { keeps = H.keeps; tells = H.tells; mark = ap (λ (cs : List Change). cell (behind cs m) area.Sync key.InSync) (append-nil x.changes) ∙ H.mark; has = subst (λ (cs : List Change). HasVersions log x.readings.last (behind cs m)) (sym (append-nil x.changes)) H.has }
 
   pub learns : (v : ℕ) (values : List (List Op)) (x : Course) → v ≡ suc x.readings.last → AreVersions log v values → Has x → Then Has (learn v values x)
   unfolding learn
   learns v [] x is V H = done Has x H
-  learns v (value ∷ values) x is V H = where_fits Has which.Version (v + length values) _ (done Has _ (record { has = subst (HasVersions log (v + length values)) (sym wrote) next; keeps = kept; tells = H.tells }))
+  learns v (value ∷ values) x is V H = where_fits Has which.Version (v + length values) _ (done Has _ (record { has = subst (HasVersions log (v + length values)) (sym wrote) next; keeps = kept; mark = still_marked; tells = H.tells }))
     where
       c : ℕ
       c = x.readings.last
@@ -164,6 +169,12 @@ module _ (log : List (List ℕ)) (fits : length log ≤ 2 ^ 62) (all : AllValues
 
       wrote : behind ((x.changes ++ learn_changes v (value ∷ values)) ++ Last (v + length values) ∷ []) m ≡ behind (learn_changes v (value ∷ values) ++ Last (v + length values) ∷ []) (behind x.changes m)
       wrote = ap (λ (cs : List Change). behind cs m) (append_assoc x.changes (learn_changes v (value ∷ values)) (Last (v + length values) ∷ [])) ∙ behind_append x.changes _ m
+
+      still_marked : cell (behind ((x.changes ++ learn_changes v (value ∷ values)) ++ Last (v + length values) ∷ []) m) area.Sync key.InSync ≡ cell m area.Sync key.InSync
+      still_marked =
+          ap (λ (n : Store). cell n area.Sync key.InSync) wrote
+          ∙ subst (λ (u : ℕ). cell (behind (learn_changes u (value ∷ values) ++ Last (v + length values) ∷ []) (behind x.changes m)) area.Sync key.InSync ≡ cell (behind x.changes m) area.Sync key.InSync) (sym is)
+          (mark_learned log fits all (value ∷ values) x.readings.last (v + length values) known W (behind x.changes m)) ∙ H.mark
 
   -- ---- acts
 

@@ -1,5 +1,5 @@
 -- A monitor's own changes leave the versions that it has: its numbers, its epoch, its starts, and a vote for the next version.
-use Rattle.std.proofs.Common.{◌≡◌, ℕ, ◌+◌, Bool, true, false, not, ◌&&◌, cond, List, [], ◌∷◌, ◌++◌, Option, Some, None, refl, sym, ap, subst, ◌∙◌, arith}
+use Rattle.std.proofs.Common.{◌≡◌, ℕ, suc, ◌+◌, ◌≤◌, ◌^◌, length, Bool, true, false, not, ◌&&◌, cond, List, [], ◌∷◌, ◌++◌, Option, Some, None, refl, sym, ap, subst, ◌∙◌, arith}
 use Rattle.std.proofs.lemmas.Bool.{eq-eqb}
 use Rattle.std.specs.FinMap.{get, same_map}
 use Rattle.std.specs.List.{AllByRecursion}
@@ -10,7 +10,7 @@ use Rattle.mon_tx.specs.declared.key.Key.{Key}
 use Rattle.mon_tx.specs.declared.key.Key.TheVariants as key
 use Rattle.mon_tx.specs.declared.op.Op.{Op}
 use Rattle.mon_tx.specs.Decision.{Decision, decision, later, or_before}
-use Rattle.mon_tx.specs.Keys.{place, number, is_local, same_area, same_key}
+use Rattle.mon_tx.specs.Keys.{place, cell, number, is_local, same_area, same_key}
 use Rattle.mon_tx.specs.Map.{Place, place_cmp, Store, apply, number_in, number_bytes}
 use Rattle.mon_tx.specs.Text.{text}
 use Rattle.mon_tx.proofs.After.{get-apply, decision-append}
@@ -20,28 +20,35 @@ use Rattle.mon_msg.specs.Joined.{joined}
 use Rattle.mon_msg.specs.Puts.{put}
 use Rattle.mon_msg.specs.Protocol.Changes.{Change, Boot, Epoch, Numbers, Promise, Vote, Record, Learn, Last, Copy, Mark, Unmark, ops_of, spelled}
 use Rattle.mon_msg.proofs.Joining.{apply-joined}
-use Rattle.log_copies.specs.Versions.{HasVersions, IsOwnChange}
+use Rattle.mon_msg.specs.Protocol.Learning.{learn_changes}
+use Rattle.log_copies.proofs.Taken.{spelled_append}
+use Rattle.log_model.specs.LogOfValues.{AllValues}
+use Rattle.log_model.proofs.Records.{AreVersions, versions_spare}
+use Rattle.log_copies.specs.Versions.{HasVersions, behind, IsOwnChange}
 use Rattle.log_model.proofs.Places.{same_place, get_kept, is_shared, shared_is, local_named, tied}
 
--- changes of what a monitor with c versions doesn't share, but for its last version
+-- changes of what a monitor with c versions doesn't share, but for its last version and its mark
 record Leaves (c : ℕ) (ops : List Op) : Type 0 where
   shared : (at : Place) → is_local c at ≡ false → decision ops at ≡ None
   last : decision ops (place area.Paxos key.LastCommitted) ≡ None
+  mark : decision ops (place area.Sync key.InSync) ≡ None
 
 leaves_none : (c : ℕ) → Leaves c []
-leaves_none c = record { shared = λ at h. refl; last = refl }
+leaves_none c = record { shared = λ at h. refl; last = refl; mark = refl }
 
 leaves_append : (c : ℕ) (a b : List Op) → Leaves c a → Leaves c b → Leaves c (a ++ b)
 leaves_append c a b L M = record {
   shared = λ at h. decision-append a b at ∙ (λ i. later (M.shared at h i) (L.shared at h i));
   last = decision-append a b (place area.Paxos key.LastCommitted) ∙ (λ i. later (M.last i) (L.last i));
+  mark = decision-append a b (place area.Sync key.InSync) ∙ (λ i. later (M.mark i) (L.mark i));
 }
 
 -- a put of a key that isn't shared
-one : (c : ℕ) (a : Area) (k : Key) (bytes : List ℕ) → tied c a k ≡ true → (same_area area.Paxos a && same_key key.LastCommitted k) ≡ false → Leaves c (put a k bytes ∷ [])
-one c a k bytes own other = record {
+one : (c : ℕ) (a : Area) (k : Key) (bytes : List ℕ) → tied c a k ≡ true → (same_area area.Paxos a && same_key key.LastCommitted k) ≡ false → (same_area area.Sync a && same_key key.InSync k) ≡ false → Leaves c (put a k bytes ∷ [])
+one c a k bytes own other others = record {
   shared = λ at h. ap (λ b. cond b (Some (Some bytes)) None) (apart at h);
   last = decided-put a k bytes area.Paxos key.LastCommitted ∙ ap (λ b. cond b (Some (Some bytes)) None) other;
+  mark = decided-put a k bytes area.Sync key.InSync ∙ ap (λ b. cond b (Some (Some bytes)) None) others;
 }
   where
     apart : (at : Place) → is_local c at ≡ false → eq_by_cmp place_cmp at (place a k) ≡ false
@@ -52,17 +59,17 @@ one c a k bytes own other = record {
         by false t = refl
 
 change_leaves : (c : ℕ) (x : Change) → IsOwnChange c x → Leaves c (ops_of x)
-change_leaves c (Boot n) h = one c area.Monitor key.BootCount (number_bytes n) refl refl
-change_leaves c (Epoch e) h = one c area.Monitor key.ElectionEpoch (number_bytes e) refl refl
+change_leaves c (Boot n) h = one c area.Monitor key.BootCount (number_bytes n) refl refl refl
+change_leaves c (Epoch e) h = one c area.Monitor key.ElectionEpoch (number_bytes e) refl refl refl
 change_leaves c (Numbers pn) h =
-    leaves_append c (put area.Paxos key.LastPn (number_bytes pn) ∷ []) (put area.Paxos key.AcceptedPn (number_bytes pn) ∷ []) (one c area.Paxos key.LastPn (number_bytes pn) refl refl)
-    (one c area.Paxos key.AcceptedPn (number_bytes pn) refl refl)
-change_leaves c (Promise pn) h = one c area.Paxos key.AcceptedPn (number_bytes pn) refl refl
+    leaves_append c (put area.Paxos key.LastPn (number_bytes pn) ∷ []) (put area.Paxos key.AcceptedPn (number_bytes pn) ∷ []) (one c area.Paxos key.LastPn (number_bytes pn) refl refl refl)
+    (one c area.Paxos key.AcceptedPn (number_bytes pn) refl refl refl)
+change_leaves c (Promise pn) h = one c area.Paxos key.AcceptedPn (number_bytes pn) refl refl refl
 change_leaves c (Vote v pn value) h =
     leaves_append c (put area.Paxos (key.Version v) (text value) ∷ []) (put area.Paxos key.PendingV (number_bytes v) ∷ put area.Paxos key.PendingPn (number_bytes pn) ∷ [])
-    (one c area.Paxos (key.Version v) (text value) next refl)
-    (leaves_append c (put area.Paxos key.PendingV (number_bytes v) ∷ []) (put area.Paxos key.PendingPn (number_bytes pn) ∷ []) (one c area.Paxos key.PendingV (number_bytes v) refl refl)
-    (one c area.Paxos key.PendingPn (number_bytes pn) refl refl))
+    (one c area.Paxos (key.Version v) (text value) next refl refl)
+    (leaves_append c (put area.Paxos key.PendingV (number_bytes v) ∷ []) (put area.Paxos key.PendingPn (number_bytes pn) ∷ []) (one c area.Paxos key.PendingV (number_bytes v) refl refl refl)
+    (one c area.Paxos key.PendingPn (number_bytes pn) refl refl refl))
   where
     next : tied c area.Paxos (key.Version v) ≡ true
     next = rw (eq-eqb (c + 1) v (omega arith)) refl
@@ -97,3 +104,21 @@ module _ (log : List (List ℕ)) (c : ℕ) (m : Store) (V : HasVersions log c m)
   -- the versions stay
   pub still_has : (cs : List Change) → AllByRecursion (IsOwnChange c) cs → HasVersions log c (apply (joined (spelled cs)) m)
   still_has cs h = subst (HasVersions log c) (sym (apply-joined (spelled cs) m)) (left (spelled cs) (changes_leave c cs h))
+
+-- ---- the mark
+
+-- a monitor's own changes leave its mark
+pub mark_kept : (c : ℕ) (cs : List Change) → AllByRecursion (IsOwnChange c) cs → (m : Store) → cell (behind cs m) area.Sync key.InSync ≡ cell m area.Sync key.InSync
+mark_kept c cs h m =
+    let L = changes_leave c cs h in
+    ap (λ (n : Store). cell n area.Sync key.InSync) (apply-joined (spelled cs) m) ∙ get-apply (spelled cs) m (place area.Sync key.InSync) ∙ ap (λ (d : Decision). or_before d (get m (place area.Sync key.InSync))) L.mark
+
+-- and so do the next versions
+pub mark_learned : (log : List (List ℕ)) → length log ≤ 2 ^ 62 → AllValues log → (values : List (List Op)) (c e : ℕ) → c + length values ≤ length log → AreVersions log (suc c) values → (m : Store)
+    → cell (behind (learn_changes (suc c) values ++ Last e ∷ []) m) area.Sync key.InSync ≡ cell m area.Sync key.InSync
+mark_learned log fits all values c e le W m =
+    let changes = learn_changes (suc c) values in
+    let S = versions_spare log fits all values c le W in
+    ap (λ (n : Store). cell n area.Sync key.InSync) (apply-joined (spelled (changes ++ Last e ∷ [])) m) ∙ get-apply (spelled (changes ++ Last e ∷ [])) m (place area.Sync key.InSync)
+    ∙ ap (λ (d : Decision). or_before d (get m (place area.Sync key.InSync))) (ap (λ (ops : List Op). decision ops (place area.Sync key.InSync)) (spelled_append changes (Last e ∷ []))
+    ∙ decision-append (spelled changes) (spelled (Last e ∷ [])) (place area.Sync key.InSync) ∙ (λ i. later (decided-put area.Paxos key.LastCommitted (number_bytes e) area.Sync key.InSync i) (S.mark i)))

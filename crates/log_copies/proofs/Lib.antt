@@ -23,3 +23,4 @@ pub mod Agreeing
 pub mod Unmarked
 pub mod Sending
 pub mod Asking
+pub mod Standing

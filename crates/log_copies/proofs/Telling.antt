@@ -117,7 +117,7 @@ module _ (log : List (List ℕ)) (fits : length log ≤ 2 ^ 62) (all : AllValues
 -- ---- values of versions
 
 -- a version that is spelled is within the log
-one_within : (log : List (List ℕ)) (v : ℕ) (x : List Op) → IsVersion log (suc v) x → v < length log
+pub one_within : (log : List (List ℕ)) (v : ℕ) (x : List Op) → IsVersion log (suc v) x → v < length log
 one_within log v x V = by (cases_lt v (length log))
   where
     by : (v < length log) ⊎ (length log ≤ v) → v < length log

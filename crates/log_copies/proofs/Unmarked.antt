@@ -1,8 +1,11 @@
 -- Every event of an unmarked monitor that has versions of the log leaves it versions of the log, or it begins a full
 -- synchronisation.
-use Rattle.std.proofs.Common.{◌≡◌, ℕ, suc, ◌+◌, ◌≤◌, ◌<◌, ◌^◌, Bool, true, false, not, ◌&&◌, cond, ltb, is_some, List, [], length, IfSome, ◌⊎◌, inl, inr, Result, Ok, refl, sym, subst, ◌∙◌, arith}
+use Rattle.std.proofs.Common.{◌≡◌, ℕ, suc, ◌+◌, ◌≤◌, ◌<◌, ◌^◌, Bool, true, false, not, ◌&&◌, cond, ltb, is_some, List, [], length, IfSome, ◌⊎◌, inl, inr, Result, Ok, refl, sym, ap, subst, ◌∙◌, arith}
 use Rattle.mon_bytes.specs.declared.command.Command.TheVariants as command
 use Rattle.mon_bytes.specs.declared.entry.Entry.{Entry}
+use Rattle.mon_tx.specs.declared.key.Area.TheVariants as area
+use Rattle.mon_tx.specs.declared.key.Key.TheVariants as key
+use Rattle.mon_tx.specs.Keys.{cell}
 use Rattle.mon_tx.specs.Map.{Store}
 use Rattle.mon_types.specs.Ranks.{with_rank, count_of}
 use Rattle.mon_types.specs.declared.names.Which.{Which}
@@ -28,7 +31,7 @@ use Rattle.mon_msg.specs.Protocol.Leading.{extend}
 use Rattle.mon_msg.specs.Protocol.Phases.{same_phase, is_leading}
 use Rattle.mon_msg.specs.Protocol.Pings.{measure, ping}
 use Rattle.mon_msg.specs.Protocol.Probing.{lag, join_outside, hear_probe_reply}
-use Rattle.mon_msg.specs.Protocol.Readings.{Readings, epoch_of, readings_of, shared_entries}
+use Rattle.mon_msg.specs.Protocol.Readings.{Readings, epoch_of, marks, readings_of, shared_entries}
 use Rattle.mon_msg.specs.Protocol.Reads.{shown, since}
 use Rattle.mon_msg.specs.Protocol.Sets.{are_within, is_majority}
 use Rattle.mon_msg.specs.Protocol.State.{State}
@@ -50,6 +53,12 @@ use Rattle.log_copies.proofs.Shape.{monitor_shaped}
 use Rattle.log_copies.proofs.UnderWay.{UnderWay}
 use Rattle.log_model.specs.LogOfValues.{AllValues}
 use Rattle.log_model.proofs.Records.{IsVersion, AreVersions}
+
+-- a monitor that isn't marked, with versions of the log
+pub record OnLog (log : List (List ℕ)) (m : Store) : Type 0 where
+  pub last : ℕ
+  pub versions : HasVersions log last m
+  pub unmarked : (readings_of m).marked ≡ false
 
 -- ---- what other parts of the invariant say of the monitor, and of what comes to it
 
@@ -89,15 +98,15 @@ module _ (log : List (List ℕ)) (fits : length log ≤ 2 ^ 62) (all : AllValues
   weaker : {x : Course} {r : Result Course Which} → Then On r → Then (Out x) r
   weaker h = record { holds = λ y e. inl (h.holds y e) }
 
-  marks : (f : ℕ) (x : Course) → Then (Out x) (Ok (full_sync me now f x))
-  marks f x = done (Out x) (full_sync me now f x) (inr (record { from = f; is = refl }))
+  copies : (f : ℕ) (x : Course) → Then (Out x) (Ok (full_sync me now f x))
+  copies f x = done (Out x) (full_sync me now f x) (inr (record { from = f; is = refl }))
 
   probe_reply : (f : ℕ) (quorum : List Bool) (first last : ℕ) (x : Course) → x.readings.marked ≡ false → On x → Then (Out x) (hear_probe_reply me now f quorum first last x)
   unfolding hear_probe_reply
   probe_reply f quorum first last x unmarked H =
       branch {b = not (same_phase x.state.phase phase.Probing)} (λ t. weaker (stay log fits all m me several now H)) (λ t.
       branch {b = x.readings.marked} (λ u. let g : true ≡ false = sym u ∙ unmarked in absurd cc) (λ u.
-      branch {b = ltb x.readings.last first && ltb 1 first} (λ v. marks f x) (λ v.
+      branch {b = ltb x.readings.last first && ltb 1 first} (λ v. copies f x) (λ v.
       branch {b = ltb (x.readings.last + lag) last} (λ k. weaker (done On (recent_sync me now f x) (asks_versions log fits all m me several now f x H))) (λ k.
       branch {b = ltb 0 (count_of quorum)} (λ j. weaker (anew_votes log fits all m me several now x H)) (λ j. weaker (joins x H))))))
     where
@@ -199,23 +208,31 @@ module _ (log : List (List ℕ)) (fits : length log ≤ 2 ^ 62) (all : AllValues
 
   -- ---- whatever comes
 
+  -- it has versions of the log, or takes a copy
+  abbrev pub Outcome : Course → Type 0
+  Outcome y = OnLog log (written m y) ⊎ UnderWay log (readings_of m) (floor_of (readings_of m)) (written m y) y.state
+
   asks_copy : (f : ℕ) (s : State) → AllTell log (full_sync me now f (at_rest (readings_of m) s)).out
   unfolding full_sync
   asks_copy f s = (tt, tt)
 
+  still : (readings_of m).marked ≡ false → (n : Store) → cell n area.Sync key.InSync ≡ cell m area.Sync key.InSync → (readings_of n).marked ≡ false
+  unfolding readings_of
+  still unmarked n same = ap marks same ∙ unmarked
+
   pub agrees : (s : State) → HasVersions log (readings_of m).last m → (readings_of m).marked ≡ false → Situated me (readings_of m) s → (came : Input) → InputFits log me (readings_of m) s came → (y : Course)
-      → react me (shared_entries m) now (readings_of m) s came ≡ Ok y → (HasVersions log y.readings.last (written m y) ⊎ UnderWay log (readings_of m) (floor_of (readings_of m)) (written m y) y.state) × AllTell log y.out
+      → react me (shared_entries m) now (readings_of m) s came ≡ Ok y → Outcome y × AllTell log y.out
   unfolding react
   agrees s V unmarked S came h y e = by ((walked).holds y e)
     where
       here : On (at_rest (readings_of m) s)
-      here = record { has = subst (HasVersions log (readings_of m).last) (sym (apply-joined [] m)) V; keeps = monitor_keeps log fits all (readings_of m).last m V; tells = tt }
+      here = record { mark = ap (λ (n : Store). cell n area.Sync key.InSync) (apply-joined [] m); has = subst (HasVersions log (readings_of m).last) (sym (apply-joined [] m)) V; keeps = monitor_keeps log fits all (readings_of m).last m V; tells = tt }
 
       walked : Then (Out (at_rest (readings_of m) s)) (cond (same_phase s.phase phase.Booting) (before_start me now came (at_rest (readings_of m) s)) (running me (shared_entries m) now came (at_rest (readings_of m) s)))
       walked = branch {b = same_phase s.phase phase.Booting} (λ t. weaker (starting s came here)) (λ t. runs s unmarked V S here came h)
 
-      by : Out (at_rest (readings_of m) s) y → (HasVersions log y.readings.last (written m y) ⊎ UnderWay log (readings_of m) (floor_of (readings_of m)) (written m y) y.state) × AllTell log y.out
-      by (inl H) = (inl H.has, H.tells)
+      by : Out (at_rest (readings_of m) s) y → Outcome y × AllTell log y.out
+      by (inl H) = (inl (record { last = y.readings.last; versions = H.has; unmarked = still unmarked (written m y) H.mark }), H.tells)
       by (inr M) = (
         inr (subst (λ (z : Course). UnderWay log (readings_of m) (floor_of (readings_of m)) (written m z) z.state) (sym M.is)
             (begun log fits all me (readings_of m) (floor_of (readings_of m)) now M.from m s (record { last_pn = refl; promise = refl; epoch = refl }) (omega arith)
