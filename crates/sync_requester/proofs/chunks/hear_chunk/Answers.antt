@@ -1,0 +1,67 @@
+use Rattle.std.proofs.Common.{◌≡◌, suc, true, false, List, Result, Ok, refl, sym, ap, ◌∙◌}
+use Rattle.mon_msg.specs.Protocol.Changes.{spelled}
+use Rattle.mon_msg.specs.Protocol.Chunks.{hear_chunk}
+use Rattle.mon_msg.specs.Protocol.Copying.{ask_chunk}
+use Rattle.mon_msg.specs.Protocol.Course.{Course, ◌>>=◌, requester_is}
+use Rattle.mon_msg.specs.Protocol.Played.{played}
+use Rattle.mon_msg.specs.Protocol.Readings.{epoch_of, readings_of}
+use Rattle.mon_msg.specs.declared.plan.Next.TheVariants as next
+use Rattle.mon_plan.proofs.Standing.{readings-after}
+use Rattle.mon_tx.specs.Map.{apply}
+use Rattle.mon_tx.specs.declared.op.Op.{Op}
+use Rattle.mon_types.specs.declared.names.Which.{Which}
+use Rattle.sync_requester.specs.Copied.{copied}
+use Rattle.sync_requester.specs.Rows.{IsHeard}
+use Rattle.sync_requester.proofs.ChunkLaws.{chunk-asks, chunk-is, take-stops}
+use Rattle.sync_requester.proofs.Planned.{asks_chunk, does_as, remains}
+use Rattle.sync_requester.proofs.chunks.hear_chunk.Goals as goal
+
+pub returns-then-not-is_awaited : goal.returns-then-not-is_awaited
+returns-then-not-is_awaited c =
+    λ f.
+    let me = c.args.me.now in
+    let s = c.args.state.now in
+    let w = readings_of c.args.kv.now in
+    let p = c.args.place.now in
+    let values = c.args.values.now in
+    let entries = c.args.entries.now in
+    remains me c.args.now (IsHeard w s f) (hear_chunk me c.args.now f c.args.cookie p values entries c.args.done) s (λ x b. b.role) next.Stay (λ x. refl)
+    (λ x b. chunk-is w s f x b me c.args.now p values entries c.args.cookie c.args.done false (sym c.is_awaited.ensures ∙ c.if-not-is_awaited.true))
+    c.stay.result c.in_ok-copy.field-0 c.in_ok-copy.ensures c.stay.ensures
+
+pub returns-in_ok-ask-in-Ok : goal.returns-in_ok-ask-in-Ok
+returns-in_ok-ask-in-Ok c =
+    λ f.
+    let me = c.args.me.now in
+    let s = c.args.state.now in
+    let m = c.args.kv.now in
+    let w = readings_of m in
+    let p = c.args.place.now in
+    let values = c.args.values.now in
+    let entries = c.args.entries.now in
+    let taken = c.in-Ok.field-0 in
+    let h = c.in-Ok.ensures in
+    let cs = copied s.full (suc p.version) values entries in
+    let epoch : c.in_ok-epoch-in-Ok.epoch ≡ epoch_of (played cs w) =
+    c.in_ok-epoch-in-Ok.ensures ∙ ap (λ (ops : List Op). epoch_of (readings_of (apply ops m))) h.spelled ∙ ap epoch_of (readings-after cs h.fit m) in
+    does_as me c.args.now requester_is (IsHeard w s f) (λ x. x) (hear_chunk me c.args.now f c.args.cookie p values entries c.args.done)
+    cs h.fit (asks_chunk me c.args.now (spelled cs) c.args.cookie (record s { place = taken.place }) (epoch_of (played cs w))) refl
+    (λ x b.
+    chunk-is w s f x b me c.args.now p values entries c.args.cookie c.args.done true (sym c.is_awaited.ensures ∙ c.if-not-is_awaited.false)
+    ∙ chunk-asks w s f x b me c.args.now p values entries c.args.done taken h c.args.cookie)
+    c.in_ok-ask-in-Ok.field-0
+    (c.in_ok-ask-in-Ok.ensures ∙ (λ i. asks_chunk me c.args.now (h.spelled i) c.args.cookie (c.at_place.ensures i) (epoch i)))
+
+pub returns-in-Err : goal.returns-in-Err
+returns-in-Err c =
+    λ f.
+    let me = c.args.me.now in
+    let s = c.args.state.now in
+    let w = readings_of c.args.kv.now in
+    let p = c.args.place.now in
+    let values = c.args.values.now in
+    let entries = c.args.entries.now in
+    take-stops s p values entries c.args.done me c.args.now (IsHeard w s f) (hear_chunk me c.args.now f c.args.cookie p values entries c.args.done) c.in-Err.stop c.in-Err.ensures (λ x b. b.role)
+    (λ x b which e.
+    chunk-is w s f x b me c.args.now p values entries c.args.cookie c.args.done true (sym c.is_awaited.ensures ∙ c.if-not-is_awaited.false)
+    ∙ ap (λ (r : Result Course Which). r >>= (λ y. Ok (ask_chunk me c.args.now c.args.cookie y.state.requester.place y))) e)

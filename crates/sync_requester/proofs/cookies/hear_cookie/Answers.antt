@@ -1,0 +1,35 @@
+use Rattle.std.proofs.Common.{◌≡◌, ℕ, [], refl, sym, ap, ◌∙◌}
+use Rattle.mon_msg.specs.Protocol.Copying.{first_place, hear_cookie}
+use Rattle.mon_msg.specs.Protocol.Course.{requester_is}
+use Rattle.mon_msg.specs.Protocol.Readings.{epoch_of, readings_of}
+use Rattle.mon_msg.specs.declared.plan.Next.TheVariants as next
+use Rattle.mon_wire.specs.declared.parts.Place.{Place}
+use Rattle.sync_requester.specs.Rows.{IsHeard}
+use Rattle.sync_requester.proofs.CookieLaws.{cookie-refused, cookie-taken, started}
+use Rattle.sync_requester.proofs.Planned.{asks_chunk, does_as, remains}
+use Rattle.sync_requester.proofs.cookies.hear_cookie.Goals as goal
+
+pub returns-then-is_refused : goal.returns-then-is_refused
+returns-then-is_refused c =
+    λ f.
+    let me = c.args.me.now in
+    let s = c.args.state.now in
+    let w = readings_of c.args.stored.now in
+    remains me c.args.now (IsHeard w s f) (hear_cookie me c.args.now f c.args.full c.args.cookie c.args.last) s (λ x b. b.role) next.Stay (λ x. refl)
+    (λ x b. cookie-refused w s f x b me c.args.now c.args.full c.args.cookie c.args.last (sym c.is_refused.ensures ∙ c.if-is_refused.true))
+    c.stay.result c.in_ok-copy.field-0 c.in_ok-copy.ensures c.stay.ensures
+
+pub returns : goal.returns
+returns c =
+    λ f.
+    let me = c.args.me.now in
+    let s = c.args.state.now in
+    let w = readings_of c.args.stored.now in
+    let place = first_place c.args.full c.args.last w.last in
+    let taking : c.with_cookie-taking.result ≡ started c.args.cookie place s =
+    c.with_cookie-taking.ensures ∙ ap (λ (p : Place). started c.args.cookie p s) (c.first_place-place.ensures ∙ ap (λ (n : ℕ). first_place c.args.full c.args.last n) c.last.ensures.value) in
+    does_as me c.args.now requester_is (IsHeard w s f) (λ x. x) (hear_cookie me c.args.now f c.args.full c.args.cookie c.args.last)
+    [] tt (asks_chunk me c.args.now [] c.args.cookie (started c.args.cookie place s) (epoch_of w)) refl
+    (λ x b. cookie-taken w s f x b me c.args.now c.args.full c.args.cookie c.args.last (sym c.is_refused.ensures ∙ c.if-is_refused.false))
+    c.in_ok-ask.field-0
+    (c.in_ok-ask.ensures ∙ (λ i. asks_chunk me c.args.now (c.new-tx.ensures i) c.args.cookie (taking i) (c.epoch.ensures i)))

@@ -1,0 +1,70 @@
+use Rattle.std.proofs.Common.{◌≡◌, ◌+◌, ◌-◌, ◌≤◌, ◌++◌, ℕ, suc, List, [], ◌∷◌, length, refl, sym, ap, subst, ◌∙◌, arith}
+use Rattle.std.specs.List.{AllByRecursion}
+use Rattle.mon_msg.specs.Protocol.Changes.{Last, Unmark, ops_of, spelled}
+use Rattle.mon_msg.specs.Protocol.Course.{requester_is}
+use Rattle.mon_msg.specs.Protocol.Learning.{learn_changes}
+use Rattle.mon_msg.specs.Protocol.Readings.{readings_of}
+use Rattle.mon_msg.specs.Protocol.Replay.{step_in}
+use Rattle.mon_msg.specs.declared.plan.Next.TheVariants as next
+use Rattle.mon_msg.specs.declared.synchronisation.SyncStage.TheVariants as sync
+use Rattle.mon_plan.proofs.Learning.{learned-fit}
+use Rattle.mon_tx.specs.Text.{most, text}
+use Rattle.mon_tx.specs.declared.op.Op.{Op}
+use Rattle.sync_requester.specs.Rows.{Holds}
+use Rattle.sync_requester.proofs.Planned.{does_as, remains, then_acts}
+use Rattle.sync_requester.proofs.ReplayLaws.{end-fits, end-spelled, end_changes, few-of, replay-ends, replay-lost, replay-steps, steps_on}
+use Rattle.sync_requester.proofs.replay.replay.Goals as goal
+
+pub returns-in_default : goal.returns-in_default
+returns-in_default c =
+    λ me.
+    let s = c.args.state.now in
+    let w = readings_of c.args.stored.now in
+    remains me c.args.now (Holds w s) (step_in me c.args.now (sync.Replay c.args.next c.args.end)) s (λ x b. b.role) next.Bootstrap (λ x. refl)
+    (λ x b. replay-lost w s x b me c.args.now c.args.next c.args.end (sym c.in_default.is ∙ c.in_ok-values.ensures))
+    c.planned.result c.in_ok-kept.kept c.in_ok-kept.ensures c.planned.ensures
+
+pub put_learned-requires-clause-short : goal.put_learned-requires-clause-short
+put_learned-requires-clause-short c =
+    let records = (readings_of c.args.stored.now).record_of in
+    let few = few-of records (suc c.args.end - c.args.next) c.args.next c.in-Some.values (sym c.in-Some.is ∙ c.in_ok-values.ensures) in
+    subst (AllByRecursion (λ (ops : List Op). length (text ops) ≤ most)) (sym c.as_slice.ensures) few.0
+
+pub returns-then-after-get : goal.returns-then-after-get
+returns-then-after-get c =
+    λ me.
+    let s = c.args.state.now in
+    let w = readings_of c.args.stored.now in
+    let values = c.in-Some.values in
+    let first : ℕ = c.args.next in
+    let end : ℕ = c.args.end in
+    let there = sym c.in-Some.is ∙ c.in_ok-values.ensures in
+    let learned : c.put_learned.new.tx ≡ spelled (learn_changes first values) =
+    c.in_ok-put_learned.ensures.changes ∙ (λ i. c.new-tx.ensures i ++ spelled (learn_changes (c.get.ensures.value i) (c.as_slice.ensures i))) in
+    let tx : c.put_unmark.new.tx ≡ spelled (end_changes first end values) =
+    c.in_ok-put_unmark.ensures ∙ ap (λ (ops : List Op). ops ++ ops_of Unmark) (c.in_ok-put_last.ensures.changes ∙ ap (λ (ops : List Op). ops ++ ops_of (Last end)) learned) ∙ end-spelled first end values in
+    does_as me c.args.now requester_is (Holds w s) (λ x. x) (step_in me c.args.now (sync.Replay first end))
+    (end_changes first end values) (end-fits first end values c.in_ok-put_last.ensures.fit) (then_acts (spelled (end_changes first end values)) s next.Bootstrap) refl
+    (λ x b. replay-ends w s x b me c.args.now first end values there (omega (arith, c.if-after-get.true, c.get-2.ensures.value, c.get-3.ensures.value, c.len.ensures)))
+    (record { tx = c.put_unmark.new.tx; out = c.new.result; timers = c.new-then-after-get.result; state = c.in_ok-kept.kept; next = next.Bootstrap })
+    (λ i. record { tx = tx i; out = c.new.ensures i; timers = c.new-then-after-get.ensures i; state = c.in_ok-kept.ensures i; next = next.Bootstrap })
+
+pub returns : goal.returns
+returns c =
+    λ me.
+    let s = c.args.state.now in
+    let w = readings_of c.args.stored.now in
+    let values = c.in-Some.values in
+    let first : ℕ = c.args.next in
+    let end : ℕ = c.args.end in
+    let there = sym c.in-Some.is ∙ c.in_ok-values.ensures in
+    let cs = learn_changes first values in
+    let learned : c.put_learned.new.tx ≡ spelled cs =
+    c.in_ok-put_learned.ensures.changes ∙ (λ i. c.new-tx.ensures i ++ spelled (learn_changes (c.get.ensures.value i) (c.as_slice.ensures i))) in
+    let timers = c.in_ok-push.ensures.ok ∙ (λ j. c.new-timers.ensures j ++ c.armed.ensures j ∷ []) in
+    let after : c.known.result ≡ first + length values = omega (arith, c.known.ensures, c.get-2.ensures.value, c.len.ensures) in
+    does_as me c.args.now requester_is (Holds w s) (λ x. x) (step_in me c.args.now (sync.Replay first end))
+    cs (learned-fit first values) (steps_on c.args.now (spelled cs) (record s { stage = sync.Replay (first + length values) end })) refl
+    (λ x b. replay-steps w s x b me c.args.now first end values there (omega (arith, c.if-after-get.false, c.get-2.ensures.value, c.get-3.ensures.value, c.len.ensures)))
+    (record { tx = c.put_learned.new.tx; out = c.new-2.result; timers = c.push.new.self; state = record c.in_ok-kept.kept { stage = sync.Replay c.known.result c.args.end }; next = next.Stay })
+    (λ i. record { tx = learned i; out = c.new-2.ensures i; timers = timers i; state = record (c.in_ok-kept.ensures i) { stage = sync.Replay (after i) c.args.end }; next = next.Stay })

@@ -1,0 +1,4 @@
+pub mod Copied
+pub mod Epochs
+pub mod Inputs
+pub mod Rows

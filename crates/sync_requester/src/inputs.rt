@@ -1,0 +1,178 @@
+//! What a requester does at each of its inputs.
+
+ghost use Rattle.std.specs.Prelude.{◌≡◌, ◌&&◌, ◌==◌, List, IsTrue};
+ghost use Rattle.mon_bytes.specs.declared.entry.Entry.{Entry};
+ghost use Rattle.mon_msg.specs.Protocol.Course.{requester_is};
+ghost use Rattle.mon_msg.specs.Protocol.Hearing.{hear as hears};
+ghost use Rattle.mon_msg.specs.Protocol.Length.{fits};
+ghost use Rattle.mon_msg.specs.Protocol.Phases.{same_phase};
+ghost use Rattle.mon_msg.specs.Protocol.Readings.{readings_of};
+ghost use Rattle.mon_msg.specs.Protocol.Replay.{replay_step};
+ghost use Rattle.mon_msg.specs.Protocol.Table.{timer_comes};
+ghost use Rattle.mon_plan.specs.Inputs.{may_come, row};
+ghost use Rattle.mon_plan.specs.Plans.{PlansRow};
+ghost use Rattle.mon_plan.specs.Seen.{IsMet};
+ghost use Rattle.sync_requester.specs.Inputs.{is_told, is_own, is_input};
+
+use crate::chunks::{hear_chunk, hear_last_chunk};
+use crate::cookies::{hear_cookie, hear_no_cookie};
+use crate::replay::replay;
+use mon_kv::Kv;
+use mon_msg::input::Input;
+use mon_msg::{Body, Me, Message, Next, Phase, Plan, Requester, RoleStop, SyncStage, Timer, View};
+use mon_plan::{Stored, planned, stay};
+use mon_types::{Moment, Rank};
+use std::alloc::Global;
+
+fn synchronizes(phase: Phase) -> bool
+    ensures { result ≡ same_phase phase Phase.Synchronizing }
+{
+    match phase {
+        Phase::Synchronizing => true,
+        Phase::Booting
+        | Phase::Probing
+        | Phase::Electing
+        | Phase::Collecting
+        | Phase::Previous
+        | Phase::Active
+        | Phase::Updating
+        | Phase::Peon => false,
+    }
+}
+
+/// Whether a message is of the provider, while the monitor synchronises.
+fn is_of_provider(view: &View, state: &Requester, from: Rank) -> bool
+    ensures { result ≡ (same_phase view.now.phase Phase.Synchronizing && from == state.now.provider) }
+{
+    synchronizes(view.phase) && from == state.provider
+}
+
+/// A message, which is dropped where it isn't of the provider.
+fn hear(
+    alloc: Global,
+    kv: &Kv,
+    me: &Me,
+    view: &View,
+    state: &Requester,
+    message: &Message,
+    now: Moment,
+) -> Result<Plan<Requester>, RoleStop>
+    requires input { IsTrue (is_told message.now.body) }
+    requires fits { IsTrue (fits me.now.member.monitors message.now.body) }
+    ensures { (shared : List Entry) → PlansRow me.now now requester_is (IsMet me.now now (readings_of kv.now) view.now (λ s. s.requester) state.now)
+        (hears me.now shared now message.now.from message.now.epoch message.now.body) result }
+{
+    if !is_of_provider(view, state, message.from) {
+        return Ok(stay(alloc, state.copy(alloc)?));
+    }
+    match &message.body {
+        Body::Cookie { full, cookie, last } => {
+            let stored = Stored::of(alloc, kv);
+            hear_cookie(alloc, &stored, me, state, *full, *cookie, *last, now)
+        }
+        Body::Chunk {
+            cookie,
+            place,
+            values,
+            entries,
+            done,
+        } => hear_chunk(
+            alloc,
+            kv,
+            me,
+            state,
+            *cookie,
+            place,
+            values.as_slice(),
+            entries.as_slice(),
+            *done,
+            now,
+        ),
+        Body::LastChunk {
+            cookie,
+            place,
+            values,
+            entries,
+            last,
+        } => hear_last_chunk(
+            alloc,
+            state,
+            *cookie,
+            place,
+            values.as_slice(),
+            entries.as_slice(),
+            *last,
+            now,
+        ),
+        Body::NoCookie { cookie } => hear_no_cookie(alloc, state, *cookie),
+        _ => unreachable!(),
+    }
+}
+
+/// It is time for the next step of a replay.
+fn step_replay(
+    alloc: Global,
+    kv: &Kv,
+    me: &Me,
+    view: &View,
+    state: &Requester,
+    now: Moment,
+) -> Result<Plan<Requester>, RoleStop>
+    ensures { PlansRow me.now now requester_is (IsMet me.now now (readings_of kv.now) view.now (λ s. s.requester) state.now) (replay_step me.now now) result }
+{
+    if !synchronizes(view.phase) {
+        return Ok(stay(alloc, state.copy(alloc)?));
+    }
+    match state.stage {
+        SyncStage::Replay { next, end } => {
+            let stored = Stored::of(alloc, kv);
+            replay(alloc, &stored, state, next, end, now)
+        }
+        SyncStage::Cookie | SyncStage::Chunks => Ok(stay(alloc, state.copy(alloc)?)),
+    }
+}
+
+/// One of its timers comes, which is disarmed.
+fn ring(
+    alloc: Global,
+    kv: &Kv,
+    me: &Me,
+    view: &View,
+    state: &Requester,
+    kind: Timer,
+    now: Moment,
+) -> Result<Plan<Requester>, RoleStop>
+    requires { IsTrue (is_own kind) }
+    ensures { PlansRow me.now now requester_is (IsMet me.now now (readings_of kv.now) view.now (λ s. s.requester) state.now) (timer_comes me.now now kind) result }
+{
+    match kind {
+        Timer::Sync => Ok(planned(alloc, state.copy(alloc)?, Next::Bootstrap)),
+        Timer::Step => step_replay(alloc, kv, me, view, state, now),
+        _ => unreachable!(),
+    }
+}
+
+/// What a requester does at a COOKIE, CHUNK, LAST_CHUNK or NO_COOKIE that is heard, and when one of its timers, which was armed,
+/// comes and is disarmed: its row of the protocol's table. Whatever isn't of its provider, isn't what it waits for, or comes
+/// while it doesn't synchronise does nothing, and takes no memory but for a copy of the place that is remembered. `Spent` names
+/// the version of the place behind a chunk, or the first one that is replayed, where that would pass 2^62.
+pub fn step(
+    alloc: Global,
+    kv: &Kv,
+    me: &Me,
+    view: &View,
+    state: &Requester,
+    input: &Input,
+    now: Moment,
+) -> Result<Plan<Requester>, RoleStop>
+    requires input { IsTrue (is_input input.now) }
+    requires fits { IsTrue (may_come me.now.member.monitors input.now) }
+    ensures { (shared : List Entry) → PlansRow me.now now requester_is (IsMet me.now now (readings_of kv.now) view.now (λ s. s.requester) state.now)
+        (row me.now shared now input.now) result }
+{
+    match input {
+        Input::Deliver(message) => hear(alloc, kv, me, view, state, message, now),
+        Input::Timer(kind) => ring(alloc, kv, me, view, state, *kind, now),
+        Input::Start | Input::Client(..) => unreachable!(),
+    }
+}

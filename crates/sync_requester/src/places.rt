@@ -1,0 +1,84 @@
+//! How far a synchronisation has come, and under which cookie.
+
+ghost use Rattle.std.specs.Prelude.{◌≡◌, IfOk, if◌then◌else◌};
+ghost use Rattle.mon_bytes.specs.declared.entry.KeyPlace.TheVariants as key_place;
+ghost use Rattle.mon_msg.specs.Protocol.Copying.{first_place};
+ghost use Rattle.mon_msg.specs.Protocol.Places.{after_entries, same_cookie, same_key_place, same_place};
+
+use mon_bytes::{Entry, KeyPlace, OutOfMemory};
+use mon_msg::{Cookie, Place};
+use mon_types::Version;
+use std::alloc::Global;
+
+pub fn is_same_cookie(a: Cookie, b: Cookie) -> bool
+    ensures { result ≡ same_cookie a b }
+{
+    a.boot == b.boot && a.seq == b.seq
+}
+
+fn is_same_key_place(a: &KeyPlace, b: &KeyPlace) -> bool
+    ensures { result ≡ same_key_place a.now b.now }
+{
+    match (a, b) {
+        (KeyPlace::Start, KeyPlace::Start) | (KeyPlace::Done, KeyPlace::Done) => true,
+        (
+            KeyPlace::After { prefix, key },
+            KeyPlace::After {
+                prefix: other_prefix,
+                key: other_key,
+            },
+        ) => prefix.as_slice() == other_prefix.as_slice() && key.as_slice() == other_key.as_slice(),
+        _ => false,
+    }
+}
+
+pub fn is_same_place(a: &Place, b: &Place) -> bool
+    ensures { result ≡ same_place a.now b.now }
+{
+    a.version == b.version && is_same_key_place(&a.key, &b.key)
+}
+
+/// Where a synchronisation begins: a whole copy behind the provider's last version and before every key, another one behind
+/// the own last version.
+pub fn first_place(full: bool, last: Version, own: Version) -> Place
+    ensures { result ≡ first_place full last own }
+{
+    if full {
+        return Place {
+            version: last,
+            key: KeyPlace::Start,
+        };
+    }
+    Place {
+        version: own,
+        key: KeyPlace::Done,
+    }
+}
+
+/// The place after the last of some entries, or the same place where there are none.
+fn after_entries(alloc: Global, entries: &[Entry], key: &KeyPlace) -> Result<KeyPlace, OutOfMemory>
+    ensures { IfOk result (λ place. place ≡ after_entries entries.now key.now) }
+{
+    match entries.last() {
+        None => key.copy(alloc),
+        Some(entry) => Ok(KeyPlace::After {
+            prefix: entry.prefix.copy(alloc)?,
+            key: entry.key.copy(alloc)?,
+        }),
+    }
+}
+
+/// The place among the keys after a chunk with these entries, which may tell that none is left.
+pub fn next_key_place(
+    alloc: Global,
+    entries: &[Entry],
+    done: bool,
+    key: &KeyPlace,
+) -> Result<KeyPlace, OutOfMemory>
+    ensures { IfOk result (λ place. place ≡ if done then key_place.Done else after_entries entries.now key.now) }
+{
+    if done {
+        return Ok(KeyPlace::Done);
+    }
+    after_entries(alloc, entries, key)
+}

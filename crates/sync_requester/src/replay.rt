@@ -1,0 +1,120 @@
+//! The versions behind the beginning of a whole copy are learned once more.
+
+ghost use Rattle.std.specs.Prelude.{◌≡◌, suc, ◌+◌, ◌-◌, ◌++◌, IfOk};
+ghost use Rattle.std.specs.Option.{option_map};
+ghost use Rattle.mon_msg.specs.Protocol.Course.{requester_is};
+ghost use Rattle.mon_msg.specs.Protocol.Readings.{readings_of};
+ghost use Rattle.mon_msg.specs.Protocol.Replay.{more_of, step_of, step_in};
+ghost use Rattle.mon_msg.specs.declared.view.Me.{Me};
+ghost use Rattle.mon_plan.specs.Plans.{PlansRow};
+ghost use Rattle.sync_requester.specs.Rows.{Holds};
+
+use mon_bytes::{Items, OutOfMemory};
+use mon_msg::{Next, Plan, Requester, RoleStop, SyncStage, Timer};
+use mon_plan::{Stored, armed, planned, put_last, put_learned, put_unmark};
+use mon_tx::Transaction;
+use mon_types::{Moment, Version};
+use std::alloc::Global;
+
+/// The most versions that a step replays.
+const MOST_VERSIONS: u64 = 64;
+
+/// The most bytes that the values of a step have, unless it replays one version alone.
+const MOST_BYTES: u64 = 524_288;
+
+/// These values, and behind them those of the versions from `from` up to but not including `to` for which there is room; or
+/// `None` where a record is missing among them or right behind them.
+fn with_more(
+    alloc: Global,
+    stored: &Stored<'_>,
+    values: Items<Transaction>,
+    from: u64,
+    to: u64,
+    room: u64,
+) -> Result<Option<Items<Transaction>>, OutOfMemory>
+    ensures { IfOk result (λ all. all ≡ option_map (λ more. values ++ more) (more_of (readings_of stored.now).record_of (to - from) room from)) }
+{
+    let mut all = values;
+    let mut left = room;
+    for v in from..to {
+        let Some(value) = stored.record_at(alloc, v)? else {
+            return Ok(None);
+        };
+        let size = value.text_len();
+        if size > left {
+            return Ok(Some(all));
+        }
+        left -= size;
+        all.push(value)?;
+    }
+    Ok(Some(all))
+}
+
+/// The values of the next step, of the versions from `next` to `end`; or `None` where a record is missing.
+fn step_values(
+    alloc: Global,
+    stored: &Stored<'_>,
+    next: Version,
+    end: Version,
+) -> Result<Option<Items<Transaction>>, OutOfMemory>
+    ensures { IfOk result (λ values. values ≡ step_of (readings_of stored.now).record_of (suc end - next) next) }
+{
+    let from = next.get();
+    let past = end.get() + 1;
+    let mut values = Items::new(alloc);
+    if from >= past {
+        return Ok(Some(values));
+    }
+    let Some(value) = stored.record_at(alloc, from)? else {
+        return Ok(None);
+    };
+    let room = MOST_BYTES.saturating_sub(value.text_len());
+    values.push(value)?;
+    let to = past.min(from + MOST_VERSIONS);
+    with_more(alloc, stored, values, from + 1, to, room)
+}
+
+/// A step of the replay of the versions from `next` to `end`. After the last of them the copy is over; where a record is
+/// missing the monitor begins anew, and nothing of the step is written.
+pub fn replay(
+    alloc: Global,
+    stored: &Stored<'_>,
+    state: &Requester,
+    next: Version,
+    end: Version,
+    now: Moment,
+) -> Result<Plan<Requester>, RoleStop>
+    ensures { (me : Me) → PlansRow me now requester_is (Holds (readings_of stored.now) state.now) (step_in me now (SyncStage.Replay next end)) result }
+{
+    let mut kept = state.copy(alloc)?;
+    let Some(values) = step_values(alloc, stored, next, end)? else {
+        return Ok(planned(alloc, kept, Next::Bootstrap));
+    };
+    let mut tx = Transaction::new(alloc);
+    put_learned(&mut tx, next.get(), values.as_slice())?;
+    let after = next.get() + values.len() as u64;
+    if after > end.get() {
+        put_last(&mut tx, end)?;
+        put_unmark(&mut tx)?;
+        return Ok(Plan {
+            tx,
+            out: Items::new(alloc),
+            timers: Items::new(alloc),
+            state: kept,
+            next: Next::Bootstrap,
+        });
+    }
+    let mut timers = Items::new(alloc);
+    timers.push(armed(now, Timer::Step))?;
+    kept.stage = SyncStage::Replay {
+        next: Version::known(after),
+        end,
+    };
+    Ok(Plan {
+        tx,
+        out: Items::new(alloc),
+        timers,
+        state: kept,
+        next: Next::Stay,
+    })
+}
