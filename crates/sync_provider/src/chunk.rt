@@ -34,7 +34,8 @@ fn given_values(
     place: &Place,
 ) -> Result<Run, OutOfMemory>
     requires { stored.now ≡ kv.now }
-    ensures values { IfOk result (λ run. (n : ℕ) (c : Cookie) → let w = readings_of kv.now in run.values ≡ given_values w.last c place.now (left_after kv.now place.now.key) n w.record_of) }
+    ensures values { IfOk result (λ run. (n : ℕ) (c : Cookie) → let w = readings_of kv.now in
+        run.values ≡ given_values w.last c place.now (left_after kv.now place.now.key) n w.record_of) }
     ensures bytes { IfOk result (λ run. run.bytes ≡ sum_by value_length run.values) }
     ensures few { IfOk result (λ run. length run.values ≤ 65535) }
 {
@@ -54,7 +55,8 @@ fn reaches(last: Version, place: &Place, count: usize) -> bool
 
 /// What follows a place, under this cookie: the last chunk where nothing is left behind it.
 fn chunk(alloc: Global, kv: &Kv, cookie: Cookie, place: &Place) -> Result<Body, OutOfMemory>
-    ensures { (n : ℕ) → let w = readings_of kv.now in IfOk result (λ body. body ≡ chunk w.last cookie place.now (left_after kv.now place.now.key) n w.record_of) }
+    ensures { (n : ℕ) → let w = readings_of kv.now in
+        IfOk result (λ body. body ≡ chunk w.last cookie place.now (left_after kv.now place.now.key) n w.record_of) }
 {
     let stored = Stored::of(alloc, kv);
     let last = stored.last();
@@ -93,7 +95,8 @@ fn is_known(state: &Provider, of: Rank, cookie: Cookie) -> bool
     }
 }
 
-/// Whether nothing is given: the cookie isn't the monitor's, or some of the versions behind the place aren't kept any more.
+/// Whether nothing is given: the cookie isn't the monitor's, or some of the versions behind the place aren't kept any
+/// more.
 fn is_refused(
     stored: &Stored<'_>,
     state: &Provider,
@@ -101,7 +104,8 @@ fn is_refused(
     cookie: Cookie,
     place: &Place,
 ) -> bool
-    ensures { result ≡ (not (is_cookie cookie (slice_index_or state.now.cookies to None)) || nat_lt (suc place.now.version) (readings_of stored.now).first) }
+    ensures { result ≡ (not (is_cookie cookie (slice_index_or state.now.cookies to None))
+        || nat_lt (suc place.now.version) (readings_of stored.now).first) }
 {
     !is_known(state, to, cookie) || lacks(stored, place.version)
 }
@@ -117,7 +121,8 @@ pub fn give_chunk(
     place: &Place,
 ) -> Result<Plan<Provider>, RoleStop>
     requires { (readings_of kv.now).marked ≡ false }
-    ensures { (now : ℕ) → PlansRow me.now now provider_is (Holds (readings_of kv.now) state.now) (hear_get_chunk me.now (shared_entries kv.now) to cookie place.now) result }
+    ensures { (now : ℕ) → PlansRow me.now now provider_is (Holds (readings_of kv.now) state.now)
+        (hear_get_chunk me.now (shared_entries kv.now) to cookie place.now) result }
 {
     let stored = Stored::of(alloc, kv);
     if is_refused(&stored, state, to, cookie, place) {

@@ -25,7 +25,8 @@ pub fn answer(
     to: Rank,
     body: Body,
 ) -> Result<Plan<Provider>, RoleStop>
-    ensures { (now : ℕ) → PlansRow me.now now provider_is (Holds (readings_of stored.now) state.now) (λ x. Ok (send me.now to body x)) result }
+    ensures { (now : ℕ) → PlansRow me.now now provider_is (Holds (readings_of stored.now) state.now)
+        (λ x. Ok (send me.now to body x)) result }
 {
     let mut out = Items::new(alloc);
     out.push(message(me, stored.epoch(), body, to))?;
@@ -41,7 +42,8 @@ pub fn answer(
 /// What a provider remembers once a monitor has that cookie in place of the one that it had.
 fn with_cookie(state: &Provider, of: Rank, cookie: Cookie) -> Provider
     requires { state.now.next_cookie ≤ 2 ^ 62 }
-    ensures { result ≡ record { cookies = slice_set state.now.cookies of (Some cookie); next_cookie = suc state.now.next_cookie } }
+    ensures { result
+        ≡ record { cookies = slice_set state.now.cookies of (Some cookie); next_cookie = suc state.now.next_cookie } }
 {
     let mut cookies = state.cookies;
     cookies[usize::from(of.get())] = Some(cookie);
@@ -60,7 +62,8 @@ pub fn grant(
     to: Rank,
     full: bool,
 ) -> Result<Plan<Provider>, RoleStop>
-    ensures { (now : ℕ) → PlansRow me.now now provider_is (Holds (readings_of stored.now) state.now) (grant me.now full to) result }
+    ensures { (now : ℕ) → PlansRow me.now now provider_is (Holds (readings_of stored.now) state.now)
+        (grant me.now full to) result }
 {
     if state.next_cookie > GREATEST {
         return Err(RoleStop::Spent {
@@ -104,7 +107,8 @@ pub fn grant_recent(
     last: Version,
 ) -> Result<Plan<Provider>, RoleStop>
     requires { (readings_of stored.now).marked ≡ false }
-    ensures { (now : ℕ) → PlansRow me.now now provider_is (Holds (readings_of stored.now) state.now) (hear_get_cookie_recent me.now to last) result }
+    ensures { (now : ℕ) → PlansRow me.now now provider_is (Holds (readings_of stored.now) state.now)
+        (hear_get_cookie_recent me.now to last) result }
 {
     if lacks(stored, last) {
         let cookie = Cookie { boot: 0, seq: 0 };

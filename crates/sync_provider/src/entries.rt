@@ -88,8 +88,8 @@ fn without_last(run: KeyRun) -> KeyRun
     }
 }
 
-/// As many of the shared entries behind a place as a chunk takes whose place and values take so many bytes, and whether none is
-/// left behind them. Each entry is copied once.
+/// As many of the shared entries behind a place as a chunk takes whose place and values take so many bytes, and whether
+/// none is left behind them. Each entry is copied once.
 fn longest_entries(kv: &Kv, place: &Place, bytes: usize) -> Result<KeyRun, OutOfMemory>
     ensures { IfOk result (IsTaken (left_after kv.now place.now.key) bytes) }
 {
@@ -107,16 +107,18 @@ fn longest_entries(kv: &Kv, place: &Place, bytes: usize) -> Result<KeyRun, OutOf
     Ok(without_last(found))
 }
 
-/// The entries of a chunk whose place and values take so many bytes, and whether none is left behind them. There are none
-/// where the values don't reach the last version.
+/// The entries of a chunk whose place and values take so many bytes, and whether none is left behind them. There are
+/// none where the values don't reach the last version.
 pub fn given_entries(
     kv: &Kv,
     place: &Place,
     bytes: usize,
     reaches: bool,
 ) -> Result<KeyRun, OutOfMemory>
-    ensures { IfOk result (λ run. (last n : ℕ) (c : Cookie) (values : List (List Op)) → reach last place.now values ≡ reaches → length values ≤ 65535
-        → bytes ≡ place_length place.now + sum_by value_length values → IsGiven last c place.now (left_after kv.now place.now.key) n values run) }
+    ensures { IfOk result (λ run. (last n : ℕ) (c : Cookie) (values : List (List Op)) →
+        reach last place.now values ≡ reaches → length values ≤ 65535 →
+        bytes ≡ place_length place.now + sum_by value_length values →
+        IsGiven last c place.now (left_after kv.now place.now.key) n values run) }
 {
     if !reaches {
         return kv.chunk_from(&place.key, 0, 0);

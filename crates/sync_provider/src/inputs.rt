@@ -47,8 +47,9 @@ fn hear(
     }
 }
 
-/// What a provider does at a GET_COOKIE_FULL, GET_COOKIE_RECENT or GET_CHUNK that is heard: its row of the protocol's table.
-/// A monitor that is marked drops them without taking memory. `Spent` names the cookie's number where that would pass 2^62.
+/// What a provider does at a GET_COOKIE_FULL, GET_COOKIE_RECENT or GET_CHUNK that is heard: its row of the protocol's
+/// table. A monitor that is marked drops them without taking memory. `Spent` names the cookie's number where that would
+/// pass 2^62.
 pub fn step(
     alloc: Global,
     kv: &Kv,
@@ -59,7 +60,8 @@ pub fn step(
     now: Moment,
 ) -> Result<Plan<Provider>, RoleStop>
     requires { IsTrue (is_input input.now) }
-    ensures { PlansRow me.now now provider_is (IsMet me.now now (readings_of kv.now) view.now (λ s. s.provider) state.now)
+    ensures { PlansRow me.now now provider_is
+        (IsMet me.now now (readings_of kv.now) view.now (λ s. s.provider) state.now)
         (row me.now (shared_entries kv.now) now input.now) result }
 {
     match input {
