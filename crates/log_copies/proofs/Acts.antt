@@ -21,7 +21,7 @@ use Rattle.mon_wire.specs.declared.body.Body.TheVariants as body
 use Rattle.mon_wire.specs.declared.reply.Reply.{Reply}
 use Rattle.mon_wire.specs.declared.reply.Reply.TheVariants as reply
 use Rattle.log_model.specs.Windows.{Keeps}
-use Rattle.log_copies.proofs.Sending.{BodyTells, AllTell, more_tell, each_tells, all_commits_tell, keeps_own, keeps_noted}
+use Rattle.log_copies.proofs.Sending.{ReplyTells, BodyTells, AllTell, more_tell, each_tells, all_commits_tell, keeps_own, keeps_noted}
 use Rattle.std.specs.Prelude.{flat_map}
 use Rattle.mon_msg.specs.declared.view.Me.{Me}
 use Rattle.mon_msg.specs.Protocol.Changes.{Change, Boot, Epoch, Numbers, Promise, Vote, Record, Learn, Last, Copy, Mark, Unmark, spelled}
@@ -101,19 +101,19 @@ module _ (log : List (List ℕ)) (fits : length log ≤ 2 ^ 62) (all : AllValues
   pub says_one : {w : Readings} {cs : List Change} {out : List Sent} (me : Me) (e : ℕ) (b : Body) (to : ℕ) → BodyTells log b → HasAt w cs out → HasAt w cs (out ++ message_to me e b to ∷ [])
   says_one me e b to h H = says (message_to me e b to ∷ []) (h, tt) H
 
-  answers_tell : (me : Me) (e : ℕ) (o : Origin) (r : Reply) → AllTell log (answer_to me e o r ∷ [])
-  answers_tell me e (origin.Session session) r = (tt, tt)
-  answers_tell me e (origin.Forwarded rank seq) r = (tt, tt)
+  answers_tell : (me : Me) (e : ℕ) (o : Origin) (r : Reply) → ReplyTells log r → AllTell log (answer_to me e o r ∷ [])
+  answers_tell me e (origin.Session session) r h = (h, tt)
+  answers_tell me e (origin.Forwarded rank seq) r h = (h, tt)
 
-  pub says_answer : {w : Readings} {cs : List Change} {out : List Sent} (me : Me) (e : ℕ) (o : Origin) (r : Reply) → HasAt w cs out → HasAt w cs (out ++ answer_to me e o r ∷ [])
-  says_answer me e o r H = says (answer_to me e o r ∷ []) (answers_tell me e o r) H
+  pub says_answer : {w : Readings} {cs : List Change} {out : List Sent} (me : Me) (e : ℕ) (o : Origin) (r : Reply) → ReplyTells log r → HasAt w cs out → HasAt w cs (out ++ answer_to me e o r ∷ [])
+  says_answer me e o r h H = says (answer_to me e o r ∷ []) (answers_tell me e o r h) H
 
-  pub says_reply : {w : Readings} {cs : List Change} {out : List Sent} (session : Session) (r : Reply) → HasAt w cs out → HasAt w cs (out ++ sent.Reply session r ∷ [])
-  says_reply session r H = says (sent.Reply session r ∷ []) (tt, tt) H
+  pub says_reply : {w : Readings} {cs : List Change} {out : List Sent} (session : Session) (r : Reply) → ReplyTells log r → HasAt w cs out → HasAt w cs (out ++ sent.Reply session r ∷ [])
+  says_reply session r h H = says (sent.Reply session r ∷ []) (h, tt) H
 
-  any_tell : (me : Me) (e : ℕ) (o : Option Origin) (r : Reply) → AllTell log (answers_to me e o r)
-  any_tell me e None r = tt
-  any_tell me e (Some o) r = answers_tell me e o r
+  any_tell : (me : Me) (e : ℕ) (o : Option Origin) (r : Reply) → ReplyTells log r → AllTell log (answers_to me e o r)
+  any_tell me e None r h = tt
+  any_tell me e (Some o) r h = answers_tell me e o r h
 
   -- ---- changes
 
@@ -188,7 +188,7 @@ module _ (log : List (List ℕ)) (fits : length log ≤ 2 ^ 62) (all : AllValues
     commits value x V H =
         let v = suc x.readings.last in
         and_then Has Has (learn v (value ∷ []) x) _ (learns v (value ∷ []) x refl (V, tt) H) (λ y K. done Has _
-        (says (answers_to me (epoch_of y.readings) y.state.leader.origin (reply.Done v)) (any_tell me (epoch_of y.readings) y.state.leader.origin (reply.Done v))
+        (says (answers_to me (epoch_of y.readings) y.state.leader.origin (reply.Done v)) (any_tell me (epoch_of y.readings) y.state.leader.origin (reply.Done v) tt)
         (says_each me (epoch_of y.readings) (body.Lease y.readings.last) (members me y.state.leader.quorum) (within K)
         (says_each me (epoch_of y.readings) (body.Commit v (value ∷ [])) (members me y.state.leader.quorum) (V, tt) K))))
 

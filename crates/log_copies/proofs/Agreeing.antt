@@ -18,7 +18,7 @@ use Rattle.mon_wire.specs.declared.body.Body.{Body}
 use Rattle.mon_wire.specs.declared.body.Body.TheVariants as body
 use Rattle.mon_msg.specs.declared.plan.Sent.TheVariants as sent
 use Rattle.mon_msg.specs.declared.clients.Asked.{Asked}
-use Rattle.log_copies.proofs.Sending.{BodyTells, AllTell, chunk_tells}
+use Rattle.log_copies.proofs.Sending.{ReplyTells, BodyTells, AllTell, chunk_tells}
 use Rattle.log_copies.proofs.Given.{given}
 use Rattle.log_copies.specs.Versions.{HasVersions}
 use Rattle.mon_msg.specs.Protocol.Sending.{message_to, reply_to}
@@ -91,16 +91,16 @@ module _ (log : List (List ℕ)) (fits : length log ≤ 2 ^ 62) (all : AllValues
   unfolding hear_lease_ack
   lease_ack_comes f e last x H = branch {b = not (of_member (phase.Active ∷ []) f e x && eqb last x.readings.last)} (λ t. stay H) (λ t. stay H)
 
-  pub route_comes : (f e seq : ℕ) (r : Reply) (x : Course) → Here x → Then Here (hear_route f e seq r x)
+  pub route_comes : (f e seq : ℕ) (r : Reply) (x : Course) → ReplyTells log r → Here x → Then Here (hear_route f e seq r x)
   unfolding hear_route
-  route_comes f e seq r x H = branch {b = not (of_leader f e x)} (λ t. stay H) (λ t. done Here _ (says log fits all m (map (λ a. sent.Reply a.session r) asked) (replied asked) H))
+  route_comes f e seq r x told H = branch {b = not (of_leader f e x)} (λ t. stay H) (λ t. done Here _ (says log fits all m (map (λ a. sent.Reply a.session r) asked) (replied asked) H))
     where
       asked : List Asked
       asked = filter (λ a. eqb a.seq seq) x.state.clients.sessions
 
       replied : (asked : List Asked) → AllTell log (map (λ a. sent.Reply a.session r) asked)
       replied [] = tt
-      replied (a ∷ asked) = (tt, replied asked)
+      replied (a ∷ asked) = (told, replied asked)
 
   grants : (full : Bool) (f : ℕ) (x : Course) → Here x → Then Here (grant me full f x)
   grants full f x H =
@@ -209,10 +209,10 @@ module _ (log : List (List ℕ)) (fits : length log ≤ 2 ^ 62) (all : AllValues
 
   -- ---- clients that read
 
-  pub reads : (s : Session) (reading : Readings → Reply) (x : Course) → Here x → Then Here (read me now s reading x)
-  reads s reading x H =
-      branch {b = not (is_member x.state.phase)} (λ t. replied reply.Unavailable) (λ t. branch {b = not (readable x.readings.last me.member.monitors (lease_of x.state) now)}
-      (λ u. replied (reply.NotReadable x.readings.last (is_standing me now x.state))) (λ u. replied (reading x.readings)))
+  pub reads : (s : Session) (reading : Readings → Reply) (x : Course) → ReplyTells log (reading x.readings) → Here x → Then Here (read me now s reading x)
+  reads s reading x told H =
+      branch {b = not (is_member x.state.phase)} (λ t. replied reply.Unavailable tt) (λ t. branch {b = not (readable x.readings.last me.member.monitors (lease_of x.state) now)}
+      (λ u. replied (reply.NotReadable x.readings.last (is_standing me now x.state)) tt) (λ u. replied (reading x.readings) told))
     where
-      replied : (r : Reply) → Then Here (Ok (reply_to s r x))
-      replied r = done Here (reply_to s r x) (tells_reply log fits all m me several now s r H)
+      replied : (r : Reply) → ReplyTells log r → Then Here (Ok (reply_to s r x))
+      replied r h = done Here (reply_to s r x) (tells_reply log fits all m me several now s r h H)

@@ -56,7 +56,7 @@ use Rattle.mon_msg.specs.Protocol.Timers.{end_of}
 use Rattle.log_copies.proofs.Acts.{Then, done, and_then, where_fits}
 use Rattle.log_copies.proofs.Aside.{IsAside}
 use Rattle.log_copies.proofs.Rows.{branch}
-use Rattle.log_copies.proofs.Sending.{BodyTells, AllTell, more_tell, each_tells}
+use Rattle.log_copies.proofs.Sending.{ReplyTells, BodyTells, AllTell, more_tell, each_tells}
 
 module _ (log : List (List ℕ)) (me : Me) (several : 1 < me.member.monitors) (now : ℕ) where
   -- what was sent so far is the log's
@@ -78,8 +78,8 @@ module _ (log : List (List ℕ)) (me : Me) (several : 1 < me.member.monitors) (n
   says_each : {out : List Sent} (e : ℕ) (b : Body) (ks : List ℕ) → BodyTells log b → TellsAll out → TellsAll (out ++ map (message_to me e b) ks)
   says_each e b ks h H = more (map (message_to me e b) ks) (each_tells log me e b ks h) H
 
-  replies : {out : List Sent} (s : Session) (r : Reply) → TellsAll out → TellsAll (out ++ sent.Reply s r ∷ [])
-  replies s r H = more (sent.Reply s r ∷ []) (tt, tt) H
+  replies : {out : List Sent} (s : Session) (r : Reply) → ReplyTells log r → TellsAll out → TellsAll (out ++ sent.Reply s r ∷ [])
+  replies s r h H = more (sent.Reply s r ∷ []) (h, tt) H
 
   stay : (x : Course) → Tells x → Then Tells (Ok x)
   stay x H = done Tells x H
@@ -267,10 +267,10 @@ module _ (log : List (List ℕ)) (me : Me) (several : 1 < me.member.monitors) (n
 
     asks : (s : Session) (c : Command) → Then Tells (ask me now s c x)
     unfolding ask
-    asks s c = rw (A.leading, A.peon) (done Tells _ (replies s reply.Unavailable H))
+    asks s c = rw (A.leading, A.peon) (done Tells _ (replies s reply.Unavailable tt H))
 
     reads : (s : Session) (reading : Readings → Reply) → Then Tells (read me now s reading x)
-    reads s reading = rw (A.leading, A.peon) (done Tells _ (replies s reply.Unavailable H))
+    reads s reading = rw (A.leading, A.peon) (done Tells _ (replies s reply.Unavailable tt H))
 
     clients : (s : Session) (r : Request) → Then Tells (hear_client me now s r x)
     unfolding hear_client
@@ -304,7 +304,7 @@ module _ (log : List (List ℕ)) (me : Me) (several : 1 < me.member.monitors) (n
   starting input.Start x H = starts x H
   starting (input.Deliver d) x H = stay x H
   starting (input.Timer t) x H = stay x H
-  starting (input.Client session r) x H = done Tells _ (replies session reply.Unavailable H)
+  starting (input.Client session r) x H = done Tells _ (replies session reply.Unavailable tt H)
 
   -- ---- whatever comes
 

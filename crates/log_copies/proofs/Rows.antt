@@ -5,6 +5,7 @@ use Rattle.std.proofs.lemmas.Bool.{and_parts, eqb-true, ltb-false}
 use Rattle.election_rules.specs.declared.scores.Scores.{Scores}
 use Rattle.mon_bytes.specs.declared.command.Command.{Command}
 use Rattle.mon_bytes.specs.declared.command.CommandRefused.{CommandRefused}
+use Rattle.mon_bytes.specs.declared.command.CommandRefused.TheVariants as refused
 use Rattle.mon_tx.specs.declared.op.Op.{Op}
 use Rattle.mon_tx.specs.Map.{Store}
 use Rattle.mon_types.specs.declared.names.Which.{Which}
@@ -42,7 +43,7 @@ use Rattle.mon_wire.specs.declared.reply.Reply.{Reply}
 use Rattle.mon_wire.specs.declared.reply.Reply.TheVariants as reply
 use Rattle.mon_msg.specs.declared.plan.Sent.{Sent}
 use Rattle.mon_msg.specs.declared.plan.Sent.TheVariants as sent
-use Rattle.log_copies.proofs.Sending.{BodyTells, answer_tells}
+use Rattle.log_copies.proofs.Sending.{ReplyTells, BodyTells, answer_tells}
 use Rattle.mon_msg.specs.Protocol.Entering.{is_even, bootstrap, elect, adopt}
 use Rattle.mon_msg.specs.Protocol.Sets.{is_empty, are_within, is_majority}
 use Rattle.mon_msg.specs.Protocol.State.{State, quorum_of}
@@ -96,11 +97,11 @@ module _ (log : List (List ℕ)) (fits : length log ≤ 2 ^ 62) (all : AllValues
   pub sends : {w : Readings} {cs : List Change} {out : List Sent} (e : ℕ) (b : Body) (to : ℕ) → BodyTells log b → HasAt log fits all m w cs out → HasAt log fits all m w cs (out ++ message_to me e b to ∷ [])
   sends e b to h H = says_one log fits all m me e b to h H
 
-  tells_answer : {w : Readings} {cs : List Change} {out : List Sent} (e : ℕ) (o : Origin) (r : Reply) → HasAt log fits all m w cs out → HasAt log fits all m w cs (out ++ answer_to me e o r ∷ [])
-  tells_answer e o r H = says_answer log fits all m me e o r H
+  tells_answer : {w : Readings} {cs : List Change} {out : List Sent} (e : ℕ) (o : Origin) (r : Reply) → ReplyTells log r → HasAt log fits all m w cs out → HasAt log fits all m w cs (out ++ answer_to me e o r ∷ [])
+  tells_answer e o r h H = says_answer log fits all m me e o r h H
 
-  pub tells_reply : {w : Readings} {cs : List Change} {out : List Sent} (session : Session) (r : Reply) → HasAt log fits all m w cs out → HasAt log fits all m w cs (out ++ sent.Reply session r ∷ [])
-  tells_reply session r H = says_reply log fits all m session r H
+  pub tells_reply : {w : Readings} {cs : List Change} {out : List Sent} (session : Session) (r : Reply) → ReplyTells log r → HasAt log fits all m w cs out → HasAt log fits all m w cs (out ++ sent.Reply session r ∷ [])
+  tells_reply session r h H = says_reply log fits all m session r h H
 
   pub boots : (x : Course) → OnLog x → Then OnLog (bootstrap me now x)
   boots x H = bootstraps log fits all m me several now x H
@@ -245,7 +246,13 @@ module _ (log : List (List ℕ)) (fits : length log ≤ 2 ^ 62) (all : AllValues
 
   made_value : (o : Origin) (r : Result (List Op) CommandRefused) (x : Course) → HasOthers me x.state.leader.quorum → OnLog x → Then OnLog (begin_made me now o r x)
   made_value o (Ok value) x others H = begins log fits all m me several now stage.Updating value (Some o) x others H
-  made_value o (Err e) x others H = done OnLog _ (tells_answer (epoch_of x.readings) o (refusal e) H)
+  made_value o (Err e) x others H = done OnLog _ (tells_answer (epoch_of x.readings) o (refusal e) (is_told e) H)
+    where
+      is_told : (e : CommandRefused) → ReplyTells log (refusal e)
+      is_told refused.NoSuch = tt
+      is_told (refused.TooLong len most) = tt
+      is_told (refused.MapFull would_be) = tt
+      is_told refused.OutOfMemory = tt
 
   proposes : (c : Command) (o : Origin) (x : Course) → HasOthers me x.state.leader.quorum → OnLog x → Then OnLog (propose me now c o x)
   unfolding propose
@@ -254,8 +261,8 @@ module _ (log : List (List ℕ)) (fits : length log ≤ 2 ^ 62) (all : AllValues
 
   leads_command : (c : Command) (o : Origin) (x : Course) → HasOthers me x.state.leader.quorum → OnLog x → Then OnLog (at_leader me now c o x)
   leads_command c o x others H =
-      branch {b = is_too_long c} (λ t. done OnLog _ (tells_answer (epoch_of x.readings) o (too_long c) H)) (λ t. branch {b = may_propose me now x && not (has_queue x)} (λ u. proposes c o x others H)
-      (λ u. branch {b = leb most_waiting (length x.state.clients.queue)} (λ v. done OnLog _ (tells_answer (epoch_of x.readings) o (reply.Busy most_waiting) H)) (λ v. ok H)))
+      branch {b = is_too_long c} (λ t. done OnLog _ (tells_answer (epoch_of x.readings) o (too_long c) tt H)) (λ t. branch {b = may_propose me now x && not (has_queue x)} (λ u. proposes c o x others H)
+      (λ u. branch {b = leb most_waiting (length x.state.clients.queue)} (λ v. done OnLog _ (tells_answer (epoch_of x.readings) o (reply.Busy most_waiting) tt H)) (λ v. ok H)))
 
   hands_on : (c : Command) (s : Session) (x : Course) → OnLog x → Then OnLog (hand_on me c s x)
   hands_on c s x H =
@@ -264,12 +271,12 @@ module _ (log : List (List ℕ)) (fits : length log ≤ 2 ^ 62) (all : AllValues
 
   peon_command : (c : Command) (s : Session) (x : Course) → OnLog x → Then OnLog (at_peon me c s x)
   peon_command c s x H =
-      branch {b = is_too_long c} (λ t. done OnLog _ (tells_reply s (too_long c) H))
-      (λ t. branch {b = leb most_waiting (length x.state.clients.sessions)} (λ u. done OnLog _ (tells_reply s (reply.Busy most_waiting) H)) (λ u. hands_on c s x H))
+      branch {b = is_too_long c} (λ t. done OnLog _ (tells_reply s (too_long c) tt H))
+      (λ t. branch {b = leb most_waiting (length x.state.clients.sessions)} (λ u. done OnLog _ (tells_reply s (reply.Busy most_waiting) tt H)) (λ u. hands_on c s x H))
 
   pub asked : (s : Session) (c : Command) (x : Course) → (is_leading x.state.phase ≡ true → HasOthers me x.state.leader.quorum) → OnLog x → Then OnLog (ask me now s c x)
   unfolding ask
-  asked s c x leads H = branch {b = is_leading x.state.phase} (λ t. leads_command c (origin.Session s) x (leads t) H) (λ t. branch {b = is_peon x.state.phase} (λ u. peon_command c s x H) (λ u. done OnLog _ (tells_reply s reply.Unavailable H)))
+  asked s c x leads H = branch {b = is_leading x.state.phase} (λ t. leads_command c (origin.Session s) x (leads t) H) (λ t. branch {b = is_peon x.state.phase} (λ u. peon_command c s x H) (λ u. done OnLog _ (tells_reply s reply.Unavailable tt H)))
 
   pub forwarded : (f e seq : ℕ) (c : Command) (x : Course) → (is_leading x.state.phase ≡ true → HasOthers me x.state.leader.quorum) → OnLog x → Then OnLog (hear_forward me now f e seq c x)
   unfolding hear_forward

@@ -30,13 +30,32 @@ use Rattle.mon_msg.proofs.Runs.{longest_is}
 use Rattle.mon_tx.specs.declared.key.Area.TheVariants as area
 use Rattle.mon_tx.specs.declared.key.Key.TheVariants as key
 use Rattle.log_copies.specs.Versions.{IsOwnChange}
+use Rattle.mon_wire.specs.declared.reply.Reply.{Reply}
+use Rattle.mon_wire.specs.declared.reply.Reply.TheVariants as reply
 use Rattle.log_copies.proofs.Chunks.{ChunkOf}
+use Rattle.log_copies.proofs.Telling.{IsTold}
 use Rattle.log_model.specs.LogOfValues.{AllValues}
 use Rattle.log_model.specs.Windows.{Keeps}
 use Rattle.log_model.proofs.Committed as committed
 use Rattle.log_model.proofs.FoldWindows.{keeps_last}
 use Rattle.log_model.proofs.Lists.{all_append}
 use Rattle.log_model.proofs.Records.{IsVersion, AreVersions, first_versions, run_versions, keeps_held}
+
+-- what is shown to a client is what some beginning of the log makes
+pub record ToldOf (log : List (List ℕ)) (r : Reply) : Type 0 where
+  pub version : ℕ
+  pub within : version ≤ length log
+  pub told : IsTold log version r
+
+abbrev pub ReplyTells : List (List ℕ) → Reply → Type 0
+ReplyTells log (reply.Shown s paxos version map) = ToldOf log (reply.Shown s paxos version map)
+ReplyTells log (reply.Since s from told more) = ToldOf log (reply.Since s from told more)
+ReplyTells log other = Unit {0}
+
+pub reply_tells : (log : List (List ℕ)) (r : Reply) → ToldOf log r → ReplyTells log r
+reply_tells log (reply.Shown s paxos version map) h = h
+reply_tells log (reply.Since s from told more) h = h
+reply_tells log other h = tt
 
 -- told values are the log's, in order; so are chunks, and last versions
 abbrev pub BodyTells : List (List ℕ) → Body → Type 0
@@ -47,6 +66,7 @@ BodyTells log (body.Collect pn first last) = last ≤ length log
 BodyTells log (body.Lease last) = last ≤ length log
 BodyTells log (body.LeaseAck last) = last ≤ length log
 BodyTells log (body.GetCookieRecent last) = last ≤ length log
+BodyTells log (body.Route seq r) = ReplyTells log r
 BodyTells log (body.Cookie full cookie last) = last ≤ length log
 BodyTells log (body.Chunk cookie p values entries done) = ChunkOf log (body.Chunk cookie p values entries done)
 BodyTells log (body.LastChunk cookie p values entries last) = ChunkOf log (body.LastChunk cookie p values entries last)
@@ -54,7 +74,7 @@ BodyTells log other = Unit {0}
 
 abbrev pub SentTells : List (List ℕ) → Sent → Type 0
 SentTells log (sent.Message to m) = BodyTells log m.body
-SentTells log (sent.Reply session r) = Unit {0}
+SentTells log (sent.Reply session r) = ReplyTells log r
 
 abbrev pub AllTell : List (List ℕ) → List Sent → Type 0
 AllTell log sends = AllByRecursion (SentTells log) sends

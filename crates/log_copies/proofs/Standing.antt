@@ -27,8 +27,10 @@ use Rattle.log_copies.proofs.Asking.{asks_only}
 use Rattle.log_copies.proofs.Events.{BodyOf, InputOf, marked_is, marked_shaped, reacts}
 use Rattle.log_copies.proofs.Growing.{versions_stay, chunk_stays, marked_stays}
 use Rattle.log_copies.proofs.Rows.{HasOthers}
-use Rattle.log_copies.proofs.Sending.{BodyTells, SentTells, AllTell}
-use Rattle.log_copies.proofs.Telling.{read_last, one_within}
+use Rattle.log_copies.proofs.Sending.{ToldOf, ReplyTells, BodyTells, SentTells, AllTell}
+use Rattle.mon_wire.specs.declared.reply.Reply.{Reply}
+use Rattle.mon_wire.specs.declared.reply.Reply.TheVariants as reply
+use Rattle.log_copies.proofs.Telling.{told_stays, read_last, one_within}
 use Rattle.log_copies.proofs.UnderWay.{Marked, Stands}
 use Rattle.log_copies.proofs.Unmarked.{OnLog, Situated, BodyFits, InputFits, Outcome, agrees}
 use Rattle.log_model.specs.LogOfValues.{AllValues}
@@ -71,6 +73,7 @@ body_fits log me w s f body.Ack t h = h
 body_fits log me w s f (body.Last pn first last whole from values pending) t h = (h, t.1)
 body_fits log me w s f (body.Accept pn v) t h = h
 body_fits log me w s f (body.Commit from values) t h = t
+body_fits log me w s f (body.Route seq r) t h = t
 body_fits log me w s f (body.GetChunk cookie p) t h = h
 body_fits log me w s f (body.Chunk cookie p values entries end) t h = let C = t.0 in C.versions
 body_fits log me w s f (body.LastChunk cookie p values entries last) t h = let C = t.0 in C.versions
@@ -154,8 +157,16 @@ module _ {log more : List (List ℕ)} (F : Fronts log more) where
   told_values_stay [] v h = tt
   told_values_stay (x ∷ xs) v h = (version_stays v x h.0, told_values_stay xs (suc v) h.1)
 
+  told_of : (r : Reply) → ToldOf log r → ToldOf more r
+  told_of r h = record { version = h.version; within = (let w = h.within in let s = F.short in omega arith); told = told_stays F h.version h.within r h.told }
+
   longer : (n : ℕ) → n ≤ length log → n ≤ length more
   longer n le = let s = F.short in omega arith
+
+  reply_stays : (r : Reply) → ReplyTells log r → ReplyTells more r
+  reply_stays (reply.Shown s paxos version map) h = told_of (reply.Shown s paxos version map) h
+  reply_stays (reply.Since s from told rest) h = told_of (reply.Since s from told rest) h
+  reply_stays other h = tt
 
   pub body_stays : (b : Body) → BodyTells log b → BodyTells more b
   body_stays (body.Last pn first last whole from values pending) h = (longer last h.0, told_values_stay values from h.1)
@@ -165,6 +176,7 @@ module _ {log more : List (List ℕ)} (F : Fronts log more) where
   body_stays (body.Lease last) h = longer last h
   body_stays (body.LeaseAck last) h = longer last h
   body_stays (body.GetCookieRecent last) h = longer last h
+  body_stays (body.Route seq r) h = reply_stays r h
   body_stays (body.Cookie full cookie last) h = longer last h
   body_stays (body.Chunk cookie p values entries end) h = chunk_stays F (body.Chunk cookie p values entries end) h
   body_stays (body.LastChunk cookie p values entries last) h = chunk_stays F (body.LastChunk cookie p values entries last) h
@@ -172,4 +184,4 @@ module _ {log more : List (List ℕ)} (F : Fronts log more) where
 
   pub sent_stays : (x : Sent) → SentTells log x → SentTells more x
   sent_stays (sent.Message to m) h = body_stays m.body h
-  sent_stays (sent.Reply session r) h = tt
+  sent_stays (sent.Reply session r) h = reply_stays r h

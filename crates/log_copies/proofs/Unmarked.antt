@@ -41,8 +41,9 @@ use Rattle.mon_msg.specs.Protocol.Timers.{end_of}
 use Rattle.mon_msg.proofs.Joining.{apply-joined}
 use Rattle.log_copies.specs.Synchronizing.{written}
 use Rattle.log_copies.specs.Versions.{HasVersions}
-use Rattle.log_copies.proofs.Sending.{AllTell}
-use Rattle.log_copies.proofs.Telling.{monitor_keeps}
+use Rattle.mon_wire.specs.declared.reply.Reply.{Reply}
+use Rattle.log_copies.proofs.Sending.{ReplyTells, reply_tells, AllTell}
+use Rattle.log_copies.proofs.Telling.{monitor_keeps, IsTold, shown_told, since_told}
 use Rattle.mon_wire.specs.declared.reply.Reply.TheVariants as reply
 use Rattle.mon_msg.specs.Protocol.Sending.{members, others}
 use Rattle.log_copies.proofs.Acts.{within, says_each, Then, done, where_fits, changes, changes_if, asks_versions}
@@ -74,6 +75,7 @@ BodyFits log me w s f (body.Last pn first last whole from values pending) = (fro
 BodyFits log me w s f (body.Accept pn v) =
     are_within me.member.monitors s.leader.quorum (with_rank s.leader.accepted f) ≡ true → IfSome s.leader.value (λ value. IsVersion log (suc w.last) value)
 BodyFits log me w s f (body.Commit from values) = AreVersions log from values
+BodyFits log me w s f (body.Route seq r) = ReplyTells log r
 BodyFits log me w s f (body.GetChunk cookie p) = p.version ≤ w.last
 BodyFits log me w s f (body.Chunk cookie p values entries end) = AreVersions log (suc p.version) values
 BodyFits log me w s f (body.LastChunk cookie p values entries last) = AreVersions log (suc p.version) values
@@ -139,7 +141,7 @@ module _ (log : List (List ℕ)) (fits : length log ≤ 2 ^ 62) (all : AllValues
         by f t (body.Lease last) h H = weaker (lease_comes log fits all m me several now f t last (at_rest (readings_of m) s) H)
         by f t (body.LeaseAck last) h H = weaker (lease_ack_comes log fits all m me several now f t last (at_rest (readings_of m) s) H)
         by f t (body.Forward seq c) h H = weaker (forwarded log fits all m me several now f t seq c (at_rest (readings_of m) s) S.leads H)
-        by f t (body.Route seq r) h H = weaker (route_comes log fits all m me several now f t seq r (at_rest (readings_of m) s) H)
+        by f t (body.Route seq r) h H = weaker (route_comes log fits all m me several now f t seq r (at_rest (readings_of m) s) h H)
         by f t body.GetCookieFull h H = weaker (get_cookie_full log fits all m me several now f (at_rest (readings_of m) s) H)
         by f t (body.GetCookieRecent last) h H = weaker (get_cookie_recent log fits all m me several now f last (at_rest (readings_of m) s) H)
         by f t (body.Cookie full cookie last) h H = weaker (cookie_comes log fits all m me several now f full cookie last (at_rest (readings_of m) s) H)
@@ -156,13 +158,16 @@ module _ (log : List (List ℕ)) (fits : length log ≤ 2 ^ 62) (all : AllValues
       abbrev x0 : Course
       x0 = at_rest (readings_of m) s
 
+      tells : (r : Reply) → IsTold log (readings_of m).last r → ReplyTells log r
+      tells r h = reply_tells log r (record { version = (readings_of m).last; within = V.within; told = h })
+
       client : (session : Session) (r : Request) → Then On (hear_client me now session r x0)
       unfolding hear_client
       client session (request.Set k v) = asked log fits all m me several now session (command.Set k v) x0 S.leads H
       client session (request.Remove k) = asked log fits all m me several now session (command.Remove k) x0 S.leads H
       client session (request.Log text) = asked log fits all m me several now session (command.Log text) x0 S.leads H
-      client session (request.Show service) = reads log fits all m me several now session (λ w. shown w service) x0 H
-      client session (request.Since service v) = reads log fits all m me several now session (λ w. since w service v) x0 H
+      client session (request.Show service) = reads log fits all m me several now session (λ w. shown w service) x0 (tells (shown (readings_of m) service) (shown_told log fits all (readings_of m).last m V service)) H
+      client session (request.Since service v) = reads log fits all m me several now session (λ w. since w service v) x0 (tells (since (readings_of m) service v) (since_told log fits all (readings_of m).last m V service v)) H
 
       extends : On x0 → On (extend me now (disarm timer.Renew x0))
       unfolding extend
@@ -204,7 +209,7 @@ module _ (log : List (List ℕ)) (fits : length log ≤ 2 ^ 62) (all : AllValues
   starting s input.Start H = starts s H
   starting s (input.Deliver d) H = stay log fits all m me several now H
   starting s (input.Timer t) H = stay log fits all m me several now H
-  starting s (input.Client session r) H = done On _ (tells_reply log fits all m me several now session reply.Unavailable H)
+  starting s (input.Client session r) H = done On _ (tells_reply log fits all m me several now session reply.Unavailable tt H)
 
   -- ---- whatever comes
 
