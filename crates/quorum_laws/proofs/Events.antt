@@ -401,3 +401,8 @@ both_runs ms w (e ∷ a) b F I = by (happens ms w e) (event_holds ms w e F.0 I) 
         → (I : InvOf ms (goes_on w (λ next. ran_from ms next a) r).world) × (J : InvOf ms (goes_on w (λ next. ran_from ms next (a ++ b)) r).world) × ((r : Entry) → Among r I.g.roles → Among r J.g.roles)
     by (Ok next) k ih = ih next k.0
     by (Err stop) k ih = (I, I, λ r a. a)
+
+-- an empty store is under no full synchronisation
+pub unmarked_at_first : (readings_of empty).marked ≡ false
+unfolding readings_of number_in
+unmarked_at_first = ap marks (nothing_there area.Sync key.InSync)

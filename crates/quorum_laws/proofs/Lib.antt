@@ -1,6 +1,7 @@
 pub mod Chosen
 pub mod Elections
 pub mod Events
+pub mod Examples
 pub mod Invariant
 pub mod Numbers
 pub mod Reading
