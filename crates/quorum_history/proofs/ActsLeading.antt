@@ -119,10 +119,6 @@ module _ (me : Me) (now : ℕ) (g : Ghost) where
 
   -- ---- leading
 
-  pub extend_holds : (P : Ghost → Type 0) (x : Course) → At me g P x → At me g P (extend me now x)
-  unfolding extend
-  extend_holds P x A = tells_each me P (body.Lease x.readings.last) _ A (λ h E G D p to. tt)
-
   pub be_active_holds : (x : Course) → At me g (λ h. ActsIn n h i (core x)) x → Good me g (be_active me now x)
   unfolding be_active extend
   be_active_holds x A = tells_each me _ (body.Lease x.readings.last) _ A (λ h E G D p to. tt)

@@ -28,50 +28,6 @@ electing_is phase.Active e = no e
 electing_is phase.Updating e = no e
 electing_is phase.Peon e = no e
 
--- it has all of its quorum
-abbrev pub acts : Phase → Bool
-acts phase.Previous = true
-acts phase.Active = true
-acts phase.Updating = true
-acts p = false
-
-same_acts : (p q : Phase) → acts q ≡ true → same_phase p q ≡ true → acts p ≡ true
-same_acts phase.Previous q l e = refl
-same_acts phase.Active q l e = refl
-same_acts phase.Updating q l e = refl
-same_acts phase.Collecting phase.Collecting l e = no l
-same_acts phase.Collecting other l e = no e
-same_acts phase.Booting phase.Booting l e = no l
-same_acts phase.Booting other l e = no e
-same_acts phase.Probing phase.Probing l e = no l
-same_acts phase.Probing other l e = no e
-same_acts phase.Synchronizing phase.Synchronizing l e = no l
-same_acts phase.Synchronizing other l e = no e
-same_acts phase.Electing phase.Electing l e = no l
-same_acts phase.Electing other l e = no e
-same_acts phase.Peon phase.Peon l e = no l
-same_acts phase.Peon other l e = no e
-
-acts_or : (b : Bool) (p q : Phase) → acts q ≡ true → (b ≡ true → acts p ≡ true) → (same_phase p q || b) ≡ true → acts p ≡ true
-acts_or b p q l f e = elim (or_cases (same_phase p q) b e) [ inl s ↦ same_acts p q l s | inr t ↦ f t ]
-
-pub begun_acts : (p : Phase) → (same_phase p phase.Previous || (same_phase p phase.Updating || false)) ≡ true → acts p ≡ true
-begun_acts p = acts_or _ p phase.Previous refl (acts_or _ p phase.Updating refl no)
-
-pub active_acts : (p : Phase) → same_phase p phase.Active ≡ true → acts p ≡ true
-active_acts p = same_acts p phase.Active refl
-
-pub acts_leads : (p : Phase) → acts p ≡ true → is_leading p ≡ true
-acts_leads phase.Previous e = refl
-acts_leads phase.Active e = refl
-acts_leads phase.Updating e = refl
-acts_leads phase.Collecting e = refl
-acts_leads phase.Booting e = no e
-acts_leads phase.Probing e = no e
-acts_leads phase.Synchronizing e = no e
-acts_leads phase.Electing e = no e
-acts_leads phase.Peon e = no e
-
 -- the phases that rows of a leader name
 pub same_leads : (p q : Phase) → is_leading q ≡ true → same_phase p q ≡ true → is_leading p ≡ true
 same_leads phase.Collecting q l e = refl
@@ -118,21 +74,6 @@ peon_is_peon phase.Active e = no e
 peon_is_peon phase.Updating e = no e
 
 -- ---- what holds in it
-
-pub as_leading : (n : ℕ) (h : Ghost) (i : ℕ) (c : Core) (p : Phase) → is_leading p ≡ true → InPhase n h i c p → Reigns h i (epoch_in c.own) c.own.marked c.quorum c.queue
-as_leading n h i c phase.Collecting e k = k.0.reigns
-as_leading n h i c phase.Previous e k = k.0.reigns
-as_leading n h i c phase.Active e k = k.0.reigns
-as_leading n h i c phase.Updating e k = k.0.reigns
-as_leading n h i c phase.Booting e k = no e
-as_leading n h i c phase.Probing e k = no e
-as_leading n h i c phase.Synchronizing e k = no e
-as_leading n h i c phase.Electing e k = no e
-as_leading n h i c phase.Peon e k = no e
-
--- with another queue
-pub with_queue : List Waiting → Core → Core
-with_queue ws c = record c { queue = ws }
 
 pub requeued : (g : Ghost) (i : ℕ) (c : Core) (ws : List Waiting) (L : ℕ → ℕ → Type 0) → (AllByRecursion (Waits g i (epoch_in c.own)) c.queue → AllByRecursion (Waits g i (epoch_in c.own)) ws) → LeadsIn g i c L → LeadsIn g i (record c { queue = ws }) L
 requeued g i c ws L f k = record { reigns = record { role = k.reigns.role; unmarked = k.reigns.unmarked; queue = f k.reigns.queue }; made = k.made; promised = k.promised; own = k.own; heard = k.heard }

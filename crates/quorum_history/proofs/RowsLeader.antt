@@ -196,9 +196,6 @@ module _ (me : Me) (now : ℕ) (g : Ghost) where
               let b : Accepted h f v x.state.leader.pn t.value = subst (λ (z : ℕ). Accepted h f v z t.value) same a in
               absurd (K.fresh v t.value (subst (λ (z : ℕ). Accepted h z v x.state.leader.pn t.value) own (G.triples.owner f v x.state.leader.pn t.value b)))
 
-  abbrev ReignsNow : Course → Type 0
-  ReignsNow x = At me g (λ h. Reigns h i (epoch_of x.readings) x.readings.marked x.state.leader.quorum x.state.clients.queue) x
-
   collects_again : (above : ℕ) (x : Course) → Gathering x → Then (Good me g) (collect me now x.state.leader.quorum above x)
   collects_again above x A = collect_holds me now g x.state.leader.quorum above x (weaken _ _ A (λ h E G D p. p.0.reigns))
 

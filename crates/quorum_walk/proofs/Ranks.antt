@@ -19,9 +19,6 @@ has_with s f r h = by (cases_eq r f) (cases_lt r (length s))
     by (inl e) (inl lt) = get_or-set_at s f r true false e (omega arith)
     by (inl e) (inr ge) = absurd (false≢true (sym (get_or_past s r false ge) ∙ h))
 
-pub has_added : (s : List Bool) (f : ℕ) → f < length s → has (with_rank s f) f ≡ true
-has_added s f h = get_or-set_same s f true false h
-
 pub whole_major : (n : ℕ) (q : List Bool) → 0 < n → eqb (count_of q) n ≡ true → is_majority n q ≡ true
 whole_major n q h e = let s = eqb-true (count_of q) n e in lt-ltb _ _ (omega arith)
 

@@ -32,10 +32,6 @@ where_fits Q w n f q = cond_both (leb n (2 ^ 62)) (Ok n) (Err w) (λ r. Then Q (
 pub by_test : {A : Type 0} {Q : A → Type 0} (b : Bool) {x y : Result A Which} → (b ≡ true → Then Q x) → (b ≡ false → Then Q y) → Then Q (if b then x else y)
 by_test {Q = Q} b {x = x} {y = y} f k = cond_both b x y (λ r. Then Q r) f k
 
--- a test that doesn't matter
-pub either : {A : Type 0} (Q : A → Type 0) (b : Bool) (x y : Result A Which) → Then Q x → Then Q y → Then Q (if b then x else y)
-either Q b x y p q = by_test b (λ _. p) (λ _. q)
-
 -- what tests of three parts tell
 pub or_three : (a b c : Bool) → (a || b || c) ≡ false → (a ≡ false) × (b ≡ false) × (c ≡ false)
 or_three a b c e = let t = or_parts (a || b) c e in let u = or_parts a b t.0 in (u.0, u.1, t.1)
