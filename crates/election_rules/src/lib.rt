@@ -12,6 +12,3 @@ pub use ranking::outranks;
 pub use row::{FULL, HALF_LIFE, Row};
 pub use rule::Rule;
 pub use scores::Scores;
-
-#[cfg(test)]
-mod tests;

@@ -10,6 +10,3 @@ mod reading;
 pub use command::{MOST_MAP, MOST_VALUE, make};
 pub use inc::KvInc;
 pub use map::KvMap;
-
-#[cfg(test)]
-mod tests;

@@ -12,6 +12,3 @@ pub use command::{MOST_TEXT, make};
 pub use inc::LogInc;
 pub use map::LogMap;
 pub use surplus::{MOST_ENTRIES, MOST_MAP};
-
-#[cfg(test)]
-mod tests;

@@ -22,6 +22,3 @@ pub use memory::OutOfMemory;
 pub use out::Out;
 pub use texts::{Bytes, Text};
 pub use word::{Name, Prefix, Word};
-
-#[cfg(test)]
-mod tests;

@@ -20,8 +20,3 @@ pub use file::FileDisk;
 pub use law::law_images;
 pub use memory::MemoryDisk;
 pub use node::NodeDisks;
-
-#[cfg(test)]
-mod asked;
-#[cfg(test)]
-mod tests;

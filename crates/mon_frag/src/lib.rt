@@ -12,6 +12,3 @@ pub use assembly::Assembly;
 pub use cutting::pieces;
 pub use law::law_whole;
 pub use refused::FragRefused;
-
-#[cfg(test)]
-mod tests;

@@ -20,8 +20,3 @@ pub use making::{create, restart};
 pub use opening::{Opened, open};
 pub use payloads::Payloads;
 pub use stop::JournalStop;
-
-#[cfg(test)]
-mod stopping;
-#[cfg(test)]
-mod tests;

@@ -16,6 +16,3 @@ pub use chunk::KeyRun;
 pub use entry_ref::EntryRef;
 pub use kv::{Kv, MOST_SIZE, number_of};
 pub use readers::Pending;
-
-#[cfg(test)]
-mod tests;

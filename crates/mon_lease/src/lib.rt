@@ -6,6 +6,3 @@ mod show;
 
 pub use lease::{LENGTH, Lease};
 pub use show::readable;
-
-#[cfg(test)]
-mod tests;

@@ -22,8 +22,3 @@ pub use outside::{Sink, Source};
 pub use run_clock::RunClock;
 pub use udp::{Address, UdpLink};
 pub use whole::{read_all, write_all};
-
-#[cfg(test)]
-mod link_tests;
-#[cfg(test)]
-mod tests;

@@ -22,6 +22,3 @@ pub use paxos::{Found, Leader, LeaderStage, Peon};
 pub use plan::{Arming, Next, Origin, Plan, RoleStop};
 pub use synchronisation::{Provider, Requester, SyncStage};
 pub use view::{Me, View};
-
-#[cfg(test)]
-mod tests;

@@ -1,6 +1,7 @@
 pub mod Inputs
 pub mod Joining
 pub mod Learned
+pub mod Leaves
 pub mod Plans
 pub mod Runs
 pub mod Seen

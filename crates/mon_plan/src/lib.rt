@@ -17,6 +17,3 @@ pub use writers::{
     learn, put_boot, put_copies, put_epoch, put_last, put_learned, put_mark, put_numbers,
     put_promise, put_records, put_unmark, put_vote,
 };
-
-#[cfg(test)]
-mod tests;

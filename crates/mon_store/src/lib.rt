@@ -18,6 +18,3 @@ pub use law::{law_checkpoints, law_stands};
 pub use reading::read_checkpoint;
 pub use stop::{OpenRefused, OpenStop, StoreStop};
 pub use store::Store;
-
-#[cfg(test)]
-mod tests;

@@ -21,6 +21,3 @@ pub use reading::decode;
 pub use refusal::TxRefused;
 pub use scan::is_text;
 pub use transaction::Transaction;
-
-#[cfg(test)]
-mod tests;

@@ -16,6 +16,3 @@ pub use numbers::{
 pub use proposal::next_pn;
 pub use rank::Rank;
 pub use rank_set::{RankSet, Ranks};
-
-#[cfg(test)]
-mod tests;

@@ -37,6 +37,3 @@ pub use reading::{MOST_BYTES, decode};
 pub use refusal::{MsgKind, MsgRefused};
 pub use reply::{Reply, ShownMap};
 pub use request::{Request, Service, Session};
-
-#[cfg(test)]
-mod tests;

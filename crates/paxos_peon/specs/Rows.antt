@@ -31,7 +31,8 @@ is_input (input.Deliver m) = is_told m.body
 is_input (input.Timer t) = is_rung t
 is_input (input.Client session r) = false
 
--- An event under way at a peon that hears of its leader f, in its epoch e: the store tells this, and the role remembers that.
+-- An event under way at a peon that hears of its leader f, in its epoch e: the store tells this, and the role remembers
+-- that.
 pub record IsOurs (w : Readings) (state : Peon) (f e : ℕ) (x : Course) : Type 0 where
   pub readings : x.readings ≡ w
   pub role : x.state.peon ≡ state

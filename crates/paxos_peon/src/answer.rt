@@ -29,7 +29,8 @@ fn tells_none(stored: &Stored<'_>, from: Version) -> bool
 
 /// As many of the committed values from a version on as the answer takes.
 fn told_values(alloc: Global, stored: &Stored<'_>, from: Version) -> Result<Run, OutOfMemory>
-    ensures values { (n promise : ℕ) → let w = readings_of stored.now in IfOk result (λ run. run.values ≡ told_values n promise w.first w.last w.record_of from) }
+    ensures values { (n promise : ℕ) → let w = readings_of stored.now in
+        IfOk result (λ run. run.values ≡ told_values n promise w.first w.last w.record_of from) }
     ensures bytes { IfOk result (λ run. run.bytes ≡ sum_by value_length run.values) }
     ensures few { IfOk result (λ run. length run.values ≤ 65535) }
 {
@@ -83,7 +84,7 @@ fn answer_in_part(
     from: Version,
     values: Items<Transaction>,
 ) -> Body
-    ensures { result ≡ body.Last promise (readings_of stored.now).first (readings_of stored.now).last false from values None }
+    ensures { let w = readings_of stored.now in result ≡ body.Last promise w.first w.last false from values None }
 {
     Body::Last {
         pn: promise,
@@ -103,7 +104,8 @@ pub fn answer(
     promise: Pn,
     from: Version,
 ) -> Result<Body, OutOfMemory>
-    ensures { (n : ℕ) → let w = readings_of stored.now in IfOk result (λ body. body ≡ answer_of n promise w.first w.last w.record_of (pending w) from) }
+    ensures { (n : ℕ) → let w = readings_of stored.now in
+        IfOk result (λ body. body ≡ answer_of n promise w.first w.last w.record_of (pending w) from) }
 {
     let Run { values, bytes } = told_values(alloc, stored, from)?;
     let last = stored.last();

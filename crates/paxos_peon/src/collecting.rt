@@ -52,7 +52,9 @@ pub fn collect(
     leader_first: Version,
     leader_last: Version,
 ) -> Result<Plan<Peon>, RoleStop>
-    ensures { (now e : ℕ) → let f = state.now.leader in PlansRow me.now now peon_is (IsOurs (readings_of stored.now) state.now f e) (hear_collect me.now now f e pn leader_first leader_last) result }
+    ensures { (now e : ℕ) → let f = state.now.leader in
+        PlansRow me.now now peon_is (IsOurs (readings_of stored.now) state.now f e)
+        (hear_collect me.now now f e pn leader_first leader_last) result }
 {
     if leader_first.get() > stored.last().get() + 1 {
         return Ok(planned(alloc, *state, Next::Bootstrap));

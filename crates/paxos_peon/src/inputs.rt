@@ -24,7 +24,8 @@ use std::alloc::Global;
 
 /// Whether a message is of the leader that the monitor follows, and of its epoch.
 fn is_ours(stored: &Stored<'_>, view: &View, state: &Peon, message: &Message) -> bool
-    ensures { result ≡ (is_peon view.now.phase && message.now.epoch == epoch_of (readings_of stored.now) && message.now.from == state.now.leader) }
+    ensures { result ≡ (is_peon view.now.phase && message.now.epoch == epoch_of (readings_of stored.now)
+        && message.now.from == state.now.leader) }
 {
     matches!(view.phase, Phase::Peon)
         && message.epoch.get() == stored.epoch().get()
@@ -43,7 +44,8 @@ fn hear(
 ) -> Result<Plan<Peon>, RoleStop>
     requires input { IsTrue (is_told message.now.body) }
     requires fits { IsTrue (fits me.now.member.monitors message.now.body) }
-    ensures { (shared : List Entry) → PlansRow me.now now peon_is (IsMet me.now now (readings_of stored.now) view.now (λ s. s.peon) state.now)
+    ensures { (shared : List Entry) → PlansRow me.now now peon_is
+        (IsMet me.now now (readings_of stored.now) view.now (λ s. s.peon) state.now)
         (hear me.now shared now message.now.from message.now.epoch message.now.body) result }
 {
     if !is_ours(stored, view, state, message) {
@@ -62,10 +64,10 @@ fn hear(
     }
 }
 
-/// What a peon does at a COLLECT, BEGIN, COMMIT or LEASE that is heard, and when its lease's timer, which was armed, comes and
-/// is disarmed: its row of the protocol's table. A message that isn't of its leader in its epoch is dropped, and what is dropped
-/// takes no memory. `Spent` names the version after the leader's last one, or the last one of those that are learned, where that
-/// would pass 2^62.
+/// What a peon does at a COLLECT, BEGIN, COMMIT or LEASE that is heard, and when its lease's timer, which was armed, comes
+/// and is disarmed: its row of the protocol's table. A message that isn't of its leader in its epoch is dropped, and what
+/// is dropped takes no memory. `Spent` names the version after the leader's last one, or the last one of those that are
+/// learned, where that would pass 2^62.
 pub fn step(
     alloc: Global,
     kv: &Kv,
@@ -77,7 +79,8 @@ pub fn step(
 ) -> Result<Plan<Peon>, RoleStop>
     requires input { IsTrue (is_input input.now) }
     requires fits { IsTrue (may_come me.now.member.monitors input.now) }
-    ensures { (shared : List Entry) → PlansRow me.now now peon_is (IsMet me.now now (readings_of kv.now) view.now (λ s. s.peon) state.now)
+    ensures { (shared : List Entry) → PlansRow me.now now peon_is
+        (IsMet me.now now (readings_of kv.now) view.now (λ s. s.peon) state.now)
         (row me.now shared now input.now) result }
 {
     match input {

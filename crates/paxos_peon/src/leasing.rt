@@ -42,7 +42,9 @@ pub fn lease(
     version: Version,
     now: Moment,
 ) -> Result<Plan<Peon>, RoleStop>
-    ensures { (e : ℕ) → let f = state.now.leader in PlansRow me.now now peon_is (IsOurs (readings_of stored.now) state.now f e) (hear_lease me.now now f e version) result }
+    ensures { (e : ℕ) → let f = state.now.leader in
+        PlansRow me.now now peon_is (IsOurs (readings_of stored.now) state.now f e)
+        (hear_lease me.now now f e version) result }
 {
     if is_refused(stored, version) {
         return Ok(stay(alloc, *state));

@@ -1,4 +1,5 @@
-//! A monitor that follows a leader: it tells what it accepted, accepts values, learns what is committed, and holds a lease.
+//! A monitor that follows a leader: it tells what it accepted, accepts values, learns what is committed, and holds a
+//! lease.
 #![tactic(auto)]
 
 mod answer;
@@ -8,6 +9,3 @@ mod leasing;
 mod values;
 
 pub use inputs::step;
-
-#[cfg(test)]
-mod tests;

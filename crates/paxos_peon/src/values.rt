@@ -36,7 +36,9 @@ pub fn begin(
     value: &Transaction,
 ) -> Result<Plan<Peon>, RoleStop>
     requires { length (text value.now) ≤ most }
-    ensures { (now e : ℕ) → let f = state.now.leader in PlansRow me.now now peon_is (IsOurs (readings_of stored.now) state.now f e) (hear_begin me.now f e pn version value.now) result }
+    ensures { (now e : ℕ) → let f = state.now.leader in
+        PlansRow me.now now peon_is (IsOurs (readings_of stored.now) state.now f e)
+        (hear_begin me.now f e pn version value.now) result }
 {
     if !is_accepted(stored, pn, version) {
         return Ok(stay(alloc, *state));
@@ -72,7 +74,8 @@ pub fn commit(
 ) -> Result<Plan<Peon>, RoleStop>
     requires short { AllByRecursion (λ ops. length (text ops) ≤ most) values.now }
     requires few { length values.now ≤ 65535 }
-    ensures { (m : Me) (now f e : ℕ) → PlansRow m now peon_is (IsOurs (readings_of stored.now) state.now f e) (hear_commit f e from values.now) result }
+    ensures { (m : Me) (now f e : ℕ) → PlansRow m now peon_is (IsOurs (readings_of stored.now) state.now f e)
+        (hear_commit f e from values.now) result }
 {
     if is_ahead(stored, from) {
         return Ok(stay(alloc, *state));

@@ -10,6 +10,3 @@ mod whole;
 
 pub use laws::law_made;
 pub use whole::made;
-
-#[cfg(test)]
-mod tests;

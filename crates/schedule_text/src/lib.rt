@@ -22,8 +22,3 @@ pub use reader::parse;
 pub use refusal::{ScheduleKind, ScheduleRefused};
 pub use schedule::Schedule;
 pub use words::service_word;
-
-#[cfg(test)]
-mod refusal_tests;
-#[cfg(test)]
-mod tests;

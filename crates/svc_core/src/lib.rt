@@ -17,8 +17,3 @@ pub use changed::{shown, since};
 pub use proposal::{service_of, value};
 pub use reading::read;
 pub use row::last_version;
-
-#[cfg(test)]
-mod reading_tests;
-#[cfg(test)]
-mod tests;

@@ -10,8 +10,3 @@ mod words;
 pub use schedule_text::header_line;
 pub use step::{Numbered, Outcome, Replied, Replies, StateLine, StepLine};
 pub use trace::{end_line, trace_line};
-
-#[cfg(test)]
-mod message_tests;
-#[cfg(test)]
-mod tests;

@@ -1,0 +1,42 @@
+-- What a plan leaves for the act that it names.
+use Rattle.std.specs.Prelude.{◌≡◌, ℕ, ◌≤◌, ◌^◌, ◌⊎◌, true, false, nat_lt, List, [], ◌∷◌}
+use Rattle.mon_msg.specs.Protocol.Changes.{Epoch, spelled}
+use Rattle.mon_msg.specs.Protocol.Records.{may_begin}
+use Rattle.mon_msg.specs.declared.plan.Next.TheVariants as next
+use Rattle.mon_msg.specs.declared.plan.Next.{Next}
+use Rattle.mon_msg.specs.declared.view.Me.{Me}
+use Rattle.mon_tx.specs.declared.op.Op.{Op}
+use Rattle.mon_wire.specs.declared.phase.Phase.TheVariants as phase
+use Rattle.mon_wire.specs.declared.phase.Phase.{Phase}
+
+-- the epoch is written, and nothing else
+pub record TellsEpoch (tx : List Op) : Type 0 where
+  pub epoch : ℕ
+  pub short : epoch ≤ 2 ^ 62
+  pub is : tx ≡ spelled (Epoch epoch ∷ [])
+
+-- What the transaction of a plan that names this act may hold, where `at` is the phase in which the plan was made.
+abbrev pub Leaves : (at : Phase) → Next → (tx : List Op) → Type 0
+Leaves at next.Stay tx = Unit {0}
+Leaves at next.Elect tx = Unit {0}
+Leaves at next.Electing tx = Unit {0}
+Leaves at (next.Follow leader quorum) tx = Unit {0}
+-- a monitor that begins anew has written something only where it was taking a copy
+Leaves at next.Bootstrap tx = (tx ≡ []) ⊎ (at ≡ phase.Synchronizing)
+Leaves at (next.Win quorum) tx = TellsEpoch tx
+Leaves at (next.FullSync from) tx = tx ≡ []
+Leaves at (next.RecentSync from) tx = tx ≡ []
+-- an active leader begins a value that a message can carry
+Leaves at (next.Begin value o) tx = (tx ≡ []) × (at ≡ phase.Active) × (may_begin value ≡ true)
+
+-- An act is the last one of its event, but for a monitor that begins anew and wins alone.
+abbrev pub Ends : Me → Next → (tx : List Op) → Type 0
+Ends me next.Stay tx = Unit {0}
+Ends me (next.Win quorum) tx = (nat_lt 1 me.member.monitors ≡ false) × TellsEpoch tx
+Ends me next.Bootstrap tx = ⊥
+Ends me next.Elect tx = ⊥
+Ends me next.Electing tx = ⊥
+Ends me (next.Follow leader quorum) tx = ⊥
+Ends me (next.FullSync from) tx = ⊥
+Ends me (next.RecentSync from) tx = ⊥
+Ends me (next.Begin value o) tx = ⊥

@@ -1,0 +1,120 @@
+use mon_frag::*;
+use mon_link::Peer;
+use mon_types::Rank;
+use std::alloc::Global;
+use std::test::Fail;
+
+const CLIENT: Peer = Peer::Client(3);
+
+/// A message with two pieces.
+fn message(alloc: Global) -> Result<Vec<u8>, Fail> {
+    let mut message = vec![in alloc; 7; 59_000]?;
+    message.extend_from_slice(&[9; 1_001])?;
+    Ok(message)
+}
+
+/// One of the pieces of a message that was sent under a number. There are `count` of them.
+fn piece(alloc: Global, message: &[u8], seq: u64, k: usize, count: usize) -> Result<Vec<u8>, Fail> {
+    if message.len() > 1_048_576 {
+        return Err("too long".into());
+    }
+    let pieces = pieces(alloc, message, 1, seq)?;
+    let pieces = pieces.as_slice();
+    if pieces.len() != count {
+        return Err("another count".into());
+    }
+    let piece = pieces.get(k).ok_or("no such piece")?;
+    Ok(Vec::from_slice(alloc, piece.as_slice())?)
+}
+
+/// The bytes with two others at a place, cut to a length.
+fn altered(
+    alloc: Global,
+    bytes: &[u8],
+    at: usize,
+    two: &[u8],
+    length: usize,
+) -> Result<Vec<u8>, Fail> {
+    let (front, rest) = bytes.split_at_checked(at).ok_or("out of the bytes")?;
+    let (_, back) = rest.split_at_checked(2).ok_or("out of the bytes")?;
+    let mut altered = Vec::from_slice(alloc, front)?;
+    altered.extend_from_slice(two)?;
+    altered.extend_from_slice(back)?;
+    altered.truncate(length);
+    Ok(altered)
+}
+
+#[test]
+fn pieces_make_the_message_whole(rt: HostRuntime) -> Result<(), Fail> {
+    let alloc = rt.alloc();
+    let message = message(alloc)?;
+    let first = piece(alloc, &message, 5, 0, 2)?;
+    let last = piece(alloc, &message, 5, 1, 2)?;
+    assert_eq!(rt; (first.len(), last.len()), (59_028, 1_029));
+    let mut assembly = Assembly::new(alloc);
+    assert!(rt; assembly.take(CLIENT, &last)?.is_none());
+    let whole = assembly.take(CLIENT, &first)?.ok_or("no message")?;
+    assert_eq!(rt; whole.as_slice(), message.as_slice());
+    for _ in 0..2 {
+        assert!(rt; assembly.take(CLIENT, &first)?.is_none());
+    }
+    Ok(())
+}
+
+#[test]
+fn a_short_message_is_its_datagram(rt: HostRuntime) -> Result<(), Fail> {
+    let alloc = rt.alloc();
+    let short = vec![in alloc; 7; 60_000]?;
+    let datagram = piece(alloc, &short, 5, 0, 1)?;
+    assert_eq!(rt; datagram.as_slice(), short.as_slice());
+    let whole = Assembly::new(alloc).take(CLIENT, &datagram)?;
+    assert!(rt; whole.is_some());
+    Ok(())
+}
+
+#[test]
+fn faults_have_their_places(rt: HostRuntime) -> Result<(), Fail> {
+    let alloc = rt.alloc();
+    let piece = piece(alloc, &message(alloc)?, 5, 1, 2)?;
+    let mut assembly = Assembly::new(alloc);
+    assert!(rt; assembly.take(CLIENT, &piece)?.is_none());
+    for (at, two, length, refused) in [
+        (0usize, [2u8, 0], 1usize, FragRefused::Cut { at: 1 }),
+        (0, [2, 0], 27, FragRefused::Cut { at: 24 }),
+        (3, [1, 1], 11, FragRefused::Cut { at: 4 }),
+        (3, [1, 1], 1_029, FragRefused::Form { at: 3 }),
+        (10, [0, 128], 1_029, FragRefused::Form { at: 4 }),
+        (18, [0, 128], 1_029, FragRefused::Form { at: 12 }),
+        (20, [96, 234], 1_029, FragRefused::Form { at: 20 }),
+        (24, [100, 0], 1_029, FragRefused::Form { at: 24 }),
+        (0, [2, 0], 1_028, FragRefused::Form { at: 28 }),
+        (28, [8, 9], 1_029, FragRefused::Clash),
+    ] {
+        let wrong = altered(alloc, &piece, at, &two, length)?;
+        let answer = assembly.take(CLIENT, &wrong).map(|_| ());
+        assert_eq!(rt; answer, Err(refused), "at {at} of {length}");
+    }
+    let long = vec![in alloc; 1; 60_001]?;
+    let answer = assembly.take(CLIENT, &long).map(|_| ());
+    assert_eq!(rt; answer, Err(FragRefused::TooLong));
+    Ok(())
+}
+
+#[test]
+fn the_oldest_goes(rt: HostRuntime) -> Result<(), Fail> {
+    let alloc = rt.alloc();
+    let message = message(alloc)?;
+    for (from, oldest) in [(Peer::Monitor(Rank::known(2)), 2u64), (CLIENT, 5)] {
+        let mut assembly = Assembly::new(alloc);
+        for seq in [1, 2, 3, 4, 5] {
+            let first = piece(alloc, &message, seq, 0, 2)?;
+            assert!(rt; assembly.take(from, &first)?.is_none());
+        }
+        for seq in [5, 4, 3, 2, 1] {
+            let last = piece(alloc, &message, seq, 1, 2)?;
+            let is_whole = assembly.take(from, &last)?.is_some();
+            assert_eq!(rt; is_whole, seq >= oldest, "message {seq}");
+        }
+    }
+    Ok(())
+}

@@ -1,0 +1,247 @@
+ghost use Rattle.std.specs.Prelude.{IfOk};
+ghost use Rattle.mon_wire.specs.Message.Whole.{HasText};
+
+use mon_wire::*;
+use std::alloc::Global;
+use std::test::Fail;
+
+/// A message of each kind in hexadecimal digits, in the order of the kinds: of the monitor 1 of 3 in epoch 2, but for the
+/// request.
+const EXAMPLES: &str = "\
+010101030200000000000000
+010201030200000000000000050001000000000000000200000000000000
+010301030200000000000000010100000000000000020000000000000040420f000000000029420f00010000000000000002\
+    0000000000000040420f000000000029420f000100000000000000020000000000000040420f000000000029420f00
+010401030200000000000000
+0105010302000000000000000700
+010601030200000000000000640000000000000000000000000000000000000000000000
+0107010302000000000000006500000000000000010000000000000002000000000000000103000000000000000100100000\
+    00010100000001026b760161010000007801650000000000000010000000010100000001026b7601610100000078
+0108010302000000000000006400000000000000010000000000000010000000010100000001026b7601610100000078
+01090103020000000000000064000000000000000100000000000000
+010a010302000000000000000100000000000000020010000000010100000001026b76016101000000781000000001010000\
+    0001026b7601610100000078
+010b010302000000000000000100000000000000
+010c010302000000000000000100000000000000
+010d0103020000000000000001000000000000000101610100000078
+010e010302000000000000000100000000000000094000000000000000
+010f01030200000000000000
+0110010302000000000000000900000000000000
+01110103020000000000000001040000000000000005000000000000000900000000000000
+01120103020000000000000004000000000000000500000000000000070000000000000001026b76016b
+01130103020000000000000004000000000000000500000000000000070000000000000001026b76016b0100100000000101\
+    00000001026b76016101000000780100026b76016b02000000ff0000
+01140103020000000000000004000000000000000500000000000000090000000000000002000000000900000000000000
+01150103020000000000000004000000000000000500000000000000
+01160103020000000000000000
+011701030200000000000000010100000000000000020000000000000040420f000000000029420f00010000000000000002\
+    0000000000000040420f000000000029420f000100000000000000020000000000000040420f000000000029420f00
+011800030000000000000000060000000000000005020300000000000000
+01190103020000000000000006000000000000000201010000000000000001000000000000000b0000000100000001610100\
+    000078
+";
+
+/// Which message has which byte changed to what, and the fault that decoding then names: the message and the place from 0 on,
+/// the byte, the kind of the fault and its place.
+const FAULTS: &str = "\
+0 0 0 Format 0
+0 1 0 Kind 1
+0 1 2 Cut 12
+0 2 3 From 2
+0 11 128 Number 4
+1 12 8 Value 12
+2 12 0 Rest 13
+2 12 2 Value 12
+2 29 128 Value 29
+4 12 8 Value 12
+6 36 2 Value 36
+6 45 0 Value 47
+6 45 2 Cut 71
+6 47 0 Value 51
+6 67 0 Rest 68
+6 67 2 Value 67
+6 76 0 Value 80
+7 28 0 Value 32
+8 0 0 Format 0
+8 1 0 Kind 1
+8 1 8 Cut 28
+8 2 3 From 2
+8 11 128 Number 4
+8 27 128 Number 20
+9 20 0 Value 20
+9 20 1 Rest 42
+9 22 0 Value 26
+9 42 0 Value 46
+12 20 0 Value 20
+12 20 2 Rest 23
+12 21 0 Value 21
+12 21 2 Value 22
+12 23 0 Rest 27
+12 27 128 Value 27
+13 20 0 Value 20
+16 12 2 Value 12
+17 36 0 Rest 37
+17 36 3 Value 36
+17 37 0 Value 37
+17 37 3 Value 38
+17 40 0 Value 40
+17 41 0 Value 41
+18 36 0 Cut 43
+18 36 3 Value 36
+18 37 0 Value 37
+18 37 3 Value 38
+18 40 0 Value 40
+18 40 2 Value 41
+18 42 0 Value 46
+18 44 0 Value 48
+18 64 0 Value 66
+18 64 2 Value 77
+18 66 3 Value 67
+18 69 0 Value 69
+18 69 2 Value 70
+18 71 0 Value 75
+18 71 1 Rest 77
+19 36 1 Value 37
+19 36 3 Value 36
+21 12 2 Value 12
+22 12 0 Rest 13
+22 12 2 Value 12
+22 29 128 Value 29
+23 0 0 Format 0
+23 1 0 Kind 1
+23 1 8 Cut 28
+23 2 3 From 2
+23 4 1 Value 4
+23 11 128 Number 4
+23 20 0 Value 20
+23 20 1 Value 22
+23 21 0 Value 21
+24 1 8 Cut 32
+24 20 0 Value 20
+24 20 1 Rest 29
+24 20 3 Rest 33
+24 20 5 Rest 37
+24 20 8 Rest 30
+24 21 0 Value 21
+24 21 2 Value 42
+";
+
+/// The bytes that the digits spell.
+fn bytes_of(alloc: Global, digits: &str) -> Result<Vec<u8>, Fail> {
+    let mut bytes = Vec::new(alloc);
+    for pair in digits.as_bytes().chunks(2) {
+        let pair = str::from_utf8(pair).map_err(|_| "a byte")?;
+        let byte = u8::from_str_radix(pair, 16).map_err(|_| "digits")?;
+        bytes.push(byte)?;
+    }
+    Ok(bytes)
+}
+
+/// The fault that decoding names, or nothing where there is none.
+fn fault(alloc: Global, bytes: &[u8]) -> Result<Option<(MsgKind, usize)>, Fail> {
+    match decode(alloc, bytes) {
+        Ok(_) => Ok(None),
+        Err(MsgRefused::At { at, kind }) => Ok(Some((kind, at))),
+        Err(MsgRefused::OutOfMemory) => Err(Fail::from("out of memory")),
+    }
+}
+
+/// A copy of a message.
+fn copied(alloc: Global, message: &Message) -> Result<Message, Fail>
+    requires { HasText message.now }
+    ensures { IfOk result HasText }
+{
+    match message.copy(alloc) {
+        Ok(copy) => Ok(copy),
+        Err(_) => Err(Fail::from("out of memory")),
+    }
+}
+
+/// A copy of the message that these bytes spell.
+fn copy_of(alloc: Global, bytes: &[u8]) -> Result<Message, Fail>
+    ensures { IfOk result HasText }
+{
+    match decode(alloc, bytes) {
+        Ok(message) => copied(alloc, &message),
+        Err(_) => Err(Fail::from("a message")),
+    }
+}
+
+/// The bytes of a message, and how long it says it is.
+fn spelled(alloc: Global, message: &Message) -> Result<(Vec<u8>, usize), Fail>
+    requires { HasText message.now }
+{
+    match message.encode(alloc) {
+        Ok(text) => Ok((text, message.len())),
+        Err(_) => Err(Fail::from("out of memory")),
+    }
+}
+
+/// The bytes of a copy of the message that these bytes spell, and how long it says it is.
+fn spelled_again(alloc: Global, bytes: &[u8]) -> Result<(Vec<u8>, usize), Fail> {
+    match copy_of(alloc, bytes) {
+        Ok(message) => spelled(alloc, &message),
+        Err(why) => Err(why),
+    }
+}
+
+#[test]
+fn a_copy_of_each_message_is_spelled_as_it_was(rt: HostRuntime) -> Result<(), Fail> {
+    let alloc = rt.alloc();
+    for digits in EXAMPLES.lines() {
+        let bytes = bytes_of(alloc, digits)?;
+        let (text, len) = spelled_again(alloc, &bytes)?;
+        assert_eq!(rt; text.as_slice(), bytes.as_slice());
+        assert_eq!(rt; len, bytes.len());
+    }
+    Ok(())
+}
+
+#[test]
+fn a_part_is_cut_and_a_byte_more_is_too_many(rt: HostRuntime) -> Result<(), Fail> {
+    let alloc = rt.alloc();
+    for digits in EXAMPLES.lines() {
+        let mut bytes = bytes_of(alloc, digits)?;
+        for n in 0..bytes.len() {
+            let found = fault(alloc, &bytes[..n])?.map(|f| f.0);
+            assert_eq!(rt; found, Some(MsgKind::Cut), "{n} of {digits}");
+        }
+        let whole = bytes.len();
+        bytes.push(0)?;
+        assert_eq!(rt;
+            fault(alloc, &bytes)?,
+            Some((MsgKind::Rest, whole)),
+            "{digits}"
+        );
+    }
+    Ok(())
+}
+
+/// The message of that number from 0 on, with one byte changed.
+fn changed(alloc: Global, message: usize, place: usize, byte: u8) -> Result<Vec<u8>, Fail> {
+    let digits = EXAMPLES.lines().nth(message).ok_or("a message")?;
+    let mut bytes = bytes_of(alloc, digits)?;
+    *bytes.get_mut(place).ok_or("a place")? = byte;
+    Ok(bytes)
+}
+
+fn number(word: Option<&str>) -> Result<usize, Fail> {
+    let word = word.ok_or("a number")?;
+    word.parse::<usize>().map_err(|_| Fail::from("digits"))
+}
+
+#[test]
+fn the_fault_of_a_changed_byte(rt: HostRuntime) -> Result<(), Fail> {
+    let alloc = rt.alloc();
+    for line in FAULTS.lines() {
+        let mut words = line.splitn(4, ' ');
+        let message = number(words.next())?;
+        let place = number(words.next())?;
+        let byte = u8::try_from(number(words.next())?).map_err(|_| "a byte")?;
+        let bytes = changed(alloc, message, place, byte)?;
+        let (kind, at) = fault(alloc, &bytes)?.ok_or("a fault")?;
+        let found = format!(in alloc; "{kind:?} {at}")?;
+        assert_eq!(rt; Some(found.as_str()), words.next(), "{line}");
+    }
+    Ok(())
+}
