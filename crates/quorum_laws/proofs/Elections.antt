@@ -8,7 +8,8 @@ use Rattle.mon_wire.specs.declared.phase.Phase.{Phase}
 use Rattle.quorum_history.proofs.History.{AnEpoch, Entered, entry}
 use Rattle.quorum_history.proofs.Holds.{Core, InPhase, core_of, epoch_in}
 use Rattle.quorum_history.proofs.Phases.{no}
-use Rattle.quorum_laws.proofs.Events.{all_runs, at_first, both_runs}
+use Rattle.quorum_laws.proofs.Beginning.{at_first}
+use Rattle.quorum_laws.proofs.Events.{all_runs, both_runs}
 use Rattle.quorum_laws.proofs.Invariant.{InvOf, WasActive}
 use Rattle.quorum_laws.proofs.Reading.{among_of, at_least, sent_holds, state_holds}
 use Rattle.quorum_laws.specs.Accepting.{readings_at}
