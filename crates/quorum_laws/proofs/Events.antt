@@ -151,7 +151,7 @@ module _ (store : ℕ → Store) (state : ℕ → Option State) (txs : ℕ → L
     }
 
 -- it goes down before it kept anything
-lost_holds : (n : ℕ) (store : ℕ → Store) (state : ℕ → Option State) (txs : ℕ → List (List Op)) (messages : List Envelope) (pairs : List (ℕ × ℕ)) (asked : List Asked) (i : ℕ) → Inv n store state txs messages pairs asked → Inv n store (put_at state i None) txs messages pairs asked
+pub lost_holds : (n : ℕ) (store : ℕ → Store) (state : ℕ → Option State) (txs : ℕ → List (List Op)) (messages : List Envelope) (pairs : List (ℕ × ℕ)) (asked : List Asked) (i : ℕ) → Inv n store state txs messages pairs asked → Inv n store (put_at state i None) txs messages pairs asked
 lost_holds n store state txs messages pairs asked i I = record { g = I.g; glob = I.glob; mine = λ j. by j (eqb j i); triples = I.triples; held = I.held; raised = I.raised; sent = I.sent; sizes = I.sizes; active = I.active; asks = I.asks }
   where
     by : (j : ℕ) (t : Bool) → Mine n I.g j (readings_of (store j)) (cond t None (state j))
