@@ -37,7 +37,7 @@ still_asked : (n : ℕ) (p : Plain) (asked : List Asked) → StillAsked n asked 
 still_asked n (Client rank at s r) asked i t c k = was_asked_more n asked (record { rank = rank; session = s; request = r } ∷ []) i t c k
 still_asked n other asked i t c k = k
 
-still_among : (p : Plain) (asked : List Asked) (a : Asked) → Contains asked a → Contains (with_asked p asked) a
+pub still_among : (p : Plain) (asked : List Asked) (a : Asked) → Contains asked a → Contains (with_asked p asked) a
 still_among (Client rank at s r) asked a k = Contains-append_left asked (record { rank = rank; session = s; request = r } ∷ []) a k
 still_among other asked a k = k
 
