@@ -5,6 +5,7 @@ pub mod Event
 pub mod Grown
 pub mod Invariant
 pub mod Kept
+pub mod Every
 pub mod Lone
 pub mod LoneWorlds
 pub mod Made

@@ -71,7 +71,7 @@ use Rattle.quorum_walk.proofs.Lists.{all_append}
 use Rattle.quorum_walk.proofs.Sparing.{own_of}
 use Rattle.quorum_walk.proofs.Walk.{Then, and_then, and_three, by_test, done, where_fits}
 use Rattle.std.proofs.Common.{Bool, Err, List, None, Ok, Option, Result, Some, [], ap, arith, cond, eqb, false, inl, inr, leb, length, ltb, map, max, not, refl, subst, suc, sym, true, ℕ, ◌&&◌, ◌+◌, ◌++◌, ◌<◌, ◌^◌, ◌∙◌, ◌∷◌, ◌≡◌, ◌≤◌, ◌⊎◌}
-use Rattle.std.proofs.lemmas.Bool.{and_parts, eqb-false, ne_eqb, not-false, not-true}
+use Rattle.std.proofs.lemmas.Bool.{and_parts, eqb-false, ne_eqb, not-true}
 use Rattle.std.specs.List.{AllByRecursion, filter, flat_map, range_with_len}
 use Rattle.std.specs.Prelude.{is_some}
 

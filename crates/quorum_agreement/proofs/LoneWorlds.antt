@@ -1,7 +1,6 @@
 -- A monitor that is alone in its map keeps the log, whatever the events and the rule.
 use Rattle.log_copies.proofs.Growing.{committed}
 use Rattle.log_copies.proofs.Leaving.{still_has}
-use Rattle.log_copies.proofs.Sending.{BodyTells}
 use Rattle.log_copies.proofs.Telling.{monitor_keeps, read_last, record_there}
 use Rattle.log_copies.specs.Synchronizing.{written}
 use Rattle.log_copies.specs.Versions.{HasVersions, IsOwnChange, behind}
@@ -14,24 +13,20 @@ use Rattle.log_model.specs.LogOfValues.{AllValues}
 use Rattle.log_model.specs.Windows.{Keeps, log_from}
 use Rattle.mon_msg.specs.Fold.{entry}
 use Rattle.mon_msg.specs.Protocol.Changes.{Change, Last, Learn}
-use Rattle.mon_msg.specs.Protocol.Course.{Course}
 use Rattle.mon_msg.specs.Protocol.Learning.{learn_changes}
 use Rattle.mon_msg.specs.Protocol.Played.{played}
 use Rattle.mon_msg.specs.Protocol.Reaction.{reaction_of}
 use Rattle.mon_msg.specs.Protocol.Readings.{Readings, readings_of, shared_entries}
-use Rattle.mon_msg.specs.Protocol.State.{State}
 use Rattle.mon_msg.specs.declared.plan.Sent.TheVariants as sent
 use Rattle.mon_msg.specs.declared.plan.Sent.{Sent}
 use Rattle.mon_msg.specs.declared.view.Me.{Me}
 use Rattle.mon_tx.specs.Map.{Store}
 use Rattle.mon_tx.specs.Text.{text}
-use Rattle.mon_tx.specs.declared.op.Op.{Op}
-use Rattle.quorum_agreement.proofs.Grown.{first_is, grown_none, grown_one}
+use Rattle.quorum_agreement.proofs.Grown.{GrowsByOne, first_is, grown_none, grown_one}
 use Rattle.quorum_agreement.proofs.Invariant.{EnvelopeTells, envelopes_stay}
 use Rattle.quorum_agreement.proofs.Lone.{Commits, Outcome, Quiet, SaysNothing, lone_reacts}
 use Rattle.quorum_agreement.proofs.Made.{AllAsked, MadeOver, asked_again, is_value, values_again, version_asked}
 use Rattle.quorum_agreement.proofs.Worlds.{still_among}
-use Rattle.quorum_agreement.specs.Growing.{GrowsByOne}
 use Rattle.quorum_laws.proofs.Beginning as beginning
 use Rattle.quorum_laws.proofs.Events as events
 use Rattle.quorum_laws.proofs.Events.{Does, ended, goes_down_holds, goes_on_holds, lost_holds, member_of, same, shares}
@@ -42,12 +37,12 @@ use Rattle.quorum_model.specs.Clients.{messages_of, with_asked}
 use Rattle.quorum_model.specs.Growth.{grown}
 use Rattle.quorum_model.specs.Happens.{kept_only, lost, moved, put_at, unmoved}
 use Rattle.quorum_model.specs.Monitors.{Monitors}
-use Rattle.quorum_model.specs.World.{Asked, Envelope, Plain, World, first_world}
+use Rattle.quorum_model.specs.World.{Asked, Plain, World, first_world}
 use Rattle.quorum_walk.proofs.FineCourses.{Ended, Fit}
-use Rattle.quorum_walk.proofs.Lists.{all_append, all_map}
+use Rattle.quorum_walk.proofs.Lists.{all_append}
 use Rattle.quorum_walk.proofs.Sparing.{Own, learned_own, own_of}
 use Rattle.quorum_walk.proofs.Walk.{Then}
-use Rattle.std.proofs.Common.{List, None, Ok, Some, [], ap, arith, false, inl, inr, length, refl, subst, suc, sym, true, ℕ, ◌++◌, ◌<◌, ◌^◌, ◌∙◌, ◌∷◌, ◌≡◌, ◌≤◌, ◌⊎◌}
+use Rattle.std.proofs.Common.{List, [], ap, arith, false, inl, inr, length, refl, subst, suc, sym, ℕ, ◌++◌, ◌<◌, ◌^◌, ◌∙◌, ◌∷◌, ◌≡◌, ◌≤◌}
 use Rattle.std.proofs.lemmas.Bool.{ltb-true}
 use Rattle.std.specs.List.{AllByRecursion}
 
