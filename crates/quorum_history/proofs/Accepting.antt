@@ -161,7 +161,7 @@ accepts {n} {i} {g} {o} {records} {cs} P Q v p x below A may f =
     let M = may h A.ext A.glob A.disk A.fact in
     let k = accepted i v p x h in
     let E = accepted_ext i v p x h o A.disk.numbers M.0 in
-    further P Q (with_vote v p o) (with_record v (text x) records) (cs ++ Vote v p x ∷ []) A k E
+    further P Q (with_vote v p o) (with_record v (text x) records) (cs ++ Vote v p x ∷ []) A k E (λ a w. w)
     (record { roles = A.glob.roles; hands = A.glob.hands; triples = accepted_triples n i v p x h o below E M.0 M.1 A.glob.triples })
     (record { numbers = voted_numbers h.signs i v p o A.disk.numbers; kept = accepted_kept h.roles h.hands i v p x h o records M.0 A.disk.kept })
     (accepted_tied i v p x g h cs A.tied) (f h E A.glob A.fact)

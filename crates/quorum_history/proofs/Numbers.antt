@@ -89,7 +89,7 @@ module _ {n i : ℕ} {g : Ghost} {o : Own} {records : ℕ → Cell} {cs : List C
       let o2 = with_number p o in
       let k = signed i o2 h in
       let E = signed_ext i o2 h in
-      further P Q o2 records (cs ++ Numbers p ∷ []) A k E (signed_glob n i o2 h A.glob)
+      further P Q o2 records (cs ++ Numbers p ∷ []) A k E (λ a w. w) (signed_glob n i o2 h A.glob)
       (record { numbers = signed_numbers i o o2 h (number_up p o low (omega arith)) A.disk.numbers; kept = number_kept h.roles h.hands h.accepts i p o records low (omega arith) own A.disk.kept })
       (tied_more i g h k cs (Numbers p ∷ []) (λ v q x a. elim a [ inl e ↦ (absurd cc) | inr z ↦ absurd z ]) (λ q a. elim a [
         | inl e ↦ (let s : q ≡ p = cc in (ap (λ (z : ℕ). z % 100) s ∙ own, λ r m. let t = A.disk.numbers.top ANumber r (had_lasts A.ext ANumber i r m) in let w = A.disk.kept.order in omega arith))

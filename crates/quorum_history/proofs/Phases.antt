@@ -8,7 +8,7 @@ use Rattle.mon_msg.specs.declared.view.Me.{Me}
 use Rattle.mon_wire.specs.declared.phase.Phase.TheVariants as phase
 use Rattle.mon_wire.specs.declared.phase.Phase.{Phase}
 use Rattle.quorum_history.proofs.History.{Ghost, RolesHold}
-use Rattle.quorum_history.proofs.Holds.{At, Core, Good, InPhase, LeadsIn, Reigns, StandsIn, Waits, core, epoch_in}
+use Rattle.quorum_history.proofs.Holds.{At, Core, Good, InPhase, LeadsIn, StandsIn, Waits, core, epoch_in}
 use Rattle.quorum_history.proofs.Steps.{weaken}
 use Rattle.std.proofs.Common.{Bool, List, false, inl, inr, refl, subst, sym, true, ℕ, ◌||◌, ◌∙◌, ◌≡◌}
 use Rattle.std.proofs.lemmas.Bool.{false≢true, or_cases}
@@ -72,6 +72,17 @@ peon_is_peon phase.Collecting e = no e
 peon_is_peon phase.Previous e = no e
 peon_is_peon phase.Active e = no e
 peon_is_peon phase.Updating e = no e
+
+pub active_is : (p : Phase) → same_phase p phase.Active ≡ true → p ≡ phase.Active
+active_is phase.Active e = refl
+active_is phase.Booting e = no e
+active_is phase.Probing e = no e
+active_is phase.Synchronizing e = no e
+active_is phase.Electing e = no e
+active_is phase.Collecting e = no e
+active_is phase.Previous e = no e
+active_is phase.Updating e = no e
+active_is phase.Peon e = no e
 
 -- ---- what holds in it
 

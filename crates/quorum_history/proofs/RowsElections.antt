@@ -154,6 +154,8 @@ module _ (me : Me) (now : ℕ) (g : Ghost) where
         unmarked = S.unmarked;
         sessions = subst (λ (s : List Asked). AllByRecursion (IsHanded k i e) s) (sym S.sessions) tt;
         below = λ seq s c a. let late = L.hands e seq s c (hands seq s c a) in absurd (omega arith);
+        clear = λ t. absurd (false≢true t);
+        led = λ t. absurd (false≢true t);
       })
 
   pub hear_victory_holds : (f e : ℕ) (q : List Bool) (x : Course) → Entered g f e f q → Good me g x → Then (Good me g) (hear_victory me now f e q x)

@@ -15,7 +15,7 @@ use Rattle.mon_wire.specs.declared.body.Body.{Body}
 use Rattle.mon_wire.specs.declared.request.Session.{Session}
 use Rattle.quorum_history.proofs.Frame.{accepted_below, sent_lasts}
 use Rattle.quorum_history.proofs.Growing.{grows_by, grows_more, grows_not}
-use Rattle.quorum_history.proofs.History.{ALevel, ANumber, APromise, AnEpoch, Asks, Entered, Entry, Ext, Ghost, Glob, Had, HadIn, Hand, Handed, HandsHold, Refuses, Rising, RolesHold, Sign, Triple, entry, ext_trans, had_lasts, hand, sign, triple}
+use Rattle.quorum_history.proofs.History.{ALevel, ANumber, APromise, AnEpoch, Ask, Asks, Entered, Entry, Ext, Ghost, Glob, Had, HadIn, Hand, Handed, HandsHold, NewEntry, Refuses, Rising, RolesHold, Sign, Triple, entry, ext_trans, had_lasts, hand, sign, triple}
 use Rattle.quorum_history.proofs.Holds.{BodyHolds, Disk, Kept, Numbered, SentHolds, Tied, With, epoch_in, level_in, number_in_own, number_of, promise_in}
 use Rattle.quorum_walk.proofs.Lists.{Among, all_among, all_append, all_map, all_of, among_append, among_left}
 use Rattle.quorum_walk.proofs.Sparing.{Own}
@@ -26,10 +26,10 @@ use Rattle.std.specs.List.{AllByRecursion}
 
 module _ {n i : ℕ} {g : Ghost} {o : Own} {records : ℕ → Cell} {cs : List Change} {out : List Sent} where
   pub weaken : (P Q : Ghost → Type 0) → With n i g o records cs out P → ((h : Ghost) → Ext i g h → Glob n h → Disk h i o records → P h → Q h) → With n i g o records cs out Q
-  weaken P Q A f = record { h = A.h; ext = A.ext; glob = A.glob; disk = A.disk; tied = A.tied; sent = A.sent; fact = f A.h A.ext A.glob A.disk A.fact }
+  weaken P Q A f = record { h = A.h; ext = A.ext; glob = A.glob; disk = A.disk; tied = A.tied; asked = A.asked; sent = A.sent; fact = f A.h A.ext A.glob A.disk A.fact }
 
   pub says : (P : Ghost → Type 0) (more : List Sent) → With n i g o records cs out P → ((h : Ghost) → Ext i g h → Glob n h → Disk h i o records → P h → AllByRecursion (SentHolds h i) more) → With n i g o records cs (out ++ more) P
-  says P more A f = record { h = A.h; ext = A.ext; glob = A.glob; disk = A.disk; tied = A.tied; sent = all_append _ out more A.sent (f A.h A.ext A.glob A.disk A.fact); fact = A.fact }
+  says P more A f = record { h = A.h; ext = A.ext; glob = A.glob; disk = A.disk; tied = A.tied; asked = A.asked; sent = all_append _ out more A.sent (f A.h A.ext A.glob A.disk A.fact); fact = A.fact }
 
 -- one message to some
 pub messages_hold : (me : Me) (h : Ghost) (o : Own) (b : Body) (tos : List ℕ) → Numbered h.signs me.member.rank o → ((to : ℕ) → BodyHolds h me.member.rank to (epoch_in o) b) → AllByRecursion (SentHolds h me.member.rank) (map (message_to me (epoch_in o) b) tos)
@@ -74,8 +74,8 @@ plainly i g h k cs more plain forth back T = tied_more i g h k cs more (λ v p x
 -- ---- with a new history
 
 pub further : {n i : ℕ} {g : Ghost} {o : Own} {records : ℕ → Cell} {cs : List Change} {out : List Sent} (P Q : Ghost → Type 0) (o2 : Own) (records2 : ℕ → Cell) (cs2 : List Change) (A : With n i g o records cs out P) (k : Ghost)
-    → Ext i A.h k → Glob n k → Disk k i o2 records2 → Tied i g k cs2 → Q k → With n i g o2 records2 cs2 out Q
-further {i = i} {out = out} P Q o2 records2 cs2 A k E G D T q = record { h = k; ext = ext_trans A.ext E; glob = G; disk = D; tied = T; sent = all_map _ _ (sent_lasts i A.h k E i) out A.sent; fact = q }
+    → Ext i A.h k → ((a : Ask) → Among a k.asks → Among a A.h.asks) → Glob n k → Disk k i o2 records2 → Tied i g k cs2 → Q k → With n i g o2 records2 cs2 out Q
+further {i = i} {out = out} P Q o2 records2 cs2 A k E asks G D T q = record { h = k; ext = ext_trans A.ext E; glob = G; disk = D; tied = T; asked = λ a w. A.asked a (asks a w); sent = all_map _ _ (sent_lasts i A.h k E i) out A.sent; fact = q }
 
 -- ---- numbers that rise
 
@@ -152,7 +152,7 @@ moves {n} {i} {g} {o} {records} {cs} P Q o2 records2 more calm up A keep f =
     let h = A.h in
     let k = signed i o2 h in
     let E = signed_ext i o2 h in
-    further P Q o2 records2 (cs ++ more) A k E (signed_glob n i o2 h A.glob) (record { numbers = signed_numbers i o o2 h up A.disk.numbers; kept = keep h A.ext A.glob A.disk A.fact })
+    further P Q o2 records2 (cs ++ more) A k E (λ a w. w) (signed_glob n i o2 h A.glob) (record { numbers = signed_numbers i o o2 h up A.disk.numbers; kept = keep h A.ext A.glob A.disk A.fact })
     (plainly i g h k cs more calm (λ t a. a) (λ t a. a) A.tied) (f h A.ext E A.glob A.disk A.fact)
 
 -- ---- an epoch
@@ -200,8 +200,8 @@ pub record MayEnter (n i : ℕ) (g : Ghost) (e l : ℕ) (q : List Bool) : Type 0
   pub within : (m : ℕ) → has q m ≡ true → m < n
   pub lead : (l ≡ i) ⊎ Entered g l e l q
 
-entered_ext : (i e l : ℕ) (q : List Bool) (g : Ghost) → Ext i g (entered i e l q g)
-entered_ext i e l q g = record { roles = grows_by _ (entry i e l q) g.roles refl; hands = grows_not _ g.hands; asks = grows_not _ g.asks; signs = grows_not _ g.signs; accepts = grows_not _ g.accepts }
+entered_ext : (i e l : ℕ) (q : List Bool) (g : Ghost) → ((n : ℕ) → Had g AnEpoch i n → n < e) → Ext i g (entered i e l q g)
+entered_ext i e l q g later = record { roles = grows_by (NewEntry i g) (entry i e l q) g.roles (record { who = refl; later = later }); hands = grows_not _ g.hands; asks = grows_not _ g.asks; signs = grows_not _ g.signs; accepts = grows_not _ g.accepts }
 
 -- what holds of the new entry and of the old ones holds of all
 each_entry : (i e l : ℕ) (q : List Bool) (rs : List Entry) (P : Entry → Type 0) → P (entry i e l q) → ((j f m : ℕ) (w : List Bool) → Among (entry j f m w) rs → P (entry j f m w)) → (j f m : ℕ) (w : List Bool) → Among (entry j f m w) (entry i e l q ∷ rs) → P (entry j f m w)
@@ -254,14 +254,14 @@ pub enters : {n i : ℕ} {g : Ghost} {o : Own} {records : ℕ → Cell} {cs : Li
 enters {n} {i} {g} {o} {records} {cs} P Q e l q lt A may f =
     let h = A.h in
     let o2 = with_epoch e o in
-    let j = signed i o2 h in
-    let k = entered i e l q j in
+    let j = entered i e l q h in
+    let k = signed i o2 j in
     let M = may h A.ext A.fact in
-    let E1 = signed_ext i o2 h in
-    let E : Ext i h k = ext_trans E1 (entered_ext i e l q j) in
+    let E1 = entered_ext i e l q h (λ m a. let t = A.disk.numbers.top AnEpoch m a in omega arith) in
+    let E : Ext i h k = ext_trans E1 (signed_ext i o2 j) in
     let G = signed_glob n i o2 h A.glob in
     let kept = epoch_kept h.roles h.hands h.accepts i e o records (omega arith) A.disk.kept in
-    further P Q o2 records (cs ++ Epoch e ∷ []) A k E
+    further P Q o2 records (cs ++ Epoch e ∷ []) A k E (λ a w. w)
     (record { roles = entered_roles n i e l q h (epoch_in o) lt (λ f m w a. A.disk.kept.roles f m w a) A.glob.roles M; hands = G.hands; triples = G.triples })
     (record { numbers = signed_numbers i o o2 h (epoch_up e o (omega arith)) A.disk.numbers; kept = entered_kept i e l q h.roles h.hands h.accepts o2 records refl kept })
     (plainly i g h k cs (Epoch e ∷ []) (tt, tt) (λ t a. a) (λ t a. a) A.tied)
@@ -317,7 +317,7 @@ hands_on {n} {i} {g} {o} {records} {cs} P Q seq s c A ask fresh f =
     let e = epoch_in o in
     let k = handed i e seq s c h in
     let E = handed_ext i e seq s c h in
-    further P Q o records cs A k E
+    further P Q o records cs A k E (λ a w. w)
     (record { roles = A.glob.roles; hands = handed_hold i e seq s c h (ask h A.ext A.fact) (fresh h A.fact) A.glob.hands; triples = A.glob.triples })
     (record { numbers = A.disk.numbers; kept = handed_kept i e seq s c h.roles h.hands h.accepts o records refl A.disk.kept })
     (record { votes = A.tied.votes; only = A.tied.only; made = A.tied.made }) (f h E A.fact)
