@@ -2,7 +2,7 @@ ghost use Rattle.std.specs.Prelude.{◌≡◌, ℕ, Bool, List, ◌++◌};
 ghost use Rattle.quorum_model.specs.Events.{AllFit};
 ghost use Rattle.quorum_model.specs.Monitors.{Monitors};
 ghost use Rattle.quorum_model.specs.Runs.{run};
-ghost use Rattle.quorum_model.specs.Safe.{OneActive};
+ghost use Rattle.quorum_model.specs.Safe.{Held, OneActive};
 ghost use Rattle.quorum_model.specs.World.{Event};
 ghost use Rattle.quorum_laws.specs.Commands.{CommandsHold};
 ghost use Rattle.quorum_laws.specs.Elections.{ActiveAreLed, EpochsSent, IsMember, IsQuorum};
@@ -13,6 +13,12 @@ ghost use Rattle.quorum_laws.specs.Values.{IsChosen, LeadersKnow, LeavesNoRoom, 
 /// No epoch has two active leaders, in no run of any monitors: whatever is lost, repeated or late, and wherever monitors crash.
 pub fn law_one_active()
     ensures { (ms : Monitors) (events : List Event) → AllFit ms.count events → OneActive (run ms events) }
+{}
+
+/// In every run of any monitors a store is what its kept transactions leave, in order; and these are the transactions of all its monitor's
+/// events, but for those that a crash lost.
+pub fn law_held()
+    ensures { (ms : Monitors) (events : List Event) → AllFit ms.count events → Held ms events }
 {}
 
 /// A monitor's epoch is at least each that it sent. Who leads or follows is in the quorum of its leader, which is a majority of the
