@@ -334,26 +334,28 @@ pub record Tied (i : ℕ) (g h : Ghost) (cs : List Change) : Type 0 where
   pub only : (j v p : ℕ) (x : List Op) → Accepted h j v p x → Accepted g j v p x ⊎ ((j ≡ i) × Among (Vote v p x) cs)
   pub made : (p : ℕ) → Among (Numbers p) cs → (p % 100 ≡ i) × ((q : ℕ) → Had g ANumber i q → q < p)
 
-pub record With (n i : ℕ) (g : Ghost) (o : Own) (records : ℕ → Cell) (cs : List Change) (out : List Sent) (P : Ghost → Type 0) : Type 0 where
+pub record With (n i : ℕ) (g : Ghost) (Known : ℕ → List Op → Type 0) (o : Own) (records : ℕ → Cell) (cs : List Change) (out : List Sent) (P : Ghost → Type 0) : Type 0 where
   pub h : Ghost
   pub ext : Ext i g h
   pub glob : Glob n h
   pub disk : Disk h i o records
   pub tied : Tied i g h cs
-  -- nobody asks anything in it
-  pub asked : (a : Ask) → Among a h.asks → Among a g.asks
+  -- this is known of each value that was accepted for a version
+  pub known : (j v p : ℕ) (x : List Op) → Accepted h j v p x → Known v x
+  -- and nobody asked since
+  pub asks : (a : Ask) → Among a h.asks → Among a g.asks
   pub sent : AllByRecursion (SentHolds h i) out
   pub fact : P h
 
-abbrev pub At : Me → Ghost → (Ghost → Type 0) → Course → Type 0
-At me g P x = With me.member.monitors me.member.rank g (own_of x.readings) x.readings.record_of x.changes x.out P
+abbrev pub At : Me → Ghost → (Known : ℕ → List Op → Type 0) → (Ghost → Type 0) → Course → Type 0
+At me g Known P x = With me.member.monitors me.member.rank g Known (own_of x.readings) x.readings.record_of x.changes x.out P
 
 abbrev pub Nothing : Ghost → Type 0
 Nothing h = Unit {0}
 
 -- whatever the phase says
-abbrev pub Sound : Me → Ghost → Course → Type 0
-Sound me g x = At me g Nothing x
+abbrev pub Sound : Me → Ghost → (Known : ℕ → List Op → Type 0) → Course → Type 0
+Sound me g Known x = At me g Known Nothing x
 
-abbrev pub Good : Me → Ghost → Course → Type 0
-Good me g x = At me g (λ h. InPhase me.member.monitors h me.member.rank (core x) x.state.phase) x
+abbrev pub Good : Me → Ghost → (Known : ℕ → List Op → Type 0) → Course → Type 0
+Good me g Known x = At me g Known (λ h. InPhase me.member.monitors h me.member.rank (core x) x.state.phase) x

@@ -13,7 +13,8 @@ use Rattle.quorum_history.proofs.History.{APromise}
 use Rattle.quorum_history.proofs.Holds as holds
 use Rattle.quorum_history.proofs.Holds.{AllIn, Core, Heard, InPhase, LeadsIn, Nowhere, UpdatesIn, core_of, epoch_in}
 use Rattle.quorum_history.proofs.Phases.{no}
-use Rattle.quorum_laws.proofs.Events.{at_first, both_runs}
+use Rattle.quorum_laws.proofs.Beginning.{at_first}
+use Rattle.quorum_laws.proofs.Events.{both_runs}
 use Rattle.quorum_laws.proofs.Invariant.{InvOf}
 use Rattle.quorum_laws.proofs.Later.{Later}
 use Rattle.quorum_laws.proofs.Reading.{accepted_as, as_accepted, at_least, state_holds}

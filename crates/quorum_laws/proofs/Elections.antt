@@ -5,7 +5,8 @@ use Rattle.mon_msg.specs.Protocol.State.{State, quorum_of}
 use Rattle.mon_types.specs.Ranks.{has}
 use Rattle.quorum_history.proofs.History.{AnEpoch, Entered, Joined, entry}
 use Rattle.quorum_history.proofs.Holds.{core_of}
-use Rattle.quorum_laws.proofs.Events.{all_runs, at_first, both_runs}
+use Rattle.quorum_laws.proofs.Beginning.{at_first}
+use Rattle.quorum_laws.proofs.Events.{all_runs, both_runs}
 use Rattle.quorum_laws.proofs.Invariant.{InvOf, WasActive}
 use Rattle.quorum_laws.proofs.Later.{is_in}
 use Rattle.quorum_laws.proofs.Leaving.{member_in}

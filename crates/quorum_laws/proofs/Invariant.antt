@@ -17,7 +17,8 @@ use Rattle.quorum_model.specs.Safe.{after_transactions}
 use Rattle.quorum_model.specs.World.{Asked, Envelope, World}
 use Rattle.quorum_walk.proofs.FineCourses.{MessageFine, ReadingsFine, StateFine}
 use Rattle.quorum_walk.proofs.Sparing.{own_of}
-use Rattle.std.proofs.Common.{Bool, IfSome, List, None, Option, Some, true, ℕ, ◌<◌, ◌≡◌}
+use Rattle.std.proofs.Common.{Bool, IfSome, List, None, Option, Some, true, ℕ, ◌++◌, ◌<◌, ◌≡◌}
+use Rattle.std.proofs.lemmas.List.Elements.{Contains-append_left}
 use Rattle.std.specs.FinMap.{empty}
 use Rattle.std.specs.List.{AllByRecursion}
 
@@ -33,6 +34,9 @@ EnvelopeFine e = MessageFine e.message
 
 abbrev pub EnvelopeHolds : ℕ → Ghost → Envelope → Type 0
 EnvelopeHolds n g e = (e.message.from < n) × MessageHolds g e.to e.message
+
+pub was_asked_more : (n : ℕ) (asked more : List Asked) (rank : ℕ) (s : Session) (c : Command) → WasAsked n asked rank s c → WasAsked n (asked ++ more) rank s c
+was_asked_more n asked more rank s c k = record { by = k.by; among = Contains-append_left asked more k.by k.among; at = k.at; below = k.below; session = k.session; command = k.command; form = k.form }
 
 -- the leader had its whole quorum in the epoch
 abbrev pub WasActive : ℕ → Ghost → ℕ × ℕ → Type 0
@@ -60,7 +64,11 @@ pub record Inv (n : ℕ) (store : ℕ → Store) (state : ℕ → Option State) 
   pub sent : AllByRecursion (EnvelopeHolds n g) messages
   pub sizes : AllByRecursion EnvelopeFine messages
   pub active : AllByRecursion (WasActive n g) pairs
-  pub asks : (i : ℕ) (s : Session) (c : Command) → Asks g i s c → WasAsked asked i s c
+  pub asks : (i : ℕ) (s : Session) (c : Command) → Asks g i s c → WasAsked n asked i s c
+
+-- where these were asked
+abbrev pub InvWith : Monitors → World → List Asked → Type 0
+InvWith ms w asked = Inv ms.count w.store w.state w.transactions w.messages w.active asked
 
 abbrev pub InvOf : Monitors → World → Type 0
-InvOf ms w = Inv ms.count w.store w.state w.transactions w.messages w.active w.asked
+InvOf ms w = InvWith ms w w.asked

@@ -163,14 +163,18 @@ module _ (me : Me) (now : ℕ) (g : Ghost) (made : Made) (w : Readings) (shared 
   abbrev history : Ghost
   history = less n i e g
 
-  at_first : Good me history (at_rest w s)
+  abbrev Anything : ℕ → List Op → Type 0
+  Anything v y = Unit {0}
+
+  at_first : Good me history Anything (at_rest w s)
   at_first = record {
     h = history;
     ext = ext_refl i history;
     glob = glob_less n i e g G;
     disk = disk_less n i e g w s D;
     tied = tied_refl i history;
-    asked = λ a b. b;
+    known = λ j v p y a. tt;
+    asks = λ a b. b;
     sent = tt;
     fact = phase_less n i e g w s (core_of (own_of w) s) s.phase outside k;
   }
@@ -180,7 +184,7 @@ module _ (me : Me) (now : ℕ) (g : Ghost) (made : Made) (w : Readings) (shared 
   same_epoch true false c p q t = no q
   same_epoch false b c p q t = no p
 
-  is_later : (x : Course) → Good me history x → IsLater e x
+  is_later : (x : Course) → Good me history Anything x → IsLater e x
   is_later x A m =
       let c = core x in
       let l = cond (is_peon x.state.phase) c.leader i in
@@ -195,8 +199,8 @@ module _ (me : Me) (now : ℕ) (g : Ghost) (made : Made) (w : Readings) (shared 
         | inr new ↦ new.later e (D.numbers.now AnEpoch)
       ]
 
-  by_history : (came : Input) → InputHolds me now history made w came → ComesFine me now w made shared sharing came → Then (IsLater e) (react me shared now w s came)
-  by_history came V F = then_so (Good me history) (IsLater e) is_later (react me shared now w s came) (react_holds me now history made w shared sharing w s came V F fine at_first)
+  by_history : (came : Input) → InputHolds me history came → ComesFine me now w made shared sharing came → Then (IsLater e) (react me shared now w s came)
+  by_history came V F = then_so (Good me history Anything) (IsLater e) is_later (react me shared now w s came) (react_holds me now history Anything made w shared sharing w s came V F fine (λ u a z c y l q. tt) at_first)
 
   -- what is dropped leaves it outside
   dropped : Then (IsLater e) (Ok (at_rest w s))
@@ -257,7 +261,7 @@ module _ (me : Me) (now : ℕ) (g : Ghost) (made : Made) (w : Readings) (shared 
   body_fits f f_epoch (body.Request id r) v = inl v
   body_fits f f_epoch (body.Reply id r) v = inl v
 
-  comes_from : (m : Message) → (m.from < n) → InputHolds me now g made w (input.Deliver m) → ComesFine me now w made shared sharing (input.Deliver m) → Fits m.from m.epoch m.body → Then (IsLater e) (react me shared now w s (input.Deliver m))
+  comes_from : (m : Message) → (m.from < n) → InputHolds me g (input.Deliver m) → ComesFine me now w made shared sharing (input.Deliver m) → Fits m.from m.epoch m.body → Then (IsLater e) (react me shared now w s (input.Deliver m))
   unfolding react
   comes_from m lt V F (inl a) = by_history (input.Deliver m) (lt, record { epoch = V.1.epoch; body = a }) F
   comes_from m lt V F (inr (inl own)) = by_test (same_phase s.phase phase.Booting) (λ _. dropped) (λ _. by_test (is_heard me m) (λ heard.
@@ -265,14 +269,14 @@ module _ (me : Me) (now : ℕ) (g : Ghost) (made : Made) (w : Readings) (shared 
       absurd (false≢true (sym (ap not (eq-eqb m.from i own)) ∙ t.0))) (λ _. dropped))
   comes_from m lt V F (inr (inr a)) = by_test (same_phase s.phase phase.Booting) (λ _. dropped) (λ _. by_test (is_heard me m) (λ _. a) (λ _. dropped))
 
-  asked : (z : Session) (r : Request) → InputHolds me now g made w (input.Client z r) → InputHolds me now history made w (input.Client z r)
+  asked : (z : Session) (r : Request) → InputHolds me g (input.Client z r) → InputHolds me history (input.Client z r)
   asked z (request.Set key value) a = a
   asked z (request.Remove key) a = a
   asked z (request.Log text) a = a
   asked z (request.Show v) a = a
   asked z (request.Since v m) a = a
 
-  pub stays_outside : (came : Input) → InputHolds me now g made w came → ComesFine me now w made shared sharing came → Then (IsLater e) (react me shared now w s came)
+  pub stays_outside : (came : Input) → InputHolds me g came → ComesFine me now w made shared sharing came → Then (IsLater e) (react me shared now w s came)
   stays_outside input.Start V F = by_history input.Start tt F
   stays_outside (input.Timer t) V F = by_history (input.Timer t) tt F
   stays_outside (input.Client z r) V F = by_history (input.Client z r) (asked z r V) F

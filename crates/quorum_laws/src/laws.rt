@@ -69,5 +69,5 @@ pub fn law_leases()
 /// A command that a monitor hands on, or that waits at a leader, is one that a session asked the monitor that it came from; and each session
 /// that waits at a peon asked that peon.
 pub fn law_commands()
-    ensures { (ms : Monitors) (events : List Event) → AllFit ms.count events → CommandsHold (run ms events) }
+    ensures { (ms : Monitors) (events : List Event) → AllFit ms.count events → CommandsHold ms.count (run ms events) }
 {}
