@@ -18,7 +18,7 @@ use Rattle.mon_tx.specs.declared.key.Key.TheVariants as key
 use Rattle.mon_tx.specs.declared.op.Op.{Op}
 use Rattle.mon_wire.specs.declared.request.Session.{Session}
 use Rattle.quorum_history.proofs.History.{Accepted, Ghost}
-use Rattle.quorum_laws.proofs.Invariant.{WasAsked}
+use Rattle.quorum_laws.specs.Commands.{WasAsked}
 use Rattle.quorum_model.specs.Agree.{IsAsked}
 use Rattle.quorum_model.specs.World.{Asked}
 use Rattle.std.proofs.Common.{List, None, Ok, Some, [], ap, arith, cond, inl, inr, length, subst, suc, sym, ℕ, ◌++◌, ◌<◌, ◌^◌, ◌∙◌, ◌∷◌, ◌≡◌, ◌≤◌, ◌⊎◌}

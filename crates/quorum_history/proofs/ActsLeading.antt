@@ -25,7 +25,7 @@ use Rattle.mon_wire.specs.declared.reply.Reply.{Reply}
 use Rattle.quorum_history.proofs.Accepting.{MayAccept, accepted, accepted_cases, accepts}
 use Rattle.quorum_history.proofs.Frame.{accepted_lasts, gathers_last, heard_lasts, leads_last, reigns_last}
 use Rattle.quorum_history.proofs.History.{ALevel, ANumber, Accepted, Ext, Ghost, Glob, triple}
-use Rattle.quorum_history.proofs.Holds.{ActsIn, AllIn, At, Core, Disk, FoundCovers, Gathers, GathersIn, Good, Heard, IsFound, LeadsIn, Nothing, Nowhere, Numbered, Proposes, Reigns, Repeats, RepeatsIn, SentHolds, Sound, UpdatesIn, core, core_of, epoch_in, level_in, promise_in}
+use Rattle.quorum_history.proofs.Holds.{ActsIn, AllIn, At, Core, Disk, Followed, FoundCovers, Gathers, GathersIn, Good, Heard, IsFound, LeadsIn, Nothing, Nowhere, Numbered, Proposes, Reigns, Repeats, RepeatsIn, SentHolds, Sound, UpdatesIn, core, core_of, epoch_in, level_in, promise_in}
 use Rattle.quorum_history.proofs.Learned.{learn_then, learned_at}
 use Rattle.quorum_history.proofs.Numbers.{collects, had_down, level_is, pending_is, with_last, with_number}
 use Rattle.quorum_history.proofs.Proposals.{found_leaves_no_room, new_leaves_no_room}
@@ -33,7 +33,7 @@ use Rattle.quorum_history.proofs.Steps.{messages_hold, says, signed, signed_ext,
 use Rattle.quorum_walk.proofs.FineCourses.{Val}
 use Rattle.quorum_walk.proofs.Lists.{all_flat_map}
 use Rattle.quorum_walk.proofs.Parity.{next_is}
-use Rattle.quorum_walk.proofs.Ranks.{alone_within, has_only_is}
+use Rattle.quorum_walk.proofs.Ranks.{alone_within, has_only_is, within_at}
 use Rattle.quorum_walk.proofs.Sparing.{Own, own_of}
 use Rattle.quorum_walk.proofs.Walk.{Then, and_then, by_test, done, where_fits}
 use Rattle.std.proofs.Common.{Bool, IfSome, List, None, Option, Some, [], ap, arith, eqb, false, inl, inr, ltb, max, refl, subst, suc, sym, true, ℕ, ◌%◌, ◌<◌, ◌∷◌, ◌≡◌, ◌≤◌, ◌⊎◌}
@@ -119,9 +119,16 @@ module _ (me : Me) (now : ℕ) (g : Ghost) (Known : ℕ → List Op → Type 0) 
 
   -- ---- leading
 
+  pub all_followed : (h : Ghost) (c : Core) (L : ℕ → ℕ → Type 0) → Glob n h → LeadsIn h i c L → AllIn n c → Followed h (epoch_in c.own) i
+  all_followed h c L G k all = record {
+    quorum = c.quorum;
+    led = k.reigns.role;
+    joined = λ m a. (k.heard m (within_at n c.quorum c.answered m all (G.roles.within i (epoch_in c.own) i c.quorum k.reigns.role m a) a)).joined;
+  }
+
   pub be_active_holds : (x : Course) → At me g Known (λ h. ActsIn n h i (core x)) x → Good me g Known (be_active me now x)
   unfolding be_active extend
-  be_active_holds x A = tells_each me _ (body.Lease x.readings.last) _ A (λ h E G D p to. tt)
+  be_active_holds x A = tells_each me _ (body.Lease x.readings.last) _ A (λ h E G D p to. all_followed h (core x) Nowhere G p.0 p.1)
 
   -- a version is committed
   pub commit_holds : (value : List Op) (x : Course) → Val value → x.readings.marked ≡ false → At me g Known (λ h. ClosesIn n h i (core x)) x → Then (Good me g Known) (commit me now value x)

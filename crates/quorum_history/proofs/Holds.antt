@@ -34,7 +34,7 @@ use Rattle.quorum_walk.proofs.Sparing.{Own, own_of}
 use Rattle.quorum_walk.proofs.Walk.{done}
 use Rattle.std.proofs.Common.{Bool, IfSome, List, None, Option, Some, [], false, length, suc, true, ℕ, ◌%◌, ◌+◌, ◌<◌, ◌≡◌, ◌≤◌, ◌⊎◌}
 use Rattle.std.specs.List.{AllByRecursion}
-use Rattle.std.specs.Prelude.{if◌then◌else◌}
+use Rattle.std.specs.Prelude.{if◌then◌else◌, is_some}
 
 -- ---- what its store tells
 
@@ -102,6 +102,7 @@ pub record Core : Type 0 where
   pub value : Option (List Op)
   pub leader : ℕ
   pub members : List Bool
+  pub lease : Option ℕ
   pub queue : List Waiting
   pub sessions : List Asked
   pub next_seq : ℕ
@@ -124,6 +125,7 @@ core_of o s = record {
   value = s.leader.value;
   leader = s.peon.leader;
   members = s.peon.quorum;
+  lease = s.peon.lease;
   queue = s.clients.queue;
   sessions = s.clients.sessions;
   next_seq = s.clients.next_seq;
@@ -243,14 +245,23 @@ Rests g i pn last = (v : ℕ) (x : List Op) → Accepted g i v pn x → v ≤ la
 abbrev pub ActsIn : ℕ → Ghost → ℕ → Core → Type 0
 ActsIn n g i c = LeadsIn g i c Nowhere × AllIn n c × Rests g i c.pn c.own.last
 
-pub record Follows (g : Ghost) (i e l : ℕ) (marked : Bool) (q : List Bool) (asked : List Asked) (next : ℕ) : Type 0 where
+-- all of a leader's quorum followed it into the epoch
+pub record Followed (g : Ghost) (e l : ℕ) : Type 0 where
+  pub quorum : List Bool
+  pub led : Entered g l e l quorum
+  pub joined : (m : ℕ) → has quorum m ≡ true → Joined g m e l
+
+pub record Follows (g : Ghost) (i e l : ℕ) (marked : Bool) (q : List Bool) (asked : List Asked) (next : ℕ) (lease : Option ℕ) (last : ℕ) : Type 0 where
   pub role : Entered g i e l q
   pub unmarked : marked ≡ false
   pub sessions : AllByRecursion (IsHanded g i e) asked
   pub below : (seq : ℕ) (s : Session) (c : Command) → Handed g i e seq s c → seq < next
+  -- while it has a lease, all that it ever accepted is committed, and its leader has its whole quorum
+  pub clear : is_some lease ≡ true → (v p : ℕ) (x : List Op) → Accepted g i v p x → v ≤ last
+  pub led : is_some lease ≡ true → Followed g e l
 
 abbrev pub FollowsIn : Ghost → ℕ → Core → Type 0
-FollowsIn g i c = Follows g i (epoch_in c.own) c.leader c.own.marked c.members c.sessions c.next_seq
+FollowsIn g i c = Follows g i (epoch_in c.own) c.leader c.own.marked c.members c.sessions c.next_seq c.lease c.own.last
 
 abbrev pub StandsIn : (n i : ℕ) → Core → Type 0
 StandsIn n i c = Stands n i (epoch_in c.own) c.own.marked c.candidate c.acked c.queue c.sessions
@@ -299,6 +310,7 @@ BodyHolds g i to e (body.Collect pn first last) = (pn % 100 ≡ i) × Had g ANum
 BodyHolds g i to e (body.Last pn first last whole from values told) = Answers g i to e pn last whole from values told
 BodyHolds g i to e (body.Begin pn v value) = Accepted g i v pn value
 BodyHolds g i to e (body.Accept pn v) = Had g APromise i pn × (value : List Op) × Accepted g i v pn value
+BodyHolds g i to e (body.Lease last) = Followed g e i
 BodyHolds g i to e (body.Forward seq c) = (s : Session) × Handed g i e seq s c
 BodyHolds g i to e (body.Cookie full c last) = Had g ALevel i last
 BodyHolds g i to e (body.GetChunk c p) = Had g ALevel to p.version

@@ -74,6 +74,17 @@ peon_is_peon phase.Previous e = no e
 peon_is_peon phase.Active e = no e
 peon_is_peon phase.Updating e = no e
 
+pub active_is : (p : Phase) → same_phase p phase.Active ≡ true → p ≡ phase.Active
+active_is phase.Active e = refl
+active_is phase.Booting e = no e
+active_is phase.Probing e = no e
+active_is phase.Synchronizing e = no e
+active_is phase.Electing e = no e
+active_is phase.Collecting e = no e
+active_is phase.Previous e = no e
+active_is phase.Updating e = no e
+active_is phase.Peon e = no e
+
 -- ---- what holds in it
 
 pub requeued : (g : Ghost) (i : ℕ) (c : Core) (ws : List Waiting) (L : ℕ → ℕ → Type 0) → (AllByRecursion (Waits g i (epoch_in c.own)) c.queue → AllByRecursion (Waits g i (epoch_in c.own)) ws) → LeadsIn g i c L → LeadsIn g i (record c { queue = ws }) L

@@ -111,7 +111,7 @@ module _ (me : Me) (now : ℕ) (g : Ghost) (Known : ℕ → List Op → Type 0) 
       hear_holds f e (body.Begin pn v value) x z k V F M A = hear_begin_holds me now g Known f e pn v value x k A
       hear_holds f e (body.Accept pn v) x z k V F M A = hear_accept_holds me now g Known f e pn v x k.1 k.2 A
       hear_holds f e (body.Commit from values) x z k V F M A = hear_commit_holds me now g Known f e from values x V A
-      hear_holds f e (body.Lease last) x z k V F M A = hear_lease_holds me now g Known f e last x A
+      hear_holds f e (body.Lease last) x z k V F M A = hear_lease_holds me now g Known f e last x k A
       hear_holds f e (body.LeaseAck last) x z k V F M A = hear_lease_ack_holds me now g Known f e last x A
       hear_holds f e (body.Forward seq c) x z k V F M A = hear_forward_holds me now g Known made f e seq c x (let m = me.member.most in omega arith) V F.readings.own.last M k.0 k.1 A
       hear_holds f e (body.Route seq r) x z k V F M A = hear_route_holds me now g Known f e seq r x A

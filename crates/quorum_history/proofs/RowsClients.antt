@@ -30,17 +30,16 @@ use Rattle.mon_types.specs.Ranks.{has}
 use Rattle.mon_types.specs.declared.names.Which.TheVariants as which
 use Rattle.mon_wire.specs.declared.body.Body.TheVariants as body
 use Rattle.mon_wire.specs.declared.phase.Phase.TheVariants as phase
-use Rattle.mon_wire.specs.declared.phase.Phase.{Phase}
 use Rattle.mon_wire.specs.declared.reply.Reply.TheVariants as reply
 use Rattle.mon_wire.specs.declared.reply.Reply.{Reply}
 use Rattle.mon_wire.specs.declared.request.Request.TheVariants as request
 use Rattle.mon_wire.specs.declared.request.Request.{Request}
 use Rattle.mon_wire.specs.declared.request.Session.{Session}
 use Rattle.quorum_history.proofs.ActsLeading.{begin_new_holds}
-use Rattle.quorum_history.proofs.Frame.{entered_lasts, handed_lasts, source_lasts}
+use Rattle.quorum_history.proofs.Frame.{entered_lasts, followed_lasts, handed_lasts, source_lasts}
 use Rattle.quorum_history.proofs.History.{Asks, Ghost, Handed, asking}
 use Rattle.quorum_history.proofs.Holds.{At, FollowsIn, Good, HasSource, InPhase, IsHanded, SentHolds, Waits, core}
-use Rattle.quorum_history.proofs.Phases.{any_leads, as_known, in_known, no, peon_is_peon, queue_in}
+use Rattle.quorum_history.proofs.Phases.{active_is, any_leads, as_known, in_known, peon_is_peon, queue_in}
 use Rattle.quorum_history.proofs.Steps.{handed, handed_below, hands_on, says, tells, weaken}
 use Rattle.quorum_walk.proofs.FineCourses.{Made, OriginFine, RequestFine, WaitingFine}
 use Rattle.quorum_walk.proofs.Lists.{all_append, all_filter, all_map, all_of}
@@ -95,17 +94,6 @@ module _ (me : Me) (now : ℕ) (g : Ghost) (Known : ℕ → List Op → Type 0) 
           begin_new_holds me now g Known y (Some o) x (made x.readings c (asked_of me o) y form (asked_below o rank) last short e) (makes u (asked_of me o) asked.0 c y asked.1 e) u B
       by short (Err e) q = done (answered_one _ o (refusal e) x A)
 
-  active_is : (p : Phase) → same_phase p phase.Active ≡ true → p ≡ phase.Active
-  active_is phase.Active t = refl
-  active_is phase.Booting t = no t
-  active_is phase.Probing t = no t
-  active_is phase.Synchronizing t = no t
-  active_is phase.Electing t = no t
-  active_is phase.Collecting t = no t
-  active_is phase.Previous t = no t
-  active_is phase.Updating t = no t
-  active_is phase.Peon t = no t
-
   queued_up : (c : Command) (o : Origin) (x : Course) → is_leading x.state.phase ≡ true → HasSource g i (epoch_of x.readings) c o → Good me g Known x → Good me g Known (queue_up c o x)
   queued_up c o x lead source A = weaken _ _ A (λ h E G D k. queue_in n h i (core x) (x.state.clients.queue ++ record { command = c; origin = o } ∷ []) x.state.phase lead
       (λ q. all_append (Waits h i (epoch_of x.readings)) x.state.clients.queue (record { command = c; origin = o } ∷ []) q (source_lasts i g h E i (epoch_of x.readings) c o source, tt)) k)
@@ -132,6 +120,8 @@ module _ (me : Me) (now : ℕ) (g : Ghost) (Known : ℕ → List Op → Type 0) 
           sessions = all_append (IsHanded k i e) x.state.clients.sessions (record { seq = seq; session = s } ∷ [])
               (all_map (IsHanded h i e) (IsHanded k i e) (λ a w. (w.0, handed_lasts i h k E i e a.seq a.session w.0 w.1)) x.state.clients.sessions p.sessions) ((c, inl refl), tt);
           below = handed_below i e seq s c h p.below;
+          clear = p.clear;
+          led = λ t. followed_lasts i h k E e x.state.peon.leader (p.led t);
         },
         inl refl,
       )) in
@@ -170,7 +160,7 @@ module _ (me : Me) (now : ℕ) (g : Ghost) (Known : ℕ → List Op → Type 0) 
       let t = and_three (is_peon x.state.phase) (eqb e (epoch_of x.readings)) (eqb f x.state.peon.leader) (not-false _ heard) in
       let peon = peon_is_peon x.state.phase t.0 in
       let B : At me g Known (λ h. FollowsIn h i (core y)) y = weaken _ _ (in_known me g Known x phase.Peon peon A) (λ h E G D p.
-      record { role = p.role; unmarked = p.unmarked; sessions = all_filter (IsHanded h i (epoch_of x.readings)) (λ (a : Asked). not (eqb a.seq seq)) x.state.clients.sessions p.sessions; below = p.below }) in
+      record { role = p.role; unmarked = p.unmarked; sessions = all_filter (IsHanded h i (epoch_of x.readings)) (λ (a : Asked). not (eqb a.seq seq)) x.state.clients.sessions p.sessions; below = p.below; clear = p.clear; led = p.led }) in
       done (says _ (map (λ (a : Asked). sent.Reply a.session r) (filter (λ (a : Asked). eqb a.seq seq) x.state.clients.sessions)) (as_known me g Known y phase.Peon peon B) (λ h E G D p. all_of (SentHolds h i) (λ (a : Asked). sent.Reply a.session r) (λ a. tt) _)))
 
   -- the first of those that wait

@@ -155,6 +155,8 @@ module _ (me : Me) (now : ℕ) (g : Ghost) (Known : ℕ → List Op → Type 0) 
         unmarked = S.unmarked;
         sessions = subst (λ (s : List Asked). AllByRecursion (IsHanded k i e) s) (sym S.sessions) tt;
         below = λ seq s c a. let late = L.hands e seq s c (hands seq s c a) in absurd (omega arith);
+        clear = λ t. absurd (false≢true t);
+        led = λ t. absurd (false≢true t);
       })
 
   pub hear_victory_holds : (f e : ℕ) (q : List Bool) (x : Course) → Entered g f e f q → Good me g Known x → Then (Good me g Known) (hear_victory me now f e q x)

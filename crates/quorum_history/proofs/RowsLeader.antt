@@ -21,13 +21,13 @@ use Rattle.mon_wire.specs.declared.parts.Told.{Told}
 use Rattle.mon_wire.specs.declared.phase.Phase.TheVariants as phase
 use Rattle.mon_wire.specs.declared.phase.Phase.{Phase}
 use Rattle.quorum_history.proofs.ActsElections.{bootstrap_holds}
-use Rattle.quorum_history.proofs.ActsLeading.{ClosesIn, closes_repeating, closes_updating, collect_holds, commit_holds, leads_left, settle_holds, sound}
+use Rattle.quorum_history.proofs.ActsLeading.{ClosesIn, all_followed, closes_repeating, closes_updating, collect_holds, commit_holds, leads_left, settle_holds, sound}
 use Rattle.quorum_history.proofs.Frame.{accepted_below, accepted_lasts, heard_lasts, joined_lasts, reigns_last}
 use Rattle.quorum_history.proofs.History.{ALevel, APromise, Accepted, Ext, Ghost, Glob, Had, Joined, had_lasts}
-use Rattle.quorum_history.proofs.Holds.{Answers, At, Core, FoundCovers, Gathers, GathersIn, Good, Heard, IsFound, Proposes, ProposesIn, RepeatsIn, UpdatesIn, core, core_of, epoch_in}
+use Rattle.quorum_history.proofs.Holds.{Answers, At, Core, FoundCovers, Gathers, GathersIn, Good, Heard, InPhase, IsFound, Nowhere, Proposes, ProposesIn, RepeatsIn, UpdatesIn, core, core_of, epoch_in}
 use Rattle.quorum_history.proofs.Learned.{learn_then, learned_at}
 use Rattle.quorum_history.proofs.Numbers.{level_is, with_last}
-use Rattle.quorum_history.proofs.Phases.{as_known, collecting_is, in_known, no}
+use Rattle.quorum_history.proofs.Phases.{active_is, as_known, collecting_is, in_known, no}
 use Rattle.quorum_history.proofs.Steps.{tells_each, weaken}
 use Rattle.quorum_walk.proofs.FineCourses.{ToldFine, Val}
 use Rattle.quorum_walk.proofs.FineReading.{all_spare}
@@ -326,4 +326,6 @@ module _ (me : Me) (now : ℕ) (g : Ghost) (Known : ℕ → List Op → Type 0) 
 
   pub renew_holds : (x : Course) → Good me g Known x → Then (Good me g Known) (renew me now x)
   unfolding renew extend
-  renew_holds x A = by_test (not (same_phase x.state.phase phase.Active)) (λ _. done A) (λ _. done (tells_each me _ (body.Lease x.readings.last) _ A (λ h E G D p to. tt)))
+  renew_holds x A = by_test (not (same_phase x.state.phase phase.Active)) (λ _. done A) (λ heard.
+      let e = active_is x.state.phase (not-false _ heard) in
+      done (tells_each me _ (body.Lease x.readings.last) _ A (λ h E G D p to. let k = subst (InPhase me.member.monitors h me.member.rank (core x)) e p in all_followed me now g Known h (core x) Nowhere G k.0 k.1)))

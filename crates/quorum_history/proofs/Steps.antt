@@ -15,7 +15,7 @@ use Rattle.mon_wire.specs.declared.body.Body.{Body}
 use Rattle.mon_wire.specs.declared.request.Session.{Session}
 use Rattle.quorum_history.proofs.Frame.{accepted_below, sent_lasts}
 use Rattle.quorum_history.proofs.Growing.{grows_by, grows_more, grows_not}
-use Rattle.quorum_history.proofs.History.{ALevel, ANumber, APromise, AnEpoch, Accepted, Ask, Asks, Entered, Entry, Ext, Ghost, Glob, Had, HadIn, Hand, Handed, HandsHold, Refuses, Rising, RolesHold, Sign, Triple, entry, ext_trans, had_lasts, hand, sign, triple}
+use Rattle.quorum_history.proofs.History.{ALevel, ANumber, APromise, AnEpoch, Accepted, Ask, Asks, Entered, Entry, Ext, Ghost, Glob, Had, HadIn, Hand, Handed, HandsHold, NewEntry, Refuses, Rising, RolesHold, Sign, Triple, entry, ext_trans, had_lasts, hand, sign, triple}
 use Rattle.quorum_history.proofs.Holds.{BodyHolds, Disk, Kept, Numbered, SentHolds, Tied, With, epoch_in, level_in, number_in_own, number_of, promise_in}
 use Rattle.quorum_walk.proofs.Lists.{Among, all_among, all_append, all_map, all_of, among_append, among_left}
 use Rattle.quorum_walk.proofs.Sparing.{Own}
@@ -200,8 +200,8 @@ pub record MayEnter (n i : ℕ) (g : Ghost) (e l : ℕ) (q : List Bool) : Type 0
   pub within : (m : ℕ) → has q m ≡ true → m < n
   pub lead : (l ≡ i) ⊎ Entered g l e l q
 
-entered_ext : (i e l : ℕ) (q : List Bool) (g : Ghost) → Ext i g (entered i e l q g)
-entered_ext i e l q g = record { roles = grows_by _ (entry i e l q) g.roles refl; hands = grows_not _ g.hands; asks = grows_not _ g.asks; signs = grows_not _ g.signs; accepts = grows_not _ g.accepts }
+entered_ext : (i e l : ℕ) (q : List Bool) (g : Ghost) → ((n : ℕ) → Had g AnEpoch i n → n < e) → Ext i g (entered i e l q g)
+entered_ext i e l q g later = record { roles = grows_by (NewEntry i g) (entry i e l q) g.roles (record { who = refl; later = later }); hands = grows_not _ g.hands; asks = grows_not _ g.asks; signs = grows_not _ g.signs; accepts = grows_not _ g.accepts }
 
 -- what holds of the new entry and of the old ones holds of all
 each_entry : (i e l : ℕ) (q : List Bool) (rs : List Entry) (P : Entry → Type 0) → P (entry i e l q) → ((j f m : ℕ) (w : List Bool) → Among (entry j f m w) rs → P (entry j f m w)) → (j f m : ℕ) (w : List Bool) → Among (entry j f m w) (entry i e l q ∷ rs) → P (entry j f m w)
@@ -254,11 +254,11 @@ pub enters : {n i : ℕ} {g : Ghost} {Known : ℕ → List Op → Type 0} {o : O
 enters {n} {i} {g} {Known} {o} {records} {cs} P Q e l q lt A may f =
     let h = A.h in
     let o2 = with_epoch e o in
-    let j = signed i o2 h in
-    let k = entered i e l q j in
+    let j = entered i e l q h in
+    let k = signed i o2 j in
     let M = may h A.ext A.fact in
-    let E1 = signed_ext i o2 h in
-    let E : Ext i h k = ext_trans E1 (entered_ext i e l q j) in
+    let E1 = entered_ext i e l q h (λ m a. let t = A.disk.numbers.top AnEpoch m a in omega arith) in
+    let E : Ext i h k = ext_trans E1 (signed_ext i o2 j) in
     let G = signed_glob n i o2 h A.glob in
     let kept = epoch_kept h.roles h.hands h.accepts i e o records (omega arith) A.disk.kept in
     further P Q o2 records (cs ++ Epoch e ∷ []) A k E

@@ -8,7 +8,8 @@ use Rattle.mon_msg.specs.Joined.{joined}
 use Rattle.mon_msg.specs.Protocol.Changes.{spelled}
 use Rattle.mon_msg.specs.Protocol.Course.{Course}
 use Rattle.mon_msg.specs.Protocol.Reaction.{Reaction, any_reaction, reaction_of}
-use Rattle.mon_msg.specs.Protocol.Readings.{Readings, epoch_of, or_zero, readings_of, shared_entries}
+use Rattle.mon_msg.specs.Protocol.Phases.{is_member}
+use Rattle.mon_msg.specs.Protocol.Readings.{Readings, epoch_of, or_zero, promise_of, readings_of, shared_entries}
 use Rattle.mon_msg.specs.Protocol.State.{State, booting}
 use Rattle.mon_msg.specs.Protocol.Table.{at_rest, react}
 use Rattle.mon_msg.specs.declared.input.Input.TheVariants as input
@@ -22,16 +23,20 @@ use Rattle.mon_wire.specs.declared.request.Request.{Request}
 use Rattle.mon_wire.specs.declared.request.Session.{Session}
 use Rattle.quorum_history.proofs.Frame.{accepted_lasts}
 use Rattle.quorum_history.proofs.Growing.{grows_by, grows_not}
-use Rattle.quorum_history.proofs.History.{ANumber, Accepted, Ask, Asks, Entry, Ext, Ghost, Glob, asking, ext_refl, had_lasts}
+use Rattle.quorum_history.proofs.History.{ANumber, APromise, Accepted, AnEpoch, Ask, Asks, Entry, Ext, Ghost, Glob, Had, asking, ext_refl, had_lasts, triple}
 use Rattle.quorum_history.proofs.Holds.{Good, core}
 use Rattle.quorum_history.proofs.Rows.{InputHolds, react_holds}
 use Rattle.quorum_history.proofs.RowsClients.{IsAsked, Makes}
 use Rattle.quorum_history.proofs.Steps.{tied_refl}
 use Rattle.quorum_laws.proofs.Beginning.{at_first}
-use Rattle.quorum_laws.proofs.Invariant.{EnvelopeFine, EnvelopeHolds, Inv, InvOf, InvWith, Mine, OnState, StateFits, TriplesKept, WasActive, WasAsked, was_asked_more}
+use Rattle.quorum_laws.proofs.Invariant.{EnvelopeFine, EnvelopeHolds, Inv, InvOf, InvWith, Mine, OnState, StateFits, TriplesKept, WasActive, was_asked_more}
+use Rattle.quorum_laws.proofs.Later.{Later, Stays, is_in, later_refl, later_trans, stays_refl}
+use Rattle.quorum_laws.proofs.Leaving.{IsLater, stays_outside}
 use Rattle.quorum_laws.proofs.Values.{made, sharing}
 use Rattle.quorum_laws.proofs.Voting.{collects_number}
 use Rattle.quorum_laws.proofs.Whole.{active_last, at_put, envelopes_last, envelopes_of, fine_envelopes, held_after, mine_lasts, raised_after, triples_kept, was_active}
+use Rattle.quorum_laws.specs.Accepting.{AcceptedIn}
+use Rattle.quorum_laws.specs.Commands.{WasAsked}
 use Rattle.quorum_laws.specs.Promises.{Collects, last_number}
 use Rattle.quorum_model.specs.Clients.{command_of, messages_of, with_asked}
 use Rattle.quorum_model.specs.Events.{AllFit, PlainFits, RequestFits}
@@ -44,8 +49,8 @@ use Rattle.quorum_walk.proofs.FineCourses.{Ended, EntryFine, Fine, RequestFine, 
 use Rattle.quorum_walk.proofs.FineTable.{ComesFine, react_fine}
 use Rattle.quorum_walk.proofs.Lists.{Among, all_append, all_get}
 use Rattle.quorum_walk.proofs.Walk.{Then}
-use Rattle.std.proofs.Common.{Bool, Err, IfSome, List, None, Ok, Option, Result, Some, [], arith, cond, eqb, false, inl, inr, ltb, refl, subst, suc, sym, true, zero, ℕ, ◌%◌, ◌++◌, ◌<◌, ◌∙◌, ◌∷◌, ◌≡◌, ◌≤◌, ◌⊎◌}
-use Rattle.std.proofs.lemmas.Bool.{cond_both, ltb-true}
+use Rattle.std.proofs.Common.{Bool, Err, IfSome, List, None, Ok, Option, Result, Some, [], ap, arith, cond, eqb, false, inl, inr, ltb, refl, subst, suc, sym, true, zero, ℕ, ◌%◌, ◌++◌, ◌<◌, ◌∙◌, ◌∷◌, ◌≡◌, ◌≤◌, ◌⊎◌}
+use Rattle.std.proofs.lemmas.Bool.{cond_both, eqb-true, false≢true, ltb-true}
 use Rattle.std.proofs.lemmas.List.Elements.{Contains-append_right}
 use Rattle.std.specs.List.{AllByRecursion}
 use Rattle.std.specs.Option.{option_map}
@@ -150,6 +155,41 @@ module _ (store : ℕ → Store) (state : ℕ → Option State) (txs : ℕ → L
       asks = asks;
     }
 
+    -- what it makes of what was; where it was in a quorum, it remembered that
+    module _ (t : Option State) (still : is_in t ≡ true → is_member x.state.phase ≡ true) (from : is_member s.phase ≡ true → is_in (state i) ≡ true) where
+      inside : is_in t ≡ true → epoch_of (readings_of next) ≡ epoch_of (readings_of m) → is_in (state i) ≡ true
+      inside a e = by (is_member s.phase) refl
+        where
+          by : (b : Bool) → is_member s.phase ≡ b → is_in (state i) ≡ true
+          by true h = from h
+          by false h =
+              let outside = stays_outside me at I.g made (readings_of m) (shared_entries m) shares s (fine_at_first s z) I.glob (I.mine i).disk k h came c d in
+              let later : epoch_of (readings_of m) < epoch_of x.readings = (subst (Then (IsLater (epoch_of (readings_of m)))) is outside).holds (still a) in
+              let q = ap epoch_of same in
+              absurd (omega arith)
+
+      here : Stays (readings_of m) (state i) (readings_of next) t
+      here = record {
+        epoch = subst (λ (w : Readings). epoch_of (readings_of m) ≤ epoch_of w) (sym same) (good.disk.numbers.top AnEpoch (epoch_of (readings_of m)) (had_lasts good.ext AnEpoch i (epoch_of (readings_of m)) ((I.mine i).disk.numbers.now AnEpoch)));
+        promise = subst (λ (w : Readings). promise_of (readings_of m) ≤ promise_of w) (sym same) (good.disk.numbers.top APromise (promise_of (readings_of m)) (had_lasts good.ext APromise i (promise_of (readings_of m)) ((I.mine i).disk.numbers.now APromise)));
+        inside = inside;
+      }
+
+      pub each_stays : (j : ℕ) → Stays (readings_of (store j)) (state j) (readings_of (put_at store i next j)) (put_at state i t j)
+      each_stays j = by (eqb j i) refl
+        where
+          by : (b : Bool) → eqb j i ≡ b → Stays (readings_of (store j)) (state j) (readings_of (cond b next (store j))) (cond b t (state j))
+          by true e = subst (λ (z : ℕ). Stays (readings_of (store z)) (state z) (readings_of next) t) (sym (eqb-true j i e)) here
+          by false e = stays_refl (readings_of (store j)) (state j)
+
+    pub accepted_since : (j v pn : ℕ) (bytes : List ℕ) → AcceptedIn (put_at txs i (txs i ++ tx ∷ []) j) v pn bytes → AcceptedIn (txs j) v pn bytes ⊎ (promise_of (readings_of (store j)) ≤ pn)
+    accepted_since j v pn bytes a =
+        let t = triples.known j v pn bytes a in
+        elim (good.ext.accepts.added (triple j v pn t.0) t.2) [
+          | inl o ↦ inl (subst (AcceptedIn (txs j) v pn) (sym t.1) (I.triples.kept j v pn t.0 o))
+          | inr new ↦ inr (new.high (promise_of (readings_of (store j))) (subst (λ (y : ℕ). Had I.g APromise y (promise_of (readings_of (store j)))) new.who ((I.mine j).disk.numbers.now APromise)))
+        ]
+
 -- it goes down before it kept anything
 pub lost_holds : (n : ℕ) (store : ℕ → Store) (state : ℕ → Option State) (txs : ℕ → List (List Op)) (messages : List Envelope) (pairs : List (ℕ × ℕ)) (asked : List Asked) (i : ℕ) → Inv n store state txs messages pairs asked → Inv n store (put_at state i None) txs messages pairs asked
 lost_holds n store state txs messages pairs asked i I = record { g = I.g; glob = I.glob; mine = λ j. by j (eqb j i); triples = I.triples; held = I.held; raised = I.raised; sent = I.sent; sizes = I.sizes; active = I.active; asks = I.asks }
@@ -157,6 +197,13 @@ lost_holds n store state txs messages pairs asked i I = record { g = I.g; glob =
     by : (j : ℕ) (t : Bool) → Mine n I.g j (readings_of (store j)) (cond t None (state j))
     by j true = record { fine = (I.mine j).fine; fits = tt; disk = (I.mine j).disk; state = tt }
     by j false = I.mine j
+
+lost_stays : (store : ℕ → Store) (state : ℕ → Option State) (i j : ℕ) → Stays (readings_of (store j)) (state j) (readings_of (store j)) (put_at state i None j)
+lost_stays store state i j = by (eqb j i)
+  where
+    by : (b : Bool) → Stays (readings_of (store j)) (state j) (readings_of (store j)) (cond b None (state j))
+    by true = record { epoch = omega arith; promise = omega arith; inside = λ a e. absurd (false≢true a) }
+    by false = stays_refl (readings_of (store j)) (state j)
 
 -- ---- what a client asks
 
@@ -349,7 +396,12 @@ module _ (ms : Monitors) (w : World) (Told : Envelope → Type 0) where
 
 -- every event keeps what holds
 abbrev pub After : (ms : Monitors) (w : World) → InvOf ms w → World → Type 0
-After ms w I next = (J : InvOf ms next) × ((r : Entry) → Among r I.g.roles → Among r J.g.roles)
+After ms w I next = (J : InvOf ms next) × ((r : Entry) → Among r I.g.roles → Among r J.g.roles) × Later w next
+
+-- who starts is in no quorum
+remembered : (o : Option State) (s : State) (rank : ℕ) → (o ≡ Some s) ⊎ (s ≡ booting rank) → is_member s.phase ≡ true → is_in o ≡ true
+remembered o s rank (inl e) t = ap is_in e ∙ t
+remembered o s rank (inr e) t = absurd (false≢true (ap (λ (z : State). is_member z.phase) (sym e) ∙ t))
 
 abbrev any_told : Envelope → Type 0
 any_told e = Unit {0}
@@ -357,15 +409,23 @@ any_told e = Unit {0}
 each_keeps : (ms : Monitors) (w : World) (I : InvOf ms w) (p : Plain) (J : InvWith ms w (with_asked p w.asked)) → ((r : Entry) → Among r I.g.roles → Among r J.g.roles) → Keeps ms w any_told p J (After ms w I)
 unfolding unmoved moved kept_only lost goes_on_holds goes_down_holds lost_holds
 each_keeps ms w I p J up = record {
-  nothing = (J, up);
-  loses = λ i lt. (lost_holds ms.count w.store w.state w.transactions w.messages w.active asked i J, up);
+  nothing = (J, up, record { each = λ j. stays_refl (readings_of (w.store j)) (w.state j); since = λ j v pn bytes a. inl a });
+  loses = λ i lt. (lost_holds ms.count w.store w.state w.transactions w.messages w.active asked i J, up, record { each = lost_stays w.store w.state i; since = λ j v pn bytes a. inl a });
   goes_on = λ d. let a = d.by in (
     goes_on_holds w.store w.state w.transactions w.messages w.active asked (member_of ms a.rank a.lt) J a.at a.state a.came a.on a.fits a.holds (a.fine (shared_at a.rank)) d.y d.is,
     λ r k. (good w.store w.state w.transactions w.messages w.active asked (member_of ms a.rank a.lt) J a.at a.state a.came a.on a.fits a.holds (a.fine (shared_at a.rank)) d.y d.is).ext.roles.keeps r (up r k),
+    record {
+      each = each_stays w.store w.state w.transactions w.messages w.active asked (member_of ms a.rank a.lt) J a.at a.state a.came a.on a.fits a.holds (a.fine (shared_at a.rank)) d.y d.is (Some d.y.state) (λ b. b) (remembered (w.state a.rank) a.state a.rank a.remembers);
+      since = accepted_since w.store w.state w.transactions w.messages w.active asked (member_of ms a.rank a.lt) J a.at a.state a.came a.on a.fits a.holds (a.fine (shared_at a.rank)) d.y d.is;
+    },
   );
   goes_down = λ d. let a = d.by in (
     goes_down_holds w.store w.state w.transactions w.messages w.active asked (member_of ms a.rank a.lt) J a.at a.state a.came a.on a.fits a.holds (a.fine (shared_at a.rank)) d.y d.is,
     λ r k. (good w.store w.state w.transactions w.messages w.active asked (member_of ms a.rank a.lt) J a.at a.state a.came a.on a.fits a.holds (a.fine (shared_at a.rank)) d.y d.is).ext.roles.keeps r (up r k),
+    record {
+      each = each_stays w.store w.state w.transactions w.messages w.active asked (member_of ms a.rank a.lt) J a.at a.state a.came a.on a.fits a.holds (a.fine (shared_at a.rank)) d.y d.is None (λ b. absurd (false≢true b)) (remembered (w.state a.rank) a.state a.rank a.remembers);
+      since = accepted_since w.store w.state w.transactions w.messages w.active asked (member_of ms a.rank a.lt) J a.at a.state a.came a.on a.fits a.holds (a.fine (shared_at a.rank)) d.y d.is;
+    },
   );
 }
   where
@@ -386,27 +446,27 @@ event_holds ms w e F I = each_event ms w any_told I (After ms w I) (all_told w.m
 
 -- what holds after events that follow, with a history that goes on
 abbrev pub GoesOn : (ms : Monitors) (w next : World) → InvOf ms w → Type 0
-GoesOn ms w next I = (J : InvOf ms next) × ((r : Entry) → Among r I.g.roles → Among r J.g.roles)
+GoesOn ms w next I = (J : InvOf ms next) × ((r : Entry) → Among r I.g.roles → Among r J.g.roles) × Later w next
 
 run_holds : (ms : Monitors) (w : World) (events : List Event) → AllFit ms.count events → (I : InvOf ms w) → GoesOn ms w (run_from ms w events) I
 unfolding ran_from
-run_holds ms w [] F I = (I, λ r a. a)
+run_holds ms w [] F I = (I, λ r a. a, later_refl w)
 run_holds ms w (e ∷ es) F I = by (happens ms w e) (event_holds ms w e F.0 I) (λ next. run_holds ms next es F.1)
   where
     by : (r : Result World Stop) → IfOk r (λ next. GoesOn ms w next I) → ((next : World) (J : InvOf ms next) → GoesOn ms next (run_from ms next es) J) → GoesOn ms w (goes_on w (λ next. ran_from ms next es) r).world I
-    by (Ok next) k ih = let z = ih next k.0 in (z.0, λ r a. z.1 r (k.1 r a))
-    by (Err stop) k ih = (I, λ r a. a)
+    by (Ok next) k ih = let z = ih next k.0 in (z.0, λ r a. z.1 r (k.1 r a), later_trans w next (run_from ms next es) k.2 z.2)
+    by (Err stop) k ih = (I, λ r a. a, later_refl w)
 
 pub all_runs : (ms : Monitors) (events : List Event) → AllFit ms.count events → InvOf ms (run ms events)
 all_runs ms events F = (run_holds ms first_world events F (at_first ms)).0
 
 -- a run, and one that goes on
-pub both_runs : (ms : Monitors) (w : World) (a b : List Event) → AllFit ms.count (a ++ b) → InvOf ms w → (I : InvOf ms (run_from ms w a)) × (J : InvOf ms (run_from ms w (a ++ b))) × ((r : Entry) → Among r I.g.roles → Among r J.g.roles)
+pub both_runs : (ms : Monitors) (w : World) (a b : List Event) → AllFit ms.count (a ++ b) → InvOf ms w → (I : InvOf ms (run_from ms w a)) × (J : InvOf ms (run_from ms w (a ++ b))) × ((r : Entry) → Among r I.g.roles → Among r J.g.roles) × Later (run_from ms w a) (run_from ms w (a ++ b))
 unfolding ran_from
-both_runs ms w [] b F I = let z = run_holds ms w b F I in (I, z.0, z.1)
+both_runs ms w [] b F I = let z = run_holds ms w b F I in (I, z.0, z.1, z.2)
 both_runs ms w (e ∷ a) b F I = by (happens ms w e) (event_holds ms w e F.0 I) (λ next. both_runs ms next a b F.1)
   where
-    by : (r : Result World Stop) → IfOk r (λ next. GoesOn ms w next I) → ((next : World) → InvOf ms next → (I : InvOf ms (run_from ms next a)) × (J : InvOf ms (run_from ms next (a ++ b))) × ((r : Entry) → Among r I.g.roles → Among r J.g.roles))
-        → (I : InvOf ms (goes_on w (λ next. ran_from ms next a) r).world) × (J : InvOf ms (goes_on w (λ next. ran_from ms next (a ++ b)) r).world) × ((r : Entry) → Among r I.g.roles → Among r J.g.roles)
+    by : (r : Result World Stop) → IfOk r (λ next. GoesOn ms w next I) → ((next : World) → InvOf ms next → (I : InvOf ms (run_from ms next a)) × (J : InvOf ms (run_from ms next (a ++ b))) × ((r : Entry) → Among r I.g.roles → Among r J.g.roles) × Later (run_from ms next a) (run_from ms next (a ++ b)))
+        → (I : InvOf ms (goes_on w (λ next. ran_from ms next a) r).world) × (J : InvOf ms (goes_on w (λ next. ran_from ms next (a ++ b)) r).world) × ((r : Entry) → Among r I.g.roles → Among r J.g.roles) × Later (goes_on w (λ next. ran_from ms next a) r).world (goes_on w (λ next. ran_from ms next (a ++ b)) r).world
     by (Ok next) k ih = ih next k.0
-    by (Err stop) k ih = (I, I, λ r a. a)
+    by (Err stop) k ih = (I, I, λ r a. a, later_refl w)

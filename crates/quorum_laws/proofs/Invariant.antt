@@ -1,5 +1,4 @@
 -- What holds of all monitors after every event, with some history.
-use Rattle.log_model.specs.LogOfValues.{IsCommand}
 use Rattle.mon_bytes.specs.declared.command.Command.{Command}
 use Rattle.mon_msg.specs.Protocol.Readings.{Readings, readings_of}
 use Rattle.mon_msg.specs.Protocol.State.{State}
@@ -11,8 +10,8 @@ use Rattle.mon_wire.specs.declared.request.Session.{Session}
 use Rattle.quorum_history.proofs.History.{Accepted, Asks, Entered, Ghost, Glob, Joined}
 use Rattle.quorum_history.proofs.Holds.{Disk, InPhase, MessageHolds, core_of}
 use Rattle.quorum_laws.specs.Accepting.{AcceptedIn}
+use Rattle.quorum_laws.specs.Commands.{WasAsked}
 use Rattle.quorum_laws.specs.Promises.{NumbersRise}
-use Rattle.quorum_model.specs.Clients.{command_of}
 use Rattle.quorum_model.specs.Monitors.{Monitors}
 use Rattle.quorum_model.specs.Safe.{after_transactions}
 use Rattle.quorum_model.specs.World.{Asked, Envelope, World}
@@ -21,7 +20,7 @@ use Rattle.quorum_walk.proofs.Sparing.{own_of}
 use Rattle.std.proofs.Common.{Bool, IfSome, List, None, Option, Some, true, ℕ, ◌++◌, ◌<◌, ◌≡◌}
 use Rattle.std.proofs.lemmas.List.Elements.{Contains-append_left}
 use Rattle.std.specs.FinMap.{empty}
-use Rattle.std.specs.List.{AllByRecursion, Contains}
+use Rattle.std.specs.List.{AllByRecursion}
 
 abbrev pub OnState : ℕ → Ghost → ℕ → Readings → Option State → Type 0
 OnState n g i w None = Unit {0}
@@ -35,16 +34,6 @@ EnvelopeFine e = MessageFine e.message
 
 abbrev pub EnvelopeHolds : ℕ → Ghost → Envelope → Type 0
 EnvelopeHolds n g e = (e.message.from < n) × MessageHolds g e.to e.message
-
--- a session asked this command of one of n monitors
-pub record WasAsked (n : ℕ) (asked : List Asked) (rank : ℕ) (s : Session) (c : Command) : Type 0 where
-  pub by : Asked
-  pub among : Contains asked by
-  pub at : by.rank ≡ rank
-  pub below : rank < n
-  pub session : by.session ≡ s
-  pub command : command_of by.request ≡ Some c
-  pub form : IsCommand c
 
 pub was_asked_more : (n : ℕ) (asked more : List Asked) (rank : ℕ) (s : Session) (c : Command) → WasAsked n asked rank s c → WasAsked n (asked ++ more) rank s c
 was_asked_more n asked more rank s c k = record { by = k.by; among = Contains-append_left asked more k.by k.among; at = k.at; below = k.below; session = k.session; command = k.command; form = k.form }
