@@ -1,4 +1,4 @@
-import sys, os, struct, json, subprocess, time
+import sys, os, struct, json, subprocess, time, collections
 sys.path.insert(0, os.path.dirname(os.path.abspath(__file__)))
 import antt
 from antt import *
@@ -139,6 +139,7 @@ N['map_log.specs.Decode.map_of'] = dec(log_map)
 
 PR = 'mon_msg.specs.Protocol.'
 def fn(p, n): return resolve(p, n)
+for name in ('fold', 'incrementals', 'map_of_log'): antt.MEMO['mon_msg.specs.Fold.' + name] = {}
 # a reaction is asked for several times in one event; what is shared is computed only for a message that asks for it
 LAST = [None, None]
 def reaction(me, now, m, st, inp):
@@ -249,25 +250,45 @@ def lines_of(line):
     for x in d['replies']:
         out.append('  reply %d %d.%d %s' % (x.d['rank'], x.d['session'].d['client'], x.d['session'].d['id'], reply(x.d['reply'])))
     return out
-OUTCOMES = {}
-def trace_of(schedule):
-    """the trace, and what stopped the run"""
-    lines = schedule.split('\n')[:-1]
-    ms = monitors_of(lines[0])
-    step = fn('mon_world.specs.Step', 'step')
-    scene = fn('quorum_model.specs.Scenes', 'first_scene')
-    out = [lines[0]]; scenes = [scene]
-    for number, line in enumerate(lines[1:], 1):
-        done = apps(step, ms, scene, event_of(line))
-        if done.n == 'Err': return '\n'.join(out) + '\n', done.a[0], scenes
-        scene, told = done.a[0].a
-        scene.d['world'] = flat(scene.d['world'], ms.d['count'])
-        scene.d['files'] = tabled(scene.d['files'], ms.d['count'])
-        o = told.d['outcome']; OUTCOMES[repr(o)] = OUTCOMES.get(repr(o), 0) + 1
-        scenes.append(scene)
-        out.append('%d %s' % (number, line)); out += lines_of(told)
-    out.append('end events=%d log=%d' % (len(lines) - 1, len(scene.d['world'].d['log'])))
-    return '\n'.join(out) + '\n', None, scenes
+SCENES = 'quorum_model.specs.Scenes'; FILES = 'quorum_model.specs.Files'
+KINDS = collections.Counter()
+class Play:
+    """a schedule that is played event by event, with its trace so far"""
+    def __init__(self, first):
+        self.ms = monitors_of(first); self.n = self.ms.d['count']
+        self.scene = fn(SCENES, 'first_scene'); self.stop = None; self.events = 0; self.trace = [first]
+        # what each monitor's events wrote
+        self.writes = [[] for _ in range(self.n)]
+    def take(self, line):
+        """plays an event; whether the run goes on"""
+        event = event_of(line); before = self.scene
+        done = apps(fn('mon_world.specs.Step', 'step'), self.ms, before, event)
+        if done.n == 'Err': self.stop = done.a[0]; return False
+        scheduled = app(fn('mon_world.specs.Events', 'scheduled_of'), event)
+        happened = apps(fn(SCENES, 'event_in'), self.ms, before, scheduled)
+        for i in range(self.n): self.writes[i] += apps(fn('quorum_model.specs.Runs', 'writes_of'), self.ms, before.d['world'], happened, i)
+        self.scene, told = done.a[0].a
+        self.scene.d['world'] = flat(self.scene.d['world'], self.n); self.scene.d['files'] = tabled(self.scene.d['files'], self.n)
+        self.events += 1; self.trace.append('%d %s' % (self.events, line)); self.trace += lines_of(told)
+        outcome = told.d['outcome']
+        if outcome.n in ('Crashed', 'Failed'): self.count(event, scheduled, before, outcome)
+        return True
+    def count(self, event, scheduled, before, outcome):
+        """which kind of a scheduled crash it was"""
+        met = apps(fn('quorum_model.specs.Meets', 'meets'), self.ms, before.d['world'], scheduled.d['plain'])
+        rank, came, reaction = met.a; files = apps(fn(SCENES, 'files_at'), came, app(before.d['files'], rank))
+        ops = app(fn(SCENES, 'ops_of'), reaction); side = app(fn(FILES, 'live_side'), files)
+        file = app(fn(FILES, 'file_after'), ops); file = app(file, apps(fn(FILES, 'file_on'), side, files).a[0])
+        due = apps(fn(FILES, 'is_due'), file, apply_tx(ops, app(before.d['world'].d['store'], rank)))
+        kind = [event.n.lower(), 'in a start' if came.n == 'Start' else '', 'before a checkpoint' if due else '', 'of the live disk' if side == event.a[0] else 'of the other disk', 'kept' if outcome.a[0] else 'lost']
+        KINDS[' '.join(filter(None, kind))] += 1
+    def ended(self):
+        return '\n'.join(self.trace + ([] if self.stop else ['end events=%d log=%d' % (self.events, len(self.scene.d['world'].d['log']))])) + '\n'
+def played(schedule):
+    lines = schedule.split('\n')[:-1]; play = Play(lines[0])
+    for line in lines[1:]:
+        if not play.take(line): break
+    return play
 # what is told of each rank is read once an event, so that no chain of updates grows
 def tabled(f, n):
     values = [app(f, i) for i in range(n)]
@@ -284,8 +305,8 @@ def epoch_of(m): return app(fn(PR + 'Readings', 'epoch_of'), app(fn(PR + 'Readin
 def shared(m): return app(fn('mon_tx.specs.Keys', 'shared'), m)
 def folded(log, c): return apps(fn('mon_msg.specs.Fold', 'fold'), log, c)
 def entry(log, v): return apps(fn('mon_msg.specs.Fold', 'entry'), log, v)
-def unsafe(w, n):
-    """what of a world isn't safe; that transactions are those of the events is not asked"""
+def unsafe(w, n, writes):
+    """what of a world isn't safe, in which the monitors' events wrote these transactions"""
     d = w.d; log = d['log']; bad = []
     stores = [app(d['store'], i) for i in range(n)]; states = [app(d['state'], i) for i in range(n)]
     lasts = [last_of(m) for m in stores]
@@ -294,12 +315,17 @@ def unsafe(w, n):
         first = max(1, number_in(fm_get(m, Tup(b'paxos', b'first_committed'))))
         if not (lasts[i] <= len(log) and shared(m) == folded(log, lasts[i])
                 and all(fm_get(m, Tup(b'paxos', str(v).encode())) == Some(entry(log, v)) for v in range(first, lasts[i] + 1))): bad.append(('agree', i))
-    made = fn(QM + 'Clients', 'made_by'); command = fn(QM + 'Clients', 'command_of')
+    made = fn(QM + 'Clients', 'made_by'); command = fn(QM + 'Clients', 'command_of'); incremental = fn(QM + 'Clients', 'incremental_of')
+    asked = {}
+    for a in d['asked']:
+        c = app(command, a.d['request'])
+        if c.n == 'Some': asked[(c.a[0], a.d['rank'] if c.a[0].n == 'Log' else 0)] = (c.a[0], a.d['rank'], B(apps(incremental, a.d['rank'], c.a[0])))
     for v in range(len(log)):
-        view = apps(fn('log_model.specs.LogOfValues', 'view_at'), log, v)
-        asked = {repr((c.a[0], a.d['rank'] if c.a[0].n == 'Log' else 0)): (c.a[0], a.d['rank']) for a in d['asked'] for c in [app(command, a.d['request'])] if c.n == 'Some'}
-        values = (apps(fn(PR + 'Value', 'value'), view, c, r) for c, r in asked.values())
-        if not any(x.n == 'Ok' and B(tx_text(x.a[0])) == B(entry(log, v + 1)) for x in values): bad.append(('asked', v))
+        view = apps(fn('log_model.specs.LogOfValues', 'view_at'), log, v); spelled = B(entry(log, v + 1))
+        # the commands whose incremental stands in the entry come first
+        tried = sorted(asked.values(), key=lambda c: c[2] not in spelled)
+        values = (apps(fn(PR + 'Value', 'value'), view, c, r) for c, r, _ in tried)
+        if not any(x.n == 'Ok' and tx_text(x.a[0]) == spelled for x in values): bad.append(('asked', v))
     put_in = lambda s, v: apps(fn('mon_msg.specs.Fold', 'put_in'), s, app(fn('mon_tx.specs.Decode', 'ops_in'), entry(log, v)))
     active = fn(QM + 'Happens', 'is_active'); seen = set()
     for a in d['acknowledged']:
@@ -327,6 +353,7 @@ def unsafe(w, n):
                 if a.d['event'] < r['event'] and a.d['epoch'] == r['epoch'] and r['last'] < a.d['version']: bad.append(('fence', r['event']))
     for i, m in enumerate(stores):
         if apps(fn(QM + 'Safe', 'after_transactions'), app(d['transactions'], i), FinMap({})) != m: bad.append(('held', i))
+        if writes is not None and list(app(d['transactions'], i)) != writes[i]: bad.append(('whole', i))
     leaders = {}
     for t in d['active']:
         if leaders.setdefault(t.a[0], t.a[1]) != t.a[1]: bad.append(('one active', t.a[0]))
@@ -357,19 +384,19 @@ def calm(n, orders):
         events = apps(fn(QM + 'CalmSchedule', 'asks_all'), ms, j + 1, events, (order,)); bad += not_calm(ms, orders[:j + 1], events)
     whole = apps(fn(QM + 'CalmSchedule', 'calm_schedule'), n, TT, orders)
     if whole[:len(events)] != events or len(whole) != len(events) + 2 * n: bad.append('schedule')
-    ran = apps(fn(QM + 'Runs', 'ran'), ms, whole).d; w = ran['world']; bad += unsafe(w, n)
+    ran = apps(fn(QM + 'Runs', 'ran'), ms, whole).d; w = ran['world']; bad += unsafe(w, n, None)
     if ran['stop'].n != 'None': bad.append('stop')
     shown = apps(fn(QM + 'CalmRun', 'answers_shown'), len(orders) + 1, n, w.d['log'])
     if app(fn(QM + 'CalmRun', 'answers'), w) != apps(fn(QM + 'CalmRun', 'answers_of'), 1, (), orders) + shown: bad.append('shown')
     print('calm', n, 'messages', len(w.d['messages']), 'log', len(w.d['log']), 'acknowledged', len(w.d['acknowledged']), bad or 'all holds')
     return not bad
-def one(program, schedule, name):
+def compared(program, schedule, play, name):
+    """whether a played schedule's trace is the program's, and its last world is safe"""
     p = subprocess.run([program, 'replay'], input=schedule.encode(), stdout=subprocess.PIPE, stderr=subprocess.PIPE)
-    want = p.stdout.decode()
-    got, stop, scenes = trace_of(schedule)
+    got, want, stop = play.ended(), p.stdout.decode(), play.stop
     statuses = {0: None, 10: 'Spent', 13: 'Full'}
     if got == want and statuses.get(p.returncode, '') == (stop.n if stop else None):
-        bad = unsafe(scenes[-1].d['world'], int(schedule.split(' ')[1]))
+        bad = unsafe(play.scene.d['world'], play.n, play.writes); antt.forget()
         if bad: print('UNSAFE', name, bad)
         return not bad
     a, b = got.split('\n'), want.split('\n')
@@ -379,8 +406,22 @@ def one(program, schedule, name):
             for z in b[max(0, i - 6):i]: print('      ', z[:200])
             break
     else: print('DIFF length or status', name, len(a), len(b), p.returncode, stop)
-    open('diff_%s.txt' % name, 'w').write(schedule)
     return False
+def all_compared(program, name, first, count, play_of):
+    """plays schedule after schedule, and tells of each as soon as it is compared"""
+    good = 0; t = time.time()
+    for seed in range(first, first + count):
+        begun = time.time(); schedule = None
+        try:
+            schedule, play = play_of(seed); same = compared(program, schedule, play, '%s_%d' % (name, seed))
+            print(name, seed, 'same' if same else 'DIFFERS', 'monitors', play.n, 'events', play.events, 'log', len(play.scene.d['world'].d['log']), '%.1fs' % (time.time() - begun), flush=True)
+        except Exception:
+            import traceback; traceback.print_exc(limit=6); print('EXC', name, seed, flush=True); same = False
+        good += same
+        if not same and schedule: open('diff_%s_%d.txt' % (name, seed), 'w').write(schedule)
+    print(name, 'same', good, 'of', count, '%.1fs' % (time.time() - t))
+    for kind, times in sorted(KINDS.items()): print('  ', times, kind)
+    return good == count
 if __name__ == '__main__':
     if sys.argv[1] == 'parse':
         for c in ('mon_msg/specs/Protocol', 'mon_msg/specs', 'quorum_model/specs', 'mon_world/specs'):
@@ -393,14 +434,15 @@ if __name__ == '__main__':
         orders = [Tup(0, name(1)), Tup(1, Con('Log', (b'text',))), Tup(2, Con('Remove', (b'none',))), Tup(1, Con('Remove', (b'k1',))), Tup(0, name(2))]
         for n in map(int, sys.argv[2:]): calm(n, []); calm(n, [Tup(o.a[0] % n, o.a[1]) for o in orders])
         sys.exit()
-    program = sys.argv[1]
-    if sys.argv[2] == 'file':
-        t = time.time(); print(one(program, open(sys.argv[3]).read(), 'file'), '%.1fs' % (time.time() - t)); sys.exit()
-    profile, first, count, events = sys.argv[2], int(sys.argv[3]), int(sys.argv[4]), sys.argv[5]
-    good = 0; t = time.time()
-    for seed in range(first, first + count):
-        s = subprocess.run([program, 'gen', str(seed), events, profile], stdout=subprocess.PIPE).stdout.decode()
-        try: good += one(program, s, '%s_%d' % (profile, seed))
-        except Exception:
-            import traceback; traceback.print_exc(limit=6); open('diff_%s_%d.txt' % (profile, seed), 'w').write(s); print('EXC', profile, seed)
-    print(profile, 'same', good, 'of', count, '%.1fs' % (time.time() - t), OUTCOMES)
+    program, profile = sys.argv[1:3]
+    if profile == 'file':
+        schedule = open(sys.argv[3]).read()
+        sys.exit(not all_compared(program, 'file', 0, 1, lambda seed: (schedule, played(schedule))))
+    first, count, events = map(int, sys.argv[3:6])
+    if profile in ('small', 'big'):
+        import fuzz
+        sys.exit(not all_compared(program, profile, first, count, lambda seed: fuzz.schedule_of(seed, events, profile)))
+    def generated(seed):
+        schedule = subprocess.run([program, 'gen', str(seed), str(events), profile], stdout=subprocess.PIPE).stdout.decode()
+        return schedule, played(schedule)
+    sys.exit(not all_compared(program, profile, first, count, generated))

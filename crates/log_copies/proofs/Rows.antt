@@ -1,7 +1,7 @@
 -- What an event leaves of the versions of the log that an unmarked monitor has, and what it sends: the rows of elections, of values and
 -- of clients.
-use Rattle.std.proofs.Common.{◌≡◌, ℕ, suc, ◌+◌, ◌≤◌, ◌<◌, ◌^◌, Bool, true, false, not, ◌&&◌, ◌||◌, cond, eqb, leb, ltb, is_some, List, [], ◌∷◌, ◌++◌, length, Option, Some, None, IfSome, Result, Ok, Err, refl, sym, subst}
-use Rattle.std.proofs.lemmas.Bool.{and_parts, eqb-true, ltb-false}
+use Rattle.std.proofs.Common.{◌≡◌, ℕ, suc, ◌+◌, ◌≤◌, ◌<◌, ◌^◌, Bool, true, false, not, ◌&&◌, ◌||◌, cond, eqb, leb, ltb, is_some, List, [], ◌∷◌, ◌++◌, length, Option, Some, None, IfSome, Result, Ok, Err, refl, sym, ap, subst, ◌∙◌, arith}
+use Rattle.std.proofs.lemmas.Bool.{and_parts, eqb-true, ltb-false, not-false, or_parts}
 use Rattle.election_rules.specs.declared.scores.Scores.{Scores}
 use Rattle.mon_bytes.specs.declared.command.Command.{Command}
 use Rattle.mon_bytes.specs.declared.command.CommandRefused.{CommandRefused}
@@ -130,18 +130,31 @@ module _ (log : List (List ℕ)) (fits : length log ≤ 2 ^ 62) (all : AllValues
       branch {b = is_whole me q && is_allowed me me.member.rank}
       (λ t. wins log fits all m me several now q (elector_is (record x.state.elector { acked = q }) x) (others (and_parts (is_whole me q) (is_allowed me me.member.rank) t).0) H) (λ t. ok H)
 
-  pub acked : (f e : ℕ) (x : Course) → (is_whole me (with_rank x.state.elector.acked f) ≡ true → HasOthers me (with_rank x.state.elector.acked f)) → OnLog x → Then OnLog (hear_ack me now f e x)
+  pub acked : (f e : ℕ) (x : Course)
+      → (votes x.state.phase ≡ true → is_even (epoch_of x.readings) ≡ false → is_whole me (with_rank x.state.elector.acked f) ≡ true → HasOthers me (with_rank x.state.elector.acked f))
+      → OnLog x → Then OnLog (hear_ack me now f e x)
   unfolding hear_ack
   acked f e x others H =
       branch {b = not (votes x.state.phase) || is_even e || ltb e (epoch_of x.readings)} (λ t. ok H) (λ t. branch {b = ltb (epoch_of x.readings) e}
-      (λ u. anew_votes (adopt now e x) (adopts log fits all m me several now e x H)) (λ u. branch {b = x.state.elector.candidate} (λ v. counts_ack f x others H) (λ v. ok H)))
+      (λ u. anew_votes (adopt now e x) (adopts log fits all m me several now e x H)) (λ u. branch {b = x.state.elector.candidate} (λ v. counts_ack f x (in_epoch t u) H) (λ v. ok H)))
+    where
+      in_epoch : (not (votes x.state.phase) || is_even e || ltb e (epoch_of x.readings)) ≡ false → ltb (epoch_of x.readings) e ≡ false
+          → is_whole me (with_rank x.state.elector.acked f) ≡ true → HasOthers me (with_rank x.state.elector.acked f)
+      in_epoch t u =
+          let p = or_parts (not (votes x.state.phase) || is_even e) (ltb e (epoch_of x.readings)) t in
+          let q = or_parts (not (votes x.state.phase)) (is_even e) p.0 in
+          let low = ltb-false e (epoch_of x.readings) p.1 in
+          let high = ltb-false (epoch_of x.readings) e u in
+          let same : epoch_of x.readings ≡ e = omega arith in
+          others (not-false _ q.0) (ap is_even same ∙ q.1)
 
-  pub election_over : (x : Course) → (is_majority me.member.monitors x.state.elector.acked ≡ true → HasOthers me x.state.elector.acked) → OnLog x → Then OnLog (election_ends me now x)
+  pub election_over : (x : Course) → (same_phase x.state.phase phase.Electing ≡ true → is_majority me.member.monitors x.state.elector.acked ≡ true → HasOthers me x.state.elector.acked)
+      → OnLog x → Then OnLog (election_ends me now x)
   unfolding election_ends
   election_over x others H =
       let may_win = is_majority me.member.monitors x.state.elector.acked in
       branch {b = not (same_phase x.state.phase phase.Electing)} (λ t. ok H) (λ t. branch {b = x.state.elector.candidate && is_allowed me me.member.rank && may_win}
-      (λ u. wins log fits all m me several now x.state.elector.acked x (others (and_parts (x.state.elector.candidate && is_allowed me me.member.rank) may_win u).1) H) (λ u. anew_votes x H))
+      (λ u. wins log fits all m me several now x.state.elector.acked x (others (not-false _ t) (and_parts (x.state.elector.candidate && is_allowed me me.member.rank) may_win u).1) H) (λ u. anew_votes x H))
 
   pub victory : (f e : ℕ) (q : List Bool) (x : Course) → OnLog x → Then OnLog (hear_victory me now f e q x)
   unfolding hear_victory

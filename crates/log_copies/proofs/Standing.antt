@@ -15,7 +15,9 @@ use Rattle.mon_msg.specs.declared.plan.Sent.TheVariants as sent
 use Rattle.mon_msg.specs.declared.view.Me.{Me}
 use Rattle.mon_msg.specs.Protocol.Course.{Course}
 use Rattle.mon_msg.specs.Protocol.Elections.{is_whole}
-use Rattle.mon_msg.specs.Protocol.Readings.{Readings, readings_of, shared_entries}
+use Rattle.mon_msg.specs.Protocol.Entering.{is_even}
+use Rattle.mon_msg.specs.Protocol.Phases.{votes}
+use Rattle.mon_msg.specs.Protocol.Readings.{Readings, epoch_of, readings_of, shared_entries}
 use Rattle.mon_msg.specs.Protocol.Sets.{are_within}
 use Rattle.mon_msg.specs.Protocol.State.{State, booting}
 use Rattle.mon_msg.specs.Protocol.Synchronizing.{floor_of}
@@ -57,7 +59,7 @@ InputTells log other = Unit {0}
 
 -- and this is said by other parts of the invariant
 abbrev pub BodyStands : List (List ℕ) → Me → Readings → State → (f : ℕ) → Body → Type 0
-BodyStands log me w s f body.Ack = is_whole me (with_rank s.elector.acked f) ≡ true → HasOthers me (with_rank s.elector.acked f)
+BodyStands log me w s f body.Ack = votes s.phase ≡ true → is_even (epoch_of w) ≡ false → is_whole me (with_rank s.elector.acked f) ≡ true → HasOthers me (with_rank s.elector.acked f)
 BodyStands log me w s f (body.Last pn first last whole from values pending) = from ≤ suc w.last
 BodyStands log me w s f (body.Accept pn v) =
     are_within me.member.monitors s.leader.quorum (with_rank s.leader.accepted f) ≡ true → IfSome s.leader.value (λ value. IsVersion log (suc w.last) value)

@@ -24,11 +24,11 @@ use Rattle.mon_msg.specs.declared.view.Me.{Me}
 use Rattle.mon_msg.specs.Protocol.Changes.{Boot, Epoch}
 use Rattle.mon_msg.specs.Protocol.Course.{Course, ◌▸◌, change, change_if, elector_is, prober_is, arm_if, disarm}
 use Rattle.mon_msg.specs.Protocol.Elections.{is_whole}
-use Rattle.mon_msg.specs.Protocol.Entering.{own_table, scores_count}
+use Rattle.mon_msg.specs.Protocol.Entering.{is_even, own_table, scores_count}
 use Rattle.mon_msg.specs.Protocol.Hearing.{is_heard, hear, hear_client}
 use Rattle.mon_msg.specs.Protocol.Leader.{renew}
 use Rattle.mon_msg.specs.Protocol.Leading.{extend}
-use Rattle.mon_msg.specs.Protocol.Phases.{same_phase, is_leading}
+use Rattle.mon_msg.specs.Protocol.Phases.{same_phase, is_leading, votes}
 use Rattle.mon_msg.specs.Protocol.Pings.{measure, ping}
 use Rattle.mon_msg.specs.Protocol.Probing.{lag, join_outside, hear_probe_reply}
 use Rattle.mon_msg.specs.Protocol.Readings.{Readings, epoch_of, marks, readings_of, shared_entries}
@@ -65,12 +65,12 @@ pub record OnLog (log : List (List ℕ)) (m : Store) : Type 0 where
 
 pub record Situated (me : Me) (w : Readings) (s : State) : Type 0 where
   pub leads : is_leading s.phase ≡ true → HasOthers me s.leader.quorum
-  pub elects : is_majority me.member.monitors s.elector.acked ≡ true → HasOthers me s.elector.acked
+  pub elects : same_phase s.phase phase.Electing ≡ true → is_majority me.member.monitors s.elector.acked ≡ true → HasOthers me s.elector.acked
   pub recent : same_phase s.phase phase.Synchronizing ≡ true → IsRecent w s.requester
 
 -- Told values are the log's, in order; and so is the leader's own value, once its whole quorum accepted it.
 abbrev pub BodyFits : List (List ℕ) → Me → Readings → State → (f : ℕ) → Body → Type 0
-BodyFits log me w s f body.Ack = is_whole me (with_rank s.elector.acked f) ≡ true → HasOthers me (with_rank s.elector.acked f)
+BodyFits log me w s f body.Ack = votes s.phase ≡ true → is_even (epoch_of w) ≡ false → is_whole me (with_rank s.elector.acked f) ≡ true → HasOthers me (with_rank s.elector.acked f)
 BodyFits log me w s f (body.Last pn first last whole from values pending) = (from ≤ suc w.last) × AreVersions log from values
 BodyFits log me w s f (body.Accept pn v) =
     are_within me.member.monitors s.leader.quorum (with_rank s.leader.accepted f) ≡ true → IfSome s.leader.value (λ value. IsVersion log (suc w.last) value)

@@ -152,11 +152,11 @@ accepted_tied i v p x g h cs T = record { votes = λ w q y a. votes w q y (among
     only j w q y (inl e) = inr (ap (λ (t : Triple). t.i) e, among_right (Vote w q y) cs (Vote v p x ∷ []) (inl (ap (λ (t : Triple). Vote t.v t.p t.x) e)))
     only j w q y (inr o) = elim (T.only j w q y o) [ inl old ↦ inl old | inr s ↦ inr (s.0, among_left (Vote w q y) cs (Vote v p x ∷ []) s.1) ]
 
-pub accepts : {n i : ℕ} {g : Ghost} {o : Own} {records : ℕ → Cell} {cs : List Change} {out : List Sent} (P Q : Ghost → Type 0) (v p : ℕ) (x : List Op) → i < n → (A : With n i g o records cs out P)
+pub accepts : {n i : ℕ} {g : Ghost} {Known : ℕ → List Op → Type 0} {o : Own} {records : ℕ → Cell} {cs : List Change} {out : List Sent} (P Q : Ghost → Type 0) (v p : ℕ) (x : List Op) → i < n → Known v x → (A : With n i g Known o records cs out P)
     → ((h : Ghost) → Ext i g h → Glob n h → Disk h i o records → P h → MayAccept i h o v p x × LeavesNoRoom n h v p x)
     → ((h : Ghost) → Ext i h (accepted i v p x h) → Glob n h → P h → Q (accepted i v p x h))
-    → With n i g (with_vote v p o) (with_record v (text x) records) (cs ++ Vote v p x ∷ []) out Q
-accepts {n} {i} {g} {o} {records} {cs} P Q v p x below A may f =
+    → With n i g Known (with_vote v p o) (with_record v (text x) records) (cs ++ Vote v p x ∷ []) out Q
+accepts {n} {i} {g} {Known} {o} {records} {cs} P Q v p x below is A may f =
     let h = A.h in
     let M = may h A.ext A.glob A.disk A.fact in
     let k = accepted i v p x h in
@@ -164,4 +164,4 @@ accepts {n} {i} {g} {o} {records} {cs} P Q v p x below A may f =
     further P Q (with_vote v p o) (with_record v (text x) records) (cs ++ Vote v p x ∷ []) A k E
     (record { roles = A.glob.roles; hands = A.glob.hands; triples = accepted_triples n i v p x h o below E M.0 M.1 A.glob.triples })
     (record { numbers = voted_numbers h.signs i v p o A.disk.numbers; kept = accepted_kept h.roles h.hands i v p x h o records M.0 A.disk.kept })
-    (accepted_tied i v p x g h cs A.tied) (f h E A.glob A.fact)
+    (accepted_tied i v p x g h cs A.tied) (each_triple (triple i v p x) h.accepts (λ (t : Triple). Known t.v t.x) is A.known) (λ a m. m) (f h E A.glob A.fact)

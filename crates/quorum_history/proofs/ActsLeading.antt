@@ -25,7 +25,7 @@ use Rattle.mon_wire.specs.declared.reply.Reply.{Reply}
 use Rattle.quorum_history.proofs.Accepting.{MayAccept, accepted, accepted_cases, accepts}
 use Rattle.quorum_history.proofs.Frame.{accepted_lasts, gathers_last, heard_lasts, leads_last, reigns_last}
 use Rattle.quorum_history.proofs.History.{ALevel, ANumber, Accepted, Ext, Ghost, Glob, triple}
-use Rattle.quorum_history.proofs.Holds.{ActsIn, AllIn, At, Core, Disk, FoundCovers, Gathers, GathersIn, Good, Heard, IsFound, LeadsIn, Nothing, Nowhere, Numbered, Proposes, Reigns, Repeats, RepeatsIn, SentHolds, Sound, UpdatesIn, core, core_of, epoch_in, level_in, promise_in}
+use Rattle.quorum_history.proofs.Holds.{ActsIn, AllIn, At, Core, Disk, Followed, FoundCovers, Gathers, GathersIn, Good, Heard, IsFound, LeadsIn, Nothing, Nowhere, Numbered, Proposes, Reigns, Repeats, RepeatsIn, SentHolds, Sound, UpdatesIn, core, core_of, epoch_in, level_in, promise_in}
 use Rattle.quorum_history.proofs.Learned.{learn_then, learned_at}
 use Rattle.quorum_history.proofs.Numbers.{collects, had_down, level_is, pending_is, with_last, with_number}
 use Rattle.quorum_history.proofs.Proposals.{found_leaves_no_room, new_leaves_no_room}
@@ -33,7 +33,7 @@ use Rattle.quorum_history.proofs.Steps.{messages_hold, says, signed, signed_ext,
 use Rattle.quorum_walk.proofs.FineCourses.{Val}
 use Rattle.quorum_walk.proofs.Lists.{all_flat_map}
 use Rattle.quorum_walk.proofs.Parity.{next_is}
-use Rattle.quorum_walk.proofs.Ranks.{alone_within, has_only_is}
+use Rattle.quorum_walk.proofs.Ranks.{alone_within, has_only_is, within_at}
 use Rattle.quorum_walk.proofs.Sparing.{Own, own_of}
 use Rattle.quorum_walk.proofs.Walk.{Then, and_then, by_test, done, where_fits}
 use Rattle.std.proofs.Common.{Bool, IfSome, List, None, Option, Some, [], ap, arith, eqb, false, inl, inr, ltb, max, refl, subst, suc, sym, true, ℕ, ◌%◌, ◌<◌, ◌∷◌, ◌≡◌, ◌≤◌, ◌⊎◌}
@@ -41,8 +41,8 @@ use Rattle.std.proofs.lemmas.Bool.{cases_eq, cases_lt, cond_both, eqb-false, eqb
 use Rattle.std.specs.List.{AllByRecursion, flat_map}
 use Rattle.std.specs.Prelude.{slice_index_or}
 
-pub sound : (me : Me) (g : Ghost) (P : Ghost → Type 0) (x : Course) → At me g P x → Sound me g x
-sound me g P x A = weaken P Nothing A (λ h E G D p. tt)
+pub sound : (me : Me) (g : Ghost) (Known : ℕ → List Op → Type 0) (P : Ghost → Type 0) (x : Course) → At me g Known P x → Sound me g Known x
+sound me g Known P x A = weaken P Nothing A (λ h E G D p. tt)
 
 -- all that was accepted is closed by the next version
 abbrev pub ClosedNext : ℕ → ℕ → ℕ → Type 0
@@ -104,7 +104,7 @@ closed n i h k E c last e same K = (
   λ v y a. let s = K.most v y (same v c.pn y a) in omega arith,
 )
 
-module _ (me : Me) (now : ℕ) (g : Ghost) where
+module _ (me : Me) (now : ℕ) (g : Ghost) (Known : ℕ → List Op → Type 0) where
   abbrev n : ℕ
   n = me.member.monitors
 
@@ -119,29 +119,36 @@ module _ (me : Me) (now : ℕ) (g : Ghost) where
 
   -- ---- leading
 
-  pub be_active_holds : (x : Course) → At me g (λ h. ActsIn n h i (core x)) x → Good me g (be_active me now x)
+  pub all_followed : (h : Ghost) (c : Core) (L : ℕ → ℕ → Type 0) → Glob n h → LeadsIn h i c L → AllIn n c → Followed h (epoch_in c.own) i
+  all_followed h c L G k all = record {
+    quorum = c.quorum;
+    led = k.reigns.role;
+    joined = λ m a. (k.heard m (within_at n c.quorum c.answered m all (G.roles.within i (epoch_in c.own) i c.quorum k.reigns.role m a) a)).joined;
+  }
+
+  pub be_active_holds : (x : Course) → At me g Known (λ h. ActsIn n h i (core x)) x → Good me g Known (be_active me now x)
   unfolding be_active extend
-  be_active_holds x A = tells_each me _ (body.Lease x.readings.last) _ A (λ h E G D p to. tt)
+  be_active_holds x A = tells_each me _ (body.Lease x.readings.last) _ A (λ h E G D p to. all_followed h (core x) Nowhere G p.0 p.1)
 
   -- a version is committed
-  pub commit_holds : (value : List Op) (x : Course) → Val value → x.readings.marked ≡ false → At me g (λ h. ClosesIn n h i (core x)) x → Then (Good me g) (commit me now value x)
+  pub commit_holds : (value : List Op) (x : Course) → Val value → x.readings.marked ≡ false → At me g Known (λ h. ClosesIn n h i (core x)) x → Then (Good me g Known) (commit me now value x)
   unfolding commit be_active extend
   commit_holds value x V u A =
       let next : Course → Course = λ y. y ▸ leader_is (record y.state.leader { value = None; origin = None }) in
-      and_then (λ y. At me g (λ h. ActsIn n h i (core (next y))) (next y)) (Good me g) (learn (suc x.readings.last) (value ∷ []) x) _
-      (learn_then (λ y. At me g (λ h. ActsIn n h i (core (next y))) (next y)) (suc x.readings.last) (value ∷ []) x (λ e. absurd cc)
-      (λ last e le. learned_at me g (λ h. ClosesIn n h i (core x)) (λ o h. ActsIn n h i (core_of o (next x).state)) (suc x.readings.last) (value ∷ []) last x (V, tt) u (omega arith) A
+      and_then (λ y. At me g Known (λ h. ActsIn n h i (core (next y))) (next y)) (Good me g Known) (learn (suc x.readings.last) (value ∷ []) x) _
+      (learn_then (λ y. At me g Known (λ h. ActsIn n h i (core (next y))) (next y)) (suc x.readings.last) (value ∷ []) x (λ e. absurd cc)
+      (λ last e le. learned_at me g Known (λ h. ClosesIn n h i (core x)) (λ o h. ActsIn n h i (core_of o (next x).state)) (suc x.readings.last) (value ∷ []) last x (V, tt) u (omega arith) A
       (λ h k X E D K level same hands. closed n i h k E (core x) last (omega arith) (same i) K))) (λ y B.
       let z = y ▸ disarm timer.Accept ▸ leader_is (record y.state.leader { value = None; origin = None }) ▸ send_each me (members me y.state.leader.quorum) (body.Commit (suc x.readings.last) (value ∷ [])) in
       done (says _ (answers_to me _ y.state.leader.origin _) (be_active_holds z (tells_each me _ (body.Commit (suc x.readings.last) (value ∷ [])) (members me y.state.leader.quorum) B (λ h E G D p to. tt)))
       (λ h E G D p. answers_hold h (own_of y.readings) y.state.leader.origin _ D.numbers)))
 
-  begin_alone_holds : (v : ℕ) (value : List Op) (o : Option Origin) (x : Course) → v ≡ suc x.readings.last → Val value → x.readings.marked ≡ false → At me g (λ h. ClosesIn n h i (core x)) x → Then (Good me g) (begin_alone me v value o x)
+  begin_alone_holds : (v : ℕ) (value : List Op) (o : Option Origin) (x : Course) → v ≡ suc x.readings.last → Val value → x.readings.marked ≡ false → At me g Known (λ h. ClosesIn n h i (core x)) x → Then (Good me g Known) (begin_alone me v value o x)
   unfolding begin_alone
   begin_alone_holds v value o x at V u A =
-      and_then (λ y. At me g (λ h. ActsIn n h i (core y)) y) (Good me g) (learn v (value ∷ []) x) _
-      (learn_then (λ y. At me g (λ h. ActsIn n h i (core y)) y) v (value ∷ []) x (λ e. absurd cc)
-      (λ last e le. learned_at me g (λ h. ClosesIn n h i (core x)) (λ o h. ActsIn n h i (core_of o x.state)) v (value ∷ []) last x (V, tt) u (omega arith) A
+      and_then (λ y. At me g Known (λ h. ActsIn n h i (core y)) y) (Good me g Known) (learn v (value ∷ []) x) _
+      (learn_then (λ y. At me g Known (λ h. ActsIn n h i (core y)) y) v (value ∷ []) x (λ e. absurd cc)
+      (λ last e le. learned_at me g Known (λ h. ClosesIn n h i (core x)) (λ o h. ActsIn n h i (core_of o x.state)) v (value ∷ []) last x (V, tt) u (omega arith) A
       (λ h k X E D K level same hands. closed n i h k E (core x) last (omega arith) (same i) K))) (λ y B.
       done (says _ (answers_to me _ o _) B (λ h E G D p. answers_hold h (own_of y.readings) o _ D.numbers)))
 
@@ -162,23 +169,24 @@ module _ (me : Me) (now : ℕ) (g : Ghost) where
   may_accept h c L x V k = record { unmarked = k.reigns.unmarked; next = refl; now = k.promised; fine = V; owner = inl k.own; made = λ e. let s = k.made in omega arith }
 
   -- a new value is proposed
-  update_holds : (value : List Op) (o : Option Origin) (x : Course) → Val value → At me g (λ h. ActsIn n h i (core x)) x → Good me g (begin_with me now stage.Updating (suc x.readings.last) value o x)
+  update_holds : (value : List Op) (o : Option Origin) (x : Course) → Val value → Known (suc x.readings.last) value → At me g Known (λ h. ActsIn n h i (core x)) x → Good me g Known (begin_with me now stage.Updating (suc x.readings.last) value o x)
   unfolding begin_with
-  update_holds value o x V A =
+  update_holds value o x V new A =
       let c = core x in
       let v = suc x.readings.last in
-      let B = accepts (λ h. ActsIn n h i c) (λ k. UpdatesIn n k i (core (begin_with me now stage.Updating v value o x))) v c.pn value me.member.in_map A
+      let B = accepts (λ h. ActsIn n h i c) (λ k. UpdatesIn n k i (core (begin_with me now stage.Updating v value o x))) v c.pn value me.member.in_map new A
       (λ h E G D p. (may_accept h c Nowhere value V p.0, new_leaves_no_room n h i c value G p.0 p.1 p.2))
       (λ h E G p. (leads_last i h (accepted i v c.pn value h) E i c Nowhere Nowhere (λ v r l. l) p.0, p.1, proposes_now h c value (λ v y a. let s = p.2 v y a in omega arith))) in
       tells_each me _ (body.Begin c.pn v value) (members me x.state.leader.quorum) B (λ h E G D p to. subst (λ (z : List Op). Accepted h i v c.pn z) (let e = p.2.is in let s : p.2.x ≡ value = cc in s) p.2.was)
 
   -- or one that it found
-  repeat_holds : (f : Found) (x : Course) → Val f.value → f.version ≡ suc x.readings.last → At me g (λ h. FoundIn n h i (core x) (Some f)) x → Good me g (begin_with me now stage.Previous (suc x.readings.last) f.value None x)
+  repeat_holds : (f : Found) (x : Course) → Val f.value → f.version ≡ suc x.readings.last → At me g Known (λ h. FoundIn n h i (core x) (Some f)) x → Good me g Known (begin_with me now stage.Previous (suc x.readings.last) f.value None x)
   unfolding begin_with
   repeat_holds f x V at A =
       let c = core x in
       let v = suc x.readings.last in
-      let B = accepts (λ h. FoundIn n h i c (Some f)) (λ k. RepeatsIn n k i (core (begin_with me now stage.Previous v f.value None x))) v c.pn f.value me.member.in_map A
+      let B = accepts (λ h. FoundIn n h i c (Some f)) (λ k. RepeatsIn n k i (core (begin_with me now stage.Previous v f.value None x))) v c.pn f.value me.member.in_map
+      (let F = A.fact.gathers.found in A.known F.by v f.pn f.value (subst (λ (z : ℕ). Accepted A.h F.by z f.pn f.value) at F.was)) A
       (λ h E G D p. (may_accept h c (FoundCovers (Some f)) f.value V p.leads, found_leaves_no_room n h i c f at G p.leads p.all p.gathers))
       (λ h E G p.
       let k = accepted i v c.pn f.value h in
@@ -196,14 +204,14 @@ module _ (me : Me) (now : ℕ) (g : Ghost) where
 
   -- ---- beginning
 
-  pub begin_new_holds : (value : List Op) (o : Option Origin) (x : Course) → Val value → x.readings.marked ≡ false → At me g (λ h. ActsIn n h i (core x)) x → Then (Good me g) (begin me now stage.Updating value o x)
+  pub begin_new_holds : (value : List Op) (o : Option Origin) (x : Course) → Val value → Known (suc x.readings.last) value → x.readings.marked ≡ false → At me g Known (λ h. ActsIn n h i (core x)) x → Then (Good me g Known) (begin me now stage.Updating value o x)
   unfolding begin
-  begin_new_holds value o x V u A = where_fits (Good me g) which.Version (suc x.readings.last) _ (λ _.
+  begin_new_holds value o x V new u A = where_fits (Good me g Known) which.Version (suc x.readings.last) _ (λ _.
       by_test (is_alone me x.state.leader.quorum)
       (λ _. begin_alone_holds (suc x.readings.last) value o x refl V u (weaken _ _ A (λ h E G D p. closes_acting n h i (core x) p)))
-      (λ _. done (update_holds value o x V A)))
+      (λ _. done (update_holds value o x V new A)))
 
-  begin_found_holds : (found : Option Found) (x : Course) → x.readings.marked ≡ false → At me g (λ h. FoundIn n h i (core x) found) x → Then (Good me g) (begin_found me now found x)
+  begin_found_holds : (found : Option Found) (x : Course) → x.readings.marked ≡ false → At me g Known (λ h. FoundIn n h i (core x) found) x → Then (Good me g Known) (begin_found me now found x)
   unfolding begin
   begin_found_holds None x u A = done (be_active_holds x (weaken _ _ A (λ h E G D p. (leads_left h i (core x) (FoundCovers None) Nowhere (λ v r l. absurd l) p.leads, p.all, λ v y a. absurd (p.gathers.fresh v y a)))))
   begin_found_holds (Some f) x u A =
@@ -211,7 +219,7 @@ module _ (me : Me) (now : ℕ) (g : Ghost) where
       let V = A.glob.triples.fine F.by f.version f.pn f.value F.was in
       by_test (eqb f.version (suc x.readings.last))
       (λ t. let at = eqb-true f.version (suc x.readings.last) t in
-      where_fits (Good me g) which.Version (suc x.readings.last) _ (λ _. by_test (is_alone me x.state.leader.quorum)
+      where_fits (Good me g Known) which.Version (suc x.readings.last) _ (λ _. by_test (is_alone me x.state.leader.quorum)
       (λ _. begin_alone_holds (suc x.readings.last) f.value None x refl V u (weaken _ _ A (λ h E G D p. closes_found n h i (core x) (Some f) p)))
       (λ _. done (repeat_holds f x V at A))))
       (λ t. let ne = eqb-false f.version (suc x.readings.last) t in
@@ -229,7 +237,7 @@ module _ (me : Me) (now : ℕ) (g : Ghost) where
       let values = missed me.member.monitors w.record_of w.last told in
       cond_both (ltb told w.last) (commits_with me (epoch_of w) told values to) [] (AllByRecursion (SentHolds h i)) (λ _. commits_hold h (own_of w) told values to N) (λ _. tt)
 
-  pub settle_holds : (x : Course) → x.readings.marked ≡ false → At me g (λ h. FoundIn n h i (core x) x.state.leader.found) x → Then (Good me g) (settle me now x)
+  pub settle_holds : (x : Course) → x.readings.marked ≡ false → At me g Known (λ h. FoundIn n h i (core x) x.state.leader.found) x → Then (Good me g Known) (settle me now x)
   unfolding settle
   settle_holds x u A =
       let ks = members me x.state.leader.quorum in
@@ -268,8 +276,8 @@ module _ (me : Me) (now : ℕ) (g : Ghost) where
   abbrev ReignsAt : Course → List Bool → Ghost → Type 0
   ReignsAt x q h = Reigns h i (epoch_of x.readings) x.readings.marked q x.state.clients.queue
 
-  collect_with_holds : (q : List Bool) (pn : ℕ) (x : Course) → x.readings.marked ≡ false → or_zero x.readings.last_pn ≤ pn → promise_of x.readings < pn → pn % 100 ≡ i → At me g (ReignsAt x q) x
-      → At me g (λ h. GathersIn h i (core (collect_with me now q pn x))) (collect_with me now q pn x)
+  collect_with_holds : (q : List Bool) (pn : ℕ) (x : Course) → x.readings.marked ≡ false → or_zero x.readings.last_pn ≤ pn → promise_of x.readings < pn → pn % 100 ≡ i → At me g Known (ReignsAt x q) x
+      → At me g Known (λ h. GathersIn h i (core (collect_with me now q pn x))) (collect_with me now q pn x)
   unfolding collect_with
   collect_with_holds q pn x u low lt own A =
       let o = own_of x.readings in
@@ -292,11 +300,11 @@ module _ (me : Me) (now : ℕ) (g : Ghost) where
       )) in
       tells_each me _ (body.Collect pn x.readings.first x.readings.last) (members me q) B (λ h E G D p to. (own, D.numbers.now ANumber, had_down h ALevel i (level_in o2) x.readings.last (D.numbers.now ALevel) (let e = level_is o2 u in omega arith)))
 
-  collecting : (q : List Bool) (pn : ℕ) (x : Course) → At me g (λ h. GathersIn h i (core (collect_with me now q pn x))) (collect_with me now q pn x) → Good me g (collect_with me now q pn x)
+  collecting : (q : List Bool) (pn : ℕ) (x : Course) → At me g Known (λ h. GathersIn h i (core (collect_with me now q pn x))) (collect_with me now q pn x) → Good me g Known (collect_with me now q pn x)
   unfolding collect_with
   collecting q pn x B = B
 
-  settled : (y : Course) → At me g (λ h. GathersIn h i (core y)) y → AllIn n (core y) → Then (Good me g) (settle me now y)
+  settled : (y : Course) → At me g Known (λ h. GathersIn h i (core y)) y → AllIn n (core y) → Then (Good me g Known) (settle me now y)
   settled y B all = settle_holds y B.fact.0.reigns.unmarked (weaken _ _ B (λ h E G D p. record { leads = p.0; all = all; gathers = p.1 }))
 
   alone_in : (q : List Bool) (pn : ℕ) (x : Course) → is_alone me q ≡ true → AllIn n (core (collect_with me now q pn x))
@@ -304,15 +312,15 @@ module _ (me : Me) (now : ℕ) (g : Ghost) where
   alone_in q pn x alone = alone_within n i q own_rank alone
 
   -- it may collect with a quorum with which it entered its epoch
-  pub collect_holds : (q : List Bool) (above : ℕ) (x : Course) → At me g (ReignsAt x q) x → Then (Good me g) (collect me now q above x)
+  pub collect_holds : (q : List Bool) (above : ℕ) (x : Course) → At me g Known (ReignsAt x q) x → Then (Good me g Known) (collect me now q above x)
   unfolding collect
   collect_holds q above x A =
       let pn = next_number (or_zero x.readings.last_pn) (max (promise_of x.readings) above) i in
       let most = own_rank in
       let e : (or_zero x.readings.last_pn ≤ pn) × (promise_of x.readings < pn) × (pn % 100 ≡ i) = next_is (or_zero x.readings.last_pn) (promise_of x.readings) above i (omega arith) in
       let B = collect_with_holds q pn x A.fact.unmarked e.0 e.1 e.2 A in
-      where_fits (Good me g) which.Pn pn _ (λ _. by_test (is_alone me q) (λ alone. settled (collect_with me now q pn x) B (alone_in q pn x alone)) (λ _. done (collecting q pn x B)))
+      where_fits (Good me g Known) which.Pn pn _ (λ _. by_test (is_alone me q) (λ alone. settled (collect_with me now q pn x) B (alone_in q pn x alone)) (λ _. done (collecting q pn x B)))
 
-  pub reign_holds : (q : List Bool) (x : Course) → At me g (ReignsAt x q) x → Then (Good me g) (reign me now q x)
+  pub reign_holds : (q : List Bool) (x : Course) → At me g Known (ReignsAt x q) x → Then (Good me g Known) (reign me now q x)
   unfolding reign
   reign_holds q x A = collect_holds q 0 _ (tells_each me _ (body.Victory q) (members me q) A (λ h E G D p to. p.role))

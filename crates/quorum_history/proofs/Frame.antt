@@ -20,11 +20,12 @@ use Rattle.mon_wire.specs.declared.phase.Phase.TheVariants as phase
 use Rattle.mon_wire.specs.declared.phase.Phase.{Phase}
 use Rattle.mon_wire.specs.declared.request.Session.{Session}
 use Rattle.quorum_history.proofs.History.{ALevel, ANumber, APromise, Accepted, AnEpoch, Entered, Ext, Ghost, Had, Handed, Joined, NewTriple, asking, entry, had_before, had_lasts, hand, triple}
-use Rattle.quorum_history.proofs.Holds.{Answers, BodyHolds, Core, Disk, FollowsIn, FoundCovers, Gathers, HasSource, Heard, InPhase, IsFound, IsHanded, Kept, LeadsIn, MessageHolds, Nowhere, Numbered, Proposes, Reigns, Repeats, SentHolds, StageHolds, Voted, Waits, epoch_in, number_of}
+use Rattle.quorum_history.proofs.Holds.{Answers, BodyHolds, Core, Disk, Followed, FollowsIn, FoundCovers, Gathers, HasSource, Heard, InPhase, IsFound, IsHanded, Kept, LeadsIn, MessageHolds, Nowhere, Numbered, Proposes, Reigns, Repeats, SentHolds, StageHolds, Voted, Waits, epoch_in, number_of}
 use Rattle.quorum_walk.proofs.Lists.{all_map}
 use Rattle.quorum_walk.proofs.Sparing.{Own}
 use Rattle.quorum_walk.proofs.Walk.{done}
 use Rattle.std.proofs.Common.{Bool, IfSome, List, None, Option, Some, arith, inl, inr, length, subst, suc, sym, true, ℕ, ◌%◌, ◌+◌, ◌<◌, ◌∙◌, ◌≡◌, ◌≤◌, ◌⊎◌}
+use Rattle.std.specs.Prelude.{is_some}
 
 module _ (i : ℕ) (g h : Ghost) (E : Ext i g h) where
   -- ---- what was so lasts
@@ -47,6 +48,9 @@ module _ (i : ℕ) (g h : Ghost) (E : Ext i g h) where
     | inl o ↦ o
     | inr w ↦ (let le = w.high p (subst (λ (z : ℕ). Had g APromise z p) w.who promised) in absurd (omega arith))
   ]
+
+  pub followed_lasts : (e l : ℕ) → Followed g e l → Followed h e l
+  followed_lasts e l k = record { quorum = k.quorum; led = entered_lasts l e l k.quorum k.led; joined = λ m a. joined_lasts m e l (k.joined m a) }
 
   -- ---- messages
 
@@ -75,6 +79,7 @@ module _ (i : ℕ) (g h : Ghost) (E : Ext i g h) where
   body_lasts f to e (body.Last pn first last whole from values told) k = answers_last f to e pn last whole from values told k
   body_lasts f to e (body.Begin pn v value) k = accepted_lasts f v pn value k
   body_lasts f to e (body.Accept pn v) k = (had_lasts E APromise f pn k.0, k.1, accepted_lasts f v pn k.1 k.2)
+  body_lasts f to e (body.Lease last) k = followed_lasts e f k
   body_lasts f to e (body.Forward seq c) k = (k.0, handed_lasts f e seq k.0 c k.1)
   body_lasts f to e (body.Cookie full c last) k = had_lasts E ALevel f last k
   body_lasts f to e (body.GetChunk c p) k = had_lasts E ALevel to p.version k
@@ -137,16 +142,18 @@ module _ (i : ℕ) (g h : Ghost) (E : Ext i g h) where
     counted = λ f a. accepted_lasts f (suc last) pn k.x (k.counted f a);
   }
 
-  -- a peon's own part, where it handed nothing on
+  -- a peon's own part, where it handed nothing on, and with a lease accepted nothing
   abbrev pub HandsOn : ℕ → Type 0
   HandsOn j = (e seq : ℕ) (s : Session) (c : Command) → Handed h j e seq s c → Handed g j e seq s c
 
-  pub follows_last : (j : ℕ) (c : Core) → HandsOn j → FollowsIn g j c → FollowsIn h j c
-  follows_last j c hands k = record {
+  pub follows_last : (j : ℕ) (c : Core) → (is_some c.lease ≡ true → Accepts j) → HandsOn j → FollowsIn g j c → FollowsIn h j c
+  follows_last j c same hands k = record {
     role = entered_lasts j (epoch_in c.own) c.leader c.members k.role;
     unmarked = k.unmarked;
     sessions = all_map (IsHanded g j (epoch_in c.own)) (IsHanded h j (epoch_in c.own)) (λ a w. (w.0, handed_lasts j (epoch_in c.own) a.seq a.session w.0 w.1)) c.sessions k.sessions;
     below = λ seq s d a. k.below seq s d (hands (epoch_in c.own) seq s d a);
+    clear = λ t v p x a. k.clear t v p x (same t v p x a);
+    led = λ t. followed_lasts (epoch_in c.own) c.leader (k.led t);
   }
 
   pub stage_lasts : (last floor provider : ℕ) (full : Bool) (start version : ℕ) (s : SyncStage) → StageHolds g last floor provider full start version s → StageHolds h last floor provider full start version s
@@ -165,7 +172,7 @@ module _ (i : ℕ) (g h : Ghost) (E : Ext i g h) where
       (leads_last j c (Repeats g c.quorum c.pn c.own.last c.value) (Repeats h c.quorum c.pn c.own.last c.value) (repeats_last c.quorum c.pn c.own.last c.value) k.0, k.1, proposes_last j c.pn c.own.last c.value c.accepted same k.2)
   phase_lasts n j c phase.Active same hands k = (leads_last j c Nowhere Nowhere (λ v r l. l) k.0, k.1, λ v x a. k.2 v x (same v c.pn x a))
   phase_lasts n j c phase.Updating same hands k = (leads_last j c Nowhere Nowhere (λ v r l. l) k.0, k.1, proposes_last j c.pn c.own.last c.value c.accepted same k.2)
-  phase_lasts n j c phase.Peon same hands k = follows_last j c hands k
+  phase_lasts n j c phase.Peon same hands k = follows_last j c (λ _. same) hands k
 
   -- ---- the other monitors
 
@@ -183,7 +190,7 @@ module _ (i : ℕ) (g h : Ghost) (E : Ext i g h) where
 
   kept_lasts : (j : ℕ) (o : Own) (records : ℕ → Cell) → (j ≡ i → ⊥) → Kept g.roles g.hands g.accepts j o records → Kept h.roles h.hands h.accepts j o records
   kept_lasts j o records ne k = record {
-    roles = λ f l q a. k.roles f l q (elim (E.roles.added (entry j f l q) a) [ inl old ↦ old | inr w ↦ absurd (ne w) ]);
+    roles = λ f l q a. k.roles f l q (elim (E.roles.added (entry j f l q) a) [ inl old ↦ old | inr w ↦ absurd (ne w.who) ]);
     hands = λ f seq s c a. k.hands f seq s c (same_hands j ne f seq s c a);
     order = k.order;
     mine = k.mine;

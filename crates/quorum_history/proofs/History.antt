@@ -151,6 +151,11 @@ pub record Glob (n : ℕ) (g : Ghost) : Type 0 where
 
 -- ---- what a step of i may do
 
+-- an entry that i adds: into an epoch above each that it had
+pub record NewEntry (i : ℕ) (g : Ghost) (r : Entry) : Type 0 where
+  pub who : r.i ≡ i
+  pub later : (n : ℕ) → Had g AnEpoch i n → n < r.e
+
 -- a triple that i adds: under no number below one that it promised, and under a number of its own or after another one
 pub record NewTriple (i : ℕ) (g : Ghost) (t : Triple) : Type 0 where
   pub who : t.i ≡ i
@@ -158,7 +163,7 @@ pub record NewTriple (i : ℕ) (g : Ghost) (t : Triple) : Type 0 where
   pub from : (t.p % 100 ≡ i) ⊎ ((k : ℕ) × Accepted g k t.v t.p t.x)
 
 pub record Ext (i : ℕ) (g h : Ghost) : Type 0 where
-  pub roles : Grows (λ (r : Entry). r.i ≡ i) g.roles h.roles
+  pub roles : Grows (NewEntry i g) g.roles h.roles
   pub hands : Grows (λ (r : Hand). r.i ≡ i) g.hands h.hands
   pub asks : Grows (λ (a : Ask). Unit {0}) g.asks h.asks
   pub signs : Grows (λ (s : Sign). s.i ≡ i) g.signs h.signs
@@ -179,7 +184,7 @@ module _ {i : ℕ} {g h : Ghost} (E : Ext i g h) where
 
 pub ext_trans : {i : ℕ} {f g h : Ghost} → Ext i f g → Ext i g h → Ext i f h
 ext_trans {i} {f} {g} {h} a b = record {
-  roles = grows_more _ f.roles g.roles h.roles a.roles b.roles;
+  roles = grows_more _ f.roles g.roles h.roles a.roles (grows_as (NewEntry i g) (NewEntry i f) g.roles h.roles (λ r w. record { who = w.who; later = λ n k. w.later n (had_lasts a AnEpoch i n k) }) b.roles);
   hands = grows_more _ f.hands g.hands h.hands a.hands b.hands;
   asks = grows_more _ f.asks g.asks h.asks a.asks b.asks;
   signs = grows_more _ f.signs g.signs h.signs a.signs b.signs;

@@ -28,13 +28,13 @@ use Rattle.mon_wire.specs.declared.parts.Told.{Told}
 use Rattle.mon_wire.specs.declared.phase.Phase.TheVariants as phase
 use Rattle.mon_wire.specs.declared.phase.Phase.{Phase}
 use Rattle.mon_wire.specs.declared.request.Session.{Session}
-use Rattle.quorum_history.proofs.History.{ALevel, ANumber, APromise, Accepted, AnEpoch, Asks, Entered, Entry, Ext, Ghost, Glob, Had, HadIn, Hand, Handed, Joined, Rising, Sign, Triple, entry, hand, triple}
+use Rattle.quorum_history.proofs.History.{ALevel, ANumber, APromise, Accepted, AnEpoch, Ask, Asks, Entered, Entry, Ext, Ghost, Glob, Had, HadIn, Hand, Handed, Joined, Rising, Sign, Triple, entry, hand, triple}
 use Rattle.quorum_walk.proofs.Lists.{Among}
 use Rattle.quorum_walk.proofs.Sparing.{Own, own_of}
 use Rattle.quorum_walk.proofs.Walk.{done}
 use Rattle.std.proofs.Common.{Bool, IfSome, List, None, Option, Some, [], false, length, suc, true, ℕ, ◌%◌, ◌+◌, ◌<◌, ◌≡◌, ◌≤◌, ◌⊎◌}
 use Rattle.std.specs.List.{AllByRecursion}
-use Rattle.std.specs.Prelude.{if◌then◌else◌}
+use Rattle.std.specs.Prelude.{if◌then◌else◌, is_some}
 
 -- ---- what its store tells
 
@@ -102,6 +102,7 @@ pub record Core : Type 0 where
   pub value : Option (List Op)
   pub leader : ℕ
   pub members : List Bool
+  pub lease : Option ℕ
   pub queue : List Waiting
   pub sessions : List Asked
   pub next_seq : ℕ
@@ -124,6 +125,7 @@ core_of o s = record {
   value = s.leader.value;
   leader = s.peon.leader;
   members = s.peon.quorum;
+  lease = s.peon.lease;
   queue = s.clients.queue;
   sessions = s.clients.sessions;
   next_seq = s.clients.next_seq;
@@ -243,14 +245,23 @@ Rests g i pn last = (v : ℕ) (x : List Op) → Accepted g i v pn x → v ≤ la
 abbrev pub ActsIn : ℕ → Ghost → ℕ → Core → Type 0
 ActsIn n g i c = LeadsIn g i c Nowhere × AllIn n c × Rests g i c.pn c.own.last
 
-pub record Follows (g : Ghost) (i e l : ℕ) (marked : Bool) (q : List Bool) (asked : List Asked) (next : ℕ) : Type 0 where
+-- all of a leader's quorum followed it into the epoch
+pub record Followed (g : Ghost) (e l : ℕ) : Type 0 where
+  pub quorum : List Bool
+  pub led : Entered g l e l quorum
+  pub joined : (m : ℕ) → has quorum m ≡ true → Joined g m e l
+
+pub record Follows (g : Ghost) (i e l : ℕ) (marked : Bool) (q : List Bool) (asked : List Asked) (next : ℕ) (lease : Option ℕ) (last : ℕ) : Type 0 where
   pub role : Entered g i e l q
   pub unmarked : marked ≡ false
   pub sessions : AllByRecursion (IsHanded g i e) asked
   pub below : (seq : ℕ) (s : Session) (c : Command) → Handed g i e seq s c → seq < next
+  -- while it has a lease, all that it ever accepted is committed, and its leader has its whole quorum
+  pub clear : is_some lease ≡ true → (v p : ℕ) (x : List Op) → Accepted g i v p x → v ≤ last
+  pub led : is_some lease ≡ true → Followed g e l
 
 abbrev pub FollowsIn : Ghost → ℕ → Core → Type 0
-FollowsIn g i c = Follows g i (epoch_in c.own) c.leader c.own.marked c.members c.sessions c.next_seq
+FollowsIn g i c = Follows g i (epoch_in c.own) c.leader c.own.marked c.members c.sessions c.next_seq c.lease c.own.last
 
 abbrev pub StandsIn : (n i : ℕ) → Core → Type 0
 StandsIn n i c = Stands n i (epoch_in c.own) c.own.marked c.candidate c.acked c.queue c.sessions
@@ -299,6 +310,7 @@ BodyHolds g i to e (body.Collect pn first last) = (pn % 100 ≡ i) × Had g ANum
 BodyHolds g i to e (body.Last pn first last whole from values told) = Answers g i to e pn last whole from values told
 BodyHolds g i to e (body.Begin pn v value) = Accepted g i v pn value
 BodyHolds g i to e (body.Accept pn v) = Had g APromise i pn × (value : List Op) × Accepted g i v pn value
+BodyHolds g i to e (body.Lease last) = Followed g e i
 BodyHolds g i to e (body.Forward seq c) = (s : Session) × Handed g i e seq s c
 BodyHolds g i to e (body.Cookie full c last) = Had g ALevel i last
 BodyHolds g i to e (body.GetChunk c p) = Had g ALevel to p.version
@@ -322,24 +334,28 @@ pub record Tied (i : ℕ) (g h : Ghost) (cs : List Change) : Type 0 where
   pub only : (j v p : ℕ) (x : List Op) → Accepted h j v p x → Accepted g j v p x ⊎ ((j ≡ i) × Among (Vote v p x) cs)
   pub made : (p : ℕ) → Among (Numbers p) cs → (p % 100 ≡ i) × ((q : ℕ) → Had g ANumber i q → q < p)
 
-pub record With (n i : ℕ) (g : Ghost) (o : Own) (records : ℕ → Cell) (cs : List Change) (out : List Sent) (P : Ghost → Type 0) : Type 0 where
+pub record With (n i : ℕ) (g : Ghost) (Known : ℕ → List Op → Type 0) (o : Own) (records : ℕ → Cell) (cs : List Change) (out : List Sent) (P : Ghost → Type 0) : Type 0 where
   pub h : Ghost
   pub ext : Ext i g h
   pub glob : Glob n h
   pub disk : Disk h i o records
   pub tied : Tied i g h cs
+  -- this is known of each value that was accepted for a version
+  pub known : (j v p : ℕ) (x : List Op) → Accepted h j v p x → Known v x
+  -- and nobody asked since
+  pub asks : (a : Ask) → Among a h.asks → Among a g.asks
   pub sent : AllByRecursion (SentHolds h i) out
   pub fact : P h
 
-abbrev pub At : Me → Ghost → (Ghost → Type 0) → Course → Type 0
-At me g P x = With me.member.monitors me.member.rank g (own_of x.readings) x.readings.record_of x.changes x.out P
+abbrev pub At : Me → Ghost → (Known : ℕ → List Op → Type 0) → (Ghost → Type 0) → Course → Type 0
+At me g Known P x = With me.member.monitors me.member.rank g Known (own_of x.readings) x.readings.record_of x.changes x.out P
 
 abbrev pub Nothing : Ghost → Type 0
 Nothing h = Unit {0}
 
 -- whatever the phase says
-abbrev pub Sound : Me → Ghost → Course → Type 0
-Sound me g x = At me g Nothing x
+abbrev pub Sound : Me → Ghost → (Known : ℕ → List Op → Type 0) → Course → Type 0
+Sound me g Known x = At me g Known Nothing x
 
-abbrev pub Good : Me → Ghost → Course → Type 0
-Good me g x = At me g (λ h. InPhase me.member.monitors h me.member.rank (core x) x.state.phase) x
+abbrev pub Good : Me → Ghost → (Known : ℕ → List Op → Type 0) → Course → Type 0
+Good me g Known x = At me g Known (λ h. InPhase me.member.monitors h me.member.rank (core x) x.state.phase) x

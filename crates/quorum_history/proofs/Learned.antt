@@ -43,29 +43,29 @@ pub copied_plain : (es : List Copied) → Plain (copy_changes es)
 copied_plain [] = tt
 copied_plain (e ∷ es) = (tt, copied_plain es)
 
-module _ (me : Me) (g : Ghost) where
+module _ (me : Me) (g : Ghost) (Known : ℕ → List Op → Type 0) where
   abbrev i : ℕ
   i = me.member.rank
 
   -- What holds may depend on its own numbers, which learning leaves but for the last version.
-  pub learned_at : (P : Ghost → Type 0) (Q : Own → Ghost → Type 0) (v : ℕ) (values : List (List Op)) (last : ℕ) (x : Course) → AllByRecursion Val values → x.readings.marked ≡ false → x.readings.last < last → At me g P x
+  pub learned_at : (P : Ghost → Type 0) (Q : Own → Ghost → Type 0) (v : ℕ) (values : List (List Op)) (last : ℕ) (x : Course) → AllByRecursion Val values → x.readings.marked ≡ false → x.readings.last < last → At me g Known P x
       → ((h k : Ghost) → Ext i g h → Ext i h k → Disk h i (own_of x.readings) x.readings.record_of → P h → Had k ALevel i last → ((j w p : ℕ) (y : List Op) → Accepted k j w p y → Accepted h j w p y) → ((e seq : ℕ) (s : Session) (c : Command) → Handed k i e seq s c → Handed h i e seq s c)
       → Q (with_last last (own_of x.readings)) k)
-      → At me g (Q (with_last last (own_of (played (learn_changes v values) x.readings)))) (learned_by v values last x)
+      → At me g Known (Q (with_last last (own_of (played (learn_changes v values) x.readings)))) (learned_by v values last x)
   learned_at P Q v values last x V u lt A f =
       let n = me.member.monitors in
       let w = played (learn_changes v values) x.readings in
       let more = learn_changes v values ++ Last last ∷ [] in
-      let B : With n i g (with_last last (own_of x.readings)) w.record_of (x.changes ++ more) x.out (Q (with_last last (own_of x.readings))) =
+      let B : With n i g Known (with_last last (own_of x.readings)) w.record_of (x.changes ++ more) x.out (Q (with_last last (own_of x.readings))) =
       learns P (Q (with_last last (own_of x.readings))) w.record_of last more (all_append IsPlain (learn_changes v values) (Last last ∷ []) (learned_plain v values) (tt, tt)) u lt A f in
-      let C = subst (λ (z : Own). With n i g (with_last last z) w.record_of (x.changes ++ more) x.out (Q (with_last last z))) (sym (learned_own v values x.readings (all_spare values V))) B in
-      subst (λ (cs : List Change). With n i g (with_last last (own_of w)) w.record_of cs x.out (Q (with_last last (own_of w)))) (sym (append_assoc x.changes (learn_changes v values) (Last last ∷ []))) C
+      let C = subst (λ (z : Own). With n i g Known (with_last last z) w.record_of (x.changes ++ more) x.out (Q (with_last last z))) (sym (learned_own v values x.readings (all_spare values V))) B in
+      subst (λ (cs : List Change). With n i g Known (with_last last (own_of w)) w.record_of cs x.out (Q (with_last last (own_of w)))) (sym (append_assoc x.changes (learn_changes v values) (Last last ∷ []))) C
 
   -- changes of a marked store that leave its own numbers
-  pub changed_at : (P : Ghost → Type 0) (Q : Own → Ghost → Type 0) (cs : List Change) (x : Course) → Plain cs → own_of (played cs x.readings) ≡ own_of x.readings → x.readings.marked ≡ true → At me g P x
-      → ((h k : Ghost) → Ext i g h → Ext i h k → P h → Q (own_of x.readings) k) → At me g (Q (own_of (played cs x.readings))) (x ▸ change_all cs)
+  pub changed_at : (P : Ghost → Type 0) (Q : Own → Ghost → Type 0) (cs : List Change) (x : Course) → Plain cs → own_of (played cs x.readings) ≡ own_of x.readings → x.readings.marked ≡ true → At me g Known P x
+      → ((h k : Ghost) → Ext i g h → Ext i h k → P h → Q (own_of x.readings) k) → At me g Known (Q (own_of (played cs x.readings))) (x ▸ change_all cs)
   changed_at P Q cs x calm same u A f =
       let n = me.member.monitors in
       let w = played cs x.readings in
-      let B : With n i g (own_of x.readings) w.record_of (x.changes ++ cs) x.out (Q (own_of x.readings)) = copies P (Q (own_of x.readings)) w.record_of cs calm u A f in
-      subst (λ (z : Own). With n i g z w.record_of (x.changes ++ cs) x.out (Q z)) (sym same) B
+      let B : With n i g Known (own_of x.readings) w.record_of (x.changes ++ cs) x.out (Q (own_of x.readings)) = copies P (Q (own_of x.readings)) w.record_of cs calm u A f in
+      subst (λ (z : Own). With n i g Known z w.record_of (x.changes ++ cs) x.out (Q z)) (sym same) B

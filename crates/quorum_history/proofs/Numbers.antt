@@ -76,14 +76,14 @@ number_up p o low le ANumber = low
 number_up p o low le APromise = le
 number_up p o low le ALevel = omega arith
 
-module _ {n i : ℕ} {g : Ghost} {o : Own} {records : ℕ → Cell} {cs : List Change} {out : List Sent} (P Q : Ghost → Type 0) where
-  pub promises : (p : ℕ) → promise_in o ≤ p → With n i g o records cs out P → ((h : Ghost) → Ext i h (signed i (with_promise p o) h) → P h → Q (signed i (with_promise p o) h))
-      → With n i g (with_promise p o) records (cs ++ Promise p ∷ []) out Q
+module _ {n i : ℕ} {g : Ghost} {Known : ℕ → List Op → Type 0} {o : Own} {records : ℕ → Cell} {cs : List Change} {out : List Sent} (P Q : Ghost → Type 0) where
+  pub promises : (p : ℕ) → promise_in o ≤ p → With n i g Known o records cs out P → ((h : Ghost) → Ext i h (signed i (with_promise p o) h) → P h → Q (signed i (with_promise p o) h))
+      → With n i g Known (with_promise p o) records (cs ++ Promise p ∷ []) out Q
   promises p le A f = moves P Q (with_promise p o) records (Promise p ∷ []) (tt, tt) (promise_up p o le) A (λ h E G D q. promise_kept h.roles h.hands h.accepts i p o records le D.kept) (λ h E F G D q. f h F q)
 
   -- a new number of its own
-  pub collects : (p : ℕ) → number_in_own o ≤ p → promise_in o < p → p % 100 ≡ i → With n i g o records cs out P → ((h : Ghost) → Ext i h (signed i (with_number p o) h) → Glob n h → Disk h i o records → P h → Q (signed i (with_number p o) h))
-      → With n i g (with_number p o) records (cs ++ Numbers p ∷ []) out Q
+  pub collects : (p : ℕ) → number_in_own o ≤ p → promise_in o < p → p % 100 ≡ i → With n i g Known o records cs out P → ((h : Ghost) → Ext i h (signed i (with_number p o) h) → Glob n h → Disk h i o records → P h → Q (signed i (with_number p o) h))
+      → With n i g Known (with_number p o) records (cs ++ Numbers p ∷ []) out Q
   collects p low lt own A f =
       let h = A.h in
       let o2 = with_number p o in
@@ -94,7 +94,7 @@ module _ {n i : ℕ} {g : Ghost} {o : Own} {records : ℕ → Cell} {cs : List C
       (tied_more i g h k cs (Numbers p ∷ []) (λ v q x a. elim a [ inl e ↦ (absurd cc) | inr z ↦ absurd z ]) (λ q a. elim a [
         | inl e ↦ (let s : q ≡ p = cc in (ap (λ (z : ℕ). z % 100) s ∙ own, λ r m. let t = A.disk.numbers.top ANumber r (had_lasts A.ext ANumber i r m) in let w = A.disk.kept.order in omega arith))
         | inr z ↦ absurd z
-      ]) (λ t a. a) (λ t a. a) A.tied) (f h E A.glob A.disk A.fact)
+      ]) (λ t a. a) (λ t a. a) A.tied) A.known (λ a m. m) (f h E A.glob A.disk A.fact)
 
 -- ---- versions that are learned
 
@@ -197,21 +197,21 @@ unmark_up end o u le ANumber = omega arith
 unmark_up end o u le APromise = omega arith
 unmark_up end o u le ALevel = let f = floor_is o u in omega arith
 
-module _ {n i : ℕ} {g : Ghost} {o : Own} {records : ℕ → Cell} {cs : List Change} {out : List Sent} (P Q : Ghost → Type 0) (records2 : ℕ → Cell) where
+module _ {n i : ℕ} {g : Ghost} {Known : ℕ → List Op → Type 0} {o : Own} {records : ℕ → Cell} {cs : List Change} {out : List Sent} (P Q : Ghost → Type 0) (records2 : ℕ → Cell) where
   -- versions up to v
-  pub learns : (v : ℕ) (more : List Change) → Plain more → o.marked ≡ false → o.last < v → With n i g o records cs out P → ((h k : Ghost) → Ext i g h → Ext i h k → Disk h i o records → P h → (Had k ALevel i v) → ((j w p : ℕ) (x : List Op) → Accepted k j w p x → Accepted h j w p x) → ((e seq : ℕ) (s : Session) (c : Command) → Handed k i e seq s c → Handed h i e seq s c) → Q k)
-      → With n i g (with_last v o) records2 (cs ++ more) out Q
+  pub learns : (v : ℕ) (more : List Change) → Plain more → o.marked ≡ false → o.last < v → With n i g Known o records cs out P → ((h k : Ghost) → Ext i g h → Ext i h k → Disk h i o records → P h → (Had k ALevel i v) → ((j w p : ℕ) (x : List Op) → Accepted k j w p x → Accepted h j w p x) → ((e seq : ℕ) (s : Session) (c : Command) → Handed k i e seq s c → Handed h i e seq s c) → Q k)
+      → With n i g Known (with_last v o) records2 (cs ++ more) out Q
   learns v more calm u lt A f = moves P Q (with_last v o) records2 more calm (last_up v o u lt) A (λ h E G D q. last_kept h.roles h.hands h.accepts i v o records records2 u lt D.kept)
       (λ h E F G D q. f h (signed i (with_last v o) h) E F D q (inr (record { m = level_in (with_last v o); high = let e = level_is (with_last v o) u in omega arith; was = inr (inr (inr (inl refl))) })) (λ j w p x a. a) (λ e seq s c a. a))
 
   -- records and entries of a marked store
-  pub copies : (more : List Change) → Plain more → o.marked ≡ true → With n i g o records cs out P → ((h k : Ghost) → Ext i g h → Ext i h k → P h → Q k) → With n i g o records2 (cs ++ more) out Q
+  pub copies : (more : List Change) → Plain more → o.marked ≡ true → With n i g Known o records cs out P → ((h k : Ghost) → Ext i g h → Ext i h k → P h → Q k) → With n i g Known o records2 (cs ++ more) out Q
   copies more calm u A f = moves P Q o records2 more calm (λ k. omega arith) A (λ h E G D q. records_kept h.roles h.hands h.accepts i o records records2 u D.kept) (λ h E F G D q. f h (signed i o h) E F q)
 
   pub begins_copy : (floor : ℕ) (more : List Change) → Plain more → o.floor ≤ floor → o.last ≤ floor → ((h : Ghost) → Glob n h → Disk h i o records → (v p : ℕ) (x : List Op) → Accepted h i v p x → o.pending_v ≡ v → v ≤ floor)
-      → With n i g o records cs out P → ((h k : Ghost) → Ext i h k → P h → Q k) → With n i g (marked_at floor o) records2 (cs ++ more) out Q
+      → With n i g Known o records cs out P → ((h k : Ghost) → Ext i h k → P h → Q k) → With n i g Known (marked_at floor o) records2 (cs ++ more) out Q
   begins_copy floor more calm a b c A f = moves P Q (marked_at floor o) records2 more calm (mark_up floor o a b) A
       (λ h E G D q. mark_kept h.roles h.hands h.accepts i floor o records records2 a b (c h G D) D.kept) (λ h E F G D q. f h (signed i (marked_at floor o) h) F q)
 
-  pub ends_copy : (end : ℕ) (more : List Change) → Plain more → o.marked ≡ true → o.floor ≤ end → With n i g o records cs out P → ((h k : Ghost) → Ext i h k → P h → Q k) → With n i g (unmarked_at end o) records2 (cs ++ more) out Q
+  pub ends_copy : (end : ℕ) (more : List Change) → Plain more → o.marked ≡ true → o.floor ≤ end → With n i g Known o records cs out P → ((h k : Ghost) → Ext i h k → P h → Q k) → With n i g Known (unmarked_at end o) records2 (cs ++ more) out Q
   ends_copy end more calm u le A f = moves P Q (unmarked_at end o) records2 more calm (unmark_up end o u le) A (λ h E G D q. unmark_kept h.roles h.hands h.accepts i end o records records2 u le D.kept) (λ h E F G D q. f h (signed i (unmarked_at end o) h) F q)

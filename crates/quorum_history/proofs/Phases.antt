@@ -7,8 +7,9 @@ use Rattle.mon_msg.specs.declared.clients.Waiting.{Waiting}
 use Rattle.mon_msg.specs.declared.view.Me.{Me}
 use Rattle.mon_wire.specs.declared.phase.Phase.TheVariants as phase
 use Rattle.mon_wire.specs.declared.phase.Phase.{Phase}
+use Rattle.mon_tx.specs.declared.op.Op.{Op}
 use Rattle.quorum_history.proofs.History.{Ghost, RolesHold}
-use Rattle.quorum_history.proofs.Holds.{At, Core, Good, InPhase, LeadsIn, Reigns, StandsIn, Waits, core, epoch_in}
+use Rattle.quorum_history.proofs.Holds.{At, Core, Good, InPhase, LeadsIn, StandsIn, Waits, core, epoch_in}
 use Rattle.quorum_history.proofs.Steps.{weaken}
 use Rattle.std.proofs.Common.{Bool, List, false, inl, inr, refl, subst, sym, true, ℕ, ◌||◌, ◌∙◌, ◌≡◌}
 use Rattle.std.proofs.lemmas.Bool.{false≢true, or_cases}
@@ -73,6 +74,17 @@ peon_is_peon phase.Previous e = no e
 peon_is_peon phase.Active e = no e
 peon_is_peon phase.Updating e = no e
 
+pub active_is : (p : Phase) → same_phase p phase.Active ≡ true → p ≡ phase.Active
+active_is phase.Active e = refl
+active_is phase.Booting e = no e
+active_is phase.Probing e = no e
+active_is phase.Synchronizing e = no e
+active_is phase.Electing e = no e
+active_is phase.Collecting e = no e
+active_is phase.Previous e = no e
+active_is phase.Updating e = no e
+active_is phase.Peon e = no e
+
 -- ---- what holds in it
 
 pub requeued : (g : Ghost) (i : ℕ) (c : Core) (ws : List Waiting) (L : ℕ → ℕ → Type 0) → (AllByRecursion (Waits g i (epoch_in c.own)) c.queue → AllByRecursion (Waits g i (epoch_in c.own)) ws) → LeadsIn g i c L → LeadsIn g i (record c { queue = ws }) L
@@ -115,19 +127,19 @@ votes_unmarked n h i c phase.Synchronizing v k = no v
 
 -- ---- of a monitor
 
-module _ (me : Me) (g : Ghost) (x : Course) where
+module _ (me : Me) (g : Ghost) (Known : ℕ → List Op → Type 0) (x : Course) where
   -- what it has where its phase is known
-  pub in_known : (p : Phase) → x.state.phase ≡ p → Good me g x → At me g (λ h. InPhase me.member.monitors h me.member.rank (core x) p) x
+  pub in_known : (p : Phase) → x.state.phase ≡ p → Good me g Known x → At me g Known (λ h. InPhase me.member.monitors h me.member.rank (core x) p) x
   in_known p e A = weaken _ _ A (λ h E G D k. subst (InPhase me.member.monitors h me.member.rank (core x)) e k)
 
-  pub as_known : (p : Phase) → x.state.phase ≡ p → At me g (λ h. InPhase me.member.monitors h me.member.rank (core x) p) x → Good me g x
+  pub as_known : (p : Phase) → x.state.phase ≡ p → At me g Known (λ h. InPhase me.member.monitors h me.member.rank (core x) p) x → Good me g Known x
   as_known p e A = weaken _ _ A (λ h E G D k. subst (InPhase me.member.monitors h me.member.rank (core x)) (sym e) k)
 
-  pub unmarked_of : Good me g x → votes x.state.phase ≡ true → x.readings.marked ≡ false
+  pub unmarked_of : Good me g Known x → votes x.state.phase ≡ true → x.readings.marked ≡ false
   unmarked_of A v = votes_unmarked me.member.monitors A.h me.member.rank (core x) x.state.phase v A.fact
 
-  pub stands_of : x.state.phase ≡ phase.Electing → Good me g x → StandsIn me.member.monitors me.member.rank (core x)
+  pub stands_of : x.state.phase ≡ phase.Electing → Good me g Known x → StandsIn me.member.monitors me.member.rank (core x)
   stands_of e A = subst (InPhase me.member.monitors A.h me.member.rank (core x)) e A.fact
 
-  pub in_odd_epoch_electing : Good me g x → votes x.state.phase ≡ true → is_even (epoch_of x.readings) ≡ false → x.state.phase ≡ phase.Electing
+  pub in_odd_epoch_electing : Good me g Known x → votes x.state.phase ≡ true → is_even (epoch_of x.readings) ≡ false → x.state.phase ≡ phase.Electing
   in_odd_epoch_electing A v odd = votes_in_odd me.member.monitors A.h me.member.rank (core x) x.state.phase A.glob.roles odd v A.fact

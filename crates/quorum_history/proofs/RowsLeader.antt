@@ -21,13 +21,13 @@ use Rattle.mon_wire.specs.declared.parts.Told.{Told}
 use Rattle.mon_wire.specs.declared.phase.Phase.TheVariants as phase
 use Rattle.mon_wire.specs.declared.phase.Phase.{Phase}
 use Rattle.quorum_history.proofs.ActsElections.{bootstrap_holds}
-use Rattle.quorum_history.proofs.ActsLeading.{ClosesIn, closes_repeating, closes_updating, collect_holds, commit_holds, leads_left, settle_holds, sound}
+use Rattle.quorum_history.proofs.ActsLeading.{ClosesIn, all_followed, closes_repeating, closes_updating, collect_holds, commit_holds, leads_left, settle_holds, sound}
 use Rattle.quorum_history.proofs.Frame.{accepted_below, accepted_lasts, heard_lasts, joined_lasts, reigns_last}
 use Rattle.quorum_history.proofs.History.{ALevel, APromise, Accepted, Ext, Ghost, Glob, Had, Joined, had_lasts}
-use Rattle.quorum_history.proofs.Holds.{Answers, At, Core, FoundCovers, Gathers, GathersIn, Good, Heard, IsFound, Proposes, ProposesIn, Reigns, RepeatsIn, UpdatesIn, core, core_of, epoch_in}
+use Rattle.quorum_history.proofs.Holds.{Answers, At, Core, FoundCovers, Gathers, GathersIn, Good, Heard, InPhase, IsFound, Nowhere, Proposes, ProposesIn, RepeatsIn, UpdatesIn, core, core_of, epoch_in}
 use Rattle.quorum_history.proofs.Learned.{learn_then, learned_at}
 use Rattle.quorum_history.proofs.Numbers.{level_is, with_last}
-use Rattle.quorum_history.proofs.Phases.{as_known, collecting_is, in_known, no}
+use Rattle.quorum_history.proofs.Phases.{active_is, as_known, collecting_is, in_known, no}
 use Rattle.quorum_history.proofs.Steps.{tells_each, weaken}
 use Rattle.quorum_walk.proofs.FineCourses.{ToldFine, Val}
 use Rattle.quorum_walk.proofs.FineReading.{all_spare}
@@ -83,7 +83,7 @@ counted : (told : Option Told) → IfSome told (λ t. Val t.value) → counts to
 counted None k = refl
 counted (Some t) k = rw (le-leb (length (text t.value)) most_value k.short) refl
 
-module _ (me : Me) (now : ℕ) (g : Ghost) where
+module _ (me : Me) (now : ℕ) (g : Ghost) (Known : ℕ → List Op → Type 0) where
   abbrev n : ℕ
   n = me.member.monitors
 
@@ -91,7 +91,7 @@ module _ (me : Me) (now : ℕ) (g : Ghost) where
   i = me.member.rank
 
   abbrev Gathering : Course → Type 0
-  Gathering x = At me g (λ h. GathersIn h i (core x)) x
+  Gathering x = At me g Known (λ h. GathersIn h i (core x)) x
 
   -- ---- an answer
 
@@ -133,7 +133,7 @@ module _ (me : Me) (now : ℕ) (g : Ghost) where
       learn_then (Reaching (base + length values)) (news_from own from) new x
       (λ none. (A, e, let z = ap length none in omega (arith, long)))
       (λ last is ge. (
-        learned_at me g (λ h. GathersIn h i (core x)) (λ o h. GathersIn h i (core_of o x.state)) (news_from own from) new last x (all_drop Val (suc own - from) values V) u (omega arith) A
+        learned_at me g Known (λ h. GathersIn h i (core x)) (λ o h. GathersIn h i (core_of o x.state)) (news_from own from) new last x (all_drop Val (suc own - from) values V) u (omega arith) A
             (λ h k X E D p level same hands. gathers_more h k E (core x) last (omega arith) (same i) p),
         e,
         omega (arith, long),
@@ -196,15 +196,15 @@ module _ (me : Me) (now : ℕ) (g : Ghost) where
               let b : Accepted h f v x.state.leader.pn t.value = subst (λ (z : ℕ). Accepted h f v z t.value) same a in
               absurd (K.fresh v t.value (subst (λ (z : ℕ). Accepted h z v x.state.leader.pn t.value) own (G.triples.owner f v x.state.leader.pn t.value b)))
 
-  collects_again : (above : ℕ) (x : Course) → Gathering x → Then (Good me g) (collect me now x.state.leader.quorum above x)
-  collects_again above x A = collect_holds me now g x.state.leader.quorum above x (weaken _ _ A (λ h E G D p. p.0.reigns))
+  collects_again : (above : ℕ) (x : Course) → Gathering x → Then (Good me g Known) (collect me now x.state.leader.quorum above x)
+  collects_again above x A = collect_holds me now g Known x.state.leader.quorum above x (weaken _ _ A (λ h E G D p. p.0.reigns))
 
   hear_whole_holds : (f last : ℕ) (told : Option Told) (x : Course) → has x.state.leader.quorum f ≡ true → last ≤ x.readings.last → IfSome told (λ t. Val t.value)
-      → ((h : Ghost) → Ext i g h → HeardNow h x f last told × IfSome told (λ t. (t.pn ≤ x.state.leader.pn) × Accepted h f (suc last) t.pn t.value)) → Gathering x → x.state.phase ≡ phase.Collecting → Then (Good me g) (hear_whole me now f last told x)
-  hear_whole_holds f last told x member le V new A e = and_then (Reaching 0) (Good me g) (note f last told x) _ (note_holds f last told x member le V new A e) (λ y B.
+      → ((h : Ghost) → Ext i g h → HeardNow h x f last told × IfSome told (λ t. (t.pn ≤ x.state.leader.pn) × Accepted h f (suc last) t.pn t.value)) → Gathering x → x.state.phase ≡ phase.Collecting → Then (Good me g Known) (hear_whole me now f last told x)
+  hear_whole_holds f last told x member le V new A e = and_then (Reaching 0) (Good me g Known) (note f last told x) _ (note_holds f last told x member le V new A e) (λ y B.
       by_test (all_answered me y)
-      (λ all. settle_holds me now g y B.0.fact.0.reigns.unmarked (weaken _ _ B.0 (λ h E G D p. record { leads = p.0; all = all; gathers = p.1 })))
-      (λ _. done (as_known me g y phase.Collecting B.1 B.0)))
+      (λ all. settle_holds me now g Known y B.0.fact.0.reigns.unmarked (weaken _ _ B.0 (λ h E G D p. record { leads = p.0; all = all; gathers = p.1 })))
+      (λ _. done (as_known me g Known y phase.Collecting B.1 B.0)))
 
   -- what learning leaves
   abbrev SameLeader : Course → Course → Type 0
@@ -217,22 +217,22 @@ module _ (me : Me) (now : ℕ) (g : Ghost) where
   learned_same : (v : ℕ) (values : List (List Op)) (x : Course) → AllByRecursion Val values → Then (SameLeader x) (learn v values x)
   learned_same v values x V = learn_then (SameLeader x) v values x (λ _. (refl, refl, refl)) (λ last is le. (refl, ap epoch_in (learned_own v values x.readings (all_spare values V)), refl))
 
-  pub hear_last_holds : (f e : ℕ) (pn first last : ℕ) (whole : Bool) (from : ℕ) (values : List (List Op)) (told : Option Told) (x : Course) → AllByRecursion Val values × ToldFine told → Answers g f i e pn last whole from values told → Good me g x
-      → Then (Good me g) (hear_last me now f e pn first last whole from values told x)
+  pub hear_last_holds : (f e : ℕ) (pn first last : ℕ) (whole : Bool) (from : ℕ) (values : List (List Op)) (told : Option Told) (x : Course) → AllByRecursion Val values × ToldFine told → Answers g f i e pn last whole from values told → Good me g Known x
+      → Then (Good me g Known) (hear_last me now f e pn first last whole from values told x)
   unfolding hear_last
   hear_last_holds f e pn first last whole from values told x V K A =
       let own = x.readings.last in
       by_test (not (of_member (phase.Collecting ∷ []) f e x)) (λ _. done A) (λ heard.
       let t = and_three (same_phase x.state.phase phase.Collecting || false) (eqb e (epoch_of x.readings)) (has x.state.leader.quorum f) (not-false _ heard) in
       let c = collecting_is x.state.phase t.0 in
-      let B : Gathering x = in_known me g x phase.Collecting c A in
+      let B : Gathering x = in_known me g Known x phase.Collecting c A in
       by_test (ltb x.state.leader.pn pn) (λ _. collects_again pn x B) (λ low.
       by_test (ltb pn x.state.leader.pn) (λ _. done A) (λ high.
-      by_test (ltb (suc own) first && ltb own last) (λ _. bootstrap_holds me now g x (sound me g _ x A)) (λ _.
+      by_test (ltb (suc own) first && ltb own last) (λ _. bootstrap_holds me now g Known x (sound me g Known _ x A)) (λ _.
       let a = ltb-false x.state.leader.pn pn low in
       let b = ltb-false pn x.state.leader.pn high in
       let same : pn ≡ x.state.leader.pn = omega arith in
-      and_then (λ y. Reaching (K.base + length values) y × SameLeader x y) (Good me g) (learn (news_from own from) (news own from values) x) _
+      and_then (λ y. Reaching (K.base + length values) y × SameLeader x y) (Good me g Known) (learn (news_from own from) (news own from values) x) _
       (both_then (Reaching (K.base + length values)) (SameLeader x) (learn (news_from own from) (news own from values) x) (learns_answer K.base from values x K.from K.behind V.0 B c)
       (learned_same (news_from own from) (news own from values) x (all_drop Val (suc own - from) values V.0))) (λ y C.
       by_test whole
@@ -277,9 +277,9 @@ module _ (me : Me) (now : ℕ) (g : Ghost) where
     ];
   }
 
-  commits : (value : Option (List Op)) (x : Course) → IfSome value Val → x.readings.marked ≡ false → Good me g x → At me g (λ h. ClosesIn n h i (core x)) x → Then (Good me g) (commit_any me now value x)
+  commits : (value : Option (List Op)) (x : Course) → IfSome value Val → x.readings.marked ≡ false → Good me g Known x → At me g Known (λ h. ClosesIn n h i (core x)) x → Then (Good me g Known) (commit_any me now value x)
   commits None x V u A B = done A
-  commits (Some value) x V u A B = commit_holds me now g value x V u B
+  commits (Some value) x V u A B = commit_holds me now g Known value x V u B
 
   abbrev with_accepted : ℕ → Course → Course
   with_accepted f x = x ▸ leader_is (record x.state.leader { accepted = with_rank x.state.leader.accepted f })
@@ -287,30 +287,30 @@ module _ (me : Me) (now : ℕ) (g : Ghost) where
   some_value : (value : Option (List Op)) (x : List Op) → value ≡ Some x → Val x → IfSome value Val
   some_value value x e V = subst (λ (o : Option (List Op)). IfSome o Val) (sym e) V
 
-  accepted_by : (f e : ℕ) (pn v : ℕ) (value : List Op) (x : Course) → Accepted g f v pn value → pn ≡ x.state.leader.pn → v ≡ suc x.readings.last → (x.state.phase ≡ phase.Previous) ⊎ (x.state.phase ≡ phase.Updating) → Good me g x
-      → Then (Good me g) (if all_accepted me (with_accepted f x) then commit_any me now x.state.leader.value (with_accepted f x) else Ok (with_accepted f x))
+  accepted_by : (f e : ℕ) (pn v : ℕ) (value : List Op) (x : Course) → Accepted g f v pn value → pn ≡ x.state.leader.pn → v ≡ suc x.readings.last → (x.state.phase ≡ phase.Previous) ⊎ (x.state.phase ≡ phase.Updating) → Good me g Known x
+      → Then (Good me g Known) (if all_accepted me (with_accepted f x) then commit_any me now x.state.leader.value (with_accepted f x) else Ok (with_accepted f x))
   accepted_by f e pn v value x K a b (inl p) A =
       let y = with_accepted f x in
-      let B = in_known me g x phase.Previous p A in
-      let C : At me g (λ h. RepeatsIn n h i (core y)) y = weaken _ _ B (λ h E G D k. (k.0, k.1, counts_too h (core x) f value G (here h E) k.2)) in
+      let B = in_known me g Known x phase.Previous p A in
+      let C : At me g Known (λ h. RepeatsIn n h i (core y)) y = weaken _ _ B (λ h E G D k. (k.0, k.1, counts_too h (core x) f value G (here h E) k.2)) in
       by_test (all_accepted me y)
-      (λ _. commits x.state.leader.value y (some_value x.state.leader.value C.fact.2.x C.fact.2.is (C.glob.triples.fine i (suc x.readings.last) x.state.leader.pn C.fact.2.x C.fact.2.was)) C.fact.0.reigns.unmarked (as_known me g y phase.Previous p C) (weaken _ _ C (λ h E G D k. closes_repeating n h i (core y) k)))
-      (λ _. done (as_known me g y phase.Previous p C))
+      (λ _. commits x.state.leader.value y (some_value x.state.leader.value C.fact.2.x C.fact.2.is (C.glob.triples.fine i (suc x.readings.last) x.state.leader.pn C.fact.2.x C.fact.2.was)) C.fact.0.reigns.unmarked (as_known me g Known y phase.Previous p C) (weaken _ _ C (λ h E G D k. closes_repeating n h i (core y) k)))
+      (λ _. done (as_known me g Known y phase.Previous p C))
     where
       here : (h : Ghost) → Ext i g h → Accepted h f (suc x.readings.last) x.state.leader.pn value
       here h E = accepted_lasts i g h E f (suc x.readings.last) x.state.leader.pn value (subst (λ (z : ℕ). Accepted g f z x.state.leader.pn value) b (subst (λ (z : ℕ). Accepted g f v z value) a K))
   accepted_by f e pn v value x K a b (inr p) A =
       let y = with_accepted f x in
-      let B = in_known me g x phase.Updating p A in
-      let C : At me g (λ h. UpdatesIn n h i (core y)) y = weaken _ _ B (λ h E G D k. (k.0, k.1, counts_too h (core x) f value G (here h E) k.2)) in
+      let B = in_known me g Known x phase.Updating p A in
+      let C : At me g Known (λ h. UpdatesIn n h i (core y)) y = weaken _ _ B (λ h E G D k. (k.0, k.1, counts_too h (core x) f value G (here h E) k.2)) in
       by_test (all_accepted me y)
-      (λ _. commits x.state.leader.value y (some_value x.state.leader.value C.fact.2.x C.fact.2.is (C.glob.triples.fine i (suc x.readings.last) x.state.leader.pn C.fact.2.x C.fact.2.was)) C.fact.0.reigns.unmarked (as_known me g y phase.Updating p C) (weaken _ _ C (λ h E G D k. closes_updating n h i (core y) k)))
-      (λ _. done (as_known me g y phase.Updating p C))
+      (λ _. commits x.state.leader.value y (some_value x.state.leader.value C.fact.2.x C.fact.2.is (C.glob.triples.fine i (suc x.readings.last) x.state.leader.pn C.fact.2.x C.fact.2.was)) C.fact.0.reigns.unmarked (as_known me g Known y phase.Updating p C) (weaken _ _ C (λ h E G D k. closes_updating n h i (core y) k)))
+      (λ _. done (as_known me g Known y phase.Updating p C))
     where
       here : (h : Ghost) → Ext i g h → Accepted h f (suc x.readings.last) x.state.leader.pn value
       here h E = accepted_lasts i g h E f (suc x.readings.last) x.state.leader.pn value (subst (λ (z : ℕ). Accepted g f z x.state.leader.pn value) b (subst (λ (z : ℕ). Accepted g f v z value) a K))
 
-  pub hear_accept_holds : (f e : ℕ) (pn v : ℕ) (x : Course) → (value : List Op) → Accepted g f v pn value → Good me g x → Then (Good me g) (hear_accept me now f e pn v x)
+  pub hear_accept_holds : (f e : ℕ) (pn v : ℕ) (x : Course) → (value : List Op) → Accepted g f v pn value → Good me g Known x → Then (Good me g Known) (hear_accept me now f e pn v x)
   unfolding hear_accept
   hear_accept_holds f e pn v x value K A =
       by_test (not (of_member (phase.Previous ∷ phase.Updating ∷ []) f e x && eqb pn x.state.leader.pn && eqb v (suc x.readings.last))) (λ _. done A) (λ heard.
@@ -320,10 +320,12 @@ module _ (me : Me) (now : ℕ) (g : Ghost) where
 
   -- ---- leases
 
-  pub hear_lease_ack_holds : (f e : ℕ) (last : ℕ) (x : Course) → Good me g x → Then (Good me g) (hear_lease_ack me f e last x)
+  pub hear_lease_ack_holds : (f e : ℕ) (last : ℕ) (x : Course) → Good me g Known x → Then (Good me g Known) (hear_lease_ack me f e last x)
   unfolding hear_lease_ack
   hear_lease_ack_holds f e last x A = by_test (not (of_member (phase.Active ∷ []) f e x && eqb last x.readings.last)) (λ _. done A) (λ _. done A)
 
-  pub renew_holds : (x : Course) → Good me g x → Then (Good me g) (renew me now x)
+  pub renew_holds : (x : Course) → Good me g Known x → Then (Good me g Known) (renew me now x)
   unfolding renew extend
-  renew_holds x A = by_test (not (same_phase x.state.phase phase.Active)) (λ _. done A) (λ _. done (tells_each me _ (body.Lease x.readings.last) _ A (λ h E G D p to. tt)))
+  renew_holds x A = by_test (not (same_phase x.state.phase phase.Active)) (λ _. done A) (λ heard.
+      let e = active_is x.state.phase (not-false _ heard) in
+      done (tells_each me _ (body.Lease x.readings.last) _ A (λ h E G D p to. let k = subst (InPhase me.member.monitors h me.member.rank (core x)) e p in all_followed me now g Known h (core x) Nowhere G k.0 k.1)))

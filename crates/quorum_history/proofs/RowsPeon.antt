@@ -1,7 +1,8 @@
 -- The rows of a peon keep what holds.
+use Rattle.mon_lease.specs.Lease as lease
 use Rattle.mon_msg.specs.Protocol.Answers.{answer_of, last_answer, tells_all, told_of, told_values}
 use Rattle.mon_msg.specs.Protocol.Changes.{Change, Promise, Vote}
-use Rattle.mon_msg.specs.Protocol.Course.{Course, change, change_all, change_if, ◌▸◌}
+use Rattle.mon_msg.specs.Protocol.Course.{Course, arm, change, change_all, change_if, peon_is, ◌▸◌}
 use Rattle.mon_msg.specs.Protocol.Length.{fits}
 use Rattle.mon_msg.specs.Protocol.Peon.{cancel, hear_begin, hear_collect, hear_commit, hear_lease, of_leader, promise}
 use Rattle.mon_msg.specs.Protocol.Phases.{is_peon}
@@ -17,28 +18,29 @@ use Rattle.mon_types.specs.declared.names.Which.TheVariants as which
 use Rattle.mon_wire.specs.declared.body.Body.TheVariants as body
 use Rattle.mon_wire.specs.declared.parts.Told.{Told}
 use Rattle.mon_wire.specs.declared.phase.Phase.TheVariants as phase
+use Rattle.mon_wire.specs.declared.phase.Timer.TheVariants as timer
 use Rattle.quorum_history.proofs.Accepting.{accepted, accepts}
 use Rattle.quorum_history.proofs.ActsElections.{bootstrap_holds}
 use Rattle.quorum_history.proofs.ActsLeading.{sound}
-use Rattle.quorum_history.proofs.Frame.{accepted_lasts, follows_last}
+use Rattle.quorum_history.proofs.Frame.{accepted_lasts, followed_lasts, follows_last}
 use Rattle.quorum_history.proofs.History.{ALevel, APromise, Accepted, Entered, Ghost, Glob, Had, Joined, had_lasts}
-use Rattle.quorum_history.proofs.Holds.{Answers, At, BodyHolds, Disk, FollowsIn, Good, With, core, core_of, level_in}
+use Rattle.quorum_history.proofs.Holds.{Answers, At, BodyHolds, Core, Disk, Followed, FollowsIn, Good, With, core, core_of, level_in}
 use Rattle.quorum_history.proofs.Learned.{learn_then, learned_at, learned_by}
 use Rattle.quorum_history.proofs.Numbers.{had_down, level_is, promises, with_promise}
-use Rattle.quorum_history.proofs.Phases.{as_known, in_known, peon_is_peon}
+use Rattle.quorum_history.proofs.Phases.{as_known, in_known, no, peon_is_peon}
 use Rattle.quorum_history.proofs.Runs.{NonePending, SomePending, longest_short, pending_cases, run_short}
 use Rattle.quorum_history.proofs.Steps.{signed, tells, weaken}
 use Rattle.quorum_walk.proofs.FineCourses.{Val}
 use Rattle.quorum_walk.proofs.Lists.{all_drop}
 use Rattle.quorum_walk.proofs.Sparing.{own_of}
-use Rattle.quorum_walk.proofs.Walk.{Then, and_three, by_test, done, where_fits}
-use Rattle.std.proofs.Common.{Bool, IfSome, List, None, Option, Some, [], arith, cond, drop, eqb, false, inl, inr, length, ltb, not, refl, subst, suc, sym, true, ℕ, ◌&&◌, ◌+◌, ◌-◌, ◌<◌, ◌||◌, ◌∙◌, ◌≡◌, ◌≤◌, ◌⊎◌}
+use Rattle.quorum_walk.proofs.Walk.{Then, and_three, by_test, done, or_three, where_fits}
+use Rattle.std.proofs.Common.{Bool, IfSome, List, None, Option, Some, [], ap, arith, cond, drop, eqb, false, inl, inr, length, ltb, not, refl, subst, suc, sym, true, ℕ, ◌&&◌, ◌+◌, ◌-◌, ◌<◌, ◌||◌, ◌∙◌, ◌≡◌, ◌≤◌, ◌⊎◌}
 use Rattle.std.proofs.lemmas.Bool.{and_parts, cases_lt, cond_both, eqb-true, false≢true, lt-ltb, ltb-true, not-false, or_parts}
 use Rattle.std.proofs.lemmas.List.{append-nil}
 use Rattle.std.specs.List.{AllByRecursion}
 use Rattle.std.specs.Prelude.{is_some}
 
-module _ (me : Me) (now : ℕ) (g : Ghost) where
+module _ (me : Me) (now : ℕ) (g : Ghost) (Known : ℕ → List Op → Type 0) where
   abbrev n : ℕ
   n = me.member.monitors
 
@@ -90,18 +92,31 @@ module _ (me : Me) (now : ℕ) (g : Ghost) where
         by true t = all_told (pending w) refl (let s = ltb-true w.last (suc base + length told) ((and_parts (ltb w.last (suc base + length told)) _ t).0) in omega arith)
         by false t = answers_with false None (λ c. absurd (false≢true c)) tt (λ c. absurd (false≢true c))
 
+  -- ---- leases
+
+  -- without a lease
+  let_go : (h : Ghost) (c : Core) → FollowsIn h i c → FollowsIn h i (record c { lease = None })
+  let_go h c k = record { role = k.role; unmarked = k.unmarked; sessions = k.sessions; below = k.below; clear = λ t. no t; led = λ t. no t }
+
+  cancelled : (x : Course) → At me g Known (λ h. FollowsIn h i (core x)) x → At me g Known (λ h. FollowsIn h i (core (cancel x))) (cancel x)
+  cancelled x A = weaken _ _ A (λ h E G D p. let_go h (core x) p)
+
+  -- where nothing is pending
+  committed : (h : Ghost) (w : Readings) → Glob n h → Disk h i (own_of w) w.record_of → w.marked ≡ false → is_some (pending w) ≡ false → (v p : ℕ) (y : List Op) → Accepted h i v p y → v ≤ w.last
+  committed h w G D u none v p y a = elim (pending_cases n h i (own_of w) w.record_of G D u) [ inl k ↦ k.covers v p y a | inr k ↦ absurd (false≢true (sym none ∙ ap is_some k.some)) ]
+
   -- ---- promises
 
-  promised : (pn : ℕ) (x : Course) → At me g (λ h. FollowsIn h i (core x)) x → At me g (λ h. FollowsIn h i (core (promise pn x))) (promise pn x)
+  promised : (pn : ℕ) (x : Course) → At me g Known (λ h. FollowsIn h i (core x)) x → At me g Known (λ h. FollowsIn h i (core (promise pn x))) (promise pn x)
   promised pn x A = by (ltb (promise_of x.readings) pn) refl
     where
-      by : (b : Bool) → ltb (promise_of x.readings) pn ≡ b → At me g (λ h. FollowsIn h i (core (change_if b (Promise pn) x))) (change_if b (Promise pn) x)
+      by : (b : Bool) → ltb (promise_of x.readings) pn ≡ b → At me g Known (λ h. FollowsIn h i (core (change_if b (Promise pn) x))) (change_if b (Promise pn) x)
       by true t = let lt = ltb-true (promise_of x.readings) pn t in
-          promises (λ h. FollowsIn h i (core x)) (λ h. FollowsIn h i (core (change (Promise pn) x))) pn (omega arith) A (λ h E p. follows_last i h (signed i (with_promise pn (own_of x.readings)) h) E i (core x) (λ e seq s c a. a) p)
-      by false t = subst (λ (cs : List Change). With n i g (own_of x.readings) x.readings.record_of cs x.out (λ h. FollowsIn h i (core x))) (sym (append-nil x.changes)) A
+          promises (λ h. FollowsIn h i (core x)) (λ h. FollowsIn h i (core (change (Promise pn) x))) pn (omega arith) A (λ h E p. follows_last i h (signed i (with_promise pn (own_of x.readings)) h) E i (core x) (λ _ v q y a. a) (λ e seq s c a. a) p)
+      by false t = subst (λ (cs : List Change). With n i g Known (own_of x.readings) x.readings.record_of cs x.out (λ h. FollowsIn h i (core x))) (sym (append-nil x.changes)) A
 
-  following : (x : Course) → x.state.phase ≡ phase.Peon → Good me g x → At me g (λ h. FollowsIn h i (core x)) x
-  following x e A = in_known me g x phase.Peon e A
+  following : (x : Course) → x.state.phase ≡ phase.Peon → Good me g Known x → At me g Known (λ h. FollowsIn h i (core x)) x
+  following x e A = in_known me g Known x phase.Peon e A
 
   -- a promise leaves all else
   promise_leaves : (P : Course → Type 0) (pn : ℕ) (x : Course) → P (change (Promise pn) x) → P (change_all [] x) → P (promise pn x)
@@ -111,26 +126,26 @@ module _ (me : Me) (now : ℕ) (g : Ghost) where
       by true = a
       by false = b
 
-  answers : (x : Course) (f base : ℕ) → f ≡ x.state.peon.leader → Had g ALevel f base → At me g (λ h. FollowsIn h i (core x)) x → At me g (λ h. FollowsIn h i (core x)) (x ▸ send me f (last_answer n x.readings (suc base)))
+  answers : (x : Course) (f base : ℕ) → f ≡ x.state.peon.leader → Had g ALevel f base → At me g Known (λ h. FollowsIn h i (core x)) x → At me g Known (λ h. FollowsIn h i (core x)) (x ▸ send me f (last_answer n x.readings (suc base)))
   answers x f base q behind A = tells me _ (last_answer n x.readings (suc base)) f A (λ h E G D p.
       last_answer_holds h f (epoch_of x.readings) base x.readings G D p.unmarked (x.state.peon.quorum, subst (λ (z : ℕ). Entered h i (epoch_of x.readings) z x.state.peon.quorum) (sym q) p.role) (had_lasts E ALevel f base behind))
 
-  pub hear_collect_holds : (f e : ℕ) (pn first last : ℕ) (x : Course) → Had g ALevel f last → Good me g x → Then (Good me g) (hear_collect me now f e pn first last x)
+  pub hear_collect_holds : (f e : ℕ) (pn first last : ℕ) (x : Course) → Had g ALevel f last → Good me g Known x → Then (Good me g Known) (hear_collect me now f e pn first last x)
   unfolding hear_collect
   hear_collect_holds f e pn first last x behind A =
       by_test (not (of_leader f e x)) (λ _. done A) (λ heard.
       let t = and_three (is_peon x.state.phase) (eqb e (epoch_of x.readings)) (eqb f x.state.peon.leader) (not-false _ heard) in
       let peon = peon_is_peon x.state.phase t.0 in
-      by_test (ltb (suc x.readings.last) first) (λ _. bootstrap_holds me now g x (sound me g _ x A)) (λ _.
-      where_fits (Good me g) which.Version (suc last) _ (λ _.
+      by_test (ltb (suc x.readings.last) first) (λ _. bootstrap_holds me now g Known x (sound me g Known _ x A)) (λ _.
+      where_fits (Good me g Known) which.Version (suc last) _ (λ _.
       let y : Course = x ▸ cancel ▸ promise pn in
-      let B = promised pn (cancel x) (following x peon A) in
+      let B = promised pn (cancel x) (cancelled x (following x peon A)) in
       let C = answers y f last (promise_leaves (λ z. f ≡ z.state.peon.leader) pn (cancel x) (eqb-true f x.state.peon.leader t.2) (eqb-true f x.state.peon.leader t.2)) behind B in
-      done (as_known me g (y ▸ send me f (last_answer n y.readings (suc last))) phase.Peon (promise_leaves (λ z. z.state.phase ≡ phase.Peon) pn (cancel x) peon peon) C))))
+      done (as_known me g Known (y ▸ send me f (last_answer n y.readings (suc last))) phase.Peon (promise_leaves (λ z. z.state.phase ≡ phase.Peon) pn (cancel x) peon peon) C))))
 
   -- ---- values
 
-  pub hear_begin_holds : (f e : ℕ) (pn v : ℕ) (value : List Op) (x : Course) → Accepted g f v pn value → Good me g x → Then (Good me g) (hear_begin me f e pn v value x)
+  pub hear_begin_holds : (f e : ℕ) (pn v : ℕ) (value : List Op) (x : Course) → Accepted g f v pn value → Good me g Known x → Then (Good me g Known) (hear_begin me f e pn v value x)
   unfolding hear_begin
   hear_begin_holds f e pn v value x K A = by_test (not (of_leader f e x && eqb pn (promise_of x.readings) && eqb v (suc x.readings.last))) (λ _. done A) (λ heard.
       let t = and_three (of_leader f e x) (eqb pn (promise_of x.readings)) (eqb v (suc x.readings.last)) (not-false _ heard) in
@@ -138,31 +153,48 @@ module _ (me : Me) (now : ℕ) (g : Ghost) where
       let now_is = eqb-true pn (promise_of x.readings) t.1 in
       let next = eqb-true v (suc x.readings.last) t.2 in
       let y : Course = x ▸ change (Vote v pn value) ▸ cancel ▸ send me f (body.Accept pn v) in
-      let B = accepts (λ h. FollowsIn h i (core x)) (λ k. FollowsIn k i (core y) × Accepted k i v pn value) v pn value me.member.in_map (following x peon A)
+      let B = accepts (λ h. FollowsIn h i (core (cancel x))) (λ k. FollowsIn k i (core y) × Accepted k i v pn value) v pn value me.member.in_map (A.known f v pn value (accepted_lasts i g A.h A.ext f v pn value K)) (cancelled x (following x peon A))
       (λ h E G D p.
       let a : Accepted h f v pn value = accepted_lasts i g h E f v pn value K in
       let T = G.triples in (
         record { unmarked = p.unmarked; next = next; now = now_is; fine = T.fine f v pn value a; owner = inr (T.owner f v pn value a); made = λ q. D.kept.made f v pn value a q },
         record { one = λ j z b. T.one j f v pn z value b a; safe = λ r z Q lt ne ma le. T.safe f v pn r value z Q a lt ne ma le },
       ))
-      (λ h E G p. (follows_last i h (accepted i v pn value h) E i (core x) (λ e seq s c a. a) p, inl refl)) in
+      (λ h E G p. (follows_last i h (accepted i v pn value h) E i (core (cancel x)) (λ t. no t) (λ e seq s c a. a) p, inl refl)) in
       let C = tells me (λ k. FollowsIn k i (core y) × Accepted k i v pn value) (body.Accept pn v) f B (λ h E G D p. (subst (λ (z : ℕ). Had h APromise i z) (sym now_is) (D.numbers.now APromise), value, p.1)) in
-      done (as_known me g y phase.Peon peon (weaken _ _ C (λ h E G D p. p.0))))
+      done (as_known me g Known y phase.Peon peon (weaken _ _ C (λ h E G D p. p.0))))
 
-  pub hear_commit_holds : (f e : ℕ) (from : ℕ) (values : List (List Op)) (x : Course) → AllByRecursion Val values → Good me g x → Then (Good me g) (hear_commit f e from values x)
+  pub hear_commit_holds : (f e : ℕ) (from : ℕ) (values : List (List Op)) (x : Course) → AllByRecursion Val values → Good me g Known x → Then (Good me g Known) (hear_commit f e from values x)
   unfolding hear_commit
   hear_commit_holds f e from values x V A = by_test (not (of_leader f e x) || ltb (suc x.readings.last) from) (λ _. done A) (λ heard.
       let t = and_three (is_peon x.state.phase) (eqb e (epoch_of x.readings)) (eqb f x.state.peon.leader) (not-false _ ((or_parts (not (of_leader f e x)) _ heard).0)) in
       let peon = peon_is_peon x.state.phase t.0 in
       let B = following x peon A in
       let news = drop (suc x.readings.last - from) values in
-      learn_then (Good me g) (suc x.readings.last) news x (λ _. A) (λ last is le.
-      as_known me g (learned_by (suc x.readings.last) news last x) phase.Peon peon
-      (learned_at me g (λ h. FollowsIn h i (core x)) (λ o h. FollowsIn h i (core_of o x.state)) (suc x.readings.last) news last x (all_drop Val (suc x.readings.last - from) values V) B.fact.unmarked (omega arith) B
-      (λ h k X E D p level same hands. follows_last i h k E i (core x) hands p))))
+      learn_then (Good me g Known) (suc x.readings.last) news x (λ _. A) (λ last is le.
+      as_known me g Known (learned_by (suc x.readings.last) news last x) phase.Peon peon
+      (learned_at me g Known (λ h. FollowsIn h i (core x)) (λ o h. FollowsIn h i (core_of o x.state)) (suc x.readings.last) news last x (all_drop Val (suc x.readings.last - from) values V) B.fact.unmarked (omega arith) B
+      (λ h k X E D p level same hands.
+      let q = follows_last i h k E i (core x) (λ _. same i) hands p in
+      record { role = q.role; unmarked = q.unmarked; sessions = q.sessions; below = q.below; clear = λ t v r y a. let s = q.clear t v r y a in omega arith; led = q.led }))))
 
-  -- ---- leases
+  -- ---- a lease that is given
 
-  pub hear_lease_holds : (f e : ℕ) (last : ℕ) (x : Course) → Good me g x → Then (Good me g) (hear_lease me now f e last x)
+  pub hear_lease_holds : (f e : ℕ) (last : ℕ) (x : Course) → Followed g e f → Good me g Known x → Then (Good me g Known) (hear_lease me now f e last x)
   unfolding hear_lease
-  hear_lease_holds f e last x A = by_test (not (of_leader f e x) || not (eqb last x.readings.last) || is_some (pending x.readings)) (λ _. done A) (λ _. done (tells me _ (body.LeaseAck x.readings.last) f A (λ h E G D p. tt)))
+  hear_lease_holds f e last x K A = by_test (not (of_leader f e x) || not (eqb last x.readings.last) || is_some (pending x.readings)) (λ _. done A) (λ heard.
+      let s = or_three (not (of_leader f e x)) (not (eqb last x.readings.last)) (is_some (pending x.readings)) heard in
+      let t = and_three (is_peon x.state.phase) (eqb e (epoch_of x.readings)) (eqb f x.state.peon.leader) (not-false _ s.0) in
+      let peon = peon_is_peon x.state.phase t.0 in
+      let at = eqb-true e (epoch_of x.readings) t.1 in
+      let by = eqb-true f x.state.peon.leader t.2 in
+      let y : Course = x ▸ peon_is (record x.state.peon { lease = lease.extended now }) ▸ arm now timer.Lease in
+      let B : At me g Known (λ h. FollowsIn h i (core y)) y = weaken _ _ (following x peon A) (λ h E G D p. record {
+        role = p.role;
+        unmarked = p.unmarked;
+        sessions = p.sessions;
+        below = p.below;
+        clear = λ _ v r z a. committed h x.readings G D p.unmarked s.2 v r z a;
+        led = λ _. subst (λ (z : ℕ). Followed h (epoch_of x.readings) z) by (subst (λ (z : ℕ). Followed h z f) at (followed_lasts i g h E e f K));
+      }) in
+      done (tells me _ (body.LeaseAck x.readings.last) f (as_known me g Known y phase.Peon peon B) (λ h E G D p. tt)))

@@ -15,7 +15,7 @@ use Rattle.mon_wire.specs.declared.body.Body.{Body}
 use Rattle.mon_wire.specs.declared.request.Session.{Session}
 use Rattle.quorum_history.proofs.Frame.{accepted_below, sent_lasts}
 use Rattle.quorum_history.proofs.Growing.{grows_by, grows_more, grows_not}
-use Rattle.quorum_history.proofs.History.{ALevel, ANumber, APromise, AnEpoch, Asks, Entered, Entry, Ext, Ghost, Glob, Had, HadIn, Hand, Handed, HandsHold, Refuses, Rising, RolesHold, Sign, Triple, entry, ext_trans, had_lasts, hand, sign, triple}
+use Rattle.quorum_history.proofs.History.{ALevel, ANumber, APromise, AnEpoch, Accepted, Ask, Asks, Entered, Entry, Ext, Ghost, Glob, Had, HadIn, Hand, Handed, HandsHold, NewEntry, Refuses, Rising, RolesHold, Sign, Triple, entry, ext_trans, had_lasts, hand, sign, triple}
 use Rattle.quorum_history.proofs.Holds.{BodyHolds, Disk, Kept, Numbered, SentHolds, Tied, With, epoch_in, level_in, number_in_own, number_of, promise_in}
 use Rattle.quorum_walk.proofs.Lists.{Among, all_among, all_append, all_map, all_of, among_append, among_left}
 use Rattle.quorum_walk.proofs.Sparing.{Own}
@@ -24,26 +24,26 @@ use Rattle.std.specs.List.{AllByRecursion}
 
 -- ---- with no new history
 
-module _ {n i : ℕ} {g : Ghost} {o : Own} {records : ℕ → Cell} {cs : List Change} {out : List Sent} where
-  pub weaken : (P Q : Ghost → Type 0) → With n i g o records cs out P → ((h : Ghost) → Ext i g h → Glob n h → Disk h i o records → P h → Q h) → With n i g o records cs out Q
-  weaken P Q A f = record { h = A.h; ext = A.ext; glob = A.glob; disk = A.disk; tied = A.tied; sent = A.sent; fact = f A.h A.ext A.glob A.disk A.fact }
+module _ {n i : ℕ} {g : Ghost} {Known : ℕ → List Op → Type 0} {o : Own} {records : ℕ → Cell} {cs : List Change} {out : List Sent} where
+  pub weaken : (P Q : Ghost → Type 0) → With n i g Known o records cs out P → ((h : Ghost) → Ext i g h → Glob n h → Disk h i o records → P h → Q h) → With n i g Known o records cs out Q
+  weaken P Q A f = record { h = A.h; ext = A.ext; glob = A.glob; disk = A.disk; tied = A.tied; known = A.known; asks = A.asks; sent = A.sent; fact = f A.h A.ext A.glob A.disk A.fact }
 
-  pub says : (P : Ghost → Type 0) (more : List Sent) → With n i g o records cs out P → ((h : Ghost) → Ext i g h → Glob n h → Disk h i o records → P h → AllByRecursion (SentHolds h i) more) → With n i g o records cs (out ++ more) P
-  says P more A f = record { h = A.h; ext = A.ext; glob = A.glob; disk = A.disk; tied = A.tied; sent = all_append _ out more A.sent (f A.h A.ext A.glob A.disk A.fact); fact = A.fact }
+  pub says : (P : Ghost → Type 0) (more : List Sent) → With n i g Known o records cs out P → ((h : Ghost) → Ext i g h → Glob n h → Disk h i o records → P h → AllByRecursion (SentHolds h i) more) → With n i g Known o records cs (out ++ more) P
+  says P more A f = record { h = A.h; ext = A.ext; glob = A.glob; disk = A.disk; tied = A.tied; known = A.known; asks = A.asks; sent = all_append _ out more A.sent (f A.h A.ext A.glob A.disk A.fact); fact = A.fact }
 
 -- one message to some
 pub messages_hold : (me : Me) (h : Ghost) (o : Own) (b : Body) (tos : List ℕ) → Numbered h.signs me.member.rank o → ((to : ℕ) → BodyHolds h me.member.rank to (epoch_in o) b) → AllByRecursion (SentHolds h me.member.rank) (map (message_to me (epoch_in o) b) tos)
 messages_hold me h o b tos N f = all_of (SentHolds h me.member.rank) (message_to me (epoch_in o) b) (λ to. (refl, record { epoch = N.now AnEpoch; body = f to })) tos
 
-module _ (me : Me) {g : Ghost} {o : Own} {records : ℕ → Cell} {cs : List Change} {out : List Sent} where
+module _ (me : Me) {g : Ghost} {Known : ℕ → List Op → Type 0} {o : Own} {records : ℕ → Cell} {cs : List Change} {out : List Sent} where
   -- a message to each of some
-  pub tells_each : (P : Ghost → Type 0) (b : Body) (tos : List ℕ) → With me.member.monitors me.member.rank g o records cs out P → ((h : Ghost) → Ext me.member.rank g h → Glob me.member.monitors h → Disk h me.member.rank o records → P h → (to : ℕ) → BodyHolds h me.member.rank to (epoch_in o) b)
-      → With me.member.monitors me.member.rank g o records cs (out ++ map (message_to me (epoch_in o) b) tos) P
+  pub tells_each : (P : Ghost → Type 0) (b : Body) (tos : List ℕ) → With me.member.monitors me.member.rank g Known o records cs out P → ((h : Ghost) → Ext me.member.rank g h → Glob me.member.monitors h → Disk h me.member.rank o records → P h → (to : ℕ) → BodyHolds h me.member.rank to (epoch_in o) b)
+      → With me.member.monitors me.member.rank g Known o records cs (out ++ map (message_to me (epoch_in o) b) tos) P
   tells_each P b tos A f = says P _ A (λ h E G D p. messages_hold me h o b tos D.numbers (f h E G D p))
 
   -- a message to one
-  pub tells : (P : Ghost → Type 0) (b : Body) (to : ℕ) → With me.member.monitors me.member.rank g o records cs out P → ((h : Ghost) → Ext me.member.rank g h → Glob me.member.monitors h → Disk h me.member.rank o records → P h → BodyHolds h me.member.rank to (epoch_in o) b)
-      → With me.member.monitors me.member.rank g o records cs (out ++ message_to me (epoch_in o) b to ∷ []) P
+  pub tells : (P : Ghost → Type 0) (b : Body) (to : ℕ) → With me.member.monitors me.member.rank g Known o records cs out P → ((h : Ghost) → Ext me.member.rank g h → Glob me.member.monitors h → Disk h me.member.rank o records → P h → BodyHolds h me.member.rank to (epoch_in o) b)
+      → With me.member.monitors me.member.rank g Known o records cs (out ++ message_to me (epoch_in o) b to ∷ []) P
   tells P b to A f = says P _ A (λ h E G D p. ((refl, record { epoch = D.numbers.now AnEpoch; body = f h E G D p }), tt))
 
 -- ---- changes without votes and new numbers
@@ -73,9 +73,9 @@ plainly i g h k cs more plain forth back T = tied_more i g h k cs more (λ v p x
 
 -- ---- with a new history
 
-pub further : {n i : ℕ} {g : Ghost} {o : Own} {records : ℕ → Cell} {cs : List Change} {out : List Sent} (P Q : Ghost → Type 0) (o2 : Own) (records2 : ℕ → Cell) (cs2 : List Change) (A : With n i g o records cs out P) (k : Ghost)
-    → Ext i A.h k → Glob n k → Disk k i o2 records2 → Tied i g k cs2 → Q k → With n i g o2 records2 cs2 out Q
-further {i = i} {out = out} P Q o2 records2 cs2 A k E G D T q = record { h = k; ext = ext_trans A.ext E; glob = G; disk = D; tied = T; sent = all_map _ _ (sent_lasts i A.h k E i) out A.sent; fact = q }
+pub further : {n i : ℕ} {g : Ghost} {Known : ℕ → List Op → Type 0} {o : Own} {records : ℕ → Cell} {cs : List Change} {out : List Sent} (P Q : Ghost → Type 0) (o2 : Own) (records2 : ℕ → Cell) (cs2 : List Change) (A : With n i g Known o records cs out P) (k : Ghost)
+    → Ext i A.h k → Glob n k → Disk k i o2 records2 → Tied i g k cs2 → ((j v p : ℕ) (x : List Op) → Accepted k j v p x → Known v x) → ((a : Ask) → Among a k.asks → Among a A.h.asks) → Q k → With n i g Known o2 records2 cs2 out Q
+further {i = i} {out = out} P Q o2 records2 cs2 A k E G D T K N q = record { h = k; ext = ext_trans A.ext E; glob = G; disk = D; tied = T; known = K; asks = λ a m. A.asks a (N a m); sent = all_map _ _ (sent_lasts i A.h k E i) out A.sent; fact = q }
 
 -- ---- numbers that rise
 
@@ -145,15 +145,15 @@ signed_glob n i o g G = record {
 }
 
 -- changes without a vote, after which no number is lower
-pub moves : {n i : ℕ} {g : Ghost} {o : Own} {records : ℕ → Cell} {cs : List Change} {out : List Sent} (P Q : Ghost → Type 0) (o2 : Own) (records2 : ℕ → Cell) (more : List Change) → Plain more → ((k : Rising) → number_of o k ≤ number_of o2 k)
-    → (A : With n i g o records cs out P) → ((h : Ghost) → Ext i g h → Glob n h → Disk h i o records → P h → Kept h.roles h.hands h.accepts i o2 records2)
-    → ((h : Ghost) → Ext i g h → Ext i h (signed i o2 h) → Glob n h → Disk h i o records → P h → Q (signed i o2 h)) → With n i g o2 records2 (cs ++ more) out Q
-moves {n} {i} {g} {o} {records} {cs} P Q o2 records2 more calm up A keep f =
+pub moves : {n i : ℕ} {g : Ghost} {Known : ℕ → List Op → Type 0} {o : Own} {records : ℕ → Cell} {cs : List Change} {out : List Sent} (P Q : Ghost → Type 0) (o2 : Own) (records2 : ℕ → Cell) (more : List Change) → Plain more → ((k : Rising) → number_of o k ≤ number_of o2 k)
+    → (A : With n i g Known o records cs out P) → ((h : Ghost) → Ext i g h → Glob n h → Disk h i o records → P h → Kept h.roles h.hands h.accepts i o2 records2)
+    → ((h : Ghost) → Ext i g h → Ext i h (signed i o2 h) → Glob n h → Disk h i o records → P h → Q (signed i o2 h)) → With n i g Known o2 records2 (cs ++ more) out Q
+moves {n} {i} {g} {Known} {o} {records} {cs} P Q o2 records2 more calm up A keep f =
     let h = A.h in
     let k = signed i o2 h in
     let E = signed_ext i o2 h in
     further P Q o2 records2 (cs ++ more) A k E (signed_glob n i o2 h A.glob) (record { numbers = signed_numbers i o o2 h up A.disk.numbers; kept = keep h A.ext A.glob A.disk A.fact })
-    (plainly i g h k cs more calm (λ t a. a) (λ t a. a) A.tied) (f h A.ext E A.glob A.disk A.fact)
+    (plainly i g h k cs more calm (λ t a. a) (λ t a. a) A.tied) A.known (λ a m. m) (f h A.ext E A.glob A.disk A.fact)
 
 -- ---- an epoch
 
@@ -182,9 +182,9 @@ epoch_up e o le APromise = omega arith
 epoch_up e o le ALevel = omega arith
 
 -- a later epoch, in which i has no role yet
-pub rises : {n i : ℕ} {g : Ghost} {o : Own} {records : ℕ → Cell} {cs : List Change} {out : List Sent} (P Q : Ghost → Type 0) (e : ℕ) → epoch_in o ≤ e → With n i g o records cs out P → ((h k : Ghost) → Ext i h k → P h → Q k)
-    → With n i g (with_epoch e o) records (cs ++ Epoch e ∷ []) out Q
-rises {n} {i} {g} {o} {records} P Q e le A f = moves P Q (with_epoch e o) records (Epoch e ∷ []) (tt, tt) (epoch_up e o le) A (λ h E G D p. epoch_kept h.roles h.hands h.accepts i e o records le D.kept) (λ h E F G D p. f h (signed i (with_epoch e o) h) F p)
+pub rises : {n i : ℕ} {g : Ghost} {Known : ℕ → List Op → Type 0} {o : Own} {records : ℕ → Cell} {cs : List Change} {out : List Sent} (P Q : Ghost → Type 0) (e : ℕ) → epoch_in o ≤ e → With n i g Known o records cs out P → ((h k : Ghost) → Ext i h k → P h → Q k)
+    → With n i g Known (with_epoch e o) records (cs ++ Epoch e ∷ []) out Q
+rises {n} {i} {g} {Known} {o} {records} P Q e le A f = moves P Q (with_epoch e o) records (Epoch e ∷ []) (tt, tt) (epoch_up e o le) A (λ h E G D p. epoch_kept h.roles h.hands h.accepts i e o records le D.kept) (λ h E F G D p. f h (signed i (with_epoch e o) h) F p)
 
 -- ---- an epoch that is entered
 
@@ -200,8 +200,8 @@ pub record MayEnter (n i : ℕ) (g : Ghost) (e l : ℕ) (q : List Bool) : Type 0
   pub within : (m : ℕ) → has q m ≡ true → m < n
   pub lead : (l ≡ i) ⊎ Entered g l e l q
 
-entered_ext : (i e l : ℕ) (q : List Bool) (g : Ghost) → Ext i g (entered i e l q g)
-entered_ext i e l q g = record { roles = grows_by _ (entry i e l q) g.roles refl; hands = grows_not _ g.hands; asks = grows_not _ g.asks; signs = grows_not _ g.signs; accepts = grows_not _ g.accepts }
+entered_ext : (i e l : ℕ) (q : List Bool) (g : Ghost) → ((n : ℕ) → Had g AnEpoch i n → n < e) → Ext i g (entered i e l q g)
+entered_ext i e l q g later = record { roles = grows_by (NewEntry i g) (entry i e l q) g.roles (record { who = refl; later = later }); hands = grows_not _ g.hands; asks = grows_not _ g.asks; signs = grows_not _ g.signs; accepts = grows_not _ g.accepts }
 
 -- what holds of the new entry and of the old ones holds of all
 each_entry : (i e l : ℕ) (q : List Bool) (rs : List Entry) (P : Entry → Type 0) → P (entry i e l q) → ((j f m : ℕ) (w : List Bool) → Among (entry j f m w) rs → P (entry j f m w)) → (j f m : ℕ) (w : List Bool) → Among (entry j f m w) (entry i e l q ∷ rs) → P (entry j f m w)
@@ -247,24 +247,24 @@ entered_kept i e l q rs hs ts o records at k = record {
   clear = k.clear;
 }
 
-pub enters : {n i : ℕ} {g : Ghost} {o : Own} {records : ℕ → Cell} {cs : List Change} {out : List Sent} (P Q : Ghost → Type 0) (e l : ℕ) (q : List Bool) → epoch_in o < e → (A : With n i g o records cs out P)
+pub enters : {n i : ℕ} {g : Ghost} {Known : ℕ → List Op → Type 0} {o : Own} {records : ℕ → Cell} {cs : List Change} {out : List Sent} (P Q : Ghost → Type 0) (e l : ℕ) (q : List Bool) → epoch_in o < e → (A : With n i g Known o records cs out P)
     → ((h : Ghost) → Ext i g h → P h → MayEnter n i h e l q)
     → ((h k : Ghost) → Ext i h k → Kept h.roles h.hands h.accepts i o records → P h → Entered k i e l q → ((seq : ℕ) (s : Session) (c : Command) → Handed k i e seq s c → Handed h i e seq s c) → Q k)
-    → With n i g (with_epoch e o) records (cs ++ Epoch e ∷ []) out Q
-enters {n} {i} {g} {o} {records} {cs} P Q e l q lt A may f =
+    → With n i g Known (with_epoch e o) records (cs ++ Epoch e ∷ []) out Q
+enters {n} {i} {g} {Known} {o} {records} {cs} P Q e l q lt A may f =
     let h = A.h in
     let o2 = with_epoch e o in
-    let j = signed i o2 h in
-    let k = entered i e l q j in
+    let j = entered i e l q h in
+    let k = signed i o2 j in
     let M = may h A.ext A.fact in
-    let E1 = signed_ext i o2 h in
-    let E : Ext i h k = ext_trans E1 (entered_ext i e l q j) in
+    let E1 = entered_ext i e l q h (λ m a. let t = A.disk.numbers.top AnEpoch m a in omega arith) in
+    let E : Ext i h k = ext_trans E1 (signed_ext i o2 j) in
     let G = signed_glob n i o2 h A.glob in
     let kept = epoch_kept h.roles h.hands h.accepts i e o records (omega arith) A.disk.kept in
     further P Q o2 records (cs ++ Epoch e ∷ []) A k E
     (record { roles = entered_roles n i e l q h (epoch_in o) lt (λ f m w a. A.disk.kept.roles f m w a) A.glob.roles M; hands = G.hands; triples = G.triples })
     (record { numbers = signed_numbers i o o2 h (epoch_up e o (omega arith)) A.disk.numbers; kept = entered_kept i e l q h.roles h.hands h.accepts o2 records refl kept })
-    (plainly i g h k cs (Epoch e ∷ []) (tt, tt) (λ t a. a) (λ t a. a) A.tied)
+    (plainly i g h k cs (Epoch e ∷ []) (tt, tt) (λ t a. a) (λ t a. a) A.tied) A.known (λ a m. m)
     (f h k E A.disk.kept A.fact (inl refl) (λ seq s c a. a))
 
 -- ---- a command that is handed on
@@ -309,10 +309,10 @@ handed_kept i e seq s c rs hs ts o records at k = record {
 pub handed_below : (i e seq : ℕ) (s : Session) (c : Command) (g : Ghost) → ((q : ℕ) (t : Session) (d : Command) → Handed g i e q t d → q < seq) → (q : ℕ) (t : Session) (d : Command) → Handed (handed i e seq s c g) i e q t d → q < suc seq
 handed_below i e seq s c g below q t d a = elim a [ inl p ↦ (let w : q ≡ seq = ap (λ (r : Hand). r.seq) p in omega arith) | inr o ↦ (let w = below q t d o in omega arith) ]
 
-pub hands_on : {n i : ℕ} {g : Ghost} {o : Own} {records : ℕ → Cell} {cs : List Change} {out : List Sent} (P Q : Ghost → Type 0) (seq : ℕ) (s : Session) (c : Command) → (A : With n i g o records cs out P)
+pub hands_on : {n i : ℕ} {g : Ghost} {Known : ℕ → List Op → Type 0} {o : Own} {records : ℕ → Cell} {cs : List Change} {out : List Sent} (P Q : Ghost → Type 0) (seq : ℕ) (s : Session) (c : Command) → (A : With n i g Known o records cs out P)
     → ((h : Ghost) → Ext i g h → P h → Asks h i s c) → ((h : Ghost) → P h → (t : Session) (d : Command) → Handed h i (epoch_in o) seq t d → ⊥)
-    → ((h : Ghost) → Ext i h (handed i (epoch_in o) seq s c h) → P h → Q (handed i (epoch_in o) seq s c h)) → With n i g o records cs out Q
-hands_on {n} {i} {g} {o} {records} {cs} P Q seq s c A ask fresh f =
+    → ((h : Ghost) → Ext i h (handed i (epoch_in o) seq s c h) → P h → Q (handed i (epoch_in o) seq s c h)) → With n i g Known o records cs out Q
+hands_on {n} {i} {g} {Known} {o} {records} {cs} P Q seq s c A ask fresh f =
     let h = A.h in
     let e = epoch_in o in
     let k = handed i e seq s c h in
@@ -320,4 +320,4 @@ hands_on {n} {i} {g} {o} {records} {cs} P Q seq s c A ask fresh f =
     further P Q o records cs A k E
     (record { roles = A.glob.roles; hands = handed_hold i e seq s c h (ask h A.ext A.fact) (fresh h A.fact) A.glob.hands; triples = A.glob.triples })
     (record { numbers = A.disk.numbers; kept = handed_kept i e seq s c h.roles h.hands h.accepts o records refl A.disk.kept })
-    (record { votes = A.tied.votes; only = A.tied.only; made = A.tied.made }) (f h E A.fact)
+    (record { votes = A.tied.votes; only = A.tied.only; made = A.tied.made }) A.known (λ a m. m) (f h E A.fact)

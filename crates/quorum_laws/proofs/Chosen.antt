@@ -11,17 +11,22 @@ use Rattle.mon_wire.specs.declared.phase.Phase.{Phase}
 use Rattle.quorum_history.proofs.History as history
 use Rattle.quorum_history.proofs.History.{APromise}
 use Rattle.quorum_history.proofs.Holds as holds
-use Rattle.quorum_history.proofs.Holds.{AllIn, Core, Heard, InPhase, LeadsIn, Nowhere, core_of, epoch_in}
+use Rattle.quorum_history.proofs.Holds.{AllIn, Core, Heard, InPhase, LeadsIn, Nowhere, UpdatesIn, core_of, epoch_in}
 use Rattle.quorum_history.proofs.Phases.{no}
+use Rattle.quorum_laws.proofs.Beginning.{at_first}
+use Rattle.quorum_laws.proofs.Events.{both_runs}
 use Rattle.quorum_laws.proofs.Invariant.{InvOf}
+use Rattle.quorum_laws.proofs.Later.{Later}
 use Rattle.quorum_laws.proofs.Reading.{accepted_as, as_accepted, at_least, state_holds}
-use Rattle.quorum_laws.specs.Accepting.{HasAccepted, readings_at}
-use Rattle.quorum_laws.specs.Values.{IsChosen, KnowsOlder, LeadersKnow, LeavesNoRoom, OneValue, Refuses, Repeats, has_heard}
+use Rattle.quorum_laws.specs.Accepting.{HasAccepted, IsMajorityOf, readings_at}
+use Rattle.quorum_laws.specs.Values.{AcceptedNothing, IsChosen, KnowsOlder, LeadersKnow, LeavesNoRoom, OneValue, ProposesNew, Refuses, Repeats, has_heard}
+use Rattle.quorum_model.specs.Events.{AllFit}
 use Rattle.quorum_model.specs.Monitors.{Monitors}
-use Rattle.quorum_model.specs.World.{World}
+use Rattle.quorum_model.specs.Runs.{run}
+use Rattle.quorum_model.specs.World.{Event, World, first_world}
 use Rattle.quorum_walk.proofs.Ranks.{Below, majorities, within_at}
 use Rattle.quorum_walk.proofs.Sparing.{own_of}
-use Rattle.std.proofs.Common.{Bool, List, None, Option, Some, [], ap, arith, false, inl, inr, length, refl, subst, suc, sym, true, ℕ, ◌<◌, ◌∙◌, ◌∷◌, ◌≡◌, ◌≤◌, ◌⊎◌}
+use Rattle.std.proofs.Common.{Bool, List, None, Option, Some, [], ap, arith, false, inl, inr, length, refl, subst, suc, sym, true, ℕ, ◌++◌, ◌<◌, ◌∙◌, ◌∷◌, ◌≡◌, ◌≤◌, ◌⊎◌}
 use Rattle.std.proofs.lemmas.Bool.{cases_order, false≢true}
 use Rattle.std.proofs.lemmas.Slice.Eq.{bytes_eq-Decides}
 use Rattle.std.specs.Str.{bytes_eq}
@@ -135,3 +140,35 @@ module _ (ms : Monitors) (w : World) (I : InvOf ms w) where
 
   pub leaders_know : LeadersKnow w
   leaders_know i s up t = in_phase_knows i s s.phase refl t (state_holds ms w I i s up)
+
+  -- ---- new values
+
+  -- who is updating heard of nothing that is left
+  pub nothing_lower : (i : ℕ) (s : State) (lower : ℕ) (q : List Bool) → w.state i ≡ Some s → s.phase ≡ phase.Updating → lower < s.leader.pn → IsMajorityOf ms.count q → AcceptedNothing w q (suc (readings_at w i).last) lower
+  nothing_lower i s lower q up e lt Q =
+      let R = I.glob.roles in
+      let k : UpdatesIn ms.count I.g i (c i s) = subst (InPhase ms.count I.g i (c i s)) e (state_holds ms w I i s up) in
+      let role = k.0.reigns.role in
+      let m = majorities ms.count s.leader.quorum q (R.major i (epoch_in (c i s).own) i s.leader.quorum role) Q.major (R.within i (epoch_in (c i s).own) i s.leader.quorum role) Q.below in
+      let h = heard i s Nowhere k.0 k.1 m.0 m.1 in
+      record {
+        rank = m.0;
+        within = m.2;
+        promised = let p = at_least ms w I APromise m.0 s.leader.pn h.promised in omega arith;
+        never = λ bytes a.
+            let t = accepted_as ms w I m.0 (suc (readings_at w i).last) lower bytes a in
+            elim (h.covers (suc (readings_at w i).last) lower t.0 t.2 lt) [ inl le ↦ (let s : suc (readings_at w i).last ≤ (readings_at w i).last = le in omega arith) | inr l ↦ l ];
+      }
+
+stays_nothing : (w next : World) → Later w next → (q : List Bool) (v lower : ℕ) → AcceptedNothing w q v lower → AcceptedNothing next q v lower
+stays_nothing w next L q v lower k = record {
+  rank = k.rank;
+  within = k.within;
+  promised = let p = (L.each k.rank).promise in let s = k.promised in omega arith;
+  never = λ bytes a. elim (L.since k.rank v lower bytes a) [ inl old ↦ k.never bytes old | inr le ↦ (let s = k.promised in omega arith) ];
+}
+
+pub proposes_new : (ms : Monitors) (before after : List Event) → AllFit ms.count (before ++ after) → ProposesNew ms.count (run ms before) (run ms (before ++ after))
+proposes_new ms before after F i s lower q up e lt Q =
+    let B = both_runs ms first_world before after F (at_first ms) in
+    stays_nothing (run ms before) (run ms (before ++ after)) B.3 q (suc (readings_at (run ms before) i).last) lower (nothing_lower ms (run ms before) B.0 i s lower q up e lt Q)

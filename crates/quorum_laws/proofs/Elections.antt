@@ -1,18 +1,18 @@
 -- What is known of elections in every run.
-use Rattle.mon_msg.specs.Protocol.Phases.{is_leading, is_member, is_peon}
-use Rattle.mon_msg.specs.Protocol.Readings.{after}
+use Rattle.mon_msg.specs.Protocol.Phases.{is_member}
+use Rattle.mon_msg.specs.Protocol.Readings.{epoch_of}
 use Rattle.mon_msg.specs.Protocol.State.{State, quorum_of}
-use Rattle.mon_types.specs.Ranks.{no_ranks}
-use Rattle.mon_wire.specs.declared.phase.Phase.TheVariants as phase
-use Rattle.mon_wire.specs.declared.phase.Phase.{Phase}
-use Rattle.quorum_history.proofs.History.{AnEpoch, Entered, entry}
-use Rattle.quorum_history.proofs.Holds.{Core, InPhase, core_of, epoch_in}
-use Rattle.quorum_history.proofs.Phases.{no}
-use Rattle.quorum_laws.proofs.Events.{all_runs, at_first, both_runs}
+use Rattle.mon_types.specs.Ranks.{has}
+use Rattle.quorum_history.proofs.History.{AnEpoch, Entered, Joined, entry}
+use Rattle.quorum_history.proofs.Holds.{core_of}
+use Rattle.quorum_laws.proofs.Beginning.{at_first}
+use Rattle.quorum_laws.proofs.Events.{all_runs, both_runs}
 use Rattle.quorum_laws.proofs.Invariant.{InvOf, WasActive}
+use Rattle.quorum_laws.proofs.Later.{is_in}
+use Rattle.quorum_laws.proofs.Leaving.{member_in}
 use Rattle.quorum_laws.proofs.Reading.{among_of, at_least, sent_holds, state_holds}
 use Rattle.quorum_laws.specs.Accepting.{readings_at}
-use Rattle.quorum_laws.specs.Elections.{EpochsSent, IsMember, IsQuorum, leader_of}
+use Rattle.quorum_laws.specs.Elections.{ActiveAreLed, EpochsSent, IsLed, IsMember, IsQuorum, leader_of}
 use Rattle.quorum_model.specs.Events.{AllFit}
 use Rattle.quorum_model.specs.Monitors.{Monitors}
 use Rattle.quorum_model.specs.Runs.{run}
@@ -21,7 +21,8 @@ use Rattle.quorum_model.specs.World.{Event, World, first_world}
 use Rattle.quorum_walk.proofs.Lists.{all_among}
 use Rattle.quorum_walk.proofs.Ranks.{majorities}
 use Rattle.quorum_walk.proofs.Sparing.{own_of}
-use Rattle.std.proofs.Common.{Bool, List, cond, subst, true, ℕ, ◌++◌, ◌≡◌}
+use Rattle.std.proofs.Common.{Bool, List, None, Option, Some, [], ap, arith, refl, subst, sym, true, ℕ, ◌++◌, ◌∙◌, ◌∷◌, ◌≡◌}
+use Rattle.std.proofs.lemmas.Bool.{false≢true}
 
 pub one_active : (ms : Monitors) (events : List Event) → AllFit ms.count events → OneActive (run ms events)
 one_active ms events F e r s a b =
@@ -42,20 +43,9 @@ epochs_sent ms events F e c = let I = all_runs ms events F in at_least ms (run m
 
 -- what a member's history says of its quorum
 module _ (ms : Monitors) (w : World) (I : InvOf ms w) where
-  in_phase : (i : ℕ) (s : State) (c : Core) (p : Phase) → is_member p ≡ true → InPhase ms.count I.g i c p → Entered I.g i (epoch_in c.own) (cond (is_peon p) c.leader i) (cond (is_peon p) c.members (cond (is_leading p) c.quorum no_ranks))
-  in_phase i s c phase.Collecting t k = k.0.reigns.role
-  in_phase i s c phase.Previous t k = k.0.reigns.role
-  in_phase i s c phase.Active t k = k.0.reigns.role
-  in_phase i s c phase.Updating t k = k.0.reigns.role
-  in_phase i s c phase.Peon t k = k.role
-  in_phase i s c phase.Booting t k = no t
-  in_phase i s c phase.Probing t k = no t
-  in_phase i s c phase.Synchronizing t k = no t
-  in_phase i s c phase.Electing t k = no t
-
   pub member_entered : (i e l : ℕ) (q : List Bool) → IsMember w i e l q → Entered I.g i e l q
   member_entered i e l q m =
-      let k = in_phase i m.state (core_of (own_of (readings_at w i)) m.state) m.state.phase m.member (state_holds ms w I i m.state m.up) in
+      let k = member_in ms.count i I.g (core_of (own_of (readings_at w i)) m.state) m.state.phase m.member (state_holds ms w I i m.state m.up) in
       subst (λ (z : List Bool). Entered I.g i e l z) m.quorum (subst (λ (z : ℕ). Entered I.g i e z (quorum_of m.state)) m.leader (subst (λ (z : ℕ). Entered I.g i z (leader_of i m.state) (quorum_of m.state)) m.epoch k))
 
   pub quorum_holds : (i e l : ℕ) (q : List Bool) → IsMember w i e l q → IsQuorum ms.count i e l q
@@ -63,6 +53,27 @@ module _ (ms : Monitors) (w : World) (I : InvOf ms w) where
       let k = member_entered i e l q m in
       let R = I.glob.roles in
       record { even = R.even i e l q k; self = R.self i e l q k; leader = R.leader i e l q k; major = record { below = R.within i e l q k; major = R.major i e l q k } }
+
+  -- a leader that its whole quorum followed
+  pub is_led : (e l : ℕ) (q : List Bool) → Entered I.g l e l q → ((m : ℕ) → has q m ≡ true → Joined I.g m e l) → IsLed ms.count w e l
+  is_led e l q a joined =
+      let R = I.glob.roles in
+      record {
+        quorum = q;
+        even = R.even l e l q a;
+        leader = R.leader l e l q a;
+        major = record { below = R.within l e l q a; major = R.major l e l q a };
+        reached = λ m b. let j = joined m b in (I.mine m).disk.kept.roles e l j.0 j.1;
+        under = λ m k r b M.
+            let j = joined m b in
+            let same = R.once m e k l r j.0 (member_entered m e k r M) j.1 in
+            (same.0, same.1 ∙ (R.once l e l l j.0 q (R.lead m e l j.0 j.1) a).1);
+      }
+
+  pub active_are_led : ActiveAreLed ms.count w
+  active_are_led e l c =
+      let A = all_among (WasActive ms.count I.g) (e, l) w.active (among_of w.active (e, l) c) I.active in
+      is_led e l A.0 A.1 (λ m b. A.2 m (I.glob.roles.within l e l A.0 A.1 m b) b)
 
 pub quorums : (ms : Monitors) (events : List Event) → AllFit ms.count events → (i e l : ℕ) (q : List Bool) → IsMember (run ms events) i e l q → IsQuorum ms.count i e l q
 quorums ms events F i e l q m = quorum_holds ms (run ms events) (all_runs ms events F) i e l q m
@@ -73,3 +84,28 @@ member_once ms before after F i e l k q r a b =
     let first = member_entered ms (run ms before) B.0 i e l q a in
     let second = member_entered ms (run ms (before ++ after)) B.1 i e k r b in
     B.1.glob.roles.once i e l k q r (B.2 (entry i e l q) first) second
+
+-- ---- once, and without a break
+
+fits_front : (n : ℕ) (a b : List Event) → AllFit n (a ++ b) → AllFit n a
+fits_front n [] b F = tt
+fits_front n (e ∷ a) b F = (F.0, fits_front n a b F.1)
+
+in_state : (o : Option State) → is_in o ≡ true → (s : State) × (o ≡ Some s) × (is_member s.phase ≡ true)
+in_state None t = absurd (false≢true t)
+in_state (Some s) t = (s, refl, t)
+
+pub member_between : (ms : Monitors) (before between after : List Event) → AllFit ms.count ((before ++ between) ++ after) → (i e l k : ℕ) (q r : List Bool) → IsMember (run ms before) i e l q → IsMember (run ms ((before ++ between) ++ after)) i e k r
+    → IsMember (run ms (before ++ between)) i e l q
+member_between ms before between after F i e l k q r a b =
+    let G = fits_front ms.count (before ++ between) after F in
+    let first = (both_runs ms first_world before between G (at_first ms)).3.each i in
+    let second = (both_runs ms first_world (before ++ between) after F (at_first ms)).3.each i in
+    let up = first.epoch in
+    let on = second.epoch in
+    let at = a.epoch in
+    let end = b.epoch in
+    let here : epoch_of (readings_at (run ms (before ++ between)) i) ≡ e = omega arith in
+    let s = in_state ((run ms (before ++ between)).state i) (second.inside (ap is_in b.up ∙ b.member) (omega arith)) in
+    let same = member_once ms before between G i e l (leader_of i s.0) q (quorum_of s.0) a (record { state = s.0; up = s.1; member = s.2; epoch = here; leader = refl; quorum = refl }) in
+    record { state = s.0; up = s.1; member = s.2; epoch = here; leader = sym same.0; quorum = sym same.1 }

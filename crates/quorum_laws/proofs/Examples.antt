@@ -8,7 +8,7 @@ use Rattle.mon_tx.specs.declared.op.Op.{Op}
 use Rattle.mon_wire.specs.declared.phase.Timer.TheVariants as timer
 use Rattle.mon_wire.specs.declared.request.Request.TheVariants as request
 use Rattle.mon_wire.specs.declared.request.Session.{Session}
-use Rattle.quorum_laws.proofs.Events.{unmarked_at_first}
+use Rattle.quorum_laws.proofs.Beginning.{unmarked_at_first}
 use Rattle.quorum_laws.proofs.Voting.{vote_accepted}
 use Rattle.quorum_laws.specs.Accepting.{Accepts}
 use Rattle.quorum_laws.specs.Promises.{Collects}

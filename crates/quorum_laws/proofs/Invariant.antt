@@ -1,20 +1,24 @@
 -- What holds of all monitors after every event, with some history.
+use Rattle.mon_bytes.specs.declared.command.Command.{Command}
 use Rattle.mon_msg.specs.Protocol.Readings.{Readings, readings_of}
 use Rattle.mon_msg.specs.Protocol.State.{State}
 use Rattle.mon_tx.specs.Map.{Store}
 use Rattle.mon_tx.specs.Text.{text}
 use Rattle.mon_tx.specs.declared.op.Op.{Op}
 use Rattle.mon_types.specs.Ranks.{has}
-use Rattle.quorum_history.proofs.History.{Accepted, Entered, Ghost, Glob, Joined}
+use Rattle.mon_wire.specs.declared.request.Session.{Session}
+use Rattle.quorum_history.proofs.History.{Accepted, Asks, Entered, Ghost, Glob, Joined}
 use Rattle.quorum_history.proofs.Holds.{Disk, InPhase, MessageHolds, core_of}
 use Rattle.quorum_laws.specs.Accepting.{AcceptedIn}
+use Rattle.quorum_laws.specs.Commands.{WasAsked}
 use Rattle.quorum_laws.specs.Promises.{NumbersRise}
 use Rattle.quorum_model.specs.Monitors.{Monitors}
 use Rattle.quorum_model.specs.Safe.{after_transactions}
-use Rattle.quorum_model.specs.World.{Envelope, World}
+use Rattle.quorum_model.specs.World.{Asked, Envelope, World}
 use Rattle.quorum_walk.proofs.FineCourses.{MessageFine, ReadingsFine, StateFine}
 use Rattle.quorum_walk.proofs.Sparing.{own_of}
-use Rattle.std.proofs.Common.{Bool, IfSome, List, None, Option, Some, true, ℕ, ◌<◌, ◌≡◌}
+use Rattle.std.proofs.Common.{Bool, IfSome, List, None, Option, Some, true, ℕ, ◌++◌, ◌<◌, ◌≡◌}
+use Rattle.std.proofs.lemmas.List.Elements.{Contains-append_left}
 use Rattle.std.specs.FinMap.{empty}
 use Rattle.std.specs.List.{AllByRecursion}
 
@@ -30,6 +34,9 @@ EnvelopeFine e = MessageFine e.message
 
 abbrev pub EnvelopeHolds : ℕ → Ghost → Envelope → Type 0
 EnvelopeHolds n g e = (e.message.from < n) × MessageHolds g e.to e.message
+
+pub was_asked_more : (n : ℕ) (asked more : List Asked) (rank : ℕ) (s : Session) (c : Command) → WasAsked n asked rank s c → WasAsked n (asked ++ more) rank s c
+was_asked_more n asked more rank s c k = record { by = k.by; among = Contains-append_left asked more k.by k.among; at = k.at; below = k.below; session = k.session; command = k.command; form = k.form }
 
 -- the leader had its whole quorum in the epoch
 abbrev pub WasActive : ℕ → Ghost → ℕ × ℕ → Type 0
@@ -47,7 +54,7 @@ pub record TriplesKept (g : Ghost) (transactions : ℕ → List (List Op)) : Typ
   pub kept : (i v p : ℕ) (x : List Op) → Accepted g i v p x → AcceptedIn (transactions i) v p (text x)
   pub known : (i v p : ℕ) (bytes : List ℕ) → AcceptedIn (transactions i) v p bytes → (x : List Op) × (bytes ≡ text x) × Accepted g i v p x
 
-pub record Inv (n : ℕ) (store : ℕ → Store) (state : ℕ → Option State) (transactions : ℕ → List (List Op)) (messages : List Envelope) (pairs : List (ℕ × ℕ)) : Type 0 where
+pub record Inv (n : ℕ) (store : ℕ → Store) (state : ℕ → Option State) (transactions : ℕ → List (List Op)) (messages : List Envelope) (pairs : List (ℕ × ℕ)) (asked : List Asked) : Type 0 where
   pub g : Ghost
   pub glob : Glob n g
   pub mine : (i : ℕ) → Mine n g i (readings_of (store i)) (state i)
@@ -57,6 +64,11 @@ pub record Inv (n : ℕ) (store : ℕ → Store) (state : ℕ → Option State) 
   pub sent : AllByRecursion (EnvelopeHolds n g) messages
   pub sizes : AllByRecursion EnvelopeFine messages
   pub active : AllByRecursion (WasActive n g) pairs
+  pub asks : (i : ℕ) (s : Session) (c : Command) → Asks g i s c → WasAsked n asked i s c
+
+-- where these were asked
+abbrev pub InvWith : Monitors → World → List Asked → Type 0
+InvWith ms w asked = Inv ms.count w.store w.state w.transactions w.messages w.active asked
 
 abbrev pub InvOf : Monitors → World → Type 0
-InvOf ms w = Inv ms.count w.store w.state w.transactions w.messages w.active
+InvOf ms w = InvWith ms w w.asked

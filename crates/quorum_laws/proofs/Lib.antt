@@ -1,8 +1,13 @@
+pub mod Beginning
 pub mod Chosen
+pub mod Commands
 pub mod Elections
 pub mod Events
 pub mod Examples
 pub mod Invariant
+pub mod Later
+pub mod Leases
+pub mod Leaving
 pub mod Numbers
 pub mod Reading
 pub mod Values

@@ -33,3 +33,16 @@ pub record IsQuorum (n i e l : ℕ) (q : List Bool) : Type 0 where
   pub self : has q i ≡ true
   pub leader : has q l ≡ true
   pub major : IsMajorityOf n q
+
+-- A leader of an epoch has this quorum: all of it reached the epoch, and whoever of it is in a quorum in that epoch is in this one, under
+-- this leader.
+pub record IsLed (n : ℕ) (w : World) (e l : ℕ) : Type 0 where
+  pub quorum : List Bool
+  pub even : is_even e ≡ true
+  pub leader : has quorum l ≡ true
+  pub major : IsMajorityOf n quorum
+  pub reached : (m : ℕ) → has quorum m ≡ true → e ≤ epoch_of (readings_at w m)
+  pub under : (m k : ℕ) (q : List Bool) → has quorum m ≡ true → IsMember w m e k q → (k ≡ l) × (q ≡ quorum)
+
+abbrev pub ActiveAreLed : ℕ → World → Type 0
+ActiveAreLed n w = (e l : ℕ) → Contains w.active (e, l) → IsLed n w e l

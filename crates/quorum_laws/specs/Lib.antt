@@ -1,4 +1,6 @@
 pub mod Accepting
+pub mod Commands
 pub mod Elections
+pub mod Leases
 pub mod Promises
 pub mod Values

@@ -27,6 +27,19 @@ abbrev pub LeavesNoRoom : ℕ → World → Type 0
 LeavesNoRoom n w = (i v pn lower : ℕ) (bytes other : List ℕ) (q : List Bool) → HasAccepted w i v pn bytes → lower < pn
     → ¬ (other ≡ bytes) → IsMajorityOf n q → Refuses w q v lower other
 
+-- a rank of the set that promised more than this number, and accepted nothing for the version under it
+pub record AcceptedNothing (w : World) (q : List Bool) (v pn : ℕ) : Type 0 where
+  pub rank : ℕ
+  pub within : has q rank ≡ true
+  pub promised : pn < promise_of (readings_at w rank)
+  pub never : (bytes : List ℕ) → ¬ HasAccepted w rank v pn bytes
+
+-- What a leader is updating with is new: for its version every majority has a rank that accepted nothing under any given lower number, and
+-- by now can't any more.
+abbrev pub ProposesNew : ℕ → (before now : World) → Type 0
+ProposesNew n before now = (i : ℕ) (s : State) (lower : ℕ) (q : List Bool) → before.state i ≡ Some s → s.phase ≡ phase.Updating → lower < s.leader.pn
+    → IsMajorityOf n q → AcceptedNothing now q (suc (readings_at before i).last) lower
+
 -- all ranks of a majority accepted the bytes for a version under one number
 pub record IsChosen (n : ℕ) (w : World) (v : ℕ) (bytes : List ℕ) : Type 0 where
   pub pn : ℕ

@@ -4,4 +4,6 @@
 
 mod laws;
 
-pub use laws::{law_elections, law_one_active, law_promises, law_values};
+pub use laws::{
+    law_commands, law_elections, law_held, law_leases, law_one_active, law_promises, law_values,
+};

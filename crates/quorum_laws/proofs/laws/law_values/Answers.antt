@@ -1,6 +1,6 @@
 use Rattle.quorum_model.specs.Runs.{run}
 use Rattle.quorum_laws.proofs.Events.{all_runs}
-use Rattle.quorum_laws.proofs.Chosen.{one_value, leaves_no_room, chosen_once, leaders_know}
+use Rattle.quorum_laws.proofs.Chosen.{one_value, leaves_no_room, chosen_once, leaders_know, proposes_new}
 use Rattle.quorum_laws.proofs.laws.law_values.Goals as goal
 
 pub returns : goal.returns
@@ -9,4 +9,5 @@ returns c = record {
   room = λ ms events F. leaves_no_room ms (run ms events) (all_runs ms events F);
   chosen = λ ms events F. chosen_once ms (run ms events) (all_runs ms events F);
   leaders = λ ms events F. leaders_know ms (run ms events) (all_runs ms events F);
+  fresh = proposes_new;
 }

@@ -1,0 +1,49 @@
+-- What holds of several monitors and of their one log after every event.
+use Rattle.log_copies.proofs.Sending.{AllTell, BodyTells}
+use Rattle.log_copies.proofs.Standing.{Agrees, body_stays}
+use Rattle.log_model.proofs.Logs.{Fronts}
+use Rattle.log_model.specs.LogOfValues.{AllValues}
+use Rattle.mon_msg.specs.Protocol.State.{State, booting}
+use Rattle.mon_msg.specs.declared.plan.Sent.TheVariants as sent
+use Rattle.mon_msg.specs.declared.plan.Sent.{Sent}
+use Rattle.quorum_agreement.proofs.Chosen.{AllChosen}
+use Rattle.quorum_agreement.proofs.Made.{AllAsked, AllMade}
+use Rattle.quorum_laws.proofs.Invariant.{InvOf, InvWith}
+use Rattle.quorum_model.specs.Clients.{messages_of}
+use Rattle.quorum_model.specs.Monitors.{Monitors}
+use Rattle.quorum_model.specs.World.{Asked, Envelope, World}
+use Rattle.quorum_walk.proofs.Lists.{all_map}
+use Rattle.std.proofs.Common.{List, None, Option, Some, [], length, ℕ, ◌<◌, ◌^◌, ◌∷◌, ◌≤◌}
+use Rattle.std.specs.List.{AllByRecursion}
+
+-- what a monitor remembers, or will when it starts
+abbrev pub remembers : ℕ → Option State → State
+remembers i None = booting i
+remembers i (Some s) = s
+
+abbrev pub EnvelopeTells : List (List ℕ) → Envelope → Type 0
+EnvelopeTells log e = BodyTells log e.message.body
+
+-- Each entry of the log was chosen, and is the value of a command that was asked, over the entries before it. So is each accepted
+-- value, up to the next version. Each monitor has versions of the log or takes a copy of it, and what was sent tells of the log.
+pub record OfLog (ms : Monitors) (w : World) (asked : List Asked) (J : InvWith ms w asked) : Type 0 where
+  pub short : length w.log ≤ 2 ^ 62
+  pub values : AllValues w.log
+  pub chosen : AllChosen ms.count J.g w.log
+  pub made : AllMade ms.count J.g asked w.log
+  pub asks : AllAsked ms.count asked w.log
+  pub stores : (i : ℕ) → i < ms.count → Agrees w.log (w.store i) (remembers i (w.state i))
+  pub sent : AllByRecursion (EnvelopeTells w.log) w.messages
+
+abbrev pub LogHolds : Monitors → World → Type 0
+LogHolds ms w = (J : InvOf ms w) × OfLog ms w w.asked J
+
+-- ---- the log grows
+
+pub envelopes_stay : {log more : List (List ℕ)} → Fronts log more → (es : List Envelope) → AllByRecursion (EnvelopeTells log) es → AllByRecursion (EnvelopeTells more) es
+envelopes_stay {log} {more} F es h = all_map (EnvelopeTells log) (EnvelopeTells more) (λ e k. body_stays F e.message.body k) es h
+
+pub envelopes_tell : (log : List (List ℕ)) (sends : List Sent) → AllTell log sends → AllByRecursion (EnvelopeTells log) (messages_of sends)
+envelopes_tell log [] h = tt
+envelopes_tell log (sent.Message to m ∷ sends) h = (h.0, envelopes_tell log sends h.1)
+envelopes_tell log (sent.Reply to r ∷ sends) h = envelopes_tell log sends h.1

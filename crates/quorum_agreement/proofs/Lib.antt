@@ -1,0 +1,17 @@
+pub mod Accepting
+pub mod Beginning
+pub mod Chosen
+pub mod Event
+pub mod Grown
+pub mod Invariant
+pub mod Kept
+pub mod Every
+pub mod Lone
+pub mod LoneWorlds
+pub mod Made
+pub mod Others
+pub mod Premises
+pub mod Result
+pub mod Runs
+pub mod Step
+pub mod Worlds
