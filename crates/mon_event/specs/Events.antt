@@ -1,0 +1,52 @@
+-- An event under way in a core, and the course of the protocol that it stands for.
+use Rattle.std.specs.List.{AllByRecursion}
+use Rattle.std.specs.Prelude.{◌≡◌, ◌++◌, List, Result, Ok, Err}
+use Rattle.mon_bytes.specs.declared.memory.OutOfMemory.{OutOfMemory}
+use Rattle.mon_msg.specs.Protocol.Changes.{Change, spelled}
+use Rattle.mon_msg.specs.Protocol.Course.{Course}
+use Rattle.mon_msg.specs.Protocol.Played.{Fits, played}
+use Rattle.mon_msg.specs.Protocol.Readings.{Readings}
+use Rattle.mon_msg.specs.declared.plan.Plan.{Plan}
+use Rattle.mon_msg.specs.declared.plan.RoleStop.TheVariants as stop
+use Rattle.mon_msg.specs.declared.plan.RoleStop.{RoleStop}
+use Rattle.mon_types.specs.declared.names.Which.{Which}
+use Rattle.mon_plan.specs.Plans.{done}
+use Rattle.mon_event.specs.State.{state_of}
+use Rattle.mon_event.specs.declared.event.Carried.{Carried}
+use Rattle.mon_event.specs.declared.event.Event.{Event}
+
+-- The event writes, sends and remembers what the course does, and the store tells what the changes so far leave.
+pub record IsUnderWay (w : Readings) (e : Event) (x : Course) : Type 0 where
+  pub readings : x.readings ≡ played x.changes w
+  pub fit : AllByRecursion Fits x.changes
+  pub spelled : e.tx ≡ spelled x.changes
+  pub out : e.out ≡ x.out
+  pub state : state_of e.state ≡ x.state
+
+-- an event goes on as a course does that takes this step
+abbrev pub Goes : (old new : Event) → (Course → Course) → Type 0
+Goes old new step = (w : Readings) (x : Course) → IsUnderWay w old x → IsUnderWay w new (step x)
+
+-- The event stands where the protocol has come.
+pub record IsReached (w : Readings) (wanted : Result Course Which) (e : Event) : Type 0 where
+  pub course : Course
+  pub wanted_is : wanted ≡ Ok course
+  pub under_way : IsUnderWay w e course
+
+-- it does, or it tells which number runs out; or memory ran out
+abbrev pub Reaches : Readings → Result Course Which → Result Event RoleStop → Type 0
+Reaches w wanted (Ok e) = IsReached w wanted e
+Reaches w wanted (Err stop.OutOfMemory) = Unit {0}
+Reaches w wanted (Err (stop.Spent which)) = wanted ≡ Err which
+
+-- ---- plans
+
+-- A plan was carried out: its transaction is written behind what was, and is done whichever changes it spells.
+pub record IsCarried {S : Type 0} (is : S → Course → Course) (e : Event) (p : Plan S) (c : Carried) : Type 0 where
+  pub next : c.next ≡ p.next
+  pub written : c.event.tx ≡ e.tx ++ p.tx
+  pub done : (cs : List Change) → AllByRecursion Fits cs → p.tx ≡ spelled cs → Goes e c.event (done is cs p)
+
+abbrev pub Carries : {S : Type 0} → (S → Course → Course) → Event → Plan S → Result Carried OutOfMemory → Type 0
+Carries is e p (Ok c) = IsCarried is e p c
+Carries is e p (Err no_memory) = Unit {0}

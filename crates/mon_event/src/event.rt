@@ -1,0 +1,281 @@
+//! An event under way, and how a role's plan is carried out in it.
+
+ghost use Rattle.std.specs.Prelude.{◌≡◌, ◌++◌, OnOk, IfOk, List, None};
+ghost use Rattle.std.specs.List.{AllByRecursion};
+ghost use Rattle.mon_msg.specs.Protocol.Changes.{Change, spelled};
+ghost use Rattle.mon_msg.specs.Protocol.Course.{Course, in_phase, forget_clients, elector_is, prober_is, peon_is, clients_are, provider_is, requester_is};
+ghost use Rattle.mon_msg.specs.Protocol.Played.{Fits};
+ghost use Rattle.mon_msg.specs.Protocol.Sending.{reply_to};
+ghost use Rattle.mon_msg.specs.Protocol.Readings.{epoch_of, readings_of};
+ghost use Rattle.mon_tx.specs.Map.{apply};
+ghost use Rattle.mon_wire.specs.declared.phase.Phase.TheVariants as phases;
+ghost use Rattle.mon_plan.specs.Plans.{stands, changed, arm_all, sending, leads};
+ghost use Rattle.mon_event.specs.Events.{Goes, Carries};
+
+use crate::state::State;
+use mon_bytes::{Items, OutOfMemory};
+use mon_kv::Kv;
+use mon_msg::plan::Sent;
+use mon_msg::{
+    Arming, Clients, Elector, Leader, Next, Peon, Phase, Plan, Prober, Provider, Reply, Requester,
+    Session,
+};
+use mon_plan::Stored;
+use mon_tx::Transaction;
+use mon_types::{Epoch, Rank, RankSet};
+use std::alloc::Global;
+use std::mem;
+
+/// An event under way: what it writes and sends, and what the monitor remembers by then.
+#[derive(Drop)]
+pub struct Event {
+    pub tx: Transaction,
+    pub out: Items<Sent>,
+    pub state: State,
+}
+
+/// An event after a plan, and the act that the plan names.
+#[derive(Drop)]
+pub struct Carried {
+    pub event: Event,
+    pub next: Next,
+}
+
+impl Event {
+    /// The epoch after what is written so far.
+    pub fn epoch(&self, alloc: Global, kv: &Kv) -> Result<Epoch, OutOfMemory>
+        ensures { IfOk result (λ e. e ≡ epoch_of (readings_of (apply self.now.tx kv.now))) }
+    {
+        let stored = Stored::after(alloc, kv, &self.tx)?;
+        Ok(stored.epoch())
+    }
+
+    /// It writes this too.
+    pub fn write(&mut self, tx: Transaction) -> Result<(), OutOfMemory>
+        ensures { OnOk result (self.new ≡ record self.old { tx = self.old.tx ++ tx }) }
+    {
+        if self.tx.ops().is_empty() {
+            self.tx = tx;
+            return Ok(());
+        }
+        self.tx.append(&tx)?;
+        Ok(())
+    }
+
+    /// It sends this too.
+    pub fn send(&mut self, alloc: Global, out: Items<Sent>) -> Result<(), OutOfMemory>
+        ensures { OnOk result (self.new ≡ record self.old { out = self.old.out ++ out }) }
+    {
+        let mut all = mem::replace(&mut self.out, Items::new(alloc)).into_vec();
+        let mut more = out.into_vec();
+        all.append(&mut more)?;
+        self.out = Items::from_vec(all);
+        Ok(())
+    }
+
+    /// It answers a client.
+    pub fn reply(&mut self, to: Session, reply: Reply) -> Result<(), OutOfMemory>
+        ensures { OnOk result (Goes self.old self.new (reply_to to reply)) }
+    {
+        self.out.push(Sent::Reply { to, reply })?;
+        Ok(())
+    }
+
+    /// From now on the monitor stands in this phase.
+    pub fn enter_phase(&mut self, phase: Phase)
+        ensures goes { Goes self.old self.new (in_phase phase) }
+        ensures written { self.new.tx ≡ self.old.tx }
+    {
+        self.state.enter_phase(phase);
+    }
+
+    /// The same, and it forgets who waits.
+    pub fn start_over(&mut self, alloc: Global, phase: Phase)
+        ensures goes { Goes self.old self.new (λ x. forget_clients (in_phase phase x)) }
+        ensures written { self.new.tx ≡ self.old.tx }
+    {
+        self.enter_phase(phase);
+        self.state.forget_clients(alloc);
+    }
+
+    /// It follows this leader in this quorum, without a lease.
+    fn follow(&mut self, leader: Rank, quorum: RankSet)
+        ensures goes { Goes self.old self.new (λ x. peon_is (record { leader = leader; quorum = quorum; lease = None }) (in_phase phases.Peon x)) }
+        ensures written { self.new.tx ≡ self.old.tx }
+    {
+        self.enter_phase(Phase::Peon);
+        self.state.follow(leader, quorum);
+    }
+
+    /// The monitor stands as the act that a plan names says, before the plan's timers are set.
+    fn stand(&mut self, alloc: Global, next: &Next)
+        ensures goes { Goes self.old self.new (stands next.now) }
+        ensures written { self.new.tx ≡ self.old.tx }
+    {
+        match next {
+            Next::Electing => self.start_over(alloc, Phase::Electing),
+            Next::Follow { leader, quorum } => self.follow(*leader, *quorum),
+            Next::Stay
+            | Next::Bootstrap
+            | Next::Elect
+            | Next::Win { .. }
+            | Next::FullSync { .. }
+            | Next::RecentSync { .. }
+            | Next::Begin { .. } => {}
+        }
+    }
+
+    /// What a plan does before its role remembers anew.
+    fn begin(&mut self, alloc: Global, next: &Next, tx: Transaction) -> Result<(), OutOfMemory>
+        ensures goes { OnOk result ((cs : List Change) → AllByRecursion Fits cs → tx ≡ spelled cs
+            → Goes self.old self.new (λ x. changed cs (stands next.now x))) }
+        ensures written { OnOk result (self.new.tx ≡ self.old.tx ++ tx) }
+    {
+        self.stand(alloc, next);
+        self.write(tx)?;
+        Ok(())
+    }
+
+    /// What a plan does after its role remembers anew.
+    fn end(
+        &mut self,
+        alloc: Global,
+        timers: Items<Arming>,
+        out: Items<Sent>,
+    ) -> Result<(), OutOfMemory>
+        ensures goes { OnOk result (Goes self.old self.new (λ x. sending out (arm_all timers x))) }
+        ensures written { OnOk result (self.new.tx ≡ self.old.tx) }
+    {
+        self.state.set_timers(timers.as_slice());
+        self.send(alloc, out)?;
+        Ok(())
+    }
+
+    pub fn carry_elector(
+        mut self,
+        alloc: Global,
+        plan: Plan<Elector>,
+    ) -> Result<Carried, OutOfMemory>
+        ensures { Carries elector_is self plan result }
+    {
+        let Plan {
+            tx,
+            out,
+            timers,
+            state,
+            next,
+        } = plan;
+        self.begin(alloc, &next, tx)?;
+        self.state.elector = state;
+        self.end(alloc, timers, out)?;
+        Ok(Carried { event: self, next })
+    }
+
+    pub fn carry_prober(mut self, alloc: Global, plan: Plan<Prober>) -> Result<Carried, OutOfMemory>
+        ensures { Carries prober_is self plan result }
+    {
+        let Plan {
+            tx,
+            out,
+            timers,
+            state,
+            next,
+        } = plan;
+        self.begin(alloc, &next, tx)?;
+        self.state.prober = state;
+        self.end(alloc, timers, out)?;
+        Ok(Carried { event: self, next })
+    }
+
+    pub fn carry_leader(mut self, alloc: Global, plan: Plan<Leader>) -> Result<Carried, OutOfMemory>
+        ensures { Carries leads self plan result }
+    {
+        let Plan {
+            tx,
+            out,
+            timers,
+            state,
+            next,
+        } = plan;
+        self.begin(alloc, &next, tx)?;
+        self.state.lead(state);
+        self.end(alloc, timers, out)?;
+        Ok(Carried { event: self, next })
+    }
+
+    pub fn carry_peon(mut self, alloc: Global, plan: Plan<Peon>) -> Result<Carried, OutOfMemory>
+        ensures { Carries peon_is self plan result }
+    {
+        let Plan {
+            tx,
+            out,
+            timers,
+            state,
+            next,
+        } = plan;
+        self.begin(alloc, &next, tx)?;
+        self.state.peon = state;
+        self.end(alloc, timers, out)?;
+        Ok(Carried { event: self, next })
+    }
+
+    pub fn carry_clients(
+        mut self,
+        alloc: Global,
+        plan: Plan<Clients>,
+    ) -> Result<Carried, OutOfMemory>
+        ensures { Carries clients_are self plan result }
+    {
+        let Plan {
+            tx,
+            out,
+            timers,
+            state,
+            next,
+        } = plan;
+        self.begin(alloc, &next, tx)?;
+        self.state.clients = state;
+        self.end(alloc, timers, out)?;
+        Ok(Carried { event: self, next })
+    }
+
+    pub fn carry_provider(
+        mut self,
+        alloc: Global,
+        plan: Plan<Provider>,
+    ) -> Result<Carried, OutOfMemory>
+        ensures { Carries provider_is self plan result }
+    {
+        let Plan {
+            tx,
+            out,
+            timers,
+            state,
+            next,
+        } = plan;
+        self.begin(alloc, &next, tx)?;
+        self.state.provider = state;
+        self.end(alloc, timers, out)?;
+        Ok(Carried { event: self, next })
+    }
+
+    pub fn carry_requester(
+        mut self,
+        alloc: Global,
+        plan: Plan<Requester>,
+    ) -> Result<Carried, OutOfMemory>
+        ensures { Carries requester_is self plan result }
+    {
+        let Plan {
+            tx,
+            out,
+            timers,
+            state,
+            next,
+        } = plan;
+        self.begin(alloc, &next, tx)?;
+        self.state.requester = state;
+        self.end(alloc, timers, out)?;
+        Ok(Carried { event: self, next })
+    }
+}

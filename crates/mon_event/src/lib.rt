@@ -1,0 +1,15 @@
+//! Of what one monitor's core is made: what it remembers, what its roles see of one another, and how their plans are carried out
+//! in an event.
+#![tactic(auto)]
+
+mod event;
+mod role;
+mod seen;
+mod state;
+mod timers;
+
+pub use event::{Carried, Event};
+pub use role::{Role, role_of};
+pub use seen::{is_heard, is_leading, is_peon, scores_count, view};
+pub use state::State;
+pub use timers::Timers;

@@ -1,0 +1,162 @@
+//! What the roles of a monitor see of one another, and which messages are heard.
+
+ghost use Rattle.std.specs.Prelude.{◌≡◌, ◌&&◌, ◌==◌, not, true};
+ghost use Rattle.mon_msg.specs.Protocol.Entering.{scores_count};
+ghost use Rattle.mon_msg.specs.Protocol.Hearing.{fits_rule, has_fitting_table, is_heard};
+ghost use Rattle.mon_msg.specs.Protocol.Phases.{is_leading, is_peon, phase_of};
+ghost use Rattle.mon_msg.specs.Protocol.Reads.{is_standing};
+ghost use Rattle.mon_msg.specs.Protocol.Readings.{readings_of};
+ghost use Rattle.mon_msg.specs.Protocol.State.{quorum_of, lease_of};
+ghost use Rattle.mon_plan.specs.Seen.{leader_of, IsSeen};
+ghost use Rattle.mon_event.specs.State.{state_of};
+
+use crate::state::State;
+use election_rules::{Rule, Scores};
+use mon_kv::Kv;
+use mon_lease::{Lease, readable};
+use mon_msg::{Body, Me, Message, Phase, View};
+use mon_plan::Stored;
+use mon_types::{Moment, Rank, RankSet};
+use std::alloc::Global;
+
+// ---- phases
+
+pub fn is_leading(phase: Phase) -> bool
+    ensures { result ≡ is_leading phase }
+{
+    matches!(
+        phase,
+        Phase::Collecting | Phase::Previous | Phase::Active | Phase::Updating
+    )
+}
+
+pub fn is_peon(phase: Phase) -> bool
+    ensures { result ≡ is_peon phase }
+{
+    matches!(phase, Phase::Peon)
+}
+
+// ---- views
+
+/// The leader of its quorum, or itself.
+fn leader_of(me: &Me, state: &State) -> Rank
+    ensures { result ≡ leader_of me.now.member.rank (state_of state.now) }
+{
+    if is_peon(state.phase) {
+        state.peon.leader
+    } else {
+        me.member.rank
+    }
+}
+
+/// The quorum that it is in, or nobody.
+fn quorum_of(state: &State) -> RankSet
+    ensures { result ≡ quorum_of (state_of state.now) }
+{
+    if is_peon(state.phase) {
+        return state.peon.quorum;
+    }
+    if is_leading(state.phase) {
+        return state.leader.quorum;
+    }
+    RankSet::empty()
+}
+
+/// Its lease, or none.
+fn lease_of(state: &State) -> Lease
+    ensures { result ≡ lease_of (state_of state.now) }
+{
+    if is_peon(state.phase) {
+        return state.peon.lease;
+    }
+    if is_leading(state.phase) {
+        return state.leader.lease;
+    }
+    Lease::none()
+}
+
+/// Whether its lease stands, or nobody else is there.
+fn is_standing(me: &Me, state: &State, now: Moment) -> bool
+    ensures { result ≡ is_standing me.now now (state_of state.now) }
+{
+    me.member.monitors == 1 || lease_of(state).standing(now)
+}
+
+/// What each role sees of the others.
+pub fn view(alloc: Global, kv: &Kv, me: &Me, state: &State, now: Moment) -> View
+    requires { is_leading state.now.phase ≡ true → phase_of state.now.leader.stage ≡ state.now.phase }
+    ensures { IsSeen me.now now (readings_of kv.now) (state_of state.now) result }
+{
+    let last = Stored::of(alloc, kv).last();
+    let lease = lease_of(state);
+    View {
+        phase: state.phase,
+        leader: leader_of(me, state),
+        quorum: quorum_of(state),
+        standing: is_standing(me, state, now),
+        readable: readable(last, me.member.monitors, &lease, now),
+    }
+}
+
+// ---- messages
+
+/// Whether the rule of elections counts scores.
+pub fn scores_count(rule: &Rule) -> bool
+    ensures { result ≡ scores_count rule.now }
+{
+    match rule {
+        Rule::Classic | Rule::Disallow(_) => false,
+        Rule::Connectivity(_) => true,
+    }
+}
+
+/// Whether a table is told exactly where scores count.
+fn fits_rule(me: &Me, table: &Option<Scores>) -> bool
+    ensures { result ≡ fits_rule me.now table.now }
+{
+    match table {
+        Some(_) => scores_count(&me.rule),
+        None => !scores_count(&me.rule),
+    }
+}
+
+fn has_fitting_table(me: &Me, body: &Body) -> bool
+    ensures { result ≡ has_fitting_table me.now body.now }
+{
+    match body {
+        Body::Propose { table } => fits_rule(me, table),
+        Body::Ping { table } => fits_rule(me, table),
+        Body::PingReply { table } => fits_rule(me, table),
+        Body::Probe
+        | Body::ProbeReply { .. }
+        | Body::Ack
+        | Body::Victory { .. }
+        | Body::Collect { .. }
+        | Body::Last { .. }
+        | Body::Begin { .. }
+        | Body::Accept { .. }
+        | Body::Commit { .. }
+        | Body::Lease { .. }
+        | Body::LeaseAck { .. }
+        | Body::Forward { .. }
+        | Body::Route { .. }
+        | Body::GetCookieFull
+        | Body::GetCookieRecent { .. }
+        | Body::Cookie { .. }
+        | Body::GetChunk { .. }
+        | Body::Chunk { .. }
+        | Body::LastChunk { .. }
+        | Body::NoCookie { .. }
+        | Body::Request { .. }
+        | Body::Reply { .. } => true,
+    }
+}
+
+/// Whether a message is of another monitor of the same map.
+pub fn is_heard(me: &Me, message: &Message) -> bool
+    ensures { result ≡ is_heard me.now message.now }
+{
+    message.from != me.member.rank
+        && message.monitors == me.member.monitors
+        && has_fitting_table(me, &message.body)
+}

@@ -1,0 +1,214 @@
+//! What a core remembers of the protocol.
+
+ghost use Rattle.std.specs.Prelude.{◌≡◌, not, None};
+ghost use Rattle.mon_msg.specs.Protocol.Course.{timers_in};
+ghost use Rattle.mon_msg.specs.Protocol.Phases.{same_phase, phase_of};
+ghost use Rattle.mon_msg.specs.Protocol.Sets.{is_empty};
+ghost use Rattle.mon_msg.specs.Protocol.State.{booting, no_clients};
+ghost use Rattle.mon_plan.specs.Plans.{all_armed, phase_as};
+ghost use Rattle.mon_event.specs.State.{state_of};
+
+use crate::seen::is_leading;
+use crate::timers::Timers;
+use election_rules::Scores;
+use mon_bytes::{Items, KeyPlace};
+use mon_lease::Lease;
+use mon_msg::{
+    Arming, Clients, Elector, Leader, LeaderStage, Peon, Phase, Place, Prober, Provider, Requester,
+    SyncStage,
+};
+use mon_types::{Moment, Pn, Rank, RankSet, Version};
+use std::alloc::Global;
+
+/// What a running monitor remembers and its store doesn't keep.
+#[derive(Drop)]
+pub struct State {
+    pub phase: Phase,
+    pub elector: Elector,
+    pub prober: Prober,
+    pub leader: Leader,
+    pub peon: Peon,
+    pub clients: Clients,
+    pub provider: Provider,
+    pub requester: Requester,
+    pub timers: Timers,
+}
+
+fn first_elector(rank: Rank) -> Elector
+    ensures { result ≡ (booting rank).elector }
+{
+    Elector {
+        candidate: false,
+        acked: RankSet::empty(),
+        deferred: None,
+        scores: Scores::start(rank, 0),
+        heard: RankSet::empty(),
+        pinged: Moment::known(0),
+    }
+}
+
+fn first_leader(rank: Rank) -> Leader
+    ensures { result ≡ (booting rank).leader }
+{
+    Leader {
+        quorum: RankSet::empty(),
+        pn: Pn::known(0),
+        stage: LeaderStage::Collecting,
+        answered: RankSet::empty(),
+        lasts: [Version::known(0); 15],
+        found: None,
+        accepted: RankSet::empty(),
+        value: None,
+        origin: None,
+        lease: Lease::none(),
+        acks: RankSet::empty(),
+    }
+}
+
+fn first_requester(rank: Rank) -> Requester
+    ensures { result ≡ (booting rank).requester }
+{
+    Requester {
+        provider: rank,
+        full: false,
+        stage: SyncStage::Cookie,
+        cookie: None,
+        start: Version::known(0),
+        place: Place {
+            version: Version::known(0),
+            key: KeyPlace::Start,
+        },
+    }
+}
+
+/// Nobody waits.
+fn no_clients(alloc: Global) -> Clients
+    ensures { result ≡ no_clients }
+{
+    Clients {
+        queue: Items::new(alloc),
+        sessions: Items::new(alloc),
+        next_seq: 1,
+        taken: [0; 15],
+    }
+}
+
+/// Whether two phases are the same.
+fn is_same(a: Phase, b: Phase) -> bool
+    ensures { result ≡ same_phase a b }
+{
+    match a {
+        Phase::Booting => matches!(b, Phase::Booting),
+        Phase::Probing => matches!(b, Phase::Probing),
+        Phase::Synchronizing => matches!(b, Phase::Synchronizing),
+        Phase::Electing => matches!(b, Phase::Electing),
+        Phase::Collecting => matches!(b, Phase::Collecting),
+        Phase::Previous => matches!(b, Phase::Previous),
+        Phase::Active => matches!(b, Phase::Active),
+        Phase::Updating => matches!(b, Phase::Updating),
+        Phase::Peon => matches!(b, Phase::Peon),
+    }
+}
+
+fn phase_of(stage: LeaderStage) -> Phase
+    ensures { result ≡ phase_of stage }
+{
+    match stage {
+        LeaderStage::Collecting => Phase::Collecting,
+        LeaderStage::Previous => Phase::Previous,
+        LeaderStage::Active => Phase::Active,
+        LeaderStage::Updating => Phase::Updating,
+    }
+}
+
+/// A leader's stage is its phase.
+fn phase_as(stage: LeaderStage, phase: Phase) -> Phase
+    ensures { result ≡ phase_as stage phase }
+{
+    if is_leading(phase) {
+        phase_of(stage)
+    } else {
+        phase
+    }
+}
+
+impl State {
+    /// What a monitor of that rank remembers before it starts. It takes no memory.
+    pub fn booting(alloc: Global, rank: Rank) -> State
+        ensures { state_of result ≡ booting rank }
+    {
+        State {
+            phase: Phase::Booting,
+            elector: first_elector(rank),
+            prober: Prober {
+                outside: RankSet::empty(),
+            },
+            leader: first_leader(rank),
+            peon: Peon {
+                leader: rank,
+                quorum: RankSet::empty(),
+                lease: Lease::none(),
+            },
+            clients: no_clients(alloc),
+            provider: Provider {
+                cookies: [None; 15],
+                next_cookie: 1,
+            },
+            requester: first_requester(rank),
+            timers: Timers::unarmed(),
+        }
+    }
+
+    /// From now on it stands in this phase. Where it is another one than before, all timers but the one that pings are disarmed.
+    pub fn enter_phase(&mut self, phase: Phase)
+        ensures { state_of self.new ≡ record (state_of self.old) { phase = phase; timers = timers_in phase (state_of self.old) } }
+    {
+        if !is_same(self.phase, phase) {
+            self.timers = self.timers.only_ping();
+        }
+        self.phase = phase;
+    }
+
+    /// It forgets who waits.
+    pub fn forget_clients(&mut self, alloc: Global)
+        ensures { state_of self.new ≡ record (state_of self.old) { clients = no_clients } }
+    {
+        self.clients = no_clients(alloc);
+    }
+
+    /// It follows this leader in this quorum, without a lease.
+    pub fn follow(&mut self, leader: Rank, quorum: RankSet)
+        ensures { state_of self.new ≡ record (state_of self.old) { peon = record { leader = leader; quorum = quorum; lease = None } } }
+    {
+        self.peon = Peon {
+            leader,
+            quorum,
+            lease: Lease::none(),
+        };
+    }
+
+    /// It leads so from now on, in the phase of that stage.
+    pub fn lead(&mut self, leader: Leader)
+        ensures { let p = phase_as leader.stage self.old.phase in
+            state_of self.new ≡ record (state_of self.old) { phase = p; timers = timers_in p (state_of self.old); leader = leader } }
+    {
+        let phase = phase_as(leader.stage, self.phase);
+        self.enter_phase(phase);
+        self.leader = leader;
+    }
+
+    /// Whether a command waits.
+    fn has_queue(&self) -> bool
+        ensures { result ≡ not (is_empty self.now.clients.queue) }
+    {
+        !self.clients.queue.is_empty()
+    }
+
+    /// Does what a plan does with timers.
+    pub fn set_timers(&mut self, armings: &[Arming])
+        ensures { state_of self.new ≡ record (state_of self.old) { timers = all_armed (not (is_empty self.old.clients.queue)) armings.now self.old.timers } }
+    {
+        let waits = self.has_queue();
+        self.timers.set_all(waits, armings);
+    }
+}

@@ -1,0 +1,162 @@
+//! The timers of a monitor.
+
+ghost use Rattle.std.specs.Prelude.{◌≡◌, ◌<◌, is_some};
+ghost use Rattle.mon_msg.specs.Protocol.Timers.{index_of, end_of, unarmed, disarmed, only_ping, sooner, due, soonest};
+ghost use Rattle.mon_plan.specs.Plans.{is_needed, armed_as, all_armed};
+
+use mon_msg::{Arming, Timer};
+use mon_types::Moment;
+use std::marker::Model;
+
+/// For each kind of timer, in their order, the moment for which it is armed.
+#[derive(Clone, Copy, Debug, PartialEq, Eq)]
+pub struct Timers {
+    ends: [Option<Moment>; 11],
+}
+
+impl Model for Timers {
+    ghost use Rattle.std.specs.Prelude.{ℕ, List, Option};
+
+    ghost Value = { List (Option ℕ) };
+
+    ghost view = { λ t. t.ends };
+
+    ghost inverse = { λ ends. record { ends = ends } };
+}
+
+fn index_of(kind: Timer) -> usize
+    ensures value { result ≡ index_of kind }
+    ensures below { result < 11 }
+{
+    match kind {
+        Timer::Probe => 0,
+        Timer::Election => 1,
+        Timer::Collect => 2,
+        Timer::Accept => 3,
+        Timer::Renew => 4,
+        Timer::LeaseAck => 5,
+        Timer::Lease => 6,
+        Timer::Sync => 7,
+        Timer::Step => 8,
+        Timer::Propose => 9,
+        Timer::Ping => 10,
+    }
+}
+
+/// Whether a timer has anything to come for: the one that proposes has where a command waits.
+fn is_needed(waits: bool, kind: Timer) -> bool
+    ensures { result ≡ is_needed waits kind }
+{
+    match kind {
+        Timer::Propose => waits,
+        Timer::Probe
+        | Timer::Election
+        | Timer::Collect
+        | Timer::Accept
+        | Timer::Renew
+        | Timer::LeaseAck
+        | Timer::Lease
+        | Timer::Sync
+        | Timer::Step
+        | Timer::Ping => true,
+    }
+}
+
+/// The sooner of a timer and of the soonest of the kinds behind it, which it goes before where both come at once.
+fn sooner(
+    kind: Timer,
+    end: Option<Moment>,
+    later: Option<(Timer, Moment)>,
+) -> Option<(Timer, Moment)>
+    ensures { result ≡ sooner kind end later }
+{
+    let Some(end) = end else {
+        return later;
+    };
+    let Some((other, other_end)) = later else {
+        return Some((kind, end));
+    };
+    if end.get() <= other_end.get() {
+        Some((kind, end))
+    } else {
+        Some((other, other_end))
+    }
+}
+
+impl Timers {
+    /// None is armed.
+    pub fn unarmed() -> Timers
+        ensures { result ≡ unarmed }
+    {
+        Timers { ends: [None; 11] }
+    }
+
+    /// The moment for which a timer is armed.
+    fn end_of(&self, kind: Timer) -> Option<Moment>
+        ensures { result ≡ end_of kind self.now }
+    {
+        self.ends[index_of(kind)]
+    }
+
+    pub fn is_armed(&self, kind: Timer) -> bool
+        ensures { result ≡ is_some (end_of kind self.now) }
+    {
+        self.end_of(kind).is_some()
+    }
+
+    pub fn disarm(&mut self, kind: Timer)
+        ensures { self.new ≡ disarmed kind self.old }
+    {
+        self.ends[index_of(kind)] = None;
+    }
+
+    /// Only the one that pings stays.
+    pub fn only_ping(&self) -> Timers
+        ensures { result ≡ only_ping self.now }
+    {
+        let mut ends = [None; 11];
+        ends[10] = self.end_of(Timer::Ping);
+        Timers { ends }
+    }
+
+    /// Does one thing with a timer. The one that proposes is armed only where a command waits.
+    fn set(&mut self, waits: bool, arming: &Arming)
+        ensures { self.new ≡ armed_as waits arming.now self.old }
+    {
+        match arming {
+            Arming::Arm { kind, end } => {
+                if is_needed(waits, *kind) {
+                    self.ends[index_of(*kind)] = Some(*end);
+                }
+            }
+            Arming::Disarm { kind } => self.disarm(*kind),
+        }
+    }
+
+    /// Does what a plan does with timers, in order. The one that proposes is armed only where a command waits.
+    #[tactic(auto, using(crate::proofs::Setting::set_next, crate::proofs::Setting::set_end))]
+    pub fn set_all(&mut self, waits: bool, armings: &[Arming])
+        ensures { self.new ≡ all_armed waits armings.now self.old }
+    {
+        for arming in armings {
+            self.set(waits, arming);
+        }
+    }
+
+    /// The timer that comes next, and its moment: the one armed for the least moment, and of several the first kind.
+    pub fn due(&self) -> Option<(Timer, Moment)>
+        ensures { result ≡ due self.now }
+    {
+        let next = sooner(Timer::Ping, self.end_of(Timer::Ping), None);
+        let next = sooner(Timer::Propose, self.end_of(Timer::Propose), next);
+        let next = sooner(Timer::Step, self.end_of(Timer::Step), next);
+        let next = sooner(Timer::Sync, self.end_of(Timer::Sync), next);
+        let next = sooner(Timer::Lease, self.end_of(Timer::Lease), next);
+        let next = sooner(Timer::LeaseAck, self.end_of(Timer::LeaseAck), next);
+        let next = sooner(Timer::Renew, self.end_of(Timer::Renew), next);
+        let next = sooner(Timer::Accept, self.end_of(Timer::Accept), next);
+        let next = sooner(Timer::Collect, self.end_of(Timer::Collect), next);
+        let next = sooner(Timer::Election, self.end_of(Timer::Election), next);
+        sooner(Timer::Probe, self.end_of(Timer::Probe), next)
+    }
+}
