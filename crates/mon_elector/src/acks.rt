@@ -1,8 +1,9 @@
 //! Another monitor defers to this one, and the end of an election.
 
-ghost use Rattle.std.specs.Prelude.{◌≡◌, ℕ};
+ghost use Rattle.std.specs.Prelude.{◌≡◌, ℕ, IfOk};
 ghost use Rattle.mon_msg.specs.Protocol.Elections.{hear_ack, election_ends};
 ghost use Rattle.mon_msg.specs.Protocol.Readings.{readings_of};
+ghost use Rattle.mon_plan.specs.Leaves.{Leaves};
 ghost use Rattle.mon_elector.specs.Rows.{PlansElection};
 
 use crate::seen::{is_deaf, is_electing, is_later, is_past, leads_all, may_win};
@@ -22,7 +23,8 @@ pub fn hear_ack(
     from: Rank,
     epoch: Epoch,
 ) -> Result<Plan<Elector>, RoleStop>
-    ensures { (now : ℕ) → PlansElection me.now now (readings_of stored.now) view.now state.now (hear_ack me.now now from epoch) result }
+    ensures plans { (now : ℕ) → PlansElection me.now now (readings_of stored.now) view.now state.now (hear_ack me.now now from epoch) result }
+    ensures leaves { IfOk result (λ p. Leaves view.now.phase p.next p.tx) }
 {
     if is_deaf(view, epoch) {
         return Ok(stay(alloc, *state));
@@ -52,7 +54,8 @@ pub fn election_ends(
     view: &View,
     state: &Elector,
 ) -> Result<Plan<Elector>, RoleStop>
-    ensures { (now : ℕ) → PlansElection me.now now (readings_of stored.now) view.now state.now (election_ends me.now now) result }
+    ensures plans { (now : ℕ) → PlansElection me.now now (readings_of stored.now) view.now state.now (election_ends me.now now) result }
+    ensures leaves { IfOk result (λ p. Leaves view.now.phase p.next p.tx) }
 {
     if !is_electing(view.phase) {
         return Ok(stay(alloc, *state));

@@ -66,7 +66,8 @@ pub fn enter(
     state: &Elector,
     now: Moment,
 ) -> Result<Plan<Elector>, RoleStop>
-    ensures { PlansAct me.now now elector_is (IsCalled epoch state.now) next.Elect result }
+    ensures plans { PlansAct me.now now elector_is (IsCalled epoch state.now) next.Elect result }
+    ensures stays { IfOk result (λ p. p.next ≡ next.Stay) }
 {
     if !is_even(epoch) {
         return Ok(call(alloc, me, Transaction::new(alloc), epoch, state, now)?);

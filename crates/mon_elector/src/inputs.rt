@@ -1,11 +1,12 @@
 //! What an elector does at each of its inputs.
 
-ghost use Rattle.std.specs.Prelude.{◌≡◌, List, IsTrue};
+ghost use Rattle.std.specs.Prelude.{◌≡◌, List, IfOk, IsTrue};
 ghost use Rattle.mon_bytes.specs.declared.entry.Entry.{Entry};
 ghost use Rattle.mon_msg.specs.Protocol.Hearing.{hear};
 ghost use Rattle.mon_msg.specs.Protocol.Readings.{readings_of};
 ghost use Rattle.mon_msg.specs.Protocol.Table.{timer_comes};
 ghost use Rattle.mon_plan.specs.Inputs.{row};
+ghost use Rattle.mon_plan.specs.Leaves.{Leaves};
 ghost use Rattle.mon_elector.specs.Rows.{is_told, is_rung, is_input, PlansElection};
 
 use crate::acks::{election_ends, hear_ack};
@@ -30,8 +31,9 @@ fn hear(
     now: Moment,
 ) -> Result<Plan<Elector>, RoleStop>
     requires { IsTrue (is_told message.now.body) }
-    ensures { (shared : List Entry) → PlansElection me.now now (readings_of stored.now) view.now state.now
+    ensures plans { (shared : List Entry) → PlansElection me.now now (readings_of stored.now) view.now state.now
         (hear me.now shared now message.now.from message.now.epoch message.now.body) result }
+    ensures leaves { IfOk result (λ p. Leaves view.now.phase p.next p.tx) }
 {
     let from = message.from;
     let epoch = message.epoch;
@@ -62,7 +64,8 @@ fn ring(
     now: Moment,
 ) -> Result<Plan<Elector>, RoleStop>
     requires { IsTrue (is_rung timer) }
-    ensures { PlansElection me.now now (readings_of stored.now) view.now state.now (timer_comes me.now now timer) result }
+    ensures plans { PlansElection me.now now (readings_of stored.now) view.now state.now (timer_comes me.now now timer) result }
+    ensures leaves { IfOk result (λ p. Leaves view.now.phase p.next p.tx) }
 {
     match timer {
         Timer::Election => election_ends(alloc, stored, me, view, state),
@@ -84,7 +87,9 @@ pub fn step(
     now: Moment,
 ) -> Result<Plan<Elector>, RoleStop>
     requires { IsTrue (is_input input.now) }
-    ensures { (shared : List Entry) → PlansElection me.now now (readings_of kv.now) view.now state.now (row me.now shared now input.now) result }
+    ensures plans { (shared : List Entry) → PlansElection me.now now (readings_of kv.now) view.now state.now
+        (row me.now shared now input.now) result }
+    ensures leaves { IfOk result (λ p. Leaves view.now.phase p.next p.tx) }
 {
     let stored = Stored::of(alloc, kv);
     match input {

@@ -4,6 +4,7 @@ ghost use Rattle.std.specs.Prelude.{◌≡◌, ℕ, ◌+◌, ◌-◌, ◌/◌, i
 ghost use Rattle.election_rules.specs.Table.{raised, lowered, scored};
 ghost use Rattle.mon_msg.specs.Protocol.Pings.{hear_ping, hear_ping_reply, ping, scores_after, measure, with_heard};
 ghost use Rattle.mon_msg.specs.Protocol.Readings.{readings_of};
+ghost use Rattle.mon_plan.specs.Leaves.{Leaves};
 ghost use Rattle.mon_elector.specs.Rows.{PlansElection};
 
 use crate::seen::table_told;
@@ -39,7 +40,8 @@ pub fn hear_ping(
     from: Rank,
     table: &Option<Scores>,
 ) -> Result<Plan<Elector>, RoleStop>
-    ensures { (now : ℕ) → PlansElection me.now now (readings_of stored.now) view.now state.now (hear_ping me.now from table.now) result }
+    ensures plans { (now : ℕ) → PlansElection me.now now (readings_of stored.now) view.now state.now (hear_ping me.now from table.now) result }
+    ensures leaves { IfOk result (λ p. Leaves view.now.phase p.next p.tx) }
 {
     let Some(table) = table else {
         return Ok(stay(alloc, *state));
@@ -67,7 +69,9 @@ pub fn hear_ping_reply(
     from: Rank,
     table: &Option<Scores>,
 ) -> Plan<Elector>
-    ensures { (now : ℕ) → PlansElection me.now now (readings_of stored.now) view.now state.now (hear_ping_reply from table.now) (Ok result) }
+    ensures plans { (now : ℕ) → PlansElection me.now now (readings_of stored.now) view.now state.now
+        (hear_ping_reply from table.now) (Ok result) }
+    ensures leaves { Leaves view.now.phase result.next result.tx }
 {
     match table {
         None => stay(alloc, *state),
@@ -122,7 +126,8 @@ pub fn ping(
     state: &Elector,
     now: Moment,
 ) -> Result<Plan<Elector>, RoleStop>
-    ensures { PlansElection me.now now (readings_of stored.now) view.now state.now (ping me.now now) result }
+    ensures plans { PlansElection me.now now (readings_of stored.now) view.now state.now (ping me.now now) result }
+    ensures leaves { IfOk result (λ p. Leaves view.now.phase p.next p.tx) }
 {
     let elector = measured(alloc, me, state, now)?;
     let table = table_told(&me.rule, &elector.scores);

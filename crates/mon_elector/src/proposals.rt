@@ -1,8 +1,9 @@
 //! Another monitor stands for election.
 
-ghost use Rattle.std.specs.Prelude.{◌≡◌};
+ghost use Rattle.std.specs.Prelude.{◌≡◌, IfOk};
 ghost use Rattle.mon_msg.specs.Protocol.Elections.{hear_propose};
 ghost use Rattle.mon_msg.specs.Protocol.Readings.{readings_of};
+ghost use Rattle.mon_plan.specs.Leaves.{Leaves};
 ghost use Rattle.mon_elector.specs.Rows.{PlansElection};
 
 use crate::seen::{
@@ -27,7 +28,8 @@ pub fn hear_propose(
     table: &Option<Scores>,
     now: Moment,
 ) -> Result<Plan<Elector>, RoleStop>
-    ensures { PlansElection me.now now (readings_of stored.now) view.now state.now (hear_propose me.now now from epoch table.now) result }
+    ensures plans { PlansElection me.now now (readings_of stored.now) view.now state.now (hear_propose me.now now from epoch table.now) result }
+    ensures leaves { IfOk result (λ p. Leaves view.now.phase p.next p.tx) }
 {
     if is_deaf(view, epoch) {
         return Ok(stay(alloc, *state));

@@ -10,6 +10,8 @@ ghost use Rattle.mon_msg.specs.declared.plan.Arming.TheVariants as arming;
 ghost use Rattle.mon_msg.specs.declared.plan.Next.TheVariants as next;
 ghost use Rattle.mon_types.specs.Ranks.{no_ranks};
 ghost use Rattle.mon_wire.specs.declared.body.Body.TheVariants as body;
+ghost use Rattle.mon_wire.specs.declared.phase.Phase.{Phase};
+ghost use Rattle.mon_plan.specs.Leaves.{Leaves};
 ghost use Rattle.mon_elector.specs.Rows.{Wins};
 
 use election_rules::Scores;
@@ -210,7 +212,8 @@ pub fn win(
     state: Elector,
     acked: RankSet,
 ) -> Result<Plan<Elector>, RoleStop>
-    ensures { Wins (epoch_of (readings_of stored.now)) state acked result }
+    ensures wins { Wins (epoch_of (readings_of stored.now)) state acked result }
+    ensures leaves { (at : Phase) → IfOk result (λ p. Leaves at p.next p.tx) }
 {
     let Some(epoch) = stored.epoch().plus_one() else {
         return Err(RoleStop::Spent {

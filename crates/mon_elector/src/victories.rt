@@ -1,8 +1,9 @@
 //! Another monitor has won.
 
-ghost use Rattle.std.specs.Prelude.{◌≡◌};
+ghost use Rattle.std.specs.Prelude.{◌≡◌, IfOk};
 ghost use Rattle.mon_msg.specs.Protocol.Elections.{hear_victory};
 ghost use Rattle.mon_msg.specs.Protocol.Readings.{readings_of};
+ghost use Rattle.mon_plan.specs.Leaves.{Leaves};
 ghost use Rattle.mon_elector.specs.Rows.{PlansElection};
 
 use crate::seen::{is_deaf_to_winners, is_next, is_reached, may_follow};
@@ -24,7 +25,8 @@ pub fn hear_victory(
     quorum: RankSet,
     now: Moment,
 ) -> Result<Plan<Elector>, RoleStop>
-    ensures { PlansElection me.now now (readings_of stored.now) view.now state.now (hear_victory me.now now from epoch quorum) result }
+    ensures plans { PlansElection me.now now (readings_of stored.now) view.now state.now (hear_victory me.now now from epoch quorum) result }
+    ensures leaves { IfOk result (λ p. Leaves view.now.phase p.next p.tx) }
 {
     if is_deaf_to_winners(view, epoch) {
         return Ok(stay(alloc, *state));

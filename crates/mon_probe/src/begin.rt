@@ -9,6 +9,7 @@ ghost use Rattle.mon_msg.specs.Protocol.Sending.{others, message_to};
 ghost use Rattle.mon_msg.specs.Protocol.Sets.{only};
 ghost use Rattle.mon_msg.specs.declared.plan.Arming.TheVariants as arming;
 ghost use Rattle.mon_msg.specs.declared.plan.Next.TheVariants as next;
+ghost use Rattle.mon_plan.specs.Leaves.{Ends};
 ghost use Rattle.mon_plan.specs.Plans.{PlansAct};
 ghost use Rattle.mon_wire.specs.declared.body.Body.TheVariants as body;
 ghost use Rattle.mon_wire.specs.declared.phase.Timer.TheVariants as timer;
@@ -99,7 +100,8 @@ pub fn enter(
     epoch: Epoch,
     now: Moment,
 ) -> Result<Plan<Prober>, RoleStop>
-    ensures { PlansAct me.now now prober_is (IsBegun me.now (readings_of kv.now) epoch) next.Bootstrap result }
+    ensures plans { PlansAct me.now now prober_is (IsBegun me.now (readings_of kv.now) epoch) next.Bootstrap result }
+    ensures ends { IfOk result (λ p. Ends me.now p.next p.tx) }
 {
     if has_others(me) {
         return Ok(ask(alloc, me, epoch, now)?);

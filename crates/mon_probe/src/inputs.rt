@@ -1,10 +1,11 @@
 //! What a prober does at each of its inputs.
 
-ghost use Rattle.std.specs.Prelude.{◌≡◌, ℕ, List, IsTrue};
+ghost use Rattle.std.specs.Prelude.{◌≡◌, ℕ, List, IfOk, IsTrue};
 ghost use Rattle.mon_bytes.specs.declared.entry.Entry.{Entry};
 ghost use Rattle.mon_msg.specs.Protocol.Hearing.{hear};
 ghost use Rattle.mon_msg.specs.Protocol.Readings.{readings_of};
 ghost use Rattle.mon_plan.specs.Inputs.{row};
+ghost use Rattle.mon_plan.specs.Leaves.{Leaves};
 ghost use Rattle.mon_probe.specs.Rows.{is_told, is_input, PlansProbe};
 
 use crate::probes::{hear_probe, hear_probe_reply};
@@ -25,8 +26,9 @@ fn hear(
     message: &Message,
 ) -> Result<Plan<Prober>, RoleStop>
     requires { IsTrue (is_told message.now.body) }
-    ensures { (shared : List Entry) (now : ℕ) → PlansProbe me.now now (readings_of stored.now) view.now state.now
+    ensures plans { (shared : List Entry) (now : ℕ) → PlansProbe me.now now (readings_of stored.now) view.now state.now
         (hear me.now shared now message.now.from message.now.epoch message.now.body) result }
+    ensures leaves { IfOk result (λ p. Leaves view.now.phase p.next p.tx) }
 {
     let from = message.from;
     match &message.body {
@@ -52,7 +54,9 @@ pub fn step(
     now: Moment,
 ) -> Result<Plan<Prober>, RoleStop>
     requires { IsTrue (is_input input.now) }
-    ensures { (shared : List Entry) → PlansProbe me.now now (readings_of kv.now) view.now state.now (row me.now shared now input.now) result }
+    ensures plans { (shared : List Entry) → PlansProbe me.now now (readings_of kv.now) view.now state.now
+        (row me.now shared now input.now) result }
+    ensures leaves { IfOk result (λ p. Leaves view.now.phase p.next p.tx) }
 {
     match input {
         Input::Deliver(message) => {

@@ -1,8 +1,9 @@
 //! What is asked of a monitor and what it is told while one probes.
 
-ghost use Rattle.std.specs.Prelude.{◌≡◌, ℕ, Ok};
+ghost use Rattle.std.specs.Prelude.{◌≡◌, ℕ, Ok, IfOk};
 ghost use Rattle.mon_msg.specs.Protocol.Probing.{hear_probe, hear_probe_reply};
 ghost use Rattle.mon_msg.specs.Protocol.Readings.{readings_of};
+ghost use Rattle.mon_plan.specs.Leaves.{Leaves};
 ghost use Rattle.mon_probe.specs.Rows.{PlansProbe};
 
 use crate::seen::{is_behind, is_cut_off, is_majority, is_probing, is_quorum, reaches_floor};
@@ -22,7 +23,8 @@ pub fn hear_probe(
     state: &Prober,
     from: Rank,
 ) -> Result<Plan<Prober>, RoleStop>
-    ensures { (now : ℕ) → PlansProbe me.now now (readings_of stored.now) view.now state.now (hear_probe me.now from) result }
+    ensures plans { (now : ℕ) → PlansProbe me.now now (readings_of stored.now) view.now state.now (hear_probe me.now from) result }
+    ensures leaves { IfOk result (λ p. Leaves view.now.phase p.next p.tx) }
 {
     if stored.is_marked() {
         return Ok(stay(alloc, *state));
@@ -55,7 +57,9 @@ pub fn hear_probe_reply(
     first: Version,
     last: Version,
 ) -> Plan<Prober>
-    ensures { (now : ℕ) → PlansProbe me.now now (readings_of stored.now) view.now state.now (hear_probe_reply me.now now from quorum first last) (Ok result) }
+    ensures plans { (now : ℕ) → PlansProbe me.now now (readings_of stored.now) view.now state.now
+        (hear_probe_reply me.now now from quorum first last) (Ok result) }
+    ensures leaves { Leaves view.now.phase result.next result.tx }
 {
     if !is_probing(view.phase) {
         return stay(alloc, *state);

@@ -7,7 +7,9 @@ ghost use Rattle.mon_msg.specs.Protocol.Course.{peon_is};
 ghost use Rattle.mon_msg.specs.Protocol.Peon.{hear_collect};
 ghost use Rattle.mon_msg.specs.Protocol.Played.{Fits};
 ghost use Rattle.mon_msg.specs.Protocol.Readings.{readings_of};
+ghost use Rattle.mon_plan.specs.Leaves.{Leaves};
 ghost use Rattle.mon_plan.specs.Plans.{PlansRow};
+ghost use Rattle.mon_wire.specs.declared.phase.Phase.{Phase};
 ghost use Rattle.paxos_peon.specs.Rows.{IsOurs, promised};
 
 use crate::answer::answer;
@@ -52,9 +54,10 @@ pub fn collect(
     leader_first: Version,
     leader_last: Version,
 ) -> Result<Plan<Peon>, RoleStop>
-    ensures { (now e : ℕ) → let f = state.now.leader in
+    ensures plans { (now e : ℕ) → let f = state.now.leader in
         PlansRow me.now now peon_is (IsOurs (readings_of stored.now) state.now f e)
         (hear_collect me.now now f e pn leader_first leader_last) result }
+    ensures leaves { (at : Phase) → IfOk result (λ p. Leaves at p.next p.tx) }
 {
     if leader_first.get() > stored.last().get() + 1 {
         return Ok(planned(alloc, *state, Next::Bootstrap));

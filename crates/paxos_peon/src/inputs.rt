@@ -1,6 +1,6 @@
 //! What a peon does at each of its inputs.
 
-ghost use Rattle.std.specs.Prelude.{◌≡◌, ◌&&◌, ◌==◌, List, IsTrue};
+ghost use Rattle.std.specs.Prelude.{◌≡◌, ◌&&◌, ◌==◌, List, IfOk, IsTrue};
 ghost use Rattle.mon_bytes.specs.declared.entry.Entry.{Entry};
 ghost use Rattle.mon_msg.specs.Protocol.Course.{peon_is};
 ghost use Rattle.mon_msg.specs.Protocol.Hearing.{hear};
@@ -8,6 +8,7 @@ ghost use Rattle.mon_msg.specs.Protocol.Length.{fits};
 ghost use Rattle.mon_msg.specs.Protocol.Phases.{is_peon};
 ghost use Rattle.mon_msg.specs.Protocol.Readings.{epoch_of, readings_of};
 ghost use Rattle.mon_plan.specs.Inputs.{may_come, row};
+ghost use Rattle.mon_plan.specs.Leaves.{Leaves};
 ghost use Rattle.mon_plan.specs.Plans.{PlansRow};
 ghost use Rattle.mon_plan.specs.Seen.{IsMet};
 ghost use Rattle.paxos_peon.specs.Rows.{is_told, is_input};
@@ -44,9 +45,10 @@ fn hear(
 ) -> Result<Plan<Peon>, RoleStop>
     requires input { IsTrue (is_told message.now.body) }
     requires fits { IsTrue (fits me.now.member.monitors message.now.body) }
-    ensures { (shared : List Entry) → PlansRow me.now now peon_is
+    ensures plans { (shared : List Entry) → PlansRow me.now now peon_is
         (IsMet me.now now (readings_of stored.now) view.now (λ s. s.peon) state.now)
         (hear me.now shared now message.now.from message.now.epoch message.now.body) result }
+    ensures leaves { IfOk result (λ p. Leaves view.now.phase p.next p.tx) }
 {
     if !is_ours(stored, view, state, message) {
         return Ok(stay(alloc, *state));
@@ -79,9 +81,10 @@ pub fn step(
 ) -> Result<Plan<Peon>, RoleStop>
     requires input { IsTrue (is_input input.now) }
     requires fits { IsTrue (may_come me.now.member.monitors input.now) }
-    ensures { (shared : List Entry) → PlansRow me.now now peon_is
+    ensures plans { (shared : List Entry) → PlansRow me.now now peon_is
         (IsMet me.now now (readings_of kv.now) view.now (λ s. s.peon) state.now)
         (row me.now shared now input.now) result }
+    ensures leaves { IfOk result (λ p. Leaves view.now.phase p.next p.tx) }
 {
     match input {
         Input::Deliver(message) => {

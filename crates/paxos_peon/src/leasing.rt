@@ -1,12 +1,14 @@
 //! The leader gives a lease.
 
-ghost use Rattle.std.specs.Prelude.{◌≡◌, ℕ, ◌==◌, ◌||◌, not, is_some};
+ghost use Rattle.std.specs.Prelude.{◌≡◌, ℕ, ◌==◌, ◌||◌, not, is_some, IfOk};
 ghost use Rattle.mon_msg.specs.Protocol.Course.{peon_is};
 ghost use Rattle.mon_msg.specs.Protocol.Peon.{hear_lease};
 ghost use Rattle.mon_msg.specs.Protocol.Readings.{readings_of};
 ghost use Rattle.mon_msg.specs.Protocol.Records.{pending};
 ghost use Rattle.mon_lease.specs.Lease.{extended};
+ghost use Rattle.mon_plan.specs.Leaves.{Leaves};
 ghost use Rattle.mon_plan.specs.Plans.{PlansRow};
+ghost use Rattle.mon_wire.specs.declared.phase.Phase.{Phase};
 ghost use Rattle.paxos_peon.specs.Rows.{IsOurs};
 
 use mon_bytes::Items;
@@ -42,9 +44,10 @@ pub fn lease(
     version: Version,
     now: Moment,
 ) -> Result<Plan<Peon>, RoleStop>
-    ensures { (e : ℕ) → let f = state.now.leader in
+    ensures plans { (e : ℕ) → let f = state.now.leader in
         PlansRow me.now now peon_is (IsOurs (readings_of stored.now) state.now f e)
         (hear_lease me.now now f e version) result }
+    ensures leaves { (at : Phase) → IfOk result (λ p. Leaves at p.next p.tx) }
 {
     if is_refused(stored, version) {
         return Ok(stay(alloc, *state));

@@ -1,13 +1,15 @@
 //! The leader asks to accept a value, or tells values that are committed.
 
-ghost use Rattle.std.specs.Prelude.{◌≡◌, ℕ, suc, ◌≤◌, ◌==◌, ◌&&◌, nat_lt, length};
+ghost use Rattle.std.specs.Prelude.{◌≡◌, ℕ, suc, ◌≤◌, ◌==◌, ◌&&◌, nat_lt, length, IfOk};
 ghost use Rattle.std.specs.List.{AllByRecursion};
 ghost use Rattle.mon_tx.specs.Text.{text, most};
 ghost use Rattle.mon_msg.specs.Protocol.Course.{peon_is};
 ghost use Rattle.mon_msg.specs.Protocol.Peon.{hear_begin, hear_commit};
 ghost use Rattle.mon_msg.specs.Protocol.Readings.{readings_of, promise_of};
 ghost use Rattle.mon_msg.specs.declared.view.Me.{Me};
+ghost use Rattle.mon_plan.specs.Leaves.{Leaves};
 ghost use Rattle.mon_plan.specs.Plans.{PlansRow};
+ghost use Rattle.mon_wire.specs.declared.phase.Phase.{Phase};
 ghost use Rattle.paxos_peon.specs.Rows.{IsOurs};
 
 use crate::collecting::without_lease;
@@ -36,9 +38,10 @@ pub fn begin(
     value: &Transaction,
 ) -> Result<Plan<Peon>, RoleStop>
     requires { length (text value.now) ≤ most }
-    ensures { (now e : ℕ) → let f = state.now.leader in
+    ensures plans { (now e : ℕ) → let f = state.now.leader in
         PlansRow me.now now peon_is (IsOurs (readings_of stored.now) state.now f e)
         (hear_begin me.now f e pn version value.now) result }
+    ensures leaves { (at : Phase) → IfOk result (λ p. Leaves at p.next p.tx) }
 {
     if !is_accepted(stored, pn, version) {
         return Ok(stay(alloc, *state));
@@ -74,8 +77,9 @@ pub fn commit(
 ) -> Result<Plan<Peon>, RoleStop>
     requires short { AllByRecursion (λ ops. length (text ops) ≤ most) values.now }
     requires few { length values.now ≤ 65535 }
-    ensures { (m : Me) (now f e : ℕ) → PlansRow m now peon_is (IsOurs (readings_of stored.now) state.now f e)
+    ensures plans { (m : Me) (now f e : ℕ) → PlansRow m now peon_is (IsOurs (readings_of stored.now) state.now f e)
         (hear_commit f e from values.now) result }
+    ensures leaves { (at : Phase) → IfOk result (λ p. Leaves at p.next p.tx) }
 {
     if is_ahead(stored, from) {
         return Ok(stay(alloc, *state));

@@ -13,8 +13,8 @@ use Rattle.mon_elector.proofs.CallLaws as laws
 use Rattle.mon_elector.proofs.Known.{above}
 use Rattle.mon_elector.proofs.calls.enter.Goals as goal
 
-pub returns-then-not-is_even : goal.returns-then-not-is_even
-returns-then-not-is_even c =
+pub returns-then-not-is_even-clause-plans : goal.returns-then-not-is_even-clause-plans
+returns-then-not-is_even-clause-plans c =
     let me = c.args.me.now in
     let s = c.args.state.now in
     let e = c.args.epoch in
@@ -24,12 +24,12 @@ returns-then-not-is_even c =
     (λ x b. laws.call-odd me c.args.now e s x b (sym c.is_even.ensures ∙ c.if-not-is_even.true))
     c.in_ok-call.field-0 (ap (λ (p : Plan Elector). p.tx) is ∙ c.new.ensures) (ap (λ (p : Plan Elector). p.out) is) (ap (λ (p : Plan Elector). p.timers) is) (ap (λ (p : Plan Elector). p.state) is) (ap (λ (p : Plan Elector). p.next) is)
 
-pub returns-in_default : goal.returns-in_default
-returns-in_default c =
+pub returns-in_default-clause-plans : goal.returns-in_default-clause-plans
+returns-in_default-clause-plans c =
     λ x b. laws.call-spent c.args.me.now c.args.now c.args.epoch c.args.state.now x b (sym c.is_even.ensures ∙ c.if-not-is_even.false) (above c.args.epoch c.in_default.ensures.valid.1)
 
-pub returns : goal.returns
-returns c =
+pub returns-clause-plans : goal.returns-clause-plans
+returns-clause-plans c =
     let me = c.args.me.now in
     let s = c.args.state.now in
     let e = c.args.epoch in

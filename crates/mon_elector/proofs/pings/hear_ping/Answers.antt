@@ -18,15 +18,15 @@ none_is : (t : Option Scores) → ((x : Scores) → t ≡ Some x → ⊥) → t 
 none_is None no_some = refl
 none_is (Some x) no_some = absurd (no_some x refl)
 
-pub returns-in_default : goal.returns-in_default
-returns-in_default c =
+pub returns-in_default-clause-plans : goal.returns-in_default-clause-plans
+returns-in_default-clause-plans c =
     λ now.
     let w = readings_of c.args.stored.now in
     stays c.args.me.now now w c.args.view.now c.args.state.now (hear_ping c.args.me.now c.args.from c.args.table.now) c.stay.result c.stay.ensures
     (λ x b. ap (λ (t : Option Scores). hear_ping c.args.me.now c.args.from t x) (none_is c.args.table.now c.in_default.not-Some) ∙ laws.ping-untold c.args.me.now c.args.from x)
 
-pub returns : goal.returns
-returns c =
+pub returns-clause-plans : goal.returns-clause-plans
+returns-clause-plans c =
     λ now.
     let me = c.args.me.now in
     let s = c.args.state.now in

@@ -7,15 +7,15 @@ use Rattle.mon_elector.proofs.Known.{plan_of, stays, plans}
 use Rattle.mon_elector.proofs.PingLaws as laws
 use Rattle.mon_elector.proofs.pings.hear_ping_reply.Goals as goal
 
-pub returns-in-None : goal.returns-in-None
-returns-in-None c =
+pub returns-in-None-clause-plans : goal.returns-in-None-clause-plans
+returns-in-None-clause-plans c =
     λ now.
     let w = readings_of c.args.stored.now in
     stays c.args.me.now now w c.args.view.now c.args.state.now (hear_ping_reply c.args.from c.args.table.now) c.stay.result c.stay.ensures
     (λ x b. ap (λ (t : Option Scores). hear_ping_reply c.args.from t x) c.in-None.is ∙ laws.ping_reply-untold c.args.from x)
 
-pub returns-in-Some : goal.returns-in-Some
-returns-in-Some c =
+pub returns-in-Some-clause-plans : goal.returns-in-Some-clause-plans
+returns-in-Some-clause-plans c =
     λ now.
     let s = c.args.state.now in
     let w = readings_of c.args.stored.now in

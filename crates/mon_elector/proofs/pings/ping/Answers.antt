@@ -14,8 +14,8 @@ use Rattle.mon_elector.proofs.Known.{plans}
 use Rattle.mon_elector.proofs.PingLaws as laws
 use Rattle.mon_elector.proofs.pings.ping.Goals as goal
 
-pub returns : goal.returns
-returns c =
+pub returns-clause-plans : goal.returns-clause-plans
+returns-clause-plans c =
     let me = c.args.me.now in
     let s = c.args.state.now in
     let w = readings_of c.args.stored.now in

@@ -14,28 +14,28 @@ use Rattle.mon_elector.proofs.Known.{plan_of, stays, elects, plans}
 use Rattle.mon_elector.proofs.ProposalLaws as laws
 use Rattle.mon_elector.proofs.proposals.hear_propose.Goals as goal
 
-pub returns-then-is_deaf : goal.returns-then-is_deaf
-returns-then-is_deaf c =
+pub returns-then-is_deaf-clause-plans : goal.returns-then-is_deaf-clause-plans
+returns-then-is_deaf-clause-plans c =
     let w = readings_of c.args.stored.now in
     stays c.args.me.now c.args.now w c.args.view.now c.args.state.now (hear_propose c.args.me.now c.args.now c.args.from c.args.epoch c.args.table.now) c.stay.result c.stay.ensures
     (λ x b. laws.propose-deaf c.args.me.now c.args.now w c.args.view.now c.args.state.now x b c.args.from c.args.epoch c.args.table.now (sym c.is_deaf.ensures ∙ c.if-is_deaf.true))
 
-pub returns-then-is_left_out : goal.returns-then-is_left_out
-returns-then-is_left_out c =
+pub returns-then-is_left_out-clause-plans : goal.returns-then-is_left_out-clause-plans
+returns-then-is_left_out-clause-plans c =
     let w = readings_of c.args.stored.now in
     elects c.args.me.now c.args.now w c.args.view.now c.args.state.now (hear_propose c.args.me.now c.args.now c.args.from c.args.epoch c.args.table.now) c.planned.result c.planned.ensures
     (λ x b. laws.propose-left_out c.args.me.now c.args.now w c.args.view.now c.args.state.now x b c.args.from c.args.epoch c.args.table.now (sym c.is_deaf.ensures ∙ c.if-is_deaf.false) (sym c.is_past.ensures ∙ c.if-is_past.true)
     (sym c.is_left_out.ensures ∙ c.if-is_left_out.true))
 
-pub returns-then-is_past : goal.returns-then-is_past
-returns-then-is_past c =
+pub returns-then-is_past-clause-plans : goal.returns-then-is_past-clause-plans
+returns-then-is_past-clause-plans c =
     let w = readings_of c.args.stored.now in
     stays c.args.me.now c.args.now w c.args.view.now c.args.state.now (hear_propose c.args.me.now c.args.now c.args.from c.args.epoch c.args.table.now) c.stay-then-is_past.result c.stay-then-is_past.ensures
     (λ x b. laws.propose-past c.args.me.now c.args.now w c.args.view.now c.args.state.now x b c.args.from c.args.epoch c.args.table.now (sym c.is_deaf.ensures ∙ c.if-is_deaf.false) (sym c.is_past.ensures ∙ c.if-is_past.true)
     (sym c.is_left_out.ensures ∙ c.if-is_left_out.false))
 
-pub returns-then-is_better : goal.returns-then-is_better
-returns-then-is_better c =
+pub returns-then-is_better-clause-plans : goal.returns-then-is_better-clause-plans
+returns-then-is_better-clause-plans c =
     let me = c.args.me.now in
     let s = c.args.state.now in
     let w = readings_of c.args.stored.now in
@@ -51,8 +51,8 @@ returns-then-is_better c =
     (λ x b. laws.propose-later-defers me c.args.now w c.args.view.now s x b f e table (sym c.is_deaf.ensures ∙ c.if-is_deaf.false) (sym c.is_past.ensures ∙ c.if-is_past.false) (sym c.is_later.ensures ∙ c.if-is_later.true)
     (sym (c.is_better-is_better.ensures ∙ better) ∙ c.if-is_better.true))
 
-pub returns-then-is_later : goal.returns-then-is_later
-returns-then-is_later c =
+pub returns-then-is_later-clause-plans : goal.returns-then-is_later-clause-plans
+returns-then-is_later-clause-plans c =
     let me = c.args.me.now in
     let s = c.args.state.now in
     let w = readings_of c.args.stored.now in
@@ -67,8 +67,8 @@ returns-then-is_later c =
     (λ x b. laws.propose-later-elects me c.args.now w c.args.view.now s x b f e table (sym c.is_deaf.ensures ∙ c.if-is_deaf.false) (sym c.is_past.ensures ∙ c.if-is_past.false) (sym c.is_later.ensures ∙ c.if-is_later.true)
     (sym (c.is_better-is_better.ensures ∙ better) ∙ c.if-is_better.false))
 
-pub returns-then-may_defer : goal.returns-then-may_defer
-returns-then-may_defer c =
+pub returns-then-may_defer-clause-plans : goal.returns-then-may_defer-clause-plans
+returns-then-may_defer-clause-plans c =
     let me = c.args.me.now in
     let s = c.args.state.now in
     let w = readings_of c.args.stored.now in
@@ -86,8 +86,8 @@ returns-then-may_defer c =
     (sym (c.is_better-is_better.ensures ∙ better) ∙ c.if-is_better-2.true)
     (sym (c.may_defer.ensures ∙ (λ i. may_defer me (c.table_or-then-is_better-2.ensures i) f (c.merged-merged.ensures i).deferred)) ∙ c.if-may_defer.true))
 
-pub returns-then-is_better-2 : goal.returns-then-is_better-2
-returns-then-is_better-2 c =
+pub returns-then-is_better-2-clause-plans : goal.returns-then-is_better-2-clause-plans
+returns-then-is_better-2-clause-plans c =
     let me = c.args.me.now in
     let s = c.args.state.now in
     let w = readings_of c.args.stored.now in
@@ -102,8 +102,8 @@ returns-then-is_better-2 c =
     (sym (c.is_better-is_better.ensures ∙ better) ∙ c.if-is_better-2.true)
     (sym (c.may_defer.ensures ∙ (λ i. may_defer me (c.table_or-then-is_better-2.ensures i) f (c.merged-merged.ensures i).deferred)) ∙ c.if-may_defer.false))
 
-pub returns-then-is_idle : goal.returns-then-is_idle
-returns-then-is_idle c =
+pub returns-then-is_idle-clause-plans : goal.returns-then-is_idle-clause-plans
+returns-then-is_idle-clause-plans c =
     let me = c.args.me.now in
     let s = c.args.state.now in
     let w = readings_of c.args.stored.now in
@@ -118,8 +118,8 @@ returns-then-is_idle c =
     (sym (c.is_better-is_better.ensures ∙ better) ∙ c.if-is_better-2.false)
     (sym (c.is_idle.ensures ∙ ap (λ (t : Elector). not (is_some t.deferred) && not t.candidate) c.merged-merged.ensures) ∙ c.if-is_idle.true))
 
-pub returns : goal.returns
-returns c =
+pub returns-clause-plans : goal.returns-clause-plans
+returns-clause-plans c =
     let me = c.args.me.now in
     let s = c.args.state.now in
     let w = readings_of c.args.stored.now in

@@ -9,20 +9,20 @@ use Rattle.mon_elector.proofs.Known.{plan_of, stays, plans}
 use Rattle.mon_elector.proofs.VictoryLaws as laws
 use Rattle.mon_elector.proofs.victories.hear_victory.Goals as goal
 
-pub returns-then-is_deaf_to_winners : goal.returns-then-is_deaf_to_winners
-returns-then-is_deaf_to_winners c =
+pub returns-then-is_deaf_to_winners-clause-plans : goal.returns-then-is_deaf_to_winners-clause-plans
+returns-then-is_deaf_to_winners-clause-plans c =
     let w = readings_of c.args.stored.now in
     stays c.args.me.now c.args.now w c.args.view.now c.args.state.now (hear_victory c.args.me.now c.args.now c.args.from c.args.epoch c.args.quorum) c.stay.result c.stay.ensures
     (λ x b. laws.victory-deaf c.args.me.now c.args.now w c.args.view.now c.args.state.now x b c.args.from c.args.epoch c.args.quorum (sym c.is_deaf_to_winners.ensures ∙ c.if-is_deaf_to_winners.true))
 
-pub returns-then-is_reached : goal.returns-then-is_reached
-returns-then-is_reached c =
+pub returns-then-is_reached-clause-plans : goal.returns-then-is_reached-clause-plans
+returns-then-is_reached-clause-plans c =
     let w = readings_of c.args.stored.now in
     stays c.args.me.now c.args.now w c.args.view.now c.args.state.now (hear_victory c.args.me.now c.args.now c.args.from c.args.epoch c.args.quorum) c.stay-then-is_reached.result c.stay-then-is_reached.ensures
     (λ x b. laws.victory-reached c.args.me.now c.args.now w c.args.view.now c.args.state.now x b c.args.from c.args.epoch c.args.quorum (sym c.is_deaf_to_winners.ensures ∙ c.if-is_deaf_to_winners.false) (sym c.is_reached.ensures ∙ c.if-is_reached.true))
 
-pub returns-then-not-is_next : goal.returns-then-not-is_next
-returns-then-not-is_next c =
+pub returns-then-not-is_next-clause-plans : goal.returns-then-not-is_next-clause-plans
+returns-then-not-is_next-clause-plans c =
     let me = c.args.me.now in
     let s = c.args.state.now in
     let w = readings_of c.args.stored.now in
@@ -31,15 +31,15 @@ returns-then-not-is_next c =
     (Epoch e ∷ []) (c.in_ok-enter_epoch.ensures.fit, tt) [] [] s next.Elect c.in_ok-enter_epoch.ensures.plan
     (λ x b. laws.victory-later me c.args.now w c.args.view.now s x b c.args.from e c.args.quorum (sym c.is_deaf_to_winners.ensures ∙ c.if-is_deaf_to_winners.false) (sym c.is_reached.ensures ∙ c.if-is_reached.false) (sym c.is_next.ensures ∙ c.if-not-is_next.true))
 
-pub returns-then-not-may_follow : goal.returns-then-not-may_follow
-returns-then-not-may_follow c =
+pub returns-then-not-may_follow-clause-plans : goal.returns-then-not-may_follow-clause-plans
+returns-then-not-may_follow-clause-plans c =
     let w = readings_of c.args.stored.now in
     stays c.args.me.now c.args.now w c.args.view.now c.args.state.now (hear_victory c.args.me.now c.args.now c.args.from c.args.epoch c.args.quorum) c.stay-then-not-may_follow.result c.stay-then-not-may_follow.ensures
     (λ x b. laws.victory-dropped c.args.me.now c.args.now w c.args.view.now c.args.state.now x b c.args.from c.args.epoch c.args.quorum (sym c.is_deaf_to_winners.ensures ∙ c.if-is_deaf_to_winners.false) (sym c.is_reached.ensures ∙ c.if-is_reached.false) (sym c.is_next.ensures ∙ c.if-not-is_next.false)
     (sym c.may_follow.ensures ∙ c.if-not-may_follow.true))
 
-pub returns : goal.returns
-returns c =
+pub returns-clause-plans : goal.returns-clause-plans
+returns-clause-plans c =
     let me = c.args.me.now in
     let s = c.args.state.now in
     let w = readings_of c.args.stored.now in

@@ -15,8 +15,8 @@ use Rattle.mon_probe.specs.Rows.{IsBegun}
 use Rattle.mon_probe.proofs.BeginLaws as laws
 use Rattle.mon_probe.proofs.begin.enter.Goals as goal
 
-pub returns-then-has_others : goal.returns-then-has_others
-returns-then-has_others c =
+pub returns-then-has_others-clause-plans : goal.returns-then-has_others-clause-plans
+returns-then-has_others-clause-plans c =
     let me = c.args.me.now in
     let w = readings_of c.args.kv.now in
     let e = c.args.epoch in
@@ -26,8 +26,8 @@ returns-then-has_others c =
     (λ x b. laws.begin-asks me c.args.now w e x b (sym c.has_others.ensures ∙ c.if-has_others.true))
     c.in_ok-ask.field-0 (ap (λ (p : Plan Prober). p.tx) is) (ap (λ (p : Plan Prober). p.out) is) (ap (λ (p : Plan Prober). p.timers) is) (ap (λ (p : Plan Prober). p.state) is) (ap (λ (p : Plan Prober). p.next) is)
 
-pub returns-then-not-may_lead : goal.returns-then-not-may_lead
-returns-then-not-may_lead c =
+pub returns-then-not-may_lead-clause-plans : goal.returns-then-not-may_lead-clause-plans
+returns-then-not-may_lead-clause-plans c =
     let me = c.args.me.now in
     let w = readings_of c.args.kv.now in
     let e = c.args.epoch in
@@ -37,14 +37,14 @@ returns-then-not-may_lead c =
     (λ x b. laws.begin-waits me c.args.now w e x b (sym c.has_others.ensures ∙ c.if-has_others.false) (sym c.may_lead.ensures ∙ c.if-not-may_lead.true))
     c.stay.result (ap (λ (p : Plan Prober). p.tx) is) (ap (λ (p : Plan Prober). p.out) is) (ap (λ (p : Plan Prober). p.timers) is) (ap (λ (p : Plan Prober). p.state) is ∙ c.alone.ensures) (ap (λ (p : Plan Prober). p.next) is)
 
-pub returns-in_default : goal.returns-in_default
-returns-in_default c =
+pub returns-in_default-clause-plans : goal.returns-in_default-clause-plans
+returns-in_default-clause-plans c =
     λ x b.
     laws.begin-spends c.args.me.now c.args.now (readings_of c.args.kv.now) c.args.epoch x b (sym c.has_others.ensures ∙ c.if-has_others.false) (sym c.may_lead.ensures ∙ c.if-not-may_lead.false)
     (laws.above (next_even c.args.epoch) c.in_default.ensures.valid.1)
 
-pub returns : goal.returns
-returns c =
+pub returns-clause-plans : goal.returns-clause-plans
+returns-clause-plans c =
     let me = c.args.me.now in
     let w = readings_of c.args.kv.now in
     let e = c.args.epoch in

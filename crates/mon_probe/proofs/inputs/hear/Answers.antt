@@ -5,16 +5,16 @@ use Rattle.mon_wire.specs.declared.body.Body.{Body}
 use Rattle.mon_probe.specs.Rows.{PlansProbe}
 use Rattle.mon_probe.proofs.inputs.hear.Goals as goal
 
-pub returns-in-Probe : goal.returns-in-Probe
-returns-in-Probe c =
+pub returns-in-Probe-clause-plans : goal.returns-in-Probe-clause-plans
+returns-in-Probe-clause-plans c =
     λ shared now.
     let m = c.args.message.now in
     subst (λ (b : Body). PlansProbe c.args.me.now now (readings_of c.args.stored.now) c.args.view.now c.args.state.now (hear c.args.me.now shared now m.from m.epoch b) c.hear_probe.result) (sym c.in-Probe.is)
-    (c.hear_probe.ensures now)
+    (c.hear_probe.ensures.plans now)
 
-pub returns-in-ProbeReply : goal.returns-in-ProbeReply
-returns-in-ProbeReply c =
+pub returns-in-ProbeReply-clause-plans : goal.returns-in-ProbeReply-clause-plans
+returns-in-ProbeReply-clause-plans c =
     λ shared now.
     let m = c.args.message.now in
     subst (λ (b : Body). PlansProbe c.args.me.now now (readings_of c.args.stored.now) c.args.view.now c.args.state.now (hear c.args.me.now shared now m.from m.epoch b) (Ok c.hear_probe_reply.result)) (sym c.in-ProbeReply.is)
-    (c.hear_probe_reply.ensures now)
+    (c.hear_probe_reply.ensures.plans now)

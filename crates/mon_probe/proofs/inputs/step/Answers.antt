@@ -11,16 +11,16 @@ use Rattle.mon_probe.proofs.Known.{acts}
 use Rattle.mon_probe.proofs.ProbeLaws.{rings}
 use Rattle.mon_probe.proofs.inputs.step.Goals as goal
 
-pub returns-in-Deliver : goal.returns-in-Deliver
-returns-in-Deliver c =
+pub returns-in-Deliver-clause-plans : goal.returns-in-Deliver-clause-plans
+returns-in-Deliver-clause-plans c =
     λ shared.
     let m = c.in-Deliver.message in
     subst (λ (came : Input). PlansProbe c.args.me.now c.args.now (readings_of c.args.kv.now) c.args.view.now c.args.state.now (row c.args.me.now shared c.args.now came) c.hear.result) (sym c.in-Deliver.is)
     (subst (λ (store : Store). PlansProbe c.args.me.now c.args.now (readings_of store) c.args.view.now c.args.state.now (hear c.args.me.now shared c.args.now m.from m.epoch m.body) c.hear.result) c.of-stored.ensures
-    (c.hear.ensures shared c.args.now))
+    (c.hear.ensures.plans shared c.args.now))
 
-pub returns-in-Timer : goal.returns-in-Timer
-returns-in-Timer c =
+pub returns-in-Timer-clause-plans : goal.returns-in-Timer-clause-plans
+returns-in-Timer-clause-plans c =
     λ shared.
     let me = c.args.me.now in
     let s = c.args.state.now in

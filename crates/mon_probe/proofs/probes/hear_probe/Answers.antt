@@ -11,15 +11,15 @@ use Rattle.mon_probe.proofs.Known.{Met, acts}
 use Rattle.mon_probe.proofs.ProbeLaws as laws
 use Rattle.mon_probe.proofs.probes.hear_probe.Goals as goal
 
-pub returns-then-is_marked : goal.returns-then-is_marked
-returns-then-is_marked c =
+pub returns-then-is_marked-clause-plans : goal.returns-then-is_marked-clause-plans
+returns-then-is_marked-clause-plans c =
     λ now.
     let w = readings_of c.args.stored.now in
     acts c.args.me.now now w c.args.view.now c.args.state.now (hear_probe c.args.me.now c.args.from) c.stay.result next.Stay (λ x. refl) c.stay.ensures
     (λ x b. laws.probe-marked c.args.me.now now w c.args.view.now c.args.state.now x b c.args.from (sym c.is_marked.ensures ∙ c.if-is_marked.true))
 
-pub returns : goal.returns
-returns c =
+pub returns-clause-plans : goal.returns-clause-plans
+returns-clause-plans c =
     λ now.
     let me = c.args.me.now in
     let v = c.args.view.now in

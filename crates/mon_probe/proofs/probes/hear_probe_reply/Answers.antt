@@ -8,55 +8,55 @@ use Rattle.mon_probe.proofs.Known.{plan_of, acts, plans}
 use Rattle.mon_probe.proofs.ProbeLaws as laws
 use Rattle.mon_probe.proofs.probes.hear_probe_reply.Goals as goal
 
-pub returns-then-not-is_probing : goal.returns-then-not-is_probing
-returns-then-not-is_probing c =
+pub returns-then-not-is_probing-clause-plans : goal.returns-then-not-is_probing-clause-plans
+returns-then-not-is_probing-clause-plans c =
     λ now.
     let w = readings_of c.args.stored.now in
     acts c.args.me.now now w c.args.view.now c.args.state.now (hear_probe_reply c.args.me.now now c.args.from c.args.quorum c.args.first c.args.last) c.stay.result next.Stay (λ x. refl) c.stay.ensures
     (λ x b. laws.reply-elsewhere c.args.me.now now w c.args.view.now c.args.state.now x b c.args.from c.args.quorum c.args.first c.args.last (sym c.is_probing.ensures ∙ c.if-not-is_probing.true))
 
-pub returns-then-reaches_floor : goal.returns-then-reaches_floor
-returns-then-reaches_floor c =
+pub returns-then-reaches_floor-clause-plans : goal.returns-then-reaches_floor-clause-plans
+returns-then-reaches_floor-clause-plans c =
     λ now.
     let w = readings_of c.args.stored.now in
     acts c.args.me.now now w c.args.view.now c.args.state.now (hear_probe_reply c.args.me.now now c.args.from c.args.quorum c.args.first c.args.last) c.planned.result (next.FullSync c.args.from) (λ x. refl) c.planned.ensures
     (λ x b. laws.reply-copied c.args.me.now now w c.args.view.now c.args.state.now x b c.args.from c.args.quorum c.args.first c.args.last (sym c.is_probing.ensures ∙ c.if-not-is_probing.false) (sym c.is_marked.ensures ∙ c.if-is_marked.true)
     (sym c.reaches_floor.ensures ∙ c.if-reaches_floor.true))
 
-pub returns-then-is_marked : goal.returns-then-is_marked
-returns-then-is_marked c =
+pub returns-then-is_marked-clause-plans : goal.returns-then-is_marked-clause-plans
+returns-then-is_marked-clause-plans c =
     λ now.
     let w = readings_of c.args.stored.now in
     acts c.args.me.now now w c.args.view.now c.args.state.now (hear_probe_reply c.args.me.now now c.args.from c.args.quorum c.args.first c.args.last) c.stay-then-is_marked.result next.Stay (λ x. refl) c.stay-then-is_marked.ensures
     (λ x b. laws.reply-short c.args.me.now now w c.args.view.now c.args.state.now x b c.args.from c.args.quorum c.args.first c.args.last (sym c.is_probing.ensures ∙ c.if-not-is_probing.false) (sym c.is_marked.ensures ∙ c.if-is_marked.true)
     (sym c.reaches_floor.ensures ∙ c.if-reaches_floor.false))
 
-pub returns-then-is_cut_off : goal.returns-then-is_cut_off
-returns-then-is_cut_off c =
+pub returns-then-is_cut_off-clause-plans : goal.returns-then-is_cut_off-clause-plans
+returns-then-is_cut_off-clause-plans c =
     λ now.
     let w = readings_of c.args.stored.now in
     acts c.args.me.now now w c.args.view.now c.args.state.now (hear_probe_reply c.args.me.now now c.args.from c.args.quorum c.args.first c.args.last) c.planned-then-is_cut_off.result (next.FullSync c.args.from) (λ x. refl) c.planned-then-is_cut_off.ensures
     (λ x b. laws.reply-cut_off c.args.me.now now w c.args.view.now c.args.state.now x b c.args.from c.args.quorum c.args.first c.args.last (sym c.is_probing.ensures ∙ c.if-not-is_probing.false) (sym c.is_marked.ensures ∙ c.if-is_marked.false)
     (sym c.is_cut_off.ensures ∙ c.if-is_cut_off.true))
 
-pub returns-then-is_behind : goal.returns-then-is_behind
-returns-then-is_behind c =
+pub returns-then-is_behind-clause-plans : goal.returns-then-is_behind-clause-plans
+returns-then-is_behind-clause-plans c =
     λ now.
     let w = readings_of c.args.stored.now in
     acts c.args.me.now now w c.args.view.now c.args.state.now (hear_probe_reply c.args.me.now now c.args.from c.args.quorum c.args.first c.args.last) c.planned-then-is_behind.result (next.RecentSync c.args.from) (λ x. refl) c.planned-then-is_behind.ensures
     (λ x b. laws.reply-behind c.args.me.now now w c.args.view.now c.args.state.now x b c.args.from c.args.quorum c.args.first c.args.last (sym c.is_probing.ensures ∙ c.if-not-is_probing.false) (sym c.is_marked.ensures ∙ c.if-is_marked.false)
     (sym c.is_cut_off.ensures ∙ c.if-is_cut_off.false) (sym c.is_behind.ensures ∙ c.if-is_behind.true))
 
-pub returns-then-is_quorum : goal.returns-then-is_quorum
-returns-then-is_quorum c =
+pub returns-then-is_quorum-clause-plans : goal.returns-then-is_quorum-clause-plans
+returns-then-is_quorum-clause-plans c =
     λ now.
     let w = readings_of c.args.stored.now in
     acts c.args.me.now now w c.args.view.now c.args.state.now (hear_probe_reply c.args.me.now now c.args.from c.args.quorum c.args.first c.args.last) c.planned-then-is_quorum.result next.Elect (λ x. refl) c.planned-then-is_quorum.ensures
     (λ x b. laws.reply-quorum c.args.me.now now w c.args.view.now c.args.state.now x b c.args.from c.args.quorum c.args.first c.args.last (sym c.is_probing.ensures ∙ c.if-not-is_probing.false) (sym c.is_marked.ensures ∙ c.if-is_marked.false)
     (sym c.is_cut_off.ensures ∙ c.if-is_cut_off.false) (sym c.is_behind.ensures ∙ c.if-is_behind.false) (sym c.is_quorum.ensures ∙ c.if-is_quorum.true))
 
-pub returns-then-is_majority : goal.returns-then-is_majority
-returns-then-is_majority c =
+pub returns-then-is_majority-clause-plans : goal.returns-then-is_majority-clause-plans
+returns-then-is_majority-clause-plans c =
     λ now.
     let me = c.args.me.now in
     let s = c.args.state.now in
@@ -70,8 +70,8 @@ returns-then-is_majority c =
     (sym c.is_cut_off.ensures ∙ c.if-is_cut_off.false) (sym c.is_behind.ensures ∙ c.if-is_behind.false) (sym c.is_quorum.ensures ∙ c.if-is_quorum.false)
     (sym (c.is_majority.ensures ∙ enough) ∙ c.if-is_majority.true))
 
-pub returns : goal.returns
-returns c =
+pub returns-clause-plans : goal.returns-clause-plans
+returns-clause-plans c =
     λ now.
     let me = c.args.me.now in
     let s = c.args.state.now in

@@ -19,8 +19,8 @@ use Rattle.paxos_peon.specs.Rows.{IsOurs, promised}
 use Rattle.paxos_peon.proofs.CollectLaws.{told_with, collect-behind, collect-spent, collect-told}
 use Rattle.paxos_peon.proofs.collecting.collect.Goals as goal
 
-pub returns-then-get : goal.returns-then-get
-returns-then-get c =
+pub returns-then-get-clause-plans : goal.returns-then-get-clause-plans
+returns-then-get-clause-plans c =
     λ now e.
     let s = c.args.state.now in
     let w = readings_of c.args.stored.now in
@@ -31,16 +31,16 @@ returns-then-get c =
     (omega (arith, c.if-get.true, c.get.ensures.value, c.get-2.ensures.value, c.last.ensures.value)))
     c.planned.result c.planned.ensures
 
-pub returns-in_default : goal.returns-in_default
-returns-in_default c =
+pub returns-in_default-clause-plans : goal.returns-in_default-clause-plans
+returns-in_default-clause-plans c =
     λ now e x b.
     let s = c.args.state.now in
     collect-spent (readings_of c.args.stored.now) s s.leader e x b c.args.me.now now c.args.pn c.args.leader_first c.args.leader_last
     (omega (arith, c.if-get.false, c.get.ensures.value, c.get-2.ensures.value, c.last.ensures.value))
     (let over = above (suc c.args.leader_last) (2 ^ 62) (λ le. c.in_default.ensures.valid.1 (omega (arith, le))) in omega (arith, over))
 
-pub returns : goal.returns
-returns c =
+pub returns-clause-plans : goal.returns-clause-plans
+returns-clause-plans c =
     λ now e.
     let me = c.args.me.now in
     let s = c.args.state.now in

@@ -15,15 +15,15 @@ use Rattle.paxos_peon.specs.Rows.{is_input}
 use Rattle.paxos_peon.proofs.HearLaws.{rings}
 use Rattle.paxos_peon.proofs.inputs.step.Goals as goal
 
-pub returns-in-Deliver : goal.returns-in-Deliver
-returns-in-Deliver c =
+pub returns-in-Deliver-clause-plans : goal.returns-in-Deliver-clause-plans
+returns-in-Deliver-clause-plans c =
     λ shared.
     let met = λ (m : Store). IsMet c.args.me.now c.args.now (readings_of m) c.args.view.now (λ st. st.peon) c.args.state.now in
     subst (λ (came : Input). PlansRow c.args.me.now c.args.now peon_is (met c.args.kv.now) (row c.args.me.now shared c.args.now came) c.hear.result) (sym c.in-Deliver.is)
-    (subst (λ (m : Store). PlansRow c.args.me.now c.args.now peon_is (met m) (row c.args.me.now shared c.args.now (input.Deliver c.in-Deliver.message)) c.hear.result) c.of-stored.ensures (c.hear.ensures shared))
+    (subst (λ (m : Store). PlansRow c.args.me.now c.args.now peon_is (met m) (row c.args.me.now shared c.args.now (input.Deliver c.in-Deliver.message)) c.hear.result) c.of-stored.ensures (c.hear.ensures.plans shared))
 
-pub returns-in-Timer : goal.returns-in-Timer
-returns-in-Timer c =
+pub returns-in-Timer-clause-plans : goal.returns-in-Timer-clause-plans
+returns-in-Timer-clause-plans c =
     λ shared.
     let me = c.args.me.now in
     let s = c.args.state.now in

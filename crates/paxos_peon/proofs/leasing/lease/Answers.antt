@@ -17,8 +17,8 @@ use Rattle.paxos_peon.specs.Rows.{IsOurs}
 use Rattle.paxos_peon.proofs.LeaseLaws.{lease-dropped, lease-taken}
 use Rattle.paxos_peon.proofs.leasing.lease.Goals as goal
 
-pub returns-then-is_refused : goal.returns-then-is_refused
-returns-then-is_refused c =
+pub returns-then-is_refused-clause-plans : goal.returns-then-is_refused-clause-plans
+returns-then-is_refused-clause-plans c =
     λ e.
     let s = c.args.state.now in
     let w = readings_of c.args.stored.now in
@@ -27,8 +27,8 @@ returns-then-is_refused c =
     (λ x b. lease-dropped w s s.leader e x b c.args.me.now c.args.now c.args.version (sym c.is_refused.ensures ∙ c.if-is_refused.true))
     c.stay.result c.stay.ensures
 
-pub returns : goal.returns
-returns c =
+pub returns-clause-plans : goal.returns-clause-plans
+returns-clause-plans c =
     λ e.
     let me = c.args.me.now in
     let s = c.args.state.now in

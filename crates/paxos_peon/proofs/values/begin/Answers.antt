@@ -14,8 +14,8 @@ use Rattle.paxos_peon.specs.Rows.{IsOurs}
 use Rattle.paxos_peon.proofs.ValueLaws.{begin-dropped, begin-accepts}
 use Rattle.paxos_peon.proofs.values.begin.Goals as goal
 
-pub returns-then-not-is_accepted : goal.returns-then-not-is_accepted
-returns-then-not-is_accepted c =
+pub returns-then-not-is_accepted-clause-plans : goal.returns-then-not-is_accepted-clause-plans
+returns-then-not-is_accepted-clause-plans c =
     λ now e.
     let s = c.args.state.now in
     let w = readings_of c.args.stored.now in
@@ -24,8 +24,8 @@ returns-then-not-is_accepted c =
     (λ x b. begin-dropped w s s.leader e x b c.args.me.now c.args.pn c.args.version c.args.value.now (sym c.is_accepted.ensures ∙ c.if-not-is_accepted.true))
     c.stay.result c.stay.ensures
 
-pub returns : goal.returns
-returns c =
+pub returns-clause-plans : goal.returns-clause-plans
+returns-clause-plans c =
     λ now e.
     let me = c.args.me.now in
     let s = c.args.state.now in

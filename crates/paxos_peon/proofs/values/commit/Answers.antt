@@ -27,8 +27,8 @@ learn-requires c = record {
   room = omega (arith, ap length (rest_is c.min-known.result c.args.values.now), length-drop c.min-known.result c.args.values.now, c.get-next.ensures.most, c.requires.few);
 }
 
-pub returns-then-is_ahead : goal.returns-then-is_ahead
-returns-then-is_ahead c =
+pub returns-then-is_ahead-clause-plans : goal.returns-then-is_ahead-clause-plans
+returns-then-is_ahead-clause-plans c =
     λ me now f e.
     let s = c.args.state.now in
     let w = readings_of c.args.stored.now in
@@ -37,8 +37,8 @@ returns-then-is_ahead c =
     (λ x b. commit-ahead w s f e x b c.args.from c.args.values.now (sym c.is_ahead.ensures ∙ c.if-is_ahead.true))
     c.stay.result c.stay.ensures
 
-pub returns-in-Err : goal.returns-in-Err
-returns-in-Err c =
+pub returns-in-Err-clause-plans : goal.returns-in-Err-clause-plans
+returns-in-Err-clause-plans c =
     λ me now f e.
     let s = c.args.state.now in
     let w = readings_of c.args.stored.now in
@@ -51,8 +51,8 @@ returns-in-Err c =
     commit-learns w s f e x b c.args.from c.args.values.now v k (omega (arith, c.get-next.ensures.value, c.last.ensures.value))
     low (c.min-known.ensures ∙ ap (λ (n : ℕ). min (v - n) (length c.args.values.now)) c.get.ensures.value))
 
-pub returns : goal.returns
-returns c =
+pub returns-clause-plans : goal.returns-clause-plans
+returns-clause-plans c =
     λ me now f e.
     let s = c.args.state.now in
     let w = readings_of c.args.stored.now in
