@@ -7,6 +7,7 @@ ghost use Rattle.mon_msg.specs.Protocol.Phases.{same_phase, is_leading, is_peon}
 ghost use Rattle.mon_msg.specs.Protocol.Readings.{readings_of};
 ghost use Rattle.mon_msg.specs.Protocol.Sets.{is_empty};
 ghost use Rattle.mon_wire.specs.declared.phase.Phase.TheVariants.{Active};
+ghost use Rattle.mon_plan.specs.Leaves.{Leaves};
 ghost use Rattle.mon_plan.specs.Plans.{PlansRow};
 ghost use Rattle.mon_plan.specs.Seen.{IsMet};
 ghost use Rattle.mon_client.specs.Rows.{IsUnderWay};
@@ -118,8 +119,9 @@ pub fn at_leader(
     origin: Origin,
     now: Moment,
 ) -> Result<Plan<Clients>, RoleStop>
-    ensures { PlansRow me.now now clients_are (IsUnderWay me.now now (readings_of kv.now) view.now)
+    ensures plans { PlansRow me.now now clients_are (IsUnderWay me.now now (readings_of kv.now) view.now)
         (λ x. at_leader me.now now command origin (clients_are clients x)) result }
+    ensures leaves { IfOk result (λ plan. Leaves view.now.phase plan.next plan.tx) }
 {
     if is_too_long(&command) {
         let sent = answer(me, epoch(alloc, kv), origin, too_long(&command));
@@ -146,8 +148,9 @@ fn hand_on(
     session: Session,
 ) -> Result<Plan<Clients>, RoleStop>
     requires { is_peon view.now.phase ≡ true }
-    ensures { (now : ℕ) → PlansRow me.now now clients_are (IsUnderWay me.now now (readings_of kv.now) view.now)
+    ensures plans { (now : ℕ) → PlansRow me.now now clients_are (IsUnderWay me.now now (readings_of kv.now) view.now)
         (λ x. hand_on me.now command session (clients_are clients x)) result }
+    ensures leaves { IfOk result (λ plan. Leaves view.now.phase plan.next plan.tx) }
 {
     let seq = clients.next_seq;
     if seq > GREATEST {
@@ -170,8 +173,9 @@ fn at_peon(
     session: Session,
 ) -> Result<Plan<Clients>, RoleStop>
     requires { is_peon view.now.phase ≡ true }
-    ensures { (now : ℕ) → PlansRow me.now now clients_are (IsUnderWay me.now now (readings_of kv.now) view.now)
+    ensures plans { (now : ℕ) → PlansRow me.now now clients_are (IsUnderWay me.now now (readings_of kv.now) view.now)
         (λ x. at_peon me.now command session (clients_are clients x)) result }
+    ensures leaves { IfOk result (λ plan. Leaves view.now.phase plan.next plan.tx) }
 {
     if is_too_long(&command) {
         let reply = too_long(&command);
@@ -195,9 +199,10 @@ pub fn ask(
     command: Command,
     now: Moment,
 ) -> Result<Plan<Clients>, RoleStop>
-    ensures { PlansRow me.now now clients_are
+    ensures plans { PlansRow me.now now clients_are
         (IsMet me.now now (readings_of kv.now) view.now (λ s. s.clients) state.now)
         (ask me.now now session command) result }
+    ensures leaves { IfOk result (λ plan. Leaves view.now.phase plan.next plan.tx) }
 {
     let clients = state.copy(alloc)?;
     if is_leading(view.phase) {
@@ -239,9 +244,10 @@ pub fn propose_due(
     state: &Clients,
     now: Moment,
 ) -> Result<Plan<Clients>, RoleStop>
-    ensures { PlansRow me.now now clients_are
+    ensures plans { PlansRow me.now now clients_are
         (IsMet me.now now (readings_of kv.now) view.now (λ s. s.clients) state.now)
         (propose_due me.now now) result }
+    ensures leaves { IfOk result (λ plan. Leaves view.now.phase plan.next plan.tx) }
 {
     let clients = state.copy(alloc)?;
     if !may_propose(view) {

@@ -7,6 +7,7 @@ ghost use Rattle.mon_msg.specs.Protocol.Phases.{is_leading, is_peon};
 ghost use Rattle.mon_msg.specs.Protocol.Readings.{epoch_of, readings_of};
 ghost use Rattle.mon_msg.specs.declared.plan.Sent.TheVariants as sent;
 ghost use Rattle.mon_types.specs.Ranks.{has};
+ghost use Rattle.mon_plan.specs.Leaves.{Leaves};
 ghost use Rattle.mon_plan.specs.Plans.{PlansRow};
 ghost use Rattle.mon_plan.specs.Seen.{IsMet};
 
@@ -65,9 +66,10 @@ pub fn forward(
     command: &Command,
     now: Moment,
 ) -> Result<Plan<Clients>, RoleStop>
-    ensures { PlansRow me.now now clients_are
+    ensures plans { PlansRow me.now now clients_are
         (IsMet me.now now (readings_of kv.now) view.now (λ s. s.clients) state.now)
         (hear_forward me.now now from epoch seq command.now) result }
+    ensures leaves { IfOk result (λ plan. Leaves view.now.phase plan.next plan.tx) }
 {
     let clients = state.copy(alloc)?;
     if !is_of_member(alloc, kv, view, from, epoch) {
@@ -138,9 +140,10 @@ pub fn route(
     seq: u64,
     reply: &Reply,
 ) -> Result<Plan<Clients>, RoleStop>
-    ensures { (me : Me) (now : ℕ) → PlansRow me now clients_are
+    ensures plans { (me : Me) (now : ℕ) → PlansRow me now clients_are
         (IsMet me now (readings_of kv.now) view.now (λ s. s.clients) state.now)
         (hear_route from epoch seq reply.now) result }
+    ensures leaves { IfOk result (λ plan. Leaves view.now.phase plan.next plan.tx) }
 {
     let mut clients = state.copy(alloc)?;
     if !is_of_leader(alloc, kv, view, from, epoch) {

@@ -1,11 +1,12 @@
 //! What a monitor does at each input that its clients' commands and reads are made of.
 
-ghost use Rattle.std.specs.Prelude.{◌≡◌, List, IsTrue};
+ghost use Rattle.std.specs.Prelude.{◌≡◌, List, IfOk, IsTrue};
 ghost use Rattle.mon_bytes.specs.declared.entry.Entry.{Entry};
 ghost use Rattle.mon_msg.specs.Protocol.Course.{clients_are};
 ghost use Rattle.mon_msg.specs.Protocol.Hearing.{hear, hear_client};
 ghost use Rattle.mon_msg.specs.Protocol.Readings.{readings_of};
 ghost use Rattle.mon_plan.specs.Inputs.{may_come, row};
+ghost use Rattle.mon_plan.specs.Leaves.{Leaves};
 ghost use Rattle.mon_plan.specs.Plans.{PlansRow};
 ghost use Rattle.mon_plan.specs.Seen.{IsMet};
 ghost use Rattle.mon_client.specs.Rows.{is_told, is_asked, is_input};
@@ -31,9 +32,10 @@ fn hear(
     now: Moment,
 ) -> Result<Plan<Clients>, RoleStop>
     requires { IsTrue (is_told message.now.body) }
-    ensures { (shared : List Entry) → PlansRow me.now now clients_are
+    ensures plans { (shared : List Entry) → PlansRow me.now now clients_are
         (IsMet me.now now (readings_of kv.now) view.now (λ s. s.clients) state.now)
         (hear me.now shared now message.now.from message.now.epoch message.now.body) result }
+    ensures leaves { IfOk result (λ plan. Leaves view.now.phase plan.next plan.tx) }
 {
     let (from, epoch) = (message.from, message.epoch);
     match &message.body {
@@ -57,9 +59,10 @@ fn client(
     now: Moment,
 ) -> Result<Plan<Clients>, RoleStop>
     requires { IsTrue (is_asked request.now) }
-    ensures { PlansRow me.now now clients_are
+    ensures plans { PlansRow me.now now clients_are
         (IsMet me.now now (readings_of kv.now) view.now (λ s. s.clients) state.now)
         (hear_client me.now now session request.now) result }
+    ensures leaves { IfOk result (λ plan. Leaves view.now.phase plan.next plan.tx) }
 {
     match request {
         Request::Set { key, value } => {
@@ -105,9 +108,10 @@ pub fn step(
 ) -> Result<Plan<Clients>, RoleStop>
     requires input { IsTrue (is_input input.now) }
     requires fits { IsTrue (may_come me.now.member.monitors input.now) }
-    ensures { (shared : List Entry) → PlansRow me.now now clients_are
+    ensures plans { (shared : List Entry) → PlansRow me.now now clients_are
         (IsMet me.now now (readings_of kv.now) view.now (λ s. s.clients) state.now)
         (row me.now shared now input.now) result }
+    ensures leaves { IfOk result (λ plan. Leaves view.now.phase plan.next plan.tx) }
 {
     match input {
         Input::Deliver(message) => hear(alloc, kv, me, view, state, message, now),

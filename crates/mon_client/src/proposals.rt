@@ -8,7 +8,9 @@ ghost use Rattle.mon_msg.specs.Protocol.Sending.{answer_to};
 ghost use Rattle.mon_msg.specs.Protocol.Timers.{length_of};
 ghost use Rattle.mon_msg.specs.declared.plan.Arming.TheVariants as arming;
 ghost use Rattle.mon_msg.specs.declared.plan.Next.TheVariants as next;
+ghost use Rattle.mon_wire.specs.declared.phase.Phase.TheVariants as phase;
 ghost use Rattle.mon_wire.specs.declared.phase.Timer.TheVariants as timer;
+ghost use Rattle.mon_plan.specs.Leaves.{Leaves};
 ghost use Rattle.mon_plan.specs.Plans.{PlansRow};
 
 use crate::answers::epoch;
@@ -85,8 +87,9 @@ pub fn propose(
     origin: Origin,
     now: Moment,
 ) -> Result<Plan<Clients>, RoleStop>
-    ensures { PlansRow me.now now clients_are (λ x. x.readings ≡ readings_of kv.now)
+    ensures plans { PlansRow me.now now clients_are (λ x. x.readings ≡ readings_of kv.now)
         (λ x. propose me.now now command.now origin (clients_are clients x)) result }
+    ensures leaves { IfOk result (λ plan. Leaves phase.Active plan.next plan.tx) }
 {
     if last_version(kv, service_of(command)) >= GREATEST {
         return Err(RoleStop::Spent {

@@ -6,6 +6,7 @@ ghost use Rattle.mon_msg.specs.Protocol.Phases.{is_member};
 ghost use Rattle.mon_msg.specs.Protocol.Readings.{readings_of};
 ghost use Rattle.mon_msg.specs.Protocol.Reads.{since as changes_since, read};
 ghost use Rattle.mon_msg.specs.declared.view.Me.{Me};
+ghost use Rattle.mon_plan.specs.Leaves.{Leaves};
 ghost use Rattle.mon_plan.specs.Plans.{PlansRow};
 ghost use Rattle.mon_plan.specs.Seen.{IsMet};
 
@@ -61,9 +62,10 @@ pub fn since(
     service: Service,
     version: Version,
 ) -> Result<Plan<Clients>, RoleStop>
-    ensures { (me : Me) (now : ℕ) → PlansRow me now clients_are
+    ensures plans { (me : Me) (now : ℕ) → PlansRow me now clients_are
         (IsMet me now (readings_of kv.now) view.now (λ s. s.clients) state.now)
         (read me now session (λ w. changes_since w service version)) result }
+    ensures leaves { IfOk result (λ plan. Leaves view.now.phase plan.next plan.tx) }
 {
     let reply = told(alloc, kv, view, service, version)?;
     let clients = state.copy(alloc)?;

@@ -6,6 +6,7 @@ ghost use Rattle.mon_msg.specs.Protocol.Parts.{value_length};
 ghost use Rattle.mon_msg.specs.Protocol.Places.{is_cookie};
 ghost use Rattle.mon_msg.specs.Protocol.Providing.{chunk, given_values, reach, hear_get_chunk};
 ghost use Rattle.mon_msg.specs.Protocol.Readings.{readings_of, shared_entries};
+ghost use Rattle.mon_msg.specs.declared.plan.Next.TheVariants as next;
 ghost use Rattle.mon_wire.specs.declared.parts.Cookie.{Cookie};
 ghost use Rattle.mon_plan.specs.Plans.{PlansRow};
 ghost use Rattle.sync_provider.specs.Rows.{Holds, left_after};
@@ -121,8 +122,9 @@ pub fn give_chunk(
     place: &Place,
 ) -> Result<Plan<Provider>, RoleStop>
     requires { (readings_of kv.now).marked ≡ false }
-    ensures { (now : ℕ) → PlansRow me.now now provider_is (Holds (readings_of kv.now) state.now)
+    ensures plans { (now : ℕ) → PlansRow me.now now provider_is (Holds (readings_of kv.now) state.now)
         (hear_get_chunk me.now (shared_entries kv.now) to cookie place.now) result }
+    ensures stays { IfOk result (λ plan. plan.next ≡ next.Stay) }
 {
     let stored = Stored::of(alloc, kv);
     if is_refused(&stored, state, to, cookie, place) {

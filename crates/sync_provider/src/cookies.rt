@@ -1,10 +1,11 @@
 //! A monitor asks for a synchronisation.
 
-ghost use Rattle.std.specs.Prelude.{◌≡◌, ℕ, suc, ◌≤◌, ◌^◌, nat_lt, false, Some, Ok, slice_set};
+ghost use Rattle.std.specs.Prelude.{◌≡◌, ℕ, suc, ◌≤◌, ◌^◌, nat_lt, false, Some, Ok, IfOk, slice_set};
 ghost use Rattle.mon_msg.specs.Protocol.Course.{provider_is};
 ghost use Rattle.mon_msg.specs.Protocol.Providing.{grant, hear_get_cookie_recent};
 ghost use Rattle.mon_msg.specs.Protocol.Readings.{readings_of};
 ghost use Rattle.mon_msg.specs.Protocol.Sending.{send};
+ghost use Rattle.mon_msg.specs.declared.plan.Next.TheVariants as next;
 ghost use Rattle.mon_wire.specs.declared.body.Body.TheVariants as body;
 ghost use Rattle.mon_plan.specs.Plans.{PlansRow};
 ghost use Rattle.sync_provider.specs.Rows.{Holds};
@@ -25,8 +26,9 @@ pub fn answer(
     to: Rank,
     body: Body,
 ) -> Result<Plan<Provider>, RoleStop>
-    ensures { (now : ℕ) → PlansRow me.now now provider_is (Holds (readings_of stored.now) state.now)
+    ensures plans { (now : ℕ) → PlansRow me.now now provider_is (Holds (readings_of stored.now) state.now)
         (λ x. Ok (send me.now to body x)) result }
+    ensures stays { IfOk result (λ plan. plan.next ≡ next.Stay) }
 {
     let mut out = Items::new(alloc);
     out.push(message(me, stored.epoch(), body, to))?;
@@ -62,8 +64,9 @@ pub fn grant(
     to: Rank,
     full: bool,
 ) -> Result<Plan<Provider>, RoleStop>
-    ensures { (now : ℕ) → PlansRow me.now now provider_is (Holds (readings_of stored.now) state.now)
+    ensures plans { (now : ℕ) → PlansRow me.now now provider_is (Holds (readings_of stored.now) state.now)
         (grant me.now full to) result }
+    ensures stays { IfOk result (λ plan. plan.next ≡ next.Stay) }
 {
     if state.next_cookie > GREATEST {
         return Err(RoleStop::Spent {
@@ -107,8 +110,9 @@ pub fn grant_recent(
     last: Version,
 ) -> Result<Plan<Provider>, RoleStop>
     requires { (readings_of stored.now).marked ≡ false }
-    ensures { (now : ℕ) → PlansRow me.now now provider_is (Holds (readings_of stored.now) state.now)
+    ensures plans { (now : ℕ) → PlansRow me.now now provider_is (Holds (readings_of stored.now) state.now)
         (hear_get_cookie_recent me.now to last) result }
+    ensures stays { IfOk result (λ plan. plan.next ≡ next.Stay) }
 {
     if lacks(stored, last) {
         let cookie = Cookie { boot: 0, seq: 0 };

@@ -1,10 +1,12 @@
 //! What a provider does at each of its inputs.
 
-ghost use Rattle.std.specs.Prelude.{◌≡◌, IsTrue};
+ghost use Rattle.std.specs.Prelude.{◌≡◌, IfOk, IsTrue};
 ghost use Rattle.mon_msg.specs.Protocol.Course.{provider_is};
 ghost use Rattle.mon_msg.specs.Protocol.Hearing.{hear};
 ghost use Rattle.mon_msg.specs.Protocol.Readings.{readings_of, shared_entries};
+ghost use Rattle.mon_msg.specs.declared.plan.Next.TheVariants as next;
 ghost use Rattle.mon_plan.specs.Inputs.{row};
+ghost use Rattle.mon_plan.specs.Leaves.{Leaves};
 ghost use Rattle.mon_plan.specs.Plans.{PlansRow};
 ghost use Rattle.mon_plan.specs.Seen.{IsMet};
 ghost use Rattle.sync_provider.specs.Rows.{is_asked, is_input, Holds};
@@ -28,8 +30,9 @@ fn hear(
     now: Moment,
 ) -> Result<Plan<Provider>, RoleStop>
     requires { IsTrue (is_asked message.now.body) }
-    ensures { PlansRow me.now now provider_is (Holds (readings_of kv.now) state.now)
+    ensures plans { PlansRow me.now now provider_is (Holds (readings_of kv.now) state.now)
         (hear me.now (shared_entries kv.now) now message.now.from message.now.epoch message.now.body) result }
+    ensures stays { IfOk result (λ plan. plan.next ≡ next.Stay) }
 {
     let stored = Stored::of(alloc, kv);
     if stored.is_marked() {
@@ -60,9 +63,10 @@ pub fn step(
     now: Moment,
 ) -> Result<Plan<Provider>, RoleStop>
     requires { IsTrue (is_input input.now) }
-    ensures { PlansRow me.now now provider_is
+    ensures plans { PlansRow me.now now provider_is
         (IsMet me.now now (readings_of kv.now) view.now (λ s. s.provider) state.now)
         (row me.now (shared_entries kv.now) now input.now) result }
+    ensures leaves { IfOk result (λ plan. Leaves view.now.phase plan.next plan.tx) }
 {
     match input {
         Input::Deliver(message) => hear(alloc, kv, me, state, message, now),

@@ -1,6 +1,6 @@
 //! The provider gives a chunk of its store.
 
-ghost use Rattle.std.specs.Prelude.{◌≡◌, ℕ, ◌+◌, ◌≤◌, ◌^◌, ◌&&◌, ◌++◌, length, true, false, Some, OnOk};
+ghost use Rattle.std.specs.Prelude.{◌≡◌, ℕ, ◌+◌, ◌≤◌, ◌^◌, ◌&&◌, ◌++◌, length, true, false, Some, IfOk, OnOk};
 ghost use Rattle.std.specs.List.{AllByRecursion};
 ghost use Rattle.mon_tx.specs.Text.{text, most};
 ghost use Rattle.mon_msg.specs.Protocol.Changes.{spelled};
@@ -10,6 +10,8 @@ ghost use Rattle.mon_msg.specs.Protocol.Places.{is_cookie, same_place};
 ghost use Rattle.mon_msg.specs.Protocol.Played.{Fits};
 ghost use Rattle.mon_msg.specs.Protocol.Readings.{Readings, readings_of};
 ghost use Rattle.mon_msg.specs.declared.view.Me.{Me};
+ghost use Rattle.mon_wire.specs.declared.phase.Phase.TheVariants as phase;
+ghost use Rattle.mon_plan.specs.Leaves.{Leaves};
 ghost use Rattle.mon_plan.specs.Plans.{PlansRow};
 ghost use Rattle.sync_requester.specs.Copied.{copied, Copies, Takes};
 ghost use Rattle.sync_requester.specs.Rows.{IsHeard};
@@ -133,7 +135,8 @@ pub fn hear_chunk(
 ) -> Result<Plan<Requester>, RoleStop>
     requires short { AllByRecursion (λ ops. length (text ops) ≤ most) values.now }
     requires few { length values.now ≤ 65535 }
-    ensures { (f : ℕ) → PlansRow me.now now requester_is (IsHeard (readings_of kv.now) state.now f) (hear_chunk me.now now f cookie place.now values.now entries.now done) result }
+    ensures plans { (f : ℕ) → PlansRow me.now now requester_is (IsHeard (readings_of kv.now) state.now f) (hear_chunk me.now now f cookie place.now values.now entries.now done) result }
+    ensures leaves { IfOk result (λ plan. Leaves phase.Synchronizing plan.next plan.tx) }
 {
     if !is_awaited(state, cookie, place) {
         return Ok(stay(alloc, state.copy(alloc)?));
@@ -174,7 +177,8 @@ fn end_copy(
     requires full { state.now.full ≡ true }
     requires short { AllByRecursion (λ ops. length (text ops) ≤ most) values.now }
     requires few { length values.now ≤ 65535 }
-    ensures { (me : Me) (w : Readings) (f : ℕ) → PlansRow me now requester_is (IsHeard w state.now f) (take_last me now place.now values.now entries.now last) result }
+    ensures plans { (me : Me) (w : Readings) (f : ℕ) → PlansRow me now requester_is (IsHeard w state.now f) (take_last me now place.now values.now entries.now last) result }
+    ensures leaves { IfOk result (λ plan. Leaves phase.Synchronizing plan.next plan.tx) }
 {
     match take(alloc, state, place, values, entries, true) {
         Ok(Taken { tx, place }) => {
@@ -209,7 +213,8 @@ fn end_recent(
     requires recent { state.now.full ≡ false }
     requires short { AllByRecursion (λ ops. length (text ops) ≤ most) values.now }
     requires few { length values.now ≤ 65535 }
-    ensures { (me : Me) (w : Readings) (now f last : ℕ) → PlansRow me now requester_is (IsHeard w state.now f) (take_last me now place.now values.now entries.now last) result }
+    ensures plans { (me : Me) (w : Readings) (now f last : ℕ) → PlansRow me now requester_is (IsHeard w state.now f) (take_last me now place.now values.now entries.now last) result }
+    ensures leaves { IfOk result (λ plan. Leaves phase.Synchronizing plan.next plan.tx) }
 {
     match take(alloc, state, place, values, entries, true) {
         Ok(Taken { tx, place }) => Ok(Plan {
@@ -236,7 +241,8 @@ pub fn hear_last_chunk(
 ) -> Result<Plan<Requester>, RoleStop>
     requires short { AllByRecursion (λ ops. length (text ops) ≤ most) values.now }
     requires few { length values.now ≤ 65535 }
-    ensures { (me : Me) (w : Readings) (f : ℕ) → PlansRow me now requester_is (IsHeard w state.now f) (hear_last_chunk me now f cookie place.now values.now entries.now last) result }
+    ensures plans { (me : Me) (w : Readings) (f : ℕ) → PlansRow me now requester_is (IsHeard w state.now f) (hear_last_chunk me now f cookie place.now values.now entries.now last) result }
+    ensures leaves { IfOk result (λ plan. Leaves phase.Synchronizing plan.next plan.tx) }
 {
     if !is_awaited(state, cookie, place) {
         return Ok(stay(alloc, state.copy(alloc)?));

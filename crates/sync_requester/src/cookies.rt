@@ -11,6 +11,8 @@ ghost use Rattle.mon_msg.specs.Protocol.Timers.{length_of};
 ghost use Rattle.mon_msg.specs.declared.plan.Arming.TheVariants as arming;
 ghost use Rattle.mon_msg.specs.declared.plan.Next.TheVariants as next;
 ghost use Rattle.mon_wire.specs.declared.body.Body.TheVariants as body;
+ghost use Rattle.mon_wire.specs.declared.phase.Phase.TheVariants as phase;
+ghost use Rattle.mon_plan.specs.Leaves.{Leaves};
 ghost use Rattle.mon_plan.specs.Plans.{PlansRow};
 ghost use Rattle.sync_requester.specs.Rows.{IsHeard};
 
@@ -104,7 +106,8 @@ pub fn hear_cookie(
     last: Version,
     now: Moment,
 ) -> Result<Plan<Requester>, RoleStop>
-    ensures { (f : ℕ) → PlansRow me.now now requester_is (IsHeard (readings_of stored.now) state.now f) (hear_cookie me.now now f full cookie last) result }
+    ensures plans { (f : ℕ) → PlansRow me.now now requester_is (IsHeard (readings_of stored.now) state.now f) (hear_cookie me.now now f full cookie last) result }
+    ensures leaves { IfOk result (λ plan. Leaves phase.Synchronizing plan.next plan.tx) }
 {
     if is_refused(stored, state, full, last) {
         return Ok(stay(alloc, state.copy(alloc)?));
@@ -145,7 +148,8 @@ pub fn hear_no_cookie(
     state: &Requester,
     cookie: Cookie,
 ) -> Result<Plan<Requester>, RoleStop>
-    ensures { (me : Me) (now f : ℕ) (w : Readings) → PlansRow me now requester_is (IsHeard w state.now f) (hear_no_cookie me now f cookie) result }
+    ensures plans { (me : Me) (now f : ℕ) (w : Readings) → PlansRow me now requester_is (IsHeard w state.now f) (hear_no_cookie me now f cookie) result }
+    ensures leaves { IfOk result (λ plan. Leaves phase.Synchronizing plan.next plan.tx) }
 {
     let kept = state.copy(alloc)?;
     if is_lost(state, cookie) {

@@ -93,7 +93,8 @@ pub fn enter(
     full: bool,
     now: Moment,
 ) -> Result<Plan<Requester>, RoleStop>
-    ensures { PlansAct me.now now requester_is (IsEntering epoch (readings_of kv.now)) (if full then next.FullSync from else next.RecentSync from) result }
+    ensures plans { PlansAct me.now now requester_is (IsEntering epoch (readings_of kv.now)) (if full then next.FullSync from else next.RecentSync from) result }
+    ensures stays { IfOk result (λ plan. plan.next ≡ next.Stay) }
 {
     let stored = Stored::of(alloc, kv);
     let mut tx = Transaction::new(alloc);

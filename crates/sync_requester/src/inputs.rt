@@ -1,6 +1,6 @@
 //! What a requester does at each of its inputs.
 
-ghost use Rattle.std.specs.Prelude.{◌≡◌, ◌&&◌, ◌==◌, List, IsTrue};
+ghost use Rattle.std.specs.Prelude.{◌≡◌, ◌&&◌, ◌==◌, List, IfOk, IsTrue};
 ghost use Rattle.mon_bytes.specs.declared.entry.Entry.{Entry};
 ghost use Rattle.mon_msg.specs.Protocol.Course.{requester_is};
 ghost use Rattle.mon_msg.specs.Protocol.Hearing.{hear as hears};
@@ -10,6 +10,7 @@ ghost use Rattle.mon_msg.specs.Protocol.Readings.{readings_of};
 ghost use Rattle.mon_msg.specs.Protocol.Replay.{replay_step};
 ghost use Rattle.mon_msg.specs.Protocol.Table.{timer_comes};
 ghost use Rattle.mon_plan.specs.Inputs.{may_come, row};
+ghost use Rattle.mon_plan.specs.Leaves.{Leaves};
 ghost use Rattle.mon_plan.specs.Plans.{PlansRow};
 ghost use Rattle.mon_plan.specs.Seen.{IsMet};
 ghost use Rattle.sync_requester.specs.Inputs.{is_told, is_own, is_input};
@@ -59,8 +60,9 @@ fn hear(
 ) -> Result<Plan<Requester>, RoleStop>
     requires input { IsTrue (is_told message.now.body) }
     requires fits { IsTrue (fits me.now.member.monitors message.now.body) }
-    ensures { (shared : List Entry) → PlansRow me.now now requester_is (IsMet me.now now (readings_of kv.now) view.now (λ s. s.requester) state.now)
+    ensures plans { (shared : List Entry) → PlansRow me.now now requester_is (IsMet me.now now (readings_of kv.now) view.now (λ s. s.requester) state.now)
         (hears me.now shared now message.now.from message.now.epoch message.now.body) result }
+    ensures leaves { IfOk result (λ plan. Leaves view.now.phase plan.next plan.tx) }
 {
     if !is_of_provider(view, state, message.from) {
         return Ok(stay(alloc, state.copy(alloc)?));
@@ -118,7 +120,8 @@ fn step_replay(
     state: &Requester,
     now: Moment,
 ) -> Result<Plan<Requester>, RoleStop>
-    ensures { PlansRow me.now now requester_is (IsMet me.now now (readings_of kv.now) view.now (λ s. s.requester) state.now) (replay_step me.now now) result }
+    ensures plans { PlansRow me.now now requester_is (IsMet me.now now (readings_of kv.now) view.now (λ s. s.requester) state.now) (replay_step me.now now) result }
+    ensures leaves { IfOk result (λ plan. Leaves view.now.phase plan.next plan.tx) }
 {
     if !synchronizes(view.phase) {
         return Ok(stay(alloc, state.copy(alloc)?));
@@ -143,7 +146,8 @@ fn ring(
     now: Moment,
 ) -> Result<Plan<Requester>, RoleStop>
     requires { IsTrue (is_own kind) }
-    ensures { PlansRow me.now now requester_is (IsMet me.now now (readings_of kv.now) view.now (λ s. s.requester) state.now) (timer_comes me.now now kind) result }
+    ensures plans { PlansRow me.now now requester_is (IsMet me.now now (readings_of kv.now) view.now (λ s. s.requester) state.now) (timer_comes me.now now kind) result }
+    ensures leaves { IfOk result (λ plan. Leaves view.now.phase plan.next plan.tx) }
 {
     match kind {
         Timer::Sync => Ok(planned(alloc, state.copy(alloc)?, Next::Bootstrap)),
@@ -167,8 +171,9 @@ pub fn step(
 ) -> Result<Plan<Requester>, RoleStop>
     requires input { IsTrue (is_input input.now) }
     requires fits { IsTrue (may_come me.now.member.monitors input.now) }
-    ensures { (shared : List Entry) → PlansRow me.now now requester_is (IsMet me.now now (readings_of kv.now) view.now (λ s. s.requester) state.now)
+    ensures plans { (shared : List Entry) → PlansRow me.now now requester_is (IsMet me.now now (readings_of kv.now) view.now (λ s. s.requester) state.now)
         (row me.now shared now input.now) result }
+    ensures leaves { IfOk result (λ plan. Leaves view.now.phase plan.next plan.tx) }
 {
     match input {
         Input::Deliver(message) => hear(alloc, kv, me, view, state, message, now),

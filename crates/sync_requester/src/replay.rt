@@ -6,6 +6,8 @@ ghost use Rattle.mon_msg.specs.Protocol.Course.{requester_is};
 ghost use Rattle.mon_msg.specs.Protocol.Readings.{readings_of};
 ghost use Rattle.mon_msg.specs.Protocol.Replay.{more_of, step_of, step_in};
 ghost use Rattle.mon_msg.specs.declared.view.Me.{Me};
+ghost use Rattle.mon_wire.specs.declared.phase.Phase.TheVariants as phase;
+ghost use Rattle.mon_plan.specs.Leaves.{Leaves};
 ghost use Rattle.mon_plan.specs.Plans.{PlansRow};
 ghost use Rattle.sync_requester.specs.Rows.{Holds};
 
@@ -84,7 +86,8 @@ pub fn replay(
     end: Version,
     now: Moment,
 ) -> Result<Plan<Requester>, RoleStop>
-    ensures { (me : Me) → PlansRow me now requester_is (Holds (readings_of stored.now) state.now) (step_in me now (SyncStage.Replay next end)) result }
+    ensures plans { (me : Me) → PlansRow me now requester_is (Holds (readings_of stored.now) state.now) (step_in me now (SyncStage.Replay next end)) result }
+    ensures leaves { IfOk result (λ plan. Leaves phase.Synchronizing plan.next plan.tx) }
 {
     let mut kept = state.copy(alloc)?;
     let Some(values) = step_values(alloc, stored, next, end)? else {

@@ -9,21 +9,21 @@ use Rattle.mon_client.proofs.Planned.{answers}
 use Rattle.mon_client.proofs.CommandLaws.{Met, same, by_copy, under_way, ask-leads, ask-follows, ask-nobody}
 use Rattle.mon_client.proofs.commands.ask.Goals as goal
 
-pub returns-then-is_leading : goal.returns-then-is_leading
-returns-then-is_leading c =
+pub returns-then-is_leading-clause-plans : goal.returns-then-is_leading-clause-plans
+returns-then-is_leading-clause-plans c =
     let me = c.args.me.now in
     let w = readings_of c.args.kv.now in
     let v = c.args.view.now in
     let s = c.args.state.now in
     by_copy me c.args.now w v s c.in_ok-clients.clients c.in_ok-clients.ensures (at_leader me c.args.now c.args.command (origin.Session c.args.session)) (ask me c.args.now c.args.session c.args.command) c.at_leader.result
     (λ x b. ask-leads me c.args.now w v x (under_way me c.args.now w v s x b) c.args.command c.args.session (sym c.is_leading.ensures ∙ c.if-is_leading.true))
-    c.at_leader.ensures
+    c.at_leader.ensures.plans
 
 pub at_peon-requires : goal.at_peon-requires
 at_peon-requires c = sym c.is_peon.ensures ∙ c.if-is_peon.true
 
-pub returns-then-is_peon : goal.returns-then-is_peon
-returns-then-is_peon c =
+pub returns-then-is_peon-clause-plans : goal.returns-then-is_peon-clause-plans
+returns-then-is_peon-clause-plans c =
     let me = c.args.me.now in
     let w = readings_of c.args.kv.now in
     let v = c.args.view.now in
@@ -31,10 +31,10 @@ returns-then-is_peon c =
     by_copy me c.args.now w v s c.in_ok-clients.clients c.in_ok-clients.ensures (at_peon me c.args.command c.args.session) (ask me c.args.now c.args.session c.args.command) c.at_peon.result
     (λ x b.
     ask-follows me c.args.now w v x (under_way me c.args.now w v s x b) c.args.command c.args.session (sym c.is_leading.ensures ∙ c.if-is_leading.false) (sym c.is_peon.ensures ∙ c.if-is_peon.true))
-    (c.at_peon.ensures c.args.now)
+    (c.at_peon.ensures.plans c.args.now)
 
-pub returns : goal.returns
-returns c =
+pub returns-clause-plans : goal.returns-clause-plans
+returns-clause-plans c =
     let me = c.args.me.now in
     let w = readings_of c.args.kv.now in
     let v = c.args.view.now in

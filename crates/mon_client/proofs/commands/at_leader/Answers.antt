@@ -13,8 +13,8 @@ use Rattle.mon_client.proofs.Planned.{plan_of, answers, keeps}
 use Rattle.mon_client.proofs.CommandLaws.{leader-long, leader-first, leader-full, leader-waits}
 use Rattle.mon_client.proofs.commands.at_leader.Goals as goal
 
-pub returns-then-is_too_long : goal.returns-then-is_too_long
-returns-then-is_too_long c =
+pub returns-then-is_too_long-clause-plans : goal.returns-then-is_too_long-clause-plans
+returns-then-is_too_long-clause-plans c =
     let me = c.args.me.now in
     let w = readings_of c.args.kv.now in
     let o = c.args.origin in
@@ -25,8 +25,8 @@ returns-then-is_too_long c =
     (c.in_ok-answered.ensures
     ∙ (λ i. plan_of ((c.answer-sent.ensures ∙ (λ j. answer_to me (c.epoch.ensures j) o (c.too_long.ensures j))) i ∷ []) [] c.args.clients next.Stay))
 
-pub returns-then-goes_first : goal.returns-then-goes_first
-returns-then-goes_first c =
+pub returns-then-goes_first-clause-plans : goal.returns-then-goes_first-clause-plans
+returns-then-goes_first-clause-plans c =
     let me = c.args.me.now in
     let w = readings_of c.args.kv.now in
     let o = c.args.origin in
@@ -35,10 +35,10 @@ returns-then-goes_first c =
     (λ x b.
     leader-first me c.args.now w c.args.view.now x b c.args.command o c.args.clients (sym c.is_too_long.ensures ∙ c.if-is_too_long.false) (sym c.goes_first.ensures ∙ c.if-goes_first.true))
     (weaken me c.args.now clients_are (λ x. x.readings ≡ w) (IsUnderWay me c.args.now w c.args.view.now) (λ x. x)
-    (λ x. propose me c.args.now c.args.command o (clients_are c.args.clients x)) c.propose.result (λ x b. b.readings) c.propose.ensures)
+    (λ x. propose me c.args.now c.args.command o (clients_are c.args.clients x)) c.propose.result (λ x b. b.readings) c.propose.ensures.plans)
 
-pub returns-then-is_queue_full : goal.returns-then-is_queue_full
-returns-then-is_queue_full c =
+pub returns-then-is_queue_full-clause-plans : goal.returns-then-is_queue_full-clause-plans
+returns-then-is_queue_full-clause-plans c =
     let me = c.args.me.now in
     let w = readings_of c.args.kv.now in
     let o = c.args.origin in
@@ -51,8 +51,8 @@ returns-then-is_queue_full c =
     (c.in_ok-answered-2.ensures
     ∙ (λ i. plan_of ((c.answer-sent-then-is_queue_full.ensures ∙ (λ j. answer_to me (c.epoch-then-is_queue_full.ensures j) o (c.busy.ensures j))) i ∷ []) [] c.args.clients next.Stay))
 
-pub returns : goal.returns
-returns c =
+pub returns-clause-plans : goal.returns-clause-plans
+returns-clause-plans c =
     let me = c.args.me.now in
     let w = readings_of c.args.kv.now in
     let o = c.args.origin in

@@ -11,8 +11,8 @@ use Rattle.mon_client.proofs.Planned.{plan_of, answers}
 use Rattle.mon_client.proofs.CommandLaws.{peon-long, peon-full, peon-hands_on}
 use Rattle.mon_client.proofs.commands.at_peon.Goals as goal
 
-pub returns-then-is_too_long : goal.returns-then-is_too_long
-returns-then-is_too_long c =
+pub returns-then-is_too_long-clause-plans : goal.returns-then-is_too_long-clause-plans
+returns-then-is_too_long-clause-plans c =
     λ now.
     let me = c.args.me.now in
     let w = readings_of c.args.kv.now in
@@ -22,8 +22,8 @@ returns-then-is_too_long c =
     c.in_ok-answered.field-0
     (c.in_ok-answered.ensures ∙ (λ i. plan_of (sent.Reply c.args.session (c.too_long-reply.ensures i) ∷ []) [] c.args.clients next.Stay))
 
-pub returns-then-are_sessions_full : goal.returns-then-are_sessions_full
-returns-then-are_sessions_full c =
+pub returns-then-are_sessions_full-clause-plans : goal.returns-then-are_sessions_full-clause-plans
+returns-then-are_sessions_full-clause-plans c =
     λ now.
     let me = c.args.me.now in
     let w = readings_of c.args.kv.now in
@@ -37,8 +37,8 @@ returns-then-are_sessions_full c =
 pub hand_on-requires : goal.hand_on-requires
 hand_on-requires c = c.requires
 
-pub returns : goal.returns
-returns c =
+pub returns-clause-plans : goal.returns-clause-plans
+returns-clause-plans c =
     λ now.
     let me = c.args.me.now in
     let w = readings_of c.args.kv.now in
@@ -46,4 +46,4 @@ returns c =
     (λ x. hand_on me c.args.command c.args.session (clients_are c.args.clients x)) (λ x. at_peon me c.args.command c.args.session (clients_are c.args.clients x)) c.hand_on.result
     (λ x b.
     peon-hands_on me now w c.args.view.now x b c.args.command c.args.session c.args.clients (sym c.is_too_long.ensures ∙ c.if-is_too_long.false) (sym c.are_sessions_full.ensures ∙ c.if-are_sessions_full.false))
-    (c.hand_on.ensures now)
+    (c.hand_on.ensures.plans now)

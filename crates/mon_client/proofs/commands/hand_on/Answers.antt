@@ -10,16 +10,16 @@ use Rattle.mon_client.proofs.Planned.{plan_of, answers}
 use Rattle.mon_client.proofs.CommandLaws.{spent, hands_on}
 use Rattle.mon_client.proofs.commands.hand_on.Goals as goal
 
-pub returns-then-seq-gt-GREATEST : goal.returns-then-seq-gt-GREATEST
-returns-then-seq-gt-GREATEST c =
+pub returns-then-seq-gt-GREATEST-clause-plans : goal.returns-then-seq-gt-GREATEST-clause-plans
+returns-then-seq-gt-GREATEST-clause-plans c =
     λ now x b.
     spent c.args.me.now now (readings_of c.args.kv.now) c.args.view.now x b c.args.command c.args.session c.args.clients c.if-seq-gt-GREATEST.true
 
 pub wait_under-requires : goal.wait_under-requires
 wait_under-requires c = omega arith
 
-pub returns : goal.returns
-returns c =
+pub returns-clause-plans : goal.returns-clause-plans
+returns-clause-plans c =
     λ now.
     let me = c.args.me.now in
     let w = readings_of c.args.kv.now in

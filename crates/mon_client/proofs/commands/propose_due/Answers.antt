@@ -11,8 +11,8 @@ use Rattle.mon_client.proofs.Planned.{keeps}
 use Rattle.mon_client.proofs.CommandLaws.{Met, same, under_way, due-not_free, due-free, next-none, next-first}
 use Rattle.mon_client.proofs.commands.propose_due.Goals as goal
 
-pub returns-then-not-may_propose : goal.returns-then-not-may_propose
-returns-then-not-may_propose c =
+pub returns-then-not-may_propose-clause-plans : goal.returns-then-not-may_propose-clause-plans
+returns-then-not-may_propose-clause-plans c =
     let me = c.args.me.now in
     let w = readings_of c.args.kv.now in
     let v = c.args.view.now in
@@ -23,8 +23,8 @@ returns-then-not-may_propose c =
     ∙ ap (λ (y : Course). Ok y) (same me c.args.now w v s c.in_ok-clients.clients c.in_ok-clients.ensures x b))
     c.stay.result c.stay.ensures
 
-pub returns-then-is_empty : goal.returns-then-is_empty
-returns-then-is_empty c =
+pub returns-then-is_empty-clause-plans : goal.returns-then-is_empty-clause-plans
+returns-then-is_empty-clause-plans c =
     let me = c.args.me.now in
     let w = readings_of c.args.kv.now in
     let v = c.args.view.now in
@@ -42,8 +42,8 @@ take_first-first-requires c =
     let some = eqb-false (length c.in_ok-clients.clients.queue) 0 (sym c.is_empty.ensures ∙ c.if-is_empty.false) in
     omega arith
 
-pub returns : goal.returns
-returns c =
+pub returns-clause-plans : goal.returns-clause-plans
+returns-clause-plans c =
     let me = c.args.me.now in
     let w = readings_of c.args.kv.now in
     let v = c.args.view.now in
@@ -57,4 +57,4 @@ returns c =
     due-free me c.args.now w v x (under_way me c.args.now w v s x b) (sym c.may_propose.ensures ∙ c.if-not-may_propose.false)
     ∙ next-first me c.args.now x first rest (b.role ∙ sym c.in_ok-clients.ensures ∙ c.take_first-first.ensures))
     (weaken me c.args.now clients_are (λ x. x.readings ≡ w) met (λ x. x)
-    (λ x. propose me c.args.now first.command first.origin (clients_are rest x)) c.propose.result (λ x b. b.readings) c.propose.ensures)
+    (λ x. propose me c.args.now first.command first.origin (clients_are rest x)) c.propose.result (λ x b. b.readings) c.propose.ensures.plans)

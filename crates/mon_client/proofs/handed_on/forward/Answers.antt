@@ -13,8 +13,8 @@ use Rattle.mon_client.proofs.CommandLaws.{Met, same, under_way}
 use Rattle.mon_client.proofs.HandedOnLaws.{forward-of_others, forward-again, forward-new}
 use Rattle.mon_client.proofs.handed_on.forward.Goals as goal
 
-pub returns-then-not-is_of_member : goal.returns-then-not-is_of_member
-returns-then-not-is_of_member c =
+pub returns-then-not-is_of_member-clause-plans : goal.returns-then-not-is_of_member-clause-plans
+returns-then-not-is_of_member-clause-plans c =
     let me = c.args.me.now in
     let w = readings_of c.args.kv.now in
     let v = c.args.view.now in
@@ -25,8 +25,8 @@ returns-then-not-is_of_member c =
     ∙ ap (λ (y : Course). Ok y) (same me c.args.now w v s c.in_ok-clients.clients c.in_ok-clients.ensures x b))
     c.stay.result c.stay.ensures
 
-pub returns-then-not-is_new : goal.returns-then-not-is_new
-returns-then-not-is_new c =
+pub returns-then-not-is_new-clause-plans : goal.returns-then-not-is_new-clause-plans
+returns-then-not-is_new-clause-plans c =
     let me = c.args.me.now in
     let w = readings_of c.args.kv.now in
     let v = c.args.view.now in
@@ -38,8 +38,8 @@ returns-then-not-is_new c =
     ∙ ap (λ (y : Course). Ok y) (same me c.args.now w v s c.in_ok-clients.clients c.in_ok-clients.ensures x b))
     c.stay-then-not-is_new.result c.stay-then-not-is_new.ensures
 
-pub returns : goal.returns
-returns c =
+pub returns-clause-plans : goal.returns-clause-plans
+returns-clause-plans c =
     let me = c.args.me.now in
     let w = readings_of c.args.kv.now in
     let v = c.args.view.now in
@@ -54,4 +54,4 @@ returns c =
     (ap (λ (k : Clients). ltb (get_or k.taken c.args.from 0) c.args.seq) (sym c.in_ok-clients.ensures) ∙ sym c.is_new.ensures ∙ c.if-not-is_new.false) c.mark_taken.result after
     ∙ ap (λ (k : Command). at_leader me c.args.now k o (clients_are c.mark_taken.result x)) (sym c.in_ok-command.ensures))
     (weaken me c.args.now clients_are (IsUnderWay me c.args.now w v) met (λ x. x)
-    (λ x. at_leader me c.args.now c.in_ok-command.command o (clients_are c.mark_taken.result x)) c.at_leader.result (λ x b. under_way me c.args.now w v s x b) c.at_leader.ensures)
+    (λ x. at_leader me c.args.now c.in_ok-command.command o (clients_are c.mark_taken.result x)) c.at_leader.result (λ x b. under_way me c.args.now w v s x b) c.at_leader.ensures.plans)

@@ -11,8 +11,8 @@ use Rattle.mon_client.proofs.CommandLaws.{Met, same}
 use Rattle.mon_client.proofs.HandedOnLaws.{route-of_others, route-replies}
 use Rattle.mon_client.proofs.handed_on.route.Goals as goal
 
-pub returns-then-not-is_of_leader : goal.returns-then-not-is_of_leader
-returns-then-not-is_of_leader c =
+pub returns-then-not-is_of_leader-clause-plans : goal.returns-then-not-is_of_leader-clause-plans
+returns-then-not-is_of_leader-clause-plans c =
     λ me now.
     let w = readings_of c.args.kv.now in
     let v = c.args.view.now in
@@ -23,8 +23,8 @@ returns-then-not-is_of_leader c =
     ∙ ap (λ (y : Course). Ok y) (same me now w v s c.in_ok-clients.clients c.in_ok-clients.ensures x b))
     c.stay.result c.stay.ensures
 
-pub returns : goal.returns
-returns c =
+pub returns-clause-plans : goal.returns-clause-plans
+returns-clause-plans c =
     λ me now.
     let w = readings_of c.args.kv.now in
     let v = c.args.view.now in

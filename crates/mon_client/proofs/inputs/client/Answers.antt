@@ -10,37 +10,37 @@ use Rattle.mon_plan.specs.Plans.{PlansRow}
 use Rattle.mon_plan.specs.Seen.{IsMet}
 use Rattle.mon_client.proofs.inputs.client.Goals as goal
 
-pub returns-in_ok-copy-in-Set-2 : goal.returns-in_ok-copy-in-Set-2
+pub returns-in_ok-copy-in-Set-2-clause-plans : goal.returns-in_ok-copy-in-Set-2-clause-plans
 unfolding hear_client
-returns-in_ok-copy-in-Set-2 c =
+returns-in_ok-copy-in-Set-2-clause-plans c =
     let me = c.args.me.now in
     let met = IsMet me c.args.now (readings_of c.args.kv.now) c.args.view.now (λ st. st.clients) c.args.state.now in
     subst (λ (r : Request). PlansRow me c.args.now clients_are met (hear_client me c.args.now c.args.session r) c.ask.result) (sym c.in-Set.is)
     (subst (λ (k : Command). PlansRow me c.args.now clients_are met (ask me c.args.now c.args.session k) c.ask.result)
-    (λ i. command.Set (c.in_ok-copy-in-Set.ensures i) (c.in_ok-copy-in-Set-2.ensures i)) c.ask.ensures)
+    (λ i. command.Set (c.in_ok-copy-in-Set.ensures i) (c.in_ok-copy-in-Set-2.ensures i)) c.ask.ensures.plans)
 
-pub returns-in_ok-copy-in-Remove : goal.returns-in_ok-copy-in-Remove
+pub returns-in_ok-copy-in-Remove-clause-plans : goal.returns-in_ok-copy-in-Remove-clause-plans
 unfolding hear_client
-returns-in_ok-copy-in-Remove c =
+returns-in_ok-copy-in-Remove-clause-plans c =
     let me = c.args.me.now in
     let met = IsMet me c.args.now (readings_of c.args.kv.now) c.args.view.now (λ st. st.clients) c.args.state.now in
     subst (λ (r : Request). PlansRow me c.args.now clients_are met (hear_client me c.args.now c.args.session r) c.ask-in-Remove.result) (sym c.in-Remove.is)
     (subst (λ (k : Command). PlansRow me c.args.now clients_are met (ask me c.args.now c.args.session k) c.ask-in-Remove.result)
-    (λ i. command.Remove (c.in_ok-copy-in-Remove.ensures i)) c.ask-in-Remove.ensures)
+    (λ i. command.Remove (c.in_ok-copy-in-Remove.ensures i)) c.ask-in-Remove.ensures.plans)
 
-pub returns-in_ok-copy-in-Log : goal.returns-in_ok-copy-in-Log
+pub returns-in_ok-copy-in-Log-clause-plans : goal.returns-in_ok-copy-in-Log-clause-plans
 unfolding hear_client
-returns-in_ok-copy-in-Log c =
+returns-in_ok-copy-in-Log-clause-plans c =
     let me = c.args.me.now in
     let met = IsMet me c.args.now (readings_of c.args.kv.now) c.args.view.now (λ st. st.clients) c.args.state.now in
     subst (λ (r : Request). PlansRow me c.args.now clients_are met (hear_client me c.args.now c.args.session r) c.ask-in-Log.result) (sym c.in-Log.is)
     (subst (λ (k : Command). PlansRow me c.args.now clients_are met (ask me c.args.now c.args.session k) c.ask-in-Log.result)
-    (λ i. command.Log (c.in_ok-copy-in-Log.ensures i)) c.ask-in-Log.ensures)
+    (λ i. command.Log (c.in_ok-copy-in-Log.ensures i)) c.ask-in-Log.ensures.plans)
 
-pub returns-in-Since : goal.returns-in-Since
+pub returns-in-Since-clause-plans : goal.returns-in-Since-clause-plans
 unfolding hear_client
-returns-in-Since c =
+returns-in-Since-clause-plans c =
     let me = c.args.me.now in
     let met = IsMet me c.args.now (readings_of c.args.kv.now) c.args.view.now (λ st. st.clients) c.args.state.now in
     subst (λ (r : Request). PlansRow me c.args.now clients_are met (hear_client me c.args.now c.args.session r) c.since.result) (sym c.in-Since.is)
-    (c.since.ensures me c.args.now)
+    (c.since.ensures.plans me c.args.now)

@@ -12,25 +12,25 @@ use Rattle.mon_client.specs.Rows.{is_input}
 use Rattle.mon_client.proofs.HandedOnLaws.{rings}
 use Rattle.mon_client.proofs.inputs.step.Goals as goal
 
-pub returns-in-Deliver : goal.returns-in-Deliver
-returns-in-Deliver c =
+pub returns-in-Deliver-clause-plans : goal.returns-in-Deliver-clause-plans
+returns-in-Deliver-clause-plans c =
     λ shared.
     let me = c.args.me.now in
     let met = IsMet me c.args.now (readings_of c.args.kv.now) c.args.view.now (λ st. st.clients) c.args.state.now in
-    subst (λ (came : Input). PlansRow me c.args.now clients_are met (row me shared c.args.now came) c.hear.result) (sym c.in-Deliver.is) (c.hear.ensures shared)
+    subst (λ (came : Input). PlansRow me c.args.now clients_are met (row me shared c.args.now came) c.hear.result) (sym c.in-Deliver.is) (c.hear.ensures.plans shared)
 
-pub returns-in-Client : goal.returns-in-Client
-returns-in-Client c =
+pub returns-in-Client-clause-plans : goal.returns-in-Client-clause-plans
+returns-in-Client-clause-plans c =
     λ shared.
     let me = c.args.me.now in
     let met = IsMet me c.args.now (readings_of c.args.kv.now) c.args.view.now (λ st. st.clients) c.args.state.now in
-    subst (λ (came : Input). PlansRow me c.args.now clients_are met (row me shared c.args.now came) c.client.result) (sym c.in-Client.is) c.client.ensures
+    subst (λ (came : Input). PlansRow me c.args.now clients_are met (row me shared c.args.now came) c.client.result) (sym c.in-Client.is) c.client.ensures.plans
 
-pub returns-in-Timer : goal.returns-in-Timer
-returns-in-Timer c =
+pub returns-in-Timer-clause-plans : goal.returns-in-Timer-clause-plans
+returns-in-Timer-clause-plans c =
     λ shared.
     let me = c.args.me.now in
     let met = IsMet me c.args.now (readings_of c.args.kv.now) c.args.view.now (λ st. st.clients) c.args.state.now in
     subst (λ (came : Input). PlansRow me c.args.now clients_are met (row me shared c.args.now came) c.propose_due.result) (sym c.in-Timer.is)
     (instead me c.args.now clients_are met (λ x. x) (propose_due me c.args.now) (timer_comes me c.args.now c.in-Timer.field-0) c.propose_due.result
-    (λ x b. rings me c.args.now c.in-Timer.field-0 (subst (λ (came : Input). IsTrue (is_input came)) c.in-Timer.is c.requires.input) x) c.propose_due.ensures)
+    (λ x b. rings me c.args.now c.in-Timer.field-0 (subst (λ (came : Input). IsTrue (is_input came)) c.in-Timer.is c.requires.input) x) c.propose_due.ensures.plans)

@@ -1,4 +1,4 @@
-use Rattle.std.proofs.Common.{◌≡◌, ℕ, ◌^◌, ◌<◌, ◌≤◌, ◌+◌, min, List, [], ◌∷◌, refl, ap, sym, ◌∙◌, arith}
+use Rattle.std.proofs.Common.{◌≡◌, ℕ, ◌^◌, ◌<◌, ◌≤◌, ◌+◌, min, List, [], ◌∷◌, refl, ap, sym, subst, ◌∙◌, arith}
 use Rattle.mon_msg.specs.Protocol.Course.{Course, clients_are}
 use Rattle.mon_msg.specs.Protocol.Proposing.{refusal, asked_of, propose}
 use Rattle.mon_msg.specs.Protocol.Readings.{Readings, readings_of, epoch_of}
@@ -6,15 +6,20 @@ use Rattle.mon_msg.specs.Protocol.Sending.{answer_to}
 use Rattle.mon_msg.specs.Protocol.Services.{service_last}
 use Rattle.mon_msg.specs.Protocol.Timers.{length_of}
 use Rattle.mon_msg.specs.Protocol.Value.{service_of, value}
+use Rattle.mon_msg.specs.declared.clients.Clients.{Clients}
 use Rattle.mon_msg.specs.declared.plan.Arming.TheVariants as arming
 use Rattle.mon_msg.specs.declared.plan.Next.TheVariants as next
+use Rattle.mon_msg.specs.declared.plan.Plan.{Plan}
+use Rattle.mon_wire.specs.declared.phase.Phase.TheVariants as phase
 use Rattle.mon_wire.specs.declared.phase.Timer.TheVariants as timer
+use Rattle.mon_plan.specs.Leaves.{Leaves}
 use Rattle.mon_client.proofs.Planned.{plan_of, plans}
 use Rattle.mon_client.proofs.ProposalLaws.{refused_is, propose-spent, propose-made, propose-refused}
+use Rattle.mon_client.proofs.ValueLaws.{value-begins}
 use Rattle.mon_client.proofs.proposals.propose.Goals as goal
 
-pub returns-then-last_version-ge-GREATEST : goal.returns-then-last_version-ge-GREATEST
-returns-then-last_version-ge-GREATEST c =
+pub returns-then-last_version-ge-GREATEST-clause-plans : goal.returns-then-last_version-ge-GREATEST-clause-plans
+returns-then-last_version-ge-GREATEST-clause-plans c =
     λ x b.
     let told = c.last_version.ensures.value ∙ ap (service_last (readings_of c.args.kv.now)) c.service_of.ensures in
     let same = ap (λ (w : Readings). service_last w (service_of c.args.command.now)) b in
@@ -25,8 +30,8 @@ value-requires c =
     let told = c.last_version.ensures.value ∙ ap (service_last (readings_of c.args.kv.now)) c.service_of.ensures in
     omega (arith, told, c.if-last_version-ge-GREATEST.false)
 
-pub returns-in-Ok : goal.returns-in-Ok
-returns-in-Ok c =
+pub returns-in-Ok-clause-plans : goal.returns-in-Ok-clause-plans
+returns-in-Ok-clause-plans c =
     let me = c.args.me.now in
     let w = readings_of c.args.kv.now in
     let told = c.last_version.ensures.value ∙ ap (service_last w) c.service_of.ensures in
@@ -38,8 +43,15 @@ returns-in-Ok c =
     ((λ i. value (b i) c.args.command.now (sym c.asked_of.ensures i)) ∙ c.in-Ok.ensures.made))
     c.planned.result c.planned.ensures
 
-pub returns-in_ok-refuse-in-Err : goal.returns-in_ok-refuse-in-Err
-returns-in_ok-refuse-in-Err c =
+pub returns-in-Ok-clause-leaves : goal.returns-in-Ok-clause-leaves
+returns-in-Ok-clause-leaves c =
+    let m = c.args.kv.now in
+    let told = c.last_version.ensures.value ∙ ap (service_last (readings_of m)) c.service_of.ensures in
+    subst (λ (p : Plan Clients). Leaves phase.Active p.next p.tx) (sym c.planned.ensures)
+    (refl, refl, value-begins m (service_of c.args.command.now) c.in-Ok.value c.in-Ok.ensures.short (omega (arith, told, c.if-last_version-ge-GREATEST.false)))
+
+pub returns-in_ok-refuse-in-Err-clause-plans : goal.returns-in_ok-refuse-in-Err-clause-plans
+returns-in_ok-refuse-in-Err-clause-plans c =
     let me = c.args.me.now in
     let w = readings_of c.args.kv.now in
     let told = c.last_version.ensures.value ∙ ap (service_last w) c.service_of.ensures in

@@ -9,8 +9,8 @@ use Rattle.mon_client.proofs.CommandLaws.{Met, same, under_way}
 use Rattle.mon_client.proofs.HandedOnLaws.{told_by, read-is}
 use Rattle.mon_client.proofs.reads.since.Goals as goal
 
-pub returns : goal.returns
-returns c =
+pub returns-clause-plans : goal.returns-clause-plans
+returns-clause-plans c =
     λ me now.
     let w = readings_of c.args.kv.now in
     let v = c.args.view.now in

@@ -9,8 +9,8 @@ use Rattle.sync_provider.specs.Rows.{Holds}
 use Rattle.sync_provider.proofs.RowLaws.{answers}
 use Rattle.sync_provider.proofs.cookies.answer.Goals as goal
 
-pub returns : goal.returns
-returns c =
+pub returns-clause-plans : goal.returns-clause-plans
+returns-clause-plans c =
     λ now.
     let me = c.args.me.now in
     let s = c.args.state.now in

@@ -11,12 +11,12 @@ use Rattle.sync_provider.specs.Rows.{Holds}
 use Rattle.sync_provider.proofs.RowLaws.{cookie_of, with_cookie, grant-spent, grant-given}
 use Rattle.sync_provider.proofs.cookies.grant.Goals as goal
 
-pub returns-then-state-gt-GREATEST : goal.returns-then-state-gt-GREATEST
-returns-then-state-gt-GREATEST c =
+pub returns-then-state-gt-GREATEST-clause-plans : goal.returns-then-state-gt-GREATEST-clause-plans
+returns-then-state-gt-GREATEST-clause-plans c =
     λ now x b. grant-spent (readings_of c.args.stored.now) c.args.state.now x b c.args.me.now c.args.to c.args.full (omega arith)
 
-pub returns : goal.returns
-returns c =
+pub returns-clause-plans : goal.returns-clause-plans
+returns-clause-plans c =
     λ now.
     let me = c.args.me.now in
     let s = c.args.state.now in

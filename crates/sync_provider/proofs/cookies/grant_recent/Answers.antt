@@ -10,20 +10,20 @@ use Rattle.sync_provider.specs.Rows.{Holds}
 use Rattle.sync_provider.proofs.RowLaws.{recent-refused, recent-grants}
 use Rattle.sync_provider.proofs.cookies.grant_recent.Goals as goal
 
-pub returns-then-lacks : goal.returns-then-lacks
-returns-then-lacks c =
+pub returns-then-lacks-clause-plans : goal.returns-then-lacks-clause-plans
+returns-then-lacks-clause-plans c =
     λ now.
     let me = c.args.me.now in
     let s = c.args.state.now in
     let w = readings_of c.args.stored.now in
     instead me now provider_is (Holds w s) (λ x. x) (λ (x : Course). Ok (send me c.args.to (body.NoCookie no_cookie) x)) (hear_get_cookie_recent me c.args.to c.args.last) c.answer.result
-    (λ x b. recent-refused w s x b me c.args.to c.requires c.args.last (sym c.lacks.ensures ∙ c.if-lacks.true)) (c.answer.ensures now)
+    (λ x b. recent-refused w s x b me c.args.to c.requires c.args.last (sym c.lacks.ensures ∙ c.if-lacks.true)) (c.answer.ensures.plans now)
 
-pub returns : goal.returns
-returns c =
+pub returns-clause-plans : goal.returns-clause-plans
+returns-clause-plans c =
     λ now.
     let me = c.args.me.now in
     let s = c.args.state.now in
     let w = readings_of c.args.stored.now in
     instead me now provider_is (Holds w s) (λ x. x) (grant me false c.args.to) (hear_get_cookie_recent me c.args.to c.args.last) c.grant.result
-    (λ x b. recent-grants w s x b me c.args.to c.requires c.args.last (sym c.lacks.ensures ∙ c.if-lacks.false)) (c.grant.ensures now)
+    (λ x b. recent-grants w s x b me c.args.to c.requires c.args.last (sym c.lacks.ensures ∙ c.if-lacks.false)) (c.grant.ensures.plans now)

@@ -19,8 +19,8 @@ grant_recent-requires c = sym c.is_marked.ensures ∙ c.if-is_marked.false
 pub give_chunk-requires : goal.give_chunk-requires
 give_chunk-requires c = ap (λ (m : Store). (readings_of m).marked) (sym c.of-stored.ensures) ∙ sym c.is_marked.ensures ∙ c.if-is_marked.false
 
-pub returns-then-is_marked : goal.returns-then-is_marked
-returns-then-is_marked c =
+pub returns-then-is_marked-clause-plans : goal.returns-then-is_marked-clause-plans
+returns-then-is_marked-clause-plans c =
     let me = c.args.me.now in
     let s = c.args.state.now in
     let w = readings_of c.args.kv.now in
@@ -33,8 +33,8 @@ returns-then-is_marked c =
     shared c.args.now m.epoch m.body c.requires)
     c.stay.result c.stay.ensures
 
-pub returns-in-GetCookieFull : goal.returns-in-GetCookieFull
-returns-in-GetCookieFull c =
+pub returns-in-GetCookieFull-clause-plans : goal.returns-in-GetCookieFull-clause-plans
+returns-in-GetCookieFull-clause-plans c =
     let me = c.args.me.now in
     let s = c.args.state.now in
     let w = readings_of c.args.kv.now in
@@ -43,21 +43,21 @@ returns-in-GetCookieFull c =
     subst (λ (b : Body). PlansRow me c.args.now provider_is (Holds w s) (hear me (shared_entries c.args.kv.now) c.args.now m.from m.epoch b) c.grant.result) (sym c.in-GetCookieFull.is)
     (instead me c.args.now provider_is (Holds w s) (λ x. x) (grant me true m.from) (hear_get_cookie_full me m.from) c.grant.result
     (λ x b. full-grants w s x b me m.from unmarked)
-    (subst (λ (m' : Store). PlansRow me c.args.now provider_is (Holds (readings_of m') s) (grant me true m.from) c.grant.result) c.of-stored.ensures (c.grant.ensures c.args.now)))
+    (subst (λ (m' : Store). PlansRow me c.args.now provider_is (Holds (readings_of m') s) (grant me true m.from) c.grant.result) c.of-stored.ensures (c.grant.ensures.plans c.args.now)))
 
-pub returns-in-GetCookieRecent : goal.returns-in-GetCookieRecent
-returns-in-GetCookieRecent c =
+pub returns-in-GetCookieRecent-clause-plans : goal.returns-in-GetCookieRecent-clause-plans
+returns-in-GetCookieRecent-clause-plans c =
     let me = c.args.me.now in
     let s = c.args.state.now in
     let w = readings_of c.args.kv.now in
     let m = c.args.message.now in
     subst (λ (b : Body). PlansRow me c.args.now provider_is (Holds w s) (hear me (shared_entries c.args.kv.now) c.args.now m.from m.epoch b) c.grant_recent.result) (sym c.in-GetCookieRecent.is)
-    (subst (λ (m' : Store). PlansRow me c.args.now provider_is (Holds (readings_of m') s) (hear_get_cookie_recent me m.from c.in-GetCookieRecent.last) c.grant_recent.result) c.of-stored.ensures (c.grant_recent.ensures c.args.now))
+    (subst (λ (m' : Store). PlansRow me c.args.now provider_is (Holds (readings_of m') s) (hear_get_cookie_recent me m.from c.in-GetCookieRecent.last) c.grant_recent.result) c.of-stored.ensures (c.grant_recent.ensures.plans c.args.now))
 
-pub returns-in-GetChunk : goal.returns-in-GetChunk
-returns-in-GetChunk c =
+pub returns-in-GetChunk-clause-plans : goal.returns-in-GetChunk-clause-plans
+returns-in-GetChunk-clause-plans c =
     let me = c.args.me.now in
     let s = c.args.state.now in
     let w = readings_of c.args.kv.now in
     let m = c.args.message.now in
-    subst (λ (b : Body). PlansRow me c.args.now provider_is (Holds w s) (hear me (shared_entries c.args.kv.now) c.args.now m.from m.epoch b) c.give_chunk.result) (sym c.in-GetChunk.is) (c.give_chunk.ensures c.args.now)
+    subst (λ (b : Body). PlansRow me c.args.now provider_is (Holds w s) (hear me (shared_entries c.args.kv.now) c.args.now m.from m.epoch b) c.give_chunk.result) (sym c.in-GetChunk.is) (c.give_chunk.ensures.plans c.args.now)

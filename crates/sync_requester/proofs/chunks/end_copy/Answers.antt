@@ -7,8 +7,8 @@ use Rattle.sync_requester.specs.Rows.{IsHeard}
 use Rattle.sync_requester.proofs.ChunkLaws.{copy-spent, take-stops}
 use Rattle.sync_requester.proofs.chunks.end_copy.Goals as goal
 
-pub returns-in_default : goal.returns-in_default
-returns-in_default c =
+pub returns-in_default-clause-plans : goal.returns-in_default-clause-plans
+returns-in_default-clause-plans c =
     λ me w f x b.
     let s = c.args.state.now in
     let taken = c.in-Ok.field-0 in
@@ -16,8 +16,8 @@ returns-in_default c =
     copy-spent w s f x b me c.args.now c.args.place.now c.args.values.now c.args.entries.now taken h c.args.last c.requires.full
     (let over = above (suc s.start) (2 ^ 62) (λ le. c.in_default.ensures.valid.1 (omega (arith, le))) in omega (arith, over))
 
-pub returns-in-Err : goal.returns-in-Err
-returns-in-Err c =
+pub returns-in-Err-clause-plans : goal.returns-in-Err-clause-plans
+returns-in-Err-clause-plans c =
     λ me w f.
     let s = c.args.state.now in
     let p = c.args.place.now in

@@ -10,8 +10,8 @@ use Rattle.sync_requester.proofs.ChunkLaws.{recent-ends, take-stops}
 use Rattle.sync_requester.proofs.Planned.{does_as, then_acts}
 use Rattle.sync_requester.proofs.chunks.end_recent.Goals as goal
 
-pub returns-in-Ok : goal.returns-in-Ok
-returns-in-Ok c =
+pub returns-in-Ok-clause-plans : goal.returns-in-Ok-clause-plans
+returns-in-Ok-clause-plans c =
     λ me w now f last.
     let s = c.args.state.now in
     let p = c.args.place.now in
@@ -32,8 +32,8 @@ returns-in-Ok c =
       next = next.Bootstrap;
     })
 
-pub returns-in-Err : goal.returns-in-Err
-returns-in-Err c =
+pub returns-in-Err-clause-plans : goal.returns-in-Err-clause-plans
+returns-in-Err-clause-plans c =
     λ me w now f last.
     let s = c.args.state.now in
     let p = c.args.place.now in

@@ -16,8 +16,8 @@ use Rattle.sync_requester.proofs.ChunkLaws.{chunk-asks, chunk-is, take-stops}
 use Rattle.sync_requester.proofs.Planned.{asks_chunk, does_as, remains}
 use Rattle.sync_requester.proofs.chunks.hear_chunk.Goals as goal
 
-pub returns-then-not-is_awaited : goal.returns-then-not-is_awaited
-returns-then-not-is_awaited c =
+pub returns-then-not-is_awaited-clause-plans : goal.returns-then-not-is_awaited-clause-plans
+returns-then-not-is_awaited-clause-plans c =
     λ f.
     let me = c.args.me.now in
     let s = c.args.state.now in
@@ -29,8 +29,8 @@ returns-then-not-is_awaited c =
     (λ x b. chunk-is w s f x b me c.args.now p values entries c.args.cookie c.args.done false (sym c.is_awaited.ensures ∙ c.if-not-is_awaited.true))
     c.stay.result c.in_ok-copy.field-0 c.in_ok-copy.ensures c.stay.ensures
 
-pub returns-in_ok-ask-in-Ok : goal.returns-in_ok-ask-in-Ok
-returns-in_ok-ask-in-Ok c =
+pub returns-in_ok-ask-in-Ok-clause-plans : goal.returns-in_ok-ask-in-Ok-clause-plans
+returns-in_ok-ask-in-Ok-clause-plans c =
     λ f.
     let me = c.args.me.now in
     let s = c.args.state.now in
@@ -52,8 +52,8 @@ returns-in_ok-ask-in-Ok c =
     c.in_ok-ask-in-Ok.field-0
     (c.in_ok-ask-in-Ok.ensures ∙ (λ i. asks_chunk me c.args.now (h.spelled i) c.args.cookie (c.at_place.ensures i) (epoch i)))
 
-pub returns-in-Err : goal.returns-in-Err
-returns-in-Err c =
+pub returns-in-Err-clause-plans : goal.returns-in-Err-clause-plans
+returns-in-Err-clause-plans c =
     λ f.
     let me = c.args.me.now in
     let s = c.args.state.now in

@@ -8,8 +8,8 @@ use Rattle.sync_requester.proofs.ChunkLaws.{last_chunk-is}
 use Rattle.sync_requester.proofs.Planned.{remains}
 use Rattle.sync_requester.proofs.chunks.hear_last_chunk.Goals as goal
 
-pub returns-then-not-is_awaited : goal.returns-then-not-is_awaited
-returns-then-not-is_awaited c =
+pub returns-then-not-is_awaited-clause-plans : goal.returns-then-not-is_awaited-clause-plans
+returns-then-not-is_awaited-clause-plans c =
     λ me w f.
     let s = c.args.state.now in
     let p = c.args.place.now in
@@ -19,8 +19,8 @@ returns-then-not-is_awaited c =
     (λ x b. last_chunk-is w s f x b me c.args.now p values entries c.args.cookie c.args.last false (sym c.is_awaited.ensures ∙ c.if-not-is_awaited.true))
     c.stay.result c.in_ok-copy.field-0 c.in_ok-copy.ensures c.stay.ensures
 
-pub returns-then-state : goal.returns-then-state
-returns-then-state c =
+pub returns-then-state-clause-plans : goal.returns-then-state-clause-plans
+returns-then-state-clause-plans c =
     λ me w f.
     let s = c.args.state.now in
     let p = c.args.place.now in
@@ -28,10 +28,10 @@ returns-then-state c =
     let entries = c.args.entries.now in
     instead me c.args.now requester_is (IsHeard w s f) (λ x. x) (take_last me c.args.now p values entries c.args.last) (hear_last_chunk me c.args.now f c.args.cookie p values entries c.args.last) c.end_copy.result
     (λ x b. last_chunk-is w s f x b me c.args.now p values entries c.args.cookie c.args.last true (sym c.is_awaited.ensures ∙ c.if-not-is_awaited.false))
-    (c.end_copy.ensures me w f)
+    (c.end_copy.ensures.plans me w f)
 
-pub returns : goal.returns
-returns c =
+pub returns-clause-plans : goal.returns-clause-plans
+returns-clause-plans c =
     λ me w f.
     let s = c.args.state.now in
     let p = c.args.place.now in
@@ -39,4 +39,4 @@ returns c =
     let entries = c.args.entries.now in
     instead me c.args.now requester_is (IsHeard w s f) (λ x. x) (take_last me c.args.now p values entries c.args.last) (hear_last_chunk me c.args.now f c.args.cookie p values entries c.args.last) c.end_recent.result
     (λ x b. last_chunk-is w s f x b me c.args.now p values entries c.args.cookie c.args.last true (sym c.is_awaited.ensures ∙ c.if-not-is_awaited.false))
-    (c.end_recent.ensures me w c.args.now f c.args.last)
+    (c.end_recent.ensures.plans me w c.args.now f c.args.last)

@@ -9,8 +9,8 @@ use Rattle.sync_requester.proofs.CookieLaws.{cookie-refused, cookie-taken, start
 use Rattle.sync_requester.proofs.Planned.{asks_chunk, does_as, remains}
 use Rattle.sync_requester.proofs.cookies.hear_cookie.Goals as goal
 
-pub returns-then-is_refused : goal.returns-then-is_refused
-returns-then-is_refused c =
+pub returns-then-is_refused-clause-plans : goal.returns-then-is_refused-clause-plans
+returns-then-is_refused-clause-plans c =
     λ f.
     let me = c.args.me.now in
     let s = c.args.state.now in
@@ -19,8 +19,8 @@ returns-then-is_refused c =
     (λ x b. cookie-refused w s f x b me c.args.now c.args.full c.args.cookie c.args.last (sym c.is_refused.ensures ∙ c.if-is_refused.true))
     c.stay.result c.in_ok-copy.field-0 c.in_ok-copy.ensures c.stay.ensures
 
-pub returns : goal.returns
-returns c =
+pub returns-clause-plans : goal.returns-clause-plans
+returns-clause-plans c =
     λ f.
     let me = c.args.me.now in
     let s = c.args.state.now in

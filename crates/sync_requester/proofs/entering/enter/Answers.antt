@@ -13,8 +13,8 @@ use Rattle.sync_requester.proofs.EnterLaws.{full-begins, mark, recent-begins}
 use Rattle.sync_requester.proofs.Planned.{asks, does_as}
 use Rattle.sync_requester.proofs.entering.enter.Goals as goal
 
-pub returns-then-not-full : goal.returns-then-not-full
-returns-then-not-full c =
+pub returns-then-not-full-clause-plans : goal.returns-then-not-full-clause-plans
+returns-then-not-full-clause-plans c =
     let me = c.args.me.now in
     let w = readings_of c.args.kv.now in
     let last = c.last.ensures.value ∙ ap (λ (m : Store). (readings_of m).last) c.of-stored.ensures in
@@ -25,8 +25,8 @@ returns-then-not-full c =
     c.in_ok-ask_cookie.field-0
     (c.in_ok-ask_cookie.ensures ∙ (λ i. asks me c.args.now (c.new-tx.ensures i) (body.GetCookieRecent (last i)) (start_requester c.args.from false) c.args.epoch)))
 
-pub returns : goal.returns
-returns c =
+pub returns-clause-plans : goal.returns-clause-plans
+returns-clause-plans c =
     let me = c.args.me.now in
     let w = readings_of c.args.kv.now in
     let marked : Mark c.floor_of-floor.result c.last_pn.result c.promised.result ≡ mark w =

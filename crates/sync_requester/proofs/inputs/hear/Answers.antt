@@ -19,8 +19,8 @@ use Rattle.sync_requester.proofs.HearLaws.{chunk-short, hear-dropped, heard-row,
 use Rattle.sync_requester.proofs.Planned.{remains}
 use Rattle.sync_requester.proofs.inputs.hear.Goals as goal
 
-pub returns-then-not-is_of_provider : goal.returns-then-not-is_of_provider
-returns-then-not-is_of_provider c =
+pub returns-then-not-is_of_provider-clause-plans : goal.returns-then-not-is_of_provider-clause-plans
+returns-then-not-is_of_provider-clause-plans c =
     λ shared.
     let me = c.args.me.now in
     let s = c.args.state.now in
@@ -32,8 +32,8 @@ returns-then-not-is_of_provider c =
     (provider-is me c.args.now w c.args.view.now s m.from false (sym c.is_of_provider.ensures ∙ c.if-not-is_of_provider.true) x b))
     c.stay.result c.in_ok-copy.field-0 c.in_ok-copy.ensures c.stay.ensures
 
-pub returns-in-Cookie : goal.returns-in-Cookie
-returns-in-Cookie c =
+pub returns-in-Cookie-clause-plans : goal.returns-in-Cookie-clause-plans
+returns-in-Cookie-clause-plans c =
     λ shared.
     let me = c.args.me.now in
     let s = c.args.state.now in
@@ -42,10 +42,10 @@ returns-in-Cookie c =
     let row = hear_cookie me c.args.now m.from c.in-Cookie.full c.in-Cookie.cookie c.in-Cookie.last in
     subst (λ (b : Body). PlansRow me c.args.now requester_is (IsMet me c.args.now w c.args.view.now (λ st. st.requester) s) (hear me shared c.args.now m.from m.epoch b) c.hear_cookie.result) (sym c.in-Cookie.is)
     (heard-row me c.args.now w c.args.view.now s m.from (sym c.is_of_provider.ensures ∙ c.if-not-is_of_provider.false) row c.hear_cookie.result
-    (subst (λ (m' : Store). PlansRow me c.args.now requester_is (IsHeard (readings_of m') s m.from) row c.hear_cookie.result) c.of-stored.ensures (c.hear_cookie.ensures m.from)))
+    (subst (λ (m' : Store). PlansRow me c.args.now requester_is (IsHeard (readings_of m') s m.from) row c.hear_cookie.result) c.of-stored.ensures (c.hear_cookie.ensures.plans m.from)))
 
-pub returns-in-Chunk : goal.returns-in-Chunk
-returns-in-Chunk c =
+pub returns-in-Chunk-clause-plans : goal.returns-in-Chunk-clause-plans
+returns-in-Chunk-clause-plans c =
     λ shared.
     let me = c.args.me.now in
     let s = c.args.state.now in
@@ -55,10 +55,10 @@ returns-in-Chunk c =
     subst (λ (b : Body). PlansRow me c.args.now requester_is (IsMet me c.args.now w c.args.view.now (λ st. st.requester) s) (hear me shared c.args.now m.from m.epoch b) c.hear_chunk.result) (sym c.in-Chunk.is)
     (heard-row me c.args.now w c.args.view.now s m.from (sym c.is_of_provider.ensures ∙ c.if-not-is_of_provider.false) (row c.in-Chunk.values c.in-Chunk.entries) c.hear_chunk.result
     (subst (λ (es : List Entry). PlansRow me c.args.now requester_is (IsHeard w s m.from) (row c.in-Chunk.values es) c.hear_chunk.result) c.as_slice-in-Chunk.ensures
-    (subst (λ (vs : List (List Op)). PlansRow me c.args.now requester_is (IsHeard w s m.from) (row vs c.as_slice-in-Chunk.result.now) c.hear_chunk.result) c.as_slice.ensures (c.hear_chunk.ensures m.from))))
+    (subst (λ (vs : List (List Op)). PlansRow me c.args.now requester_is (IsHeard w s m.from) (row vs c.as_slice-in-Chunk.result.now) c.hear_chunk.result) c.as_slice.ensures (c.hear_chunk.ensures.plans m.from))))
 
-pub returns-in-LastChunk : goal.returns-in-LastChunk
-returns-in-LastChunk c =
+pub returns-in-LastChunk-clause-plans : goal.returns-in-LastChunk-clause-plans
+returns-in-LastChunk-clause-plans c =
     λ shared.
     let me = c.args.me.now in
     let s = c.args.state.now in
@@ -68,10 +68,10 @@ returns-in-LastChunk c =
     subst (λ (b : Body). PlansRow me c.args.now requester_is (IsMet me c.args.now w c.args.view.now (λ st. st.requester) s) (hear me shared c.args.now m.from m.epoch b) c.hear_last_chunk.result) (sym c.in-LastChunk.is)
     (heard-row me c.args.now w c.args.view.now s m.from (sym c.is_of_provider.ensures ∙ c.if-not-is_of_provider.false) (row c.in-LastChunk.values c.in-LastChunk.entries) c.hear_last_chunk.result
     (subst (λ (es : List Entry). PlansRow me c.args.now requester_is (IsHeard w s m.from) (row c.in-LastChunk.values es) c.hear_last_chunk.result) c.as_slice-in-LastChunk-2.ensures
-    (subst (λ (vs : List (List Op)). PlansRow me c.args.now requester_is (IsHeard w s m.from) (row vs c.as_slice-in-LastChunk-2.result.now) c.hear_last_chunk.result) c.as_slice-in-LastChunk.ensures (c.hear_last_chunk.ensures me w m.from))))
+    (subst (λ (vs : List (List Op)). PlansRow me c.args.now requester_is (IsHeard w s m.from) (row vs c.as_slice-in-LastChunk-2.result.now) c.hear_last_chunk.result) c.as_slice-in-LastChunk.ensures (c.hear_last_chunk.ensures.plans me w m.from))))
 
-pub returns-in-NoCookie : goal.returns-in-NoCookie
-returns-in-NoCookie c =
+pub returns-in-NoCookie-clause-plans : goal.returns-in-NoCookie-clause-plans
+returns-in-NoCookie-clause-plans c =
     λ shared.
     let me = c.args.me.now in
     let s = c.args.state.now in
@@ -79,7 +79,7 @@ returns-in-NoCookie c =
     let m = c.args.message.now in
     subst (λ (b : Body). PlansRow me c.args.now requester_is (IsMet me c.args.now w c.args.view.now (λ st. st.requester) s) (hear me shared c.args.now m.from m.epoch b) c.hear_no_cookie.result) (sym c.in-NoCookie.is)
     (heard-row me c.args.now w c.args.view.now s m.from (sym c.is_of_provider.ensures ∙ c.if-not-is_of_provider.false) (hear_no_cookie me c.args.now m.from c.in-NoCookie.cookie) c.hear_no_cookie.result
-    (c.hear_no_cookie.ensures me c.args.now m.from w))
+    (c.hear_no_cookie.ensures.plans me c.args.now m.from w))
 
 pub hear_chunk-requires-clause-short : goal.hear_chunk-requires-clause-short
 hear_chunk-requires-clause-short c =

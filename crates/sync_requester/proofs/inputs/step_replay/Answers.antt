@@ -14,8 +14,8 @@ use Rattle.sync_requester.proofs.HearLaws.{idle, idle-stage, stepping}
 use Rattle.sync_requester.proofs.Planned.{remains}
 use Rattle.sync_requester.proofs.inputs.step_replay.Goals as goal
 
-pub returns-then-not-synchronizes : goal.returns-then-not-synchronizes
-returns-then-not-synchronizes c =
+pub returns-then-not-synchronizes-clause-plans : goal.returns-then-not-synchronizes-clause-plans
+returns-then-not-synchronizes-clause-plans c =
     let me = c.args.me.now in
     let s = c.args.state.now in
     let w = readings_of c.args.kv.now in
@@ -23,8 +23,8 @@ returns-then-not-synchronizes c =
     (λ x b. idle me c.args.now w c.args.view.now s (sym c.synchronizes.ensures ∙ c.if-not-synchronizes.true) x b)
     c.stay.result c.in_ok-copy.field-0 c.in_ok-copy.ensures c.stay.ensures
 
-pub returns-in-Replay : goal.returns-in-Replay
-returns-in-Replay c =
+pub returns-in-Replay-clause-plans : goal.returns-in-Replay-clause-plans
+returns-in-Replay-clause-plans c =
     let me = c.args.me.now in
     let s = c.args.state.now in
     let w = readings_of c.args.kv.now in
@@ -35,10 +35,10 @@ returns-in-Replay c =
     stepping me c.args.now w c.args.view.now s (sym c.synchronizes.ensures ∙ c.if-not-synchronizes.false) x b
     ∙ ap (λ (stage : SyncStage). step_in me c.args.now stage x) c.in-Replay.is)
     (weaken me c.args.now requester_is (Holds w s) met (λ x. x) row c.replay.result (λ x b. record { readings = b.readings; role = b.role })
-    (subst (λ (m : Store). PlansRow me c.args.now requester_is (Holds (readings_of m) s) row c.replay.result) c.of-stored.ensures (c.replay.ensures me)))
+    (subst (λ (m : Store). PlansRow me c.args.now requester_is (Holds (readings_of m) s) row c.replay.result) c.of-stored.ensures (c.replay.ensures.plans me)))
 
-pub returns-in_ok-copy-in-Cookie : goal.returns-in_ok-copy-in-Cookie
-returns-in_ok-copy-in-Cookie c =
+pub returns-in_ok-copy-in-Cookie-clause-plans : goal.returns-in_ok-copy-in-Cookie-clause-plans
+returns-in_ok-copy-in-Cookie-clause-plans c =
     let me = c.args.me.now in
     let s = c.args.state.now in
     let w = readings_of c.args.kv.now in

@@ -15,8 +15,8 @@ use Rattle.sync_requester.proofs.Planned.{does_as, remains, then_acts}
 use Rattle.sync_requester.proofs.ReplayLaws.{end-fits, end-spelled, end_changes, few-of, replay-ends, replay-lost, replay-steps, steps_on}
 use Rattle.sync_requester.proofs.replay.replay.Goals as goal
 
-pub returns-in_default : goal.returns-in_default
-returns-in_default c =
+pub returns-in_default-clause-plans : goal.returns-in_default-clause-plans
+returns-in_default-clause-plans c =
     λ me.
     let s = c.args.state.now in
     let w = readings_of c.args.stored.now in
@@ -30,8 +30,8 @@ put_learned-requires-clause-short c =
     let few = few-of records (suc c.args.end - c.args.next) c.args.next c.in-Some.values (sym c.in-Some.is ∙ c.in_ok-values.ensures) in
     subst (AllByRecursion (λ (ops : List Op). length (text ops) ≤ most)) (sym c.as_slice.ensures) few.0
 
-pub returns-then-after-get : goal.returns-then-after-get
-returns-then-after-get c =
+pub returns-then-after-get-clause-plans : goal.returns-then-after-get-clause-plans
+returns-then-after-get-clause-plans c =
     λ me.
     let s = c.args.state.now in
     let w = readings_of c.args.stored.now in
@@ -49,8 +49,8 @@ returns-then-after-get c =
     (record { tx = c.put_unmark.new.tx; out = c.new.result; timers = c.new-then-after-get.result; state = c.in_ok-kept.kept; next = next.Bootstrap })
     (λ i. record { tx = tx i; out = c.new.ensures i; timers = c.new-then-after-get.ensures i; state = c.in_ok-kept.ensures i; next = next.Bootstrap })
 
-pub returns : goal.returns
-returns c =
+pub returns-clause-plans : goal.returns-clause-plans
+returns-clause-plans c =
     λ me.
     let s = c.args.state.now in
     let w = readings_of c.args.stored.now in
