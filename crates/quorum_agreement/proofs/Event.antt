@@ -4,13 +4,11 @@ use Rattle.log_copies.proofs.Telling.{monitor_keeps, read_last}
 use Rattle.log_copies.proofs.Unmarked.{OnLog, Situated}
 use Rattle.log_copies.specs.Synchronizing.{written}
 use Rattle.log_model.specs.Windows.{Keeps}
-use Rattle.mon_bytes.specs.declared.command.Command.{Command}
 use Rattle.mon_msg.specs.Protocol.Changes.{Vote}
 use Rattle.mon_msg.specs.Protocol.Course.{Course}
 use Rattle.mon_msg.specs.Protocol.Readings.{Readings, readings_of, shared_entries}
-use Rattle.mon_msg.specs.Protocol.State.{State, booting}
+use Rattle.mon_msg.specs.Protocol.State.{booting}
 use Rattle.mon_msg.specs.Protocol.Table.{react}
-use Rattle.mon_msg.specs.Protocol.Value.{value}
 use Rattle.mon_msg.specs.declared.input.Input.TheVariants as input
 use Rattle.mon_msg.specs.declared.input.Input.{Input}
 use Rattle.mon_msg.specs.declared.view.Me.{Me}
@@ -18,13 +16,10 @@ use Rattle.mon_tx.specs.Map.{Store}
 use Rattle.mon_tx.specs.declared.op.Op.{Op}
 use Rattle.mon_wire.specs.declared.body.Body.TheVariants as body
 use Rattle.mon_wire.specs.declared.body.Body.{Body}
-use Rattle.mon_wire.specs.declared.message.Message.{Message}
-use Rattle.mon_wire.specs.declared.request.Session.{Session}
 use Rattle.quorum_agreement.proofs.Invariant.{EnvelopeTells, OfLog, remembers}
 use Rattle.quorum_agreement.proofs.Made.{MadeOver}
 use Rattle.quorum_agreement.proofs.Premises.{ack_others, elects_others, last_follows, leads_others, place_reached, recent}
 use Rattle.quorum_agreement.proofs.Step.{Next, accept_event, copy_marked, other_event}
-use Rattle.quorum_history.proofs.History.{Asks}
 use Rattle.quorum_history.proofs.Holds.{BodyHolds, Good}
 use Rattle.quorum_history.proofs.Rows.{InputHolds}
 use Rattle.quorum_history.proofs.RowsClients.{Makes}
@@ -34,8 +29,7 @@ use Rattle.quorum_model.specs.Monitors.{Monitors}
 use Rattle.quorum_model.specs.World.{Asked, World}
 use Rattle.quorum_walk.proofs.FineCourses.{Ended, Val}
 use Rattle.quorum_walk.proofs.Lists.{Among}
-use Rattle.quorum_walk.proofs.Sparing.{own_of}
-use Rattle.std.proofs.Common.{List, Ok, Some, ap, arith, false, inl, inr, length, refl, subst, suc, sym, true, ℕ, ◌<◌, ◌∙◌, ◌≡◌, ◌≤◌, ◌⊎◌}
+use Rattle.std.proofs.Common.{List, Ok, Some, ap, arith, false, inl, inr, length, refl, subst, sym, true, ℕ, ◌<◌, ◌∙◌, ◌≡◌, ◌≤◌, ◌⊎◌}
 use Rattle.std.proofs.lemmas.Bool.{false≢true, ltb-true}
 
 pub input_tells : (log : List (List ℕ)) (rank : ℕ) (came : Input) → ToldOf (EnvelopeTells log) rank came → InputTells log came

@@ -4,8 +4,8 @@ use Rattle.mon_tx.specs.Keys.{cell, number}
 use Rattle.mon_tx.specs.Map.{Store}
 use Rattle.mon_tx.specs.declared.key.Area.TheVariants as area
 use Rattle.mon_tx.specs.declared.key.Key.TheVariants as key
-use Rattle.quorum_model.specs.Growth.{grown, last_of, record_in, records_behind}
-use Rattle.std.proofs.Common.{List, Some, [], ap, append-nil, arith, cond, false, length, refl, suc, sym, true, unwrap_or, ℕ, ◌++◌, ◌-◌, ◌∙◌, ◌∷◌, ◌≡◌, ◌≤◌}
+use Rattle.quorum_model.specs.Growth.{grown, last_of, records_behind}
+use Rattle.std.proofs.Common.{List, Some, [], ap, append-nil, arith, cond, false, length, refl, suc, true, unwrap_or, ℕ, ◌++◌, ◌-◌, ◌∙◌, ◌∷◌, ◌≡◌, ◌≤◌, ◌⊎◌}
 
 -- a marked monitor adds nothing
 pub grown_marked : (log : List (List ℕ)) (m : Store) → (readings_of m).marked ≡ true → grown log m ≡ log
@@ -29,3 +29,7 @@ grown_one log m bytes t last there =
 pub first_is : (m : Store) → (readings_of m).first ≡ number m area.Paxos key.FirstCommitted
 unfolding readings_of
 first_is m = refl
+
+-- it stays as it is, or has one entry more
+abbrev pub GrowsByOne : (old new : List (List ℕ)) → Type 0
+GrowsByOne old new = (new ≡ old) ⊎ ((bytes : List ℕ) × (new ≡ old ++ bytes ∷ []))

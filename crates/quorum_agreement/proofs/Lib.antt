@@ -5,6 +5,9 @@ pub mod Event
 pub mod Grown
 pub mod Invariant
 pub mod Kept
+pub mod Every
+pub mod Lone
+pub mod LoneWorlds
 pub mod Made
 pub mod Others
 pub mod Premises

@@ -6,9 +6,8 @@ use Rattle.log_model.proofs.Older.{older_itself}
 use Rattle.log_model.proofs.Lists.{length_push}
 use Rattle.log_model.proofs.Records.{IsVersion}
 use Rattle.log_model.specs.LogOfValues.{AllValues, IsValue, view_at}
-use Rattle.log_model.specs.Windows.{Keeps, log_from, record_after, row_after, within}
+use Rattle.log_model.specs.Windows.{Keeps, log_from, row_after, within}
 use Rattle.mon_bytes.specs.declared.command.Command.{Command}
-use Rattle.mon_msg.specs.Fold.{entry, incrementals}
 use Rattle.mon_msg.specs.Protocol.Readings.{Readings, readings_of}
 use Rattle.mon_msg.specs.Protocol.Value.{value}
 use Rattle.mon_msg.specs.Puts.{put_number}

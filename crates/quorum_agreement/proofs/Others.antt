@@ -6,7 +6,7 @@ use Rattle.mon_msg.specs.declared.view.Me.{Me}
 use Rattle.mon_types.specs.Ranks.{count_of, has}
 use Rattle.quorum_walk.proofs.Ranks.{Below, alone_within, has_only_is, within_at}
 use Rattle.mon_msg.specs.Protocol.Sets.{only}
-use Rattle.std.proofs.Common.{Bool, List, [], arith, cond, false, refl, suc, sym, true, zero, ℕ, ◌*◌, ◌+◌, ◌<◌, ◌∷◌, ◌≡◌, ◌≤◌}
+use Rattle.std.proofs.Common.{Bool, List, [], arith, cond, false, refl, suc, true, zero, ℕ, ◌*◌, ◌+◌, ◌<◌, ◌∷◌, ◌≡◌, ◌≤◌}
 use Rattle.std.proofs.lemmas.Bool.{ltb-true}
 use Rattle.std.proofs.lemmas.List.Sums.{sum_by-cons}
 

@@ -51,7 +51,7 @@ module _ (me : Me) (g : Ghost) (w : Readings) (s : State) (G : Glob me.member.mo
   stands_in : (p : Phase) → same_phase p phase.Electing ≡ true → InPhase n g i c p → StandsIn n i c
   stands_in p t k = subst (InPhase n g i c) (electing_is p t) k
 
-  requests_in : (p : Phase) → same_phase p phase.Synchronizing ≡ true → InPhase n g i c p → RequestsIn g c
+  pub requests_in : (p : Phase) → same_phase p phase.Synchronizing ≡ true → InPhase n g i c p → RequestsIn g c
   requests_in phase.Synchronizing t k = k
   requests_in phase.Booting t k = no t
   requests_in phase.Probing t k = no t

@@ -1,30 +1,71 @@
--- What follows where all of it holds: no two monitors disagree, and each entry of the log was accepted by a majority under one number.
-use Rattle.log_copies.proofs.Standing.{Agrees}
-use Rattle.log_copies.proofs.Telling.{record_there}
+-- What follows of one log: no two monitors disagree, and what is told and copied is the log's.
+use Rattle.log_copies.proofs.Sending.{BodyTells}
+use Rattle.log_copies.proofs.Standing.{Agrees, TakesCopy}
+use Rattle.log_copies.proofs.Telling.{one_within, record_there}
+use Rattle.log_copies.proofs.UnderWay.{InStage, Marked}
 use Rattle.log_copies.proofs.Unmarked.{OnLog}
+use Rattle.log_model.proofs.Records.{AreVersions, IsVersion}
+use Rattle.log_model.specs.LogOfValues.{AllValues}
+use Rattle.mon_bytes.specs.declared.entry.KeyPlace.TheVariants as key_place
 use Rattle.mon_kv.specs.Readers.{is_marked}
 use Rattle.mon_msg.specs.Fold.{entry, fold}
-use Rattle.mon_msg.specs.Protocol.Readings.{readings_of}
+use Rattle.mon_msg.specs.Protocol.Readings.{Readings, readings_of}
+use Rattle.mon_msg.specs.Protocol.State.{State}
+use Rattle.mon_msg.specs.declared.synchronisation.SyncStage.TheVariants as sync
+use Rattle.mon_msg.specs.declared.synchronisation.SyncStage.{SyncStage}
 use Rattle.mon_tx.specs.Map.{Store}
 use Rattle.mon_tx.specs.Text.{text}
 use Rattle.mon_tx.specs.declared.op.Op.{Op}
+use Rattle.mon_wire.specs.declared.body.Body.TheVariants as body
+use Rattle.mon_wire.specs.declared.body.Body.{Body}
+use Rattle.mon_wire.specs.declared.parts.Place.{Place as ChunkPlace}
 use Rattle.quorum_agreement.proofs.Chosen.{Chosen}
-use Rattle.quorum_agreement.proofs.Invariant.{OfLog, remembers}
+use Rattle.quorum_agreement.proofs.Invariant.{EnvelopeTells, LogHolds, OfLog, remembers}
+use Rattle.quorum_agreement.proofs.LoneWorlds.{LoneHolds}
+use Rattle.quorum_agreement.proofs.Made.{AllAsked}
 use Rattle.quorum_agreement.proofs.Step.{copy_marked}
+use Rattle.quorum_agreement.specs.Copying.{HasCopied, IsCopying}
+use Rattle.quorum_agreement.specs.Telling.{AreItsEntries, AreItsValues, TellsLog}
 use Rattle.quorum_laws.proofs.Invariant.{InvOf}
-use Rattle.quorum_laws.specs.Accepting.{HasAccepted}
 use Rattle.quorum_laws.specs.Values.{IsChosen}
 use Rattle.quorum_model.specs.Agree as agreed
 use Rattle.quorum_model.specs.Agree.{Agree}
 use Rattle.quorum_model.specs.Monitors.{Monitors}
 use Rattle.quorum_model.specs.World.{World}
-use Rattle.std.proofs.Common.{List, ap, arith, inl, inr, length, subst, suc, sym, true, ℕ, ◌<◌, ◌∙◌, ◌≡◌}
+use Rattle.std.proofs.Common.{List, None, Option, Some, [], ap, arith, inl, inr, length, subst, suc, sym, true, false, zero, ℕ, ◌<◌, ◌^◌, ◌∙◌, ◌∷◌, ◌≡◌, ◌≤◌}
+use Rattle.std.specs.List.{AllByRecursion}
+
+-- of one monitor or of several
+pub record OneLog (ms : Monitors) (w : World) : Type 0 where
+  pub short : length w.log ≤ 2 ^ 62
+  pub values : AllValues w.log
+  pub asks : AllAsked ms.count w.asked w.log
+  pub stores : (i : ℕ) → i < ms.count → Agrees w.log (w.store i) (remembers i (w.state i))
+  pub sent : AllByRecursion (EnvelopeTells w.log) w.messages
+
+pub several_log : (ms : Monitors) (w : World) → LogHolds ms w → OneLog ms w
+several_log ms w h = let O = h.1 in record { short = O.short; values = O.values; asks = O.asks; stores = O.stores; sent = O.sent }
+
+pub lone_log : (ms : Monitors) (w : World) → LoneHolds ms w → OneLog ms w
+lone_log ms w h = let O = h.1 in record {
+  short = O.short;
+  values = O.values;
+  asks = O.asks;
+  stores = λ i lt. let s = O.stores i lt in inl (record { last = length w.log; versions = s.versions; unmarked = s.unmarked });
+  sent = O.sent;
+}
+
+-- ---- what monitors have
 
 marked_there : (m : Store) → (readings_of m).marked ≡ true → is_marked m ≡ true
 unfolding readings_of
 marked_there m t = t
 
-module _ (ms : Monitors) (w : World) (J : InvOf ms w) (L : OfLog ms w w.asked J) where
+there_marked : (m : Store) → is_marked m ≡ true → (readings_of m).marked ≡ true
+unfolding readings_of
+there_marked m t = t
+
+module _ (ms : Monitors) (w : World) (L : OneLog ms w) where
   on_log : (m : Store) → OnLog w.log m → agreed.Agrees w.log m
   on_log m V =
       let h = V.versions in
@@ -41,6 +82,50 @@ module _ (ms : Monitors) (w : World) (J : InvOf ms w) (L : OfLog ms w w.asked J)
       by i unmarked (inl V) = on_log (w.store i) V
       by i unmarked (inr T) = absurd (unmarked (marked_there (w.store i) (copy_marked w.log (w.store i) (remembers i (w.state i)) T)))
 
+  has_copied : (before : Readings) (floor : ℕ) (m : Store) (z : SyncStage) (start : ℕ) (p : ChunkPlace) → InStage w.log before floor m z start p → HasCopied w.log m z start p
+  has_copied before floor m sync.Cookie start p h = h
+  has_copied before floor m sync.Chunks start p h = (h.within, h.copy)
+  has_copied before floor m (sync.Replay next end) start p h = record { done = h.done; is = h.is; within = h.within; copy = h.copy }
+
+  pub copying : (i : ℕ) → i < ms.count → is_marked (w.store i) ≡ true → IsCopying w.log (w.store i) (w.state i)
+  copying i lt t = by (w.state i) (L.stores i lt)
+    where
+      up : (s : State) → (T : TakesCopy w.log (w.store i) s) → Marked w.log T.before T.floor (w.store i) s → IsCopying w.log (w.store i) (Some s)
+      up s T (inl U) = inl (record { synchronizes = U.in_phase; full = U.full; copy = has_copied T.before T.floor (w.store i) s.requester.stage s.requester.start s.requester.place U.stage })
+      up s T (inr W) = inr W.in_phase
+
+      by : (o : Option State) → Agrees w.log (w.store i) (remembers i o) → IsCopying w.log (w.store i) o
+      by None h = tt
+      by (Some s) (inl V) = let g : true ≡ false = sym (there_marked (w.store i) t) ∙ V.unmarked in absurd cc
+      by (Some s) (inr T) = up s T T.marked
+
+-- ---- what they tell
+
+its_values : (log : List (List ℕ)) (xs : List (List Op)) (v : ℕ) → AreVersions log v xs → AreItsValues log v xs
+its_values log [] v h = tt
+its_values log (x ∷ xs) v h = (low v h.0, h.0.spells, its_values log xs (suc v) h.1)
+  where
+    low : (v : ℕ) → IsVersion log v x → v ≤ length log
+    low zero V = omega arith
+    low (suc v) V = one_within log v x V
+
+pub tells : (log : List (List ℕ)) (b : Body) → BodyTells log b → TellsLog log b
+tells log (body.Last pn first last whole from values pending) h = (h.0, its_values log values from h.1)
+tells log (body.Commit from values) h = its_values log values from h
+tells log (body.ProbeReply quorum first last) h = h
+tells log (body.Collect pn first last) h = h
+tells log (body.Lease last) h = h
+tells log (body.LeaseAck last) h = h
+tells log (body.GetCookieRecent last) h = h
+tells log (body.Cookie full cookie last) h = h
+tells log (body.Chunk cookie p values entries done) h = let C = h.0 in (its_values log values (suc p.version) C.versions, C.within, C.made)
+tells log (body.LastChunk cookie p values entries last) h =
+    let C = h.0 in (its_values log values (suc p.version) C.versions, (let w = C.within in let e = h.1 in omega arith), h.1, subst (λ (v : ℕ). AreItsEntries log v p.key key_place.Done entries) (sym h.1) C.made)
+tells log other h = tt
+
+-- ---- what several of them chose
+
+module _ (ms : Monitors) (w : World) (J : InvOf ms w) (L : OfLog ms w w.asked J) where
   accepted : (v : ℕ) (x : List Op) → Chosen ms.count J.g v x → IsChosen ms.count w v (text x)
   accepted v x a = record { pn = a.pn; by = a.by; major = record { below = a.below; major = a.major }; all = λ m k. J.triples.kept m v a.pn x (a.all m k) }
 

@@ -32,17 +32,16 @@ use Rattle.mon_wire.specs.declared.body.Body.TheVariants as body
 use Rattle.mon_wire.specs.declared.message.Message.{Message}
 use Rattle.quorum_agreement.proofs.Accepting.{Commits, Rests, RestsOrCommits, accept_reacts}
 use Rattle.quorum_agreement.proofs.Chosen.{AllChosen, Chosen, chosen_push, is_version, some_rank}
-use Rattle.quorum_agreement.proofs.Grown.{first_is, grown_marked, grown_none, grown_one}
+use Rattle.quorum_agreement.proofs.Grown.{GrowsByOne, first_is, grown_marked, grown_none, grown_one}
 use Rattle.quorum_agreement.proofs.Made.{AllAsked, AllMade, MadeOver, asked_again, is_next, values_again}
 use Rattle.quorum_agreement.proofs.Premises.{Completed, accept_completes}
-use Rattle.quorum_agreement.specs.Growing.{GrowsByOne}
 use Rattle.quorum_history.proofs.History.{Accepted, Ghost, Glob}
 use Rattle.quorum_history.proofs.Holds.{InPhase, core_of}
 use Rattle.quorum_model.specs.Growth.{grown}
 use Rattle.quorum_model.specs.World.{Asked}
 use Rattle.quorum_walk.proofs.Sparing.{own_of}
 use Rattle.quorum_walk.proofs.Walk.{Then}
-use Rattle.std.proofs.Common.{IfSome, List, Ok, Option, [], ap, arith, inl, inr, length, refl, subst, suc, sym, true, ℕ, ◌++◌, ◌<◌, ◌^◌, ◌∙◌, ◌∷◌, ◌≡◌, ◌≤◌, ◌⊎◌}
+use Rattle.std.proofs.Common.{IfSome, List, Ok, Option, [], ap, arith, inl, inr, length, refl, subst, suc, sym, true, ℕ, ◌++◌, ◌<◌, ◌^◌, ◌∙◌, ◌∷◌, ◌≡◌, ◌≤◌}
 use Rattle.std.proofs.lemmas.Bool.{cases_order}
 
 pub copy_marked : (log : List (List ℕ)) (m : Store) (s : State) → TakesCopy log m s → (readings_of m).marked ≡ true

@@ -5,26 +5,24 @@ use Rattle.log_model.specs.LogOfValues.{AllValues}
 use Rattle.mon_msg.specs.Joined.{joined}
 use Rattle.mon_msg.specs.Protocol.Changes.{spelled}
 use Rattle.mon_msg.specs.Protocol.Reaction.{reaction_of}
-use Rattle.mon_msg.specs.Protocol.State.{State, booting}
+use Rattle.mon_msg.specs.Protocol.State.{State}
 use Rattle.mon_tx.specs.Map.{Store}
-use Rattle.mon_tx.specs.Text.{text}
 use Rattle.mon_tx.specs.declared.op.Op.{Op}
 use Rattle.quorum_agreement.proofs.Chosen.{AllChosen}
 use Rattle.quorum_agreement.proofs.Event.{after, fine_then, votes}
+use Rattle.quorum_agreement.proofs.Grown.{GrowsByOne}
 use Rattle.quorum_agreement.proofs.Invariant.{EnvelopeTells, LogHolds, OfLog, envelopes_stay, envelopes_tell, remembers}
 use Rattle.quorum_agreement.proofs.Kept.{accepted_added, accepted_keeps, all_made_again, still_chosen}
 use Rattle.quorum_agreement.proofs.Made.{AllAsked, AllMade, StillAsked, made_asked, made_stays, version_asked}
 use Rattle.quorum_agreement.proofs.Step.{Next}
-use Rattle.quorum_agreement.specs.Growing.{GrowsByOne}
 use Rattle.quorum_history.proofs.History.{Ghost, TriplesHold}
 use Rattle.quorum_laws.proofs.Events.{Does, Keeps, goes_down_holds, goes_on_holds, lost_holds, member_of, shares}
 use Rattle.quorum_laws.proofs.Invariant.{InvOf, InvWith, TriplesKept, was_asked_more}
 use Rattle.quorum_laws.proofs.Whole.{at_put}
 use Rattle.quorum_model.specs.Clients.{messages_of, with_asked}
-use Rattle.quorum_model.specs.Growth.{grown}
 use Rattle.quorum_model.specs.Happens.{kept_only, lost, moved, put_at, unmoved}
 use Rattle.quorum_model.specs.Monitors.{Monitors}
-use Rattle.quorum_model.specs.World.{Asked, Client, Envelope, Plain, World}
+use Rattle.quorum_model.specs.World.{Asked, Client, Plain, World}
 use Rattle.quorum_walk.proofs.Lists.{all_append}
 use Rattle.std.proofs.Common.{Bool, List, None, Option, Some, [], cond, eqb, false, inl, length, ltb, refl, subst, sym, true, ℕ, ◌++◌, ◌<◌, ◌^◌, ◌∷◌, ◌≡◌, ◌≤◌}
 use Rattle.std.proofs.lemmas.Bool.{lt-ltb, ltb-true}
@@ -37,7 +35,7 @@ still_asked : (n : ℕ) (p : Plain) (asked : List Asked) → StillAsked n asked 
 still_asked n (Client rank at s r) asked i t c k = was_asked_more n asked (record { rank = rank; session = s; request = r } ∷ []) i t c k
 still_asked n other asked i t c k = k
 
-still_among : (p : Plain) (asked : List Asked) (a : Asked) → Contains asked a → Contains (with_asked p asked) a
+pub still_among : (p : Plain) (asked : List Asked) (a : Asked) → Contains asked a → Contains (with_asked p asked) a
 still_among (Client rank at s r) asked a k = Contains-append_left asked (record { rank = rank; session = s; request = r } ∷ []) a k
 still_among other asked a k = k
 

@@ -1,7 +1,8 @@
 -- How the one log grows.
-use Rattle.std.specs.Prelude.{◌≡◌, ℕ, List, [], ◌∷◌, ◌++◌}
-use Rattle.std.proofs.Common.{◌⊎◌}
+use Rattle.std.specs.Prelude.{◌≡◌, ℕ, ◌≤◌, List, ◌++◌, length}
 
--- it stays as it is, or has one entry more
-abbrev pub GrowsByOne : (old new : List (List ℕ)) → Type 0
-GrowsByOne old new = (new ≡ old) ⊎ ((bytes : List ℕ) × (new ≡ old ++ bytes ∷ []))
+-- it goes on, by so many entries at most
+pub record GrowsBy (most : ℕ) (old new : List (List ℕ)) : Type 0 where
+  pub more : List (List ℕ)
+  pub is : new ≡ old ++ more
+  pub few : length more ≤ most

@@ -1,2 +1,6 @@
-//! That no two monitors disagree on what is committed: what every run keeps of the one log.
+//! That no two monitors disagree on what is committed: the laws of the one log that all monitors of a map keep.
 #![tactic(auto)]
+
+mod laws;
+
+pub use laws::{law_agree, law_marked};

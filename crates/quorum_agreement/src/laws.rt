@@ -1,0 +1,36 @@
+ghost use Rattle.std.specs.Prelude.{◌≡◌, ℕ, suc, ◌<◌, ◌≤◌, ◌^◌, true, List, ◌++◌, length};
+ghost use Rattle.std.specs.List.{Contains};
+ghost use Rattle.mon_kv.specs.Readers.{is_marked};
+ghost use Rattle.mon_msg.specs.Fold.{entry};
+ghost use Rattle.log_model.specs.LogOfValues.{AllValues};
+ghost use Rattle.quorum_laws.specs.Values.{IsChosen};
+ghost use Rattle.quorum_model.specs.Agree.{Agree};
+ghost use Rattle.quorum_model.specs.Events.{AllFit};
+ghost use Rattle.quorum_model.specs.Monitors.{Monitors};
+ghost use Rattle.quorum_model.specs.Runs.{run};
+ghost use Rattle.quorum_model.specs.World.{Envelope, Event};
+ghost use Rattle.quorum_agreement.specs.Copying.{IsCopying};
+ghost use Rattle.quorum_agreement.specs.Growing.{GrowsBy};
+ghost use Rattle.quorum_agreement.specs.Telling.{TellsLog};
+
+/// No two monitors disagree on what is committed, in no run of any monitors under any rule, wherever monitors crash. The committed
+/// versions of each are entries of one log. The log only goes on, by one entry an event at most. Each entry is the value of a command
+/// that a client asked, over the entries before it, and where there are several monitors a majority of them accepted it under one number.
+pub fn law_agree()
+    ensures agree { (ms : Monitors) (events : List Event) → AllFit ms.count events → Agree ms.count (run ms events) }
+    ensures grows { (ms : Monitors) (before after : List Event) → AllFit ms.count (before ++ after)
+        → GrowsBy (length after) (run ms before).log (run ms (before ++ after)).log }
+    ensures values { (ms : Monitors) (events : List Event) → AllFit ms.count events
+        → (length (run ms events).log ≤ 2 ^ 62) × AllValues (run ms events).log }
+    ensures chosen { (ms : Monitors) (events : List Event) → AllFit ms.count events → 1 < ms.count → (v : ℕ) → v < length (run ms events).log
+        → IsChosen ms.count (run ms events) (suc v) (entry (run ms events).log (suc v)) }
+{}
+
+/// All that monitors tell each other of what is committed is the one log's, and so is what a monitor under a full synchronisation holds:
+/// told values are those of its versions, told entries are what its versions leave, and the copy is one of the log.
+pub fn law_marked()
+    ensures told { (ms : Monitors) (events : List Event) → AllFit ms.count events → (e : Envelope) → Contains (run ms events).messages e
+        → TellsLog (run ms events).log e.message.body }
+    ensures copied { (ms : Monitors) (events : List Event) → AllFit ms.count events → (i : ℕ) → i < ms.count → is_marked ((run ms events).store i) ≡ true
+        → IsCopying (run ms events).log ((run ms events).store i) ((run ms events).state i) }
+{}
