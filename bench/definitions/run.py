@@ -139,7 +139,15 @@ N['map_log.specs.Decode.map_of'] = dec(log_map)
 
 PR = 'mon_msg.specs.Protocol.'
 def fn(p, n): return resolve(p, n)
-for name in ('fold', 'incrementals', 'map_of_log'): antt.MEMO['mon_msg.specs.Fold.' + name] = {}
+for name in ('fold', 'incrementals', 'map_of_log'): antt.MEMO['mon_msg.specs.Fold.' + name] = 10 ** 6
+antt.MEMO[PR + 'Readings.readings_of'] = 32
+# where a named key stands
+PLACES = {}
+def place(a, k):
+    p = PLACES.get((a, k))
+    if p is None: p = PLACES[(a, k)] = Tup(app(fn('mon_tx.specs.Keys', 'area_text'), a), app(fn('mon_tx.specs.Keys', 'key_text'), k))
+    return p
+N['mon_tx.specs.Keys.place'] = nat(2)(place)
 # a reaction is asked for several times in one event; what is shared is computed only for a message that asks for it
 LAST = [None, None]
 def reaction(me, now, m, st, inp):
@@ -257,7 +265,7 @@ class Play:
     def __init__(self, first):
         self.ms = monitors_of(first); self.n = self.ms.d['count']
         self.scene = fn(SCENES, 'first_scene'); self.stop = None; self.events = 0; self.trace = [first]
-        # what each monitor's events wrote
+        # what each monitor's events wrote, which is nothing where it reacted to none
         self.writes = [[] for _ in range(self.n)]
     def take(self, line):
         """plays an event; whether the run goes on"""
@@ -265,17 +273,18 @@ class Play:
         done = apps(fn('mon_world.specs.Step', 'step'), self.ms, before, event)
         if done.n == 'Err': self.stop = done.a[0]; return False
         scheduled = app(fn('mon_world.specs.Events', 'scheduled_of'), event)
-        happened = apps(fn(SCENES, 'event_in'), self.ms, before, scheduled)
-        for i in range(self.n): self.writes[i] += apps(fn('quorum_model.specs.Runs', 'writes_of'), self.ms, before.d['world'], happened, i)
+        met = apps(fn('quorum_model.specs.Meets', 'meets'), self.ms, before.d['world'], scheduled.d['plain'])
+        if met.n == 'Reacts':
+            happened = apps(fn(SCENES, 'event_in'), self.ms, before, scheduled); rank = met.a[0]
+            self.writes[rank] += apps(fn('quorum_model.specs.Runs', 'writes_of'), self.ms, before.d['world'], happened, rank)
         self.scene, told = done.a[0].a
         self.scene.d['world'] = flat(self.scene.d['world'], self.n); self.scene.d['files'] = tabled(self.scene.d['files'], self.n)
         self.events += 1; self.trace.append('%d %s' % (self.events, line)); self.trace += lines_of(told)
         outcome = told.d['outcome']
-        if outcome.n in ('Crashed', 'Failed'): self.count(event, scheduled, before, outcome)
+        if outcome.n in ('Crashed', 'Failed'): self.count(event, met, before, outcome)
         return True
-    def count(self, event, scheduled, before, outcome):
+    def count(self, event, met, before, outcome):
         """which kind of a scheduled crash it was"""
-        met = apps(fn('quorum_model.specs.Meets', 'meets'), self.ms, before.d['world'], scheduled.d['plain'])
         rank, came, reaction = met.a; files = apps(fn(SCENES, 'files_at'), came, app(before.d['files'], rank))
         ops = app(fn(SCENES, 'ops_of'), reaction); side = app(fn(FILES, 'live_side'), files)
         file = app(fn(FILES, 'file_after'), ops); file = app(file, apps(fn(FILES, 'file_on'), side, files).a[0])
