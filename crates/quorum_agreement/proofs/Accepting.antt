@@ -41,7 +41,7 @@ begun_is phase.Collecting e = no e
 begun_is phase.Active e = no e
 begun_is phase.Peon e = no e
 
-then_map : {A : Type 0} (P Q : A → Type 0) (r : Result A Which) → ((x : A) → P x → Q x) → Then P r → Then Q r
+pub then_map : {A : Type 0} (P Q : A → Type 0) (r : Result A Which) → ((x : A) → P x → Q x) → Then P r → Then Q r
 then_map P Q (Ok x) f k = record { holds = f x k.holds }
 then_map P Q (Err e) f k = record { holds = tt }
 

@@ -53,22 +53,23 @@ module _ (n : ℕ) (g h : Ghost) (before after : ℕ → List (List Op)) (T : Tr
 
 -- ---- the transactions of an event
 
+-- one more of monitor i
+pub accepted_keeps : (txs : ℕ → List (List Op)) (i : ℕ) (tx : List Op) (j v p : ℕ) (bytes : List ℕ) → AcceptedIn (txs j) v p bytes → AcceptedIn (put_at txs i (txs i ++ tx ∷ []) j) v p bytes
+accepted_keeps txs i tx j v p bytes a = by (eqb j i) refl
+  where
+    longer : AcceptedIn (txs i) v p bytes → AcceptedIn (txs i ++ tx ∷ []) v p bytes
+    longer b = record { transaction = b.transaction; among = Contains-append_left (txs i) (tx ∷ []) b.transaction b.among; accepts = b.accepts }
+
+    by : (t : Bool) → eqb j i ≡ t → AcceptedIn (cond t (txs i ++ tx ∷ []) (txs j)) v p bytes
+    by true e = longer (subst (λ (z : ℕ). AcceptedIn (txs z) v p bytes) (eqb-true j i e) a)
+    by false e = a
+
 module _ (cs : List Change) (S : Shaped cs) (F : AllByRecursion Fit cs) (txs : ℕ → List (List Op)) (i : ℕ) where
   abbrev tx : List Op
   tx = joined (spelled cs)
 
   abbrev after_txs : ℕ → List (List Op)
   after_txs = put_at txs i (txs i ++ tx ∷ [])
-
-  pub accepted_keeps : (j v p : ℕ) (bytes : List ℕ) → AcceptedIn (txs j) v p bytes → AcceptedIn (after_txs j) v p bytes
-  accepted_keeps j v p bytes a = by (eqb j i) refl
-    where
-      longer : AcceptedIn (txs i) v p bytes → AcceptedIn (txs i ++ tx ∷ []) v p bytes
-      longer b = record { transaction = b.transaction; among = Contains-append_left (txs i) (tx ∷ []) b.transaction b.among; accepts = b.accepts }
-
-      by : (t : Bool) → eqb j i ≡ t → AcceptedIn (cond t (txs i ++ tx ∷ []) (txs j)) v p bytes
-      by true e = longer (subst (λ (z : ℕ). AcceptedIn (txs z) v p bytes) (eqb-true j i e) a)
-      by false e = a
 
   pub accepted_added : (j v p : ℕ) (bytes : List ℕ) → AcceptedIn (after_txs j) v p bytes → AcceptedIn (txs j) v p bytes ⊎ ((x : List Op) × (bytes ≡ text x) × Among (Vote v p x) cs)
   accepted_added j v p bytes = by (eqb j i) refl

@@ -1,8 +1,11 @@
 pub mod Accepting
+pub mod Acknowledging
+pub mod Answering
 pub mod Beginning
 pub mod Chosen
 pub mod Event
 pub mod Grown
+pub mod Held
 pub mod Invariant
 pub mod Kept
 pub mod Every
@@ -13,5 +16,7 @@ pub mod Others
 pub mod Premises
 pub mod Result
 pub mod Runs
+pub mod SafeStep
+pub mod SafeWorlds
 pub mod Step
 pub mod Worlds

@@ -83,7 +83,7 @@ nobody q r n one lt = subst (λ (z : ℕ). filter (λ k. has q k && not (eqb k r
     by true = refl
     by false = refl
 
-active_is : (p : Phase) → same_phase p phase.Active ≡ true → p ≡ phase.Active
+pub active_is : (p : Phase) → same_phase p phase.Active ≡ true → p ≡ phase.Active
 active_is phase.Active t = refl
 active_is phase.Booting t = no t
 active_is phase.Probing t = no t

@@ -23,7 +23,7 @@ use Rattle.quorum_history.proofs.Numbers.{level_is}
 use Rattle.quorum_history.proofs.Phases.{electing_is, no}
 use Rattle.quorum_walk.proofs.Ranks.{has_with_is, whole_major, within_at}
 use Rattle.quorum_walk.proofs.Sparing.{own_of}
-use Rattle.std.proofs.Common.{Bool, List, Option, Some, arith, eqb, false, inl, inr, subst, suc, sym, true, ℕ, ◌<◌, ◌∙◌, ◌≡◌, ◌≤◌, ◌⊎◌}
+use Rattle.std.proofs.Common.{Bool, List, Option, Some, arith, eqb, false, inl, inr, refl, subst, suc, sym, true, ℕ, ◌<◌, ◌∙◌, ◌≡◌, ◌≤◌, ◌⊎◌}
 
 module _ (me : Me) (g : Ghost) (w : Readings) (s : State) (G : Glob me.member.monitors g) where
   abbrev n : ℕ
@@ -103,9 +103,23 @@ module _ (me : Me) (g : Ghost) (w : Readings) (s : State) (G : Glob me.member.mo
 
     -- ---- all of its quorum accepted its value
 
+    -- the value that the leader proposes is chosen, once this answer counts
+    pub record Completed (f : ℕ) : Type 0 where
+      pub x : List Op
+      pub is : s.leader.value ≡ Some x
+      pub chosen : Chosen n g (suc w.last) x
+      pub number : chosen.pn ≡ s.leader.pn
+      pub quorum : chosen.by ≡ s.leader.quorum
+
     completes : (f pn v : ℕ) (value : List Op) (L : ℕ → ℕ → Type 0) → LeadsIn g i c L → (P : ProposesIn g i c) → pn ≡ s.leader.pn → v ≡ suc w.last → Accepted g f v pn value
-        → are_within n s.leader.quorum (with_rank s.leader.accepted f) ≡ true → (s.leader.value ≡ Some P.x) × Chosen n g (suc w.last) P.x
-    completes f pn v value L k P same next a all = (P.is, record { pn = s.leader.pn; by = s.leader.quorum; major = G.roles.major i (epoch_in c.own) i c.quorum k.reigns.role; below = below; all = each })
+        → are_within n s.leader.quorum (with_rank s.leader.accepted f) ≡ true → Completed f
+    completes f pn v value L k P same next a all = record {
+      x = P.x;
+      is = P.is;
+      chosen = record { pn = s.leader.pn; by = s.leader.quorum; major = G.roles.major i (epoch_in c.own) i c.quorum k.reigns.role; below = below; all = each };
+      number = refl;
+      quorum = refl;
+    }
       where
         below : (m : ℕ) → has s.leader.quorum m ≡ true → m < n
         below = G.roles.within i (epoch_in c.own) i c.quorum k.reigns.role
@@ -122,19 +136,13 @@ module _ (me : Me) (g : Ghost) (w : Readings) (s : State) (G : Glob me.member.mo
         each : (m : ℕ) → has s.leader.quorum m ≡ true → Accepted g m (suc w.last) s.leader.pn P.x
         each m h = by m (has_with_is s.leader.accepted f m (within_at n s.leader.quorum (with_rank s.leader.accepted f) m all (below m h) h))
 
-    -- the value that the leader proposes is chosen, once this answer counts
-    pub record Completed (f : ℕ) : Type 0 where
-      pub x : List Op
-      pub is : s.leader.value ≡ Some x
-      pub chosen : Chosen n g (suc w.last) x
-
     pub accept_completes : (f pn v : ℕ) (value : List Op) → (s.phase ≡ phase.Previous) ⊎ (s.phase ≡ phase.Updating) → pn ≡ s.leader.pn → v ≡ suc w.last → Accepted g f v pn value
         → are_within n s.leader.quorum (with_rank s.leader.accepted f) ≡ true → Completed f
     accept_completes f pn v value p same next a all = by p
       where
         by : (s.phase ≡ phase.Previous) ⊎ (s.phase ≡ phase.Updating) → Completed f
-        by (inl e) = let k = subst (InPhase n g i c) e K in let z = completes f pn v value _ k.0 k.2 same next a all in record { x = k.2.x; is = z.0; chosen = z.1 }
-        by (inr e) = let k = subst (InPhase n g i c) e K in let z = completes f pn v value _ k.0 k.2 same next a all in record { x = k.2.x; is = z.0; chosen = z.1 }
+        by (inl e) = let k = subst (InPhase n g i c) e K in completes f pn v value _ k.0 k.2 same next a all
+        by (inr e) = let k = subst (InPhase n g i c) e K in completes f pn v value _ k.0 k.2 same next a all
 
   -- ---- what comes
 

@@ -28,7 +28,7 @@ module _ (ms : Monitors) (P : World → Type 0) (follows : (w : World) (e : Even
   abbrev After : World → Result World Stop → Type 0
   After w r = IfOk r (λ next. P next × GrowsByOne w.log next.log)
 
-  runs_hold : (w : World) (events : List Event) → AllFit ms.count events → P w → P (run_from ms w events)
+  pub runs_hold : (w : World) (events : List Event) → AllFit ms.count events → P w → P (run_from ms w events)
   unfolding ran_from
   runs_hold w [] F h = h
   runs_hold w (e ∷ es) F h = by (happens ms w e) (follows w e F.0 h) (λ next. runs_hold next es F.1)

@@ -123,7 +123,7 @@ module _ (ms : Monitors) (w : World) (p : Plain) (J : InvWith ms w (with_asked p
       module _ (next : World) (K : InvWith ms next asked) (T : TriplesKept K.g txs) where
         chosen_then : AllChosen ms.count K.g N.more
         chosen_then = let F = fine_then ms w asked J O several d in
-            still_chosen ms.count J.g K.g w.transactions txs J.glob.triples K.glob.triples J.triples T (accepted_keeps d.y.changes F.shape F.fits w.transactions rank) N.more N.chosen
+            still_chosen ms.count J.g K.g w.transactions txs J.glob.triples K.glob.triples J.triples T (accepted_keeps w.transactions rank (joined (spelled d.y.changes))) N.more N.chosen
 
         made_then : AllMade ms.count K.g asked N.more
         made_then i v q x a =

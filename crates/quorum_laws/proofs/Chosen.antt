@@ -160,7 +160,7 @@ module _ (ms : Monitors) (w : World) (I : InvOf ms w) where
             elim (h.covers (suc (readings_at w i).last) lower t.0 t.2 lt) [ inl le ↦ (let s : suc (readings_at w i).last ≤ (readings_at w i).last = le in omega arith) | inr l ↦ l ];
       }
 
-stays_nothing : (w next : World) → Later w next → (q : List Bool) (v lower : ℕ) → AcceptedNothing w q v lower → AcceptedNothing next q v lower
+pub stays_nothing : (w next : World) → Later w next → (q : List Bool) (v lower : ℕ) → AcceptedNothing w q v lower → AcceptedNothing next q v lower
 stays_nothing w next L q v lower k = record {
   rank = k.rank;
   within = k.within;

@@ -23,8 +23,8 @@ use Rattle.mon_wire.specs.declared.request.Request.{Request}
 use Rattle.mon_wire.specs.declared.request.Session.{Session}
 use Rattle.quorum_history.proofs.Frame.{accepted_lasts}
 use Rattle.quorum_history.proofs.Growing.{grows_by, grows_not}
-use Rattle.quorum_history.proofs.History.{ANumber, APromise, Accepted, AnEpoch, Ask, Asks, Entry, Ext, Ghost, Glob, Had, asking, ext_refl, had_lasts, triple}
-use Rattle.quorum_history.proofs.Holds.{Good, core}
+use Rattle.quorum_history.proofs.History.{ALevel, ANumber, APromise, Accepted, AnEpoch, Ask, Asks, Entry, Ext, Ghost, Glob, Had, asking, ext_refl, had_lasts, triple}
+use Rattle.quorum_history.proofs.Holds.{Good, core, level_in}
 use Rattle.quorum_history.proofs.Rows.{InputHolds, react_holds}
 use Rattle.quorum_history.proofs.RowsClients.{IsAsked, Makes}
 use Rattle.quorum_history.proofs.Steps.{tied_refl}
@@ -48,6 +48,7 @@ use Rattle.quorum_model.specs.World.{Asked, Client, Comes, Crash, Deliver, Envel
 use Rattle.quorum_walk.proofs.FineCourses.{Ended, EntryFine, Fine, RequestFine, fit_fits}
 use Rattle.quorum_walk.proofs.FineTable.{ComesFine, react_fine}
 use Rattle.quorum_walk.proofs.Lists.{Among, all_append, all_get}
+use Rattle.quorum_walk.proofs.Sparing.{own_of}
 use Rattle.quorum_walk.proofs.Walk.{Then}
 use Rattle.std.proofs.Common.{Bool, Err, IfSome, List, None, Ok, Option, Result, Some, [], ap, arith, cond, eqb, false, inl, inr, ltb, refl, subst, suc, sym, true, zero, ℕ, ◌%◌, ◌++◌, ◌<◌, ◌∙◌, ◌∷◌, ◌≡◌, ◌≤◌, ◌⊎◌}
 use Rattle.std.proofs.lemmas.Bool.{cond_both, eqb-true, false≢true, ltb-true}
@@ -172,6 +173,7 @@ module _ (store : ℕ → Store) (state : ℕ → Option State) (txs : ℕ → L
       here = record {
         epoch = subst (λ (w : Readings). epoch_of (readings_of m) ≤ epoch_of w) (sym same) (good.disk.numbers.top AnEpoch (epoch_of (readings_of m)) (had_lasts good.ext AnEpoch i (epoch_of (readings_of m)) ((I.mine i).disk.numbers.now AnEpoch)));
         promise = subst (λ (w : Readings). promise_of (readings_of m) ≤ promise_of w) (sym same) (good.disk.numbers.top APromise (promise_of (readings_of m)) (had_lasts good.ext APromise i (promise_of (readings_of m)) ((I.mine i).disk.numbers.now APromise)));
+        level = subst (λ (w : Readings). level_in (own_of (readings_of m)) ≤ level_in (own_of w)) (sym same) (good.disk.numbers.top ALevel (level_in (own_of (readings_of m))) (had_lasts good.ext ALevel i (level_in (own_of (readings_of m))) ((I.mine i).disk.numbers.now ALevel)));
         inside = inside;
       }
 
@@ -202,7 +204,7 @@ lost_stays : (store : ℕ → Store) (state : ℕ → Option State) (i j : ℕ) 
 lost_stays store state i j = by (eqb j i)
   where
     by : (b : Bool) → Stays (readings_of (store j)) (state j) (readings_of (store j)) (cond b None (state j))
-    by true = record { epoch = omega arith; promise = omega arith; inside = λ a e. absurd (false≢true a) }
+    by true = record { epoch = omega arith; promise = omega arith; level = omega arith; inside = λ a e. absurd (false≢true a) }
     by false = stays_refl (readings_of (store j)) (state j)
 
 -- ---- what a client asks
@@ -403,12 +405,9 @@ remembered : (o : Option State) (s : State) (rank : ℕ) → (o ≡ Some s) ⊎ 
 remembered o s rank (inl e) t = ap is_in e ∙ t
 remembered o s rank (inr e) t = absurd (false≢true (ap (λ (z : State). is_member z.phase) (sym e) ∙ t))
 
-abbrev any_told : Envelope → Type 0
-any_told e = Unit {0}
-
-each_keeps : (ms : Monitors) (w : World) (I : InvOf ms w) (p : Plain) (J : InvWith ms w (with_asked p w.asked)) → ((r : Entry) → Among r I.g.roles → Among r J.g.roles) → Keeps ms w any_told p J (After ms w I)
+pub each_keeps : (ms : Monitors) (w : World) (Told : Envelope → Type 0) (I : InvOf ms w) (p : Plain) (J : InvWith ms w (with_asked p w.asked)) → ((r : Entry) → Among r I.g.roles → Among r J.g.roles) → Keeps ms w Told p J (After ms w I)
 unfolding unmoved moved kept_only lost goes_on_holds goes_down_holds lost_holds
-each_keeps ms w I p J up = record {
+each_keeps ms w Told I p J up = record {
   nothing = (J, up, record { each = λ j. stays_refl (readings_of (w.store j)) (w.state j); since = λ j v pn bytes a. inl a });
   loses = λ i lt. (lost_holds ms.count w.store w.state w.transactions w.messages w.active asked i J, up, record { each = lost_stays w.store w.state i; since = λ j v pn bytes a. inl a });
   goes_on = λ d. let a = d.by in (
@@ -435,12 +434,15 @@ each_keeps ms w I p J up = record {
     shared_at : (rank : ℕ) → AllByRecursion EntryFine (shared_entries (w.store rank))
     shared_at rank = sharing (w.store rank) (J.mine rank).fine.records
 
+abbrev any_told : Envelope → Type 0
+any_told e = Unit {0}
+
 all_told : (es : List Envelope) → AllByRecursion any_told es
 all_told [] = tt
 all_told (e ∷ es) = (tt, all_told es)
 
 pub event_holds : (ms : Monitors) (w : World) (e : Event) → PlainFits ms.count (plain_of e) → (I : InvOf ms w) → IfOk (happens ms w e) (After ms w I)
-event_holds ms w e F I = each_event ms w any_told I (After ms w I) (all_told w.messages) e F (each_keeps ms w I (plain_of e))
+event_holds ms w e F I = each_event ms w any_told I (After ms w I) (all_told w.messages) e F (each_keeps ms w any_told I (plain_of e))
 
 -- ---- runs
 

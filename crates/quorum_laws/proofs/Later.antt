@@ -2,8 +2,10 @@
 use Rattle.mon_msg.specs.Protocol.Phases.{is_member}
 use Rattle.mon_msg.specs.Protocol.Readings.{Readings, epoch_of, promise_of}
 use Rattle.mon_msg.specs.Protocol.State.{State}
+use Rattle.quorum_history.proofs.Holds.{level_in}
 use Rattle.quorum_laws.specs.Accepting.{HasAccepted, readings_at}
 use Rattle.quorum_model.specs.World.{World}
+use Rattle.quorum_walk.proofs.Sparing.{own_of}
 use Rattle.std.proofs.Common.{Bool, List, None, Option, Some, arith, false, inl, inr, true, ℕ, ◌≡◌, ◌≤◌, ◌⊎◌}
 
 -- whether a monitor, if it is up, is in a quorum
@@ -15,15 +17,17 @@ is_in (Some s) = is_member s.phase
 pub record Stays (w : Readings) (s : Option State) (next : Readings) (t : Option State) : Type 0 where
   pub epoch : epoch_of w ≤ epoch_of next
   pub promise : promise_of w ≤ promise_of next
+  pub level : level_in (own_of w) ≤ level_in (own_of next)
   pub inside : is_in t ≡ true → epoch_of next ≡ epoch_of w → is_in s ≡ true
 
 pub stays_refl : (w : Readings) (s : Option State) → Stays w s w s
-stays_refl w s = record { epoch = omega arith; promise = omega arith; inside = λ a e. a }
+stays_refl w s = record { epoch = omega arith; promise = omega arith; level = omega arith; inside = λ a e. a }
 
 pub stays_trans : (v w x : Readings) (s t u : Option State) → Stays v s w t → Stays w t x u → Stays v s x u
 stays_trans v w x s t u a b = record {
   epoch = let p = a.epoch in let q = b.epoch in omega arith;
   promise = let p = a.promise in let q = b.promise in omega arith;
+  level = let p = a.level in let q = b.level in omega arith;
   inside = λ i e. let p = a.epoch in let q = b.epoch in a.inside (b.inside i (omega arith)) (omega arith);
 }
 

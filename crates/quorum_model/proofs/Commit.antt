@@ -46,7 +46,7 @@ use Rattle.quorum_model.proofs.Invariant.{IsAck, Inv}
 use Rattle.quorum_model.proofs.Step.{after, Stores, IsNewAck, IsNewReply, Takes, crash_keeps, keeps}
 use Rattle.quorum_model.proofs.Quiet.{grown_by, first_rank}
 
-once_push : (before : List Acknowledged) (a : Acknowledged) → AcknowledgedOnce before → AllByRecursion (λ (b : Acknowledged). ¬ (a.version ≡ b.version)) before → AcknowledgedOnce (before ++ a ∷ [])
+pub once_push : (before : List Acknowledged) (a : Acknowledged) → AcknowledgedOnce before → AllByRecursion (λ (b : Acknowledged). ¬ (a.version ≡ b.version)) before → AcknowledgedOnce (before ++ a ∷ [])
 once_push [] a h k = (tt, tt)
 once_push (b ∷ before) a h k = (all_append (λ (c : Acknowledged). ¬ (c.version ≡ b.version)) before (a ∷ []) h.0 (k.0, tt), once_push before a h.1 k.1)
 

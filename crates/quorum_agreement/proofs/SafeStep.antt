@@ -1,0 +1,567 @@
+-- Every event keeps what is known of the versions that were acknowledged, and of what was replied.
+use Rattle.log_copies.proofs.Standing.{Agrees}
+use Rattle.log_copies.proofs.Telling.{IsTold, monitor_keeps, read_last, record_there, shown_told, since_told, told_stays}
+use Rattle.log_copies.proofs.Unmarked.{OnLog}
+use Rattle.log_copies.specs.Synchronizing.{written}
+use Rattle.log_model.proofs.Committed.{ops_again}
+use Rattle.log_model.proofs.Older.{older_itself}
+use Rattle.log_model.proofs.Records.{value_has_text}
+use Rattle.log_model.proofs.RowReadings.{read_some}
+use Rattle.log_model.proofs.RuleCells.{log_high}
+use Rattle.log_model.specs.LogOfValues.{AllValues, view_at}
+use Rattle.log_model.specs.Windows.{log_from}
+use Rattle.mon_bytes.specs.declared.command.Command.{Command}
+use Rattle.mon_msg.specs.Fold.{entry, put_in}
+use Rattle.mon_msg.specs.Protocol.Course.{Course}
+use Rattle.mon_msg.specs.Protocol.Phases.{is_leading, is_member, is_peon, same_phase, votes}
+use Rattle.mon_msg.specs.Protocol.Readings.{Readings, epoch_of, readings_of, shared_entries}
+use Rattle.mon_msg.specs.Protocol.Reads.{changes_after, shown, since}
+use Rattle.mon_msg.specs.Protocol.Services.{kept_from, service_first, service_last}
+use Rattle.mon_msg.specs.Protocol.Sets.{is_majority}
+use Rattle.mon_msg.specs.Protocol.State.{State, booting}
+use Rattle.mon_msg.specs.Protocol.Value.{service_of}
+use Rattle.mon_msg.specs.declared.clients.Asked as waiting
+use Rattle.mon_msg.specs.declared.clients.Waiting.{Waiting}
+use Rattle.mon_msg.specs.declared.input.Input.TheVariants as input
+use Rattle.mon_msg.specs.declared.input.Input.{Input}
+use Rattle.mon_msg.specs.declared.paxos.Leader.{Leader}
+use Rattle.mon_msg.specs.declared.plan.Origin.{Origin}
+use Rattle.mon_msg.specs.declared.plan.Sent.TheVariants as sent
+use Rattle.mon_msg.specs.declared.plan.Sent.{Sent}
+use Rattle.mon_msg.specs.declared.view.Me.{Me}
+use Rattle.mon_tx.specs.Decision.{Cell}
+use Rattle.mon_tx.specs.Decode.{ops_in}
+use Rattle.mon_tx.specs.Keys.{cell}
+use Rattle.mon_tx.specs.Map.{Store}
+use Rattle.mon_tx.specs.Text.{text}
+use Rattle.mon_tx.specs.declared.key.Area.TheVariants as area
+use Rattle.mon_tx.specs.declared.key.Key.TheVariants as key
+use Rattle.mon_tx.specs.declared.op.Op.{Op}
+use Rattle.mon_types.specs.Ranks.{has}
+use Rattle.mon_wire.specs.declared.body.Body.TheVariants as body
+use Rattle.mon_wire.specs.declared.body.Body.{Body}
+use Rattle.mon_wire.specs.declared.phase.Phase.TheVariants as phase
+use Rattle.mon_wire.specs.declared.phase.Phase.{Phase}
+use Rattle.mon_wire.specs.declared.reply.Reply.TheVariants as reply
+use Rattle.mon_wire.specs.declared.reply.Reply.{Reply}
+use Rattle.mon_wire.specs.declared.request.Request.TheVariants as request
+use Rattle.mon_wire.specs.declared.request.Request.{Request}
+use Rattle.mon_wire.specs.declared.request.Service.{Service}
+use Rattle.quorum_agreement.proofs.Acknowledging.{IsShownIn, NoShow, NoShowBody, NoShowSent, answer_shows_nothing, fenced_by, no_acks, no_routes_show, one_ack, plain_acks, plain_shows_nothing, quiet_fenced, quiet_replies, replies_event}
+use Rattle.quorum_agreement.proofs.Answering.{Acks, AtOnce, BodyKnown, Completes, Hands, InputKnown, IsRead, Lead, Outcome, Reads, RequestKnown, answers}
+use Rattle.quorum_agreement.proofs.Grown.{first_is}
+use Rattle.quorum_agreement.proofs.Held.{IsHeld, Onward, Still, held_lasts, last_is, level_at, shows_it}
+use Rattle.quorum_agreement.proofs.Invariant.{remembers}
+use Rattle.quorum_agreement.proofs.Premises.{Completed, accept_completes, leads_others}
+use Rattle.quorum_agreement.proofs.Result.{OneLog}
+use Rattle.quorum_agreement.proofs.Step.{copy_marked}
+use Rattle.quorum_history.proofs.History.{Accepted, Entered, Ghost}
+use Rattle.quorum_history.proofs.Holds.{ActsIn, BodyHolds, Core, InPhase, core_of}
+use Rattle.quorum_history.proofs.Numbers.{level_is}
+use Rattle.quorum_history.proofs.Phases.{no, peon_is_peon, votes_unmarked}
+use Rattle.quorum_history.proofs.Rows.{InputHolds}
+use Rattle.quorum_laws.proofs.Chosen.{chosen_once, nothing_lower, stays_nothing}
+use Rattle.quorum_laws.proofs.Events.{Does, ToldOf, member_of}
+use Rattle.quorum_laws.proofs.Invariant.{InvOf, InvWith, WasActive}
+use Rattle.quorum_laws.proofs.Reading.{state_holds}
+use Rattle.quorum_laws.specs.Accepting.{HasAccepted, IsMajorityOf, readings_at}
+use Rattle.quorum_laws.specs.Values.{AcceptedNothing, IsChosen}
+use Rattle.quorum_model.proofs.Commit.{once_push}
+use Rattle.quorum_model.proofs.Made.{first_put, puts_command}
+use Rattle.quorum_model.specs.Acknowledging.{acknowledgement, acknowledgements_of, done_by, done_in, incremental_in, record_kept}
+use Rattle.quorum_model.specs.Agree.{IsAsked}
+use Rattle.quorum_model.specs.Clients.{incremental_of, messages_of, replies_of}
+use Rattle.quorum_model.specs.Growth.{last_of}
+use Rattle.quorum_model.specs.Happens.{is_active}
+use Rattle.quorum_model.specs.Kept.{AcknowledgedOnce}
+use Rattle.quorum_model.specs.Monitors.{Monitors}
+use Rattle.quorum_model.specs.Shown.{Fence, IsFenced, ShowsLog}
+use Rattle.quorum_model.specs.World.{Acknowledged, Asked, Envelope, Replied, World}
+use Rattle.quorum_walk.proofs.Lists.{Among, all_among, all_append, all_both, all_map, all_of}
+use Rattle.quorum_walk.proofs.Sparing.{own_of}
+use Rattle.quorum_walk.proofs.Walk.{Then}
+use Rattle.std.proofs.Common.{Bool, List, None, Some, [], ap, append-nil, arith, cond, eqb, false, inl, inr, leb, length, refl, subst, suc, sym, true, unwrap_or, ℕ, ◌%◌, ◌++◌, ◌-◌, ◌<◌, ◌||◌, ◌∙◌, ◌∷◌, ◌≡◌, ◌≤◌, ◌⊎◌}
+use Rattle.std.proofs.lemmas.Bool.{cases_lt, cases_order, cond_both, false≢true, ltb-true}
+use Rattle.std.proofs.lemmas.List.Elements.{Contains-push}
+use Rattle.std.specs.List.{AllByRecursion, Contains, filter}
+
+-- what a message hands on shows nothing
+abbrev pub RouteShows : Envelope → Type 0
+RouteShows e = NoShowBody e.message.body
+
+pub record IsSafe (ms : Monitors) (w : World) (I : InvOf ms w) : Type 0 where
+  pub still : (i : ℕ) (s : State) → w.state i ≡ Some s → Still s.phase s.leader
+  pub acks : AllByRecursion (IsHeld ms.count w I.g) w.acknowledged
+  pub once : AcknowledgedOnce w.acknowledged
+  pub replies : AllByRecursion (IsShownIn w) w.replied
+  pub fence : Fence w
+  pub routes : AllByRecursion RouteShows w.messages
+
+-- ---- what is shown lasts
+
+told_of : (w : World) (r : Replied) (y : Reply) → ShowsLog w r y → IsTold w.log r.last y
+told_of w r (reply.Shown s paxos version map) k = k
+told_of w r (reply.Since s from told more) k = (k.same, k.others)
+told_of w r other k = tt
+
+shows_told : (w : World) (r : Replied) (y : Reply) → IsTold w.log r.last y → ShowsLog w r y
+shows_told w r (reply.Shown s paxos version map) k = k
+shows_told w r (reply.Since s from told more) k = record { same = k.0; others = k.1 }
+shows_told w r other k = tt
+
+shown_lasts : (w next : World) (g h : Ghost) → Onward w next g h → (r : Replied) → IsShownIn w r → IsShownIn next r
+shown_lasts w next g h O r k = record {
+  event = let e = k.event in let f = O.events in omega arith;
+  last = let e = k.last in let f = O.fronts in let s = f.short in omega arith;
+  shows = shows_told next r r.reply (told_stays O.fronts r.last k.last r.reply (told_of w r r.reply k.shows));
+}
+
+-- what is told since a version acknowledges nothing
+since_done : (r : Readings) (v : Service) (k : ℕ) → done_in (since r v k) ≡ None
+unfolding since
+since_done r v k = cond_both (leb (service_first r v) (suc k)) (changes_after r v k (kept_from r v (service_last r v - k) (suc k))) (shown r v) (λ y. done_in y ≡ None) (λ t. refl) (λ t. refl)
+
+peon_leads_not : (p : Phase) → is_peon p ≡ true → is_leading p ≡ false
+peon_leads_not p e = ap is_leading (peon_is_peon p e)
+
+member_votes : (p : Phase) → is_member p ≡ true → votes p ≡ true
+member_votes p e = ap (λ (b : Bool). b || same_phase p phase.Electing) e
+
+-- ---- nothing is acknowledged or replied
+
+module _ (ms : Monitors) (w next : World) (I : InvOf ms w) (K : InvOf ms next) (O : Onward w next I.g K.g) (S : IsSafe ms w I) where
+  abbrev n : ℕ
+  n = ms.count
+
+  held_again : AllByRecursion (IsHeld n next K.g) w.acknowledged
+  held_again = all_map (IsHeld n w I.g) (IsHeld n next K.g) (held_lasts n w next I.g K.g O) w.acknowledged S.acks
+
+  shown_again : AllByRecursion (IsShownIn next) w.replied
+  shown_again = all_map (IsShownIn w) (IsShownIn next) (shown_lasts w next I.g K.g O) w.replied S.replies
+
+  pub safe_same : ((i : ℕ) (s : State) → next.state i ≡ Some s → Still s.phase s.leader) → next.acknowledged ≡ w.acknowledged → next.replied ≡ w.replied → next.messages ≡ w.messages → IsSafe ms next K
+  safe_same still acks replied messages = record {
+    still = still;
+    acks = subst (AllByRecursion (IsHeld n next K.g)) (sym acks) held_again;
+    once = subst AcknowledgedOnce (sym acks) S.once;
+    replies = subst (AllByRecursion (IsShownIn next)) (sym replied) shown_again;
+    fence = subst (λ (rs : List Replied). AllByRecursion (λ (a : Acknowledged). AllByRecursion (λ (r : Replied). IsFenced a r r.reply) rs) next.acknowledged) (sym replied)
+        (subst (λ (acks : List Acknowledged). AllByRecursion (λ (a : Acknowledged). AllByRecursion (λ (r : Replied). IsFenced a r r.reply) w.replied) acks) (sym acks) S.fence);
+    routes = subst (AllByRecursion RouteShows) (sym messages) S.routes;
+  }
+
+  -- ---- something is
+
+  module _ (still : (i : ℕ) (s : State) → next.state i ≡ Some s → Still s.phase s.leader) (later : suc w.events ≤ next.events) (new : List Acknowledged) (replies : List Replied) (sends : List Envelope)
+      (acks_are : next.acknowledged ≡ w.acknowledged ++ new) (replied_are : next.replied ≡ w.replied ++ replies) (messages_are : next.messages ≡ w.messages ++ sends) where
+    abbrev FencedBy : List Replied → Acknowledged → Type 0
+    FencedBy rs a = AllByRecursion (λ (r : Replied). IsFenced a r r.reply) rs
+
+    pub safe_more : AllByRecursion (λ (a : Acknowledged). IsHeld n next K.g a × (a.event ≡ next.events)) new → AcknowledgedOnce (w.acknowledged ++ new)
+        → AllByRecursion (λ (r : Replied). IsShownIn next r × (r.event ≡ next.events)) replies → ((a : Acknowledged) → IsHeld n w I.g a → FencedBy replies a) → AllByRecursion RouteShows sends → IsSafe ms next K
+    safe_more held once shown fenced routes = record {
+      still = still;
+      acks = subst (AllByRecursion (IsHeld n next K.g)) (sym acks_are) (all_append (IsHeld n next K.g) w.acknowledged new held_again (all_map _ _ (λ a k. k.0) new held));
+      once = subst AcknowledgedOnce (sym acks_are) once;
+      replies = subst (AllByRecursion (IsShownIn next)) (sym replied_are) (all_append (IsShownIn next) w.replied replies shown_again (all_map _ _ (λ r k. k.0) replies shown));
+      fence = subst (λ (rs : List Replied). AllByRecursion (FencedBy rs) next.acknowledged) (sym replied_are) (subst (AllByRecursion (FencedBy (w.replied ++ replies))) (sym acks_are)
+          (all_append (FencedBy (w.replied ++ replies)) w.acknowledged new (all_map _ _ old w.acknowledged (all_both (IsHeld n w I.g) (FencedBy w.replied) w.acknowledged S.acks S.fence)) (all_map _ _ fresh new held)));
+      routes = subst (AllByRecursion RouteShows) (sym messages_are) (all_append RouteShows w.messages sends S.routes routes);
+    }
+      where
+        old : (a : Acknowledged) → IsHeld n w I.g a × FencedBy w.replied a → FencedBy (w.replied ++ replies) a
+        old a k = all_append (λ (r : Replied). IsFenced a r r.reply) w.replied replies k.1 (fenced a k.0)
+
+        fresh : (a : Acknowledged) → IsHeld n next K.g a × (a.event ≡ next.events) → FencedBy (w.replied ++ replies) a
+        fresh a k = all_append (λ (r : Replied). IsFenced a r r.reply) w.replied replies
+            (all_map (IsShownIn w) _ (λ r z. fenced_by a r r.reply (λ lt e. let s = z.event in let q = k.1 in absurd (omega arith))) w.replied S.replies)
+            (all_map _ _ (λ r z. fenced_by a r r.reply (λ lt e. let s = z.1 in let q = k.1 in absurd (omega arith))) replies shown)
+
+-- ---- an event
+
+lead_of : (me : Me) (now : ℕ) (r : Readings) (s : State) (From : Command → Origin → Type 0) (Routed : (f e seq : ℕ) → Reply → Type 0) (Voted : (f pn v : ℕ) → Type 0) (p : Phase) → s.phase ≡ p → Still p s.leader → Lead me now r s From Routed Voted p s.leader
+lead_of me now r s From Routed Voted phase.Collecting e k = k
+lead_of me now r s From Routed Voted phase.Previous e k = k
+lead_of me now r s From Routed Voted phase.Updating e k = inl (record { updating = e; origin = refl; proposes = refl; number = refl })
+lead_of me now r s From Routed Voted phase.Booting e k = tt
+lead_of me now r s From Routed Voted phase.Probing e k = tt
+lead_of me now r s From Routed Voted phase.Synchronizing e k = tt
+lead_of me now r s From Routed Voted phase.Electing e k = tt
+lead_of me now r s From Routed Voted phase.Active e k = tt
+lead_of me now r s From Routed Voted phase.Peon e k = tt
+
+still_of : (me : Me) (now : ℕ) (r : Readings) (s : State) (From : Command → Origin → Type 0) (Routed : (f e seq : ℕ) → Reply → Type 0) (Voted : (f pn v : ℕ) → Type 0) (p : Phase) (l : Leader) → Lead me now r s From Routed Voted p l → Still p l
+still_of me now r s From Routed Voted phase.Collecting l k = k
+still_of me now r s From Routed Voted phase.Previous l k = k
+still_of me now r s From Routed Voted phase.Updating l k = tt
+still_of me now r s From Routed Voted phase.Booting l k = tt
+still_of me now r s From Routed Voted phase.Probing l k = tt
+still_of me now r s From Routed Voted phase.Synchronizing l k = tt
+still_of me now r s From Routed Voted phase.Electing l k = tt
+still_of me now r s From Routed Voted phase.Active l k = tt
+still_of me now r s From Routed Voted phase.Peon l k = tt
+
+-- what a reaction makes of the world
+pub record Moved (w next : World) (rank : ℕ) (m : Store) (y : Course) : Type 0 where
+  pub store : next.store rank ≡ m
+  pub state : next.state rank ≡ Some y.state
+  pub others : (i : ℕ) (s : State) → next.state i ≡ Some s → (s ≡ y.state) ⊎ (w.state i ≡ Some s)
+  pub events : next.events ≡ suc w.events
+  pub acks : next.acknowledged ≡ w.acknowledged ++ acknowledgements_of next.events m y.state y.out
+  pub replied : next.replied ≡ w.replied ++ replies_of next.events rank m y.out
+  pub messages : next.messages ≡ w.messages ++ messages_of y.out
+  pub active : is_active y.state.phase ≡ true → Among (epoch_of (readings_of m), rank) next.active
+  pub read : readings_of m ≡ y.readings
+
+module _ (ms : Monitors) (w next : World) (I : InvOf ms w) (K : InvOf ms next) (O : Onward w next I.g K.g) (S : IsSafe ms w I) (asked : List Asked) (J : InvWith ms w asked) (Told : Envelope → Type 0) (d : Does ms w Told asked J)
+    (M : Moved w next d.by.rank (written (w.store d.by.rank) d.y) d.y) (routes : ToldOf RouteShows d.by.rank d.by.came) (L : OneLog ms w) (N : OneLog ms next)
+    (chosen_then : 1 < ms.count → (v : ℕ) → v < length next.log → IsChosen ms.count next (suc v) (entry next.log (suc v))) where
+  abbrev count : ℕ
+  count = ms.count
+
+  abbrev rank : ℕ
+  rank = d.by.rank
+
+  abbrev me : Me
+  me = member_of ms d.by.rank d.by.lt
+
+  abbrev s : State
+  s = d.by.state
+
+  abbrev w0 : Readings
+  w0 = readings_at w d.by.rank
+
+  abbrev m : Store
+  m = written (w.store d.by.rank) d.y
+
+  below : rank < count
+  below = ltb-true rank count d.by.lt
+
+  abbrev From : Command → Origin → Type 0
+  From c o = Unit {0}
+
+  abbrev Routed : (f e seq : ℕ) → Reply → Type 0
+  Routed f e seq r = NoShow r
+
+  abbrev Voted : (f pn v : ℕ) → Type 0
+  Voted f pn v = (x : List Op) × Accepted J.g f v pn x
+
+  abbrev Says : Course → Type 0
+  Says = Outcome me d.by.at w0 s From Routed Voted
+
+  -- ---- what it does
+
+  still_before : Still s.phase s.leader
+  still_before = by d.by.remembers
+    where
+      by : (w.state rank ≡ Some s) ⊎ (s ≡ booting rank) → Still s.phase s.leader
+      by (inl e) = S.still rank s e
+      by (inr e) = subst (λ (z : State). Still z.phase z.leader) (sym e) tt
+
+  lead : Lead me d.by.at w0 s From Routed Voted s.phase s.leader
+  lead = lead_of me d.by.at w0 s From Routed Voted s.phase refl still_before
+
+  nothing_known : (ws : List Waiting) → AllByRecursion (λ (q : Waiting). Unit {0}) ws
+  nothing_known [] = tt
+  nothing_known (x ∷ ws) = (tt, nothing_known ws)
+
+  known : (came : Input) → InputHolds me J.g came → ToldOf RouteShows rank came → InputKnown me d.by.at w0 s From Routed Voted lead came
+  known (input.Deliver e) h t = by e.body refl
+    where
+      by : (b : Body) → e.body ≡ b → BodyKnown me d.by.at w0 s From Routed Voted lead e.from e.epoch b
+      by (body.Route seq r) q = subst NoShowBody q t
+      by (body.Accept pn v) q = let B = subst (BodyHolds J.g e.from rank e.epoch) q h.1.body in (B.1, B.2)
+      by b q = tt
+  known (input.Client t r) h k = by r
+    where
+      by : (r : Request) → RequestKnown me d.by.at w0 s From Routed Voted lead t r
+      by (request.Set key value) = tt
+      by (request.Remove key) = tt
+      by (request.Log text) = tt
+      by (request.Show v) = tt
+      by (request.Since v z) = tt
+  known other h t = tt
+
+  says : Says d.y
+  says = (subst (Then Says) d.is (answers me d.by.at w0 s From Routed Voted lead (λ t. nothing_known s.clients.queue) (shared_entries (w.store rank)) d.by.came (known d.by.came d.by.holds routes))).holds
+
+  still_after : Still d.y.state.phase d.y.state.leader
+  still_after = by says
+    where
+      by : Says d.y → Still d.y.state.phase d.y.state.leader
+      by (inl C) = still_of me d.by.at w0 s From Routed Voted d.y.state.phase d.y.state.leader C.lead
+      by (inr (inl A)) = subst (λ (p : Phase). Still p d.y.state.leader) (sym A.active) tt
+      by (inr (inr (inl R))) = subst (λ (z : Course). Still z.state.phase z.state.leader) (sym R.is) still_before
+      by (inr (inr (inr H))) = subst (λ (p : Phase). Still p d.y.state.leader) (sym H.in_phase) (subst (Still s.phase) (sym H.same) still_before)
+
+  stills : (i : ℕ) (z : State) → next.state i ≡ Some z → Still z.phase z.leader
+  stills i z e = elim (M.others i z e) [ inl q ↦ subst (λ (u : State). Still u.phase u.leader) (sym q) still_after | inr q ↦ S.still i z q ]
+
+  last_then : last_of m ≤ length next.log
+  last_then = let a = by (N.stores rank below) in let r = ap last_of M.store in omega arith
+    where
+      by : Agrees next.log (next.store rank) (remembers rank (next.state rank)) → last_of (next.store rank) ≤ length next.log
+      by (inl V) = let h = V.versions in let e = h.last in let le = h.within in omega arith
+      by (inr T) = let z = K.mine rank in let D = z.disk in let none = (D.kept.clear (copy_marked next.log (next.store rank) (remembers rank (next.state rank)) T)).0 in let l = last_is (next.store rank) in omega arith
+
+  -- ---- what it answers
+
+  later : suc w.events ≤ next.events
+  later = let e = M.events in omega arith
+
+  -- nothing is acknowledged or shown
+  quietly : acknowledgements_of next.events m d.y.state d.y.out ≡ [] → AllByRecursion NoShowSent d.y.out → IsSafe ms next K
+  quietly none k = safe_more ms w next I K O S stills later [] (replies_of next.events rank m d.y.out) (messages_of d.y.out) (M.acks ∙ ap (λ (z : List Acknowledged). w.acknowledged ++ z) none) M.replied M.messages tt (subst AcknowledgedOnce (sym (append-nil w.acknowledged)) S.once)
+      (all_both _ _ _ (quiet_replies next rank m last_then d.y.out k) (replies_event next.events rank m d.y.out)) (λ a h. quiet_fenced a next.events rank m d.y.out k) (no_routes_show d.y.out k)
+
+  -- a session is shown what the store tells
+  module _ (R : Reads me d.by.at w0 s From Routed Voted d.y) where
+    up : w.state rank ≡ Some s
+    up = by d.by.remembers
+      where
+        by : (w.state rank ≡ Some s) ⊎ (s ≡ booting rank) → w.state rank ≡ Some s
+        by (inl e) = e
+        by (inr e) = no (ap (λ (z : State). is_member z.phase) (sym e) ∙ R.member)
+
+    same : readings_of m ≡ w0
+    same = M.read ∙ ap (λ (y : Course). y.readings) R.is
+
+    unmarked : w0.marked ≡ false
+    unmarked = votes_unmarked count I.g rank (core_of (own_of w0) s) s.phase (member_votes s.phase R.member) (state_holds ms w I rank s up)
+
+    abbrev answer : Replied
+    answer = record { event = next.events; rank = rank; epoch = epoch_of (readings_of m); last = last_of m; session = R.session; reply = R.reply }
+
+    stands : OnLog w.log (w.store rank)
+    stands = by (L.stores rank below)
+      where
+        by : Agrees w.log (w.store rank) (remembers rank (w.state rank)) → OnLog w.log (w.store rank)
+        by (inl V) = V
+        by (inr T) = absurd (false≢true (sym unmarked ∙ copy_marked w.log (w.store rank) (remembers rank (w.state rank)) T))
+
+    last_same : stands.last ≡ last_of m
+    last_same = sym (read_last w.log L.short L.values stands.last (w.store rank) stands.versions) ∙ ap (λ (r : Readings). r.last) (sym same) ∙ last_is m
+
+    tells : IsTold w.log stands.last R.reply
+    tells = by R.read
+      where
+        by : IsRead me d.by.at w0 s From Routed Voted R.reply → IsTold w.log stands.last R.reply
+        by (inl k) = subst (IsTold w.log stands.last) (sym k.1) (shown_told w.log L.short L.values stands.last (w.store rank) stands.versions k.0)
+        by (inr k) = subst (IsTold w.log stands.last) (sym k.2) (since_told w.log L.short L.values stands.last (w.store rank) stands.versions k.0 k.1)
+
+    is_shown : IsShownIn next answer
+    is_shown = record { event = omega arith; last = last_then; shows = shows_told next answer R.reply (subst (λ (c : ℕ). IsTold next.log c R.reply) last_same (told_stays O.fronts stands.last (let h = stands.versions in h.within) R.reply tells)) }
+
+    fenced : (a : Acknowledged) → IsHeld count w I.g a → IsFenced a answer R.reply
+    fenced a h = fenced_by a answer R.reply (λ lt e. let v = shows_it ms w I a h rank below s up d.by.at R.readable still_before (e ∙ ap epoch_of same) R.member in let l = last_is m in let q = ap (λ (r : Readings). r.last) same in omega arith)
+
+    shown_then : IsSafe ms next K
+    shown_then = safe_more ms w next I K O S stills later [] (answer ∷ []) [] (M.acks ∙ ap (λ (out : List Sent). w.acknowledged ++ acknowledgements_of next.events m d.y.state out) R.out ∙ ap (λ (z : List Acknowledged). w.acknowledged ++ z) none) (M.replied ∙ ap (λ (out : List Sent). w.replied ++ replies_of next.events rank m out) R.out) (M.messages ∙ ap (λ (out : List Sent). w.messages ++ messages_of out) R.out) tt (subst AcknowledgedOnce (sym (append-nil w.acknowledged)) S.once) ((is_shown, refl), tt) (λ a h. (fenced a h, tt)) tt
+      where
+        nothing_done : (b : Bool) → cond b (done_in R.reply) None ≡ None
+        nothing_done true = by R.read
+          where
+            by : IsRead me d.by.at w0 s From Routed Voted R.reply → done_in R.reply ≡ None
+            by (inl k) = ap done_in k.1
+            by (inr k) = ap done_in k.2 ∙ since_done w0 k.0 k.1
+        nothing_done false = refl
+
+        none : acknowledgements_of next.events m d.y.state (sent.Reply R.session R.reply ∷ []) ≡ []
+        none = no_acks next.events m d.y.state (sent.Reply R.session R.reply ∷ []) (nothing_done (is_leading d.y.state.phase), tt)
+
+  -- a leader's answer goes to the sessions that wait for it
+  handed_then : Hands me d.by.at w0 s From Routed Voted d.y → IsSafe ms next K
+  handed_then H = quietly (ap (acknowledgements_of next.events m d.y.state) H.out ∙ no_acks next.events m d.y.state _ (all_of (λ (x : Sent). done_by d.y.state x ≡ None) (λ (a : waiting.Asked). sent.Reply a.session H.reply) (λ a. no_leader (is_leading d.y.state.phase) (ap is_leading H.in_phase ∙ peon_leads_not s.phase H.peon)) (filter (λ (a : waiting.Asked). eqb a.seq H.seq) s.clients.sessions)))
+      (subst (AllByRecursion NoShowSent) (sym H.out) (all_of NoShowSent (λ (a : waiting.Asked). sent.Reply a.session H.reply) (λ a. H.known) (filter (λ (a : waiting.Asked). eqb a.seq H.seq) s.clients.sessions)))
+    where
+      no_leader : (b : Bool) → b ≡ false → cond b (done_in H.reply) None ≡ None
+      no_leader b e = ap (λ (c : Bool). cond c (done_in H.reply) None) e
+
+  -- ---- a version is acknowledged
+
+  module _ (A : Acks me d.by.at w0 s From Routed Voted d.y) where
+    abbrev v : ℕ
+    v = suc w0.last
+
+    abbrev ack : Acknowledged
+    ack = acknowledgement next.events m d.y.state v
+
+    leads : is_leading s.phase ≡ true
+    leads = by A.how
+      where
+        by : Completes me d.by.at w0 s From Routed Voted A.origin ⊎ AtOnce me d.by.at w0 s From Routed Voted A.origin → is_leading s.phase ≡ true
+        by (inl C) = elim C.in_phase [ inl e ↦ ap is_leading e | inr e ↦ ap is_leading e ]
+        by (inr B) = ap is_leading B.active
+
+    was_up : w.state rank ≡ Some s
+    was_up = by d.by.remembers
+      where
+        by : (w.state rank ≡ Some s) ⊎ (s ≡ booting rank) → w.state rank ≡ Some s
+        by (inl e) = e
+        by (inr e) = no (ap (λ (z : State). is_leading z.phase) (sym e) ∙ leads)
+
+    unmarked_before : w0.marked ≡ false
+    unmarked_before = votes_unmarked count I.g rank (core_of (own_of w0) s) s.phase (member_votes s.phase (ap (λ (b : Bool). b || is_peon s.phase) leads)) (state_holds ms w I rank s was_up)
+
+    abbrev c : Core
+    c = core_of (own_of (readings_at next rank)) d.y.state
+
+    acts : ActsIn count K.g rank c
+    acts = subst (InPhase count K.g rank c) A.active (state_holds ms next K rank d.y.state M.state)
+
+    stored : readings_at next rank ≡ readings_of m
+    stored = ap readings_of M.store
+
+    last_now : (readings_at next rank).last ≡ v
+    last_now = ap (λ (r : Readings). r.last) (stored ∙ M.read) ∙ A.last
+
+    on_log : OnLog next.log (next.store rank)
+    on_log = by (N.stores rank below)
+      where
+        by : Agrees next.log (next.store rank) (remembers rank (next.state rank)) → OnLog next.log (next.store rank)
+        by (inl V) = V
+        by (inr T) = absurd (false≢true (sym acts.0.reigns.unmarked ∙ copy_marked next.log (next.store rank) (remembers rank (next.state rank)) T))
+
+    on_last : on_log.last ≡ v
+    on_last = sym (read_last next.log N.short N.values on_log.last (next.store rank) on_log.versions) ∙ last_now
+
+    within : v ≤ length next.log
+    within = let h = on_log.versions in let w = h.within in omega (arith, on_last)
+
+    abbrev asked_then : IsAsked count next.asked next.log w0.last
+    asked_then = N.asks w0.last within
+
+    abbrev values_then : AllValues next.log
+    values_then u lt = let q = N.asks u lt in record {
+      changes = q.ops;
+      value = record { command = q.command; form = q.form; asked = q.by.rank; rank = (let r = q.rank in let k = ms.most in omega arith); newer = q.ops; made = q.made; spelled = older_itself q.ops };
+      spells = q.spells;
+    }
+
+    ops_are : ops_in (entry next.log v) ≡ asked_then.ops
+    ops_are = ap ops_in asked_then.spells ∙ ops_again asked_then.ops (value_has_text next.log N.short values_then w0.last within)
+
+    there : cell m area.Paxos (key.Version v) ≡ Some (entry next.log v)
+    there =
+        let h = on_log.versions in
+        let P = monitor_keeps next.log N.short N.values on_log.last (next.store rank) h in
+        let f = P.first in
+        let some : 1 ≤ on_log.last = omega (arith, on_last) in
+        let low = log_high on_log.last some in
+        ap (λ (z : Store). cell z area.Paxos (key.Version v)) (sym M.store)
+        ∙ record_there next.log N.short N.values on_log.last (next.store rank) h v (omega (arith, f, read_some log_from on_log.last some, low, on_last, first_is (next.store rank))) (omega (arith, on_last))
+
+    kept : record_kept m v ≡ asked_then.ops
+    kept = ap (λ (z : Cell). ops_in (unwrap_or z [])) there ∙ ops_are
+
+    made_kept : incremental_in (record_kept m v) ≡ (service_of asked_then.command, incremental_of asked_then.by.rank asked_then.command)
+    made_kept = ap incremental_in kept ∙ first_put (view_at next.log w0.last) asked_then.command asked_then.by.rank asked_then.ops asked_then.made
+
+    put : Contains (put_in ack.service (ops_in (entry next.log v))) ack.incremental
+    put = subst (λ (z : Service × List ℕ). Contains (put_in z.0 (ops_in (entry next.log v))) z.1) (sym made_kept)
+        (subst (λ (xs : List (List ℕ)). Contains xs (incremental_of asked_then.by.rank asked_then.command)) (sym puts) (Contains-push [] (incremental_of asked_then.by.rank asked_then.command)))
+      where
+        puts : put_in (service_of asked_then.command) (ops_in (entry next.log v)) ≡ incremental_of asked_then.by.rank asked_then.command ∷ []
+        puts = ap (put_in (service_of asked_then.command)) ops_are ∙ puts_command (view_at next.log w0.last) asked_then.command asked_then.by.rank asked_then.ops asked_then.made
+
+    led : WasActive count K.g (ack.epoch, rank)
+    led = all_among (WasActive count K.g) (ack.epoch, rank) next.active (M.active (ap is_active A.active)) K.active
+
+    quorum_is : led.0 ≡ s.leader.quorum
+    quorum_is = (K.glob.roles.once rank ack.epoch rank rank led.0 d.y.state.leader.quorum led.1 (subst (λ (r : Readings). Entered K.g rank (epoch_of r) rank d.y.state.leader.quorum) stored acts.0.reigns.role)).1 ∙ A.quorum
+
+    -- ---- several monitors
+
+    module _ (several : 1 < count) where
+      completes : Completes me d.by.at w0 s From Routed Voted A.origin
+      completes = by A.how
+        where
+          by : Completes me d.by.at w0 s From Routed Voted A.origin ⊎ AtOnce me d.by.at w0 s From Routed Voted A.origin → Completes me d.by.at w0 s From Routed Voted A.origin
+          by (inl C) = C
+          by (inr B) = no (sym (leads_others me J.g w0 s J.glob several d.by.on leads) ∙ B.alone)
+
+      updating : s.phase ≡ phase.Updating
+      updating = elim completes.in_phase [ inl e ↦ (let q = (subst (λ (p : Phase). Still p s.leader) e still_before).1 in let z : None ≡ Some A.origin = sym q ∙ completes.waits in absurd cc) | inr e ↦ e ]
+
+      done : Completed me J.g w0 s J.glob several d.by.on completes.voter
+      done = accept_completes me J.g w0 s J.glob several d.by.on completes.voter s.leader.pn v completes.voted.0 completes.in_phase refl refl completes.voted.1 completes.whole
+
+      all_accepted : (i : ℕ) → has s.leader.quorum i ≡ true → HasAccepted w i v s.leader.pn (text done.x)
+      all_accepted i t =
+          let D = done.chosen in
+          J.triples.kept i v s.leader.pn done.x (subst (λ (p : ℕ). Accepted J.g i v p done.x) done.number (D.all i (subst (λ (q : List Bool). has q i ≡ true) (sym done.quorum) t)))
+
+      majority : IsMajorityOf count s.leader.quorum
+      majority = let D = done.chosen in record { below = subst (λ (q : List Bool). (i : ℕ) → has q i ≡ true → i < count) done.quorum D.below; major = subst (λ (q : List Bool). is_majority count q ≡ true) done.quorum D.major }
+
+      spells : text done.x ≡ entry next.log v
+      spells = chosen_once ms next K v (text done.x) (entry next.log v) (record { pn = s.leader.pn; by = s.leader.quorum; major = majority; all = λ i t. O.accepted i v s.leader.pn (text done.x) (all_accepted i t) }) (chosen_then several w0.last within)
+
+      nothing_below : (lower : ℕ) (q : List Bool) → lower < s.leader.pn → IsMajorityOf count q → AcceptedNothing w q v lower
+      nothing_below lower q lt Q = nothing_lower ms w I rank s lower q was_up updating lt Q
+
+    held : IsHeld count next K.g ack
+    held = record {
+      rank = rank;
+      below = below;
+      own = acts.0.own;
+      event = omega arith;
+      some = omega arith;
+      within = within;
+      put = put;
+      led = led;
+      level = let l : level_at next rank ≡ (readings_at next rank).last = level_is (own_of (readings_at next rank)) acts.0.reigns.unmarked in omega (arith, last_now);
+      chosen = λ several i t. subst (HasAccepted next i v d.y.state.leader.pn) (spells several) (subst (λ (p : ℕ). HasAccepted next i v p (text (done several).x)) (sym A.number) (O.accepted i v s.leader.pn (text (done several).x) (all_accepted several i (subst (λ (q : List Bool). has q i ≡ true) quorum_is t))));
+      fresh = λ several lower q lt Q. stays_nothing w next O.later q v lower (nothing_below several lower q (let e = A.number in omega arith) Q);
+    }
+
+    -- ---- no version twice
+
+    first_time : (b : Acknowledged) → IsHeld count w I.g b → ¬ (ack.version ≡ b.version)
+    first_time b h e = by (cases_lt 1 count) (cases_order b.pn s.leader.pn)
+      where
+        level : level_at w rank ≡ w0.last
+        level = level_is (own_of w0) unmarked_before
+
+        same_rank : h.rank ≡ rank → ⊥
+        same_rank q = let l = subst (λ (i : ℕ). b.version ≤ level_at w i) q h.level in omega (arith, level)
+
+        number : s.leader.pn % 100 ≡ rank
+        number = ap (λ (p : ℕ). p % 100) (sym A.number) ∙ acts.0.own
+
+        lower : 1 < count → b.pn < s.leader.pn → ⊥
+        lower several lt =
+            let role = h.led.1 in
+            let R = I.glob.roles in
+            let z = nothing_below several b.pn h.led.0 lt (record { below = R.within h.rank b.epoch h.rank h.led.0 role; major = R.major h.rank b.epoch h.rank h.led.0 role }) in
+            z.never (entry w.log b.version) (subst (λ (u : ℕ). HasAccepted w z.rank u b.pn (entry w.log b.version)) (sym e) (h.chosen several z.rank z.within))
+
+        higher : 1 < count → s.leader.pn < b.pn → ⊥
+        higher several lt =
+            let z = h.fresh several s.leader.pn s.leader.quorum lt (majority several) in
+            z.never (text (done several).x) (subst (λ (u : ℕ). HasAccepted w z.rank u s.leader.pn (text (done several).x)) e (all_accepted several z.rank z.within))
+
+        by : (1 < count) ⊎ (count ≤ 1) → (b.pn ≡ s.leader.pn) ⊎ ((b.pn < s.leader.pn) ⊎ (s.leader.pn < b.pn)) → ⊥
+        by (inr one) t = let a = h.below in let q = below in same_rank (omega arith)
+        by (inl several) (inl q) = same_rank (sym h.own ∙ ap (λ (p : ℕ). p % 100) q ∙ number)
+        by (inl several) (inr (inl lt)) = lower several lt
+        by (inl several) (inr (inr lt)) = higher several lt
+
+    acked_then : IsSafe ms next K
+    acked_then = safe_more ms w next I K O S stills later (ack ∷ []) (replies_of next.events rank m d.y.out) (messages_of d.y.out)
+        (M.acks ∙ ap (λ (out : List Sent). w.acknowledged ++ acknowledgements_of next.events m d.y.state out) A.out
+        ∙ ap (λ (z : List Acknowledged). w.acknowledged ++ z) (one_ack next.events m d.y.state me A.plain (epoch_of d.y.readings) A.origin v A.all (ap is_leading A.active)))
+        M.replied M.messages ((held, refl), tt) (once_push w.acknowledged ack S.once (all_map (IsHeld count w I.g) (λ (b : Acknowledged). ¬ (ack.version ≡ b.version)) first_time w.acknowledged S.acks))
+        (all_both _ _ _ (quiet_replies next rank m last_then d.y.out quiet) (replies_event next.events rank m d.y.out)) (λ a h. quiet_fenced a next.events rank m d.y.out quiet) (no_routes_show d.y.out quiet)
+      where
+        quiet : AllByRecursion NoShowSent d.y.out
+        quiet = subst (AllByRecursion NoShowSent) (sym A.out) (all_append NoShowSent A.plain _ (plain_shows_nothing A.plain A.all) (answer_shows_nothing me (epoch_of d.y.readings) A.origin v))
+
+  pub safe_then : IsSafe ms next K
+  safe_then = by says
+    where
+      by : Says d.y → IsSafe ms next K
+      by (inl C) = quietly (plain_acks next.events m d.y.state d.y.out C.out) (plain_shows_nothing d.y.out C.out)
+      by (inr (inl A)) = acked_then A
+      by (inr (inr (inl R))) = shown_then R
+      by (inr (inr (inr H))) = handed_then H
