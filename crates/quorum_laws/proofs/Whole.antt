@@ -18,6 +18,7 @@ use Rattle.quorum_laws.proofs.Invariant.{EnvelopeFine, EnvelopeHolds, Mine, OnSt
 use Rattle.quorum_laws.proofs.Voting.{accepts_vote, vote_accepted}
 use Rattle.quorum_laws.specs.Accepting.{AcceptedIn, Accepts}
 use Rattle.quorum_laws.specs.Promises.{Collects, NumbersRise, last_number}
+use Rattle.quorum_model.proofs.Step.{after_push}
 use Rattle.quorum_model.specs.Clients.{messages_of}
 use Rattle.quorum_model.specs.Happens.{is_active, put_at}
 use Rattle.quorum_model.specs.Safe.{after_transactions}
@@ -141,10 +142,6 @@ module _ (i : ℕ) (g h : Ghost) (cs : List Change) (T : Tied i g h cs) (S : Sha
   triples_kept = record { kept = kept; known = known }
 
 -- ---- transactions
-
-after_push : (txs : List (List Op)) (u : List Op) (m : Store) → after_transactions (txs ++ u ∷ []) m ≡ apply u (after_transactions txs m)
-after_push [] u m = refl
-after_push (t ∷ txs) u m = after_push txs u (apply t m)
 
 -- a transaction more
 rise_push : (i : ℕ) (txs : List (List Op)) (u : List Op) (m : Store) → NumbersRise i m txs → ((pn : ℕ) → Collects u pn → (pn % 100 ≡ i) × (last_number (after_transactions txs m) < pn))

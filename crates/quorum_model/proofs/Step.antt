@@ -64,7 +64,7 @@ pub record Does (w : World) (m : Store) (s : State) (tx : List Op) (messages : L
   pub silent : messages ≡ []
   pub waits : Waits s
 
-after_push : (txs : List (List Op)) (tx : List Op) (m : Store) → after_transactions (txs ++ tx ∷ []) m ≡ apply tx (after_transactions txs m)
+pub after_push : (txs : List (List Op)) (tx : List Op) (m : Store) → after_transactions (txs ++ tx ∷ []) m ≡ apply tx (after_transactions txs m)
 after_push [] tx m = refl
 after_push (t ∷ txs) tx m = after_push txs tx (apply t m)
 

@@ -20,6 +20,6 @@ pub fn law_written()
 {}
 
 /// The log of every safe run is one of values of commands, so that the laws of such logs hold of it.
-pub fn law_values()
+pub fn law_log()
     ensures { (ms : Monitors) (events : List Event) → Safe ms events → AllValues (run ms events).log }
 {}
