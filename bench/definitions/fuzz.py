@@ -24,10 +24,15 @@ def schedule_of(seed, events, flavour):
     often = {'timer': rng.choice([0.02, 0.1, 0.25]), 'start': rng.choice([0, 0.002, 0.01]), 'client': rng.choice([0.05, 0.15, 0.4])}
     old, lost, armed, crashed = rng.choice([0, 0.05, 0.2]), rng.choice([0, 0.02, 0.1]), rng.choice([0.3, 0.7]), rng.choice([0, 0.01, 0.04])
     state = lambda i: run.app(play.scene.d['world'].d['state'], i)
+    # most begin with an election and some commands that nothing disturbs
+    quiet = rng.choice([0, 1, 1]) * (5 * n * n + 40)
     while len(lines) <= events:
-        if rng.random() < 0.3: now = max(0, now + rng.choice([0, 1, 10, 100, 999, 1000, 2000, 3000, 5000, 5001, 30000, -1500, 43200000]))
+        if len(lines) > quiet and rng.random() < 0.3: now = max(0, now + rng.choice([0, 1, 10, 100, 999, 1000, 2000, 3000, 5000, 5001, 30000, -1500, 43200000]))
         draw = rng.random(); down = [i for i in range(n) if state(i).n == 'None']
         if len(lines) <= n and rng.random() < 0.95: line = 'start %d %d' % (len(lines) - 1, now)
+        elif len(lines) <= quiet:
+            if waiting: line = 'deliver %d %d' % (waiting.pop(0), now)
+            else: session += 1; line = 'client %d %d %d %d %s' % (rng.randrange(n), now, rng.randint(0, 3), session, request(rng, big))
         elif down and rng.random() < 0.1: line = 'start %d %d' % (rng.choice(down), now)
         elif draw < often['start']: line = 'start %d %d' % (rng.randrange(n), now)
         elif draw < often['start'] + often['timer']:
@@ -44,7 +49,7 @@ def schedule_of(seed, events, flavour):
             if rng.random() < lost: continue
             line = 'deliver %d %d' % (number, now)
         else: line = 'deliver %d %d' % (rng.randint(max(1, sent - 60), sent + 1), now)
-        if rng.random() < crashed: line = '%s %s %d %d %s' % (rng.choice(['crash', 'fail']), rng.choice('ab'), rng.randint(1, 14), rng.randrange(4), line)
+        if len(lines) > quiet and rng.random() < crashed: line = '%s %s %d %d %s' % (rng.choice(['crash', 'fail']), rng.choice('ab'), rng.randint(1, 14), rng.randrange(4), line)
         lines.append(line)
         if not play.take(line): break
         others = len(play.scene.d['world'].d['messages']); waiting += range(sent + 1, others + 1); sent = others
