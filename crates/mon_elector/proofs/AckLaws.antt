@@ -1,6 +1,6 @@
 -- What a monitor does where another one defers to it, and at the end of an election.
-use Rattle.std.proofs.Common.{◌≡◌, ℕ, suc, ◌≤◌, ◌<◌, ◌^◌, Bool, true, false, not, ◌&&◌, ◌||◌, cond, leb, ltb, List, [], ◌∷◌, Result, Ok, Err, refl, sym, ap, ◌∙◌, arith}
-use Rattle.std.proofs.lemmas.Bool.{le-leb, lt-leb}
+use Rattle.std.proofs.Common.{◌≡◌, ℕ, suc, ◌≤◌, ◌<◌, ◌^◌, Bool, true, false, not, ◌&&◌, ◌||◌, leb, ltb, List, [], ◌∷◌, Result, Ok, Err, refl, sym, ap, ◌∙◌, arith}
+use Rattle.std.proofs.lemmas.Bool.{le-leb, lt-leb, or_parts}
 use Rattle.mon_msg.specs.Protocol.Changes.{Epoch}
 use Rattle.mon_msg.specs.Protocol.Collecting.{reign}
 use Rattle.mon_msg.specs.Protocol.Course.{Course, elector_is}
@@ -80,10 +80,6 @@ module _ (me : Me) (now : ℕ) (w : Readings) (v : View) (s : Elector) (x : Cour
       abbrev pub elects_later : Elector → Type 0
       elects_later t = heard ≡ elect me now (planned (Epoch e ∷ []) [] [] (joins t) next.Elect x)
 
-      odd : (p : Bool) → (p || is_even e) ≡ false → is_even e ≡ false
-      odd true g = absurd cc
-      odd false g = g
-
       pub ack-later : ltb (epoch_of w) e ≡ true → elects_later s
       unfolding hear_ack adopt
       ack-later later =
@@ -91,7 +87,7 @@ module _ (me : Me) (now : ℕ) (w : Readings) (v : View) (s : Elector) (x : Cour
           let p = at_epoch me now w v s x b (λ k. ltb e k) false not_past in
           let l = at_epoch me now w v s x b (λ k. ltb k e) true later in
           along me now w v s x b (λ r t. elects_later t)
-          (rw (t, p, l) (adopts-elects me now e (joins x.state.elector) x (odd (not (votes v.phase)) h)))
+          (rw (t, p, l) (adopts-elects me now e (joins x.state.elector) x (or_parts (not (votes v.phase)) (is_even e) h).1))
 
       module _ (own : ltb (epoch_of w) e ≡ false) where
         pub ack-idle : s.candidate ≡ false → heard ≡ Ok x

@@ -1,11 +1,11 @@
 -- How an election is called.
-use Rattle.std.proofs.Common.{◌≡◌, ℕ, suc, ◌+◌, ◌≤◌, ◌<◌, ◌^◌, Bool, true, false, cond, leb, List, [], ◌∷◌, ◌++◌, map, min, Option, Some, None, Result, Ok, Err, refl, sym, ap, ◌∙◌, subst, arith}
+use Rattle.std.proofs.Common.{◌≡◌, ℕ, suc, ◌+◌, ◌≤◌, ◌<◌, ◌^◌, true, false, leb, List, [], ◌∷◌, ◌++◌, map, min, Option, Some, None, Ok, Err, refl, sym, ap, ◌∙◌, subst, arith}
 use Rattle.std.proofs.lemmas.Bool.{le-leb, lt-leb}
 use Rattle.std.proofs.lemmas.List.{set-set}
 use Rattle.mon_msg.specs.Protocol.Changes.{Change, Epoch}
 use Rattle.mon_msg.specs.Protocol.Course.{Course, change, elector_is, timers_in}
 use Rattle.mon_msg.specs.Protocol.Entering.{is_even, elect, adopt, in_odd_epoch}
-use Rattle.mon_msg.specs.Protocol.Readings.{Readings, epoch_of}
+use Rattle.mon_msg.specs.Protocol.Readings.{epoch_of}
 use Rattle.mon_msg.specs.Protocol.Sending.{others, message_to}
 use Rattle.mon_msg.specs.Protocol.Sets.{only}
 use Rattle.mon_msg.specs.Protocol.State.{no_clients}
@@ -17,7 +17,6 @@ use Rattle.mon_msg.specs.declared.view.Me.{Me}
 use Rattle.mon_plan.specs.Plans.{entered}
 use Rattle.mon_plan.proofs.Planning.{sending-is}
 use Rattle.mon_types.specs.declared.names.Which.TheVariants as which
-use Rattle.mon_types.specs.declared.names.Which.{Which}
 use Rattle.mon_wire.specs.declared.body.Body.TheVariants as body
 use Rattle.mon_wire.specs.declared.phase.Phase.TheVariants as phase
 use Rattle.mon_wire.specs.declared.phase.Timer.TheVariants as timer

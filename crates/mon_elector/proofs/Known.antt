@@ -1,7 +1,6 @@
 -- What is known of an event under way, by what an elector sees and remembers.
-use Rattle.std.proofs.Common.{◌≡◌, ℕ, suc, ◌<◌, ◌≤◌, ◌^◌, Bool, true, false, ltb, List, [], ◌∷◌, Result, Ok, refl, sym, ap, subst, arith}
+use Rattle.std.proofs.Common.{◌≡◌, ℕ, Bool, List, [], Result, Ok, refl, sym, ap, subst}
 use Rattle.std.specs.List.{AllByRecursion}
-use Rattle.std.proofs.lemmas.Bool.{ltb-true, ltb-false}
 use Rattle.mon_msg.specs.Protocol.Changes.{Change, spelled}
 use Rattle.mon_msg.specs.Protocol.Course.{Course, elector_is}
 use Rattle.mon_msg.specs.Protocol.Entering.{elect}
@@ -64,11 +63,3 @@ module _ (me : Me) (now : ℕ) (w : Readings) (v : View) (s : Elector) (row : Co
   plans cs fit ms ts t n e is =
       does me now elector_is (Met me now w v s) (λ x. x) row cs fit ms ts t n is p
       (ap (λ (p : Plan Elector). p.tx) e) (ap (λ (p : Plan Elector). p.out) e) (ap (λ (p : Plan Elector). p.timers) e) (ap (λ (p : Plan Elector). p.state) e) (ap (λ (p : Plan Elector). p.next) e)
-
--- a number above which none is left
-pub above : (e : ℕ) → (e < 2 ^ 62 → false ≡ true) → 2 ^ 62 < suc e
-above e none = by (ltb e (2 ^ 62)) refl
-  where
-    by : (t : Bool) → ltb e (2 ^ 62) ≡ t → 2 ^ 62 < suc e
-    by true h = let bad : false ≡ true = none (ltb-true e (2 ^ 62) h) in absurd cc
-    by false h = omega (arith, ltb-false e (2 ^ 62) h)

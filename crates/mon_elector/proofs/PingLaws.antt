@@ -1,5 +1,5 @@
 -- How monitors measure their connections.
-use Rattle.std.proofs.Common.{◌≡◌, ℕ, ◌+◌, ◌≤◌, ◌<◌, ◌^◌, Bool, cond, length, drop, get_or, List, [], ◌∷◌, map, min, Option, Some, None, Ok, refl, sym, ap, ◌∙◌}
+use Rattle.std.proofs.Common.{◌≡◌, ℕ, ◌+◌, ◌≤◌, ◌<◌, ◌^◌, Bool, cond, length, drop, get_or, List, [], ◌∷◌, map, min, Some, None, Ok, refl, sym, ap, ◌∙◌}
 use Rattle.std.proofs.lemmas.List.{drop_more, drop_all}
 use Rattle.election_rules.specs.Table.{raised, lowered, scored}
 use Rattle.election_rules.specs.declared.scores.Scores.{Scores}

@@ -1,8 +1,9 @@
 -- What a monitor does where another one stands for election.
-use Rattle.std.proofs.Common.{◌≡◌, ℕ, ◌+◌, ◌^◌, Bool, true, false, not, ◌&&◌, ◌||◌, cond, ltb, List, [], ◌∷◌, min, Option, Some, None, is_some, Result, Ok, Err, refl, sym, ap, ◌∙◌}
+use Rattle.std.proofs.Common.{◌≡◌, ℕ, ◌+◌, ◌^◌, Bool, true, false, not, ◌&&◌, ◌||◌, ltb, List, [], ◌∷◌, min, Option, Some, None, is_some, Result, Ok, refl, sym, ◌∙◌}
+use Rattle.std.proofs.lemmas.Bool.{or_parts}
 use Rattle.election_rules.specs.declared.scores.Scores.{Scores}
 use Rattle.mon_msg.specs.Protocol.Changes.{Epoch}
-use Rattle.mon_msg.specs.Protocol.Course.{Course, elector_is, change}
+use Rattle.mon_msg.specs.Protocol.Course.{Course}
 use Rattle.mon_msg.specs.Protocol.Elections.{hear_propose, is_allowed, stands_before, may_defer, table_or, merged_if_told}
 use Rattle.mon_msg.specs.Protocol.Entering.{is_even, elect, adopt}
 use Rattle.mon_msg.specs.Protocol.Phases.{votes}
@@ -90,10 +91,6 @@ module _ (me : Me) (now : ℕ) (w : Readings) (v : View) (s : Elector) (x : Cour
         abbrev pub elects_later : Elector → Type 0
         elects_later t = heard ≡ elect me now (planned (Epoch e ∷ []) [] [] (joins (told_to table t)) next.Elect x)
 
-        odd : (p : Bool) → (p || is_even e) ≡ false → is_even e ≡ false
-        odd true g = absurd cc
-        odd false g = g
-
         pub propose-later-elects : better s ≡ false → elects_later s
         unfolding hear_propose adopt
         propose-later-elects g =
@@ -102,7 +99,7 @@ module _ (me : Me) (now : ℕ) (w : Readings) (v : View) (s : Elector) (x : Cour
             let l = at_epoch me now w v s x b (λ k. ltb k e) true later in
             let o = at_role me now w v s x b better false g in
             along me now w v s x b (λ r t. elects_later t)
-            (rw (t, p, l, o) (adopts-elects me now e (joins (told_to table x.state.elector)) x (odd (not (votes v.phase)) h)))
+            (rw (t, p, l, o) (adopts-elects me now e (joins (told_to table x.state.elector)) x (or_parts (not (votes v.phase)) (is_even e) h).1))
 
       -- the own epoch
       module _ (own : ltb (epoch_of w) e ≡ false) where

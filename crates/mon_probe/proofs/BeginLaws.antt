@@ -1,6 +1,6 @@
 -- How a monitor begins anew.
-use Rattle.std.proofs.Common.{◌≡◌, ℕ, suc, ◌+◌, ◌≤◌, ◌<◌, ◌^◌, Bool, true, false, not, ◌&&◌, leb, ltb, List, [], ◌∷◌, map, min, Result, Ok, Err, refl, sym, ap, ◌∙◌, subst, arith}
-use Rattle.std.proofs.lemmas.Bool.{le-leb, lt-leb, leb-true, leb-false}
+use Rattle.std.proofs.Common.{◌≡◌, ℕ, ◌+◌, ◌≤◌, ◌<◌, ◌^◌, Bool, true, false, not, ◌&&◌, leb, ltb, List, [], ◌∷◌, map, min, Ok, Err, refl, sym, ap, ◌∙◌, subst}
+use Rattle.std.proofs.lemmas.Bool.{le-leb, lt-leb}
 use Rattle.election_rules.specs.Ranking.{allows}
 use Rattle.mon_msg.specs.Protocol.Changes.{Epoch}
 use Rattle.mon_msg.specs.Protocol.Collecting.{reign}
@@ -17,19 +17,10 @@ use Rattle.mon_msg.specs.declared.view.Me.{Me}
 use Rattle.mon_plan.specs.Plans.{entered}
 use Rattle.mon_plan.proofs.Planning.{sending-is}
 use Rattle.mon_types.specs.declared.names.Which.TheVariants as which
-use Rattle.mon_types.specs.declared.names.Which.{Which}
 use Rattle.mon_wire.specs.declared.body.Body.TheVariants as body
 use Rattle.mon_wire.specs.declared.phase.Timer.TheVariants as timer
 use Rattle.mon_probe.specs.Rows.{IsBegun}
 use Rattle.mon_probe.proofs.Known.{planned}
-
--- a number above which none is left
-pub above : (n : ℕ) → (n ≤ 2 ^ 62 → false ≡ true) → 2 ^ 62 < n
-above n none = by (leb n (2 ^ 62)) refl
-  where
-    by : (t : Bool) → leb n (2 ^ 62) ≡ t → 2 ^ 62 < n
-    by true h = let bad : false ≡ true = none (leb-true n (2 ^ 62) h) in absurd cc
-    by false h = omega (arith, leb-false n (2 ^ 62) h)
 
 module _ (me : Me) (now : ℕ) where
   abbrev pub alone : Prober

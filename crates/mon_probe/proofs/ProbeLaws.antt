@@ -1,14 +1,12 @@
 -- What a monitor does at a probe and at the answer to one.
-use Rattle.std.proofs.Common.{◌≡◌, ℕ, ◌+◌, Bool, true, false, not, ◌&&◌, cond, leb, ltb, List, [], ◌∷◌, Result, Ok, refl, sym, ap, ◌∙◌, subst, IsTrue}
-use Rattle.mon_bytes.specs.declared.entry.Entry.{Entry}
-use Rattle.mon_msg.specs.Protocol.Course.{Course, prober_is}
+use Rattle.std.proofs.Common.{◌≡◌, ℕ, ◌+◌, Bool, true, false, ◌&&◌, leb, ltb, List, [], ◌∷◌, Result, Ok, refl, sym, subst, IsTrue}
+use Rattle.mon_msg.specs.Protocol.Course.{Course}
 use Rattle.mon_msg.specs.Protocol.Entering.{bootstrap, elect}
 use Rattle.mon_msg.specs.Protocol.Phases.{same_phase}
 use Rattle.mon_msg.specs.Protocol.Probing.{hear_probe, hear_probe_reply}
 use Rattle.mon_msg.specs.Protocol.Readings.{Readings, epoch_of}
 use Rattle.mon_msg.specs.Protocol.Sending.{message_to}
 use Rattle.mon_msg.specs.Protocol.Sets.{is_majority}
-use Rattle.mon_msg.specs.Protocol.State.{quorum_of}
 use Rattle.mon_msg.specs.Protocol.Synchronizing.{full_sync, recent_sync}
 use Rattle.mon_msg.specs.Protocol.Table.{timer_comes}
 use Rattle.mon_msg.specs.declared.election.Prober.{Prober}

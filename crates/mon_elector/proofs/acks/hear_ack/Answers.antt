@@ -1,4 +1,4 @@
-use Rattle.std.proofs.Common.{◌≡◌, ℕ, Bool, true, false, ◌&&◌, List, [], ◌∷◌, sym, ap, ◌∙◌}
+use Rattle.std.proofs.Common.{Bool, true, false, ◌&&◌, List, [], ◌∷◌, sym, ap, ◌∙◌}
 use Rattle.mon_msg.specs.Protocol.Changes.{Epoch}
 use Rattle.mon_msg.specs.Protocol.Course.{elector_is}
 use Rattle.mon_msg.specs.Protocol.Elections.{hear_ack, is_allowed, is_whole}

@@ -1,4 +1,4 @@
-use Rattle.std.proofs.Common.{◌≡◌, ℕ, suc, ◌+◌, ◌≤◌, ◌^◌, List, [], ◌∷◌, min, refl, sym, ap, ◌∙◌, arith}
+use Rattle.std.proofs.Common.{◌≡◌, ℕ, suc, ◌+◌, ◌≤◌, ◌^◌, [], ◌∷◌, min, sym, ap, ◌∙◌, arith}
 use Rattle.mon_msg.specs.Protocol.Changes.{Epoch, spelled}
 use Rattle.mon_msg.specs.Protocol.Course.{elector_is}
 use Rattle.mon_msg.specs.declared.election.Elector.{Elector}
@@ -6,11 +6,11 @@ use Rattle.mon_msg.specs.declared.plan.Arming.TheVariants as arming
 use Rattle.mon_msg.specs.declared.plan.Next.TheVariants as next
 use Rattle.mon_msg.specs.declared.plan.Plan.{Plan}
 use Rattle.mon_plan.specs.Plans.{entered, act}
+use Rattle.mon_plan.proofs.Learning.{above}
 use Rattle.mon_plan.proofs.Planning.{does}
 use Rattle.mon_wire.specs.declared.phase.Timer.TheVariants as timer
 use Rattle.mon_elector.specs.Rows.{IsCalled}
 use Rattle.mon_elector.proofs.CallLaws as laws
-use Rattle.mon_elector.proofs.Known.{above}
 use Rattle.mon_elector.proofs.calls.enter.Goals as goal
 
 pub returns-then-not-is_even-clause-plans : goal.returns-then-not-is_even-clause-plans
@@ -26,7 +26,7 @@ returns-then-not-is_even-clause-plans c =
 
 pub returns-in_default-clause-plans : goal.returns-in_default-clause-plans
 returns-in_default-clause-plans c =
-    λ x b. laws.call-spent c.args.me.now c.args.now c.args.epoch c.args.state.now x b (sym c.is_even.ensures ∙ c.if-not-is_even.false) (above c.args.epoch c.in_default.ensures.valid.1)
+    λ x b. laws.call-spent c.args.me.now c.args.now c.args.epoch c.args.state.now x b (sym c.is_even.ensures ∙ c.if-not-is_even.false) (above (suc c.args.epoch) (2 ^ 62) c.in_default.ensures.valid.1)
 
 pub returns-clause-plans : goal.returns-clause-plans
 returns-clause-plans c =

@@ -1,4 +1,4 @@
-use Rattle.std.proofs.Common.{◌≡◌, sym, subst}
+use Rattle.std.proofs.Common.{sym, subst}
 use Rattle.mon_msg.specs.Protocol.Hearing.{hear}
 use Rattle.mon_msg.specs.Protocol.Readings.{readings_of}
 use Rattle.mon_wire.specs.declared.body.Body.{Body}

@@ -1,5 +1,5 @@
-use Rattle.std.proofs.Common.{◌≡◌, sym, subst}
-use Rattle.mon_msg.specs.Protocol.Readings.{Readings, readings_of}
+use Rattle.std.proofs.Common.{sym, subst}
+use Rattle.mon_msg.specs.Protocol.Readings.{readings_of}
 use Rattle.mon_msg.specs.Protocol.Hearing.{hear}
 use Rattle.mon_msg.specs.declared.input.Input.{Input}
 use Rattle.mon_plan.specs.Inputs.{row}

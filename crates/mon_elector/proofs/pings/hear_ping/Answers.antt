@@ -1,4 +1,4 @@
-use Rattle.std.proofs.Common.{◌≡◌, ℕ, List, [], ◌∷◌, ◌++◌, Option, None, Some, refl, sym, ap, ◌∙◌}
+use Rattle.std.proofs.Common.{◌≡◌, List, [], ◌∷◌, ◌++◌, Option, None, Some, refl, ap, ◌∙◌}
 use Rattle.election_rules.specs.declared.scores.Scores.{Scores}
 use Rattle.mon_msg.specs.Protocol.Course.{elector_is}
 use Rattle.mon_msg.specs.Protocol.Pings.{hear_ping, with_heard}

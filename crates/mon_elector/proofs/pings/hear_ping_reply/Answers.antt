@@ -1,4 +1,4 @@
-use Rattle.std.proofs.Common.{◌≡◌, ℕ, List, [], Option, sym, ap, ◌∙◌}
+use Rattle.std.proofs.Common.{[], Option, ap, ◌∙◌}
 use Rattle.election_rules.specs.declared.scores.Scores.{Scores}
 use Rattle.mon_msg.specs.Protocol.Pings.{hear_ping_reply, with_heard}
 use Rattle.mon_msg.specs.Protocol.Readings.{readings_of}

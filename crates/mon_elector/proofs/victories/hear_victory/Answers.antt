@@ -1,4 +1,4 @@
-use Rattle.std.proofs.Common.{◌≡◌, ℕ, ◌+◌, ◌^◌, List, [], ◌∷◌, min, sym, ap, ◌∙◌}
+use Rattle.std.proofs.Common.{◌+◌, ◌^◌, [], ◌∷◌, min, sym, ◌∙◌}
 use Rattle.mon_msg.specs.Protocol.Changes.{Epoch}
 use Rattle.mon_msg.specs.Protocol.Elections.{hear_victory}
 use Rattle.mon_msg.specs.Protocol.Readings.{readings_of}

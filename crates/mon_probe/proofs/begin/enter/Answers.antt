@@ -1,4 +1,4 @@
-use Rattle.std.proofs.Common.{◌≡◌, ℕ, ◌+◌, ◌≤◌, ◌^◌, List, [], ◌∷◌, min, refl, sym, ap, ◌∙◌, arith}
+use Rattle.std.proofs.Common.{◌≡◌, ℕ, ◌+◌, ◌≤◌, ◌^◌, [], ◌∷◌, min, refl, sym, ap, ◌∙◌}
 use Rattle.mon_msg.specs.Protocol.Changes.{Epoch, spelled}
 use Rattle.mon_msg.specs.Protocol.Course.{prober_is}
 use Rattle.mon_msg.specs.Protocol.Entering.{next_even}
@@ -9,6 +9,7 @@ use Rattle.mon_msg.specs.declared.plan.Arming.TheVariants as arming
 use Rattle.mon_msg.specs.declared.plan.Next.TheVariants as next
 use Rattle.mon_msg.specs.declared.plan.Plan.{Plan}
 use Rattle.mon_plan.specs.Plans.{entered, act}
+use Rattle.mon_plan.proofs.Learning.{above}
 use Rattle.mon_plan.proofs.Planning.{does}
 use Rattle.mon_wire.specs.declared.phase.Timer.TheVariants as timer
 use Rattle.mon_probe.specs.Rows.{IsBegun}
@@ -41,7 +42,7 @@ pub returns-in_default-clause-plans : goal.returns-in_default-clause-plans
 returns-in_default-clause-plans c =
     λ x b.
     laws.begin-spends c.args.me.now c.args.now (readings_of c.args.kv.now) c.args.epoch x b (sym c.has_others.ensures ∙ c.if-has_others.false) (sym c.may_lead.ensures ∙ c.if-not-may_lead.false)
-    (laws.above (next_even c.args.epoch) c.in_default.ensures.valid.1)
+    (above (next_even c.args.epoch) (2 ^ 62) c.in_default.ensures.valid.1)
 
 pub returns-clause-plans : goal.returns-clause-plans
 returns-clause-plans c =

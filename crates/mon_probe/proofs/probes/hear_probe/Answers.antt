@@ -1,4 +1,4 @@
-use Rattle.std.proofs.Common.{◌≡◌, ℕ, List, [], ◌∷◌, ◌++◌, refl, sym, ap, ◌∙◌}
+use Rattle.std.proofs.Common.{List, [], ◌∷◌, ◌++◌, refl, sym, ap, ◌∙◌}
 use Rattle.mon_msg.specs.Protocol.Course.{prober_is}
 use Rattle.mon_msg.specs.Protocol.Probing.{hear_probe}
 use Rattle.mon_msg.specs.Protocol.Readings.{readings_of, epoch_of}

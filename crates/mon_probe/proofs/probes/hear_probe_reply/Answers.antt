@@ -1,4 +1,4 @@
-use Rattle.std.proofs.Common.{◌≡◌, ℕ, Bool, List, [], ◌∷◌, refl, sym, ap, ◌∙◌}
+use Rattle.std.proofs.Common.{Bool, List, [], refl, sym, ap, ◌∙◌}
 use Rattle.mon_msg.specs.Protocol.Probing.{hear_probe_reply}
 use Rattle.mon_msg.specs.Protocol.Readings.{readings_of}
 use Rattle.mon_msg.specs.Protocol.Sets.{is_majority}
