@@ -1,0 +1,14 @@
+pub mod Guarded
+pub mod Gates
+pub mod Standing
+pub mod Keeping
+pub mod Sizes
+pub mod Checkpointing
+pub mod Openings
+pub mod Found
+pub mod Opened
+pub mod Remaining
+pub mod Ending
+pub mod OnStores
+pub mod Written
+pub mod Readying

@@ -1,0 +1,56 @@
+-- A monitor of which one disk fails within an event: its disks before they are opened, its store, and what its disks settle to.
+use Rattle.std.specs.Prelude.{◌≡◌, ℕ, false, List, None, Ok}
+use Rattle.mon_types.specs.declared.names.Side.{Side}
+use Rattle.mon_types.specs.declared.member.Member.{Member}
+use Rattle.mon_disk.specs.Images.{Only}
+use Rattle.mon_disk.specs.Memory.{seen_of, settled}
+use Rattle.mon_disk.specs.MemoryDisk.{MemoryState}
+use Rattle.mon_tx.specs.Map.{Store}
+use Rattle.mon_journal.specs.declared.journal.Form.TheVariants.{Second}
+use Rattle.mon_journal.specs.Written.{owner_of}
+use Rattle.mon_store.specs.declared.store.Store as kept
+use Rattle.mon_store.specs.Sound.{of_live, other_side, Sound}
+use Rattle.mon_store.specs.Stood.{Stood, opens_as}
+use Rattle.mon_store.specs.Whole.{disk_a, disk_b, disk_of}
+use Rattle.quorum_model.specs.Files.{Files}
+use Rattle.mon_site.specs.Disks.{IsCalm, content, files_in}
+use Rattle.mon_site.specs.Upset.{IsUpset, files_on}
+
+-- A member opens a store with this map on two files, of which a later one has the second header.
+pub record OpensMap (member : Member) (m : Store) (a b : List ℕ) : Type 0 where
+  pub stood : Stood
+  pub opens : opens_as member a b ≡ Ok stood
+  pub form : stood.journal.form ≡ Second
+  pub map : stood.kv ≡ m
+
+-- Before they are opened: one of them is upset.
+pub record IsReady (disk : Side) (call image : ℕ) (member : Member) (m : Store) (f : Files) (a b : MemoryState) : Type 0 where
+  pub upset : IsUpset call image (of_live disk a b)
+  pub calm : (of_live (other_side disk) a b).life.upset ≡ None
+  pub only_a : Only (content a)
+  pub only_b : Only (content b)
+  pub opens : OpensMap member m (seen_of a.life) (seen_of b.life)
+  pub files : files_on a b ≡ f
+
+-- The store that stands on them.
+pub record IsFalling (disk : Side) (call image : ℕ) (member : Member) (m : Store) (f : Files) (store : kept.Store MemoryState) : Type 0 where
+  pub unbroken : store.broken ≡ false
+  pub sound : Sound store.journal store.kv store.live.known (content store.live) (content store.other)
+  pub form : store.journal.form ≡ Second
+  pub owner : owner_of store.journal.member ≡ owner_of member
+  pub map : store.kv ≡ m
+  pub files : files_on (disk_a store) (disk_b store) ≡ f
+  pub upset : IsUpset call image (disk_of disk store)
+  pub calm : (disk_of (other_side disk) store).life.upset ≡ None
+
+-- What they settle to.
+pub record Settles (member : Member) (m : Store) (f : Files) (a b : MemoryState) : Type 0 where
+  pub opens : OpensMap member m (settled a.life) (settled b.life)
+  pub files : files_in (settled a.life) (settled b.life) ≡ f
+
+-- Two disks at rest, on which a member opens a store with this map, and that have these files.
+pub record Rests (member : Member) (m : Store) (f : Files) (a b : MemoryState) : Type 0 where
+  pub calm_a : IsCalm a
+  pub calm_b : IsCalm b
+  pub opens : OpensMap member m (seen_of a.life) (seen_of b.life)
+  pub files : files_on a b ≡ f

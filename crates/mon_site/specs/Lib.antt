@@ -1,0 +1,5 @@
+pub mod Disks
+pub mod Upset
+pub mod Falls
+pub mod Begins
+pub mod Ending

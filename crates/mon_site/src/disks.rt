@@ -1,0 +1,38 @@
+//! Two disks at rest, before an event in which one fails and behind it.
+
+ghost use Rattle.std.specs.Prelude.{◌≡◌, ◌≤◌, None, IfOk};
+ghost use Rattle.mon_tx.specs.Map.{Store as Map};
+ghost use Rattle.mon_types.specs.declared.member.Member.{Member};
+ghost use Rattle.quorum_model.specs.Files.{Files};
+ghost use Rattle.mon_site.specs.Falls.{IsReady, Rests, Settles};
+
+use crate::upset::Upset;
+use mon_bytes::OutOfMemory;
+use mon_disk::{MemoryDisk, NodeDisks};
+use mon_types::Side;
+
+/// Upsets one of two disks.
+pub fn upset_one(disks: NodeDisks<MemoryDisk>, upset: Upset) -> NodeDisks<MemoryDisk>
+    requires calm_a { disks.a.life.upset ≡ None }
+    requires calm_b { disks.b.life.upset ≡ None }
+    requires first { 1 ≤ upset.call }
+    requires most { upset.image ≤ 3 }
+    ensures { (member : Member) (m : Map) (f : Files) → Rests member m f disks.a disks.b → IsReady upset.disk upset.call upset.image member m f result.a result.b }
+{
+    let NodeDisks { mut a, mut b } = disks;
+    match upset.disk {
+        Side::A => a.upset(upset.call, upset.image),
+        Side::B => b.upset(upset.call, upset.image),
+    }
+    NodeDisks { a, b }
+}
+
+/// Turns two disks into what a crash leaves of them.
+pub fn settle_both(disks: NodeDisks<MemoryDisk>) -> Result<NodeDisks<MemoryDisk>, OutOfMemory>
+    ensures { IfOk result (λ rest. (member : Member) (m : Map) (f : Files) → Settles member m f disks.a disks.b → Rests member m f rest.a rest.b) }
+{
+    let NodeDisks { mut a, mut b } = disks;
+    a.settle()?;
+    b.settle()?;
+    Ok(NodeDisks { a, b })
+}

@@ -1,0 +1,107 @@
+//! A transaction is applied over disks of which one fails.
+
+ghost use Rattle.std.specs.Prelude.{◌≡◌, ◌==◌, ◌&&◌, nat_le, ℕ, Bool, false, Ok};
+ghost use Rattle.mon_types.specs.declared.member.Member.{Member};
+ghost use Rattle.mon_disk.specs.MemoryDisk.{state_of};
+ghost use Rattle.mon_store.specs.Whole.{IsSound, disk_a, disk_b};
+ghost use Rattle.mon_tx.specs.Map.{Store as Map};
+ghost use Rattle.quorum_model.specs.Files.{Files};
+ghost use Rattle.mon_site.specs.Ending.{IsKept, Keeps, Checkpoints, Writes, Finishes};
+ghost use Rattle.mon_site.specs.Falls.{IsFalling};
+
+use crate::upset::Upset;
+use mon_disk::{MemoryDisk, NodeDisks};
+use mon_store::{Store, StoreStop};
+use mon_tx::Transaction;
+
+/// What became of a transaction.
+enum Kept {
+    /// No call for it failed.
+    Whole,
+    /// One failed. Then its record is there, or not.
+    Cut { kept: bool },
+}
+
+/// What is left of a monitor in whose event a disk failed. The disks aren't settled yet.
+#[derive(Drop)]
+pub struct Ended {
+    pub disks: NodeDisks<MemoryDisk>,
+    /// Whether its transaction is kept.
+    pub kept: bool,
+}
+
+/// Whether a gate is opened that a record's third call writes and that isn't synced.
+fn opens_gate(upset: Upset) -> bool
+    ensures { result ≡ (nat_le 3 upset.call && upset.image == 1) }
+{
+    upset.call >= 3 && upset.image == 1
+}
+
+/// Makes a transaction's changes, as far as the live disk lets it. An append writes the record first, and then by the third call
+/// its gate, which the fourth one syncs.
+fn keep(store: &mut Store<MemoryDisk>, tx: &Transaction, upset: Upset) -> Result<Kept, StoreStop>
+    requires unbroken { store.old.broken ≡ false }
+    requires sound { IsSound state_of store.old }
+    ensures sound { IsSound state_of store.new }
+    ensures unbroken { result ≡ Ok Kept.Whole → store.new.broken ≡ false }
+    ensures keeps { (member : Member) (m : Map) (f : Files) → IsFalling upset.disk upset.call upset.image member m f store.old → Keeps upset member m f tx.now store.new result }
+{
+    match store.apply(tx) {
+        Ok(()) => Ok(Kept::Whole),
+        Err(StoreStop::DiskFault) => Ok(Kept::Cut {
+            kept: opens_gate(upset),
+        }),
+        Err(stop) => Err(stop),
+    }
+}
+
+/// Makes the checkpoint that is due, if one is, as far as the other disk lets it.
+fn checkpoint(store: &mut Store<MemoryDisk>) -> Result<(), StoreStop>
+    requires unbroken { store.old.broken ≡ false }
+    requires sound { IsSound state_of store.old }
+    ensures { (live : Bool) (call image : ℕ) (member : Member) (m : Map) (f : Files) → IsKept live call image member m f store.old → Checkpoints live call image member m f store.new result }
+{
+    match store.restart_if_due() {
+        Ok(_) => Ok(()),
+        Err(StoreStop::DiskFault) => Ok(()),
+        Err(stop) => Err(stop),
+    }
+}
+
+/// Makes a transaction's changes, and then the checkpoint that is due, if one is, as far as the disks let it. The answer is whether
+/// the transaction is kept.
+fn write(store: &mut Store<MemoryDisk>, tx: &Transaction, upset: Upset) -> Result<bool, StoreStop>
+    requires unbroken { store.old.broken ≡ false }
+    requires sound { IsSound state_of store.old }
+    ensures { (member : Member) (m : Map) (f : Files) → IsFalling upset.disk upset.call upset.image member m f store.old → Writes upset member m f tx.now (disk_a store.new) (disk_b store.new) result }
+{
+    match keep(store, tx, upset) {
+        Ok(Kept::Whole) => match checkpoint(store) {
+            Ok(()) => Ok(true),
+            Err(stop) => Err(stop),
+        },
+        Ok(Kept::Cut { kept }) => Ok(kept),
+        Err(stop) => Err(stop),
+    }
+}
+
+/// Makes a transaction's changes, and then the checkpoint that is due, if one is, as far as the disks let it, and closes the store.
+/// The upset disk fails at its call of that number behind the opening. Full comes where the map would be too large, and TooLong
+/// where the transaction's text is too long.
+pub fn finish(
+    mut store: Store<MemoryDisk>,
+    tx: &Transaction,
+    upset: Upset,
+) -> Result<Ended, StoreStop>
+    requires unbroken { store.broken ≡ false }
+    requires sound { IsSound state_of store }
+    ensures { (member : Member) (m : Map) (f : Files) → IsFalling upset.disk upset.call upset.image member m f store → Finishes upset member m f tx.now result }
+{
+    match write(&mut store, tx, upset) {
+        Ok(kept) => Ok(Ended {
+            disks: store.close(),
+            kept,
+        }),
+        Err(stop) => Err(stop),
+    }
+}

@@ -1,0 +1,12 @@
+//! A monitor's store on two disks in memory, of which one fails within an event.
+#![tactic(auto)]
+
+mod disks;
+mod finishing;
+mod opening;
+mod upset;
+
+pub use disks::{settle_both, upset_one};
+pub use finishing::{Ended, finish};
+pub use opening::{Begun, open};
+pub use upset::Upset;

@@ -1,0 +1,43 @@
+//! Two disks are opened of which one fails.
+
+ghost use Rattle.mon_tx.specs.Map.{Store as Map};
+ghost use Rattle.quorum_model.specs.Files.{Files};
+ghost use Rattle.mon_site.specs.Begins.{Opens, Begins};
+ghost use Rattle.mon_site.specs.Falls.{IsReady};
+
+use crate::upset::Upset;
+use mon_bytes::OutOfMemory;
+use mon_disk::{MemoryDisk, NodeDisks};
+use mon_store::{OpenRefused, OpenStop, Store};
+use mon_types::Member;
+use std::alloc::Global;
+
+/// What became of two disks that were opened.
+#[derive(Drop)]
+pub enum Begun {
+    /// The store is open. Its disk fails later, or not at all.
+    Open(Store<MemoryDisk>),
+    /// The disk failed.
+    Failed(NodeDisks<MemoryDisk>),
+}
+
+/// Opens the store that stands on two disks of which one is upset; the contract alone speaks of that. Where they are empty a store is
+/// created on disk A.
+pub fn open(
+    alloc: Global,
+    disks: NodeDisks<MemoryDisk>,
+    member: Member,
+    _upset: Upset,
+) -> Result<Begun, OutOfMemory>
+    requires { Opens member disks.a disks.b }
+    ensures { (m : Map) (f : Files) → IsReady _upset.disk _upset.call _upset.image member m f disks.a disks.b → Begins _upset member m f result }
+{
+    match Store::open(alloc, disks, member) {
+        Ok(store) => Ok(Begun::Open(store)),
+        Err(OpenRefused { why, disks }) => match why {
+            OpenStop::DiskFault => Ok(Begun::Failed(disks)),
+            OpenStop::OutOfMemory => Err(OutOfMemory),
+            OpenStop::NotAStore { .. } | OpenStop::Stranger { .. } => unreachable!(),
+        },
+    }
+}
