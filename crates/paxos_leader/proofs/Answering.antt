@@ -1,5 +1,5 @@
 -- A member's answer to a collect, as calls go on with it.
-use Rattle.std.proofs.Common.{◌≡◌, ℕ, suc, ◌+◌, ◌≤◌, ◌<◌, ◌^◌, Bool, true, false, ◌&&◌, ◌||◌, cond, leb, eqb, ltb, List, [], ◌∷◌, length, Option, Some, None, Result, Ok, Err, refl, sym, ap, ◌∙◌, arith}
+use Rattle.std.proofs.Common.{◌≡◌, ℕ, suc, ◌≤◌, ◌<◌, ◌^◌, Bool, true, false, ◌&&◌, cond, List, [], ◌∷◌, length, Option, Some, None, Ok, Err, refl, sym, ap, ◌∙◌, arith}
 use Rattle.std.specs.List.{AllByRecursion}
 use Rattle.std.specs.Prelude.{◌==◌}
 use Rattle.std.proofs.lemmas.Bool.{and_parts, le-leb, lt-leb}
@@ -11,7 +11,7 @@ use Rattle.mon_msg.specs.Protocol.Leader.{is_one_of, note, note_told, note_answe
 use Rattle.mon_msg.specs.Protocol.Phases.{phase_of}
 use Rattle.mon_msg.specs.Protocol.Played.{Fits, played}
 use Rattle.mon_msg.specs.Protocol.Readings.{Readings, readings_of, epoch_of}
-use Rattle.mon_msg.specs.Protocol.Records.{most_value, may_begin}
+use Rattle.mon_msg.specs.Protocol.Records.{most_value}
 use Rattle.mon_msg.specs.Protocol.Sets.{are_within}
 use Rattle.mon_msg.specs.Protocol.State.{State, start_leader}
 use Rattle.mon_msg.specs.declared.paxos.Found.{Found}

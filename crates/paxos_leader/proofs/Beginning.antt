@@ -1,11 +1,11 @@
 -- A leader's acts as they are entered, and its renewal of leases.
-use Rattle.std.proofs.Common.{◌≡◌, ℕ, suc, ◌+◌, ◌≤◌, ◌<◌, ◌^◌, Bool, true, false, not, cond, List, [], ◌∷◌, ◌++◌, map, Option, Some, None, Result, Ok, Err, refl, sym, ap, subst, ◌∙◌, arith}
+use Rattle.std.proofs.Common.{◌≡◌, ℕ, Bool, true, false, not, cond, List, [], ◌∷◌, map, Option, Some, Ok, Err, refl, sym, ap, subst, ◌∙◌}
 use Rattle.std.specs.List.{AllByRecursion}
 use Rattle.mon_msg.specs.Protocol.Changes.{spelled}
 use Rattle.mon_msg.specs.Protocol.Collecting.{collect, reign}
-use Rattle.mon_msg.specs.Protocol.Course.{Course, ◌▸◌, ◌>>=◌, arm_if, in_phase, leader_is, leads_in, say, timers_in}
+use Rattle.mon_msg.specs.Protocol.Course.{Course, ◌▸◌, ◌>>=◌, arm_if, in_phase, leader_is, leads_in, say}
 use Rattle.mon_msg.specs.Protocol.Leader.{renew}
-use Rattle.mon_msg.specs.Protocol.Leading.{be_active, begin, begin_alone, begin_with, extend, has_queue}
+use Rattle.mon_msg.specs.Protocol.Leading.{be_active, begin_alone, extend, has_queue}
 use Rattle.mon_msg.specs.Protocol.Learning.{learn}
 use Rattle.mon_msg.specs.Protocol.Phases.{phase_of, is_leading, same_phase}
 use Rattle.mon_msg.specs.Protocol.Played.{Fits, played}

@@ -1,5 +1,5 @@
 -- A value that all of the quorum accepted.
-use Rattle.std.proofs.Common.{◌≡◌, ◌≢◌, ℕ, suc, ◌+◌, ◌≤◌, ◌<◌, ◌^◌, Bool, true, false, List, [], ◌∷◌, ◌++◌, map, Option, Some, None, Result, Ok, Err, refl, sym, ap, subst, ◌∙◌, arith}
+use Rattle.std.proofs.Common.{◌≡◌, ℕ, suc, ◌<◌, ◌^◌, true, false, List, [], ◌∷◌, ◌++◌, map, Option, Some, None, Result, Ok, Err, refl, sym, ap, subst, ◌∙◌, arith}
 use Rattle.std.specs.List.{AllByRecursion}
 use Rattle.mon_msg.specs.Protocol.Changes.{spelled}
 use Rattle.mon_msg.specs.Protocol.Course.{Course, ◌▸◌, ◌>>=◌, disarm, leader_is, say}
@@ -30,7 +30,7 @@ use Rattle.mon_wire.specs.declared.reply.Reply.TheVariants as reply
 use Rattle.mon_plan.specs.Learned.{Learns, learned}
 use Rattle.mon_plan.specs.Plans.{changed, phase_as}
 use Rattle.mon_plan.proofs.Learning.{learn-spent}
-use Rattle.mon_plan.proofs.Planning.{changed-state, sending-is, weaken}
+use Rattle.mon_plan.proofs.Planning.{sending-is, weaken}
 use Rattle.mon_plan.proofs.Standing.{readings-after}
 use Rattle.paxos_leader.specs.Drafts.{GoesOn, IsHere, IsVoted, under_way}
 use Rattle.paxos_leader.specs.Parts.{announced, without_value}

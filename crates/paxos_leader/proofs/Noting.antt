@@ -1,5 +1,5 @@
 -- Rows of a leader that change what it remembers, and rows that change nothing.
-use Rattle.std.proofs.Common.{◌≡◌, ◌⊎◌, inl, ℕ, true, List, [], ◌∷◌, Result, Ok, Err, IfOk, refl, sym, ap, subst, ◌∙◌}
+use Rattle.std.proofs.Common.{◌≡◌, inl, ℕ, true, List, [], Result, Ok, Err, IfOk, refl, sym, ap, subst, ◌∙◌}
 use Rattle.mon_msg.specs.Protocol.Course.{Course, ◌▸◌, leader_is}
 use Rattle.mon_msg.specs.Protocol.Phases.{phase_of, is_leading}
 use Rattle.mon_msg.specs.declared.paxos.Leader.{Leader}

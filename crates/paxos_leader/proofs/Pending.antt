@@ -1,10 +1,9 @@
 -- Values that wait may be begun, and are short.
-use Rattle.std.proofs.Common.{◌≡◌, ℕ, suc, ◌+◌, ◌≤◌, Bool, true, false, ◌&&◌, cond, eqb, leb, length, List, Option, Some, None, Result, Ok, Err, refl, arith}
+use Rattle.std.proofs.Common.{◌≡◌, ℕ, suc, ◌+◌, ◌≤◌, Bool, true, false, cond, eqb, leb, length, List, Option, Some, None, Result, Ok, Err, refl, arith}
 use Rattle.std.proofs.lemmas.Bool.{and_parts, leb-true}
 use Rattle.std.specs.Option.{option_map}
 use Rattle.mon_msg.specs.Protocol.Readings.{Readings}
-use Rattle.mon_msg.specs.Protocol.Records.{transaction_in, record_at, where_it_may_begin, where_short, found_as, pending, pending_of, may_begin, most_value}
-use Rattle.mon_msg.specs.declared.paxos.Found.{Found}
+use Rattle.mon_msg.specs.Protocol.Records.{transaction_in, record_at, where_it_may_begin, found_as, pending, pending_of, may_begin, most_value}
 use Rattle.mon_msg.specs.declared.paxos.Leader.{Leader}
 use Rattle.mon_tx.specs.Decision.{Cell}
 use Rattle.mon_tx.specs.Decode.{transaction_of}

@@ -1,12 +1,11 @@
 -- Settling at an event under way.
-use Rattle.std.proofs.Common.{◌≡◌, ◌≢◌, ℕ, suc, List, [], ◌∷◌, ◌++◌, Option, Some, None, Ok, Result, refl, sym, ap, subst, ◌∙◌, eq-eqb, ne_eqb, true}
+use Rattle.std.proofs.Common.{◌≡◌, ◌≢◌, ℕ, suc, [], Some, None, Ok, refl, sym, ap, subst, ◌∙◌, eq-eqb, ne_eqb}
 use Rattle.std.specs.Prelude.{flat_map}
 use Rattle.mon_msg.specs.Protocol.Collecting.{commits_to, begin_found, settle}
 use Rattle.mon_msg.specs.Protocol.Course.{Course, ◌▸◌, leader_is, say}
 use Rattle.mon_msg.specs.Protocol.Leading.{be_active, begin}
 use Rattle.mon_msg.specs.Protocol.Phases.{is_leading}
 use Rattle.mon_msg.specs.Protocol.Readings.{Readings}
-use Rattle.mon_msg.specs.Protocol.Records.{transaction_in, record_at, where_it_may_begin, where_short, found_as, pending, pending_of, may_begin}
 use Rattle.mon_msg.specs.Protocol.Sending.{members}
 use Rattle.mon_msg.specs.declared.paxos.Found.{Found}
 use Rattle.mon_msg.specs.declared.paxos.Leader.{Leader}

@@ -1,5 +1,5 @@
 -- Parts of what a leader's plans send and remember.
-use Rattle.std.specs.Prelude.{◌≡◌, ℕ, Bool, List, Option, Some, None, Result, Ok, max, map, flat_map, slice_set}
+use Rattle.std.specs.Prelude.{ℕ, Bool, List, Option, None, Result, Ok, max, map, flat_map, slice_set}
 use Rattle.mon_msg.specs.Protocol.Collecting.{commits_to}
 use Rattle.mon_msg.specs.Protocol.Course.{Course, ◌▸◌, leader_is}
 use Rattle.mon_msg.specs.Protocol.Leading.{be_active}

@@ -1,4 +1,4 @@
-use Rattle.std.proofs.Common.{◌≡◌, ℕ, ◌++◌, List, [], Ok, map, refl, sym, ap, ◌∙◌, append-nil}
+use Rattle.std.proofs.Common.{ℕ, List, [], Ok, map, refl, sym, ap, append-nil}
 use Rattle.mon_msg.specs.Protocol.Leading.{be_active}
 use Rattle.mon_msg.specs.Protocol.Sending.{members, message_to}
 use Rattle.mon_msg.specs.Protocol.Sets.{is_empty}

@@ -1,4 +1,4 @@
-use Rattle.std.proofs.Common.{Err, subst, ◌≡◌, ℕ, ◌++◌, List, [], ◌∷◌, None, Ok, refl, sym, ap, ◌∙◌, append-nil}
+use Rattle.std.proofs.Common.{Err, subst, ◌≡◌, ◌++◌, [], ◌∷◌, None, Ok, refl, sym, ap, ◌∙◌, append-nil}
 use Rattle.mon_msg.specs.Protocol.Leading.{begin_alone}
 use Rattle.mon_msg.specs.declared.paxos.LeaderStage.TheVariants as stage
 use Rattle.mon_msg.specs.declared.plan.Next.TheVariants as next

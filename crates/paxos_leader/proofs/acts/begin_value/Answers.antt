@@ -1,4 +1,4 @@
-use Rattle.std.proofs.Common.{◌≡◌, ◌+◌, ◌<◌, ◌^◌, None, Ok, refl, sym, ap, ◌∙◌, arith}
+use Rattle.std.proofs.Common.{None, Ok, refl, sym, ◌∙◌, arith}
 use Rattle.mon_msg.specs.Protocol.Leading.{begin, begin_alone, begin_with}
 use Rattle.paxos_leader.specs.Drafts.{IsHere}
 use Rattle.paxos_leader.proofs.Acting.{begin-over, begins-alone, begins-among, over}

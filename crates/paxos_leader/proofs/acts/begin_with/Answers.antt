@@ -1,5 +1,4 @@
-use Rattle.std.proofs.Common.{◌≡◌, ℕ, ◌++◌, List, [], ◌∷◌, Ok, map, refl, sym, ap, ◌∙◌}
-use Rattle.mon_tx.specs.declared.op.Op.{Op}
+use Rattle.std.proofs.Common.{ℕ, List, [], ◌∷◌, Ok, map, refl, ap}
 use Rattle.mon_msg.specs.Protocol.Changes.{Vote}
 use Rattle.mon_msg.specs.Protocol.Leading.{begin_with}
 use Rattle.mon_msg.specs.Protocol.Sending.{members, message_to}

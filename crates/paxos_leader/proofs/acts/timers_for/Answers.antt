@@ -1,4 +1,4 @@
-use Rattle.std.proofs.Common.{◌≡◌, IfOk, ap, subst, ◌∙◌}
+use Rattle.std.proofs.Common.{◌≡◌, IfOk, subst}
 use Rattle.paxos_leader.specs.Drafts.{lease_timers}
 use Rattle.paxos_leader.proofs.acts.timers_for.Goals as goal
 

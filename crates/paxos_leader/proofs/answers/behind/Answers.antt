@@ -1,4 +1,3 @@
-use Rattle.std.proofs.Common.{◌≡◌}
 use Rattle.paxos_leader.proofs.answers.behind.Goals as goal
 
 pub returns : goal.returns

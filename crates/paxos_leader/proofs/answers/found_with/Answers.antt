@@ -1,6 +1,4 @@
-use Rattle.std.proofs.Common.{◌≡◌, ℕ, suc, ◌+◌, ◌≤◌, ◌<◌, ◌^◌, length, List, Option, Some, Ok, true, false, refl, sym, subst, ◌∙◌, arith}
-use Rattle.mon_msg.specs.Protocol.Records.{most_value}
-use Rattle.mon_tx.specs.Text.{text}
+use Rattle.std.proofs.Common.{List, Some, Ok, refl, sym, subst, ◌∙◌, arith}
 use Rattle.mon_tx.specs.declared.op.Op.{Op}
 use Rattle.paxos_leader.specs.Rows.{NotesFound}
 use Rattle.paxos_leader.proofs.Acting.{over}

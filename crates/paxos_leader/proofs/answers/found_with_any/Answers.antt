@@ -1,4 +1,4 @@
-use Rattle.std.proofs.Common.{◌≡◌, Option, Some, None, Ok, true, sym, ap, subst, ◌∙◌}
+use Rattle.std.proofs.Common.{Option, Ok, sym, ap, subst, ◌∙◌}
 use Rattle.mon_wire.specs.declared.parts.Told.{Told}
 use Rattle.paxos_leader.specs.Rows.{NotesFound, may_begin_told}
 use Rattle.paxos_leader.proofs.Answering.{notes-none}

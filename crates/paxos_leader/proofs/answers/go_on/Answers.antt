@@ -1,13 +1,11 @@
-use Rattle.std.proofs.Common.{◌≡◌, ℕ, List, [], ◌∷◌, ◌++◌, Bool, Ok, Err, true, false, refl, sym, ap, subst, ◌∙◌}
+use Rattle.std.proofs.Common.{[], refl, sym, ap, ◌∙◌}
 use Rattle.mon_msg.specs.Protocol.Collecting.{collect}
-use Rattle.mon_msg.specs.Protocol.Course.{leader_is}
 use Rattle.mon_msg.specs.Protocol.Leader.{hear_whole}
 use Rattle.mon_msg.specs.Protocol.Readings.{Readings, readings_of, epoch_of}
 use Rattle.mon_msg.specs.Protocol.State.{start_leader}
 use Rattle.mon_msg.specs.declared.paxos.Leader.{Leader}
 use Rattle.paxos_leader.specs.Drafts.{IsAsking}
 use Rattle.paxos_leader.specs.Rows.{goes_on}
-use Rattle.paxos_leader.specs.declared.draft.Draft.{Draft}
 use Rattle.paxos_leader.proofs.Answering.{goes-whole, goes-asking}
 use Rattle.paxos_leader.proofs.Going.{otherwise, hands_on}
 use Rattle.paxos_leader.proofs.Settling.{collect-fresh}

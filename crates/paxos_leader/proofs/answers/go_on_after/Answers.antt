@@ -1,4 +1,4 @@
-use Rattle.std.proofs.Common.{◌≡◌, [], subst}
+use Rattle.std.proofs.Common.{[], subst}
 use Rattle.mon_msg.specs.Protocol.Readings.{readings_of, epoch_of}
 use Rattle.mon_tx.specs.Map.{Store}
 use Rattle.paxos_leader.specs.Drafts.{GoesOn, IsAsking}

@@ -1,4 +1,4 @@
-use Rattle.std.proofs.Common.{◌≡◌, ℕ, [], ◌∷◌, ◌++◌, Ok, Err, true, false, refl, sym, ap, subst, ◌∙◌}
+use Rattle.std.proofs.Common.{[], Ok, refl, sym, ap, subst, ◌∙◌}
 use Rattle.mon_msg.specs.Protocol.Collecting.{settle}
 use Rattle.mon_msg.specs.Protocol.Leader.{hear_whole}
 use Rattle.mon_msg.specs.Protocol.Phases.{phase_of}

@@ -1,4 +1,4 @@
-use Rattle.std.proofs.Common.{◌≡◌, Option, Some, None, Ok, Err, true, sym, ap, subst, ◌∙◌}
+use Rattle.std.proofs.Common.{◌≡◌, Option, Ok, Err, sym, ap, subst, ◌∙◌}
 use Rattle.mon_msg.specs.declared.paxos.Found.{Found}
 use Rattle.mon_msg.specs.declared.paxos.Leader.{Leader}
 use Rattle.paxos_leader.specs.Inputs.{may_begin_found}

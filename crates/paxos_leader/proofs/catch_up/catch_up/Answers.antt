@@ -1,6 +1,5 @@
-use Rattle.std.proofs.Common.{◌≡◌, ℕ, [], ◌∷◌, ◌++◌, List, take, sym, ap, ◌∙◌, append_assoc}
+use Rattle.std.proofs.Common.{ℕ, ◌++◌, List, take, sym, ap, ◌∙◌, append_assoc}
 use Rattle.std.specs.Prelude.{flat_map}
-use Rattle.std.proofs.lemmas.List.{take_all}
 use Rattle.mon_msg.specs.Protocol.Collecting.{commits_to}
 use Rattle.mon_msg.specs.Protocol.Readings.{readings_of}
 use Rattle.mon_msg.specs.declared.plan.Sent.{Sent}

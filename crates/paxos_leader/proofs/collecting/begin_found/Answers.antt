@@ -1,4 +1,4 @@
-use Rattle.std.proofs.Common.{◌≡◌, Some, None, Ok, true, sym, ap, ◌∙◌}
+use Rattle.std.proofs.Common.{Some, Ok, sym, ap, ◌∙◌}
 use Rattle.mon_msg.specs.Protocol.Collecting.{begin_found}
 use Rattle.mon_msg.specs.Protocol.Leading.{be_active}
 use Rattle.paxos_leader.specs.Drafts.{IsHere}

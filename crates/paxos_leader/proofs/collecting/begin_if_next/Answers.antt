@@ -1,4 +1,4 @@
-use Rattle.std.proofs.Common.{◌≡◌, ◌≢◌, ℕ, suc, ◌+◌, Some, None, Ok, arith}
+use Rattle.std.proofs.Common.{Some, None, Ok, arith}
 use Rattle.mon_msg.specs.Protocol.Collecting.{begin_found}
 use Rattle.mon_msg.specs.Protocol.Leading.{be_active, begin}
 use Rattle.mon_msg.specs.declared.paxos.LeaderStage.TheVariants as stage

@@ -1,4 +1,4 @@
-use Rattle.std.proofs.Common.{◌≡◌, ℕ, ◌≤◌, ◌^◌, Bool, true, false, List, [], ◌∷◌, refl, sym, ap, subst, ◌∙◌, arith}
+use Rattle.std.proofs.Common.{◌≡◌, ℕ, ◌≤◌, ◌^◌, true, false, List, [], ◌∷◌, refl, sym, ap, subst, ◌∙◌}
 use Rattle.mon_msg.specs.Protocol.Changes.{Numbers}
 use Rattle.mon_msg.specs.Protocol.Collecting.{collect, collector, settle}
 use Rattle.mon_msg.specs.Protocol.Readings.{Readings, readings_of}

@@ -1,4 +1,4 @@
-use Rattle.std.proofs.Common.{◌≡◌, ℕ, List, [], Option, true, sym, ap, subst, ◌∙◌, append-nil}
+use Rattle.std.proofs.Common.{ℕ, List, [], Option, sym, ap, subst, ◌∙◌, append-nil}
 use Rattle.mon_msg.specs.Protocol.Collecting.{begin_found, settle}
 use Rattle.mon_msg.specs.Protocol.Readings.{Readings, readings_of}
 use Rattle.mon_msg.specs.declared.paxos.Found.{Found}

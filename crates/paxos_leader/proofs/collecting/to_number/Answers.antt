@@ -1,4 +1,4 @@
-use Rattle.std.proofs.Common.{◌≡◌, List, ◌++◌, ap, ◌∙◌}
+use Rattle.std.proofs.Common.{List, ◌++◌, ap, ◌∙◌}
 use Rattle.mon_msg.specs.Protocol.Changes.{Numbers, ops_of}
 use Rattle.mon_tx.specs.declared.op.Op.{Op}
 use Rattle.paxos_leader.proofs.collecting.to_number.Goals as goal

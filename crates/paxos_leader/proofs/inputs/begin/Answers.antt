@@ -1,4 +1,4 @@
-use Rattle.std.proofs.Common.{◌≡◌, ℕ, suc, ◌+◌, ◌≤◌, ◌<◌, ◌^◌, List, [], ◌∷◌, length, Bool, Some, None, Ok, true, false, refl, sym, ap, subst, ◌∙◌, arith}
+use Rattle.std.proofs.Common.{◌≡◌, suc, ◌≤◌, ◌<◌, ◌^◌, List, [], length, Some, Ok, true, false, refl, sym, ap, subst, ◌∙◌, arith}
 use Rattle.mon_msg.specs.Protocol.Leading.{begin, begin_alone, begin_with}
 use Rattle.mon_msg.specs.Protocol.Readings.{Readings, readings_of, epoch_of}
 use Rattle.mon_msg.specs.Protocol.Sending.{members}

@@ -1,18 +1,12 @@
-use Rattle.std.proofs.Common.{◌≡◌, ℕ, List, [], ◌∷◌, ◌++◌, Some, None, Ok, Err, refl, sym, ap, subst, ◌∙◌}
+use Rattle.std.proofs.Common.{◌≡◌, ℕ, List, [], ◌∷◌, ◌++◌, Some, Ok, Err, refl, ap, subst, ◌∙◌}
 use Rattle.std.specs.List.{AllByRecursion}
 use Rattle.mon_msg.specs.Protocol.Changes.{Change, spelled}
 use Rattle.mon_msg.specs.Protocol.Course.{Course}
-use Rattle.mon_msg.specs.Protocol.Leading.{begin_alone}
 use Rattle.mon_msg.specs.Protocol.Learning.{learn}
 use Rattle.mon_msg.specs.Protocol.Played.{Fits}
-use Rattle.mon_msg.specs.Protocol.Readings.{Readings, readings_of, epoch_of}
-use Rattle.mon_msg.specs.Protocol.Sending.{answers_to}
-use Rattle.mon_msg.specs.declared.paxos.Leader.{Leader}
-use Rattle.mon_msg.specs.declared.paxos.LeaderStage.TheVariants as stage
+use Rattle.mon_msg.specs.Protocol.Readings.{readings_of}
 use Rattle.mon_msg.specs.declared.plan.Next.TheVariants as next
-use Rattle.mon_tx.specs.Map.{Store, apply}
 use Rattle.mon_tx.specs.declared.op.Op.{Op}
-use Rattle.mon_wire.specs.declared.reply.Reply.TheVariants as reply
 use Rattle.mon_plan.specs.Learned.{Learns, learned}
 use Rattle.mon_plan.specs.Plans.{changed}
 use Rattle.paxos_leader.specs.Drafts.{IsLed}

@@ -1,4 +1,4 @@
-use Rattle.std.proofs.Common.{◌≡◌, ℕ, List, [], ◌∷◌, ◌++◌, refl, sym, ap, subst, ◌∙◌}
+use Rattle.std.proofs.Common.{◌≡◌, ℕ, List, [], refl, subst}
 use Rattle.mon_msg.specs.Protocol.Collecting.{collect, reign}
 use Rattle.mon_msg.specs.Protocol.Course.{in_phase}
 use Rattle.mon_msg.specs.Protocol.Readings.{Readings, readings_of}

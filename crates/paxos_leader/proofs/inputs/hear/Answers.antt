@@ -1,4 +1,4 @@
-use Rattle.std.proofs.Common.{◌≡◌, ℕ, suc, ◌≤◌, List, [], ◌∷◌, length, Bool, ◌&&◌, Ok, true, false, refl, sym, ap, subst, ◌∙◌}
+use Rattle.std.proofs.Common.{◌≡◌, ℕ, ◌≤◌, List, [], ◌∷◌, length, ◌&&◌, true, false, refl, sym, ap, subst, ◌∙◌}
 use Rattle.std.specs.List.{AllByRecursion}
 use Rattle.std.specs.Prelude.{◌==◌}
 use Rattle.mon_msg.specs.Protocol.Hearing.{hear}
@@ -19,7 +19,7 @@ use Rattle.mon_wire.specs.declared.phase.Phase.TheVariants as phase
 use Rattle.mon_plan.specs.Plans.{PlansRow, leads}
 use Rattle.mon_plan.specs.Seen.{IsMet}
 use Rattle.paxos_leader.specs.Inputs.{phases_for}
-use Rattle.paxos_leader.specs.Rows.{IsHeard, may_begin_told}
+use Rattle.paxos_leader.specs.Rows.{IsHeard}
 use Rattle.paxos_leader.proofs.Hearing.{others, member-row, hear-dropped, answered-short, answered-few, answered-begins}
 use Rattle.paxos_leader.proofs.Noting.{nothing_but, stay_leaves, stays_leaves}
 use Rattle.paxos_leader.proofs.Pending.{all-begun}

@@ -1,11 +1,10 @@
-use Rattle.std.proofs.Common.{◌≡◌, ℕ, List, [], Ok, true, false, refl, sym, ap, subst, ◌∙◌}
+use Rattle.std.proofs.Common.{◌≡◌, [], Ok, refl, sym, ap, subst, ◌∙◌}
 use Rattle.mon_msg.specs.Protocol.Leader.{renew}
 use Rattle.mon_msg.specs.Protocol.Leading.{be_active}
 use Rattle.mon_msg.specs.Protocol.Phases.{phase_of, is_leading, same_phase}
 use Rattle.mon_msg.specs.Protocol.Readings.{Readings, readings_of, epoch_of}
 use Rattle.mon_msg.specs.declared.paxos.Leader.{Leader}
 use Rattle.mon_msg.specs.declared.plan.Next.TheVariants as next
-use Rattle.mon_tx.specs.Map.{Store}
 use Rattle.mon_wire.specs.declared.phase.Phase.TheVariants as phase
 use Rattle.mon_wire.specs.declared.phase.Phase.{Phase}
 use Rattle.mon_plan.specs.Seen.{IsMet}

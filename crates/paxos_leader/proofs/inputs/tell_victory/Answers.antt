@@ -1,4 +1,4 @@
-use Rattle.std.proofs.Common.{◌≡◌, List, ◌++◌, IfOk, map, subst}
+use Rattle.std.proofs.Common.{◌≡◌, List, ◌++◌, IfOk, subst}
 use Rattle.mon_msg.specs.declared.plan.Sent.{Sent}
 use Rattle.paxos_leader.proofs.Beginning.{victories}
 use Rattle.paxos_leader.proofs.inputs.tell_victory.Goals as goal

@@ -1,4 +1,4 @@
-use Rattle.std.proofs.Common.{◌≡◌, [], ◌∷◌, ap, ◌∙◌}
+use Rattle.std.proofs.Common.{[], ◌∷◌, ap, ◌∙◌}
 use Rattle.mon_msg.specs.declared.plan.Arming.{Arming}
 use Rattle.mon_msg.specs.declared.plan.Next.TheVariants as next
 use Rattle.paxos_leader.proofs.values.all_acked.Goals as goal

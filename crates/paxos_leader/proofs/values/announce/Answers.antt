@@ -1,11 +1,7 @@
-use Rattle.std.proofs.Common.{◌≡◌, ℕ, List, [], ◌∷◌, ◌++◌, map, refl, ap, ◌∙◌}
-use Rattle.mon_msg.specs.Protocol.Sending.{members, message_to}
-use Rattle.mon_msg.specs.declared.plan.Next.{Next}
+use Rattle.std.proofs.Common.{refl, ap, ◌∙◌}
 use Rattle.mon_msg.specs.declared.plan.Plan.{Plan}
-use Rattle.mon_msg.specs.declared.plan.Sent.{Sent}
 use Rattle.mon_msg.specs.declared.paxos.Leader.{Leader}
-use Rattle.mon_wire.specs.declared.body.Body.TheVariants as body
-use Rattle.paxos_leader.proofs.Committing.{announces, news}
+use Rattle.paxos_leader.proofs.Committing.{announces}
 use Rattle.paxos_leader.proofs.values.announce.Goals as goal
 
 pub returns-clause-goes : goal.returns-clause-goes

@@ -1,4 +1,4 @@
-use Rattle.std.proofs.Common.{◌≡◌, ℕ, [], Ok, IfOk, subst}
+use Rattle.std.proofs.Common.{ℕ, [], Ok, IfOk, subst}
 use Rattle.mon_msg.specs.declared.paxos.Leader.{Leader}
 use Rattle.mon_msg.specs.declared.plan.Plan.{Plan}
 use Rattle.paxos_leader.specs.Drafts.{GoesOn, IsHere}

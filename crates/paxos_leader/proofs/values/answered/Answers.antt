@@ -1,4 +1,4 @@
-use Rattle.std.proofs.Common.{◌≡◌, ◌++◌, Option, Some, None, sym, ap, ◌∙◌, append-nil}
+use Rattle.std.proofs.Common.{◌++◌, Option, sym, ap, ◌∙◌, append-nil}
 use Rattle.mon_msg.specs.Protocol.Sending.{answers_to}
 use Rattle.mon_msg.specs.declared.plan.Origin.{Origin}
 use Rattle.mon_wire.specs.declared.reply.Reply.TheVariants as reply

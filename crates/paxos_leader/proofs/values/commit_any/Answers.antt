@@ -1,4 +1,4 @@
-use Rattle.std.proofs.Common.{◌≡◌, ℕ, List, [], ◌∷◌, Option, Some, None, Ok, true, refl, sym, ap, subst, ◌∙◌}
+use Rattle.std.proofs.Common.{◌≡◌, List, [], Option, Some, None, Ok, sym, ap, subst, ◌∙◌}
 use Rattle.mon_msg.specs.Protocol.Leader.{commit_any}
 use Rattle.mon_msg.specs.Protocol.Leading.{commit}
 use Rattle.mon_msg.specs.Protocol.Phases.{phase_of}

@@ -1,4 +1,4 @@
-use Rattle.std.proofs.Common.{◌≡◌, ◌≢◌, ℕ, suc, ◌+◌, List, [], ◌∷◌, Option, Some, None, Ok, true, false, refl, sym, ap, ◌∙◌, arith}
+use Rattle.std.proofs.Common.{◌≡◌, suc, [], ◌∷◌, refl, sym, ap, ◌∙◌, arith}
 use Rattle.mon_msg.specs.Protocol.Leader.{hear_accept, commit_any}
 use Rattle.mon_msg.specs.Protocol.Phases.{phase_of}
 use Rattle.mon_msg.specs.Protocol.Readings.{Readings, readings_of}

@@ -1,4 +1,4 @@
-use Rattle.std.proofs.Common.{◌≡◌, ap, ◌∙◌}
+use Rattle.std.proofs.Common.{ap, ◌∙◌}
 use Rattle.mon_msg.specs.declared.paxos.Leader.{Leader}
 use Rattle.mon_types.specs.Ranks.{with_rank}
 use Rattle.paxos_leader.proofs.values.with_vote.Goals as goal
