@@ -1,0 +1,292 @@
+use crate::contents::contents;
+use mon_disk::*;
+use mon_types::Stop;
+use std::alloc::{Allocator, Global};
+use std::cell::Cell;
+use std::fs::{Files, Metadata, OpenFile, OpenOptions};
+use std::io::{ErrorKind, Read, Seek, SeekFrom, Write};
+use std::path::PathBuf;
+use std::rc::Rc;
+use std::test::Fail;
+use std::{fs, io};
+
+fn named(rt: &HostRuntime, name: &str) -> Result<FileDisk<HostRuntime>, Fail> {
+    Ok(FileDisk::named(rt, String::from_str(rt.alloc(), name)?))
+}
+
+/// A disk on a new file, after three writes.
+fn made(rt: &HostRuntime, name: &str) -> Result<FileDisk<HostRuntime>, Fail> {
+    let _old = fs::remove_file(rt, name);
+    let mut disk = named(rt, name)?;
+    disk.write_at(0, b"abc")?;
+    disk.write_at(3, b"def")?;
+    disk.write_at(1, b"XY")?;
+    disk.sync()?;
+    Ok(disk)
+}
+
+/// Whether another disk on the file finds it locked, and is given up once the file is let go.
+fn is_locked(rt: &HostRuntime, name: &str, disk: FileDisk<HostRuntime>) -> Result<bool, Fail> {
+    let mut second = named(rt, name)?;
+    let locked = second.sync() == Err(Stop::Failed);
+    drop(disk);
+    Ok(locked && second.sync() == Err(Stop::Failed))
+}
+
+#[test]
+fn a_file_is_made_and_opened_again(rt: HostRuntime) -> Result<(), Fail> {
+    let name = "mon_disk_test_file";
+    let disk = made(&rt, name)?;
+    assert!(rt; is_locked(&rt, name, disk)?);
+    let mut again = named(&rt, name)?;
+    let bytes = contents(rt.alloc(), &mut again)?;
+    assert_eq!(rt; bytes.as_slice(), b"aXYdef".as_slice());
+    fs::remove_file(&rt, name)?;
+    Ok(())
+}
+
+#[test]
+fn what_is_no_file_fails(rt: HostRuntime) -> Result<(), Fail> {
+    let alloc = rt.alloc();
+    for (name, kind) in [
+        ("mon_disk_no_folder/file", ErrorKind::NotFound),
+        ("/dev/null", ErrorKind::Unsupported),
+        (".", ErrorKind::IsADirectory),
+    ] {
+        let mut disk = FileDisk::named(&rt, String::from_str(alloc, name)?);
+        assert_eq!(rt; disk.len(), Err(Stop::Failed), "{name}");
+        let said = disk.failure().map(|error| error.kind());
+        assert_eq!(rt; said, Some(kind), "{name}");
+    }
+    Ok(())
+}
+
+/// The calls so far, a letter each; the number, from 1, of the one that fails; and the bytes of the one file, and where
+/// its next read or write begins.
+#[derive(Clone, Copy)]
+struct Asked {
+    calls: [u8; 32],
+    count: usize,
+    failing: usize,
+    bytes: [u8; 8],
+    len: usize,
+    at: usize,
+}
+
+fn ask(cell: &Cell<Asked>, letter: u8) -> io::Result<Asked> {
+    let mut asked = cell.get();
+    if asked.count < 32 {
+        asked.calls[asked.count] = letter;
+        asked.count += 1;
+    }
+    cell.set(asked);
+    if asked.count == asked.failing {
+        return Err(ErrorKind::StorageFull.into());
+    }
+    Ok(asked)
+}
+
+/// A system of one file, which a link names. Each read and each write of it moves one byte.
+#[derive(Drop)]
+struct Fake {
+    asked: Rc<Cell<Asked>>,
+}
+
+/// That file, or its folder.
+#[derive(Drop)]
+struct FakeFile {
+    asked: Rc<Cell<Asked>>,
+    folder: bool,
+}
+
+impl Read for FakeFile {
+    fn read(&mut self, buf: &mut [u8]) -> io::Result<usize> {
+        let mut asked = ask(&self.asked, b'r')?;
+        if buf.is_empty() || asked.at >= asked.len.min(8) {
+            return Ok(0);
+        }
+        buf[0] = asked.bytes[asked.at];
+        asked.at += 1;
+        self.asked.set(asked);
+        Ok(1)
+    }
+}
+
+impl Write for FakeFile {
+    fn write(&mut self, buf: &[u8]) -> io::Result<usize> {
+        let mut asked = ask(&self.asked, b'w')?;
+        if buf.is_empty() || asked.at >= 8 {
+            return Ok(0);
+        }
+        asked.bytes[asked.at] = buf[0];
+        asked.at += 1;
+        asked.len = asked.len.max(asked.at);
+        self.asked.set(asked);
+        Ok(1)
+    }
+
+    fn flush(&mut self) -> io::Result<()> {
+        Ok(())
+    }
+}
+
+impl Seek for FakeFile {
+    fn seek(&mut self, to: SeekFrom) -> io::Result<u64> {
+        let mut asked = ask(&self.asked, b'k')?;
+        let SeekFrom::Start(at) = to else {
+            return Err(ErrorKind::Unsupported.into());
+        };
+        asked.at = at as usize;
+        self.asked.set(asked);
+        Ok(at)
+    }
+}
+
+impl DeviceFile for FakeFile {
+    fn claim(self) -> io::Result<FakeFile> {
+        ask(&self.asked, b'c')?;
+        Ok(self)
+    }
+
+    fn forget_pages(&self) -> io::Result<()> {
+        ask(&self.asked, b'f')?;
+        Ok(())
+    }
+}
+
+impl OpenFile for FakeFile {
+    fn metadata(&self) -> io::Result<Metadata> {
+        let asked = ask(&self.asked, b'm')?;
+        Ok(Metadata::of_file(asked.len as u64))
+    }
+
+    fn set_len(&self, _size: u64) -> io::Result<()> {
+        Err(ErrorKind::Unsupported.into())
+    }
+
+    fn sync_all(&self) -> io::Result<()> {
+        ask(&self.asked, if self.folder { b'S' } else { b's' })?;
+        Ok(())
+    }
+
+    fn sync_data(&self) -> io::Result<()> {
+        ask(&self.asked, b'd')?;
+        Ok(())
+    }
+}
+
+impl Files for Fake {
+    type File = FakeFile;
+
+    type Dir = FakeFile;
+
+    fn open_file(&self, how: &OpenOptions, path: &str) -> io::Result<FakeFile> {
+        let folder = path == "folder";
+        ask(&self.asked, if folder { b'O' } else { b'o' })?;
+        if !folder && (path != "link" || !how.asks_create() || how.asks_truncate()) {
+            return Err(ErrorKind::NotFound.into());
+        }
+        Ok(FakeFile {
+            asked: self.asked.clone()?,
+            folder,
+        })
+    }
+
+    fn canonicalize<B: Allocator>(&self, alloc: B, _path: &str) -> io::Result<PathBuf<B>> {
+        ask(&self.asked, b'p')?;
+        Ok(PathBuf::from_str(alloc, "folder/file")?)
+    }
+
+    fn open_dir(&self, _path: &str) -> io::Result<FakeFile> {
+        Err(ErrorKind::Unsupported.into())
+    }
+
+    fn metadata(&self, _path: &str) -> io::Result<Metadata> {
+        Err(ErrorKind::Unsupported.into())
+    }
+
+    fn symlink_metadata(&self, _path: &str) -> io::Result<Metadata> {
+        Err(ErrorKind::Unsupported.into())
+    }
+
+    fn copy(&self, _from: &str, _to: &str) -> io::Result<u64> {
+        Err(ErrorKind::Unsupported.into())
+    }
+
+    fn rename(&self, _from: &str, _to: &str) -> io::Result<()> {
+        Err(ErrorKind::Unsupported.into())
+    }
+
+    fn remove_file(&self, _path: &str) -> io::Result<()> {
+        Err(ErrorKind::Unsupported.into())
+    }
+
+    fn create_dir(&self, _path: &str) -> io::Result<()> {
+        Err(ErrorKind::Unsupported.into())
+    }
+
+    fn remove_dir(&self, _path: &str) -> io::Result<()> {
+        Err(ErrorKind::Unsupported.into())
+    }
+
+    fn remove_dir_all<B: Allocator>(&self, _alloc: B, _path: &str) -> io::Result<()> {
+        Err(ErrorKind::Unsupported.into())
+    }
+}
+
+/// How a length, a write, a sync, a length and a reading of a file went.
+#[derive(Clone, Copy)]
+struct Went {
+    asked: Asked,
+    done: bool,
+    /// Whether a further sync failed, and asked nothing.
+    given_up: bool,
+}
+
+fn run_on_file(alloc: Global, failing: usize) -> Result<Went, Fail> {
+    let nothing = Asked {
+        calls: [0; 32],
+        count: 0,
+        failing,
+        bytes: [0; 8],
+        len: 0,
+        at: 0,
+    };
+    let fake = Fake {
+        asked: Rc::new(alloc, Cell::new(nothing))?,
+    };
+    let mut disk = FileDisk::named(&&fake, String::from_str(alloc, "link")?);
+    let kept = disk.len() == Ok(0) && disk.write_at(0, b"ab").is_ok() && disk.sync().is_ok();
+    let mut done = false;
+    if kept && disk.len() == Ok(2) {
+        let mut bytes = [0u8; 2];
+        done = disk.read(0, &mut bytes).is_ok() && bytes == *b"ab";
+    }
+    let asked = fake.asked.get();
+    let stopped = disk.sync() == Err(Stop::Failed);
+    Ok(Went {
+        asked,
+        done,
+        given_up: stopped && fake.asked.get().count == asked.count,
+    })
+}
+
+#[test]
+fn a_file_is_synced_and_so_is_its_folder(rt: HostRuntime) -> Result<(), Fail> {
+    let went = run_on_file(rt.alloc(), 0)?;
+    assert!(rt; went.done && !went.given_up);
+    assert_eq!(rt;
+        went.asked.calls.as_slice().get(..went.asked.count),
+        Some(b"ocmsfpOSmkwwdmkrr".as_slice())
+    );
+    Ok(())
+}
+
+#[test]
+fn after_each_call_that_fails_the_file_is_given_up(rt: HostRuntime) -> Result<(), Fail> {
+    for failing in 1usize..=17 {
+        let went = run_on_file(rt.alloc(), failing)?;
+        assert!(rt; !went.done && went.given_up, "call {failing}");
+    }
+    Ok(())
+}
