@@ -134,7 +134,8 @@ fn ask(
     version: Version,
     value: &Transaction,
 ) -> Result<Items<Sent>, OutOfMemory>
-    ensures { IfOk result (λ sent. sent ≡ out ++ map (message_to me.now epoch (Body.Begin state.now.pn version value.now)) (members_of me.now state.now.quorum)) }
+    ensures { IfOk result (λ sent. sent ≡ out ++ map (message_to me.now epoch (Body.Begin state.now.pn version value.now))
+        (members_of me.now state.now.quorum)) }
 {
     let begin = Body::Begin {
         pn: state.pn,

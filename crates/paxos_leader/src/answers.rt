@@ -148,7 +148,8 @@ fn hear_whole(
 ) -> Result<Plan<Leader>, RoleStop>
     requires found { may_begin_found state.now.found ≡ true }
     requires told { may_begin_told answer.now.pending.now ≡ true }
-    ensures goes { GoesOn me.now now (IsAsking (epoch_of (readings_of stored.now)) (readings_of stored.now)) (record { tx = []; out = []; state = state.now })
+    ensures goes { GoesOn me.now now (IsAsking (epoch_of (readings_of stored.now)) (readings_of stored.now))
+        (record { tx = []; out = []; state = state.now })
         (whole_row me.now now answer.now.from answer.now.last answer.now.pending.now) result }
     ensures stays { IfOk result (λ p. p.next ≡ Next.Stay) }
 {
@@ -174,7 +175,8 @@ fn go_on(
 ) -> Result<Plan<Leader>, RoleStop>
     requires found { may_begin_found state.now.found ≡ true }
     requires told { may_begin_told answer.now.pending.now ≡ true }
-    ensures goes { GoesOn me.now now (IsAsking (epoch_of (readings_of stored.now)) (readings_of stored.now)) (record { tx = []; out = []; state = state.now })
+    ensures goes { GoesOn me.now now (IsAsking (epoch_of (readings_of stored.now)) (readings_of stored.now))
+        (record { tx = []; out = []; state = state.now })
         (goes_on me.now now answer.now.from answer.now.last answer.now.whole answer.now.pending.now) result }
     ensures stays { IfOk result (λ p. p.next ≡ Next.Stay) }
 {
@@ -199,7 +201,8 @@ fn go_on_after(
 ) -> Result<Plan<Leader>, RoleStop>
     requires found { may_begin_found state.now.found ≡ true }
     requires told { may_begin_told answer.now.pending.now ≡ true }
-    ensures goes { GoesOn me.now now (IsAsking (epoch_of (readings_of (apply tx.now kv.now))) (readings_of (apply tx.now kv.now))) (record { tx = []; out = []; state = state.now })
+    ensures goes { GoesOn me.now now (IsAsking (epoch_of (readings_of (apply tx.now kv.now))) (readings_of (apply tx.now kv.now)))
+        (record { tx = []; out = []; state = state.now })
         (goes_on me.now now answer.now.from answer.now.last answer.now.whole answer.now.pending.now) result }
     ensures stays { IfOk result (λ p. p.next ≡ Next.Stay) }
 {
@@ -234,7 +237,8 @@ fn learn_news(tx: &mut Transaction, own: Version, answer: &Answer<'_>) -> Result
     requires short { AllByRecursion (λ ops. length (text ops) ≤ most) answer.now.values.now }
     requires few { length answer.now.values.now ≤ 65535 }
     ensures act { Learns (news_from own answer.now.start) (news own answer.now.start answer.now.values.now) result }
-    ensures changes { OnOk result (tx.new ≡ tx.old ++ spelled (learned (news_from own answer.now.start) (news own answer.now.start answer.now.values.now))) }
+    ensures changes { OnOk result (tx.new ≡ tx.old ++ spelled (learned (news_from own answer.now.start)
+        (news own answer.now.start answer.now.values.now))) }
     ensures fit { OnOk result (AllByRecursion Fits (learned (news_from own answer.now.start) (news own answer.now.start answer.now.values.now))) }
 {
     let next = own.get() + 1;
@@ -257,7 +261,8 @@ fn hear_answer(
     requires found { may_begin_found state.now.found ≡ true }
     requires told { may_begin_told answer.now.pending.now ≡ true }
     ensures plans { (e : ℕ) → PlansRow me.now now leads (IsHeard (phases.Collecting ∷ []) answer.now.from e (readings_of kv.now) state.now)
-        (answer_row me.now now answer.now.from answer.now.last answer.now.whole answer.now.start answer.now.values.now answer.now.pending.now) result }
+        (answer_row me.now now answer.now.from answer.now.last answer.now.whole answer.now.start answer.now.values.now
+        answer.now.pending.now) result }
     ensures stays { IfOk result (λ p. p.next ≡ Next.Stay) }
 {
     let own = Stored::of(alloc, kv).last();
@@ -293,7 +298,8 @@ pub(crate) fn hear_last(
     requires found { may_begin_found state.now.found ≡ true }
     requires told { may_begin_told answer.now.pending.now ≡ true }
     ensures plans { (e : ℕ) → PlansRow me.now now leads (IsHeard (phases.Collecting ∷ []) answer.now.from e (readings_of kv.now) state.now)
-        (last_row me.now now answer.now.from e answer.now.pn answer.now.first answer.now.last answer.now.whole answer.now.start answer.now.values.now answer.now.pending.now) result }
+        (last_row me.now now answer.now.from e answer.now.pn answer.now.first answer.now.last answer.now.whole
+        answer.now.start answer.now.values.now answer.now.pending.now) result }
     ensures leaves { (at : Phase) → IfOk result (λ p. Leaves at p.next p.tx) }
 {
     let stored = Stored::of(alloc, kv);

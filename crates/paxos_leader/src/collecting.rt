@@ -241,7 +241,8 @@ pub(crate) fn collect(
     above: Pn,
     now: Moment,
 ) -> Result<Plan<Leader>, RoleStop>
-    ensures goes { GoesOn me.now now (IsAsking epoch (readings_of stored.now)) (record { tx = []; out = out; state = start_leader }) (collected me.now now quorum above) result }
+    ensures goes { GoesOn me.now now (IsAsking epoch (readings_of stored.now))
+        (record { tx = []; out = out; state = start_leader }) (collected me.now now quorum above) result }
     ensures stays { IfOk result (λ p. p.next ≡ Next.Stay) }
 {
     let Some(pn) = made(stored, me, above) else {

@@ -170,7 +170,8 @@ fn renew(
     state: &Leader,
     now: Moment,
 ) -> Result<Plan<Leader>, RoleStop>
-    ensures plans { PlansRow me.now now leads (IsMet me.now now (readings_of kv.now) view.now (λ s. s.leader) state.now) (renew_row me.now now) result }
+    ensures plans { PlansRow me.now now leads (IsMet me.now now (readings_of kv.now) view.now (λ s. s.leader) state.now)
+        (renew_row me.now now) result }
     ensures stays { IfOk result (λ p. p.next ≡ Next.Stay) }
 {
     let state = state.copy()?;
@@ -193,7 +194,8 @@ fn ring(
     now: Moment,
 ) -> Result<Plan<Leader>, RoleStop>
     requires { is_own kind ≡ true }
-    ensures plans { PlansRow me.now now leads (IsMet me.now now (readings_of kv.now) view.now (λ s. s.leader) state.now) (timer_comes me.now now kind) result }
+    ensures plans { PlansRow me.now now leads (IsMet me.now now (readings_of kv.now) view.now (λ s. s.leader) state.now)
+        (timer_comes me.now now kind) result }
     ensures leaves { IfOk result (λ p. Leaves view.now.phase p.next p.tx) }
 {
     match kind {
@@ -289,7 +291,8 @@ fn begin_answered(
 ) -> Result<Plan<Leader>, RoleStop>
     requires short { length (text value) ≤ most }
     requires above { 1 ≤ version }
-    ensures plans { (now : ℕ) → Plans me.now now leads (IsLed (readings_of kv.now) state) (λ x. x) (begun_alone me.now version value (Some origin)) result }
+    ensures plans { (now : ℕ) → Plans me.now now leads (IsLed (readings_of kv.now) state) (λ x. x)
+        (begun_alone me.now version value (Some origin)) result }
     ensures stays { IfOk result (λ p. p.next ≡ Next.Stay) }
 {
     let mut tx = Transaction::new(alloc);

@@ -89,7 +89,8 @@ fn announce(
     values: Items<Transaction>,
     now: Moment,
 ) -> Result<Plan<Leader>, OutOfMemory>
-    ensures goes { IfOk result (λ p. GoesOn me.now now (IsHere epoch last) (record { tx = tx; out = []; state = state }) (announced me.now now version values) (Ok p)) }
+    ensures goes { IfOk result (λ p. GoesOn me.now now (IsHere epoch last) (record { tx = tx; out = []; state = state })
+        (announced me.now now version values) (Ok p)) }
     ensures stays { IfOk result (λ p. p.next ≡ Next.Stay) }
 {
     let origin = state.origin;
@@ -146,7 +147,8 @@ fn commit(
     now: Moment,
 ) -> Result<Plan<Leader>, RoleStop>
     requires { length (text value) ≤ most }
-    ensures goes { GoesOn me.now now (IsVoted (readings_of kv.now)) (record { tx = []; out = []; state = record state { value = Some value } }) (commits me.now now value) result }
+    ensures goes { GoesOn me.now now (IsVoted (readings_of kv.now)) (record { tx = []; out = []; state = record state { value = Some value } })
+        (commits me.now now value) result }
     ensures stays { IfOk result (λ p. p.next ≡ Next.Stay) }
 {
     let Some(version) = Stored::of(alloc, kv).last().plus_one() else {
@@ -205,7 +207,8 @@ fn commit_any(
     now: Moment,
 ) -> Result<Plan<Leader>, RoleStop>
     requires { may_begin_any state.value ≡ true }
-    ensures goes { GoesOn me.now now (IsVoted (readings_of kv.now)) (record { tx = []; out = []; state = state }) (commits_any me.now now state.value) result }
+    ensures goes { GoesOn me.now now (IsVoted (readings_of kv.now)) (record { tx = []; out = []; state = state })
+        (commits_any me.now now state.value) result }
     ensures stays { IfOk result (λ p. p.next ≡ Next.Stay) }
 {
     let (state, value) = take_value(state);
