@@ -1,4 +1,5 @@
 use mon_bytes::*;
+use std::alloc::Global;
 use std::test::Fail;
 
 #[test]
@@ -33,9 +34,15 @@ fn writes(rt: HostRuntime) -> Result<(), Fail> {
     Ok(())
 }
 
+/// Whether so many bytes are a name, and a prefix.
+fn are_words(alloc: Global, length: usize) -> Result<(bool, bool), Fail> {
+    let name = Name::new(vec![in alloc; 126; length]?);
+    let prefix = Prefix::new(vec![in alloc; 33; length]?);
+    Ok((name.is_some(), prefix.is_some()))
+}
+
 #[test]
-fn bounds_of_texts(rt: HostRuntime) -> Result<(), Fail> {
-    let alloc = rt.alloc();
+fn bounds_of_words(rt: HostRuntime) -> Result<(), Fail> {
     for (length, name, prefix) in [
         (0usize, false, false),
         (1, true, true),
@@ -44,37 +51,9 @@ fn bounds_of_texts(rt: HostRuntime) -> Result<(), Fail> {
         (255, true, false),
         (256, false, false),
     ] {
-        assert_eq!(rt;
-            Name::new(vec![in alloc; 126; length]?).is_some(),
-            name,
-            "{length}"
-        );
-        assert_eq!(rt;
-            Prefix::new(vec![in alloc; 33; length]?).is_some(),
-            prefix,
-            "{length}"
-        );
+        let found = are_words(rt.alloc(), length)?;
+        assert_eq!(rt; found, (name, prefix), "{length}");
     }
-    assert!(rt; Name::new(b"a b".to_vec(alloc)?).is_none());
-    assert!(rt; Text::new(b"\xff".to_vec(alloc)?).is_none());
-    Ok(())
-}
-
-#[test]
-fn copies(rt: HostRuntime) -> Result<(), Fail> {
-    let alloc = rt.alloc();
-    let entry = Entry {
-        prefix: Prefix::new(b"kv".to_vec(alloc)?).ok_or("a prefix")?,
-        key: Name::new(b"a".to_vec(alloc)?).ok_or("a name")?,
-        value: Bytes::new(b"\xff".to_vec(alloc)?),
-    };
-    let Entry { prefix, key, value } = entry.copy(alloc)?;
-    assert_eq!(rt; value.as_slice(), b"\xff".as_slice());
-    let place = KeyPlace::After { prefix, key };
-    assert!(rt; matches!(place.copy(alloc)?, KeyPlace::After { .. }));
-    let text = Text::new(b"hi".to_vec(alloc)?).ok_or("a text")?;
-    let command = Command::Log { text };
-    assert!(rt; matches!(command.copy(alloc)?, Command::Log { .. }));
     Ok(())
 }
 
@@ -91,23 +70,5 @@ fn a_text_with_its_length(rt: HostRuntime) -> Result<(), Fail> {
     let found = read_text(alloc, &mut Cursor::new(bytes.as_slice()))?;
     assert_eq!(rt; found.as_str(), "hi");
     assert_eq!(rt; (Name::is_form(b"a~"), Name::is_form(b"a ")), (true, false));
-    Ok(())
-}
-
-#[test]
-fn lists_and_words(rt: HostRuntime) -> Result<(), Fail> {
-    let alloc = rt.alloc();
-    let mut items = Items::new(alloc);
-    assert!(rt; items.is_empty());
-    items.push(Bytes::new(b"ab".to_vec(alloc)?))?;
-    let copied = items.copy(alloc)?;
-    assert_eq!(rt; copied.len(), 1);
-    for bytes in copied.as_slice() {
-        if Name::is_form(bytes.as_slice()) {
-            let name: Name = Name::from_slice(alloc, bytes.as_slice())?;
-            assert_eq!(rt; name.as_str(), "ab");
-        }
-    }
-    assert_eq!(rt; Items::from_vec(copied.into_vec()).len(), 1);
     Ok(())
 }

@@ -1,6 +1,5 @@
-use mon_kv::*;
-use mon_kv::tree::Tree;
 use mon_bytes::{Bytes, KeyPlace, Name, Prefix};
+use mon_kv::*;
 use mon_tx::{Area, Key, Op, Transaction};
 use mon_types::GREATEST;
 use std::alloc::Global;
@@ -38,34 +37,43 @@ fn four_keys(alloc: Global) -> Result<Kv, Fail> {
 #[test]
 fn reads_by_name(rt: HostRuntime) -> Result<(), Fail> {
     let kv = four_keys(rt.alloc())?;
-    assert_eq!(rt; kv.last_committed(), 1);
-    assert_eq!(rt; (kv.epoch(), kv.boot_count()), (1, 1));
-    assert_eq!(rt; (kv.first_committed(), kv.last_pn()), (0, 0));
-    assert_eq!(rt; (kv.promise(), kv.floor()), (0, 0));
-    assert_eq!(rt; (kv.number(b"kv", b"a"), kv.in_sync()), (0, false));
-    assert!(rt; kv.get(b"kv", b"b").is_none());
-    assert_eq!(rt; kv.stored(1), Some(b"y".as_slice()));
-    assert!(rt; kv.stored(2).is_none());
-    assert_eq!(rt; kv.size(), 127);
+    let numbers = [
+        kv.last_committed(),
+        kv.epoch(),
+        kv.boot_count(),
+        kv.first_committed(),
+        kv.last_pn(),
+        kv.promise(),
+        kv.floor(),
+        kv.number(b"kv", b"a"),
+        kv.size(),
+    ];
+    assert_eq!(rt; numbers, [1, 1, 1, 0, 0, 0, 0, 0, 127]);
+    let none = kv.get(b"kv", b"b").is_none() && kv.stored(2).is_none();
+    assert!(rt; none && !kv.in_sync() && kv.stored(1).is_some());
     Ok(())
+}
+
+/// The key behind another one, with its prefix.
+fn behind<'a>(kv: &'a Kv, prefix: &str, key: &str) -> Result<(&'a [u8], &'a [u8]), Fail> {
+    let entry = kv
+        .next_entry(prefix.as_bytes(), key.as_bytes())
+        .ok_or("an entry")?;
+    Ok((entry.prefix, entry.key))
 }
 
 #[test]
 fn goes_through_the_keys_in_order(rt: HostRuntime) -> Result<(), Fail> {
     let kv = four_keys(rt.alloc())?;
-    let (mut prefix, mut key) = (b"".as_slice(), b"".as_slice());
-    for (p, k) in [
-        ("kv", "a"),
-        ("monitor", "boot_count"),
-        ("paxos", "1"),
-        ("paxos", "last_committed"),
+    for (prefix, key, next_prefix, next_key) in [
+        ("", "", "kv", "a"),
+        ("kv", "a", "monitor", "boot_count"),
+        ("monitor", "boot_count", "paxos", "1"),
+        ("paxos", "1", "paxos", "last_committed"),
     ] {
-        let entry = kv.next_entry(prefix, key).ok_or("an entry")?;
-        assert_eq!(rt; entry.prefix, p.as_bytes());
-        assert_eq!(rt; entry.key, k.as_bytes());
-        (prefix, key) = (p.as_bytes(), k.as_bytes());
+        let found = behind(&kv, prefix, key)?;
+        assert_eq!(rt; found, (next_prefix.as_bytes(), next_key.as_bytes()));
     }
-    assert!(rt; kv.next_entry(prefix, key).is_none());
     Ok(())
 }
 
@@ -114,76 +122,68 @@ fn after_range(alloc: Global, from: u64, to: u64) -> Result<Kv, Fail> {
 
 #[test]
 fn a_short_and_a_long_range_erase_the_numbers_in_them(rt: HostRuntime) -> Result<(), Fail> {
-    let alloc = rt.alloc();
     for (from, to, left, size) in [
-        (99u64, 101u64, (false, false, true), 77u64),
-        (99, 103, (false, false, true), 77),
-        (100, GREATEST, (true, false, false), 75),
-        (0, 99, (true, true, true), 140),
-        (0, GREATEST, (false, false, false), 44),
+        (99u64, 101u64, [false, false, true], 77u64),
+        (99, 103, [false, false, true], 77),
+        (100, GREATEST, [true, false, false], 75),
+        (0, 99, [true, true, true], 140),
+        (0, GREATEST, [false, false, false], 44),
     ] {
-        let kv = after_range(alloc, from, to)?;
-        let stays = |v: u64| kv.stored(v).is_some();
-        assert_eq!(rt; (stays(99), stays(100), stays(1000)), left, "{from} {to}");
-        assert_eq!(rt; (kv.first_committed(), kv.size()), (1, size), "{from} {to}");
+        let kv = after_range(rt.alloc(), from, to)?;
+        let stays = [99u64, 100, 1000].map(|v| kv.stored(v).is_some());
+        assert_eq!(rt; (stays, kv.size()), (left, size), "{from} {to}");
     }
     Ok(())
 }
 
 #[test]
 fn runs_stop_at_the_room_and_the_count(rt: HostRuntime) -> Result<(), Fail> {
-    let kv = four_keys(rt.alloc())?;
-    for (room, most, count, done) in [
-        (9usize, 9usize, 0usize, false),
-        (10, 9, 1, false),
-        (22, 9, 1, false),
-        (23, 1, 1, false),
-        (23, 9, 2, true),
-    ] {
-        let run = kv.chunk_from(&KeyPlace::Start, room, most)?;
-        assert_eq!(rt; (run.entries.len(), run.done), (count, done), "{room}");
-    }
-    let run = kv.chunk_from(&KeyPlace::Done, 23, 9)?;
-    assert_eq!(rt; (run.entries.len(), run.done), (0, true));
-    Ok(())
-}
-
-#[test]
-fn goes_on_after_a_place(rt: HostRuntime) -> Result<(), Fail> {
     let alloc = rt.alloc();
     let kv = four_keys(alloc)?;
-    let place = KeyPlace::After {
-        prefix: Prefix::new(b"kv".to_vec(alloc)?).ok_or("a prefix")?,
+    let behind_the_first = KeyPlace::After {
+        prefix: Area::Kv.prefix(alloc)?,
         key: Name::new(b"a".to_vec(alloc)?).ok_or("a name")?,
     };
-    let run = kv.chunk_from(&place, 13, 9)?;
-    assert_eq!(rt; (run.entries.len(), run.done), (1, true));
-    assert_eq!(rt; run.entries[0].key.as_slice(), b"1".as_slice());
+    for (place, room, most, count, done) in [
+        (&KeyPlace::Start, 9usize, 9usize, 0usize, false),
+        (&KeyPlace::Start, 10, 9, 1, false),
+        (&KeyPlace::Start, 22, 9, 1, false),
+        (&KeyPlace::Start, 23, 1, 1, false),
+        (&KeyPlace::Start, 23, 9, 2, true),
+        (&behind_the_first, 13, 9, 1, true),
+        (&KeyPlace::Done, 23, 9, 0, true),
+    ] {
+        let run = kv.chunk_from(place, room, most)?;
+        assert_eq!(rt; (run.entries.len(), run.done), (count, done), "{room}");
+    }
     Ok(())
 }
 
-fn depth<V>(tree: &Tree<V>) -> u8 {
-    match tree {
-        Tree::Leaf => 0,
-        Tree::Fork(node) => depth(&node.left).max(depth(&node.right)).saturating_add(1),
+/// A map where 100,000 versions came in their order, 1,000 at a time.
+fn many_versions(alloc: Global) -> Result<Kv, Fail> {
+    let mut kv = Kv::empty(alloc);
+    for thousand in 0..100u64 {
+        let mut tx = Transaction::new(alloc);
+        for v in 0..1_000u64 {
+            tx.put_number(Area::Paxos, Key::Version(1_000 * thousand + v), v)?;
+        }
+        kv.apply(&tx)?;
     }
+    Ok(kv)
 }
 
+// A tree that was a list would be too deep for the stack.
 #[test]
-fn trees_stay_low(rt: HostRuntime) -> Result<(), Fail> {
+fn keys_that_come_in_order_make_a_low_tree(rt: HostRuntime) -> Result<(), Fail> {
     let alloc = rt.alloc();
-    let mut tree = Tree::Leaf;
-    for v in 1..=200u64 {
-        let key = Name::new(format!(in alloc; "{v}")?.into_bytes()).ok_or("a name")?;
-        tree.put(alloc, &key, v)?;
-    }
-    assert!(rt; depth(&tree) <= 11);
-    let mut tree = tree.without_versions(11, 181);
-    assert!(rt; depth(&tree) <= 7);
-    for v in 181..=196u64 {
-        tree.remove(format!(in alloc; "{v}")?.as_bytes());
-    }
-    assert!(rt; depth(&tree) <= 5);
-    assert_eq!(rt; tree.get(b"200").copied(), Some(200));
+    let mut kv = many_versions(alloc)?;
+    let mut tx = Transaction::new(alloc);
+    tx.erase_range(Area::Paxos, 11, 99_990)?;
+    kv.apply(&tx)?;
+    let stays = |v: u64| kv.stored(v).is_some();
+    assert_eq!(rt;
+        (stays(10), stays(11), stays(99_989), stays(99_990)),
+        (true, false, false, true)
+    );
     Ok(())
 }

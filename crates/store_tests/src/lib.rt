@@ -1,21 +1,22 @@
+//! Tests of bytes, disks, the journal, transactions, the maps and the store, as their users see them.
 #![tactic(auto)]
 
 #[cfg(test)]
 mod bytes;
 #[cfg(test)]
-mod disk;
+mod contents;
 #[cfg(test)]
-mod disk_asked;
+mod file_disk;
 #[cfg(test)]
 mod journal;
-#[cfg(test)]
-mod journal_stopping;
 #[cfg(test)]
 mod kv;
 #[cfg(test)]
 mod kv_map;
 #[cfg(test)]
 mod log_map;
+#[cfg(test)]
+mod memory_disk;
 #[cfg(test)]
 mod store;
 #[cfg(test)]

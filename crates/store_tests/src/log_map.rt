@@ -79,24 +79,3 @@ fn maps_from_and_to_their_bytes(rt: HostRuntime) -> Result<(), Fail> {
     }
     Ok(())
 }
-
-#[test]
-fn entries_from_and_to_their_bytes(rt: HostRuntime) -> Result<(), Fail> {
-    let alloc = rt.alloc();
-    let bytes = b"\x0e\x02\0\0\0hi".as_slice();
-    let inc = LogInc::decode(alloc, bytes)?.copy(alloc)?;
-    assert_eq!(rt; inc.encode(alloc)?.as_slice(), bytes);
-    for (bytes, at) in [
-        (b"".as_slice(), 0usize),
-        (b"\x0f\0\0\0\0".as_slice(), 0),
-        (b"\x00\x02\0\0\0h".as_slice(), 5),
-        (b"\x00\x01\0\0\0\xff".as_slice(), 5),
-        (b"\x00\0\0\0\0h".as_slice(), 5),
-    ] {
-        assert_eq!(rt;
-            LogInc::decode(alloc, bytes).err(),
-            Some(MapRefused::Form { at })
-        );
-    }
-    Ok(())
-}

@@ -1,15 +1,65 @@
-//! What a disk on a file asks of the system, for which a stand-in answers.
-
+use crate::contents::contents;
 use mon_disk::*;
 use mon_types::Stop;
 use std::alloc::{Allocator, Global};
 use std::cell::Cell;
 use std::fs::{Files, Metadata, OpenFile, OpenOptions};
-use std::io;
 use std::io::{ErrorKind, Read, Seek, SeekFrom, Write};
 use std::path::PathBuf;
 use std::rc::Rc;
 use std::test::Fail;
+use std::{fs, io};
+
+fn named(rt: &HostRuntime, name: &str) -> Result<FileDisk<HostRuntime>, Fail> {
+    Ok(FileDisk::named(rt, String::from_str(rt.alloc(), name)?))
+}
+
+/// A disk on a new file, after three writes.
+fn made(rt: &HostRuntime, name: &str) -> Result<FileDisk<HostRuntime>, Fail> {
+    let _old = fs::remove_file(rt, name);
+    let mut disk = named(rt, name)?;
+    disk.write_at(0, b"abc")?;
+    disk.write_at(3, b"def")?;
+    disk.write_at(1, b"XY")?;
+    disk.sync()?;
+    Ok(disk)
+}
+
+/// Whether another disk on the file finds it locked, and is given up once the file is let go.
+fn is_locked(rt: &HostRuntime, name: &str, disk: FileDisk<HostRuntime>) -> Result<bool, Fail> {
+    let mut second = named(rt, name)?;
+    let locked = second.sync() == Err(Stop::Failed);
+    drop(disk);
+    Ok(locked && second.sync() == Err(Stop::Failed))
+}
+
+#[test]
+fn a_file_is_made_and_opened_again(rt: HostRuntime) -> Result<(), Fail> {
+    let name = "mon_disk_test_file";
+    let disk = made(&rt, name)?;
+    assert!(rt; is_locked(&rt, name, disk)?);
+    let mut again = named(&rt, name)?;
+    let bytes = contents(rt.alloc(), &mut again)?;
+    assert_eq!(rt; bytes.as_slice(), b"aXYdef".as_slice());
+    fs::remove_file(&rt, name)?;
+    Ok(())
+}
+
+#[test]
+fn what_is_no_file_fails(rt: HostRuntime) -> Result<(), Fail> {
+    let alloc = rt.alloc();
+    for (name, kind) in [
+        ("mon_disk_no_folder/file", ErrorKind::NotFound),
+        ("/dev/null", ErrorKind::Unsupported),
+        (".", ErrorKind::IsADirectory),
+    ] {
+        let mut disk = FileDisk::named(&rt, String::from_str(alloc, name)?);
+        assert_eq!(rt; disk.len(), Err(Stop::Failed), "{name}");
+        let said = disk.failure().map(|error| error.kind());
+        assert_eq!(rt; said, Some(kind), "{name}");
+    }
+    Ok(())
+}
 
 /// The calls so far, a letter each; the number, from 1, of the one that fails; and the bytes of the one file, and where
 /// its next read or write begins.
