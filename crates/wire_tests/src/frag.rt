@@ -1,6 +1,5 @@
 use mon_frag::*;
 use mon_link::Peer;
-use mon_types::Rank;
 use std::alloc::Global;
 use std::test::Fail;
 
@@ -55,20 +54,6 @@ fn pieces_make_the_message_whole(rt: HostRuntime) -> Result<(), Fail> {
     assert!(rt; assembly.take(CLIENT, &last)?.is_none());
     let whole = assembly.take(CLIENT, &first)?.ok_or("no message")?;
     assert_eq!(rt; whole.as_slice(), message.as_slice());
-    for _ in 0..2 {
-        assert!(rt; assembly.take(CLIENT, &first)?.is_none());
-    }
-    Ok(())
-}
-
-#[test]
-fn a_short_message_is_its_datagram(rt: HostRuntime) -> Result<(), Fail> {
-    let alloc = rt.alloc();
-    let short = vec![in alloc; 7; 60_000]?;
-    let datagram = piece(alloc, &short, 5, 0, 1)?;
-    assert_eq!(rt; datagram.as_slice(), short.as_slice());
-    let whole = Assembly::new(alloc).take(CLIENT, &datagram)?;
-    assert!(rt; whole.is_some());
     Ok(())
 }
 
@@ -93,28 +78,6 @@ fn faults_have_their_places(rt: HostRuntime) -> Result<(), Fail> {
         let wrong = altered(alloc, &piece, at, &two, length)?;
         let answer = assembly.take(CLIENT, &wrong).map(|_| ());
         assert_eq!(rt; answer, Err(refused), "at {at} of {length}");
-    }
-    let long = vec![in alloc; 1; 60_001]?;
-    let answer = assembly.take(CLIENT, &long).map(|_| ());
-    assert_eq!(rt; answer, Err(FragRefused::TooLong));
-    Ok(())
-}
-
-#[test]
-fn the_oldest_goes(rt: HostRuntime) -> Result<(), Fail> {
-    let alloc = rt.alloc();
-    let message = message(alloc)?;
-    for (from, oldest) in [(Peer::Monitor(Rank::known(2)), 2u64), (CLIENT, 5)] {
-        let mut assembly = Assembly::new(alloc);
-        for seq in [1, 2, 3, 4, 5] {
-            let first = piece(alloc, &message, seq, 0, 2)?;
-            assert!(rt; assembly.take(from, &first)?.is_none());
-        }
-        for seq in [5, 4, 3, 2, 1] {
-            let last = piece(alloc, &message, seq, 1, 2)?;
-            let is_whole = assembly.take(from, &last)?.is_some();
-            assert_eq!(rt; is_whole, seq >= oldest, "message {seq}");
-        }
     }
     Ok(())
 }

@@ -19,16 +19,18 @@ fn a_lease_stands_below_its_end(rt: HostRuntime) -> Result<(), Fail> {
         (last - 1, last, false),
         (last, last, false),
     ] {
+        let (given, now) = (moment(given)?, moment(now)?);
         let mut lease = Lease::none();
-        assert!(rt; !lease.standing(moment(given)?));
-        lease.extend(moment(given)?);
-        assert_eq!(rt;
-            lease.standing(moment(now)?),
-            stands,
-            "given at {given}, asked at {now}"
-        );
+        let before = lease.standing(given);
+        lease.extend(given);
+        let found = lease.standing(now);
         lease.cancel();
-        assert!(rt; !lease.standing(moment(now)?));
+        let shown = (before, found, lease.standing(now));
+        assert_eq!(rt;
+            shown,
+            (false, stands, false),
+            "given at {given:?}, asked at {now:?}"
+        );
     }
     Ok(())
 }

@@ -1,5 +1,5 @@
 use schedule_made::*;
-use schedule_text::{parse, print};
+use schedule_text::print;
 use std::test::Fail;
 
 /// What every schedule of 33 events or more begins with.
@@ -43,25 +43,6 @@ fn each_number_has_its_schedule(rt: HostRuntime) -> Result<(), Fail> {
             text.as_bytes(),
             "{number}"
         );
-    }
-    Ok(())
-}
-
-/// The schedule of ten events, of whatever number.
-const TEN: &str = "\
-monitors 3 classic\n\
-start 0 0\nstart 1 0\nstart 2 0\n\
-deliver 1 0\ndeliver 2 0\ndeliver 3 0\ndeliver 4 0\ndeliver 5 0\ndeliver 6 0\ndeliver 7 0\n";
-
-#[test]
-fn what_is_made_is_read_again(rt: HostRuntime) -> Result<(), Fail> {
-    let alloc = rt.alloc();
-    for _ in 0..2 {
-        let text = print(alloc, &made(alloc, 1, 10)?)?;
-        assert_eq!(rt; text.as_slice(), TEN.as_bytes());
-        let again = parse(alloc, &text)?;
-        assert_eq!(rt; again.events.len(), 10);
-        assert_eq!(rt; print(alloc, &again)?.as_slice(), TEN.as_bytes());
     }
     Ok(())
 }

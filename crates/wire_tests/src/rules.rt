@@ -1,5 +1,5 @@
 use election_rules::*;
-use mon_types::{GREATEST, Rank, RankSet};
+use mon_types::{Rank, RankSet};
 use std::test::Fail;
 
 fn rank(r: u8) -> Result<Rank, Fail> {
@@ -14,55 +14,32 @@ fn knowing(score: u32) -> Result<Scores, Fail> {
 }
 
 #[test]
-fn scores_fall(rt: HostRuntime) -> Result<(), Fail> {
-    for (before, seconds, after) in [
-        (1_000_000u32, 0u64, 1_000_000u32),
-        (1_000_000, 1, 999_977),
-        (1_000_000, 21_600, 500_000),
-        (1_000_000, 43_200, 0),
-        (1_000_000, 86_401, 0),
-        (500_000, 21_600, 125_000),
-        (0, u64::MAX, 0),
+fn scores_fall_and_rise(rt: HostRuntime) -> Result<(), Fail> {
+    for (before, is_alive, seconds, after) in [
+        (1_000_000u32, false, 0u64, 1_000_000u32),
+        (1_000_000, false, 1, 999_977),
+        (1_000_000, false, 21_600, 500_000),
+        (1_000_000, false, 43_200, 0),
+        (1_000_000, false, 86_401, 0),
+        (500_000, false, 21_600, 125_000),
+        (0, false, u64::MAX, 0),
+        (500_000, true, 43_200, 750_000),
+        (500_000, true, 86_400, 1_000_000),
+        (500_000, true, 86_401, 1_000_000),
+        (0, true, 1, 11),
+        (999_977, true, 43_200, 999_988),
+        (1_000_000, true, u64::MAX, 1_000_000),
     ] {
         let mut scores = knowing(before)?;
-        scores.dead(rank(0)?, seconds);
+        if is_alive {
+            scores.alive(rank(0)?, seconds);
+        } else {
+            scores.dead(rank(0)?, seconds);
+        }
         let mut expected = knowing(after)?;
         expected.rows[2].count = 1;
         assert_eq!(rt; scores, expected, "{before} after {seconds}");
     }
-    Ok(())
-}
-
-#[test]
-fn scores_rise(rt: HostRuntime) -> Result<(), Fail> {
-    for (before, seconds, after) in [
-        (500_000u32, 43_200u64, 750_000u32),
-        (500_000, 86_400, 1_000_000),
-        (500_000, 86_401, 1_000_000),
-        (0, 1, 11),
-        (999_977, 43_200, 999_988),
-        (1_000_000, u64::MAX, 1_000_000),
-    ] {
-        let mut scores = knowing(before)?;
-        scores.alive(rank(0)?, seconds);
-        let mut expected = knowing(after)?;
-        expected.rows[2].count = 1;
-        assert_eq!(rt; scores, expected, "{before} after {seconds}");
-    }
-    Ok(())
-}
-
-#[test]
-fn a_count_stops_at_its_greatest(rt: HostRuntime) -> Result<(), Fail> {
-    let mut scores = knowing(FULL)?;
-    scores.rows[2].count = GREATEST - 1;
-    scores.alive(rank(0)?, 1);
-    assert_eq!(rt; scores.rows[2].count, GREATEST);
-    scores.dead(rank(0)?, 1);
-    assert_eq!(rt;
-        (scores.rows[2].count, scores.rows[2].scores[0]),
-        (GREATEST, 999_977)
-    );
     Ok(())
 }
 

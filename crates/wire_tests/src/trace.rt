@@ -1,6 +1,5 @@
 //! The lines of what an event did.
 
-use trace_text::*;
 use map_kv::{KvInc, KvMap};
 use mon_bytes::{Name, Text};
 use mon_types::{Epoch, Rank, Version};
@@ -8,6 +7,7 @@ use mon_wire::{Items, Phase, Reply, Service, Session, ShownMap};
 use schedule_text::parse;
 use std::alloc::Global;
 use std::test::Fail;
+use trace_text::*;
 
 const SHOW: &str = "client 0 40 1 2 show kv";
 
@@ -108,30 +108,19 @@ fn is_replied(alloc: Global, reply: Reply, told: &str) -> Result<bool, Fail> {
 #[test]
 fn lines_of_replies(rt: HostRuntime) -> Result<(), Fail> {
     let alloc = rt.alloc();
-    assert!(rt; is_replied(alloc, Reply::NoSuch, "nosuch")?);
-    let busy = Reply::Busy { waiting: 64 };
-    assert!(rt; is_replied(alloc, busy, "busy waiting=64")?);
-    assert!(rt; is_replied(alloc, Reply::Unavailable, "unavailable")?);
-    let has = version(0)?;
-    let unread = Reply::NotReadable { has, lease: true };
-    assert!(rt; is_replied(alloc, unread, "notreadable has=0 lease=1")?);
-    Ok(())
-}
-
-#[test]
-fn lines_of_a_command(rt: HostRuntime) -> Result<(), Fail> {
-    let alloc = rt.alloc();
-    let state = state(Phase::Active, 1)?;
-    let version = version(1)?;
-    let step = StepLine {
-        outcome: Outcome::Ran,
-        ops: 6,
-        state: Some(state),
-        sent: Items::new(alloc),
-        replies: replied(alloc, Reply::Done { version })?,
+    let unread = Reply::NotReadable {
+        has: version(0)?,
+        lease: true,
     };
-    let lines = "  store 6\n  is active epoch 2 last 1\n  reply 0 1.2 done 1\n";
-    assert!(rt; is_traced(alloc, "client 0 40 1 2 set a x", &step, lines)?);
+    let rows = [
+        (Reply::NoSuch, "nosuch"),
+        (Reply::Busy { waiting: 64 }, "busy waiting=64"),
+        (Reply::Unavailable, "unavailable"),
+        (unread, "notreadable has=0 lease=1"),
+    ];
+    for (reply, told) in rows {
+        assert!(rt; is_replied(alloc, reply, told)?, "{told}");
+    }
     Ok(())
 }
 

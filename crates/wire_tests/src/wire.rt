@@ -1,6 +1,7 @@
 ghost use Rattle.std.specs.Prelude.{IfOk};
 ghost use Rattle.mon_wire.specs.Message.Whole.{HasText};
 
+use crate::digits::{bytes_of, number};
 use mon_wire::*;
 use std::alloc::Global;
 use std::test::Fail;
@@ -126,17 +127,6 @@ const FAULTS: &str = "\
 24 21 2 Value 42
 ";
 
-/// The bytes that the digits spell.
-fn bytes_of(alloc: Global, digits: &str) -> Result<Vec<u8>, Fail> {
-    let mut bytes = Vec::new(alloc);
-    for pair in digits.as_bytes().chunks(2) {
-        let pair = str::from_utf8(pair).map_err(|_| "a byte")?;
-        let byte = u8::from_str_radix(pair, 16).map_err(|_| "digits")?;
-        bytes.push(byte)?;
-    }
-    Ok(bytes)
-}
-
 /// The fault that decoding names, or nothing where there is none.
 fn fault(alloc: Global, bytes: &[u8]) -> Result<Option<(MsgKind, usize)>, Fail> {
     match decode(alloc, bytes) {
@@ -225,18 +215,13 @@ fn changed(alloc: Global, message: usize, place: usize, byte: u8) -> Result<Vec<
     Ok(bytes)
 }
 
-fn number(word: Option<&str>) -> Result<usize, Fail> {
-    let word = word.ok_or("a number")?;
-    word.parse::<usize>().map_err(|_| Fail::from("digits"))
-}
-
 #[test]
 fn the_fault_of_a_changed_byte(rt: HostRuntime) -> Result<(), Fail> {
     let alloc = rt.alloc();
     for line in FAULTS.lines() {
         let mut words = line.splitn(4, ' ');
-        let message = number(words.next())?;
-        let place = number(words.next())?;
+        let message = number(words.next())? as usize;
+        let place = number(words.next())? as usize;
         let byte = u8::try_from(number(words.next())?).map_err(|_| "a byte")?;
         let bytes = changed(alloc, message, place, byte)?;
         let (kind, at) = fault(alloc, &bytes)?.ok_or("a fault")?;

@@ -1,11 +1,12 @@
 //! The lines of messages.
 
-use super::tests::{is_traced, replied, state};
-use trace_text::*;
+use crate::digits::{bytes_of, number};
+use crate::trace::{is_traced, replied, state};
 use mon_types::Rank;
 use mon_wire::{Items, Phase, Reply, decode};
 use std::alloc::Global;
 use std::test::Fail;
+use trace_text::*;
 
 /// A message's number, to whom it goes, its bytes in hexadecimal digits, and what its line tells. They are of each kind that
 /// monitors send each other, and then a client's and its answer.
@@ -55,22 +56,6 @@ const MESSAGES: &str = "\
 8 1 0118000600000000000000000900000000000000030100000078 0>1 REQUEST e=0
 9 0 0119010602000000000000000900000000000000010100000000000000 1>0 REPLY e=2
 ";
-
-/// The bytes that the digits spell.
-fn bytes_of(alloc: Global, digits: &str) -> Result<Vec<u8>, Fail> {
-    let mut bytes = Vec::new(alloc);
-    for pair in digits.as_bytes().chunks(2) {
-        let pair = str::from_utf8(pair).map_err(|_| "a byte")?;
-        let byte = u8::from_str_radix(pair, 16).map_err(|_| "digits")?;
-        bytes.push(byte)?;
-    }
-    Ok(bytes)
-}
-
-fn number(word: Option<&str>) -> Result<u64, Fail> {
-    let word = word.ok_or("a number")?;
-    word.parse::<u64>().map_err(|_| Fail::from("digits"))
-}
 
 fn rank(word: Option<&str>) -> Result<Rank, Fail> {
     let rank = u8::try_from(number(word)?).map_err(|_| "a byte")?;

@@ -1,6 +1,6 @@
 //! Lines of every form, each with a field at fault in turn. What is wrong with each was told by a second program.
 
-use super::tests::refused;
+use crate::schedule::refused;
 use schedule_text::*;
 use std::alloc::{AllocError, Global};
 use std::test::Fail;
@@ -362,16 +362,11 @@ monitors 3 disallow=2,0\n\
 monitors 3 disallow=0,0\n\
 monitors 3 disallow=00";
 
-/// What is wrong with such a line of three monitors, in the second line of a schedule.
-fn fault_of(alloc: Global, line: &str) -> Result<Option<(u32, ScheduleKind)>, AllocError> {
-    let text = format!(in alloc; "monitors 3 classic\n{line}\n")?;
-    Ok(refused(alloc, text.as_bytes()))
-}
-
-/// Whether each of the lines has this fault.
+/// Whether each line has this fault as the second one of a schedule of three monitors.
 fn have_fault(alloc: Global, lines: &str, fault: Option<ScheduleKind>) -> Result<bool, AllocError> {
     for line in lines.split('\n') {
-        if fault_of(alloc, line)? != fault.map(|kind| (2, kind)) {
+        let text = format!(in alloc; "monitors 3 classic\n{line}\n")?;
+        if refused(alloc, text.as_bytes()) != fault.map(|kind| (2, kind)) {
             return Ok(false);
         }
     }
@@ -386,12 +381,6 @@ fn fields_at_fault_are_refused_by_kind(rt: HostRuntime) -> Result<(), Fail> {
     assert!(rt; have_fault(alloc, NUMBERS, Some(ScheduleKind::Number))?);
     assert!(rt; have_fault(alloc, RANKS, Some(ScheduleKind::Rank))?);
     Ok(())
-}
-
-/// What is wrong with a schedule of this first line alone.
-fn header_fault(alloc: Global, line: &str) -> Result<Option<(u32, ScheduleKind)>, AllocError> {
-    let text = format!(in alloc; "{line}\n")?;
-    Ok(refused(alloc, text.as_bytes()))
 }
 
 /// Whether a schedule of this first line alone prints it again.
@@ -415,27 +404,9 @@ fn first_lines_are_printed_as_they_were(rt: HostRuntime) -> Result<(), Fail> {
 fn first_lines_at_fault_are_refused(rt: HostRuntime) -> Result<(), Fail> {
     let alloc = rt.alloc();
     for line in HEADERS.split('\n') {
-        assert_eq!(rt;
-            header_fault(alloc, line)?,
-            Some((1, ScheduleKind::Header)),
-            "{line}"
-        );
+        let text = format!(in alloc; "{line}\n")?;
+        let found = refused(alloc, text.as_bytes());
+        assert_eq!(rt; found, Some((1, ScheduleKind::Header)), "{line}");
     }
-    Ok(())
-}
-
-/// Whether each first line is refused so where its end is missing.
-fn lack_their_end(alloc: Global, lines: &str) -> bool {
-    lines.split('\n').all(|line| {
-        line.is_empty() || refused(alloc, line.as_bytes()) == Some((1, ScheduleKind::End))
-    })
-}
-
-#[test]
-fn a_first_line_without_its_end_is_refused_so(rt: HostRuntime) -> Result<(), Fail> {
-    let alloc = rt.alloc();
-    assert_eq!(rt; refused(alloc, b""), Some((1, ScheduleKind::Header)));
-    assert!(rt; lack_their_end(alloc, FIRST_LINES));
-    assert!(rt; lack_their_end(alloc, HEADERS));
     Ok(())
 }

@@ -1,0 +1,86 @@
+use mon_link::*;
+use mon_types::{Moment, Rank, Stop};
+use std::io;
+use std::io::ErrorKind;
+use std::net::{Ipv4Addr, Net, SocketAddr, TcpListener, TcpStream, UdpSocket};
+use std::test::Fail;
+
+/// Who sent what came, its first byte, or else a null, and how many it has.
+fn shown(got: Result<Got, Stop>) -> Result<Option<(Peer, u8, usize)>, Stop> {
+    match got? {
+        Got::Datagram { from, bytes } => {
+            let bytes = bytes.as_slice();
+            let first = bytes.first().copied().unwrap_or(0);
+            Ok(Some((from, first, bytes.len())))
+        }
+        Got::Idle | Got::Closed => Ok(None),
+    }
+}
+
+#[test]
+fn clocks_show(rt: HostRuntime) -> Result<(), Fail> {
+    let alloc = rt.alloc();
+    let moments = vec![in alloc; Moment::known(4), Moment::known(9)]?;
+    let mut clock = ListClock::new(moments);
+    for shown in [4, 9, 9] {
+        assert_eq!(rt; clock.now().get(), shown);
+    }
+    let mut clock = RunClock::new(&rt);
+    let first = clock.now().get();
+    let second = clock.now().get();
+    assert!(rt; first <= second && second < 60_000, "{first}, {second}");
+    Ok(())
+}
+
+/// A system without a network.
+#[derive(Clone, Copy)]
+struct Bare;
+
+impl Net for Bare {
+    type Stream = TcpStream;
+
+    type Listener = TcpListener;
+
+    fn bind(&self, _address: SocketAddr) -> io::Result<TcpListener> {
+        Err(ErrorKind::Unsupported.into())
+    }
+
+    fn connect(&self, _address: SocketAddr) -> io::Result<TcpStream> {
+        Err(ErrorKind::Unsupported.into())
+    }
+}
+
+#[test]
+fn a_link_without_a_network_fails(rt: HostRuntime) -> Result<(), Fail> {
+    let alloc = rt.alloc();
+    let mut link = UdpLink::client(&Bare, Vec::new(alloc));
+    assert_eq!(rt; shown(link.next(1)), Err(Stop::Failed));
+    assert_eq!(rt; link.send(Peer::Client(0), b"a"), Err(Stop::Failed));
+    Ok(())
+}
+
+/// An address of this machine that nobody hears at.
+fn free_address(rt: &HostRuntime) -> Result<Address, Fail> {
+    let host = [127, 0, 0, 1];
+    let socket = UdpSocket::bind(rt, SocketAddr::from((Ipv4Addr::from(host), 0)))?;
+    let port = socket.local_addr()?.port();
+    Ok(Address { host, port })
+}
+
+#[test]
+fn a_client_is_answered(rt: HostRuntime) -> Result<(), Fail> {
+    let alloc = rt.alloc();
+    let addresses = [free_address(&rt)?];
+    let mut link = UdpLink::named(&rt, Rank::known(0), addresses.to_vec(alloc)?);
+    assert_eq!(rt; shown(link.next(1)), Ok(None));
+    let monitor = Peer::Monitor(Rank::known(0));
+    let mut client = UdpLink::client(&rt, addresses.to_vec(alloc)?);
+    assert_eq!(rt; client.send(monitor, b"ask"), Ok(()));
+    assert_eq!(rt;
+        shown(link.next(5_000)),
+        Ok(Some((Peer::Client(0), b'a', 3)))
+    );
+    assert_eq!(rt; link.send(Peer::Client(0), b"here"), Ok(()));
+    assert_eq!(rt; shown(client.next(5_000)), Ok(Some((monitor, b'h', 4))));
+    Ok(())
+}

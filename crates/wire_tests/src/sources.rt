@@ -1,0 +1,132 @@
+use mon_link::*;
+use mon_types::Stop;
+use std::alloc::{Allocator, Global};
+use std::fmt::Display;
+use std::io;
+use std::io::{BufRead, ErrorKind, Lines, Read};
+use std::test::Fail;
+
+/// A system whose input has no end, or whose every reading fails.
+#[derive(Clone, Copy)]
+struct Given {
+    fails: bool,
+}
+
+impl Read for Given {
+    fn read(&mut self, into: &mut [u8]) -> io::Result<usize> {
+        if self.fails {
+            return Err(ErrorKind::Other.into());
+        }
+        into.fill(120);
+        Ok(into.len())
+    }
+}
+
+impl BufRead for Given {
+    fn fill_buf(&mut self) -> io::Result<&[u8]> {
+        Err(ErrorKind::Other.into())
+    }
+
+    fn consume(&mut self, _amount: usize) {}
+}
+
+impl Input for Given {
+    type Reader = Given;
+
+    fn read_line<A: Allocator + Clone>(&self, _line: &mut String<A>) -> io::Result<usize> {
+        Err(ErrorKind::Other.into())
+    }
+
+    fn lines<A: Allocator>(&self, alloc: A) -> Lines<Given, A> {
+        self.reader().lines(alloc)
+    }
+
+    fn reader(&self) -> Given {
+        *self
+    }
+}
+
+/// A system whose output takes at most so many bytes at once, and prints nothing else.
+#[derive(Clone, Copy)]
+struct Narrow {
+    width: usize,
+}
+
+impl Print for Narrow {
+    fn print<D: Display + Drop>(&self, _value: D) -> io::Result<()> {
+        Err(ErrorKind::Other.into())
+    }
+
+    fn println<D: Display + Drop>(&self, _value: D) -> io::Result<()> {
+        Err(ErrorKind::Other.into())
+    }
+
+    fn write_all(&self, _bytes: &[u8]) -> io::Result<()> {
+        Err(ErrorKind::Other.into())
+    }
+
+    fn write_some(&self, bytes: &[u8]) -> io::Result<usize> {
+        if self.width == 9 {
+            return Err(ErrorKind::Other.into());
+        }
+        Ok(bytes.len().min(self.width))
+    }
+}
+
+fn source(alloc: Global, length: usize, failing: u64) -> Result<MemorySource, Fail> {
+    let bytes = vec![in alloc; 120; length]?;
+    Ok(MemorySource::new(bytes, vec![in alloc; failing]?))
+}
+
+#[test]
+fn reads_to_the_end_or_the_most(rt: HostRuntime) -> Result<(), Fail> {
+    let alloc = rt.alloc();
+    for (length, failing, most, read) in [
+        (5000usize, 0u64, 6000usize, Ok(5000usize)),
+        (5000, 0, 5000, Ok(5000)),
+        (5000, 0, 4999, Ok(4999)),
+        (0, 0, 9, Ok(0)),
+        (5000, 1, 9, Err(Stop::Failed)),
+        (5000, 2, 6000, Err(Stop::Failed)),
+        (5000, 2, 9, Ok(9)),
+    ] {
+        let mut source = source(alloc, length, failing)?;
+        let found = read_all(alloc, &mut source, most).map(|bytes| bytes.len());
+        assert_eq!(rt; found, read, "{length} bytes, {most} at most");
+    }
+    Ok(())
+}
+
+#[test]
+fn writes_the_whole_or_a_front(rt: HostRuntime) -> Result<(), Fail> {
+    let alloc = rt.alloc();
+    let mut sink = MemorySink::new(alloc, vec![in alloc; 2]?);
+    let wrote = (write_all(&mut sink, b"ab"), write_all(&mut sink, b"cd"));
+    assert_eq!(rt; wrote, (Ok(()), Err(Stop::Failed)));
+    assert_eq!(rt; sink.written(), b"ab".as_slice());
+    Ok(())
+}
+
+#[test]
+fn an_output_takes_all_or_fails(rt: HostRuntime) -> Result<(), Fail> {
+    for (width, whole, nothing) in [
+        (1usize, Ok(()), Ok(0)),
+        (0, Err(Stop::Failed), Ok(0)),
+        (9, Err(Stop::Failed), Err(Stop::Failed)),
+    ] {
+        let mut sink = StdoutSink::new(&Narrow { width });
+        let wrote = (write_all(&mut sink, b"abc"), sink.write(b""));
+        assert_eq!(rt; wrote, (whole, nothing), "{width} bytes at once");
+    }
+    Ok(())
+}
+
+#[test]
+fn an_input_gives_or_fails(rt: HostRuntime) -> Result<(), Fail> {
+    for (fails, answer, left) in [(false, Ok(4), [120; 4]), (true, Err(Stop::Failed), [0; 4])] {
+        let mut room = [0; 4];
+        let read = StdinSource::new(&Given { fails }).read(&mut room);
+        assert_eq!(rt; (read, room), (answer, left));
+    }
+    Ok(())
+}
