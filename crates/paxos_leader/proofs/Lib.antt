@@ -1,0 +1,13 @@
+pub mod Acting
+pub mod Answering
+pub mod Asking
+pub mod Beginning
+pub mod Behind
+pub mod Committing
+pub mod Going
+pub mod Hearing
+pub mod Noting
+pub mod Pending
+pub mod Settled
+pub mod Settling
+pub mod Within

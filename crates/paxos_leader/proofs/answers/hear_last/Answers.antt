@@ -1,0 +1,107 @@
+use Rattle.std.proofs.Common.{◌≡◌, ℕ, suc, ◌<◌, ◌&&◌, List, [], ◌∷◌, refl, sym, ap, subst, ◌∙◌, arith}
+use Rattle.std.specs.Prelude.{nat_lt}
+use Rattle.mon_msg.specs.Protocol.Collecting.{collect}
+use Rattle.mon_msg.specs.Protocol.Leader.{hear_last, hear_answer}
+use Rattle.mon_msg.specs.Protocol.Readings.{Readings, readings_of}
+use Rattle.mon_msg.specs.Protocol.State.{start_leader}
+use Rattle.mon_msg.specs.declared.paxos.Leader.{Leader}
+use Rattle.mon_msg.specs.declared.plan.Next.TheVariants as next
+use Rattle.mon_msg.specs.declared.plan.Plan.{Plan}
+use Rattle.mon_msg.specs.declared.plan.Sent.{Sent}
+use Rattle.mon_tx.specs.Map.{Store}
+use Rattle.mon_wire.specs.declared.phase.Phase.TheVariants as phase
+use Rattle.mon_plan.specs.Plans.{leads}
+use Rattle.mon_plan.proofs.Planning.{instead}
+use Rattle.paxos_leader.specs.Drafts.{GoesOn, IsAsking}
+use Rattle.paxos_leader.specs.Rows.{IsHeard}
+use Rattle.paxos_leader.proofs.Answering.{asks-here, heard-phase}
+use Rattle.paxos_leader.proofs.Going.{from_start}
+use Rattle.paxos_leader.proofs.Hearing.{last-above, last-below, last-behind, last-answer}
+use Rattle.paxos_leader.proofs.Noting.{nothing_but, stay_leaves, bootstrap_leaves, stays_leaves}
+use Rattle.paxos_leader.proofs.Settling.{collect-fresh}
+use Rattle.paxos_leader.proofs.answers.hear_last.Goals as goal
+
+pub returns-then-get-clause-plans : goal.returns-then-get-clause-plans
+returns-then-get-clause-plans c =
+    λ e.
+    let me = c.args.me.now in
+    let now = c.args.now in
+    let l : Leader = c.args.state.now in
+    let a = c.args.answer.now in
+    let w : Readings = readings_of c.args.kv.now in
+    let ws : Readings = readings_of c.of-stored.result in
+    let At = IsHeard (phase.Collecting ∷ []) a.from e w l in
+    from_start me now (IsAsking c.epoch-epoch.result ws) (record { tx = []; out = []; state = start_leader }) (collect me now l.quorum a.pn) c.collect.result refl
+    (subst (λ (o : List Sent). GoesOn me now (IsAsking c.epoch-epoch.result ws) (record { tx = []; out = o; state = start_leader }) (collect me now l.quorum a.pn) c.collect.result) c.new-out.ensures c.collect.ensures.goes)
+    At (λ x. x) (hear_last me now a.from e a.pn a.first a.last a.whole a.start a.values.now a.pending.now)
+    (λ x b. asks-here c.epoch-epoch.result ws x (b.readings ∙ ap readings_of (sym c.of-stored.ensures)) c.epoch-epoch.ensures (heard-phase a.from e w l x b))
+    (λ x b.
+    last-above me now a.from e x a.pn a.first a.last a.whole a.start a.values.now a.pending.now b.member
+    (subst (λ (k : Leader). k.pn < a.pn) (sym b.role) (omega (arith, c.if-get.true, c.get.ensures.value, c.get-2.ensures.value)))
+    ∙ ap (λ (k : Leader). collect me now k.quorum a.pn x) b.role
+    ∙ sym (collect-fresh me now l.quorum a.pn x start_leader))
+
+pub returns-then-get-clause-leaves : goal.returns-then-get-clause-leaves
+returns-then-get-clause-leaves c = λ at. stays_leaves at c.collect.result c.collect.ensures.stays
+
+pub returns-then-get-2-clause-plans : goal.returns-then-get-2-clause-plans
+returns-then-get-2-clause-plans c =
+    λ e.
+    let me = c.args.me.now in
+    let now = c.args.now in
+    let l : Leader = c.args.state.now in
+    let a = c.args.answer.now in
+    let w : Readings = readings_of c.args.kv.now in
+    let At = IsHeard (phase.Collecting ∷ []) a.from e w l in
+    nothing_but me now At (hear_last me now a.from e a.pn a.first a.last a.whole a.start a.values.now a.pending.now) l (λ x b _. b.stage)
+    next.Stay (λ x. refl) (λ x b. b.role)
+    (λ x b.
+    last-below me now a.from e x a.pn a.first a.last a.whole a.start a.values.now a.pending.now b.member
+    (subst (λ (k : Leader). a.pn < k.pn) (sym b.role) (omega arith)))
+    c.stay.result (c.stay.ensures ∙ ap (λ (k : Leader). record { tx = []; out = []; timers = []; state = k; next = next.Stay }) c.in_ok-copy.ensures)
+
+pub returns-then-is_behind-clause-plans : goal.returns-then-is_behind-clause-plans
+returns-then-is_behind-clause-plans c =
+    λ e.
+    let me = c.args.me.now in
+    let now = c.args.now in
+    let l : Leader = c.args.state.now in
+    let a = c.args.answer.now in
+    let w : Readings = readings_of c.args.kv.now in
+    let own : c.last.result ≡ w.last = c.last.ensures.value ∙ ap (λ (m : Store). (readings_of m).last) c.of-stored.ensures in
+    let At = IsHeard (phase.Collecting ∷ []) a.from e w l in
+    nothing_but me now At (hear_last me now a.from e a.pn a.first a.last a.whole a.start a.values.now a.pending.now) l (λ x b _. b.stage)
+    next.Bootstrap (λ x. refl) (λ x b. b.role)
+    (λ x b.
+    last-behind me now a.from e x a.pn a.first a.last a.whole a.start a.values.now a.pending.now b.member
+    (subst (λ (k : Leader). a.pn ≡ k.pn) (sym b.role) (omega arith))
+    (ap (λ (n : ℕ). nat_lt (suc n) a.first && nat_lt n a.last) (ap (λ (r : Readings). r.last) b.readings ∙ sym own) ∙ sym c.is_behind.ensures ∙ c.if-is_behind.true))
+    c.planned.result (c.planned.ensures ∙ ap (λ (k : Leader). record { tx = []; out = []; timers = []; state = k; next = next.Bootstrap }) c.in_ok-copy-2.ensures)
+
+pub returns-then-is_behind-clause-leaves : goal.returns-then-is_behind-clause-leaves
+returns-then-is_behind-clause-leaves c =
+    λ at. bootstrap_leaves at c.planned.result (ap (λ (p : Plan Leader). p.next) c.planned.ensures) (ap (λ (p : Plan Leader). p.tx) c.planned.ensures)
+
+pub returns-then-get-2-clause-leaves : goal.returns-then-get-2-clause-leaves
+returns-then-get-2-clause-leaves c = λ at. stay_leaves at c.stay.result (ap (λ (p : Plan Leader). p.next) c.stay.ensures)
+
+pub returns-clause-plans : goal.returns-clause-plans
+returns-clause-plans c =
+    λ e.
+    let me = c.args.me.now in
+    let now = c.args.now in
+    let l : Leader = c.args.state.now in
+    let a = c.args.answer.now in
+    let w : Readings = readings_of c.args.kv.now in
+    let own : c.last.result ≡ w.last = c.last.ensures.value ∙ ap (λ (m : Store). (readings_of m).last) c.of-stored.ensures in
+    let At = IsHeard (phase.Collecting ∷ []) a.from e w l in
+    instead me now leads At (λ x. x) (hear_answer me now a.from a.last a.whole a.start a.values.now a.pending.now)
+    (hear_last me now a.from e a.pn a.first a.last a.whole a.start a.values.now a.pending.now) c.hear_answer.result
+    (λ x b.
+    last-answer me now a.from e x a.pn a.first a.last a.whole a.start a.values.now a.pending.now b.member
+    (subst (λ (k : Leader). a.pn ≡ k.pn) (sym b.role) (omega arith))
+    (ap (λ (n : ℕ). nat_lt (suc n) a.first && nat_lt n a.last) (ap (λ (r : Readings). r.last) b.readings ∙ sym own) ∙ sym c.is_behind.ensures ∙ c.if-is_behind.false))
+    (c.hear_answer.ensures.plans e)
+
+pub returns-clause-leaves : goal.returns-clause-leaves
+returns-clause-leaves c = λ at. stays_leaves at c.hear_answer.result c.hear_answer.ensures.stays

@@ -1,0 +1,53 @@
+use Rattle.std.proofs.Common.{◌≡◌, [], Ok, refl, sym, ap, subst, ◌∙◌}
+use Rattle.mon_msg.specs.Protocol.Leader.{renew}
+use Rattle.mon_msg.specs.Protocol.Leading.{be_active}
+use Rattle.mon_msg.specs.Protocol.Phases.{phase_of, is_leading, same_phase}
+use Rattle.mon_msg.specs.Protocol.Readings.{Readings, readings_of, epoch_of}
+use Rattle.mon_msg.specs.declared.paxos.Leader.{Leader}
+use Rattle.mon_msg.specs.declared.plan.Next.TheVariants as next
+use Rattle.mon_wire.specs.declared.phase.Phase.TheVariants as phase
+use Rattle.mon_wire.specs.declared.phase.Phase.{Phase}
+use Rattle.mon_plan.specs.Seen.{IsMet}
+use Rattle.paxos_leader.specs.Drafts.{GoesOn, IsHere}
+use Rattle.paxos_leader.specs.declared.draft.Draft.{Draft}
+use Rattle.paxos_leader.proofs.Beginning.{renew-active, renew-other}
+use Rattle.paxos_leader.proofs.Going.{from_start}
+use Rattle.paxos_leader.proofs.Hearing.{acts, not_active}
+use Rattle.paxos_leader.proofs.Noting.{nothing_but, remembered}
+use Rattle.paxos_leader.proofs.inputs.renew.Goals as goal
+
+pub returns-then-not-is_active-clause-plans : goal.returns-then-not-is_active-clause-plans
+returns-then-not-is_active-clause-plans c =
+    let me = c.args.me.now in
+    let now = c.args.now in
+    let l : Leader = c.args.state.now in
+    let w : Readings = readings_of c.args.kv.now in
+    nothing_but me now (IsMet me now w c.args.view.now (λ s. s.leader) l) (renew me now) l
+    (λ x b lead. ap (λ (k : Leader). phase_of k.stage) (sym b.role) ∙ b.seen.stage lead)
+    next.Stay (λ x. refl) (λ x b. b.role)
+    (λ x b. renew-other me now x (ap (λ (p : Phase). same_phase p phase.Active) (sym b.seen.phase) ∙ not_active c.args.view.now.phase (sym c.is_active.ensures ∙ c.if-not-is_active.true)))
+    c.stay.result (c.stay.ensures ∙ ap (λ (k : Leader). record { tx = []; out = []; timers = []; state = k; next = next.Stay }) c.in_ok-state.ensures)
+
+pub returns-clause-plans : goal.returns-clause-plans
+returns-clause-plans c =
+    let me = c.args.me.now in
+    let now = c.args.now in
+    let l : Leader = c.args.state.now in
+    let w : Readings = readings_of c.args.kv.now in
+    let e = c.epoch.result in
+    let v = c.last.result in
+    let stored : readings_of c.of-stored.result ≡ w = ap readings_of c.of-stored.ensures in
+    let drafted : c.new-draft.result ≡ record { tx = []; out = []; state = l } = c.new-draft.ensures ∙ ap (λ (k : Leader). record { tx = []; out = []; state = k }) c.in_ok-state.ensures in
+    from_start me now (IsHere e v) (record { tx = []; out = []; state = l }) (λ y. Ok (be_active me now y)) (Ok c.in_ok-be_active.field-0) refl
+    (subst (λ (d : Draft). GoesOn me now (IsHere e v) d (λ y. Ok (be_active me now y)) (Ok c.in_ok-be_active.field-0)) drafted c.in_ok-be_active.ensures.goes)
+    (IsMet me now w c.args.view.now (λ s. s.leader) l) (λ x. x) (renew me now)
+    (λ x b.
+    let phases : x.state.phase ≡ phase.Active = sym b.seen.phase ∙ acts c.args.view.now.phase (sym c.is_active.ensures ∙ c.if-not-is_active.false) in
+    record {
+      epoch = ap epoch_of (b.readings ∙ sym stored) ∙ sym c.epoch.ensures;
+      last = ap (λ (r : Readings). r.last) (b.readings ∙ sym stored) ∙ sym c.last.ensures.value;
+      leads = ap is_leading phases;
+    })
+    (λ x b.
+    let phases : x.state.phase ≡ phase.Active = sym b.seen.phase ∙ acts c.args.view.now.phase (sym c.is_active.ensures ∙ c.if-not-is_active.false) in
+    renew-active me now x phases (b.seen.stage (ap is_leading phases)) ∙ ap (λ z. Ok (be_active me now z)) (sym (remembered l x b.role)))

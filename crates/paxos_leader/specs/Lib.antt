@@ -1,0 +1,4 @@
+pub mod Drafts
+pub mod Inputs
+pub mod Parts
+pub mod Rows

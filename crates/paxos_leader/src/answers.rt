@@ -1,0 +1,318 @@
+//! What a leader does when a member answers its collect.
+
+ghost use Rattle.std.specs.Prelude.{◌≡◌, ℕ, ◌+◌, ◌-◌, ◌≤◌, ◌^◌, ◌++◌, [], ◌∷◌, length, true, ◌&&◌, nat_lt, suc, Some, IfOk, OnOk};
+ghost use Rattle.std.specs.List.{AllByRecursion};
+ghost use Rattle.mon_msg.specs.Protocol.Changes.{spelled};
+ghost use Rattle.mon_msg.specs.Protocol.Found.{is_newer as newer};
+ghost use Rattle.mon_msg.specs.Protocol.Leader.{hear_last as last_row, hear_answer as answer_row, hear_whole as whole_row};
+ghost use Rattle.mon_msg.specs.Protocol.Learning.{news, news_from};
+ghost use Rattle.mon_msg.specs.Protocol.Played.{Fits};
+ghost use Rattle.mon_msg.specs.Protocol.Readings.{readings_of, epoch_of};
+ghost use Rattle.mon_msg.specs.Protocol.Records.{may_begin};
+ghost use Rattle.mon_tx.specs.Map.{apply};
+ghost use Rattle.mon_tx.specs.Text.{text, most};
+ghost use Rattle.mon_wire.specs.declared.phase.Phase.TheVariants as phases;
+ghost use Rattle.mon_wire.specs.declared.phase.Phase.{Phase};
+ghost use Rattle.mon_plan.specs.Leaves.{Leaves};
+ghost use Rattle.mon_plan.specs.Learned.{Learns, learned};
+ghost use Rattle.mon_plan.specs.Plans.{PlansRow, leads};
+ghost use Rattle.paxos_leader.specs.Drafts.{GoesOn, IsAsking};
+ghost use Rattle.paxos_leader.specs.Inputs.{may_begin_found};
+ghost use Rattle.paxos_leader.specs.Parts.{with_answer};
+ghost use Rattle.paxos_leader.specs.Rows.{IsHeard, Notes, NotesFound, may_begin_told, goes_on};
+
+use crate::collecting::{collect, settle, take_found};
+use crate::draft::Draft;
+use crate::sets::are_within;
+use mon_bytes::{Items, OutOfMemory};
+use mon_kv::Kv;
+use mon_msg::{Found, Leader, Me, Next, Plan, RoleStop, Told};
+use mon_plan::{MOST_VALUE, Stored, learn, planned, stay};
+use mon_tx::Transaction;
+use mon_types::{Moment, Pn, Rank, Version, Which};
+use std::alloc::Global;
+
+/// What a member answered to a collect.
+#[derive(Clone, Copy)]
+pub(crate) struct Answer<'a> {
+    pub(crate) from: Rank,
+    pub(crate) pn: Pn,
+    pub(crate) first: Version,
+    pub(crate) last: Version,
+    pub(crate) whole: bool,
+    /// The version of the first of the values.
+    pub(crate) start: Version,
+    pub(crate) values: &'a [Transaction],
+    pub(crate) pending: &'a Option<Told>,
+}
+
+/// Whether a version and a number are greater than those of what was found.
+fn is_after(version: Version, pn: Pn, found: &Found) -> bool
+    ensures { result ≡ newer version pn (Some found.now) }
+{
+    found.version.get() < version.get()
+        || (version.get() == found.version.get() && found.pn.get() < pn.get())
+}
+
+/// The same, where something was found.
+fn is_newer(version: Version, pn: Pn, found: &Option<Found>) -> bool
+    ensures { result ≡ newer version pn found.now }
+{
+    match found {
+        None => true,
+        Some(found) => is_after(version, pn, found),
+    }
+}
+
+/// What is found once a member told this pending value, which is for the version after its last one. A value that is too long
+/// to be proposed counts as none.
+fn found_with(found: Option<Found>, last: Version, told: &Told) -> Result<Option<Found>, RoleStop>
+    requires found { may_begin_found found ≡ true }
+    requires told { may_begin told.now.value ≡ true }
+    ensures notes { NotesFound found last (Some told.now) result }
+    ensures short { IfOk result (λ new. may_begin_found new ≡ true) }
+{
+    if told.value.text_len() > MOST_VALUE as u64 {
+        return Ok(found);
+    }
+    let Some(version) = last.plus_one() else {
+        return Err(RoleStop::Spent {
+            which: Which::Version,
+        });
+    };
+    if !is_newer(version, told.pn, &found) {
+        return Ok(found);
+    }
+    let value = told.value.copy()?;
+    Ok(Some(Found {
+        version,
+        pn: told.pn,
+        value,
+    }))
+}
+
+/// The same, where it told one.
+fn found_with_any(
+    found: Option<Found>,
+    last: Version,
+    told: &Option<Told>,
+) -> Result<Option<Found>, RoleStop>
+    requires found { may_begin_found found ≡ true }
+    requires told { may_begin_told told.now ≡ true }
+    ensures notes { NotesFound found last told.now result }
+    ensures short { IfOk result (λ new. may_begin_found new ≡ true) }
+{
+    match told {
+        None => Ok(found),
+        Some(told) => found_with(found, last, told),
+    }
+}
+
+/// What a leader remembers once a member answered with all that it has, and told its last version.
+fn answered(state: Leader, from: Rank, last: Version, found: Option<Found>) -> Leader
+    ensures { result ≡ with_answer from last found state }
+{
+    let mut lasts = state.lasts;
+    lasts[usize::from(from.get())] = last;
+    Leader {
+        answered: state.answered.with(from),
+        lasts,
+        found,
+        ..state
+    }
+}
+
+/// The same, by what the member told.
+fn note(state: &Leader, answer: &Answer<'_>) -> Result<Leader, RoleStop>
+    requires found { may_begin_found state.now.found ≡ true }
+    requires told { may_begin_told answer.now.pending.now ≡ true }
+    ensures notes { Notes state.now answer.now.from answer.now.last answer.now.pending.now result }
+    ensures short { IfOk result (λ new. may_begin_found new.found ≡ true) }
+    ensures stage { IfOk result (λ new. new.stage ≡ state.now.stage) }
+{
+    let (state, old) = take_found(state.copy()?);
+    match found_with_any(old, answer.last, answer.pending) {
+        Ok(found) => Ok(answered(state, answer.from, answer.last, found)),
+        Err(stop) => Err(stop),
+    }
+}
+
+/// A member answered with all that it has.
+fn hear_whole(
+    alloc: Global,
+    stored: &Stored<'_>,
+    me: &Me,
+    state: &Leader,
+    answer: &Answer<'_>,
+    now: Moment,
+) -> Result<Plan<Leader>, RoleStop>
+    requires found { may_begin_found state.now.found ≡ true }
+    requires told { may_begin_told answer.now.pending.now ≡ true }
+    ensures goes { GoesOn me.now now (IsAsking (epoch_of (readings_of stored.now)) (readings_of stored.now))
+        (record { tx = []; out = []; state = state.now })
+        (whole_row me.now now answer.now.from answer.now.last answer.now.pending.now) result }
+    ensures stays { IfOk result (λ p. p.next ≡ Next.Stay) }
+{
+    let state = match note(state, answer) {
+        Ok(state) => state,
+        Err(stop) => return Err(stop),
+    };
+    if !are_within(me, state.quorum, state.answered) {
+        return Ok(stay(alloc, state));
+    }
+    let draft = Draft::new(alloc, state);
+    settle(alloc, stored, me, stored.epoch(), draft, now)
+}
+
+/// The values of an answer are learned: what follows.
+fn go_on(
+    alloc: Global,
+    stored: &Stored<'_>,
+    me: &Me,
+    state: &Leader,
+    answer: &Answer<'_>,
+    now: Moment,
+) -> Result<Plan<Leader>, RoleStop>
+    requires found { may_begin_found state.now.found ≡ true }
+    requires told { may_begin_told answer.now.pending.now ≡ true }
+    ensures goes { GoesOn me.now now (IsAsking (epoch_of (readings_of stored.now)) (readings_of stored.now))
+        (record { tx = []; out = []; state = state.now })
+        (goes_on me.now now answer.now.from answer.now.last answer.now.whole answer.now.pending.now) result }
+    ensures stays { IfOk result (λ p. p.next ≡ Next.Stay) }
+{
+    if answer.whole {
+        return hear_whole(alloc, stored, me, state, answer, now);
+    }
+    let out = Items::new(alloc);
+    let above = Pn::known(0);
+    let epoch = stored.epoch();
+    collect(alloc, stored, me, epoch, out, state.quorum, above, now)
+}
+
+/// What follows, by the store after these changes.
+fn go_on_after(
+    alloc: Global,
+    kv: &Kv,
+    tx: &Transaction,
+    me: &Me,
+    state: &Leader,
+    answer: &Answer<'_>,
+    now: Moment,
+) -> Result<Plan<Leader>, RoleStop>
+    requires found { may_begin_found state.now.found ≡ true }
+    requires told { may_begin_told answer.now.pending.now ≡ true }
+    ensures goes { GoesOn me.now now (IsAsking (epoch_of (readings_of (apply tx.now kv.now))) (readings_of (apply tx.now kv.now)))
+        (record { tx = []; out = []; state = state.now })
+        (goes_on me.now now answer.now.from answer.now.last answer.now.whole answer.now.pending.now) result }
+    ensures stays { IfOk result (λ p. p.next ≡ Next.Stay) }
+{
+    let stored = Stored::after(alloc, kv, tx)?;
+    go_on(alloc, &stored, me, state, answer, now)
+}
+
+/// A plan after changes that came before it.
+fn behind(tx: Transaction, plan: Plan<Leader>) -> Result<Plan<Leader>, OutOfMemory>
+    ensures { IfOk result (λ p. p ≡ record plan { tx = tx ++ plan.tx }) }
+{
+    let mut tx = tx;
+    tx.append(&plan.tx)?;
+    let Plan {
+        tx: _more,
+        out,
+        timers,
+        state,
+        next,
+    } = plan;
+    Ok(Plan {
+        tx,
+        out,
+        timers,
+        state,
+        next,
+    })
+}
+
+/// The values of an answer above the last version are learned.
+fn learn_news(tx: &mut Transaction, own: Version, answer: &Answer<'_>) -> Result<(), RoleStop>
+    requires short { AllByRecursion (λ ops. length (text ops) ≤ most) answer.now.values.now }
+    requires few { length answer.now.values.now ≤ 65535 }
+    ensures act { Learns (news_from own answer.now.start) (news own answer.now.start answer.now.values.now) result }
+    ensures changes { OnOk result (tx.new ≡ tx.old ++ spelled (learned (news_from own answer.now.start)
+        (news own answer.now.start answer.now.values.now))) }
+    ensures fit { OnOk result (AllByRecursion Fits (learned (news_from own answer.now.start) (news own answer.now.start answer.now.values.now))) }
+{
+    let next = own.get() + 1;
+    let start = answer.start.get();
+    let known = next.saturating_sub(start).min(answer.values.len() as u64) as usize;
+    learn(tx, start.max(next), &answer.values[known..])
+}
+
+/// An answer under the leader's own number: its values above the last version are learned first.
+fn hear_answer(
+    alloc: Global,
+    kv: &Kv,
+    me: &Me,
+    state: &Leader,
+    answer: &Answer<'_>,
+    now: Moment,
+) -> Result<Plan<Leader>, RoleStop>
+    requires short { AllByRecursion (λ ops. length (text ops) ≤ most) answer.now.values.now }
+    requires few { length answer.now.values.now ≤ 65535 }
+    requires found { may_begin_found state.now.found ≡ true }
+    requires told { may_begin_told answer.now.pending.now ≡ true }
+    ensures plans { (e : ℕ) → PlansRow me.now now leads (IsHeard (phases.Collecting ∷ []) answer.now.from e (readings_of kv.now) state.now)
+        (answer_row me.now now answer.now.from answer.now.last answer.now.whole answer.now.start answer.now.values.now
+        answer.now.pending.now) result }
+    ensures stays { IfOk result (λ p. p.next ≡ Next.Stay) }
+{
+    let own = Stored::of(alloc, kv).last();
+    let mut tx = Transaction::new(alloc);
+    match learn_news(&mut tx, own, answer) {
+        Ok(()) => {}
+        Err(stop) => return Err(stop),
+    }
+    match go_on_after(alloc, kv, &tx, me, state, answer, now) {
+        Ok(plan) => Ok(behind(tx, plan)?),
+        Err(stop) => Err(stop),
+    }
+}
+
+/// Whether a member lacks so much, or has so much more, that only a synchronisation helps the leader.
+fn is_behind(own: Version, answer: &Answer<'_>) -> bool
+    ensures { result ≡ (nat_lt (suc own) answer.now.first && nat_lt own answer.now.last) }
+{
+    own.get() + 1 < answer.first.get() && own.get() < answer.last.get()
+}
+
+/// A member answers the leader's collect.
+pub(crate) fn hear_last(
+    alloc: Global,
+    kv: &Kv,
+    me: &Me,
+    state: &Leader,
+    answer: &Answer<'_>,
+    now: Moment,
+) -> Result<Plan<Leader>, RoleStop>
+    requires short { AllByRecursion (λ ops. length (text ops) ≤ most) answer.now.values.now }
+    requires few { length answer.now.values.now ≤ 65535 }
+    requires found { may_begin_found state.now.found ≡ true }
+    requires told { may_begin_told answer.now.pending.now ≡ true }
+    ensures plans { (e : ℕ) → PlansRow me.now now leads (IsHeard (phases.Collecting ∷ []) answer.now.from e (readings_of kv.now) state.now)
+        (last_row me.now now answer.now.from e answer.now.pn answer.now.first answer.now.last answer.now.whole
+        answer.now.start answer.now.values.now answer.now.pending.now) result }
+    ensures leaves { (at : Phase) → IfOk result (λ p. Leaves at p.next p.tx) }
+{
+    let stored = Stored::of(alloc, kv);
+    if answer.pn.get() > state.pn.get() {
+        let out = Items::new(alloc);
+        let epoch = stored.epoch();
+        return collect(alloc, &stored, me, epoch, out, state.quorum, answer.pn, now);
+    }
+    if answer.pn.get() < state.pn.get() {
+        return Ok(stay(alloc, state.copy()?));
+    }
+    if is_behind(stored.last(), answer) {
+        return Ok(planned(alloc, state.copy()?, Next::Bootstrap));
+    }
+    hear_answer(alloc, kv, me, state, answer, now)
+}

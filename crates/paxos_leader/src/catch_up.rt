@@ -1,0 +1,86 @@
+//! Members that lack versions.
+
+ghost use Rattle.std.specs.Prelude.{◌≡◌, ◌++◌, flat_map, IfOk, OnOk};
+ghost use Rattle.mon_msg.specs.Protocol.Collecting.{commits_to};
+ghost use Rattle.mon_msg.specs.Protocol.Readings.{readings_of, epoch_of};
+ghost use Rattle.paxos_leader.specs.Drafts.{at_epoch};
+ghost use Rattle.paxos_leader.specs.Parts.{commits};
+
+use mon_bytes::{Items, OutOfMemory};
+use mon_msg::plan::Sent;
+use mon_msg::{Body, Leader, Me};
+use mon_plan::{Run, Stored, members, message};
+use mon_types::{Epoch, Rank, Version};
+use std::alloc::Global;
+
+/// How many bytes a COMMIT takes besides its values.
+const BESIDES: usize = 22;
+
+/// What follows the version that a member told, as much as one message takes, where there is something.
+fn commit_to(
+    alloc: Global,
+    stored: &Stored<'_>,
+    me: &Me,
+    epoch: Epoch,
+    lasts: &[Version; 15],
+    to: Rank,
+    out: &mut Items<Sent>,
+) -> Result<(), OutOfMemory>
+    ensures { OnOk result (out.new ≡ out.old ++ commits_to me.now (at_epoch epoch (readings_of stored.now)) lasts.now to) }
+{
+    let told = lasts[usize::from(to.get())];
+    if told.get() >= stored.last().get() {
+        return Ok(());
+    }
+    let next = Version::known(told.get() + 1);
+    let Run { values, .. } = stored.run(alloc, next.get(), BESIDES, BESIDES)?;
+    if values.is_empty() {
+        return Ok(());
+    }
+    let commit = Body::Commit { from: next, values };
+    out.push(message(me, epoch, commit, to))?;
+    Ok(())
+}
+
+/// The same for each of some members.
+fn catch_up(
+    alloc: Global,
+    stored: &Stored<'_>,
+    me: &Me,
+    epoch: Epoch,
+    lasts: &[Version; 15],
+    members: &[Rank],
+    out: &mut Items<Sent>,
+) -> Result<(), OutOfMemory>
+    ensures { OnOk result (out.new ≡ out.old ++ flat_map (commits_to me.now (at_epoch epoch (readings_of stored.now)) lasts.now) members.now) }
+{
+    for member in members {
+        commit_to(alloc, stored, me, epoch, lasts, *member, out)?;
+    }
+    Ok(())
+}
+
+/// Besides what was sent so far, each other member of the quorum is sent what follows the version that it told.
+pub(crate) fn send_missed(
+    alloc: Global,
+    stored: &Stored<'_>,
+    me: &Me,
+    epoch: Epoch,
+    state: &Leader,
+    out: Items<Sent>,
+) -> Result<Items<Sent>, OutOfMemory>
+    ensures { IfOk result (λ sent. sent ≡ out ++ commits me.now epoch (readings_of stored.now) state.now) }
+{
+    let peons = members(alloc, me, state.quorum)?;
+    let mut out = out;
+    catch_up(
+        alloc,
+        stored,
+        me,
+        epoch,
+        &state.lasts,
+        peons.as_slice(),
+        &mut out,
+    )?;
+    Ok(out)
+}

@@ -1,0 +1,50 @@
+//! What an event at a leader has done so far.
+
+ghost use Rattle.std.specs.Prelude.{◌≡◌, ◌++◌, [], map, IfOk};
+ghost use Rattle.mon_msg.specs.Protocol.Sending.{members as members_of, message_to};
+
+use mon_bytes::{Items, OutOfMemory};
+use mon_msg::plan::Sent;
+use mon_msg::{Body, Leader, Me};
+use mon_plan::{members, send_each};
+use mon_tx::Transaction;
+use mon_types::{Epoch, RankSet};
+use std::alloc::Global;
+
+/// What an event has written and sent so far, and what the leader remembers then.
+#[derive(Drop)]
+pub struct Draft {
+    pub tx: Transaction,
+    pub out: Items<Sent>,
+    pub state: Leader,
+}
+
+impl Draft {
+    /// Nothing is written or sent. It takes no memory.
+    pub fn new(alloc: Global, state: Leader) -> Draft
+        ensures { result ≡ record { tx = []; out = []; state = state } }
+    {
+        Draft {
+            tx: Transaction::new(alloc),
+            out: Items::new(alloc),
+            state,
+        }
+    }
+}
+
+/// Besides what was sent so far, the same message goes to the other members of a quorum.
+pub(crate) fn tell(
+    alloc: Global,
+    out: Items<Sent>,
+    me: &Me,
+    epoch: Epoch,
+    quorum: RankSet,
+    body: &Body,
+) -> Result<Items<Sent>, OutOfMemory>
+    ensures { IfOk result (λ sent. sent ≡ out ++ map (message_to me.now epoch body.now) (members_of me.now quorum)) }
+{
+    let peons = members(alloc, me, quorum)?;
+    let mut out = out;
+    send_each(alloc, &mut out, me, epoch, peons.as_slice(), body)?;
+    Ok(out)
+}

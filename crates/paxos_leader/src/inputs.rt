@@ -1,0 +1,354 @@
+//! What a leader does at each of its inputs, as it begins to lead, and when a command's value is begun.
+
+ghost use Rattle.std.specs.Prelude.{◌≡◌, ℕ, ◌≤◌, ◌&&◌, ◌==◌, ◌∷◌, [], List, length, map, true, Some, IfOk};
+ghost use Rattle.mon_bytes.specs.declared.entry.Entry.{Entry};
+ghost use Rattle.mon_msg.specs.Protocol.Hearing.{hear as hears};
+ghost use Rattle.mon_msg.specs.Protocol.Leader.{is_one_of, renew as renew_row};
+ghost use Rattle.mon_msg.specs.Protocol.Leading.{begin_alone as begun_alone};
+ghost use Rattle.mon_msg.specs.Protocol.Length.{fits};
+ghost use Rattle.mon_msg.specs.Protocol.Readings.{epoch_of, readings_of};
+ghost use Rattle.mon_msg.specs.Protocol.Records.{may_begin};
+ghost use Rattle.mon_msg.specs.Protocol.Sending.{answers_to, members as members_of, message_to};
+ghost use Rattle.mon_msg.specs.Protocol.Table.{timer_comes};
+ghost use Rattle.mon_plan.specs.Inputs.{may_come, row};
+ghost use Rattle.mon_plan.specs.Leaves.{Leaves};
+ghost use Rattle.mon_plan.specs.Plans.{Plans, PlansAct, PlansRow, leads};
+ghost use Rattle.mon_plan.specs.Seen.{IsMet};
+ghost use Rattle.mon_tx.specs.Map.{apply};
+ghost use Rattle.mon_tx.specs.Text.{text, most};
+ghost use Rattle.mon_types.specs.Ranks.{has};
+ghost use Rattle.mon_wire.specs.declared.phase.Phase.TheVariants as phases;
+ghost use Rattle.paxos_leader.specs.Drafts.{IsLed, IsWon};
+ghost use Rattle.paxos_leader.specs.Inputs.{is_input, is_own, is_told, may_begin_all, phases_for};
+
+use crate::acts::{at_rest, be_active, begin_with, leads_alone};
+use crate::answers::{Answer, hear_last};
+use crate::collecting::collect;
+use crate::draft::{Draft, tell};
+use crate::values::{hear_accept, hear_lease_ack};
+use mon_bytes::{Items, OutOfMemory};
+use mon_kv::Kv;
+use mon_msg::input::Input;
+use mon_msg::plan::Sent;
+use mon_msg::{
+    Body, Leader, LeaderStage, Me, Message, Next, Origin, Phase, Plan, Reply, RoleStop, Timer, View,
+};
+use mon_plan::{Stored, answer, learn, planned, stay};
+use mon_tx::Transaction;
+use mon_types::{Epoch, Moment, Pn, RankSet, Version, Which};
+use std::alloc::Global;
+
+fn collects(phase: Phase) -> bool
+    ensures { result ≡ is_one_of (phases.Collecting ∷ []) phase }
+{
+    match phase {
+        Phase::Collecting => true,
+        Phase::Booting
+        | Phase::Probing
+        | Phase::Synchronizing
+        | Phase::Electing
+        | Phase::Previous
+        | Phase::Active
+        | Phase::Updating
+        | Phase::Peon => false,
+    }
+}
+
+fn has_begun(phase: Phase) -> bool
+    ensures { result ≡ is_one_of (phases.Previous ∷ phases.Updating ∷ []) phase }
+{
+    match phase {
+        Phase::Previous | Phase::Updating => true,
+        Phase::Booting
+        | Phase::Probing
+        | Phase::Synchronizing
+        | Phase::Electing
+        | Phase::Collecting
+        | Phase::Active
+        | Phase::Peon => false,
+    }
+}
+
+fn is_active(phase: Phase) -> bool
+    ensures { result ≡ is_one_of (phases.Active ∷ []) phase }
+{
+    match phase {
+        Phase::Active => true,
+        Phase::Booting
+        | Phase::Probing
+        | Phase::Synchronizing
+        | Phase::Electing
+        | Phase::Collecting
+        | Phase::Previous
+        | Phase::Updating
+        | Phase::Peon => false,
+    }
+}
+
+/// Whether a message is heard in a phase.
+fn is_for(phase: Phase, body: &Body) -> bool
+    requires { is_told body.now ≡ true }
+    ensures { result ≡ is_one_of (phases_for body.now) phase }
+{
+    match body {
+        Body::Last { .. } => collects(phase),
+        Body::Accept { .. } => has_begun(phase),
+        Body::LeaseAck { .. } => is_active(phase),
+        _ => unreachable!(),
+    }
+}
+
+/// Whether a message is of this epoch, from a member of the leader's quorum, and is heard in the leader's phase.
+fn is_ours(epoch: Epoch, view: &View, state: &Leader, message: &Message) -> bool
+    requires { is_told message.now.body ≡ true }
+    ensures { result ≡ (is_one_of (phases_for message.now.body) view.now.phase && message.now.epoch == epoch
+        && has state.now.quorum message.now.from) }
+{
+    is_for(view.phase, &message.body)
+        && message.epoch.get() == epoch.get()
+        && state.quorum.has(message.from)
+}
+
+/// A message, which is dropped where it isn't of a member in this epoch, or the leader isn't in a phase for it.
+fn hear(
+    alloc: Global,
+    kv: &Kv,
+    me: &Me,
+    view: &View,
+    state: &Leader,
+    message: &Message,
+    now: Moment,
+) -> Result<Plan<Leader>, RoleStop>
+    requires input { is_told message.now.body ≡ true }
+    requires fits { fits me.now.member.monitors message.now.body ≡ true }
+    requires held { may_begin_all state.now ≡ true }
+    ensures plans { (shared : List Entry) → PlansRow me.now now leads (IsMet me.now now (readings_of kv.now) view.now (λ s. s.leader) state.now)
+        (hears me.now shared now message.now.from message.now.epoch message.now.body) result }
+    ensures leaves { IfOk result (λ p. Leaves view.now.phase p.next p.tx) }
+{
+    let epoch = Stored::of(alloc, kv).epoch();
+    if !is_ours(epoch, view, state, message) {
+        return Ok(stay(alloc, state.copy()?));
+    }
+    let from = message.from;
+    match &message.body {
+        Body::Last {
+            pn,
+            first,
+            last,
+            whole,
+            from: start,
+            values,
+            pending,
+        } => {
+            let answer = Answer {
+                from,
+                pn: *pn,
+                first: *first,
+                last: *last,
+                whole: *whole,
+                start: *start,
+                values: values.as_slice(),
+                pending,
+            };
+            hear_last(alloc, kv, me, state, &answer, now)
+        }
+        Body::Accept { pn, version } => {
+            hear_accept(alloc, kv, me, state, from, *pn, *version, now)
+        }
+        Body::LeaseAck { last } => hear_lease_ack(alloc, kv, me, state, from, *last),
+        _ => unreachable!(),
+    }
+}
+
+/// It is time to give leases again.
+fn renew(
+    alloc: Global,
+    kv: &Kv,
+    me: &Me,
+    view: &View,
+    state: &Leader,
+    now: Moment,
+) -> Result<Plan<Leader>, RoleStop>
+    ensures plans { PlansRow me.now now leads (IsMet me.now now (readings_of kv.now) view.now (λ s. s.leader) state.now)
+        (renew_row me.now now) result }
+    ensures stays { IfOk result (λ p. p.next ≡ Next.Stay) }
+{
+    let state = state.copy()?;
+    if !is_active(view.phase) {
+        return Ok(stay(alloc, state));
+    }
+    let stored = Stored::of(alloc, kv);
+    let draft = Draft::new(alloc, state);
+    Ok(be_active(alloc, me, stored.epoch(), stored.last(), draft, now)?)
+}
+
+/// A timer of its own comes. But for the one that renews leases it means that its quorum is lost.
+fn ring(
+    alloc: Global,
+    kv: &Kv,
+    me: &Me,
+    view: &View,
+    state: &Leader,
+    kind: Timer,
+    now: Moment,
+) -> Result<Plan<Leader>, RoleStop>
+    requires { is_own kind ≡ true }
+    ensures plans { PlansRow me.now now leads (IsMet me.now now (readings_of kv.now) view.now (λ s. s.leader) state.now)
+        (timer_comes me.now now kind) result }
+    ensures leaves { IfOk result (λ p. Leaves view.now.phase p.next p.tx) }
+{
+    match kind {
+        Timer::Renew => renew(alloc, kv, me, view, state, now),
+        _ => Ok(planned(alloc, state.copy()?, Next::Bootstrap)),
+    }
+}
+
+/// What a leader does at a LAST, ACCEPT or LEASE_ACK that is heard, and when a timer of its own, which was armed, comes and is
+/// disarmed: its row of the protocol's table. A message that isn't of a member of its quorum in its epoch is dropped, and so
+/// is one that comes in a phase that isn't for it. `Spent` names the proposal number or the version that would pass 2^62.
+pub fn step(
+    alloc: Global,
+    kv: &Kv,
+    me: &Me,
+    view: &View,
+    state: &Leader,
+    input: &Input,
+    now: Moment,
+) -> Result<Plan<Leader>, RoleStop>
+    requires input { is_input input.now ≡ true }
+    requires fits { may_come me.now.member.monitors input.now ≡ true }
+    requires held { may_begin_all state.now ≡ true }
+    ensures plans { (shared : List Entry) → PlansRow me.now now leads (IsMet me.now now (readings_of kv.now) view.now (λ s. s.leader) state.now)
+        (row me.now shared now input.now) result }
+    ensures leaves { IfOk result (λ p. Leaves view.now.phase p.next p.tx) }
+{
+    match input {
+        Input::Deliver(message) => hear(alloc, kv, me, view, state, message, now),
+        Input::Timer(kind) => ring(alloc, kv, me, view, state, *kind, now),
+        Input::Start | Input::Client(..) => unreachable!(),
+    }
+}
+
+/// The message to the quorum that this monitor has won.
+fn tell_victory(
+    alloc: Global,
+    me: &Me,
+    epoch: Epoch,
+    quorum: RankSet,
+) -> Result<Items<Sent>, OutOfMemory>
+    ensures { IfOk result (λ sent. sent ≡ map (message_to me.now epoch (Body.Victory quorum)) (members_of me.now quorum)) }
+{
+    let victory = Body::Victory { quorum };
+    tell(alloc, Items::new(alloc), me, epoch, quorum, &victory)
+}
+
+/// It has won, and begins to lead this quorum: it asks it under a new number what was accepted. `epoch` is the epoch that it
+/// has now. `Spent` names that number where it would pass 2^62, or the version after the last one.
+pub fn enter(
+    alloc: Global,
+    kv: &Kv,
+    me: &Me,
+    epoch: Epoch,
+    quorum: RankSet,
+    now: Moment,
+) -> Result<Plan<Leader>, RoleStop>
+    ensures plans { PlansAct me.now now leads (IsWon epoch (readings_of kv.now)) (Next.Win quorum) result }
+    ensures stays { IfOk result (λ p. p.next ≡ Next.Stay) }
+{
+    let out = tell_victory(alloc, me, epoch, quorum)?;
+    let stored = Stored::of(alloc, kv);
+    let above = Pn::known(0);
+    collect(alloc, &stored, me, epoch, out, quorum, above, now)
+}
+
+/// The answer to whoever waits for a version that these changes commit.
+fn answers(
+    alloc: Global,
+    kv: &Kv,
+    me: &Me,
+    tx: &Transaction,
+    version: Version,
+    origin: Origin,
+) -> Result<Items<Sent>, OutOfMemory>
+    ensures { IfOk result (λ sent. sent ≡ answers_to me.now (epoch_of (readings_of (apply tx.now kv.now))) (Some origin) (Reply.Done version)) }
+{
+    let epoch = Stored::after(alloc, kv, tx)?.epoch();
+    let mut out = Items::new(alloc);
+    out.push(answer(me, epoch, origin, Reply::Done { version }))?;
+    Ok(out)
+}
+
+/// A leader alone commits a value at once, and answers whoever waits for it.
+fn begin_answered(
+    alloc: Global,
+    kv: &Kv,
+    me: &Me,
+    state: Leader,
+    version: Version,
+    value: Transaction,
+    origin: Origin,
+) -> Result<Plan<Leader>, RoleStop>
+    requires short { length (text value) ≤ most }
+    requires above { 1 ≤ version }
+    ensures plans { (now : ℕ) → Plans me.now now leads (IsLed (readings_of kv.now) state) (λ x. x)
+        (begun_alone me.now version value (Some origin)) result }
+    ensures stays { IfOk result (λ p. p.next ≡ Next.Stay) }
+{
+    let mut tx = Transaction::new(alloc);
+    match learn(&mut tx, version.get(), &[value]) {
+        Ok(()) => {}
+        Err(stop) => return Err(stop),
+    }
+    let out = answers(alloc, kv, me, &tx, version, origin)?;
+    Ok(Plan {
+        tx,
+        out,
+        timers: Items::new(alloc),
+        state: at_rest(state),
+        next: Next::Stay,
+    })
+}
+
+/// The value of a command is begun for the version after the last one. A quorum of the leader alone commits it at once. `Spent`
+/// names the version where it would pass 2^62.
+pub fn begin(
+    alloc: Global,
+    kv: &Kv,
+    me: &Me,
+    state: &Leader,
+    value: &Transaction,
+    origin: &Origin,
+    now: Moment,
+) -> Result<Plan<Leader>, RoleStop>
+    requires { may_begin value.now ≡ true }
+    ensures plans { PlansAct me.now now leads (IsLed (readings_of kv.now) state.now) (Next.Begin value.now origin.now) result }
+    ensures stays { IfOk result (λ p. p.next ≡ Next.Stay) }
+{
+    let stored = Stored::of(alloc, kv);
+    let Some(version) = stored.last().plus_one() else {
+        return Err(RoleStop::Spent {
+            which: Which::Version,
+        });
+    };
+    let value = value.copy()?;
+    let state = state.copy()?;
+    let alone = leads_alone(alloc, me, &state)?;
+    if alone {
+        return begin_answered(alloc, kv, me, state, version, value, *origin);
+    }
+    let epoch = stored.epoch();
+    let draft = Draft::new(alloc, state);
+    let stage = LeaderStage::Updating;
+    begin_with(
+        alloc,
+        me,
+        epoch,
+        draft,
+        stage,
+        version,
+        value,
+        Some(*origin),
+        now,
+    )
+}

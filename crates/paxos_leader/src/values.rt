@@ -1,0 +1,312 @@
+//! What a leader does when members accept its value and take its leases.
+
+ghost use Rattle.std.specs.Prelude.{◌≡◌, ℕ, ◌≤◌, [], ◌∷◌, ◌++◌, length, map, true, None, Some, IfOk};
+ghost use Rattle.mon_msg.specs.Protocol.Leader.{commit_any as commits_any, hear_accept as accept_row, hear_lease_ack as ack_row};
+ghost use Rattle.mon_msg.specs.Protocol.Leading.{commit as commits};
+ghost use Rattle.mon_msg.specs.Protocol.Readings.{readings_of, epoch_of};
+ghost use Rattle.mon_msg.specs.Protocol.Sending.{answers_to, members as members_of, message_to};
+ghost use Rattle.mon_msg.specs.Protocol.Sets.{are_within as within};
+ghost use Rattle.mon_msg.specs.declared.plan.Arming.TheVariants as arming;
+ghost use Rattle.mon_tx.specs.Map.{apply};
+ghost use Rattle.mon_tx.specs.Text.{text, most};
+ghost use Rattle.mon_types.specs.Ranks.{with_rank};
+ghost use Rattle.mon_wire.specs.declared.phase.Phase.TheVariants as phase;
+ghost use Rattle.mon_plan.specs.Plans.{PlansRow, leads};
+ghost use Rattle.paxos_leader.specs.Drafts.{GoesOn, IsHere, IsVoted};
+ghost use Rattle.paxos_leader.specs.Inputs.{may_begin_any};
+ghost use Rattle.paxos_leader.specs.Parts.{announced, without_value};
+ghost use Rattle.paxos_leader.specs.Rows.{IsHeard};
+
+use crate::acts::be_active;
+use crate::draft::{Draft, tell};
+use crate::sets::are_within;
+use crate::timers::one_timer;
+use mon_bytes::{Items, OutOfMemory};
+use mon_kv::Kv;
+use mon_msg::plan::Sent;
+use mon_msg::{Body, Leader, Me, Next, Origin, Plan, Reply, RoleStop, Timer};
+use mon_plan::{Stored, answer, disarmed, learn, stay};
+use mon_tx::Transaction;
+use mon_types::{Epoch, Moment, Pn, Rank, RankSet, Version, Which};
+use std::alloc::Global;
+
+/// Whoever waits for a version hears that it is committed.
+fn answered(
+    me: &Me,
+    epoch: Epoch,
+    origin: Option<Origin>,
+    version: Version,
+    plan: Plan<Leader>,
+) -> Result<Plan<Leader>, OutOfMemory>
+    ensures { IfOk result (λ p. p ≡ record plan { out = plan.out ++ answers_to me.now epoch origin (Reply.Done version) }) }
+{
+    match origin {
+        None => Ok(plan),
+        Some(origin) => {
+            let mut plan = plan;
+            plan.out
+                .push(answer(me, epoch, origin, Reply::Done { version }))?;
+            Ok(plan)
+        }
+    }
+}
+
+/// What a leader remembers that has no value any more.
+fn without_value(state: Leader) -> Leader
+    ensures { result ≡ without_value state }
+{
+    Leader {
+        value: None,
+        origin: None,
+        ..state
+    }
+}
+
+/// The message to the members that these values are committed.
+fn tell_commit(
+    alloc: Global,
+    me: &Me,
+    epoch: Epoch,
+    quorum: RankSet,
+    from: Version,
+    values: Items<Transaction>,
+) -> Result<Items<Sent>, OutOfMemory>
+    ensures { IfOk result (λ sent. sent ≡ map (message_to me.now epoch (Body.Commit from values)) (members_of me.now quorum)) }
+{
+    let commit = Body::Commit { from, values };
+    tell(alloc, Items::new(alloc), me, epoch, quorum, &commit)
+}
+
+/// The members hear of values that are committed, and whoever waits for the first of them is answered.
+fn announce(
+    alloc: Global,
+    me: &Me,
+    epoch: Epoch,
+    last: Version,
+    tx: Transaction,
+    state: Leader,
+    version: Version,
+    values: Items<Transaction>,
+    now: Moment,
+) -> Result<Plan<Leader>, OutOfMemory>
+    ensures goes { IfOk result (λ p. GoesOn me.now now (IsHere epoch last) (record { tx = tx; out = []; state = state })
+        (announced me.now now version values) (Ok p)) }
+    ensures stays { IfOk result (λ p. p.next ≡ Next.Stay) }
+{
+    let origin = state.origin;
+    let out = tell_commit(alloc, me, epoch, state.quorum, version, values)?;
+    let state = without_value(state);
+    let draft = Draft { tx, out, state };
+    let plan = be_active(alloc, me, epoch, last, draft, now)?;
+    Ok(answered(me, epoch, origin, version, plan)?)
+}
+
+/// The same, by what the store tells after the changes so far.
+fn announce_after(
+    alloc: Global,
+    kv: &Kv,
+    me: &Me,
+    tx: Transaction,
+    state: Leader,
+    version: Version,
+    values: Items<Transaction>,
+    now: Moment,
+) -> Result<Plan<Leader>, OutOfMemory>
+    ensures goes { IfOk result (λ p. GoesOn me.now now (IsHere (epoch_of (readings_of (apply tx kv.now))) (readings_of (apply tx kv.now)).last)
+        (record { tx = tx; out = []; state = state }) (announced me.now now version values) (Ok p)) }
+    ensures stays { IfOk result (λ p. p.next ≡ Next.Stay) }
+{
+    let (epoch, last) = standing(alloc, kv, &tx)?;
+    announce(alloc, me, epoch, last, tx, state, version, values, now)
+}
+
+/// The epoch and the last version after changes.
+fn standing(alloc: Global, kv: &Kv, tx: &Transaction) -> Result<(Epoch, Version), OutOfMemory>
+    ensures { IfOk result (λ here. here ≡ (epoch_of (readings_of (apply tx.now kv.now)), (readings_of (apply tx.now kv.now)).last)) }
+{
+    let stored = Stored::after(alloc, kv, tx)?;
+    Ok((stored.epoch(), stored.last()))
+}
+
+/// The list of one value.
+fn one_value(alloc: Global, value: Transaction) -> Result<Items<Transaction>, OutOfMemory>
+    ensures { IfOk result (λ values. values ≡ value ∷ []) }
+{
+    let mut values = Items::new(alloc);
+    values.push(value)?;
+    Ok(values)
+}
+
+/// All of the quorum accepted the value, which is committed.
+fn commit(
+    alloc: Global,
+    kv: &Kv,
+    me: &Me,
+    state: Leader,
+    value: Transaction,
+    now: Moment,
+) -> Result<Plan<Leader>, RoleStop>
+    requires { length (text value) ≤ most }
+    ensures goes { GoesOn me.now now (IsVoted (readings_of kv.now)) (record { tx = []; out = []; state = record state { value = Some value } })
+        (commits me.now now value) result }
+    ensures stays { IfOk result (λ p. p.next ≡ Next.Stay) }
+{
+    let Some(version) = Stored::of(alloc, kv).last().plus_one() else {
+        return Err(RoleStop::Spent {
+            which: Which::Version,
+        });
+    };
+    let values = one_value(alloc, value)?;
+    let mut tx = Transaction::new(alloc);
+    match learn(&mut tx, version.get(), values.as_slice()) {
+        Ok(()) => {}
+        Err(stop) => return Err(stop),
+    }
+    Ok(announce_after(alloc, kv, me, tx, state, version, values, now)?)
+}
+
+/// The value is taken out of what a leader remembers.
+fn take_value(state: Leader) -> (Leader, Option<Transaction>)
+    ensures { result ≡ (record state { value = None }, state.value) }
+{
+    let Leader {
+        quorum,
+        pn,
+        stage,
+        answered,
+        lasts,
+        found,
+        accepted,
+        value,
+        origin,
+        lease,
+        acks,
+    } = state;
+    let state = Leader {
+        quorum,
+        pn,
+        stage,
+        answered,
+        lasts,
+        found,
+        accepted,
+        value: None,
+        origin,
+        lease,
+        acks,
+    };
+    (state, value)
+}
+
+/// All of the quorum accepted the leader's value, which is committed.
+fn commit_any(
+    alloc: Global,
+    kv: &Kv,
+    me: &Me,
+    state: Leader,
+    now: Moment,
+) -> Result<Plan<Leader>, RoleStop>
+    requires { may_begin_any state.value ≡ true }
+    ensures goes { GoesOn me.now now (IsVoted (readings_of kv.now)) (record { tx = []; out = []; state = state })
+        (commits_any me.now now state.value) result }
+    ensures stays { IfOk result (λ p. p.next ≡ Next.Stay) }
+{
+    let (state, value) = take_value(state);
+    match value {
+        None => Ok(stay(alloc, state)),
+        Some(value) => commit(alloc, kv, me, state, value, now),
+    }
+}
+
+/// What a leader remembers once a member accepted its value.
+fn with_vote(state: &Leader, from: Rank) -> Result<Leader, OutOfMemory>
+    ensures { IfOk result (λ l. l ≡ record state.now { accepted = with_rank state.now.accepted from }) }
+{
+    let mut state = state.copy()?;
+    state.accepted = state.accepted.with(from);
+    Ok(state)
+}
+
+/// Whether all of the quorum accepted the leader's value.
+fn all_accepted(me: &Me, state: &Leader) -> bool
+    ensures { result ≡ within me.now.member.monitors state.now.quorum state.now.accepted }
+{
+    are_within(me, state.quorum, state.accepted)
+}
+
+/// A member accepted a value.
+pub(crate) fn hear_accept(
+    alloc: Global,
+    kv: &Kv,
+    me: &Me,
+    state: &Leader,
+    from: Rank,
+    pn: Pn,
+    version: Version,
+    now: Moment,
+) -> Result<Plan<Leader>, RoleStop>
+    requires { may_begin_any state.now.value ≡ true }
+    ensures plans { (e : ℕ) → PlansRow me.now now leads (IsHeard (phase.Previous ∷ phase.Updating ∷ []) from e (readings_of kv.now) state.now)
+        (accept_row me.now now from e pn version) result }
+    ensures stays { IfOk result (λ p. p.next ≡ Next.Stay) }
+{
+    if pn.get() != state.pn.get() {
+        return Ok(stay(alloc, state.copy()?));
+    }
+    let next = Stored::of(alloc, kv).last().get() + 1;
+    if version.get() != next {
+        return Ok(stay(alloc, state.copy()?));
+    }
+    let state = with_vote(state, from)?;
+    if !all_accepted(me, &state) {
+        return Ok(stay(alloc, state));
+    }
+    commit_any(alloc, kv, me, state, now)
+}
+
+/// What a leader remembers once a member took its lease.
+fn with_ack(state: &Leader, from: Rank) -> Result<Leader, OutOfMemory>
+    ensures { IfOk result (λ l. l ≡ record state.now { acks = with_rank state.now.acks from }) }
+{
+    let mut state = state.copy()?;
+    state.acks = state.acks.with(from);
+    Ok(state)
+}
+
+/// All of the quorum took the lease: nobody is waited for.
+fn all_acked(alloc: Global, state: Leader) -> Result<Plan<Leader>, OutOfMemory>
+    ensures { IfOk result (λ p. p ≡ record { tx = []; out = []; timers = arming.Disarm Timer.LeaseAck ∷ []; state = state; next = Next.Stay }) }
+{
+    let timers = one_timer(alloc, disarmed(Timer::LeaseAck))?;
+    Ok(Plan {
+        tx: Transaction::new(alloc),
+        out: Items::new(alloc),
+        timers,
+        state,
+        next: Next::Stay,
+    })
+}
+
+/// A member took the lease.
+pub(crate) fn hear_lease_ack(
+    alloc: Global,
+    kv: &Kv,
+    me: &Me,
+    state: &Leader,
+    from: Rank,
+    last: Version,
+) -> Result<Plan<Leader>, RoleStop>
+    ensures plans { (now e : ℕ) → PlansRow me.now now leads (IsHeard (phase.Active ∷ []) from e (readings_of kv.now) state.now)
+        (ack_row me.now from e last) result }
+    ensures stays { IfOk result (λ p. p.next ≡ Next.Stay) }
+{
+    let own = Stored::of(alloc, kv).last();
+    if last.get() != own.get() {
+        return Ok(stay(alloc, state.copy()?));
+    }
+    let state = with_ack(state, from)?;
+    if !are_within(me, state.quorum, state.acks) {
+        return Ok(stay(alloc, state));
+    }
+    Ok(all_acked(alloc, state)?)
+}
