@@ -10,7 +10,8 @@ use Rattle.mon_bytes.specs.declared.entry.Entry.{Entry}
 use Rattle.mon_lease.specs.Lease as lease
 use Rattle.mon_lease.specs.Lease.{readable}
 use Rattle.mon_msg.specs.Protocol.Answers.{answer_of, last_answer, tells_all, told_of, told_values}
-use Rattle.mon_msg.specs.Protocol.Chunks.{copy, hear_chunk, hear_last_chunk, is_ours, take}
+use Rattle.mon_msg.specs.Protocol.Changes.{Last, Learn}
+use Rattle.mon_msg.specs.Protocol.Chunks.{copy, hear_chunk, hear_last_chunk, is_ours, take, takes_chunks}
 use Rattle.mon_msg.specs.Protocol.Collecting.{begin_found, collect, collect_with, commits_to, commits_with, missed, reign, settle}
 use Rattle.mon_msg.specs.Protocol.Commands.{ask, at_leader, at_peon, hear_forward, hear_route, is_too_long, may_propose, most_waiting, propose_due, too_long}
 use Rattle.mon_msg.specs.Protocol.Copying.{awaits_cookie, hear_cookie, hear_no_cookie, of_provider, same_flag}
@@ -25,7 +26,7 @@ use Rattle.mon_msg.specs.Protocol.Learning.{learn, news, news_from}
 use Rattle.mon_msg.specs.Protocol.Peon.{cancel, hear_begin, hear_collect, hear_commit, hear_lease, of_leader, promise}
 use Rattle.mon_msg.specs.Protocol.Phases.{is_leading, is_member, is_peon, same_phase, votes}
 use Rattle.mon_msg.specs.Protocol.Pings.{hear_ping, hear_ping_reply, measure, ping}
-use Rattle.mon_msg.specs.Protocol.Places.{is_after, is_cookie, no_cookie, same_cookie}
+use Rattle.mon_msg.specs.Protocol.Places.{is_after, is_cookie, no_cookie, same_cookie, same_place}
 use Rattle.mon_msg.specs.Protocol.Probing.{hear_probe, hear_probe_reply, lag}
 use Rattle.mon_msg.specs.Protocol.Proposing.{asked_of, begin_made, propose, propose_first, propose_next, refusal}
 use Rattle.mon_msg.specs.Protocol.Providing.{chunk, given_entries, given_values, grant, hear_get_chunk, hear_get_cookie_full, hear_get_cookie_recent, is_finished, reach}
@@ -77,11 +78,11 @@ use Rattle.mon_wire.specs.declared.request.Service.{Service}
 use Rattle.mon_wire.specs.declared.request.Session.{Session}
 use Rattle.quorum_agreement.proofs.Accepting.{begun, begun_is, then_map}
 use Rattle.quorum_agreement.proofs.Lone.{active_is}
-use Rattle.quorum_history.proofs.Phases.{collecting_is}
+use Rattle.quorum_history.proofs.Phases.{collecting_is, no, peon_is_peon}
 use Rattle.quorum_walk.proofs.Lists.{all_append, all_flat_map, all_of}
 use Rattle.quorum_walk.proofs.Walk.{Then, and_then, and_three, by_test, done, where_fits}
 use Rattle.std.proofs.Common.{Bool, Err, List, None, Ok, Option, Result, Some, [], ap, arith, eqb, false, inl, inr, leb, length, ltb, map, max, not, refl, subst, suc, sym, true, ℕ, ◌&&◌, ◌+◌, ◌++◌, ◌-◌, ◌||◌, ◌∙◌, ◌∷◌, ◌≡◌, ◌⊎◌}
-use Rattle.std.proofs.lemmas.Bool.{and_parts, cond_both, eqb-true, not-false}
+use Rattle.std.proofs.lemmas.Bool.{and_parts, cond_both, eqb-true, not-false, or_parts}
 use Rattle.std.specs.List.{AllByRecursion, filter, flat_map}
 use Rattle.std.specs.Prelude.{is_some, slice_index_or, slice_set}
 
@@ -124,40 +125,55 @@ chunk_plain last c p left n records =
     let es = given_entries last c p left n values in
     cond_both (reach last p values && is_finished p left es) (body.LastChunk c p values es last) (body.Chunk c p values es (is_finished p left es)) IsPlainBody (λ t. tt) (λ t. tt)
 
+pub peon_leads_not : (p : Phase) → is_peon p ≡ true → is_leading p ≡ false
+peon_leads_not p e = ap is_leading (peon_is_peon p e)
+
+sync_leads_not : (p : Phase) → same_phase p phase.Synchronizing ≡ true → is_leading p ≡ false
+sync_leads_not phase.Synchronizing t = refl
+sync_leads_not phase.Booting t = refl
+sync_leads_not phase.Probing t = refl
+sync_leads_not phase.Electing t = refl
+sync_leads_not phase.Collecting t = no t
+sync_leads_not phase.Previous t = no t
+sync_leads_not phase.Active t = no t
+sync_leads_not phase.Updating t = no t
+sync_leads_not phase.Peon t = refl
+
 -- ---- an event, from what the store told and what was remembered before it
 
-module _ (me : Me) (now : ℕ) (w : Readings) (s : State) (From : Command → Origin → Type 0) (Routed : (f e seq : ℕ) → Reply → Type 0) (Voted : (f pn v : ℕ) → Type 0) where
+module _ (me : Me) (now : ℕ) (w : Readings) (s : State) (From : ℕ → Command → Origin → Type 0) (Routed : (f e seq : ℕ) → Reply → Type 0) (Voted : (f pn v : ℕ) → Type 0) where
   -- a value that is begun: a command's of which so much is known
-  pub record Begun (l : Leader) : Type 0 where
+  pub record Begun (l : Leader) (e : ℕ) : Type 0 where
+    pub epoch : e ≡ epoch_of w
     pub origin : Origin
     pub command : Command
     pub ops : List Op
-    pub from : From command origin
+    pub from : From (epoch_of w) command origin
     pub is : l.origin ≡ Some origin
     pub proposes : l.value ≡ Some ops
     pub made : value w command (asked_of me origin) ≡ Ok ops
 
   -- it goes on with what it had
-  pub record Keeps (l : Leader) : Type 0 where
+  pub record Keeps (l : Leader) (e : ℕ) : Type 0 where
+    pub epoch : e ≡ epoch_of w
     pub updating : s.phase ≡ phase.Updating
     pub origin : l.origin ≡ s.leader.origin
     pub proposes : l.value ≡ s.leader.value
     pub number : l.pn ≡ s.leader.pn
 
   -- before a leader is active it gave no lease, and what it repeats nobody waits for
-  abbrev pub Lead : Phase → Leader → Type 0
-  Lead phase.Collecting l = l.lease ≡ None
-  Lead phase.Previous l = (l.lease ≡ None) × (l.origin ≡ None)
-  Lead phase.Updating l = Keeps l ⊎ Begun l
-  Lead other l = Unit {0}
+  abbrev pub Lead : Phase → Leader → ℕ → Type 0
+  Lead phase.Collecting l e = l.lease ≡ None
+  Lead phase.Previous l e = (l.lease ≡ None) × (l.origin ≡ None)
+  Lead phase.Updating l e = Keeps l e ⊎ Begun l e
+  Lead other l e = Unit {0}
 
   pub record Calm (y : Course) : Type 0 where
     pub out : AllPlain y.out
-    pub lead : Lead y.state.phase y.state.leader
+    pub lead : Lead y.state.phase y.state.leader (epoch_of y.readings)
 
   -- all of its quorum accepted what it proposed for a command
-  pub record Completes (o : Origin) : Type 0 where
-    pub ops : List Op
+  pub record Completes (o : Origin) (ops : List Op) : Type 0 where
     pub proposed : s.leader.value ≡ Some ops
     pub waits : s.leader.origin ≡ Some o
     pub in_phase : (s.phase ≡ phase.Previous) ⊎ (s.phase ≡ phase.Updating)
@@ -166,16 +182,17 @@ module _ (me : Me) (now : ℕ) (w : Readings) (s : State) (From : Command → Or
     pub whole : are_within me.member.monitors s.leader.quorum (with_rank s.leader.accepted voter) ≡ true
 
   -- or it is its whole quorum
-  pub record AtOnce (o : Origin) : Type 0 where
+  pub record AtOnce (o : Origin) (ops : List Op) : Type 0 where
     pub command : Command
-    pub ops : List Op
-    pub from : From command o
+    pub from : From (epoch_of w) command o
     pub made : value w command (asked_of me o) ≡ Ok ops
     pub active : s.phase ≡ phase.Active
     pub alone : is_alone me s.leader.quorum ≡ true
 
   pub record Acks (y : Course) : Type 0 where
     pub origin : Origin
+    pub ops : List Op
+    pub changes : y.changes ≡ Learn (suc w.last) ops ∷ Last (suc w.last) ∷ []
     pub plain : List Sent
     pub all : AllPlain plain
     pub out : y.out ≡ plain ++ answer_to me (epoch_of y.readings) origin (reply.Done (suc w.last)) ∷ []
@@ -183,7 +200,7 @@ module _ (me : Me) (now : ℕ) (w : Readings) (s : State) (From : Command → Or
     pub active : y.state.phase ≡ phase.Active
     pub number : y.state.leader.pn ≡ s.leader.pn
     pub quorum : y.state.leader.quorum ≡ s.leader.quorum
-    pub how : Completes origin ⊎ AtOnce origin
+    pub how : Completes origin ops ⊎ AtOnce origin ops
 
   -- what is shown of a service
   abbrev pub IsRead : Reply → Type 0
@@ -219,7 +236,7 @@ module _ (me : Me) (now : ℕ) (w : Readings) (s : State) (From : Command → Or
 
   -- ---- small steps
 
-  quiet : (y : Course) → AllPlain y.out → Lead y.state.phase y.state.leader → Then Outcome (Ok y)
+  quiet : (y : Course) → AllPlain y.out → Lead y.state.phase y.state.leader (epoch_of y.readings) → Then Outcome (Ok y)
   quiet y out lead = done (inl (record { out = out; lead = lead }))
 
   to_each : (e : ℕ) (b : Body) → IsPlainBody b → (tos : List ℕ) → AllPlain (map (message_to me e b) tos)
@@ -228,20 +245,35 @@ module _ (me : Me) (now : ℕ) (w : Readings) (s : State) (From : Command → Or
   more : (out sends : List Sent) → AllPlain out → AllPlain sends → AllPlain (out ++ sends)
   more out sends a b = all_append IsPlain out sends a b
 
-  lead_same : (p : Phase) (l k : Leader) → k.lease ≡ l.lease → k.origin ≡ l.origin → k.value ≡ l.value → k.pn ≡ l.pn → Lead p l → Lead p k
-  lead_same phase.Collecting l k a b c d h = a ∙ h
-  lead_same phase.Previous l k a b c d h = (a ∙ h.0, b ∙ h.1)
-  lead_same phase.Updating l k a b c d h = by h
+  lead_same : (p : Phase) (l k : Leader) (e : ℕ) → k.lease ≡ l.lease → k.origin ≡ l.origin → k.value ≡ l.value → k.pn ≡ l.pn → Lead p l e → Lead p k e
+  lead_same phase.Collecting l k z a b c d h = a ∙ h
+  lead_same phase.Previous l k z a b c d h = (a ∙ h.0, b ∙ h.1)
+  lead_same phase.Updating l k z a b c d h = by h
     where
-      by : Keeps l ⊎ Begun l → Keeps k ⊎ Begun k
-      by (inl K) = inl (record { updating = K.updating; origin = b ∙ K.origin; proposes = c ∙ K.proposes; number = d ∙ K.number })
-      by (inr B) = inr (record { origin = B.origin; command = B.command; ops = B.ops; from = B.from; is = b ∙ B.is; proposes = c ∙ B.proposes; made = B.made })
-  lead_same phase.Booting l k a b c d h = tt
-  lead_same phase.Probing l k a b c d h = tt
-  lead_same phase.Synchronizing l k a b c d h = tt
-  lead_same phase.Electing l k a b c d h = tt
-  lead_same phase.Active l k a b c d h = tt
-  lead_same phase.Peon l k a b c d h = tt
+      by : Keeps l z ⊎ Begun l z → Keeps k z ⊎ Begun k z
+      by (inl K) = inl (record { epoch = K.epoch; updating = K.updating; origin = b ∙ K.origin; proposes = c ∙ K.proposes; number = d ∙ K.number })
+      by (inr B) = inr (record { epoch = B.epoch; origin = B.origin; command = B.command; ops = B.ops; from = B.from; is = b ∙ B.is; proposes = c ∙ B.proposes; made = B.made })
+  lead_same phase.Booting l k z a b c d h = tt
+  lead_same phase.Probing l k z a b c d h = tt
+  lead_same phase.Synchronizing l k z a b c d h = tt
+  lead_same phase.Electing l k z a b c d h = tt
+  lead_same phase.Active l k z a b c d h = tt
+  lead_same phase.Peon l k z a b c d h = tt
+
+  -- who doesn't lead holds nothing
+  leads_not : (p : Phase) (l : Leader) (e : ℕ) → is_leading p ≡ false → Lead p l e
+  leads_not phase.Collecting l e t = no (sym t)
+  leads_not phase.Previous l e t = no (sym t)
+  leads_not phase.Updating l e t = no (sym t)
+  leads_not phase.Booting l e t = tt
+  leads_not phase.Probing l e t = tt
+  leads_not phase.Synchronizing l e t = tt
+  leads_not phase.Electing l e t = tt
+  leads_not phase.Active l e t = tt
+  leads_not phase.Peon l e t = tt
+
+  peon_lead : (p : Phase) (l : Leader) (e : ℕ) → is_peon p ≡ true → Lead p l e
+  peon_lead p l e t = leads_not p l e (peon_leads_not p t)
 
   -- learning leaves what is remembered and sent
   learns : (v : ℕ) (values : List (List Op)) (x : Course) → Then (λ y. (y.state ≡ x.state) × (y.out ≡ x.out)) (learn v values x)
@@ -249,14 +281,15 @@ module _ (me : Me) (now : ℕ) (w : Readings) (s : State) (From : Command → Or
   learns v [] x = done (refl, refl)
   learns v (value ∷ values) x = where_fits (λ y. (y.state ≡ x.state) × (y.out ≡ x.out)) which.Version (v + length values) _ (λ _. done (refl, refl))
 
-  record LearnedOne (v : ℕ) (x y : Course) : Type 0 where
+  record LearnedOne (v : ℕ) (value : List Op) (x y : Course) : Type 0 where
     state : y.state ≡ x.state
     out : y.out ≡ x.out
     last : y.readings.last ≡ v
+    changes : y.changes ≡ (x.changes ++ Learn v value ∷ []) ++ Last v ∷ []
 
-  learns_one : (v : ℕ) (value : List Op) (x : Course) → Then (LearnedOne v x) (learn v (value ∷ []) x)
+  learns_one : (v : ℕ) (value : List Op) (x : Course) → Then (LearnedOne v value x) (learn v (value ∷ []) x)
   unfolding learn
-  learns_one v value x = where_fits (LearnedOne v x) which.Version (v + 0) _ (λ _. done (record { state = refl; out = refl; last = omega arith }))
+  learns_one v value x = where_fits (LearnedOne v value x) which.Version (v + 0) _ (λ _. done (record { state = refl; out = refl; last = omega arith; changes = ap (λ (c : ℕ). (x.changes ++ Learn v value ∷ []) ++ Last c ∷ []) (let e : v + 0 ≡ v = omega arith in e) }))
 
   -- ---- leading
 
@@ -268,7 +301,7 @@ module _ (me : Me) (now : ℕ) (w : Readings) (s : State) (From : Command → Or
   unfolding begin begin_alone begin_with
   begins_found None x lease O = active x O
   begins_found (Some f) x lease O = by_test (eqb f.version (suc x.readings.last)) (λ _. where_fits Outcome which.Version (suc x.readings.last) _ (λ _.
-      by_test (is_alone me x.state.leader.quorum) (λ _. and_then (LearnedOne (suc x.readings.last) x) Outcome (learn (suc x.readings.last) (f.value ∷ []) x) _ (learns_one (suc x.readings.last) f.value x)
+      by_test (is_alone me x.state.leader.quorum) (λ _. and_then (LearnedOne (suc x.readings.last) f.value x) Outcome (learn (suc x.readings.last) (f.value ∷ []) x) _ (learns_one (suc x.readings.last) f.value x)
       (λ y L. quiet _ (more y.out [] (subst AllPlain (sym L.out) O) tt) tt))
       (λ _. quiet _ (more x.out _ O (to_each (epoch_of x.readings) (body.Begin x.state.leader.pn (suc x.readings.last) f.value) tt (members me x.state.leader.quorum))) (lease, refl)))) (λ _. active x O)
 
@@ -315,12 +348,12 @@ module _ (me : Me) (now : ℕ) (w : Readings) (s : State) (From : Command → Or
   unfolding win
   wins q x O = and_then (λ y. AllPlain y.out) Outcome (in_next_epoch x) _ (next_epoch x O) (λ y P. reigns q y P)
 
-  weighs : (table : Scores) (f : ℕ) (x : Course) → AllPlain x.out → Lead x.state.phase x.state.leader → Then Outcome (weigh me now table f x)
+  weighs : (table : Scores) (f : ℕ) (x : Course) → AllPlain x.out → Lead x.state.phase x.state.leader (epoch_of x.readings) → Then Outcome (weigh me now table f x)
   weighs table f x O L =
       by_test (is_allowed me f && stands_before me table f me.member.rank) (λ _. by_test (may_defer me table f x.state.elector.deferred) (λ _. quiet _ (more x.out (message_to me (epoch_of x.readings) body.Ack f ∷ []) O (tt, tt)) L) (λ _. quiet x O L))
       (λ _. by_test (not (is_some x.state.elector.deferred) && not x.state.elector.candidate) (λ _. elects x O) (λ _. quiet x O L))
 
-  module _ (L : Lead s.phase s.leader) where
+  module _ (L : Lead s.phase s.leader (epoch_of w)) where
     abbrev x0 : Course
     x0 = at_rest w s
 
@@ -375,22 +408,25 @@ module _ (me : Me) (now : ℕ) (w : Readings) (s : State) (From : Command → Or
 
     -- ---- a peon
 
+    peon_heard : (f e : ℕ) → of_leader f e x0 ≡ true → is_peon s.phase ≡ true
+    peon_heard f e t = (and_three (is_peon s.phase) (eqb e (epoch_of w)) (eqb f s.peon.leader) t).0
+
     collect_heard : (f e pn first last : ℕ) → Then Outcome (hear_collect me now f e pn first last x0)
     unfolding hear_collect
     collect_heard f e pn first last =
-        by_test (not (of_leader f e x0)) (λ _. rests) (λ _. by_test (ltb (suc w.last) first) (λ _. bootstraps x0 tt) (λ _.
-        where_fits Outcome which.Version (suc last) _ (λ _. quiet _ (answer_plain me.member.monitors (x0 ▸ cancel ▸ promise pn).readings (suc last), tt) L)))
+        by_test (not (of_leader f e x0)) (λ _. rests) (λ heard. by_test (ltb (suc w.last) first) (λ _. bootstraps x0 tt) (λ _.
+        where_fits Outcome which.Version (suc last) _ (λ _. quiet _ (answer_plain me.member.monitors (x0 ▸ cancel ▸ promise pn).readings (suc last), tt) (peon_lead s.phase s.leader _ (peon_heard f e (not-false _ heard))))))
 
     begin_heard : (f e pn v : ℕ) (value : List Op) → Then Outcome (hear_begin me f e pn v value x0)
     unfolding hear_begin
     begin_heard f e pn v value = by_test (not (of_leader f e x0 && eqb pn (promise_of w) && eqb v (suc w.last))) (λ _. rests) (λ _. quiet _ (tt, tt) L)
 
-    learned : (v : ℕ) (values : List (List Op)) → Then Outcome (learn v values x0)
-    learned v values = then_map _ Outcome (learn v values x0) (λ y k. inl (record { out = subst AllPlain (sym k.1) tt; lead = subst (λ (z : State). Lead z.phase z.leader) (sym k.0) L })) (learns v values x0)
+    learned : is_peon s.phase ≡ true → (v : ℕ) (values : List (List Op)) → Then Outcome (learn v values x0)
+    learned peon v values = then_map _ Outcome (learn v values x0) (λ y k. inl (record { out = subst AllPlain (sym k.1) tt; lead = peon_lead y.state.phase y.state.leader _ (ap (λ (z : State). is_peon z.phase) k.0 ∙ peon) })) (learns v values x0)
 
     commit_heard : (f e from : ℕ) (values : List (List Op)) → Then Outcome (hear_commit f e from values x0)
     unfolding hear_commit
-    commit_heard f e from values = by_test (not (of_leader f e x0) || ltb (suc w.last) from) (λ _. rests) (λ _. learned (suc w.last) (news w.last from values))
+    commit_heard f e from values = by_test (not (of_leader f e x0) || ltb (suc w.last) from) (λ _. rests) (λ heard. learned (peon_heard f e (not-false _ (or_parts (not (of_leader f e x0)) (ltb (suc w.last) from) heard).0)) (suc w.last) (news w.last from values))
 
     lease_heard : (f e last : ℕ) → Then Outcome (hear_lease me now f e last x0)
     unfolding hear_lease
@@ -416,7 +452,7 @@ module _ (me : Me) (now : ℕ) (w : Readings) (s : State) (From : Command → Or
         (λ y k. by_test whole (λ _. heard_whole y (collecting_is s.phase t.0) lease k.0 k.1) (λ _. collects y.state.leader.quorum 0 y (subst AllPlain (sym k.1) tt)))))))
       where
         gives_none : s.phase ≡ phase.Collecting → s.leader.lease ≡ None
-        gives_none e = subst (λ (p : Phase). Lead p s.leader) e L
+        gives_none e = subst (λ (p : Phase). Lead p s.leader (epoch_of w)) e L
 
         notes : (o : Option Told) (y : Course) → y.state.phase ≡ phase.Collecting → y.state.leader.lease ≡ None → AllPlain y.out → Then Noted (note_told f last o y)
         notes None y p l O = done (record { out = O; in_phase = p; lease = l })
@@ -425,7 +461,7 @@ module _ (me : Me) (now : ℕ) (w : Readings) (s : State) (From : Command → Or
         heard_whole : (y : Course) → s.phase ≡ phase.Collecting → s.leader.lease ≡ None → y.state ≡ s → y.out ≡ [] → Then Outcome (hear_whole me now f last told y)
         heard_whole y p l same out =
             and_then Noted Outcome (note f last told y) _ (notes (counts told) y (ap (λ (z : State). z.phase) same ∙ p) (ap (λ (z : State). z.leader.lease) same ∙ l) (subst AllPlain (sym out) tt))
-            (λ z N. by_test (all_answered me z) (λ _. settles z N.lease N.out) (λ _. quiet z N.out (subst (λ (q : Phase). Lead q z.state.leader) (sym N.in_phase) N.lease)))
+            (λ z N. by_test (all_answered me z) (λ _. settles z N.lease N.out) (λ _. quiet z N.out (subst (λ (q : Phase). Lead q z.state.leader (epoch_of z.readings)) (sym N.in_phase) N.lease)))
 
     abbrev counted : ℕ → Course
     counted f = x0 ▸ leader_is (record s.leader { accepted = with_rank s.leader.accepted f })
@@ -440,20 +476,22 @@ module _ (me : Me) (now : ℕ) (w : Readings) (s : State) (From : Command → Or
         more _ _ (more y.out _ (subst AllPlain (sym e) tt) (to_each (epoch_of y.readings) (body.Commit (suc w.last) (value ∷ [])) tt (members me y.state.leader.quorum))) (to_each (epoch_of y.readings) (body.Lease y.readings.last) tt (members me y.state.leader.quorum))
 
     -- the answer that makes it whole
-    record Last (f : ℕ) : Type 0 where
+    record MakesWhole (f : ℕ) : Type 0 where
       in_phase : (s.phase ≡ phase.Previous) ⊎ (s.phase ≡ phase.Updating)
       voted : Voted f s.leader.pn (suc w.last)
       whole : are_within me.member.monitors s.leader.quorum (with_rank s.leader.accepted f) ≡ true
 
-    commits : (f : ℕ) (value : List Op) → s.leader.value ≡ Some value → Last f → Then Outcome (commit me now value (counted f))
+    commits : (f : ℕ) (value : List Op) → s.leader.value ≡ Some value → MakesWhole f → Then Outcome (commit me now value (counted f))
     unfolding commit be_active extend
-    commits f value is T = and_then (LearnedOne (suc w.last) (counted f)) Outcome (learn (suc w.last) (value ∷ []) (counted f)) _ (learns_one (suc w.last) value (counted f)) (λ y K. by y K y.state.leader.origin refl)
+    commits f value is T = and_then (LearnedOne (suc w.last) value (counted f)) Outcome (learn (suc w.last) (value ∷ []) (counted f)) _ (learns_one (suc w.last) value (counted f)) (λ y K. by y K y.state.leader.origin refl)
       where
-        by : (y : Course) → LearnedOne (suc w.last) (counted f) y → (o : Option Origin) → y.state.leader.origin ≡ o
+        by : (y : Course) → LearnedOne (suc w.last) value (counted f) y → (o : Option Origin) → y.state.leader.origin ≡ o
             → Then Outcome (Ok (y ▸ disarm timer.Accept ▸ leader_is (record y.state.leader { value = None; origin = None }) ▸ send_each me (members me y.state.leader.quorum) (body.Commit (suc w.last) (value ∷ [])) ▸ be_active me now ▸ answer_any me y.state.leader.origin (reply.Done (suc w.last))))
         by y K None e = quiet _ (more (committing value y) _ (committing_plain value y K.out) (subst (λ (o : Option Origin). AllPlain (answers_to me (epoch_of y.readings) o (reply.Done (suc w.last)))) (sym e) tt)) tt
         by y K (Some o) e = done (inr (inl (record {
           origin = o;
+          ops = value;
+          changes = K.changes;
           plain = committing value y;
           all = committing_plain value y K.out;
           out = ap (λ (z : Option Origin). committing value y ++ answers_to me (epoch_of y.readings) z (reply.Done (suc w.last))) e;
@@ -461,34 +499,34 @@ module _ (me : Me) (now : ℕ) (w : Readings) (s : State) (From : Command → Or
           active = refl;
           number = ap (λ (z : State). z.leader.pn) K.state;
           quorum = ap (λ (z : State). z.leader.quorum) K.state;
-          how = inl (record { ops = value; proposed = is; waits = sym (ap (λ (z : State). z.leader.origin) K.state) ∙ e; in_phase = T.in_phase; voter = f; voted = T.voted; whole = T.whole });
+          how = inl (record { proposed = is; waits = sym (ap (λ (z : State). z.leader.origin) K.state) ∙ e; in_phase = T.in_phase; voter = f; voted = T.voted; whole = T.whole });
         })))
 
     accept_heard : (f e pn v : ℕ) → Voted f pn v → Then Outcome (hear_accept me now f e pn v x0)
     unfolding hear_accept
     accept_heard f e pn v a =
         by_test (not (of_member (phase.Previous ∷ phase.Updating ∷ []) f e x0 && eqb pn s.leader.pn && eqb v (suc w.last))) (λ _. rests)
-        (λ t. by_test (all_accepted me (counted f)) (λ u. any (last t u) s.leader.value refl) (λ _. quiet _ tt (lead_same s.phase s.leader (record s.leader { accepted = with_rank s.leader.accepted f }) refl refl refl refl L)))
+        (λ t. by_test (all_accepted me (counted f)) (λ u. any (last t u) s.leader.value refl) (λ _. quiet _ tt (lead_same s.phase s.leader (record s.leader { accepted = with_rank s.leader.accepted f }) (epoch_of w) refl refl refl refl L)))
       where
-        last : not (of_member (phase.Previous ∷ phase.Updating ∷ []) f e x0 && eqb pn s.leader.pn && eqb v (suc w.last)) ≡ false → all_accepted me (counted f) ≡ true → Last f
+        last : not (of_member (phase.Previous ∷ phase.Updating ∷ []) f e x0 && eqb pn s.leader.pn && eqb v (suc w.last)) ≡ false → all_accepted me (counted f) ≡ true → MakesWhole f
         last t u =
             let b = and_three (of_member (phase.Previous ∷ phase.Updating ∷ []) f e x0) (eqb pn s.leader.pn) (eqb v (suc w.last)) (not-false _ t) in
             let c = and_three (is_one_of begun s.phase) (eqb e (epoch_of w)) (has s.leader.quorum f) b.0 in
             record { in_phase = begun_is s.phase c.0; voted = subst (λ (p : ℕ). Voted f p (suc w.last)) (eqb-true pn s.leader.pn b.1) (subst (Voted f pn) (eqb-true v (suc w.last) b.2) a); whole = u }
 
-        any : Last f → (o : Option (List Op)) → s.leader.value ≡ o → Then Outcome (commit_any me now o (counted f))
-        any T None e = quiet _ tt (lead_same s.phase s.leader (record s.leader { accepted = with_rank s.leader.accepted f }) refl refl refl refl L)
+        any : MakesWhole f → (o : Option (List Op)) → s.leader.value ≡ o → Then Outcome (commit_any me now o (counted f))
+        any T None e = quiet _ tt (lead_same s.phase s.leader (record s.leader { accepted = with_rank s.leader.accepted f }) (epoch_of w) refl refl refl refl L)
         any T (Some value) e = commits f value e T
 
     lease_ack_heard : (f e last : ℕ) → Then Outcome (hear_lease_ack me f e last x0)
     unfolding hear_lease_ack
     lease_ack_heard f e last =
-        by_test (not (of_member (phase.Active ∷ []) f e x0 && eqb last w.last)) (λ _. rests) (λ _. quiet _ tt (lead_same s.phase s.leader (record s.leader { acks = with_rank s.leader.acks f }) refl refl refl refl L))
+        by_test (not (of_member (phase.Active ∷ []) f e x0 && eqb last w.last)) (λ _. rests) (λ _. quiet _ tt (lead_same s.phase s.leader (record s.leader { acks = with_rank s.leader.acks f }) (epoch_of w) refl refl refl refl L))
 
     renews : (ts : List (Option ℕ)) → Then Outcome (renew me now (at_rest w (record s { timers = ts })))
     unfolding renew extend
     renews ts = by_test (not (same_phase s.phase phase.Active)) (λ _. quiet _ tt L)
-        (λ t. quiet _ (to_each (epoch_of w) (body.Lease w.last) tt (members me s.leader.quorum)) (subst (λ (p : Phase). Lead p (record s.leader { lease = lease.extended now; acks = only me.member.rank })) (sym (active_is s.phase (not-false _ t))) tt))
+        (λ t. quiet _ (to_each (epoch_of w) (body.Lease w.last) tt (members me s.leader.quorum)) (subst (λ (p : Phase). Lead p (record s.leader { lease = lease.extended now; acks = only me.member.rank }) (epoch_of w)) (sym (active_is s.phase (not-false _ t))) tt))
 
     -- ---- commands
 
@@ -497,14 +535,16 @@ module _ (me : Me) (now : ℕ) (w : Readings) (s : State) (From : Command → Or
     answer_one_plain e (origin.Forwarded f seq) r k = (k, tt)
 
     -- where it leads as it did
-    module _ (c : Command) (o : Origin) (F : From c o) (z : State) (same : z.leader ≡ s.leader) (still : z.phase ≡ s.phase) (Z : Lead z.phase z.leader) where
+    module _ (c : Command) (o : Origin) (F : From (epoch_of w) c o) (z : State) (same : z.leader ≡ s.leader) (still : z.phase ≡ s.phase) (Z : Lead z.phase z.leader (epoch_of w)) where
       proposes : same_phase z.phase phase.Active ≡ true → Then Outcome (propose me now c o (at_rest w z))
       unfolding propose begin begin_alone begin_with
       proposes lead = where_fits Outcome which.Version (suc (service_last w (service_of c))) _ (λ _. by (value w c (asked_of me o)) refl)
         where
-          at_once : (ops : List Op) → value w c (asked_of me o) ≡ Ok ops → is_alone me z.leader.quorum ≡ true → (y : Course) → LearnedOne (suc w.last) (at_rest w z) y → Outcome (y ▸ leads_in stage.Active ▸ answer_any me (Some o) (reply.Done (suc w.last)))
+          at_once : (ops : List Op) → value w c (asked_of me o) ≡ Ok ops → is_alone me z.leader.quorum ≡ true → (y : Course) → LearnedOne (suc w.last) ops (at_rest w z) y → Outcome (y ▸ leads_in stage.Active ▸ answer_any me (Some o) (reply.Done (suc w.last)))
           at_once ops e t y K = inr (inl (record {
             origin = o;
+            ops = ops;
+            changes = K.changes;
             plain = [];
             all = tt;
             out = ap (λ (out : List Sent). out ++ answer_to me (epoch_of y.readings) o (reply.Done (suc w.last)) ∷ []) K.out;
@@ -512,13 +552,13 @@ module _ (me : Me) (now : ℕ) (w : Readings) (s : State) (From : Command → Or
             active = refl;
             number = ap (λ (q : State). q.leader.pn) K.state ∙ ap (λ (l : Leader). l.pn) same;
             quorum = ap (λ (q : State). q.leader.quorum) K.state ∙ ap (λ (l : Leader). l.quorum) same;
-            how = inr (record { command = c; ops = ops; from = F; made = e; active = sym still ∙ active_is z.phase lead; alone = ap (λ (l : Leader). is_alone me l.quorum) (sym same) ∙ t });
+            how = inr (record { command = c; from = F; made = e; active = sym still ∙ active_is z.phase lead; alone = ap (λ (l : Leader). is_alone me l.quorum) (sym same) ∙ t });
           }))
 
           by : (r : Result (List Op) CommandRefused) → value w c (asked_of me o) ≡ r → Then Outcome (begin_made me now o r (at_rest w z))
           by (Ok ops) e = where_fits Outcome which.Version (suc w.last) _ (λ _. by_test (is_alone me z.leader.quorum)
-              (λ t. and_then (LearnedOne (suc w.last) (at_rest w z)) Outcome (learn (suc w.last) (ops ∷ []) (at_rest w z)) _ (learns_one (suc w.last) ops (at_rest w z)) (λ y K. done (at_once ops e t y K)))
-              (λ _. quiet _ (to_each (epoch_of w) (body.Begin z.leader.pn (suc w.last) ops) tt (members me z.leader.quorum)) (inr (record { origin = o; command = c; ops = ops; from = F; is = refl; proposes = refl; made = e }))))
+              (λ t. and_then (LearnedOne (suc w.last) ops (at_rest w z)) Outcome (learn (suc w.last) (ops ∷ []) (at_rest w z)) _ (learns_one (suc w.last) ops (at_rest w z)) (λ y K. done (at_once ops e t y K)))
+              (λ _. quiet _ (to_each (epoch_of w) (body.Begin z.leader.pn (suc w.last) ops) tt (members me z.leader.quorum)) (inr (record { epoch = refl; origin = o; command = c; ops = ops; from = F; is = refl; proposes = refl; made = e }))))
           by (Err e) q = quiet _ (answer_one_plain (epoch_of w) o (refusal e) (refusal_plain e)) Z
 
       at_leads : Then Outcome (at_leader me now c o (at_rest w z))
@@ -535,21 +575,26 @@ module _ (me : Me) (now : ℕ) (w : Readings) (s : State) (From : Command → Or
         by_test (is_too_long c) (λ _. replies t (too_long c) tt) (λ _.
         by_test (leb most_waiting (length s.clients.sessions)) (λ _. replies t (reply.Busy most_waiting) tt) (λ _. where_fits Outcome which.Seq s.clients.next_seq _ (λ _. quiet _ (tt, tt) L)))
 
-    asks : (t : Session) (c : Command) → From c (origin.Session t) → Then Outcome (ask me now t c x0)
+    asks : (t : Session) (c : Command) → From (epoch_of w) c (origin.Session t) → Then Outcome (ask me now t c x0)
     unfolding ask
     asks t c F = by_test (is_leading s.phase) (λ _. at_leads c (origin.Session t) F s refl refl L) (λ _. by_test (is_peon s.phase) (λ _. at_peons c t) (λ _. replies t reply.Unavailable tt))
 
-    forward_heard : (f e seq : ℕ) (c : Command) → From c (origin.Forwarded f seq) → Then Outcome (hear_forward me now f e seq c x0)
+    forward_heard : (f e seq : ℕ) (c : Command) → From e c (origin.Forwarded f seq) → Then Outcome (hear_forward me now f e seq c x0)
     unfolding hear_forward
     forward_heard f e seq c F =
         by_test (not (of_member (phase.Collecting ∷ phase.Previous ∷ phase.Active ∷ phase.Updating ∷ []) f e x0 && ltb (slice_index_or s.clients.taken f 0) seq)) (λ _. rests)
-        (λ _. at_leads c (origin.Forwarded f seq) F (record s { clients = record s.clients { taken = slice_set s.clients.taken f seq } }) refl refl L)
+        (λ heard. at_leads c (origin.Forwarded f seq) (subst (λ (z : ℕ). From z c (origin.Forwarded f seq)) (now_is (not-false _ heard)) F) (record s { clients = record s.clients { taken = slice_set s.clients.taken f seq } }) refl refl L)
+      where
+        now_is : of_member (phase.Collecting ∷ phase.Previous ∷ phase.Active ∷ phase.Updating ∷ []) f e x0 && ltb (slice_index_or s.clients.taken f 0) seq ≡ true → e ≡ epoch_of w
+        now_is t =
+            let a = (and_parts (of_member (phase.Collecting ∷ phase.Previous ∷ phase.Active ∷ phase.Updating ∷ []) f e x0) (ltb (slice_index_or s.clients.taken f 0) seq) t).0 in
+            eqb-true e (epoch_of w) (and_three (is_one_of (phase.Collecting ∷ phase.Previous ∷ phase.Active ∷ phase.Updating ∷ []) s.phase) (eqb e (epoch_of w)) (has s.leader.quorum f) a).1
 
-    due : (ts : List (Option ℕ)) → (same_phase s.phase phase.Active ≡ true → AllByRecursion (λ (q : Waiting). From q.command q.origin) s.clients.queue) → Then Outcome (propose_due me now (at_rest w (record s { timers = ts })))
+    due : (ts : List (Option ℕ)) → (same_phase s.phase phase.Active ≡ true → AllByRecursion (λ (q : Waiting). From (epoch_of w) q.command q.origin) s.clients.queue) → Then Outcome (propose_due me now (at_rest w (record s { timers = ts })))
     unfolding propose_due propose_next
     due ts Q = by_test (may_propose me now (at_rest w (record s { timers = ts }))) (λ t. let a = (and_parts (same_phase s.phase phase.Active) (is_standing me now (record s { timers = ts })) t).0 in first a s.clients.queue (Q a)) (λ _. quiet _ tt L)
       where
-        first : same_phase s.phase phase.Active ≡ true → (ws : List Waiting) → AllByRecursion (λ (q : Waiting). From q.command q.origin) ws → Then Outcome (propose_first me now ws (at_rest w (record s { timers = ts })))
+        first : same_phase s.phase phase.Active ≡ true → (ws : List Waiting) → AllByRecursion (λ (q : Waiting). From (epoch_of w) q.command q.origin) ws → Then Outcome (propose_first me now ws (at_rest w (record s { timers = ts })))
         first a [] k = quiet _ tt L
         first a (x ∷ ws) k = proposes x.command x.origin k.0 (record s { timers = ts; clients = record s.clients { queue = ws } }) refl refl L a
 
@@ -611,8 +656,11 @@ module _ (me : Me) (now : ℕ) (w : Readings) (s : State) (From : Command → Or
       in_phase : y.state.phase ≡ s.phase
       same : y.state.leader ≡ s.leader
 
-    lead_taken : (y : Course) → Taken y → Lead y.state.phase y.state.leader
-    lead_taken y T = subst (λ (p : Phase). Lead p y.state.leader) (sym T.in_phase) (subst (Lead s.phase) (sym T.same) L)
+    lead_taken : (f : ℕ) (c : Cookie) (p : ChunkPlace) → is_ours f c p x0 ≡ true → (y : Course) → Taken y → Lead y.state.phase y.state.leader (epoch_of y.readings)
+    lead_taken f c p t y T =
+        let a = (and_parts (of_provider f x0 && takes_chunks s.requester.stage && is_cookie c s.requester.cookie) (same_place p s.requester.place) t).0 in
+        let b = (and_three (of_provider f x0) (takes_chunks s.requester.stage) (is_cookie c s.requester.cookie) a).0 in
+        leads_not y.state.phase y.state.leader _ (ap is_leading T.in_phase ∙ sync_leads_not s.phase (and_parts (same_phase s.phase phase.Synchronizing) (eqb f s.requester.provider) b).0)
 
     copies : (full : Bool) (v : ℕ) (values : List (List Op)) (es : List Entry) → Then Taken (copy full v values es x0)
     copies true v values es = done (record { out = refl; in_phase = refl; same = refl })
@@ -625,26 +673,26 @@ module _ (me : Me) (now : ℕ) (w : Readings) (s : State) (From : Command → Or
     chunk_heard : (f : ℕ) (c : Cookie) (p : ChunkPlace) (values : List (List Op)) (es : List Entry) (end : Bool) → Then Outcome (hear_chunk me now f c p values es end x0)
     unfolding hear_chunk
     chunk_heard f c p values es end = by_test (is_ours f c p x0)
-        (λ _. and_then Taken Outcome (take p values es end x0) _ (takes p values es end) (λ y T. quiet _ (more y.out _ (subst AllPlain (sym T.out) tt) (tt, tt)) (lead_taken y T))) (λ _. rests)
+        (λ t. and_then Taken Outcome (take p values es end x0) _ (takes p values es end) (λ y T. quiet _ (more y.out _ (subst AllPlain (sym T.out) tt) (tt, tt)) (lead_taken f c p t y T))) (λ _. rests)
 
     last_chunk_heard : (f : ℕ) (c : Cookie) (p : ChunkPlace) (values : List (List Op)) (es : List Entry) (last : ℕ) → Then Outcome (hear_last_chunk me now f c p values es last x0)
     unfolding hear_last_chunk
     last_chunk_heard f c p values es last = by_test (is_ours f c p x0)
-        (λ _. and_then Taken Outcome (take p values es true x0) _ (takes p values es true) (λ y T. by_test y.state.requester.full
-        (λ _. where_fits Outcome which.Version (suc y.state.requester.start) _ (λ _. quiet _ (subst AllPlain (sym T.out) tt) (lead_taken y T))) (λ _. bootstraps y (subst AllPlain (sym T.out) tt)))) (λ _. rests)
+        (λ t. and_then Taken Outcome (take p values es true x0) _ (takes p values es true) (λ y T. by_test y.state.requester.full
+        (λ _. where_fits Outcome which.Version (suc y.state.requester.start) _ (λ _. quiet _ (subst AllPlain (sym T.out) tt) (lead_taken f c p t y T))) (λ _. bootstraps y (subst AllPlain (sym T.out) tt)))) (λ _. rests)
 
     replays : (ts : List (Option ℕ)) → Then Outcome (replay_step me now (at_rest w (record s { timers = ts })))
     unfolding replay_step
-    replays ts = by_test (same_phase s.phase phase.Synchronizing) (λ _. in_stage s.requester.stage) (λ _. quiet _ tt L)
+    replays ts = by_test (same_phase s.phase phase.Synchronizing) (λ t. in_stage t s.requester.stage) (λ _. quiet _ tt L)
       where
-        any : (next end : ℕ) (o : Option (List (List Op))) → Then Outcome (replay_any me now next end o (at_rest w (record s { timers = ts })))
-        any next end None = bootstraps _ tt
-        any next end (Some values) = by_test (ltb end (next + length values)) (λ _. bootstraps _ tt) (λ _. quiet _ tt L)
+        any : same_phase s.phase phase.Synchronizing ≡ true → (next end : ℕ) (o : Option (List (List Op))) → Then Outcome (replay_any me now next end o (at_rest w (record s { timers = ts })))
+        any t next end None = bootstraps _ tt
+        any t next end (Some values) = by_test (ltb end (next + length values)) (λ _. bootstraps _ tt) (λ _. quiet _ tt (leads_not s.phase s.leader _ (sync_leads_not s.phase t)))
 
-        in_stage : (z : SyncStage) → Then Outcome (step_in me now z (at_rest w (record s { timers = ts })))
-        in_stage sync.Cookie = quiet _ tt L
-        in_stage sync.Chunks = quiet _ tt L
-        in_stage (sync.Replay next end) = any next end (step_of w.record_of (suc end - next) next)
+        in_stage : same_phase s.phase phase.Synchronizing ≡ true → (z : SyncStage) → Then Outcome (step_in me now z (at_rest w (record s { timers = ts })))
+        in_stage t sync.Cookie = quiet _ tt L
+        in_stage t sync.Chunks = quiet _ tt L
+        in_stage t (sync.Replay next end) = any t next end (step_of w.record_of (suc end - next) next)
 
     -- ---- the table
 
@@ -660,15 +708,15 @@ module _ (me : Me) (now : ℕ) (w : Readings) (s : State) (From : Command → Or
 
     -- what is known of what comes
     abbrev pub BodyKnown : (f e : ℕ) → Body → Type 0
-    BodyKnown f e (body.Forward seq c) = From c (origin.Forwarded f seq)
+    BodyKnown f e (body.Forward seq c) = From e c (origin.Forwarded f seq)
     BodyKnown f e (body.Route seq r) = Routed f e seq r
     BodyKnown f e (body.Accept pn v) = Voted f pn v
     BodyKnown f e other = Unit {0}
 
     abbrev pub RequestKnown : Session → Request → Type 0
-    RequestKnown t (request.Set key value) = From (command.Set key value) (origin.Session t)
-    RequestKnown t (request.Remove key) = From (command.Remove key) (origin.Session t)
-    RequestKnown t (request.Log text) = From (command.Log text) (origin.Session t)
+    RequestKnown t (request.Set key value) = From (epoch_of w) (command.Set key value) (origin.Session t)
+    RequestKnown t (request.Remove key) = From (epoch_of w) (command.Remove key) (origin.Session t)
+    RequestKnown t (request.Log text) = From (epoch_of w) (command.Log text) (origin.Session t)
     RequestKnown t other = Unit {0}
 
     abbrev pub InputKnown : Input → Type 0
@@ -703,7 +751,7 @@ module _ (me : Me) (now : ℕ) (w : Readings) (s : State) (From : Command → Or
     hears shared f e (body.Request id r) k = rests
     hears shared f e (body.Reply id r) k = rests
 
-    module _ (Q : same_phase s.phase phase.Active ≡ true → AllByRecursion (λ (q : Waiting). From q.command q.origin) s.clients.queue) where
+    module _ (Q : same_phase s.phase phase.Active ≡ true → AllByRecursion (λ (q : Waiting). From (epoch_of w) q.command q.origin) s.clients.queue) where
       rings : (t : Timer) → Then Outcome (timer_comes me now t (disarm t x0))
       unfolding ping
       rings timer.Probe = bootstraps _ tt

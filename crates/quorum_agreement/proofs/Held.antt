@@ -12,12 +12,12 @@ use Rattle.mon_tx.specs.Map.{Store}
 use Rattle.mon_types.specs.Ranks.{has}
 use Rattle.mon_wire.specs.declared.phase.Phase.TheVariants as phase
 use Rattle.mon_wire.specs.declared.phase.Phase.{Phase}
-use Rattle.quorum_history.proofs.History.{Entered, Entry, Ghost, RolesHold}
+use Rattle.quorum_history.proofs.History.{Entered, Ghost, RolesHold}
 use Rattle.quorum_history.proofs.Holds.{Core, InPhase, LeadsIn, core_of, epoch_in, level_in}
 use Rattle.quorum_history.proofs.Numbers.{level_is}
 use Rattle.quorum_history.proofs.Phases.{no}
 use Rattle.quorum_laws.proofs.Chosen.{leaders_know, stays_nothing}
-use Rattle.quorum_laws.proofs.Invariant.{InvOf, WasActive}
+use Rattle.quorum_laws.proofs.Invariant.{Further, InvOf, WasActive}
 use Rattle.quorum_laws.proofs.Later.{Later}
 use Rattle.quorum_laws.proofs.Reading.{accepted_as, state_holds}
 use Rattle.quorum_laws.proofs.Whole.{was_active}
@@ -27,8 +27,7 @@ use Rattle.quorum_model.specs.Growth.{last_of}
 use Rattle.quorum_model.specs.Happens.{is_active}
 use Rattle.quorum_model.specs.Kept.{IsKept, LeaderHas}
 use Rattle.quorum_model.specs.Monitors.{Monitors}
-use Rattle.quorum_model.specs.World.{Acknowledged, World}
-use Rattle.quorum_walk.proofs.Lists.{Among}
+use Rattle.quorum_model.specs.World.{Acknowledged, Asked, World}
 use Rattle.quorum_walk.proofs.Ranks.{majorities}
 use Rattle.quorum_walk.proofs.Sparing.{own_of}
 use Rattle.std.proofs.Common.{Bool, List, None, Option, Some, ap, arith, cond, eqb, false, inl, inr, length, ltb, refl, subst, sym, true, ℕ, ◌%◌, ◌<◌, ◌||◌, ◌∙◌, ◌≡◌, ◌≤◌, ◌⊎◌}
@@ -64,15 +63,14 @@ pub record IsHeld (n : ℕ) (w : World) (g : Ghost) (a : Acknowledged) : Type 0 
 -- ---- it lasts
 
 pub record Onward (w next : World) (g h : Ghost) : Type 0 where
-  pub roles : (r : Entry) → Among r g.roles → Among r h.roles
+  pub further : Further g h
   pub fronts : Fronts w.log next.log
   pub events : w.events ≤ next.events
   pub later : Later w next
   pub levels : (i : ℕ) → level_at w i ≤ level_at next i
   pub accepted : (i v pn : ℕ) (bytes : List ℕ) → HasAccepted w i v pn bytes → HasAccepted next i v pn bytes
-
-pub was_active_lasts : (n : ℕ) (g h : Ghost) → ((r : Entry) → Among r g.roles → Among r h.roles) → (c : ℕ × ℕ) → WasActive n g c → WasActive n h c
-was_active_lasts n g h up c k = (k.0, up _ k.1, λ m lt a. let j = k.2 m lt a in (j.0, up _ j.1))
+  pub acks : (a : Acknowledged) → Contains w.acknowledged a → Contains next.acknowledged a
+  pub asked : (a : Asked) → Contains w.asked a → Contains next.asked a
 
 pub held_lasts : (n : ℕ) (w next : World) (g h : Ghost) → Onward w next g h → (a : Acknowledged) → IsHeld n w g a → IsHeld n next h a
 held_lasts n w next g h O a k = record {
@@ -83,7 +81,7 @@ held_lasts n w next g h O a k = record {
   some = k.some;
   within = let e = k.within in let f = O.fronts in let s = f.short in omega arith;
   put = subst (λ (e : List ℕ). Contains (put_in a.service (ops_in e)) a.incremental) (sym same) k.put;
-  led = (k.led.0, O.roles _ k.led.1, λ m lt t. let j = k.led.2 m lt t in (j.0, O.roles _ j.1));
+  led = (let F = O.further in (k.led.0, F.roles _ k.led.1, λ m lt t. let j = k.led.2 m lt t in (j.0, F.roles _ j.1)));
   level = let l = k.level in let m = O.levels k.rank in omega arith;
   chosen = λ several m t. subst (HasAccepted next m a.version a.pn) (sym same) (O.accepted m a.version a.pn (entry w.log a.version) (k.chosen several m t));
   fresh = λ several lower q lt Q. stays_nothing w next O.later q a.version lower (k.fresh several lower q lt Q);

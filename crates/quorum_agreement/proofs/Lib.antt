@@ -20,3 +20,4 @@ pub mod SafeStep
 pub mod SafeWorlds
 pub mod Step
 pub mod Worlds
+pub mod Answered

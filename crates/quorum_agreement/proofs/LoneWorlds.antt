@@ -45,6 +45,9 @@ use Rattle.quorum_walk.proofs.Walk.{Then}
 use Rattle.std.proofs.Common.{List, [], ap, arith, false, inl, inr, length, refl, subst, suc, sym, ℕ, ◌++◌, ◌<◌, ◌^◌, ◌∙◌, ◌∷◌, ◌≡◌, ◌≤◌}
 use Rattle.std.proofs.lemmas.Bool.{ltb-true}
 use Rattle.std.specs.List.{AllByRecursion}
+use Rattle.log_model.proofs.Committed.{ops_again, texts}
+use Rattle.mon_tx.specs.Decode.{ops_in}
+use Rattle.mon_tx.specs.declared.op.Op.{Op}
 
 -- a store has the whole log, and no value is pending in it
 pub record IsWhole (log : List (List ℕ)) (m : Store) : Type 0 where
@@ -140,82 +143,87 @@ module _ (ms : Monitors) (one : ms.count ≡ 1) (w : World) (asked : List Asked)
       has : HasVersions w.log (length w.log) after
       has = still_has w.log (length w.log) m H.versions d.y.changes (subst (λ (c : ℕ). AllByRecursion (IsOwnChange c) d.y.changes) last_is Q.changes)
 
-  commits_next : Commits me one d.by.at J.g J.glob w0 d.y → Next ms.count asked w.log after d.y.out
-  commits_next C = record {
-    more = more;
-    fronts = fronts_push w.log (text C.ops);
-    grows = inr (text C.ops, refl);
-    short = short;
-    values = values;
-    asks = asked_again ms.count ms.most asked w.log room O.values C.ops made O.asks;
-    whole = record { versions = has; unmarked = unmarked; settled = ap (λ (r : Readings). r.pending_v) tells ∙ ap (λ (o : Own). o.pending_v) own ∙ H.settled };
-    tells = C.out;
-    is = adds;
-  }
-    where
-      more : List (List ℕ)
-      more = w.log ++ text C.ops ∷ []
+  module _ (C : Commits me one d.by.at J.g J.glob w0 d.y) where
+    abbrev more : List (List ℕ)
+    more = w.log ++ text C.ops ∷ []
 
-      long : length more ≡ suc (length w.log)
-      long = length_push w.log (text C.ops)
+    long : length more ≡ suc (length w.log)
+    long = length_push w.log (text C.ops)
 
-      room : length w.log < 2 ^ 62
-      room = let f = C.fits in omega (arith, last_is)
+    room : length w.log < 2 ^ 62
+    room = let f = C.fits in omega (arith, last_is)
 
-      short : length more ≤ 2 ^ 62
-      short = omega (arith, long, room)
+    short : length more ≤ 2 ^ 62
+    short = omega (arith, long, room)
 
-      keeps : Keeps w.log (length w.log) w0
-      keeps = monitor_keeps w.log O.short O.values (length w.log) m H.versions
+    keeps : Keeps w.log (length w.log) w0
+    keeps = monitor_keeps w.log O.short O.values (length w.log) m H.versions
 
-      made : MadeOver ms.count asked w.log (suc (length w.log)) C.ops
-      made = record {
-        before = length w.log;
-        next = refl;
-        within = omega arith;
-        over = w0;
-        keeps = keeps;
-        last = last_is;
-        rank = C.rank;
-        session = C.session;
-        command = C.command;
-        of = J.asks C.rank C.session C.command C.asked;
-        made = C.made;
-      }
+    abbrev made : MadeOver ms.count asked w.log (suc (length w.log)) C.ops
+    made = record {
+      before = length w.log;
+      next = refl;
+      within = omega arith;
+      over = w0;
+      keeps = keeps;
+      last = last_is;
+      rank = C.rank;
+      session = C.session;
+      command = C.command;
+      of = J.asks C.rank C.session C.command C.asked;
+      made = C.made;
+    }
 
-      values : AllValues more
-      values = values_again ms.count ms.most asked w.log room O.values C.ops made
+    values : AllValues more
+    values = values_again ms.count ms.most asked w.log room O.values C.ops made
 
-      changes : d.y.changes ≡ Learn (suc (length w.log)) C.ops ∷ Last (suc (length w.log)) ∷ []
-      changes = C.changes ∙ ap (λ (c : ℕ). Learn (suc c) C.ops ∷ Last (suc c) ∷ []) last_is
+    changes : d.y.changes ≡ Learn (suc (length w.log)) C.ops ∷ Last (suc (length w.log)) ∷ []
+    changes = C.changes ∙ ap (λ (c : ℕ). Learn (suc c) C.ops ∷ Last (suc c) ∷ []) last_is
 
-      has : HasVersions more (length more) after
-      has = subst (λ (c : ℕ). HasVersions more c after) (sym long)
-          (subst (λ (cs : List Change). HasVersions more (suc (length w.log)) (behind cs m)) (sym changes) (committed w.log room O.values w0 keeps last_is C.ops (is_value ms.count ms.most asked w.log room O.values C.ops made) m H.versions))
+    has : HasVersions more (length more) after
+    has = subst (λ (c : ℕ). HasVersions more c after) (sym long)
+        (subst (λ (cs : List Change). HasVersions more (suc (length w.log)) (behind cs m)) (sym changes) (committed w.log room O.values w0 keeps last_is C.ops (is_value ms.count ms.most asked w.log room O.values C.ops made) m H.versions))
 
-      E : Ended w0 d.y
-      E = ended w.store w.state w.transactions w.messages w.active asked me J d.by.at d.by.state d.by.came d.by.on d.by.fits d.by.holds (d.by.fine (shares w.store w.state w.transactions w.messages w.active asked me J d.by.at)) d.y d.is
+    E : Ended w0 d.y
+    E = ended w.store w.state w.transactions w.messages w.active asked me J d.by.at d.by.state d.by.came d.by.on d.by.fits d.by.holds (d.by.fine (shares w.store w.state w.transactions w.messages w.active asked me J d.by.at)) d.y d.is
 
-      tells : readings_of after ≡ played (Learn (suc w0.last) C.ops ∷ Last (suc w0.last) ∷ []) w0
-      tells = read ∙ E.tells ∙ ap (λ (cs : List Change). played cs w0) C.changes
+    tells : readings_of after ≡ played (Learn (suc w0.last) C.ops ∷ Last (suc w0.last) ∷ []) w0
+    tells = read ∙ E.tells ∙ ap (λ (cs : List Change). played cs w0) C.changes
 
-      own : own_of (played (learn_changes (suc w0.last) (C.ops ∷ [])) w0) ≡ own_of w0
-      own = learned_own (suc w0.last) (C.ops ∷ []) w0 (let f = subst (AllByRecursion Fit) C.changes E.fits in (f.0, tt))
+    own : own_of (played (learn_changes (suc w0.last) (C.ops ∷ [])) w0) ≡ own_of w0
+    own = learned_own (suc w0.last) (C.ops ∷ []) w0 (let f = subst (AllByRecursion Fit) C.changes E.fits in (f.0, tt))
 
-      unmarked : (readings_of after).marked ≡ false
-      unmarked = ap (λ (r : Readings). r.marked) tells ∙ ap (λ (o : Own). o.marked) own ∙ H.unmarked
+    unmarked : (readings_of after).marked ≡ false
+    unmarked = ap (λ (r : Readings). r.marked) tells ∙ ap (λ (o : Own). o.marked) own ∙ H.unmarked
 
-      last_now : (readings_of after).last ≡ suc (length w.log)
-      last_now = read_last more short values (length more) after has ∙ long
+    last_now : (readings_of after).last ≡ suc (length w.log)
+    last_now = read_last more short values (length more) after has ∙ long
 
-      adds : grown w.log after ≡ more
-      adds =
-          let K = monitor_keeps more short values (length more) after has in
-          let f = K.first in
-          let some : 1 ≤ length more = omega (arith, long) in
-          let low = log_high (length more) some in
-          let there = record_there more short values (length more) after has (suc (length w.log)) (omega (arith, f, long, low, read_some log_from (length more) some, first_is after)) (omega (arith, long)) in
-          grown_one w.log after (entry more (suc (length w.log))) unmarked last_now there ∙ ap (λ (b : List ℕ). w.log ++ b ∷ []) (entry_push w.log (text C.ops))
+    adds : grown w.log after ≡ more
+    adds =
+        let K = monitor_keeps more short values (length more) after has in
+        let f = K.first in
+        let some : 1 ≤ length more = omega (arith, long) in
+        let low = log_high (length more) some in
+        let there = record_there more short values (length more) after has (suc (length w.log)) (omega (arith, f, long, low, read_some log_from (length more) some, first_is after)) (omega (arith, long)) in
+        grown_one w.log after (entry more (suc (length w.log))) unmarked last_now there ∙ ap (λ (b : List ℕ). w.log ++ b ∷ []) (entry_push w.log (text C.ops))
+
+    commits_next : Next ms.count asked w.log after d.y.out
+    commits_next = record {
+      more = more;
+      fronts = fronts_push w.log (text C.ops);
+      grows = inr (text C.ops, refl);
+      short = short;
+      values = values;
+      asks = asked_again ms.count ms.most asked w.log room O.values C.ops made O.asks;
+      whole = record { versions = has; unmarked = unmarked; settled = ap (λ (r : Readings). r.pending_v) tells ∙ ap (λ (o : Own). o.pending_v) own ∙ H.settled };
+      tells = C.out;
+      is = adds;
+    }
+
+    -- the new entry reads as the value that was learned
+    reads_it : ops_in (entry more (suc (length w.log))) ≡ C.ops
+    reads_it = ap ops_in (entry_push w.log (text C.ops)) ∙ ops_again C.ops (texts w.log room O.values w0 keeps last_is C.ops (is_value ms.count ms.most asked w.log room O.values C.ops made))
 
   next : Next ms.count asked w.log after d.y.out
   next = by outcome
@@ -223,6 +231,21 @@ module _ (ms : Monitors) (one : ms.count ≡ 1) (w : World) (asked : List Asked)
       by : Outcome me one d.by.at J.g J.glob w0 d.y → Next ms.count asked w.log after d.y.out
       by (inl Q) = quiet_next Q
       by (inr C) = commits_next C
+
+  abbrev value_learned : List Change → List Op
+  value_learned (Learn v ops ∷ cs) = ops
+  value_learned other = []
+
+  -- where it learns a value, the log's new entry reads as that
+  pub lone_reads : (ops : List Op) → d.y.changes ≡ Learn (suc w0.last) ops ∷ Last (suc w0.last) ∷ [] → d.y.readings.last ≡ suc w0.last → ops_in (entry (grown w.log after) (suc w0.last)) ≡ ops
+  unfolding commits_next
+  lone_reads ops e l = by outcome
+    where
+      by : Outcome me one d.by.at J.g J.glob w0 d.y → ops_in (entry (grown w.log after) (suc w0.last)) ≡ ops
+      by (inl Q) = let same = Q.last in absurd (omega (arith, l, same))
+      by (inr C) =
+          let N = commits_next C in
+          ap (λ (log : List (List ℕ)). ops_in (entry log (suc w0.last))) N.is ∙ ap (λ (c : ℕ). ops_in (entry N.more (suc c))) last_is ∙ reads_it C ∙ ap value_learned (sym C.changes ∙ e)
 
 -- ---- every event
 

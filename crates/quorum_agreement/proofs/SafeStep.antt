@@ -5,7 +5,8 @@ use Rattle.log_copies.proofs.Unmarked.{OnLog}
 use Rattle.log_copies.specs.Synchronizing.{written}
 use Rattle.log_model.proofs.Committed.{ops_again}
 use Rattle.log_model.proofs.Older.{older_itself}
-use Rattle.log_model.proofs.Records.{value_has_text}
+use Rattle.mon_msg.specs.Protocol.Records.{transaction_in}
+use Rattle.log_model.proofs.Records.{read_version, value_has_text}
 use Rattle.log_model.proofs.RowReadings.{read_some}
 use Rattle.log_model.proofs.RuleCells.{log_high}
 use Rattle.log_model.specs.LogOfValues.{AllValues, view_at}
@@ -25,6 +26,7 @@ use Rattle.mon_msg.specs.declared.clients.Waiting.{Waiting}
 use Rattle.mon_msg.specs.declared.input.Input.TheVariants as input
 use Rattle.mon_msg.specs.declared.input.Input.{Input}
 use Rattle.mon_msg.specs.declared.paxos.Leader.{Leader}
+use Rattle.mon_msg.specs.declared.plan.Origin.TheVariants as origin
 use Rattle.mon_msg.specs.declared.plan.Origin.{Origin}
 use Rattle.mon_msg.specs.declared.plan.Sent.TheVariants as sent
 use Rattle.mon_msg.specs.declared.plan.Sent.{Sent}
@@ -47,22 +49,22 @@ use Rattle.mon_wire.specs.declared.reply.Reply.{Reply}
 use Rattle.mon_wire.specs.declared.request.Request.TheVariants as request
 use Rattle.mon_wire.specs.declared.request.Request.{Request}
 use Rattle.mon_wire.specs.declared.request.Service.{Service}
-use Rattle.quorum_agreement.proofs.Acknowledging.{IsShownIn, NoShow, NoShowBody, NoShowSent, answer_shows_nothing, fenced_by, no_acks, no_routes_show, one_ack, plain_acks, plain_shows_nothing, quiet_fenced, quiet_replies, replies_event}
-use Rattle.quorum_agreement.proofs.Answering.{Acks, AtOnce, BodyKnown, Completes, Hands, InputKnown, IsRead, Lead, Outcome, Reads, RequestKnown, answers}
+use Rattle.quorum_agreement.proofs.Acknowledging.{IsShownIn, NoShowSent, answer_shows_nothing, fenced_by, no_acks, one_ack, plain_acks, plain_shows_nothing, quiet_fenced, quiet_replies, replies_event}
+use Rattle.quorum_agreement.proofs.Answering.{Acks, AtOnce, BodyKnown, Completes, Hands, InputKnown, IsRead, Lead, Outcome, Reads, RequestKnown, answers, peon_leads_not}
 use Rattle.quorum_agreement.proofs.Grown.{first_is}
 use Rattle.quorum_agreement.proofs.Held.{IsHeld, Onward, Still, held_lasts, last_is, level_at, shows_it}
 use Rattle.quorum_agreement.proofs.Invariant.{remembers}
 use Rattle.quorum_agreement.proofs.Premises.{Completed, accept_completes, leads_others}
 use Rattle.quorum_agreement.proofs.Result.{OneLog}
 use Rattle.quorum_agreement.proofs.Step.{copy_marked}
-use Rattle.quorum_history.proofs.History.{Accepted, Entered, Ghost}
-use Rattle.quorum_history.proofs.Holds.{ActsIn, BodyHolds, Core, InPhase, core_of}
+use Rattle.quorum_history.proofs.History.{Accepted, Entered, Ghost, Handed, hand}
+use Rattle.quorum_history.proofs.Holds.{ActsIn, BodyHolds, Core, FollowsIn, HasSource, InPhase, IsHanded, core_of, epoch_in}
 use Rattle.quorum_history.proofs.Numbers.{level_is}
 use Rattle.quorum_history.proofs.Phases.{no, peon_is_peon, votes_unmarked}
 use Rattle.quorum_history.proofs.Rows.{InputHolds}
 use Rattle.quorum_laws.proofs.Chosen.{chosen_once, nothing_lower, stays_nothing}
 use Rattle.quorum_laws.proofs.Events.{Does, ToldOf, member_of}
-use Rattle.quorum_laws.proofs.Invariant.{InvOf, InvWith, WasActive}
+use Rattle.quorum_laws.proofs.Invariant.{Further, InvOf, InvWith, WasActive}
 use Rattle.quorum_laws.proofs.Reading.{state_holds}
 use Rattle.quorum_laws.specs.Accepting.{HasAccepted, IsMajorityOf, readings_at}
 use Rattle.quorum_laws.specs.Values.{AcceptedNothing, IsChosen}
@@ -73,29 +75,35 @@ use Rattle.quorum_model.specs.Agree.{IsAsked}
 use Rattle.quorum_model.specs.Clients.{incremental_of, messages_of, replies_of}
 use Rattle.quorum_model.specs.Growth.{last_of}
 use Rattle.quorum_model.specs.Happens.{is_active}
-use Rattle.quorum_model.specs.Kept.{AcknowledgedOnce}
+use Rattle.quorum_model.specs.Kept.{AcknowledgedOnce, DoneIsAnswered}
 use Rattle.quorum_model.specs.Monitors.{Monitors}
 use Rattle.quorum_model.specs.Shown.{Fence, IsFenced, ShowsLog}
 use Rattle.quorum_model.specs.World.{Acknowledged, Asked, Envelope, Replied, World}
 use Rattle.quorum_walk.proofs.Lists.{Among, all_among, all_append, all_both, all_map, all_of}
-use Rattle.quorum_walk.proofs.Sparing.{own_of}
+use Rattle.quorum_walk.proofs.Sparing.{Own, learned_own, own_of}
 use Rattle.quorum_walk.proofs.Walk.{Then}
-use Rattle.std.proofs.Common.{Bool, List, None, Some, [], ap, append-nil, arith, cond, eqb, false, inl, inr, leb, length, refl, subst, suc, sym, true, unwrap_or, ℕ, ◌%◌, ◌++◌, ◌-◌, ◌<◌, ◌||◌, ◌∙◌, ◌∷◌, ◌≡◌, ◌≤◌, ◌⊎◌}
-use Rattle.std.proofs.lemmas.Bool.{cases_lt, cases_order, cond_both, false≢true, ltb-true}
+use Rattle.std.proofs.Common.{Bool, IfSome, List, None, Option, Some, [], ap, append-nil, arith, cond, eqb, false, inl, inr, leb, length, map, refl, subst, suc, sym, true, unwrap_or, ℕ, ◌%◌, ◌++◌, ◌-◌, ◌<◌, ◌||◌, ◌∙◌, ◌∷◌, ◌≡◌, ◌≤◌, ◌⊎◌}
+use Rattle.std.proofs.lemmas.Bool.{cases_lt, cases_order, cond_both, eqb-true, false≢true, ltb-true}
 use Rattle.std.proofs.lemmas.List.Elements.{Contains-push}
 use Rattle.std.specs.List.{AllByRecursion, Contains, filter}
-
--- what a message hands on shows nothing
-abbrev pub RouteShows : Envelope → Type 0
-RouteShows e = NoShowBody e.message.body
+use Rattle.quorum_agreement.proofs.Answered.{BodyRoutes, ComesFrom, IsFounded, MayRoute, Routes, Stems, answer_lasts, asked_makes, asker, asker_is, changed, comes_further, founded_replies, founded_routes, no_answer, plain_founded, reply_then, route_shows_nothing, routes_last, source_further, stems_further}
+use Rattle.quorum_agreement.proofs.Lone.{active_is}
+use Rattle.mon_msg.specs.Protocol.Changes.{Change, Last, Learn}
+use Rattle.mon_msg.specs.Protocol.Played.{played}
+use Rattle.mon_msg.specs.Protocol.Proposing.{asked_of}
+use Rattle.mon_msg.specs.Protocol.Sending.{answer_to}
+use Rattle.quorum_history.proofs.RowsClients as clients
+use Rattle.quorum_walk.proofs.FineCourses.{Ended, Fit, Val}
 
 pub record IsSafe (ms : Monitors) (w : World) (I : InvOf ms w) : Type 0 where
   pub still : (i : ℕ) (s : State) → w.state i ≡ Some s → Still s.phase s.leader
+  pub stems : (i : ℕ) (s : State) → w.state i ≡ Some s → s.phase ≡ phase.Updating → Stems I.g i (epoch_of (readings_at w i)) s.leader
   pub acks : AllByRecursion (IsHeld ms.count w I.g) w.acknowledged
   pub once : AcknowledgedOnce w.acknowledged
   pub replies : AllByRecursion (IsShownIn w) w.replied
+  pub answers : AllByRecursion (λ (r : Replied). DoneIsAnswered w r r.reply) w.replied
   pub fence : Fence w
-  pub routes : AllByRecursion RouteShows w.messages
+  pub routes : AllByRecursion (Routes w I.g) w.messages
 
 -- ---- what is shown lasts
 
@@ -121,9 +129,6 @@ since_done : (r : Readings) (v : Service) (k : ℕ) → done_in (since r v k) �
 unfolding since
 since_done r v k = cond_both (leb (service_first r v) (suc k)) (changes_after r v k (kept_from r v (service_last r v - k) (suc k))) (shown r v) (λ y. done_in y ≡ None) (λ t. refl) (λ t. refl)
 
-peon_leads_not : (p : Phase) → is_peon p ≡ true → is_leading p ≡ false
-peon_leads_not p e = ap is_leading (peon_is_peon p e)
-
 member_votes : (p : Phase) → is_member p ≡ true → votes p ≡ true
 member_votes p e = ap (λ (b : Bool). b || same_phase p phase.Electing) e
 
@@ -139,34 +144,51 @@ module _ (ms : Monitors) (w next : World) (I : InvOf ms w) (K : InvOf ms next) (
   shown_again : AllByRecursion (IsShownIn next) w.replied
   shown_again = all_map (IsShownIn w) (IsShownIn next) (shown_lasts w next I.g K.g O) w.replied S.replies
 
-  pub safe_same : ((i : ℕ) (s : State) → next.state i ≡ Some s → Still s.phase s.leader) → next.acknowledged ≡ w.acknowledged → next.replied ≡ w.replied → next.messages ≡ w.messages → IsSafe ms next K
-  safe_same still acks replied messages = record {
-    still = still;
+  answers_again : AllByRecursion (λ (r : Replied). DoneIsAnswered next r r.reply) w.replied
+  answers_again = all_map _ _ (λ r. answer_lasts w next O.acks O.asked r r.reply) w.replied S.answers
+
+  routes_again : AllByRecursion (Routes next K.g) w.messages
+  routes_again = all_map (Routes w I.g) (Routes next K.g) (routes_last w next O.acks I.g K.g O.further O.events) w.messages S.routes
+
+  -- a monitor that did nothing
+  pub stems_again : (i : ℕ) (s : State) → w.state i ≡ Some s → next.store i ≡ w.store i → s.phase ≡ phase.Updating → Stems K.g i (epoch_of (readings_at next i)) s.leader
+  stems_again i s e q u =
+      subst (λ (m : Store). Stems K.g i (epoch_of (readings_of m)) s.leader) (sym q) (stems_further I.g K.g O.further i (epoch_of (readings_at w i)) s.leader (S.stems i s e u))
+
+  pub safe_same : ((i : ℕ) (s : State) → next.state i ≡ Some s → (w.state i ≡ Some s) × (next.store i ≡ w.store i)) → next.acknowledged ≡ w.acknowledged → next.replied ≡ w.replied → next.messages ≡ w.messages → IsSafe ms next K
+  safe_same unchanged acks replied messages = record {
+    still = λ i s e. S.still i s (unchanged i s e).0;
+    stems = λ i s e. stems_again i s (unchanged i s e).0 (unchanged i s e).1;
     acks = subst (AllByRecursion (IsHeld n next K.g)) (sym acks) held_again;
     once = subst AcknowledgedOnce (sym acks) S.once;
     replies = subst (AllByRecursion (IsShownIn next)) (sym replied) shown_again;
+    answers = subst (AllByRecursion (λ (r : Replied). DoneIsAnswered next r r.reply)) (sym replied) answers_again;
     fence = subst (λ (rs : List Replied). AllByRecursion (λ (a : Acknowledged). AllByRecursion (λ (r : Replied). IsFenced a r r.reply) rs) next.acknowledged) (sym replied)
         (subst (λ (acks : List Acknowledged). AllByRecursion (λ (a : Acknowledged). AllByRecursion (λ (r : Replied). IsFenced a r r.reply) w.replied) acks) (sym acks) S.fence);
-    routes = subst (AllByRecursion RouteShows) (sym messages) S.routes;
+    routes = subst (AllByRecursion (Routes next K.g)) (sym messages) routes_again;
   }
 
   -- ---- something is
 
-  module _ (still : (i : ℕ) (s : State) → next.state i ≡ Some s → Still s.phase s.leader) (later : suc w.events ≤ next.events) (new : List Acknowledged) (replies : List Replied) (sends : List Envelope)
+  module _ (still : (i : ℕ) (s : State) → next.state i ≡ Some s → Still s.phase s.leader) (stems : (i : ℕ) (s : State) → next.state i ≡ Some s → s.phase ≡ phase.Updating → Stems K.g i (epoch_of (readings_at next i)) s.leader)
+      (later : suc w.events ≤ next.events) (new : List Acknowledged) (replies : List Replied) (sends : List Envelope)
       (acks_are : next.acknowledged ≡ w.acknowledged ++ new) (replied_are : next.replied ≡ w.replied ++ replies) (messages_are : next.messages ≡ w.messages ++ sends) where
     abbrev FencedBy : List Replied → Acknowledged → Type 0
     FencedBy rs a = AllByRecursion (λ (r : Replied). IsFenced a r r.reply) rs
 
     pub safe_more : AllByRecursion (λ (a : Acknowledged). IsHeld n next K.g a × (a.event ≡ next.events)) new → AcknowledgedOnce (w.acknowledged ++ new)
-        → AllByRecursion (λ (r : Replied). IsShownIn next r × (r.event ≡ next.events)) replies → ((a : Acknowledged) → IsHeld n w I.g a → FencedBy replies a) → AllByRecursion RouteShows sends → IsSafe ms next K
-    safe_more held once shown fenced routes = record {
+        → AllByRecursion (λ (r : Replied). IsShownIn next r × (r.event ≡ next.events)) replies → AllByRecursion (λ (r : Replied). DoneIsAnswered next r r.reply) replies → ((a : Acknowledged) → IsHeld n w I.g a → FencedBy replies a)
+        → AllByRecursion (Routes next K.g) sends → IsSafe ms next K
+    safe_more held once shown answered fenced routes = record {
       still = still;
+      stems = stems;
       acks = subst (AllByRecursion (IsHeld n next K.g)) (sym acks_are) (all_append (IsHeld n next K.g) w.acknowledged new held_again (all_map _ _ (λ a k. k.0) new held));
       once = subst AcknowledgedOnce (sym acks_are) once;
       replies = subst (AllByRecursion (IsShownIn next)) (sym replied_are) (all_append (IsShownIn next) w.replied replies shown_again (all_map _ _ (λ r k. k.0) replies shown));
+      answers = subst (AllByRecursion (λ (r : Replied). DoneIsAnswered next r r.reply)) (sym replied_are) (all_append (λ (r : Replied). DoneIsAnswered next r r.reply) w.replied replies answers_again answered);
       fence = subst (λ (rs : List Replied). AllByRecursion (FencedBy rs) next.acknowledged) (sym replied_are) (subst (AllByRecursion (FencedBy (w.replied ++ replies))) (sym acks_are)
           (all_append (FencedBy (w.replied ++ replies)) w.acknowledged new (all_map _ _ old w.acknowledged (all_both (IsHeld n w I.g) (FencedBy w.replied) w.acknowledged S.acks S.fence)) (all_map _ _ fresh new held)));
-      routes = subst (AllByRecursion RouteShows) (sym messages_are) (all_append RouteShows w.messages sends S.routes routes);
+      routes = subst (AllByRecursion (Routes next K.g)) (sym messages_are) (all_append (Routes next K.g) w.messages sends routes_again routes);
     }
       where
         old : (a : Acknowledged) → IsHeld n w I.g a × FencedBy w.replied a → FencedBy (w.replied ++ replies) a
@@ -179,10 +201,10 @@ module _ (ms : Monitors) (w next : World) (I : InvOf ms w) (K : InvOf ms next) (
 
 -- ---- an event
 
-lead_of : (me : Me) (now : ℕ) (r : Readings) (s : State) (From : Command → Origin → Type 0) (Routed : (f e seq : ℕ) → Reply → Type 0) (Voted : (f pn v : ℕ) → Type 0) (p : Phase) → s.phase ≡ p → Still p s.leader → Lead me now r s From Routed Voted p s.leader
+lead_of : (me : Me) (now : ℕ) (r : Readings) (s : State) (From : ℕ → Command → Origin → Type 0) (Routed : (f e seq : ℕ) → Reply → Type 0) (Voted : (f pn v : ℕ) → Type 0) (p : Phase) → s.phase ≡ p → Still p s.leader → Lead me now r s From Routed Voted p s.leader (epoch_of r)
 lead_of me now r s From Routed Voted phase.Collecting e k = k
 lead_of me now r s From Routed Voted phase.Previous e k = k
-lead_of me now r s From Routed Voted phase.Updating e k = inl (record { updating = e; origin = refl; proposes = refl; number = refl })
+lead_of me now r s From Routed Voted phase.Updating e k = inl (record { epoch = refl; updating = e; origin = refl; proposes = refl; number = refl })
 lead_of me now r s From Routed Voted phase.Booting e k = tt
 lead_of me now r s From Routed Voted phase.Probing e k = tt
 lead_of me now r s From Routed Voted phase.Synchronizing e k = tt
@@ -190,32 +212,34 @@ lead_of me now r s From Routed Voted phase.Electing e k = tt
 lead_of me now r s From Routed Voted phase.Active e k = tt
 lead_of me now r s From Routed Voted phase.Peon e k = tt
 
-still_of : (me : Me) (now : ℕ) (r : Readings) (s : State) (From : Command → Origin → Type 0) (Routed : (f e seq : ℕ) → Reply → Type 0) (Voted : (f pn v : ℕ) → Type 0) (p : Phase) (l : Leader) → Lead me now r s From Routed Voted p l → Still p l
-still_of me now r s From Routed Voted phase.Collecting l k = k
-still_of me now r s From Routed Voted phase.Previous l k = k
-still_of me now r s From Routed Voted phase.Updating l k = tt
-still_of me now r s From Routed Voted phase.Booting l k = tt
-still_of me now r s From Routed Voted phase.Probing l k = tt
-still_of me now r s From Routed Voted phase.Synchronizing l k = tt
-still_of me now r s From Routed Voted phase.Electing l k = tt
-still_of me now r s From Routed Voted phase.Active l k = tt
-still_of me now r s From Routed Voted phase.Peon l k = tt
+still_of : (me : Me) (now : ℕ) (r : Readings) (s : State) (From : ℕ → Command → Origin → Type 0) (Routed : (f e seq : ℕ) → Reply → Type 0) (Voted : (f pn v : ℕ) → Type 0) (p : Phase) (l : Leader) (e : ℕ) → Lead me now r s From Routed Voted p l e → Still p l
+still_of me now r s From Routed Voted phase.Collecting l e k = k
+still_of me now r s From Routed Voted phase.Previous l e k = k
+still_of me now r s From Routed Voted phase.Updating l e k = tt
+still_of me now r s From Routed Voted phase.Booting l e k = tt
+still_of me now r s From Routed Voted phase.Probing l e k = tt
+still_of me now r s From Routed Voted phase.Synchronizing l e k = tt
+still_of me now r s From Routed Voted phase.Electing l e k = tt
+still_of me now r s From Routed Voted phase.Active l e k = tt
+still_of me now r s From Routed Voted phase.Peon l e k = tt
 
 -- what a reaction makes of the world
 pub record Moved (w next : World) (rank : ℕ) (m : Store) (y : Course) : Type 0 where
   pub store : next.store rank ≡ m
   pub state : next.state rank ≡ Some y.state
-  pub others : (i : ℕ) (s : State) → next.state i ≡ Some s → (s ≡ y.state) ⊎ (w.state i ≡ Some s)
+  pub others : (i : ℕ) (s : State) → next.state i ≡ Some s → ((i ≡ rank) × (y.state ≡ s)) ⊎ ((w.state i ≡ Some s) × (next.store i ≡ w.store i))
   pub events : next.events ≡ suc w.events
   pub acks : next.acknowledged ≡ w.acknowledged ++ acknowledgements_of next.events m y.state y.out
   pub replied : next.replied ≡ w.replied ++ replies_of next.events rank m y.out
   pub messages : next.messages ≡ w.messages ++ messages_of y.out
   pub active : is_active y.state.phase ≡ true → Among (epoch_of (readings_of m), rank) next.active
   pub read : readings_of m ≡ y.readings
+  pub ended : Ended (readings_at w rank) y
 
-module _ (ms : Monitors) (w next : World) (I : InvOf ms w) (K : InvOf ms next) (O : Onward w next I.g K.g) (S : IsSafe ms w I) (asked : List Asked) (J : InvWith ms w asked) (Told : Envelope → Type 0) (d : Does ms w Told asked J)
-    (M : Moved w next d.by.rank (written (w.store d.by.rank) d.y) d.y) (routes : ToldOf RouteShows d.by.rank d.by.came) (L : OneLog ms w) (N : OneLog ms next)
-    (chosen_then : 1 < ms.count → (v : ℕ) → v < length next.log → IsChosen ms.count next (suc v) (entry next.log (suc v))) where
+module _ (ms : Monitors) (w next : World) (I : InvOf ms w) (K : InvOf ms next) (O : Onward w next I.g K.g) (S : IsSafe ms w I) (asked : List Asked) (J : InvWith ms w asked) (up : Further I.g J.g) (ahead : Further J.g K.g) (asked_are : next.asked ≡ asked) (Told : Envelope → Type 0) (d : Does ms w Told asked J)
+    (M : Moved w next d.by.rank (written (w.store d.by.rank) d.y) d.y) (routes : ToldOf (Routes w I.g) d.by.rank d.by.came) (L : OneLog ms w) (N : OneLog ms next)
+    (chosen_then : 1 < ms.count → (v : ℕ) → v < length next.log → IsChosen ms.count next (suc v) (entry next.log (suc v)))
+    (alone_reads : ms.count ≡ 1 → (ops : List Op) → d.y.changes ≡ Learn (suc (readings_at w d.by.rank).last) ops ∷ Last (suc (readings_at w d.by.rank).last) ∷ [] → d.y.readings.last ≡ suc (readings_at w d.by.rank).last → ops_in (entry next.log (suc (readings_at w d.by.rank).last)) ≡ ops) where
   abbrev count : ℕ
   count = ms.count
 
@@ -237,11 +261,11 @@ module _ (ms : Monitors) (w next : World) (I : InvOf ms w) (K : InvOf ms next) (
   below : rank < count
   below = ltb-true rank count d.by.lt
 
-  abbrev From : Command → Origin → Type 0
-  From c o = Unit {0}
+  abbrev From : ℕ → Command → Origin → Type 0
+  From e c o = HasSource J.g d.by.rank e c o
 
   abbrev Routed : (f e seq : ℕ) → Reply → Type 0
-  Routed f e seq r = NoShow r
+  Routed f e seq r = MayRoute w I.g d.by.rank e seq r
 
   abbrev Voted : (f pn v : ℕ) → Type 0
   Voted f pn v = (x : List Op) × Accepted J.g f v pn x
@@ -258,44 +282,86 @@ module _ (ms : Monitors) (w next : World) (I : InvOf ms w) (K : InvOf ms next) (
       by (inl e) = S.still rank s e
       by (inr e) = subst (λ (z : State). Still z.phase z.leader) (sym e) tt
 
-  lead : Lead me d.by.at w0 s From Routed Voted s.phase s.leader
+  lead : Lead me d.by.at w0 s From Routed Voted s.phase s.leader (epoch_of w0)
   lead = lead_of me d.by.at w0 s From Routed Voted s.phase refl still_before
 
-  nothing_known : (ws : List Waiting) → AllByRecursion (λ (q : Waiting). Unit {0}) ws
-  nothing_known [] = tt
-  nothing_known (x ∷ ws) = (tt, nothing_known ws)
+  queued : same_phase s.phase phase.Active ≡ true → AllByRecursion (λ (q : Waiting). From (epoch_of w0) q.command q.origin) s.clients.queue
+  queued t = let k = subst (InPhase count J.g rank (core_of (own_of w0) s)) (active_is s.phase t) d.by.on in k.0.reigns.queue
 
-  known : (came : Input) → InputHolds me J.g came → ToldOf RouteShows rank came → InputKnown me d.by.at w0 s From Routed Voted lead came
+  known : (came : Input) → InputHolds me J.g came → ToldOf (Routes w I.g) rank came → InputKnown me d.by.at w0 s From Routed Voted lead came
   known (input.Deliver e) h t = by e.body refl
     where
       by : (b : Body) → e.body ≡ b → BodyKnown me d.by.at w0 s From Routed Voted lead e.from e.epoch b
-      by (body.Route seq r) q = subst NoShowBody q t
+      by (body.Forward seq c) q = subst (BodyHolds J.g e.from rank e.epoch) q h.1.body
+      by (body.Route seq r) q = subst (BodyRoutes w I.g rank e.epoch) q t
       by (body.Accept pn v) q = let B = subst (BodyHolds J.g e.from rank e.epoch) q h.1.body in (B.1, B.2)
       by b q = tt
-  known (input.Client t r) h k = by r
+  known (input.Client t r) h k = by r h
     where
-      by : (r : Request) → RequestKnown me d.by.at w0 s From Routed Voted lead t r
-      by (request.Set key value) = tt
-      by (request.Remove key) = tt
-      by (request.Log text) = tt
-      by (request.Show v) = tt
-      by (request.Since v z) = tt
+      by : (r : Request) → clients.IsAsked J.g rank t r → RequestKnown me d.by.at w0 s From Routed Voted lead t r
+      by (request.Set key value) h = h
+      by (request.Remove key) h = h
+      by (request.Log text) h = h
+      by (request.Show v) h = tt
+      by (request.Since v z) h = tt
   known other h t = tt
 
   says : Says d.y
-  says = (subst (Then Says) d.is (answers me d.by.at w0 s From Routed Voted lead (λ t. nothing_known s.clients.queue) (shared_entries (w.store rank)) d.by.came (known d.by.came d.by.holds routes))).holds
+  says = (subst (Then Says) d.is (answers me d.by.at w0 s From Routed Voted lead queued (shared_entries (w.store rank)) d.by.came (known d.by.came d.by.holds routes))).holds
 
   still_after : Still d.y.state.phase d.y.state.leader
   still_after = by says
     where
       by : Says d.y → Still d.y.state.phase d.y.state.leader
-      by (inl C) = still_of me d.by.at w0 s From Routed Voted d.y.state.phase d.y.state.leader C.lead
+      by (inl C) = still_of me d.by.at w0 s From Routed Voted d.y.state.phase d.y.state.leader (epoch_of d.y.readings) C.lead
       by (inr (inl A)) = subst (λ (p : Phase). Still p d.y.state.leader) (sym A.active) tt
       by (inr (inr (inl R))) = subst (λ (z : Course). Still z.state.phase z.state.leader) (sym R.is) still_before
       by (inr (inr (inr H))) = subst (λ (p : Phase). Still p d.y.state.leader) (sym H.in_phase) (subst (Still s.phase) (sym H.same) still_before)
 
   stills : (i : ℕ) (z : State) → next.state i ≡ Some z → Still z.phase z.leader
-  stills i z e = elim (M.others i z e) [ inl q ↦ subst (λ (u : State). Still u.phase u.leader) (sym q) still_after | inr q ↦ S.still i z q ]
+  stills i z e = elim (M.others i z e) [ inl q ↦ subst (λ (u : State). Still u.phase u.leader) q.1 still_after | inr q ↦ S.still i z q.0 ]
+
+  -- ---- for which command its value is
+
+  stemmed : s.phase ≡ phase.Updating → Stems K.g rank (epoch_of w0) s.leader
+  stemmed u = by d.by.remembers
+    where
+      by : (w.state rank ≡ Some s) ⊎ (s ≡ booting rank) → Stems K.g rank (epoch_of w0) s.leader
+      by (inl e) = stems_further I.g K.g O.further rank (epoch_of w0) s.leader (S.stems rank s e u)
+      by (inr e) = no (sym (ap (same_phase phase.Booting) u) ∙ ap (λ (z : State). same_phase phase.Booting z.phase) e)
+
+  lead_stems : (l : Leader) (e : ℕ) → Lead me d.by.at w0 s From Routed Voted phase.Updating l e → Stems K.g rank e l
+  lead_stems l e (inl Q) =
+      let T = stemmed Q.updating in
+      subst (λ (z : ℕ). Stems K.g rank z l) (sym Q.epoch) (record { origin = T.origin; is = Q.origin ∙ T.is; ops = T.ops; proposes = Q.proposes ∙ T.proposes; comes = T.comes })
+  lead_stems l e (inr B) =
+      subst (λ (z : ℕ). Stems K.g rank z l) (sym B.epoch) (record {
+        origin = B.origin;
+        is = B.is;
+        ops = B.ops;
+        proposes = B.proposes;
+        comes = record {
+          command = B.command;
+          from = source_further J.g K.g ahead rank (epoch_of w0) B.command B.origin B.from;
+          makes = first_put w0 B.command (asked_of me B.origin) B.ops B.made ∙ ap (λ (a : ℕ). changed a B.command) (asker_is me B.origin);
+        };
+      })
+
+  stems_after : d.y.state.phase ≡ phase.Updating → Stems K.g rank (epoch_of (readings_at next rank)) d.y.state.leader
+  stems_after u = subst (λ (r : Readings). Stems K.g rank (epoch_of r) d.y.state.leader) (sym (ap readings_of M.store ∙ M.read)) (by says)
+    where
+      by : Says d.y → Stems K.g rank (epoch_of d.y.readings) d.y.state.leader
+      by (inl C) = lead_stems d.y.state.leader (epoch_of d.y.readings) (subst (λ (p : Phase). Lead me d.by.at w0 s From Routed Voted p d.y.state.leader (epoch_of d.y.readings)) u C.lead)
+      by (inr (inl A)) = no (sym (ap (same_phase phase.Active) (sym A.active ∙ u)))
+      by (inr (inr (inl R))) = subst (λ (z : Course). Stems K.g rank (epoch_of z.readings) z.state.leader) (sym R.is) (stemmed (ap (λ (z : Course). z.state.phase) (sym R.is) ∙ u))
+      by (inr (inr (inr H))) = no (sym (ap is_peon (sym H.in_phase ∙ u)) ∙ H.peon)
+
+  stems : (i : ℕ) (z : State) → next.state i ≡ Some z → z.phase ≡ phase.Updating → Stems K.g i (epoch_of (readings_at next i)) z.leader
+  stems i z e u = elim (M.others i z e) [
+    | inl q ↦ subst (λ (j : ℕ). Stems K.g j (epoch_of (readings_at next j)) z.leader) (sym q.0)
+        (subst (λ (t : State). Stems K.g rank (epoch_of (readings_at next rank)) t.leader) q.1 (stems_after (ap (λ (t : State). t.phase) q.1 ∙ u)))
+    | inr q ↦ stems_again ms w next I K O S i z q.0 q.1 u
+  ]
 
   last_then : last_of m ≤ length next.log
   last_then = let a = by (N.stores rank below) in let r = ap last_of M.store in omega arith
@@ -310,14 +376,18 @@ module _ (ms : Monitors) (w next : World) (I : InvOf ms w) (K : InvOf ms next) (
   later = let e = M.events in omega arith
 
   -- nothing is acknowledged or shown
-  quietly : acknowledgements_of next.events m d.y.state d.y.out ≡ [] → AllByRecursion NoShowSent d.y.out → IsSafe ms next K
-  quietly none k = safe_more ms w next I K O S stills later [] (replies_of next.events rank m d.y.out) (messages_of d.y.out) (M.acks ∙ ap (λ (z : List Acknowledged). w.acknowledged ++ z) none) M.replied M.messages tt (subst AcknowledgedOnce (sym (append-nil w.acknowledged)) S.once)
-      (all_both _ _ _ (quiet_replies next rank m last_then d.y.out k) (replies_event next.events rank m d.y.out)) (λ a h. quiet_fenced a next.events rank m d.y.out k) (no_routes_show d.y.out k)
+  abbrev Founded : Sent → Type 0
+  Founded x = IsFounded next K.g next.events rank m x
+
+  quietly : acknowledgements_of next.events m d.y.state d.y.out ≡ [] → AllByRecursion NoShowSent d.y.out → AllByRecursion Founded d.y.out → IsSafe ms next K
+  quietly none k f = safe_more ms w next I K O S stills stems later [] (replies_of next.events rank m d.y.out) (messages_of d.y.out) (M.acks ∙ ap (λ (z : List Acknowledged). w.acknowledged ++ z) none) M.replied M.messages tt (subst AcknowledgedOnce (sym (append-nil w.acknowledged)) S.once)
+      (all_both _ _ _ (quiet_replies next rank m last_then d.y.out k) (replies_event next.events rank m d.y.out)) (founded_replies next K.g next.events rank m d.y.out f) (λ a h. quiet_fenced a next.events rank m d.y.out k)
+      (founded_routes next K.g next.events rank m d.y.out f)
 
   -- a session is shown what the store tells
   module _ (R : Reads me d.by.at w0 s From Routed Voted d.y) where
-    up : w.state rank ≡ Some s
-    up = by d.by.remembers
+    there_before : w.state rank ≡ Some s
+    there_before = by d.by.remembers
       where
         by : (w.state rank ≡ Some s) ⊎ (s ≡ booting rank) → w.state rank ≡ Some s
         by (inl e) = e
@@ -327,7 +397,7 @@ module _ (ms : Monitors) (w next : World) (I : InvOf ms w) (K : InvOf ms next) (
     same = M.read ∙ ap (λ (y : Course). y.readings) R.is
 
     unmarked : w0.marked ≡ false
-    unmarked = votes_unmarked count I.g rank (core_of (own_of w0) s) s.phase (member_votes s.phase R.member) (state_holds ms w I rank s up)
+    unmarked = votes_unmarked count I.g rank (core_of (own_of w0) s) s.phase (member_votes s.phase R.member) (state_holds ms w I rank s there_before)
 
     abbrev answer : Replied
     answer = record { event = next.events; rank = rank; epoch = epoch_of (readings_of m); last = last_of m; session = R.session; reply = R.reply }
@@ -353,17 +423,20 @@ module _ (ms : Monitors) (w next : World) (I : InvOf ms w) (K : InvOf ms next) (
     is_shown = record { event = omega arith; last = last_then; shows = shows_told next answer R.reply (subst (λ (c : ℕ). IsTold next.log c R.reply) last_same (told_stays O.fronts stands.last (let h = stands.versions in h.within) R.reply tells)) }
 
     fenced : (a : Acknowledged) → IsHeld count w I.g a → IsFenced a answer R.reply
-    fenced a h = fenced_by a answer R.reply (λ lt e. let v = shows_it ms w I a h rank below s up d.by.at R.readable still_before (e ∙ ap epoch_of same) R.member in let l = last_is m in let q = ap (λ (r : Readings). r.last) same in omega arith)
+    fenced a h = fenced_by a answer R.reply (λ lt e. let v = shows_it ms w I a h rank below s there_before d.by.at R.readable still_before (e ∙ ap epoch_of same) R.member in let l = last_is m in let q = ap (λ (r : Readings). r.last) same in omega arith)
 
     shown_then : IsSafe ms next K
-    shown_then = safe_more ms w next I K O S stills later [] (answer ∷ []) [] (M.acks ∙ ap (λ (out : List Sent). w.acknowledged ++ acknowledgements_of next.events m d.y.state out) R.out ∙ ap (λ (z : List Acknowledged). w.acknowledged ++ z) none) (M.replied ∙ ap (λ (out : List Sent). w.replied ++ replies_of next.events rank m out) R.out) (M.messages ∙ ap (λ (out : List Sent). w.messages ++ messages_of out) R.out) tt (subst AcknowledgedOnce (sym (append-nil w.acknowledged)) S.once) ((is_shown, refl), tt) (λ a h. (fenced a h, tt)) tt
+    shown_then = safe_more ms w next I K O S stills stems later [] (answer ∷ []) [] (M.acks ∙ ap (λ (out : List Sent). w.acknowledged ++ acknowledgements_of next.events m d.y.state out) R.out ∙ ap (λ (z : List Acknowledged). w.acknowledged ++ z) none) (M.replied ∙ ap (λ (out : List Sent). w.replied ++ replies_of next.events rank m out) R.out) (M.messages ∙ ap (λ (out : List Sent). w.messages ++ messages_of out) R.out) tt (subst AcknowledgedOnce (sym (append-nil w.acknowledged)) S.once) ((is_shown, refl), tt) (no_answer next answer R.reply no_done, tt) (λ a h. (fenced a h, tt)) tt
       where
-        nothing_done : (b : Bool) → cond b (done_in R.reply) None ≡ None
-        nothing_done true = by R.read
+        no_done : done_in R.reply ≡ None
+        no_done = by R.read
           where
             by : IsRead me d.by.at w0 s From Routed Voted R.reply → done_in R.reply ≡ None
             by (inl k) = ap done_in k.1
             by (inr k) = ap done_in k.2 ∙ since_done w0 k.0 k.1
+
+        nothing_done : (b : Bool) → cond b (done_in R.reply) None ≡ None
+        nothing_done true = no_done
         nothing_done false = refl
 
         none : acknowledgements_of next.events m d.y.state (sent.Reply R.session R.reply ∷ []) ≡ []
@@ -372,10 +445,40 @@ module _ (ms : Monitors) (w next : World) (I : InvOf ms w) (K : InvOf ms next) (
   -- a leader's answer goes to the sessions that wait for it
   handed_then : Hands me d.by.at w0 s From Routed Voted d.y → IsSafe ms next K
   handed_then H = quietly (ap (acknowledgements_of next.events m d.y.state) H.out ∙ no_acks next.events m d.y.state _ (all_of (λ (x : Sent). done_by d.y.state x ≡ None) (λ (a : waiting.Asked). sent.Reply a.session H.reply) (λ a. no_leader (is_leading d.y.state.phase) (ap is_leading H.in_phase ∙ peon_leads_not s.phase H.peon)) (filter (λ (a : waiting.Asked). eqb a.seq H.seq) s.clients.sessions)))
-      (subst (AllByRecursion NoShowSent) (sym H.out) (all_of NoShowSent (λ (a : waiting.Asked). sent.Reply a.session H.reply) (λ a. H.known) (filter (λ (a : waiting.Asked). eqb a.seq H.seq) s.clients.sessions)))
+      (subst (AllByRecursion NoShowSent) (sym H.out) (all_of NoShowSent (λ (a : waiting.Asked). sent.Reply a.session H.reply) (λ a. route_shows_nothing w I.g rank H.epoch H.seq H.reply H.known) (filter (λ (a : waiting.Asked). eqb a.seq H.seq) s.clients.sessions)))
+      (subst (AllByRecursion Founded) (sym H.out) (each s.clients.sessions follows.sessions))
     where
       no_leader : (b : Bool) → b ≡ false → cond b (done_in H.reply) None ≡ None
       no_leader b e = ap (λ (c : Bool). cond c (done_in H.reply) None) e
+
+      follows : FollowsIn J.g rank (core_of (own_of w0) s)
+      follows = subst (InPhase count J.g rank (core_of (own_of w0) s)) (peon_is_peon s.phase H.peon) d.by.on
+
+      -- the session's number is that of the command which was acknowledged
+      founded : (a : waiting.Asked) → IsHanded J.g rank (epoch_of w0) a → eqb a.seq H.seq ≡ true → (r : Reply) → MayRoute w I.g rank H.epoch H.seq r → DoneIsAnswered next (reply_then next K.g next.events rank m a.session r) r
+      founded a k q (reply.Done v) R =
+          let hands = J.glob.hands in
+          let theirs = subst (λ (u : ℕ). Handed J.g rank (epoch_of w0) u R.session R.command) (sym (eqb-true a.seq H.seq q)) (subst (λ (e : ℕ). Handed J.g rank e H.seq R.session R.command) H.now_is (up.hands (hand rank H.epoch H.seq R.session R.command) R.handed)) in
+          let both = hands.once rank (epoch_of w0) a.seq a.session R.session k.0 R.command k.1 theirs in
+          let W = J.asks rank a.session k.0 (hands.asked rank (epoch_of w0) a.seq a.session k.0 k.1) in
+          record {
+            acknowledged = R.acknowledged;
+            among = O.acks R.acknowledged R.among;
+            version = R.version;
+            earlier = let e = R.earlier in omega (arith, later);
+            asked = W.by;
+            was_asked = subst (λ (xs : List Asked). Contains xs W.by) (sym asked_are) W.among;
+            rank = W.at;
+            session = W.session;
+            made = asked_makes count asked rank a.session k.0 W ∙ ap (λ (c : Command). Some (changed rank c)) both.1 ∙ ap Some R.made;
+          }
+      founded a k q other R = tt
+
+      each : (xs : List waiting.Asked) → AllByRecursion (IsHanded J.g rank (epoch_of w0)) xs → AllByRecursion Founded (map (λ (a : waiting.Asked). sent.Reply a.session H.reply) (filter (λ (a : waiting.Asked). eqb a.seq H.seq) xs))
+      each [] k = tt
+      each (a ∷ xs) k =
+          cond_both (eqb a.seq H.seq) (a ∷ filter (λ (b : waiting.Asked). eqb b.seq H.seq) xs) (filter (λ (b : waiting.Asked). eqb b.seq H.seq) xs) (λ (ys : List waiting.Asked). AllByRecursion Founded (map (λ (b : waiting.Asked). sent.Reply b.session H.reply) ys))
+          (λ q. (founded a k.0 q H.reply H.known, each xs k.1)) (λ q. each xs k.1)
 
   -- ---- a version is acknowledged
 
@@ -389,7 +492,7 @@ module _ (ms : Monitors) (w next : World) (I : InvOf ms w) (K : InvOf ms next) (
     leads : is_leading s.phase ≡ true
     leads = by A.how
       where
-        by : Completes me d.by.at w0 s From Routed Voted A.origin ⊎ AtOnce me d.by.at w0 s From Routed Voted A.origin → is_leading s.phase ≡ true
+        by : Completes me d.by.at w0 s From Routed Voted A.origin A.ops ⊎ AtOnce me d.by.at w0 s From Routed Voted A.origin A.ops → is_leading s.phase ≡ true
         by (inl C) = elim C.in_phase [ inl e ↦ ap is_leading e | inr e ↦ ap is_leading e ]
         by (inr B) = ap is_leading B.active
 
@@ -470,18 +573,21 @@ module _ (ms : Monitors) (w next : World) (I : InvOf ms w) (K : InvOf ms next) (
     quorum_is : led.0 ≡ s.leader.quorum
     quorum_is = (K.glob.roles.once rank ack.epoch rank rank led.0 d.y.state.leader.quorum led.1 (subst (λ (r : Readings). Entered K.g rank (epoch_of r) rank d.y.state.leader.quorum) stored acts.0.reigns.role)).1 ∙ A.quorum
 
+    updates : Completes me d.by.at w0 s From Routed Voted A.origin A.ops → s.phase ≡ phase.Updating
+    updates C = elim C.in_phase [ inl e ↦ (let q = (subst (λ (p : Phase). Still p s.leader) e still_before).1 in let z : None ≡ Some A.origin = sym q ∙ C.waits in absurd cc) | inr e ↦ e ]
+
     -- ---- several monitors
 
     module _ (several : 1 < count) where
-      completes : Completes me d.by.at w0 s From Routed Voted A.origin
+      completes : Completes me d.by.at w0 s From Routed Voted A.origin A.ops
       completes = by A.how
         where
-          by : Completes me d.by.at w0 s From Routed Voted A.origin ⊎ AtOnce me d.by.at w0 s From Routed Voted A.origin → Completes me d.by.at w0 s From Routed Voted A.origin
+          by : Completes me d.by.at w0 s From Routed Voted A.origin A.ops ⊎ AtOnce me d.by.at w0 s From Routed Voted A.origin A.ops → Completes me d.by.at w0 s From Routed Voted A.origin A.ops
           by (inl C) = C
           by (inr B) = no (sym (leads_others me J.g w0 s J.glob several d.by.on leads) ∙ B.alone)
 
       updating : s.phase ≡ phase.Updating
-      updating = elim completes.in_phase [ inl e ↦ (let q = (subst (λ (p : Phase). Still p s.leader) e still_before).1 in let z : None ≡ Some A.origin = sym q ∙ completes.waits in absurd cc) | inr e ↦ e ]
+      updating = updates completes
 
       done : Completed me J.g w0 s J.glob several d.by.on completes.voter
       done = accept_completes me J.g w0 s J.glob several d.by.on completes.voter s.leader.pn v completes.voted.0 completes.in_phase refl refl completes.voted.1 completes.whole
@@ -514,6 +620,81 @@ module _ (ms : Monitors) (w next : World) (I : InvOf ms w) (K : InvOf ms next) (
       chosen = λ several i t. subst (HasAccepted next i v d.y.state.leader.pn) (spells several) (subst (λ (p : ℕ). HasAccepted next i v p (text (done several).x)) (sym A.number) (O.accepted i v s.leader.pn (text (done several).x) (all_accepted several i (subst (λ (q : List Bool). has q i ≡ true) quorum_is t))));
       fresh = λ several lower q lt Q. stays_nothing w next O.later q v lower (nothing_below several lower q (let e = A.number in omega arith) Q);
     }
+
+    -- ---- for which command it is
+
+    source : ComesFrom J.g rank (epoch_of w0) A.origin A.ops
+    source = by A.how
+      where
+        by : Completes me d.by.at w0 s From Routed Voted A.origin A.ops ⊎ AtOnce me d.by.at w0 s From Routed Voted A.origin A.ops → ComesFrom J.g rank (epoch_of w0) A.origin A.ops
+        by (inl C) =
+            let T = S.stems rank s was_up (updates C) in
+            let at : Some T.origin ≡ Some A.origin = sym T.is ∙ C.waits in
+            let value : Some T.ops ≡ Some A.ops = sym T.proposes ∙ C.proposed in
+            let same_origin : T.origin ≡ A.origin = cc in
+            let same_ops : T.ops ≡ A.ops = cc in
+            subst (λ (o : Origin). ComesFrom J.g rank (epoch_of w0) o A.ops) same_origin (subst (ComesFrom J.g rank (epoch_of w0) T.origin) same_ops (comes_further I.g J.g up rank (epoch_of w0) T.origin T.ops T.comes))
+        by (inr B) = record { command = B.command; from = B.from; makes = first_put w0 B.command (asked_of me A.origin) A.ops B.made ∙ ap (λ (a : ℕ). changed a B.command) (asker_is me A.origin) }
+
+    reads : ops_in (entry next.log v) ≡ A.ops
+    reads = by (cases_order 1 count)
+      where
+        by : (1 ≡ count) ⊎ ((1 < count) ⊎ (count < 1)) → ops_in (entry next.log v) ≡ A.ops
+        by (inl one) = alone_reads (sym one) A.ops A.changes A.last
+        by (inr (inl several)) =
+            let D = done several in
+            let C = completes several in
+            let value : Some D.x ≡ Some A.ops = sym D.is ∙ C.proposed in
+            let same : D.x ≡ A.ops = cc in
+            let V : Val A.ops = subst (λ (o : Option (List Op)). IfSome o Val) C.proposed (let f = d.by.fits in f.value) in
+            let R = read_version next.log N.short values_then w0.last within A.ops (subst (λ (b : List ℕ). transaction_in (Some b) ≡ Some A.ops) (ap text (sym same) ∙ spells several) V.reads) in R.reads
+        by (inr (inr none)) = let b = below in absurd (omega arith)
+
+    made_here : changed (asker rank A.origin) source.command ≡ (ack.service, ack.incremental)
+    made_here = ap (λ (z : Service × List ℕ). (z.0, z.1)) (sym (ap (λ (z : Cell). incremental_in (ops_in (unwrap_or z []))) there ∙ ap incremental_in reads ∙ source.makes))
+
+    epoch_same : epoch_of d.y.readings ≡ epoch_of w0
+    epoch_same =
+        let E = M.ended in
+        let f = subst (AllByRecursion Fit) A.changes E.fits in
+        ap epoch_of (E.tells ∙ ap (λ (cs : List Change). played cs w0) A.changes) ∙ ap (λ (o : Own). epoch_in o) (learned_own v (A.ops ∷ []) w0 (f.0, tt))
+
+    acks_are : next.acknowledged ≡ w.acknowledged ++ ack ∷ []
+    acks_are = M.acks ∙ ap (λ (out : List Sent). w.acknowledged ++ acknowledgements_of next.events m d.y.state out) A.out
+        ∙ ap (λ (z : List Acknowledged). w.acknowledged ++ z) (one_ack next.events m d.y.state me A.plain (epoch_of d.y.readings) A.origin v A.all (ap is_leading A.active))
+
+    now : Contains next.acknowledged ack
+    now = subst (λ (xs : List Acknowledged). Contains xs ack) (sym acks_are) (Contains-push w.acknowledged ack)
+
+    answer_founded : (o : Origin) (c : Command) → HasSource J.g rank (epoch_of w0) c o → changed (asker rank o) c ≡ (ack.service, ack.incremental) → AllByRecursion Founded (answer_to me (epoch_of d.y.readings) o (reply.Done v) ∷ [])
+    answer_founded (origin.Session t) c k made =
+        let W = J.asks rank t c k in (
+          record {
+            acknowledged = ack;
+            among = now;
+            version = refl;
+            earlier = omega arith;
+            asked = W.by;
+            was_asked = subst (λ (xs : List Asked). Contains xs W.by) (sym asked_are) W.among;
+            rank = W.at;
+            session = W.session;
+            made = asked_makes count asked rank t c W ∙ ap Some made;
+          },
+          tt,
+        )
+    answer_founded (origin.Forwarded f seq) c k made = (
+      record {
+        acknowledged = ack;
+        among = now;
+        version = refl;
+        earlier = omega arith;
+        session = k.0;
+        command = c;
+        handed = subst (λ (e : ℕ). Handed K.g f e seq k.0 c) (sym epoch_same) (ahead.hands (hand f (epoch_of w0) seq k.0 c) k.1);
+        made = made;
+      },
+      tt,
+    )
 
     -- ---- no version twice
 
@@ -548,20 +729,22 @@ module _ (ms : Monitors) (w next : World) (I : InvOf ms w) (K : InvOf ms next) (
         by (inl several) (inr (inr lt)) = higher several lt
 
     acked_then : IsSafe ms next K
-    acked_then = safe_more ms w next I K O S stills later (ack ∷ []) (replies_of next.events rank m d.y.out) (messages_of d.y.out)
-        (M.acks ∙ ap (λ (out : List Sent). w.acknowledged ++ acknowledgements_of next.events m d.y.state out) A.out
-        ∙ ap (λ (z : List Acknowledged). w.acknowledged ++ z) (one_ack next.events m d.y.state me A.plain (epoch_of d.y.readings) A.origin v A.all (ap is_leading A.active)))
-        M.replied M.messages ((held, refl), tt) (once_push w.acknowledged ack S.once (all_map (IsHeld count w I.g) (λ (b : Acknowledged). ¬ (ack.version ≡ b.version)) first_time w.acknowledged S.acks))
-        (all_both _ _ _ (quiet_replies next rank m last_then d.y.out quiet) (replies_event next.events rank m d.y.out)) (λ a h. quiet_fenced a next.events rank m d.y.out quiet) (no_routes_show d.y.out quiet)
+    acked_then = safe_more ms w next I K O S stills stems later (ack ∷ []) (replies_of next.events rank m d.y.out) (messages_of d.y.out)
+        acks_are M.replied M.messages ((held, refl), tt) (once_push w.acknowledged ack S.once (all_map (IsHeld count w I.g) (λ (b : Acknowledged). ¬ (ack.version ≡ b.version)) first_time w.acknowledged S.acks))
+        (all_both _ _ _ (quiet_replies next rank m last_then d.y.out quiet) (replies_event next.events rank m d.y.out)) (founded_replies next K.g next.events rank m d.y.out founded) (λ a h. quiet_fenced a next.events rank m d.y.out quiet)
+        (founded_routes next K.g next.events rank m d.y.out founded)
       where
         quiet : AllByRecursion NoShowSent d.y.out
         quiet = subst (AllByRecursion NoShowSent) (sym A.out) (all_append NoShowSent A.plain _ (plain_shows_nothing A.plain A.all) (answer_shows_nothing me (epoch_of d.y.readings) A.origin v))
+
+        founded : AllByRecursion Founded d.y.out
+        founded = subst (AllByRecursion Founded) (sym A.out) (all_append Founded A.plain _ (plain_founded next K.g next.events rank m A.plain A.all) (answer_founded A.origin source.command source.from made_here))
 
   pub safe_then : IsSafe ms next K
   safe_then = by says
     where
       by : Says d.y → IsSafe ms next K
-      by (inl C) = quietly (plain_acks next.events m d.y.state d.y.out C.out) (plain_shows_nothing d.y.out C.out)
+      by (inl C) = quietly (plain_acks next.events m d.y.state d.y.out C.out) (plain_shows_nothing d.y.out C.out) (plain_founded next K.g next.events rank m d.y.out C.out)
       by (inr (inl A)) = acked_then A
       by (inr (inr (inl R))) = shown_then R
       by (inr (inr (inr H))) = handed_then H

@@ -1,15 +1,14 @@
 ghost use Rattle.std.specs.Prelude.{◌≡◌, ℕ, suc, ◌<◌, ◌≤◌, ◌^◌, true, List, ◌++◌, length};
-ghost use Rattle.std.specs.List.{AllByRecursion, Contains};
+ghost use Rattle.std.specs.List.{Contains};
 ghost use Rattle.mon_kv.specs.Readers.{is_marked};
 ghost use Rattle.mon_msg.specs.Fold.{entry};
 ghost use Rattle.log_model.specs.LogOfValues.{AllValues};
 ghost use Rattle.quorum_laws.specs.Values.{IsChosen};
 ghost use Rattle.quorum_model.specs.Agree.{Agree};
 ghost use Rattle.quorum_model.specs.Events.{AllFit};
-ghost use Rattle.quorum_model.specs.Kept.{IsKept, AcknowledgedOnce};
 ghost use Rattle.quorum_model.specs.Monitors.{Monitors};
 ghost use Rattle.quorum_model.specs.Runs.{run};
-ghost use Rattle.quorum_model.specs.Shown.{Shown, Fence};
+ghost use Rattle.quorum_model.specs.Safe.{Safe};
 ghost use Rattle.quorum_model.specs.World.{Envelope, Event};
 ghost use Rattle.quorum_agreement.specs.Copying.{IsCopying};
 ghost use Rattle.quorum_agreement.specs.Growing.{GrowsBy};
@@ -37,16 +36,8 @@ pub fn law_marked()
         → IsCopying (run ms events).log ((run ms events).store i) ((run ms events).state i) }
 {}
 
-/// What was acknowledged to a client is kept, in no run lost. Its version is the log's and puts what was acknowledged, every later active
-/// leader has it, and no version is acknowledged twice.
-pub fn law_kept()
-    ensures each { (ms : Monitors) (events : List Event) → AllFit ms.count events
-        → AllByRecursion (IsKept ms.count (run ms events)) (run ms events).acknowledged }
-    ensures once { (ms : Monitors) (events : List Event) → AllFit ms.count events → AcknowledgedOnce (run ms events).acknowledged }
-{}
-
-/// What clients are shown is the one log's, and its leases fence it: after an acknowledgement nobody shows less in the same epoch.
-pub fn law_shown()
-    ensures shown { (ms : Monitors) (events : List Event) → AllFit ms.count events → Shown (run ms events) }
-    ensures fence { (ms : Monitors) (events : List Event) → AllFit ms.count events → Fence (run ms events) }
+/// Every run of any monitors under any rule is safe, whatever is lost, repeated or late and wherever monitors crash: no two monitors
+/// disagree, what was acknowledged is kept, what is shown is the one log's, and no epoch has two active leaders.
+pub fn law_safe()
+    ensures { (ms : Monitors) (events : List Event) → AllFit ms.count events → Safe ms events }
 {}

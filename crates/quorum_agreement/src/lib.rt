@@ -1,6 +1,6 @@
-//! That no two monitors disagree on what is committed: the laws of the one log that all monitors of a map keep.
+//! That every run of a map's monitors is safe: the laws of the one log that they all keep.
 #![tactic(auto)]
 
 mod laws;
 
-pub use laws::{law_agree, law_kept, law_marked, law_shown};
+pub use laws::{law_agree, law_marked, law_safe};

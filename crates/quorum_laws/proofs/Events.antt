@@ -29,7 +29,7 @@ use Rattle.quorum_history.proofs.Rows.{InputHolds, react_holds}
 use Rattle.quorum_history.proofs.RowsClients.{IsAsked, Makes}
 use Rattle.quorum_history.proofs.Steps.{tied_refl}
 use Rattle.quorum_laws.proofs.Beginning.{at_first}
-use Rattle.quorum_laws.proofs.Invariant.{EnvelopeFine, EnvelopeHolds, Inv, InvOf, InvWith, Mine, OnState, StateFits, TriplesKept, WasActive, was_asked_more}
+use Rattle.quorum_laws.proofs.Invariant.{EnvelopeFine, EnvelopeHolds, Further, Inv, InvOf, InvWith, Mine, OnState, StateFits, TriplesKept, WasActive, further_ext, further_refl, further_trans, was_asked_more}
 use Rattle.quorum_laws.proofs.Later.{Later, Stays, is_in, later_refl, later_trans, stays_refl}
 use Rattle.quorum_laws.proofs.Leaving.{IsLater, stays_outside}
 use Rattle.quorum_laws.proofs.Values.{made, sharing}
@@ -221,7 +221,7 @@ ask_glob n a g G = record { roles = G.roles; hands = record { once = G.hands.onc
 module _ (n : ℕ) (store : ℕ → Store) (state : ℕ → Option State) (txs : ℕ → List (List Op)) (messages : List Envelope) (pairs : List (ℕ × ℕ)) (asked : List Asked) (I : Inv n store state txs messages pairs asked) where
   -- what holds where more was asked, with a history that goes on
   abbrev Asking : List Asked → Type 0
-  Asking more = (J : Inv n store state txs messages pairs (asked ++ more)) × ((r : Entry) → Among r I.g.roles → Among r J.g.roles)
+  Asking more = (J : Inv n store state txs messages pairs (asked ++ more)) × Further I.g J.g
 
   map_asked : (more : List Asked) → Asking more
   map_asked more = (
@@ -237,7 +237,7 @@ module _ (n : ℕ) (store : ℕ → Store) (state : ℕ → Option State) (txs :
       active = I.active;
       asks = λ j t d a. was_asked_more n asked more j t d (I.asks j t d a);
     },
-    λ r a. a,
+    further_refl I.g,
   )
 
   -- a command is asked
@@ -264,7 +264,7 @@ module _ (n : ℕ) (store : ℕ → Store) (state : ℕ → Option State) (txs :
               | inr o ↦ was_asked_more n asked (one ∷ []) j t d (I.asks j t d o)
             ];
           },
-          λ r a. a,
+          record { roles = λ r b. b; hands = λ r b. b; asks = λ r b. inr b },
         ),
         inl refl,
       )
@@ -358,7 +358,7 @@ module _ (ms : Monitors) (w : World) (Told : Envelope → Type 0) where
   module _ (I : InvOf ms w) (P : World → Type 0) where
     -- where it is so whatever what is asked adds to the history
     abbrev AllKeep : Plain → Type 0
-    AllKeep p = (J : InvWith ms w (with_asked p w.asked)) → ((r : Entry) → Among r I.g.roles → Among r J.g.roles) → Keeps p J P
+    AllKeep p = (J : InvWith ms w (with_asked p w.asked)) → Further I.g J.g → Keeps p J P
 
     asks_command : (how : Option Bool) (rank at : ℕ) (s : Session) (r : Request) (c : Command) → rank < ms.count → command_of r ≡ Some c → IsCommand c
         → ((g : Ghost) → Asks g rank s c → IsAsked g rank s r) → RequestFine r → AllKeep (Client rank at s r) → IfOk (after_meeting w (event_of how (Client rank at s r)) (meets ms w (Client rank at s r))) P
@@ -384,35 +384,35 @@ module _ (ms : Monitors) (w : World) (Told : Envelope → Type 0) where
 
     comes : AllByRecursion Told w.messages → (how : Option Bool) (p : Plain) → PlainFits ms.count p → AllKeep p → IfOk (after_meeting w (event_of how p) (meets ms w p)) P
     comes T how (Start rank at) F K =
-        comes_to P (Start rank at) I (K I (λ r a. a)) how rank at input.Start (λ lt. tt) (λ lt S. tt) tt tt (record { found = tt; value = tt; pn = omega arith; stage = tt; queue = tt }) (λ s e. let q : s ≡ booting rank = cc in inr q)
-    comes T how (Deliver zero at) F K = not_there P (Deliver zero at) I (K I (λ r a. a)) how NoMessage (inr refl)
+        comes_to P (Start rank at) I (K I (further_refl I.g)) how rank at input.Start (λ lt. tt) (λ lt S. tt) tt tt (record { found = tt; value = tt; pn = omega arith; stage = tt; queue = tt }) (λ s e. let q : s ≡ booting rank = cc in inr q)
+    comes T how (Deliver zero at) F K = not_there P (Deliver zero at) I (K I (further_refl I.g)) how NoMessage (inr refl)
     comes T how (Deliver (suc k) at) F K =
-        delivered P (Deliver (suc k) at) I (K I (λ r a. a)) how at (slice_get w.messages k) (all_get (EnvelopeHolds ms.count I.g) w.messages k I.sent) (all_get EnvelopeFine w.messages k I.sizes) (all_get Told w.messages k T)
+        delivered P (Deliver (suc k) at) I (K I (further_refl I.g)) how at (slice_get w.messages k) (all_get (EnvelopeHolds ms.count I.g) w.messages k I.sent) (all_get EnvelopeFine w.messages k I.sizes) (all_get Told w.messages k T)
     comes T how (Ring rank timer at) F K =
-        comes_to P (Ring rank timer at) I (K I (λ r a. a)) how rank at (input.Timer timer) (λ lt. tt) (λ lt S. tt) tt (I.mine rank).state (I.mine rank).fits (λ s e. inl e)
+        comes_to P (Ring rank timer at) I (K I (further_refl I.g)) how rank at (input.Timer timer) (λ lt. tt) (λ lt S. tt) tt (I.mine rank).state (I.mine rank).fits (λ s e. inl e)
     comes T how (Client rank at s r) F K = asks_for how rank at s r F.0 F.1 K
 
     pub each_event : AllByRecursion Told w.messages → (e : Event) → PlainFits ms.count (plain_of e) → AllKeep (plain_of e) → IfOk (happens ms w e) P
     each_event T (Comes p) F K = comes T None p F K
     each_event T (Crash p kept) F K = comes T (Some kept) p F K
 
--- every event keeps what holds
-abbrev pub After : (ms : Monitors) (w : World) → InvOf ms w → World → Type 0
-After ms w I next = (J : InvOf ms next) × ((r : Entry) → Among r I.g.roles → Among r J.g.roles) × Later w next
+-- every event keeps what holds, with a history that goes on
+abbrev pub After : (ms : Monitors) (w : World) (asked : List Asked) → InvWith ms w asked → World → Type 0
+After ms w asked I next = (J : InvOf ms next) × Further I.g J.g × Later w next
 
 -- who starts is in no quorum
 remembered : (o : Option State) (s : State) (rank : ℕ) → (o ≡ Some s) ⊎ (s ≡ booting rank) → is_member s.phase ≡ true → is_in o ≡ true
 remembered o s rank (inl e) t = ap is_in e ∙ t
 remembered o s rank (inr e) t = absurd (false≢true (ap (λ (z : State). is_member z.phase) (sym e) ∙ t))
 
-pub each_keeps : (ms : Monitors) (w : World) (Told : Envelope → Type 0) (I : InvOf ms w) (p : Plain) (J : InvWith ms w (with_asked p w.asked)) → ((r : Entry) → Among r I.g.roles → Among r J.g.roles) → Keeps ms w Told p J (After ms w I)
+pub each_keeps : (ms : Monitors) (w : World) (Told : Envelope → Type 0) (p : Plain) (J : InvWith ms w (with_asked p w.asked)) → Keeps ms w Told p J (After ms w (with_asked p w.asked) J)
 unfolding unmoved moved kept_only lost goes_on_holds goes_down_holds lost_holds
-each_keeps ms w Told I p J up = record {
-  nothing = (J, up, record { each = λ j. stays_refl (readings_of (w.store j)) (w.state j); since = λ j v pn bytes a. inl a });
-  loses = λ i lt. (lost_holds ms.count w.store w.state w.transactions w.messages w.active asked i J, up, record { each = lost_stays w.store w.state i; since = λ j v pn bytes a. inl a });
+each_keeps ms w Told p J = record {
+  nothing = (J, further_refl J.g, record { each = λ j. stays_refl (readings_of (w.store j)) (w.state j); since = λ j v pn bytes a. inl a });
+  loses = λ i lt. (lost_holds ms.count w.store w.state w.transactions w.messages w.active asked i J, further_refl J.g, record { each = lost_stays w.store w.state i; since = λ j v pn bytes a. inl a });
   goes_on = λ d. let a = d.by in (
     goes_on_holds w.store w.state w.transactions w.messages w.active asked (member_of ms a.rank a.lt) J a.at a.state a.came a.on a.fits a.holds (a.fine (shared_at a.rank)) d.y d.is,
-    λ r k. (good w.store w.state w.transactions w.messages w.active asked (member_of ms a.rank a.lt) J a.at a.state a.came a.on a.fits a.holds (a.fine (shared_at a.rank)) d.y d.is).ext.roles.keeps r (up r k),
+    further d,
     record {
       each = each_stays w.store w.state w.transactions w.messages w.active asked (member_of ms a.rank a.lt) J a.at a.state a.came a.on a.fits a.holds (a.fine (shared_at a.rank)) d.y d.is (Some d.y.state) (λ b. b) (remembered (w.state a.rank) a.state a.rank a.remembers);
       since = accepted_since w.store w.state w.transactions w.messages w.active asked (member_of ms a.rank a.lt) J a.at a.state a.came a.on a.fits a.holds (a.fine (shared_at a.rank)) d.y d.is;
@@ -420,7 +420,7 @@ each_keeps ms w Told I p J up = record {
   );
   goes_down = λ d. let a = d.by in (
     goes_down_holds w.store w.state w.transactions w.messages w.active asked (member_of ms a.rank a.lt) J a.at a.state a.came a.on a.fits a.holds (a.fine (shared_at a.rank)) d.y d.is,
-    λ r k. (good w.store w.state w.transactions w.messages w.active asked (member_of ms a.rank a.lt) J a.at a.state a.came a.on a.fits a.holds (a.fine (shared_at a.rank)) d.y d.is).ext.roles.keeps r (up r k),
+    further d,
     record {
       each = each_stays w.store w.state w.transactions w.messages w.active asked (member_of ms a.rank a.lt) J a.at a.state a.came a.on a.fits a.holds (a.fine (shared_at a.rank)) d.y d.is None (λ b. absurd (false≢true b)) (remembered (w.state a.rank) a.state a.rank a.remembers);
       since = accepted_since w.store w.state w.transactions w.messages w.active asked (member_of ms a.rank a.lt) J a.at a.state a.came a.on a.fits a.holds (a.fine (shared_at a.rank)) d.y d.is;
@@ -434,6 +434,9 @@ each_keeps ms w Told I p J up = record {
     shared_at : (rank : ℕ) → AllByRecursion EntryFine (shared_entries (w.store rank))
     shared_at rank = sharing (w.store rank) (J.mine rank).fine.records
 
+    further : (d : Does ms w Told asked J) → Further J.g (good w.store w.state w.transactions w.messages w.active asked (member_of ms d.by.rank d.by.lt) J d.by.at d.by.state d.by.came d.by.on d.by.fits d.by.holds (d.by.fine (shared_at d.by.rank)) d.y d.is).h
+    further d = let a = d.by in let k = good w.store w.state w.transactions w.messages w.active asked (member_of ms a.rank a.lt) J a.at a.state a.came a.on a.fits a.holds (a.fine (shared_at a.rank)) d.y d.is in further_ext a.rank J.g k.h k.ext
+
 abbrev any_told : Envelope → Type 0
 any_told e = Unit {0}
 
@@ -441,23 +444,34 @@ all_told : (es : List Envelope) → AllByRecursion any_told es
 all_told [] = tt
 all_told (e ∷ es) = (tt, all_told es)
 
-pub event_holds : (ms : Monitors) (w : World) (e : Event) → PlainFits ms.count (plain_of e) → (I : InvOf ms w) → IfOk (happens ms w e) (After ms w I)
-event_holds ms w e F I = each_event ms w any_told I (After ms w I) (all_told w.messages) e F (each_keeps ms w any_told I (plain_of e))
+pub event_holds : (ms : Monitors) (w : World) (e : Event) → PlainFits ms.count (plain_of e) → (I : InvOf ms w) → IfOk (happens ms w e) (After ms w w.asked I)
+event_holds ms w e F I = each_event ms w any_told I (After ms w w.asked I) (all_told w.messages) e F (λ J up. from J up (each_keeps ms w any_told (plain_of e) J))
+  where
+    later : (asked : List Asked) (J : InvWith ms w asked) → Further I.g J.g → (next : World) → After ms w asked J next → After ms w w.asked I next
+    later asked J up next k = (k.0, further_trans I.g J.g k.0.g up k.1, k.2)
+
+    from : (J : InvWith ms w (with_asked (plain_of e) w.asked)) → Further I.g J.g → Keeps ms w any_told (plain_of e) J (After ms w (with_asked (plain_of e) w.asked) J) → Keeps ms w any_told (plain_of e) J (After ms w w.asked I)
+    from J up K = record {
+      nothing = later _ J up _ K.nothing;
+      loses = λ i lt. later _ J up _ (K.loses i lt);
+      goes_on = λ d. later _ J up _ (K.goes_on d);
+      goes_down = λ d. later _ J up _ (K.goes_down d);
+    }
 
 -- ---- runs
 
 -- what holds after events that follow, with a history that goes on
 abbrev pub GoesOn : (ms : Monitors) (w next : World) → InvOf ms w → Type 0
-GoesOn ms w next I = (J : InvOf ms next) × ((r : Entry) → Among r I.g.roles → Among r J.g.roles) × Later w next
+GoesOn ms w next I = After ms w w.asked I next
 
 run_holds : (ms : Monitors) (w : World) (events : List Event) → AllFit ms.count events → (I : InvOf ms w) → GoesOn ms w (run_from ms w events) I
 unfolding ran_from
-run_holds ms w [] F I = (I, λ r a. a, later_refl w)
+run_holds ms w [] F I = (I, further_refl I.g, later_refl w)
 run_holds ms w (e ∷ es) F I = by (happens ms w e) (event_holds ms w e F.0 I) (λ next. run_holds ms next es F.1)
   where
     by : (r : Result World Stop) → IfOk r (λ next. GoesOn ms w next I) → ((next : World) (J : InvOf ms next) → GoesOn ms next (run_from ms next es) J) → GoesOn ms w (goes_on w (λ next. ran_from ms next es) r).world I
-    by (Ok next) k ih = let z = ih next k.0 in (z.0, λ r a. z.1 r (k.1 r a), later_trans w next (run_from ms next es) k.2 z.2)
-    by (Err stop) k ih = (I, λ r a. a, later_refl w)
+    by (Ok next) k ih = let z = ih next k.0 in (z.0, further_trans I.g k.0.g z.0.g k.1 z.1, later_trans w next (run_from ms next es) k.2 z.2)
+    by (Err stop) k ih = (I, further_refl I.g, later_refl w)
 
 pub all_runs : (ms : Monitors) (events : List Event) → AllFit ms.count events → InvOf ms (run ms events)
 all_runs ms events F = (run_holds ms first_world events F (at_first ms)).0
@@ -465,7 +479,7 @@ all_runs ms events F = (run_holds ms first_world events F (at_first ms)).0
 -- a run, and one that goes on
 pub both_runs : (ms : Monitors) (w : World) (a b : List Event) → AllFit ms.count (a ++ b) → InvOf ms w → (I : InvOf ms (run_from ms w a)) × (J : InvOf ms (run_from ms w (a ++ b))) × ((r : Entry) → Among r I.g.roles → Among r J.g.roles) × Later (run_from ms w a) (run_from ms w (a ++ b))
 unfolding ran_from
-both_runs ms w [] b F I = let z = run_holds ms w b F I in (I, z.0, z.1, z.2)
+both_runs ms w [] b F I = let z = run_holds ms w b F I in (I, z.0, z.1.roles, z.2)
 both_runs ms w (e ∷ a) b F I = by (happens ms w e) (event_holds ms w e F.0 I) (λ next. both_runs ms next a b F.1)
   where
     by : (r : Result World Stop) → IfOk r (λ next. GoesOn ms w next I) → ((next : World) → InvOf ms next → (I : InvOf ms (run_from ms next a)) × (J : InvOf ms (run_from ms next (a ++ b))) × ((r : Entry) → Among r I.g.roles → Among r J.g.roles) × Later (run_from ms next a) (run_from ms next (a ++ b)))

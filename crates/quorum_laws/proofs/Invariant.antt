@@ -7,7 +7,7 @@ use Rattle.mon_tx.specs.Text.{text}
 use Rattle.mon_tx.specs.declared.op.Op.{Op}
 use Rattle.mon_types.specs.Ranks.{has}
 use Rattle.mon_wire.specs.declared.request.Session.{Session}
-use Rattle.quorum_history.proofs.History.{Accepted, Asks, Entered, Ghost, Glob, Joined}
+use Rattle.quorum_history.proofs.History.{Accepted, Ask, Asks, Entered, Entry, Ext, Ghost, Glob, Hand, Joined}
 use Rattle.quorum_history.proofs.Holds.{Disk, InPhase, MessageHolds, core_of}
 use Rattle.quorum_laws.specs.Accepting.{AcceptedIn}
 use Rattle.quorum_laws.specs.Commands.{WasAsked}
@@ -17,6 +17,7 @@ use Rattle.quorum_model.specs.Safe.{after_transactions}
 use Rattle.quorum_model.specs.World.{Asked, Envelope, World}
 use Rattle.quorum_walk.proofs.FineCourses.{MessageFine, ReadingsFine, StateFine}
 use Rattle.quorum_walk.proofs.Sparing.{own_of}
+use Rattle.quorum_walk.proofs.Lists.{Among}
 use Rattle.std.proofs.Common.{Bool, IfSome, List, None, Option, Some, true, ℕ, ◌++◌, ◌<◌, ◌≡◌}
 use Rattle.std.proofs.lemmas.List.Elements.{Contains-append_left}
 use Rattle.std.specs.FinMap.{empty}
@@ -41,6 +42,21 @@ was_asked_more n asked more rank s c k = record { by = k.by; among = Contains-ap
 -- the leader had its whole quorum in the epoch
 abbrev pub WasActive : ℕ → Ghost → ℕ × ℕ → Type 0
 WasActive n g c = (q : List Bool) × Entered g c.1 c.0 c.1 q × ((m : ℕ) → m < n → has q m ≡ true → Joined g m c.0 c.1)
+
+-- a history that goes on
+pub record Further (g h : Ghost) : Type 0 where
+  pub roles : (r : Entry) → Among r g.roles → Among r h.roles
+  pub hands : (r : Hand) → Among r g.hands → Among r h.hands
+  pub asks : (a : Ask) → Among a g.asks → Among a h.asks
+
+pub further_refl : (g : Ghost) → Further g g
+further_refl g = record { roles = λ r a. a; hands = λ r a. a; asks = λ r a. a }
+
+pub further_trans : (f g h : Ghost) → Further f g → Further g h → Further f h
+further_trans f g h a b = record { roles = λ r k. b.roles r (a.roles r k); hands = λ r k. b.hands r (a.hands r k); asks = λ r k. b.asks r (a.asks r k) }
+
+pub further_ext : (i : ℕ) (g h : Ghost) → Ext i g h → Further g h
+further_ext i g h E = record { roles = E.roles.keeps; hands = E.hands.keeps; asks = E.asks.keeps }
 
 -- one monitor's store and what it remembers
 pub record Mine (n : ℕ) (g : Ghost) (i : ℕ) (w : Readings) (s : Option State) : Type 0 where

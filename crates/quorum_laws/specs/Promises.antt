@@ -1,7 +1,7 @@
 -- What monitors promised, and what a promise covers.
 use Rattle.log_model.specs.LogOfValues.{IsValue}
 use Rattle.mon_msg.specs.Protocol.Places.{is_done}
-use Rattle.mon_msg.specs.Protocol.Readings.{Readings, or_zero, promise_of, readings_of}
+use Rattle.mon_msg.specs.Protocol.Readings.{Readings, epoch_of, or_zero, promise_of, readings_of}
 use Rattle.mon_msg.specs.Protocol.Records.{pending, record_at}
 use Rattle.mon_msg.specs.declared.paxos.Found.{Found}
 use Rattle.mon_tx.specs.Map.{Store, apply}
@@ -14,6 +14,18 @@ use Rattle.quorum_model.specs.World.{Envelope, World}
 use Rattle.std.proofs.Common.{Bool, IfSome, List, Option, Some, [], false, suc, true, ℕ, ◌%◌, ◌<◌, ◌∷◌, ◌≡◌, ◌≤◌, ◌⊎◌}
 use Rattle.std.specs.FinMap.{empty}
 use Rattle.std.specs.List.{AllByRecursion, Contains}
+use Rattle.std.specs.Prelude.{if◌then◌else◌}
+
+-- ---- what never falls
+
+-- the floor of a full synchronisation that is under way, and else the last version
+abbrev pub level_of : Readings → ℕ
+level_of w = if w.marked then w.floor else w.last
+
+pub record NeverFall (w next : World) (i : ℕ) : Type 0 where
+  pub epoch : epoch_of (readings_at w i) ≤ epoch_of (readings_at next i)
+  pub promise : promise_of (readings_at w i) ≤ promise_of (readings_at next i)
+  pub level : level_of (readings_at w i) ≤ level_of (readings_at next i)
 
 -- ---- numbers
 

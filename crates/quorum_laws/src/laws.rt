@@ -7,7 +7,7 @@ ghost use Rattle.quorum_model.specs.World.{Event};
 ghost use Rattle.quorum_laws.specs.Commands.{CommandsHold};
 ghost use Rattle.quorum_laws.specs.Elections.{ActiveAreLed, EpochsSent, IsMember, IsQuorum};
 ghost use Rattle.quorum_laws.specs.Leases.{LeasesHold};
-ghost use Rattle.quorum_laws.specs.Promises.{AllNumbersRise, AllRemember, AnswersCover, NumbersHold, ValuesAlone};
+ghost use Rattle.quorum_laws.specs.Promises.{AllNumbersRise, AllRemember, AnswersCover, NeverFall, NumbersHold, ValuesAlone};
 ghost use Rattle.quorum_laws.specs.Values.{IsChosen, LeadersKnow, LeavesNoRoom, OneValue, ProposesNew};
 
 /// No epoch has two active leaders, in no run of any monitors: whatever is lost, repeated or late, and wherever monitors crash.
@@ -36,12 +36,14 @@ pub fn law_elections()
 {}
 
 /// What a promise forbids. A monitor's numbers are its own, each of one collect, and it promised each under which it answered or
-/// accepted. What it accepted
-/// it doesn't forget: the version is committed or pending, or a full synchronisation must reach it. A whole answer covers what its
-/// monitor accepted under lower numbers, for ever. And all that is sent or kept as a value is one of a command.
+/// accepted. Its epoch, its promise and its level never fall. What it accepted it doesn't forget: the version is committed or pending, or a
+/// full synchronisation must reach it. A whole answer covers what its monitor accepted under lower numbers, for ever. And all that is sent
+/// or kept as a value is one of a command.
 pub fn law_promises()
     ensures numbers { (ms : Monitors) (events : List Event) → AllFit ms.count events → NumbersHold (run ms events) }
     ensures collects { (ms : Monitors) (events : List Event) → AllFit ms.count events → AllNumbersRise (run ms events) }
+    ensures rising { (ms : Monitors) (before after : List Event) → AllFit ms.count (before ++ after) → (i : ℕ)
+        → NeverFall (run ms before) (run ms (before ++ after)) i }
     ensures remembered { (ms : Monitors) (events : List Event) → AllFit ms.count events → AllRemember (run ms events) }
     ensures covered { (ms : Monitors) (events : List Event) → AllFit ms.count events → AnswersCover (run ms events) }
     ensures values { (ms : Monitors) (events : List Event) → AllFit ms.count events → ValuesAlone (run ms events) }
