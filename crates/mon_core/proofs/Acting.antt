@@ -1,0 +1,120 @@
+-- How an event comes to what a row or an act wants, once a role has planned it.
+use Rattle.std.proofs.Common.{◌≡◌, ℕ, List, Result, Ok, Err, refl, sym, ap, subst, ◌∙◌}
+use Rattle.mon_msg.specs.Protocol.Course.{Course}
+use Rattle.mon_msg.specs.Protocol.Readings.{Readings, epoch_of, readings_of, shared_entries}
+use Rattle.mon_msg.specs.Protocol.State.{State}
+use Rattle.mon_msg.specs.Protocol.Table.{at_rest}
+use Rattle.mon_msg.specs.declared.input.Input.{Input}
+use Rattle.mon_msg.specs.declared.plan.Next.TheVariants as next
+use Rattle.mon_msg.specs.declared.plan.Next.{Next}
+use Rattle.mon_msg.specs.declared.plan.Plan.{Plan}
+use Rattle.mon_msg.specs.declared.plan.RoleStop.TheVariants as stop
+use Rattle.mon_msg.specs.declared.plan.RoleStop.{RoleStop}
+use Rattle.mon_msg.specs.declared.view.Me.{Me}
+use Rattle.mon_msg.specs.declared.view.View.{View}
+use Rattle.mon_tx.specs.Map.{Store, apply}
+use Rattle.mon_tx.specs.declared.op.Op.{Op}
+use Rattle.mon_types.specs.declared.names.Which.{Which}
+use Rattle.mon_plan.specs.Inputs.{row}
+use Rattle.mon_plan.specs.Plans.{act, done, entered, Does, Plans, PlansAct, PlansRow}
+use Rattle.mon_plan.specs.Seen.{IsMet, IsSeen}
+use Rattle.mon_plan.proofs.Standing.{readings-after}
+use Rattle.mon_core.specs.Acts.{Acts, KeepsAll}
+use Rattle.mon_core.specs.Rows.{AnswersRow, IsReady}
+use Rattle.mon_event.specs.Events.{Goes, IsCarried, IsUnderWay, Reaches}
+use Rattle.mon_event.specs.State.{state_of}
+use Rattle.mon_event.specs.declared.event.Carried.{Carried}
+use Rattle.mon_event.specs.declared.event.Event.{Event}
+
+-- ---- what the store tells
+
+-- the store tells what the event's transaction leaves
+pub tells : (m : Store) (e : Event) (x : Course) → IsUnderWay (readings_of m) e x → x.readings ≡ readings_of (apply e.tx m)
+tells m e x h =
+    h.readings ∙ sym (readings-after x.changes h.fit m) ∙ ap (λ (ops : List Op). readings_of (apply ops m)) (sym h.spelled)
+
+pub tells_epoch : (m : Store) (e : Event) (x : Course) → IsUnderWay (readings_of m) e x
+    → (epoch : ℕ) → epoch ≡ epoch_of (readings_of (apply e.tx m)) → epoch_of x.readings ≡ epoch
+tells_epoch m e x h epoch is = ap epoch_of (tells m e x h) ∙ sym is
+
+-- but for the epoch and the count of starts it tells what it told
+pub kept : (m : Store) (e : Event) (x : Course) → IsUnderWay (readings_of m) e x → KeepsAll m e.tx
+    → x.readings ≡ record (readings_of m) { epoch = x.readings.epoch; boot = x.readings.boot }
+kept m e x h k = subst (λ (w : Readings). w ≡ record (readings_of m) { epoch = w.epoch; boot = w.boot }) (sym (tells m e x h)) k
+
+-- ---- plans
+
+module _ {S : Type 0} (me : Me) (now : ℕ) (is : S → Course → Course) (B : Course → Type 0) (start : Course → Course)
+    (wanted : Course → Result Course Which) (w : Readings) (x : Course) (b : B x) where
+  -- no plan was made
+  fails : (e : RoleStop) → Plans me now is B start wanted (Err e) → Reaches w (wanted x) (Err e)
+  fails stop.OutOfMemory h = tt
+  fails (stop.Spent which) h = h x b
+
+  -- one was made and carried out in an event that stands where it starts
+  module _ (p : Plan S) (d : Does me now is B start wanted p) (e : Event) (h : IsUnderWay w e (start x)) (c : Carried) (k : IsCarried is e p c) where
+    abbrev after : Course
+    after = done is d.changes p (start x)
+
+    under_way : IsUnderWay w c.event after
+    under_way = k.done d.changes d.fit d.spelled w (start x) h
+
+    -- and then the act that it names
+    goes_on : (result : Result Event RoleStop) → ((y : Course) → IsUnderWay w c.event y → Reaches w (act me now c.next y) result)
+        → Reaches w (wanted x) result
+    goes_on result f =
+        subst (λ (r : Result Course Which). Reaches w r result)
+        (sym (d.row x b ∙ ap (λ n. act me now n after) (sym k.next)))
+        (f after under_way)
+
+    -- and it names none
+    ends : p.next ≡ next.Stay → Reaches w (wanted x) (Ok c.event)
+    ends stays = record {
+      course = after;
+      wanted_is = d.row x b ∙ ap (λ n. act me now n after) stays;
+      under_way = under_way;
+    }
+
+-- ---- an act, which has a plan of its own once the monitor stands where it begins
+
+module _ {S : Type 0} (me : Me) (now : ℕ) (m : Store) (is : S → Course → Course) (n : Next) (e : Event)
+    (B : Course → Type 0) (before : (x : Course) → IsUnderWay (readings_of m) e x → B x) where
+  pub act_fails : (why : RoleStop) → PlansAct me now is B n (Err why) → Acts me m now e n (Err why)
+  act_fails why h = λ x u. fails me now is B (entered n) (act me now n) (readings_of m) x (before x u) why h
+
+  module _ (begun : Event) (enters : Goes e begun (entered n)) (p : Plan S) (d : Does me now is B (entered n) (act me now n) p)
+      (c : Carried) (k : IsCarried is begun p c) where
+    pub act_ends : p.next ≡ next.Stay → Acts me m now e n (Ok c.event)
+    act_ends stays = λ x u.
+        ends me now is B (entered n) (act me now n) (readings_of m) x (before x u) p d begun (enters (readings_of m) x u) c k stays
+
+    pub act_goes_on : (result : Result Event RoleStop) → Acts me m now c.event c.next result → Acts me m now e n result
+    act_goes_on result f = λ x u.
+        goes_on me now is B (entered n) (act me now n) (readings_of m) x (before x u) p d begun (enters (readings_of m) x u) c k result f
+
+-- ---- a row, of an event that has just begun
+
+pub rests : (me : Me) (m : Store) (e : Event) → IsReady me e → IsUnderWay (readings_of m) e (at_rest (readings_of m) (state_of e.state))
+rests me m e r = record { readings = refl; fit = tt; spelled = r.unwritten; out = r.unsent; state = refl }
+
+module _ {S : Type 0} (me : Me) (now : ℕ) (m : Store) (is : S → Course → Course) (role_in : State → S)
+    (e : Event) (r : IsReady me e) (came : Input) (view : View) (seen : IsSeen me now (readings_of m) (state_of e.state) view) where
+  abbrev Before : Course → Type 0
+  Before = IsMet me now (readings_of m) view role_in (role_in (state_of e.state))
+
+  abbrev wanted : Course → Result Course Which
+  wanted = row me (shared_entries m) now came
+
+  abbrev begins : Course
+  begins = at_rest (readings_of m) (state_of e.state)
+
+  met : Before begins
+  met = record { readings = refl; role = refl; seen = seen }
+
+  pub row_fails : (why : RoleStop) → PlansRow me now is Before wanted (Err why) → AnswersRow me m now e came (Err why)
+  row_fails why h = fails me now is Before (λ x. x) wanted (readings_of m) begins met why h
+
+  pub row_goes_on : (p : Plan S) → Does me now is Before (λ x. x) wanted p → (c : Carried) → IsCarried is e p c
+      → (result : Result Event RoleStop) → Acts me m now c.event c.next result → AnswersRow me m now e came result
+  row_goes_on p d c k result f =
+      goes_on me now is Before (λ x. x) wanted (readings_of m) begins met p d e (rests me m e r) c k result f

@@ -1,0 +1,9 @@
+pub mod Acting
+pub mod Coming
+pub mod Holding
+pub mod Leaving
+pub mod Naming
+pub mod Reacting
+pub mod Starting
+pub mod Taking
+pub mod Told

@@ -1,0 +1,91 @@
+-- What a client is told that asks for a map.
+use Rattle.std.proofs.Common.{◌≡◌, ℕ, Bool, true, false, not, ◌&&◌, ◌||◌, List, Option, Result, Ok, refl, ap, ◌∙◌}
+use Rattle.std.specs.Prelude.{if◌then◌else◌}
+use Rattle.mon_bytes.specs.declared.entry.Entry.{Entry}
+use Rattle.mon_lease.specs.Lease.{readable}
+use Rattle.mon_msg.specs.Protocol.Course.{Course}
+use Rattle.mon_msg.specs.Protocol.Hearing.{hear_client}
+use Rattle.mon_msg.specs.Protocol.Phases.{is_member, same_phase}
+use Rattle.mon_msg.specs.Protocol.Reads.{is_standing, shown}
+use Rattle.mon_msg.specs.Protocol.Readings.{Readings}
+use Rattle.mon_msg.specs.Protocol.Sending.{reply_to}
+use Rattle.mon_msg.specs.Protocol.State.{State, lease_of}
+use Rattle.mon_msg.specs.Protocol.Table.{at_rest, react}
+use Rattle.mon_msg.specs.declared.input.Input.TheVariants as input
+use Rattle.mon_msg.specs.declared.input.Input.{Input}
+use Rattle.mon_msg.specs.declared.view.Me.{Me}
+use Rattle.mon_msg.specs.declared.view.View.{View}
+use Rattle.mon_plan.specs.Seen.{IsSeen}
+use Rattle.mon_types.specs.declared.names.Which.{Which}
+use Rattle.mon_wire.specs.declared.phase.Phase.TheVariants as phase
+use Rattle.mon_wire.specs.declared.phase.Phase.{Phase}
+use Rattle.mon_wire.specs.declared.reply.Reply.TheVariants as reply
+use Rattle.mon_wire.specs.declared.reply.Reply.{Reply}
+use Rattle.mon_wire.specs.declared.request.Request.TheVariants as request
+use Rattle.mon_wire.specs.declared.request.Service.TheVariants as service
+use Rattle.mon_wire.specs.declared.request.Service.{Service}
+use Rattle.mon_core.specs.Known.{asks_any_map, asks_for}
+use Rattle.mon_wire.specs.declared.request.Session.{Session}
+use Rattle.svc_core.specs.declared.cache.Known.{Known}
+
+-- what is told, by where the monitor stands
+abbrev pub told : (is_member may_read : Bool) → (not_readable shown : Reply) → Reply
+told member may_read not_readable shown = if not member then reply.Unavailable else (if not may_read then not_readable else shown)
+
+module _ (session : Session) (x : Course) where
+  abbrev Answer : Type 0
+  Answer = Result Course Which
+
+  abbrev says : Reply → Answer
+  says r = Ok (reply_to session r x)
+
+  -- one that isn't started stands in no quorum
+  by_phase : (p : Phase) (other : Answer)
+      → (if same_phase p phase.Booting then says reply.Unavailable else (if not (is_member p) then says reply.Unavailable else other))
+      ≡ (if not (is_member p) then says reply.Unavailable else other)
+  by_phase phase.Booting other = refl
+  by_phase phase.Probing other = refl
+  by_phase phase.Synchronizing other = refl
+  by_phase phase.Electing other = refl
+  by_phase phase.Collecting other = refl
+  by_phase phase.Previous other = refl
+  by_phase phase.Active other = refl
+  by_phase phase.Updating other = refl
+  by_phase phase.Peon other = refl
+
+  by_told : (member may_read : Bool) (a b : Reply)
+      → (if not member then says reply.Unavailable else (if not may_read then says a else says b)) ≡ says (told member may_read a b)
+  by_told false may_read a b = refl
+  by_told true false a b = refl
+  by_told true true a b = refl
+
+-- the protocol's answer
+pub shows : (me : Me) (shared : List Entry) (now : ℕ) (w : Readings) (s : State) (session : Session) (of : Service)
+    → react me shared now w s (input.Client session (request.Show of))
+    ≡ Ok (reply_to session
+    (told (is_member s.phase) (readable w.last me.member.monitors (lease_of s) now) (reply.NotReadable w.last (is_standing me now s)) (shown w of))
+    (at_rest w s))
+unfolding react hear_client
+shows me shared now w s session of =
+    by_phase session (at_rest w s) s.phase _
+    ∙ by_told session (at_rest w s) (is_member s.phase) (readable w.last me.member.monitors (lease_of s) now)
+    (reply.NotReadable w.last (is_standing me now s)) (shown w of)
+
+-- by what is seen of the monitor
+pub told_seen : (me : Me) (now : ℕ) (w : Readings) (s : State) (view : View) → IsSeen me now w s view → (of : Service)
+    → told (is_member view.phase) view.readable (reply.NotReadable w.last view.standing) (shown w of)
+    ≡ told (is_member s.phase) (readable w.last me.member.monitors (lease_of s) now) (reply.NotReadable w.last (is_standing me now s)) (shown w of)
+told_seen me now w s view seen of = λ i. told (is_member (seen.phase i)) (seen.readable i) (reply.NotReadable w.last (seen.standing i)) (shown w of)
+
+neither : (a b : Bool) → (a || b) ≡ false → (a ≡ false) × (b ≡ false)
+neither true b h = cc
+neither false b h = (refl, h)
+
+pub asks_none : (came : Input) → asks_any_map came ≡ false → (s : Service) → asks_for s came ≡ false
+asks_none came h service.Kv = (neither (asks_for service.Kv came) (asks_for service.Log came) h).0
+asks_none came h service.Log = (neither (asks_for service.Kv came) (asks_for service.Log came) h).1
+
+-- where no map is asked for none becomes known
+pub unasked : (shown asked : Bool) (read k : Option Known) → asked ≡ false → (if shown && asked then read else k) ≡ k
+unasked true asked read k h = ap (λ b. if b then read else k) h
+unasked false asked read k h = refl

@@ -1,0 +1,17 @@
+use Rattle.std.proofs.Common.{◌≡◌, false, rules, sym}
+use Rattle.mon_msg.specs.Protocol.Readings.{readings_of}
+use Rattle.svc_core.specs.Cache.{known, known_once_read}
+use Rattle.mon_event.specs.State.{state_of}
+use Rattle.mon_core.specs.Known.{asks_any_map, asks_for, is_shown}
+use Rattle.mon_core.proofs.Told.{asks_none, unasked}
+use Rattle.mon_core.proofs.monitor.played.Goals as goal
+
+pub returns-in_ok-run-in-Set-clause-known : goal.returns-in_ok-run-in-Set-clause-known
+returns-in_ok-run-in-Set-clause-known c =
+    λ s.
+    let w = readings_of c.args.kv.now in
+    let k = known c.args.cache.now s in
+    let none : asks_any_map c.args.input.now ≡ false = search rules in
+    sym
+    (unasked (is_shown c.args.me.now c.args.now w (state_of c.args.event.state)) (asks_for s c.args.input.now) (known_once_read w s k) k
+    (asks_none c.args.input.now none s))

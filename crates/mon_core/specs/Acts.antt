@@ -1,0 +1,49 @@
+-- The acts that plans name, and what they need of the event in which they are done.
+use Rattle.std.specs.Prelude.{◌≡◌, ℕ, true, false, nat_lt, List, Result, []}
+use Rattle.mon_msg.specs.Protocol.Course.{Course}
+use Rattle.mon_msg.specs.Protocol.Phases.{phase_of}
+use Rattle.mon_msg.specs.Protocol.Readings.{readings_of}
+use Rattle.mon_msg.specs.Protocol.Records.{may_begin}
+use Rattle.mon_msg.specs.declared.plan.Next.TheVariants as next
+use Rattle.mon_msg.specs.declared.plan.Next.{Next}
+use Rattle.mon_msg.specs.declared.plan.RoleStop.{RoleStop}
+use Rattle.mon_msg.specs.declared.view.Me.{Me}
+use Rattle.mon_tx.specs.Map.{Store, apply}
+use Rattle.mon_tx.specs.declared.op.Op.{Op}
+use Rattle.mon_plan.specs.Plans.{act}
+use Rattle.mon_event.specs.Events.{IsUnderWay, Reaches}
+use Rattle.mon_event.specs.declared.event.Event.{Event}
+
+-- what the store tells after these changes is what it told, but for the epoch and the count of starts
+abbrev pub KeepsAll : Store → List Op → Type 0
+KeepsAll m tx = let after = readings_of (apply tx m) in
+    after ≡ record (readings_of m) { epoch = after.epoch; boot = after.boot }
+
+-- what an act reads of the store before the event is what the event left
+abbrev pub MayAct : Me → Store → Event → Next → Type 0
+MayAct me m e next.Stay = Unit {0}
+MayAct me m e next.Electing = Unit {0}
+MayAct me m e (next.Follow leader quorum) = Unit {0}
+MayAct me m e next.Elect = Unit {0}
+MayAct me m e next.Bootstrap = nat_lt 1 me.member.monitors ≡ false → KeepsAll m e.tx
+MayAct me m e (next.Win quorum) = KeepsAll m e.tx
+MayAct me m e (next.FullSync from) = KeepsAll m e.tx
+MayAct me m e (next.RecentSync from) = KeepsAll m e.tx
+MayAct me m e (next.Begin value o) =
+    (e.tx ≡ []) × (e.state.phase ≡ phase_of e.state.leader.stage) × (may_begin value ≡ true)
+
+-- after which no other act comes in the same event
+abbrev pub IsLast : Next → Type 0
+IsLast next.Stay = Unit {0}
+IsLast (next.Win quorum) = Unit {0}
+IsLast next.Bootstrap = ⊥
+IsLast next.Elect = ⊥
+IsLast next.Electing = ⊥
+IsLast (next.Follow leader quorum) = ⊥
+IsLast (next.FullSync from) = ⊥
+IsLast (next.RecentSync from) = ⊥
+IsLast (next.Begin value o) = ⊥
+
+-- the act is done, from wherever the event has come
+abbrev pub Acts : Me → Store → (now : ℕ) → Event → Next → Result Event RoleStop → Type 0
+Acts me m now e n result = (x : Course) → IsUnderWay (readings_of m) e x → Reaches (readings_of m) (act me now n x) result

@@ -1,0 +1,6 @@
+pub mod Acts
+pub mod Core
+pub mod Known
+pub mod Reacted
+pub mod Reacts
+pub mod Rows

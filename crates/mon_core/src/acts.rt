@@ -1,0 +1,140 @@
+//! The acts that plans name, each done by the role that enters it.
+
+ghost use Rattle.std.specs.Prelude.{if◌then◌else◌};
+ghost use Rattle.mon_msg.specs.declared.plan.Next.TheVariants as next;
+ghost use Rattle.mon_core.specs.Acts.{Acts, IsLast, MayAct};
+
+use mon_event::Event;
+use mon_kv::Kv;
+use mon_msg::{Me, Next, Origin, Phase, RoleStop};
+use mon_tx::Transaction;
+use mon_types::{Moment, Rank, RankSet};
+use std::alloc::Global;
+
+/// One that is alone in its map may have won as it began anew, and leads.
+fn lead_alone(
+    alloc: Global,
+    kv: &Kv,
+    me: &Me,
+    event: Event,
+    next: Next,
+    now: Moment,
+) -> Result<Event, RoleStop>
+    requires last { IsLast next }
+    requires may { MayAct me.now kv.now event next }
+    ensures { Acts me.now kv.now now event next result }
+{
+    match next {
+        Next::Win { quorum } => reign(alloc, kv, me, event, quorum, now),
+        _ => Ok(event),
+    }
+}
+
+/// It begins anew and probes.
+pub(crate) fn bootstrap(
+    alloc: Global,
+    kv: &Kv,
+    me: &Me,
+    mut event: Event,
+    now: Moment,
+) -> Result<Event, RoleStop>
+    requires { MayAct me.now kv.now event next.Bootstrap }
+    ensures { Acts me.now kv.now now event next.Bootstrap result }
+{
+    let epoch = event.epoch(alloc, kv)?;
+    let plan = mon_probe::enter(alloc, kv, me, epoch, now)?;
+    event.start_over(alloc, Phase::Probing);
+    let carried = event.carry_prober(alloc, plan)?;
+    lead_alone(alloc, kv, me, carried.event, carried.next, now)
+}
+
+/// It calls an election, and stands in it.
+fn elect(alloc: Global, kv: &Kv, me: &Me, mut event: Event, now: Moment) -> Result<Event, RoleStop>
+    ensures { Acts me.now kv.now now event next.Elect result }
+{
+    let epoch = event.epoch(alloc, kv)?;
+    let plan = mon_elector::enter(alloc, me, epoch, &event.state.elector, now)?;
+    event.start_over(alloc, Phase::Electing);
+    let carried = event.carry_elector(alloc, plan)?;
+    Ok(carried.event)
+}
+
+/// It leads this quorum.
+fn reign(
+    alloc: Global,
+    kv: &Kv,
+    me: &Me,
+    mut event: Event,
+    quorum: RankSet,
+    now: Moment,
+) -> Result<Event, RoleStop>
+    requires { MayAct me.now kv.now event (next.Win quorum) }
+    ensures { Acts me.now kv.now now event (next.Win quorum) result }
+{
+    let epoch = event.epoch(alloc, kv)?;
+    let plan = paxos_leader::enter(alloc, kv, me, epoch, quorum, now)?;
+    event.enter_phase(Phase::Collecting);
+    let carried = event.carry_leader(alloc, plan)?;
+    Ok(carried.event)
+}
+
+/// It takes another monitor's store: a whole copy, or the versions that it lacks.
+fn synchronize(
+    alloc: Global,
+    kv: &Kv,
+    me: &Me,
+    mut event: Event,
+    from: Rank,
+    full: bool,
+    now: Moment,
+) -> Result<Event, RoleStop>
+    requires { MayAct me.now kv.now event (if full then next.FullSync from else next.RecentSync from) }
+    ensures { Acts me.now kv.now now event (if full then next.FullSync from else next.RecentSync from) result }
+{
+    let epoch = event.epoch(alloc, kv)?;
+    let plan = sync_requester::enter(alloc, kv, me, epoch, from, full, now)?;
+    event.enter_phase(Phase::Synchronizing);
+    let carried = event.carry_requester(alloc, plan)?;
+    Ok(carried.event)
+}
+
+/// The value of a command is begun.
+fn begin(
+    alloc: Global,
+    kv: &Kv,
+    me: &Me,
+    event: Event,
+    value: &Transaction,
+    origin: &Origin,
+    now: Moment,
+) -> Result<Event, RoleStop>
+    requires { MayAct me.now kv.now event (next.Begin value.now origin.now) }
+    ensures { Acts me.now kv.now now event (next.Begin value.now origin.now) result }
+{
+    let plan = paxos_leader::begin(alloc, kv, me, &event.state.leader, value, origin, now)?;
+    let carried = event.carry_leader(alloc, plan)?;
+    Ok(carried.event)
+}
+
+/// The act that a plan names, in the same event.
+pub(crate) fn act(
+    alloc: Global,
+    kv: &Kv,
+    me: &Me,
+    event: Event,
+    next: Next,
+    now: Moment,
+) -> Result<Event, RoleStop>
+    requires { MayAct me.now kv.now event next }
+    ensures { Acts me.now kv.now now event next result }
+{
+    match next {
+        Next::Stay | Next::Electing | Next::Follow { .. } => Ok(event),
+        Next::Bootstrap => bootstrap(alloc, kv, me, event, now),
+        Next::Elect => elect(alloc, kv, me, event, now),
+        Next::Win { quorum } => reign(alloc, kv, me, event, quorum, now),
+        Next::FullSync { from } => synchronize(alloc, kv, me, event, from, true, now),
+        Next::RecentSync { from } => synchronize(alloc, kv, me, event, from, false, now),
+        Next::Begin { value, origin } => begin(alloc, kv, me, event, &value, &origin, now),
+    }
+}

@@ -1,0 +1,233 @@
+//! What a monitor does at each input, but where a map is to be shown.
+
+ghost use Rattle.std.specs.Prelude.{◌≡◌, ◌≤◌, ◌^◌, ◌++◌, true, false, is_some, IfOk};
+ghost use Rattle.std.specs.List.{AllByRecursion};
+ghost use Rattle.mon_bounds.specs.Fitting.{MayCome};
+ghost use Rattle.mon_msg.specs.Protocol.Changes.{spelled};
+ghost use Rattle.mon_msg.specs.Protocol.Course.{arm_if};
+ghost use Rattle.mon_msg.specs.Protocol.Entering.{scores_count};
+ghost use Rattle.mon_msg.specs.Protocol.Phases.{same_phase};
+ghost use Rattle.mon_msg.specs.Protocol.Played.{Fits};
+ghost use Rattle.mon_msg.specs.Protocol.Readings.{readings_of, shared_entries};
+ghost use Rattle.mon_msg.specs.Protocol.Table.{start, first_elector, before_start, running};
+ghost use Rattle.mon_event.specs.Events.{Goes};
+ghost use Rattle.mon_core.specs.Known.{asks_any_map};
+ghost use Rattle.mon_event.specs.Roles.{role_of};
+ghost use Rattle.mon_plan.specs.Inputs.{may_come};
+ghost use Rattle.mon_core.specs.Rows.{AnswersInput, AnswersRow, IsReady, ReachesFrom, first_changes, started};
+
+use crate::acts::bootstrap;
+use crate::roles::answer;
+use election_rules::Scores;
+use mon_bytes::OutOfMemory;
+use mon_event::{Event, is_heard, role_of, scores_count};
+use mon_kv::Kv;
+use mon_msg::input::Input;
+use mon_msg::{Elector, Me, Message, Phase, Reply, RoleStop, Timer};
+use mon_plan::{Stored, armed, put_boot, put_epoch};
+use mon_tx::Transaction;
+use mon_types::{Epoch, GREATEST, Moment, RankSet, Which};
+use std::alloc::Global;
+
+// ---- the start
+
+/// The start is counted, and an epoch that isn't there is put as 1.
+fn first_changes(alloc: Global, stored: &Stored<'_>, boot: u64) -> Result<Transaction, OutOfMemory>
+    requires { boot ≤ 2 ^ 62 }
+    ensures changes { IfOk result (λ tx. tx ≡ spelled (first_changes boot (is_some (readings_of stored.now).epoch))) }
+    ensures fit { AllByRecursion Fits (first_changes boot (is_some (readings_of stored.now).epoch)) }
+{
+    let mut tx = Transaction::new(alloc);
+    put_boot(&mut tx, boot)?;
+    if stored.has_epoch() {
+        return Ok(tx);
+    }
+    put_epoch(&mut tx, Epoch::known(1))?;
+    Ok(tx)
+}
+
+/// Under connectivity it begins to measure.
+fn measuring(me: &Me, elector: &Elector, boot: u64, now: Moment) -> Elector
+    ensures { result ≡ first_elector me.now now boot elector.now }
+{
+    if !scores_count(&me.rule) {
+        return *elector;
+    }
+    Elector {
+        scores: Scores::start(me.member.rank, boot),
+        heard: RankSet::empty(),
+        pinged: now,
+        ..*elector
+    }
+}
+
+/// And pings.
+fn begin_to_ping(me: &Me, event: &mut Event, now: Moment)
+    ensures goes { Goes event.old event.new (arm_if (scores_count me.now.rule) now Timer.Ping) }
+    ensures written { event.new.tx ≡ event.old.tx }
+{
+    if scores_count(&me.rule) {
+        let arming = armed(now, Timer::Ping);
+        event.state.set_timers(&[arming]);
+    }
+}
+
+/// A start is counted.
+fn count_start(
+    alloc: Global,
+    stored: &Stored<'_>,
+    me: &Me,
+    mut event: Event,
+    boot: u64,
+    now: Moment,
+) -> Result<Event, OutOfMemory>
+    requires { boot ≤ 2 ^ 62 }
+    ensures goes { IfOk result (λ done. Goes event done
+        (started me.now now boot (is_some (readings_of stored.now).epoch) event.state.elector)) }
+    ensures written { IfOk result (λ done. done.tx ≡ event.tx ++ spelled (first_changes boot (is_some (readings_of stored.now).epoch))) }
+{
+    let elector = measuring(me, &event.state.elector, boot, now);
+    let first = first_changes(alloc, stored, boot)?;
+    event.write(first)?;
+    event.state.elector = elector;
+    begin_to_ping(me, &mut event, now);
+    Ok(event)
+}
+
+/// It starts, is counted, and bootstraps.
+fn start(alloc: Global, kv: &Kv, me: &Me, event: Event, now: Moment) -> Result<Event, RoleStop>
+    requires { IsReady me.now event }
+    ensures { ReachesFrom kv.now event (start me.now now) result }
+{
+    let stored = Stored::of(alloc, kv);
+    let boot = stored.boot() + 1;
+    if boot > GREATEST {
+        return Err(RoleStop::Spent { which: Which::Boot });
+    }
+    let counted = count_start(alloc, &stored, me, event, boot, now)?;
+    bootstrap(alloc, kv, me, counted, now)
+}
+
+/// What comes before the start is dropped, and clients are told.
+fn before_start(
+    alloc: Global,
+    kv: &Kv,
+    me: &Me,
+    mut event: Event,
+    input: &Input,
+    now: Moment,
+) -> Result<Event, RoleStop>
+    requires { IsReady me.now event }
+    ensures { ReachesFrom kv.now event (before_start me.now now input.now) result }
+{
+    match input {
+        Input::Start => start(alloc, kv, me, event, now),
+        Input::Deliver(_) | Input::Timer(_) => Ok(event),
+        Input::Client(session, _) => {
+            event.reply(*session, Reply::Unavailable)?;
+            Ok(event)
+        }
+    }
+}
+
+// ---- and then
+
+/// A message, which is dropped where it isn't of another monitor of the same map.
+fn deliver(
+    alloc: Global,
+    kv: &Kv,
+    me: &Me,
+    event: Event,
+    message: &Message,
+    input: &Input,
+    now: Moment,
+) -> Result<Event, RoleStop>
+    requires is { input.now ≡ Input.Deliver message.now }
+    requires comes { MayCome input.now }
+    requires ready { IsReady me.now event }
+    ensures { ReachesFrom kv.now event (running me.now (shared_entries kv.now) now input.now) result }
+{
+    let heard = is_heard(me, message);
+    if !heard {
+        return Ok(event);
+    }
+    match role_of(input) {
+        Some(role) => answer(alloc, kv, me, event, role, input, now),
+        None => Ok(event),
+    }
+}
+
+/// A timer, which is dropped where it isn't armed, and disarmed where it is.
+fn ring(
+    alloc: Global,
+    kv: &Kv,
+    me: &Me,
+    mut event: Event,
+    kind: Timer,
+    input: &Input,
+    now: Moment,
+) -> Result<Event, RoleStop>
+    requires is { input.now ≡ Input.Timer kind }
+    requires ready { IsReady me.now event }
+    ensures { ReachesFrom kv.now event (running me.now (shared_entries kv.now) now input.now) result }
+{
+    if !event.state.timers.is_armed(kind) {
+        return Ok(event);
+    }
+    event.state.timers.disarm(kind);
+    match role_of(input) {
+        Some(role) => answer(alloc, kv, me, event, role, input, now),
+        None => unreachable!(),
+    }
+}
+
+/// What a client asks, but for a map.
+fn serve(
+    alloc: Global,
+    kv: &Kv,
+    me: &Me,
+    event: Event,
+    input: &Input,
+    now: Moment,
+) -> Result<Event, RoleStop>
+    requires role { is_some (role_of input.now) ≡ true }
+    requires comes { may_come me.now.member.monitors input.now ≡ true }
+    requires ready { IsReady me.now event }
+    ensures { AnswersRow me.now kv.now now event input.now result }
+{
+    match role_of(input) {
+        Some(role) => answer(alloc, kv, me, event, role, input, now),
+        None => unreachable!(),
+    }
+}
+
+fn is_booting(phase: Phase) -> bool
+    ensures { result ≡ same_phase phase Phase.Booting }
+{
+    matches!(phase, Phase::Booting)
+}
+
+/// The protocol's row of an input that asks for no map.
+pub(crate) fn run(
+    alloc: Global,
+    kv: &Kv,
+    me: &Me,
+    event: Event,
+    input: &Input,
+    now: Moment,
+) -> Result<Event, RoleStop>
+    requires asks { asks_any_map input.now ≡ false }
+    requires comes { MayCome input.now }
+    requires ready { IsReady me.now event }
+    ensures { AnswersInput me.now kv.now now event input.now result }
+{
+    if is_booting(event.state.phase) {
+        return before_start(alloc, kv, me, event, input, now);
+    }
+    match input {
+        Input::Start => Ok(event),
+        Input::Deliver(message) => deliver(alloc, kv, me, event, message, input, now),
+        Input::Timer(kind) => ring(alloc, kv, me, event, *kind, input, now),
+        Input::Client(..) => serve(alloc, kv, me, event, input, now),
+    }
+}

@@ -1,0 +1,14 @@
+//! One monitor, joined from its seven roles: what it writes, sends and remembers at each input.
+#![tactic(auto)]
+
+mod acts;
+mod inputs;
+mod monitor;
+mod names;
+mod reaction;
+mod roles;
+mod showing;
+
+pub use mon_msg::input::Input;
+pub use monitor::Core;
+pub use reaction::{CoreStop, Reaction};

@@ -1,0 +1,191 @@
+//! A monitor's core.
+
+ghost use Rattle.std.specs.Prelude.{◌≡◌, None, OnOk};
+ghost use Rattle.std.specs.Option.{option_copied, option_map};
+ghost use Rattle.mon_bounds.specs.Fitting.{MayCome};
+ghost use Rattle.mon_bounds.specs.Remembered.{MayRemember};
+ghost use Rattle.mon_msg.specs.Protocol.Readings.{readings_of};
+ghost use Rattle.mon_msg.specs.Protocol.State.{booting};
+ghost use Rattle.mon_msg.specs.Protocol.Timers.{due};
+ghost use Rattle.mon_wire.specs.declared.request.Service as services;
+ghost use Rattle.svc_core.specs.Cache.{Follows, known};
+ghost use Rattle.mon_core.specs.Known.{known_by_then};
+ghost use Rattle.mon_core.specs.Reacted.{DoesReact};
+ghost use Rattle.mon_core.specs.Reacts.{Comes, Reacts};
+ghost use Rattle.mon_core.specs.Rows.{IsReady};
+ghost use Rattle.mon_event.specs.State.{state_of};
+
+use crate::inputs::run;
+use crate::names::tell_named;
+use crate::reaction::{CoreStop, Reaction};
+use crate::showing::show;
+use election_rules::Rule;
+use mon_bytes::Items;
+use mon_event::{Event, State};
+use mon_kv::Kv;
+use mon_msg::input::Input;
+use mon_msg::{Me, Phase, Request, Service, ShownMap, Timer};
+use mon_plan::joined;
+use mon_tx::Transaction;
+use mon_types::{Member, Moment};
+use std::alloc::Global;
+use std::marker::Model;
+use std::mem;
+use svc_core::Cache;
+
+/// One monitor, but for its store: what it remembers, and the services' maps that it keeps.
+#[derive(Drop)]
+pub struct Core {
+    me: Me,
+    state: State,
+    cache: Cache,
+}
+
+impl Model for Core {
+    ghost use Rattle.std.specs.Coded.{codes};
+    ghost use Rattle.map_kv.specs.contracts.map.KvMap as kv_map;
+    ghost use Rattle.mon_bounds.specs.Remembered.{MayRemember};
+    ghost use Rattle.mon_core.specs.Core.{Monitor};
+
+    ghost Value = { Monitor };
+
+    ghost coded = { Prim.hlevel (codes, kv_map.the_row.coded) };
+
+    ghost use Rattle.mon_event.specs.State.{state_of};
+
+    ghost view = { λ c. record { me = c.me; state = state_of c.state; cache = c.cache } };
+
+    ghost invariant = { λ c. MayRemember c.me (state_of c.state) };
+}
+
+/// What the core does at an input, before its transaction is joined.
+fn played(
+    alloc: Global,
+    kv: &Kv,
+    me: &Me,
+    cache: &mut Cache,
+    event: Event,
+    input: &Input,
+    now: Moment,
+) -> Result<Event, CoreStop>
+    requires follows { Follows cache.old (readings_of kv.now) }
+    requires comes { MayCome input.now }
+    requires ready { IsReady me.now event }
+    ensures comes { Comes me.now kv.now now event input.now result }
+    ensures known { OnOk result ((s : services.Service) → known cache.new s
+        ≡ known_by_then me.now now (readings_of kv.now) (state_of event.state) input.now s (known cache.old s)) }
+    ensures follows { OnOk result (Follows cache.new (readings_of kv.now)) }
+{
+    match input {
+        Input::Client(session, request) => match request {
+            Request::Show { service } => Ok(show(
+                alloc, kv, me, cache, event, *session, *service, now,
+            )?),
+            Request::Set { .. }
+            | Request::Remove { .. }
+            | Request::Log { .. }
+            | Request::Since { .. } => Ok(run(alloc, kv, me, event, input, now)?),
+        },
+        Input::Start | Input::Deliver(_) | Input::Timer(_) => {
+            Ok(run(alloc, kv, me, event, input, now)?)
+        }
+    }
+}
+
+/// What the core does at an input, and what it remembers from then on.
+#[derive(Drop)]
+struct Reacted {
+    reaction: Reaction,
+    state: State,
+}
+
+/// The reaction to an input of a monitor that remembers this.
+fn react_to(
+    alloc: Global,
+    kv: &Kv,
+    me: &Me,
+    cache: &mut Cache,
+    state: State,
+    input: &Input,
+    now: Moment,
+) -> Result<Reacted, CoreStop>
+    requires remembers { MayRemember me.now (state_of state) }
+    requires follows { Follows cache.old (readings_of kv.now) }
+    requires comes { MayCome input.now }
+    ensures { DoesReact me.now kv.now now input.now (state_of state) cache.old cache.new result }
+{
+    let event = Event {
+        tx: Transaction::new(alloc),
+        out: Items::new(alloc),
+        state,
+    };
+    let done = played(alloc, kv, me, cache, event, input, now)?;
+    let tx = joined(alloc, &done.tx)?;
+    cache.follow(alloc, &tx)?;
+    tell_named(done.out.as_slice());
+    Ok(Reacted {
+        reaction: Reaction { tx, out: done.out },
+        state: done.state,
+    })
+}
+
+impl Core {
+    /// A monitor that isn't started yet. It knows no service, and takes no memory.
+    pub fn boot(alloc: Global, member: Member, rule: Rule) -> Core
+        ensures member { result.me.member ≡ member }
+        ensures rule { result.me.rule ≡ rule }
+        ensures state { result.state ≡ booting member.rank }
+        ensures known { (s : services.Service) → known result.cache s ≡ None }
+    {
+        let state = State::booting(alloc, member.rank);
+        Core {
+            me: Me { member, rule },
+            state,
+            cache: Cache::empty(),
+        }
+    }
+
+    /// Where the monitor stands.
+    pub fn phase(&self) -> Phase
+        ensures { result ≡ self.now.state.phase }
+    {
+        self.state.phase
+    }
+
+    /// The timer that comes next, and its moment: the one armed for the least moment, and of several the first kind. `None` exactly
+    /// where no timer is armed.
+    pub fn due(&self) -> Option<(Timer, Moment)>
+        ensures { result ≡ due self.now.state.timers }
+    {
+        self.state.timers.due()
+    }
+
+    /// The map of a service that the core keeps, and `None` exactly where it isn't known. It takes no memory.
+    pub fn cached(&self, service: Service) -> Option<&ShownMap>
+        ensures { option_copied result ≡ option_map (λ k. k.map) (known self.now.cache service) }
+    {
+        self.cache.cached(service)
+    }
+
+    /// What the monitor does at an input at a moment: the protocol's reaction. What it keeps of the services' maps has to follow
+    /// its store, and does so from then on once the transaction is made. `Spent` comes exactly where that number would pass 2^62. A
+    /// message, a session's number and a value have to be no longer than they may be; then nothing that is written or sent is. After
+    /// a `CoreStop` the core isn't used again.
+    pub fn react(
+        &mut self,
+        alloc: Global,
+        kv: &Kv,
+        input: &Input,
+        now: Moment,
+    ) -> Result<Reaction, CoreStop>
+        requires follows { Follows self.old.cache (readings_of kv.now) }
+        requires comes { MayCome input.now }
+        ensures { Reacts self.old self.new kv.now now input.now result }
+    {
+        let booting = State::booting(alloc, self.me.member.rank);
+        let state = mem::replace(&mut self.state, booting);
+        let done = react_to(alloc, kv, &self.me, &mut self.cache, state, input, now)?;
+        self.state = done.state;
+        Ok(done.reaction)
+    }
+}

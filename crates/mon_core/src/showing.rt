@@ -1,0 +1,101 @@
+//! A client is shown a service's map, from what the core keeps.
+
+ghost use Rattle.std.specs.Prelude.{◌≡◌, Ok, not, if◌then◌else◌, ◌&&◌, IfOk, OnOk};
+ghost use Rattle.mon_msg.specs.Protocol.Phases.{is_member};
+ghost use Rattle.mon_msg.specs.declared.input.Input.TheVariants as input;
+ghost use Rattle.mon_wire.specs.declared.request.Request.TheVariants as request;
+ghost use Rattle.mon_msg.specs.Protocol.Reads.{shown};
+ghost use Rattle.mon_msg.specs.Protocol.Readings.{readings_of};
+ghost use Rattle.mon_wire.specs.declared.request.Service as services;
+ghost use Rattle.svc_core.specs.Cache.{Follows, known, known_once_read};
+ghost use Rattle.mon_core.specs.Known.{known_by_then};
+ghost use Rattle.mon_core.specs.Rows.{AnswersInput, IsReady};
+ghost use Rattle.mon_event.specs.State.{state_of};
+
+use mon_bytes::OutOfMemory;
+use mon_event::{Event, is_leading, is_peon, view};
+use mon_kv::Kv;
+use mon_msg::{Me, Phase, Reply, Service, Session, View};
+use mon_plan::Stored;
+use mon_types::{Moment, Version};
+use std::alloc::Global;
+use svc_core::{Cache, last_version};
+
+/// Whether a monitor in this phase is in a quorum.
+fn is_member(phase: Phase) -> bool
+    ensures { result ≡ is_member phase }
+{
+    is_leading(phase) || is_peon(phase)
+}
+
+/// The map that is kept, which is read first where it isn't known.
+fn shown(alloc: Global, kv: &Kv, cache: &mut Cache, service: Service) -> Result<Reply, OutOfMemory>
+    requires { Follows cache.old (readings_of kv.now) }
+    ensures reply { IfOk result (λ reply. reply ≡ shown (readings_of kv.now) service) }
+    ensures known { OnOk result (known cache.new service ≡ known_once_read (readings_of kv.now) service (known cache.old service)) }
+    ensures others { OnOk result ((t : services.Service) → (t ≡ service → ⊥) → known cache.new t ≡ known cache.old t) }
+    ensures follows { OnOk result (Follows cache.new (readings_of kv.now)) }
+{
+    let map = cache.get(alloc, kv, service)?.copy()?;
+    Ok(Reply::Shown {
+        service,
+        paxos: Stored::of(alloc, kv).last(),
+        version: Version::known(last_version(kv, service)),
+        map,
+    })
+}
+
+/// What a client is told that asks for a map.
+fn told(
+    alloc: Global,
+    kv: &Kv,
+    view: &View,
+    cache: &mut Cache,
+    service: Service,
+) -> Result<Reply, OutOfMemory>
+    requires { Follows cache.old (readings_of kv.now) }
+    ensures reply { IfOk result (λ reply. reply ≡
+        if not (is_member view.now.phase) then Reply.Unavailable
+        else (if not view.now.readable then Reply.NotReadable (readings_of kv.now).last view.now.standing
+        else shown (readings_of kv.now) service)) }
+    ensures known { OnOk result (known cache.new service ≡
+        if is_member view.now.phase && view.now.readable then known_once_read (readings_of kv.now) service (known cache.old service)
+        else known cache.old service) }
+    ensures others { OnOk result ((t : services.Service) → (t ≡ service → ⊥) → known cache.new t ≡ known cache.old t) }
+    ensures follows { OnOk result (Follows cache.new (readings_of kv.now)) }
+{
+    if !is_member(view.phase) {
+        return Ok(Reply::Unavailable);
+    }
+    if !view.readable {
+        return Ok(Reply::NotReadable {
+            has: Stored::of(alloc, kv).last(),
+            lease: view.standing,
+        });
+    }
+    shown(alloc, kv, cache, service)
+}
+
+/// A client asks for a service's map. No other input makes a service known.
+pub(crate) fn show(
+    alloc: Global,
+    kv: &Kv,
+    me: &Me,
+    cache: &mut Cache,
+    mut event: Event,
+    session: Session,
+    service: Service,
+    now: Moment,
+) -> Result<Event, OutOfMemory>
+    requires follows { Follows cache.old (readings_of kv.now) }
+    requires ready { IsReady me.now event }
+    ensures row { IfOk result (λ done. AnswersInput me.now kv.now now event (input.Client session (request.Show service)) (Ok done)) }
+    ensures known { OnOk result ((t : services.Service) → known cache.new t
+        ≡ known_by_then me.now now (readings_of kv.now) (state_of event.state) (input.Client session (request.Show service)) t (known cache.old t)) }
+    ensures follows { OnOk result (Follows cache.new (readings_of kv.now)) }
+{
+    let view = view(alloc, kv, me, &event.state, now);
+    let answer = told(alloc, kv, &view, cache, service)?;
+    event.reply(session, answer)?;
+    Ok(event)
+}
