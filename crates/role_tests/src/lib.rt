@@ -1,16 +1,11 @@
+//! Tests of the plans of the roles, and of what roles share.
 #![tactic(auto)]
 
 #[cfg(test)]
-mod client;
-#[cfg(test)]
-mod elector;
+mod given;
 #[cfg(test)]
 mod peon;
 #[cfg(test)]
 mod plan;
 #[cfg(test)]
-mod probe;
-#[cfg(test)]
-mod provider;
-#[cfg(test)]
-mod requester;
+mod shown;

@@ -2,19 +2,19 @@ ghost use Rattle.std.specs.Prelude.{IsTrue};
 ghost use Rattle.mon_msg.specs.Protocol.Length.{fits};
 ghost use Rattle.paxos_peon.specs.Rows.{is_told};
 
-use paxos_peon::*;
+use crate::given::{me, number, value, values};
+use crate::shown::shown;
 use election_rules::Rule;
-use mon_bytes::{Bytes, Items};
-use mon_kv::{Kv, number_of};
+use mon_bytes::Bytes;
+use mon_kv::Kv;
 use mon_lease::Lease;
 use mon_msg::input::Input;
-use mon_msg::plan::Sent;
-use mon_msg::{
-    Arming, Body, MOST_BYTES, Me, Message, Next, Peon, Phase, Plan, RoleStop, Timer, Told, View,
-};
-use mon_tx::{Area, Key, Op, Transaction};
-use mon_types::{Epoch, GREATEST, Member, Moment, Number, Pn, Rank, RankSet, Version, Which};
+use mon_msg::{Body, MOST_BYTES, Message, Peon, Phase, Plan, RoleStop, Timer, View};
+use mon_tx::{Area, Key, Transaction};
+use mon_types::{GREATEST, Rank, RankSet};
+use paxos_peon::*;
 use std::alloc::Global;
+use std::process::Abort;
 use std::test::Fail;
 
 /// What a leader says: a COLLECT with its number and its first and last version; a BEGIN with its number and version; a
@@ -25,24 +25,6 @@ enum Says {
     Begin(u64, u64),
     Commit(u64, u64),
     Lease(u64),
-}
-
-fn number<K: Copy>(n: u64) -> Result<Number<K>, Fail> {
-    Ok(Number::new(n).ok_or("a number")?)
-}
-
-fn value(alloc: Global) -> Result<Transaction, Fail> {
-    let mut value = Transaction::new(alloc);
-    value.put_number(Area::Kv, Key::LastCommitted, 1)?;
-    Ok(value)
-}
-
-fn values(alloc: Global, count: u64) -> Result<Items<Transaction>, Fail> {
-    let mut values = Items::new(alloc);
-    for _ in 0..count {
-        values.push(value(alloc)?)?;
-    }
-    Ok(values)
 }
 
 fn body(alloc: Global, says: Says) -> Result<Body, Fail> {
@@ -115,11 +97,7 @@ fn hear(
     epoch: u64,
     says: Says,
 ) -> Result<Result<Plan<Peon>, RoleStop>, Fail> {
-    let member = Member::new(Rank::known(1), 3).ok_or("a member")?;
-    let me = Me {
-        member,
-        rule: Rule::Classic,
-    };
+    let me = me(1, 3, Rule::Classic)?;
     let state = following()?;
     let view = view(phase, &state);
     let from = Rank::new(from).ok_or("a rank")?;
@@ -138,100 +116,6 @@ fn hear(
     Ok(step(alloc, kv, &me, &view, &state, &input, now))
 }
 
-/// What is put, each key with a number where it holds one.
-fn put_line(alloc: Global, op: &Op) -> Result<String, Fail> {
-    match op {
-        Op::Put { key, value, .. } if value.as_slice().len() == 8 => {
-            let number = number_of(Some(value.as_slice()));
-            Ok(format!(in alloc; "put {}={number}; ", key.as_str())?)
-        }
-        Op::Put { key, .. } => Ok(format!(in alloc; "put {}; ", key.as_str())?),
-        _ => Err(Fail::from("a put")),
-    }
-}
-
-fn puts_line(alloc: Global, tx: &Transaction) -> Result<String, Fail> {
-    let mut line = String::new(alloc);
-    for op in tx.ops() {
-        line.push_str(put_line(alloc, op)?.as_str())?;
-    }
-    Ok(line)
-}
-
-fn pending_pn(pending: &Option<Told>) -> u64 {
-    match pending {
-        None => 0,
-        Some(told) => told.pn.get(),
-    }
-}
-
-fn body_line(alloc: Global, body: &Body) -> Result<String, Fail> {
-    match body {
-        Body::Last {
-            pn,
-            first,
-            last,
-            whole,
-            from,
-            values,
-            pending,
-        } => Ok(format!(in alloc;
-            "LAST pn={} first={} last={} whole={whole} from={} values={} pending={}; ",
-            pn.get(),
-            first.get(),
-            last.get(),
-            from.get(),
-            values.len(),
-            pending_pn(pending)
-        )?),
-        Body::Accept { pn, version } => {
-            Ok(format!(in alloc; "ACCEPT pn={} v={}; ", pn.get(), version.get())?)
-        }
-        Body::LeaseAck { last } => Ok(format!(in alloc; "LEASE_ACK last={}; ", last.get())?),
-        _ => Err(Fail::from("an answer of a peon")),
-    }
-}
-
-fn sent_line(alloc: Global, sent: &Sent) -> Result<String, Fail> {
-    match sent {
-        Sent::Message { to, message }
-            if to.get() == 0 && message.from.get() == 1 && message.epoch.get() == 2 => {
-            body_line(alloc, &message.body)
-        }
-        _ => Err(Fail::from("a message to the leader")),
-    }
-}
-
-/// The one message that is sent, if one is.
-fn out_line(alloc: Global, out: &[Sent]) -> Result<String, Fail> {
-    match out {
-        [] => Ok(String::new(alloc)),
-        [sent] => sent_line(alloc, sent),
-        _ => Err(Fail::from("one message")),
-    }
-}
-
-fn timer_word(timers: &[Arming]) -> &'static str {
-    match timers {
-        [] => "",
-        [
-            Arming::Arm {
-                kind: Timer::Lease,
-                end,
-            },
-        ] if end.get() == 10_007 => "arm; ",
-        _ => "other timers; ",
-    }
-}
-
-fn next_word(next: &Next) -> &'static str {
-    match next {
-        Next::Stay => "",
-        Next::Bootstrap => "bootstrap; ",
-        _ => "another act; ",
-    }
-}
-
 fn lease_word(state: &Peon) -> Result<&'static str, Fail> {
     if state.lease.standing(number(5_006)?) {
         return Ok("a new lease");
@@ -242,38 +126,29 @@ fn lease_word(state: &Peon) -> Result<&'static str, Fail> {
     Ok("no lease")
 }
 
-/// What a plan does, in a line; a lease where it stands, by when it ends.
-fn line(alloc: Global, plan: &Plan<Peon>) -> Result<String, Fail> {
-    let lease = lease_word(&plan.state)?;
-    let timers = timer_word(plan.timers.as_slice());
-    let next = next_word(&plan.next);
-    let puts = puts_line(alloc, &plan.tx)?;
-    let out = out_line(alloc, plan.out.as_slice())?;
-    Ok(format!(in alloc; "{}{}{timers}{next}{lease}", puts.as_str(), out.as_str())?)
-}
-
-/// A plan in a line, once it is done.
-fn done(alloc: Global, kv: &mut Kv, plan: Plan<Peon>) -> Result<String, Fail> {
-    kv.apply(&plan.tx)?;
-    line(alloc, &plan)
-}
-
-/// What is done in the protocol's words, or which number runs out.
-fn answer(
-    alloc: Global,
-    kv: &mut Kv,
-    planned: Result<Plan<Peon>, RoleStop>,
-) -> Result<String, Fail> {
-    match planned {
-        Ok(plan) => done(alloc, kv, plan),
-        Err(stop) => Ok(format!(in alloc; "{stop:?}")?),
-    }
+/// A plan once it is done, and the lease where it stands, by when it ends; or which number runs out.
+fn done(alloc: Global, kv: &mut Kv, planned: Result<Plan<Peon>, RoleStop>) -> Result<String, Fail> {
+    let plan = match planned {
+        Ok(plan) => plan,
+        Err(stop) => return Ok(format!(in alloc; "{stop:?}")?),
+    };
+    let Plan {
+        tx,
+        out,
+        state,
+        next,
+        ..
+    } = plan;
+    kv.apply(&tx)?;
+    let mut line = shown(alloc, Rank::known(1), &tx, out, &next)?;
+    line.push_str(lease_word(&state)?)?;
+    Ok(line)
 }
 
 /// The same at what the leader says.
 fn told(alloc: Global, kv: &mut Kv, says: Says) -> Result<String, Fail> {
     let planned = hear(alloc, kv, Phase::Peon, 0, 2, says)?;
-    answer(alloc, kv, planned)
+    done(alloc, kv, planned)
 }
 
 /// A store of a monitor in epoch 2 that promised 100.
@@ -302,13 +177,25 @@ fn with_records(alloc: Global) -> Result<Kv, Fail> {
     Ok(kv)
 }
 
+/// What is done at one message after the other.
+fn all_are(rt: &impl Abort, alloc: Global, kv: &mut Kv, rows: &[(Says, &str)]) -> Result<(), Fail> {
+    for (says, wanted) in rows {
+        let line = told(alloc, kv, *says)?;
+        assert_eq!(rt; line.as_str(), *wanted, "at {says:?}");
+    }
+    Ok(())
+}
+
 #[test]
 fn a_value_is_accepted_and_then_learned(rt: HostRuntime) -> Result<(), Fail> {
     let alloc = rt.alloc();
     let mut kv = promised(alloc)?;
-    let accepted = "put 1; put pending_v=1; put pending_pn=100; ACCEPT pn=100 v=1; no lease";
-    for (says, wanted) in [
-        (Says::Lease(0), "LEASE_ACK last=0; arm; a new lease"),
+    let accepted = "store 3;send 1 1>0 ACCEPT e=2 pn=100 v=1;no lease";
+    let rows = [
+        (
+            Says::Lease(0),
+            "send 1 1>0 LEASE_ACK e=2 last=0;a new lease",
+        ),
         (Says::Begin(99, 1), "the old lease"),
         (Says::Begin(100, 2), "the old lease"),
         (Says::Begin(100, 1), accepted),
@@ -316,75 +203,62 @@ fn a_value_is_accepted_and_then_learned(rt: HostRuntime) -> Result<(), Fail> {
         (Says::Lease(0), "the old lease"),
         (Says::Commit(2, 1), "the old lease"),
         (Says::Commit(1, 0), "the old lease"),
-        (
-            Says::Commit(1, 1),
-            "put 1; put last_committed=1; put last_committed=1; the old lease",
-        ),
+        (Says::Commit(1, 1), "store 3;the old lease"),
         (Says::Commit(1, 1), "the old lease"),
         (Says::Begin(100, 1), "the old lease"),
-        (
-            Says::Commit(0, 3),
-            "put 2; put last_committed=1; put last_committed=2; the old lease",
-        ),
+        (Says::Commit(0, 3), "store 3;the old lease"),
         (Says::Lease(1), "the old lease"),
-        (Says::Lease(2), "LEASE_ACK last=2; arm; a new lease"),
-    ] {
-        let line = told(alloc, &mut kv, says)?;
-        assert_eq!(rt; line.as_str(), wanted, "at {says:?}");
-    }
-    Ok(())
+        (
+            Says::Lease(2),
+            "send 1 1>0 LEASE_ACK e=2 last=2;a new lease",
+        ),
+    ];
+    all_are(&rt, alloc, &mut kv, &rows)
 }
 
 #[test]
 fn a_leader_that_collects_is_told(rt: HostRuntime) -> Result<(), Fail> {
     let alloc = rt.alloc();
     let mut kv = with_records(alloc)?;
-    for (says, wanted) in [
+    let rows = [
         (
             Says::Collect(100, 1, 3),
-            "LAST pn=100 first=1 last=3 whole=true from=4 values=0 pending=100; no lease",
+            "send 1 1>0 LAST e=2 pn=100 first=1 last=3 whole=1 values=0 pending=100;no lease",
         ),
         (
             Says::Collect(99, 4, 9),
-            "LAST pn=100 first=1 last=3 whole=true from=10 values=0 pending=100; no lease",
+            "send 1 1>0 LAST e=2 pn=100 first=1 last=3 whole=1 values=0 pending=100;no lease",
         ),
-        (Says::Collect(201, 5, 9), "bootstrap; the old lease"),
+        (Says::Collect(201, 5, 9), "bootstrap;the old lease"),
         (Says::Collect(201, 1, GREATEST), "Spent { which: Version }"),
-        (Says::Collect(201, 5, GREATEST), "bootstrap; the old lease"),
+        (Says::Collect(201, 5, GREATEST), "bootstrap;the old lease"),
         (
             Says::Collect(201, 1, 1),
-            "put accepted_pn=201; LAST pn=201 first=1 last=3 whole=true from=2 values=2 pending=100; no lease",
+            "store 1;send 1 1>0 LAST e=2 pn=201 first=1 last=3 whole=1 values=2 pending=100;no lease",
         ),
-    ] {
-        let line = told(alloc, &mut kv, says)?;
-        assert_eq!(rt; line.as_str(), wanted, "at {says:?}");
-    }
-    Ok(())
-}
-
-#[test]
-fn a_store_with_broken_records_is_answered_from(rt: HostRuntime) -> Result<(), Fail> {
-    let alloc = rt.alloc();
+    ];
+    all_are(&rt, alloc, &mut kv, &rows)?;
+    // records that aren't transactions are left out
     let mut tx = Transaction::new(alloc);
     tx.put(Area::Paxos, Key::Version(2), Bytes::new(Vec::new(alloc)))?;
     tx.put(Area::Paxos, Key::Version(4), Bytes::new(Vec::new(alloc)))?;
     let mut kv = with_records(alloc)?;
     kv.apply(&tx)?;
-    for (says, wanted) in [
+    let rows = [
         (
             Says::Collect(100, 1, 0),
-            "LAST pn=100 first=1 last=3 whole=false from=1 values=1 pending=0; no lease",
+            "send 1 1>0 LAST e=2 pn=100 first=1 last=3 whole=0 values=1 pending=0;no lease",
         ),
         (
             Says::Collect(100, 1, 2),
-            "LAST pn=100 first=1 last=3 whole=true from=3 values=1 pending=0; no lease",
+            "send 1 1>0 LAST e=2 pn=100 first=1 last=3 whole=1 values=1 pending=0;no lease",
         ),
-        (Says::Lease(3), "LEASE_ACK last=3; arm; a new lease"),
-    ] {
-        let line = told(alloc, &mut kv, says)?;
-        assert_eq!(rt; line.as_str(), wanted, "at {says:?}");
-    }
-    Ok(())
+        (
+            Says::Lease(3),
+            "send 1 1>0 LEASE_ACK e=2 last=3;a new lease",
+        ),
+    ];
+    all_are(&rt, alloc, &mut kv, &rows)
 }
 
 #[test]
@@ -397,27 +271,27 @@ fn only_the_leader_is_heard(rt: HostRuntime) -> Result<(), Fail> {
         (Phase::Peon, 0, 4),
     ] {
         let planned = hear(alloc, &kv, phase, from, epoch, Says::Begin(100, 1))?;
-        let line = answer(alloc, &mut kv, planned)?;
+        let line = done(alloc, &mut kv, planned)?;
         assert_eq!(rt; line.as_str(), "the old lease", "{from} in epoch {epoch}");
     }
     Ok(())
 }
 
+/// What the monitor does where its lease ends.
+fn ring(alloc: Global, kv: &Kv) -> Result<Result<Plan<Peon>, RoleStop>, Fail> {
+    let me = me(1, 3, Rule::Classic)?;
+    let state = following()?;
+    let view = view(Phase::Peon, &state);
+    let input = Input::Timer(Timer::Lease);
+    Ok(step(alloc, kv, &me, &view, &state, &input, number(7)?))
+}
+
 #[test]
 fn a_lease_that_ends_is_the_end_of_a_quorum(rt: HostRuntime) -> Result<(), Fail> {
     let alloc = rt.alloc();
-    let member = Member::new(Rank::known(1), 3).ok_or("a member")?;
-    let me = Me {
-        member,
-        rule: Rule::Classic,
-    };
-    let state = following()?;
-    let view = view(Phase::Peon, &state);
-    let now = number(7)?;
     let mut kv = promised(alloc)?;
-    let input = Input::Timer(Timer::Lease);
-    let planned = step(alloc, &kv, &me, &view, &state, &input, now);
-    let line = answer(alloc, &mut kv, planned)?;
-    assert_eq!(rt; line.as_str(), "bootstrap; the old lease");
+    let planned = ring(alloc, &kv)?;
+    let line = done(alloc, &mut kv, planned)?;
+    assert_eq!(rt; line.as_str(), "bootstrap;the old lease");
     Ok(())
 }

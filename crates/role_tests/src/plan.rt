@@ -1,6 +1,6 @@
-use mon_plan::*;
 use mon_bytes::{Bytes, Name, Prefix};
 use mon_kv::Kv;
+use mon_plan::*;
 use mon_tx::{Op, Transaction};
 use mon_types::{Pn, Version};
 use std::alloc::Global;
@@ -63,30 +63,37 @@ fn each_key_is_put_once(rt: HostRuntime) -> Result<(), Fail> {
     Ok(())
 }
 
-#[test]
-fn a_store_is_read_after_changes(rt: HostRuntime) -> Result<(), Fail> {
-    let alloc = rt.alloc();
+/// A store whose last version is 1, which promised 100, with a record of version 3 too.
+fn store(alloc: Global) -> Result<Kv, Fail> {
     let mut tx = changes(alloc, "paxos/1=y paxos/3=z")?;
     put_last(&mut tx, Version::known(1))?;
     put_numbers(&mut tx, Pn::known(100))?;
     let mut kv = Kv::empty(alloc);
     kv.apply(&tx)?;
+    Ok(kv)
+}
+
+/// What learns a value for version 2 that takes two keys away.
+fn learning(alloc: Global) -> Result<Transaction, Fail> {
     let value = changes(alloc, "paxos/1 paxos/last_pn")?;
-    assert!(rt; value.text_len() < 1_000);
+    if value.text_len() >= 1_000 {
+        return Err("a long value".into());
+    }
     let mut tx = Transaction::new(alloc);
     learn(&mut tx, 2, &[value])?;
+    Ok(tx)
+}
+
+#[test]
+fn a_store_is_read_after_changes(rt: HostRuntime) -> Result<(), Fail> {
+    let alloc = rt.alloc();
+    let (kv, tx) = (store(alloc)?, learning(alloc)?);
     let stored = Stored::after(alloc, &kv, &tx)?;
-    assert_eq!(rt; stored.last(), Version::known(2));
-    assert_eq!(rt;
-        (stored.last_pn(), stored.promise()),
-        (None, Pn::known(100))
-    );
-    assert!(rt; stored.stored(1).is_none());
-    assert_eq!(rt; stored.stored(3), Some(b"z".as_slice()));
+    let numbers = (stored.last(), stored.last_pn(), stored.promise());
+    assert_eq!(rt; numbers, (Version::known(2), None, Pn::known(100)));
+    let records = (stored.stored(1), stored.stored(3));
+    assert_eq!(rt; records, (None, Some(b"z".as_slice())));
     let run = stored.run(alloc, 2, 22, 22)?;
-    assert_eq!(rt;
-        (run.values.len(), run.bytes),
-        (1, stored.stored(2).ok_or("a record")?.len() + 4)
-    );
+    assert_eq!(rt; (run.values.len(), run.bytes), (1, 33));
     Ok(())
 }
