@@ -1,14 +1,15 @@
 pub mod Accepting
 pub mod Acknowledging
+pub mod Answered
 pub mod Answering
 pub mod Beginning
 pub mod Chosen
 pub mod Event
+pub mod Every
 pub mod Grown
 pub mod Held
 pub mod Invariant
 pub mod Kept
-pub mod Every
 pub mod Lone
 pub mod LoneWorlds
 pub mod Made
@@ -16,8 +17,8 @@ pub mod Others
 pub mod Premises
 pub mod Result
 pub mod Runs
+pub mod Safe
 pub mod SafeStep
 pub mod SafeWorlds
 pub mod Step
 pub mod Worlds
-pub mod Answered

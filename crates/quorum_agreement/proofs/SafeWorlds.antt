@@ -18,7 +18,8 @@ use Rattle.quorum_agreement.proofs.LoneWorlds.{LoneHolds, lone_asking, lone_at_f
 use Rattle.quorum_agreement.proofs.Beginning.{at_first}
 use Rattle.quorum_agreement.proofs.Result.{OneLog, entries_chosen, lone_log, several_log}
 use Rattle.quorum_agreement.proofs.Runs.{runs_hold}
-use Rattle.quorum_agreement.proofs.SafeStep.{IsSafe, safe_same, safe_then}
+use Rattle.quorum_agreement.proofs.Safe.{IsSafe, safe_same}
+use Rattle.quorum_agreement.proofs.SafeStep.{safe_then}
 use Rattle.quorum_agreement.proofs.Worlds.{all_follow, asking, still_among}
 use Rattle.quorum_laws.proofs.Beginning as beginning
 use Rattle.quorum_laws.proofs.Events as events
