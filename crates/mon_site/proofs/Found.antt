@@ -1,5 +1,5 @@
 -- Which calls opening makes on each disk, by what they hold; and which files it leaves.
-use Rattle.std.proofs.Common.{◌≡◌, ℕ, ◌+◌, Bool, true, false, nat_lt, List, [], ◌∷◌, ◌++◌, length, Option, Some, None, Result, Ok, Err, refl, sym, ap, ◌∙◌, subst}
+use Rattle.std.proofs.Common.{◌≡◌, ℕ, ◌+◌, Bool, true, false, nat_lt, List, [], ◌∷◌, ◌++◌, length, Option, Some, None, is_some, Result, Ok, Err, refl, sym, ap, ◌∙◌, subst}
 use Rattle.std.specs.Prelude.{◌==◌, if◌then◌else◌}
 use Rattle.mon_types.specs.declared.names.Side.{Side}
 use Rattle.mon_types.specs.declared.names.Side.TheVariants.{A, B}
@@ -17,7 +17,7 @@ use Rattle.mon_store.specs.Pair as pair
 use Rattle.mon_tx.specs.Map.{Store}
 use Rattle.quorum_model.specs.Files.{Files, is_created}
 use Rattle.quorum_model.specs.Upsets.{opening_count}
-use Rattle.mon_site.specs.Disks.{file_of}
+use Rattle.mon_site.specs.Disks.{file_of, file_in}
 use Rattle.mon_site.proofs.Guarded.{guarded}
 use Rattle.mon_site.proofs.Gates.{create_writes}
 use Rattle.mon_site.proofs.Openings.{on}
@@ -127,6 +127,19 @@ module _ (owner : Owner) (a b : ℕ) where
   count_b (Some (Ok x)) (Some (Err y)) place e = absurd (no_refusal B y place (λ hy. chosen (Some x) hy a b) e)
   count_b (Some (Err x)) y place e = absurd (no_refusal A x place (λ hx. held_on B y >>= λ hy. chosen hx hy a b) e)
 
+  -- which of the two have a file
+  there_a : (x y : Content) (place : Found) → found_with x y a b ≡ Ok place → is_some (file_of x) ≡ is_some x
+  there_a None y place e = refl
+  there_a (Some (Ok x)) y place e = refl
+  there_a (Some (Err x)) y place e = absurd (no_refusal A x place (λ hx. held_on B y >>= λ hy. chosen hx hy a b) e)
+
+  there_b : (x y : Content) (place : Found) → found_with x y a b ≡ Ok place → is_some (file_of y) ≡ is_some y
+  there_b x None place e = refl
+  there_b x (Some (Ok y)) place e = refl
+  there_b None (Some (Err y)) place e = absurd (no_refusal B y place (λ hy. chosen None hy a b) e)
+  there_b (Some (Ok x)) (Some (Err y)) place e = absurd (no_refusal B y place (λ hy. chosen (Some x) hy a b) e)
+  there_b (Some (Err x)) (Some (Err y)) place e = absurd (no_refusal A x place (λ hx. held_on B (Some (Err y)) >>= λ hy. chosen hx hy a b) e)
+
 -- ---- of two files
 
 module _ (owner : Owner) (a b : List ℕ) (place : Found) (e : found a b ≡ Ok place) where
@@ -161,6 +174,12 @@ module _ (owner : Owner) (a b : List ℕ) (place : Found) (e : found a b ≡ Ok 
 
   pub counts_b : opening_count B (files_with x y) ≡ 1 + length (guarded (open_writes y))
   counts_b = count_b owner (length a) (length b) x y place so
+
+  pub has_a : is_some (file_in a) ≡ is_some x
+  has_a = there_a owner (length a) (length b) x y place so
+
+  pub has_b : is_some (file_in b) ≡ is_some y
+  has_b = there_b owner (length a) (length b) x y place so
 
 -- what is found where a member opens
 pub found_by : (owner : Owner) (a b : List ℕ) (it : Found × Store) → pair.opened owner a b ≡ Ok it → (place : Found) × (found a b ≡ Ok place)

@@ -12,3 +12,5 @@ pub mod Ending
 pub mod OnStores
 pub mod Written
 pub mod Readying
+pub mod InUse
+pub mod AtRest

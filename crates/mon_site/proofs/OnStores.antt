@@ -36,11 +36,11 @@ use Rattle.mon_site.proofs.Openings.{unfailing}
 abbrev Held : Type 0
 Held = kept.Store MemoryState
 
-after_form : (j : Journal) (ops : List Op) → (journal_after j ops).form ≡ j.form
+pub after_form : (j : Journal) (ops : List Op) → (journal_after j ops).form ≡ j.form
 after_form j [] = refl
 after_form j (op ∷ ops) = refl
 
-after_owner : (j : Journal) (ops : List Op) → owner_of (journal_after j ops).member ≡ owner_of j.member
+pub after_owner : (j : Journal) (ops : List Op) → owner_of (journal_after j ops).member ≡ owner_of j.member
 after_owner j [] = refl
 after_owner j (op ∷ ops) = refl
 

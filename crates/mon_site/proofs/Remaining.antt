@@ -34,15 +34,15 @@ use Rattle.mon_site.proofs.Opened.{place_of, new_opens, first_file, none_yet, fi
 use Rattle.mon_site.proofs.Openings.{on_a, on_b, Opened, walks, upset_left}
 use Rattle.mon_site.proofs.Standing.{file_by}
 
-only_of_a : (side : Side) (live other : MemoryState) (j : Journal) (m : Store) (known : ℕ) → Sound j m known (content live) (content other) → Only (content (of_a side live other))
+pub only_of_a : (side : Side) (live other : MemoryState) (j : Journal) (m : Store) (known : ℕ) → Sound j m known (content live) (content other) → Only (content (of_a side live other))
 only_of_a A live other j m known sound = sound.stands_live.only
 only_of_a B live other j m known sound = sound.only_other
 
-only_of_b : (side : Side) (live other : MemoryState) (j : Journal) (m : Store) (known : ℕ) → Sound j m known (content live) (content other) → Only (content (of_b side live other))
+pub only_of_b : (side : Side) (live other : MemoryState) (j : Journal) (m : Store) (known : ℕ) → Sound j m known (content live) (content other) → Only (content (of_b side live other))
 only_of_b A live other j m known sound = sound.only_other
 only_of_b B live other j m known sound = sound.stands_live.only
 
-none_stands : (u : Option Upset) → from_of u ≡ None → u ≡ None
+pub none_stands : (u : Option Upset) → from_of u ≡ None → u ≡ None
 none_stands None h = refl
 none_stands (Some u) h = absurd cc
 
@@ -75,10 +75,10 @@ module _ (member : Member) (m : Store) (f : Files) (a b : MemoryState) (side : S
     same_stood : it ≡ opens.stood
     same_stood = let h : ◌≡◌ {A = Result Stood _} (Ok it) (Ok opens.stood) = sym answer ∙ opens.opens in cc
 
-    form_is : j.form ≡ Second
+    pub form_is : j.form ≡ Second
     form_is = ap (λ (s : Stood). s.journal.form) same_stood ∙ opens.form
 
-    map_is : kv ≡ m
+    pub map_is : kv ≡ m
     map_is = ap (λ (s : Stood). s.kv) same_stood ∙ opens.map
 
     two : Alike member (content a) (content b) (seen_of na.life) (seen_of nb.life)
@@ -105,7 +105,7 @@ module _ (member : Member) (m : Store) (f : Files) (a b : MemoryState) (side : S
         ∙ ap (λ (y : Option File). record { a = Some first_file; b = y }) (second_none member m a b na nb only_a only_b opens (seen_of na.life) (seen_of nb.life) two.0 two.1 none_b)
         ∙ ap after_opening (sym before)
 
-    files_are : files_on na nb ≡ after_opening f
+    pub files_are : files_on na nb ≡ after_opening f
     files_are = files_by (finds (owner_of member) (seen_of a.life) (seen_of b.life) p.0 p.1)
 
   abbrev calls : List (Side × DiskCall)

@@ -3,3 +3,4 @@ pub mod Upset
 pub mod Falls
 pub mod Begins
 pub mod Ending
+pub mod Calm

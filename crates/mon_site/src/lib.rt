@@ -4,9 +4,13 @@
 mod disks;
 mod finishing;
 mod opening;
+mod resting;
+mod running;
 mod upset;
 
 pub use disks::{settle_both, upset_one};
 pub use finishing::{Ended, finish};
 pub use opening::{Begun, open};
+pub use resting::{empty_disks, opening_count};
+pub use running::{apply, close, start};
 pub use upset::Upset;

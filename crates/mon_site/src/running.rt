@@ -1,0 +1,77 @@
+//! A store that is open on two disks of which none fails.
+
+ghost use Rattle.std.specs.Prelude.{◌≡◌, false, true, OnOk};
+ghost use Rattle.mon_types.specs.declared.member.Member.{Member};
+ghost use Rattle.mon_disk.specs.MemoryDisk.{state_of};
+ghost use Rattle.mon_store.specs.Whole.{IsSound};
+ghost use Rattle.mon_tx.specs.Map.{Store as Map};
+ghost use Rattle.quorum_model.specs.Files.{Files, is_created};
+ghost use Rattle.mon_site.specs.Calm.{Rest, Runs, Starts, Changes, Renews, Applies};
+ghost use Rattle.mon_site.specs.Falls.{Rests};
+
+use mon_bytes::OutOfMemory;
+use mon_disk::{MemoryDisk, NodeDisks};
+use mon_store::{OpenRefused, OpenStop, Store, StoreStop};
+use mon_tx::Transaction;
+use mon_types::Member;
+use std::alloc::Global;
+
+/// Opens the store that stands on two disks at rest. Where they are empty one is created on disk A.
+pub fn start(
+    alloc: Global,
+    disks: NodeDisks<MemoryDisk>,
+    member: Member,
+) -> Result<Store<MemoryDisk>, OutOfMemory>
+    requires { Rest member disks.a disks.b }
+    ensures { (m : Map) (f : Files) → Rests member m f disks.a disks.b → Starts member m f result }
+{
+    match Store::open(alloc, disks, member) {
+        Ok(store) => Ok(store),
+        Err(OpenRefused { why, disks: _disks }) => match why {
+            OpenStop::OutOfMemory => Err(OutOfMemory),
+            _ => unreachable!(),
+        },
+    }
+}
+
+/// Makes a transaction's changes.
+fn change(store: &mut Store<MemoryDisk>, tx: &Transaction) -> Result<(), StoreStop>
+    requires sound { IsSound state_of store.old }
+    ensures sound { IsSound state_of store.new }
+    ensures changes { (member : Member) (m : Map) (f : Files) → Runs member m f store.old → Changes member m f tx.now store.new result }
+{
+    store.apply(tx)
+}
+
+/// Makes the checkpoint that is due, if one is.
+fn renew(store: &mut Store<MemoryDisk>) -> Result<(), StoreStop>
+    requires sound { IsSound state_of store.old }
+    ensures sound { IsSound state_of store.new }
+    ensures renews { (member : Member) (m : Map) (f : Files) → Runs member m f store.old → Renews member m f store.new result }
+{
+    match store.restart_if_due() {
+        Ok(_) => Ok(()),
+        Err(stop) => Err(stop),
+    }
+}
+
+/// Makes a transaction's changes, and then the checkpoint that is due, if one is. Full comes where the map would be too large,
+/// and TooLong where the transaction's text is too long.
+pub fn apply(store: &mut Store<MemoryDisk>, tx: &Transaction) -> Result<(), StoreStop>
+    requires sound { IsSound state_of store.old }
+    ensures sound { IsSound state_of store.new }
+    ensures applies { (member : Member) (m : Map) (f : Files) → Runs member m f store.old → Applies member m f tx.now store.new result }
+{
+    match change(store, tx) {
+        Ok(()) => renew(store),
+        Err(stop) => Err(stop),
+    }
+}
+
+/// Closes a store. Then its disks rest, and one has a file.
+pub fn close(store: Store<MemoryDisk>) -> NodeDisks<MemoryDisk>
+    ensures rests { (member : Member) (m : Map) (f : Files) → Runs member m f store → Rests member m f result.a result.b }
+    ensures created { (member : Member) (m : Map) (f : Files) → Runs member m f store → is_created f ≡ true }
+{
+    store.close()
+}
