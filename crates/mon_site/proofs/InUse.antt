@@ -34,9 +34,9 @@ use Rattle.mon_store.proofs.OnPairs.{stood_opens}
 use Rattle.quorum_model.specs.Cuts.{after_checkpoint}
 use Rattle.quorum_model.specs.Files.{File, Files, is_created, after_opening, after_append}
 use Rattle.mon_site.specs.Calm.{Runs, Changes, Renews, Applies}
-use Rattle.mon_site.specs.Disks.{IsCalm, file_in, files_in, content}
+use Rattle.mon_site.specs.Disks.{file_in, files_in, content}
 use Rattle.mon_site.specs.Ending.{IsKept, IsMemory}
-use Rattle.mon_site.specs.Falls.{OpensMap, Settles, Rests}
+use Rattle.mon_site.specs.Falls.{Settles, Rests}
 use Rattle.mon_site.specs.Upset.{files_on}
 use Rattle.mon_site.proofs.Checkpointing.{files_seen, stands_seen}
 use Rattle.mon_site.proofs.Ending.{files_grow}

@@ -1,5 +1,5 @@
 -- A monitor of which no disk fails: its disks, its store in use, and what becomes of both.
-use Rattle.std.specs.Prelude.{◌≡◌, ℕ, ◌≤◌, false, List, None, Result, Ok, Err}
+use Rattle.std.specs.Prelude.{◌≡◌, ◌≤◌, false, List, None, Result, Ok, Err}
 use Rattle.mon_types.specs.declared.member.Member.{Member}
 use Rattle.mon_bytes.specs.declared.memory.OutOfMemory.{OutOfMemory}
 use Rattle.mon_disk.specs.Memory.{seen_of}
