@@ -1,4 +1,4 @@
-//! A monitor's store on two disks in memory, of which one fails within an event.
+//! A monitor's store on two disks in memory, of which none fails within an event, or one.
 #![tactic(auto)]
 
 mod disks;
