@@ -1,3 +1,4 @@
+//! Tests of one monitor, as its users see it.
 #![tactic(auto)]
 
 #[cfg(test)]
