@@ -32,7 +32,6 @@ use Rattle.quorum_laws.proofs.Events as events
 use Rattle.quorum_laws.proofs.Events.{Does, ended, goes_down_holds, goes_on_holds, lost_holds, member_of, same, shares}
 use Rattle.quorum_laws.proofs.Invariant.{InvOf, InvWith}
 use Rattle.quorum_laws.proofs.Whole.{at_put}
-use Rattle.quorum_model.proofs.Settling.{settled_first}
 use Rattle.quorum_model.specs.Clients.{messages_of, with_asked}
 use Rattle.quorum_model.specs.Growth.{grown}
 use Rattle.quorum_model.specs.Happens.{kept_only, lost, moved, put_at, unmoved}
@@ -72,7 +71,7 @@ lone_at_first ms = (
     short = omega arith;
     values = λ v lt. absurd (omega arith);
     asks = λ v lt. absurd (omega arith);
-    stores = λ i lt. record { versions = record { within = omega arith; last = (let h = holds_nothing in h.last); folded = (let h = holds_nothing in h.folded) }; unmarked = (let h = settled_first in h.unmarked); settled = (let h = settled_first in h.settled) };
+    stores = λ i lt. record { versions = record { within = omega arith; last = (let h = holds_nothing in h.last); folded = (let h = holds_nothing in h.folded) }; unmarked = beginning.unmarked_at_first; settled = beginning.settled_at_first };
     sent = tt;
   },
 )

@@ -68,7 +68,6 @@ use Rattle.quorum_laws.proofs.Invariant.{Further, InvOf, InvWith, WasActive}
 use Rattle.quorum_laws.proofs.Reading.{state_holds}
 use Rattle.quorum_laws.specs.Accepting.{HasAccepted, IsMajorityOf, readings_at}
 use Rattle.quorum_laws.specs.Values.{AcceptedNothing, IsChosen}
-use Rattle.quorum_model.proofs.Commit.{once_push}
 use Rattle.quorum_model.proofs.Made.{first_put, puts_command}
 use Rattle.quorum_model.specs.Acknowledging.{acknowledgement, acknowledgements_of, done_by, done_in, incremental_in, record_kept}
 use Rattle.quorum_model.specs.Agree.{IsAsked}
@@ -103,6 +102,11 @@ since_done r v k = cond_both (leb (service_first r v) (suc k)) (changes_after r 
 
 member_votes : (p : Phase) → is_member p ≡ true → votes p ≡ true
 member_votes p e = ap (λ (b : Bool). b || same_phase p phase.Electing) e
+
+-- a version that was not acknowledged before is acknowledged once
+once_push : (before : List Acknowledged) (a : Acknowledged) → AcknowledgedOnce before → AllByRecursion (λ (b : Acknowledged). ¬ (a.version ≡ b.version)) before → AcknowledgedOnce (before ++ a ∷ [])
+once_push [] a h k = (tt, tt)
+once_push (b ∷ before) a h k = (all_append (λ (c : Acknowledged). ¬ (c.version ≡ b.version)) before (a ∷ []) h.0 (k.0, tt), once_push before a h.1 k.1)
 
 -- ---- an event
 

@@ -118,3 +118,8 @@ at_first ms = record {
 pub unmarked_at_first : (readings_of empty).marked ≡ false
 unfolding readings_of number_in
 unmarked_at_first = ap marks (nothing_there area.Sync key.InSync)
+
+-- and no value is pending in it
+pub settled_at_first : (readings_of empty).pending_v ≡ 0
+unfolding readings_of number_in
+settled_at_first = no_number area.Paxos key.PendingV

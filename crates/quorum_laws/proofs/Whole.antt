@@ -18,7 +18,7 @@ use Rattle.quorum_laws.proofs.Invariant.{EnvelopeFine, EnvelopeHolds, Mine, OnSt
 use Rattle.quorum_laws.proofs.Voting.{accepts_vote, vote_accepted}
 use Rattle.quorum_laws.specs.Accepting.{AcceptedIn, Accepts}
 use Rattle.quorum_laws.specs.Promises.{Collects, NumbersRise, last_number}
-use Rattle.quorum_model.proofs.Step.{after_push}
+use Rattle.quorum_model.proofs.Writing.{after_push}
 use Rattle.quorum_model.specs.Clients.{messages_of}
 use Rattle.quorum_model.specs.Happens.{is_active, put_at}
 use Rattle.quorum_model.specs.Safe.{after_transactions}

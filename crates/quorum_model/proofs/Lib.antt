@@ -1,17 +1,5 @@
-pub mod Asking
-pub mod Commit
 pub mod Examples
 pub mod Fitting
-pub mod Invariant
-pub mod Lists
 pub mod Made
-pub mod Quiet
-pub mod Ringing
-pub mod Settling
-pub mod Starting
-pub mod StaysSettled
-pub mod Step
-pub mod Telling
 pub mod Values
-pub mod Whole
 pub mod Writing

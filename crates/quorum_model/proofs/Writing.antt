@@ -3,6 +3,7 @@ use Rattle.std.proofs.Common.{◌≡◌, ℕ, Bool, true, false, cond, eqb, ltb,
 use Rattle.std.proofs.lemmas.Bool.{eqb-true}
 use Rattle.std.proofs.lemmas.List.{append-nil}
 use Rattle.mon_types.specs.declared.names.Which.{Which}
+use Rattle.mon_tx.specs.Map.{Store, apply}
 use Rattle.mon_tx.specs.declared.op.Op.{Op}
 use Rattle.mon_kv.specs.Readers.{size_of, most_size}
 use Rattle.mon_msg.specs.Protocol.Reaction.{Reaction}
@@ -11,6 +12,7 @@ use Rattle.quorum_model.specs.Happens.{Stop, Full, map_after, unmoved, lost, kep
 use Rattle.quorum_model.specs.Meets.{Meeting, NoMessage, Down, Reacts, meets}
 use Rattle.quorum_model.specs.Monitors.{Monitors}
 use Rattle.quorum_model.specs.Runs.{goes_on, ran_from, run_from, run, writes_at, writes_of, where_on, all_writes}
+use Rattle.quorum_model.specs.Safe.{after_transactions}
 use Rattle.quorum_model.specs.World.{World, Plain, Event, Comes, Crash, first_world}
 
 push_at : (w : World) (rank : ℕ) (r : Reaction) (i : ℕ)
@@ -73,3 +75,8 @@ kept_from ms w (e ∷ es) i = event ms es i (λ next. kept_from ms next es i) w 
 
 pub all_kept : (ms : Monitors) (events : List Event) (i : ℕ) → (run ms events).transactions i ≡ all_writes ms first_world events i
 all_kept ms events i = kept_from ms first_world events i
+
+-- one transaction more
+pub after_push : (txs : List (List Op)) (tx : List Op) (m : Store) → after_transactions (txs ++ tx ∷ []) m ≡ apply tx (after_transactions txs m)
+after_push [] tx m = refl
+after_push (t ∷ txs) tx m = after_push txs tx (apply t m)

@@ -1,6 +1,5 @@
 pub mod Acknowledging
 pub mod Agree
-pub mod Alone
 pub mod CalmRun
 pub mod CalmSchedule
 pub mod Clients

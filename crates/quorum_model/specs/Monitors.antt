@@ -25,13 +25,3 @@ me_of ms rank = me_if ms rank (nat_lt rank ms.count) refl
 
 abbrev pub classic : (n : ℕ) → n ≤ 15 → Monitors
 classic n most = record { count = n; most = most; rule = Classic }
-
--- one monitor, which elects itself
-abbrev pub alone : Monitors
-alone = classic 1 (lit≤ tt)
-
-abbrev pub itself : Me
-itself = record {
-  member = record { rank = 0; monitors = 1; most = lit≤ tt; in_map = ltb-true 0 1 refl };
-  rule = Classic;
-}

@@ -3,5 +3,5 @@
 
 mod laws;
 
-pub use laws::{law_log, law_safe, law_written};
+pub use laws::{law_log, law_written};
 pub use log_model::{law_proposed, law_shared, law_shown, law_windows};

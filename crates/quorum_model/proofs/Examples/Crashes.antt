@@ -1,5 +1,5 @@
 -- A monitor that crashes: what it writes is kept or lost.
-use Rattle.std.proofs.Common.{◌≡◌, ℕ, Bool, true, false, cond, [], ◌∷◌, None, Ok, refl}
+use Rattle.std.proofs.Common.{◌≡◌, ℕ, Bool, true, false, cond, [], ◌∷◌, None, Ok, lit≤, refl}
 use Rattle.std.specs.FinMap.{empty}
 use Rattle.mon_types.specs.declared.names.Side.{Side}
 use Rattle.mon_types.specs.declared.names.Side.TheVariants.{A, B}
@@ -7,13 +7,13 @@ use Rattle.mon_tx.specs.Map.{Store}
 use Rattle.mon_msg.specs.Protocol.Reaction.{Reaction}
 use Rattle.quorum_model.specs.Files.{no_files}
 use Rattle.quorum_model.specs.Happens.{lost}
-use Rattle.quorum_model.specs.Monitors.{alone}
+use Rattle.quorum_model.specs.Monitors.{classic}
 use Rattle.quorum_model.specs.Runs.{run, ran_from}
 use Rattle.quorum_model.specs.Upsets.{crash_keeps, opening_count, stops, writes_nothing}
 use Rattle.quorum_model.specs.World.{Crash, Start, first_world}
 
 -- the first start of a monitor, in which a crash loses what it writes: its store stays empty, and it is down
-lost_start : run alone (Crash (Start 0 0) false ∷ []) ≡ record first_world { state = λ j. cond (Rattle.std.specs.Prelude.nat_eq j 0) None None; events = 1 }
+lost_start : run (classic 1 (lit≤ tt)) (Crash (Start 0 0) false ∷ []) ≡ record first_world { state = λ j. cond (Rattle.std.specs.Prelude.nat_eq j 0) None None; events = 1 }
 unfolding ran_from lost
 lost_start = refl
 
