@@ -3,7 +3,7 @@ use Rattle.std.specs.Prelude.{◌≡◌, ℕ, ◌<◌, List, [], ◌∷◌, leng
 use Rattle.quorum_model.specs.Agree.{IsAsked}
 use Rattle.quorum_model.specs.World.{World, Asked}
 
--- Version v + 1 of the log is the value of what the k-th request asked, counted from 0, over the versions before it.
+-- Version v + 1 of the log is the value of what the k-th request asked, counted from 0, over the versions before it, whatever else was asked.
 pub record IsOf (n : ℕ) (asked : List Asked) (log : List (List ℕ)) (v k : ℕ) : Type 0 where
   pub by : Asked
   pub at : slice_get asked k ≡ Some by
