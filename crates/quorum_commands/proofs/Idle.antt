@@ -1,32 +1,30 @@
 -- What a monitor does in an event in which it takes no command and hands none on: those that wait there wait on, or are forgotten.
-use Rattle.election_rules.specs.Ranking.{allows}
 use Rattle.election_rules.specs.declared.scores.Scores.{Scores}
 use Rattle.mon_bytes.specs.declared.entry.Entry.{Entry}
-use Rattle.mon_msg.specs.Protocol.Answers.{answer_of, last_answer, tells_all, told_of, told_values}
 use Rattle.mon_msg.specs.Protocol.Changes.{Boot, Epoch}
 use Rattle.mon_msg.specs.Protocol.Chunks.{copy, hear_chunk, hear_last_chunk, is_ours, take}
-use Rattle.mon_msg.specs.Protocol.Collecting.{begin_found, collect, collect_with, commits_to, commits_with, missed, reign, settle}
+use Rattle.mon_msg.specs.Protocol.Collecting.{collect, settle}
 use Rattle.mon_msg.specs.Protocol.Commands.{hear_route}
 use Rattle.mon_msg.specs.Protocol.Copying.{awaits_cookie, hear_cookie, hear_no_cookie, of_provider, same_flag}
 use Rattle.mon_msg.specs.Protocol.Course.{Course, arm_if, change, change_if, disarm, elector_is, leader_is, ◌▸◌}
 use Rattle.mon_msg.specs.Protocol.Elections.{election_ends, hear_ack, hear_propose, hear_victory, is_allowed, is_whole, may_defer, merge, stands_before, table_or, weigh}
-use Rattle.mon_msg.specs.Protocol.Entering.{adopt, bootstrap, elect, in_next_epoch, in_odd_epoch, is_even, next_even, own_table, scores_count, win}
+use Rattle.mon_msg.specs.Protocol.Entering.{adopt, bootstrap, elect, is_even, own_table, scores_count, win}
 use Rattle.mon_msg.specs.Protocol.Found.{counts}
 use Rattle.mon_msg.specs.Protocol.Hearing.{hear}
 use Rattle.mon_msg.specs.Protocol.Leader.{all_accepted, all_answered, commit_any, hear_accept, hear_last, hear_lease_ack, hear_whole, is_one_of, note, note_told, of_member, renew}
-use Rattle.mon_msg.specs.Protocol.Leading.{be_active, begin, begin_alone, begin_with, commit, extend, is_alone}
+use Rattle.mon_msg.specs.Protocol.Leading.{be_active, commit, extend}
 use Rattle.mon_msg.specs.Protocol.Learning.{learn, news, news_from}
 use Rattle.mon_msg.specs.Protocol.Peon.{cancel, hear_begin, hear_collect, hear_commit, hear_lease, of_leader, promise}
 use Rattle.mon_msg.specs.Protocol.Phases.{is_leading, same_phase, votes}
 use Rattle.mon_msg.specs.Protocol.Pings.{hear_ping, hear_ping_reply, measure, ping}
 use Rattle.mon_msg.specs.Protocol.Places.{is_after, is_cookie, no_cookie, same_cookie}
 use Rattle.mon_msg.specs.Protocol.Probing.{hear_probe, hear_probe_reply, lag}
-use Rattle.mon_msg.specs.Protocol.Providing.{chunk, given_entries, given_values, grant, hear_get_chunk, hear_get_cookie_full, hear_get_cookie_recent, is_finished, reach}
-use Rattle.mon_msg.specs.Protocol.Readings.{Readings, epoch_of, or_zero, promise_of}
+use Rattle.mon_msg.specs.Protocol.Providing.{grant, hear_get_chunk, hear_get_cookie_full, hear_get_cookie_recent}
+use Rattle.mon_msg.specs.Protocol.Readings.{Readings, epoch_of, promise_of}
 use Rattle.mon_msg.specs.Protocol.Records.{pending}
 use Rattle.mon_msg.specs.Protocol.Replay.{replay_any, replay_step, step_in, step_of}
-use Rattle.mon_msg.specs.Protocol.Sending.{answers_to, members, message_to, others}
-use Rattle.mon_msg.specs.Protocol.Sets.{is_majority, only}
+use Rattle.mon_msg.specs.Protocol.Sending.{members, message_to, others}
+use Rattle.mon_msg.specs.Protocol.Sets.{is_majority}
 use Rattle.mon_msg.specs.Protocol.State.{State, no_clients, quorum_of}
 use Rattle.mon_msg.specs.Protocol.Synchronizing.{full_sync, recent_sync}
 use Rattle.mon_msg.specs.Protocol.Table.{at_rest, before_start, first_elector, start, timer_comes}
@@ -35,17 +33,12 @@ use Rattle.mon_msg.specs.declared.clients.Asked.{Asked}
 use Rattle.mon_msg.specs.declared.clients.Clients.{Clients}
 use Rattle.mon_msg.specs.declared.input.Input.TheVariants as input
 use Rattle.mon_msg.specs.declared.input.Input.{Input}
-use Rattle.mon_msg.specs.declared.paxos.Found.{Found}
-use Rattle.mon_msg.specs.declared.plan.Origin.TheVariants as origin
-use Rattle.mon_msg.specs.declared.plan.Origin.{Origin}
 use Rattle.mon_msg.specs.declared.plan.Sent.TheVariants as sent
 use Rattle.mon_msg.specs.declared.plan.Sent.{Sent}
 use Rattle.mon_msg.specs.declared.synchronisation.SyncStage.TheVariants as sync
 use Rattle.mon_msg.specs.declared.synchronisation.SyncStage.{SyncStage}
 use Rattle.mon_msg.specs.declared.view.Me.{Me}
-use Rattle.mon_tx.specs.Decision.{Cell}
 use Rattle.mon_tx.specs.declared.op.Op.{Op}
-use Rattle.mon_types.specs.Proposal.{next_number}
 use Rattle.mon_types.specs.Ranks.{count_of, has, with_rank}
 use Rattle.mon_types.specs.declared.names.Which.TheVariants as which
 use Rattle.mon_wire.specs.declared.body.Body.TheVariants as body
@@ -60,12 +53,13 @@ use Rattle.mon_wire.specs.declared.reply.Reply.TheVariants as reply
 use Rattle.mon_wire.specs.declared.reply.Reply.{Reply}
 use Rattle.quorum_agreement.proofs.Accepting.{begun, begun_is, then_map}
 use Rattle.quorum_history.proofs.Phases.{collecting_is, no}
-use Rattle.quorum_walk.proofs.Lists.{all_append, all_flat_map, all_of}
+use Rattle.quorum_walk.proofs.Lists.{all_of}
 use Rattle.quorum_walk.proofs.Walk.{Then, and_then, and_three, by_test, done, or_three, where_fits}
-use Rattle.std.proofs.Common.{Bool, List, None, Ok, Option, Some, [], ap, arith, eqb, false, inl, inr, leb, length, ltb, map, max, not, refl, subst, suc, sym, true, ℕ, ◌&&◌, ◌++◌, ◌+◌, ◌-◌, ◌||◌, ◌∙◌, ◌∷◌, ◌≡◌, ◌⊎◌}
-use Rattle.std.proofs.lemmas.Bool.{cond_both, ltb-false, not-false}
-use Rattle.std.specs.List.{AllByRecursion, filter, flat_map}
+use Rattle.std.proofs.Common.{Bool, List, None, Ok, Option, Some, [], ap, arith, eqb, false, inl, inr, leb, length, ltb, not, refl, subst, suc, sym, true, ℕ, ◌&&◌, ◌+◌, ◌-◌, ◌||◌, ◌∙◌, ◌∷◌, ◌≡◌, ◌⊎◌}
+use Rattle.std.proofs.lemmas.Bool.{ltb-false, not-false}
+use Rattle.std.specs.List.{filter}
 use Rattle.std.specs.Prelude.{is_some, slice_index_or}
+use Rattle.quorum_commands.proofs.Acts.{AllOther, Anew, Called, Goes, IsOther, Unpending, answer_none, answers_none, bootstraps, chunk_none, collects, elects, learns, more, settles, to_each, wins}
 
 -- ---- which input may bring a command
 
@@ -82,33 +76,6 @@ brings input.Start = false
 brings (input.Deliver m) = body_brings m.body
 brings (input.Timer t) = timer_brings t
 brings (input.Client t r) = true
-
--- ---- what is sent
-
--- no command is handed on
-abbrev pub HandsNone : Body → Type 0
-HandsNone (body.Forward seq c) = ⊥
-HandsNone other = Unit {0}
-
-abbrev pub IsOther : Sent → Type 0
-IsOther (sent.Message to m) = HandsNone m.body
-IsOther (sent.Reply t r) = Unit {0}
-
-abbrev pub AllOther : List Sent → Type 0
-AllOther sends = AllByRecursion IsOther sends
-
-answer_none : (n : ℕ) (r : Readings) (from : ℕ) → HandsNone (last_answer n r from)
-unfolding answer_of
-answer_none n r from =
-    let told = told_values n (promise_of r) r.first r.last r.record_of from in
-    cond_both (tells_all n (promise_of r) r.first r.last from told (told_of (pending r))) (body.Last (promise_of r) r.first r.last true from told (told_of (pending r))) (body.Last (promise_of r) r.first r.last false from told None) HandsNone (λ t. tt) (λ t. tt)
-
-chunk_none : (last : ℕ) (c : Cookie) (p : ChunkPlace) (left : List Entry) (n : ℕ) (records : ℕ → Cell) → HandsNone (chunk last c p left n records)
-unfolding chunk
-chunk_none last c p left n records =
-    let values = given_values last c p left n records in
-    let es = given_entries last c p left n values in
-    cond_both (reach last p values && is_finished p left es) (body.LastChunk c p values es last) (body.Chunk c p values es (is_finished p left es)) HandsNone (λ t. tt) (λ t. tt)
 
 -- those that wait, and those that were taken of peons, are the same
 abbrev pub SameClients : Clients → Clients → Type 0
@@ -136,113 +103,6 @@ module _ (me : Me) (now : ℕ) (w : Readings) (s : State) where
     pub leads : is_leading y.state.phase ≡ true → Leads y.state.clients
     pub last : Alone → y.readings.last ≡ w.last
 
-  -- ---- small steps
-
-  to_each : (e : ℕ) (b : Body) → HandsNone b → (tos : List ℕ) → AllOther (map (message_to me e b) tos)
-  to_each e b k tos = all_of IsOther (message_to me e b) (λ to. k) tos
-
-  more : (out sends : List Sent) → AllOther out → AllOther sends → AllOther (out ++ sends)
-  more out sends a b = all_append IsOther out sends a b
-
-  answers_none : (e : ℕ) (o : Option Origin) (r : Reply) → AllOther (answers_to me e o r)
-  answers_none e None r = tt
-  answers_none e (Some (origin.Session t)) r = (tt, tt)
-  answers_none e (Some (origin.Forwarded f seq)) r = (tt, tt)
-
-  -- learning leaves what is remembered and sent
-  pub learns : (v : ℕ) (values : List (List Op)) (x : Course) → Then (λ y. (y.state ≡ x.state) × (y.out ≡ x.out)) (learn v values x)
-  unfolding learn
-  learns v [] x = done (refl, refl)
-  learns v (value ∷ values) x = where_fits (λ y. (y.state ≡ x.state) × (y.out ≡ x.out)) which.Version (v + length values) _ (λ _. done (refl, refl))
-
-  -- ---- leading
-
-  -- its clients are the same, and unless something is found it has no version more
-  record Goes (x : Course) (Unfound : Type 0) (y : Course) : Type 0 where
-    out : AllOther y.out
-    clients : y.state.clients ≡ x.state.clients
-    last : Unfound → y.readings.last ≡ x.readings.last
-
-  active : (x : Course) (U : Type 0) → AllOther x.out → Then (Goes x U) (Ok (be_active me now x))
-  unfolding be_active extend
-  active x U O = done (record { out = more x.out _ O (to_each (epoch_of x.readings) (body.Lease x.readings.last) tt (members me x.state.leader.quorum)); clients = refl; last = λ u. refl })
-
-  begins_found : (found : Option Found) (x : Course) → AllOther x.out → Then (Goes x (found ≡ None)) (begin_found me now found x)
-  unfolding begin begin_alone begin_with
-  begins_found None x O = active x (None ≡ None) O
-  begins_found (Some f) x O = by_test (eqb f.version (suc x.readings.last)) (λ _. where_fits (Goes x (Some f ≡ None)) which.Version (suc x.readings.last) _ (λ _.
-      by_test (is_alone me x.state.leader.quorum) (λ _. and_then (λ y. (y.state ≡ x.state) × (y.out ≡ x.out)) (Goes x (Some f ≡ None)) (learn (suc x.readings.last) (f.value ∷ []) x) _ (learns (suc x.readings.last) (f.value ∷ []) x)
-      (λ y L. done (record { out = more y.out [] (subst AllOther (sym L.1) O) tt; clients = ap (λ (z : State). z.clients) L.0; last = λ e. absurd cc })))
-      (λ _. done (record { out = more x.out _ O (to_each (epoch_of x.readings) (body.Begin x.state.leader.pn (suc x.readings.last) f.value) tt (members me x.state.leader.quorum)); clients = refl; last = λ e. refl })))) (λ _. active x (Some f ≡ None) O)
-
-  commits_none : (r : Readings) (lasts : List ℕ) (ks : List ℕ) → AllOther (flat_map (commits_to me r lasts) ks)
-  commits_none r lasts ks = all_flat_map IsOther (commits_to me r lasts) (λ to. let told = slice_index_or lasts to 0 in let values = missed me.member.monitors r.record_of r.last told in
-      cond_both (ltb told r.last) (commits_with me (epoch_of r) told values to) [] AllOther (λ _. by told values to) (λ _. tt)) ks
-    where
-      by : (told : ℕ) (values : List (List Op)) (to : ℕ) → AllOther (commits_with me (epoch_of r) told values to)
-      by told [] to = tt
-      by told (value ∷ values) to = (tt, tt)
-
-  settles : (x : Course) → AllOther x.out → Then (Goes x (x.state.leader.found ≡ None)) (settle me now x)
-  unfolding settle
-  settles x O = then_map _ (Goes x (x.state.leader.found ≡ None)) (begin_found me now x.state.leader.found _) (λ y G. record { out = G.out; clients = G.clients; last = G.last })
-      (begins_found x.state.leader.found _ (more x.out _ O (commits_none x.readings x.state.leader.lasts (members me x.state.leader.quorum))))
-
-  abbrev Unpending : Course → Type 0
-  Unpending x = pending x.readings ≡ None
-
-  collects : (q : List Bool) (above : ℕ) (x : Course) → AllOther x.out → Then (Goes x (Unpending x)) (collect me now q above x)
-  unfolding collect collect_with
-  collects q above x O =
-      let pn = next_number (or_zero x.readings.last_pn) (max (promise_of x.readings) above) me.member.rank in
-      let sent = more x.out (map (message_to me (epoch_of x.readings) (body.Collect pn x.readings.first x.readings.last)) (members me q)) O (to_each (epoch_of x.readings) (body.Collect pn x.readings.first x.readings.last) tt (members me q)) in
-      let z = collect_with me now q pn x in
-      where_fits (Goes x (Unpending x)) which.Pn pn _ (λ _. by_test (is_alone me q) {x = settle me now z} {y = Ok z}
-      (λ _. then_map _ (Goes x (Unpending x)) (settle me now z) (λ y G. record { out = G.out; clients = G.clients; last = G.last }) (settles z sent)) (λ _. done (record { out = sent; clients = refl; last = λ u. refl })))
-
-  reigns : (q : List Bool) (x : Course) → AllOther x.out → Then (Goes x (Unpending x)) (reign me now q x)
-  unfolding reign
-  reigns q x O = then_map _ (Goes x (Unpending x)) (collect me now q 0 _) (λ y G. record { out = G.out; clients = G.clients; last = G.last }) (collects q 0 _ (more x.out _ O (to_each (epoch_of x.readings) (body.Victory q) tt (members me q))))
-
-  -- ---- beginning anew, and elections
-
-  -- it forgets its clients
-  record Anew (x y : Course) : Type 0 where
-    out : AllOther y.out
-    clients : y.state.clients ≡ no_clients
-    leads : is_leading y.state.phase ≡ true → ltb 1 me.member.monitors ≡ false
-    last : Unpending x → y.readings.last ≡ x.readings.last
-
-  bootstraps : (x : Course) → AllOther x.out → Then (Anew x) (bootstrap me now x)
-  unfolding bootstrap
-  bootstraps x O =
-      by_test (ltb 1 me.member.monitors) (λ _. done (record { out = more x.out _ O (to_each (epoch_of x.readings) body.Probe tt (others me)); clients = refl; leads = λ t. no t; last = λ u. refl }))
-      (λ one. by_test (allows me.rule me.member.rank && not x.readings.marked) (λ _. where_fits (Anew x) which.Epoch (next_even (epoch_of x.readings)) _ (λ _.
-      then_map _ (Anew x) (reign me now (only me.member.rank) _) (λ y G. record { out = G.out; clients = G.clients; leads = λ t. one; last = G.last }) (reigns (only me.member.rank) _ O)))
-      (λ _. done (record { out = O; clients = refl; leads = λ t. one; last = λ u. refl })))
-
-  record Called (x y : Course) : Type 0 where
-    out : AllOther y.out
-    clients : y.state.clients ≡ no_clients
-    in_phase : y.state.phase ≡ phase.Electing
-    last : y.readings.last ≡ x.readings.last
-
-  abbrev Later : Course → Course → Type 0
-  Later x y = AllOther y.out × (y.state ≡ x.state) × (y.readings.last ≡ x.readings.last) × (pending y.readings ≡ pending x.readings)
-
-  next_epoch : (x : Course) → AllOther x.out → Then (Later x) (in_next_epoch x)
-  next_epoch x O = where_fits (Later x) which.Epoch (suc (epoch_of x.readings)) _ (λ _. done (O, refl, refl, refl))
-
-  elects : (x : Course) → AllOther x.out → Then (Called x) (elect me now x)
-  unfolding elect in_odd_epoch
-  elects x O = and_then (Later x) (Called x) (in_odd_epoch x) _ (by_test (is_even (epoch_of x.readings)) (λ _. next_epoch x O) (λ _. done (O, refl, refl, refl)))
-      (λ y L. done (record { out = more y.out _ L.0 (to_each (epoch_of y.readings) (body.Propose (own_table me y)) tt (others me)); clients = refl; in_phase = refl; last = L.2 }))
-
-  wins : (q : List Bool) (x : Course) → AllOther x.out → Then (Goes x (Unpending x)) (win me now q x)
-  unfolding win
-  wins q x O = and_then (Later x) (Goes x (Unpending x)) (in_next_epoch x) _ (next_epoch x O)
-      (λ y L. then_map _ (Goes x (Unpending x)) (reign me now q y) (λ z G. record { out = G.out; clients = G.clients ∙ ap (λ (t : State). t.clients) L.1; last = λ u. G.last (L.3 ∙ u) ∙ L.2 }) (reigns q y L.0))
-
   -- ---- what that is in an event
 
   -- nothing more is pending than before, and no version is new
@@ -253,14 +113,14 @@ module _ (me : Me) (now : ℕ) (w : Readings) (s : State) where
   at_first a = (a.none, refl)
 
   anew : (x : Course) → AllOther x.out → Settled x → Then Idle (bootstrap me now x)
-  anew x O S = then_map (Anew x) Idle (bootstrap me now x) (λ y A. record { out = A.out; clients = inr A.clients; leads = λ t. inr (inr (inr (A.leads t))); last = λ a. A.last (S a).0 ∙ (S a).1 }) (bootstraps x O)
+  anew x O S = then_map (Anew me now x) Idle (bootstrap me now x) (λ y A. record { out = A.out; clients = inr A.clients; leads = λ t. inr (inr (inr (A.leads t))); last = λ a. A.last (S a).0 ∙ (S a).1 }) (bootstraps me now x O)
 
   called : (x : Course) → AllOther x.out → Settled x → Then Idle (elect me now x)
-  called x O S = then_map (Called x) Idle (elect me now x) (λ y C. record { out = C.out; clients = inr C.clients; leads = λ t. no (sym (ap is_leading C.in_phase) ∙ t); last = λ a. C.last ∙ (S a).1 }) (elects x O)
+  called x O S = then_map (Called x) Idle (elect me now x) (λ y C. record { out = C.out; clients = inr C.clients; leads = λ t. no (sym (ap is_leading C.in_phase) ∙ t); last = λ a. C.last ∙ (S a).1 }) (elects me now x O)
 
   won : (q : List Bool) (x : Course) → x.state.clients ≡ s.clients → AllOther x.out → Settled x → ((votes s.phase ≡ true) × (is_even (epoch_of w) ≡ false)) ⊎ (same_phase s.phase phase.Electing ≡ true) → Then Idle (win me now q x)
   won q x same O S how = then_map (Goes x (Unpending x)) Idle (win me now q x)
-      (λ y G. record { out = G.out; clients = inl (same_clients y.state.clients s.clients (G.clients ∙ same)); leads = λ t. inr (by how); last = λ a. G.last (S a).0 ∙ (S a).1 }) (wins q x O)
+      (λ y G. record { out = G.out; clients = inl (same_clients y.state.clients s.clients (G.clients ∙ same)); leads = λ t. inr (by how); last = λ a. G.last (S a).0 ∙ (S a).1 }) (wins me now q x O)
     where
       by : ((votes s.phase ≡ true) × (is_even (epoch_of w) ≡ false)) ⊎ (same_phase s.phase phase.Electing ≡ true) → ((votes s.phase ≡ true) × (is_even (epoch_of w) ≡ false)) ⊎ ((same_phase s.phase phase.Electing ≡ true) ⊎ (ltb 1 me.member.monitors ≡ false))
       by (inl k) = inl k
@@ -300,7 +160,7 @@ module _ (me : Me) (now : ℕ) (w : Readings) (s : State) where
   renews : (ts : List (Option ℕ)) → Then Idle (renew me now (at_rest w (record s { timers = ts })))
   unfolding renew extend
   renews ts = by_test (not (same_phase s.phase phase.Active)) (λ _. quiet _ tt refl (refl, refl) (λ a. refl))
-      (λ _. quiet _ (to_each (epoch_of w) (body.Lease w.last) tt (members me s.leader.quorum)) refl (refl, refl) (λ a. refl))
+      (λ _. quiet _ (to_each me (epoch_of w) (body.Lease w.last) tt (members me s.leader.quorum)) refl (refl, refl) (λ a. refl))
 
   replays : (ts : List (Option ℕ)) → Then Idle (replay_step me now (at_rest w (record s { timers = ts })))
   unfolding replay_step
@@ -328,7 +188,7 @@ module _ (me : Me) (now : ℕ) (w : Readings) (s : State) where
   rings timer.Sync o = anew _ tt at_first
   rings timer.Step o = replays (disarm timer.Step x0).state.timers
   rings timer.Propose o = no (sym o)
-  rings timer.Ping o = quiet _ (to_each (epoch_of w) (body.Ping (own_table me (elector_is (measure me now s.elector) x0))) tt (others me)) refl (refl, refl) (λ a. refl)
+  rings timer.Ping o = quiet _ (to_each me (epoch_of w) (body.Ping (own_table me (elector_is (measure me now s.elector) x0))) tt (others me)) refl (refl, refl) (λ a. refl)
 
   pub before : (came : Input) → Then Idle (before_start me now came x0)
   before input.Start = starts
@@ -442,7 +302,7 @@ module _ (me : Me) (now : ℕ) (w : Readings) (s : State) where
         (λ y k. by_test whole (λ _. heard_whole leads y k.0 k.1) (λ _. collects_on leads y.state.leader.quorum 0 y (ap (λ (z : State). z.clients) k.0) (subst AllOther (sym k.1) tt)))))))
       where
         collects_on : is_leading s.phase ≡ true → (q : List Bool) (above : ℕ) (x : Course) → x.state.clients ≡ s.clients → AllOther x.out → Then Idle (collect me now q above x)
-        collects_on t q above x same O = then_map _ Idle (collect me now q above x) (λ y G. leading t x y (Unpending x) same G) (collects q above x O)
+        collects_on t q above x same O = then_map _ Idle (collect me now q above x) (λ y G. leading t x y (Unpending x) same G) (collects me now q above x O)
 
         notes : (o : Option Told) (y : Course) → Then (Noted y) (note_told f last o y)
         notes None y = done (refl, refl)
@@ -454,7 +314,7 @@ module _ (me : Me) (now : ℕ) (w : Readings) (s : State) where
             (λ z N.
             let c : z.state.clients ≡ s.clients = N.1 ∙ ap (λ (q : State). q.clients) same in
             let O : AllOther z.out = subst AllOther (sym (N.0 ∙ out)) tt in
-            by_test (all_answered me z) (λ _. then_map _ Idle (settle me now z) (λ u G. leading t z u (z.state.leader.found ≡ None) c G) (settles z O))
+            by_test (all_answered me z) (λ _. then_map _ Idle (settle me now z) (λ u G. leading t z u (z.state.leader.found ≡ None) c G) (settles me now z O))
             (λ _. done (leading t z z (Unit {0}) c (record { out = O; clients = refl; last = λ u. refl }))))
 
     abbrev counted : ℕ → Course
@@ -476,8 +336,8 @@ module _ (me : Me) (now : ℕ) (w : Readings) (s : State) where
         commits t value = and_then (λ y. (y.state ≡ (counted f).state) × (y.out ≡ [])) Idle (learn (suc w.last) (value ∷ []) (counted f)) _ (learns (suc w.last) (value ∷ []) (counted f)) (λ y K.
             let c = same_clients y.state.clients s.clients (ap (λ (z : State). z.clients) K.0) in
             done (record {
-              out = more _ _ (more _ _ (more y.out _ (subst AllOther (sym K.1) tt) (to_each (epoch_of y.readings) (body.Commit (suc w.last) (value ∷ [])) tt (members me y.state.leader.quorum)))
-                  (to_each (epoch_of y.readings) (body.Lease y.readings.last) tt (members me y.state.leader.quorum))) (answers_none (epoch_of y.readings) y.state.leader.origin (reply.Done (suc w.last)));
+              out = more _ _ (more _ _ (more y.out _ (subst AllOther (sym K.1) tt) (to_each me (epoch_of y.readings) (body.Commit (suc w.last) (value ∷ [])) tt (members me y.state.leader.quorum)))
+                  (to_each me (epoch_of y.readings) (body.Lease y.readings.last) tt (members me y.state.leader.quorum))) (answers_none me (epoch_of y.readings) y.state.leader.origin (reply.Done (suc w.last)));
               clients = inl c;
               leads = λ _. inl (t, c);
               last = among;

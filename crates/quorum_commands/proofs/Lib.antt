@@ -1,3 +1,4 @@
+pub mod Acts
 pub mod Coming
 pub mod Idle
 pub mod Places

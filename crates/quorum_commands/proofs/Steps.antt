@@ -42,7 +42,8 @@ use Rattle.quorum_agreement.proofs.Premises.{requests_in}
 use Rattle.quorum_agreement.proofs.Result.{OneLog}
 use Rattle.quorum_agreement.proofs.Step.{copy_marked}
 use Rattle.quorum_commands.proofs.Coming.{Brought, Does, me, next, phase_holds}
-use Rattle.quorum_commands.proofs.Idle.{AllOther, Alone, HandsNone, Idle, IsOther, Leads, SameClients, brings}
+use Rattle.quorum_commands.proofs.Acts.{AllOther, HandsNone, IsOther}
+use Rattle.quorum_commands.proofs.Idle.{Alone, Idle, Leads, SameClients, brings}
 use Rattle.quorum_commands.proofs.Places.{AllWait, AskedAt, BodyForwards, Forwards, HasOwn, IsAt, IsForwarded, MadeAt, MadeOf, Moves, Place, Places, Nowhere, Handed, Queued, Begun, StillAt, Tickets, Waits, WaitsIn, asked_still, get_more, get_pushed, is_moved, moved_to, moves, own_lasts, wait_last, was_there}
 use Rattle.quorum_commands.proofs.Repeating.{AllKnown, FitsIn, repeats}
 use Rattle.quorum_commands.proofs.Taking.{Becomes, BodyKnown, Commits, Hands, InputKnown, Outcome, Proposes, RequestKnown, Takes, TakesNone, TimerKnown, takes}

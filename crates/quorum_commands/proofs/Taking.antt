@@ -49,7 +49,8 @@ use Rattle.mon_wire.specs.declared.request.Request.{Request}
 use Rattle.mon_wire.specs.declared.request.Session.{Session}
 use Rattle.quorum_agreement.proofs.Accepting.{then_map}
 use Rattle.quorum_agreement.proofs.Lone.{active_is}
-use Rattle.quorum_commands.proofs.Idle.{AllOther, Idle, IsOther, before, body_brings, brings, hears, rests, rings, says}
+use Rattle.quorum_commands.proofs.Acts.{AllOther, IsOther}
+use Rattle.quorum_commands.proofs.Idle.{Idle, before, body_brings, brings, hears, rests, rings, says}
 use Rattle.quorum_history.proofs.Phases.{any_leads, no}
 use Rattle.quorum_walk.proofs.Lists.{all_of}
 use Rattle.quorum_walk.proofs.Walk.{Then, and_then, and_three, by_test, done, where_fits}
