@@ -4,6 +4,7 @@ pub mod Idle
 pub mod Places
 pub mod Repeating
 pub mod Runs
+pub mod Sources
 pub mod Steps
 pub mod Taking
 pub mod Worlds

@@ -14,7 +14,8 @@ use Rattle.quorum_agreement.proofs.Result.{OneLog, entries_chosen, lone_log, sev
 use Rattle.quorum_agreement.proofs.Worlds.{all_follow, asking}
 use Rattle.quorum_commands.proofs.Coming.{Does, each_event, next}
 use Rattle.quorum_commands.proofs.Places.{Begun, Lasts, Nowhere, Place, Places, Tickets}
-use Rattle.quorum_commands.proofs.Steps.{Here, asks_longer, asks_more}
+use Rattle.quorum_commands.proofs.Sources.{asks_longer, asks_more}
+use Rattle.quorum_commands.proofs.Steps.{Here}
 use Rattle.quorum_commands.proofs.Worlds.{after, asked_more, fewer, goes_last, goes_on}
 use Rattle.quorum_commands.specs.Once.{CommittedOnce, IsOf}
 use Rattle.quorum_laws.proofs.Events as laws

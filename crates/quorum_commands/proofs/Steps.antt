@@ -2,9 +2,7 @@
 use Rattle.log_copies.proofs.Standing.{Agrees}
 use Rattle.log_copies.proofs.Telling.{monitor_keeps, read_last}
 use Rattle.log_model.specs.Windows.{Keeps}
-use Rattle.mon_bytes.specs.declared.command.Command.TheVariants as command
 use Rattle.mon_bytes.specs.declared.command.Command.{Command}
-use Rattle.log_model.specs.LogOfValues.{IsCommand}
 use Rattle.mon_msg.specs.Protocol.Changes.{Change, Last, Learn, Vote}
 use Rattle.mon_msg.specs.Protocol.Phases.{is_leading, is_member, votes}
 use Rattle.mon_msg.specs.Protocol.Proposing.{asked_of}
@@ -17,7 +15,6 @@ use Rattle.mon_msg.specs.declared.clients.Clients.{Clients}
 use Rattle.mon_msg.specs.declared.clients.Waiting.{Waiting}
 use Rattle.mon_msg.specs.declared.input.Input.TheVariants as input
 use Rattle.mon_msg.specs.declared.input.Input.{Input}
-use Rattle.mon_msg.specs.declared.plan.Origin.TheVariants as origin
 use Rattle.mon_msg.specs.declared.plan.Origin.{Origin}
 use Rattle.mon_msg.specs.declared.plan.Sent.TheVariants as sent
 use Rattle.mon_msg.specs.declared.plan.Sent.{Sent}
@@ -27,12 +24,7 @@ use Rattle.mon_tx.specs.Text.{text}
 use Rattle.mon_tx.specs.declared.op.Op.{Op}
 use Rattle.mon_wire.specs.declared.body.Body.TheVariants as body
 use Rattle.mon_wire.specs.declared.body.Body.{Body}
-use Rattle.mon_wire.specs.declared.message.Message.{Message}
 use Rattle.mon_wire.specs.declared.phase.Phase.TheVariants as phase
-use Rattle.mon_wire.specs.declared.phase.Timer.TheVariants as timer
-use Rattle.mon_wire.specs.declared.phase.Timer.{Timer}
-use Rattle.mon_wire.specs.declared.request.Request.TheVariants as request
-use Rattle.mon_wire.specs.declared.request.Request.{Request}
 use Rattle.mon_wire.specs.declared.request.Session.{Session}
 use Rattle.quorum_agreement.proofs.Answered.{asker, asker_is}
 use Rattle.quorum_agreement.proofs.Answering.{peon_leads_not}
@@ -44,25 +36,26 @@ use Rattle.quorum_agreement.proofs.Step.{copy_marked}
 use Rattle.quorum_commands.proofs.Coming.{Brought, Does, me, next, phase_holds}
 use Rattle.quorum_commands.proofs.Acts.{AllOther, HandsNone, IsOther}
 use Rattle.quorum_commands.proofs.Idle.{Alone, Idle, Leads, SameClients, brings}
-use Rattle.quorum_commands.proofs.Places.{AllWait, AskedAt, BodyForwards, Forwards, HasOwn, IsAt, IsForwarded, MadeAt, MadeOf, Moves, Place, Places, Nowhere, Handed, Queued, Begun, StillAt, Tickets, Waits, WaitsIn, asked_still, get_more, get_pushed, is_moved, moved_to, moves, own_lasts, wait_last, was_there}
+use Rattle.quorum_commands.proofs.Places.{AllWait, AskedAt, HasOwn, IsAt, IsForwarded, MadeAt, MadeOf, Moves, Place, Places, Nowhere, Handed, Queued, Begun, StillAt, Tickets, Waits, is_moved, moved_to, moves, own_lasts, wait_last, was_there}
 use Rattle.quorum_commands.proofs.Repeating.{AllKnown, FitsIn, repeats}
-use Rattle.quorum_commands.proofs.Taking.{Becomes, BodyKnown, Commits, Hands, InputKnown, Outcome, Proposes, RequestKnown, Takes, TakesNone, TimerKnown, takes}
+use Rattle.quorum_commands.proofs.Sources as sources
+use Rattle.quorum_commands.proofs.Sources.{asks_longer, asks_more}
+use Rattle.quorum_commands.proofs.Taking.{Becomes, Commits, Hands, Outcome, Proposes, Takes, TakesNone}
 use Rattle.quorum_history.proofs.History.{ext_refl}
-use Rattle.quorum_history.proofs.Holds.{Core, FollowsIn, Good, InPhase, MessageHolds, StageHolds, core_of}
+use Rattle.quorum_history.proofs.Holds.{Core, FollowsIn, Good, InPhase, StageHolds, core_of}
 use Rattle.quorum_history.proofs.Phases.{electing_is, no, peon_is_peon, votes_in_odd, votes_unmarked}
 use Rattle.quorum_history.proofs.Rows.{InputHolds}
 use Rattle.quorum_history.proofs.Steps.{tied_refl}
-use Rattle.quorum_laws.proofs.Invariant.{EnvelopeFine, EnvelopeHolds, InvOf}
+use Rattle.quorum_laws.proofs.Invariant.{InvOf}
 use Rattle.quorum_laws.proofs.Later.{Stays, is_in}
-use Rattle.quorum_model.specs.Clients.{command_of, with_asked}
+use Rattle.quorum_model.specs.Clients.{with_asked}
 use Rattle.quorum_model.specs.Monitors.{Monitors}
-use Rattle.quorum_model.specs.World.{Asked, Client, Deliver, Envelope, Plain, Ring, Start, World}
-use Rattle.quorum_walk.proofs.FineCourses.{MessageFine}
-use Rattle.quorum_walk.proofs.Lists.{Among, all_get, all_map}
+use Rattle.quorum_model.specs.World.{Asked, Plain, World}
+use Rattle.quorum_walk.proofs.Lists.{Among, all_map}
 use Rattle.quorum_walk.proofs.Sparing.{own_of}
 use Rattle.quorum_walk.proofs.Walk.{Then}
-use Rattle.std.proofs.Common.{Bool, IfSome, List, None, Ok, Option, Some, [], ap, arith, cond, false, get_or-set_other, get_or-set_same, inl, inr, length, length-append, length-set, ltb, refl, slice_get, slice_index_or, slice_set, subst, suc, sym, true, ℕ, ◌++◌, ◌+◌, ◌<◌, ◌∙◌, ◌∷◌, ◌≡◌, ◌≤◌, ◌⊎◌}
-use Rattle.std.proofs.lemmas.Bool.{cases_eq, ltb-true, ltb-false, ne_eqb}
+use Rattle.std.proofs.Common.{Bool, List, None, Ok, Some, [], ap, arith, cond, false, inl, inr, length, refl, slice_index_or, subst, suc, sym, true, ℕ, ◌++◌, ◌+◌, ◌<◌, ◌∙◌, ◌∷◌, ◌≡◌, ◌≤◌, ◌⊎◌}
+use Rattle.std.proofs.lemmas.Bool.{ltb-true, ltb-false, ne_eqb}
 use Rattle.std.proofs.lemmas.Option.{slice_get_within}
 use Rattle.std.specs.List.{AllByRecursion}
 
@@ -73,36 +66,10 @@ wait_push n asked places i t [] x h k = (subst (λ (u : ℕ). HasOwn n asked pla
 wait_push n asked places i t (z ∷ xs) x h k =
     (h.0, wait_push n asked places i (suc t) xs x h.1 (subst (λ (u : ℕ). HasOwn n asked places (Queued i u) (asker i x.origin) x.command) (let e : t + suc (length xs) ≡ suc t + length xs = omega arith in e) k))
 
--- ---- what places are told apart by
-
-abbrev ticket_of : Place → ℕ
-ticket_of (Queued j t) = t
-ticket_of other = 0
-
-abbrev from_of : Place → ℕ
-from_of (Handed j to u s) = j
-from_of other = 0
-
-abbrev seq_of : Place → ℕ
-seq_of (Handed j to u s) = s
-seq_of other = 0
-
+-- where a change puts what it votes for
 abbrev vote_place : Change → Place
 vote_place (Vote v q x) = Begun v (text x)
 vote_place other = Nowhere
-
--- more is asked by an event, at most
-pub asks_more : (p : Plain) (asked : List Asked) → StillAt asked (with_asked p asked)
-asks_more (Client rank at t r) asked k a e = get_more asked (record { rank = rank; session = t; request = r } ∷ []) k a e
-asks_more (Start rank at) asked k a e = e
-asks_more (Deliver m at) asked k a e = e
-asks_more (Ring rank t at) asked k a e = e
-
-pub asks_longer : (p : Plain) (asked : List Asked) → length asked ≤ length (with_asked p asked)
-asks_longer (Client rank at t r) asked = let l = length-append asked (record { rank = rank; session = t; request = r } ∷ []) in omega arith
-asks_longer (Start rank at) asked = omega arith
-asks_longer (Deliver m at) asked = omega arith
-asks_longer (Ring rank t at) asked = omega arith
 
 -- ---- an event
 
@@ -149,10 +116,11 @@ module _ (ms : Monitors) (w : World) (p : Plain) (I : InvOf ms w) (L : OneLog ms
   SendsOwn after (sent.Message to m) = BodySends after m.from to m.epoch m.body
   SendsOwn after (sent.Reply t r) = Unit {0}
 
-  -- Where it still leads in an epoch, a command that was handed on in it and isn't taken has its request.
+  -- its epoch doesn't fall, and it is in a quorum of it only where it was
   abbrev pub Here : Type 0
   Here = Stays w0 (w.state i) (readings_of after_store) (Some d.y.state)
 
+  -- where it still leads in an epoch, a command that was handed on in it and isn't taken has its request
   abbrev pub Opens : Places → Type 0
   Opens after = Here → (f e seq : ℕ) (c : Command) → is_leading d.y.state.phase ≡ true → epoch_of (readings_of after_store) ≡ e → slice_index_or d.y.state.clients.taken f 0 < seq → (f ≡ i → ⊥) → f < n
       → IsForwarded n w.asked places (w.store i) (w.state i) f i e seq c → HasOwn n asked after (Handed f i e seq) f c
@@ -166,6 +134,7 @@ module _ (ms : Monitors) (w : World) (p : Plain) (I : InvOf ms w) (L : OneLog ms
     pub changes : d.y.changes ≡ Learn (suc w0.last) ops ∷ Last (suc w0.last) ∷ []
     pub last : d.y.readings.last ≡ suc w0.last
 
+  -- one request goes to another place at most, and all others stay
   pub record Leaves : Type 0 where
     pub from : Place
     pub at : IsAt i from
@@ -198,19 +167,11 @@ module _ (ms : Monitors) (w : World) (p : Plain) (I : InvOf ms w) (L : OneLog ms
 
   -- those that waited here
   waited : Waits n w.asked places i d.state.clients.queue d.state.clients.taken
-  waited = by d.remembers
-    where
-      by : (w.state i ≡ Some d.state) ⊎ (d.state ≡ booting i) → Waits n w.asked places i d.state.clients.queue d.state.clients.taken
-      by (inl e) = subst (WaitsIn n w.asked places i) e (T.waits i)
-      by (inr e) = subst (λ (s : State). Waits n w.asked places i s.clients.queue s.clients.taken) (sym e) (refl, 0, tt)
+  waited = sources.waited ms w p I places T d
 
   -- a leader was up
   was_up : is_leading d.state.phase ≡ true → w.state i ≡ Some d.state
-  was_up t = by d.remembers
-    where
-      by : (w.state i ≡ Some d.state) ⊎ (d.state ≡ booting i) → w.state i ≡ Some d.state
-      by (inl e) = e
-      by (inr e) = no (ap (λ (s : State). is_leading s.phase) (sym e) ∙ t)
+  was_up = sources.was_up ms w p I places T d
 
   free_still : (k : ℕ) → length asked ≤ k → places k ≡ Nowhere
   free_still k le = T.free k (let l = longer in omega arith)
@@ -257,132 +218,15 @@ module _ (ms : Monitors) (w : World) (p : Plain) (I : InvOf ms w) (L : OneLog ms
         };
       }
 
-  -- ---- where a command comes from
+  -- where a command comes from
+  abbrev Source : Command → Origin → List Waiting → List ℕ → Type 0
+  Source = sources.Source ms w p I places T d
 
-  -- a request whose command it is, which isn't one of those that wait besides, nor one that may still come of a peon
-  record Source (c : Command) (o : Origin) (others : List Waiting) (taken : List ℕ) : Type 0 where
-    k : ℕ
-    from : Place
-    place : places k ≡ from
-    at : IsAt i from
-    asks : AskedAt n asked k (asker i o) c
-    long : length taken ≡ 15
-    ticket : ℕ
-    wait : AllWait n w.asked places i ticket others
-    apart : (u : ℕ) → ticket ≤ u → Queued i u ≡ from → ⊥
-    open_still : (f seq : ℕ) → slice_index_or taken f 0 < seq → (slice_index_or d.state.clients.taken f 0 < seq) × (Handed f i (epoch_of w0) seq ≡ from → ⊥)
-
-  -- the newest request asks a command of this monitor
   abbrev Asks : Session → Command → Type 0
-  Asks t c = (places (length w.asked) ≡ Nowhere) × AskedAt n asked (length w.asked) i c
-
-  from_client : (t : Session) (c : Command) → Asks t c → Source c (origin.Session t) d.state.clients.queue d.state.clients.taken
-  from_client t c A = let q = waited in record {
-    k = length w.asked;
-    from = Nowhere;
-    place = A.0;
-    at = tt;
-    asks = A.1;
-    long = q.0;
-    ticket = q.1;
-    wait = q.2;
-    apart = λ u le e. absurd cc;
-    open_still = λ f seq lt. (lt, λ e. absurd cc);
-  }
-
-  request_known : (t : Session) (r : Request) → ((c : Command) → command_of r ≡ Some c → Asks t c) → RequestKnown self d.at w0 d.state Source Asks t r
-  request_known t (request.Set key value) k = let A = k (command.Set key value) refl in (from_client t (command.Set key value) A, A)
-  request_known t (request.Remove key) k = let A = k (command.Remove key) refl in (from_client t (command.Remove key) A, A)
-  request_known t (request.Log text) k = let A = k (command.Log text) refl in (from_client t (command.Log text) A, A)
-  request_known t (request.Show v) k = tt
-  request_known t (request.Since v m) k = tt
-
-  -- the first of those that wait
-  first_known : (x : Waiting) (xs : List Waiting) → d.state.clients.queue ≡ x ∷ xs → Source x.command x.origin xs d.state.clients.taken
-  first_known x xs e =
-      let q = waited in
-      let h = subst (AllWait n w.asked places i q.1) e q.2 in
-      record {
-        k = h.0.k;
-        from = Queued i q.1;
-        place = h.0.place;
-        at = refl;
-        asks = asked_still n w.asked asked still h.0.k (asker i x.origin) x.command h.0.of;
-        long = q.0;
-        ticket = suc q.1;
-        wait = h.1;
-        apart = λ u le z. (let same = ap ticket_of z in omega arith);
-        open_still = λ f seq lt. (lt, λ z. absurd cc);
-      }
-
-  timer_known : (t : Timer) → TimerKnown self d.at w0 d.state Source Asks t
-  timer_known timer.Propose = first_known
-  timer_known other = tt
-
-  -- a command that a peon hands on, and that wasn't taken
-  forward_known : (f e seq : ℕ) (c : Command) → ((f ≡ i → ⊥) → IsForwarded n w.asked places (w.store i) (w.state i) f i e seq c) → f < n → (f ≡ i → ⊥) → is_leading d.state.phase ≡ true → e ≡ epoch_of w0 → ltb (slice_index_or d.state.clients.taken f 0) seq ≡ true
-      → Source c (origin.Forwarded f seq) d.state.clients.queue (slice_set d.state.clients.taken f seq)
-  forward_known f e seq c F lt apart leads now_is fresh =
-      let q = waited in
-      let new = ltb-true (slice_index_or d.state.clients.taken f 0) seq fresh in
-      let h = (F apart).own d.state (was_up leads) leads (sym now_is) new in
-      record {
-        k = h.k;
-        from = Handed f i e seq;
-        place = h.place;
-        at = refl;
-        asks = asked_still n w.asked asked still h.k f c h.of;
-        long = length-set d.state.clients.taken f seq ∙ q.0;
-        ticket = q.1;
-        wait = q.2;
-        apart = λ u le z. absurd cc;
-        open_still = λ g s less. by g s (cases_eq g f) less new (let long = q.0 in let few = ms.most in omega arith);
-      }
-    where
-      by : (g s : ℕ) → (g ≡ f) ⊎ (g ≡ f → ⊥) → slice_index_or (slice_set d.state.clients.taken f seq) g 0 < s → slice_index_or d.state.clients.taken f 0 < seq → f < length d.state.clients.taken
-          → (slice_index_or d.state.clients.taken g 0 < s) × (Handed g i (epoch_of w0) s ≡ Handed f i e seq → ⊥)
-      by g s (inl z) less new within =
-          let less2 : slice_index_or (slice_set d.state.clients.taken f seq) f 0 < s = subst (λ (j : ℕ). slice_index_or (slice_set d.state.clients.taken f seq) j 0 < s) z less in
-          let is = get_or-set_same d.state.clients.taken f seq 0 within in
-          (subst (λ (j : ℕ). slice_index_or d.state.clients.taken j 0 < s) (sym z) (omega arith), λ u. (let same = ap seq_of u in omega arith))
-      by g s (inr ne) less new within = (let is = get_or-set_other d.state.clients.taken f g seq 0 ne in omega arith, λ u. ne (ap from_of u))
-
-  body_known : (f e : ℕ) (b : Body) → BodyForwards n w.asked places (w.store i) (w.state i) f i e b → f < n → BodyKnown self d.at w0 d.state Source Asks f e b
-  body_known f e (body.Forward seq c) F lt = forward_known f e seq c F lt
-  body_known f e other F lt = tt
-
-  -- a request that comes is the newest
-  newest : (t : Session) (r : Request) (c : Command) → command_of r ≡ Some c → Brought ms w p i (input.Client t r) → Asks t c
-  newest t r c is b = (
-    T.free (length w.asked) (omega arith),
-    record {
-      by = one;
-      at = subst (λ (xs : List Asked). slice_get xs (length w.asked) ≡ Some one) (sym b.0) (get_pushed w.asked one);
-      session = t;
-      was = record { by = one; among = (0, omega arith, refl); at = refl; below = in_map; session = refl; command = is; form = subst (λ (o : Option Command). IfSome o IsCommand) is b.1 };
-    },
-  )
-    where
-      one : Asked
-      one = record { rank = i; session = t; request = r }
-
-  -- what is known of a message that comes
-  said : (m : Message) → Brought ms w p i (input.Deliver m) → ((m.from < n) × MessageHolds I.g i m) × MessageFine m
-  said m b = (
-    subst (λ (o : Option Envelope). IfSome o (EnvelopeHolds n I.g)) b.1 (all_get (EnvelopeHolds n I.g) w.messages b.0 I.sent),
-    subst (λ (o : Option Envelope). IfSome o EnvelopeFine) b.1 (all_get EnvelopeFine w.messages b.0 I.sizes),
-  )
-
-  input_known : (came : Input) → Brought ms w p i came → InputKnown self d.at w0 d.state Source Asks came
-  input_known input.Start b = tt
-  input_known (input.Deliver m) b =
-      let lt = (said m b).0.0 in
-      (lt, body_known m.from m.epoch m.body (subst (λ (o : Option Envelope). IfSome o (Forwards n w.asked places w.store w.state)) b.1 (all_get (Forwards n w.asked places w.store w.state) w.messages b.0 T.forwards)) lt)
-  input_known (input.Timer t) b = timer_known t
-  input_known (input.Client t r) b = request_known t r (λ c is. newest t r c is b)
+  Asks = sources.Asks ms w p I places T d
 
   outcome : Outcome self d.at w0 d.state Source Asks d.came d.y
-  outcome = (subst (Then (Outcome self d.at w0 d.state Source Asks d.came)) d.is (takes self d.at w0 d.state Source Asks (shared_entries (w.store i)) d.came (input_known d.came d.brought))).holds
+  outcome = sources.outcome ms w p I places T d
 
   -- ---- where nothing is written
 
@@ -421,13 +265,13 @@ module _ (ms : Monitors) (w : World) (p : Plain) (I : InvOf ms w) (L : OneLog ms
 
     input_holds : (came : Input) → Brought ms w p i came → brings came ≡ false → InputHolds self I.g came
     input_holds input.Start b none = tt
-    input_holds (input.Deliver m) b none = (said m b).0
+    input_holds (input.Deliver m) b none = (sources.said ms w p I places T d m b).0
     input_holds (input.Timer t) b none = tt
     input_holds (input.Client t r) b none = no (sym none)
 
     fits_in : (came : Input) → Brought ms w p i came → FitsIn self d.at I.g Known w0 d.state good came
     fits_in input.Start b = tt
-    fits_in (input.Deliver m) b = (said m b).1
+    fits_in (input.Deliver m) b = (sources.said ms w p I places T d m b).1
     fits_in (input.Timer t) b = tt
     fits_in (input.Client t r) b = tt
 

@@ -35,7 +35,8 @@ use Rattle.quorum_agreement.proofs.Made.{MadeOver, is_value, version_asked_stays
 use Rattle.quorum_agreement.proofs.Result.{OneLog}
 use Rattle.quorum_commands.proofs.Coming.{Does, ended, next, tells}
 use Rattle.quorum_commands.proofs.Places.{BodyForwards, Begun, Forwards, Handed, IsAt, IsForwarded, Lasts, LoggedAt, MadeAt, Moves, Nowhere, Place, Places, Queued, StillAt, Tickets, Waits, WaitsIn, apart_at, made_still, own_lasts, wait_last}
-use Rattle.quorum_commands.proofs.Steps.{BodySends, CommitsOwn, Here, Leaves, SendsOwn, asks_more, leaves}
+use Rattle.quorum_commands.proofs.Sources.{asks_more}
+use Rattle.quorum_commands.proofs.Steps.{BodySends, CommitsOwn, Here, Leaves, SendsOwn, leaves}
 use Rattle.quorum_laws.proofs.Invariant.{EnvelopeHolds, InvOf}
 use Rattle.quorum_laws.proofs.Whole.{at_put}
 use Rattle.quorum_laws.specs.Accepting.{AcceptedIn}
