@@ -55,7 +55,7 @@ use Rattle.quorum_agreement.proofs.Every.{agrees}
 
 -- ---- what is put at one place
 
-put_same : {A : Type 0} (f : ℕ → A) (i : ℕ) (a : A) → put_at f i a i ≡ a
+pub put_same : {A : Type 0} (f : ℕ → A) (i : ℕ) (a : A) → put_at f i a i ≡ a
 put_same f i a = rw (eq-eqb i i refl) refl
 
 -- what is put in two places at once is at that number, or both are as they were
@@ -66,7 +66,7 @@ put_cases f h i a u j b = by (eqb j i) refl
     by true q e = inl (eqb-true j i q, e)
     by false q e = inr (e, refl)
 
-grown_fronts : (old new : List (List ℕ)) → GrowsByOne old new → Fronts old new
+pub grown_fronts : (old new : List (List ℕ)) → GrowsByOne old new → Fronts old new
 grown_fronts old new (inl e) = subst (Fronts old) (sym e) (fronts_itself old)
 grown_fronts old new (inr x) = subst (Fronts old) (sym x.1) (fronts_push old x.0)
 

@@ -271,7 +271,8 @@ module _ (n : ℕ) (store : ℕ → Store) (state : ℕ → Option State) (txs :
 
 -- ---- an event
 
-unless_full : (P : World → Type 0) (m : Store) (next : Reaction → World) (r : Reaction) → P (next r) → IfOk (in_world next (unless_stopped m (Ok r))) P
+-- whatever becomes of a transaction, the run goes on with it or stops
+pub unless_full : (P : World → Type 0) (m : Store) (next : Reaction → World) (r : Reaction) → P (next r) → IfOk (in_world next (unless_stopped m (Ok r))) P
 unless_full P m next r p = cond_both (ltb most_size (size_of (apply r.transaction m))) (Err (Full (size_of (apply r.transaction m)))) (Ok r) (λ (x : Result Reaction Stop). IfOk (in_world next x) P) (λ _. tt) (λ _. p)
 
 abbrev pub member_of : (ms : Monitors) (rank : ℕ) → ltb rank ms.count ≡ true → Me

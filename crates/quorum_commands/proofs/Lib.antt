@@ -1,0 +1,10 @@
+pub mod Acts
+pub mod Coming
+pub mod Idle
+pub mod Places
+pub mod Repeating
+pub mod Runs
+pub mod Sources
+pub mod Steps
+pub mod Taking
+pub mod Worlds

@@ -1,0 +1,232 @@
+-- Where the commands come from that an event of a monitor may take: each has a request of its own.
+use Rattle.mon_bytes.specs.declared.command.Command.TheVariants as command
+use Rattle.mon_bytes.specs.declared.command.Command.{Command}
+use Rattle.log_model.specs.LogOfValues.{IsCommand}
+use Rattle.mon_msg.specs.Protocol.Phases.{is_leading}
+use Rattle.mon_msg.specs.Protocol.Readings.{Readings, epoch_of, readings_of, shared_entries}
+use Rattle.mon_msg.specs.Protocol.State.{State, booting}
+use Rattle.mon_msg.specs.Protocol.Value.{value}
+use Rattle.mon_msg.specs.declared.clients.Waiting.{Waiting}
+use Rattle.mon_msg.specs.declared.input.Input.TheVariants as input
+use Rattle.mon_msg.specs.declared.input.Input.{Input}
+use Rattle.mon_msg.specs.declared.plan.Origin.TheVariants as origin
+use Rattle.mon_msg.specs.declared.plan.Origin.{Origin}
+use Rattle.mon_msg.specs.declared.view.Me.{Me}
+use Rattle.mon_tx.specs.Text.{text}
+use Rattle.mon_wire.specs.declared.body.Body.TheVariants as body
+use Rattle.mon_wire.specs.declared.body.Body.{Body}
+use Rattle.mon_wire.specs.declared.message.Message.{Message}
+use Rattle.mon_wire.specs.declared.phase.Timer.TheVariants as timer
+use Rattle.mon_wire.specs.declared.phase.Timer.{Timer}
+use Rattle.mon_wire.specs.declared.request.Request.TheVariants as request
+use Rattle.mon_wire.specs.declared.request.Request.{Request}
+use Rattle.mon_wire.specs.declared.request.Session.{Session}
+use Rattle.quorum_agreement.proofs.Answered.{asker}
+use Rattle.quorum_commands.proofs.Coming.{Brought, Does, me}
+use Rattle.quorum_commands.proofs.Places.{AllWait, AskedAt, BodyForwards, Forwards, IsAt, IsForwarded, Place, Places, Nowhere, Handed, Queued, StillAt, Tickets, Waits, WaitsIn, asked_still, get_more, get_pushed}
+use Rattle.quorum_commands.proofs.Taking.{BodyKnown, InputKnown, Outcome, RequestKnown, TimerKnown, takes}
+use Rattle.quorum_history.proofs.Holds.{MessageHolds}
+use Rattle.quorum_history.proofs.Phases.{no}
+use Rattle.quorum_laws.proofs.Invariant.{EnvelopeFine, EnvelopeHolds, InvOf}
+use Rattle.quorum_model.specs.Clients.{command_of, with_asked}
+use Rattle.quorum_model.specs.Monitors.{Monitors}
+use Rattle.quorum_model.specs.World.{Asked, Client, Deliver, Envelope, Plain, Ring, Start, World}
+use Rattle.quorum_walk.proofs.FineCourses.{MessageFine}
+use Rattle.quorum_walk.proofs.Lists.{all_get}
+use Rattle.quorum_walk.proofs.Walk.{Then}
+use Rattle.std.proofs.Common.{IfSome, List, Option, Some, [], ap, arith, get_or-set_other, get_or-set_same, inl, inr, length, length-append, length-set, ltb, refl, slice_get, slice_index_or, slice_set, subst, suc, sym, true, ℕ, ◌<◌, ◌∙◌, ◌∷◌, ◌≡◌, ◌≤◌, ◌⊎◌}
+use Rattle.std.proofs.lemmas.Bool.{cases_eq, ltb-true}
+
+-- ---- what places are told apart by
+
+abbrev ticket_of : Place → ℕ
+ticket_of (Queued j t) = t
+ticket_of other = 0
+
+abbrev from_of : Place → ℕ
+from_of (Handed j to u s) = j
+from_of other = 0
+
+abbrev seq_of : Place → ℕ
+seq_of (Handed j to u s) = s
+seq_of other = 0
+
+-- more is asked by an event, at most
+pub asks_more : (p : Plain) (asked : List Asked) → StillAt asked (with_asked p asked)
+asks_more (Client rank at t r) asked k a e = get_more asked (record { rank = rank; session = t; request = r } ∷ []) k a e
+asks_more (Start rank at) asked k a e = e
+asks_more (Deliver m at) asked k a e = e
+asks_more (Ring rank t at) asked k a e = e
+
+pub asks_longer : (p : Plain) (asked : List Asked) → length asked ≤ length (with_asked p asked)
+asks_longer (Client rank at t r) asked = let l = length-append asked (record { rank = rank; session = t; request = r } ∷ []) in omega arith
+asks_longer (Start rank at) asked = omega arith
+asks_longer (Deliver m at) asked = omega arith
+asks_longer (Ring rank t at) asked = omega arith
+
+-- ---- an event
+
+module _ (ms : Monitors) (w : World) (p : Plain) (I : InvOf ms w) (places : Places) (T : Tickets ms.count places w.store w.state w.transactions w.messages w.asked w.log) (d : Does ms w p) where
+  abbrev n : ℕ
+  n = ms.count
+
+  abbrev i : ℕ
+  i = d.rank
+
+  abbrev pub asked : List Asked
+  asked = with_asked p w.asked
+
+  abbrev self : Me
+  self = me ms w I p d
+
+  abbrev w0 : Readings
+  w0 = readings_of (w.store d.rank)
+
+  still : StillAt w.asked asked
+  still = asks_more p w.asked
+
+  in_map : i < n
+  in_map = ltb-true d.rank ms.count d.lt
+
+  -- those that waited here
+  pub waited : Waits n w.asked places i d.state.clients.queue d.state.clients.taken
+  waited = by d.remembers
+    where
+      by : (w.state i ≡ Some d.state) ⊎ (d.state ≡ booting i) → Waits n w.asked places i d.state.clients.queue d.state.clients.taken
+      by (inl e) = subst (WaitsIn n w.asked places i) e (T.waits i)
+      by (inr e) = subst (λ (s : State). Waits n w.asked places i s.clients.queue s.clients.taken) (sym e) (refl, 0, tt)
+
+  -- a leader was up
+  pub was_up : is_leading d.state.phase ≡ true → w.state i ≡ Some d.state
+  was_up t = by d.remembers
+    where
+      by : (w.state i ≡ Some d.state) ⊎ (d.state ≡ booting i) → w.state i ≡ Some d.state
+      by (inl e) = e
+      by (inr e) = no (ap (λ (s : State). is_leading s.phase) (sym e) ∙ t)
+
+  -- ---- where a command comes from
+
+  -- a request whose command it is, which isn't one of those that wait besides, nor one that may still come of a peon
+  pub record Source (c : Command) (o : Origin) (others : List Waiting) (taken : List ℕ) : Type 0 where
+    pub k : ℕ
+    pub from : Place
+    pub place : places k ≡ from
+    pub at : IsAt i from
+    pub asks : AskedAt n asked k (asker i o) c
+    pub long : length taken ≡ 15
+    pub ticket : ℕ
+    pub wait : AllWait n w.asked places i ticket others
+    pub apart : (u : ℕ) → ticket ≤ u → Queued i u ≡ from → ⊥
+    pub open_still : (f seq : ℕ) → slice_index_or taken f 0 < seq → (slice_index_or d.state.clients.taken f 0 < seq) × (Handed f i (epoch_of w0) seq ≡ from → ⊥)
+
+  -- the newest request asks a command of this monitor
+  abbrev pub Asks : Session → Command → Type 0
+  Asks t c = (places (length w.asked) ≡ Nowhere) × AskedAt n asked (length w.asked) i c
+
+  from_client : (t : Session) (c : Command) → Asks t c → Source c (origin.Session t) d.state.clients.queue d.state.clients.taken
+  from_client t c A = let q = waited in record {
+    k = length w.asked;
+    from = Nowhere;
+    place = A.0;
+    at = tt;
+    asks = A.1;
+    long = q.0;
+    ticket = q.1;
+    wait = q.2;
+    apart = λ u le e. absurd cc;
+    open_still = λ f seq lt. (lt, λ e. absurd cc);
+  }
+
+  request_known : (t : Session) (r : Request) → ((c : Command) → command_of r ≡ Some c → Asks t c) → RequestKnown self d.at w0 d.state Source Asks t r
+  request_known t (request.Set key value) k = let A = k (command.Set key value) refl in (from_client t (command.Set key value) A, A)
+  request_known t (request.Remove key) k = let A = k (command.Remove key) refl in (from_client t (command.Remove key) A, A)
+  request_known t (request.Log text) k = let A = k (command.Log text) refl in (from_client t (command.Log text) A, A)
+  request_known t (request.Show v) k = tt
+  request_known t (request.Since v m) k = tt
+
+  -- the first of those that wait
+  first_known : (x : Waiting) (xs : List Waiting) → d.state.clients.queue ≡ x ∷ xs → Source x.command x.origin xs d.state.clients.taken
+  first_known x xs e =
+      let q = waited in
+      let h = subst (AllWait n w.asked places i q.1) e q.2 in
+      record {
+        k = h.0.k;
+        from = Queued i q.1;
+        place = h.0.place;
+        at = refl;
+        asks = asked_still n w.asked asked still h.0.k (asker i x.origin) x.command h.0.of;
+        long = q.0;
+        ticket = suc q.1;
+        wait = h.1;
+        apart = λ u le z. (let same = ap ticket_of z in omega arith);
+        open_still = λ f seq lt. (lt, λ z. absurd cc);
+      }
+
+  timer_known : (t : Timer) → TimerKnown self d.at w0 d.state Source Asks t
+  timer_known timer.Propose = first_known
+  timer_known other = tt
+
+  -- a command that a peon hands on, and that wasn't taken
+  forward_known : (f e seq : ℕ) (c : Command) → ((f ≡ i → ⊥) → IsForwarded n w.asked places (w.store i) (w.state i) f i e seq c) → f < n → (f ≡ i → ⊥) → is_leading d.state.phase ≡ true → e ≡ epoch_of w0 → ltb (slice_index_or d.state.clients.taken f 0) seq ≡ true
+      → Source c (origin.Forwarded f seq) d.state.clients.queue (slice_set d.state.clients.taken f seq)
+  forward_known f e seq c F lt apart leads now_is fresh =
+      let q = waited in
+      let new = ltb-true (slice_index_or d.state.clients.taken f 0) seq fresh in
+      let h = (F apart).own d.state (was_up leads) leads (sym now_is) new in
+      record {
+        k = h.k;
+        from = Handed f i e seq;
+        place = h.place;
+        at = refl;
+        asks = asked_still n w.asked asked still h.k f c h.of;
+        long = length-set d.state.clients.taken f seq ∙ q.0;
+        ticket = q.1;
+        wait = q.2;
+        apart = λ u le z. absurd cc;
+        open_still = λ g s less. by g s (cases_eq g f) less new (let long = q.0 in let few = ms.most in omega arith);
+      }
+    where
+      by : (g s : ℕ) → (g ≡ f) ⊎ (g ≡ f → ⊥) → slice_index_or (slice_set d.state.clients.taken f seq) g 0 < s → slice_index_or d.state.clients.taken f 0 < seq → f < length d.state.clients.taken
+          → (slice_index_or d.state.clients.taken g 0 < s) × (Handed g i (epoch_of w0) s ≡ Handed f i e seq → ⊥)
+      by g s (inl z) less new within =
+          let less2 : slice_index_or (slice_set d.state.clients.taken f seq) f 0 < s = subst (λ (j : ℕ). slice_index_or (slice_set d.state.clients.taken f seq) j 0 < s) z less in
+          let is = get_or-set_same d.state.clients.taken f seq 0 within in
+          (subst (λ (j : ℕ). slice_index_or d.state.clients.taken j 0 < s) (sym z) (omega arith), λ u. (let same = ap seq_of u in omega arith))
+      by g s (inr ne) less new within = (let is = get_or-set_other d.state.clients.taken f g seq 0 ne in omega arith, λ u. ne (ap from_of u))
+
+  body_known : (f e : ℕ) (b : Body) → BodyForwards n w.asked places (w.store i) (w.state i) f i e b → f < n → BodyKnown self d.at w0 d.state Source Asks f e b
+  body_known f e (body.Forward seq c) F lt = forward_known f e seq c F lt
+  body_known f e other F lt = tt
+
+  -- a request that comes is the newest
+  newest : (t : Session) (r : Request) (c : Command) → command_of r ≡ Some c → Brought ms w p i (input.Client t r) → Asks t c
+  newest t r c is b = (
+    T.free (length w.asked) (omega arith),
+    record {
+      by = one;
+      at = subst (λ (xs : List Asked). slice_get xs (length w.asked) ≡ Some one) (sym b.0) (get_pushed w.asked one);
+      session = t;
+      was = record { by = one; among = (0, omega arith, refl); at = refl; below = in_map; session = refl; command = is; form = subst (λ (o : Option Command). IfSome o IsCommand) is b.1 };
+    },
+  )
+    where
+      one : Asked
+      one = record { rank = i; session = t; request = r }
+
+  -- what is known of a message that comes
+  pub said : (m : Message) → Brought ms w p i (input.Deliver m) → ((m.from < n) × MessageHolds I.g i m) × MessageFine m
+  said m b = (
+    subst (λ (o : Option Envelope). IfSome o (EnvelopeHolds n I.g)) b.1 (all_get (EnvelopeHolds n I.g) w.messages b.0 I.sent),
+    subst (λ (o : Option Envelope). IfSome o EnvelopeFine) b.1 (all_get EnvelopeFine w.messages b.0 I.sizes),
+  )
+
+  input_known : (came : Input) → Brought ms w p i came → InputKnown self d.at w0 d.state Source Asks came
+  input_known input.Start b = tt
+  input_known (input.Deliver m) b =
+      let lt = (said m b).0.0 in
+      (lt, body_known m.from m.epoch m.body (subst (λ (o : Option Envelope). IfSome o (Forwards n w.asked places w.store w.state)) b.1 (all_get (Forwards n w.asked places w.store w.state) w.messages b.0 T.forwards)) lt)
+  input_known (input.Timer t) b = timer_known t
+  input_known (input.Client t r) b = request_known t r (λ c is. newest t r c is b)
+
+  pub outcome : Outcome self d.at w0 d.state Source Asks d.came d.y
+  outcome = (subst (Then (Outcome self d.at w0 d.state Source Asks d.came)) d.is (takes self d.at w0 d.state Source Asks (shared_entries (w.store i)) d.came (input_known d.came d.brought))).holds

@@ -1,0 +1,455 @@
+-- What an event of a monitor does to the requests that are under way there.
+use Rattle.log_copies.proofs.Standing.{Agrees}
+use Rattle.log_copies.proofs.Telling.{monitor_keeps, read_last}
+use Rattle.log_model.specs.Windows.{Keeps}
+use Rattle.mon_bytes.specs.declared.command.Command.{Command}
+use Rattle.mon_msg.specs.Protocol.Changes.{Change, Last, Learn, Vote}
+use Rattle.mon_msg.specs.Protocol.Phases.{is_leading, is_member, votes}
+use Rattle.mon_msg.specs.Protocol.Proposing.{asked_of}
+use Rattle.mon_msg.specs.Protocol.Readings.{Readings, epoch_of, readings_of, shared_entries}
+use Rattle.mon_msg.specs.Protocol.Records.{found_as, pending_of, record_at}
+use Rattle.mon_msg.specs.Protocol.State.{State, booting, no_clients}
+use Rattle.mon_msg.specs.Protocol.Table.{at_rest}
+use Rattle.mon_msg.specs.Protocol.Value.{value}
+use Rattle.mon_msg.specs.declared.clients.Clients.{Clients}
+use Rattle.mon_msg.specs.declared.clients.Waiting.{Waiting}
+use Rattle.mon_msg.specs.declared.input.Input.TheVariants as input
+use Rattle.mon_msg.specs.declared.input.Input.{Input}
+use Rattle.mon_msg.specs.declared.plan.Origin.{Origin}
+use Rattle.mon_msg.specs.declared.plan.Sent.TheVariants as sent
+use Rattle.mon_msg.specs.declared.plan.Sent.{Sent}
+use Rattle.mon_msg.specs.declared.view.Me.{Me}
+use Rattle.mon_tx.specs.Map.{Store}
+use Rattle.mon_tx.specs.Text.{text}
+use Rattle.mon_tx.specs.declared.op.Op.{Op}
+use Rattle.mon_wire.specs.declared.body.Body.TheVariants as body
+use Rattle.mon_wire.specs.declared.body.Body.{Body}
+use Rattle.mon_wire.specs.declared.phase.Phase.TheVariants as phase
+use Rattle.mon_wire.specs.declared.request.Session.{Session}
+use Rattle.quorum_agreement.proofs.Answered.{asker, asker_is}
+use Rattle.quorum_agreement.proofs.Answering.{peon_leads_not}
+use Rattle.quorum_agreement.proofs.Invariant.{remembers}
+use Rattle.quorum_agreement.proofs.LoneWorlds.{IsWhole}
+use Rattle.quorum_agreement.proofs.Premises.{requests_in}
+use Rattle.quorum_agreement.proofs.Result.{OneLog}
+use Rattle.quorum_agreement.proofs.Step.{copy_marked}
+use Rattle.quorum_commands.proofs.Coming.{Brought, Does, me, next, phase_holds}
+use Rattle.quorum_commands.proofs.Acts.{AllOther, HandsNone, IsOther}
+use Rattle.quorum_commands.proofs.Idle.{Alone, Idle, Leads, SameClients, brings}
+use Rattle.quorum_commands.proofs.Places.{AllWait, AskedAt, HasOwn, IsAt, IsForwarded, MadeAt, MadeOf, Moves, Place, Places, Nowhere, Handed, Queued, Begun, StillAt, Tickets, Waits, is_moved, moved_to, moves, own_lasts, wait_last, was_there}
+use Rattle.quorum_commands.proofs.Repeating.{AllKnown, FitsIn, repeats}
+use Rattle.quorum_commands.proofs.Sources as sources
+use Rattle.quorum_commands.proofs.Sources.{asks_longer, asks_more}
+use Rattle.quorum_commands.proofs.Taking.{Becomes, Commits, Hands, Outcome, Proposes, Takes, TakesNone}
+use Rattle.quorum_history.proofs.History.{ext_refl}
+use Rattle.quorum_history.proofs.Holds.{Core, FollowsIn, Good, InPhase, StageHolds, core_of}
+use Rattle.quorum_history.proofs.Phases.{electing_is, no, peon_is_peon, votes_in_odd, votes_unmarked}
+use Rattle.quorum_history.proofs.Rows.{InputHolds}
+use Rattle.quorum_history.proofs.Steps.{tied_refl}
+use Rattle.quorum_laws.proofs.Invariant.{InvOf}
+use Rattle.quorum_laws.proofs.Later.{Stays, is_in}
+use Rattle.quorum_model.specs.Clients.{with_asked}
+use Rattle.quorum_model.specs.Monitors.{Monitors}
+use Rattle.quorum_model.specs.World.{Asked, Plain, World}
+use Rattle.quorum_walk.proofs.Lists.{Among, all_map}
+use Rattle.quorum_walk.proofs.Sparing.{own_of}
+use Rattle.quorum_walk.proofs.Walk.{Then}
+use Rattle.std.proofs.Common.{Bool, List, None, Ok, Some, [], ap, arith, cond, false, inl, inr, length, refl, slice_index_or, subst, suc, sym, true, ℕ, ◌++◌, ◌+◌, ◌<◌, ◌∙◌, ◌∷◌, ◌≡◌, ◌≤◌, ◌⊎◌}
+use Rattle.std.proofs.lemmas.Bool.{ltb-true, ltb-false, ne_eqb}
+use Rattle.std.proofs.lemmas.Option.{slice_get_within}
+use Rattle.std.specs.List.{AllByRecursion}
+
+-- ---- lists of those that wait
+
+wait_push : (n : ℕ) (asked : List Asked) (places : Places) (i t : ℕ) (xs : List Waiting) (x : Waiting) → AllWait n asked places i t xs → HasOwn n asked places (Queued i (t + length xs)) (asker i x.origin) x.command → AllWait n asked places i t (xs ++ x ∷ [])
+wait_push n asked places i t [] x h k = (subst (λ (u : ℕ). HasOwn n asked places (Queued i u) (asker i x.origin) x.command) (let e : t + 0 ≡ t = omega arith in e) k, tt)
+wait_push n asked places i t (z ∷ xs) x h k =
+    (h.0, wait_push n asked places i (suc t) xs x h.1 (subst (λ (u : ℕ). HasOwn n asked places (Queued i u) (asker i x.origin) x.command) (let e : t + suc (length xs) ≡ suc t + length xs = omega arith in e) k))
+
+-- where a change puts what it votes for
+abbrev vote_place : Change → Place
+vote_place (Vote v q x) = Begun v (text x)
+vote_place other = Nowhere
+
+-- ---- an event
+
+module _ (ms : Monitors) (w : World) (p : Plain) (I : InvOf ms w) (L : OneLog ms w) (W : ms.count ≡ 1 → (i : ℕ) → i < ms.count → IsWhole w.log (w.store i)) (places : Places)
+    (T : Tickets ms.count places w.store w.state w.transactions w.messages w.asked w.log) (d : Does ms w p) where
+  abbrev n : ℕ
+  n = ms.count
+
+  abbrev i : ℕ
+  i = d.rank
+
+  abbrev asked : List Asked
+  asked = with_asked p w.asked
+
+  abbrev self : Me
+  self = me ms w I p d
+
+  abbrev w0 : Readings
+  w0 = readings_of (w.store d.rank)
+
+  abbrev after_store : Store
+  after_store = next ms w I p d
+
+  still : StillAt w.asked asked
+  still = asks_more p w.asked
+
+  longer : length w.asked ≤ length asked
+  longer = asks_longer p w.asked
+
+  in_map : i < n
+  in_map = ltb-true d.rank ms.count d.lt
+
+  K : InPhase n I.g i (core_of (own_of w0) d.state) d.state.phase
+  K = phase_holds ms w I p d
+
+  -- ---- what an event leaves of requests
+
+  -- what it hands on is of an epoch that the receiver reached, with its request
+  abbrev pub BodySends : Places → (from to e : ℕ) → Body → Type 0
+  BodySends after from to e (body.Forward seq c) = (e ≤ epoch_of (readings_of (w.store to))) × HasOwn n asked after (Handed from to e seq) from c
+  BodySends after from to e other = Unit {0}
+
+  abbrev pub SendsOwn : Places → Sent → Type 0
+  SendsOwn after (sent.Message to m) = BodySends after m.from to m.epoch m.body
+  SendsOwn after (sent.Reply t r) = Unit {0}
+
+  -- its epoch doesn't fall, and it is in a quorum of it only where it was
+  abbrev pub Here : Type 0
+  Here = Stays w0 (w.state i) (readings_of after_store) (Some d.y.state)
+
+  -- where it still leads in an epoch, a command that was handed on in it and isn't taken has its request
+  abbrev pub Opens : Places → Type 0
+  Opens after = Here → (f e seq : ℕ) (c : Command) → is_leading d.y.state.phase ≡ true → epoch_of (readings_of after_store) ≡ e → slice_index_or d.y.state.clients.taken f 0 < seq → (f ≡ i → ⊥) → f < n
+      → IsForwarded n w.asked places (w.store i) (w.state i) f i e seq c → HasOwn n asked after (Handed f i e seq) f c
+
+  -- where it commits a value at once
+  pub record CommitsOwn (after : Places) : Type 0 where
+    pub ops : List Op
+    pub k : ℕ
+    pub place : after k ≡ Begun (suc w0.last) (text ops)
+    pub made : MadeOf n asked w.log k (suc w0.last) ops
+    pub changes : d.y.changes ≡ Learn (suc w0.last) ops ∷ Last (suc w0.last) ∷ []
+    pub last : d.y.readings.last ≡ suc w0.last
+
+  -- one request goes to another place at most, and all others stay
+  pub record Leaves : Type 0 where
+    pub from : Place
+    pub at : IsAt i from
+    pub after : Places
+    pub moves : Moves from places after
+    pub free : (k : ℕ) → length asked ≤ k → after k ≡ Nowhere
+    pub begun : (k v : ℕ) (bytes : List ℕ) → after k ≡ Begun v bytes → (places k ≡ Begun v bytes) ⊎ MadeAt n asked w.log k v bytes
+    pub waits : Waits n asked after i d.y.state.clients.queue d.y.state.clients.taken
+    pub opens : Opens after
+    pub sends : AllByRecursion (SendsOwn after) d.y.out
+    pub votes : 1 < n → (v q : ℕ) (x : List Op) → Among (Vote v q x) d.y.changes → (k : ℕ) × (after k ≡ Begun v (text x))
+    pub lone : n ≡ 1 → (d.y.readings.last ≡ w0.last) ⊎ CommitsOwn after
+
+  -- ---- small steps
+
+  -- nothing moves
+  stays : Moves Nowhere places places
+  stays j q e apart = e
+
+  other_body : (after : Places) (from to e : ℕ) (b : Body) → HandsNone b → BodySends after from to e b
+  other_body after from to e (body.Forward seq c) k = absurd k
+  other_body after from to e other k = tt
+
+  others_sent : (after : Places) (sends : List Sent) → AllOther sends → AllByRecursion (SendsOwn after) sends
+  others_sent after sends k = all_map IsOther (SendsOwn after) by sends k
+    where
+      by : (x : Sent) → IsOther x → SendsOwn after x
+      by (sent.Message to m) o = other_body after m.from to m.epoch m.body o
+      by (sent.Reply t r) o = tt
+
+  -- those that waited here
+  waited : Waits n w.asked places i d.state.clients.queue d.state.clients.taken
+  waited = sources.waited ms w p I places T d
+
+  -- a leader was up
+  was_up : is_leading d.state.phase ≡ true → w.state i ≡ Some d.state
+  was_up = sources.was_up ms w p I places T d
+
+  free_still : (k : ℕ) → length asked ≤ k → places k ≡ Nowhere
+  free_still k le = T.free k (let l = longer in omega arith)
+
+  -- ---- what a leader has
+
+  leads_unmarked : is_leading d.state.phase ≡ true → w0.marked ≡ false
+  leads_unmarked t = votes_unmarked n I.g i (core_of (own_of w0) d.state) d.state.phase (rw t refl) K
+
+  record Versions : Type 0 where
+    within : w0.last ≤ length w.log
+    keeps : Keeps w.log w0.last w0
+
+  versions : w0.marked ≡ false → Versions
+  versions u = by (L.stores i in_map)
+    where
+      by : Agrees w.log (w.store i) (remembers i (w.state i)) → Versions
+      by (inl V) =
+          let h = V.versions in
+          let e = read_last w.log L.short L.values V.last (w.store i) h in
+          let k = monitor_keeps w.log L.short L.values V.last (w.store i) h in
+          record { within = (let l = h.within in omega arith); keeps = subst (λ (c : ℕ). Keeps w.log c w0) (sym e) k }
+      by (inr C) = no (sym u ∙ copy_marked w.log (w.store i) (remembers i (w.state i)) C)
+
+  -- the value of a command that a request asked
+  made_over : is_leading d.state.phase ≡ true → (k : ℕ) (c : Command) (o : Origin) (ops : List Op) → AskedAt n asked k (asker i o) c → value w0 c (asked_of self o) ≡ Ok ops → MadeOf n asked w.log k (suc w0.last) ops
+  made_over t k c o ops a e =
+      let V = versions (leads_unmarked t) in
+      record {
+        by = a.by;
+        at = a.at;
+        made = record {
+          before = w0.last;
+          next = refl;
+          within = V.within;
+          over = w0;
+          keeps = V.keeps;
+          last = refl;
+          rank = asker i o;
+          session = a.session;
+          command = c;
+          of = a.was;
+          made = subst (λ (r : ℕ). value w0 c r ≡ Ok ops) (asker_is self o) e;
+        };
+      }
+
+  -- where a command comes from
+  abbrev Source : Command → Origin → List Waiting → List ℕ → Type 0
+  Source = sources.Source ms w p I places T d
+
+  abbrev Asks : Session → Command → Type 0
+  Asks = sources.Asks ms w p I places T d
+
+  outcome : Outcome self d.at w0 d.state Source Asks d.came d.y
+  outcome = sources.outcome ms w p I places T d
+
+  -- ---- where nothing is written
+
+  no_votes : (after : Places) → d.y.changes ≡ [] → (v q : ℕ) (x : List Op) → Among (Vote v q x) d.y.changes → (k : ℕ) × (after k ≡ Begun v (text x))
+  no_votes after e v q x a = absurd (none (subst (λ (cs : List Change). Among (Vote v q x) cs) e a))
+    where
+      none : Among (Vote v q x) [] → ⊥
+      none a = a
+
+  -- those that wait still do, where nothing moves
+  still_waits : Waits n asked places i d.state.clients.queue d.state.clients.taken
+  still_waits = let q = waited in (q.0, q.1, wait_last n w.asked asked still Nowhere places places stays i q.1 d.state.clients.queue (λ u le e. absurd cc) q.2)
+
+  same_waits : (after : Places) (c : Clients) → SameClients c d.state.clients → Waits n asked after i d.state.clients.queue d.state.clients.taken → Waits n asked after i c.queue c.taken
+  same_waits after c same h = subst (λ (xs : List Waiting). Waits n asked after i xs c.taken) (sym same.0) (subst (λ (ts : List ℕ). Waits n asked after i d.state.clients.queue ts) (sym same.1) h)
+
+  -- ---- where no command is taken
+
+  -- the values that requests made
+  abbrev Known : ℕ → List Op → Type 0
+  Known v x = (k : ℕ) × (places k ≡ Begun v (text x))
+
+  module _ (several : 1 < n) where
+    good : Good self I.g Known (at_rest w0 d.state)
+    good = record {
+      h = I.g;
+      ext = ext_refl i I.g;
+      glob = I.glob;
+      disk = (I.mine i).disk;
+      tied = tied_refl i I.g;
+      known = λ j v q x a. T.accepted several j v q (text x) (I.triples.kept j v q x a);
+      asks = λ a k. k;
+      sent = tt;
+      fact = K;
+    }
+
+    input_holds : (came : Input) → Brought ms w p i came → brings came ≡ false → InputHolds self I.g came
+    input_holds input.Start b none = tt
+    input_holds (input.Deliver m) b none = (sources.said ms w p I places T d m b).0
+    input_holds (input.Timer t) b none = tt
+    input_holds (input.Client t r) b none = no (sym none)
+
+    fits_in : (came : Input) → Brought ms w p i came → FitsIn self d.at I.g Known w0 d.state good came
+    fits_in input.Start b = tt
+    fits_in (input.Deliver m) b = (sources.said ms w p I places T d m b).1
+    fits_in (input.Timer t) b = tt
+    fits_in (input.Client t r) b = tt
+
+    repeated : brings d.came ≡ false → (v q : ℕ) (x : List Op) → Among (Vote v q x) d.y.changes → Known v x
+    repeated none = (subst (Then (AllKnown self d.at I.g Known w0 d.state good)) d.is (repeats self d.at I.g Known w0 d.state good several (shared_entries (w.store i)) d.came none (input_holds d.came d.brought none) (I.mine i).fine.records (fits_in d.came d.brought))).holds
+
+  alone : n ≡ 1 → Alone self d.at w0 d.state
+  unfolding pending_of
+  alone one = record {
+    one = one;
+    none = (let z = H.settled in ap (λ (b : Bool). cond b (found_as w0.pending_v w0.pending_pn (record_at w0.record_of (suc w0.last))) None) (ne_eqb w0.pending_v (suc w0.last) (λ e. omega arith)));
+    replays = λ from end t e.
+        let R = requests_in self I.g w0 d.state I.glob d.state.phase t K in
+        let full = (subst (StageHolds I.g w0.last w0.floor d.state.requester.provider d.state.requester.full d.state.requester.start d.state.requester.place.version) e R.1).0 in
+        no (sym (R.0 ∙ H.unmarked) ∙ full);
+  }
+    where
+      H : IsWhole w.log (w.store i)
+      H = W one i in_map
+
+  -- a message of the epoch that it is in then is of the one that it was in
+  same_epoch : Here → (e : ℕ) → e ≤ epoch_of w0 → epoch_of (readings_of after_store) ≡ e → epoch_of w0 ≡ e
+  same_epoch here e low now_is = let up = here.epoch in omega arith
+
+  -- who stood for election leads in a later epoch
+  elected : Here → (e : ℕ) → e ≤ epoch_of w0 → epoch_of (readings_of after_store) ≡ e → is_leading d.y.state.phase ≡ true → d.state.phase ≡ phase.Electing → ⊥
+  elected here e low now_is leads stood = by d.remembers (here.inside (rw leads refl) (now_is ∙ sym (same_epoch here e low now_is)))
+    where
+      by : (w.state i ≡ Some d.state) ⊎ (d.state ≡ booting i) → is_in (w.state i) ≡ true → ⊥
+      by (inl z) k = no (sym (ap is_in z ∙ ap is_member stood) ∙ k)
+      by (inr z) k = let booted : phase.Booting ≡ phase.Electing = sym (ap (λ (s : State). s.phase) z) ∙ stood in absurd cc
+
+  idle_opens : Idle self d.at w0 d.state d.y → Opens places
+  idle_opens Q here f e seq c leads now_is lt apart below F = by (Q.leads leads)
+    where
+      by : Leads self d.at w0 d.state d.y.state.clients → HasOwn n asked places (Handed f i e seq) f c
+      by (inl z) = own_lasts n w.asked asked still Nowhere places places stays (Handed f i e seq) f c (λ u. absurd cc)
+          (F.own d.state (was_up z.0) z.0 (same_epoch here e F.low now_is) (subst (λ (ts : List ℕ). slice_index_or ts f 0 < seq) z.1.1 lt))
+      by (inr (inl z)) = absurd (elected here e F.low now_is leads (votes_in_odd n I.g i (core_of (own_of w0) d.state) d.state.phase I.glob.roles z.1 z.0 K))
+      by (inr (inr (inl z))) = absurd (elected here e F.low now_is leads (electing_is d.state.phase z))
+      by (inr (inr (inr one))) = absurd (apart (let few = ltb-false 1 n one in let b = in_map in omega arith))
+
+  idle_leaves : TakesNone self d.at w0 d.state Source Asks d.came d.y → Leaves
+  idle_leaves N = record {
+    from = Nowhere;
+    at = tt;
+    after = places;
+    moves = stays;
+    free = free_still;
+    begun = λ k v bytes e. inl e;
+    waits = wait N.idle.clients;
+    opens = idle_opens N.idle;
+    sends = others_sent places d.y.out N.idle.out;
+    votes = λ several. vote several (brings d.came) refl;
+    lone = λ one. inl (N.idle.last (alone one));
+  }
+    where
+      wait : SameClients d.y.state.clients d.state.clients ⊎ (d.y.state.clients ≡ no_clients) → Waits n asked places i d.y.state.clients.queue d.y.state.clients.taken
+      wait (inl same) = same_waits places d.y.state.clients same still_waits
+      wait (inr e) = subst (λ (c : Clients). Waits n asked places i c.queue c.taken) (sym e) (refl, 0, tt)
+
+      vote : 1 < n → (b : Bool) → brings d.came ≡ b → (v q : ℕ) (x : List Op) → Among (Vote v q x) d.y.changes → (k : ℕ) × (places k ≡ Begun v (text x))
+      vote several true e = no_votes places (N.stays e)
+      vote several false e = repeated several e
+
+  -- ---- where one is
+
+  module _ (H : Takes self d.at w0 d.state Source Asks d.y) where
+    abbrev S : Source H.command H.origin H.others H.taken
+    S = H.source
+
+    takes_opens : (after : Places) → Moves S.from places after → Opens after
+    takes_opens after M here f e seq c leads now_is lt apart below F =
+        let o = S.open_still f seq (subst (λ (ts : List ℕ). slice_index_or ts f 0 < seq) H.counts lt) in
+        let same = same_epoch here e F.low now_is in
+        own_lasts n w.asked asked still S.from places after M (Handed f i e seq) f c (subst (λ (u : ℕ). Handed f i u seq ≡ S.from → ⊥) same o.1) (F.own d.state (was_up H.leads) H.leads same o.0)
+
+    others_wait : (after : Places) → Moves S.from places after → AllWait n asked after i S.ticket H.others
+    others_wait after M = wait_last n w.asked asked still S.from places after M i S.ticket H.others S.apart S.wait
+
+    counted : (after : Places) (xs : List Waiting) (t : ℕ) → d.y.state.clients.queue ≡ xs → AllWait n asked after i t xs → Waits n asked after i d.y.state.clients.queue d.y.state.clients.taken
+    counted after xs t e h = (ap (λ (ts : List ℕ). length ts) H.counts ∙ S.long, t, subst (AllWait n asked after i t) (sym e) h)
+
+    leaves_as : (after : Places) → Moves S.from places after → ((k : ℕ) → length asked ≤ k → after k ≡ Nowhere) → ((k v : ℕ) (bytes : List ℕ) → after k ≡ Begun v bytes → (places k ≡ Begun v bytes) ⊎ MadeAt n asked w.log k v bytes)
+        → Waits n asked after i d.y.state.clients.queue d.y.state.clients.taken → ((v q : ℕ) (x : List Op) → Among (Vote v q x) d.y.changes → (k : ℕ) × (after k ≡ Begun v (text x))) → (d.y.readings.last ≡ w0.last) ⊎ CommitsOwn after → Leaves
+    leaves_as after M free begun waits votes lone = record { from = S.from; at = S.at; after = after; moves = M; free = free; begun = begun; waits = waits; opens = takes_opens after M; sends = others_sent after d.y.out H.out; votes = λ several. votes; lone = λ one. lone }
+
+    -- the request goes to a place
+    abbrev goes_to : Place → Places
+    goes_to to = moved_to S.k to places
+
+    goes : (to : Place) → Moves S.from places (goes_to to)
+    goes to = moves S.k S.from to places S.place
+
+    goes_free : (to : Place) (k : ℕ) → length asked ≤ k → goes_to to k ≡ Nowhere
+    goes_free to k le = let lt = slice_get_within asked S.k S.asks.by S.asks.at in ap (λ (b : Bool). cond b to (places k)) (ne_eqb k S.k (λ e. omega arith)) ∙ free_still k le
+
+    -- what request k made at a place, if any
+    abbrev MadeThere : Place → Type 0
+    MadeThere (Begun v bytes) = MadeAt n asked w.log S.k v bytes
+    MadeThere other = Unit {0}
+
+    module _ (ops : List Op) (own : MadeOf n asked w.log S.k (suc w0.last) ops) where
+      abbrev to : Place
+      to = Begun (suc w0.last) (text ops)
+
+      there : goes_to to S.k ≡ to
+      there = is_moved S.k to places
+
+      begun_in : (k v : ℕ) (bytes : List ℕ) → goes_to to k ≡ Begun v bytes → (places k ≡ Begun v bytes) ⊎ MadeAt n asked w.log k v bytes
+      begun_in k v bytes e = elim (was_there S.k to places k (Begun v bytes) e) [ inl o ↦ inl o | inr q ↦ inr (subst (λ (j : ℕ). MadeAt n asked w.log j v bytes) (sym q.0) (subst MadeThere q.1 (record { x = ops; spells = refl; of = own }))) ]
+
+      votes_in : Proposes self d.at w0 d.state Source Asks ops d.y ⊎ Commits self d.at w0 d.state Source Asks ops d.y → (v q : ℕ) (x : List Op) → Among (Vote v q x) d.y.changes → (k : ℕ) × (goes_to to k ≡ Begun v (text x))
+      votes_in (inl c) v q x a = elim (subst (λ (cs : List Change). Among (Vote v q x) cs) c.1 a) [ inl e ↦ (S.k, there ∙ sym (ap vote_place e)) | inr b ↦ absurd b ]
+      votes_in (inr c) v q x a = elim (subst (λ (cs : List Change). Among (Vote v q x) cs) c.0 a) [ inl e ↦ absurd cc | inr b ↦ elim b [ inl e ↦ absurd cc | inr b ↦ absurd b ] ]
+
+      lone_in : Proposes self d.at w0 d.state Source Asks ops d.y ⊎ Commits self d.at w0 d.state Source Asks ops d.y → (d.y.readings.last ≡ w0.last) ⊎ CommitsOwn (goes_to to)
+      lone_in (inl c) = inl c.2
+      lone_in (inr c) = inr (record { ops = ops; k = S.k; place = there; made = own; changes = c.0; last = c.1 })
+
+    takes_leaves : Leaves
+    takes_leaves = by H.becomes
+      where
+        waits_there : (x : Waiting) (to : Place) → to ≡ Queued i (S.ticket + length H.others) → AskedAt n asked S.k (asker i x.origin) x.command → AllWait n asked (goes_to to) i S.ticket (H.others ++ x ∷ [])
+        waits_there x to is a = wait_push n asked (goes_to to) i S.ticket H.others x (others_wait (goes_to to) (goes to)) (record { k = S.k; place = is_moved S.k to places ∙ is; of = a })
+
+        by : Becomes self d.at w0 d.state Source Asks H.command H.origin H.others d.y → Leaves
+        by (inl z) = leaves_as places (λ j q e apart. e) free_still (λ k v bytes e. inl e) (counted places H.others S.ticket z.0 (others_wait places (λ j q e apart. e))) (no_votes places z.1.changes) (inl (ap (λ (r : Readings). r.last) z.1.readings))
+        by (inr (inl z)) =
+            let to = Queued i (S.ticket + length H.others) in
+            let x : Waiting = record { command = H.command; origin = H.origin } in
+            leaves_as (goes_to to) (goes to) (goes_free to)
+            (λ k v bytes e. elim (was_there S.k to places k (Begun v bytes) e) [ inl o ↦ inl o | inr q ↦ (let bad : to ≡ Begun v bytes = q.1 in absurd cc) ])
+            (counted (goes_to to) (H.others ++ x ∷ []) S.ticket z.0 (waits_there x to refl S.asks)) (no_votes (goes_to to) z.1.changes) (inl (ap (λ (r : Readings). r.last) z.1.readings))
+        by (inr (inr z)) =
+            let B = z.1 in
+            let own = made_over H.leads S.k H.command H.origin B.ops S.asks B.made in
+            let to = Begun (suc w0.last) (text B.ops) in
+            leaves_as (goes_to to) (goes to) (goes_free to) (begun_in B.ops own) (counted (goes_to to) H.others S.ticket z.0 (others_wait (goes_to to) (goes to))) (votes_in B.ops own B.how) (lone_in B.ops own B.how)
+
+  -- a peon hands one on
+  hands_leaves : Hands self d.at w0 d.state Source Asks d.y → Leaves
+  hands_leaves H = record {
+    from = Nowhere;
+    at = tt;
+    after = after;
+    moves = moves k0 Nowhere to places H.asked.0;
+    free = λ k le. let lt = slice_get_within asked k0 H.asked.1.by H.asked.1.at in ap (λ (b : Bool). cond b to (places k)) (ne_eqb k k0 (λ e. omega arith)) ∙ free_still k le;
+    begun = λ k v bytes e. elim (was_there k0 to places k (Begun v bytes) e) [ inl o ↦ inl o | inr q ↦ (let bad : to ≡ Begun v bytes = q.1 in absurd cc) ];
+    waits = same_waits after d.y.state.clients (H.queue, H.taken) wait;
+    opens = λ here f e seq c leads now_is lt apart below F. no (sym (ap is_leading H.still ∙ peon_leads_not d.state.phase H.peon) ∙ leads);
+    sends = subst (λ (out : List Sent). AllByRecursion (SendsOwn after) out) (sym H.out) ((low, record { k = k0; place = is_moved k0 to places; of = H.asked.1 }), tt);
+    votes = λ several. no_votes after H.writes.changes;
+    lone = λ one. inl (ap (λ (r : Readings). r.last) H.writes.readings);
+  }
+    where
+      k0 : ℕ
+      k0 = length w.asked
+
+      to : Place
+      to = Handed i d.state.peon.leader (epoch_of w0) H.seq
+
+      after : Places
+      after = moved_to (length w.asked) (Handed i d.state.peon.leader (epoch_of w0) H.seq) places
+
+      wait : Waits n asked after i d.state.clients.queue d.state.clients.taken
+      wait = let q = waited in (q.0, q.1, wait_last n w.asked asked still Nowhere places after (moves k0 Nowhere to places H.asked.0) i q.1 d.state.clients.queue (λ u le e. absurd cc) q.2)
+
+      low : epoch_of w0 ≤ epoch_of (readings_of (w.store d.state.peon.leader))
+      low =
+          let c : Core = core_of (own_of w0) d.state in
+          let F : FollowsIn I.g i c = subst (InPhase n I.g i c) (peon_is_peon d.state.phase H.peon) K in
+          (I.mine d.state.peon.leader).disk.kept.roles (epoch_of w0) d.state.peon.leader d.state.peon.quorum (I.glob.roles.lead i (epoch_of w0) d.state.peon.leader d.state.peon.quorum F.role)
+
+  pub leaves : Leaves
+  leaves = by outcome
+    where
+      by : Outcome self d.at w0 d.state Source Asks d.came d.y → Leaves
+      by (inl N) = idle_leaves N
+      by (inr (inl H)) = takes_leaves H
+      by (inr (inr H)) = hands_leaves H

@@ -1,0 +1,339 @@
+-- What a monitor does with a command that comes to it, or that waits there: it is refused, waits, becomes the next version's value, or is
+-- handed on. Each is done once.
+use Rattle.mon_bytes.specs.declared.command.Command.TheVariants as command
+use Rattle.mon_bytes.specs.declared.command.Command.{Command}
+use Rattle.mon_bytes.specs.declared.command.CommandRefused.{CommandRefused}
+use Rattle.mon_bytes.specs.declared.entry.Entry.{Entry}
+use Rattle.mon_lease.specs.Lease.{readable}
+use Rattle.mon_msg.specs.Protocol.Changes.{Last, Learn, Vote}
+use Rattle.mon_msg.specs.Protocol.Commands.{ask, at_leader, at_peon, hear_forward, is_too_long, may_propose, most_waiting, propose_due, too_long}
+use Rattle.mon_msg.specs.Protocol.Course.{Course, disarm, leads_in, ◌▸◌}
+use Rattle.mon_msg.specs.Protocol.Hearing.{hear, hear_client, is_heard}
+use Rattle.mon_msg.specs.Protocol.Leader.{is_one_of, of_member}
+use Rattle.mon_msg.specs.Protocol.Leading.{begin, begin_alone, begin_with, has_queue, is_alone}
+use Rattle.mon_msg.specs.Protocol.Learning.{learn}
+use Rattle.mon_msg.specs.Protocol.Phases.{is_leading, is_member, is_peon, same_phase}
+use Rattle.mon_msg.specs.Protocol.Proposing.{asked_of, begin_made, propose, propose_first, propose_next, refusal}
+use Rattle.mon_msg.specs.Protocol.Readings.{Readings, epoch_of}
+use Rattle.mon_msg.specs.Protocol.Reads.{is_standing, read, shown, since}
+use Rattle.mon_msg.specs.Protocol.Sending.{answer_any, answer_to, members, message_to}
+use Rattle.mon_msg.specs.Protocol.Services.{service_last}
+use Rattle.mon_msg.specs.Protocol.State.{State, lease_of}
+use Rattle.mon_msg.specs.Protocol.Table.{at_rest, before_start, react, running, timer_comes}
+use Rattle.mon_msg.specs.Protocol.Timers.{end_of}
+use Rattle.mon_msg.specs.Protocol.Value.{service_of, value}
+use Rattle.mon_msg.specs.declared.clients.Waiting.{Waiting}
+use Rattle.mon_msg.specs.declared.input.Input.TheVariants as input
+use Rattle.mon_msg.specs.declared.input.Input.{Input}
+use Rattle.mon_msg.specs.declared.paxos.LeaderStage.TheVariants as stage
+use Rattle.mon_msg.specs.declared.plan.Origin.TheVariants as origin
+use Rattle.mon_msg.specs.declared.plan.Origin.{Origin}
+use Rattle.mon_msg.specs.declared.plan.Sent.TheVariants as sent
+use Rattle.mon_msg.specs.declared.plan.Sent.{Sent}
+use Rattle.mon_msg.specs.declared.view.Me.{Me}
+use Rattle.mon_tx.specs.declared.op.Op.{Op}
+use Rattle.mon_types.specs.Ranks.{has}
+use Rattle.mon_types.specs.declared.names.Which.TheVariants as which
+use Rattle.mon_types.specs.declared.names.Which.{Which}
+use Rattle.mon_wire.specs.declared.body.Body.TheVariants as body
+use Rattle.mon_wire.specs.declared.body.Body.{Body}
+use Rattle.mon_wire.specs.declared.message.Message.{Message}
+use Rattle.mon_wire.specs.declared.phase.Phase.TheVariants as phase
+use Rattle.mon_wire.specs.declared.phase.Phase.{Phase}
+use Rattle.mon_wire.specs.declared.phase.Timer.TheVariants as timer
+use Rattle.mon_wire.specs.declared.phase.Timer.{Timer}
+use Rattle.mon_wire.specs.declared.reply.Reply.TheVariants as reply
+use Rattle.mon_wire.specs.declared.reply.Reply.{Reply}
+use Rattle.mon_wire.specs.declared.request.Request.TheVariants as request
+use Rattle.mon_wire.specs.declared.request.Request.{Request}
+use Rattle.mon_wire.specs.declared.request.Session.{Session}
+use Rattle.quorum_agreement.proofs.Accepting.{then_map}
+use Rattle.quorum_agreement.proofs.Lone.{active_is}
+use Rattle.quorum_commands.proofs.Acts.{AllOther, IsOther}
+use Rattle.quorum_commands.proofs.Idle.{Idle, before, body_brings, brings, hears, rests, rings, says}
+use Rattle.quorum_history.proofs.Phases.{any_leads, no}
+use Rattle.quorum_walk.proofs.Lists.{all_of}
+use Rattle.quorum_walk.proofs.Walk.{Then, and_then, and_three, by_test, done, where_fits}
+use Rattle.std.proofs.Common.{Err, List, Ok, Option, Result, Some, [], ap, arith, eqb, false, inl, inr, leb, length, ltb, not, refl, subst, suc, sym, true, ℕ, ◌&&◌, ◌+◌, ◌<◌, false, ◌++◌, ◌∙◌, ◌∷◌, ◌≡◌, ◌⊎◌}
+use Rattle.std.proofs.lemmas.Bool.{and_parts, eqb-false, eqb-true, not-false, not-true}
+use Rattle.std.specs.Prelude.{is_some, slice_index_or, slice_set}
+
+-- ---- what becomes of it
+
+-- Source says of a command and its origin where it comes from, where these are those that wait besides and those that were taken of peons; and
+-- Asks that a session asked it just now.
+module _ (me : Me) (now : ℕ) (w : Readings) (s : State) (Source : Command → Origin → List Waiting → List ℕ → Type 0) (Asks : Session → Command → Type 0) where
+  pub record WritesNone (y : Course) : Type 0 where
+    pub changes : y.changes ≡ []
+    pub readings : y.readings ≡ w
+
+  abbrev pub Proposes : List Op → Course → Type 0
+  Proposes ops y = (pn : ℕ) × (y.changes ≡ Vote (suc w.last) pn ops ∷ []) × (y.readings.last ≡ w.last)
+
+  abbrev pub Commits : List Op → Course → Type 0
+  Commits ops y = (y.changes ≡ Learn (suc w.last) ops ∷ Last (suc w.last) ∷ []) × (y.readings.last ≡ suc w.last)
+
+  -- it becomes the value of the next version, which the leader proposes, or commits at once
+  pub record Begins (c : Command) (o : Origin) (y : Course) : Type 0 where
+    pub ops : List Op
+    pub made : value w c (asked_of me o) ≡ Ok ops
+    pub how : Proposes ops y ⊎ Commits ops y
+
+  -- it is refused, it waits behind the others, or it begins
+  abbrev pub Becomes : Command → Origin → List Waiting → Course → Type 0
+  Becomes c o others y = ((y.state.clients.queue ≡ others) × WritesNone y) ⊎ (((y.state.clients.queue ≡ others ++ record { command = c; origin = o } ∷ []) × WritesNone y) ⊎ ((y.state.clients.queue ≡ others) × Begins c o y))
+
+  pub record Takes (y : Course) : Type 0 where
+    pub command : Command
+    pub origin : Origin
+    pub others : List Waiting
+    pub taken : List ℕ
+    pub source : Source command origin others taken
+    pub leads : is_leading s.phase ≡ true
+    pub out : AllOther y.out
+    pub counts : y.state.clients.taken ≡ taken
+    pub becomes : Becomes command origin others y
+
+  -- a peon hands it on
+  pub record Hands (y : Course) : Type 0 where
+    pub session : Session
+    pub command : Command
+    pub asked : Asks session command
+    pub peon : is_peon s.phase ≡ true
+    pub still : y.state.phase ≡ s.phase
+    pub seq : ℕ
+    pub out : y.out ≡ message_to me (epoch_of w) (body.Forward seq command) s.peon.leader ∷ []
+    pub queue : y.state.clients.queue ≡ s.clients.queue
+    pub taken : y.state.clients.taken ≡ s.clients.taken
+    pub writes : WritesNone y
+
+  -- or it takes none
+  pub record TakesNone (came : Input) (y : Course) : Type 0 where
+    pub idle : Idle me now w s y
+    pub stays : brings came ≡ true → y.changes ≡ []
+
+  abbrev pub Outcome : Input → Course → Type 0
+  Outcome came y = TakesNone came y ⊎ (Takes y ⊎ Hands y)
+
+  -- ---- a leader
+
+  abbrev x0 : Course
+  x0 = at_rest w s
+
+  answer_other : (e : ℕ) (o : Origin) (r : Reply) → AllOther (answer_to me e o r ∷ [])
+  answer_other e (origin.Session t) r = (tt, tt)
+  answer_other e (origin.Forwarded f seq) r = (tt, tt)
+
+  record LearnedOne (v : ℕ) (ops : List Op) (x y : Course) : Type 0 where
+    state : y.state ≡ x.state
+    out : y.out ≡ x.out
+    last : y.readings.last ≡ v
+    changes : y.changes ≡ (x.changes ++ Learn v ops ∷ []) ++ Last v ∷ []
+
+  learns_one : (v : ℕ) (ops : List Op) (x : Course) → Then (LearnedOne v ops x) (learn v (ops ∷ []) x)
+  unfolding learn
+  learns_one v ops x = where_fits (LearnedOne v ops x) which.Version (v + 0) _ (λ _. done (record { state = refl; out = refl; last = omega arith; changes = ap (λ (c : ℕ). (x.changes ++ Learn v ops ∷ []) ++ Last c ∷ []) (let e : v + 0 ≡ v = omega arith in e) }))
+
+  -- what it remembers but for its clients is what it was
+  module _ (c : Command) (o : Origin) (z : State) (F : Source c o z.clients.queue z.clients.taken) (leads : is_leading s.phase ≡ true) where
+    proposes : same_phase z.phase phase.Active ≡ true → Then Takes (propose me now c o (at_rest w z))
+    unfolding propose begin begin_alone begin_with
+    proposes lead = where_fits Takes which.Version (suc (service_last w (service_of c))) _ (λ _. by (value w c (asked_of me o)) refl)
+      where
+        at_once : (ops : List Op) → value w c (asked_of me o) ≡ Ok ops → (y : Course) → LearnedOne (suc w.last) ops (at_rest w z) y → Takes (y ▸ leads_in stage.Active ▸ answer_any me (Some o) (reply.Done (suc w.last)))
+        at_once ops e y K = record {
+          command = c;
+          origin = o;
+          others = z.clients.queue;
+          taken = z.clients.taken;
+          source = F;
+          leads = leads;
+          out = subst (λ (out : List Sent). AllOther (out ++ answer_to me (epoch_of y.readings) o (reply.Done (suc w.last)) ∷ [])) (sym K.out) (answer_other (epoch_of y.readings) o (reply.Done (suc w.last)));
+          counts = ap (λ (q : State). q.clients.taken) K.state;
+          becomes = inr (inr (ap (λ (q : State). q.clients.queue) K.state, record { ops = ops; made = e; how = inr (K.changes, K.last) }));
+        }
+
+        by : (r : Result (List Op) CommandRefused) → value w c (asked_of me o) ≡ r → Then Takes (begin_made me now o r (at_rest w z))
+        by (Ok ops) e = where_fits Takes which.Version (suc w.last) _ (λ _. by_test (is_alone me z.leader.quorum)
+            (λ _. and_then (LearnedOne (suc w.last) ops (at_rest w z)) Takes (learn (suc w.last) (ops ∷ []) (at_rest w z)) _ (learns_one (suc w.last) ops (at_rest w z)) (λ y K. done (at_once ops e y K)))
+            (λ _. done (record {
+              command = c;
+              origin = o;
+              others = z.clients.queue;
+              taken = z.clients.taken;
+              source = F;
+              leads = leads;
+              out = all_of IsOther (message_to me (epoch_of w) (body.Begin z.leader.pn (suc w.last) ops)) (λ to. tt) (members me z.leader.quorum);
+              counts = refl;
+              becomes = inr (inr (refl, record { ops = ops; made = e; how = inl (z.leader.pn, refl, refl) }));
+            })))
+        by (Err e) q = done (record {
+          command = c;
+          origin = o;
+          others = z.clients.queue;
+          taken = z.clients.taken;
+          source = F;
+          leads = leads;
+          out = answer_other (epoch_of w) o (refusal e);
+          counts = refl;
+          becomes = inl (refl, record { changes = refl; readings = refl });
+        })
+
+    refuses : (r : Reply) → Takes (record (at_rest w z) { out = answer_to me (epoch_of w) o r ∷ [] })
+    refuses r = record {
+      command = c;
+      origin = o;
+      others = z.clients.queue;
+      taken = z.clients.taken;
+      source = F;
+      leads = leads;
+      out = answer_other (epoch_of w) o r;
+      counts = refl;
+      becomes = inl (refl, record { changes = refl; readings = refl });
+    }
+
+    at_leads : Then Takes (at_leader me now c o (at_rest w z))
+    at_leads =
+        by_test (is_too_long c) (λ _. done (refuses (too_long c))) (λ _.
+        by_test (may_propose me now (at_rest w z) && not (has_queue (at_rest w z))) (λ t. proposes (and_three (same_phase z.phase phase.Active) (is_standing me now z) (not (has_queue (at_rest w z))) t).0) (λ _.
+        by_test (leb most_waiting (length z.clients.queue)) (λ _. done (refuses (reply.Busy most_waiting))) (λ _. done (record {
+          command = c;
+          origin = o;
+          others = z.clients.queue;
+          taken = z.clients.taken;
+          source = F;
+          leads = leads;
+          out = tt;
+          counts = refl;
+          becomes = inr (inl (refl, record { changes = refl; readings = refl }));
+        }))))
+
+  -- ---- what brings a command
+
+  -- nothing is done but what is said
+  resting : (came : Input) (sends : List Sent) → AllOther sends → Then (Outcome came) (Ok (record x0 { out = sends }))
+  resting came sends O = done (inl (record { idle = (says me now w s sends O).holds; stays = λ t. refl }))
+
+  -- what brings none takes none
+  idly : (came : Input) → brings came ≡ false → (r : Result Course Which) → Then (Idle me now w s) r → Then (Outcome came) r
+  idly came none r = then_map (Idle me now w s) (Outcome came) r (λ y I. inl (record { idle = I; stays = λ t. no (sym none ∙ t) }))
+
+  taking : (came : Input) (r : Result Course Which) → Then Takes r → Then (Outcome came) r
+  taking came r = then_map Takes (Outcome came) r (λ y T. inr (inl T))
+
+  abbrev leading : List Phase
+  leading = phase.Collecting ∷ phase.Previous ∷ phase.Active ∷ phase.Updating ∷ []
+
+  forward_heard : (f e seq : ℕ) (c : Command) (came : Input) → (is_leading s.phase ≡ true → e ≡ epoch_of w → ltb (slice_index_or s.clients.taken f 0) seq ≡ true → Source c (origin.Forwarded f seq) s.clients.queue (slice_set s.clients.taken f seq))
+      → Then (Outcome came) (hear_forward me now f e seq c x0)
+  unfolding hear_forward
+  forward_heard f e seq c came F =
+      by_test (not (of_member leading f e x0 && ltb (slice_index_or s.clients.taken f 0) seq)) (λ _. resting came [] tt)
+      (λ heard. let a = and_parts (of_member leading f e x0) (ltb (slice_index_or s.clients.taken f 0) seq) (not-false _ heard) in
+      let b = and_three (is_one_of leading s.phase) (eqb e (epoch_of w)) (has s.leader.quorum f) a.0 in
+      taking came _ (at_leads c (origin.Forwarded f seq) (record s { clients = record s.clients { taken = slice_set s.clients.taken f seq } }) (F (any_leads s.phase b.0) (eqb-true e (epoch_of w) b.1) a.1) (any_leads s.phase b.0)))
+
+  due : (ts : List (Option ℕ)) → ((x : Waiting) (xs : List Waiting) → s.clients.queue ≡ x ∷ xs → Source x.command x.origin xs s.clients.taken) → Then (Outcome (input.Timer timer.Propose)) (propose_due me now (at_rest w (record s { timers = ts })))
+  unfolding propose_due propose_next
+  due ts F = by_test (may_propose me now (at_rest w (record s { timers = ts })))
+      (λ t. let a = (and_parts (same_phase s.phase phase.Active) (is_standing me now (record s { timers = ts })) t).0 in first a s.clients.queue refl) (λ _. stays)
+    where
+      stays : Then (Outcome (input.Timer timer.Propose)) (Ok (at_rest w (record s { timers = ts })))
+      stays = let I = (rests me now w s).holds in done (inl (record { idle = record { out = I.out; clients = I.clients; leads = I.leads; last = I.last }; stays = λ t. refl }))
+
+      first : same_phase s.phase phase.Active ≡ true → (ws : List Waiting) → s.clients.queue ≡ ws → Then (Outcome (input.Timer timer.Propose)) (propose_first me now ws (at_rest w (record s { timers = ts })))
+      first a [] e = stays
+      first a (x ∷ ws) e = taking (input.Timer timer.Propose) _ (proposes x.command x.origin (record s { timers = ts; clients = record s.clients { queue = ws } }) (F x ws e) (ap is_leading (active_is s.phase a)) a)
+
+  at_peons : (c : Command) (t : Session) (r : Request) → is_peon s.phase ≡ true → Asks t c → Then (Outcome (input.Client t r)) (at_peon me c t x0)
+  at_peons c t r peon A =
+      by_test (is_too_long c) (λ _. resting (input.Client t r) (sent.Reply t (too_long c) ∷ []) (tt, tt)) (λ _.
+      by_test (leb most_waiting (length s.clients.sessions)) (λ _. resting (input.Client t r) (sent.Reply t (reply.Busy most_waiting) ∷ []) (tt, tt)) (λ _.
+      where_fits (Outcome (input.Client t r)) which.Seq s.clients.next_seq _ (λ _. done (inr (inr (record {
+        session = t;
+        command = c;
+        asked = A;
+        peon = peon;
+        still = refl;
+        seq = s.clients.next_seq;
+        out = refl;
+        queue = refl;
+        taken = refl;
+        writes = record { changes = refl; readings = refl };
+      }))))))
+
+  asks : (t : Session) (r : Request) (c : Command) → Source c (origin.Session t) s.clients.queue s.clients.taken → Asks t c → Then (Outcome (input.Client t r)) (ask me now t c x0)
+  unfolding ask
+  asks t r c F A = by_test (is_leading s.phase) (λ leads. taking (input.Client t r) _ (at_leads c (origin.Session t) s F leads))
+      (λ _. by_test (is_peon s.phase) (λ peon. at_peons c t r peon A) (λ _. resting (input.Client t r) (sent.Reply t reply.Unavailable ∷ []) (tt, tt)))
+
+  reads : (t : Session) (r : Request) (reading : Readings → Reply) → Then (Outcome (input.Client t r)) (read me now t reading x0)
+  reads t r reading =
+      by_test (not (is_member s.phase)) (λ _. resting (input.Client t r) (sent.Reply t reply.Unavailable ∷ []) (tt, tt)) (λ _.
+      by_test (not (readable w.last me.member.monitors (lease_of s) now)) (λ _. resting (input.Client t r) (sent.Reply t (reply.NotReadable w.last (is_standing me now s)) ∷ []) (tt, tt))
+      (λ _. resting (input.Client t r) (sent.Reply t (reading w) ∷ []) (tt, tt)))
+
+  -- ---- the table
+
+  -- what is known of what comes
+  abbrev pub FromClient : Session → Command → Type 0
+  FromClient t c = Source c (origin.Session t) s.clients.queue s.clients.taken × Asks t c
+
+  abbrev pub RequestKnown : Session → Request → Type 0
+  RequestKnown t (request.Set key value) = FromClient t (command.Set key value)
+  RequestKnown t (request.Remove key) = FromClient t (command.Remove key)
+  RequestKnown t (request.Log text) = FromClient t (command.Log text)
+  RequestKnown t other = Unit {0}
+
+  abbrev pub BodyKnown : (f e : ℕ) → Body → Type 0
+  BodyKnown f e (body.Forward seq c) = (f ≡ me.member.rank → ⊥) → is_leading s.phase ≡ true → e ≡ epoch_of w → ltb (slice_index_or s.clients.taken f 0) seq ≡ true → Source c (origin.Forwarded f seq) s.clients.queue (slice_set s.clients.taken f seq)
+  BodyKnown f e other = Unit {0}
+
+  abbrev pub TimerKnown : Timer → Type 0
+  TimerKnown timer.Propose = (x : Waiting) (xs : List Waiting) → s.clients.queue ≡ x ∷ xs → Source x.command x.origin xs s.clients.taken
+  TimerKnown other = Unit {0}
+
+  abbrev pub InputKnown : Input → Type 0
+  InputKnown input.Start = Unit {0}
+  InputKnown (input.Deliver m) = (m.from < me.member.monitors) × BodyKnown m.from m.epoch m.body
+  InputKnown (input.Timer t) = TimerKnown t
+  InputKnown (input.Client t r) = RequestKnown t r
+
+  clients : (t : Session) (r : Request) → RequestKnown t r → Then (Outcome (input.Client t r)) (hear_client me now t r x0)
+  unfolding hear_client
+  clients t (request.Set key value) k = asks t (request.Set key value) (command.Set key value) k.0 k.1
+  clients t (request.Remove key) k = asks t (request.Remove key) (command.Remove key) k.0 k.1
+  clients t (request.Log text) k = asks t (request.Log text) (command.Log text) k.0 k.1
+  clients t (request.Show v) k = reads t (request.Show v) (λ z. shown z v)
+  clients t (request.Since v n) k = reads t (request.Since v n) (λ z. since z v n)
+
+  rung : (t : Timer) → TimerKnown t → Then (Outcome (input.Timer t)) (timer_comes me now t (disarm t x0))
+  rung timer.Propose k = due (disarm timer.Propose x0).state.timers k
+  rung t k = idly (input.Timer t) refl _ (rings me now w s t refl)
+
+  module _ (shared : List Entry) where
+    said : (m : Message) → (me.member.monitors ≡ 1 → ⊥) → (m.from ≡ me.member.rank → ⊥) → (b : Body) → m.body ≡ b → BodyKnown m.from m.epoch b → Then (Outcome (input.Deliver m)) (hear me shared now m.from m.epoch b x0)
+    said m several apart (body.Forward seq c) e k = forward_heard m.from m.epoch seq c (input.Deliver m) (k apart)
+    said m several apart b e k = idly (input.Deliver m) (ap body_brings e) _ (hears me now w s several shared m.from m.epoch b refl)
+
+    -- who hears another is not alone
+    not_alone : (m : Message) → m.from < me.member.monitors → (m.from ≡ me.member.rank → ⊥) → me.member.monitors ≡ 1 → ⊥
+    not_alone m lt apart one = apart (let a = me.member.in_map in omega arith)
+
+    runs : (came : Input) → InputKnown came → Then (Outcome came) (running me shared now came x0)
+    runs input.Start k = idly input.Start refl _ (rests me now w s)
+    runs (input.Deliver m) k = by_test (is_heard me m) (λ heard.
+        let apart = eqb-false m.from me.member.rank (not-true _ (and_three (not (eqb m.from me.member.rank)) _ _ heard).0) in
+        said m (not_alone m k.0 apart) apart m.body refl k.1) (λ _. resting (input.Deliver m) [] tt)
+    runs (input.Timer t) k = by_test (is_some (end_of t s.timers)) (λ _. rung t k) (λ _. resting (input.Timer t) [] tt)
+    runs (input.Client t r) k = clients t r k
+
+    begins : (came : Input) → Then (Outcome came) (before_start me now came x0)
+    begins input.Start = idly input.Start refl _ (before me now w s input.Start)
+    begins (input.Deliver m) = resting (input.Deliver m) [] tt
+    begins (input.Timer t) = resting (input.Timer t) [] tt
+    begins (input.Client t r) = resting (input.Client t r) (sent.Reply t reply.Unavailable ∷ []) (tt, tt)
+
+    pub takes : (came : Input) → InputKnown came → Then (Outcome came) (react me shared now w s came)
+    unfolding react
+    takes came k = by_test (same_phase s.phase phase.Booting) (λ _. begins came) (λ _. runs came k)
