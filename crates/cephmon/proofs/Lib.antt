@@ -1,3 +1,6 @@
-pub mod Building
+pub mod Counting
+pub mod Exact
 pub mod Runs
+pub mod Schedules
+pub mod Spelled
 pub mod Writing

@@ -1,45 +1,43 @@
 -- What each end of a run shows.
-use Rattle.std.proofs.Common.{◌≡◌, ℕ, ◌<◌, ◌≤◌, Bool, String, List, [], ◌∷◌, map, length, Option, Some, None, is_some, Err, slice_index_or, codes, sym, ap, subst, ◌∙◌, arith, inl, inr}
-use Rattle.std.specs.declared.alloc.Global.{Global}
-use Rattle.std.specs.Bool.{OnTrue}
-use Rattle.std.specs.String.{string_bytes}
-use Rattle.std.specs.Str.{bytes_eq}
-use Rattle.std.proofs.lemmas.Bool.{OnTrue_from}
-use Rattle.std.proofs.lemmas.Slice.Eq.{bytes_eq-Decides}
+use Rattle.std.proofs.Common.{◌≡◌, ℕ, ◌<◌, ◌≤◌, List, [], length, Option, Some, None, is_some, Result, Ok, Err, refl, sym, ap, subst, arith, inl, inr}
 use Rattle.std.specs.Io.KnownBytes.{Appends, IsAtEnd}
-use Rattle.mon_types.specs.declared.names.Which.{Which}
+use Rattle.std.proofs.KnownBytes.{Appends-nil}
+use Rattle.mon_types.specs.Faults.{Rose}
+use Rattle.mon_types.specs.declared.names.Stop.{Stop}
+use Rattle.mon_types.specs.declared.names.Stop.TheVariants as outside
 use Rattle.mon_link.specs.Whole.{ReadsWhole, ConsumesFront, AppendsFront}
 use Rattle.quorum_model.specs.Happens as happens
-use Rattle.quorum_model.specs.Monitors.{alone}
-use Rattle.quorum_model.specs.Safe.{Safe}
-use Rattle.quorum_model.specs.Scenes.{events_of}
-use Rattle.quorum_model.proofs.Whole.{runs_are_safe}
+use Rattle.quorum_model.specs.Monitors.{Monitors}
+use Rattle.quorum_model.specs.Scenes.{Scene, first_scene}
+use Rattle.schedule_made.specs.Made.{made_schedule}
+use Rattle.schedule_made.proofs.MadeLaws.{made_has_text}
+use Rattle.schedule_text.specs.declared.event.Event.{Event}
 use Rattle.schedule_text.specs.declared.schedule.Schedule.{Schedule}
 use Rattle.schedule_text.specs.Spelling.{HasText, schedule_text}
-use Rattle.cephmon.specs.Built.{unbuilt}
-use Rattle.mon_world.specs.Events.{scheduled_of}
-use Rattle.cephmon.specs.Trace.{Trace, trace}
+use Rattle.mon_world.specs.declared.stop.WorldStop.{WorldStop}
+use Rattle.mon_world.specs.declared.stop.WorldStop.TheVariants as world_stop
 use Rattle.cephmon.specs.declared.replay.ReplayStop.{ReplayStop}
 use Rattle.cephmon.specs.declared.replay.ReplayStop.TheVariants as stop
-use Rattle.cephmon.specs.Replay.{Writes}
-use Rattle.cephmon.specs.Run.{IsReplay, Replays, most_read}
-use Rattle.cephmon.proofs.Building.{all_run}
-use Rattle.mon_world.proofs.Spoken.{all_spoken}
+use Rattle.cephmon.specs.declared.status.Status.{Status}
+use Rattle.cephmon.specs.declared.status.Status.TheVariants as status
+use Rattle.cephmon.specs.declared.summary.Counts.{Counts}
+use Rattle.cephmon.specs.declared.task.Task.TheVariants as task
+use Rattle.cephmon.specs.Replay.{StopsAs, Writes, fault_of, status_of, stop_of}
+use Rattle.cephmon.specs.Run.{HasCause, Made, Outside, Replayed, Runs, SummedAll, TellsFault, WroteNothing, most_read}
+use Rattle.cephmon.specs.Summary.{IsLine, Summary, counted_from, no_counts, summary, summed}
+use Rattle.cephmon.specs.Trace.{Trace, trace}
+use Rattle.cephmon.proofs.Schedules.{is_safe, monitors_of}
 
-pub one_word : (words : List (String Global)) (word : String Global) (text : List ℕ) (b : Bool) → 1 ≤ length words → length words < 2 → word ≡ slice_index_or words 0 word
-    → text ≡ string_bytes word → b ≡ bytes_eq text (codes "replay") → OnTrue b (IsReplay words)
-one_word [] word text b some few first is same = absurd (omega arith)
-one_word (w ∷ []) word text b some few first is same =
-    OnTrue_from b (IsReplay (w ∷ [])) (λ t.
-    let spelled = (bytes_eq-Decides text (codes "replay")).0 (sym same ∙ t) in
-    ap (λ (x : List ℕ). x ∷ []) (ap (λ (s : String Global). string_bytes s) (sym first) ∙ sym is ∙ spelled))
-one_word (w ∷ v ∷ more) word text b some few first is same = absurd (omega arith)
+runs : (s : Schedule) (h : HasText s) → Runs s (monitors_of s h)
+runs s h = record { count = refl; rule = refl; safe = is_safe s (monitors_of s h) h refl }
 
-is_safe : (s : Schedule) → HasText s → unbuilt s ≡ None → Safe alone (events_of alone (map scheduled_of s.events))
-is_safe s h e = runs_are_safe (events_of alone (map scheduled_of s.events)) (all_spoken s.events (all_run s h e))
+-- ---- of what was read
 
-replays : (bytes : List ℕ) (fact : Trace → Type 0) (s : Schedule) → HasText s → unbuilt s ≡ None → bytes ≡ schedule_text s → fact (trace alone s.events) → Replays bytes fact
-replays bytes fact s h b e t = record { schedule = s; form = h; built = b; text = e; safe = is_safe s h b; traced = t }
+-- what was read
+pub record HasRead (before after : Outside) (bytes : List ℕ) : Type 0 where
+  pub tells : is_some after.left ≡ is_some before.left
+  pub most : length bytes ≤ most_read
+  pub whole : ReadsWhole most_read before.left after.left bytes
 
 -- a schedule isn't as long as the most that is read, so that it was read to the end
 at_end : (old new : Option (List ℕ)) (bytes : List ℕ) → is_some new ≡ is_some old → length bytes < most_read → ReadsWhole most_read old new bytes → IsAtEnd new
@@ -52,26 +50,111 @@ at_end (Some xs) (Some ys) bytes told short read = elim read.1 [
 ]
 
 -- what was read whole is a front of what was left
-pub front_of : (old new : Option (List ℕ)) (bytes : List ℕ) → ReadsWhole most_read old new bytes → ConsumesFront old new
+front_of : (old new : Option (List ℕ)) (bytes : List ℕ) → ReadsWhole most_read old new bytes → ConsumesFront old new
 front_of None new bytes read = (bytes, tt)
 front_of (Some xs) None bytes read = absurd read
 front_of (Some xs) (Some ys) bytes read = (bytes, read.0)
 
-pub replayed : (old new : Option (List ℕ)) (bytes : List ℕ) (fact : Trace → Type 0) (s : Schedule) → is_some new ≡ is_some old → length bytes ≤ most_read → ReadsWhole most_read old new bytes
-    → HasText s → unbuilt s ≡ None → bytes ≡ schedule_text s → fact (trace alone s.events)
-    → IsAtEnd new × ((bytes : List ℕ) × (length bytes ≤ most_read) × ReadsWhole most_read old new bytes × Replays bytes fact)
-replayed old new bytes fact s told most read h b e t =
-    let short : length bytes ≤ 16777216 = subst (λ (bytes : List ℕ). length bytes ≤ 16777216) (sym e) h.bytes in
-    (at_end old new bytes told (omega arith) read, (bytes, most, read, replays bytes fact s h b e t))
+replayed : (before after : Outside) (bytes : List ℕ) (s : Schedule) (h : HasText s) (fact : Trace → Type 0) → HasRead before after bytes → bytes ≡ schedule_text s
+    → fact (trace (monitors_of s h) s.events) → Replayed before after fact
+replayed before after bytes s h fact read text holds =
+    let short : length bytes < most_read = omega (arith, h.bytes, ap length text) in (
+      at_end before.left after.left bytes read.tells short read.whole,
+      (bytes, read.most, read.whole, record { schedule = s; form = h; text = text; monitors = monitors_of s h; runs = runs s h; traced = holds }),
+    )
 
-pub at_fault : (e : ReplayStop) (old new : Option (List ℕ)) (t : Trace) → e ≡ stop.WriteFault → Writes (Err e) old new t → AppendsFront old new t.text
-at_fault e old new t is w = subst (λ (e : ReplayStop). Writes (Err e) old new t) is w
+-- bytes of which no schedule was made
+pub faulty : (before after : Outside) (bytes : List ℕ) (s : Status) → HasRead before after bytes → WroteNothing before after → TellsFault bytes s → HasCause task.Replay before after s
+faulty before after bytes (status.Schedule line kind) read silent fault = ((bytes, read.most, read.whole, fault), silent)
+faulty before after bytes status.OutOfMemory read silent fault = inl (front_of before.left after.left bytes read.whole, silent)
+faulty before after bytes status.Done read silent fault = absurd fault
+faulty before after bytes status.Words read silent fault = absurd fault
+faulty before after bytes status.ReadFault read silent fault = absurd fault
+faulty before after bytes status.WriteFault read silent fault = absurd fault
+faulty before after bytes (status.Spent which) read silent fault = absurd fault
+faulty before after bytes (status.Full would_be) read silent fault = absurd fault
 
-pub at_spent : (e : ReplayStop) (which : Which) (old new : Option (List ℕ)) (t : Trace) → e ≡ stop.Spent which → Writes (Err e) old new t → (t.stop ≡ Some (happens.Spent which)) × Appends old new t.text
-at_spent e which old new t is w = subst (λ (e : ReplayStop). Writes (Err e) old new t) is w
+-- a trace that was written
+abbrev pub TraceIsOf : Schedule → Result Unit ReplayStop → Outside → Outside → Type 0
+TraceIsOf s r before after =
+    (ms : Monitors) → ms.count ≡ s.monitors → ms.rule ≡ s.rule → Writes r before.held after.held (trace ms s.events)
 
-pub at_full : (e : ReplayStop) (would_be : ℕ) (old new : Option (List ℕ)) (t : Trace) → e ≡ stop.Full would_be → Writes (Err e) old new t → (t.stop ≡ Some (happens.Full would_be)) × Appends old new t.text
-at_full e would_be old new t is w = subst (λ (e : ReplayStop). Writes (Err e) old new t) is w
+pub replay_done : (before after : Outside) (bytes : List ℕ) (s : Schedule) → HasText s → HasRead before after bytes → bytes ≡ schedule_text s
+    → TraceIsOf s (Ok tt) before after → HasCause task.Replay before after status.Done
+replay_done before after bytes s h read text writes = replayed before after bytes s h _ read text (writes (monitors_of s h) refl refl)
 
-pub at_no_memory : (e : ReplayStop) (old new : Option (List ℕ)) (t : Trace) → e ≡ stop.OutOfMemory → Writes (Err e) old new t → AppendsFront old new t.text
-at_no_memory e old new t is w = subst (λ (e : ReplayStop). Writes (Err e) old new t) is w
+pub replay_stopped : (e : ReplayStop) (before after : Outside) (bytes : List ℕ) (s : Schedule) → HasText s → HasRead before after bytes → bytes ≡ schedule_text s
+    → TraceIsOf s (Err e) before after → (e ≡ stop.WriteFault → Rose before.write_faults after.write_faults) → HasCause task.Replay before after (status_of e)
+replay_stopped stop.WriteFault before after bytes s h read text writes fault =
+    (fault refl, replayed before after bytes s h _ read text (writes (monitors_of s h) refl refl))
+replay_stopped (stop.Spent which) before after bytes s h read text writes fault = replayed before after bytes s h _ read text (writes (monitors_of s h) refl refl)
+replay_stopped (stop.Full would_be) before after bytes s h read text writes fault = replayed before after bytes s h _ read text (writes (monitors_of s h) refl refl)
+replay_stopped stop.OutOfMemory before after bytes s h read text writes fault = inr (replayed before after bytes s h _ read text (writes (monitors_of s h) refl refl))
+
+-- ---- of a made schedule
+
+-- nothing was read
+pub record Unread (before after : Outside) : Type 0 where
+  pub left : after.left ≡ before.left
+  pub faults : after.read_faults ≡ before.read_faults
+
+made : (number events : ℕ) (before after : Outside) (fact : Summary → Type 0) (h : HasText (made_schedule number events)) → Unread before after
+    → fact (summary (monitors_of (made_schedule number events) h) (made_schedule number events).events) → Made number events before after fact
+made number events before after fact h unread holds = record {
+  monitors = monitors_of (made_schedule number events) h;
+  runs = runs (made_schedule number events) h;
+  unread = (unread.left, unread.faults);
+  summed = holds;
+}
+
+-- the line of its summary
+abbrev pub LineIsOf : (number events : ℕ) → List ℕ → Type 0
+LineIsOf number events line =
+    (ms : Monitors) → ms.count ≡ (made_schedule number events).monitors → ms.rule ≡ (made_schedule number events).rule
+    → IsLine (summary ms (made_schedule number events).events) line
+
+pub made_done : (number events : ℕ) (before after : Outside) (line : List ℕ) → events ≤ 100000 → Unread before after → LineIsOf number events line
+    → Appends before.held after.held line → HasCause (task.Made number events) before after status.Done
+made_done number events before after line most unread is written =
+    let h = made_has_text number events most in
+    let l = is (monitors_of (made_schedule number events) h) refl refl in
+    made number events before after _ h unread (l.goes, subst (Appends before.held after.held) (sym l.text) written)
+
+-- it went out in part
+pub made_fault : (e : Stop) (number events : ℕ) (before after : Outside) (line : List ℕ) → events ≤ 100000 → Unread before after → LineIsOf number events line
+    → AppendsFront before.held after.held line → (e ≡ outside.Failed → Rose before.write_faults after.write_faults)
+    → HasCause (task.Made number events) before after (status_of (fault_of e))
+made_fault outside.Failed number events before after line most unread is written fault =
+    let h = made_has_text number events most in
+    let l = is (monitors_of (made_schedule number events) h) refl refl in
+    (fault refl, made number events before after _ h unread (l.goes, subst (AppendsFront before.held after.held) (sym l.text) written))
+made_fault outside.OutOfMemory number events before after line most unread is written fault =
+    let h = made_has_text number events most in
+    let l = is (monitors_of (made_schedule number events) h) refl refl in
+    ((unread.left, unread.faults), inr (made number events before after _ h unread (l.goes, subst (AppendsFront before.held after.held) (sym l.text) written)))
+
+-- of a run that stops nothing is told
+nothing_told : (events n : ℕ) (r : Result (Scene × Counts) happens.Stop) (stop : happens.Stop) → (summed events n r).stop ≡ Some stop → (summed events n r).text ≡ []
+nothing_told events n (Ok done) stop is = absurd cc
+nothing_told events n (Err other) stop is = refl
+
+summed_none : (stop : happens.Stop) (ms : Monitors) (es : List Event) (before after : Outside) → WroteNothing before after → (summary ms es).stop ≡ Some stop
+    → SummedAll before after (Some stop) (summary ms es)
+summed_none stop ms es before after silent is =
+    let none = nothing_told (length es) ms.count (counted_from ms first_scene no_counts es) stop is in
+    (is, subst (λ (new : Option (List ℕ)). Appends before.held new (summary ms es).text) (sym silent.0) (subst (Appends before.held before.held) (sym none) (Appends-nil before.held)))
+
+-- its run stopped, and nothing was written
+pub made_stopped : (e : WorldStop) (number events : ℕ) (before after : Outside) → events ≤ 100000 → Unread before after → WroteNothing before after
+    → ((ms : Monitors) → ms.count ≡ (made_schedule number events).monitors → ms.rule ≡ (made_schedule number events).rule
+    → StopsAs e (summary ms (made_schedule number events).events).stop)
+    → HasCause (task.Made number events) before after (status_of (stop_of e))
+made_stopped world_stop.OutOfMemory number events before after most unread silent stops = ((unread.left, unread.faults), inl silent)
+made_stopped (world_stop.Spent which) number events before after most unread silent stops =
+    let h = made_has_text number events most in
+    let ms = monitors_of (made_schedule number events) h in
+    made number events before after _ h unread (summed_none _ ms (made_schedule number events).events before after silent (stops ms refl refl))
+made_stopped (world_stop.Full would_be) number events before after most unread silent stops =
+    let h = made_has_text number events most in
+    let ms = monitors_of (made_schedule number events) h in
+    made number events before after _ h unread (summed_none _ ms (made_schedule number events).events before after silent (stops ms refl refl))

@@ -1,5 +1,6 @@
-pub mod Built
 pub mod Replay
 pub mod Run
 pub mod Status
+pub mod Summary
+pub mod Task
 pub mod Trace

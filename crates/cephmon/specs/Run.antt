@@ -1,26 +1,28 @@
 -- What a replay reads and writes, and the cause of each status.
-use Rattle.std.specs.Prelude.{◌≡◌, ℕ, ◌≤◌, ◌⊎◌, List, [], ◌∷◌, length, map, Option, Some, None, Err, String, string_bytes, codes}
+use Rattle.std.specs.Prelude.{◌≡◌, ℕ, ◌≤◌, ◌⊎◌, List, length, map, Option, Some, None, Err, String}
 use Rattle.std.specs.declared.alloc.Global.{Global}
 use Rattle.std.specs.Io.KnownBytes.{Appends, IsAtEnd}
 use Rattle.mon_types.specs.Faults.{Rose}
 use Rattle.mon_link.specs.Whole.{ReadsWhole, ConsumesFront, AppendsFront}
 use Rattle.schedule_text.specs.declared.schedule.Schedule.{Schedule}
+use Rattle.schedule_text.specs.declared.refusal.ScheduleKind.{ScheduleKind}
 use Rattle.schedule_text.specs.declared.refusal.ScheduleRefused.TheVariants.{At}
 use Rattle.schedule_text.specs.Spelling.{HasText, schedule_text}
-use Rattle.cephmon.specs.Built.{unbuilt, runnable_at}
+use Rattle.schedule_made.specs.Made.{made_schedule}
+use Rattle.schedule_text.specs.Schedule.{schedule_at}
 use Rattle.quorum_model.specs.Happens.{Stop}
 use Rattle.quorum_model.specs.Happens as happens
-use Rattle.quorum_model.specs.Monitors.{alone}
+use Rattle.quorum_model.specs.Monitors.{Monitors}
 use Rattle.quorum_model.specs.Safe.{Safe}
 use Rattle.quorum_model.specs.Scenes.{events_of}
 use Rattle.cephmon.specs.declared.status.Status.{Status}
 use Rattle.cephmon.specs.declared.status.Status.TheVariants as status
 use Rattle.mon_world.specs.Events.{scheduled_of}
+use Rattle.cephmon.specs.declared.task.Task.{Task}
+use Rattle.cephmon.specs.declared.task.Task.TheVariants as task
+use Rattle.cephmon.specs.Summary.{Summary, summary}
+use Rattle.cephmon.specs.Task.{AsksFor, TaskOf}
 use Rattle.cephmon.specs.Trace.{Trace, trace}
-
--- the one word `replay`
-abbrev pub IsReplay : List (String Global) → Type 0
-IsReplay words = map string_bytes words ≡ codes "replay" ∷ []
 
 -- What stands before a run and after it: what the source has left and what the sink holds, where they tell it, and their counts of
 -- faults. Of a source or a sink that tells nothing, as the standard streams, no bytes are known.
@@ -38,14 +40,20 @@ most_read = 16777217
 abbrev pub OfRead : Outside → Outside → (List ℕ → Type 0) → Type 0
 OfRead before after fact = (bytes : List ℕ) × (length bytes ≤ most_read) × ReadsWhole most_read before.left after.left bytes × fact bytes
 
--- the bytes are the text of a schedule that is run, its run is safe, and its trace has this fact
+-- the monitors of a schedule, whose run is safe
+pub record Runs (schedule : Schedule) (ms : Monitors) : Type 0 where
+  pub count : ms.count ≡ schedule.monitors
+  pub rule : ms.rule ≡ schedule.rule
+  pub safe : Safe ms (events_of ms (map scheduled_of schedule.events))
+
+-- the bytes are the text of a schedule, its run is safe, and its trace has this fact
 pub record Replays (bytes : List ℕ) (fact : Trace → Type 0) : Type 0 where
   pub schedule : Schedule
   pub form : HasText schedule
-  pub built : unbuilt schedule ≡ None
   pub text : bytes ≡ schedule_text schedule
-  pub safe : Safe alone (events_of alone (map scheduled_of schedule.events))
-  pub traced : fact (trace alone schedule.events)
+  pub monitors : Monitors
+  pub runs : Runs schedule monitors
+  pub traced : fact (trace monitors schedule.events)
 
 -- the whole trace went out, and its run came to the end, or this stopped it
 abbrev pub WroteAll : Outside → Outside → Option Stop → Trace → Type 0
@@ -62,23 +70,97 @@ Replayed before after fact = IsAtEnd after.left × OfRead before after (λ bytes
 abbrev pub WroteNothing : Outside → Outside → Type 0
 WroteNothing before after = (after.held ≡ before.held) × (after.write_faults ≡ before.write_faults)
 
+-- nothing was read, or tried to be
+abbrev pub ReadNothing : Outside → Outside → Type 0
+ReadNothing before after = (after.left ≡ before.left) × (after.read_faults ≡ before.read_faults)
+
+-- the schedule of a number was run, which is safe, nothing was read, and its summary has this fact
+pub record Made (number events : ℕ) (before after : Outside) (fact : Summary → Type 0) : Type 0 where
+  pub monitors : Monitors
+  pub runs : Runs (made_schedule number events) monitors
+  pub unread : ReadNothing before after
+  pub summed : fact (summary monitors (made_schedule number events).events)
+
+abbrev pub SummedAll : Outside → Outside → Option Stop → Summary → Type 0
+SummedAll before after stop s = (s.stop ≡ stop) × Appends before.held after.held s.text
+
+abbrev pub SummedFront : Outside → Outside → Summary → Type 0
+SummedFront before after s = (s.stop ≡ None) × AppendsFront before.held after.held s.text
+
+-- ---- the cause of each status, by what the words ask for
+
+-- what stops a run, or nothing does
+abbrev pub Ended : Task → Outside → Outside → Option Stop → Type 0
+Ended task.Replay before after stop = Replayed before after (WroteAll before after stop)
+Ended (task.Made number events) before after stop = Made number events before after (SummedAll before after stop)
+
+-- a write failed
+abbrev pub Unwritten : Task → Outside → Outside → Type 0
+Unwritten task.Replay before after = Replayed before after (WroteFront before after)
+Unwritten (task.Made number events) before after = Made number events before after (SummedFront before after)
+
+-- memory ran out: what was read is a front of what was left, and what was written a front of what is to be
+abbrev pub Unfinished : Task → Outside → Outside → Type 0
+Unfinished task.Replay before after = (ConsumesFront before.left after.left × WroteNothing before after) ⊎ Replayed before after (WroteFront before after)
+Unfinished (task.Made number events) before after = ReadNothing before after
+    × (WroteNothing before after ⊎ Made number events before after (SummedFront before after))
+
+-- only a replay reads
+abbrev pub Reads : Task → Type 0 → Type 0
+Reads task.Replay fact = fact
+Reads (task.Made number events) fact = ⊥
+
+abbrev pub HasCause : Task → Outside → Outside → Status → Type 0
+HasCause t before after status.Done = Ended t before after None
+HasCause t before after status.Words = ⊥
+HasCause t before after (status.Schedule line kind) =
+    Reads t (OfRead before after (λ bytes. schedule_at bytes ≡ Err (At line kind)) × WroteNothing before after)
+HasCause t before after status.ReadFault =
+    Reads t (Rose before.read_faults after.read_faults × ConsumesFront before.left after.left × WroteNothing before after)
+HasCause t before after status.WriteFault = Rose before.write_faults after.write_faults × Unwritten t before after
+HasCause t before after (status.Spent which) = Ended t before after (Some (happens.Spent which))
+HasCause t before after (status.Full would_be) = Ended t before after (Some (happens.Full would_be))
+HasCause t before after status.OutOfMemory = Unfinished t before after
+
 -- The cause of each status.
 abbrev pub HasStatus : List (String Global) → Outside → Outside → Status → Type 0
-HasStatus words before after status.Done = IsReplay words × Replayed before after (WroteAll before after None)
-HasStatus words before after status.Words = ¬ (IsReplay words) × (after ≡ before)
-HasStatus words before after (status.Schedule line kind) =
-    IsReplay words × OfRead before after (λ bytes. runnable_at bytes ≡ Err (At line kind)) × WroteNothing before after
-HasStatus words before after status.ReadFault =
-    IsReplay words × Rose before.read_faults after.read_faults × ConsumesFront before.left after.left × WroteNothing before after
-HasStatus words before after status.WriteFault =
-    IsReplay words × Rose before.write_faults after.write_faults × Replayed before after (WroteFront before after)
-HasStatus words before after (status.Spent which) = IsReplay words × Replayed before after (WroteAll before after (Some (happens.Spent which)))
-HasStatus words before after (status.Full would_be) = IsReplay words × Replayed before after (WroteAll before after (Some (happens.Full would_be)))
-HasStatus words before after status.OutOfMemory =
-    IsReplay words × ((ConsumesFront before.left after.left × WroteNothing before after) ⊎ Replayed before after (WroteFront before after))
+HasStatus words before after status.Words = TaskOf None words × (after ≡ before)
+HasStatus words before after other = (t : Task) × AsksFor t words × HasCause t before after other
 
 -- what the status tells of bytes that no schedule was made of
 abbrev pub TellsFault : List ℕ → Status → Type 0
-TellsFault bytes (status.Schedule line kind) = runnable_at bytes ≡ Err (At line kind)
+TellsFault bytes (status.Schedule line kind) = schedule_at bytes ≡ Err (At line kind)
 TellsFault bytes status.OutOfMemory = Unit {0}
 TellsFault bytes other = ⊥
+
+-- ---- and the other way round: which status comes
+
+-- no count of faults rose
+pub record NothingFailed (before after : Outside) : Type 0 where
+  pub reads : ¬ (Rose before.read_faults after.read_faults)
+  pub writes : ¬ (Rose before.write_faults after.write_faults)
+
+-- the status tells what stopped a run, or that nothing did, unless memory ran out
+abbrev pub Tells : Option Stop → Status → Type 0
+Tells stop status.OutOfMemory = Unit {0}
+Tells None s = s ≡ status.Done
+Tells (Some (happens.Spent which)) s = s ≡ status.Spent which
+Tells (Some (happens.Full would_be)) s = s ≡ status.Full would_be
+
+-- it tells which line is at fault, unless memory ran out
+abbrev pub TellsLine : ℕ → ScheduleKind → Status → Type 0
+TellsLine line kind status.OutOfMemory = Unit {0}
+TellsLine line kind s = s ≡ status.Schedule line kind
+
+-- Faulty words are told. Where nothing fails, the status tells how the run of the schedule ends that the source has, or that is made, and
+-- of bytes that are no schedule's text, however many, which line is at fault.
+pub record Completes (words : List (String Global)) (before after : Outside) (s : Status) : Type 0 where
+  pub faulty : TaskOf None words → s ≡ status.Words
+  pub replayed : (schedule : Schedule) (ms : Monitors) → AsksFor task.Replay words → NothingFailed before after
+      → HasText schedule → before.left ≡ Some (schedule_text schedule) → ms.count ≡ schedule.monitors → ms.rule ≡ schedule.rule
+      → Tells (trace ms schedule.events).stop s
+  pub refused : (bytes : List ℕ) (line : ℕ) (kind : ScheduleKind) → AsksFor task.Replay words → NothingFailed before after
+      → before.left ≡ Some bytes → schedule_at bytes ≡ Err (At line kind) → TellsLine line kind s
+  pub made : (number events : ℕ) (ms : Monitors) → AsksFor (task.Made number events) words → NothingFailed before after
+      → ms.count ≡ (made_schedule number events).monitors → ms.rule ≡ (made_schedule number events).rule
+      → Tells (summary ms (made_schedule number events).events).stop s

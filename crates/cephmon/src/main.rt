@@ -1,12 +1,11 @@
 //! Replays schedules of a quorum of monitors.
 #![tactic(auto)]
 
-mod built;
 mod replay;
 mod run;
 mod status;
-#[cfg(test)]
-mod tests;
+mod summary;
+mod task;
 mod words;
 
 use crate::run::run;

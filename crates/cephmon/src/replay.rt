@@ -1,17 +1,14 @@
 //! The run of a schedule, whose lines are written as they come.
 
-ghost use Rattle.std.specs.Prelude.{◌≡◌, ℕ, ◌≤◌, IsTrue, OnOk, None, Err, length};
-ghost use Rattle.std.specs.List.{list_all};
+ghost use Rattle.std.specs.Prelude.{◌≡◌, ◌≤◌, Err, length};
 ghost use Rattle.mon_types.specs.Faults.{Rose};
-ghost use Rattle.schedule_text.specs.Spelling.{HasText};
-ghost use Rattle.cephmon.specs.Built.{unbuilt};
-ghost use Rattle.quorum_model.specs.Monitors.{alone};
+ghost use Rattle.quorum_model.specs.Monitors.{Monitors};
 ghost use Rattle.quorum_model.specs.Scenes.{Scene, first_scene};
-ghost use Rattle.mon_world.specs.Events.{event_runs};
-ghost use Rattle.mon_world.specs.Stands.{IsUsable, StandsFor};
+ghost use Rattle.schedule_text.specs.Spelling.{HasText};
+ghost use Rattle.mon_world.specs.Stands.{Fits, IsWorld, StandsFor};
 ghost use Rattle.mon_world.specs.Step.{step};
-ghost use Rattle.cephmon.specs.Trace.{trace_from, trace};
-ghost use Rattle.cephmon.specs.Replay.{Writes, Did};
+ghost use Rattle.cephmon.specs.Replay.{Did, Writes};
+ghost use Rattle.cephmon.specs.Trace.{trace, trace_from};
 
 use mon_bytes::OutOfMemory;
 use mon_link::{Sink, write_all};
@@ -78,11 +75,10 @@ fn do_event<K: Sink>(
     number: u32,
     event: &Event,
 ) -> Result<(), ReplayStop>
-    requires runs { IsTrue (event_runs event.now) }
-    requires usable { IsUsable world.old }
-    ensures writes { (c : Scene) → StandsFor world.old c.world →
-        Did result world.new (K.held sink.old) (K.held sink.new) number event.now (step alone c event.now) }
-    ensures usable { OnOk result (IsUsable world.new) }
+    requires fits { Fits (length world.old.monitors.items) event.now }
+    requires world { IsWorld world.old }
+    ensures writes { (ms : Monitors) (c : Scene) → StandsFor ms world.old c
+        → Did ms result world.new (K.held sink.old) (K.held sink.new) number event.now (step ms c event.now) }
     ensures later { K.faults sink.old ≤ K.faults sink.new }
     ensures fault { result ≡ Err ReplayStop.WriteFault → Rose (K.faults sink.old) (K.faults sink.new) }
 {
@@ -93,16 +89,16 @@ fn do_event<K: Sink>(
 }
 
 /// Runs the events, and writes their lines and the last line.
-fn do_events<K: Sink>(alloc: Global, sink: &mut K, events: &[Event]) -> Result<(), ReplayStop>
-    requires fits { IsTrue (list_all event_runs events.now) }
-    requires count { length events.now ≤ 200000 }
-    ensures writes { Writes result (K.held sink.old) (K.held sink.new) (trace_from alone 0 first_scene events.now) }
+fn do_events<K: Sink>(alloc: Global, sink: &mut K, schedule: &Schedule) -> Result<(), ReplayStop>
+    requires { HasText schedule.now }
+    ensures writes { (ms : Monitors) → ms.count ≡ schedule.now.monitors → ms.rule ≡ schedule.now.rule
+        → Writes result (K.held sink.old) (K.held sink.new) (trace_from ms 0 first_scene schedule.now.events) }
     ensures later { K.faults sink.old ≤ K.faults sink.new }
     ensures fault { result ≡ Err ReplayStop.WriteFault → Rose (K.faults sink.old) (K.faults sink.new) }
 {
-    let mut world = World::new(alloc);
+    let mut world = World::new(alloc, schedule.monitors, schedule.rule)?;
     let mut number: u32 = 0;
-    for event in events {
+    for event in schedule.events.as_slice() {
         number += 1;
         do_event(alloc, sink, &mut world, number, event)?;
     }
@@ -112,15 +108,14 @@ fn do_events<K: Sink>(alloc: Global, sink: &mut K, events: &[Event]) -> Result<(
 }
 
 /// Runs a schedule, and writes its trace: each event's lines when it is done.
-#[tactic(auto, using(crate::proofs::Building::all_run))]
 pub fn replay<K: Sink>(alloc: Global, sink: &mut K, schedule: &Schedule) -> Result<(), ReplayStop>
-    requires form { HasText schedule.now }
-    requires built { unbuilt schedule.now ≡ None }
-    ensures writes { Writes result (K.held sink.old) (K.held sink.new) (trace alone schedule.now.events) }
+    requires { HasText schedule.now }
+    ensures writes { (ms : Monitors) → ms.count ≡ schedule.now.monitors → ms.rule ≡ schedule.now.rule
+        → Writes result (K.held sink.old) (K.held sink.new) (trace ms schedule.now.events) }
     ensures later { K.faults sink.old ≤ K.faults sink.new }
     ensures fault { result ≡ Err ReplayStop.WriteFault → Rose (K.faults sink.old) (K.faults sink.new) }
 {
     let line = header_line(alloc, schedule)?;
     write_all(sink, line.as_slice())?;
-    do_events(alloc, sink, schedule.events.as_slice())
+    do_events(alloc, sink, schedule)
 }

@@ -1,65 +1,48 @@
 //! The top call.
 
-ghost use Rattle.std.specs.Prelude.{◌≡◌, true, None, IfOk, IfErr};
-ghost use Rattle.std.specs.Bool.{OnTrue};
+ghost use Rattle.std.specs.Prelude.{◌≡◌, ◌≤◌, ℕ, List, Option, Err, IfErr, IfOk};
+ghost use Rattle.mon_types.specs.Faults.{Rose};
+ghost use Rattle.quorum_model.specs.Monitors.{Monitors};
+ghost use Rattle.schedule_made.specs.Made.{made_schedule};
 ghost use Rattle.schedule_text.specs.Spelling.{HasText, schedule_text};
-ghost use Rattle.cephmon.specs.Built.{unbuilt};
-ghost use Rattle.cephmon.specs.Run.{IsReplay, HasStatus, TellsFault};
+ghost use Rattle.cephmon.specs.Run.{Completes, HasCause, HasStatus, TellsFault};
+ghost use Rattle.cephmon.specs.Replay.{StopsAs, status_of};
+ghost use Rattle.cephmon.specs.Summary.{IsLine, summary};
+ghost use Rattle.cephmon.specs.declared.task.Task.TheVariants as task;
 
-use crate::built::unbuilt;
 use crate::replay::{ReplayStop, replay};
 use crate::status::Status;
+use crate::summary::summary_of;
+use crate::task::{Task, task_of};
 use mon_link::{Sink, Source, read_all, write_all};
 use mon_types::Stop;
-use schedule_text::{Schedule, ScheduleKind, ScheduleRefused, parse};
+use mon_world::WorldStop;
+use schedule_made::made;
+use schedule_text::{Schedule, ScheduleRefused, parse};
 use std::alloc::Global;
 
 /// One more byte than a schedule may have.
 const MOST_READ: usize = 16777217;
 
-/// Whether the words are the one word `replay`.
-fn is_replay(words: &[String]) -> bool
-    ensures found { OnTrue result (IsReplay words.now) }
-    ensures only { IsReplay words.now → result ≡ true }
-{
-    match words {
-        [word] => word.as_str() == "replay",
-        _ => false,
-    }
-}
-
 /// The schedule that the bytes spell, or the status that says why there is none.
-#[tactic(auto, using(crate::proofs::Building::faulty_text, crate::proofs::Building::refused_text))]
 fn schedule_of(alloc: Global, bytes: &[u8]) -> Result<Schedule, Status>
     ensures found { IfOk result (λ s. HasText s × (bytes.now ≡ schedule_text s)) }
-    ensures built { IfOk result (λ s. unbuilt s ≡ None) }
-    ensures fault { IfErr result (λ status. TellsFault bytes.now status) }
+    ensures fault { IfErr result (TellsFault bytes.now) }
 {
     match parse(alloc, bytes) {
-        Ok(schedule) => match unbuilt(&schedule) {
-            None => Ok(schedule),
-            Some(line) => Err(Status::Schedule {
-                line,
-                kind: ScheduleKind::NotBuilt,
-            }),
-        },
+        Ok(schedule) => Ok(schedule),
         Err(ScheduleRefused::At { line, kind }) => Err(Status::Schedule { line, kind }),
         Err(ScheduleRefused::OutOfMemory) => Err(Status::OutOfMemory),
     }
 }
 
-/// Does what the words say: `replay` runs the schedule that the source has, and writes its trace to the sink.
-pub fn run<S: Source, K: Sink>(
-    alloc: Global,
-    words: &[String],
-    source: &mut S,
-    sink: &mut K,
-) -> Status
-    ensures { HasStatus words.now (record { left = S.left source.old; held = K.held sink.old; read_faults = S.faults source.old; write_faults = K.faults sink.old }) (record { left = S.left source.new; held = K.held sink.new; read_faults = S.faults source.new; write_faults = K.faults sink.new }) result }
+/// Runs the schedule that the source has, and writes its trace to the sink.
+fn run_replay<S: Source, K: Sink>(alloc: Global, source: &mut S, sink: &mut K) -> Status
+    ensures { HasCause task.Replay
+        (record { left = S.left source.old; held = K.held sink.old; read_faults = S.faults source.old; write_faults = K.faults sink.old })
+        (record { left = S.left source.new; held = K.held sink.new; read_faults = S.faults source.new; write_faults = K.faults sink.new })
+        result }
 {
-    if !is_replay(words) {
-        return Status::Words;
-    }
     let bytes = match read_all(alloc, source, MOST_READ) {
         Ok(bytes) => bytes,
         Err(Stop::Failed) => return Status::ReadFault,
@@ -71,9 +54,77 @@ pub fn run<S: Source, K: Sink>(
     };
     match replay(alloc, sink, &schedule) {
         Ok(()) => Status::Done,
-        Err(ReplayStop::WriteFault) => Status::WriteFault,
-        Err(ReplayStop::Spent { which }) => Status::Spent { which },
-        Err(ReplayStop::Full { would_be }) => Status::Full { would_be },
-        Err(ReplayStop::OutOfMemory) => Status::OutOfMemory,
+        Err(stop) => status_of(stop),
+    }
+}
+
+/// The line of the summary of a number's schedule, or what stops its run.
+fn made_summary(alloc: Global, number: u64, events: u32) -> Result<Vec<u8>, WorldStop>
+    requires least { 1 ≤ events }
+    requires most { events ≤ 100000 }
+    ensures line { (ms : Monitors) → ms.count ≡ (made_schedule number events).monitors → ms.rule ≡ (made_schedule number events).rule
+        → IfOk result (λ line. IsLine (summary ms (made_schedule number events).events) line.items) }
+    ensures stops { (ms : Monitors) → ms.count ≡ (made_schedule number events).monitors → ms.rule ≡ (made_schedule number events).rule
+        → IfErr result (λ e. StopsAs e (summary ms (made_schedule number events).events).stop) }
+{
+    let schedule = made(alloc, number, events)?;
+    summary_of(alloc, &schedule)
+}
+
+/// Runs the schedule of a number, and writes its summary to the sink.
+fn run_made<K: Sink>(alloc: Global, sink: &mut K, number: u64, events: u32) -> Status
+    requires least { 1 ≤ events }
+    requires most { events ≤ 100000 }
+    ensures { (left : Option (List ℕ)) (read_faults : ℕ) → HasCause (task.Made number events)
+        (record { left = left; held = K.held sink.old; read_faults = read_faults; write_faults = K.faults sink.old })
+        (record { left = left; held = K.held sink.new; read_faults = read_faults; write_faults = K.faults sink.new })
+        result }
+{
+    let line = match made_summary(alloc, number, events) {
+        Ok(line) => line,
+        Err(stop) => return status_of(ReplayStop::from(stop)),
+    };
+    match write_all(sink, line.as_slice()) {
+        Ok(()) => Status::Done,
+        Err(stop) => status_of(ReplayStop::from(stop)),
+    }
+}
+
+/// How a run's stop ends the program.
+fn status_of(stop: ReplayStop) -> Status
+    ensures { result ≡ status_of stop }
+{
+    match stop {
+        ReplayStop::WriteFault => Status::WriteFault,
+        ReplayStop::Spent { which } => Status::Spent { which },
+        ReplayStop::Full { would_be } => Status::Full { would_be },
+        ReplayStop::OutOfMemory => Status::OutOfMemory,
+    }
+}
+
+/// Does what the words say: `replay` runs the schedule that the source has and writes its trace to the sink, and `made` runs the
+/// schedule of a number and writes its summary.
+pub fn run<S: Source, K: Sink>(
+    alloc: Global,
+    words: &[String],
+    source: &mut S,
+    sink: &mut K,
+) -> Status
+    // What each status tells of what was asked, read and written. Each run that it speaks of is safe.
+    ensures status { HasStatus words.now
+        (record { left = S.left source.old; held = K.held sink.old; read_faults = S.faults source.old; write_faults = K.faults sink.old })
+        (record { left = S.left source.new; held = K.held sink.new; read_faults = S.faults source.new; write_faults = K.faults sink.new })
+        result }
+
+    // Which status comes, where nothing fails.
+    ensures complete { Completes words.now
+        (record { left = S.left source.old; held = K.held sink.old; read_faults = S.faults source.old; write_faults = K.faults sink.old })
+        (record { left = S.left source.new; held = K.held sink.new; read_faults = S.faults source.new; write_faults = K.faults sink.new })
+        result }
+{
+    match task_of(words) {
+        None => Status::Words,
+        Some(Task::Replay) => run_replay(alloc, source, sink),
+        Some(Task::Made { number, events }) => run_made(alloc, sink, number, events),
     }
 }

@@ -1,328 +1,201 @@
--- What the code's world does at an event is what the model's does.
-use Rattle.std.proofs.Common.{◌≡◌, ℕ, zero, suc, ◌+◌, ◌-◌, Bool, true, false, cond, max, List, [], ◌++◌, length, Option, Some, None, Result, Ok, Err, IfOk, refl, sym, ap, subst, ◌∙◌, arith, length-append}
-use Rattle.std.specs.Prelude.{◌≤◌, ◌<◌, is_some, slice_get}
-use Rattle.std.proofs.lemmas.Bool.{le-ltb, lt-ltb}
-use Rattle.std.proofs.lemmas.List.FromFn.{length-map-range_with_len}
+-- What the code's world does at a plain event is what the model's does.
+use Rattle.std.proofs.Common.{◌≡◌, ◌≢◌, ℕ, Bool, true, false, List, [], ◌∷◌, ◌++◌, length, map, Option, Some, None, Result, Ok, Err, refl, sym, ap, subst, ◌∙◌}
+use Rattle.std.proofs.lemmas.List.{length-map}
+use Rattle.std.specs.List.{AllByRecursion}
+use Rattle.std.specs.Prelude.{slice_get, nat_lt, ◌≤◌, if◌then◌else◌}
+use Rattle.log_model.proofs.Lists.{all_append}
+use Rattle.mon_bounds.specs.Fitting.{MaySend}
+use Rattle.mon_core.specs.Reacts.{TellsNamed}
 use Rattle.mon_kv.specs.Readers.{size_of, most_size}
-use Rattle.mon_types.specs.declared.names.Which.{Which}
-use Rattle.mon_tx.specs.Map.{Store, apply}
-use Rattle.mon_tx.specs.declared.op.Op.{Op}
-use Rattle.mon_msg.specs.Protocol.Reaction as protocol
-use Rattle.mon_msg.specs.Protocol.State.{State, booting}
-use Rattle.mon_msg.specs.Protocol.Readings.{readings_of, epoch_of}
+use Rattle.mon_msg.specs.Protocol.Reaction.{Reaction, reaction}
+use Rattle.mon_msg.specs.Protocol.State.{State}
 use Rattle.mon_msg.specs.declared.input.Input.{Input}
-use Rattle.mon_msg.specs.declared.input.Input.TheVariants as input
-use Rattle.mon_wire.specs.declared.phase.Timer.{Timer}
+use Rattle.mon_msg.specs.declared.plan.Sent.TheVariants as sent
 use Rattle.mon_msg.specs.declared.plan.Sent.{Sent}
-use Rattle.mon_wire.specs.declared.request.Request.{Request}
-use Rattle.mon_wire.specs.declared.request.Session.{Session}
+use Rattle.mon_msg.specs.declared.view.Me.{Me}
+use Rattle.mon_tx.specs.Map.{Store, apply}
+use Rattle.mon_tx.specs.Text.{text, most}
+use Rattle.mon_types.specs.declared.names.Which.{Which}
 use Rattle.quorum_model.specs.Clients.{messages_of}
-use Rattle.quorum_model.specs.Alone.{Waits, IsSettled}
-use Rattle.mon_kv.specs.Readers.{is_marked}
-use Rattle.quorum_model.specs.Growth.{last_of, record_in, records_behind, grown}
-use Rattle.quorum_model.specs.Happens.{map_after, after_meeting, unmoved, moved}
+use Rattle.quorum_model.specs.Files.{Files}
+use Rattle.quorum_model.specs.Happens.{after_meeting, in_world, map_after, moved, put_at, unless_stopped}
 use Rattle.quorum_model.specs.Happens as happens
-use Rattle.quorum_model.specs.Meets.{Reacts, message_at}
-use Rattle.quorum_model.specs.Monitors.{alone, itself}
-use Rattle.quorum_model.specs.World.{World as Model, Plain as Coming, Comes, Start, Deliver, Ring, Client, Envelope}
-use Rattle.quorum_model.proofs.Ringing.{rings}
-use Rattle.quorum_model.proofs.StaysSettled.{start_settled, client_settled}
+use Rattle.quorum_model.specs.Meets.{Arrival, Down, Meeting, NoMessage, Reacts, arrival, meets}
+use Rattle.quorum_model.specs.Monitors.{Monitors}
+use Rattle.quorum_model.specs.Scenes.{Scene, all_files_after, files_after, with_files}
+use Rattle.quorum_model.specs.World.{Comes, Envelope}
+use Rattle.schedule_text.specs.declared.event.Event.TheVariants as events
 use Rattle.schedule_text.specs.declared.event.Plain.{Plain}
-use Rattle.schedule_text.specs.declared.event.Plain.TheVariants as plain
-use Rattle.trace_text.specs.declared.step.Outcome.TheVariants.{Ran, Down, NoMessage}
+use Rattle.trace_text.specs.declared.step.Outcome.TheVariants as outcome
 use Rattle.trace_text.specs.declared.step.StateLine.{StateLine}
 use Rattle.trace_text.specs.declared.step.StepLine.{StepLine}
-use Rattle.mon_world.specs.declared.node.Answer.{Answer}
-use Rattle.mon_world.specs.declared.node.NodeStop.{NodeStop}
-use Rattle.mon_world.specs.declared.node.NodeStop.TheVariants as node
-use Rattle.mon_world.specs.declared.node.Reaction.{Reaction}
+use Rattle.mon_world.specs.declared.meeting.Turn.{Turn}
+use Rattle.mon_world.specs.declared.monitor.Monitor.{Monitor}
+use Rattle.mon_world.specs.declared.sending.Envelope as code
 use Rattle.mon_world.specs.declared.stop.WorldStop.{WorldStop}
 use Rattle.mon_world.specs.declared.stop.WorldStop.TheVariants.{OutOfMemory, Spent, Full}
 use Rattle.mon_world.specs.declared.world.World.{World}
-use Rattle.mon_world.specs.Node.{Fails, sends_of, IsReaction}
 use Rattle.mon_world.specs.Events.{plain_event}
-use Rattle.mon_world.specs.Site.{SiteState}
-use Rattle.mon_world.specs.Stands.{IsUp, StandsFor, Stops, DoesPlain}
-use Rattle.mon_world.specs.Step.{state_of, told, state_before, numbered, replied, with_line, met_line, plain_step, log_after, still_line, ran_line}
-use Rattle.mon_world.specs.Takes.{IsStored, Takes, state_in, taken_line, stop_of}
+use Rattle.mon_world.specs.Meeting.{Meets}
+use Rattle.mon_world.specs.Monitor.{Stands}
+use Rattle.mon_world.specs.Stands.{Does, MayArrive, StandsAt, StandsFor, envelope_of}
+use Rattle.mon_world.specs.Step.{log_after, met_line, ran_line, step, still_line, with_line}
+use Rattle.mon_world.specs.Stops.{Stops}
+use Rattle.mon_world.specs.Telling.{Tells, turn_line}
+use Rattle.mon_world.proofs.Arriving.{Reaches, after_none, elsewhere, meets_down, meets_none, meets_up, new_found, put_each, stands_at, still_each, unmoved_stands}
+use Rattle.mon_world.proofs.Growing.{grown-length}
 
--- ---- the log's length
+-- ---- the step, by what is met
 
-max-minus : (a b : ℕ) → a + (b - a) ≡ max a b
-max-minus a b = omega arith
+abbrev pub step_at : Scene → Plain → Meeting → Result (Scene × StepLine) happens.Stop
+step_at c p met = with_line (met_line c.world met) (with_files (all_files_after c None met) (after_meeting c.world (Comes (plain_event p)) met))
 
-grown-length : (log : List (List ℕ)) (m : Store) → length (grown log m) ≡ log_after (length log) m
-unfolding grown
-grown-length log m = by (is_marked m)
+step_met : (ms : Monitors) (c : Scene) (p : Plain) (met : Meeting) → meets ms c.world (plain_event p) ≡ met → step ms c (events.Plain p) ≡ step_at c p met
+step_met ms c p met is = ap (step_at c p) is
+
+-- ---- nothing comes of it
+
+pub none_met : (ms : Monitors) (world : World) (c : Scene) (p : Plain) → StandsFor ms world c → arrival c.world (plain_event p) ≡ None
+    → Does ms (Ok (still_line outcome.NoMessage)) world (step ms c (events.Plain p))
+none_met ms world c p s none =
+    (after_none c (plain_event p), step_met ms c p NoMessage (meets_none ms c.world (plain_event p) none), unmoved_stands ms world world c (plain_event p) s refl s.each refl refl)
+
+-- ---- what a monitor does
+
+-- what meets an arrival at the monitor of its rank
+abbrev pub MeetsAt : List Monitor → List Monitor → Arrival → Result (Option Turn) WorldStop → Type 0
+MeetsAt old new a r =
+    (before after : Monitor) → slice_get old a.rank ≡ Some before → slice_get new a.rank ≡ Some after
+    → (me : Me) (m : Store) (s : Option State) (f : Files) → Stands me m s f before → Meets me a.at m s f a.input after r
+
+-- one that doesn't stop the run is one
+pub is_reaction : (m : Store) (r : Result Reaction Which) (x : Reaction) → unless_stopped m r ≡ Ok x → r ≡ Ok x
+is_reaction m (Err which) x e = absurd cc
+is_reaction m (Ok y) x e = by (nat_lt most_size (size_of (apply y.transaction m))) e
   where
-    by : (b : Bool) → length (cond b log (log ++ records_behind m (length log) (last_of m - length log))) ≡ cond b (length log) (max (length log) (last_of m))
-    by true = refl
-    by false = length-append log _ ∙ ap (λ n. length log + n) (length-map-range_with_len (record_in m) (suc (length log)) (last_of m - length log)) ∙ max-minus (length log) (last_of m)
+    by : (b : Bool) → (if b then Err (happens.Full (size_of (apply y.transaction m))) else Ok y) ≡ Ok x → ◌≡◌ {A = Result Reaction Which} (Ok y) (Ok x)
+    by true e = absurd cc
+    by false e = cc
 
--- ---- a monitor that did what its reaction says
+module _ (c : Scene) (p : Plain) (i : ℕ) (came : Input) where
+  -- the step, by what becomes of its reaction
+  abbrev step_by : Result Reaction Which → Result Reaction happens.Stop → Result (Scene × StepLine) happens.Stop
+  step_by r q =
+      with_line (met_line c.world (Reacts i came r)) (with_files (all_files_after c None (Reacts i came r)) (in_world (moved c.world (plain_event p) i) q))
 
--- its world and lines, unless it stops the run
-abbrev took : Model → Coming → Input → Result protocol.Reaction Which → Result (Model × StepLine) happens.Stop
-took w e i r = with_line (met_line w (Reacts 0 i r)) (after_meeting w (Comes e) (Reacts 0 i r))
+  stops_step : (r : Result Reaction Which) (stop : happens.Stop) → unless_stopped (c.world.store i) r ≡ Err stop → step_at c p (Reacts i came r) ≡ Err stop
+  stops_step r stop e = ap (step_by r) e
 
-none_in : (answer : Option Answer) → messages_of (sends_of answer) ≡ []
-none_in None = refl
-none_in (Some a) = refl
-
-none_sent : (n : ℕ) (answer : Option Answer) → numbered n (messages_of (sends_of answer)) ≡ []
-none_sent n None = refl
-none_sent n (Some a) = refl
-
-is_up : (b : Bool) (s : State) → b ≡ true → Waits s → IsUp b (Some s)
-is_up b s e h = subst (λ (b : Bool). IsUp b (Some s)) (sym e) h
-
-stands_at : (m : Store) (s : State) → Waits s → state_of m s ≡ state_in m
-stands_at m s h = λ i. record { phase = h.leads.active i; epoch = epoch_of (readings_of m); last = last_of m }
-
-module _ (old new : World) (w : Model) (e : Coming) (i : Input) (before : Option StateLine) (y : Reaction) (x : protocol.Reaction) where
-  -- the map after it
-  abbrev after : Store
-  after = apply y.tx (w.store 0)
-
-  kept : x.transaction ≡ y.tx → map_after w 0 x ≡ after
-  kept tx = ap (λ (ops : List Op). apply ops (w.store 0)) tx
-
-  told_line : before ≡ state_before w 0 i → x.transaction ≡ y.tx → x.sends ≡ sends_of y.answer → Waits x.state → ran_line w 0 i x ≡ taken_line 0 before y after
-  told_line was tx sends waits = λ j. record {
-    outcome = Ran;
-    ops = length (tx j);
-    state = told (sym was j) ((stands_at (map_after w 0 x) x.state waits ∙ ap state_in (kept tx)) j);
-    sent = (ap (λ (s : List Sent). numbered (suc (length w.messages)) (messages_of s)) sends ∙ none_sent (suc (length w.messages)) y.answer) j;
-    replies = replied 0 (sends j);
+  abbrev pub after_turn : Reaction → Scene
+  after_turn x = record {
+    world = moved c.world (plain_event p) i x;
+    files = put_at c.files i (files_after None came (c.files i) (c.world.store i) x.transaction);
   }
 
-  stays_small : size_of (map_after w 0 x) ≤ most_size → took w e i (Ok x) ≡ Ok (moved w e 0 x, ran_line w 0 i x)
-  stays_small small = rw (le-ltb most_size (size_of (map_after w 0 x)) small) refl
+  turned_step : (x : Reaction) → unless_stopped (c.world.store i) (Ok x) ≡ Ok x → step_at c p (Reacts i came (Ok x)) ≡ Ok (after_turn x, ran_line c.world i came x)
+  turned_step x e = ap (step_by (Ok x)) e
 
-  grows_large : most_size < size_of (map_after w 0 x) → took w e i (Ok x) ≡ Err (happens.Full (size_of (map_after w 0 x)))
-  grows_large large = rw (lt-ltb most_size (size_of (map_after w 0 x)) large) refl
+  -- it stops the run
+  pub stop_met : (ms : Monitors) (r : Result Reaction Which) (e : WorldStop) → meets ms c.world (plain_event p) ≡ Reacts i came r
+      → Stops e (unless_stopped (c.world.store i) r) → Stops e (step ms c (events.Plain p))
+  stop_met ms r OutOfMemory met h = tt
+  stop_met ms r (Spent which) met h = step_met ms c p (Reacts i came r) met ∙ stops_step r (happens.Spent which) h
+  stop_met ms r (Full would_be) met h = step_met ms c p (Reacts i came r) met ∙ stops_step r (happens.Full would_be) h
 
-  stands_so : StandsFor old w → x.transaction ≡ y.tx → x.sends ≡ sends_of y.answer → Waits x.state → IsSettled (readings_of (map_after w 0 x)) → IsStored new.site after → new.log ≡ log_after old.log after → StandsFor new (moved w e 0 x)
+  -- or it is kept
+  pub turn_met : (ms : Monitors) (r : Result Reaction Which) (x : Reaction) → meets ms c.world (plain_event p) ≡ Reacts i came r
+      → unless_stopped (c.world.store i) r ≡ Ok x → step ms c (events.Plain p) ≡ Ok (after_turn x, ran_line c.world i came x)
+  turn_met ms r x met h =
+      let is = is_reaction (c.world.store i) r x h in
+      step_met ms c p (Reacts i came r) met ∙ ap (λ (r : Result Reaction Which). step_at c p (Reacts i came r)) is
+      ∙ turned_step x (sym (ap (unless_stopped (c.world.store i)) is) ∙ h)
+
+  -- the world then
+  pub turn_stands : (ms : Monitors) (old new : World) (x : Reaction) → StandsFor ms old c
+      → length new.monitors.items ≡ length old.monitors.items
+      → ((j : ℕ) → j ≢ i → slice_get new.monitors.items j ≡ slice_get old.monitors.items j)
+      → StandsAt ms new.monitors.items i (map_after c.world i x) (Some x.state) (files_after None came (c.files i) (c.world.store i) x.transaction)
+      → map envelope_of new.messages.items ≡ map envelope_of old.messages.items ++ messages_of x.sends
+      → AllByRecursion (MayArrive ms.count) (messages_of x.sends)
+      → new.log ≡ log_after old.log (map_after c.world i x)
+      → StandsFor ms new (after_turn x)
   unfolding moved
-  stands_so stand tx sends waits settled stored log = record {
-    map = stored.map ∙ ap Some (sym (kept tx));
-    up = is_up (is_some new.site.standing) x.state stored.open_now waits;
-    log = log ∙ (λ j. log_after (stand.log j) (sym (kept tx) j)) ∙ sym (grown-length w.log (map_after w 0 x));
-    small = subst (λ (m : Store). size_of m ≤ most_size) (sym (kept tx)) stored.small;
-    settled = settled;
-    silent = λ j. stand.silent j ++ (ap messages_of sends ∙ none_in y.answer) j;
+  turn_stands ms old new x s count others here messages arrive log = record {
+    count = count ∙ s.count;
+    each =
+        put_each (StandsAt ms new.monitors.items) c i (map_after c.world i x) (Some x.state) (files_after None came (c.files i) (c.world.store i) x.transaction) here
+        (elsewhere ms old.monitors.items new.monitors.items c i s.each others);
+    messages = messages ∙ ap (λ (es : List Envelope). es ++ messages_of x.sends) s.messages;
+    arrive = all_append (MayArrive ms.count) c.world.messages (messages_of x.sends) s.arrive arrive;
+    log = log ∙ ap (λ (n : ℕ). log_after n (map_after c.world i x)) s.log ∙ sym (grown-length c.world.log (map_after c.world i x));
   }
 
-  ran : (result : Result StepLine WorldStop) → StandsFor old w → before ≡ state_before w 0 i → x.transaction ≡ y.tx → x.sends ≡ sends_of y.answer → Waits x.state → IsSettled (readings_of (map_after w 0 x))
-      → Takes result new old.log (taken_line 0 before y after) after → DoesPlain result new (took w e i (Ok x))
-  ran (Ok line) stand was tx sends waits settled takes =
-      let small : size_of (map_after w 0 x) ≤ most_size = subst (λ (m : Store). size_of m ≤ most_size) (sym (kept tx)) takes.1.small in
-      let same = told_line was tx sends waits ∙ sym takes.0 in
-      (moved w e 0 x, stays_small small ∙ ap (λ (l : StepLine). Ok (moved w e 0 x, l)) same, stands_so stand tx sends waits settled takes.1 takes.2)
-  ran (Err OutOfMemory) stand was tx sends waits settled takes = tt
-  ran (Err (Spent which)) stand was tx sends waits settled takes = absurd takes
-  ran (Err (Full would_be)) stand was tx sends waits settled takes =
-      let large : most_size < size_of (map_after w 0 x) = subst (λ (m : Store). most_size < size_of m) (sym (kept tx)) takes.0 in
-      grows_large large ∙ ap (λ (n : ℕ). Err (happens.Full n)) (ap size_of (kept tx) ∙ sym takes.1)
+-- what is sent may come
+goes : (me : Me) (sends : List Sent) → AllByRecursion (MaySend me) sends → AllByRecursion TellsNamed sends → AllByRecursion (MayArrive me.member.monitors) (messages_of sends)
+goes me [] h n = tt
+goes me (sent.Message to m ∷ sends) h n = (record { to = h.0.0; comes = (h.0.1.form n.0, h.0.1.fits) }, goes me sends h.1 n.1)
+goes me (sent.Reply to r ∷ sends) h n = goes me sends h.1 n.1
 
-ok_has : (P : protocol.Reaction → Type 0) (r : Result protocol.Reaction Which) (x : protocol.Reaction) → r ≡ Ok x → IfOk r P → P x
-ok_has P (Ok y) x e h = let same : y ≡ x = cc in subst P same h
-ok_has P (Err which) x e h = let lost : ◌≡◌ {A = Result protocol.Reaction Which} (Err which) (Ok x) = e in absurd cc
+module _ (ms : Monitors) (old mid : World) (c : Scene) (a : Arrival) (r : Reaches ms old.monitors.items c a)
+    (count : length mid.monitors.items ≡ length old.monitors.items) where
+  abbrev Met : Result (Option Turn) WorldStop → Type 0
+  Met result =
+      (monitor : Monitor) × (slice_get mid.monitors.items a.rank ≡ Some monitor)
+      × Meets r.me a.at (c.world.store a.rank) (c.world.state a.rank) (c.files a.rank) a.input monitor result
 
-fails_so : (s : NodeStop) (r : Result protocol.Reaction Which) (w : Model) (e : Coming) (i : Input) → Fails s r → Stops (stop_of s) (took w e i r)
-fails_so node.OutOfMemory r w e i h = tt
-fails_so (node.Spent which) r w e i h = ap (λ (r : Result protocol.Reaction Which). took w e i r) h
+  met : (result : Result (Option Turn) WorldStop) → MeetsAt old.monitors.items mid.monitors.items a result → Met result
+  met result h =
+      let found = new_found ms old.monitors.items mid.monitors.items c a r count in
+      (found.0, found.1, h r.monitor found.0 r.found found.1 r.me (c.world.store a.rank) (c.world.state a.rank) (c.files a.rank) r.stands)
 
--- ---- the map that the code reads is that of the model's monitor
+  -- what it writes isn't too long
+  pub met_short : (t : Turn) → MeetsAt old.monitors.items mid.monitors.items a (Ok (Some t)) → length (text t.reaction.tx) ≤ most
+  met_short t h = (met (Ok (Some t)) h).2.2.is_done.short
 
-same_map : {m n : Store} → ◌≡◌ {A = Option Store} (Some m) (Some n) → m ≡ n
-same_map e = cc
+module _ (ms : Monitors) (old mid : World) (c : Scene) (p : Plain) (a : Arrival) (s : StandsFor ms old c) (r : Reaches ms old.monitors.items c a)
+    (comes : arrival c.world (plain_event p) ≡ Some a) (count : length mid.monitors.items ≡ length old.monitors.items) where
+  -- it stops the run
+  pub met_stop : (e : WorldStop) → MeetsAt old.monitors.items mid.monitors.items a (Err e) → Stops e (step ms c (events.Plain p))
+  met_stop e h =
+      let m = (met ms old mid c a r count (Err e) h).2 in
+      stop_met c p a.rank a.input ms (reaction r.me a.at (c.world.store a.rank) m.0 a.input) e
+      (meets_up ms c.world (plain_event p) a r.me comes r.itself r.rank_is m.0 m.1) m.2
 
-pub map_is : (site : SiteState) (m n : Store) → site.map ≡ Some m → site.map ≡ Some n → m ≡ n
-map_is site m n is too = same_map (sym is ∙ too)
+  module _ (others : (j : ℕ) → j ≢ a.rank → slice_get mid.monitors.items j ≡ slice_get old.monitors.items j)
+      (messages : mid.messages.items ≡ old.messages.items) (log : mid.log ≡ old.log) where
+    -- it is down
+    pub met_down : MeetsAt old.monitors.items mid.monitors.items a (Ok None) → Does ms (Ok (still_line outcome.Down)) mid (step ms c (events.Plain p))
+    met_down h =
+        let m = met ms old mid c a r count (Ok None) h in
+        let here = stands_at ms mid.monitors.items a.rank (c.world.store a.rank) (c.world.state a.rank) (c.files a.rank) r.me m.0 r.itself m.1 m.2.1 in (
+          after_none c (plain_event p),
+          step_met ms c p Down (meets_down ms c.world (plain_event p) a r.me comes r.itself r.rank_is m.2.0),
+          unmoved_stands ms old mid c (plain_event p) s count (still_each ms old.monitors.items mid.monitors.items c a r s.each count others here) messages log,
+        )
 
-pub settled_here : (w : Model) (m : Store) → m ≡ w.store 0 → IsSettled (readings_of (w.store 0)) → IsSettled (readings_of m)
-settled_here w m is settled = subst (λ (m : Store). IsSettled (readings_of m)) (sym is) settled
-
--- ---- a start
-
-module _ (old : World) (w : Model) (rank at : ℕ) (is_0 : rank ≡ 0) (m : Store) (is : m ≡ w.store 0) (stand : StandsFor old w) where
-  abbrev begins : Store → Result protocol.Reaction Which
-  begins m = protocol.reaction itself at m (booting 0) input.Start
-
-  pub start-ran : (result : Result StepLine WorldStop) (new : World) (y : Reaction) → IsReaction y (begins m)
-      → Takes result new old.log (taken_line rank None y (apply y.tx (w.store 0))) (apply y.tx (w.store 0)) → DoesPlain result new (plain_step alone w (Start rank at))
-  start-ran result new y r =
-      subst (λ (rank : ℕ). Takes result new old.log (taken_line rank None y (apply y.tx (w.store 0))) (apply y.tx (w.store 0)) → DoesPlain result new (plain_step alone w (Start rank at))) (sym is_0)
-      (λ takes.
-      subst (DoesPlain result new) (sym (ap (λ (r : Result protocol.Reaction Which). took w (Start 0 at) input.Start r) done))
-      (ran old new w (Start 0 at) input.Start None y r.reaction result stand refl r.transaction r.sends r.waits
-      (ok_has (λ x. IsSettled (readings_of (apply x.transaction (w.store 0)))) (begins (w.store 0)) r.reaction done (start_settled at (w.store 0) stand.settled)) takes))
-    where
-      done : begins (w.store 0) ≡ Ok r.reaction
-      done = ap begins (sym is) ∙ r.is
-
-  pub start-stops : (s : NodeStop) → Fails s (begins m) → Stops (stop_of s) (plain_step alone w (Start rank at))
-  start-stops s fails =
-      subst (λ (rank : ℕ). Stops (stop_of s) (plain_step alone w (Start rank at))) (sym is_0)
-      (fails_so s (begins (w.store 0)) w (Start 0 at) input.Start (subst (λ (m : Store). Fails s (begins m)) is fails))
-
--- ---- what comes to a monitor that is up
-
--- what the monitor remembers, which is up
-record Remembers (w : Model) : Type 0 where
-  state : State
-  is : w.state 0 ≡ Some state
-  waits : Waits state
-
-remembers : (up : Bool) (w : Model) → up ≡ true → IsUp up (w.state 0) → Remembers w
-remembers up w e h = by (w.state 0) refl (subst (λ (b : Bool). IsUp b (w.state 0)) e h)
-  where
-    by : (o : Option State) → w.state 0 ≡ o → IsUp true o → Remembers w
-    by (Some s) e h = record { state = s; is = e; waits = h }
-    by None e h = absurd h
-
-forgets : (up : Bool) (w : Model) → up ≡ false → IsUp up (w.state 0) → w.state 0 ≡ None
-forgets up w e h = by (w.state 0) (subst (λ (b : Bool). IsUp b (w.state 0)) e h)
-  where
-    by : (o : Option State) → IsUp false o → o ≡ None
-    by (Some s) h = absurd h
-    by None h = refl
-
--- a client's request, or a timer
-module _ (old : World) (w : Model) (at : ℕ) (event : Coming) (i : Input) (stand : StandsFor old w)
-    (comes : (s : State) → w.state 0 ≡ Some s → plain_step alone w event ≡ took w event i (protocol.reaction itself at (w.store 0) s i))
-    (stays : w.state 0 ≡ None → plain_step alone w event ≡ Ok (unmoved w event, still_line Down))
-    (before_is : (s : State) → w.state 0 ≡ Some s → state_before w 0 i ≡ Some (state_of (w.store 0) s)) where
-  pub up-ran : (result : Result StepLine WorldStop) (new : World) (m : Store) (before : StateLine) (y : Reaction) → is_some old.site.standing ≡ true → m ≡ w.store 0 → before ≡ state_in m
-      → ((s : State) → Waits s → IsReaction y (protocol.reaction itself at m s i))
-      → ((s : State) → Waits s → IfOk (protocol.reaction itself at (w.store 0) s i) (λ x. IsSettled (readings_of (apply x.transaction (w.store 0)))))
-      → Takes result new old.log (taken_line 0 (Some before) y (apply y.tx (w.store 0))) (apply y.tx (w.store 0)) → DoesPlain result new (plain_step alone w event)
-  up-ran result new m before y up is was reacts settles takes =
-      subst (DoesPlain result new) (sym (comes known.state known.is ∙ ap (λ (r : Result protocol.Reaction Which). took w event i r) done))
-      (ran old new w event i (Some before) y r.reaction result stand stood r.transaction r.sends r.waits
-      (ok_has (λ x. IsSettled (readings_of (apply x.transaction (w.store 0)))) (protocol.reaction itself at (w.store 0) known.state i) r.reaction done (settles known.state known.waits)) takes)
-    where
-      known : Remembers w
-      known = remembers (is_some old.site.standing) w up stand.up
-
-      r : IsReaction y (protocol.reaction itself at m (remembers (is_some old.site.standing) w up stand.up).state i)
-      r = reacts (remembers (is_some old.site.standing) w up stand.up).state (remembers (is_some old.site.standing) w up stand.up).waits
-
-      done : protocol.reaction itself at (w.store 0) known.state i ≡ Ok r.reaction
-      done = ap (λ (n : Store). protocol.reaction itself at n known.state i) (sym is) ∙ r.is
-
-      stood : ◌≡◌ {A = Option StateLine} (Some before) (state_before w 0 i)
-      stood = ap Some (was ∙ ap state_in is ∙ sym (stands_at (w.store 0) known.state known.waits)) ∙ sym (before_is known.state known.is)
-
-  pub up-stops : (s : NodeStop) (m : Store) → is_some old.site.standing ≡ true → m ≡ w.store 0 → ((t : State) → Waits t → Fails s (protocol.reaction itself at m t i)) → Stops (stop_of s) (plain_step alone w event)
-  up-stops s m up is fails =
-      let known = remembers (is_some old.site.standing) w up stand.up in
-      subst (Stops (stop_of s)) (sym (comes known.state known.is))
-      (fails_so s (protocol.reaction itself at (w.store 0) known.state i) w event i
-      (subst (λ (n : Store). Fails s (protocol.reaction itself at n known.state i)) is (fails known.state known.waits)))
-
-  pub down : is_some old.site.standing ≡ false → DoesPlain (Ok (still_line Down)) old (plain_step alone w event)
-  unfolding unmoved
-  down off =
-      (unmoved w event, stays (forgets (is_some old.site.standing) w off stand.up), record { map = stand.map; up = stand.up; log = stand.log; small = stand.small; settled = stand.settled; silent = stand.silent })
-
--- ---- a client's request, at a rank that is the first
-
-module _ (old : World) (w : Model) (rank at : ℕ) (is_0 : rank ≡ 0) (session : Session) (request : Request) (stand : StandsFor old w) where
-  abbrev asked : Coming
-  asked = Client 0 at session request
-
-  asks : (s : State) → w.state 0 ≡ Some s → plain_step alone w asked ≡ took w asked (input.Client session request) (protocol.reaction itself at (w.store 0) s (input.Client session request))
-  asks s was = rw was refl
-
-  nobody : w.state 0 ≡ None → plain_step alone w asked ≡ Ok (unmoved w asked, still_line Down)
-  nobody was = rw was refl
-
-  stood : (s : State) → w.state 0 ≡ Some s → state_before w 0 (input.Client session request) ≡ Some (state_of (w.store 0) s)
-  stood s was = rw was refl
-
-  pub asked-ran : (result : Result StepLine WorldStop) (new : World) (m : Store) (before : StateLine) (y : Reaction) → is_some old.site.standing ≡ true → m ≡ w.store 0 → before ≡ state_in m
-      → ((s : State) → Waits s → IsReaction y (protocol.reaction itself at m s (input.Client session request)))
-      → Takes result new old.log (taken_line rank (Some before) y (apply y.tx (w.store 0))) (apply y.tx (w.store 0)) → DoesPlain result new (plain_step alone w (Client rank at session request))
-  asked-ran result new m before y up is was reacts =
-      subst (λ (rank : ℕ). Takes result new old.log (taken_line rank (Some before) y (apply y.tx (w.store 0))) (apply y.tx (w.store 0)) → DoesPlain result new (plain_step alone w (Client rank at session request))) (sym is_0)
-      (up-ran old w at asked (input.Client session request) stand asks nobody stood result new m before y up is was reacts (λ s waits. client_settled at (w.store 0) stand.settled s waits session request))
-
-  pub asked-stops : (s : NodeStop) (m : Store) → is_some old.site.standing ≡ true → m ≡ w.store 0 → ((t : State) → Waits t → Fails s (protocol.reaction itself at m t (input.Client session request)))
-      → Stops (stop_of s) (plain_step alone w (Client rank at session request))
-  asked-stops s m up is fails =
-      subst (λ (rank : ℕ). Stops (stop_of s) (plain_step alone w (Client rank at session request))) (sym is_0) (up-stops old w at asked (input.Client session request) stand asks nobody stood s m up is fails)
-
-  pub asked-down : is_some old.site.standing ≡ false → DoesPlain (Ok (still_line Down)) old (plain_step alone w (Client rank at session request))
-  asked-down off =
-      subst (λ (rank : ℕ). DoesPlain (Ok (still_line Down)) old (plain_step alone w (Client rank at session request))) (sym is_0) (down old w at asked (input.Client session request) stand asks nobody stood off)
-
--- ---- a timer
-
-module _ (old : World) (w : Model) (rank at : ℕ) (is_0 : rank ≡ 0) (t : Timer) (stand : StandsFor old w) where
-  abbrev rung : Coming
-  rung = Ring 0 t at
-
-  comes_to : (s : State) → w.state 0 ≡ Some s → plain_step alone w rung ≡ took w rung (input.Timer t) (protocol.reaction itself at (w.store 0) s (input.Timer t))
-  comes_to s was = rw was refl
-
-  none_there : w.state 0 ≡ None → plain_step alone w rung ≡ Ok (unmoved w rung, still_line Down)
-  none_there was = rw was refl
-
-  stood_so : (s : State) → w.state 0 ≡ Some s → state_before w 0 (input.Timer t) ≡ Some (state_of (w.store 0) s)
-  stood_so s was = rw was refl
-
-  settles : (s : State) → Waits s → IfOk (protocol.reaction itself at (w.store 0) s (input.Timer t)) (λ x. IsSettled (readings_of (apply x.transaction (w.store 0))))
-  settles s waits =
-      let R = rings itself.member.most itself.member.in_map at (w.store 0) s waits t in
-      subst (λ (r : Result protocol.Reaction Which). IfOk r (λ x. IsSettled (readings_of (apply x.transaction (w.store 0))))) (sym R.is)
-      (subst (λ (tx : List Op). IsSettled (readings_of (apply tx (w.store 0)))) (sym R.stays.transaction) stand.settled)
-
-  pub rung-ran : (result : Result StepLine WorldStop) (new : World) (m : Store) (before : StateLine) (y : Reaction) → is_some old.site.standing ≡ true → m ≡ w.store 0 → before ≡ state_in m
-      → ((s : State) → Waits s → IsReaction y (protocol.reaction itself at m s (input.Timer t)))
-      → Takes result new old.log (taken_line rank (Some before) y (apply y.tx (w.store 0))) (apply y.tx (w.store 0)) → DoesPlain result new (plain_step alone w (Ring rank t at))
-  rung-ran result new m before y up is was reacts =
-      subst (λ (rank : ℕ). Takes result new old.log (taken_line rank (Some before) y (apply y.tx (w.store 0))) (apply y.tx (w.store 0)) → DoesPlain result new (plain_step alone w (Ring rank t at))) (sym is_0)
-      (up-ran old w at rung (input.Timer t) stand comes_to none_there stood_so result new m before y up is was reacts settles)
-
-  pub rung-down : is_some old.site.standing ≡ false → DoesPlain (Ok (still_line Down)) old (plain_step alone w (Ring rank t at))
-  rung-down off = subst (λ (rank : ℕ). DoesPlain (Ok (still_line Down)) old (plain_step alone w (Ring rank t at))) (sym is_0) (down old w at rung (input.Timer t) stand comes_to none_there stood_so off)
-
--- ---- a message, of which none was sent
-
-no_message : (messages : List Envelope) → messages ≡ [] → (k : ℕ) → message_at messages k ≡ None
-no_message messages e zero = refl
-no_message messages e (suc k) = ap (λ (es : List Envelope). slice_get es k) e
-
-nothing_comes : (w : Model) (k at : ℕ) → w.messages ≡ [] → plain_step alone w (Deliver k at) ≡ Ok (unmoved w (Deliver k at), still_line NoMessage)
-nothing_comes w k at none = rw (no_message w.messages none k) refl
-
-pub delivered-none : (old : World) (w : Model) (k at : ℕ) → StandsFor old w → DoesPlain (Ok (still_line NoMessage)) old (plain_step alone w (Deliver k at))
-unfolding unmoved
-delivered-none old w k at stand =
-    (unmoved w (Deliver k at), nothing_comes w k at stand.silent, record { map = stand.map; up = stand.up; log = stand.log; small = stand.small; settled = stand.settled; silent = stand.silent })
-
--- ---- a schedule's event
-
-module _ (r : Result StepLine WorldStop) (old new : World) (event : Plain) where
-  -- what comes by it
-  comes_by : (next : Plain) → event ≡ next → (w : Model) → DoesPlain r new (plain_step alone w (plain_event next)) → DoesPlain r new (plain_step alone w (plain_event event))
-  comes_by next so w does = subst (λ (e : Plain). DoesPlain r new (plain_step alone w (plain_event e))) (sym so) does
-
-  pub step-start : (rank at : ℕ) → event ≡ plain.Start rank at → ((at : ℕ) (w : Model) → StandsFor old w → DoesPlain r new (plain_step alone w (Start rank at)))
-      → (w : Model) → StandsFor old w → DoesPlain r new (plain_step alone w (plain_event event))
-  step-start rank at so does w stand = comes_by (plain.Start rank at) so w (does at w stand)
-
-  pub step-client : (rank at : ℕ) (session : Session) (request : Request) → event ≡ plain.Client rank at session request
-      → ((at : ℕ) (w : Model) → StandsFor old w → DoesPlain r new (plain_step alone w (Client rank at session request)))
-      → (w : Model) → StandsFor old w → DoesPlain r new (plain_step alone w (plain_event event))
-  step-client rank at session request so does w stand = comes_by (plain.Client rank at session request) so w (does at w stand)
-
-  pub step-timer : (rank : ℕ) (t : Timer) (at : ℕ) → event ≡ plain.Timer rank t at → ((t : Timer) (at : ℕ) (w : Model) → StandsFor old w → DoesPlain r new (plain_step alone w (Ring rank t at)))
-      → (w : Model) → StandsFor old w → DoesPlain r new (plain_step alone w (plain_event event))
-  step-timer rank t at so does w stand = comes_by (plain.Timer rank t at) so w (does t at w stand)
-
-  pub step-deliver : (k at : ℕ) → event ≡ plain.Deliver k at → ((k at : ℕ) (w : Model) → StandsFor old w → DoesPlain r new (plain_step alone w (Deliver k at)))
-      → (w : Model) → StandsFor old w → DoesPlain r new (plain_step alone w (plain_event event))
-  step-deliver k at so does w stand = comes_by (plain.Deliver k at) so w (does k at w stand)
+    -- it does something, and that is told
+    pub met_turn : (new : World) (t : Turn) (line : StepLine) → MeetsAt old.monitors.items mid.monitors.items a (Ok (Some t)) → Tells a.rank t mid new line
+        → Does ms (Ok line) new (step ms c (events.Plain p))
+    met_turn new t line h tells =
+        let m = met ms old mid c a r count (Ok (Some t)) h in
+        let turn = m.2.2 in
+        let x : Reaction = record { transaction = t.reaction.tx; sends = t.reaction.out; state = turn.state } in
+        let store = map_after c.world a.rank x in
+        let files = files_after None a.input (c.files a.rank) (c.world.store a.rank) x.transaction in
+        let up = meets_up ms c.world (plain_event p) a r.me comes r.itself r.rank_is m.2.0 m.2.1 in
+        let many : length c.world.messages ≡ length mid.messages.items =
+        sym (ap length s.messages) ∙ length-map old.messages.items envelope_of ∙ sym (ap length messages) in
+        let lines : ran_line c.world a.rank a.input x ≡ line =
+        ap (λ (told : Option StateLine). record (turn_line a.rank (length c.world.messages) t) { state = told }) (sym turn.told_is)
+        ∙ ap (λ (n : ℕ). turn_line a.rank n t) many ∙ sym tells.line_is in
+        let here = stands_at ms mid.monitors.items a.rank store (Some x.state) files r.me m.0 r.itself m.1 turn.stands in (
+          after_turn c p a.rank a.input x,
+          turn_met c p a.rank a.input ms (reaction r.me a.at (c.world.store a.rank) m.2.0 a.input) x up turn.is_done.does_so
+              ∙ ap {B = Result (Scene × StepLine) happens.Stop} (λ (l : StepLine). Ok (after_turn c p a.rank a.input x, l)) lines,
+          turn_stands c p a.rank a.input ms old new x s (ap length tells.monitors ∙ count)
+              (λ j n. ap (λ (l : List Monitor). slice_get l j) tells.monitors ∙ others j n)
+              (subst (λ (l : List Monitor). StandsAt ms l a.rank store (Some x.state) files) (sym tells.monitors) here)
+              (tells.messages ∙ ap (λ (es : List code.Envelope). map envelope_of es ++ messages_of x.sends) messages)
+              (subst (λ (n : ℕ). AllByRecursion (MayArrive n) (messages_of x.sends)) r.monitors (goes r.me x.sends turn.is_done.may_go turn.is_done.named))
+              (tells.log store turn.last turn.marked ∙ ap (λ (n : ℕ). log_after n store) log),
+        )

@@ -1,12 +1,11 @@
--- What the events of a schedule are to the model, and which of them happen so far.
-use Rattle.std.specs.Prelude.{Bool, true, false, ◌&&◌, Option, Some, None}
+-- What the events of a schedule are to the model.
+use Rattle.std.specs.Prelude.{Some, None}
 use Rattle.quorum_model.specs.Scenes.{Scheduled}
 use Rattle.quorum_model.specs.World as model
 use Rattle.schedule_text.specs.declared.event.Event as schedule
 use Rattle.schedule_text.specs.declared.event.Event.TheVariants as events
 use Rattle.schedule_text.specs.declared.event.Plain.{Plain}
 use Rattle.schedule_text.specs.declared.event.Plain.TheVariants as plain
-use Rattle.schedule_text.specs.Spelling.{event_fits}
 
 abbrev pub plain_event : Plain → model.Plain
 plain_event (plain.Start rank at) = model.Start rank at
@@ -21,14 +20,3 @@ scheduled_of (events.Crash disk call image p) =
     record { plain = plain_event p; upset = Some (record { disk = disk; call = call; image = image }) }
 scheduled_of (events.Fail disk call image p) =
     record { plain = plain_event p; upset = Some (record { disk = disk; call = call; image = image }) }
-
--- ---- what happens so far
-
--- crashes and faults of disks don't happen yet
-abbrev pub is_built : schedule.Event → Bool
-is_built (events.Plain event) = true
-is_built other = false
-
--- what the one monitor may meet
-abbrev pub event_runs : schedule.Event → Bool
-event_runs event = event_fits 1 event && is_built event

@@ -1,9 +1,9 @@
-pub mod Site
-pub mod Disks
-pub mod Answers
-pub mod Kept
 pub mod Events
-pub mod Node
-pub mod Stands
+pub mod Stops
+pub mod Monitor
+pub mod Falls
 pub mod Step
-pub mod Takes
+pub mod Meeting
+pub mod Stands
+pub mod Sending
+pub mod Telling

@@ -1,54 +1,91 @@
 -- What the code's world stands for.
-use Rattle.std.specs.Prelude.{◌≡◌, ◌≤◌, Bool, true, false, [], length, Option, Some, None, is_some, Result, Ok, Err, IsTrue}
-use Rattle.mon_types.specs.declared.member.Member.{Member}
-use Rattle.mon_kv.specs.Readers.{size_of, most_size}
-use Rattle.trace_text.specs.declared.step.StepLine.{StepLine}
+use Rattle.std.specs.Prelude.{◌≡◌, ℕ, ◌<◌, ◌≤◌, List, length, map, slice_get, IsTrue, Option, Some, Result, Ok, Err}
+use Rattle.std.specs.List.{AllByRecursion}
+use Rattle.mon_bounds.specs.Fitting.{MayCome}
 use Rattle.mon_msg.specs.Protocol.State.{State}
-use Rattle.mon_msg.specs.Protocol.Readings.{readings_of}
-use Rattle.quorum_model.specs.Alone.{Waits, IsSettled}
+use Rattle.mon_msg.specs.declared.input.Input.TheVariants as input
+use Rattle.mon_msg.specs.declared.view.Me.{Me}
+use Rattle.mon_tx.specs.Map.{Store}
+use Rattle.quorum_model.specs.Files.{Files}
 use Rattle.quorum_model.specs.Happens as happens
-use Rattle.quorum_model.specs.Scenes.{Scene}
+use Rattle.quorum_model.specs.Meets as meeting
+use Rattle.quorum_model.specs.Meets.{Meeting, NoMessage, Down, Reacts, meets}
+use Rattle.quorum_model.specs.Monitors.{Monitors, me_of}
+use Rattle.quorum_model.specs.Scenes.{Scene, kept_at, scene_after}
+use Rattle.quorum_model.specs.Upsets.{Upset}
 use Rattle.quorum_model.specs.World as model
+use Rattle.schedule_text.specs.Spelling.{plain_fits, event_fits, plain_text, event_text, most_bytes}
+use Rattle.schedule_text.specs.declared.event.Event.{Event}
+use Rattle.schedule_text.specs.declared.event.Plain.{Plain}
+use Rattle.trace_text.specs.declared.step.StepLine.{StepLine}
+use Rattle.mon_world.specs.declared.monitor.Monitor.{Monitor}
 use Rattle.mon_world.specs.declared.stop.WorldStop.{WorldStop}
-use Rattle.mon_world.specs.declared.stop.WorldStop.TheVariants.{OutOfMemory, Spent, Full}
+use Rattle.mon_world.specs.declared.world.Arrival.{Arrival}
+use Rattle.mon_world.specs.declared.sending.Envelope.{Envelope}
+use Rattle.mon_world.specs.declared.world.Upshot.{Upshot}
+use Rattle.mon_world.specs.declared.world.Upshot.TheVariants as upshot
 use Rattle.mon_world.specs.declared.world.World.{World}
+use Rattle.mon_world.specs.Monitor.{Stands}
+use Rattle.mon_world.specs.Stops.{Stops}
 
--- whose the disks are: those of the one monitor of a map
-abbrev pub IsItself : Member → Type 0
-IsItself member = (member.rank ≡ 0) × (member.monitors ≡ 1)
+-- as the model has a message and what comes
+abbrev pub envelope_of : Envelope → model.Envelope
+envelope_of e = record { to = e.to; message = e.message }
 
--- no call broke its store
-abbrev pub IsUsable : World → Type 0
-IsUsable world = IsTrue (is_some world.site.map)
+abbrev pub arrival_of : Arrival → meeting.Arrival
+arrival_of a = record { rank = a.rank; at = a.at; input = a.input }
 
--- whether the store is open is told; where it is, the monitor is up, leads itself and waits
-abbrev pub IsUp : Bool → Option State → Type 0
-IsUp false None = Unit {0}
-IsUp true (Some s) = Waits s
-IsUp is_open state = ⊥
+-- a message to one of so many monitors, which may come
+pub record MayArrive (n : ℕ) (e : model.Envelope) : Type 0 where
+  pub to : e.to < n
+  pub comes : MayCome (input.Deliver e.message)
 
--- The map, and whether the monitor is up, are those of the model's first monitor, and the log's length is that of the model. The map is no larger than a
--- store keeps, nothing is pending, and no message was ever sent.
-pub record StandsFor (world : World) (w : model.World) : Type 0 where
-  pub map : world.site.map ≡ Some (w.store 0)
-  pub up : IsUp (is_some world.site.standing) (w.state 0)
-  pub log : world.log ≡ length w.log
-  pub small : size_of (w.store 0) ≤ most_size
-  pub settled : IsSettled (readings_of (w.store 0))
-  pub silent : w.messages ≡ []
+-- the monitor of a rank stands for a store, a state and files
+abbrev pub StandsAt : Monitors → List Monitor → ℕ → Store → Option State → Files → Type 0
+StandsAt ms monitors i m s f = (me : Me) (monitor : Monitor) → me_of ms i ≡ Some me → slice_get monitors i ≡ Some monitor → Stands me m s f monitor
 
--- the run stops as it should, unless memory ran out
-abbrev pub Stops : {Y : Type 0} → WorldStop → Result Y happens.Stop → Type 0
-Stops OutOfMemory wanted = Unit {0}
-Stops (Spent which) wanted = wanted ≡ Err (happens.Spent which)
-Stops (Full would_be) wanted = wanted ≡ Err (happens.Full would_be)
+-- each stands for the scene's
+abbrev pub EachStands : Monitors → List Monitor → Scene → Type 0
+EachStands ms monitors c = (i : ℕ) → StandsAt ms monitors i (c.world.store i) (c.world.state i) (c.files i)
 
--- A call left a world, and answered an event's lines.
-abbrev pub DoesPlain : Result StepLine WorldStop → World → Result (model.World × StepLine) happens.Stop → Type 0
-DoesPlain (Ok line) new wanted = (next : model.World) × (wanted ≡ Ok (next, line)) × StandsFor new next
-DoesPlain (Err e) new wanted = Stops e wanted
+-- The monitors are the map's, and all messages and the log's length are the scene's.
+pub record StandsFor (ms : Monitors) (world : World) (c : Scene) : Type 0 where
+  pub count : length world.monitors.items ≡ ms.count
+  pub each : EachStands ms world.monitors.items c
+  pub messages : map envelope_of world.messages.items ≡ c.world.messages
+  pub arrive : AllByRecursion (MayArrive ms.count) c.world.messages
+  pub log : world.log ≡ length c.world.log
 
--- and so for an event of a schedule, over a scene
-abbrev pub Does : Result StepLine WorldStop → World → Result (Scene × StepLine) happens.Stop → Type 0
-Does (Ok line) new wanted = (next : Scene) × (wanted ≡ Ok (next, line)) × StandsFor new next.world
-Does (Err e) new wanted = Stops e wanted
+-- for some scene
+abbrev pub IsWorld : World → Type 0
+IsWorld world = (ms : Monitors) × (c : Scene) × StandsFor ms world c
+
+-- what happens in a schedule of so many monitors
+pub record FitsPlain (n : ℕ) (p : Plain) : Type 0 where
+  pub form : IsTrue (plain_fits n p)
+  pub short : length (plain_text p) ≤ most_bytes
+
+-- and an event of it
+pub record Fits (n : ℕ) (e : Event) : Type 0 where
+  pub form : IsTrue (event_fits n e)
+  pub short : length (event_text e) ≤ most_bytes
+
+-- A call left a world, and answered an event's lines; or the run stops as it should.
+abbrev pub Does : Monitors → Result StepLine WorldStop → World → Result (Scene × StepLine) happens.Stop → Type 0
+Does ms (Ok line) new wanted = (next : Scene) × (wanted ≡ Ok (next, line)) × StandsFor ms new next
+Does ms (Err e) new wanted = Stops e wanted
+
+-- what comes of what was met, where a disk is to fail
+abbrev pub upshot_at : Scene → Upset → Meeting → Upshot
+upshot_at c u (Reacts i came result) = upshot.Stopped (kept_at c u (Reacts i came result))
+upshot_at c u NoMessage = upshot.NoMessage
+upshot_at c u Down = upshot.Down
+
+-- the scene after what comes, where a disk fails
+abbrev pub upset_step : Monitors → Scene → Upset → model.Plain → Result Scene happens.Stop
+upset_step ms c u p = scene_after ms c (record { plain = p; upset = Some u })
+
+abbrev pub DoesUpset : Monitors → Result Upshot WorldStop → World → Scene → Upset → model.Plain → Type 0
+DoesUpset ms (Ok told) new c u p =
+    (next : Scene) × (upset_step ms c u p ≡ Ok next) × (told ≡ upshot_at c u (meets ms c.world p)) × StandsFor ms new next
+DoesUpset ms (Err e) new c u p = Stops e (upset_step ms c u p)

@@ -14,7 +14,7 @@ use Rattle.mon_world.specs.Events.{scheduled_of}
 use Rattle.quorum_model.specs.Clients.{messages_of}
 use Rattle.quorum_model.specs.Growth.{last_of}
 use Rattle.quorum_model.specs.Happens.{Stop, map_after, happens}
-use Rattle.quorum_model.specs.Meets.{Meeting, NoMessage, Down, Reacts, meets}
+use Rattle.quorum_model.specs.Meets.{Meeting, NoMessage, Reacts, meets}
 use Rattle.quorum_model.specs.Monitors.{Monitors}
 use Rattle.quorum_model.specs.Scenes.{Scene, kept_at, scene_after}
 use Rattle.quorum_model.specs.Upsets.{Upset}
@@ -44,9 +44,9 @@ state_if_up m None = None
 state_if_up m (Some s) = Some (state_of m s)
 
 -- what stood before an event; a start forgets it
-abbrev pub state_before : World → ℕ → Input → Option StateLine
-state_before w rank input.Start = None
-state_before w rank other = state_if_up (w.store rank) (w.state rank)
+abbrev pub state_before : Store → Option State → Input → Option StateLine
+state_before m s input.Start = None
+state_before m s other = state_if_up m s
 
 -- messages, numbered from this one on
 abbrev pub numbered : ℕ → List Envelope → List Numbered
@@ -67,7 +67,7 @@ abbrev pub ran_line : World → ℕ → Input → Reaction → StepLine
 ran_line w rank came r = record {
   outcome = outcome.Ran;
   ops = length r.transaction;
-  state = told (state_before w rank came) (state_of (map_after w rank r) r.state);
+  state = told (state_before (w.store rank) (w.state rank) came) (state_of (map_after w rank r) r.state);
   sent = numbered (suc (length w.messages)) (messages_of r.sends);
   replies = replied rank r.sends;
 }

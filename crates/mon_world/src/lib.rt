@@ -1,17 +1,13 @@
-//! The world of a schedule: its one monitor, and the monitor's map on two disks in memory.
+//! The world of a schedule: its monitors, each with its map on two disks in memory, and all messages that they ever sent.
 #![tactic(auto)]
 
-mod disks;
+mod crash;
 mod lines;
-mod node;
-mod service;
-mod site;
+mod meeting;
+mod monitor;
+mod sending;
 mod stop;
 mod world;
 
-pub use site::Site;
-pub use stop::{SiteStop, WorldStop};
+pub use stop::WorldStop;
 pub use world::World;
-
-#[cfg(test)]
-mod tests;

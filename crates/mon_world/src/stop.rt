@@ -1,31 +1,11 @@
-use crate::node::NodeStop;
+ghost use Rattle.std.specs.Prelude.{◌≡◌};
+ghost use Rattle.mon_world.specs.Stops.{CanStop, stop_of};
+
 use mon_bytes::OutOfMemory;
+use mon_core::CoreStop;
+use mon_store::StoreStop;
 use mon_types::Which;
 use thiserror::Error;
-
-/// Why a transaction isn't kept.
-#[derive(Clone, Copy, Debug, PartialEq, Eq, Error)]
-pub enum SiteStop {
-    /// Its text would have `len` bytes, above 4,194,304. Nothing changed.
-    #[error("a transaction of {len} bytes")]
-    TooLong { len: u64 },
-    /// The map would have the size `would_be`, above 268,435,456.
-    #[error("the map would have the size {would_be}")]
-    Full { would_be: u64 },
-    #[error("out of memory")]
-    OutOfMemory,
-}
-
-impl From<OutOfMemory> for SiteStop {
-    ghost use Rattle.std.specs.Prelude.{◌≡◌};
-    ghost use Rattle.mon_world.specs.declared.stop.SiteStop.TheVariants.{OutOfMemory as no_memory};
-
-    ghost from_gives = { λ _ e. e ≡ no_memory };
-
-    fn from(_e: OutOfMemory) -> SiteStop {
-        SiteStop::OutOfMemory
-    }
-}
 
 /// Why a run stops. What stops it at a number or a size leaves the event undone. The world isn't used again.
 #[derive(Clone, Copy, Debug, PartialEq, Eq, Error)]
@@ -35,7 +15,7 @@ pub enum WorldStop {
     /// A number of this kind would pass 2^62.
     #[error("spent: {which:?}")]
     Spent { which: Which },
-    /// The monitor's map would have the size `would_be`, above 268,435,456.
+    /// A monitor's map would have the size `would_be`, above 268,435,456.
     #[error("the map would have the size {would_be}")]
     Full { would_be: u64 },
 }
@@ -51,16 +31,28 @@ impl From<OutOfMemory> for WorldStop {
     }
 }
 
-impl From<NodeStop> for WorldStop {
+impl From<CoreStop> for WorldStop {
     ghost use Rattle.std.specs.Prelude.{◌≡◌};
-    ghost use Rattle.mon_world.specs.Takes.{stop_of};
+    ghost use Rattle.mon_world.specs.Stops.{core_stop};
 
-    ghost from_gives = { λ s e. e ≡ stop_of s };
+    ghost from_gives = { λ stop e. e ≡ core_stop stop };
 
-    fn from(stop: NodeStop) -> WorldStop {
+    fn from(stop: CoreStop) -> WorldStop {
         match stop {
-            NodeStop::OutOfMemory => WorldStop::OutOfMemory,
-            NodeStop::Spent(which) => WorldStop::Spent { which },
+            CoreStop::OutOfMemory => WorldStop::OutOfMemory,
+            CoreStop::Spent { which } => WorldStop::Spent { which },
         }
+    }
+}
+
+/// How a store's stop stops the world. No reaction has a text that is too long, and no disk fails unless an event says so.
+pub(crate) fn stop_of(stop: StoreStop) -> WorldStop
+    requires { CanStop stop }
+    ensures { result ≡ stop_of stop }
+{
+    match stop {
+        StoreStop::Full { would_be } => WorldStop::Full { would_be },
+        StoreStop::OutOfMemory => WorldStop::OutOfMemory,
+        StoreStop::TooLong { .. } | StoreStop::Broken | StoreStop::DiskFault => unreachable!(),
     }
 }

@@ -1,86 +1,234 @@
-//! The world of one monitor.
+//! The world of a schedule.
 
-ghost use Rattle.std.specs.Prelude.{◌≡◌, ◌≤◌, true, Some, is_some, length, IsTrue, OnOk};
-ghost use Rattle.mon_tx.specs.Map.{Store, apply};
+ghost use Rattle.std.specs.Prelude.{◌≡◌, ◌≢◌, ℕ, ◌<◌, ◌≤◌, Bool, Option, None, Some, IfOk, length, map, slice_get};
+ghost use Rattle.std.specs.FinMap.{empty};
+ghost use Rattle.std.specs.Option.{option_map};
+ghost use Rattle.mon_bounds.specs.Fitting.{MayCome};
+ghost use Rattle.mon_kv.specs.Readers.{is_marked};
+ghost use Rattle.mon_msg.specs.Protocol.State.{State};
+ghost use Rattle.mon_msg.specs.declared.input.Input.TheVariants as input;
+ghost use Rattle.mon_msg.specs.declared.view.Me.{Me};
+ghost use Rattle.mon_tx.specs.Map.{Store as Map};
 ghost use Rattle.mon_tx.specs.Text.{text, most};
-ghost use Rattle.quorum_model.specs.Monitors.{itself};
-ghost use Rattle.mon_world.specs.Stands.{IsItself};
-ghost use Rattle.mon_world.specs.Takes.{Stores};
+ghost use Rattle.quorum_model.specs.Files.{Files, no_files};
+ghost use Rattle.quorum_model.specs.Growth.{last_of};
+ghost use Rattle.quorum_model.specs.Meets as meets;
+ghost use Rattle.quorum_model.specs.Monitors.{Monitors};
+ghost use Rattle.quorum_model.specs.Scenes.{Scene, first_scene};
+ghost use Rattle.quorum_model.specs.World as model;
+ghost use Rattle.schedule_text.specs.declared.event.Event.TheVariants as events;
+ghost use Rattle.schedule_text.specs.declared.event.Plain.{Plain};
+ghost use Rattle.mon_world.specs.Events.{plain_event};
+ghost use Rattle.mon_world.specs.Falls.{upset_of};
+ghost use Rattle.mon_world.specs.Meeting.{Meets, MeetsFall};
+ghost use Rattle.mon_world.specs.Monitor.{Standing, Stands};
+ghost use Rattle.mon_world.specs.Stands.{Does, DoesUpset, Fits, FitsPlain, IsWorld, StandsFor, arrival_of, envelope_of};
+ghost use Rattle.mon_world.specs.Step.{log_after, step};
+ghost use Rattle.mon_world.specs.Telling.{Leaves, Tells};
 
-use crate::lines::{log_after, nothing, replies_of, state_of, told};
-use crate::node::{Reaction, client, ring, start};
-use crate::site::Site;
-use crate::stop::{SiteStop, WorldStop};
-use mon_msg::{Items, Request, Session};
-use mon_tx::Transaction;
-use mon_types::{Member, Rank};
+use crate::lines::still;
+use crate::meeting::{Fall, Turn, meet, meet_upset};
+use crate::monitor::Monitor;
+use crate::sending::{Envelope, Gone, send};
+use crate::stop::WorldStop;
+use election_rules::Rule;
+use mon_bytes::OutOfMemory;
+use mon_core::{Input, Reaction};
+use mon_msg::Me;
+use mon_site::Upset;
+use mon_types::{Member, Moment, Rank, Version};
 use schedule_text::{Event, Plain};
 use std::alloc::Global;
-use trace_text::{Outcome, StateLine, StepLine};
+use trace_text::{Outcome, StepLine};
 
-/// The one monitor of a map.
-fn itself() -> Member
-    ensures { IsItself result }
-{
-    let Some(rank) = Rank::new(0) else {
-        unreachable!()
-    };
-    match Member::new(rank, 1) {
-        Some(member) => member,
-        None => unreachable!(),
+/// What comes to a monitor, and when.
+#[derive(Drop)]
+struct Arrival {
+    rank: Rank,
+    at: Moment,
+    input: Input,
+}
+
+/// What an event comes to in which a disk is to fail.
+#[derive(Clone, Copy)]
+enum Upshot {
+    NoMessage,
+    Down,
+    /// Its monitor stopped, and what that wrote is kept or lost.
+    Stopped { kept: bool },
+}
+
+impl Upshot {
+    ghost use Rattle.std.specs.Prelude.{◌≡◌};
+    ghost use Rattle.trace_text.specs.declared.step.Outcome.TheVariants.{Crashed, Failed};
+    ghost use Rattle.mon_world.specs.Telling.{outcome_of};
+
+    /// What is told of it where the monitor is to crash.
+    fn crashed(self) -> Outcome
+        ensures { result ≡ outcome_of Crashed self }
+    {
+        match self {
+            Upshot::NoMessage => Outcome::NoMessage,
+            Upshot::Down => Outcome::Down,
+            Upshot::Stopped { kept } => Outcome::Crashed { kept },
+        }
+    }
+
+    /// What is told of it where only the disk is to fail.
+    fn failed(self) -> Outcome
+        ensures { result ≡ outcome_of Failed self }
+    {
+        match self {
+            Upshot::NoMessage => Outcome::NoMessage,
+            Upshot::Down => Outcome::Down,
+            Upshot::Stopped { kept } => Outcome::Failed { kept },
+        }
     }
 }
 
-/// Keeps a monitor's transaction.
-fn keep(site: &mut Site, tx: &Transaction) -> Result<(), WorldStop>
-    requires short { length (text tx.now) ≤ most }
-    requires map { IsTrue (is_some site.old.map) }
-    requires open { IsTrue (is_some site.old.standing) }
-    ensures stored { (m : Store) → site.old.map ≡ Some m → Stores result site.new (apply tx.now m) }
-    ensures map { OnOk result (is_some site.new.map ≡ true) }
-    ensures open { is_some site.new.standing ≡ true }
-    ensures member { site.new.member ≡ site.old.member }
-{
-    match site.apply(tx) {
-        Ok(()) => Ok(()),
-        Err(SiteStop::Full { would_be }) => Err(WorldStop::Full { would_be }),
-        Err(SiteStop::OutOfMemory) => Err(WorldStop::OutOfMemory),
-        Err(SiteStop::TooLong { .. }) => unreachable!(),
-    }
-}
-
-/// A monitor's disks, and the length of the log.
+/// The monitors of a map, all messages that they ever sent, and the length of the log.
 #[derive(Drop)]
 pub struct World {
     alloc: Global,
-    site: Site,
+    monitors: Vec<Monitor>,
+    messages: Vec<Envelope>,
     log: u64,
 }
 
-impl World {
-    ghost use Rattle.std.specs.Prelude.{◌≡◌, ℕ, ◌≤◌, Some, is_some, length, IsTrue, OnOk};
-    ghost use Rattle.mon_tx.specs.Map.{Store, apply};
-    ghost use Rattle.mon_tx.specs.Text.{text, most};
-    ghost use Rattle.mon_wire.specs.declared.phase.Timer.{Timer};
-    ghost use Rattle.quorum_model.specs.Monitors.{alone};
-    ghost use Rattle.quorum_model.specs.World.{World as Model, Plain as Coming, first_world, Start, Ring, Client};
-    ghost use Rattle.mon_world.specs.Events.{event_runs, plain_event};
-    ghost use Rattle.quorum_model.specs.Scenes.{Scene};
-    ghost use Rattle.mon_world.specs.Stands.{IsItself, IsUsable, StandsFor, DoesPlain, Does};
-    ghost use Rattle.mon_world.specs.Step.{plain_step, step};
-    ghost use Rattle.mon_world.specs.Takes.{Takes, taken_line};
+/// What comes by the sent message of this number, counted from 1, where so many were sent.
+fn delivered(
+    alloc: Global,
+    messages: &[Envelope],
+    number: u64,
+    at: Moment,
+) -> Result<Option<Arrival>, OutOfMemory>
+    ensures { (w : model.World) → map envelope_of messages.now ≡ w.messages → IfOk result (λ a. option_map arrival_of a ≡ meets.arrival w (model.Deliver number at)) }
+{
+    if number == 0 || number > messages.len() as u64 {
+        return Ok(None);
+    }
+    let envelope = &messages[(number - 1) as usize];
+    Ok(Some(Arrival {
+        rank: envelope.to,
+        at,
+        input: Input::Deliver(envelope.message.copy(alloc)?),
+    }))
+}
 
-    /// The one monitor, which is down, with empty disks, and an empty log.
-    pub fn new(alloc: Global) -> World
-        ensures stands { StandsFor result first_world }
-        ensures usable { IsUsable result }
-        ensures member { IsItself result.site.member }
+/// What comes by an event, unless it is a message that wasn't sent.
+fn arriving(
+    alloc: Global,
+    messages: &[Envelope],
+    event: &Plain,
+) -> Result<Option<Arrival>, OutOfMemory>
+    ensures { (w : model.World) → map envelope_of messages.now ≡ w.messages → IfOk result (λ a. option_map arrival_of a ≡ meets.arrival w (plain_event event.now)) }
+{
+    match event {
+        Plain::Start { rank, at } => Ok(Some(Arrival {
+            rank: *rank,
+            at: *at,
+            input: Input::Start,
+        })),
+        Plain::Deliver { message, at } => delivered(alloc, messages, *message, *at),
+        Plain::Timer { rank, kind, at } => Ok(Some(Arrival {
+            rank: *rank,
+            at: *at,
+            input: Input::Timer(*kind),
+        })),
+        Plain::Client {
+            rank,
+            at,
+            session,
+            request,
+        } => Ok(Some(Arrival {
+            rank: *rank,
+            at: *at,
+            input: Input::Client(*session, request.copy(alloc)?),
+        })),
+    }
+}
+
+/// How long the log is once a map with this last version is kept.
+fn grown(log: u64, last: Version, marked: bool) -> u64
+    ensures { (m : Map) → last ≡ last_of m → marked ≡ is_marked m → result ≡ log_after log m }
+{
+    if marked { log } else { log.max(last.get()) }
+}
+
+/// What the monitor of a rank does at an input.
+fn meet_at(
+    monitors: &mut Vec<Monitor>,
+    rank: Rank,
+    input: &Input,
+    at: Moment,
+) -> Result<Option<Turn>, WorldStop>
+    requires within { rank < length monitors.old.items }
+    requires stands { (monitor : Monitor) → slice_get monitors.old.items rank ≡ Some monitor → Standing monitor }
+    requires comes { MayCome input.now }
+    ensures count { length monitors.new.items ≡ length monitors.old.items }
+    ensures others { (i : ℕ) → i ≢ rank → slice_get monitors.new.items i ≡ slice_get monitors.old.items i }
+    ensures meets { (old new : Monitor) → slice_get monitors.old.items rank ≡ Some old → slice_get monitors.new.items rank ≡ Some new
+        → (me : Me) (m : Map) (s : Option State) (f : Files) → Stands me m s f old → Meets me at m s f input.now new result }
+{
+    meet(&mut monitors[rank.get() as usize], input, at)
+}
+
+/// A disk of the monitor of a rank fails in the event of an input.
+fn meet_upset_at(
+    monitors: &mut Vec<Monitor>,
+    rank: Rank,
+    upset: Upset,
+    input: &Input,
+    at: Moment,
+) -> Result<Option<Fall>, WorldStop>
+    requires within { rank < length monitors.old.items }
+    requires stands { (monitor : Monitor) → slice_get monitors.old.items rank ≡ Some monitor → Standing monitor }
+    requires comes { MayCome input.now }
+    requires first { 1 ≤ upset.call }
+    requires most { upset.call ≤ 65535 }
+    requires image { upset.image ≤ 3 }
+    ensures count { length monitors.new.items ≡ length monitors.old.items }
+    ensures others { (i : ℕ) → i ≢ rank → slice_get monitors.new.items i ≡ slice_get monitors.old.items i }
+    ensures meets { (old new : Monitor) → slice_get monitors.old.items rank ≡ Some old → slice_get monitors.new.items rank ≡ Some new
+        → (me : Me) (m : Map) (s : Option State) (f : Files) → Stands me m s f old → MeetsFall upset me at m s f input.now new result }
+{
+    meet_upset(&mut monitors[rank.get() as usize], upset, input, at)
+}
+
+/// A monitor of a map, which is down, with empty disks.
+fn down(alloc: Global, rank: u8, monitors: u8, rule: &Rule) -> Monitor
+    requires in_map { rank < monitors }
+    requires most { monitors ≤ 15 }
+    ensures { (me : Me) → me.member.rank ≡ rank → me.member.monitors ≡ monitors → me.rule ≡ rule.now → Stands me empty None no_files result }
+{
+    let Some(member) = Member::new(Rank::known(rank), monitors) else {
+        unreachable!()
+    };
+    Monitor::new(
+        alloc,
+        Me {
+            member,
+            rule: *rule,
+        },
+    )
+}
+
+impl World {
+    /// All monitors are down, with empty disks, and the log is empty.
+    pub fn new(alloc: Global, monitors: u8, rule: Rule) -> Result<World, OutOfMemory>
+        requires { monitors ≤ 15 }
+        ensures { (ms : Monitors) → ms.count ≡ monitors → ms.rule ≡ rule → IfOk result (λ world. StandsFor ms world first_scene) }
     {
-        World {
-            alloc,
-            site: Site::new(alloc, itself()),
-            log: 0,
+        let mut list = Vec::new(alloc);
+        for rank in 0..monitors {
+            list.push(down(alloc, rank, monitors, &rule))?;
         }
+        Ok(World {
+            alloc,
+            monitors: list,
+            messages: Vec::new(alloc),
+            log: 0,
+        })
     }
 
     /// How long the log is.
@@ -90,115 +238,150 @@ impl World {
         self.log
     }
 
-    /// Does what a reaction says.
-    fn take(
-        &mut self,
-        rank: Rank,
-        before: Option<StateLine>,
-        reaction: Reaction,
-    ) -> Result<StepLine, WorldStop>
-        requires short { length (text reaction.tx) ≤ most }
-        requires map { IsUsable self.old }
-        requires open { IsTrue (is_some self.old.site.standing) }
-        ensures taken { (m : Store) → self.old.site.map ≡ Some m → Takes result self.new self.old.log (taken_line rank before reaction (apply reaction.tx m)) (apply reaction.tx m) }
-        ensures usable { OnOk result (IsUsable self.new) }
-        ensures member { self.new.site.member ≡ self.old.site.member }
+    /// The last committed version of a monitor's map.
+    pub fn last_of(&self, rank: Rank) -> Version
+        requires { rank < length self.now.monitors.items }
+        ensures { (ms : Monitors) (c : Scene) → StandsFor ms self.now c → result ≡ last_of (c.world.store rank) }
     {
-        let Reaction { tx, answer } = reaction;
-        keep(&mut self.site, &tx)?;
-        let kv = self.site.kv();
-        self.log = log_after(self.log, kv);
+        self.monitors[rank.get() as usize].last()
+    }
+
+    /// What the monitor of a rank did is kept and goes out, and is told.
+    fn tell(&mut self, rank: Rank, turn: Turn) -> Result<StepLine, OutOfMemory>
+        requires { length (text turn.reaction.tx) ≤ most }
+        ensures { IfOk result (λ line. Tells rank turn self.old self.new line) }
+    {
+        let Turn {
+            reaction,
+            told,
+            last,
+            marked,
+        } = turn;
+        let Reaction { tx, out } = reaction;
+        self.log = grown(self.log, last, marked);
+        let Gone { sent, replies } = send(self.alloc, &mut self.messages, rank, out)?;
         Ok(StepLine {
             outcome: Outcome::Ran,
             ops: tx.ops().len() as u32,
-            state: told(before, state_of(kv)),
-            sent: Items::new(self.alloc),
-            replies: replies_of(self.alloc, rank, answer)?,
+            state: told,
+            sent,
+            replies,
         })
     }
 
-    /// The monitor is stopped, where it is up, and starts on its disks.
-    fn start(&mut self, rank: Rank) -> Result<StepLine, WorldStop>
-        requires rank { rank ≡ 0 }
-        requires usable { IsUsable self.old }
-        ensures does { (at : ℕ) (w : Model) → StandsFor self.old w → DoesPlain result self.new (plain_step alone w (Start rank at)) }
-        ensures usable { OnOk result (IsUsable self.new) }
-        ensures member { self.new.site.member ≡ self.old.site.member }
+    /// What comes to a monitor of the map, and its lines of the trace.
+    fn come(&mut self, arrival: &Arrival) -> Result<StepLine, WorldStop>
+        requires world { IsWorld self.old }
+        requires within { arrival.now.rank < length self.old.monitors.items }
+        requires comes { MayCome arrival.now.input }
+        ensures { (ms : Monitors) (c : Scene) (p : Plain) → StandsFor ms self.old c → meets.arrival c.world (plain_event p) ≡ Some (arrival_of arrival.now)
+            → Does ms result self.new (step ms c (events.Plain p)) }
     {
-        self.site.start()?;
-        let reaction = start(self.alloc, rank, self.site.kv())?;
-        self.take(rank, None, reaction)
+        let Some(turn) = meet_at(&mut self.monitors, arrival.rank, &arrival.input, arrival.at)?
+        else {
+            return Ok(still(self.alloc, Outcome::Down));
+        };
+        Ok(self.tell(arrival.rank, turn)?)
     }
 
-    fn client(
-        &mut self,
-        rank: Rank,
-        session: Session,
-        request: &Request,
-    ) -> Result<StepLine, WorldStop>
-        requires rank { rank ≡ 0 }
-        requires usable { IsUsable self.old }
-        ensures does { (at : ℕ) (w : Model) → StandsFor self.old w → DoesPlain result self.new (plain_step alone w (Client rank at session request.now)) }
-        ensures usable { OnOk result (IsUsable self.new) }
-        ensures member { self.new.site.member ≡ self.old.site.member }
-    {
-        if !self.site.is_open() {
-            return Ok(nothing(self.alloc, Outcome::Down));
-        }
-        let kv = self.site.kv();
-        let before = state_of(kv);
-        let reaction = client(self.alloc, rank, kv, session, request)?;
-        self.take(rank, Some(before), reaction)
-    }
-
-    fn ring(&mut self, rank: Rank) -> Result<StepLine, WorldStop>
-        requires rank { rank ≡ 0 }
-        requires usable { IsUsable self.old }
-        ensures does { (t : Timer) (at : ℕ) (w : Model) → StandsFor self.old w → DoesPlain result self.new (plain_step alone w (Ring rank t at)) }
-        ensures usable { OnOk result (IsUsable self.new) }
-        ensures member { self.new.site.member ≡ self.old.site.member }
-    {
-        if !self.site.is_open() {
-            return Ok(nothing(self.alloc, Outcome::Down));
-        }
-        let kv = self.site.kv();
-        let before = state_of(kv);
-        let reaction = ring(self.alloc, kv);
-        self.take(rank, Some(before), reaction)
-    }
-
-    /// One plain event, and its lines of the trace.
+    /// A plain event, and its lines of the trace.
     fn plain(&mut self, event: &Plain) -> Result<StepLine, WorldStop>
-        requires runs { IsTrue (event_runs (Event.Plain event.now)) }
-        requires usable { IsUsable self.old }
-        ensures does { (w : Model) → StandsFor self.old w → DoesPlain result self.new (plain_step alone w (plain_event event.now)) }
-        ensures usable { OnOk result (IsUsable self.new) }
-        ensures member { self.new.site.member ≡ self.old.site.member }
+        requires world { IsWorld self.old }
+        requires fits { FitsPlain (length self.old.monitors.items) event.now }
+        ensures { (ms : Monitors) (c : Scene) → StandsFor ms self.old c → Does ms result self.new (step ms c (events.Plain event.now)) }
     {
-        match event {
-            Plain::Start { rank, .. } => self.start(*rank),
-            Plain::Client {
-                rank,
-                session,
-                request,
-                ..
-            } => self.client(*rank, *session, request),
-            Plain::Timer { rank, .. } => self.ring(*rank),
-            Plain::Deliver { .. } => Ok(nothing(self.alloc, Outcome::NoMessage)),
+        match arriving(self.alloc, self.messages.as_slice(), event)? {
+            None => Ok(still(self.alloc, Outcome::NoMessage)),
+            Some(arrival) => self.come(&arrival),
         }
     }
 
-    /// One event, and its lines of the trace. After an `Err` the world isn't used again.
+    /// What is left of a monitor that fell.
+    fn left(&mut self, fall: Fall) -> Upshot
+        ensures { Leaves fall self.old self.new result }
+    {
+        let Some(marked) = fall.kept else {
+            return Upshot::Stopped { kept: false };
+        };
+        self.log = grown(self.log, fall.last, marked);
+        Upshot::Stopped { kept: true }
+    }
+
+    /// What comes to a monitor of the map, of which a disk fails.
+    fn fall(&mut self, arrival: &Arrival, upset: Upset) -> Result<Upshot, WorldStop>
+        requires world { IsWorld self.old }
+        requires within { arrival.now.rank < length self.old.monitors.items }
+        requires comes { MayCome arrival.now.input }
+        requires first { 1 ≤ upset.call }
+        requires most { upset.call ≤ 65535 }
+        requires image { upset.image ≤ 3 }
+        ensures { (ms : Monitors) (c : Scene) (p : model.Plain) → StandsFor ms self.old c → meets.arrival c.world p ≡ Some (arrival_of arrival.now)
+            → DoesUpset ms result self.new c (upset_of upset) p }
+    {
+        let Some(fall) = meet_upset_at(
+            &mut self.monitors,
+            arrival.rank,
+            upset,
+            &arrival.input,
+            arrival.at,
+        )?
+        else {
+            return Ok(Upshot::Down);
+        };
+        Ok(self.left(fall))
+    }
+
+    /// An event in which a disk fails.
+    fn upset(&mut self, event: &Plain, upset: Upset) -> Result<Upshot, WorldStop>
+        requires world { IsWorld self.old }
+        requires fits { FitsPlain (length self.old.monitors.items) event.now }
+        requires first { 1 ≤ upset.call }
+        requires most { upset.call ≤ 65535 }
+        requires image { upset.image ≤ 3 }
+        ensures { (ms : Monitors) (c : Scene) → StandsFor ms self.old c → DoesUpset ms result self.new c (upset_of upset) (plain_event event.now) }
+    {
+        match arriving(self.alloc, self.messages.as_slice(), event)? {
+            None => Ok(Upshot::NoMessage),
+            Some(arrival) => self.fall(&arrival, upset),
+        }
+    }
+
+    /// One event of a schedule of as many monitors, and its lines of the trace. After an `Err` the world isn't used again.
     pub fn step(&mut self, event: &Event) -> Result<StepLine, WorldStop>
-        requires runs { IsTrue (event_runs event.now) }
-        requires usable { IsUsable self.old }
-        ensures does { (c : Scene) → StandsFor self.old c.world → Does result self.new (step alone c event.now) }
-        ensures usable { OnOk result (IsUsable self.new) }
-        ensures member { self.new.site.member ≡ self.old.site.member }
+        requires world { IsWorld self.old }
+        requires fits { Fits (length self.old.monitors.items) event.now }
+        ensures { (ms : Monitors) (c : Scene) → StandsFor ms self.old c → Does ms result self.new (step ms c event.now) }
     {
         match event {
             Event::Plain(event) => self.plain(event),
-            Event::Crash { .. } | Event::Fail { .. } => unreachable!(),
+            Event::Crash {
+                disk,
+                call,
+                image,
+                event,
+            } => {
+                let upset = Upset {
+                    disk: *disk,
+                    call: *call as u64,
+                    image: *image,
+                };
+                let upshot = self.upset(event, upset)?;
+                Ok(still(self.alloc, upshot.crashed()))
+            }
+            Event::Fail {
+                disk,
+                call,
+                image,
+                event,
+            } => {
+                let upset = Upset {
+                    disk: *disk,
+                    call: *call as u64,
+                    image: *image,
+                };
+                let upshot = self.upset(event, upset)?;
+                Ok(still(self.alloc, upshot.failed()))
+            }
         }
     }
 }

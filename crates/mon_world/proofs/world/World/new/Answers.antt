@@ -1,15 +1,20 @@
-use Rattle.std.proofs.Common.{◌≡◌, ◌≤◌, refl, ap, arith}
-use Rattle.std.specs.FinMap.{empty}
-use Rattle.std.specs.List.{sum_by}
-use Rattle.mon_kv.specs.Readers.{entry_size, size_of}
-use Rattle.mon_store.specs.Checkpoint.{most_size}
-use Rattle.mon_store.proofs.Order.{entries-empty}
-use Rattle.quorum_model.proofs.Settling.{settled_first}
+use Rattle.std.proofs.Common.{◌≡◌, map, refl, ap, ◌∙◌, arith}
+use Rattle.mon_world.specs.Stands.{envelope_of}
+use Rattle.mon_world.proofs.Making.{one_made, all_made}
 use Rattle.mon_world.proofs.world.World.new.Goals as goal
 
-empty_small : size_of empty ≤ most_size
-unfolding size_of
-empty_small = let none : size_of empty ≡ 0 = ap (sum_by entry_size) (entries-empty empty refl) in omega arith
+pub loop-rank-preserved : goal.loop-rank-preserved
+loop-rank-preserved c =
+    rw c.in_ok-push.ensures.items
+    (one_made c.args.monitors c.args.rule c.loop-rank.list.items c.loop-rank.rank c.down.result c.loop-rank.invariant c.down.ensures)
 
-pub returns-clause-stands : goal.returns-clause-stands
-returns-clause-stands c = rw c.new.ensures (record { map = refl; up = tt; log = refl; small = empty_small; settled = settled_first; silent = refl })
+pub returns : goal.returns
+returns c = λ ms counts rules.
+    let end : c.loop-rank.rank ≡ ms.count = omega arith in
+    record {
+      count = c.loop-rank.invariant.count ∙ end;
+      each = all_made ms c.args.monitors c.args.rule c.loop-rank.list.items c.loop-rank.rank c.loop-rank.invariant counts rules;
+      messages = ap (map envelope_of) c.new.ensures.items;
+      arrive = tt;
+      log = refl;
+    }

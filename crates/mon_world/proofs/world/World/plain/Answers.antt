@@ -1,19 +1,31 @@
-use Rattle.std.proofs.Common.{Ok}
-use Rattle.trace_text.specs.declared.step.Outcome.TheVariants.{NoMessage}
-use Rattle.mon_world.specs.Step.{still_line}
-use Rattle.mon_world.proofs.Stepping.{step-start, step-client, step-timer, step-deliver, delivered-none}
+use Rattle.std.proofs.Common.{Ok, map, sym, ap, subst, ◌∙◌}
+use Rattle.std.specs.Option.{option_map}
+use Rattle.schedule_text.specs.declared.event.Event.TheVariants as events
+use Rattle.trace_text.specs.declared.step.StepLine.{StepLine}
+use Rattle.mon_world.specs.Stands.{Does, arrival_of, envelope_of}
+use Rattle.mon_world.specs.Step.{step}
+use Rattle.mon_world.proofs.Arriving.{arrives}
+use Rattle.mon_world.proofs.Stepping.{none_met}
 use Rattle.mon_world.proofs.world.World.plain.Goals as goal
 
-pub returns-in-Start-clause-does : goal.returns-in-Start-clause-does
-returns-in-Start-clause-does c = step-start c.start.result c.args.self.now c.start.new.self c.args.event.now c.in-Start.rank c.in-Start.at c.in-Start.is c.start.ensures.does
+pub returns-in-None : goal.returns-in-None
+returns-in-None c = λ ms d s.
+    let is = sym (c.in_ok-arriving.ensures d.world (ap (map envelope_of) c.as_slice.ensures.value ∙ s.messages)) ∙ ap (option_map arrival_of) c.in-None.is in
+    subst (λ (line : StepLine). Does ms (Ok line) c.args.self.now (step ms d (events.Plain c.args.event.now))) (sym c.still.ensures) (none_met ms c.args.self.now d c.args.event.now s is)
 
-pub returns-in-Client-clause-does : goal.returns-in-Client-clause-does
-returns-in-Client-clause-does c =
-    step-client c.client.result c.args.self.now c.client.new.self c.args.event.now c.in-Client.rank c.in-Client.at c.in-Client.session c.in-Client.request c.in-Client.is c.client.ensures.does
+pub come-requires-clause-within : goal.come-requires-clause-within
+come-requires-clause-within c =
+    let w = c.requires.world in
+    let is = sym (c.in_ok-arriving.ensures w.1.world (ap (map envelope_of) c.as_slice.ensures.value ∙ w.2.messages)) ∙ ap (option_map arrival_of) c.in-Some.is in
+    (arrives w.0 c.args.self.now w.1 c.args.event.now (arrival_of c.in-Some.arrival) w.2 c.requires.fits is).0
 
-pub returns-in-Timer-clause-does : goal.returns-in-Timer-clause-does
-returns-in-Timer-clause-does c = step-timer c.ring.result c.args.self.now c.ring.new.self c.args.event.now c.in-Timer.rank c.in-Timer.kind c.in-Timer.at c.in-Timer.is c.ring.ensures.does
+pub come-requires-clause-comes : goal.come-requires-clause-comes
+come-requires-clause-comes c =
+    let w = c.requires.world in
+    let is = sym (c.in_ok-arriving.ensures w.1.world (ap (map envelope_of) c.as_slice.ensures.value ∙ w.2.messages)) ∙ ap (option_map arrival_of) c.in-Some.is in
+    (arrives w.0 c.args.self.now w.1 c.args.event.now (arrival_of c.in-Some.arrival) w.2 c.requires.fits is).1
 
-pub returns-in-Deliver-clause-does : goal.returns-in-Deliver-clause-does
-returns-in-Deliver-clause-does c =
-    rw c.nothing.ensures (step-deliver (Ok (still_line NoMessage)) c.args.self.now c.args.self.now c.args.event.now c.in-Deliver.message c.in-Deliver.at c.in-Deliver.is (λ k at w stand. delivered-none c.args.self.now w k at stand))
+pub returns-in-Some : goal.returns-in-Some
+returns-in-Some c = λ ms d s.
+    let is = sym (c.in_ok-arriving.ensures d.world (ap (map envelope_of) c.as_slice.ensures.value ∙ s.messages)) ∙ ap (option_map arrival_of) c.in-Some.is in
+    c.come.ensures ms d c.args.event.now s is

@@ -1,0 +1,44 @@
+-- What a monitor's event ends with over a store of which a disk fails.
+use Rattle.std.proofs.Common.{◌≡◌, ℕ, Bool, true, false, List, Result, Ok, Err, refl, ap, subst, ◌∙◌}
+use Rattle.std.specs.Bool.{then_some}
+use Rattle.std.specs.Prelude.{if◌then◌else◌}
+use Rattle.mon_disk.specs.MemoryDisk.{MemoryState}
+use Rattle.mon_msg.specs.Protocol.Reaction.{Reaction, reaction}
+use Rattle.mon_msg.specs.Protocol.State.{State}
+use Rattle.mon_msg.specs.declared.input.Input.{Input}
+use Rattle.mon_msg.specs.declared.view.Me.{Me}
+use Rattle.mon_site.specs.Ending.{Writes}
+use Rattle.mon_site.specs.Falls.{Rests, Settles}
+use Rattle.mon_site.specs.declared.upset.Upset.{Upset}
+use Rattle.mon_tx.specs.Map.{Store, apply}
+use Rattle.mon_tx.specs.declared.op.Op.{Op}
+use Rattle.mon_types.specs.declared.member.Member.{Member}
+use Rattle.quorum_model.specs.Cuts.{append_cut}
+use Rattle.quorum_model.specs.Files.{Files}
+use Rattle.mon_world.specs.declared.crash.Fallen.{Fallen}
+use Rattle.mon_world.specs.declared.crash.Written.{Written}
+use Rattle.mon_world.specs.declared.stop.WorldStop.{WorldStop}
+use Rattle.mon_world.specs.Falls.{Ends, EndsWith, Settled, written, written_if}
+use Rattle.mon_world.proofs.Reacting.{not_kept}
+
+then_some_is : (kept : Bool) (m : Store) → then_some kept (written m) ≡ written_if kept m
+then_some_is true m = refl
+then_some_is false m = refl
+
+-- its disks settle
+pub settled : (u : Upset) (member : Member) (m : Store) (f : Files) (ops : List Op) (a b : MemoryState) (kept : Bool) (w : Written) (fallen : Fallen)
+    → Writes u member m f ops a b (Ok kept) → w ≡ written (apply ops m) → fallen.kept ≡ then_some kept w
+    → ((n : Store) (g : Files) → Settles member n g a b → Rests member n g fallen.disks.a fallen.disks.b) → Settled u member m f ops fallen
+settled u member m f ops a b kept w fallen x is some rests = record {
+  room = x.1;
+  kept = some ∙ (ap (then_some kept) is ∙ (then_some_is kept (apply ops m) ∙ ap (λ (k : Bool). written_if k (apply ops m)) x.0));
+  rests =
+      subst (λ (k : Bool). Rests member (if k then apply ops m else m) (append_cut f m u.disk u.call u.image ops) fallen.disks.a fallen.disks.b) x.0
+      (rests (if kept then apply ops m else m) (append_cut f m u.disk u.call u.image ops) x.2);
+}
+
+-- what its reaction writes is kept or lost, or stops the run as it should
+pub ends : (me : Me) (now : ℕ) (m : Store) (s : State) (came : Input) (u : Upset) (member : Member) (f : Files) (r : Reaction) (result : Result Fallen WorldStop)
+    → reaction me now m s came ≡ Ok r → EndsWith u member m f r.transaction result → Ends u member m f (reaction me now m s came) result
+ends me now m s came u member f r (Ok fallen) is h = (r, is, h)
+ends me now m s came u member f r (Err e) is h = not_kept me now m s came r e is h

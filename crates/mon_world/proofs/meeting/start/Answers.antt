@@ -1,0 +1,17 @@
+use Rattle.std.proofs.Common.{None, subst}
+use Rattle.mon_msg.specs.Protocol.State.{booting}
+use Rattle.mon_msg.specs.declared.input.Input.{Input}
+use Rattle.quorum_model.specs.Files.{after_opening}
+use Rattle.mon_world.specs.Meeting.{Turns}
+use Rattle.mon_world.proofs.meeting.start.Goals as goal
+
+pub take_turn-requires-clause-up : goal.take_turn-requires-clause-up
+take_turn-requires-clause-up c =
+    let stands = c.requires.stands in
+    (stands.0, stands.1, booting stands.0.member.rank, after_opening stands.3, c.in_ok-start.ensures stands.0 stands.1 stands.2 stands.3 stands.4)
+
+pub returns : goal.returns
+returns c = λ me m s f h.
+    let starting = booting me.member.rank in
+    subst (λ (came : Input). Turns me c.args.at m starting (after_opening f) None came c.take_turn.new.monitor c.take_turn.result) c.requires.start
+    (c.take_turn.ensures me m starting (after_opening f) (c.in_ok-start.ensures me m s f h))

@@ -1,0 +1,14 @@
+use Rattle.std.proofs.Common.{ap, ◌∙◌}
+use Rattle.quorum_model.specs.Growth.{last_of}
+use Rattle.mon_world.proofs.Holding.{as_known, stands_after}
+use Rattle.mon_world.proofs.monitor.Monitor.react.Goals as goal
+
+pub react-requires-clause-up : goal.react-requires-clause-up
+react-requires-clause-up c =
+    let x = c.requires.up in (x.0, x.1, x.2, x.3, as_known x.0 x.1 x.2 x.3 c.args.self.now.kept c.in-Up.running c.in-Up.is x.4.holds)
+
+pub returns : goal.returns
+returns c me m s f stands =
+    let self = c.args.self.now in
+    let up = as_known me m s f self.kept c.in-Up.running c.in-Up.is stands.holds in
+    stands_after me c.args.now m s f c.args.input.now self c.react.new.self c.in_ok-reaction-in-Up.reaction c.last_of-self.result stands.me_is (c.in_ok-reaction-in-Up.ensures me m s f up) (c.last_of-self.ensures ∙ ap last_of c.kv.ensures)

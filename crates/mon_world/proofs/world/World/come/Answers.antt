@@ -1,0 +1,52 @@
+use Rattle.std.proofs.Common.{Option, Ok, Err, Result, sym, ap, subst, refl, ◌∙◌}
+use Rattle.std.proofs.lemmas.Result.{err_from_is_err_and}
+use Rattle.schedule_text.specs.declared.event.Event.TheVariants as events
+use Rattle.trace_text.specs.declared.step.StepLine.{StepLine}
+use Rattle.mon_world.specs.declared.meeting.Turn.{Turn}
+use Rattle.mon_world.specs.declared.stop.WorldStop.{WorldStop}
+use Rattle.mon_world.specs.Stands.{Does, arrival_of}
+use Rattle.mon_world.specs.Step.{step}
+use Rattle.mon_world.proofs.Arriving.{reaches, standing_at}
+use Rattle.mon_world.proofs.Stepping.{MeetsAt, met_down, met_short, met_stop, met_turn}
+use Rattle.mon_world.proofs.world.World.come.Goals as goal
+
+pub meet_at-requires-clause-stands : goal.meet_at-requires-clause-stands
+meet_at-requires-clause-stands c =
+    let w = c.requires.world in
+    standing_at w.0 c.args.self.now w.1 c.args.arrival.now.rank w.2 c.requires.within
+
+pub returns-in_err-turn : goal.returns-in_err-turn
+returns-in_err-turn c = λ ms d p s comes.
+    let a = arrival_of c.args.arrival.now in
+    let old = c.args.self.now in
+    let mid = record old { monitors = c.meet_at.new.monitors } in
+    let e = err_from_is_err_and c.from_residual.result c.from_residual.ensures.1 in
+    subst (λ (r : Result StepLine WorldStop). Does ms r mid (step ms d (events.Plain p))) (sym (e.1 ∙ ap Err e.2))
+    (met_stop ms old mid d p a s (reaches ms old d a s c.requires.within) comes c.in_err-turn.ensures.count c.in_err-turn.field-0.0 c.in_err-turn.ensures.meets)
+
+pub returns-in_default : goal.returns-in_default
+returns-in_default c = λ ms d p s comes.
+    let a = arrival_of c.args.arrival.now in
+    let old = c.args.self.now in
+    let mid = record old { monitors = c.meet_at.new.monitors } in
+    let met = subst (λ (o : Option Turn). MeetsAt old.monitors.items mid.monitors.items a (Ok o)) c.in_default.is c.in_ok-turn.ensures.meets in
+    subst (λ (line : StepLine). Does ms (Ok line) mid (step ms d (events.Plain p))) (sym c.still.ensures)
+    (met_down ms old mid d p a s (reaches ms old d a s c.requires.within) comes c.in_ok-turn.ensures.count c.in_ok-turn.ensures.others refl refl met)
+
+pub tell-requires : goal.tell-requires
+tell-requires c =
+    let w = c.requires.world in
+    let a = arrival_of c.args.arrival.now in
+    let old = c.args.self.now in
+    let mid = record old { monitors = c.meet_at.new.monitors } in
+    let met = subst (λ (o : Option Turn). MeetsAt old.monitors.items mid.monitors.items a (Ok o)) c.in-Some.is c.in_ok-turn.ensures.meets in
+    met_short w.0 old mid w.1 a (reaches w.0 old w.1 a w.2 c.requires.within) c.in_ok-turn.ensures.count c.in-Some.turn met
+
+pub returns : goal.returns
+returns c = λ ms d p s comes.
+    let a = arrival_of c.args.arrival.now in
+    let old = c.args.self.now in
+    let mid = record old { monitors = c.meet_at.new.monitors } in
+    let met = subst (λ (o : Option Turn). MeetsAt old.monitors.items mid.monitors.items a (Ok o)) c.in-Some.is c.in_ok-turn.ensures.meets in
+    met_turn ms old mid d p a s (reaches ms old d a s c.requires.within) comes c.in_ok-turn.ensures.count c.in_ok-turn.ensures.others refl refl c.tell.new.self c.in-Some.turn c.in_ok-tell.field-0 met
+    c.in_ok-tell.ensures

@@ -1,0 +1,30 @@
+use Rattle.std.proofs.Common.{map, sym, ap, ◌∙◌}
+use Rattle.std.specs.Option.{option_map}
+use Rattle.mon_world.specs.Events.{plain_event}
+use Rattle.mon_world.specs.Falls.{upset_of}
+use Rattle.mon_world.specs.Stands.{arrival_of, envelope_of}
+use Rattle.mon_world.proofs.Arriving.{arrives}
+use Rattle.mon_world.proofs.Falling.{none_fell}
+use Rattle.mon_world.proofs.world.World.upset.Goals as goal
+
+pub returns-in-None : goal.returns-in-None
+returns-in-None c = λ ms d s.
+    let is = sym (c.in_ok-arriving.ensures d.world (ap (map envelope_of) c.as_slice.ensures.value ∙ s.messages)) ∙ ap (option_map arrival_of) c.in-None.is in
+    none_fell ms c.args.self.now d (upset_of c.args.upset) (plain_event c.args.event.now) s is
+
+pub fall-requires-clause-within : goal.fall-requires-clause-within
+fall-requires-clause-within c =
+    let w = c.requires.world in
+    let is = sym (c.in_ok-arriving.ensures w.1.world (ap (map envelope_of) c.as_slice.ensures.value ∙ w.2.messages)) ∙ ap (option_map arrival_of) c.in-Some.is in
+    (arrives w.0 c.args.self.now w.1 c.args.event.now (arrival_of c.in-Some.arrival) w.2 c.requires.fits is).0
+
+pub fall-requires-clause-comes : goal.fall-requires-clause-comes
+fall-requires-clause-comes c =
+    let w = c.requires.world in
+    let is = sym (c.in_ok-arriving.ensures w.1.world (ap (map envelope_of) c.as_slice.ensures.value ∙ w.2.messages)) ∙ ap (option_map arrival_of) c.in-Some.is in
+    (arrives w.0 c.args.self.now w.1 c.args.event.now (arrival_of c.in-Some.arrival) w.2 c.requires.fits is).1
+
+pub returns-in-Some : goal.returns-in-Some
+returns-in-Some c = λ ms d s.
+    let is = sym (c.in_ok-arriving.ensures d.world (ap (map envelope_of) c.as_slice.ensures.value ∙ s.messages)) ∙ ap (option_map arrival_of) c.in-Some.is in
+    c.fall.ensures ms d (plain_event c.args.event.now) s is

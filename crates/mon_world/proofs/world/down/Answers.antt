@@ -1,0 +1,12 @@
+use Rattle.std.proofs.Common.{None, sym, subst, ◌∙◌}
+use Rattle.std.specs.FinMap.{empty}
+use Rattle.mon_msg.specs.declared.view.Me.{Me}
+use Rattle.quorum_model.specs.Files.{no_files}
+use Rattle.mon_world.specs.Monitor.{Stands}
+use Rattle.mon_world.proofs.Making.{same_me}
+use Rattle.mon_world.proofs.world.down.Goals as goal
+
+pub returns : goal.returns
+returns c = λ me rank monitors rule.
+    subst (λ (me : Me). Stands me empty None no_files c.new-2.result)
+    (same_me _ me (c.in-Some.ensures.value.0 ∙ c.known.ensures ∙ sym rank) (c.in-Some.ensures.value.1 ∙ sym monitors) (sym rule)) c.new-2.ensures

@@ -1,0 +1,112 @@
+-- What is left of a monitor in whose event a disk fails.
+use Rattle.std.specs.Prelude.{◌≡◌, ℕ, ◌+◌, ◌≤◌, Bool, true, false, List, Option, Some, None, Result, Ok, Err, is_err, if◌then◌else◌}
+use Rattle.mon_disk.specs.MemoryDisk.{MemoryState}
+use Rattle.mon_kv.specs.Readers.{is_marked, size_of, most_size}
+use Rattle.mon_msg.specs.Protocol.Reaction.{Reaction}
+use Rattle.mon_msg.specs.declared.input.Input.{Input}
+use Rattle.mon_msg.specs.declared.input.Input.TheVariants as input
+use Rattle.mon_msg.specs.declared.view.Me.{Me}
+use Rattle.mon_site.specs.Ending.{is_kept}
+use Rattle.mon_site.specs.Falls.{IsFalling, Rests}
+use Rattle.mon_site.specs.declared.upset.Upset.{Upset}
+use Rattle.mon_store.specs.declared.store.Store as kept
+use Rattle.mon_tx.specs.Map.{Store, apply}
+use Rattle.mon_tx.specs.declared.op.Op.{Op}
+use Rattle.mon_types.specs.declared.member.Member.{Member}
+use Rattle.mon_types.specs.declared.names.Which.{Which}
+use Rattle.quorum_model.specs.Cuts.{append_cut, files_cut}
+use Rattle.quorum_model.specs.Files.{Files}
+use Rattle.quorum_model.specs.Growth.{last_of}
+use Rattle.quorum_model.specs.Happens.{Stop, unless_stopped}
+use Rattle.quorum_model.specs.Scenes.{opening_of, ops_of}
+use Rattle.quorum_model.specs.Upsets as model
+use Rattle.quorum_model.specs.Upsets.{crash_keeps}
+use Rattle.mon_world.specs.declared.crash.Fallen.{Fallen}
+use Rattle.mon_world.specs.declared.crash.Written.{Written}
+use Rattle.mon_world.specs.declared.monitor.Monitor.{Monitor}
+use Rattle.mon_world.specs.declared.stop.WorldStop.{WorldStop}
+use Rattle.mon_world.specs.declared.stop.WorldStop.TheVariants.{OutOfMemory, Spent, Full}
+use Rattle.mon_world.specs.Monitor.{Stands}
+use Rattle.mon_world.specs.Stops.{Stops, IsntKept}
+
+-- what the model says of it
+abbrev pub upset_of : Upset → model.Upset
+upset_of u = record { disk = u.disk; call = u.call; image = u.image }
+
+-- A start's calls are counted from its opening on, and those of another input from behind an opening of so many calls.
+abbrev pub counted : Upset → Input → ℕ → Upset
+counted u input.Start opening = u
+counted u other opening = record { disk = u.disk; call = u.call + opening; image = u.image }
+
+-- what a kept transaction leaves
+abbrev pub written : Store → Written
+written m = record { last = last_of m; marked = is_marked m }
+
+abbrev pub written_if : Bool → Store → Option Written
+written_if kept m = if kept then Some (written m) else None
+
+-- a store that is open, and of which this disk fails at that call
+abbrev pub Falling : Upset → kept.Store MemoryState → Type 0
+Falling u store = (member : Member) × (m : Store) × (f : Files) × IsFalling u.disk u.call u.image member m f store
+
+-- It has room, and it is kept or lost. The disks settle.
+pub record Settled (u : Upset) (member : Member) (m : Store) (f : Files) (ops : List Op) (fallen : Fallen) : Type 0 where
+  pub room : size_of (apply ops m) ≤ most_size
+  pub kept : fallen.kept ≡ written_if (is_kept u f ops) (apply ops m)
+  pub rests : Rests member (if is_kept u f ops then apply ops m else m) (append_cut f m u.disk u.call u.image ops) fallen.disks.a fallen.disks.b
+
+abbrev pub EndsWith : Upset → Member → Store → Files → List Op → Result Fallen WorldStop → Type 0
+EndsWith u member m f ops (Ok fallen) = Settled u member m f ops fallen
+EndsWith u member m f ops (Err e) = IsntKept ops m e
+
+-- what a monitor does, over a store that is open, is kept or lost
+abbrev pub Ends : Upset → Member → Store → Files → Result Reaction Which → Result Fallen WorldStop → Type 0
+Ends u member m f r (Ok fallen) = (x : Reaction) × (r ≡ Ok x) × Settled u member m f x.transaction fallen
+Ends u member m f r (Err e) = Stops e (unless_stopped m r)
+
+-- ---- as the model says, where the monitor's reaction to an input is this
+
+-- whether it is kept
+abbrev pub keeps : Upset → Store → Files → Input → Result Reaction Which → Bool
+keeps u m f came r = crash_keeps f m (opening_of came u.disk f) (upset_of u) r
+
+-- the map and the files that it leaves
+abbrev pub map_left : Upset → Store → Files → Input → Result Reaction Which → Store
+map_left u m f came r = if keeps u m f came r then apply (ops_of r) m else m
+
+abbrev pub files_left : Upset → Store → Files → Input → Result Reaction Which → Files
+files_left u m f came r = files_cut f m (opening_of came u.disk f) (upset_of u) (ops_of r)
+
+-- what is kept doesn't stop the run
+abbrev pub GoesOn : Upset → Store → Files → Input → Result Reaction Which → Type 0
+GoesOn u m f came r = keeps u m f came r ≡ true → is_err (unless_stopped m r) ≡ false
+
+-- and the disks settle
+pub record IsLeft (u : Upset) (member : Member) (m : Store) (f : Files) (came : Input) (r : Result Reaction Which) (fallen : Fallen) : Type 0 where
+  pub goes_on : GoesOn u m f came r
+  pub kept : fallen.kept ≡ written_if (keeps u m f came r) (apply (ops_of r) m)
+  pub rests : Rests member (map_left u m f came r) (files_left u m f came r) fallen.disks.a fallen.disks.b
+
+-- what stops the run counts as kept
+abbrev pub StopsKept : WorldStop → Bool → Result Reaction Stop → Type 0
+StopsKept OutOfMemory kept wanted = Unit {0}
+StopsKept (Spent which) kept wanted = (kept ≡ true) × Stops (Spent which) wanted
+StopsKept (Full would_be) kept wanted = (kept ≡ true) × Stops (Full would_be) wanted
+
+abbrev pub Falls : Upset → Member → Store → Files → Input → Result Reaction Which → Result Fallen WorldStop → Type 0
+Falls u member m f came r (Ok fallen) = IsLeft u member m f came r fallen
+Falls u member m f came r (Err e) = StopsKept e (keeps u m f came r) (unless_stopped m r)
+
+-- whether the map is marked then, where it is kept
+abbrev pub marked_if : Bool → Store → Option Bool
+marked_if kept m = if kept then Some (is_marked m) else None
+
+-- the monitor is down
+pub record IsDown (u : Upset) (me : Me) (m : Store) (f : Files) (came : Input) (r : Result Reaction Which) (told : Option Bool) (new : Monitor) : Type 0 where
+  pub goes_on : GoesOn u m f came r
+  pub told_is : told ≡ marked_if (keeps u m f came r) (apply (ops_of r) m)
+  pub stands : Stands me (map_left u m f came r) None (files_left u m f came r) new
+
+abbrev pub FallsDown : Upset → Me → Store → Files → Input → Result Reaction Which → Monitor → Result (Option Bool) WorldStop → Type 0
+FallsDown u me m f came r new (Ok told) = IsDown u me m f came r told new
+FallsDown u me m f came r new (Err e) = StopsKept e (keeps u m f came r) (unless_stopped m r)

@@ -1,0 +1,61 @@
+-- What comes of an input at a monitor that may be down.
+use Rattle.std.specs.Prelude.{◌≡◌, ℕ, Option, Some, None, Result, Ok, Err}
+use Rattle.mon_kv.specs.Readers.{is_marked}
+use Rattle.mon_msg.specs.Protocol.Reaction.{Reaction, reaction}
+use Rattle.mon_msg.specs.Protocol.State.{State}
+use Rattle.mon_msg.specs.declared.input.Input.{Input}
+use Rattle.mon_msg.specs.declared.view.Me.{Me}
+use Rattle.mon_site.specs.declared.upset.Upset.{Upset}
+use Rattle.mon_tx.specs.Map.{Store, apply}
+use Rattle.mon_types.specs.declared.names.Which.{Which}
+use Rattle.quorum_model.specs.Cuts.{after_checkpoint}
+use Rattle.quorum_model.specs.Files.{Files, after_append}
+use Rattle.quorum_model.specs.Growth.{last_of}
+use Rattle.quorum_model.specs.Meets.{state_at}
+use Rattle.quorum_model.specs.Scenes.{files_at}
+use Rattle.trace_text.specs.declared.step.StateLine.{StateLine}
+use Rattle.mon_world.specs.declared.meeting.Fall.{Fall}
+use Rattle.mon_world.specs.declared.meeting.Turn.{Turn}
+use Rattle.mon_world.specs.declared.monitor.Monitor.{Monitor}
+use Rattle.mon_world.specs.declared.stop.WorldStop.{WorldStop}
+use Rattle.mon_world.specs.Falls.{IsDown, StopsKept, keeps, map_left}
+use Rattle.mon_world.specs.Monitor.{IsDone, Stands, does}
+use Rattle.mon_world.specs.Step.{state_before, state_of, told}
+use Rattle.mon_world.specs.Stops.{Stops}
+
+-- The monitor, which stood so before, does what the protocol says, and that is kept.
+pub record IsTurn (me : Me) (now : ℕ) (m : Store) (s : State) (f : Files) (before : Option StateLine) (came : Input) (t : Turn) (new : Monitor) : Type 0 where
+  pub state : State
+  pub is_done : IsDone me now m s came state t.reaction
+  pub stands : Stands me (apply t.reaction.tx m) (Some state) (after_checkpoint (apply t.reaction.tx m) (after_append t.reaction.tx f)) new
+  pub told_is : t.told ≡ told before (state_of (apply t.reaction.tx m) state)
+  pub last : t.last ≡ last_of (apply t.reaction.tx m)
+  pub marked : t.marked ≡ is_marked (apply t.reaction.tx m)
+
+abbrev pub Turns : Me → (now : ℕ) → Store → State → Files → Option StateLine → Input → Monitor → Result Turn WorldStop → Type 0
+Turns me now m s f before came new (Ok t) = IsTurn me now m s f before came t new
+Turns me now m s f before came new (Err e) = Stops e (does me now m s came)
+
+-- nothing, where the monitor is down and doesn't start
+abbrev pub Meets : Me → (now : ℕ) → Store → Option State → Files → Input → Monitor → Result (Option Turn) WorldStop → Type 0
+Meets me now m s f came new (Ok None) = (state_at me.member.rank s came ≡ None) × Stands me m s f new
+Meets me now m s f came new (Ok (Some t)) =
+    (before : State) × (state_at me.member.rank s came ≡ Some before)
+    × IsTurn me now m before (files_at came f) (state_before m s came) came t new
+Meets me now m s f came new (Err e) =
+    (before : State) × (state_at me.member.rank s came ≡ Some before) × Stops e (does me now m before came)
+
+-- ---- where a disk fails
+
+-- it is down, and what it wrote is kept or lost
+pub record IsFall (u : Upset) (me : Me) (m : Store) (f : Files) (came : Input) (r : Result Reaction Which) (fall : Fall) (new : Monitor) : Type 0 where
+  pub down : IsDown u me m f came r fall.kept new
+  pub last : fall.last ≡ last_of (map_left u m f came r)
+
+abbrev pub MeetsFall : Upset → Me → (now : ℕ) → Store → Option State → Files → Input → Monitor → Result (Option Fall) WorldStop → Type 0
+MeetsFall u me now m s f came new (Ok None) = (state_at me.member.rank s came ≡ None) × Stands me m s f new
+MeetsFall u me now m s f came new (Ok (Some fall)) =
+    (before : State) × (state_at me.member.rank s came ≡ Some before) × IsFall u me m f came (reaction me now m before came) fall new
+MeetsFall u me now m s f came new (Err e) =
+    (before : State) × (state_at me.member.rank s came ≡ Some before)
+    × StopsKept e (keeps u m f came (reaction me now m before came)) (does me now m before came)

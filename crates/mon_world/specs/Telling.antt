@@ -1,0 +1,53 @@
+-- What is told of an event, and what the world keeps of it.
+use Rattle.std.specs.Prelude.{◌≡◌, ℕ, suc, Bool, ◌++◌, length, map, Option, Some, None, is_some}
+use Rattle.mon_kv.specs.Readers.{is_marked}
+use Rattle.mon_tx.specs.Map.{Store}
+use Rattle.quorum_model.specs.Clients.{messages_of}
+use Rattle.quorum_model.specs.Growth.{last_of}
+use Rattle.trace_text.specs.declared.step.Outcome.{Outcome}
+use Rattle.trace_text.specs.declared.step.Outcome.TheVariants as outcome
+use Rattle.trace_text.specs.declared.step.StepLine.{StepLine}
+use Rattle.mon_world.specs.declared.meeting.Fall.{Fall}
+use Rattle.mon_world.specs.declared.meeting.Turn.{Turn}
+use Rattle.mon_world.specs.declared.world.Upshot.{Upshot}
+use Rattle.mon_world.specs.declared.world.Upshot.TheVariants as upshot
+use Rattle.mon_world.specs.declared.world.World.{World}
+use Rattle.mon_world.specs.Stands.{envelope_of}
+use Rattle.mon_world.specs.Step.{log_after, numbered, replied}
+
+-- the lines of what the monitor of a rank did, where so many messages were sent before
+abbrev pub turn_line : (rank sent : ℕ) → Turn → StepLine
+turn_line rank n t = record {
+  outcome = outcome.Ran;
+  ops = length t.reaction.tx;
+  state = t.told;
+  sent = numbered (suc n) (messages_of t.reaction.out);
+  replies = replied rank t.reaction.out;
+}
+
+-- what it sent goes out, and the log grows by what it keeps
+pub record Tells (rank : ℕ) (t : Turn) (old new : World) (line : StepLine) : Type 0 where
+  pub monitors : new.monitors.items ≡ old.monitors.items
+  pub messages : map envelope_of new.messages.items ≡ map envelope_of old.messages.items ++ messages_of t.reaction.out
+  pub log : (m : Store) → t.last ≡ last_of m → t.marked ≡ is_marked m → new.log ≡ log_after old.log m
+  pub line_is : line ≡ turn_line rank (length old.messages.items) t
+
+-- ---- where a disk fails
+
+-- the outcome, where that of a monitor that stopped is this one
+abbrev pub outcome_of : (Bool → Outcome) → Upshot → Outcome
+outcome_of how upshot.NoMessage = outcome.NoMessage
+outcome_of how upshot.Down = outcome.Down
+outcome_of how (upshot.Stopped kept) = how kept
+
+-- the log grows by what a monitor wrote that fell, where that is kept
+abbrev pub GrowsIf : Option Bool → (last old new : ℕ) → Type 0
+GrowsIf None last old new = new ≡ old
+GrowsIf (Some marked) last old new = (m : Store) → last ≡ last_of m → marked ≡ is_marked m → new ≡ log_after old m
+
+-- nothing else comes of it
+pub record Leaves (fall : Fall) (old new : World) (told : Upshot) : Type 0 where
+  pub monitors : new.monitors.items ≡ old.monitors.items
+  pub messages : new.messages.items ≡ old.messages.items
+  pub log : GrowsIf fall.kept fall.last old.log new.log
+  pub told_is : told ≡ upshot.Stopped (is_some fall.kept)

@@ -1,0 +1,151 @@
+//! An event in which a disk of its monitor fails.
+
+ghost use Rattle.std.specs.Prelude.{◌≡◌, ◌≤◌, false, IfOk, length};
+ghost use Rattle.mon_bounds.specs.Fitting.{MayCome};
+ghost use Rattle.mon_msg.specs.Protocol.Reaction.{reaction};
+ghost use Rattle.mon_msg.specs.Protocol.Readings.{readings_of};
+ghost use Rattle.mon_msg.specs.declared.input.Input.TheVariants.{Start};
+ghost use Rattle.mon_site.specs.Calm.{Rest};
+ghost use Rattle.mon_site.specs.Falls.{IsFalling, Rests};
+ghost use Rattle.mon_tx.specs.Map.{Store as Map, apply};
+ghost use Rattle.mon_tx.specs.Text.{text, most};
+ghost use Rattle.mon_types.specs.declared.member.Member.{Member};
+ghost use Rattle.mon_wire.specs.declared.phase.Phase.TheVariants.{Booting};
+ghost use Rattle.quorum_model.specs.Files.{Files};
+ghost use Rattle.svc_core.specs.Cache.{Follows};
+ghost use Rattle.mon_world.specs.Falls.{Ends, EndsWith, Falling, Falls, counted, written};
+
+use crate::stop::{WorldStop, stop_of};
+use mon_bytes::OutOfMemory;
+use mon_core::{Core, Input};
+use mon_disk::{MemoryDisk, NodeDisks};
+use mon_plan::Stored;
+use mon_site::{Begun, Ended, Upset, finish, open, opening_count, settle_both, upset_one};
+use mon_store::Store;
+use mon_tx::Transaction;
+use mon_types::{Member, Moment, Version};
+use std::alloc::Global;
+
+/// What a transaction leaves where it is kept: the last version, and whether the store is marked then.
+#[derive(Clone, Copy)]
+pub(crate) struct Written {
+    pub(crate) last: Version,
+    pub(crate) marked: bool,
+}
+
+/// What is left of a monitor that stopped in an event: its disks, and what its transaction left, where that was kept.
+#[derive(Drop)]
+pub(crate) struct Fallen {
+    pub(crate) disks: NodeDisks<MemoryDisk>,
+    pub(crate) kept: Option<Written>,
+}
+
+/// What a transaction leaves where it is kept.
+fn written_by(
+    alloc: Global,
+    store: &Store<MemoryDisk>,
+    tx: &Transaction,
+) -> Result<Written, OutOfMemory>
+    requires { store.now.broken ≡ false }
+    ensures { IfOk result (λ w. w ≡ written (apply tx.now store.now.kv)) }
+{
+    let stored = Stored::after(alloc, store.kv(), tx)?;
+    Ok(Written {
+        last: stored.last(),
+        marked: stored.is_marked(),
+    })
+}
+
+/// Makes a transaction's changes over an open store, as far as its disks let it. Then the store is closed, and its disks settle.
+fn end_with(
+    alloc: Global,
+    store: Store<MemoryDisk>,
+    tx: &Transaction,
+    upset: Upset,
+) -> Result<Fallen, WorldStop>
+    requires falls { Falling upset store }
+    requires short { length (text tx.now) ≤ most }
+    ensures { (member : Member) (m : Map) (f : Files) → IsFalling upset.disk upset.call upset.image member m f store → EndsWith upset member m f tx.now result }
+{
+    let written = written_by(alloc, &store, tx)?;
+    match finish(store, tx, upset) {
+        Ok(Ended { disks, kept }) => Ok(Fallen {
+            disks: settle_both(disks)?,
+            kept: kept.then_some(written),
+        }),
+        Err(stop) => Err(stop_of(stop)),
+    }
+}
+
+/// The core reacts over an open store, and its transaction is made as far as the disks let it. The upset's call is counted behind the
+/// opening.
+fn end(
+    alloc: Global,
+    store: Store<MemoryDisk>,
+    core: &mut Core,
+    upset: Upset,
+    input: &Input,
+    now: Moment,
+) -> Result<Fallen, WorldStop>
+    requires falls { Falling upset store }
+    requires follows { Follows core.old.cache (readings_of store.kv) }
+    requires comes { MayCome input.now }
+    ensures { (m : Map) (f : Files) → IsFalling upset.disk upset.call upset.image core.old.me.member m f store → Ends upset core.old.me.member m f (reaction core.old.me now m core.old.state input.now) result }
+{
+    let reaction = core.react(alloc, store.kv(), input, now)?;
+    end_with(alloc, store, &reaction.tx, upset)
+}
+
+/// The upset of a start is counted from its opening on, and that of any other input from behind an opening of so many calls.
+fn counted_from(upset: Upset, input: &Input, opening: u64) -> Upset
+    requires call { upset.call ≤ 65535 }
+    requires opening { opening ≤ 7 }
+    ensures { result ≡ counted upset input.now opening }
+{
+    match input {
+        Input::Start => upset,
+        Input::Deliver(_) | Input::Timer(_) | Input::Client(..) => Upset {
+            disk: upset.disk,
+            call: upset.call + opening,
+            image: upset.image,
+        },
+    }
+}
+
+/// A monitor's disk fails in the event of this input, and then its disks settle.
+pub(crate) fn fall(
+    alloc: Global,
+    member: Member,
+    mut disks: NodeDisks<MemoryDisk>,
+    core: &mut Core,
+    upset: Upset,
+    input: &Input,
+    now: Moment,
+) -> Result<Fallen, WorldStop>
+    requires member { core.old.me.member ≡ member }
+    requires rests { Rest member disks.a disks.b }
+    requires follows { (m : Map) (f : Files) → Rests member m f disks.a disks.b → Follows core.old.cache (readings_of m) }
+    requires comes { MayCome input.now }
+    requires starts { input.now ≡ Start → core.old.state.phase ≡ Booting }
+    requires first { 1 ≤ upset.call }
+    requires most { upset.call ≤ 65535 }
+    requires image { upset.image ≤ 3 }
+    ensures { (m : Map) (f : Files) → Rests member m f disks.a disks.b → Falls upset member m f input.now (reaction core.old.me now m core.old.state input.now) result }
+{
+    let opening = opening_count(&mut disks, upset.disk)?;
+    let from = counted_from(upset, input, opening);
+    match open(alloc, upset_one(disks, from), member, from)? {
+        Begun::Open(store) => {
+            let behind = Upset {
+                disk: from.disk,
+                call: from.call - opening,
+                image: from.image,
+            };
+            end(alloc, store, core, behind, input, now)
+        }
+        Begun::Failed(disks) => Ok(Fallen {
+            disks: settle_both(disks)?,
+            kept: None,
+        }),
+    }
+}

@@ -1,0 +1,125 @@
+//! What comes of an input at a monitor that may be down.
+
+ghost use Rattle.std.specs.Prelude.{◌≡◌, ◌≤◌, ◌↔◌, Option, None, Some, IsTrue};
+ghost use Rattle.mon_bounds.specs.Fitting.{MayCome};
+ghost use Rattle.mon_msg.specs.Protocol.State.{State, booting};
+ghost use Rattle.mon_msg.specs.declared.input.Input.TheVariants.{Start};
+ghost use Rattle.mon_msg.specs.declared.view.Me.{Me};
+ghost use Rattle.mon_tx.specs.Map.{Store as Map};
+ghost use Rattle.quorum_model.specs.Files.{Files, after_opening};
+ghost use Rattle.mon_world.specs.Meeting.{Meets, MeetsFall, Turns};
+ghost use Rattle.mon_world.specs.Monitor.{Standing, StandingUp, Stands};
+
+use crate::lines::told;
+use crate::monitor::Monitor;
+use crate::stop::WorldStop;
+use mon_core::{Input, Reaction};
+use mon_site::Upset;
+use mon_types::{Moment, Version};
+use trace_text::StateLine;
+
+/// What a monitor did, and what is told of it.
+#[derive(Drop)]
+pub(crate) struct Turn {
+    pub(crate) reaction: Reaction,
+    /// Where it stands then, after a start and where that changed.
+    pub(crate) told: Option<StateLine>,
+    /// The last committed version of its map then.
+    pub(crate) last: Version,
+    /// Whether its map is marked then.
+    pub(crate) marked: bool,
+}
+
+/// What is left of what a monitor did in whose event a disk failed.
+#[derive(Clone, Copy)]
+pub(crate) struct Fall {
+    /// Whether its map is marked then, where its transaction is kept.
+    pub(crate) kept: Option<bool>,
+    /// The last committed version of its map then.
+    pub(crate) last: Version,
+}
+
+/// Whether it is a start.
+fn is_start(input: &Input) -> bool
+    ensures { IsTrue result ↔ (input.now ≡ Start) }
+{
+    matches!(input, Input::Start)
+}
+
+/// What a monitor that is up does at an input, and stood so before.
+fn take_turn(
+    monitor: &mut Monitor,
+    before: Option<StateLine>,
+    input: &Input,
+    at: Moment,
+) -> Result<Turn, WorldStop>
+    requires up { StandingUp monitor.old }
+    requires comes { MayCome input.now }
+    ensures { (me : Me) (m : Map) (s : State) (f : Files) → Stands me m (Some s) f monitor.old → Turns me at m s f before input.now monitor.new result }
+{
+    let reaction = monitor.react(input, at)?;
+    let last = monitor.last();
+    let marked = monitor.is_marked();
+    let Some(now) = monitor.state() else {
+        unreachable!()
+    };
+    Ok(Turn {
+        reaction,
+        told: told(before, now),
+        last,
+        marked,
+    })
+}
+
+/// A monitor starts, and does what it does then.
+fn start(monitor: &mut Monitor, input: &Input, at: Moment) -> Result<Turn, WorldStop>
+    requires stands { Standing monitor.old }
+    requires start { input.now ≡ Start }
+    ensures { (me : Me) (m : Map) (s : Option State) (f : Files) → Stands me m s f monitor.old → Turns me at m (booting me.member.rank) (after_opening f) None Start monitor.new result }
+{
+    monitor.start()?;
+    take_turn(monitor, None, input, at)
+}
+
+/// What a monitor does at an input: nothing, where it is down and doesn't start.
+pub(crate) fn meet(
+    monitor: &mut Monitor,
+    input: &Input,
+    at: Moment,
+) -> Result<Option<Turn>, WorldStop>
+    requires stands { Standing monitor.old }
+    requires comes { MayCome input.now }
+    ensures { (me : Me) (m : Map) (s : Option State) (f : Files) → Stands me m s f monitor.old → Meets me at m s f input.now monitor.new result }
+{
+    if is_start(input) {
+        return Ok(Some(start(monitor, input, at)?));
+    }
+    match monitor.state() {
+        None => Ok(None),
+        Some(before) => Ok(Some(take_turn(monitor, Some(before), input, at)?)),
+    }
+}
+
+/// A disk fails in the event of an input at a monitor: nothing comes of it where the monitor is down and doesn't start.
+pub(crate) fn meet_upset(
+    monitor: &mut Monitor,
+    upset: Upset,
+    input: &Input,
+    at: Moment,
+) -> Result<Option<Fall>, WorldStop>
+    requires stands { Standing monitor.old }
+    requires comes { MayCome input.now }
+    requires first { 1 ≤ upset.call }
+    requires most { upset.call ≤ 65535 }
+    requires image { upset.image ≤ 3 }
+    ensures { (me : Me) (m : Map) (s : Option State) (f : Files) → Stands me m s f monitor.old → MeetsFall upset me at m s f input.now monitor.new result }
+{
+    if !is_start(input) && monitor.state().is_none() {
+        return Ok(None);
+    }
+    let kept = monitor.fall(upset, input, at)?;
+    Ok(Some(Fall {
+        kept,
+        last: monitor.last(),
+    }))
+}

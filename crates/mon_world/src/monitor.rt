@@ -1,0 +1,267 @@
+//! A monitor with its two disks in memory.
+
+ghost use Rattle.std.specs.Prelude.{◌≡◌, ◌≤◌, Option, None, Some, OnOk, length};
+ghost use Rattle.std.specs.FinMap.{empty};
+ghost use Rattle.mon_bounds.specs.Fitting.{MayCome};
+ghost use Rattle.mon_kv.specs.Readers.{is_marked};
+ghost use Rattle.mon_msg.specs.Protocol.Reaction.{reaction};
+ghost use Rattle.mon_msg.specs.Protocol.Readings.{Readings};
+ghost use Rattle.mon_msg.specs.Protocol.State.{State, booting};
+ghost use Rattle.mon_msg.specs.declared.view.Me.{Me};
+ghost use Rattle.mon_site.specs.Calm.{Runs};
+ghost use Rattle.mon_site.specs.Falls.{Rests};
+ghost use Rattle.mon_tx.specs.Map.{Store as Map};
+ghost use Rattle.mon_tx.specs.Text.{text, most};
+ghost use Rattle.mon_types.specs.declared.member.Member.{Member};
+ghost use Rattle.quorum_model.specs.Files.{Files, after_opening, no_files};
+ghost use Rattle.quorum_model.specs.Growth.{last_of};
+ghost use Rattle.quorum_model.specs.Meets.{state_at};
+ghost use Rattle.svc_core.specs.Cache.{Follows};
+ghost use Rattle.mon_world.specs.Falls.{Falls, FallsDown};
+ghost use Rattle.mon_world.specs.Monitor.{Holds, InUse, IsHeld, IsRunning, IsUp, Keeps, Reacts, Standing, StandingUp, Stands, StandsAfter, Takes};
+ghost use Rattle.mon_world.specs.Step.{state_if_up, state_of};
+
+use crate::crash::{Fallen, fall};
+use crate::stop::{WorldStop, stop_of};
+use mon_bytes::OutOfMemory;
+use mon_core::{Core, Input, Reaction};
+use mon_disk::{MemoryDisk, NodeDisks};
+use mon_kv::Kv;
+use mon_msg::Me;
+use mon_plan::Stored;
+use mon_site::{Upset, apply, close, empty_disks, start};
+use mon_store::Store;
+use mon_tx::Transaction;
+use mon_types::{Moment, Version};
+use std::alloc::Global;
+use std::mem;
+use trace_text::StateLine;
+
+/// A monitor that is up: its store, open on its disks, and its core.
+#[derive(Drop)]
+pub(crate) struct Running {
+    store: Store<MemoryDisk>,
+    core: Core,
+}
+
+#[derive(Drop)]
+pub(crate) enum Kept {
+    Down(NodeDisks<MemoryDisk>),
+    Up(Running),
+}
+
+/// A monitor with its two disks in memory.
+#[derive(Drop)]
+pub(crate) struct Monitor {
+    alloc: Global,
+    me: Me,
+    /// The last committed version of its map.
+    last: Version,
+    kept: Kept,
+}
+
+/// What is taken of a monitor: its disks, its store closed, and its core.
+#[derive(Drop)]
+struct Taken {
+    disks: NodeDisks<MemoryDisk>,
+    core: Core,
+}
+
+/// Takes the disks and the core. One that is down remembers nothing. Two empty disks stay behind.
+fn take(alloc: Global, me: &Me, kept: &mut Kept) -> Taken
+    ensures { (m : Map) (s : Option State) (f : Files) → Holds me.now m s f kept.old → Takes me.now m s f result }
+{
+    match mem::replace(kept, Kept::Down(empty_disks(alloc))) {
+        Kept::Down(disks) => Taken {
+            disks,
+            core: Core::boot(alloc, me.member, me.rule),
+        },
+        Kept::Up(Running { store, core }) => Taken {
+            disks: close(store),
+            core,
+        },
+    }
+}
+
+/// The core to which an input comes: that of a monitor that starts has forgotten all.
+fn core_at(alloc: Global, me: &Me, core: Core, input: &Input) -> Core
+    requires { core.me ≡ me.now }
+    ensures me { result.me ≡ me.now }
+    ensures state { state_at me.now.member.rank (Some core.state) input.now ≡ Some result.state }
+    ensures follows { (w : Readings) → Follows core.cache w → Follows result.cache w }
+{
+    match input {
+        Input::Start => Core::boot(alloc, me.member, me.rule),
+        Input::Deliver(_) | Input::Timer(_) | Input::Client(..) => core,
+    }
+}
+
+/// What is left of a monitor in whose event of an input a disk fails. Two empty disks stay behind.
+fn fallen(
+    alloc: Global,
+    me: &Me,
+    kept: &mut Kept,
+    upset: Upset,
+    input: &Input,
+    now: Moment,
+) -> Result<Fallen, WorldStop>
+    requires held { IsHeld me.now kept.old }
+    requires comes { MayCome input.now }
+    requires first { 1 ≤ upset.call }
+    requires most { upset.call ≤ 65535 }
+    requires image { upset.image ≤ 3 }
+    ensures { (m : Map) (s : Option State) (t : State) (f : Files) → Holds me.now m s f kept.old → state_at me.now.member.rank s input.now ≡ Some t → Falls upset me.now.member m f input.now (reaction me.now now m t input.now) result }
+{
+    let Taken { disks, core } = take(alloc, me, kept);
+    let mut core = core_at(alloc, me, core, input);
+    fall(alloc, me.member, disks, &mut core, upset, input, now)
+}
+
+/// The last committed version.
+fn last_of(kv: &Kv) -> Version
+    ensures { result ≡ last_of kv.now }
+{
+    Version::known(kv.last_committed())
+}
+
+/// Makes a transaction's changes, and then the checkpoint that is due, if one is.
+fn keep(store: &mut Store<MemoryDisk>, tx: &Transaction) -> Result<(), WorldStop>
+    requires runs { InUse store.old }
+    requires short { length (text tx.now) ≤ most }
+    ensures { (member : Member) (m : Map) (f : Files) → Runs member m f store.old → Keeps member m f tx.now store.new result }
+{
+    match apply(store, tx) {
+        Ok(()) => Ok(()),
+        Err(stop) => Err(stop_of(stop)),
+    }
+}
+
+impl Running {
+    /// What the monitor does at an input. Its transaction is kept.
+    fn react(&mut self, alloc: Global, input: &Input, now: Moment) -> Result<Reaction, WorldStop>
+        requires up { IsRunning self.old }
+        requires comes { MayCome input.now }
+        ensures { (me : Me) (m : Map) (s : State) (f : Files) → IsUp me m s f self.old → Reacts me now m s f input.now self.new result }
+    {
+        let reaction = self.core.react(alloc, self.store.kv(), input, now)?;
+        keep(&mut self.store, &reaction.tx)?;
+        Ok(reaction)
+    }
+
+    /// Where the monitor stands.
+    fn state(&self, alloc: Global) -> StateLine
+        requires { IsRunning self.now }
+        ensures { (me : Me) (m : Map) (s : State) (f : Files) → IsUp me m s f self.now → result ≡ state_of m s }
+    {
+        let stored = Stored::of(alloc, self.store.kv());
+        StateLine {
+            phase: self.core.phase(),
+            epoch: stored.epoch(),
+            last: stored.last(),
+        }
+    }
+}
+
+impl Monitor {
+    /// A monitor that is down, with empty disks. It takes no memory.
+    pub(crate) fn new(alloc: Global, me: Me) -> Monitor
+        ensures { Stands me empty None no_files result }
+    {
+        Monitor {
+            alloc,
+            me,
+            last: Version::known(0),
+            kept: Kept::Down(empty_disks(alloc)),
+        }
+    }
+
+    /// Where the monitor stands, where it is up.
+    pub(crate) fn state(&self) -> Option<StateLine>
+        requires { Standing self.now }
+        ensures { (me : Me) (m : Map) (s : Option State) (f : Files) → Stands me m s f self.now → result ≡ state_if_up m s }
+    {
+        match &self.kept {
+            Kept::Down(_) => None,
+            Kept::Up(running) => Some(running.state(self.alloc)),
+        }
+    }
+
+    /// The last committed version of its map.
+    pub(crate) fn last(&self) -> Version
+        ensures { (me : Me) (m : Map) (s : Option State) (f : Files) → Stands me m s f self.now → result ≡ last_of m }
+    {
+        self.last
+    }
+
+    /// Whether the map of a monitor that is up is marked.
+    pub(crate) fn is_marked(&self) -> bool
+        requires { StandingUp self.now }
+        ensures { (me : Me) (m : Map) (s : State) (f : Files) → Stands me m (Some s) f self.now → result ≡ is_marked m }
+    {
+        match &self.kept {
+            Kept::Down(_) => unreachable!(),
+            Kept::Up(running) => running.store.kv().in_sync(),
+        }
+    }
+
+    /// Opens the store on the disks, and forgets all that it doesn't keep.
+    pub(crate) fn start(&mut self) -> Result<(), OutOfMemory>
+        requires { Standing self.old }
+        ensures { (me : Me) (m : Map) (s : Option State) (f : Files) → Stands me m s f self.old → OnOk result (Stands me m (Some (booting me.member.rank)) (after_opening f) self.new) }
+    {
+        let Taken { disks, .. } = take(self.alloc, &self.me, &mut self.kept);
+        let store = start(self.alloc, disks, self.me.member)?;
+        let core = Core::boot(self.alloc, self.me.member, self.me.rule);
+        self.kept = Kept::Up(Running { store, core });
+        Ok(())
+    }
+
+    /// What a monitor that is up does at an input. Its transaction is kept.
+    pub(crate) fn react(&mut self, input: &Input, now: Moment) -> Result<Reaction, WorldStop>
+        requires up { StandingUp self.old }
+        requires comes { MayCome input.now }
+        ensures { (me : Me) (m : Map) (s : State) (f : Files) → Stands me m (Some s) f self.old → StandsAfter me now m s f input.now self.new result }
+    {
+        match &mut self.kept {
+            Kept::Down(_) => unreachable!(),
+            Kept::Up(running) => {
+                let reaction = running.react(self.alloc, input, now)?;
+                self.last = last_of(running.store.kv());
+                Ok(reaction)
+            }
+        }
+    }
+
+    /// A disk fails in the event of this input, and the monitor is down. The answer is whether its map is marked, where its
+    /// transaction is kept.
+    pub(crate) fn fall(
+        &mut self,
+        upset: Upset,
+        input: &Input,
+        now: Moment,
+    ) -> Result<Option<bool>, WorldStop>
+        requires stands { Standing self.old }
+        requires comes { MayCome input.now }
+        requires first { 1 ≤ upset.call }
+        requires most { upset.call ≤ 65535 }
+        requires image { upset.image ≤ 3 }
+        ensures { (me : Me) (m : Map) (s : Option State) (t : State) (f : Files) → Stands me m s f self.old → state_at me.member.rank s input.now ≡ Some t → FallsDown upset me m f input.now (reaction me now m t input.now) self.new result }
+    {
+        let Fallen { disks, kept } = fallen(
+            self.alloc,
+            &self.me,
+            &mut self.kept,
+            upset,
+            input,
+            now,
+        )?;
+        self.kept = Kept::Down(disks);
+        match kept {
+            Some(written) => {
+                self.last = written.last;
+                Ok(Some(written.marked))
+            }
+            None => Ok(None),
+        }
+    }
+}
