@@ -33,7 +33,7 @@ use Rattle.mon_msg.specs.Protocol.Found.{counts}
 use Rattle.mon_msg.specs.Protocol.Readings.{Readings, promise_of, epoch_of}
 use Rattle.mon_msg.specs.Protocol.Services.{service_last}
 use Rattle.mon_msg.specs.Protocol.Sending.{members, send, message_to, answer_to}
-use Rattle.mon_types.specs.Ranks.{has, with_rank}
+use Rattle.mon_types.specs.Ranks.{has, with_rank, is_majority}
 use Rattle.std.specs.Prelude.{slice_set, slice_index_or}
 use Rattle.mon_msg.specs.Protocol.Answers.{last_answer}
 use Rattle.mon_msg.specs.Protocol.Reads.{is_standing}
@@ -45,7 +45,7 @@ use Rattle.mon_msg.specs.declared.plan.Sent.{Sent}
 use Rattle.mon_msg.specs.declared.plan.Sent.TheVariants as sent
 use Rattle.log_copies.proofs.Sending.{ReplyTells, BodyTells, answer_tells}
 use Rattle.mon_msg.specs.Protocol.Entering.{is_even, bootstrap, elect, adopt}
-use Rattle.mon_msg.specs.Protocol.Sets.{is_empty, are_within, is_majority}
+use Rattle.mon_msg.specs.Protocol.Sets.{is_empty, are_within}
 use Rattle.mon_msg.specs.Protocol.State.{State, quorum_of}
 use Rattle.mon_msg.specs.Protocol.Value.{service_of, value}
 use Rattle.log_copies.proofs.Acts.{Then, done, and_then, where_fits, by_test, HasAt, Has, within, says_one, says_answer, says_reply, changes, changes_if, learns, commits, begins, settles, collects, bootstraps, elects, wins, adopts}

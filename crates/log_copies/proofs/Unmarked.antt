@@ -7,7 +7,7 @@ use Rattle.mon_tx.specs.declared.key.Area.TheVariants as area
 use Rattle.mon_tx.specs.declared.key.Key.TheVariants as key
 use Rattle.mon_tx.specs.Keys.{cell}
 use Rattle.mon_tx.specs.Map.{Store}
-use Rattle.mon_types.specs.Ranks.{with_rank, count_of}
+use Rattle.mon_types.specs.Ranks.{with_rank, count_of, is_majority}
 use Rattle.mon_types.specs.declared.names.Which.{Which}
 use Rattle.mon_types.specs.declared.names.Which.TheVariants as which
 use Rattle.mon_wire.specs.declared.body.Body.{Body}
@@ -33,7 +33,7 @@ use Rattle.mon_msg.specs.Protocol.Pings.{measure, ping}
 use Rattle.mon_msg.specs.Protocol.Probing.{lag, join_outside, hear_probe_reply}
 use Rattle.mon_msg.specs.Protocol.Readings.{Readings, epoch_of, marks, readings_of, shared_entries}
 use Rattle.mon_msg.specs.Protocol.Reads.{shown, since}
-use Rattle.mon_msg.specs.Protocol.Sets.{are_within, is_majority}
+use Rattle.mon_msg.specs.Protocol.Sets.{are_within}
 use Rattle.mon_msg.specs.Protocol.State.{State}
 use Rattle.mon_msg.specs.Protocol.Synchronizing.{floor_of, full_sync, recent_sync}
 use Rattle.mon_msg.specs.Protocol.Table.{at_rest, first_elector, start, before_start, running, timer_comes, react}

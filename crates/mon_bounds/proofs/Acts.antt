@@ -181,8 +181,8 @@ module _ (me : Me) (now : ℕ) where
       let l = x.state.leader in
       let L = A.1.leader in
       let pn = l.pn in
-      let V2 = V.short in
-      let B = writes me (Vote v pn value ∷ []) (100 + 524288) b _ _ _ (omega (arith, vote_size v pn value short, V2)) (L.pn, tt) A.0 in
+      let short_value = V.short in
+      let B = writes me (Vote v pn value ∷ []) (100 + 524288) b _ _ _ (omega (arith, vote_size v pn value short, short_value)) (L.pn, tt) A.0 in
       let C = tells_each me (body.Begin pn v value) (members me l.quorum) (b + (100 + 524288)) _ _ _ (said.begin me pn v value L.pn short V) (members_below me l.quorum) B in (
         raise me (b + (100 + 524288)) 4194299 _ _ _ (omega arith) C,
         record { placed = in_stage n s _ refl; leader = record { quorum = L.quorum; pn = L.pn; found = L.found; value = V; origin = O }; others = A.1.others },

@@ -16,12 +16,11 @@ use Rattle.mon_msg.specs.Protocol.Pings.{hear_ping, hear_ping_reply, measure, no
 use Rattle.mon_msg.specs.Protocol.Probing.{copy_again, hear_probe, hear_probe_reply, join_outside, lag}
 use Rattle.mon_msg.specs.Protocol.Readings.{epoch_of}
 use Rattle.mon_msg.specs.Protocol.Sending.{others}
-use Rattle.mon_msg.specs.Protocol.Sets.{is_majority}
 use Rattle.mon_msg.specs.Protocol.State.{quorum_of}
 use Rattle.mon_msg.specs.Protocol.Table.{first_elector, start}
 use Rattle.mon_msg.specs.declared.election.Elector.{Elector}
 use Rattle.mon_msg.specs.declared.view.Me.{Me}
-use Rattle.mon_types.specs.Ranks.{count_of, has, no_ranks, with_rank}
+use Rattle.mon_types.specs.Ranks.{count_of, has, no_ranks, with_rank, is_majority}
 use Rattle.mon_types.specs.declared.names.Which.TheVariants as which
 use Rattle.mon_wire.specs.Message.Bodies.{scored as told_table}
 use Rattle.mon_wire.specs.declared.body.Body.TheVariants as body

@@ -8,7 +8,6 @@ use Rattle.mon_msg.specs.Protocol.Elections.{hear_ack, election_ends, is_allowed
 use Rattle.mon_msg.specs.Protocol.Entering.{is_even, elect, adopt, win}
 use Rattle.mon_msg.specs.Protocol.Phases.{votes, same_phase}
 use Rattle.mon_msg.specs.Protocol.Readings.{Readings, epoch_of}
-use Rattle.mon_msg.specs.Protocol.Sets.{is_majority}
 use Rattle.mon_msg.specs.declared.election.Elector.{Elector}
 use Rattle.mon_msg.specs.declared.plan.Next.TheVariants as next
 use Rattle.mon_msg.specs.declared.plan.Plan.{Plan}
@@ -17,7 +16,7 @@ use Rattle.mon_msg.specs.declared.plan.RoleStop.{RoleStop}
 use Rattle.mon_msg.specs.declared.view.Me.{Me}
 use Rattle.mon_msg.specs.declared.view.View.{View}
 use Rattle.mon_plan.proofs.Planning.{does}
-use Rattle.mon_types.specs.Ranks.{with_rank}
+use Rattle.mon_types.specs.Ranks.{with_rank, is_majority}
 use Rattle.mon_types.specs.declared.names.Which.TheVariants as which
 use Rattle.mon_types.specs.declared.names.Which.{Which}
 use Rattle.mon_wire.specs.declared.phase.Phase.TheVariants as phase

@@ -6,13 +6,12 @@ use Rattle.mon_msg.specs.Protocol.Elections.{hear_victory}
 use Rattle.mon_msg.specs.Protocol.Entering.{is_even, elect}
 use Rattle.mon_msg.specs.Protocol.Phases.{votes}
 use Rattle.mon_msg.specs.Protocol.Readings.{Readings, epoch_of}
-use Rattle.mon_msg.specs.Protocol.Sets.{is_majority}
 use Rattle.mon_msg.specs.declared.election.Elector.{Elector}
 use Rattle.mon_msg.specs.declared.plan.Arming.TheVariants as arming
 use Rattle.mon_msg.specs.declared.plan.Next.TheVariants as next
 use Rattle.mon_msg.specs.declared.view.Me.{Me}
 use Rattle.mon_msg.specs.declared.view.View.{View}
-use Rattle.mon_types.specs.Ranks.{has}
+use Rattle.mon_types.specs.Ranks.{has, is_majority}
 use Rattle.mon_types.specs.declared.names.Which.{Which}
 use Rattle.mon_wire.specs.declared.phase.Phase.{Phase}
 use Rattle.mon_wire.specs.declared.phase.Timer.TheVariants as timer

@@ -6,8 +6,7 @@ ghost use Rattle.mon_msg.specs.Protocol.Elections.{is_allowed, stands_before, ma
 ghost use Rattle.mon_msg.specs.Protocol.Entering.{is_even, scores_count};
 ghost use Rattle.mon_msg.specs.Protocol.Phases.{votes, same_phase};
 ghost use Rattle.mon_msg.specs.Protocol.Readings.{epoch_of, readings_of};
-ghost use Rattle.mon_msg.specs.Protocol.Sets.{is_majority};
-ghost use Rattle.mon_types.specs.Ranks.{has};
+ghost use Rattle.mon_types.specs.Ranks.{has, is_majority};
 ghost use Rattle.mon_wire.specs.declared.phase.Phase.TheVariants as phase_is;
 ghost use Rattle.mon_elector.specs.Rows.{table_told};
 
@@ -137,25 +136,18 @@ pub fn leads_all(me: &Me, acked: RankSet) -> bool
     acked.count() == me.member.monitors && me.rule.allows(me.member.rank)
 }
 
-/// Whether more than half of the map's monitors are in a set.
-fn is_majority(me: &Me, ranks: RankSet) -> bool
-    ensures { result ≡ is_majority me.now.member.monitors ranks }
-{
-    2 * u16::from(ranks.count()) > u16::from(me.member.monitors)
-}
-
 /// Whether a candidate wins once the election's time is over.
 pub fn may_win(me: &Me, state: &Elector) -> bool
     ensures { result ≡ (state.now.candidate && is_allowed me.now me.now.member.rank && is_majority me.now.member.monitors state.now.acked) }
 {
-    state.candidate && me.rule.allows(me.member.rank) && is_majority(me, state.acked)
+    state.candidate && me.rule.allows(me.member.rank) && state.acked.is_majority(me.member.monitors)
 }
 
 /// Whether the monitor may follow a leader in a quorum: both are in it, and it is a majority.
 pub fn may_follow(me: &Me, quorum: RankSet, leader: Rank) -> bool
     ensures { result ≡ (has quorum me.now.member.rank && has quorum leader && is_majority me.now.member.monitors quorum) }
 {
-    quorum.has(me.member.rank) && quorum.has(leader) && is_majority(me, quorum)
+    quorum.has(me.member.rank) && quorum.has(leader) && quorum.is_majority(me.member.monitors)
 }
 
 /// The table that a monitor tells: its own, where scores count.

@@ -1,6 +1,6 @@
 //! Datagrams of the system. They tell nothing of what they give or take, only whether a call failed.
 
-ghost use Rattle.std.specs.Prelude.{◌≡◌, None, Some, ◌≤◌, length, IfOk};
+ghost use Rattle.std.specs.Prelude.{◌≡◌, None, Some, ◌≤◌, length, IfOk, option_map};
 
 use crate::clients::Clients;
 use crate::link::{Got, Link, Peer};
@@ -8,7 +8,7 @@ use crate::outside::raised;
 use mon_bytes::{Bytes, OutOfMemory};
 use mon_types::{Rank, Stop};
 use std::io;
-use std::io::ErrorKind;
+use std::io::{Error, ErrorKind};
 use std::net::{Ipv4Addr, Net, SocketAddr, UdpSocket};
 use std::time::Duration;
 
@@ -37,6 +37,7 @@ pub struct UdpLink<R: Net + Copy> {
     addresses: Vec<Address>,
     clients: Clients,
     socket: Option<UdpSocket>,
+    failure: Option<Error>,
     faults: u64,
     losses: u64,
 }
@@ -75,9 +76,17 @@ impl<R: Net + Copy> UdpLink<R> {
             addresses,
             clients,
             socket: None,
+            failure: None,
             faults: 0,
             losses: 0,
         }
+    }
+
+    /// What the system said to the first call of `next` that failed.
+    pub fn failure(&self) -> Option<&Error>
+        ensures { option_map (λ error. error.now) result ≡ self.now.failure }
+    {
+        self.failure.as_ref()
     }
 
     /// The address of a monitor, where there is one.
@@ -183,6 +192,9 @@ impl<R: Net + Copy> Link for UdpLink<R> {
             Err(said) => {
                 if is_idle(said.kind()) {
                     return Ok(Got::Idle);
+                }
+                if self.failure.is_none() {
+                    self.failure = Some(said);
                 }
                 self.faults = raised(self.faults);
                 Err(Stop::Failed)

@@ -6,14 +6,13 @@ use Rattle.mon_msg.specs.Protocol.Phases.{same_phase}
 use Rattle.mon_msg.specs.Protocol.Probing.{hear_probe, hear_probe_reply}
 use Rattle.mon_msg.specs.Protocol.Readings.{Readings, epoch_of}
 use Rattle.mon_msg.specs.Protocol.Sending.{message_to}
-use Rattle.mon_msg.specs.Protocol.Sets.{is_majority}
 use Rattle.mon_msg.specs.Protocol.Synchronizing.{full_sync, recent_sync}
 use Rattle.mon_msg.specs.Protocol.Table.{timer_comes}
 use Rattle.mon_msg.specs.declared.election.Prober.{Prober}
 use Rattle.mon_msg.specs.declared.plan.Next.TheVariants as next
 use Rattle.mon_msg.specs.declared.view.Me.{Me}
 use Rattle.mon_msg.specs.declared.view.View.{View}
-use Rattle.mon_types.specs.Ranks.{with_rank, count_of}
+use Rattle.mon_types.specs.Ranks.{with_rank, count_of, is_majority}
 use Rattle.mon_types.specs.declared.names.Which.{Which}
 use Rattle.mon_wire.specs.declared.body.Body.TheVariants as body
 use Rattle.mon_wire.specs.declared.phase.Phase.TheVariants as phase

@@ -6,7 +6,7 @@ ghost use Rattle.mon_msg.specs.Protocol.Readings.{readings_of};
 ghost use Rattle.mon_plan.specs.Leaves.{Leaves};
 ghost use Rattle.mon_probe.specs.Rows.{PlansProbe};
 
-use crate::seen::{is_behind, is_cut_off, is_majority, is_probing, is_quorum, reaches_floor};
+use crate::seen::{is_behind, is_cut_off, is_probing, is_quorum, reaches_floor};
 use mon_bytes::Items;
 use mon_msg::{Body, Me, Next, Plan, Prober, RoleStop, View};
 use mon_plan::{Stored, message, planned, stay};
@@ -80,7 +80,7 @@ pub fn hear_probe_reply(
         return planned(alloc, *state, Next::Elect);
     }
     let outside = state.outside.with(from);
-    if is_majority(me, outside) {
+    if outside.is_majority(me.member.monitors) {
         return planned(alloc, Prober { outside }, Next::Elect);
     }
     stay(alloc, Prober { outside })

@@ -5,7 +5,6 @@ ghost use Rattle.election_rules.specs.Ranking.{allows};
 ghost use Rattle.mon_msg.specs.Protocol.Entering.{next_even};
 ghost use Rattle.mon_msg.specs.Protocol.Phases.{same_phase};
 ghost use Rattle.mon_msg.specs.Protocol.Readings.{readings_of};
-ghost use Rattle.mon_msg.specs.Protocol.Sets.{is_majority};
 ghost use Rattle.mon_types.specs.Ranks.{count_of};
 ghost use Rattle.mon_wire.specs.declared.phase.Phase.TheVariants as phase_is;
 
@@ -51,13 +50,6 @@ pub fn is_quorum(ranks: RankSet) -> bool
     ensures { result ≡ nat_lt 0 (count_of ranks) }
 {
     0 < ranks.count()
-}
-
-/// Whether more than half of the map's monitors are in a set.
-pub fn is_majority(me: &Me, ranks: RankSet) -> bool
-    ensures { result ≡ is_majority me.now.member.monitors ranks }
-{
-    2 * u16::from(ranks.count()) > u16::from(me.member.monitors)
 }
 
 /// Whether the monitor has others in its map.

@@ -4,7 +4,6 @@ use Rattle.std.specs.Prelude.{◌==◌, ◌&&◌, if◌then◌else◌, slice_ind
 use Rattle.std.proofs.lemmas.Bool.Decides.{nat_tests}
 use Rattle.mon_types.specs.declared.names.Side.{Side}
 use Rattle.mon_types.specs.declared.names.Side.TheVariants.{A, B}
-use Rattle.mon_types.specs.Sides as sides
 use Rattle.mon_types.specs.declared.names.Stop.TheVariants as disk
 use Rattle.mon_disk.specs.Calls.{Makes}
 use Rattle.mon_disk.specs.Memory.{seen_of, settled}
@@ -18,7 +17,8 @@ use Rattle.mon_journal.specs.Content as journal
 use Rattle.mon_journal.specs.Steps.{create_calls, made_more, ByTest}
 use Rattle.mon_journal.specs.Written.{owner_of}
 use Rattle.mon_store.specs.Checkpoint.{checkpoint_text}
-use Rattle.mon_store.specs.Sound.{of_a, of_b, of_live, other_side, next_journal, Sound, StandsOn, Restarted}
+use Rattle.mon_types.specs.Sides.{other as other_side}
+use Rattle.mon_store.specs.Sound.{of_a, of_b, of_live, next_journal, Sound, StandsOn, Restarted}
 use Rattle.mon_store.specs.Sound as stored
 use Rattle.mon_store.proofs.Applying.{stands_now}
 use Rattle.mon_store.proofs.OnPairs.{other_is}
@@ -91,10 +91,6 @@ module _ (side : Side) (live other : MemoryState) (j : Journal) (m : Store) (kno
 
 -- ---- the files behind a checkpoint
 
-same_sides : (side : Side) → sides.other side ≡ other_side side
-same_sides A = refl
-same_sides B = refl
-
 replaced : (side : Side) (live : File) (other new : Option File) → with_file (other_side side) new (files_with side live other) ≡ record { a = of_a side (Some live) new; b = of_b side (Some live) new }
 replaced A live other new = refl
 replaced B live other new = refl
@@ -119,8 +115,7 @@ module _ (side : Side) (live : File) (other : Option File) (m : Store) (is_live 
 
   begun_is : (call image : ℕ) → checkpoint_begun call image m f ≡ (if model.is_due live m then with_file (other_side side) (file_left call image other (checkpoint live m)) f else f)
   begun_is call image =
-      ap (λ (s : Side). checkpoint_cut call image m (sides.other s) (file_on s f) f) is_live
-      ∙ ap (λ (s : Side). checkpoint_cut call image m s (file_on side f) f) (same_sides side)
+      ap (λ (s : Side). checkpoint_cut call image m (other_side s) (file_on s f) f) is_live
       ∙ ap (λ (file : Option File). checkpoint_cut call image m (other_side side) file f) live_there
       ∙ ap (λ (file : Option File). if model.is_due live m then with_file (other_side side) (file_left call image file (checkpoint live m)) f else f) other_there
 

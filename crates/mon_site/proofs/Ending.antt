@@ -21,7 +21,8 @@ use Rattle.mon_journal.specs.Written.{owner_of}
 use Rattle.mon_msg.specs.Protocol.Sets.{is_empty}
 use Rattle.mon_store.specs.Calls.{apply_calls, restart_calls, journal_after}
 use Rattle.mon_store.specs.Checkpoint.{checkpoint_text}
-use Rattle.mon_store.specs.Sound.{of_a, of_b, of_live, other_side, next_journal, Sound, BeforeOrAfter, Restarted}
+use Rattle.mon_types.specs.Sides.{other as other_side}
+use Rattle.mon_store.specs.Sound.{of_a, of_b, of_live, next_journal, Sound, BeforeOrAfter, Restarted}
 use Rattle.mon_store.specs.Sound as stored
 use Rattle.mon_store.proofs.OnPairs.{stood_opens}
 use Rattle.quorum_model.specs.Cuts.{checkpoint_begun}

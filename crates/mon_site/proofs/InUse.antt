@@ -27,7 +27,8 @@ use Rattle.mon_store.specs.Opening.{Alike}
 use Rattle.mon_store.specs.OpeningCalls.{MakesBoth, opening_calls}
 use Rattle.mon_store.specs.Pair.{NotAStore, Stranger}
 use Rattle.mon_store.specs.Refusals.{Answers, Restarts, breaks}
-use Rattle.mon_store.specs.Sound.{of_a, of_b, of_live, other_side, is_due, next_journal, Sound}
+use Rattle.mon_types.specs.Sides.{other as other_side}
+use Rattle.mon_store.specs.Sound.{of_a, of_b, of_live, is_due, next_journal, Sound}
 use Rattle.mon_store.specs.Stood.{Stood, opens_as}
 use Rattle.mon_store.specs.Whole.{IsSound, disk_a, disk_b, disk_of}
 use Rattle.mon_store.proofs.OnPairs.{stood_opens}

@@ -21,7 +21,8 @@ use Rattle.mon_msg.specs.Protocol.Sets.{is_empty}
 use Rattle.mon_store.specs.Calls.{journal_after}
 use Rattle.mon_journal.specs.Steps.{append_calls}
 use Rattle.mon_journal.proofs.Files.{parts_of_file}
-use Rattle.mon_store.specs.Sound.{of_a, of_b, of_live, other_side, Sound, StandsOn, BeforeOrAfter}
+use Rattle.mon_types.specs.Sides.{other as other_side}
+use Rattle.mon_store.specs.Sound.{of_a, of_b, of_live, Sound, StandsOn, BeforeOrAfter}
 use Rattle.mon_store.proofs.OnPairs.{live_is, other_is}
 use Rattle.quorum_model.specs.Files.{Files, after_append}
 use Rattle.quorum_model.specs.Upsets.{opens_gate}

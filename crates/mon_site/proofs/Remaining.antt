@@ -20,7 +20,8 @@ use Rattle.mon_store.specs.Moments.{WhileOpening}
 use Rattle.mon_store.specs.Opening.{Alike}
 use Rattle.mon_store.specs.OpeningCalls.{MakesBoth, opening_calls}
 use Rattle.mon_store.specs.Pair.{Found, Create, found}
-use Rattle.mon_store.specs.Sound.{of_a, of_b, of_live, other_side, Sound}
+use Rattle.mon_types.specs.Sides.{other as other_side}
+use Rattle.mon_store.specs.Sound.{of_a, of_b, of_live, Sound}
 use Rattle.mon_store.specs.Stood.{Stood, opens_as}
 use Rattle.quorum_model.specs.Files.{File, Files, is_created, after_opening}
 use Rattle.quorum_model.specs.Upsets.{opening_count}

@@ -13,7 +13,8 @@ use Rattle.mon_journal.specs.declared.journal.Journal.{Journal}
 use Rattle.mon_journal.specs.Content.{Held, appended}
 use Rattle.mon_journal.specs.Content as journal
 use Rattle.mon_store.specs.Calls.{journal_after}
-use Rattle.mon_store.specs.Sound.{of_a, of_b, of_live, other_side, IsBelow, Sound, StandsOn}
+use Rattle.mon_types.specs.Sides.{other as other_side}
+use Rattle.mon_store.specs.Sound.{of_a, of_b, of_live, IsBelow, Sound, StandsOn}
 use Rattle.mon_store.proofs.Applying.{stands_now}
 use Rattle.quorum_model.specs.Files.{File, Files, live_side, file_after, after_append}
 use Rattle.mon_site.specs.Disks.{file_of, file_in, files_in, content}

@@ -9,7 +9,8 @@ use Rattle.mon_tx.specs.Map.{Store}
 use Rattle.mon_journal.specs.declared.journal.Form.TheVariants.{Second}
 use Rattle.mon_journal.specs.Written.{owner_of}
 use Rattle.mon_store.specs.declared.store.Store as kept
-use Rattle.mon_store.specs.Sound.{of_live, other_side, Sound}
+use Rattle.mon_types.specs.Sides.{other as other_side}
+use Rattle.mon_store.specs.Sound.{of_live, Sound}
 use Rattle.mon_store.specs.Stood.{Stood, opens_as}
 use Rattle.mon_store.specs.Whole.{disk_a, disk_b, disk_of}
 use Rattle.quorum_model.specs.Files.{Files}

@@ -17,7 +17,8 @@ use Rattle.mon_journal.specs.Steps.{payloads_told, payloads_seen, Keeps}
 use Rattle.mon_store.specs.Checkpoint.{most_size}
 use Rattle.mon_store.specs.Payloads.{map_of}
 use Rattle.mon_store.specs.Moments.{Meanwhile, EachPair}
-use Rattle.mon_store.specs.Sound.{of_a, of_b, of_live, other_side, IsBelow, Sound, WithChange, StandsOn, BeforeOrAfter}
+use Rattle.mon_types.specs.Sides.{other as other_side}
+use Rattle.mon_store.specs.Sound.{of_a, of_b, of_live, IsBelow, Sound, WithChange, StandsOn, BeforeOrAfter}
 use Rattle.mon_store.specs.declared.stop.StoreStop.{StoreStop}
 use Rattle.mon_store.specs.declared.stop.StoreStop.TheVariants.{Broken, TooLong, Full, DiskFault, OutOfMemory}
 use Rattle.mon_store.specs.Refusals.{Refuses, LeavesDisk, breaks}

@@ -16,7 +16,8 @@ use Rattle.mon_journal.specs.Steps.{Opens, Stands}
 use Rattle.mon_store.specs.Checkpoint.{most_size}
 use Rattle.mon_store.specs.Payloads.{map_of}
 use Rattle.mon_store.specs.Pair.{Refusal, NotAStore, Found, Create, Live, newer, chosen}
-use Rattle.mon_store.specs.Sound.{of_live, other_side, IsBelow, Sound}
+use Rattle.mon_types.specs.Sides.{other as other_side}
+use Rattle.mon_store.specs.Sound.{of_live, IsBelow, Sound}
 use Rattle.mon_store.specs.Opening.{held_in, len_of}
 
 same_live : (s t : Side) (x y : Held) → ◌≡◌ {A = Result Found Refusal} (Ok (Live s x)) (Ok (Live t y)) → (s ≡ t) × (x ≡ y)

@@ -21,7 +21,8 @@ use Rattle.mon_store.specs.Opening.{held_in, len_of, first_content, AlikePair, A
 use Rattle.mon_store.specs.Stood.{standing_of, opens_as}
 use Rattle.mon_store.specs.declared.opening.Standing.{Standing}
 use Rattle.mon_store.specs.declared.stop.OpenStop.{OpenStop}
-use Rattle.mon_store.specs.Sound.{of_live, other_side, IsBelow, Sound}
+use Rattle.mon_types.specs.Sides.{other as other_side}
+use Rattle.mon_store.specs.Sound.{of_live, IsBelow, Sound}
 use Rattle.mon_store.proofs.Pairs.{stands_for, opens_live}
 use Rattle.mon_store.proofs.Sizes.{size_empty}
 use Rattle.mon_store.proofs.Moments.{weaker, then_first}

@@ -10,7 +10,8 @@ use Rattle.mon_journal.specs.Content.{Held, content, payloads_in, payloads_of, h
 use Rattle.mon_journal.specs.Written.{owner_of}
 use Rattle.mon_store.specs.Payloads.{map_of}
 use Rattle.mon_store.specs.Pair.{stands}
-use Rattle.mon_store.specs.Sound.{of_a, of_b, of_live, other_side, IsBelow, StandsOn}
+use Rattle.mon_types.specs.Sides.{other as other_side}
+use Rattle.mon_store.specs.Sound.{of_a, of_b, of_live, IsBelow, StandsOn}
 use Rattle.mon_store.specs.Stood.{opens_as}
 use Rattle.mon_store.proofs.Pairs.{stands_for, opens_live, journal_is}
 

@@ -4,6 +4,7 @@ use Rattle.std.proofs.lemmas.Bool.Decides.{nat_tests}
 use Rattle.std.proofs.Math.Bridge.{le_prop}
 use Rattle.mon_types.specs.declared.names.Side.{Side}
 use Rattle.mon_types.specs.declared.names.Side.TheVariants.{A, B}
+use Rattle.mon_types.proofs.Members.{same_member}
 use Rattle.mon_tx.specs.Map.{Store}
 use Rattle.mon_journal.specs.declared.stop.JournalStop.{JournalStop}
 use Rattle.mon_types.specs.declared.member.Member.{Member}
@@ -72,15 +73,9 @@ pub opens_live : (member : Member) (side : Side) (live other : List ℕ) (held :
 opens_live member side live other held m is below map own = ap (λ r. r >>= (λ it. Ok (standing_of member it.0 it.1))) (opened_live (owner_of member) side live other held m is below map own)
 
 -- a member is told by its file's owner
-same_member : (member : Member) (other : Member) → owner_of member ≡ owner_of other → member ≡ other
-same_member member other same =
-    subst (λ (o : Owner). (most : o.monitors ≤ 15) (in_map : o.rank < o.monitors) → member ≡ record { rank = o.rank; monitors = o.monitors; most = most; in_map = in_map }) same own other.most other.in_map
-  where
-    own : (most : member.monitors ≤ 15) (in_map : member.rank < member.monitors) → member ≡ record { rank = member.rank; monitors = member.monitors; most = most; in_map = in_map }
-    own most in_map =
-        ap (λ (h : member.monitors ≤ 15). record { rank = member.rank; monitors = member.monitors; most = h; in_map = member.in_map }) (le_prop member.most most)
-        ∙ ap (λ (h : member.rank < member.monitors). record { rank = member.rank; monitors = member.monitors; most = most; in_map = h }) (le_prop member.in_map in_map)
+owned_by : (member : Member) (other : Member) → owner_of member ≡ owner_of other → member ≡ other
+owned_by member other same = same_member member other (ap (λ (o : Owner). o.rank) same) (ap (λ (o : Owner). o.monitors) same)
 
 -- and a journal by its file's header and first closed gate
 pub journal_is : (member : Member) (j : Journal) (payloads : List (List ℕ)) → owner_of j.member ≡ owner_of member → journal_of member (held_by j payloads) ≡ j
-journal_is member j payloads own = ap (λ (m : Member). record { member = m; generation = j.generation; next_gate = j.next_gate; form = j.form }) (same_member member j.member (sym own))
+journal_is member j payloads own = ap (λ (m : Member). record { member = m; generation = j.generation; next_gate = j.next_gate; form = j.form }) (owned_by member j.member (sym own))

@@ -13,7 +13,8 @@ use Rattle.mon_journal.proofs.Counts.{few}
 use Rattle.mon_store.specs.Checkpoint.{checkpoint_text, HasCheckpoint}
 use Rattle.mon_store.specs.Payloads.{map_of}
 use Rattle.mon_store.specs.Moments.{Meanwhile}
-use Rattle.mon_store.specs.Sound.{of_a, of_b, of_live, other_side, IsBelow, Sound, StandsOn, Begins, BegunAs, next_journal, ThisOrNext, Restarted}
+use Rattle.mon_types.specs.Sides.{other as other_side}
+use Rattle.mon_store.specs.Sound.{of_a, of_b, of_live, IsBelow, Sound, StandsOn, Begins, BegunAs, next_journal, ThisOrNext, Restarted}
 use Rattle.mon_store.proofs.Payloads.{map_checkpoint}
 use Rattle.mon_store.proofs.OnPairs.{on_held, turned, other_is}
 use Rattle.mon_store.proofs.Moments.{first_goes, second_goes}

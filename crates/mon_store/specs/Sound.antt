@@ -32,10 +32,6 @@ abbrev pub of_live : {X : Type 0} → Side → X → X → X
 of_live A a b = a
 of_live B a b = b
 
-abbrev pub other_side : Side → Side
-other_side A = B
-other_side B = A
-
 -- a closed file, or a store's file of a lower generation
 abbrev pub IsBelow : ℕ → Option (Result Held JournalStop) → Type 0
 IsBelow generation None = Unit {0}

@@ -10,20 +10,12 @@ use mon_bytes::{Out, OutOfMemory, write_count};
 pub use mon_kv::MOST_SIZE;
 use mon_kv::{EntryRef, Kv};
 
-fn put_word(out: &mut Out, bytes: &[u8]) -> Result<(), OutOfMemory>
-    requires { length bytes.now < 256 }
-    ensures { OnOk result (out.new ≡ out.old ++ word bytes.now) }
-{
-    out.put_u8(bytes.len() as u8)?;
-    out.put_bytes(bytes)
-}
-
 fn put_entry(out: &mut Out, entry: &EntryRef<'_>) -> Result<(), OutOfMemory>
     requires { EntryFits (entry_of entry.now) }
     ensures { OnOk result (out.new ≡ out.old ++ entry_text (entry_of entry.now)) }
 {
-    put_word(out, entry.prefix)?;
-    put_word(out, entry.key)?;
+    out.put_word(entry.prefix)?;
+    out.put_word(entry.key)?;
     write_count(out, entry.value.len() as u32)?;
     out.put_bytes(entry.value)
 }

@@ -12,7 +12,8 @@ ghost use Rattle.mon_store.specs.Checkpoint.{most_size};
 ghost use Rattle.mon_store.specs.Payloads.{map_of};
 ghost use Rattle.mon_store.specs.Pair.{Live, taken, found};
 ghost use Rattle.mon_store.specs.Moments.{Meanwhile, WhileOpening};
-ghost use Rattle.mon_store.specs.Sound.{of_live, Sound, other_side};
+ghost use Rattle.mon_types.specs.Sides.{other as other_side};
+ghost use Rattle.mon_store.specs.Sound.{of_live, Sound};
 ghost use Rattle.mon_store.specs.Opening.{named, Tells, Gives, Answers, IsOutside, IsNoFault, AlikePair, Alike, Settled, stop_in, BothCount};
 ghost use Rattle.mon_store.specs.OpeningCalls.{both_calls, opening_calls, OpensWith};
 

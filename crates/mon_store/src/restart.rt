@@ -4,7 +4,8 @@ ghost use Rattle.mon_disk.specs.Calls.{Called};
 ghost use Rattle.mon_journal.specs.Written.{owner_of};
 ghost use Rattle.mon_journal.specs.Steps.{Keeps, Any, WantsFirst, create_calls, made_more};
 ghost use Rattle.mon_store.specs.Checkpoint.{checkpoint_text, most_size, HasCheckpoint};
-ghost use Rattle.mon_store.specs.Sound.{is_first, is_due, other_side, next_journal, Begins, BegunAs};
+ghost use Rattle.mon_types.specs.Sides.{other as other_side};
+ghost use Rattle.mon_store.specs.Sound.{is_first, is_due, next_journal, Begins, BegunAs};
 ghost use Rattle.mon_store.specs.Calls.{stop_in, unless_early};
 ghost use Rattle.mon_store.specs.Refusals.{IsOutside, Restarts, breaks};
 
@@ -15,7 +16,7 @@ use mon_bytes::{Out, OutOfMemory};
 use mon_disk::Disk;
 use mon_journal::{Form, Journal, restart};
 use mon_kv::Kv;
-use mon_types::{GREATEST, Side};
+use mon_types::GREATEST;
 use std::alloc::Global;
 use std::mem::swap;
 
@@ -41,15 +42,6 @@ fn is_due(journal: &Journal, kv: &Kv) -> bool
     }
     is_first(journal.form)
         || (journal.next_gate >= LEAST_LENGTH && journal.next_gate / 4 >= kv.size())
-}
-
-fn other_side(side: Side) -> Side
-    ensures { result ≡ other_side side }
-{
-    match side {
-        Side::A => Side::B,
-        Side::B => Side::A,
-    }
 }
 
 fn checkpoint(alloc: Global, kv: &Kv) -> Result<Vec<u8>, OutOfMemory>
@@ -137,7 +129,7 @@ impl<D: Disk> Store<D> {
             Ok(journal) => {
                 self.journal = journal;
                 swap(&mut self.live, &mut self.other);
-                self.side = other_side(self.side);
+                self.side = self.side.other();
                 Ok(true)
             }
             Err(stop) => {

@@ -1,5 +1,5 @@
 -- A set of ranks is a list of fifteen tests, one for each rank.
-use Rattle.std.specs.Prelude.{ℕ, zero, suc, ◌+◌, ◌-◌, ◌*◌, ◌/◌, ◌%◌, ◌<◌, ◌==◌, Bool, true, false, not, if◌then◌else◌, List, [], ◌∷◌, count_by, drop, filter, slice_set, slice_index_or, replicate}
+use Rattle.std.specs.Prelude.{ℕ, zero, suc, ◌+◌, ◌-◌, ◌*◌, ◌/◌, ◌%◌, ◌==◌, Bool, true, false, not, nat_lt, if◌then◌else◌, List, [], ◌∷◌, count_by, drop, filter, slice_set, slice_index_or, replicate}
 use Rattle.std.specs.List.{list_all, range_with_len}
 
 abbrev pub no_ranks : List Bool
@@ -17,8 +17,8 @@ abbrev pub count_of : List Bool → ℕ
 count_of s = count_by (λ b. b) s
 
 -- a majority of n monitors: twice the count is above n
-abbrev pub IsMajority : List Bool → ℕ → Type 0
-IsMajority s n = n < 2 * count_of s
+abbrev pub is_majority : ℕ → List Bool → Bool
+is_majority n s = nat_lt n (2 * count_of s)
 
 -- no rank is in the set
 abbrev pub is_empty : List Bool → Bool

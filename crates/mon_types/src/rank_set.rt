@@ -1,5 +1,5 @@
-ghost use Rattle.std.specs.Prelude.{◌≡◌, ℕ, ◌<◌, ◌≤◌, ◌^◌, ◌↔◌, IsTrue, length};
-ghost use Rattle.mon_types.specs.Ranks.{no_ranks, has, with_rank, count_of, IsMajority, is_empty, is_within, ranks_in, to_bits, from_bits};
+ghost use Rattle.std.specs.Prelude.{◌≡◌, ℕ, ◌<◌, ◌≤◌, ◌^◌, length};
+ghost use Rattle.mon_types.specs.Ranks.{no_ranks, has, with_rank, count_of, is_majority, is_empty, is_within, ranks_in, to_bits, from_bits};
 
 use crate::rank::Rank;
 use std::marker::Model;
@@ -60,7 +60,7 @@ impl RankSet {
 
     /// Whether the set is a majority of `n` monitors: twice its count is above `n`.
     pub fn is_majority(self, n: u8) -> bool
-        ensures { IsTrue result ↔ IsMajority self n }
+        ensures { result ≡ is_majority n self }
     {
         2 * u16::from(self.count()) > u16::from(n)
     }

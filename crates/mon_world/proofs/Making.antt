@@ -1,10 +1,10 @@
 -- The monitors of a map, made one after the other.
 use Rattle.std.proofs.Common.{◌≡◌, ◌⊎◌, ℕ, zero, suc, ◌+◌, ◌≤◌, ◌<◌, List, [], ◌∷◌, ◌++◌, length, slice_get, Some, None, refl, sym, ap, subst, ◌∙◌, inl, inr, length-append}
-use Rattle.std.proofs.Math.Bridge.{le_prop}
 use Rattle.std.proofs.lemmas.Option.{same_Some}
 use Rattle.std.specs.FinMap.{empty}
 use Rattle.election_rules.specs.declared.rule.Rule.{Rule}
 use Rattle.mon_msg.specs.declared.view.Me.{Me}
+use Rattle.mon_types.proofs.Members.{same_member}
 use Rattle.mon_types.specs.declared.member.Member.{Member}
 use Rattle.quorum_model.specs.Files.{no_files}
 use Rattle.quorum_model.specs.Monitors.{Monitors}
@@ -14,17 +14,7 @@ use Rattle.mon_world.specs.Monitor.{Stands}
 use Rattle.mon_world.specs.Stands.{EachStands}
 use Rattle.mon_world.proofs.Ranks.{is_of}
 
--- there is one member of a rank and a number
-same_member : (a b : Member) → a.rank ≡ b.rank → a.monitors ≡ b.monitors → a ≡ b
-same_member a b ranks counts =
-    subst (λ (r : ℕ). (most : b.monitors ≤ 15) (in_map : r < b.monitors) → a ≡ record { rank = r; monitors = b.monitors; most = most; in_map = in_map }) ranks
-    (subst (λ (n : ℕ). (most : n ≤ 15) (in_map : a.rank < n) → a ≡ record { rank = a.rank; monitors = n; most = most; in_map = in_map }) counts own) b.most b.in_map
-  where
-    own : (most : a.monitors ≤ 15) (in_map : a.rank < a.monitors) → a ≡ record { rank = a.rank; monitors = a.monitors; most = most; in_map = in_map }
-    own most in_map =
-        ap (λ (h : a.monitors ≤ 15). record { rank = a.rank; monitors = a.monitors; most = h; in_map = a.in_map }) (le_prop a.most most)
-        ∙ ap (λ (h : a.rank < a.monitors). record { rank = a.rank; monitors = a.monitors; most = most; in_map = h }) (le_prop a.in_map in_map)
-
+-- there is one monitor of a rank, a number and a rule
 pub same_me : (a b : Me) → a.member.rank ≡ b.member.rank → a.member.monitors ≡ b.member.monitors → a.rule ≡ b.rule → a ≡ b
 same_me a b ranks counts rules =
     ap (λ (m : Member). record { member = m; rule = a.rule }) (same_member a.member b.member ranks counts)

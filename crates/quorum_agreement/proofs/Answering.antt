@@ -36,7 +36,7 @@ use Rattle.mon_msg.specs.Protocol.Records.{pending}
 use Rattle.mon_msg.specs.Protocol.Replay.{replay_any, replay_step, step_in, step_of}
 use Rattle.mon_msg.specs.Protocol.Sending.{answer_any, answer_to, answers_to, members, message_to, others, reply_to, send_each}
 use Rattle.mon_msg.specs.Protocol.Services.{service_last}
-use Rattle.mon_msg.specs.Protocol.Sets.{are_within, is_majority, only}
+use Rattle.mon_msg.specs.Protocol.Sets.{are_within, only}
 use Rattle.mon_msg.specs.Protocol.State.{State, lease_of, quorum_of}
 use Rattle.mon_msg.specs.Protocol.Synchronizing.{full_sync, recent_sync}
 use Rattle.mon_msg.specs.Protocol.Table.{at_rest, before_start, react, running, start, timer_comes}
@@ -59,7 +59,7 @@ use Rattle.mon_msg.specs.declared.view.Me.{Me}
 use Rattle.mon_tx.specs.Decision.{Cell}
 use Rattle.mon_tx.specs.declared.op.Op.{Op}
 use Rattle.mon_types.specs.Proposal.{next_number}
-use Rattle.mon_types.specs.Ranks.{count_of, has, with_rank}
+use Rattle.mon_types.specs.Ranks.{count_of, has, with_rank, is_majority}
 use Rattle.mon_types.specs.declared.names.Which.TheVariants as which
 use Rattle.mon_wire.specs.declared.body.Body.TheVariants as body
 use Rattle.mon_wire.specs.declared.body.Body.{Body}

@@ -5,10 +5,9 @@ use Rattle.log_model.proofs.Records.{IsVersion, read_version}
 use Rattle.log_model.specs.LogOfValues.{AllValues}
 use Rattle.mon_msg.specs.Fold.{entry}
 use Rattle.mon_msg.specs.Protocol.Records.{transaction_in}
-use Rattle.mon_msg.specs.Protocol.Sets.{is_majority}
 use Rattle.mon_tx.specs.Text.{text}
 use Rattle.mon_tx.specs.declared.op.Op.{Op}
-use Rattle.mon_types.specs.Ranks.{has}
+use Rattle.mon_types.specs.Ranks.{has, is_majority}
 use Rattle.quorum_history.proofs.Frame.{accepted_lasts}
 use Rattle.quorum_history.proofs.History.{Accepted, Ext, Ghost, TriplesHold}
 use Rattle.quorum_walk.proofs.Ranks.{Below, majorities}

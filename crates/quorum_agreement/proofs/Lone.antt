@@ -28,7 +28,7 @@ use Rattle.mon_msg.specs.Protocol.Records.{found_as, pending, pending_of, record
 use Rattle.mon_msg.specs.Protocol.Replay.{replay_step, step_in}
 use Rattle.mon_msg.specs.Protocol.Sending.{answer, answer_any, answers_to, members, message_to, others, reply_to}
 use Rattle.mon_msg.specs.Protocol.Services.{service_last}
-use Rattle.mon_msg.specs.Protocol.Sets.{is_empty, is_majority, only}
+use Rattle.mon_msg.specs.Protocol.Sets.{is_empty, only}
 use Rattle.mon_msg.specs.Protocol.State.{State, lease_of}
 use Rattle.mon_msg.specs.Protocol.Table.{at_rest, before_start, first_elector, react, running, start, timer_comes}
 use Rattle.mon_msg.specs.Protocol.Timers.{end_of}
@@ -47,7 +47,7 @@ use Rattle.mon_msg.specs.declared.synchronisation.SyncStage.{SyncStage}
 use Rattle.mon_msg.specs.declared.view.Me.{Me}
 use Rattle.mon_tx.specs.declared.op.Op.{Op}
 use Rattle.mon_types.specs.Proposal.{next_number}
-use Rattle.mon_types.specs.Ranks.{has}
+use Rattle.mon_types.specs.Ranks.{has, is_majority}
 use Rattle.mon_types.specs.declared.names.Which.TheVariants as which
 use Rattle.mon_wire.specs.declared.body.Body.TheVariants as body
 use Rattle.mon_wire.specs.declared.body.Body.{Body}

@@ -18,7 +18,6 @@ use Rattle.mon_msg.specs.Protocol.Phases.{is_leading, is_member, is_peon, same_p
 use Rattle.mon_msg.specs.Protocol.Readings.{Readings, epoch_of, readings_of, shared_entries}
 use Rattle.mon_msg.specs.Protocol.Reads.{changes_after, shown, since}
 use Rattle.mon_msg.specs.Protocol.Services.{kept_from, service_first, service_last}
-use Rattle.mon_msg.specs.Protocol.Sets.{is_majority}
 use Rattle.mon_msg.specs.Protocol.State.{State, booting}
 use Rattle.mon_msg.specs.Protocol.Value.{service_of}
 use Rattle.mon_msg.specs.declared.clients.Asked as waiting
@@ -39,7 +38,7 @@ use Rattle.mon_tx.specs.Text.{text}
 use Rattle.mon_tx.specs.declared.key.Area.TheVariants as area
 use Rattle.mon_tx.specs.declared.key.Key.TheVariants as key
 use Rattle.mon_tx.specs.declared.op.Op.{Op}
-use Rattle.mon_types.specs.Ranks.{has}
+use Rattle.mon_types.specs.Ranks.{has, is_majority}
 use Rattle.mon_wire.specs.declared.body.Body.TheVariants as body
 use Rattle.mon_wire.specs.declared.body.Body.{Body}
 use Rattle.mon_wire.specs.declared.phase.Phase.TheVariants as phase

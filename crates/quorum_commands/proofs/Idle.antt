@@ -24,7 +24,6 @@ use Rattle.mon_msg.specs.Protocol.Readings.{Readings, epoch_of, promise_of}
 use Rattle.mon_msg.specs.Protocol.Records.{pending}
 use Rattle.mon_msg.specs.Protocol.Replay.{replay_any, replay_step, step_in, step_of}
 use Rattle.mon_msg.specs.Protocol.Sending.{members, message_to, others}
-use Rattle.mon_msg.specs.Protocol.Sets.{is_majority}
 use Rattle.mon_msg.specs.Protocol.State.{State, no_clients, quorum_of}
 use Rattle.mon_msg.specs.Protocol.Synchronizing.{full_sync, recent_sync}
 use Rattle.mon_msg.specs.Protocol.Table.{at_rest, before_start, first_elector, start, timer_comes}
@@ -39,7 +38,7 @@ use Rattle.mon_msg.specs.declared.synchronisation.SyncStage.TheVariants as sync
 use Rattle.mon_msg.specs.declared.synchronisation.SyncStage.{SyncStage}
 use Rattle.mon_msg.specs.declared.view.Me.{Me}
 use Rattle.mon_tx.specs.declared.op.Op.{Op}
-use Rattle.mon_types.specs.Ranks.{count_of, has, with_rank}
+use Rattle.mon_types.specs.Ranks.{count_of, has, with_rank, is_majority}
 use Rattle.mon_types.specs.declared.names.Which.TheVariants as which
 use Rattle.mon_wire.specs.declared.body.Body.TheVariants as body
 use Rattle.mon_wire.specs.declared.body.Body.{Body}

@@ -1,7 +1,7 @@
 -- The elementary step by which a monitor accepts a value.
 use Rattle.mon_msg.specs.Protocol.Changes.{Change, Numbers, Vote}
 use Rattle.mon_msg.specs.Protocol.Played.{with_record}
-use Rattle.mon_msg.specs.Protocol.Sets.{is_majority}
+use Rattle.mon_types.specs.Ranks.{is_majority}
 use Rattle.mon_msg.specs.declared.plan.Sent.{Sent}
 use Rattle.mon_tx.specs.Decision.{Cell}
 use Rattle.mon_tx.specs.Text.{text}

@@ -6,12 +6,12 @@ use Rattle.mon_msg.specs.Protocol.Course.{Course, change, forget_clients, in_pha
 use Rattle.mon_msg.specs.Protocol.Entering.{adopt, bootstrap, elect, in_odd_epoch, is_even, next_even, own_table}
 use Rattle.mon_msg.specs.Protocol.Readings.{Readings, epoch_of}
 use Rattle.mon_msg.specs.Protocol.Records.{pending}
-use Rattle.mon_msg.specs.Protocol.Sets.{is_majority, only}
+use Rattle.mon_msg.specs.Protocol.Sets.{only}
 use Rattle.mon_msg.specs.Protocol.Synchronizing.{floor_of, full_sync, pending_version, recent_sync}
 use Rattle.mon_msg.specs.declared.clients.Waiting.{Waiting}
 use Rattle.mon_msg.specs.declared.view.Me.{Me}
 use Rattle.mon_tx.specs.declared.op.Op.{Op}
-use Rattle.mon_types.specs.Ranks.{has}
+use Rattle.mon_types.specs.Ranks.{has, is_majority}
 use Rattle.mon_types.specs.declared.names.Which.TheVariants as which
 use Rattle.mon_wire.specs.declared.body.Body.TheVariants as body
 use Rattle.mon_wire.specs.declared.phase.Phase.TheVariants as phase

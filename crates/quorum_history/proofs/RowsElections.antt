@@ -8,12 +8,11 @@ use Rattle.mon_msg.specs.Protocol.Entering.{adopt, is_even, win}
 use Rattle.mon_msg.specs.Protocol.Phases.{same_phase, votes}
 use Rattle.mon_msg.specs.Protocol.Probing.{hear_probe, hear_probe_reply, lag}
 use Rattle.mon_msg.specs.Protocol.Readings.{Readings, epoch_of}
-use Rattle.mon_msg.specs.Protocol.Sets.{is_majority}
 use Rattle.mon_msg.specs.Protocol.State.{quorum_of}
 use Rattle.mon_msg.specs.declared.clients.Asked.{Asked}
 use Rattle.mon_msg.specs.declared.view.Me.{Me}
 use Rattle.mon_tx.specs.declared.op.Op.{Op}
-use Rattle.mon_types.specs.Ranks.{count_of, has, with_rank}
+use Rattle.mon_types.specs.Ranks.{count_of, has, with_rank, is_majority}
 use Rattle.mon_types.specs.declared.names.Which.TheVariants as which
 use Rattle.mon_types.specs.declared.names.Which.{Which}
 use Rattle.mon_wire.specs.declared.body.Body.TheVariants as body

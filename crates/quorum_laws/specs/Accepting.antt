@@ -1,9 +1,8 @@
 -- What monitors accepted: the values that their kept transactions put as pending.
 use Rattle.mon_msg.specs.Protocol.Readings.{Readings, readings_of}
-use Rattle.mon_msg.specs.Protocol.Sets.{is_majority}
 use Rattle.mon_tx.specs.Map.{apply}
 use Rattle.mon_tx.specs.declared.op.Op.{Op}
-use Rattle.mon_types.specs.Ranks.{has}
+use Rattle.mon_types.specs.Ranks.{has, is_majority}
 use Rattle.quorum_model.specs.World.{World}
 use Rattle.std.proofs.Common.{Bool, List, Some, true, ℕ, ◌<◌, ◌≡◌, ◌≤◌}
 use Rattle.std.specs.FinMap.{empty}

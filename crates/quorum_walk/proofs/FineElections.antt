@@ -8,10 +8,9 @@ use Rattle.mon_msg.specs.Protocol.Phases.{same_phase, votes}
 use Rattle.mon_msg.specs.Protocol.Played.{IsShort}
 use Rattle.mon_msg.specs.Protocol.Probing.{hear_probe, hear_probe_reply, lag}
 use Rattle.mon_msg.specs.Protocol.Readings.{Readings, epoch_of}
-use Rattle.mon_msg.specs.Protocol.Sets.{is_majority}
 use Rattle.mon_msg.specs.Protocol.State.{quorum_of}
 use Rattle.mon_msg.specs.declared.view.Me.{Me}
-use Rattle.mon_types.specs.Ranks.{count_of, has, with_rank}
+use Rattle.mon_types.specs.Ranks.{count_of, has, with_rank, is_majority}
 use Rattle.mon_wire.specs.declared.body.Body.TheVariants as body
 use Rattle.mon_wire.specs.declared.phase.Phase.TheVariants as phase
 use Rattle.quorum_walk.proofs.FineActs.{adopt_fine, elect_fine, epoch_fine, full_sync_fine, recent_sync_fine, win_fine}

@@ -1,6 +1,6 @@
 -- Sets of ranks.
-use Rattle.mon_msg.specs.Protocol.Sets.{are_within, is_empty, is_majority, only}
-use Rattle.mon_types.specs.Ranks.{count_of, has, no_ranks, with_rank}
+use Rattle.mon_msg.specs.Protocol.Sets.{are_within, is_empty, only}
+use Rattle.mon_types.specs.Ranks.{count_of, has, no_ranks, with_rank, is_majority}
 use Rattle.std.proofs.Common.{Bool, List, [], arith, cond, eqb, false, inl, inr, length, ltb, not, refl, subst, suc, sym, true, zero, ℕ, ◌&&◌, ◌*◌, ◌+◌, ◌<◌, ◌||◌, ◌∙◌, ◌∷◌, ◌≡◌, ◌≤◌, ◌⊎◌}
 use Rattle.std.proofs.lemmas.Bool.{and_cases, and_from, and_parts, cases_eq, cases_lt, eqb-true, false≢true, lt-ltb, ltb-false, ltb-true, not-false, not-true, not_from_false, or_cases, or_left, or_right}
 use Rattle.std.proofs.lemmas.Grind.{get_or-set_at}

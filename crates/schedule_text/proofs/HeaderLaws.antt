@@ -29,7 +29,7 @@ with_ranks : (field : List ℕ) (word : List ℕ) → (cut 61 field).0 ≡ word 
 with_ranks field word same =
     sym (cut_joined 61 field) ∙ joined-behind 61 (cut 61 field).0 (cut 61 field).1 ∙ ap (λ (w : List ℕ). w ++ behind 61 (cut 61 field).1) same
 
-abbrev Spells : ℕ → List ℕ → Rule → Type 0
+abbrev pub Spells : ℕ → List ℕ → Rule → Type 0
 Spells n field rule = (field ≡ rule_text rule) × RuleFits n rule
 
 classic_takes : (n : ℕ) (field : List ℕ) (rule : Rule) → (cut 61 field).0 ≡ codes "classic" → ended (cut 61 field).1 Classic ≡ Ok rule → Spells n field rule
@@ -57,7 +57,7 @@ connectivity_takes n ranks rule e =
     subst (λ (r : Rule). (codes "connectivity" ++ behind 61 ranks ≡ rule_text r) × RuleFits n r) (ok_is (Connectivity a.0) rule a.2)
     (ap (λ (x : Option (List ℕ)). codes "connectivity" ++ behind 61 x) t.0, t.1)
 
-rule_takes : (n : ℕ) (field : List ℕ) (rule : Rule) → rule_of n field ≡ Ok rule → Spells n field rule
+pub rule_takes : (n : ℕ) (field : List ℕ) (rule : Rule) → rule_of n field ≡ Ok rule → Spells n field rule
 unfolding rule_of
 rule_takes n field rule e =
     let word = (cut 61 field).0 in
@@ -125,7 +125,7 @@ graphic_behind separator (suc count) r set h le =
       | inr f ↦ rw f (graphic_behind separator count (suc r) set h (omega arith))
     ]
 
-rule_word : (rule : Rule) → IsWord (rule_text rule)
+pub rule_word : (rule : Rule) → IsWord (rule_text rule)
 unfolding ranks_text
 rule_word Classic = record { long = omega arith; graphics = refl }
 rule_word (Disallow set) = record { long = omega arith; graphics = list_all-append graphic (codes "disallow") (behind 61 (ranks_text set)) refl (graphic_behind 61 15 0 set refl (omega arith)) }
@@ -153,7 +153,7 @@ rule_by : (n : ℕ) (field : List ℕ) → rule_of n field ≡ by_word n (cut 61
 unfolding rule_of
 rule_by n field = refl
 
-rule_again : (n : ℕ) (rule : Rule) → RuleFits n rule → rule_of n (rule_text rule) ≡ Ok rule
+pub rule_again : (n : ℕ) (rule : Rule) → RuleFits n rule → rule_of n (rule_text rule) ≡ Ok rule
 rule_again n Classic fits = rule_by n (codes "classic") ∙ refl
 rule_again n (Disallow set) fits =
     rule_by n (rule_text (Disallow set))

@@ -76,7 +76,7 @@ fn value_of(field: &[u8]) -> Option<u64>
 
 /// The number that the field spells, where it is within these bounds.
 #[tactic(auto, unfolding(crate::specs::Fields::number_of))]
-fn number_of(field: &[u8], least: u64, most: u64) -> Result<u64, ScheduleKind>
+pub fn number_of(field: &[u8], least: u64, most: u64) -> Result<u64, ScheduleKind>
     ensures value { Is (λ n. n) result (number_of least most field.now) }
     ensures least { IfOk result (λ n. least ≤ n) }
     ensures most { IfOk result (λ n. n ≤ most) }

@@ -31,7 +31,7 @@ fn connectivity_of(monitors: u8, ranks: Option<&[u8]>) -> Result<Rule, ScheduleK
 
 /// The rule that the field spells, where there are so many monitors.
 #[tactic(auto, unfolding(crate::specs::Schedule::rule_of))]
-fn rule_of(monitors: u8, field: &[u8]) -> Result<Rule, ScheduleKind>
+pub fn rule_of(monitors: u8, field: &[u8]) -> Result<Rule, ScheduleKind>
     ensures { Is (λ rule. rule) result (rule_of monitors field.now) }
 {
     let (word, ranks) = cut(61, field);

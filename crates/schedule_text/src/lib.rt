@@ -16,6 +16,8 @@ mod schedule;
 mod words;
 
 pub use event::{Event, Plain};
+pub use fields::{cut, number_of};
+pub use header::rule_of;
 pub use printer::{header_line, print};
 pub use ranks::{has_ranks, put_ranks};
 pub use reader::parse;

@@ -29,9 +29,6 @@ pub enum ScheduleKind {
     /// A rank isn't below the number of monitors.
     #[error("Rank")]
     Rank = 7,
-    /// The event is one that can't be run yet. No text is refused for it; whoever runs a schedule does so.
-    #[error("NotBuilt")]
-    NotBuilt = 8,
 }
 
 /// Why a line spells no event.

@@ -9,13 +9,12 @@ use Rattle.mon_msg.specs.Protocol.Entering.{is_even, elect, adopt, win}
 use Rattle.mon_msg.specs.Protocol.Phases.{same_phase, votes}
 use Rattle.mon_msg.specs.Protocol.Readings.{epoch_of}
 use Rattle.mon_msg.specs.Protocol.Sending.{send}
-use Rattle.mon_msg.specs.Protocol.Sets.{is_majority}
 use Rattle.mon_msg.specs.Protocol.State.{quorum_of}
 use Rattle.mon_wire.specs.declared.body.Body.TheVariants as body
 use Rattle.mon_wire.specs.declared.phase.Phase.TheVariants as phase
 use Rattle.mon_wire.specs.declared.phase.Timer.TheVariants as timer
 use Rattle.mon_msg.specs.declared.view.Me.{Me}
-use Rattle.mon_types.specs.Ranks.{no_ranks, has, with_rank, count_of}
+use Rattle.mon_types.specs.Ranks.{no_ranks, has, with_rank, count_of, is_majority}
 use Rattle.mon_types.specs.declared.names.Which.{Which}
 
 -- ---- tables of scores

@@ -4,13 +4,12 @@ use Rattle.mon_msg.specs.Protocol.Course.{Course, ◌▸◌, dropped, prober_is}
 use Rattle.mon_msg.specs.Protocol.Entering.{elect}
 use Rattle.mon_msg.specs.Protocol.Phases.{same_phase}
 use Rattle.mon_msg.specs.Protocol.Sending.{send}
-use Rattle.mon_msg.specs.Protocol.Sets.{is_majority}
 use Rattle.mon_msg.specs.Protocol.State.{quorum_of}
 use Rattle.mon_msg.specs.Protocol.Synchronizing.{full_sync, recent_sync}
 use Rattle.mon_wire.specs.declared.body.Body.TheVariants as body
 use Rattle.mon_wire.specs.declared.phase.Phase.TheVariants as phase
 use Rattle.mon_msg.specs.declared.view.Me.{Me}
-use Rattle.mon_types.specs.Ranks.{with_rank, count_of}
+use Rattle.mon_types.specs.Ranks.{with_rank, count_of, is_majority}
 use Rattle.mon_types.specs.declared.names.Which.{Which}
 
 -- how far it is, and in which quorum

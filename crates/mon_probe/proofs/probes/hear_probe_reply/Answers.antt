@@ -1,9 +1,8 @@
 use Rattle.std.proofs.Common.{Bool, List, [], refl, sym, ap, ◌∙◌}
 use Rattle.mon_msg.specs.Protocol.Probing.{hear_probe_reply}
 use Rattle.mon_msg.specs.Protocol.Readings.{readings_of}
-use Rattle.mon_msg.specs.Protocol.Sets.{is_majority}
 use Rattle.mon_msg.specs.declared.plan.Next.TheVariants as next
-use Rattle.mon_types.specs.Ranks.{with_rank}
+use Rattle.mon_types.specs.Ranks.{with_rank, is_majority}
 use Rattle.mon_probe.proofs.Known.{plan_of, acts, plans}
 use Rattle.mon_probe.proofs.ProbeLaws as laws
 use Rattle.mon_probe.proofs.probes.hear_probe_reply.Goals as goal

@@ -5,7 +5,8 @@ use Rattle.mon_journal.specs.Steps.{Any}
 use Rattle.mon_store.specs.declared.stop.StoreStop.{StoreStop}
 use Rattle.mon_store.specs.Calls.{restart_calls, stop_in, unless_early}
 use Rattle.mon_store.specs.Refusals.{Restarts}
-use Rattle.mon_store.specs.Sound.{is_due, other_side}
+use Rattle.mon_types.specs.Sides.{other as other_side}
+use Rattle.mon_store.specs.Sound.{is_due}
 use Rattle.mon_store.specs.Whole.{disk_of}
 use Rattle.std.specs.Prelude.{◌||◌}
 use Rattle.mon_site.proofs.OnStores.{not_due, made_whole, made_short}
