@@ -1,13 +1,14 @@
 pub mod Currents
+pub mod DraftSizes
 pub mod Drafting
+pub mod Following
 pub mod Fulls
 pub mod Kindly
 pub mod MapSizes
 pub mod Onwards
 pub mod Rows
+pub mod ShortValues
 pub mod Starts
 pub mod Steps
 pub mod Tellings
 pub mod Transactions
-pub mod DraftSizes
-pub mod ShortValues

@@ -1,5 +1,5 @@
 use Rattle.mon_msg.specs.Protocol.Readings.{readings_of}
-use Rattle.core_tests.proofs.Following.{follows_any}
+use Rattle.svc_core.proofs.Following.{follows_any}
 use Rattle.core_tests.proofs.maps.alone.Goals as goal
 
 pub returns : goal.returns
