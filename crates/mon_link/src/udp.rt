@@ -193,9 +193,7 @@ impl<R: Net + Copy> Link for UdpLink<R> {
                 if is_idle(said.kind()) {
                     return Ok(Got::Idle);
                 }
-                if self.failure.is_none() {
-                    self.failure = Some(said);
-                }
+                self.failure = self.failure.take().or(Some(said));
                 self.faults = raised(self.faults);
                 Err(Stop::Failed)
             }
