@@ -1,8 +1,7 @@
 //! A checkpoint of a map.
 
-ghost use Rattle.std.specs.Prelude.{◌≡◌, ◌≤◌, ◌<◌, ◌++◌, length, OnOk};
+ghost use Rattle.std.specs.Prelude.{◌≡◌, ◌≤◌, ◌++◌, OnOk};
 ghost use Rattle.std.specs.FinMap.{len};
-ghost use Rattle.mon_tx.specs.Text.{word};
 ghost use Rattle.mon_kv.specs.Readers.{entry_of, size_of};
 ghost use Rattle.mon_store.specs.Checkpoint.{value_text, entry_text, checkpoint_text, most_size, EntryFits, HasCheckpoint};
 

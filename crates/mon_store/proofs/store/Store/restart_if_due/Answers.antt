@@ -31,8 +31,8 @@ pub returns-in-Ok-clause-any_moment : goal.returns-in-Ok-clause-any_moment
 returns-in-Ok-clause-any_moment g c = λ whole.
     let s = c.args.self.now in
     let state = g.D.Disk.state in
-    other_takes state s.live s.other c.begin.new.disk (Begins (state s.other).content (next_journal s.journal s.kv) s.kv) (ThisOrNext s.side s.journal s.kv) c.in-Ok.ensures.call.any_moment s.side c.other_side-self.result c.swap.new.x c.swap.new.y
-    c.swap.ensures.x_after c.swap.ensures.y_after c.other_side-self.ensures (begins s.journal s.kv (g.D.Disk.state s.live).known (state s.live).content (state s.other).content (c.requires whole) s.side)
+    other_takes state s.live s.other c.begin.new.disk (Begins (state s.other).content (next_journal s.journal s.kv) s.kv) (ThisOrNext s.side s.journal s.kv) c.in-Ok.ensures.call.any_moment s.side c.other-self.result c.swap.new.x c.swap.new.y
+    c.swap.ensures.x_after c.swap.ensures.y_after c.other-self.ensures (begins s.journal s.kv (g.D.Disk.state s.live).known (state s.live).content (state s.other).content (c.requires whole) s.side)
 
 pub returns-in-Ok-clause-safe : goal.returns-in-Ok-clause-safe
 returns-in-Ok-clause-safe g c =
@@ -42,7 +42,7 @@ returns-in-Ok-clause-safe g c =
     let after : Sound c.in-Ok.journal s.kv (state new).known (state new).content (state s.live).content =
     sound_next s.journal s.kv (state s.live).known (state s.live).content (state s.other).content (c.requires c.if-self.false) s.side c.in-Ok.journal (state new).known (state new).content c.in-Ok.ensures.journal c.in-Ok.ensures.form c.in-Ok.ensures.kept in
     let turned : Sound c.in-Ok.journal s.kv (state c.swap.new.x).known (state c.swap.new.x).content (state c.swap.new.y).content = rw (c.swap.ensures.x_after, c.swap.ensures.y_after) after in
-    each_pair state c.other_side-self.result c.swap.new.x c.swap.new.y (StandsOn c.other_side-self.result c.in-Ok.journal s.kv) (stands_now c.in-Ok.journal s.kv (state c.swap.new.x).known (state c.swap.new.x).content (state c.swap.new.y).content turned c.other_side-self.result)
+    each_pair state c.other-self.result c.swap.new.x c.swap.new.y (StandsOn c.other-self.result c.in-Ok.journal s.kv) (stands_now c.in-Ok.journal s.kv (state c.swap.new.x).known (state c.swap.new.x).content (state c.swap.new.y).content turned c.other-self.result)
 
 pub returns-in-Err-clause-any_moment : goal.returns-in-Err-clause-any_moment
 returns-in-Err-clause-any_moment g c = λ whole.
@@ -78,7 +78,7 @@ returns-in-Ok-clause-settles g c = λ whole.
     let s = c.args.self.now in
     let state = g.D.Disk.state in
     let live_told = g.met.D.Disk.settled s.live in
-    rw (c.swap.ensures.x_after, c.swap.ensures.y_after, c.other_side-self.ensures, turned_live s.side c.begin.new.disk s.live, turned_other s.side c.begin.new.disk s.live) (settled s.journal s.kv (g.D.Disk.state s.live).known (state s.live).content (state s.other).content (c.requires whole) s.side (state s.live).told (state s.other).told (state c.begin.new.disk).told live_told
+    rw (c.swap.ensures.x_after, c.swap.ensures.y_after, c.other-self.ensures, turned_live s.side c.begin.new.disk s.live, turned_other s.side c.begin.new.disk s.live) (settled s.journal s.kv (g.D.Disk.state s.live).known (state s.live).content (state s.other).content (c.requires whole) s.side (state s.live).told (state s.other).told (state c.begin.new.disk).told live_told
     (c.begin.ensures.settles))
 
 pub returns-in-Err-clause-answer : goal.returns-in-Err-clause-answer
