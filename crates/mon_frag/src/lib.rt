@@ -9,6 +9,6 @@ mod partial;
 mod refused;
 
 pub use assembly::Assembly;
-pub use cutting::pieces;
+pub use cutting::{DATAGRAM, pieces};
 pub use law::law_whole;
 pub use refused::FragRefused;
