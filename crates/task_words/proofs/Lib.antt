@@ -1,0 +1,12 @@
+pub mod AddressLaws
+pub mod AskedLaws
+pub mod Building
+pub mod Given
+pub mod Matching
+pub mod NumberLaws
+pub mod Parsing
+pub mod PartLaws
+pub mod PartsLoop
+pub mod Reading
+pub mod Spelled
+pub mod Unique

@@ -1,0 +1,163 @@
+-- The command takes the words of each task, and finds each text under its name.
+use Rattle.std.proofs.Common.{◌≡◌, ℕ, true, false, List, [], ◌∷◌, Option, Some, IsTrue, codes, decimal, refl, ap, subst, ◌∙◌, drop}
+use Rattle.std.specs.Prelude.{fold, find, option_map}
+use Rattle.std.specs.List.{list_all}
+use Rattle.mon_bytes.proofs.Ascii.{both}
+use Rattle.clap.specs.Simple.{App, Shape, built, built_leaf, entered, inherited, is_simple, label_of, marked_built, names_of, on_top, rows_at, subcommand_of, with_leaf_noted}
+use Rattle.clap.specs.Takes.{built_takes, default_passes, is_valid, level_passes, settle_passes, takes, turn_passes, walk_passes}
+use Rattle.clap.specs.Walk.{Row, answers_to, Text, Walk, finished, nothing_held, rows_after, stop_after, walk, walk_from, walked}
+use Rattle.clap.proofs.OnLiterals.{clap_on_literals}
+use Rattle.schedule_text.specs.Spelling.{rule_text}
+use Rattle.task_words.specs.declared.task.Task.{Task}
+use Rattle.task_words.specs.declared.task.Task.TheVariants as task
+use Rattle.task_words.specs.Addresses.{addresses_text}
+use Rattle.task_words.specs.Commands.{command, made_texts, node_texts, replay_texts, subcommand}
+use Rattle.task_words.specs.Matches.{AreTexts}
+use Rattle.task_words.specs.Task.{is_word, words_of}
+use Rattle.task_words.proofs.Parsing.{Goes, placed, stopped_at, stopped_passes, stopped_walk, walk_goes, walk_placed}
+
+-- ---- one level
+
+-- what a subcommand asks for beside its words
+pub record EndsWell (s : Shape) (words : List Text) : Type 0 where
+  pub goes : Goes s (walk_from nothing_held) words
+  pub settles : settle_passes s.rules s.args_override_self (placed s.rules (walk_from nothing_held) words).held ≡ true
+  pub defaults : list_all default_passes s.rules ≡ true
+  pub valid : is_valid s (finished s.rules (placed s.rules (walk_from nothing_held) words).held) false ≡ true
+
+pub leaf_takes : (s : Shape) (words : List Text) → IsTrue (list_all is_word words) → EndsWell s words → level_passes s [] nothing_held words false ≡ true
+leaf_takes s words each well =
+    let end = walk_placed s (walk_from nothing_held) words well.goes each in
+    rw (walk_goes s (walk_from nothing_held) words well.goes each, end, well.settles, well.defaults, well.valid) refl
+
+pub leaf_rows : (s : Shape) (words : List Text) → IsTrue (list_all is_word words) → EndsWell s words
+    → rows_after s.rules [] words ≡ finished s.rules (placed s.rules (walk_from nothing_held) words).held
+leaf_rows s words each well = ap (λ (w : Walk). finished s.rules w.held) (walk_placed s (walk_from nothing_held) words well.goes each)
+
+-- ---- the command
+
+pub simple : is_simple command ≡ true
+unfolding clap_on_literals
+simple = refl
+
+abbrev pub top : App
+top = built command
+
+-- What meets a subcommand: the command's walk stops at its name, and it is found by it.
+pub record Meets (name : Text) (s : Shape) : Type 0 where
+  pub stops : walked top.top.rules (names_of top) (walk_from nothing_held) name ≡ stopped_at (walk_from nothing_held) name []
+  pub passes : turn_passes top.top (names_of top) (walk_from nothing_held) name ≡ true
+  pub found : find (λ s. answers_to name (label_of s)) top.subs ≡ Some s
+
+module _ (name : Text) (s : Shape) (words : List Text) (meets : Meets name s) (each : IsTrue (list_all is_word words)) (well : EndsWell s words) where
+  walk_stops : walk top.top.rules (names_of top) nothing_held (name ∷ words) ≡ stopped_at (walk_from nothing_held) name words
+  walk_stops =
+      ap (λ (v : Walk). fold (walked top.top.rules (names_of top)) v words) meets.stops
+      ∙ stopped_walk top.top.rules (names_of top) (walk_from nothing_held) name [] words
+
+  walk_passes_all : walk_passes top.top (names_of top) (walk_from nothing_held) (name ∷ words) ≡ true
+  unfolding walk_passes
+  walk_passes_all =
+      let rest : walk_passes top.top (names_of top) (walked top.top.rules (names_of top) (walk_from nothing_held) name) words ≡ true =
+      ap (λ (v : Walk). walk_passes top.top (names_of top) v words) meets.stops
+      ∙ stopped_passes top.top (names_of top) (walk_from nothing_held) name [] words in
+      rw meets.passes rest
+
+  pub takes_words : built_takes top nothing_held (name ∷ words) ≡ true
+  takes_words = rw (walk_stops, meets.found, walk_passes_all, leaf_takes s words each well) refl
+
+  pub finds_rows : entered top (stop_after top.top.rules (names_of top) (name ∷ words))
+      ≡ Some (s.name, finished s.rules (placed s.rules (walk_from nothing_held) words).held)
+  finds_rows =
+      ap (λ (w : Walk). entered top w.stopped) walk_stops
+      ∙ ap (λ (o : Option Shape). option_map (λ s. rows_at s words) o) meets.found
+      ∙ ap (λ (rows : List Row). Some (s.name, rows)) (leaf_rows s words each well)
+
+-- ---- the three subcommands, as they are built
+
+abbrev pub leaf : Text → List Text → Shape
+leaf name ids = built_leaf (inherited (on_top with_leaf_noted (on_top marked_built command)).top (subcommand name ids))
+
+meets_replay : Meets (codes "replay") (leaf (codes "replay") replay_texts)
+unfolding clap_on_literals
+meets_replay = record { stops = refl; passes = refl; found = refl }
+
+meets_made : Meets (codes "made") (leaf (codes "made") made_texts)
+unfolding clap_on_literals
+meets_made = record { stops = refl; passes = refl; found = refl }
+
+meets_node : Meets (codes "node") (leaf (codes "node") node_texts)
+unfolding clap_on_literals
+meets_node = record { stops = refl; passes = refl; found = refl }
+
+well_replay : EndsWell (leaf (codes "replay") replay_texts) []
+well_replay = record { goes = tt; settles = refl; defaults = refl; valid = refl }
+
+well_made : (a b : Text) → EndsWell (leaf (codes "made") made_texts) (a ∷ b ∷ [])
+well_made a b = record { goes = (refl, refl, (refl, refl, tt)); settles = refl; defaults = refl; valid = refl }
+
+well_node : (a b c d e f g : Text) → EndsWell (leaf (codes "node") node_texts) (a ∷ b ∷ c ∷ d ∷ e ∷ f ∷ g ∷ [])
+well_node a b c d e f g = record {
+  goes = (refl, refl, (refl, refl, (refl, refl, (refl, refl, (refl, refl, (refl, refl, (refl, refl, tt)))))));
+  settles = refl;
+  defaults = refl;
+  valid = refl;
+}
+
+-- ---- the words of a task
+
+abbrev pub ids_of : Task → List Text
+ids_of task.Replay = replay_texts
+ids_of (task.Made number events) = made_texts
+ids_of (task.Node member rule addresses disk_a disk_b turns) = node_texts
+
+abbrev pub name_of : Task → Text
+name_of task.Replay = codes "replay"
+name_of (task.Made number events) = codes "made"
+name_of (task.Node member rule addresses disk_a disk_b turns) = codes "node"
+
+-- the texts behind the name
+abbrev pub texts_of : Task → List Text
+texts_of t = drop 1 (words_of t)
+
+abbrev pub leaf_of : Task → Shape
+leaf_of t = leaf (name_of t) (ids_of t)
+
+meets_of : (t : Task) → Meets (name_of t) (leaf_of t)
+meets_of task.Replay = meets_replay
+meets_of (task.Made number events) = meets_made
+meets_of (task.Node member rule addresses disk_a disk_b turns) = meets_node
+
+well_of : (t : Task) → EndsWell (leaf_of t) (texts_of t)
+well_of task.Replay = well_replay
+well_of (task.Made number events) = well_made (decimal number) (decimal events)
+well_of (task.Node member rule addresses disk_a disk_b turns) =
+    well_node (decimal member.rank) (decimal member.monitors) (rule_text rule) (addresses_text addresses) disk_a disk_b (decimal turns)
+
+words_are : (t : Task) → words_of t ≡ name_of t ∷ texts_of t
+words_are task.Replay = refl
+words_are (task.Made number events) = refl
+words_are (task.Node member rule addresses disk_a disk_b turns) = refl
+
+-- the rows that are found
+abbrev pub rows_of_task : Task → List Row
+rows_of_task t = finished (leaf_of t).rules (placed (leaf_of t).rules (walk_from nothing_held) (texts_of t)).held
+
+pub takes_task : (t : Task) → IsTrue (list_all is_word (words_of t)) → takes command (words_of t) ≡ true
+takes_task t each =
+    let behind : IsTrue (list_all is_word (texts_of t)) = (both (is_word (name_of t)) (list_all is_word (texts_of t)) (subst (λ (ws : List Text). IsTrue (list_all is_word ws)) (words_are t) each)).1 in
+    ap (takes command) (words_are t) ∙ rw (simple, takes_words (name_of t) (leaf_of t) (texts_of t) (meets_of t) behind (well_of t)) refl
+
+pub finds_task : (t : Task) → IsTrue (list_all is_word (words_of t)) → subcommand_of command (words_of t) ≡ Some ((leaf_of t).name, rows_of_task t)
+finds_task t each =
+    let behind : IsTrue (list_all is_word (texts_of t)) = (both (is_word (name_of t)) (list_all is_word (texts_of t)) (subst (λ (ws : List Text). IsTrue (list_all is_word ws)) (words_are t) each)).1 in
+    ap (subcommand_of command) (words_are t) ∙ finds_rows (name_of t) (leaf_of t) (texts_of t) (meets_of t) behind (well_of t)
+
+-- each text stands under its name
+pub finds_made : (number events : ℕ) → AreTexts (rows_of_task (task.Made number events)) made_texts (decimal number ∷ decimal events ∷ [])
+finds_made number events = (refl, (refl, tt))
+
+pub finds_node : (a b c d e f g : Text)
+    → AreTexts (finished (leaf (codes "node") node_texts).rules (placed (leaf (codes "node") node_texts).rules (walk_from nothing_held) (a ∷ b ∷ c ∷ d ∷ e ∷ f ∷ g ∷ [])).held)
+    node_texts (a ∷ b ∷ c ∷ d ∷ e ∷ f ∷ g ∷ [])
+finds_node a b c d e f g = (refl, (refl, (refl, (refl, (refl, (refl, (refl, tt)))))))

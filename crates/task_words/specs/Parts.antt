@@ -1,0 +1,34 @@
+-- Texts with a separator between them.
+use Rattle.std.specs.Prelude.{ℕ, zero, suc, List, [], ◌∷◌, ◌++◌, Option, Some, None, Result, Ok, Err}
+use Rattle.schedule_text.specs.declared.refusal.ScheduleKind.{ScheduleKind}
+use Rattle.schedule_text.specs.declared.refusal.ScheduleKind.TheVariants as kind
+use Rattle.schedule_text.specs.Fields.{◌>>=◌, cut, ended}
+
+-- ---- how they are spelled
+
+abbrev pub joined : ℕ → List (List ℕ) → List ℕ
+joined separator [] = []
+joined separator (text ∷ []) = text
+joined separator (text ∷ other ∷ texts) = text ++ separator ∷ joined separator (other ∷ texts)
+
+-- ---- how so many of them are read, each in the same way
+
+-- the next part, which is there
+abbrev pub part : ℕ → Option (List ℕ) → Result (List ℕ × Option (List ℕ)) ScheduleKind
+part separator None = Err kind.Word
+part separator (Some bytes) = Ok (cut separator bytes)
+
+-- the same, read so
+unfoldable pub part_of : {A : Type 0} → ℕ → (List ℕ → Result A ScheduleKind) → Option (List ℕ) → Result (A × Option (List ℕ)) ScheduleKind
+part_of separator read rest = do
+  next ← part separator rest
+  x ← read next.0
+  Ok (x, next.1)
+
+-- so many parts, and nothing behind them
+unfoldable pub parts_of : {A : Type 0} → ℕ → (List ℕ → Result A ScheduleKind) → ℕ → Option (List ℕ) → Result (List A) ScheduleKind
+parts_of separator read zero rest = ended rest []
+parts_of separator read (suc n) rest = do
+  first ← part_of separator read rest
+  others ← parts_of separator read n first.1
+  Ok (first.0 ∷ others)

@@ -1,0 +1,60 @@
+-- What the words of a command line ask for.
+use Rattle.std.specs.Prelude.{◌≡◌, ℕ, ◌≤◌, ◌^◌, ◌==◌, ◌&&◌, not, nat_le, Bool, false, IsTrue, List, [], ◌∷◌, length, map, Result, Ok, Err, String, string_bytes, codes, decimal}
+use Rattle.std.specs.declared.alloc.Global.{Global}
+use Rattle.std.specs.List.{AllByRecursion, list_all}
+use Rattle.schedule_text.specs.Spelling.{RuleFits, rule_text}
+use Rattle.task_words.specs.declared.task.Task.{Task}
+use Rattle.task_words.specs.declared.task.Task.TheVariants.{Replay, Made, Node}
+use Rattle.task_words.specs.declared.task.WordsStop.{WordsStop}
+use Rattle.task_words.specs.declared.task.WordsStop.TheVariants.{Refused, OutOfMemory}
+use Rattle.task_words.specs.Addresses.{IsAddress, addresses_text}
+
+-- a word isn't empty, has at most 4,096 bytes and doesn't begin with a hyphen
+abbrev pub is_word : List ℕ → Bool
+is_word [] = false
+is_word (b ∷ bytes) = not (b == 45) && nat_le (length (b ∷ bytes)) 4096
+
+-- `replay`; `made NUMBER EVENTS`; `node RANK MONITORS RULE ADDRESSES DISK_A DISK_B TURNS`
+abbrev pub words_of : Task → List (List ℕ)
+words_of Replay = codes "replay" ∷ []
+words_of (Made number events) = codes "made" ∷ decimal number ∷ decimal events ∷ []
+words_of (Node member rule addresses disk_a disk_b turns) =
+    codes "node" ∷ decimal member.rank ∷ decimal member.monitors ∷ rule_text rule ∷ addresses_text addresses ∷ disk_a ∷ disk_b ∷ decimal turns ∷ []
+
+-- the most events of a schedule that is made
+abbrev pub most_made : ℕ
+most_made = 100000
+
+-- Which tasks have words. A member's rank is below the number of its monitors, of which there are 1 to 15: each member is so.
+abbrev pub HasWords : Task → Type 0
+HasWords Replay = Unit {0}
+HasWords (Made number events) = (number ≤ 2 ^ 62) × (1 ≤ events) × (events ≤ most_made)
+HasWords (Node member rule addresses disk_a disk_b turns) =
+    RuleFits member.monitors rule × (length addresses ≡ member.monitors) × AllByRecursion IsAddress addresses × (1 ≤ turns) × (turns ≤ 2 ^ 62)
+
+-- words of a task, whatever their first bytes and their lengths
+abbrev pub SpellsTask : List (List ℕ) → Type 0
+SpellsTask words = (t : Task) × (HasWords t × (words ≡ words_of t))
+
+-- The words are the task's, and each of them is one.
+pub record Asks (t : Task) (words : List (List ℕ)) : Type 0 where
+  pub has : HasWords t
+  pub are : words ≡ words_of t
+  pub each : IsTrue (list_all is_word words)
+
+abbrev pub AsksFor : Task → List (String Global) → Type 0
+AsksFor t words = Asks t (map string_bytes words)
+
+-- they ask for nothing
+abbrev pub AsksForNone : List (String Global) → Type 0
+AsksForNone words = (t : Task) → ¬ (AsksFor t words)
+
+-- they ask for something
+abbrev pub IsAsked : List (String Global) → Type 0
+IsAsked words = (t : Task) × AsksFor t words
+
+-- What reading the words answers: the task that they ask for. Where memory ran out they ask for one too.
+abbrev pub Reads : Result Task WordsStop → List (String Global) → Type 0
+Reads (Ok t) words = AsksFor t words
+Reads (Err Refused) words = AsksForNone words
+Reads (Err OutOfMemory) words = IsAsked words

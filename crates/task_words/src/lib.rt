@@ -1,0 +1,17 @@
+//! What the words of a command line ask for.
+#![tactic(auto)]
+
+mod addresses;
+mod asked;
+mod command;
+mod matched;
+mod numbers;
+mod parts;
+mod task;
+mod words;
+
+pub use task::{Task, WordsStop};
+pub use words::read_words;
+
+#[cfg(test)]
+mod tests;

@@ -1,0 +1,133 @@
+//! The task that matched words are.
+
+ghost use Rattle.std.specs.Prelude.{◌≡◌, ◌≤◌, Some, ◌∷◌, [], ℕ, List, IfOk, codes, decimal, length};
+ghost use Rattle.std.specs.List.{AllByRecursion};
+ghost use Rattle.clap.specs.Words.{found_of, first_of, rows_of, subcommand_of, subcommand_rows_of};
+ghost use Rattle.election_rules.specs.declared.rule.Rule.{Rule as rules};
+ghost use Rattle.mon_link.specs.declared.udp.Address.{Address as places};
+ghost use Rattle.mon_types.specs.declared.member.Member.{Member as members};
+ghost use Rattle.schedule_text.specs.Spelling.{RuleFits, rule_text};
+ghost use Rattle.task_words.specs.Addresses.{IsAddress, addresses_text};
+ghost use Rattle.task_words.specs.Commands.{command, made_texts, node_texts};
+ghost use Rattle.task_words.specs.Matches.{AreTexts, IsFound, IsGiven, IsText};
+ghost use Rattle.task_words.specs.Task.{Asks, HasWords, words_of};
+ghost use Rattle.task_words.specs.declared.task.Task.{Task as tasks};
+ghost use Rattle.task_words.specs.declared.task.Task.TheVariants as task;
+
+use crate::addresses::addresses_of;
+use crate::asked::MOST_MADE;
+use crate::numbers::{member_of, number_of, rule_in};
+use crate::task::{Task, WordsStop};
+use clap::ArgMatches;
+use election_rules::Rule;
+use mon_bytes::{Items, Text};
+use mon_link::Address;
+use mon_types::{GREATEST, Member};
+use std::alloc::Global;
+
+/// The text that was found under this id. It is there, since it is required.
+fn text_in<'a>(found: &ArgMatches<'a>, id: &str) -> Result<&'a str, WordsStop>
+    ensures { (text : List ℕ) → IsFound (rows_of (found_of found.now)) id.now text → IsText text result }
+{
+    found.get_str(id).ok_or(WordsStop::Refused)
+}
+
+fn number_in(found: &ArgMatches<'_>, id: &str, least: u64, most: u64) -> Result<u64, WordsStop>
+    ensures given { (n : ℕ) → least ≤ n → n ≤ most → IsFound (rows_of (found_of found.now)) id.now (decimal n) → IsGiven n result }
+    ensures most { IfOk result (λ n. n ≤ most) }
+{
+    let text = text_in(found, id)?;
+    number_of(text.as_bytes(), least, most).ok_or(WordsStop::Refused)
+}
+
+fn member_in(found: &ArgMatches<'_>) -> Result<Member, WordsStop>
+    ensures { (m : members) → IsFound (rows_of (found_of found.now)) (codes "RANK") (decimal m.rank)
+        → IsFound (rows_of (found_of found.now)) (codes "MONITORS") (decimal m.monitors) → IsGiven m result }
+{
+    let rank = text_in(found, "RANK")?;
+    let monitors = text_in(found, "MONITORS")?;
+    member_of(rank.as_bytes(), monitors.as_bytes()).ok_or(WordsStop::Refused)
+}
+
+fn rule_found(found: &ArgMatches<'_>, monitors: u8) -> Result<Rule, WordsStop>
+    ensures { (rule : rules) → RuleFits monitors rule → IsFound (rows_of (found_of found.now)) (codes "RULE") (rule_text rule) → IsGiven rule result }
+{
+    let text = text_in(found, "RULE")?;
+    rule_in(monitors, text.as_bytes()).ok_or(WordsStop::Refused)
+}
+
+/// The addresses of so many monitors.
+fn addresses_in(
+    alloc: Global,
+    found: &ArgMatches<'_>,
+    monitors: u8,
+) -> Result<Items<Address>, WordsStop>
+    ensures { (addresses : List places) → 1 ≤ monitors → length addresses ≡ monitors → AllByRecursion IsAddress addresses
+        → IsFound (rows_of (found_of found.now)) (codes "ADDRESSES") (addresses_text addresses) → IsGiven addresses result }
+{
+    let text = text_in(found, "ADDRESSES")?;
+    addresses_of(alloc, monitors, text.as_bytes())
+}
+
+/// A file's name.
+fn path_in(alloc: Global, found: &ArgMatches<'_>, id: &str) -> Result<Text, WordsStop>
+    ensures { (path : List ℕ) → IsFound (rows_of (found_of found.now)) id.now path → IsGiven path result }
+{
+    let text = text_in(found, id)?;
+    let Ok(bytes) = Vec::from_slice(alloc, text.as_bytes()) else {
+        return Err(WordsStop::OutOfMemory);
+    };
+    Text::new(bytes).ok_or(WordsStop::Refused)
+}
+
+/// The task of the texts behind `made`.
+fn made_in(found: &ArgMatches<'_>) -> Result<Task, WordsStop>
+    ensures { (number events : ℕ) → HasWords (task.Made number events)
+        → AreTexts (rows_of (found_of found.now)) made_texts (decimal number ∷ decimal events ∷ [])
+        → IsGiven (task.Made number events) result }
+{
+    let number = number_in(found, "NUMBER", 0, GREATEST)?;
+    let events = number_in(found, "EVENTS", 1, MOST_MADE)?;
+    Ok(Task::Made {
+        number,
+        events: events as u32,
+    })
+}
+
+/// The task of the texts behind `node`.
+fn node_in(alloc: Global, found: &ArgMatches<'_>) -> Result<Task, WordsStop>
+    ensures { (member : members) (rule : rules) (addresses : List places) (disk_a disk_b : List ℕ) (turns : ℕ)
+        → HasWords (task.Node member rule addresses disk_a disk_b turns)
+        → AreTexts (rows_of (found_of found.now)) node_texts (decimal member.rank ∷ decimal member.monitors ∷ rule_text rule ∷ addresses_text addresses ∷ disk_a ∷ disk_b ∷ decimal turns ∷ [])
+        → IsGiven (task.Node member rule addresses disk_a disk_b turns) result }
+{
+    let member = member_in(found)?;
+    let rule = rule_found(found, member.monitors)?;
+    let addresses = addresses_in(alloc, found, member.monitors)?;
+    let disk_a = path_in(alloc, found, "DISK_A")?;
+    let disk_b = path_in(alloc, found, "DISK_B")?;
+    let turns = number_in(found, "TURNS", 1, GREATEST)?;
+    Ok(Task::Node {
+        member,
+        rule,
+        addresses,
+        disk_a,
+        disk_b,
+        turns,
+    })
+}
+
+/// The task of the subcommand that was met.
+pub(crate) fn task_in(alloc: Global, matches: &ArgMatches<'_>) -> Result<Task, WordsStop>
+    ensures { (t : tasks) → Asks t (words_of t) → subcommand_rows_of matches.now ≡ subcommand_of command (words_of t) → IsGiven t result }
+{
+    let Some((name, found)) = matches.subcommand() else {
+        return Err(WordsStop::Refused);
+    };
+    match name {
+        "replay" => Ok(Task::Replay),
+        "made" => made_in(found),
+        "node" => node_in(alloc, found),
+        _ => Err(WordsStop::Refused),
+    }
+}

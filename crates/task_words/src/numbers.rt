@@ -1,0 +1,40 @@
+//! The numbers and the rule among the words.
+
+ghost use Rattle.std.specs.Prelude.{◌≡◌, ◌≤◌, ℕ, None, IfSome, decimal};
+ghost use Rattle.mon_types.specs.declared.member.Member.{Member as members};
+ghost use Rattle.schedule_text.specs.Spelling.{RuleFits, rule_text};
+ghost use Rattle.task_words.specs.Words.{Spells};
+
+use election_rules::Rule;
+use mon_types::{Member, Rank};
+use schedule_text::rule_of;
+
+/// The number that a word spells in decimal, where it is within these bounds.
+pub(crate) fn number_of(word: &[u8], least: u64, most: u64) -> Option<u64>
+    ensures { Spells decimal (λ n. (least ≤ n) × (n ≤ most)) result word.now }
+{
+    match schedule_text::number_of(word, least, most) {
+        Ok(number) => Some(number),
+        Err(_) => None,
+    }
+}
+
+/// The rank and the number of monitors that two words spell.
+pub(crate) fn member_of(rank: &[u8], monitors: &[u8]) -> Option<Member>
+    ensures spelled { IfSome result (λ m. (rank.now ≡ decimal m.rank) × (monitors.now ≡ decimal m.monitors)) }
+    ensures none { result ≡ None → (m : members) → rank.now ≡ decimal m.rank → monitors.now ≡ decimal m.monitors → ⊥ }
+{
+    let rank = number_of(rank, 0, 14)?;
+    let monitors = number_of(monitors, 1, 15)?;
+    Member::new(Rank::known(rank as u8), monitors as u8)
+}
+
+/// The rule that a word spells, where there are so many monitors.
+pub(crate) fn rule_in(monitors: u8, word: &[u8]) -> Option<Rule>
+    ensures { Spells rule_text (RuleFits monitors) result word.now }
+{
+    match rule_of(monitors, word) {
+        Ok(rule) => Some(rule),
+        Err(_) => None,
+    }
+}
