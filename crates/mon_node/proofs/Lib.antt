@@ -1,0 +1,10 @@
+pub mod Requests
+pub mod Letters
+pub mod Sending
+pub mod Renewing
+pub mod Taking
+pub mod Turning
+pub mod Looping
+pub mod Counting
+pub mod Hearings
+pub mod Reacting

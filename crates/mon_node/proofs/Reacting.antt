@@ -1,0 +1,40 @@
+-- What a core answers, and what the turn of its input comes to.
+use Rattle.std.proofs.Common.{◌≡◌, ℕ, List, Option, Some, Ok, Err, subst}
+use Rattle.std.specs.List.{AllByRecursion}
+use Rattle.mon_bounds.specs.Fitting.{MaySend}
+use Rattle.mon_core.specs.Core.{Monitor}
+use Rattle.mon_core.specs.Reacts.{Reacts}
+use Rattle.mon_core.specs.declared.reaction.CoreStop.TheVariants as stop
+use Rattle.mon_core.specs.declared.reaction.CoreStop.{CoreStop}
+use Rattle.mon_core.specs.declared.reaction.Reaction as core
+use Rattle.mon_frag.specs.declared.partial.Partial.{Partial}
+use Rattle.mon_link.specs.Clocks.{Readings}
+use Rattle.mon_link.specs.Links.{Told}
+use Rattle.mon_msg.specs.Protocol.Reaction.{Reaction, reaction}
+use Rattle.mon_msg.specs.declared.input.Input.{Input}
+use Rattle.mon_msg.specs.declared.view.Me.{Me}
+use Rattle.mon_store.specs.Stood.{Stood}
+use Rattle.mon_node.specs.Ends.{of_core}
+use Rattle.mon_node.specs.Hearing.{at_moment}
+use Rattle.mon_node.specs.Nodes.{outside_of}
+use Rattle.mon_node.specs.Serving.{EndsAt}
+use Rattle.mon_node.specs.Turns.{reaction_to}
+use Rattle.mon_node.proofs.Taking.{wants, stops}
+
+module _ (old new : Monitor) (stood : Stood) (now : ℕ) (came : Input) (me : Me) (own : old.me ≡ me) where
+  abbrev reaction_from : core.Reaction → Reaction
+  reaction_from r = record { transaction = r.tx; sends = r.out; state = new.state }
+
+  pub reacts_so : (r : core.Reaction) (next : ℕ) → Reacts old new stood.kv now came (Ok r)
+      → reaction_to me (record { state = old.state; store = stood; next = next }) (at_moment now came) ≡ Ok (reaction_from r)
+  reacts_so r next h = subst (λ (x : Me). reaction x now stood.kv old.state came ≡ Ok (reaction_from r)) own h.reacts
+
+  pub may_go : (r : core.Reaction) → Reacts old new stood.kv now came (Ok r) → AllByRecursion (MaySend me) r.out
+  may_go r h = subst (λ (x : Me). AllByRecursion (MaySend x) r.out) own h.bounded.sends
+
+  pub core_ends : (s : CoreStop) (next : ℕ) (parts : List Partial) (clock : Option Readings) (link : Option Told) → Reacts old new stood.kv now came (Err s)
+      → EndsAt me (record { came = Ok (Some (at_moment now came)); serving = record { node = record { state = old.state; store = stood; next = next }; outside = outside_of parts clock link } }) (of_core s) clock link
+  core_ends stop.OutOfMemory next parts clock link h = wants me (record { node = record { state = old.state; store = stood; next = next }; outside = outside_of parts clock link }) (at_moment now came)
+  core_ends (stop.Spent which) next parts clock link h =
+      stops me (record { node = record { state = old.state; store = stood; next = next }; outside = outside_of parts clock link }) (at_moment now came) which
+      (subst (λ (x : Me). reaction x now stood.kv old.state came ≡ Err which) own h)

@@ -1,0 +1,70 @@
+use Rattle.std.proofs.Common.{◌≡◌, List, Ok, Err, sym, subst}
+use Rattle.std.proofs.lemmas.Result.{err_from_is_err_and}
+use Rattle.std.specs.List.{AllByRecursion}
+use Rattle.mon_bounds.specs.Fitting.{MaySend}
+use Rattle.mon_core.specs.Reacts.{Reacts}
+use Rattle.mon_msg.specs.declared.plan.Sent.{Sent}
+use Rattle.mon_tx.specs.Map.{Store}
+use Rattle.mon_node.specs.Hearing.{at_moment}
+use Rattle.mon_node.specs.Nodes.{stood_of}
+use Rattle.mon_node.specs.Posting.{datagrams, letters, next_after, boot_in, SendsFront, SendsAll, IsSpent}
+use Rattle.mon_node.specs.Servers.{serving_of}
+use Rattle.mon_node.proofs.Reacting.{reacts_so, may_go, core_ends}
+use Rattle.mon_node.proofs.Taking.{sent_as, not_kept, not_sent, all_sent}
+use Rattle.mon_node.proofs.server.Server.take.Goals as goal
+
+pub returns-in_err-reaction-clause-ends : goal.returns-in_err-reaction-clause-ends
+returns-in_err-reaction-clause-ends g c = λ clock.
+    let s = c.args.self.now in
+    let e = c.in_err-reaction.field-0.0 in
+    let p = err_from_is_err_and c.from_residual.result c.from_residual.ensures.1 in
+    let h = subst (λ (m : Store). Reacts s.core c.react.new.self m c.args.now c.args.input.now (Err e)) c.kv.ensures c.in_err-reaction.ensures in
+    rw (p.1, p.2) (core_ends s.core c.react.new.self (stood_of s.store) c.args.now c.args.input.now s.me c.requires.in_use.own e s.next s.assembly clock (g.L.Link.state c.args.link.now).told h)
+
+pub returns-in_err-keep-clause-ends : goal.returns-in_err-keep-clause-ends
+returns-in_err-keep-clause-ends g c = λ clock.
+    let s = c.args.self.now in
+    let r = c.in_ok-reaction.reaction in
+    let told = (g.L.Link.state c.args.link.now).told in
+    let p = err_from_is_err_and c.from_residual-in_err-keep.result c.from_residual-in_err-keep.ensures.1 in
+    let h = subst (λ (m : Store). Reacts s.core c.react.new.self m c.args.now c.args.input.now (Ok r)) c.kv.ensures c.in_ok-reaction.ensures in
+    let reacts = reacts_so s.core c.react.new.self (stood_of s.store) c.args.now c.args.input.now s.me c.requires.in_use.own r s.next h in
+    rw (p.1, p.2)
+    (not_kept s.me (serving_of s clock told) (at_moment c.args.now c.args.input.now) _ reacts (Unit {0}) c.keep.new.store.kv c.in_err-keep.field-0.0 c.in_err-keep.ensures.keeps)
+
+pub send_all-requires-clause-may : goal.send_all-requires-clause-may
+send_all-requires-clause-may g c =
+    let s = c.args.self.now in
+    let r = c.in_ok-reaction.reaction in
+    subst (λ (xs : List Sent). AllByRecursion (MaySend s.me) xs) (sym c.as_slice.ensures)
+    (may_go s.core c.react.new.self (stood_of s.store) c.args.now c.args.input.now s.me c.requires.in_use.own r (subst (λ (x : Store). Reacts s.core c.react.new.self x c.args.now c.args.input.now (Ok r)) c.kv.ensures c.in_ok-reaction.ensures))
+
+pub returns-in_err-send_all-clause-ends : goal.returns-in_err-send_all-clause-ends
+returns-in_err-send_all-clause-ends g c = λ clock.
+    let s = c.args.self.now in
+    let r = c.in_ok-reaction.reaction in
+    let m = c.keep.new.store.kv in
+    let e = c.in_err-send_all.field-0.0 in
+    let told = (g.L.Link.state c.args.link.now).told in
+    let now = (g.L.Link.state c.send_all.new.link).told in
+    let p = err_from_is_err_and c.from_residual-in_err-send_all.result c.from_residual-in_err-send_all.ensures.1 in
+    let h = subst (λ (x : Store). Reacts s.core c.react.new.self x c.args.now c.args.input.now (Ok r)) c.kv.ensures c.in_ok-reaction.ensures in
+    let reacts = reacts_so s.core c.react.new.self (stood_of s.store) c.args.now c.args.input.now s.me c.requires.in_use.own r s.next h in
+    let why = sent_as (λ (x : Store) (xs : List Sent). IsSpent (next_after s.next (letters s.me x xs)) e) c.kv-2.result.now m c.as_slice.result.now r.out c.kv-2.ensures c.as_slice.ensures c.in_err-send_all.ensures.spent in
+    let front = sent_as (λ (x : Store) (xs : List Sent). SendsFront (datagrams (boot_in x) s.next (letters s.me x xs)) told now) c.kv-2.result.now m c.as_slice.result.now r.out c.kv-2.ensures c.as_slice.ensures c.in_err-send_all.ensures.posts.told in
+    rw (p.1, p.2)
+    (not_sent s.me (serving_of s clock told) (at_moment c.args.now c.args.input.now) _ reacts m c.in_ok-keep.ensures.keeps.1 c.in_ok-keep.ensures.keeps.0 e now why front)
+
+pub returns-clause-ends : goal.returns-clause-ends
+returns-clause-ends g c = λ clock.
+    let s = c.args.self.now in
+    let r = c.in_ok-reaction.reaction in
+    let m = c.keep.new.store.kv in
+    let next = c.send_all.new.next in
+    let told = (g.L.Link.state c.args.link.now).told in
+    let now = (g.L.Link.state c.send_all.new.link).told in
+    let h = subst (λ (x : Store). Reacts s.core c.react.new.self x c.args.now c.args.input.now (Ok r)) c.kv.ensures c.in_ok-reaction.ensures in
+    let reacts = reacts_so s.core c.react.new.self (stood_of s.store) c.args.now c.args.input.now s.me c.requires.in_use.own r s.next h in
+    let behind = sent_as (λ (x : Store) (xs : List Sent). next ≡ next_after s.next (letters s.me x xs)) c.kv-2.result.now m c.as_slice.result.now r.out c.kv-2.ensures c.as_slice.ensures c.in_ok-send_all.ensures.behind in
+    let sent = sent_as (λ (x : Store) (xs : List Sent). SendsAll (datagrams (boot_in x) s.next (letters s.me x xs)) told now) c.kv-2.result.now m c.as_slice.result.now r.out c.kv-2.ensures c.as_slice.ensures c.in_ok-send_all.ensures.posts.told in
+    all_sent s.me (serving_of s clock told) (at_moment c.args.now c.args.input.now) _ reacts m c.in_ok-keep.ensures.keeps.1 c.in_ok-keep.ensures.keeps.0 (stood_of c.keep.new.store) next now c.in_ok-keep.ensures.stands behind c.in_ok-send_all.ensures.most sent

@@ -1,0 +1,86 @@
+use Rattle.std.proofs.Common.{Ok, Err, ap, subst, ◌∙◌, arith}
+use Rattle.mon_msg.specs.declared.view.Me.{Me}
+use Rattle.mon_store.specs.Whole.{disk_a, disk_b}
+use Rattle.mon_store.specs.declared.store.Store.{Store}
+use Rattle.mon_node.specs.Nodes.{unstarted, stood_of}
+use Rattle.mon_node.specs.Servers.{serving_of}
+use Rattle.mon_node.specs.Serving.{EndsTurn}
+use Rattle.mon_node.specs.Turns.{start, turn}
+use Rattle.mon_node.proofs.Looping.{start_as, turn_as, started, start_ends, goes_on, ends_here, all_made}
+use Rattle.mon_node.proofs.serving.serve.Goals as goal
+
+pub returns-in-Err-clause-serves : goal.returns-in-Err-clause-serves
+returns-in-Err-clause-serves g c =
+    let me : Me = record { member = c.args.member; rule = c.args.rule } in
+    let clock = g.C.Clock.left c.args.clock.now in
+    let told = (g.L.Link.state c.args.link.now).told in
+    let read = g.C.Clock.left c.now-first.new.self in
+    let left = (g.L.Link.state c.take.new.link).told in
+    let first = c.now-first.result in
+    let server = c.new-server.result in
+    let e = c.in-Err.end in
+    let begun = unstarted c.args.member.rank (stood_of c.args.store) clock told in
+    let starts = start_as c.args.member.rank (stood_of c.args.store) clock read told first (serving_of server read told) c.now-first.ensures.left (c.new-server.ensures.serving read told) in
+    rw (c.end.ensures.end, c.end.ensures.turns)
+    (start_ends me begun c.args.turns first e read left c.now-first.ensures.shows
+    (turn_as {T = Unit {0}} me server.me _ (start first begun) (Err e) (serving_of c.take.new.self read left) c.new-server.ensures.me starts (c.in-Err.ensures.ends read)))
+
+pub loop-done-init : goal.loop-done-init
+loop-done-init g c =
+    let me : Me = record { member = c.args.member; rule = c.args.rule } in
+    let clock = g.C.Clock.left c.args.clock.now in
+    let told = (g.L.Link.state c.args.link.now).told in
+    let read = g.C.Clock.left c.now-first.new.self in
+    let first = c.now-first.result in
+    let server = c.new-server.result in
+    let after = serving_of c.take.new.self read (g.L.Link.state c.take.new.link).told in
+    let begun = unstarted c.args.member.rank (stood_of c.args.store) clock told in
+    let starts = start_as c.args.member.rank (stood_of c.args.store) clock read told first (serving_of server read told) c.now-first.ensures.left (c.new-server.ensures.serving read told) in
+    record {
+      served = started me begun first after c.now-first.ensures.shows (turn_as me server.me _ (start first begun) (Ok c.in_default.field-0) after c.new-server.ensures.me starts (c.in_default.ensures.ends read));
+      in_use = c.in_default.ensures.in_use;
+      own = c.in_default.ensures.me ∙ c.new-server.ensures.me;
+      faults = c.in_default.ensures.faults;
+      a = c.in_default.ensures.counts.0 ∙ ap (λ (s : Store g.row.D.Denot). (g.D.Disk.state (disk_a s)).faults) c.new-server.ensures.store;
+      b = c.in_default.ensures.counts.1 ∙ ap (λ (s : Store g.row.D.Denot). (g.D.Disk.state (disk_b s)).faults) c.new-server.ensures.store;
+    }
+
+pub returns-in-Err-turn-clause-serves : goal.returns-in-Err-turn-clause-serves
+returns-in-Err-turn-clause-serves g c =
+    let l = c.loop-done in
+    let me : Me = record { member = c.args.member; rule = c.args.rule } in
+    let begun = unstarted c.args.member.rank (stood_of c.args.store) (g.C.Clock.left c.args.clock.now) (g.L.Link.state c.args.link.now).told in
+    let now = serving_of l.server (g.C.Clock.left l.clock) (g.L.Link.state l.link).told in
+    let clock = g.C.Clock.left c.turn.new.clock in
+    let told = (g.L.Link.state c.turn.new.link).told in
+    let e = c.in-Err-turn.end in
+    let t = c.in-Err-turn.ensures.turn in
+    let h = subst (λ (x : Me). EndsTurn {T = Unit {0}} x (turn x t.0 now) (Err e) (serving_of c.turn.new.self clock told)) l.invariant.own t.2 in
+    rw (c.end-in-Err-turn.ensures.end, c.end-in-Err-turn.ensures.turns)
+    (ends_here me begun l.done now l.invariant.served t.0 t.1 c.args.turns e clock told (omega (arith, c.loop-done-test.true)) h)
+
+pub loop-done-preserved : goal.loop-done-preserved
+loop-done-preserved g c =
+    let l = c.loop-done in
+    let me : Me = record { member = c.args.member; rule = c.args.rule } in
+    let begun = unstarted c.args.member.rank (stood_of c.args.store) (g.C.Clock.left c.args.clock.now) (g.L.Link.state c.args.link.now).told in
+    let now = serving_of l.server (g.C.Clock.left l.clock) (g.L.Link.state l.link).told in
+    let after = serving_of c.turn.new.self (g.C.Clock.left c.turn.new.clock) (g.L.Link.state c.turn.new.link).told in
+    let t = c.in_default-turn.ensures.turn in
+    record {
+      served = goes_on me begun l.done now l.invariant.served t.0 t.1 after (subst (λ (x : Me). EndsTurn x (turn x t.0 now) (Ok c.in_default-turn.field-0) after) l.invariant.own t.2);
+      in_use = c.in_default-turn.ensures.in_use;
+      own = c.in_default-turn.ensures.me ∙ l.invariant.own;
+      faults = c.in_default-turn.ensures.faults ∙ l.invariant.faults;
+      a = c.in_default-turn.ensures.counts.0 ∙ l.invariant.a;
+      b = c.in_default-turn.ensures.counts.1 ∙ l.invariant.b;
+    }
+
+pub returns-clause-serves : goal.returns-clause-serves
+returns-clause-serves g c =
+    let l = c.loop-done in
+    let me : Me = record { member = c.args.member; rule = c.args.rule } in
+    let begun = unstarted c.args.member.rank (stood_of c.args.store) (g.C.Clock.left c.args.clock.now) (g.L.Link.state c.args.link.now).told in
+    let now = serving_of l.server (g.C.Clock.left l.clock) (g.L.Link.state l.link).told in
+    rw (c.end-2.ensures.end, c.end-2.ensures.turns)
+    (all_made me begun l.done now l.invariant.served c.args.turns (omega (arith, c.loop-done-test.false, l.auto.done-end)))

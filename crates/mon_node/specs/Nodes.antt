@@ -1,0 +1,41 @@
+-- A node between its inputs.
+use Rattle.std.specs.Prelude.{ℕ, List, [], Option}
+use Rattle.mon_frag.specs.declared.partial.Partial.{Partial}
+use Rattle.mon_link.specs.Clocks.{Readings}
+use Rattle.mon_link.specs.Links.{Told}
+use Rattle.mon_msg.specs.Protocol.State.{State, booting}
+use Rattle.mon_store.specs.Stood.{Stood}
+use Rattle.mon_store.specs.declared.store.Store.{Store}
+
+pub record Node : Type 0 where
+  -- what its core remembers
+  pub state : State
+  -- where its store stands, with the map
+  pub store : Stood
+  -- the number of its next message that is longer than a datagram
+  pub next : ℕ
+
+-- Where the outside stands: the messages of which not all pieces came yet; and what the clock and the link tell of themselves,
+-- where they do.
+pub record Outside : Type 0 where
+  pub parts : List Partial
+  pub clock : Option Readings
+  pub link : Option Told
+
+pub record Serving : Type 0 where
+  pub node : Node
+  pub outside : Outside
+
+-- where a store stands, with its map
+abbrev pub stood_of : {D : Type 0} → Store D → Stood
+stood_of s = record { side = s.side; journal = s.journal; kv = s.kv }
+
+-- a monitor with this store that isn't started yet
+abbrev pub unstarted : (rank : ℕ) → Stood → Option Readings → Option Told → Serving
+unstarted rank stood clock link = record {
+  node = record { state = booting rank; store = stood; next = 1 };
+  outside = record { parts = []; clock = clock; link = link };
+}
+
+abbrev pub outside_of : List Partial → Option Readings → Option Told → Outside
+outside_of parts clock link = record { parts = parts; clock = clock; link = link }

@@ -1,0 +1,80 @@
+-- How what a monitor sends goes out as datagrams.
+use Rattle.std.specs.Prelude.{◌≡◌, ℕ, ◌+◌, ◌^◌, ◌<◌, nat_lt, List, [], ◌∷◌, ◌++◌, length, map, take, Option, Result, Ok, Err, option_map, if◌then◌else◌}
+use Rattle.mon_bounds.specs.Fitting.{answer_in}
+use Rattle.mon_frag.specs.Pieces.{pieces_of}
+use Rattle.mon_kv.specs.Readers.{epoch}
+use Rattle.mon_link.specs.Links.{Told, LinkState}
+use Rattle.mon_link.specs.declared.link.Outgoing.{Outgoing}
+use Rattle.mon_link.specs.declared.link.Peer.TheVariants.{Monitor, Client}
+use Rattle.mon_link.specs.declared.link.Peer.{Peer}
+use Rattle.mon_msg.specs.declared.plan.Sent.TheVariants as sent
+use Rattle.mon_msg.specs.declared.plan.Sent.{Sent}
+use Rattle.mon_msg.specs.declared.view.Me.{Me}
+use Rattle.mon_tx.specs.Keys.{number}
+use Rattle.mon_tx.specs.Map.{Store}
+use Rattle.mon_tx.specs.declared.key.Area.TheVariants as area
+use Rattle.mon_tx.specs.declared.key.Key.TheVariants as key
+use Rattle.mon_types.specs.declared.names.Which.TheVariants as which
+use Rattle.mon_wire.specs.Message.Whole.{text}
+use Rattle.mon_node.specs.declared.end.NodeEnd.TheVariants as end
+use Rattle.mon_node.specs.declared.end.NodeEnd.{NodeEnd}
+
+abbrev pub to_peer : Peer → List ℕ → Outgoing
+to_peer to bytes = record { to = to; bytes = bytes }
+
+-- what is sent, with the bytes of the whole message: an answer goes to its client in a message of this monitor's epoch
+abbrev pub letter : Me → (epoch : ℕ) → Sent → Outgoing
+letter me e (sent.Message to m) = to_peer (Monitor to) (text m)
+letter me e (sent.Reply to r) = to_peer (Client to.client) (text (answer_in me e to r))
+
+-- a message that is longer than a datagram has a number, which no other one has
+abbrev pub next_behind : (next : ℕ) → (len : ℕ) → ℕ
+next_behind next len = if nat_lt 60000 len then next + 1 else next
+
+-- the number that is next once these are sent
+abbrev pub next_after : ℕ → List Outgoing → ℕ
+next_after next [] = next
+next_after next (l ∷ letters) = next_after (next_behind next (length l.bytes)) letters
+
+-- the datagrams of one, and of all in order
+abbrev pub datagrams_of : (boot next : ℕ) → Outgoing → List Outgoing
+datagrams_of boot next l = map (to_peer l.to) (pieces_of l.bytes boot next)
+
+abbrev pub datagrams : (boot next : ℕ) → List Outgoing → List Outgoing
+datagrams boot next [] = []
+datagrams boot next (l ∷ letters) = datagrams_of boot next l ++ datagrams boot (next_behind next (length l.bytes)) letters
+
+-- a store tells the epoch, and how often its monitor was started
+abbrev pub letters : Me → Store → List Sent → List Outgoing
+letters me m out = map (letter me (epoch m)) out
+
+abbrev pub boot_in : Store → ℕ
+boot_in m = number m area.Monitor key.BootCount
+
+-- ---- what a link is asked to send
+
+abbrev pub and_sent : List Outgoing → Told → Told
+and_sent ds t = record t { sent = t.sent ++ ds }
+
+abbrev pub SendsAll : List Outgoing → Option Told → Option Told → Type 0
+SendsAll ds old new = new ≡ option_map (and_sent ds) old
+
+-- a front of them
+abbrev pub SendsFront : List Outgoing → Option Told → Option Told → Type 0
+SendsFront ds old new = (n : ℕ) × SendsAll (take n ds) old new
+
+abbrev pub SendsBy : {T E : Type 0} → List Outgoing → Result T E → Option Told → Option Told → Type 0
+SendsBy ds (Ok x) old new = SendsAll ds old new
+SendsBy ds (Err e) old new = SendsFront ds old new
+
+-- All of these datagrams were sent, or a front of them before an end. No fault is counted.
+pub record Posts {T E : Type 0} (ds : List Outgoing) (result : Result T E) (old new : LinkState) : Type 0 where
+  pub told : SendsBy ds result old.told new.told
+  pub faults : new.faults ≡ old.faults
+
+-- why not all of them were: the number behind them passes the greatest, or memory ran out
+abbrev pub IsSpent : (next : ℕ) → NodeEnd → Type 0
+IsSpent next (end.Spent which.Seq) = 2 ^ 62 + 1 < next
+IsSpent next (end.Spent other) = ⊥
+IsSpent next end.OutOfMemory = Unit {0}
+IsSpent next other = ⊥

@@ -1,0 +1,118 @@
+-- How a node ends, and what it leaves.
+use Rattle.std.specs.Prelude.{◌≡◌, ℕ, ◌≤◌, ◌⊎◌, List, [], ◌∷◌, length, Option, Some, None, Result, Ok, Err}
+use Rattle.mon_kv.specs.Readers.{size_of}
+use Rattle.mon_link.specs.Clocks.{Readings}
+use Rattle.mon_link.specs.Links.{Told}
+use Rattle.mon_link.specs.declared.link.Outgoing.{Outgoing}
+use Rattle.mon_msg.specs.Protocol.Reaction.{Reaction}
+use Rattle.mon_msg.specs.Protocol.Timers.{due}
+use Rattle.mon_msg.specs.declared.view.Me.{Me}
+use Rattle.mon_store.specs.Checkpoint.{most_size}
+use Rattle.mon_tx.specs.Map.{Store}
+use Rattle.mon_types.specs.declared.names.Which.{Which}
+use Rattle.mon_node.specs.Hearing.{Given, IsGiven, IsReading}
+use Rattle.mon_node.specs.Nodes.{Node, Serving}
+use Rattle.mon_node.specs.Posting.{SendsFront}
+use Rattle.mon_node.specs.Turns.{Turn, map_after, sent_by, reaction_to, ended_turn, last_turn, served}
+use Rattle.mon_node.specs.declared.end.NodeEnd.TheVariants as end
+use Rattle.mon_node.specs.declared.end.NodeEnd.{NodeEnd}
+use Rattle.mon_node.specs.declared.hearing.TimedInput.{TimedInput}
+
+abbrev pub Has : {A E : Type 0} → Result A E → (A → Type 0) → Type 0
+Has (Ok x) P = P x
+Has (Err e) P = ⊥
+
+-- ---- the input of a turn, where it has one
+
+-- the core reacts to it
+abbrev pub of_input : {A : Type 0} → A → (Reaction → A) → Result Reaction Which → A
+of_input none some (Ok r) = some r
+of_input none some (Err spent) = none
+
+abbrev pub of_came : {A : Type 0} → Me → Node → A → (Reaction → A) → Result (Option TimedInput) NodeEnd → A
+of_came me n none some (Ok (Some it)) = of_input none some (reaction_to me n it)
+of_came me n none some (Ok None) = none
+of_came me n none some (Err e) = none
+
+abbrev pub of_turn : {A : Type 0} → Me → Turn → A → (Reaction → A) → A
+of_turn me t none some = of_came me t.serving.node none some t.came
+
+-- what it sends, and the map with its transaction
+abbrev pub sends_of : Me → Turn → List Outgoing
+sends_of me t = of_turn me t [] (sent_by me t.serving.node)
+
+abbrev pub map_with : Me → Turn → Store
+map_with me t = of_turn me t t.serving.node.store.kv (map_after t.serving.node)
+
+-- it has one, and the core reacts so
+abbrev pub OfInput : Me → Node → (Reaction → Type 0) → Result (Option TimedInput) NodeEnd → Type 0
+OfInput me n P (Ok (Some it)) = Has (reaction_to me n it) P
+OfInput me n P (Ok None) = ⊥
+OfInput me n P (Err e) = ⊥
+
+-- ---- ends
+
+-- Why a node ends at a turn, for all ends that don't lie in the number of turns. A disk may fail once the transaction of an input
+-- was given to the store.
+abbrev pub Causes : Me → Turn → NodeEnd → Type 0
+Causes me t end.TurnsUsed = ⊥
+Causes me t end.OutOfMemory = Unit {0}
+Causes me t end.DiskFault = OfInput me t.serving.node (λ r. size_of (map_after t.serving.node r) ≤ most_size) t.came
+Causes me t end.Closed = ended_turn me t ≡ Err end.Closed
+Causes me t end.LinkFault = ended_turn me t ≡ Err end.LinkFault
+Causes me t (end.Full would_be) = ended_turn me t ≡ Err (end.Full would_be)
+Causes me t (end.Spent spent) = ended_turn me t ≡ Err (end.Spent spent)
+
+-- What the link was asked to send at the turn: nothing, unless memory ran out, or the number of one of its messages. Then it is a front
+-- of what was to be sent.
+abbrev pub SendsAtEnd : Me → Turn → NodeEnd → Option Told → Type 0
+SendsAtEnd me t end.OutOfMemory link = SendsFront (sends_of me t) t.serving.outside.link link
+SendsAtEnd me t (end.Spent spent) link = SendsFront (sends_of me t) t.serving.outside.link link
+SendsAtEnd me t other link = link ≡ t.serving.outside.link
+
+-- Which map the disks stand for: where a disk failed, or memory ran out, that from before the turn or that with its transaction.
+abbrev pub IsLeft : Me → Turn → NodeEnd → Store → Type 0
+IsLeft me t end.OutOfMemory m = (m ≡ t.serving.node.store.kv) ⊎ (m ≡ map_with me t)
+IsLeft me t end.DiskFault m = (m ≡ t.serving.node.store.kv) ⊎ (m ≡ map_with me t)
+IsLeft me t (end.Spent spent) m = m ≡ map_with me t
+IsLeft me t other m = m ≡ t.serving.node.store.kv
+
+pub record EndsAt (me : Me) (t : Turn) (e : NodeEnd) (clock : Option Readings) (link : Option Told) : Type 0 where
+  pub cause : Causes me t e
+  pub clock_is : clock ≡ t.serving.outside.clock
+  pub link_is : SendsAtEnd me t e link
+
+-- an end that an input may have
+abbrev pub IsOfInput : NodeEnd → Type 0
+IsOfInput end.Closed = ⊥
+IsOfInput end.TurnsUsed = ⊥
+IsOfInput end.DiskFault = Unit {0}
+IsOfInput end.LinkFault = ⊥
+IsOfInput (end.Full would_be) = Unit {0}
+IsOfInput (end.Spent spent) = Unit {0}
+IsOfInput end.OutOfMemory = Unit {0}
+
+-- a turn comes to its end, or the node ends at it
+abbrev pub EndsTurn : {T : Type 0} → Me → Turn → Result T NodeEnd → Serving → Type 0
+EndsTurn me t (Ok x) now = ended_turn me t ≡ Ok now
+EndsTurn me t (Err e) now = EndsAt me t e now.outside.clock now.outside.link
+
+-- ---- all turns
+
+-- what each turn was given is what clock and link told then
+abbrev pub AreGiven : Me → (first : ℕ) → Serving → List Given → Type 0
+AreGiven me first s [] = IsReading s.outside.clock first
+AreGiven me first s (g ∷ earlier) = AreGiven me first s earlier × Has (served me first s earlier) (λ now. IsGiven (due now.node.state.timers) g now.outside)
+
+-- A node ends after these turns, of which it was to make so many at most: once all of them were made, or at the last of them.
+abbrev pub EndsAfter : Me → (turns : ℕ) → (begun : ℕ) → Turn → NodeEnd → Option Readings → Option Told → Type 0
+EndsAfter me turns begun t end.TurnsUsed clock link =
+    (begun ≡ turns) × Has (ended_turn me t) (λ now. (clock ≡ now.outside.clock) × (link ≡ now.outside.link))
+EndsAfter me turns begun t other clock link = EndsAt me t other clock link
+
+-- Which turns a node made: what they were given, what they come to, and how the node ended.
+pub record Serves (me : Me) (s : Serving) (turns : ℕ) (e : NodeEnd) (begun : ℕ) (clock : Option Readings) (link : Option Told) (first : ℕ) (given : List Given) : Type 0 where
+  pub given_are : AreGiven me first s given
+  pub begun_are : begun ≡ length given
+  pub most : length given ≤ turns
+  pub ends : Has (last_turn me first s given) (λ t. EndsAfter me turns begun t e clock link)

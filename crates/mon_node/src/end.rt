@@ -1,0 +1,64 @@
+use mon_bytes::OutOfMemory;
+use mon_core::CoreStop;
+use mon_disk::NodeDisks;
+use mon_types::Which;
+use thiserror::Error;
+
+/// Why a node ended.
+#[derive(Clone, Copy, Debug, PartialEq, Eq, Error)]
+pub enum NodeEnd {
+    /// The link said so.
+    #[error("the link is closed")]
+    Closed,
+    /// As many turns were made as were asked.
+    #[error("turns used")]
+    TurnsUsed,
+    /// A disk failed.
+    #[error("a disk failed")]
+    DiskFault,
+    /// The link couldn't tell what comes next.
+    #[error("the link failed")]
+    LinkFault,
+    /// The store's map would count with `would_be`, above 268,435,456.
+    #[error("the map would count with {would_be}")]
+    Full { would_be: u64 },
+    /// That number would pass 2^62. `Seq` is also that under which the node sends a message longer than a datagram.
+    #[error("a number is spent")]
+    Spent { which: Which },
+    #[error("out of memory")]
+    OutOfMemory,
+}
+
+impl From<OutOfMemory> for NodeEnd {
+    ghost use Rattle.std.specs.Prelude.{◌≡◌};
+    ghost use Rattle.mon_node.specs.declared.end.NodeEnd.TheVariants.{OutOfMemory as no_memory};
+
+    ghost from_gives = { λ _ e. e ≡ no_memory };
+
+    fn from(_e: OutOfMemory) -> NodeEnd {
+        NodeEnd::OutOfMemory
+    }
+}
+
+impl From<CoreStop> for NodeEnd {
+    ghost use Rattle.std.specs.Prelude.{◌≡◌};
+    ghost use Rattle.mon_node.specs.Ends.{of_core};
+
+    ghost from_gives = { λ stop e. e ≡ of_core stop };
+
+    fn from(stop: CoreStop) -> NodeEnd {
+        match stop {
+            CoreStop::OutOfMemory => NodeEnd::OutOfMemory,
+            CoreStop::Spent { which } => NodeEnd::Spent { which },
+        }
+    }
+}
+
+/// A node that ended.
+#[derive(Drop)]
+pub struct Served<D> {
+    pub end: NodeEnd,
+    /// How many turns were begun.
+    pub turns: u64,
+    pub disks: NodeDisks<D>,
+}

@@ -1,0 +1,145 @@
+//! What a turn comes to.
+
+ghost use Rattle.std.specs.Prelude.{◌≡◌, ℕ, Result, IfOk, IfSome, OnOk};
+ghost use Rattle.mon_bounds.specs.Fitting.{MayCome};
+ghost use Rattle.mon_frag.specs.Keeping.{taken};
+ghost use Rattle.mon_frag.specs.Whole.{answer_in, kept_in};
+ghost use Rattle.mon_node.specs.Hearing.{due_by, wait_until, input_in, Given, AreAnswers, IsGiven, Hears, answer_came, link_asked, heard, faults_by};
+ghost use Rattle.mon_node.specs.Nodes.{outside_of};
+ghost use Rattle.mon_link.specs.declared.link.Got.{Got as gots};
+ghost use Rattle.mon_types.specs.declared.names.Stop.{Stop as stops};
+
+use crate::end::NodeEnd;
+use crate::reading::read;
+use mon_bytes::{Bytes, OutOfMemory};
+use mon_core::Input;
+use mon_frag::{Assembly, FragRefused};
+use mon_link::{Clock, Got, Link, Peer};
+use mon_msg::Timer;
+use mon_types::{Moment, Stop};
+use std::alloc::Global;
+
+/// The longest wait for what comes over the link, in milliseconds.
+const LONGEST_WAIT: u64 = 1000;
+
+/// An input, and the moment at which it comes.
+#[derive(Drop)]
+pub(crate) struct TimedInput {
+    pub(crate) input: Input,
+    pub(crate) at: Moment,
+}
+
+/// The timer that is due by a moment.
+fn due_by(now: Moment, next: &Option<(Timer, Moment)>) -> Option<Timer>
+    ensures { result ≡ due_by now next.now }
+{
+    match next {
+        Some((timer, end)) => {
+            if end.get() <= now.get() {
+                Some(*timer)
+            } else {
+                None
+            }
+        }
+        None => None,
+    }
+}
+
+/// How long to wait for the link, in milliseconds: up to the timer that comes next.
+fn wait_until(now: Moment, next: &Option<(Timer, Moment)>) -> u64
+    ensures { result ≡ wait_until now next.now }
+{
+    match next {
+        Some((_, end)) => LONGEST_WAIT.min(end.get().saturating_sub(now.get())),
+        None => LONGEST_WAIT,
+    }
+}
+
+/// The message that is whole with this datagram, where one is.
+fn assembled(
+    assembly: &mut Assembly,
+    from: &Peer,
+    datagram: &[u8],
+) -> Result<Option<Bytes>, OutOfMemory>
+    ensures whole { IfOk result (λ whole. whole ≡ answer_in (taken assembly.old from.now datagram.now)) }
+    ensures kept { OnOk result (assembly.new ≡ kept_in assembly.old (taken assembly.old from.now datagram.now)) }
+{
+    match assembly.take(*from, datagram) {
+        Ok(whole) => Ok(whole),
+        Err(FragRefused::OutOfMemory) => Err(OutOfMemory),
+        Err(_) => Ok(None),
+    }
+}
+
+/// The input that a datagram brings, where it brings one.
+fn brought(
+    alloc: Global,
+    monitors: u8,
+    assembly: &mut Assembly,
+    from: &Peer,
+    datagram: &[u8],
+) -> Result<Option<Input>, OutOfMemory>
+    ensures input { IfOk result (λ came. came ≡ input_in monitors from.now (answer_in (taken assembly.old from.now datagram.now))) }
+    ensures kept { OnOk result (assembly.new ≡ kept_in assembly.old (taken assembly.old from.now datagram.now)) }
+    ensures comes { IfOk result (λ came. IfSome came MayCome) }
+{
+    match assembled(assembly, from, datagram)? {
+        Some(bytes) => read(alloc, monitors, from, bytes.as_slice()),
+        None => Ok(None),
+    }
+}
+
+/// Asks the link for what comes next.
+fn ask<L: Link, C: Clock>(
+    alloc: Global,
+    monitors: u8,
+    assembly: &mut Assembly,
+    link: &mut L,
+    clock: &mut C,
+    wait: u64,
+) -> Result<Option<TimedInput>, NodeEnd>
+    ensures heard { let old = outside_of assembly.old (C.left clock.old) (L.state link.old).told in
+        (answer : Result gots stops) × (later : ℕ) × AreAnswers old answer later
+        × Hears (answer_came monitors later answer (link_asked wait answer old)) result (outside_of assembly.new (C.left clock.new) (L.state link.new).told) }
+    ensures comes { IfOk result (λ came. IfSome came (λ it. MayCome it.input)) }
+    ensures faults { (L.state link.new).faults ≡ faults_by result (L.state link.old).faults }
+{
+    match link.next(wait) {
+        Ok(Got::Datagram { from, bytes }) => {
+            let at = clock.now();
+            match brought(alloc, monitors, assembly, &from, bytes.as_slice())? {
+                Some(input) => Ok(Some(TimedInput { input, at })),
+                None => Ok(None),
+            }
+        }
+        Ok(Got::Idle) => Ok(None),
+        Ok(Got::Closed) => Err(NodeEnd::Closed),
+        Err(Stop::Failed) => Err(NodeEnd::LinkFault),
+        Err(Stop::OutOfMemory) => Err(NodeEnd::OutOfMemory),
+    }
+}
+
+/// What comes: the timer that comes next, where it is due, and else what the link gives.
+pub(crate) fn hear<L: Link, C: Clock>(
+    alloc: Global,
+    monitors: u8,
+    next: &Option<(Timer, Moment)>,
+    assembly: &mut Assembly,
+    link: &mut L,
+    clock: &mut C,
+) -> Result<Option<TimedInput>, NodeEnd>
+    ensures heard { let old = outside_of assembly.old (C.left clock.old) (L.state link.old).told in
+        (g : Given) × IsGiven next.now g old × Hears (heard monitors next.now g old) result (outside_of assembly.new (C.left clock.new) (L.state link.new).told) }
+    ensures comes { IfOk result (λ came. IfSome came (λ it. MayCome it.input)) }
+    ensures faults { (L.state link.new).faults ≡ faults_by result (L.state link.old).faults }
+{
+    let began = clock.now();
+    let wait = wait_until(began, next);
+    match due_by(began, next) {
+        Some(timer) => Ok(Some(TimedInput {
+            input: Input::Timer(timer),
+            at: began,
+        })),
+        None => ask(alloc, monitors, assembly, link, clock, wait),
+    }
+}

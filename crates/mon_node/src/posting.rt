@@ -1,0 +1,159 @@
+//! How what a core sends goes out.
+
+ghost use Rattle.std.specs.Prelude.{◌≡◌, ◌≤◌, ◌<◌, ◌+◌, ◌^◌, [], ◌∷◌, length, map, IfOk, IfErr, OnOk};
+ghost use Rattle.std.specs.List.{AllByRecursion};
+ghost use Rattle.mon_bounds.specs.Fitting.{MaySend};
+ghost use Rattle.mon_core.specs.Reacts.{TellsNamed};
+ghost use Rattle.mon_types.specs.declared.names.Which.TheVariants as number;
+ghost use Rattle.mon_wire.specs.Message.Whole.{HasText, text};
+ghost use Rattle.mon_wire.specs.declared.body.Body.TheVariants as body;
+ghost use Rattle.mon_node.specs.Posting.{Posts, to_peer, letter, letters, next_behind, next_after, datagrams_of, datagrams, boot_in, IsSpent};
+
+use crate::end::NodeEnd;
+use mon_bounds::law_message_fits;
+use mon_bytes::{Bytes, OutOfMemory};
+use mon_frag::{DATAGRAM, pieces};
+use mon_kv::Kv;
+use mon_link::{Link, Outgoing, Peer};
+use mon_msg::plan::Sent;
+use mon_msg::{Body, Me, Message, Reply};
+use mon_types::{Epoch, GREATEST, Stop, Which};
+use std::alloc::Global;
+
+/// Sends a datagram. One that can't be sent is lost.
+fn send_one<L: Link>(link: &mut L, to: &Peer, datagram: &[u8]) -> Result<(), OutOfMemory>
+    ensures { Posts (to_peer to.now datagram.now ∷ []) result (L.state link.old) (L.state link.new) }
+{
+    match link.send(*to, datagram) {
+        Ok(()) | Err(Stop::Failed) => Ok(()),
+        Err(Stop::OutOfMemory) => Err(OutOfMemory),
+    }
+}
+
+fn send_each<L: Link>(link: &mut L, to: &Peer, datagrams: &[Bytes]) -> Result<(), OutOfMemory>
+    ensures { Posts (map (to_peer to.now) datagrams.now) result (L.state link.old) (L.state link.new) }
+{
+    for datagram in datagrams {
+        send_one(link, to, datagram.as_slice())?;
+    }
+    Ok(())
+}
+
+/// The number under which a message of so many bytes goes out, where it is longer than a datagram. It is the next one.
+fn numbered(next: &mut u64, len: usize) -> Result<u64, NodeEnd>
+    requires { next.old ≤ 2 ^ 62 + 1 }
+    ensures number { IfOk result (λ number. number ≡ next.old) }
+    ensures behind { OnOk result (next.new ≡ next_behind next.old len) }
+    ensures most { OnOk result (next.new ≤ 2 ^ 62 + 1) }
+    ensures spent { IfErr result (λ end. (end ≡ NodeEnd.Spent number.Seq) × (2 ^ 62 + 1 < next_behind next.old len)) }
+{
+    let number = *next;
+    if len > DATAGRAM {
+        if number > GREATEST {
+            return Err(NodeEnd::Spent { which: Which::Seq });
+        }
+        *next = number + 1;
+    }
+    Ok(number)
+}
+
+/// Sends the bytes of a message: in one datagram, or in pieces under the next number.
+fn send_letter<L: Link>(
+    alloc: Global,
+    link: &mut L,
+    boot: u64,
+    next: &mut u64,
+    letter: &Outgoing,
+) -> Result<(), NodeEnd>
+    requires short { length letter.now.bytes ≤ 1048576 }
+    requires next { next.old ≤ 2 ^ 62 + 1 }
+    ensures posts { Posts (datagrams_of boot next.old letter.now) result (L.state link.old) (L.state link.new) }
+    ensures behind { OnOk result (next.new ≡ next_behind next.old (length letter.now.bytes)) }
+    ensures most { OnOk result (next.new ≤ 2 ^ 62 + 1) }
+    ensures spent { IfErr result (IsSpent (next_behind next.old (length letter.now.bytes))) }
+{
+    let bytes = letter.bytes.as_slice();
+    let number = numbered(next, bytes.len())?;
+    let datagrams = pieces(alloc, bytes, boot, number)?;
+    send_each(link, &letter.to, datagrams.as_slice())?;
+    Ok(())
+}
+
+/// The bytes of a message.
+fn text_of(alloc: Global, message: &Message) -> Result<Bytes, OutOfMemory>
+    requires { HasText message.now }
+    ensures text { IfOk result (λ bytes. bytes ≡ text message.now) }
+    ensures short { IfOk result (λ bytes. length bytes ≤ 1048576) }
+{
+    Ok(Bytes::new(message.encode(alloc)?))
+}
+
+/// The message that brings a client its answer.
+fn answer_in(
+    alloc: Global,
+    me: &Me,
+    epoch: Epoch,
+    id: u64,
+    reply: &Reply,
+) -> Result<Message, OutOfMemory>
+    ensures { IfOk result (λ m. m ≡ record { from = me.now.member.rank; monitors = me.now.member.monitors; epoch = epoch; body = body.Reply id reply.now }) }
+{
+    Ok(Message {
+        from: me.member.rank,
+        monitors: me.member.monitors,
+        epoch,
+        body: Body::Reply {
+            id,
+            reply: reply.copy(alloc)?,
+        },
+    })
+}
+
+/// What is sent, with the bytes of its message.
+fn letter(alloc: Global, me: &Me, epoch: Epoch, sent: &Sent) -> Result<Outgoing, OutOfMemory>
+    requires may { MaySend me.now sent.now }
+    requires named { TellsNamed sent.now }
+    ensures letter { IfOk result (λ l. l ≡ letter me.now epoch sent.now) }
+    ensures short { IfOk result (λ l. length l.bytes ≤ 1048576) }
+{
+    law_message_fits();
+    match sent {
+        Sent::Message { to, message } => Ok(Outgoing {
+            to: Peer::Monitor(*to),
+            bytes: text_of(alloc, message)?,
+        }),
+        Sent::Reply { to, reply } => {
+            let message = answer_in(alloc, me, epoch, to.id, reply)?;
+            Ok(Outgoing {
+                to: Peer::Client(to.client),
+                bytes: text_of(alloc, &message)?,
+            })
+        }
+    }
+}
+
+/// Sends all of it, in order, as a monitor with this map.
+pub(crate) fn send_all<L: Link>(
+    alloc: Global,
+    link: &mut L,
+    me: &Me,
+    kv: &Kv,
+    next: &mut u64,
+    out: &[Sent],
+) -> Result<(), NodeEnd>
+    requires may { AllByRecursion (MaySend me.now) out.now }
+    requires named { AllByRecursion TellsNamed out.now }
+    requires next { next.old ≤ 2 ^ 62 + 1 }
+    ensures posts { Posts (datagrams (boot_in kv.now) next.old (letters me.now kv.now out.now)) result (L.state link.old) (L.state link.new) }
+    ensures behind { OnOk result (next.new ≡ next_after next.old (letters me.now kv.now out.now)) }
+    ensures most { OnOk result (next.new ≤ 2 ^ 62 + 1) }
+    ensures spent { IfErr result (IsSpent (next_after next.old (letters me.now kv.now out.now))) }
+{
+    let epoch = Epoch::known(kv.epoch());
+    let boot = kv.boot_count();
+    for sent in out {
+        let letter = letter(alloc, me, epoch, sent)?;
+        send_letter(alloc, link, boot, next, &letter)?;
+    }
+    Ok(())
+}
