@@ -1,0 +1,98 @@
+"""Monitors on this machine: each is a process, and all keep their files in one folder."""
+from __future__ import annotations
+
+import os
+import random
+import signal
+import socket
+import subprocess
+import sys
+import time
+
+from client import Client, NotServed
+
+TOP = os.path.join(os.path.dirname(os.path.abspath(__file__)), '..')
+MOST_TURNS = str(2**62)
+
+
+def built_program() -> str:
+    """The program of this repository, which is proved and built first where it isn't yet."""
+    with open(os.path.join(TOP, 'examples', 'first.schedule'), encoding='ascii') as schedule:
+        subprocess.run([os.path.join(TOP, 'cephmon'), 'replay'], stdin=schedule, stdout=subprocess.DEVNULL, check=True)
+    return os.path.join(TOP, 'out', 'cephmon')
+
+
+def free_ports(count: int) -> list[int]:
+    """Ports that nothing hears at. They are below those that a system gives away by itself, so that one stays free while its monitor is down."""
+    ports = random.sample(range(10_000, 32_000), 10 * count)
+    return [port for port in ports if is_free(port)][:count]
+
+
+def is_free(port: int) -> bool:
+    with socket.socket(socket.AF_INET, socket.SOCK_DGRAM) as probe:
+        try:
+            probe.bind(('127.0.0.1', port))
+        except OSError:
+            return False
+    return True
+
+
+class Quorum:
+    """Monitors that are started and killed by their ranks. At its end all are killed, also where a signal ends the script."""
+
+    def __init__(self, program: str, folder: str, monitors: int = 3, rule: str = 'classic'):
+        self.program, self.folder, self.rule = program, folder, rule
+        self.addresses = [('127.0.0.1', port) for port in free_ports(monitors)]
+        self.running = {}
+
+    def __enter__(self) -> Quorum:
+        signal.signal(signal.SIGTERM, lambda *_: sys.exit(1))
+        return self
+
+    def __exit__(self, *_):
+        for process in self.running.values():
+            process.kill()
+            process.wait()
+
+    def ranks(self) -> range:
+        return range(len(self.addresses))
+
+    def files(self, rank: int) -> list[str]:
+        return [os.path.join(self.folder, f'store{rank}.{side}') for side in 'ab']
+
+    def words(self, rank: int, turns: str = MOST_TURNS) -> list[str]:
+        addresses = ','.join(f'{host}:{port}' for host, port in self.addresses)
+        return [self.program, 'node', str(rank), str(len(self.addresses)), self.rule, addresses, *self.files(rank), turns]
+
+    def start(self, rank: int):
+        self.running[rank] = subprocess.Popen(self.words(rank), stdin=subprocess.DEVNULL)
+
+    def start_all(self):
+        for rank in self.ranks():
+            self.start(rank)
+
+    def kill(self, rank: int):
+        """Kills a monitor without mercy. One that ended by itself before is an error."""
+        process = self.running.pop(rank)
+        ended = process.poll()
+        process.kill()
+        process.wait()
+        if ended is not None:
+            raise RuntimeError(f'monitor {rank} ended by itself with status {ended}')
+
+    def client(self, **how) -> Client:
+        return Client(self.addresses, **how)
+
+    def shown_by(self, rank: int, paxos: int, seconds: float) -> tuple[dict, dict] | None:
+        """The maps of both services, as one monitor shows them in time, where it has that version of all changes then."""
+        end = time.monotonic() + seconds
+        with self.client(monitor=rank, timeout=1.0) as client:
+            while time.monotonic() < end:
+                try:
+                    keys, log = client.show('kv'), client.show('log')
+                except NotServed:
+                    continue
+                if keys['paxos'] == log['paxos'] >= paxos:
+                    return keys, log
+                time.sleep(0.05)
+        return None
