@@ -26,10 +26,11 @@ use Rattle.cephmon.specs.Replay.{StopsAs, Writes, fault_of, status_of, stop_of}
 use Rattle.cephmon.specs.Run.{HasCause, Made, Outside, Replayed, Runs, SummedAll, TellsFault, WroteNothing, most_read}
 use Rattle.cephmon.specs.Summary.{IsLine, Summary, counted_from, no_counts, summary, summed}
 use Rattle.cephmon.specs.Trace.{Trace, trace}
-use Rattle.cephmon.proofs.Schedules.{is_safe, monitors_of}
+use Rattle.mon_world.proofs.Safety.{schedule_safe}
+use Rattle.cephmon.proofs.Schedules.{monitors_of}
 
 runs : (s : Schedule) (h : HasText s) → Runs s (monitors_of s h)
-runs s h = record { count = refl; rule = refl; safe = is_safe s (monitors_of s h) h refl }
+runs s h = record { count = refl; rule = refl; safe = schedule_safe (monitors_of s h) s.events h.each }
 
 -- ---- of what was read
 

@@ -1,20 +1,15 @@
--- What a schedule that has a text is to the world and to the laws.
-use Rattle.std.proofs.Common.{◌≡◌, ℕ, ◌+◌, ◌≤◌, leb, List, [], ◌∷◌, length, map, IsTrue, sym, subst, arith, length-append}
+-- What a schedule that has a text is to the world.
+use Rattle.std.proofs.Common.{◌≡◌, ℕ, ◌+◌, ◌≤◌, leb, List, [], ◌∷◌, length, IsTrue, sym, subst, arith, length-append}
 use Rattle.std.specs.List.{AllByRecursion, flat_map, list_all}
 use Rattle.std.proofs.Math.Bridge.{le_prop}
 use Rattle.std.proofs.lemmas.Bool.Decides.{nat_tests}
 use Rattle.election_rules.specs.declared.rule.Rule.{Rule}
 use Rattle.mon_bytes.proofs.Ascii.{both}
 use Rattle.quorum_model.specs.Monitors.{Monitors}
-use Rattle.quorum_model.specs.Safe.{Safe}
-use Rattle.quorum_model.specs.Scenes.{events_of}
-use Rattle.quorum_agreement.proofs.SafeWorlds.{safe}
 use Rattle.schedule_text.specs.declared.event.Event.{Event}
 use Rattle.schedule_text.specs.declared.schedule.Schedule.{Schedule}
 use Rattle.schedule_text.specs.Spelling.{HasText, event_fits, event_line, event_text, header, ended_line, most_bytes}
-use Rattle.mon_world.specs.Events.{scheduled_of}
 use Rattle.mon_world.specs.Stands.{Fits}
-use Rattle.mon_world.proofs.Coming.{all_spoken}
 
 few : (n : ℕ) → IsTrue (leb n 15) → n ≤ 15
 few n h = grind (arith, nat_tests)
@@ -58,8 +53,3 @@ all_fit s ms h count =
 -- its first line
 pub first_line : (s : Schedule) (ms : Monitors) → ms.count ≡ s.monitors → ms.rule ≡ s.rule → ended_line (header s.monitors s.rule) ≡ ended_line (header ms.count ms.rule)
 first_line s ms count rule = λ i. ended_line (header (sym count i) (sym rule i))
-
--- the run of its events is safe
-pub is_safe : (s : Schedule) (ms : Monitors) → HasText s → ms.count ≡ s.monitors → Safe ms (events_of ms (map scheduled_of s.events))
-is_safe s ms h count =
-    safe ms (events_of ms (map scheduled_of s.events)) (all_spoken ms s.events (subst (λ (n : ℕ). IsTrue (list_all (event_fits n) s.events)) (sym count) h.each))

@@ -67,7 +67,7 @@ plain_spoken n (plain.Client rank at session asked) h = let c = client_parts n r
 pub plain_in : (n call image : ℕ) (p : Plain) → IsTrue (within 1 1000 call && (leb image 3 && plain_fits n p)) → IsTrue (plain_fits n p)
 plain_in n call image p h = (both (leb image 3) (plain_fits n p) (both (within 1 1000 call) (leb image 3 && plain_fits n p) h).1).1
 
-event_spoken : (n : ℕ) (e : schedule.Event) → IsTrue (event_fits n e) → PlainFits n (scheduled_of e).plain
+pub event_spoken : (n : ℕ) (e : schedule.Event) → IsTrue (event_fits n e) → PlainFits n (scheduled_of e).plain
 event_spoken n (events.Plain p) h = plain_spoken n p h
 event_spoken n (events.Crash disk call image p) h = plain_spoken n p (plain_in n call image p h)
 event_spoken n (events.Fail disk call image p) h = plain_spoken n p (plain_in n call image p h)

@@ -19,3 +19,4 @@ pub mod Stepping
 pub mod Falling
 pub mod Remembering
 pub mod Holding
+pub mod Safety

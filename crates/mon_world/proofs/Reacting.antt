@@ -5,9 +5,7 @@ use Rattle.std.specs.Prelude.{nat_lt}
 use Rattle.std.proofs.lemmas.Bool.{le-ltb, lt-ltb}
 use Rattle.mon_bounds.specs.Fitting.{MaySend}
 use Rattle.mon_core.specs.Core.{Monitor}
-use Rattle.mon_core.specs.Reacts.{IsReaction, Reacts}
-use Rattle.mon_core.specs.declared.reaction.CoreStop.{CoreStop}
-use Rattle.mon_core.specs.declared.reaction.CoreStop.TheVariants as core_stops
+use Rattle.mon_core.specs.Reacts.{IsReaction}
 use Rattle.mon_core.specs.declared.reaction.Reaction as core
 use Rattle.mon_kv.specs.Readers.{size_of, most_size}
 use Rattle.mon_msg.specs.Protocol.Reaction.{Reaction, reaction}
@@ -22,7 +20,7 @@ use Rattle.mon_world.specs.declared.stop.WorldStop.{WorldStop}
 use Rattle.mon_world.specs.declared.stop.WorldStop.TheVariants as world
 use Rattle.mon_world.specs.Monitor.{IsDone, IsUp, Keeps, does}
 use Rattle.mon_world.specs.Monitor.{Reacts as Answers}
-use Rattle.mon_world.specs.Stops.{IsntKept, Stops, core_stop}
+use Rattle.mon_world.specs.Stops.{IsntKept, Stops}
 
 module _ (me : Me) (now : ℕ) (m : Store) (s : State) (came : Input) where
   has_room : (r : Reaction) → size_of (apply r.transaction m) ≤ most_size → reaction me now m s came ≡ Ok r → does me now m s came ≡ Ok r
@@ -53,10 +51,6 @@ module _ (me : Me) (now : ℕ) (m : Store) (s : State) (came : Input) where
       named = x.named;
     }
 
-    pub stops_so : (e : CoreStop) → Reacts old new m now came (Err e) → Stops (core_stop e) (does me now m s came)
-    stops_so core_stops.OutOfMemory h = tt
-    stops_so (core_stops.Spent which) h = ap (unless_stopped m) ((λ i. reaction (sym me_is i) now m (sym state_is i) came) ∙ h)
-
 -- What a monitor is that is up and reacted so, and whose transaction is kept.
 pub reacted : (me : Me) (now : ℕ) (m : Store) (s : State) (f : Files) (came : Input) (old new : Running) (kv : Store) (r : core.Reaction) → IsUp me m s f old → kv ≡ old.store.kv
     → IsReaction old.core new.core kv now came r → Keeps me.member m f r.tx new.store (Ok tt) → Answers me now m s f came new (Ok r)
@@ -66,11 +60,6 @@ reacted me now m s f came old new kv r up is x kept =
       done me now m s came old.core new.core up.me_is up.state r kept.0 so,
       record { runs = kept.1; me_is = so.me ∙ up.me_is; state = refl; follows = so.follows },
     )
-
-pub stopped : (me : Me) (now : ℕ) (m : Store) (s : State) (f : Files) (came : Input) (old : Running) (new : Monitor) (kv : Store) (e : CoreStop) → IsUp me m s f old → kv ≡ old.store.kv
-    → Reacts old.core new kv now came (Err e) → Stops (core_stop e) (does me now m s came)
-stopped me now m s f came old new kv e up is x =
-    stops_so me now m s came old.core new up.me_is up.state e (subst (λ (k : Store). Reacts old.core new k now came (Err e)) (is ∙ up.runs.map) x)
 
 pub unkept : (me : Me) (now : ℕ) (m : Store) (s : State) (f : Files) (came : Input) (old : Running) (new : Monitor) (kv : Store) (r : core.Reaction) (e : WorldStop) → IsUp me m s f old
     → kv ≡ old.store.kv → IsReaction old.core new kv now came r → IsntKept r.tx m e → Stops e (does me now m s came)

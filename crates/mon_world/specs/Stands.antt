@@ -1,17 +1,19 @@
 -- What the code's world stands for.
-use Rattle.std.specs.Prelude.{◌≡◌, ℕ, ◌<◌, ◌≤◌, List, length, map, slice_get, IsTrue, Option, Some, Result, Ok, Err}
+use Rattle.std.specs.Prelude.{◌≡◌, ℕ, ◌<◌, ◌≤◌, List, [], ◌∷◌, ◌++◌, length, map, slice_get, IsTrue, Option, Some, None, Result, Ok, Err}
 use Rattle.std.specs.List.{AllByRecursion}
 use Rattle.mon_bounds.specs.Fitting.{MayCome}
 use Rattle.mon_msg.specs.Protocol.State.{State}
 use Rattle.mon_msg.specs.declared.input.Input.TheVariants as input
 use Rattle.mon_msg.specs.declared.view.Me.{Me}
 use Rattle.mon_tx.specs.Map.{Store}
+use Rattle.quorum_model.specs.Events.{AllFit}
 use Rattle.quorum_model.specs.Files.{Files}
 use Rattle.quorum_model.specs.Happens as happens
 use Rattle.quorum_model.specs.Meets as meeting
 use Rattle.quorum_model.specs.Meets.{Meeting, NoMessage, Down, Reacts, meets}
 use Rattle.quorum_model.specs.Monitors.{Monitors, me_of}
-use Rattle.quorum_model.specs.Scenes.{Scene, kept_at, scene_after}
+use Rattle.quorum_model.specs.Runs.{ran, run}
+use Rattle.quorum_model.specs.Scenes.{Scene, event_in, kept_at, scene_after}
 use Rattle.quorum_model.specs.Upsets.{Upset}
 use Rattle.quorum_model.specs.World as model
 use Rattle.schedule_text.specs.Spelling.{plain_fits, event_fits, plain_text, event_text, most_bytes}
@@ -25,6 +27,7 @@ use Rattle.mon_world.specs.declared.sending.Envelope.{Envelope}
 use Rattle.mon_world.specs.declared.world.Upshot.{Upshot}
 use Rattle.mon_world.specs.declared.world.Upshot.TheVariants as upshot
 use Rattle.mon_world.specs.declared.world.World.{World}
+use Rattle.mon_world.specs.Events.{scheduled_of}
 use Rattle.mon_world.specs.Monitor.{Stands}
 use Rattle.mon_world.specs.Stops.{Stops}
 
@@ -60,6 +63,17 @@ pub record StandsFor (ms : Monitors) (world : World) (c : Scene) : Type 0 where
 abbrev pub IsWorld : World → Type 0
 IsWorld world = (ms : Monitors) × (c : Scene) × StandsFor ms world c
 
+-- It stands for a list of events: their run comes to the scene's world, and nothing stops it.
+pub record StandsForRun (ms : Monitors) (events : List model.Event) (world : World) (c : Scene) : Type 0 where
+  pub fit : AllFit ms.count events
+  pub comes_to : run ms events ≡ c.world
+  pub goes_on : (ran ms events).stop ≡ None
+  pub stands : StandsFor ms world c
+
+-- such a list with an event of a schedule behind it, in the scene to which it leads
+abbrev pub and_event : Monitors → List model.Event → Scene → Event → List model.Event
+and_event ms events c e = events ++ event_in ms c (scheduled_of e) ∷ []
+
 -- what happens in a schedule of so many monitors
 pub record FitsPlain (n : ℕ) (p : Plain) : Type 0 where
   pub form : IsTrue (plain_fits n p)
@@ -70,10 +84,13 @@ pub record Fits (n : ℕ) (e : Event) : Type 0 where
   pub form : IsTrue (event_fits n e)
   pub short : length (event_text e) ≤ most_bytes
 
--- A call left a world, and answered an event's lines; or the run stops as it should.
+-- A call answered an event's lines, and this holds of the scene then; or the run stops as it should.
+abbrev pub Leads : (Scene → Type 0) → Result StepLine WorldStop → Result (Scene × StepLine) happens.Stop → Type 0
+Leads there (Ok line) wanted = (next : Scene) × (wanted ≡ Ok (next, line)) × there next
+Leads there (Err e) wanted = Stops e wanted
+
 abbrev pub Does : Monitors → Result StepLine WorldStop → World → Result (Scene × StepLine) happens.Stop → Type 0
-Does ms (Ok line) new wanted = (next : Scene) × (wanted ≡ Ok (next, line)) × StandsFor ms new next
-Does ms (Err e) new wanted = Stops e wanted
+Does ms result new wanted = Leads (StandsFor ms new) result wanted
 
 -- what comes of what was met, where a disk is to fail
 abbrev pub upshot_at : Scene → Upset → Meeting → Upshot

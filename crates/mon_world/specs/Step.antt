@@ -13,12 +13,12 @@ use Rattle.mon_msg.specs.declared.plan.Sent.TheVariants as sent
 use Rattle.mon_world.specs.Events.{scheduled_of}
 use Rattle.quorum_model.specs.Clients.{messages_of}
 use Rattle.quorum_model.specs.Growth.{last_of}
-use Rattle.quorum_model.specs.Happens.{Stop, map_after, happens}
+use Rattle.quorum_model.specs.Happens.{Stop, map_after}
 use Rattle.quorum_model.specs.Meets.{Meeting, NoMessage, Reacts, meets}
 use Rattle.quorum_model.specs.Monitors.{Monitors}
 use Rattle.quorum_model.specs.Scenes.{Scene, kept_at, scene_after}
 use Rattle.quorum_model.specs.Upsets.{Upset}
-use Rattle.quorum_model.specs.World.{World, Plain, Comes, Envelope}
+use Rattle.quorum_model.specs.World.{World, Envelope}
 use Rattle.schedule_text.specs.declared.event.Event as schedule
 use Rattle.schedule_text.specs.declared.event.Event.TheVariants as events
 use Rattle.trace_text.specs.declared.step.Numbered.{Numbered}
@@ -85,10 +85,6 @@ met_line w other = still_line outcome.Down
 abbrev pub with_line : {A : Type 0} → StepLine → Result A Stop → Result (A × StepLine) Stop
 with_line line (Ok next) = Ok (next, line)
 with_line line (Err stop) = Err stop
-
--- the world after what comes, with its lines, or what stops the run before it
-abbrev pub plain_step : Monitors → World → Plain → Result (World × StepLine) Stop
-plain_step ms w p = with_line (met_line w (meets ms w p)) (happens ms w (Comes p))
 
 -- ---- with crashes
 

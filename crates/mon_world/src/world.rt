@@ -1,6 +1,6 @@
 //! The world of a schedule.
 
-ghost use Rattle.std.specs.Prelude.{◌≡◌, ◌≢◌, ℕ, ◌<◌, ◌≤◌, Bool, Option, None, Some, IfOk, length, map, slice_get};
+ghost use Rattle.std.specs.Prelude.{◌≡◌, ◌≢◌, ℕ, ◌<◌, ◌≤◌, Bool, List, [], Option, None, Some, IfOk, length, map, slice_get};
 ghost use Rattle.std.specs.FinMap.{empty};
 ghost use Rattle.std.specs.Option.{option_map};
 ghost use Rattle.mon_bounds.specs.Fitting.{MayCome};
@@ -14,6 +14,7 @@ ghost use Rattle.quorum_model.specs.Files.{Files, no_files};
 ghost use Rattle.quorum_model.specs.Growth.{last_of};
 ghost use Rattle.quorum_model.specs.Meets as meets;
 ghost use Rattle.quorum_model.specs.Monitors.{Monitors};
+ghost use Rattle.quorum_model.specs.Safe.{Safe};
 ghost use Rattle.quorum_model.specs.Scenes.{Scene, first_scene};
 ghost use Rattle.quorum_model.specs.World as model;
 ghost use Rattle.schedule_text.specs.declared.event.Event.TheVariants as events;
@@ -22,7 +23,7 @@ ghost use Rattle.mon_world.specs.Events.{plain_event};
 ghost use Rattle.mon_world.specs.Falls.{upset_of};
 ghost use Rattle.mon_world.specs.Meeting.{Meets, MeetsFall};
 ghost use Rattle.mon_world.specs.Monitor.{Standing, Stands};
-ghost use Rattle.mon_world.specs.Stands.{Does, DoesUpset, Fits, FitsPlain, IsWorld, StandsFor, arrival_of, envelope_of};
+ghost use Rattle.mon_world.specs.Stands.{Does, DoesUpset, Fits, FitsPlain, IsWorld, Leads, StandsFor, StandsForRun, and_event, arrival_of, envelope_of};
 ghost use Rattle.mon_world.specs.Step.{log_after, step};
 ghost use Rattle.mon_world.specs.Telling.{Leaves, Tells};
 
@@ -214,10 +215,10 @@ fn down(alloc: Global, rank: u8, monitors: u8, rule: &Rule) -> Monitor
 }
 
 impl World {
-    /// All monitors are down, with empty disks, and the log is empty.
+    /// All monitors are down, with empty disks, and the log is empty: nothing has happened.
     pub fn new(alloc: Global, monitors: u8, rule: Rule) -> Result<World, OutOfMemory>
         requires { monitors ≤ 15 }
-        ensures { (ms : Monitors) → ms.count ≡ monitors → ms.rule ≡ rule → IfOk result (λ world. StandsFor ms world first_scene) }
+        ensures { (ms : Monitors) → ms.count ≡ monitors → ms.rule ≡ rule → IfOk result (λ world. StandsForRun ms [] world first_scene) }
     {
         let mut list = Vec::new(alloc);
         for rank in 0..monitors {
@@ -346,11 +347,15 @@ impl World {
         }
     }
 
-    /// One event of a schedule of as many monitors, and its lines of the trace. After an `Err` the world isn't used again.
+    /// One event of a schedule of as many monitors, and its lines of the trace. Behind whatever events the world stands for, the run goes on
+    /// with this one, and is safe. After an `Err` the world isn't used again.
     pub fn step(&mut self, event: &Event) -> Result<StepLine, WorldStop>
         requires world { IsWorld self.old }
         requires fits { Fits (length self.old.monitors.items) event.now }
-        ensures { (ms : Monitors) (c : Scene) → StandsFor ms self.old c → Does ms result self.new (step ms c event.now) }
+        ensures does { (ms : Monitors) (c : Scene) → StandsFor ms self.old c → Does ms result self.new (step ms c event.now) }
+        ensures goes_on { (ms : Monitors) (c : Scene) (events : List model.Event) → StandsForRun ms events self.old c
+            → Leads (StandsForRun ms (and_event ms events c event.now) self.new) result (step ms c event.now) }
+        ensures safe { (ms : Monitors) (c : Scene) (events : List model.Event) → StandsForRun ms events self.old c → Safe ms (and_event ms events c event.now) }
     {
         match event {
             Event::Plain(event) => self.plain(event),

@@ -11,7 +11,7 @@ use Rattle.cephmon.proofs.replay.do_events.Goals as goal
 
 pub loop-event-init : goal.loop-event-init
 loop-event-init g c = record {
-  so_far = λ ms count rule. begins ms c.in_ok-world.world (g.K.Sink.held c.args.sink.now) c.args.schedule.now.events (c.in_ok-world.ensures ms count rule) (all_fit c.args.schedule.now ms c.requires count);
+  so_far = λ ms count rule. begins ms c.in_ok-world.world (g.K.Sink.held c.args.sink.now) c.args.schedule.now.events (c.in_ok-world.ensures ms count rule).stands (all_fit c.args.schedule.now ms c.requires count);
   number = refl;
   later = omega arith;
 }

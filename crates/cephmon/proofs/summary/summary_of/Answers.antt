@@ -10,7 +10,7 @@ use Rattle.cephmon.proofs.summary.summary_of.Goals as goal
 pub loop-event-init : goal.loop-event-init
 loop-event-init c = λ ms count rule.
     subst (λ (k : Counts). Counted ms c.in_ok-world.world k c.args.schedule.now.events 0) (sym c.of_none-counts.ensures)
-    (counts_none ms c.in_ok-world.world c.args.schedule.now.events (c.in_ok-world.ensures ms count rule) (all_fit c.args.schedule.now ms c.requires count))
+    (counts_none ms c.in_ok-world.world c.args.schedule.now.events (c.in_ok-world.ensures ms count rule).stands (all_fit c.args.schedule.now ms c.requires count))
 
 pub step-requires-clause-world : goal.step-requires-clause-world
 step-requires-clause-world c =
@@ -32,7 +32,7 @@ returns-in_err-step-clause-stops c =
     let e = c.event-item.result in
     let p = err_from_is_err_and c.from_residual-in_err-step.result c.from_residual-in_err-step.ensures.1 in
     let here = event_of es c.as_slice-event-items.result.now l.event-index e c.as_slice-event-items.ensures (omega (arith, c.loop-event-test.true)) c.event-item.is in
-    λ ms count rule. rw (p.1, p.2) (counts_stopped ms c.in_err-step.field-0.0 l.world c.step.new.self l.counts es l.event-index e here (l.invariant ms count rule) (c.in_err-step.ensures ms))
+    λ ms count rule. rw (p.1, p.2) (counts_stopped ms c.in_err-step.field-0.0 l.world c.step.new.self l.counts es l.event-index e here (l.invariant ms count rule) (c.in_err-step.ensures.does ms))
 
 pub loop-event-preserved : goal.loop-event-preserved
 loop-event-preserved c =
@@ -41,7 +41,7 @@ loop-event-preserved c =
     let e = c.event-item.result in
     let here = event_of es c.as_slice-event-items.result.now l.event-index e c.as_slice-event-items.ensures (omega (arith, c.loop-event-test.true)) c.event-item.is in
     λ ms count rule. counts_more ms l.world c.step.new.self l.counts c.in_ok-counts.counts c.in_ok-step.field-0 es l.event-index e here (l.invariant ms count rule)
-    (c.in_ok-step.ensures ms) c.in_ok-counts.ensures
+    (c.in_ok-step.ensures.does ms) c.in_ok-counts.ensures
 
 pub last_versions-requires-clause-there : goal.last_versions-requires-clause-there
 last_versions-requires-clause-there c =
