@@ -12,6 +12,3 @@ mod words;
 
 pub use task::{Task, WordsStop};
 pub use words::read_words;
-
-#[cfg(test)]
-mod tests;
