@@ -53,6 +53,7 @@ impl<R: Net + Copy> UdpLink<R> {
     pub fn named(rt: &R, own: Rank, addresses: Vec<Address>) -> UdpLink<R>
         ensures own { result.own ≡ Some own }
         ensures addresses { result.addresses ≡ addresses }
+        ensures failure { result.failure ≡ None }
         ensures faults { result.faults ≡ 0 }
         ensures losses { result.losses ≡ 0 }
     {
@@ -63,6 +64,7 @@ impl<R: Net + Copy> UdpLink<R> {
     pub fn client(rt: &R, addresses: Vec<Address>) -> UdpLink<R>
         ensures own { result.own ≡ None }
         ensures addresses { result.addresses ≡ addresses }
+        ensures failure { result.failure ≡ None }
         ensures faults { result.faults ≡ 0 }
         ensures losses { result.losses ≡ 0 }
     {
@@ -72,6 +74,7 @@ impl<R: Net + Copy> UdpLink<R> {
     fn of(rt: &R, own: Option<Rank>, addresses: Vec<Address>) -> UdpLink<R>
         ensures own { result.own ≡ own }
         ensures addresses { result.addresses ≡ addresses }
+        ensures failure { result.failure ≡ None }
         ensures faults { result.faults ≡ 0 }
         ensures losses { result.losses ≡ 0 }
     {
