@@ -5,15 +5,21 @@ ghost use Rattle.std.specs.Prelude.{◌≡◌, None, Some, ◌≤◌, length, If
 use crate::clients::Clients;
 use crate::link::{Got, Link, Peer};
 use crate::outside::raised;
+use libc::net::{SO_RCVBUF, SOL_SOCKET, setsockopt};
 use mon_bytes::{Bytes, OutOfMemory};
 use mon_types::{Rank, Stop};
 use std::io;
 use std::io::{Error, ErrorKind};
 use std::net::{Ipv4Addr, Net, SocketAddr, UdpSocket};
+use std::os::fd::AsRawFd;
 use std::time::Duration;
 
 /// More bytes than a datagram can have.
 const ROOM: usize = 65_536;
+
+/// How many bytes the system is asked to keep of datagrams that came and weren't taken yet. A long message is up to 18 of
+/// them, sent one behind the other, and the room that a socket has by default is often that of three.
+const RECEIVE_BUFFER: i32 = 4_194_304;
 
 /// Where a monitor hears.
 #[derive(Clone, Copy, Debug, PartialEq, Eq)]
@@ -47,6 +53,7 @@ impl<R: Net + Copy> UdpLink<R> {
     pub fn named(rt: &R, own: Rank, addresses: Vec<Address>) -> UdpLink<R>
         ensures own { result.own ≡ Some own }
         ensures addresses { result.addresses ≡ addresses }
+        ensures failure { result.failure ≡ None }
         ensures faults { result.faults ≡ 0 }
         ensures losses { result.losses ≡ 0 }
     {
@@ -57,6 +64,7 @@ impl<R: Net + Copy> UdpLink<R> {
     pub fn client(rt: &R, addresses: Vec<Address>) -> UdpLink<R>
         ensures own { result.own ≡ None }
         ensures addresses { result.addresses ≡ addresses }
+        ensures failure { result.failure ≡ None }
         ensures faults { result.faults ≡ 0 }
         ensures losses { result.losses ≡ 0 }
     {
@@ -66,6 +74,7 @@ impl<R: Net + Copy> UdpLink<R> {
     fn of(rt: &R, own: Option<Rank>, addresses: Vec<Address>) -> UdpLink<R>
         ensures own { result.own ≡ own }
         ensures addresses { result.addresses ≡ addresses }
+        ensures failure { result.failure ≡ None }
         ensures faults { result.faults ≡ 0 }
         ensures losses { result.losses ≡ 0 }
     {
@@ -110,7 +119,9 @@ impl<R: Net + Copy> UdpLink<R> {
     {
         if self.socket.is_none() {
             let here = self.here()?;
-            self.socket = Some(UdpSocket::bind(&self.rt, here)?);
+            let socket = UdpSocket::bind(&self.rt, here)?;
+            widen(&socket);
+            self.socket = Some(socket);
         }
         Ok(())
     }
@@ -162,6 +173,13 @@ impl<R: Net + Copy> UdpLink<R> {
             _ => Err(ErrorKind::AddrNotAvailable.into()),
         }
     }
+}
+
+/// Asks for room for the datagrams that come. The system may give less, or none: then more of them are lost on their way.
+fn widen(socket: &UdpSocket) {
+    let mut value = [0; 16];
+    value[..4].copy_from_slice(&RECEIVE_BUFFER.to_ne_bytes());
+    let _ = unsafe { setsockopt(socket.as_raw_fd(), SOL_SOCKET, SO_RCVBUF, &value, 4) };
 }
 
 /// Whether a call of the system ended since nothing came in time.
