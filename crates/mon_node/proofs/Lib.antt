@@ -2,8 +2,10 @@ pub mod Requests
 pub mod Letters
 pub mod Sending
 pub mod Renewing
+pub mod Standing
 pub mod Taking
 pub mod Turning
+pub mod Passing
 pub mod Looping
 pub mod Counting
 pub mod Hearings

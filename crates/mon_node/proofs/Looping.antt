@@ -2,18 +2,23 @@
 use Rattle.std.proofs.Common.{◌≡◌, ℕ, ◌+◌, ◌<◌, ◌≤◌, List, [], ◌∷◌, length, Option, Some, Result, Ok, Err, refl, sym, ap, subst, ◌∙◌, suc, add-one, arith}
 use Rattle.std.specs.Prelude.{option_map}
 use Rattle.mon_bytes.specs.Answers.{◌>>=◌}
+use Rattle.mon_disk.specs.Calls.{DiskState}
 use Rattle.mon_link.specs.Clocks.{Readings, after}
 use Rattle.mon_link.specs.Links.{Told}
 use Rattle.mon_msg.specs.Protocol.Timers.{due}
 use Rattle.mon_msg.specs.declared.input.Input.TheVariants as input
 use Rattle.mon_msg.specs.declared.view.Me.{Me}
 use Rattle.mon_store.specs.Stood.{Stood}
+use Rattle.mon_store.specs.declared.store.Store.{Store as StoreOn}
 use Rattle.mon_node.specs.Hearing.{Given, IsGiven, IsReading, at_moment}
-use Rattle.mon_node.specs.Nodes.{Serving, unstarted}
+use Rattle.mon_node.specs.Lasting.{BothTell, Leave, Through, Pass, IsWithinTurn, IsLeft, PassTurn, PassTurns, AreLeft, moments}
+use Rattle.mon_node.specs.Nodes.{Serving, Disks, disks_of, unstarted}
 use Rattle.mon_node.specs.Serving.{Has, EndsAt, EndsTurn, EndsAfter, AreGiven, Serves}
 use Rattle.mon_node.specs.Turns.{Turn, start, turn, ended_turn, last_turn, served}
 use Rattle.mon_node.specs.declared.end.NodeEnd.TheVariants as end
 use Rattle.mon_node.specs.declared.end.NodeEnd.{NodeEnd}
+use Rattle.mon_node.proofs.Standing.{lasts_on, leave_as}
+use Rattle.mon_node.proofs.Passing.{stood_then, turns_later}
 
 -- The start, once the clock told its moment.
 abbrev at_start : (first : ℕ) → Serving → Turn
@@ -28,17 +33,26 @@ start_as rank m clock read link first now read_is now_is =
 pub turn_as : {T : Type 0} (me mine : Me) (t u : Turn) (result : Result T NodeEnd) (after : Serving) → mine ≡ me → t ≡ u → EndsTurn mine t result after → EndsTurn me u result after
 turn_as me mine t u result after own same h = subst (λ (x : Me). EndsTurn x u result after) own (subst (λ (x : Turn). EndsTurn mine x result after) same h)
 
--- After so many turns a node stands so.
-pub record HasServed (me : Me) (s : Serving) (done : ℕ) (now : Serving) : Type 0 where
+-- And so do the disks of a store.
+pub pass_turn_as : {T D : Type 0} (state : D → DiskState) (me mine : Me) (t u : Turn) (result : Result T NodeEnd) (link : Option Told) (s n : StoreOn D) (new : Disks) → mine ≡ me → t ≡ u → s ≡ n
+    → (BothTell (disks_of state s) → PassTurn mine t result link (disks_of state s) new) → BothTell (disks_of state n) → PassTurn me u result link (disks_of state n) new
+pass_turn_as {T} {D} state me mine t u result link s n new own same stores h =
+    subst (λ (x : StoreOn D). BothTell (disks_of state x) → PassTurn me u result link (disks_of state x) new) stores
+    (subst (λ (x : Me). BothTell (disks_of state s) → PassTurn x u result link (disks_of state s) new) own (subst (λ (x : Turn). BothTell (disks_of state s) → PassTurn mine x result link (disks_of state s) new) same h))
+
+-- After so many turns a node stands so, and so do its disks.
+pub record HasServed (me : Me) (s : Serving) (old : Disks) (done : ℕ) (now : Serving) (disks : Disks) : Type 0 where
   pub first : ℕ
   pub given : List Given
   pub given_are : AreGiven me first s given
   pub done_are : done ≡ length given
   pub served_is : served me first s given ≡ Ok now
+  pub passes : BothTell old → PassTurns me first s given old disks
 
 -- the turns that a node made, whatever they are
-abbrev pub SomeServe : Me → Serving → (turns : ℕ) → NodeEnd → (begun : ℕ) → Option Readings → Option Told → Type 0
-SomeServe me s turns e begun clock link = (first : ℕ) × (given : List Given) × Serves me s turns e begun clock link first given
+abbrev pub SomeServe : Me → Serving → (old : Disks) → (turns : ℕ) → NodeEnd → (begun : ℕ) → Option Readings → Option Told → (new : Disks) → Type 0
+SomeServe me s old turns e begun clock link new =
+    (first : ℕ) × (given : List Given) × Serves me s turns e begun clock link first given × (BothTell old → PassTurns me first s given old new × AreLeft me first s given e link new)
 
 ends_after : (me : Me) (turns begun : ℕ) (t : Turn) (e : NodeEnd) (clock : Option Readings) (link : Option Told) → EndsAt me t e clock link → EndsAfter me turns begun t e clock link
 ends_after me turns begun t end.TurnsUsed clock link h = absurd h.cause
@@ -49,13 +63,24 @@ ends_after me turns begun t (end.Full would_be) clock link h = h
 ends_after me turns begun t (end.Spent spent) clock link h = h
 ends_after me turns begun t end.OutOfMemory clock link h = h
 
-module _ (me : Me) (s : Serving) where
+module _ (me : Me) (s : Serving) (old : Disks) where
   -- the start
-  pub started : (first : ℕ) (now : Serving) → IsReading s.outside.clock first → ended_turn me (start first s) ≡ Ok now → HasServed me s 0 now
-  started first now reading is = record { first = first; given = []; given_are = reading; done_are = refl; served_is = is }
+  start_passes : (first : ℕ) (new : Disks) → Pass (IsWithinTurn me (start first s)) old new → PassTurns me first s [] old new
+  start_passes first new p = record { a = p.a; b = p.b; tell = p.tell; turns = p.through }
 
-  pub start_ends : (turns first : ℕ) (e : NodeEnd) (clock : Option Readings) (link : Option Told) → IsReading s.outside.clock first → EndsAt me (start first s) e clock link → SomeServe me s turns e 0 clock link
-  start_ends turns first e clock link reading h = (
+  pub started : (first : ℕ) (now : Serving) (new : Disks) → IsReading s.outside.clock first → ended_turn me (start first s) ≡ Ok now → (BothTell old → Pass (IsWithinTurn me (start first s)) old new) → HasServed me s old 0 now new
+  started first now new reading is pass = record {
+    first = first;
+    given = [];
+    given_are = reading;
+    done_are = refl;
+    served_is = is;
+    passes = λ both. start_passes first new (pass both);
+  }
+
+  pub start_ends : (turns first : ℕ) (e : NodeEnd) (clock : Option Readings) (link : Option Told) (new : Disks) → IsReading s.outside.clock first → EndsAt me (start first s) e clock link
+      → (BothTell old → PassTurn {T = Unit {0}} me (start first s) (Err e) link old new) → SomeServe me s old turns e 0 clock link new
+  start_ends turns first e clock link new reading h pass = (
     first,
     [],
     record {
@@ -64,10 +89,11 @@ module _ (me : Me) (s : Serving) where
       most = omega arith;
       ends = ends_after me turns 0 (start first s) e clock link h;
     },
+    λ both. (start_passes first new (pass both).0, (pass both).1),
   )
 
   -- one more turn
-  module _ (done : ℕ) (now : Serving) (so_far : HasServed me s done now) where
+  module _ (done : ℕ) (now : Serving) (disks : Disks) (so_far : HasServed me s old done now disks) where
     module _ (g : Given) (given : IsGiven (due now.node.state.timers) g now.outside) where
       last_is : last_turn me so_far.first s (g ∷ so_far.given) ≡ Ok (turn me g now)
       last_is = ap (λ (x : Result Serving NodeEnd). x >>= λ (y : Serving). Ok (turn me g y)) so_far.served_is
@@ -78,30 +104,48 @@ module _ (me : Me) (s : Serving) where
       counted : done + 1 ≡ length (g ∷ so_far.given)
       counted = add-one done ∙ ap suc so_far.done_are
 
-      pub goes_on : (next : Serving) → ended_turn me (turn me g now) ≡ Ok next → HasServed me s (done + 1) next
-      goes_on next is = record {
+      at_last : (P : Turn → Type 0) → P (turn me g now) → Has (last_turn me so_far.first s (g ∷ so_far.given)) P
+      at_last P h = subst (λ (x : Result Turn NodeEnd). Has x P) (sym last_is) h
+
+      pub passes_on : (new : Disks) → BothTell old → Pass (IsWithinTurn me (turn me g now)) disks new → PassTurns me so_far.first s (g ∷ so_far.given) old new
+      passes_on new both p = let before = so_far.passes both in record {
+        a = lasts_on old.a disks.a new.a before.a p.a;
+        b = lasts_on old.b disks.b new.b before.b p.b;
+        tell = p.tell;
+        turns = (
+          moments disks,
+          turns_later me so_far.first s disks new p.a p.b so_far.given (moments old) (moments disks) (omega arith) (omega arith) before.turns,
+          at_last (λ (t : Turn). Through new (IsWithinTurn me t) (moments disks) (moments new)) p.through,
+        );
+      }
+
+      pub goes_on : (next : Serving) (new : Disks) → ended_turn me (turn me g now) ≡ Ok next → (BothTell disks → Pass (IsWithinTurn me (turn me g now)) disks new) → HasServed me s old (done + 1) next new
+      goes_on next new is pass = record {
         first = so_far.first;
         given = g ∷ so_far.given;
         given_are = are_given;
         done_are = counted;
         served_is = ap (λ (x : Result Turn NodeEnd). x >>= ended_turn me) last_is ∙ is;
+        passes = λ both. passes_on new both (pass (so_far.passes both).tell);
       }
 
-      pub ends_here : (turns : ℕ) (e : NodeEnd) (clock : Option Readings) (link : Option Told) → done < turns → EndsAt me (turn me g now) e clock link → SomeServe me s turns e (done + 1) clock link
-      ends_here turns e clock link within h = (
+      pub ends_here : (turns : ℕ) (e : NodeEnd) (clock : Option Readings) (link : Option Told) (new : Disks) → done < turns → EndsAt me (turn me g now) e clock link
+          → (BothTell disks → PassTurn {T = Unit {0}} me (turn me g now) (Err e) link disks new) → SomeServe me s old turns e (done + 1) clock link new
+      ends_here turns e clock link new within h pass = (
         so_far.first,
         g ∷ so_far.given,
         record {
           given_are = are_given;
           begun_are = counted;
           most = subst (λ (n : ℕ). n ≤ turns) counted (omega (arith, within));
-          ends = subst (λ (x : Result Turn NodeEnd). Has x (λ (t : Turn). EndsAfter me turns (done + 1) t e clock link)) (sym last_is) (ends_after me turns (done + 1) (turn me g now) e clock link h);
+          ends = at_last (λ (t : Turn). EndsAfter me turns (done + 1) t e clock link) (ends_after me turns (done + 1) (turn me g now) e clock link h);
         },
+        λ both. let p = pass (so_far.passes both).tell in (passes_on new both p.0, at_last (λ (t : Turn). Leave new (IsLeft me t e link)) p.1),
       )
 
     -- all of them
-    pub all_made : (turns : ℕ) → done ≡ turns → SomeServe me s turns end.TurnsUsed turns now.outside.clock now.outside.link
-    all_made turns all = (
+    pub all_made : (turns : ℕ) → done ≡ turns → Leave disks (λ x. x ≡ now.node.store) → SomeServe me s old turns end.TurnsUsed turns now.outside.clock now.outside.link disks
+    all_made turns all left = (
       so_far.first,
       so_far.given,
       record {
@@ -110,8 +154,13 @@ module _ (me : Me) (s : Serving) where
         most = subst (λ (n : ℕ). n ≤ turns) so_far.done_are (omega (arith, all));
         ends = at_last (last_turn me so_far.first s so_far.given) so_far.served_is;
       },
+      λ both. (so_far.passes both, are_left (last_turn me so_far.first s so_far.given) so_far.served_is),
     )
       where
         at_last : (x : Result Turn NodeEnd) → (x >>= ended_turn me) ≡ Ok now → Has x (λ (t : Turn). EndsAfter me turns turns t end.TurnsUsed now.outside.clock now.outside.link)
         at_last (Ok t) is = (refl, subst (λ (y : Result Serving NodeEnd). Has y (λ (z : Serving). (now.outside.clock ≡ z.outside.clock) × (now.outside.link ≡ z.outside.link))) (sym is) (refl, refl))
         at_last (Err e) is = absurd cc
+
+        are_left : (x : Result Turn NodeEnd) → (x >>= ended_turn me) ≡ Ok now → Has x (λ (t : Turn). Leave disks (IsLeft me t end.TurnsUsed now.outside.link))
+        are_left (Ok t) is = leave_as disks (λ x. x ≡ now.node.store) (IsLeft me t end.TurnsUsed now.outside.link) (λ x e. e ∙ stood_then me t now is) left
+        are_left (Err e) is = absurd cc

@@ -16,9 +16,11 @@ use Rattle.mon_msg.specs.declared.view.Me.{Me}
 use Rattle.mon_store.specs.Stood.{Stood}
 use Rattle.mon_node.specs.Ends.{of_core}
 use Rattle.mon_node.specs.Hearing.{at_moment}
-use Rattle.mon_node.specs.Nodes.{outside_of}
+use Rattle.mon_node.specs.Lasting.{BothTell, Leave, PassTurn}
+use Rattle.mon_node.specs.Nodes.{Disks, outside_of}
 use Rattle.mon_node.specs.Serving.{EndsAt}
 use Rattle.mon_node.specs.Turns.{reaction_to}
+use Rattle.mon_node.proofs.Passing.{wants_pass, stops_pass}
 use Rattle.mon_node.proofs.Taking.{wants, stops}
 
 module _ (old new : Monitor) (stood : Stood) (now : ℕ) (came : Input) (me : Me) (own : old.me ≡ me) where
@@ -37,4 +39,11 @@ module _ (old new : Monitor) (stood : Stood) (now : ℕ) (came : Input) (me : Me
   core_ends stop.OutOfMemory next parts clock link h = wants me (record { node = record { state = old.state; store = stood; next = next }; outside = outside_of parts clock link }) (at_moment now came)
   core_ends (stop.Spent which) next parts clock link h =
       stops me (record { node = record { state = old.state; store = stood; next = next }; outside = outside_of parts clock link }) (at_moment now came) which
+      (subst (λ (x : Me). reaction x now stood.kv old.state came ≡ Err which) own h)
+
+  pub core_passes : (T : Type 0) (s : CoreStop) (next : ℕ) (parts : List Partial) (clock : Option Readings) (link : Option Told) (d : Disks) → Reacts old new stood.kv now came (Err s) → BothTell d → Leave d (λ x. x ≡ stood)
+      → PassTurn {T = T} me (record { came = Ok (Some (at_moment now came)); serving = record { node = record { state = old.state; store = stood; next = next }; outside = outside_of parts clock link } }) (Err (of_core s)) link d d
+  core_passes T stop.OutOfMemory next parts clock link d h tell still = wants_pass me (record { node = record { state = old.state; store = stood; next = next }; outside = outside_of parts clock link }) (at_moment now came) T d tell still
+  core_passes T (stop.Spent which) next parts clock link d h tell still =
+      stops_pass me (record { node = record { state = old.state; store = stood; next = next }; outside = outside_of parts clock link }) (at_moment now came) T d tell still which
       (subst (λ (x : Me). reaction x now stood.kv old.state came ≡ Err which) own h)

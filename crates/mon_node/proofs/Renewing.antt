@@ -6,11 +6,11 @@ use Rattle.mon_types.specs.Sides.{other as other_side}
 use Rattle.mon_node.specs.Keeping.{renewed}
 
 -- by whether one is due
-abbrev by : Stood → Bool → Stood
-by s due = cond due (record { side = other_side s.side; journal = next_journal s.journal s.kv; kv = s.kv }) s
+abbrev pub by_due : Stood → Bool → Stood
+by_due s due = cond due (record { side = other_side s.side; journal = next_journal s.journal s.kv; kv = s.kv }) s
 
 pub renews : (due : Bool) (old new : Stood) → due ≡ is_due old.journal old.kv → new.kv ≡ old.kv
     → (due ≡ true → new.side ≡ other_side old.side) → (due ≡ true → new.journal ≡ next_journal old.journal old.kv) → (due ≡ false → new ≡ old)
     → new ≡ renewed old
-renews true old new is kv side journal same = (λ i. record { side = side refl i; journal = journal refl i; kv = kv i }) ∙ ap (by old) is
-renews false old new is kv side journal same = same refl ∙ ap (by old) is
+renews true old new is kv side journal same = (λ i. record { side = side refl i; journal = journal refl i; kv = kv i }) ∙ ap (by_due old) is
+renews false old new is kv side journal same = same refl ∙ ap (by_due old) is

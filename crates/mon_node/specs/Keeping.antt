@@ -12,7 +12,7 @@ use Rattle.mon_types.specs.Sides.{other as other_side}
 use Rattle.mon_node.specs.declared.end.NodeEnd.TheVariants as end
 use Rattle.mon_node.specs.declared.end.NodeEnd.{NodeEnd}
 
--- where a store stands once a transaction's record is written
+-- where a store stands once a transaction's changes are made: an empty one has no record
 abbrev pub changed : List Op → Stood → Stood
 changed ops s = record { side = s.side; journal = journal_after s.journal ops; kv = apply ops s.kv }
 
@@ -24,7 +24,7 @@ renewed s = if is_due s.journal s.kv then (record { side = other_side s.side; jo
 abbrev pub kept : List Op → Stood → Stood
 kept ops s = renewed (changed ops s)
 
--- the map has its changes; or it would be too large; or a disk failed, or memory ran out
+-- the map in memory has its changes; or it would be too large; or a disk failed, or memory ran out
 abbrev pub Keeps : {T : Type 0} → List Op → (old new : Store) → Result T NodeEnd → Type 0
 Keeps ops old new (Ok x) = (size_of (apply ops old) ≤ most_size) × (new ≡ apply ops old)
 Keeps ops old new (Err (end.Full would_be)) = (most_size < size_of (apply ops old)) × (would_be ≡ size_of (apply ops old))

@@ -1,6 +1,7 @@
 pub mod Ends
 pub mod Hearing
 pub mod Keeping
+pub mod Lasting
 pub mod Nodes
 pub mod Posting
 pub mod Servers

@@ -1,10 +1,13 @@
 -- A node between its inputs.
 use Rattle.std.specs.Prelude.{ℕ, List, [], Option}
+use Rattle.mon_disk.specs.Calls.{DiskState}
+use Rattle.mon_disk.specs.Images.{Content}
 use Rattle.mon_frag.specs.declared.partial.Partial.{Partial}
 use Rattle.mon_link.specs.Clocks.{Readings}
 use Rattle.mon_link.specs.Links.{Told}
 use Rattle.mon_msg.specs.Protocol.State.{State, booting}
 use Rattle.mon_store.specs.Stood.{Stood}
+use Rattle.mon_store.specs.Whole.{disk_a, disk_b}
 use Rattle.mon_store.specs.declared.store.Store.{Store}
 
 pub record Node : Type 0 where
@@ -39,3 +42,16 @@ unstarted rank stood clock link = record {
 
 abbrev pub outside_of : List Partial → Option Readings → Option Told → Outside
 outside_of parts clock link = record { parts = parts; clock = clock; link = link }
+
+-- ---- the two disks
+
+pub record Disks : Type 1 where
+  pub a : Content
+  pub b : Content
+
+abbrev pub disks : {D : Type 0} → (D → DiskState) → (a b : D) → Disks
+disks state a b = record { a = (state a).content; b = (state b).content }
+
+-- those of a store
+abbrev pub disks_of : {D : Type 0} → (D → DiskState) → Store D → Disks
+disks_of state s = disks state (disk_a s) (disk_b s)

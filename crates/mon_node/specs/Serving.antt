@@ -1,5 +1,5 @@
 -- How a node ends, and what it leaves.
-use Rattle.std.specs.Prelude.{◌≡◌, ℕ, ◌≤◌, ◌⊎◌, List, [], ◌∷◌, length, Option, Some, None, Result, Ok, Err}
+use Rattle.std.specs.Prelude.{◌≡◌, ℕ, ◌≤◌, List, [], ◌∷◌, length, Option, Some, None, Result, Ok, Err}
 use Rattle.mon_kv.specs.Readers.{size_of}
 use Rattle.mon_link.specs.Clocks.{Readings}
 use Rattle.mon_link.specs.Links.{Told}
@@ -8,7 +8,6 @@ use Rattle.mon_msg.specs.Protocol.Reaction.{Reaction}
 use Rattle.mon_msg.specs.Protocol.Timers.{due}
 use Rattle.mon_msg.specs.declared.view.Me.{Me}
 use Rattle.mon_store.specs.Checkpoint.{most_size}
-use Rattle.mon_tx.specs.Map.{Store}
 use Rattle.mon_types.specs.declared.names.Which.{Which}
 use Rattle.mon_node.specs.Hearing.{Given, IsGiven, IsReading}
 use Rattle.mon_node.specs.Nodes.{Node, Serving}
@@ -37,12 +36,9 @@ of_came me n none some (Err e) = none
 abbrev pub of_turn : {A : Type 0} → Me → Turn → A → (Reaction → A) → A
 of_turn me t none some = of_came me t.serving.node none some t.came
 
--- what it sends, and the map with its transaction
+-- what it sends
 abbrev pub sends_of : Me → Turn → List Outgoing
 sends_of me t = of_turn me t [] (sent_by me t.serving.node)
-
-abbrev pub map_with : Me → Turn → Store
-map_with me t = of_turn me t t.serving.node.store.kv (map_after t.serving.node)
 
 -- it has one, and the core reacts so
 abbrev pub OfInput : Me → Node → (Reaction → Type 0) → Result (Option TimedInput) NodeEnd → Type 0
@@ -69,13 +65,6 @@ abbrev pub SendsAtEnd : Me → Turn → NodeEnd → Option Told → Type 0
 SendsAtEnd me t end.OutOfMemory link = SendsFront (sends_of me t) t.serving.outside.link link
 SendsAtEnd me t (end.Spent spent) link = SendsFront (sends_of me t) t.serving.outside.link link
 SendsAtEnd me t other link = link ≡ t.serving.outside.link
-
--- Which map the disks stand for: where a disk failed, or memory ran out, that from before the turn or that with its transaction.
-abbrev pub IsLeft : Me → Turn → NodeEnd → Store → Type 0
-IsLeft me t end.OutOfMemory m = (m ≡ t.serving.node.store.kv) ⊎ (m ≡ map_with me t)
-IsLeft me t end.DiskFault m = (m ≡ t.serving.node.store.kv) ⊎ (m ≡ map_with me t)
-IsLeft me t (end.Spent spent) m = m ≡ map_with me t
-IsLeft me t other m = m ≡ t.serving.node.store.kv
 
 pub record EndsAt (me : Me) (t : Turn) (e : NodeEnd) (clock : Option Readings) (link : Option Told) : Type 0 where
   pub cause : Causes me t e

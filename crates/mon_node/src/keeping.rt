@@ -1,11 +1,13 @@
 //! What the core writes is kept.
 
-ghost use Rattle.std.specs.Prelude.{◌≡◌, ◌≤◌, false, length, OnOk, IfErr};
+ghost use Rattle.std.specs.Prelude.{◌≡◌, ◌≤◌, ◌⊎◌, false, length, OnOk, IfErr};
 ghost use Rattle.mon_store.specs.Whole.{IsSound, disk_a, disk_b};
 ghost use Rattle.mon_tx.specs.Map.{apply};
 ghost use Rattle.mon_tx.specs.Text.{text, most};
+ghost use Rattle.mon_store.specs.Moments.{Meanwhile};
 ghost use Rattle.mon_node.specs.Keeping.{Keeps, changed, renewed, kept, IsOfDisk, DisksCount};
-ghost use Rattle.mon_node.specs.Nodes.{stood_of};
+ghost use Rattle.mon_node.specs.Lasting.{BothTell, IsWithin, On, Pass, StaysIfFull, recorded};
+ghost use Rattle.mon_node.specs.Nodes.{disks_of, stood_of};
 
 use crate::end::NodeEnd;
 use mon_disk::Disk;
@@ -22,6 +24,12 @@ fn change<D: Disk>(store: &mut Store<D>, tx: &Transaction) -> Result<(), NodeEnd
     ensures keeps { Keeps tx.now store.old.kv store.new.kv result }
     ensures stands { OnOk result (stood_of store.new ≡ changed tx.now (stood_of store.old)) }
     ensures counts { DisksCount result (D.state (disk_a store.old)).faults (D.state (disk_b store.old)).faults (D.state (disk_a store.new)).faults (D.state (disk_b store.new)).faults }
+    ensures full { IfErr result (λ end. StaysIfFull end (disk_a store.old) (disk_b store.old) (disk_a store.new) (disk_b store.new)) }
+    ensures tells { BothTell (disks_of D.state store.old) → BothTell (disks_of D.state store.new) }
+
+    // A crash at any moment leaves the store as it stood, or behind the record.
+    ensures meanwhile { let old = disks_of D.state store.old in let new = disks_of D.state store.new in
+        BothTell old → Meanwhile old.a old.b new.a new.b (On (λ s. (s ≡ stood_of store.old) ⊎ (s ≡ recorded tx.now (stood_of store.old)))) }
 {
     match store.apply(tx) {
         Ok(()) => Ok(()),
@@ -42,6 +50,11 @@ fn renew<D: Disk>(store: &mut Store<D>) -> Result<(), NodeEnd>
     ensures stands { OnOk result (stood_of store.new ≡ renewed (stood_of store.old)) }
     ensures stop { IfErr result IsOfDisk }
     ensures counts { DisksCount result (D.state (disk_a store.old)).faults (D.state (disk_b store.old)).faults (D.state (disk_a store.new)).faults (D.state (disk_b store.new)).faults }
+    ensures tells { BothTell (disks_of D.state store.old) → BothTell (disks_of D.state store.new) }
+
+    // A crash at any moment leaves the store as it stood, or behind the checkpoint that is due.
+    ensures meanwhile { let old = disks_of D.state store.old in let new = disks_of D.state store.new in
+        Meanwhile old.a old.b new.a new.b (On (λ s. (s ≡ stood_of store.old) ⊎ (s ≡ renewed (stood_of store.old)))) }
 {
     match store.restart_if_due() {
         Ok(_) => Ok(()),
@@ -61,6 +74,8 @@ pub(crate) fn keep<D: Disk>(store: &mut Store<D>, tx: &Transaction) -> Result<()
     ensures keeps { Keeps tx.now store.old.kv store.new.kv result }
     ensures stands { OnOk result (stood_of store.new ≡ kept tx.now (stood_of store.old)) }
     ensures counts { DisksCount result (D.state (disk_a store.old)).faults (D.state (disk_b store.old)).faults (D.state (disk_a store.new)).faults (D.state (disk_b store.new)).faults }
+    ensures full { IfErr result (λ end. StaysIfFull end (disk_a store.old) (disk_b store.old) (disk_a store.new) (disk_b store.new)) }
+    ensures passes { BothTell (disks_of D.state store.old) → Pass (IsWithin tx.now (stood_of store.old)) (disks_of D.state store.old) (disks_of D.state store.new) }
 {
     change(store, tx)?;
     renew(store)?;

@@ -8,7 +8,8 @@ ghost use Rattle.mon_msg.specs.Protocol.Timers.{due};
 ghost use Rattle.mon_store.specs.Whole.{IsSound, disk_a, disk_b};
 ghost use Rattle.mon_node.specs.Hearing.{Given, IsGiven, at_moment, faults_by};
 ghost use Rattle.mon_node.specs.Keeping.{DisksCount};
-ghost use Rattle.mon_node.specs.Nodes.{unstarted, stood_of};
+ghost use Rattle.mon_node.specs.Lasting.{BothTell, PassTurn};
+ghost use Rattle.mon_node.specs.Nodes.{unstarted, stood_of, disks_of};
 ghost use Rattle.mon_node.specs.Serving.{EndsTurn, IsOfInput};
 ghost use Rattle.mon_node.specs.Turns.{turn};
 
@@ -74,6 +75,7 @@ impl<D: Disk> Server<D> {
         ensures kind { IfErr result IsOfInput }
         ensures faults { (L.state link.new).faults ≡ (L.state link.old).faults }
         ensures counts { DisksCount result (D.state (disk_a self.old.store)).faults (D.state (disk_b self.old.store)).faults (D.state (disk_a self.new.store)).faults (D.state (disk_b self.new.store)).faults }
+        ensures passes { (clock : Option Readings) → BothTell (disks_of D.state self.old.store) → PassTurn self.old.me (record { came = Ok (Some (at_moment now input.now)); serving = serving_of self.old clock (L.state link.old).told }) result (L.state link.new).told (disks_of D.state self.old.store) (disks_of D.state self.new.store) }
     {
         let reaction = self.core.react(self.alloc, self.store.kv(), input, now)?;
         keep(&mut self.store, &reaction.tx)?;
@@ -97,9 +99,10 @@ impl<D: Disk> Server<D> {
         requires in_use { IsInUse D.state self.old }
         ensures in_use { OnOk result (IsInUse D.state self.new) }
         ensures me { self.new.me ≡ self.old.me }
-        ensures turn { let old = serving_of self.old (C.left clock.old) (L.state link.old).told in
+        ensures turn { let old = serving_of self.old (C.left clock.old) (L.state link.old).told in let disks = disks_of D.state self.old.store in
             (g : Given) × IsGiven (due self.old.core.state.timers) g old.outside
-            × EndsTurn self.old.me (turn self.old.me g old) result (serving_of self.new (C.left clock.new) (L.state link.new).told) }
+            × EndsTurn self.old.me (turn self.old.me g old) result (serving_of self.new (C.left clock.new) (L.state link.new).told)
+            × (BothTell disks → PassTurn self.old.me (turn self.old.me g old) result (L.state link.new).told disks (disks_of D.state self.new.store)) }
         ensures faults { (L.state link.new).faults ≡ faults_by result (L.state link.old).faults }
         ensures counts { DisksCount result (D.state (disk_a self.old.store)).faults (D.state (disk_b self.old.store)).faults (D.state (disk_a self.new.store)).faults (D.state (disk_b self.new.store)).faults }
     {

@@ -1,7 +1,8 @@
 ghost use Rattle.std.specs.Prelude.{◌≡◌, ℕ, List, false};
 ghost use Rattle.mon_node.specs.Hearing.{Given, faults_at};
 ghost use Rattle.mon_node.specs.Keeping.{DisksCountAt};
-ghost use Rattle.mon_node.specs.Nodes.{unstarted, stood_of};
+ghost use Rattle.mon_node.specs.Lasting.{BothTell, PassTurns, AreLeft};
+ghost use Rattle.mon_node.specs.Nodes.{unstarted, stood_of, disks, disks_of};
 ghost use Rattle.mon_node.specs.Serving.{Serves};
 ghost use Rattle.mon_store.specs.Whole.{IsSound, disk_a, disk_b};
 
@@ -34,10 +35,13 @@ pub fn serve<D: Disk, L: Link, C: Clock>(
     requires unbroken { store.broken ≡ false }
     requires sound { IsSound D.state store }
 
-    // What each turn was given by clock and link decides what comes of all of them.
+    // What each turn was given by clock and link decides what comes of all of them. Where both disks tell what they hold, a crash at any
+    // moment of a turn leaves the store as the turn began with it, behind the record of its transaction, or behind the checkpoint.
     ensures serves { let start = unstarted member.rank (stood_of store) (C.left clock.old) (L.state link.old).told in
+        let old = disks_of D.state store in let new = disks D.state result.disks.a result.disks.b in
         (first : ℕ) × (given : List Given)
-        × Serves (record { member = member; rule = rule }) start turns result.end result.turns (C.left clock.new) (L.state link.new).told first given }
+        × Serves (record { member = member; rule = rule }) start turns result.end result.turns (C.left clock.new) (L.state link.new).told first given
+        × (BothTell old → PassTurns (record { member = member; rule = rule }) first start given old new × AreLeft (record { member = member; rule = rule }) first start given result.end (L.state link.new).told new) }
 
     ensures faults { (L.state link.new).faults ≡ faults_at result.end (L.state link.old).faults }
     ensures counts { DisksCountAt result.end (D.state (disk_a store)).faults (D.state (disk_b store)).faults (D.state result.disks.a).faults (D.state result.disks.b).faults }

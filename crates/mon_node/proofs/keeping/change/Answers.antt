@@ -1,6 +1,46 @@
+use Rattle.mon_node.proofs.Standing.{tells_live, records, stays_if_full, full_stays}
 use Rattle.mon_node.proofs.keeping.change.Goals as goal
 
 pub returns-in-Ok-clause-stands : goal.returns-in-Ok-clause-stands
 returns-in-Ok-clause-stands g c =
     let call = c.in-Ok.ensures in
     λ i. record { side = call.side i; journal = call.journal i; kv = call.answer.3 i }
+
+pub returns-in-Ok-clause-tells : goal.returns-in-Ok-clause-tells
+returns-in-Ok-clause-tells g c =
+    let call = c.apply.ensures in
+    tells_live g.D.Disk.state c.args.store.now c.apply.new.self call.side call.other call.call.tells
+
+pub returns-in-Err-Full-clause-tells : goal.returns-in-Err-Full-clause-tells
+returns-in-Err-Full-clause-tells g c =
+    let call = c.apply.ensures in
+    tells_live g.D.Disk.state c.args.store.now c.apply.new.self call.side call.other call.call.tells
+
+pub returns-in-Err-DiskFault-clause-tells : goal.returns-in-Err-DiskFault-clause-tells
+returns-in-Err-DiskFault-clause-tells g c =
+    let call = c.apply.ensures in
+    tells_live g.D.Disk.state c.args.store.now c.apply.new.self call.side call.other call.call.tells
+
+pub returns-in-Err-OutOfMemory-clause-tells : goal.returns-in-Err-OutOfMemory-clause-tells
+returns-in-Err-OutOfMemory-clause-tells g c =
+    let call = c.apply.ensures in
+    tells_live g.D.Disk.state c.args.store.now c.apply.new.self call.side call.other call.call.tells
+
+pub returns-in-Ok-clause-meanwhile : goal.returns-in-Ok-clause-meanwhile
+returns-in-Ok-clause-meanwhile g c = records g.D.Disk.state c.args.store.now c.apply.new.self c.args.tx.now (c.apply.ensures.any_moment c.requires.unbroken)
+
+pub returns-in-Err-Full-clause-meanwhile : goal.returns-in-Err-Full-clause-meanwhile
+returns-in-Err-Full-clause-meanwhile g c = records g.D.Disk.state c.args.store.now c.apply.new.self c.args.tx.now (c.apply.ensures.any_moment c.requires.unbroken)
+
+pub returns-in-Err-DiskFault-clause-meanwhile : goal.returns-in-Err-DiskFault-clause-meanwhile
+returns-in-Err-DiskFault-clause-meanwhile g c = records g.D.Disk.state c.args.store.now c.apply.new.self c.args.tx.now (c.apply.ensures.any_moment c.requires.unbroken)
+
+pub returns-in-Err-OutOfMemory-clause-meanwhile : goal.returns-in-Err-OutOfMemory-clause-meanwhile
+returns-in-Err-OutOfMemory-clause-meanwhile g c = records g.D.Disk.state c.args.store.now c.apply.new.self c.args.tx.now (c.apply.ensures.any_moment c.requires.unbroken)
+
+pub returns-in-Err-Full-clause-full : goal.returns-in-Err-Full-clause-full
+returns-in-Err-Full-clause-full g c =
+    let s = c.args.store.now in
+    let n = c.apply.new.self in
+    let arm = c.in-Err-Full in
+    stays_if_full g.D.Disk.state s n arm.would_be c.apply.ensures.side (full_stays s.live n.live arm.field-0 arm.would_be arm.field-0-is arm.ensures.disk) c.apply.ensures.other

@@ -2,11 +2,13 @@ use Rattle.std.proofs.Common.{Ok, Err, ap, subst, ◌∙◌, arith}
 use Rattle.mon_msg.specs.declared.view.Me.{Me}
 use Rattle.mon_store.specs.Whole.{disk_a, disk_b}
 use Rattle.mon_store.specs.declared.store.Store.{Store}
-use Rattle.mon_node.specs.Nodes.{unstarted, stood_of}
+use Rattle.mon_node.specs.Lasting.{BothTell, PassTurn}
+use Rattle.mon_node.specs.Nodes.{unstarted, stood_of, disks_of}
 use Rattle.mon_node.specs.Servers.{serving_of}
 use Rattle.mon_node.specs.Serving.{EndsTurn}
 use Rattle.mon_node.specs.Turns.{start, turn}
-use Rattle.mon_node.proofs.Looping.{start_as, turn_as, started, start_ends, goes_on, ends_here, all_made}
+use Rattle.mon_node.proofs.Looping.{start_as, turn_as, pass_turn_as, started, start_ends, goes_on, ends_here, all_made}
+use Rattle.mon_node.proofs.Standing.{in_use_leaves}
 use Rattle.mon_node.proofs.serving.serve.Goals as goal
 
 pub returns-in-Err-clause-serves : goal.returns-in-Err-clause-serves
@@ -21,9 +23,10 @@ returns-in-Err-clause-serves g c =
     let e = c.in-Err.end in
     let begun = unstarted c.args.member.rank (stood_of c.args.store) clock told in
     let starts = start_as c.args.member.rank (stood_of c.args.store) clock read told first (serving_of server read told) c.now-first.ensures.left (c.new-server.ensures.serving read told) in
-    rw (c.end.ensures.end, c.end.ensures.turns)
-    (start_ends me begun c.args.turns first e read left c.now-first.ensures.shows
-    (turn_as {T = Unit {0}} me server.me _ (start first begun) (Err e) (serving_of c.take.new.self read left) c.new-server.ensures.me starts (c.in-Err.ensures.ends read)))
+    rw (c.end.ensures.end, c.end.ensures.turns, c.end.ensures.a, c.end.ensures.b)
+    (start_ends me begun (disks_of g.D.Disk.state c.args.store) c.args.turns first e read left (disks_of g.D.Disk.state c.take.new.self.store) c.now-first.ensures.shows
+    (turn_as {T = Unit {0}} me server.me _ (start first begun) (Err e) (serving_of c.take.new.self read left) c.new-server.ensures.me starts (c.in-Err.ensures.ends read))
+    (pass_turn_as {T = Unit {0}} g.D.Disk.state me server.me _ (start first begun) (Err e) left server.store c.args.store (disks_of g.D.Disk.state c.take.new.self.store) c.new-server.ensures.me starts c.new-server.ensures.store (c.in-Err.ensures.passes read)))
 
 pub loop-done-init : goal.loop-done-init
 loop-done-init g c =
@@ -36,8 +39,10 @@ loop-done-init g c =
     let after = serving_of c.take.new.self read (g.L.Link.state c.take.new.link).told in
     let begun = unstarted c.args.member.rank (stood_of c.args.store) clock told in
     let starts = start_as c.args.member.rank (stood_of c.args.store) clock read told first (serving_of server read told) c.now-first.ensures.left (c.new-server.ensures.serving read told) in
+    let disks = disks_of g.D.Disk.state c.take.new.self.store in
+    let passes = pass_turn_as g.D.Disk.state me server.me _ (start first begun) (Ok c.in_default.field-0) (g.L.Link.state c.take.new.link).told server.store c.args.store disks c.new-server.ensures.me starts c.new-server.ensures.store (c.in_default.ensures.passes read) in
     record {
-      served = started me begun first after c.now-first.ensures.shows (turn_as me server.me _ (start first begun) (Ok c.in_default.field-0) after c.new-server.ensures.me starts (c.in_default.ensures.ends read));
+      served = started me begun (disks_of g.D.Disk.state c.args.store) first after disks c.now-first.ensures.shows (turn_as me server.me _ (start first begun) (Ok c.in_default.field-0) after c.new-server.ensures.me starts (c.in_default.ensures.ends read)) (λ both. (passes both).0);
       in_use = c.in_default.ensures.in_use;
       own = c.in_default.ensures.me ∙ c.new-server.ensures.me;
       faults = c.in_default.ensures.faults;
@@ -55,9 +60,12 @@ returns-in-Err-turn-clause-serves g c =
     let told = (g.L.Link.state c.turn.new.link).told in
     let e = c.in-Err-turn.end in
     let t = c.in-Err-turn.ensures.turn in
+    let old = disks_of g.D.Disk.state l.server.store in
+    let new = disks_of g.D.Disk.state c.turn.new.self.store in
     let h = subst (λ (x : Me). EndsTurn {T = Unit {0}} x (turn x t.0 now) (Err e) (serving_of c.turn.new.self clock told)) l.invariant.own t.2 in
-    rw (c.end-in-Err-turn.ensures.end, c.end-in-Err-turn.ensures.turns)
-    (ends_here me begun l.done now l.invariant.served t.0 t.1 c.args.turns e clock told (omega (arith, c.loop-done-test.true)) h)
+    let passes = subst (λ (x : Me). BothTell old → PassTurn {T = Unit {0}} x (turn x t.0 now) (Err e) told old new) l.invariant.own t.3 in
+    rw (c.end-in-Err-turn.ensures.end, c.end-in-Err-turn.ensures.turns, c.end-in-Err-turn.ensures.a, c.end-in-Err-turn.ensures.b)
+    (ends_here me begun (disks_of g.D.Disk.state c.args.store) l.done now old l.invariant.served t.0 t.1 c.args.turns e clock told new (omega (arith, c.loop-done-test.true)) h passes)
 
 pub loop-done-preserved : goal.loop-done-preserved
 loop-done-preserved g c =
@@ -67,8 +75,11 @@ loop-done-preserved g c =
     let now = serving_of l.server (g.C.Clock.left l.clock) (g.L.Link.state l.link).told in
     let after = serving_of c.turn.new.self (g.C.Clock.left c.turn.new.clock) (g.L.Link.state c.turn.new.link).told in
     let t = c.in_default-turn.ensures.turn in
+    let old = disks_of g.D.Disk.state l.server.store in
+    let new = disks_of g.D.Disk.state c.turn.new.self.store in
+    let passes = subst (λ (x : Me). BothTell old → PassTurn x (turn x t.0 now) (Ok c.in_default-turn.field-0) (g.L.Link.state c.turn.new.link).told old new) l.invariant.own t.3 in
     record {
-      served = goes_on me begun l.done now l.invariant.served t.0 t.1 after (subst (λ (x : Me). EndsTurn x (turn x t.0 now) (Ok c.in_default-turn.field-0) after) l.invariant.own t.2);
+      served = goes_on me begun (disks_of g.D.Disk.state c.args.store) l.done now old l.invariant.served t.0 t.1 after new (subst (λ (x : Me). EndsTurn x (turn x t.0 now) (Ok c.in_default-turn.field-0) after) l.invariant.own t.2) (λ both. (passes both).0);
       in_use = c.in_default-turn.ensures.in_use;
       own = c.in_default-turn.ensures.me ∙ l.invariant.own;
       faults = c.in_default-turn.ensures.faults ∙ l.invariant.faults;
@@ -82,5 +93,6 @@ returns-clause-serves g c =
     let me : Me = record { member = c.args.member; rule = c.args.rule } in
     let begun = unstarted c.args.member.rank (stood_of c.args.store) (g.C.Clock.left c.args.clock.now) (g.L.Link.state c.args.link.now).told in
     let now = serving_of l.server (g.C.Clock.left l.clock) (g.L.Link.state l.link).told in
-    rw (c.end-2.ensures.end, c.end-2.ensures.turns)
-    (all_made me begun l.done now l.invariant.served c.args.turns (omega (arith, c.loop-done-test.false, l.auto.done-end)))
+    rw (c.end-2.ensures.end, c.end-2.ensures.turns, c.end-2.ensures.a, c.end-2.ensures.b)
+    (all_made me begun (disks_of g.D.Disk.state c.args.store) l.done now (disks_of g.D.Disk.state l.server.store) l.invariant.served c.args.turns (omega (arith, c.loop-done-test.false, l.auto.done-end))
+    (in_use_leaves g.D.Disk.state l.server.store l.invariant.in_use.unbroken l.invariant.in_use.sound))

@@ -3,10 +3,13 @@ use Rattle.std.proofs.lemmas.Result.{err_from_is_err_and}
 use Rattle.mon_msg.specs.Protocol.Timers.{due}
 use Rattle.mon_wire.specs.declared.phase.Timer.{Timer}
 use Rattle.mon_node.specs.Hearing.{Given, IsGiven, Hears, heard}
-use Rattle.mon_node.specs.Nodes.{outside_of}
+use Rattle.mon_node.specs.Lasting.{PassTurn}
+use Rattle.mon_node.specs.Nodes.{outside_of, disks_of}
 use Rattle.mon_node.specs.Servers.{serving_of}
 use Rattle.mon_node.specs.Serving.{EndsTurn}
 use Rattle.mon_node.specs.Turns.{Turn}
+use Rattle.mon_node.proofs.Passing.{ends_pass, quiet_pass}
+use Rattle.mon_node.proofs.Standing.{in_use_leaves}
 use Rattle.mon_node.proofs.Turning.{came_as, turn_with, quiet, ends}
 use Rattle.mon_node.proofs.server.Server.turn.Goals as goal
 
@@ -18,7 +21,8 @@ returns-in_err-came-clause-turn g c =
     let e = c.in_err-came.field-0.0 in
     let h = subst (λ (next : Option (Timer × ℕ)). (x : Given) × IsGiven next x old.outside × Hears (heard s.me.member.monitors next x old.outside) (Err e) left) c.due-next.ensures c.in_err-came.ensures.heard in
     let p = err_from_is_err_and c.from_residual.result c.from_residual.ensures.1 in
-    rw (p.1, p.2) (h.0, h.1, ends s.me h.0 old e left h.2)
+    rw (p.1, p.2)
+    (h.0, h.1, ends s.me h.0 old e left h.2, λ both. ends_pass s.me h.0 old (Unit {0}) (disks_of g.D.Disk.state s.store) both (in_use_leaves g.D.Disk.state s.store c.requires.in_use.unbroken c.requires.in_use.sound) e left h.2)
 
 pub returns-in-Some-clause-turn : goal.returns-in-Some-clause-turn
 returns-in-Some-clause-turn g c =
@@ -29,12 +33,21 @@ returns-in-Some-clause-turn g c =
     let left = outside_of c.hear.new.assembly clock (g.L.Link.state c.hear.new.link).told in
     let h = subst (λ (next : Option (Timer × ℕ)). (x : Given) × IsGiven next x old.outside × Hears (heard s.me.member.monitors next x old.outside) (Ok c.in_ok-came.came) left) c.due-next.ensures c.in_ok-came.ensures.heard in
     let is = came_as (heard s.me.member.monitors (due s.core.state.timers) h.0 old.outside) c.in_ok-came.came (Some timed) left h.2 c.in-Some.is in
-    (h.0, h.1, subst (λ (t : Turn). EndsTurn s.me t c.take.result (serving_of c.take.new.self clock (g.L.Link.state c.take.new.link).told)) (sym (turn_with s.me h.0 old (Ok (Some timed)) left is)) (c.take.ensures.ends clock))
+    let so = sym (turn_with s.me h.0 old (Ok (Some timed)) left is) in (
+      h.0,
+      h.1,
+      subst (λ (t : Turn). EndsTurn s.me t c.take.result (serving_of c.take.new.self clock (g.L.Link.state c.take.new.link).told)) so (c.take.ensures.ends clock),
+      λ both. subst (λ (t : Turn). PassTurn s.me t c.take.result (g.L.Link.state c.take.new.link).told (disks_of g.D.Disk.state s.store) (disks_of g.D.Disk.state c.take.new.self.store)) so (c.take.ensures.passes clock both),
+    )
 
 pub returns-in-None-clause-turn : goal.returns-in-None-clause-turn
 returns-in-None-clause-turn g c =
     let s = c.args.self.now in
     let old = serving_of s (g.C.Clock.left c.args.clock.now) (g.L.Link.state c.args.link.now).told in
     let left = outside_of c.hear.new.assembly (g.C.Clock.left c.hear.new.clock) (g.L.Link.state c.hear.new.link).told in
-    let h = subst (λ (next : Option (Timer × ℕ)). (x : Given) × IsGiven next x old.outside × Hears (heard s.me.member.monitors next x old.outside) (Ok c.in_ok-came.came) left) c.due-next.ensures c.in_ok-came.ensures.heard in
-    (h.0, h.1, quiet s.me h.0 old left (came_as (heard s.me.member.monitors (due s.core.state.timers) h.0 old.outside) c.in_ok-came.came None left h.2 c.in-None.is))
+    let h = subst (λ (next : Option (Timer × ℕ)). (x : Given) × IsGiven next x old.outside × Hears (heard s.me.member.monitors next x old.outside) (Ok c.in_ok-came.came) left) c.due-next.ensures c.in_ok-came.ensures.heard in (
+      h.0,
+      h.1,
+      quiet s.me h.0 old left (came_as (heard s.me.member.monitors (due s.core.state.timers) h.0 old.outside) c.in_ok-came.came None left h.2 c.in-None.is),
+      λ both. quiet_pass s.me h.0 old (Unit {0}) (disks_of g.D.Disk.state s.store) both (in_use_leaves g.D.Disk.state s.store c.requires.in_use.unbroken c.requires.in_use.sound) tt left.link,
+    )

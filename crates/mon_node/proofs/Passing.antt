@@ -1,0 +1,206 @@
+-- What the disks of a node go through in a turn.
+use Rattle.std.proofs.Common.{◌≡◌, ℕ, ◌≤◌, ◌+◌, ◌^◌, Bool, true, false, cond, nat_lt, inl, inr, List, [], ◌∷◌, Option, Some, None, Result, Ok, Err, refl, sym, ap, ◌∙◌, arith}
+use Rattle.mon_bytes.specs.Answers.{◌>>=◌}
+use Rattle.mon_disk.specs.Calls.{DiskState}
+use Rattle.mon_kv.specs.Readers.{size_of}
+use Rattle.mon_link.specs.Clocks.{Readings}
+use Rattle.mon_link.specs.Links.{Told}
+use Rattle.mon_msg.specs.Protocol.Reaction.{Reaction}
+use Rattle.mon_msg.specs.Protocol.Timers.{due}
+use Rattle.mon_msg.specs.declared.view.Me.{Me}
+use Rattle.mon_store.specs.Checkpoint.{most_size}
+use Rattle.mon_store.specs.Moments.{Lasts}
+use Rattle.mon_store.specs.Stood.{Stood}
+use Rattle.mon_tx.specs.Map.{Store}
+use Rattle.mon_types.specs.declared.names.Which.TheVariants as which
+use Rattle.mon_types.specs.declared.names.Which.{Which}
+use Rattle.mon_node.specs.Hearing.{Given, Hears, heard}
+use Rattle.mon_node.specs.Keeping.{Keeps, kept}
+use Rattle.mon_node.specs.Lasting.{BothTell, Leave, Through, Pass, IsWithin, IsWithinTurn, IsLeft, PassTurn, StaysIfFull, InTurns, recorded, stood_recorded, stood_kept}
+use Rattle.mon_node.specs.Nodes.{Outside, Serving, Disks, disks}
+use Rattle.mon_node.specs.Posting.{IsSpent}
+use Rattle.mon_node.specs.Serving.{EndsAt, Has, of_input, of_came}
+use Rattle.mon_node.specs.Turns.{Turn, start, turn, map_after, reaction_to, reacted, input_taken, done, done_within, next_number, ended_turn, last_turn}
+use Rattle.mon_node.specs.declared.end.NodeEnd.TheVariants as end
+use Rattle.mon_node.specs.declared.end.NodeEnd.{NodeEnd}
+use Rattle.mon_node.specs.declared.hearing.TimedInput.{TimedInput}
+use Rattle.mon_node.proofs.Standing.{leave_as, pass_as, pass_left, no_step, same_left, through_later}
+
+-- ---- an input
+
+module _ (me : Me) (s : Serving) (it : TimedInput) where
+  abbrev at_input : Turn
+  at_input = record { came = Ok (Some it); serving = s }
+
+  -- it stands where the turn began
+  abbrev IsOld : Stood → Type 0
+  IsOld x = x ≡ s.node.store
+
+  abbrev InTurn : Stood → Type 0
+  InTurn = IsWithinTurn me at_input
+
+  old_within : (x : Stood) → IsOld x → InTurn x
+  old_within x e = inl e
+
+  -- memory runs out before anything is sent
+  wanting : (d : Disks) → Leave d InTurn → Leave d (IsLeft me at_input end.OutOfMemory s.outside.link)
+  wanting d h = leave_as d InTurn (IsLeft me at_input end.OutOfMemory s.outside.link) (λ x e. inl (refl, e)) h
+
+  -- the core stops
+  module _ (T : Type 0) (d : Disks) (tell : BothTell d) (still : Leave d IsOld) where
+    stays : Pass InTurn d d
+    stays = no_step d InTurn tell (leave_as d IsOld InTurn old_within still)
+
+    pub wants_pass : PassTurn {T = T} me at_input (Err end.OutOfMemory) s.outside.link d d
+    wants_pass = (stays, wanting d (leave_as d IsOld InTurn old_within still))
+
+    pub stops_pass : (spent : Which) → reaction_to me s.node it ≡ Err spent → PassTurn {T = T} me at_input (Err (end.Spent spent)) s.outside.link d d
+    stops_pass spent e = (
+      stays,
+      leave_as d IsOld (IsLeft me at_input (end.Spent spent) s.outside.link) (λ x is. is ∙ sym (ap (of_input s.node.store (λ (r : Reaction). kept r.transaction s.node.store)) e)) still,
+    )
+
+  module _ (r : Reaction) (reacts : reaction_to me s.node it ≡ Ok r) where
+    recorded_is : stood_recorded me at_input ≡ recorded r.transaction s.node.store
+    recorded_is = ap (of_input s.node.store (λ (q : Reaction). recorded q.transaction s.node.store)) reacts
+
+    kept_is : stood_kept me at_input ≡ kept r.transaction s.node.store
+    kept_is = ap (of_input s.node.store (λ (q : Reaction). kept q.transaction s.node.store)) reacts
+
+    abbrev InKeeping : Stood → Type 0
+    InKeeping = IsWithin r.transaction s.node.store
+
+    keeping_within : (x : Stood) → InKeeping x → InTurn x
+    keeping_within x (inl e) = inl e
+    keeping_within x (inr (inl e)) = inr (inl (e ∙ sym recorded_is))
+    keeping_within x (inr (inr e)) = inr (inr (e ∙ sym kept_is))
+
+    module _ (old new : Disks) (pass : Pass InKeeping old new) where
+      turn_pass : Pass InTurn old new
+      turn_pass = pass_as old new InKeeping InTurn keeping_within pass
+
+      -- it is taken
+      pub taken_pass : (T : Type 0) (x : T) (link : Option Told) → PassTurn me at_input (Ok x) link old new
+      taken_pass T x link = (turn_pass, tt)
+
+      -- its transaction is kept, and not all that it sends goes out
+      pub unsent_pass : (T : Type 0) (next : ℕ) (e : NodeEnd) (clock : Option Readings) (link : Option Told) (after : Stood) → IsSpent next e → EndsAt me at_input e clock link → after ≡ kept r.transaction s.node.store → Leave new (λ x. x ≡ after)
+          → PassTurn {T = T} me at_input (Err e) link old new
+      unsent_pass T next e clock link after why ends is left = (turn_pass, by e why ends)
+        where
+          by : (e : NodeEnd) → IsSpent next e → EndsAt me at_input e clock link → Leave new (IsLeft me at_input e link)
+          by end.OutOfMemory why ends = leave_as new (λ (x : Stood). x ≡ after) (IsLeft me at_input end.OutOfMemory link) (λ x h. inr (ends.link_is, h ∙ is ∙ sym kept_is)) left
+          by (end.Spent spent) why ends = leave_as new (λ (x : Stood). x ≡ after) (IsLeft me at_input (end.Spent spent) link) (λ x h. h ∙ is ∙ sym kept_is) left
+          by end.Closed why ends = absurd why
+          by end.TurnsUsed why ends = absurd why
+          by end.DiskFault why ends = absurd why
+          by end.LinkFault why ends = absurd why
+          by (end.Full would_be) why ends = absurd why
+
+    -- its transaction isn't kept
+    pub unkept_pass : {D : Type 0} (state : D → DiskState) (T : Type 0) (a b x y : D) (n : Store) (e : NodeEnd) → Keeps {T = T} r.transaction s.node.store.kv n (Err e) → StaysIfFull e a b x y → Leave (disks state a b) IsOld
+        → Pass InKeeping (disks state a b) (disks state x y) → PassTurn {T = T} me at_input (Err e) s.outside.link (disks state a b) (disks state x y)
+    unkept_pass state T a b x y n e keeps full still pass = (turn_pass (disks state a b) (disks state x y) pass, by e keeps full)
+      where
+        left : Leave (disks state x y) InTurn
+        left = leave_as (disks state x y) InKeeping InTurn keeping_within (pass_left (disks state a b) (disks state x y) InKeeping pass)
+
+        by : (e : NodeEnd) → Keeps {T = T} r.transaction s.node.store.kv n (Err e) → StaysIfFull e a b x y → Leave (disks state x y) (IsLeft me at_input e s.outside.link)
+        by (end.Full would_be) keeps full = same_left state a b x y IsOld full.0 full.1 still
+        by end.DiskFault keeps full = left
+        by end.OutOfMemory keeps full = wanting (disks state x y) left
+        by end.Closed keeps full = absurd keeps
+        by end.TurnsUsed keeps full = absurd keeps
+        by end.LinkFault keeps full = absurd keeps
+        by (end.Spent spent) keeps full = absurd keeps
+
+-- ---- a turn
+
+module _ (me : Me) (g : Given) (s : Serving) where
+  abbrev IsBefore : Stood → Type 0
+  IsBefore x = x ≡ s.node.store
+
+  abbrev InIt : Stood → Type 0
+  InIt = IsWithinTurn me (turn me g s)
+
+  store_is : (turn me g s).serving.node.store ≡ s.node.store
+  unfolding turn
+  store_is = refl
+
+  link_is : (turn me g s).serving.outside.link ≡ (heard me.member.monitors (due s.node.state.timers) g s.outside).outside.link
+  unfolding turn
+  link_is = refl
+
+  before_is : (x : Stood) → IsBefore x → x ≡ (turn me g s).serving.node.store
+  before_is x e = e ∙ sym store_is
+
+  module _ (T : Type 0) (d : Disks) (tell : BothTell d) (still : Leave d IsBefore) where
+    within : Leave d InIt
+    within = leave_as d IsBefore InIt (λ x e. inl (before_is x e)) still
+
+    -- nothing came
+    pub quiet_pass : (x : T) (link : Option Told) → PassTurn me (turn me g s) (Ok x) link d d
+    quiet_pass x link = (no_step d InIt tell within, tt)
+
+    -- the end
+    pub ends_pass : (e : NodeEnd) (o : Outside) → Hears (heard me.member.monitors (due s.node.state.timers) g s.outside) (Err e) o → PassTurn {T = T} me (turn me g s) (Err e) o.link d d
+    ends_pass e o h = (no_step d InIt tell within, by e h)
+      where
+        by : (e : NodeEnd) → Hears (heard me.member.monitors (due s.node.state.timers) g s.outside) (Err e) o → Leave d (IsLeft me (turn me g s) e o.link)
+        by end.Closed h = leave_as d IsBefore (IsLeft me (turn me g s) end.Closed o.link) before_is still
+        by end.LinkFault h = leave_as d IsBefore (IsLeft me (turn me g s) end.LinkFault o.link) before_is still
+        by end.OutOfMemory h = leave_as d InIt (IsLeft me (turn me g s) end.OutOfMemory o.link) (λ x e. inl (h.1 ∙ sym link_is, e)) within
+        by end.TurnsUsed h = absurd h
+        by end.DiskFault h = absurd h
+        by (end.Full would_be) h = absurd h
+        by (end.Spent spent) h = absurd h
+
+-- ---- where a store stands after a turn
+
+module _ (me : Me) (s : Serving) where
+  abbrev keeps_it : Reaction → Stood
+  keeps_it r = kept r.transaction s.node.store
+
+  abbrev by_size : Reaction → Bool → Bool → Result Serving NodeEnd
+  by_size r large past = cond large (Err (end.Full (size_of (map_after s.node r)))) (cond past (Err (end.Spent which.Seq)) (Ok (done me s r)))
+
+  size_stood : (r : Reaction) (now : Serving) (large past : Bool) → by_size r large past ≡ Ok now → now.node.store ≡ keeps_it r
+  size_stood r now true past is = absurd cc
+  size_stood r now false true is = absurd cc
+  size_stood r now false false is = let same : done me s r ≡ now = cc in sym (ap (λ (n : Serving). n.node.store) same)
+
+  done_stood : (r : Reaction) (now : Serving) → done_within me s r ≡ Ok now → now.node.store ≡ keeps_it r
+  done_stood r now is = size_stood r now (nat_lt most_size (size_of (map_after s.node r))) (nat_lt (2 ^ 62 + 1) (next_number me s.node r)) is
+
+  reacted_stood : (x : Result Reaction Which) (now : Serving) → reacted me s x ≡ Ok now → now.node.store ≡ of_input s.node.store keeps_it x
+  reacted_stood (Ok r) now is = done_stood r now is
+  reacted_stood (Err spent) now is = absurd cc
+
+pub stood_then : (me : Me) (t : Turn) (now : Serving) → ended_turn me t ≡ Ok now → now.node.store ≡ stood_kept me t
+unfolding ended_turn
+stood_then me t now is = by t.came is
+  where
+    by : (came : Result (Option TimedInput) NodeEnd) → (came >>= input_taken me t.serving) ≡ Ok now → now.node.store ≡ of_came me t.serving.node t.serving.node.store (keeps_it me t.serving) came
+    by (Ok (Some it)) is = reacted_stood me t.serving (reaction_to me t.serving.node it) now is
+    by (Ok None) is = let same : t.serving ≡ now = cc in sym (ap (λ (n : Serving). n.node.store) same)
+    by (Err e) is = absurd cc
+
+-- ---- turn after turn
+
+module _ (me : Me) (first : ℕ) (s : Serving) (d e : Disks) (a : Lasts d.a e.a) (b : Lasts d.b e.b) where
+  abbrev At : Disks → (mid to : ℕ × ℕ) → Turn → Type 0
+  At x mid to t = Through x (IsWithinTurn me t) mid to
+
+  up : (x : Result Turn NodeEnd) (mid to : ℕ × ℕ) → Has x (At d mid to) → (mid.0 ≤ to.0) × (mid.1 ≤ to.1)
+  up (Ok t) mid to h = (omega (arith, h.written.a_later, h.renewed.a_later), omega (arith, h.written.b_later, h.renewed.b_later))
+  up (Err e) mid to h = absurd h
+
+  last_later : (x : Result Turn NodeEnd) (mid to : ℕ × ℕ) → to.0 ≤ d.a.moment → to.1 ≤ d.b.moment → Has x (At d mid to) → Has x (At e mid to)
+  last_later (Ok t) mid to p q h = through_later d e a b (IsWithinTurn me t) mid to p q h
+  last_later (Err e) mid to p q h = absurd h
+
+  pub turns_later : (given : List Given) (from to : ℕ × ℕ) → to.0 ≤ d.a.moment → to.1 ≤ d.b.moment → InTurns me first s d given from to → InTurns me first s e given from to
+  turns_later [] from to p q h = through_later d e a b (IsWithinTurn me (start first s)) from to p q h
+  turns_later (g ∷ earlier) from to p q (mid, before, last) =
+      let up_to = up (last_turn me first s (g ∷ earlier)) mid to last in
+      (mid, turns_later earlier from mid (omega (arith, up_to.0, p)) (omega (arith, up_to.1, q)) before, last_later (last_turn me first s (g ∷ earlier)) mid to p q last)
