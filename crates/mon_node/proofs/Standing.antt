@@ -170,9 +170,6 @@ lasts_on x y z h k = record {
 }
 
 module _ (old new : Disks) (P : Stood → Type 0) (m : Meanwhile old.a old.b new.a new.b (On P)) where
-  pub now_left : Leave new P
-  now_left = λ x y left there. m.each new.a.moment new.b.moment x y m.a.later (omega arith) m.b.later (omega arith) left there
-
   pub meanwhile : Between new P (moments old) (moments new)
   meanwhile = record { a_later = m.a.later; b_later = m.b.later; each = m.each }
 

@@ -58,7 +58,8 @@ impl From<CoreStop> for NodeEnd {
 #[derive(Drop)]
 pub struct Served<D> {
     pub end: NodeEnd,
-    /// How many turns were begun.
+    /// How many turns were begun. The start is none.
     pub turns: u64,
+    /// Those of the store.
     pub disks: NodeDisks<D>,
 }

@@ -23,6 +23,10 @@ use std::alloc::Global;
 ///
 /// `Closed` comes exactly where the link said so, `TurnsUsed` exactly after so many turns, `Spent` and `Full` exactly where that number
 /// or the map would pass its bound. `LinkFault` and `DiskFault` come only where a fault was counted.
+///
+/// The disks are handed back. A crash at any moment of a turn leaves the store on them as the turn began with it, behind the record of
+/// its transaction, or behind the checkpoint. A disk's fault and want of memory end it so too, and each other end leaves the store just
+/// as the turns do. What was sent is kept.
 pub fn serve<D: Disk, L: Link, C: Clock>(
     alloc: Global,
     store: Store<D>,
@@ -35,8 +39,8 @@ pub fn serve<D: Disk, L: Link, C: Clock>(
     requires unbroken { store.broken ≡ false }
     requires sound { IsSound D.state store }
 
-    // What each turn was given by clock and link decides what comes of all of them. Where both disks tell what they hold, a crash at any
-    // moment of a turn leaves the store as the turn began with it, behind the record of its transaction, or behind the checkpoint.
+    // What each turn was given by clock and link decides what comes of all of them, and what a crash leaves of two disks that tell what
+    // they hold.
     ensures serves { let start = unstarted member.rank (stood_of store) (C.left clock.old) (L.state link.old).told in
         let old = disks_of D.state store in let new = disks D.state result.disks.a result.disks.b in
         (first : ℕ) × (given : List Given)
