@@ -1,35 +1,70 @@
-//! Replays schedules of a quorum of monitors.
+//! A quorum of monitors: replays its schedules, and serves as one of its monitors.
 #![tactic(auto)]
 
-mod replay;
-mod run;
-mod status;
-mod summary;
-mod task;
+mod devices;
 mod words;
 
-use crate::run::run;
-use crate::status::Status;
+use crate::devices::{Devices, devices_of};
 use crate::words::words_of;
-use mon_link::{StdinSource, StdoutSink};
+use cephmon_run::{Status, run};
+use mon_disk::{FileDisk, NodeDisks};
+use mon_link::{RunClock, StdinSource, StdoutSink, UdpLink};
 use std::process::ExitCode;
 
 fn main(rt: HostRuntime) -> ExitCode {
     let status = match words_of(&rt) {
-        Ok(words) => {
-            let mut source = StdinSource::new(&rt);
-            let mut sink = StdoutSink::new(&rt);
-            run(rt.alloc(), words.as_slice(), &mut source, &mut sink)
-        }
+        Ok(words) => run_on_devices(&rt, words.as_slice()),
         Err(status) => status,
     };
-    tell(&rt, status);
+    tell(&rt, &status);
     ExitCode::from(status.number())
 }
 
+/// Does what the words say, on the streams, files, sockets and the clock of the system.
+fn run_on_devices(rt: &HostRuntime, words: &[String]) -> Status {
+    let Devices { disks, mut link } = match devices_of(rt, words) {
+        Ok(devices) => devices,
+        Err(status) => return status,
+    };
+    let mut source = StdinSource::new(rt);
+    let mut sink = StdoutSink::new(rt);
+    let mut clock = RunClock::new(rt);
+    let ended = run(
+        rt.alloc(),
+        words,
+        &mut source,
+        &mut sink,
+        disks,
+        &mut link,
+        &mut clock,
+    );
+    tell_failures(rt, &ended.disks, &link);
+    ended.status
+}
+
+/// Says on standard error what the system said to the first call of each disk, and of the link, that failed.
+fn tell_failures(
+    rt: &HostRuntime,
+    disks: &NodeDisks<FileDisk<HostRuntime>>,
+    link: &UdpLink<HostRuntime>,
+) {
+    if let Some(said) = disks.a.failure() {
+        let _ = eprintln!(rt; "disk a: {said}");
+    }
+    if let Some(said) = disks.b.failure() {
+        let _ = eprintln!(rt; "disk b: {said}");
+    }
+    if let Some(said) = link.failure() {
+        let _ = eprintln!(rt; "link: {said}");
+    }
+}
+
 /// Says on standard error how the program ends. Where that can't be written the number alone says it.
-fn tell(rt: &impl Eprint, status: Status) {
-    if status != Status::Done {
-        let _ = eprintln!(rt; "{status}");
+fn tell(rt: &impl Eprint, status: &Status) {
+    match status {
+        Status::Done => {}
+        _ => {
+            let _ = eprintln!(rt; "{status}");
+        }
     }
 }

@@ -1,9 +1,9 @@
 //! The words that the program was called with.
 
 ghost use Rattle.std.specs.Prelude.{◌≡◌, ◌⊎◌, IfErr};
-ghost use Rattle.cephmon.specs.declared.status.Status.TheVariants.{Words, OutOfMemory};
+ghost use Rattle.cephmon_run.specs.declared.status.Status.TheVariants.{Words, OutOfMemory};
 
-use crate::status::Status;
+use cephmon_run::Status;
 use std::env::{Env, FillError};
 use std::str;
 

@@ -1,6 +1,0 @@
-pub mod Replay
-pub mod Run
-pub mod Status
-pub mod Summary
-pub mod Task
-pub mod Trace

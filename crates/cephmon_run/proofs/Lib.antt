@@ -1,0 +1,6 @@
+pub mod Counting
+pub mod Exact
+pub mod Nodes
+pub mod Runs
+pub mod Schedules
+pub mod Writing

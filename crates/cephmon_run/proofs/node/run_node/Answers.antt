@@ -1,0 +1,35 @@
+use Rattle.std.proofs.Common.{◌≡◌, refl}
+use Rattle.mon_store.specs.Whole.{disk_a, disk_b}
+use Rattle.mon_node.specs.Nodes.{stood_of}
+use Rattle.cephmon_run.proofs.Nodes.{count_since, counted_none, ends_served, ends_unopened}
+use Rattle.cephmon_run.proofs.node.run_node.Goals as goal
+
+pub returns-in-Err : goal.returns-in-Err
+returns-in-Err g c =
+    let it = c.in-Err.ensures in
+    ends_unopened g.D.Disk.state c.args.me.now c.args.turns
+    (record { disks = c.args.disks; link = g.L.Link.state c.args.link.now; clock = g.C.Clock.left c.args.clock.now })
+    (record { disks = c.in-Err.refused.disks; link = g.L.Link.state c.args.link.now; clock = g.C.Clock.left c.args.clock.now })
+    c.in-Err.refused.why c.of_opening.result c.of_opening.ensures
+    (record { tells = it.answer; counts = it.counts; alike = it.any_moment; link = refl; clock = refl })
+
+pub returns-in-Ok : goal.returns-in-Ok
+returns-in-Ok g c =
+    let it = c.in-Ok.ensures in
+    let run = c.serve-served.ensures.serves in
+    let state = g.D.Disk.state in
+    let none = counted_none (state c.args.disks.a) (state c.args.disks.b) (state (disk_a c.in-Ok.store)) (state (disk_b c.in-Ok.store)) it.counts in
+    ends_served state c.args.me.now c.args.turns
+    (record { disks = c.args.disks; link = g.L.Link.state c.args.link.now; clock = g.C.Clock.left c.args.clock.now })
+    (record { disks = c.serve-served.result.disks; link = g.L.Link.state c.serve-served.new.link; clock = g.C.Clock.left c.serve-served.new.clock })
+    c.serve-served.result.end c.of_end.result c.of_end.ensures
+    (record {
+      stood = stood_of c.in-Ok.store;
+      opened = it.answer;
+      begun = c.serve-served.result.turns;
+      first = run.0;
+      given = run.1;
+      serves = run.2;
+      link_counts = c.serve-served.ensures.faults;
+      disks_count = count_since c.serve-served.result.end _ _ _ _ _ _ none.0 none.1 c.serve-served.ensures.counts;
+    })

@@ -1,0 +1,6 @@
+pub mod Node
+pub mod Replay
+pub mod Run
+pub mod Status
+pub mod Summary
+pub mod Trace

@@ -1,0 +1,78 @@
+-- A node's run, and the cause of each of its statuses.
+use Rattle.std.specs.Prelude.{◌≡◌, ℕ, ◌⊎◌, List, Option, Some, IfSome, Result, Ok, Err, IsTrue, is_some}
+use Rattle.mon_disk.specs.Calls.{DiskState}
+use Rattle.mon_disk.specs.declared.node.NodeDisks.{NodeDisks}
+use Rattle.mon_link.specs.Clocks.{Readings}
+use Rattle.mon_link.specs.Links.{LinkState}
+use Rattle.mon_msg.specs.declared.view.Me.{Me}
+use Rattle.mon_store.specs.Moments.{WhileOpening}
+use Rattle.mon_store.specs.Opening.{Alike, BothCount, Tells, stop_in}
+use Rattle.mon_store.specs.Pair.{Refusal}
+use Rattle.mon_store.specs.Stood.{Stood, opens_as}
+use Rattle.mon_store.specs.declared.stop.OpenStop.{OpenStop}
+use Rattle.mon_store.specs.declared.stop.OpenStop.TheVariants as open_stop
+use Rattle.mon_types.specs.declared.member.Member.{Member}
+use Rattle.mon_node.specs.Hearing.{Given, faults_at}
+use Rattle.mon_node.specs.Keeping.{DisksCountAt}
+use Rattle.mon_node.specs.Nodes.{unstarted}
+use Rattle.mon_node.specs.Serving.{Serves}
+use Rattle.mon_node.specs.declared.end.NodeEnd.{NodeEnd}
+use Rattle.mon_node.specs.declared.end.NodeEnd.TheVariants as end
+use Rattle.cephmon_run.specs.declared.status.Status.{Status}
+use Rattle.cephmon_run.specs.declared.status.Status.TheVariants as status
+
+-- What stands around a node: its two disks; its link; and what its clock shows, where it tells it.
+pub record Around (D : Type 0) : Type 0 where
+  pub disks : NodeDisks D
+  pub link : LinkState
+  pub clock : Option Readings
+
+module _ {D : Type 0} (state : D → DiskState) where
+  -- What a member opens on two disks has this fact, where both tell what they hold.
+  abbrev pub OpensTo : Member → NodeDisks D → (Result Stood Refusal → Type 0) → Type 0
+  OpensTo member disks fact =
+      IfSome (state disks.a).content.seen (λ a. IfSome (state disks.b).content.seen (λ b. fact (opens_as member a b)))
+
+  -- A crash while the store was opened left disks that stand for what they might have stood for before.
+  abbrev pub LeavesAlike : Member → NodeDisks D → NodeDisks D → Type 0
+  LeavesAlike member old new =
+      IsTrue (is_some (state old.a).content.seen) → IsTrue (is_some (state old.b).content.seen)
+      → WhileOpening (state old.a).content (state old.b).content (state new.a).content (state new.b).content (Alike member (state old.a).content (state old.b).content)
+
+  -- No store was opened, for this reason. What the disks stand for is unchanged, and the link and the clock were left alone.
+  pub record Unopened (member : Member) (before after : Around D) (why : OpenStop) : Type 0 where
+    pub tells : OpensTo member before.disks (Tells why)
+    pub counts : BothCount (stop_in {T = Stood} (Err why)) (state before.disks.a) (state before.disks.b) (state after.disks.a) (state after.disks.b)
+    pub alike : LeavesAlike member before.disks after.disks
+    pub link : after.link ≡ before.link
+    pub clock : after.clock ≡ before.clock
+
+  -- A store was opened, and the monitor served from it and ended so. What clock and link told at each turn decides what was kept, what was
+  -- sent and how long was waited.
+  pub record Served (me : Me) (turns : ℕ) (before after : Around D) (e : NodeEnd) : Type 0 where
+    pub stood : Stood
+    pub opened : OpensTo me.member before.disks (λ read. read ≡ Ok stood)
+    pub begun : ℕ
+    pub first : ℕ
+    pub given : List Given
+    pub serves : Serves me (unstarted me.member.rank stood before.clock before.link.told) turns e begun after.clock after.link.told first given
+    pub link_counts : after.link.faults ≡ faults_at e before.link.faults
+    pub disks_count : DisksCountAt e (state before.disks.a).faults (state before.disks.b).faults (state after.disks.a).faults (state after.disks.b).faults
+
+  -- the cause of each status
+  abbrev pub NodeCause : Me → (turns : ℕ) → Around D → Around D → Status → Type 0
+  NodeCause me turns before after status.Done = Served me turns before after end.Closed
+  NodeCause me turns before after status.DiskFault =
+      Unopened me.member before after open_stop.DiskFault ⊎ Served me turns before after end.DiskFault
+  NodeCause me turns before after status.LinkFault = Served me turns before after end.LinkFault
+  NodeCause me turns before after (status.NotAStore disk at) = Unopened me.member before after (open_stop.NotAStore disk at)
+  NodeCause me turns before after (status.Stranger kept asked) = Unopened me.member before after (open_stop.Stranger kept asked)
+  NodeCause me turns before after (status.Spent which) = Served me turns before after (end.Spent which)
+  NodeCause me turns before after status.TurnsUsed = Served me turns before after end.TurnsUsed
+  NodeCause me turns before after status.OutOfMemory =
+      (after ≡ before) ⊎ Unopened me.member before after open_stop.OutOfMemory ⊎ Served me turns before after end.OutOfMemory
+  NodeCause me turns before after (status.Full would_be) = Served me turns before after (end.Full would_be)
+  NodeCause me turns before after status.Words = ⊥
+  NodeCause me turns before after (status.Schedule line kind) = ⊥
+  NodeCause me turns before after status.ReadFault = ⊥
+  NodeCause me turns before after status.WriteFault = ⊥

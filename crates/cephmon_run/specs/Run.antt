@@ -1,0 +1,210 @@
+-- What a run reads and writes, and the cause of each status.
+use Rattle.std.specs.Prelude.{◌≡◌, ℕ, ◌≤◌, ◌⊎◌, List, length, map, Option, Some, None, Result, Ok, Err, String}
+use Rattle.std.specs.declared.alloc.Global.{Global}
+use Rattle.std.specs.Io.KnownBytes.{Appends, IsAtEnd}
+use Rattle.mon_types.specs.Faults.{Rose}
+use Rattle.mon_link.specs.Whole.{ReadsWhole, ConsumesFront, AppendsFront}
+use Rattle.schedule_text.specs.declared.schedule.Schedule.{Schedule}
+use Rattle.schedule_text.specs.declared.refusal.ScheduleKind.{ScheduleKind}
+use Rattle.schedule_text.specs.declared.refusal.ScheduleRefused.TheVariants.{At}
+use Rattle.schedule_text.specs.Spelling.{HasText, schedule_text}
+use Rattle.schedule_made.specs.Made.{made_schedule}
+use Rattle.schedule_text.specs.Schedule.{schedule_at}
+use Rattle.election_rules.specs.declared.rule.Rule.{Rule}
+use Rattle.mon_disk.specs.Calls.{DiskState}
+use Rattle.mon_journal.specs.Written.{owner_of}
+use Rattle.mon_link.specs.declared.udp.Address.{Address}
+use Rattle.mon_store.specs.Pair.{Refusal, NotAStore, Stranger}
+use Rattle.mon_store.specs.Stood.{Stood, opens_as}
+use Rattle.mon_types.specs.declared.member.Member.{Member}
+use Rattle.quorum_model.specs.Happens.{Stop}
+use Rattle.quorum_model.specs.Happens as happens
+use Rattle.quorum_model.specs.Monitors.{Monitors}
+use Rattle.quorum_model.specs.Safe.{Safe}
+use Rattle.quorum_model.specs.Scenes.{events_of}
+use Rattle.cephmon_run.specs.declared.status.Status.{Status}
+use Rattle.cephmon_run.specs.declared.status.Status.TheVariants as status
+use Rattle.mon_world.specs.Events.{scheduled_of}
+use Rattle.task_words.specs.declared.task.Task.{Task}
+use Rattle.task_words.specs.declared.task.Task.TheVariants as task
+use Rattle.cephmon_run.specs.Summary.{Summary, summary}
+use Rattle.task_words.specs.Task.{AsksFor, AsksForNone}
+use Rattle.cephmon_run.specs.Node.{Around, NodeCause}
+use Rattle.cephmon_run.specs.Trace.{Trace, trace}
+
+-- What stands before a run and after it: what the source has left and what the sink holds, where they tell it, and their counts of
+-- faults. Of a source or a sink that tells nothing, as the standard streams, no bytes are known.
+pub record Outside : Type 0 where
+  pub left : Option (List ℕ)
+  pub held : Option (List ℕ)
+  pub read_faults : ℕ
+  pub write_faults : ℕ
+
+-- one more byte is read than a schedule may have
+abbrev pub most_read : ℕ
+most_read = 16777217
+
+-- the source was read to its end, or up to the most that is read and no further, and the bytes have this fact
+abbrev pub OfRead : Outside → Outside → (List ℕ → Type 0) → Type 0
+OfRead before after fact = (bytes : List ℕ) × (length bytes ≤ most_read) × ReadsWhole most_read before.left after.left bytes × fact bytes
+
+-- the monitors of a schedule, whose run is safe
+pub record Runs (schedule : Schedule) (ms : Monitors) : Type 0 where
+  pub count : ms.count ≡ schedule.monitors
+  pub rule : ms.rule ≡ schedule.rule
+  pub safe : Safe ms (events_of ms (map scheduled_of schedule.events))
+
+-- the bytes are the text of a schedule, its run is safe, and its trace has this fact
+pub record Replays (bytes : List ℕ) (fact : Trace → Type 0) : Type 0 where
+  pub schedule : Schedule
+  pub form : HasText schedule
+  pub text : bytes ≡ schedule_text schedule
+  pub monitors : Monitors
+  pub runs : Runs schedule monitors
+  pub traced : fact (trace monitors schedule.events)
+
+-- the whole trace went out, and its run came to the end, or this stopped it
+abbrev pub WroteAll : Outside → Outside → Option Stop → Trace → Type 0
+WroteAll before after stop t = (t.stop ≡ stop) × Appends before.held after.held t.text
+
+abbrev pub WroteFront : Outside → Outside → Trace → Type 0
+WroteFront before after t = AppendsFront before.held after.held t.text
+
+-- the source was read to its end, where it tells what it has left, and had a schedule whose trace has this fact
+abbrev pub Replayed : Outside → Outside → (Trace → Type 0) → Type 0
+Replayed before after fact = IsAtEnd after.left × OfRead before after (λ bytes. Replays bytes fact)
+
+-- nothing was written, or tried to be
+abbrev pub WroteNothing : Outside → Outside → Type 0
+WroteNothing before after = (after.held ≡ before.held) × (after.write_faults ≡ before.write_faults)
+
+-- nothing was read, or tried to be
+abbrev pub ReadNothing : Outside → Outside → Type 0
+ReadNothing before after = (after.left ≡ before.left) × (after.read_faults ≡ before.read_faults)
+
+-- the schedule of a number was run, which is safe, nothing was read, and its summary has this fact
+pub record Made (number events : ℕ) (before after : Outside) (fact : Summary → Type 0) : Type 0 where
+  pub monitors : Monitors
+  pub runs : Runs (made_schedule number events) monitors
+  pub unread : ReadNothing before after
+  pub summed : fact (summary monitors (made_schedule number events).events)
+
+abbrev pub SummedAll : Outside → Outside → Option Stop → Summary → Type 0
+SummedAll before after stop s = (s.stop ≡ stop) × Appends before.held after.held s.text
+
+abbrev pub SummedFront : Outside → Outside → Summary → Type 0
+SummedFront before after s = (s.stop ≡ None) × AppendsFront before.held after.held s.text
+
+-- ---- the cause of each status, by what the words ask for
+
+-- Of a replay. Where memory ran out, what was read is a front of what was left, and what was written a front of what is to be.
+abbrev pub ReplayCause : Outside → Outside → Status → Type 0
+ReplayCause before after status.Done = Replayed before after (WroteAll before after None)
+ReplayCause before after (status.Schedule line kind) = OfRead before after (λ bytes. schedule_at bytes ≡ Err (At line kind)) × WroteNothing before after
+ReplayCause before after status.ReadFault =
+    Rose before.read_faults after.read_faults × ConsumesFront before.left after.left × WroteNothing before after
+ReplayCause before after status.WriteFault = Rose before.write_faults after.write_faults × Replayed before after (WroteFront before after)
+ReplayCause before after (status.Spent which) = Replayed before after (WroteAll before after (Some (happens.Spent which)))
+ReplayCause before after (status.Full would_be) = Replayed before after (WroteAll before after (Some (happens.Full would_be)))
+ReplayCause before after status.OutOfMemory =
+    (ConsumesFront before.left after.left × WroteNothing before after) ⊎ Replayed before after (WroteFront before after)
+ReplayCause before after other = ⊥
+
+-- of the summary of a made schedule
+abbrev pub MadeCause : (number events : ℕ) → Outside → Outside → Status → Type 0
+MadeCause number events before after status.Done = Made number events before after (SummedAll before after None)
+MadeCause number events before after status.WriteFault =
+    Rose before.write_faults after.write_faults × Made number events before after (SummedFront before after)
+MadeCause number events before after (status.Spent which) = Made number events before after (SummedAll before after (Some (happens.Spent which)))
+MadeCause number events before after (status.Full would_be) = Made number events before after (SummedAll before after (Some (happens.Full would_be)))
+MadeCause number events before after status.OutOfMemory =
+    ReadNothing before after × (WroteNothing before after ⊎ Made number events before after (SummedFront before after))
+MadeCause number events before after other = ⊥
+
+-- What a task has no use for is as it was.
+abbrev pub HasCause : {D : Type 0} → (D → DiskState) → Task → Outside → Outside → Around D → Around D → Status → Type 0
+HasCause state task.Replay before after around left s = ReplayCause before after s × (left ≡ around)
+HasCause state (task.Made number events) before after around left s = MadeCause number events before after s × (left ≡ around)
+HasCause state (task.Node member rule addresses disk_a disk_b turns) before after around left s =
+    NodeCause state (record { member = member; rule = rule }) turns around left s × (after ≡ before)
+
+-- it has a cause in what the words ask for
+abbrev pub IsCaused : {D : Type 0} → (D → DiskState) → List (String Global) → Outside → Outside → Around D → Around D → Status → Type 0
+IsCaused state words before after around left s = (t : Task) × AsksFor t words × HasCause state t before after around left s
+
+-- The cause of each status.
+abbrev pub HasStatus : {D : Type 0} → (D → DiskState) → List (String Global) → Outside → Outside → Around D → Around D → Status → Type 0
+HasStatus state words before after around left status.Words = AsksForNone words × (after ≡ before) × (left ≡ around)
+HasStatus state words before after around left other = IsCaused state words before after around left other
+
+-- what the status tells of bytes that no schedule was made of
+abbrev pub TellsFault : List ℕ → Status → Type 0
+TellsFault bytes (status.Schedule line kind) = schedule_at bytes ≡ Err (At line kind)
+TellsFault bytes status.OutOfMemory = Unit {0}
+TellsFault bytes other = ⊥
+
+-- ---- and the other way round: which status comes
+
+-- no count of faults rose
+pub record NothingFailed (before after : Outside) : Type 0 where
+  pub reads : ¬ (Rose before.read_faults after.read_faults)
+  pub writes : ¬ (Rose before.write_faults after.write_faults)
+
+-- the status tells what stopped a run, or that nothing did, unless memory ran out
+abbrev pub Tells : Option Stop → Status → Type 0
+Tells stop status.OutOfMemory = Unit {0}
+Tells None s = s ≡ status.Done
+Tells (Some (happens.Spent which)) s = s ≡ status.Spent which
+Tells (Some (happens.Full would_be)) s = s ≡ status.Full would_be
+
+-- it tells which line is at fault, unless memory ran out
+abbrev pub TellsLine : ℕ → ScheduleKind → Status → Type 0
+TellsLine line kind status.OutOfMemory = Unit {0}
+TellsLine line kind s = s ≡ status.Schedule line kind
+
+-- no disk and no link counted a fault
+pub record NoneFailed {D : Type 0} (state : D → DiskState) (around left : Around D) : Type 0 where
+  pub disk_a : ¬ (Rose (state around.disks.a).faults (state left.disks.a).faults)
+  pub disk_b : ¬ (Rose (state around.disks.b).faults (state left.disks.b).faults)
+  pub link : ¬ (Rose around.link.faults left.link.faults)
+
+-- a node served, unless memory ran out
+abbrev pub IsServed : Status → Type 0
+IsServed status.Done = Unit {0}
+IsServed (status.Spent which) = Unit {0}
+IsServed status.TurnsUsed = Unit {0}
+IsServed status.OutOfMemory = Unit {0}
+IsServed (status.Full would_be) = Unit {0}
+IsServed other = ⊥
+
+-- the status tells why the disks stand for no store of the member, unless memory ran out
+abbrev pub TellsRefusal : Refusal → Status → Type 0
+TellsRefusal refusal status.OutOfMemory = Unit {0}
+TellsRefusal refusal (status.NotAStore disk at) = refusal ≡ NotAStore disk at
+TellsRefusal refusal (status.Stranger kept asked) = refusal ≡ Stranger (owner_of kept) (owner_of asked)
+TellsRefusal refusal other = ⊥
+
+-- The two disks, which tell what they hold, open so.
+abbrev pub Holds : {D : Type 0} → (D → DiskState) → Member → Around D → Result Stood Refusal → Type 0
+Holds state member around read =
+    (a : List ℕ) × (b : List ℕ) × ((state around.disks.a).content.seen ≡ Some a) × ((state around.disks.b).content.seen ≡ Some b) × (opens_as member a b ≡ read)
+
+-- Faulty words are told. Where nothing fails, the status tells how the run of the schedule ends that the source has, or that is made; of
+-- bytes that are no schedule's text, however many, which line is at fault; and of disks that stand for no store of the member, why they
+-- don't, while on a store of its own, or where it is to be created, the monitor serves.
+pub record Completes {D : Type 0} (state : D → DiskState) (words : List (String Global)) (before after : Outside) (around left : Around D) (s : Status) : Type 0 where
+  pub faulty : AsksForNone words → s ≡ status.Words
+  pub replayed : (schedule : Schedule) (ms : Monitors) → AsksFor task.Replay words → NothingFailed before after
+      → HasText schedule → before.left ≡ Some (schedule_text schedule) → ms.count ≡ schedule.monitors → ms.rule ≡ schedule.rule
+      → Tells (trace ms schedule.events).stop s
+  pub refused : (bytes : List ℕ) (line : ℕ) (kind : ScheduleKind) → AsksFor task.Replay words → NothingFailed before after
+      → before.left ≡ Some bytes → schedule_at bytes ≡ Err (At line kind) → TellsLine line kind s
+  pub made : (number events : ℕ) (ms : Monitors) → AsksFor (task.Made number events) words → NothingFailed before after
+      → ms.count ≡ (made_schedule number events).monitors → ms.rule ≡ (made_schedule number events).rule
+      → Tells (summary ms (made_schedule number events).events).stop s
+  pub served : (member : Member) (rule : Rule) (addresses : List Address) (disk_a disk_b : List ℕ) (turns : ℕ)
+      → AsksFor (task.Node member rule addresses disk_a disk_b turns) words → NoneFailed state around left
+      → (stood : Stood) → Holds state member around (Ok stood) → IsServed s
+  pub unopened : (member : Member) (rule : Rule) (addresses : List Address) (disk_a disk_b : List ℕ) (turns : ℕ)
+      → AsksFor (task.Node member rule addresses disk_a disk_b turns) words → NoneFailed state around left
+      → (refusal : Refusal) → Holds state member around (Err refusal) → TellsRefusal refusal s

@@ -1,0 +1,189 @@
+//! The top call.
+
+ghost use Rattle.std.specs.Prelude.{◌≡◌, ◌≤◌, ℕ, List, Option, Err, IfErr, IfOk};
+ghost use Rattle.mon_types.specs.Faults.{Rose};
+ghost use Rattle.quorum_model.specs.Monitors.{Monitors};
+ghost use Rattle.schedule_made.specs.Made.{made_schedule};
+ghost use Rattle.schedule_text.specs.Spelling.{HasText, schedule_text};
+ghost use Rattle.task_words.specs.Task.{HasWords};
+ghost use Rattle.cephmon_run.specs.Run.{Completes, HasCause, HasStatus, MadeCause, ReplayCause, TellsFault};
+ghost use Rattle.cephmon_run.specs.Replay.{StopsAs, status_of};
+ghost use Rattle.cephmon_run.specs.Summary.{IsLine, summary};
+
+use crate::node::{Ended, run_node};
+use crate::replay::{ReplayStop, replay};
+use crate::status::Status;
+use crate::summary::summary_of;
+use mon_disk::{Disk, NodeDisks};
+use mon_link::{Clock, Link, Sink, Source, read_all, write_all};
+use mon_msg::Me;
+use mon_types::Stop;
+use mon_world::WorldStop;
+use schedule_made::made;
+use schedule_text::{Schedule, ScheduleRefused, parse};
+use std::alloc::Global;
+use task_words::{Task, WordsStop, read_words};
+
+/// One more byte than a schedule may have.
+const MOST_READ: usize = 16777217;
+
+/// The schedule that the bytes spell, or the status that says why there is none.
+fn schedule_of(alloc: Global, bytes: &[u8]) -> Result<Schedule, Status>
+    ensures found { IfOk result (λ s. HasText s × (bytes.now ≡ schedule_text s)) }
+    ensures fault { IfErr result (TellsFault bytes.now) }
+{
+    match parse(alloc, bytes) {
+        Ok(schedule) => Ok(schedule),
+        Err(ScheduleRefused::At { line, kind }) => Err(Status::Schedule { line, kind }),
+        Err(ScheduleRefused::OutOfMemory) => Err(Status::OutOfMemory),
+    }
+}
+
+/// Runs the schedule that the source has, and writes its trace to the sink.
+fn run_replay<S: Source, K: Sink>(alloc: Global, source: &mut S, sink: &mut K) -> Status
+    ensures { ReplayCause
+        (record { left = S.left source.old; held = K.held sink.old; read_faults = S.faults source.old; write_faults = K.faults sink.old })
+        (record { left = S.left source.new; held = K.held sink.new; read_faults = S.faults source.new; write_faults = K.faults sink.new })
+        result }
+{
+    let bytes = match read_all(alloc, source, MOST_READ) {
+        Ok(bytes) => bytes,
+        Err(Stop::Failed) => return Status::ReadFault,
+        Err(Stop::OutOfMemory) => return Status::OutOfMemory,
+    };
+    let schedule = match schedule_of(alloc, bytes.as_slice()) {
+        Ok(schedule) => schedule,
+        Err(status) => return status,
+    };
+    match replay(alloc, sink, &schedule) {
+        Ok(()) => Status::Done,
+        Err(stop) => status_of(stop),
+    }
+}
+
+/// The line of the summary of a number's schedule, or what stops its run.
+fn made_summary(alloc: Global, number: u64, events: u32) -> Result<Vec<u8>, WorldStop>
+    requires least { 1 ≤ events }
+    requires most { events ≤ 100000 }
+    ensures line { (ms : Monitors) → ms.count ≡ (made_schedule number events).monitors → ms.rule ≡ (made_schedule number events).rule
+        → IfOk result (λ line. IsLine (summary ms (made_schedule number events).events) line.items) }
+    ensures stops { (ms : Monitors) → ms.count ≡ (made_schedule number events).monitors → ms.rule ≡ (made_schedule number events).rule
+        → IfErr result (λ e. StopsAs e (summary ms (made_schedule number events).events).stop) }
+{
+    let schedule = made(alloc, number, events)?;
+    summary_of(alloc, &schedule)
+}
+
+/// Runs the schedule of a number, and writes its summary to the sink.
+fn run_made<K: Sink>(alloc: Global, sink: &mut K, number: u64, events: u32) -> Status
+    requires least { 1 ≤ events }
+    requires most { events ≤ 100000 }
+    ensures { (left : Option (List ℕ)) (read_faults : ℕ) → MadeCause number events
+        (record { left = left; held = K.held sink.old; read_faults = read_faults; write_faults = K.faults sink.old })
+        (record { left = left; held = K.held sink.new; read_faults = read_faults; write_faults = K.faults sink.new })
+        result }
+{
+    let line = match made_summary(alloc, number, events) {
+        Ok(line) => line,
+        Err(stop) => return status_of(ReplayStop::from(stop)),
+    };
+    match write_all(sink, line.as_slice()) {
+        Ok(()) => Status::Done,
+        Err(stop) => status_of(ReplayStop::from(stop)),
+    }
+}
+
+/// How a run's stop ends the program.
+fn status_of(stop: ReplayStop) -> Status
+    ensures { result ≡ status_of stop }
+{
+    match stop {
+        ReplayStop::WriteFault => Status::WriteFault,
+        ReplayStop::Spent { which } => Status::Spent { which },
+        ReplayStop::Full { would_be } => Status::Full { would_be },
+        ReplayStop::OutOfMemory => Status::OutOfMemory,
+    }
+}
+
+/// Does what was asked for.
+fn run_task<S: Source, K: Sink, D: Disk, L: Link, C: Clock>(
+    alloc: Global,
+    task: &Task,
+    source: &mut S,
+    sink: &mut K,
+    disks: NodeDisks<D>,
+    link: &mut L,
+    clock: &mut C,
+) -> Ended<D>
+    requires { HasWords task.now }
+    ensures { HasCause D.state task.now
+        (record { left = S.left source.old; held = K.held sink.old; read_faults = S.faults source.old; write_faults = K.faults sink.old })
+        (record { left = S.left source.new; held = K.held sink.new; read_faults = S.faults source.new; write_faults = K.faults sink.new })
+        (record { disks = disks; link = L.state link.old; clock = C.left clock.old })
+        (record { disks = result.disks; link = L.state link.new; clock = C.left clock.new })
+        result.status }
+{
+    match task {
+        Task::Replay => Ended {
+            status: run_replay(alloc, source, sink),
+            disks,
+        },
+        Task::Made { number, events } => Ended {
+            status: run_made(alloc, sink, *number, *events),
+            disks,
+        },
+        Task::Node {
+            member,
+            rule,
+            turns,
+            ..
+        } => {
+            let me = Me {
+                member: *member,
+                rule: *rule,
+            };
+            run_node(alloc, disks, &me, link, clock, *turns)
+        }
+    }
+}
+
+/// Does what the words say: `replay` runs the schedule that the source has and writes its trace to the sink; `made` runs the schedule of a
+/// number and writes its summary; and `node` serves as a monitor from the two disks, over the link, and writes nothing. What a command
+/// has no use for is left as it was.
+pub fn run<S: Source, K: Sink, D: Disk, L: Link, C: Clock>(
+    alloc: Global,
+    words: &[String],
+    source: &mut S,
+    sink: &mut K,
+    disks: NodeDisks<D>,
+    link: &mut L,
+    clock: &mut C,
+) -> Ended<D>
+    // What each status tells of what was asked, read, written and served. Each run that it speaks of is safe.
+    ensures status { HasStatus D.state words.now
+        (record { left = S.left source.old; held = K.held sink.old; read_faults = S.faults source.old; write_faults = K.faults sink.old })
+        (record { left = S.left source.new; held = K.held sink.new; read_faults = S.faults source.new; write_faults = K.faults sink.new })
+        (record { disks = disks; link = L.state link.old; clock = C.left clock.old })
+        (record { disks = result.disks; link = L.state link.new; clock = C.left clock.new })
+        result.status }
+
+    // Which status comes, where nothing fails.
+    ensures complete { Completes D.state words.now
+        (record { left = S.left source.old; held = K.held sink.old; read_faults = S.faults source.old; write_faults = K.faults sink.old })
+        (record { left = S.left source.new; held = K.held sink.new; read_faults = S.faults source.new; write_faults = K.faults sink.new })
+        (record { disks = disks; link = L.state link.old; clock = C.left clock.old })
+        (record { disks = result.disks; link = L.state link.new; clock = C.left clock.new })
+        result.status }
+{
+    match read_words(alloc, words) {
+        Ok(task) => run_task(alloc, &task, source, sink, disks, link, clock),
+        Err(WordsStop::Refused) => Ended {
+            status: Status::Words,
+            disks,
+        },
+        Err(WordsStop::OutOfMemory) => Ended {
+            status: Status::OutOfMemory,
+            disks,
+        },
+    }
+}

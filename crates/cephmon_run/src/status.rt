@@ -1,0 +1,129 @@
+use mon_node::NodeEnd;
+use mon_store::OpenStop;
+use mon_types::{Member, Side, Which};
+use schedule_text::ScheduleKind;
+use std::fmt;
+
+/// How a command ends.
+#[derive(Clone, Copy, Debug, PartialEq, Eq)]
+pub enum Status {
+    /// All was done and written, or the link of a node was closed.
+    Done,
+    /// The command line is faulty.
+    Words,
+    /// The schedule is faulty, first at this line. Nothing was run or written.
+    Schedule { line: u32, kind: ScheduleKind },
+    /// The input couldn't be read. Nothing was run or written.
+    ReadFault,
+    /// The output couldn't be written. What went out is a front of it.
+    WriteFault,
+    /// A disk of the node failed.
+    DiskFault,
+    /// The node's link couldn't tell what comes.
+    LinkFault,
+    /// That disk holds no store, or none beside the other one, from this byte on. What the disks stand for is unchanged.
+    NotAStore { disk: Side, at: u64 },
+    /// The store is another monitor's, or of another number of monitors. What the disks stand for is unchanged.
+    Stranger { kept: Member, asked: Member },
+    /// A number of this kind would pass 2^62. The lines of the events before were written.
+    Spent { which: Which },
+    /// The node made as many turns as were asked.
+    TurnsUsed,
+    /// The monitor's map would have the size `would_be`, above 268,435,456. The lines of the events before were written.
+    Full { would_be: u64 },
+    /// An allocation was refused. What went out is a front of the output.
+    OutOfMemory,
+}
+
+impl Status {
+    ghost use Rattle.std.specs.Prelude.{◌≡◌};
+    ghost use Rattle.cephmon_run.specs.Status.{status_number, status_of_opening, status_of_end};
+
+    /// The number that the program ends with.
+    pub fn number(self) -> u8
+        ensures { result ≡ status_number self }
+    {
+        match self {
+            Status::Done => 0,
+            Status::Words => 2,
+            Status::Schedule { .. } => 3,
+            Status::ReadFault => 4,
+            Status::WriteFault => 5,
+            Status::DiskFault => 6,
+            Status::LinkFault => 7,
+            Status::NotAStore { .. } => 8,
+            Status::Stranger { .. } => 9,
+            Status::Spent { .. } => 10,
+            Status::TurnsUsed => 11,
+            Status::OutOfMemory => 12,
+            Status::Full { .. } => 13,
+        }
+    }
+
+    /// Why no store was opened.
+    pub fn of_opening(stop: OpenStop) -> Status
+        ensures { result ≡ status_of_opening stop }
+    {
+        match stop {
+            OpenStop::DiskFault => Status::DiskFault,
+            OpenStop::NotAStore { disk, at } => Status::NotAStore { disk, at },
+            OpenStop::Stranger { kept, asked } => Status::Stranger { kept, asked },
+            OpenStop::OutOfMemory => Status::OutOfMemory,
+        }
+    }
+
+    /// How a node ended.
+    pub fn of_end(end: NodeEnd) -> Status
+        ensures { result ≡ status_of_end end }
+    {
+        match end {
+            NodeEnd::Closed => Status::Done,
+            NodeEnd::TurnsUsed => Status::TurnsUsed,
+            NodeEnd::DiskFault => Status::DiskFault,
+            NodeEnd::LinkFault => Status::LinkFault,
+            NodeEnd::Full { would_be } => Status::Full { would_be },
+            NodeEnd::Spent { which } => Status::Spent { which },
+            NodeEnd::OutOfMemory => Status::OutOfMemory,
+        }
+    }
+}
+
+/// A disk's name in a text.
+fn disk_name(disk: Side) -> &'static str {
+    match disk {
+        Side::A => "a",
+        Side::B => "b",
+    }
+}
+
+impl fmt::Display for Status {
+    fn fmt<W: fmt::Write>(&self, f: &mut fmt::Formatter<W>) -> fmt::Result {
+        match self {
+            Status::Done => Ok(()),
+            Status::Words => write!(f, "words refused"),
+            Status::Schedule { line, kind } => write!(f, "schedule refused: line {line}, {kind}"),
+            Status::ReadFault => write!(f, "read fault"),
+            Status::WriteFault => write!(f, "write fault"),
+            Status::DiskFault => write!(f, "disk fault"),
+            Status::LinkFault => write!(f, "link fault"),
+            Status::NotAStore { disk, at } => {
+                let disk = disk_name(*disk);
+                write!(f, "not a store: disk {disk} at {at}")
+            }
+            Status::Stranger { kept, asked } => {
+                let kept_rank = kept.rank.get();
+                let kept_monitors = kept.monitors;
+                let rank = asked.rank.get();
+                let monitors = asked.monitors;
+                write!(
+                    f,
+                    "store of {kept_rank} of {kept_monitors}, asked for {rank} of {monitors}"
+                )
+            }
+            Status::Spent { which } => write!(f, "spent: {which:?}"),
+            Status::TurnsUsed => write!(f, "turns used"),
+            Status::Full { would_be } => write!(f, "store full: {would_be}"),
+            Status::OutOfMemory => write!(f, "out of memory"),
+        }
+    }
+}
