@@ -1,0 +1,9 @@
+//! Tests of a monitor that serves: over links, clocks and disks in memory.
+#![tactic(auto)]
+
+#[cfg(test)]
+mod alone;
+#[cfg(test)]
+mod rig;
+#[cfg(test)]
+mod three;
