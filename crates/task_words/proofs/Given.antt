@@ -19,7 +19,8 @@ use Rattle.task_words.specs.Addresses.{IsAddress, addresses_of, addresses_text}
 use Rattle.task_words.specs.Matches.{IsFound, IsGiven, IsText}
 use Rattle.task_words.specs.Words.{Spells}
 use Rattle.task_words.proofs.AddressLaws.{addresses_read}
-use Rattle.task_words.proofs.Unique.{same_member, same_rule}
+use Rattle.mon_types.proofs.Members.{same_member}
+use Rattle.task_words.proofs.Unique.{same_rule}
 
 text_given : (o : Option (Bor (List ℕ))) (r : Result (Bor (List ℕ)) WordsStop) (text : List ℕ) → option_map (λ s. s.now) o ≡ Some text → r ≡ ok_or o Refused → IsText text r
 text_given None r text e is = absurd cc

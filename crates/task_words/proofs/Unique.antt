@@ -1,10 +1,10 @@
 -- Words ask for one task.
-use Rattle.std.proofs.Common.{◌≡◌, ℕ, ◌<◌, ◌≤◌, List, [], ◌∷◌, length, Ok, codes, decimal, refl, sym, ap, subst, ◌∙◌, arith}
+use Rattle.std.proofs.Common.{◌≡◌, ℕ, ◌<◌, List, [], ◌∷◌, length, Ok, codes, decimal, refl, sym, ap, subst, ◌∙◌, arith}
 use Rattle.std.specs.List.{AllByRecursion}
-use Rattle.std.proofs.Math.Bridge.{le_prop}
 use Rattle.std.proofs.lemmas.Fmt.{decimal_injective}
 use Rattle.election_rules.specs.declared.rule.Rule.{Rule}
 use Rattle.mon_link.specs.declared.udp.Address.{Address}
+use Rattle.mon_types.proofs.Members.{same_member}
 use Rattle.mon_types.specs.declared.member.Member.{Member}
 use Rattle.schedule_text.specs.Schedule.{rule_of}
 use Rattle.schedule_text.specs.Spelling.{RuleFits, rule_text}
@@ -25,17 +25,6 @@ same_addresses n xs ys some a b each_a each_b e =
     let read_a = addresses_read n (addresses_text xs) xs some a each_a refl in
     let read_b = addresses_read n (addresses_text xs) ys some b each_b e in
     cc
-
--- there is one member of a rank and a number
-pub same_member : (a b : Member) → a.rank ≡ b.rank → a.monitors ≡ b.monitors → a ≡ b
-same_member a b ranks counts =
-    subst (λ (r : ℕ). (most : b.monitors ≤ 15) (in_map : r < b.monitors) → a ≡ record { rank = r; monitors = b.monitors; most = most; in_map = in_map }) ranks
-    (subst (λ (n : ℕ). (most : n ≤ 15) (in_map : a.rank < n) → a ≡ record { rank = a.rank; monitors = n; most = most; in_map = in_map }) counts own) b.most b.in_map
-  where
-    own : (most : a.monitors ≤ 15) (in_map : a.rank < a.monitors) → a ≡ record { rank = a.rank; monitors = a.monitors; most = most; in_map = in_map }
-    own most in_map =
-        ap (λ (h : a.monitors ≤ 15). record { rank = a.rank; monitors = a.monitors; most = h; in_map = a.in_map }) (le_prop a.most most)
-        ∙ ap (λ (h : a.rank < a.monitors). record { rank = a.rank; monitors = a.monitors; most = most; in_map = h }) (le_prop a.in_map in_map)
 
 -- the words of two nodes, part by part
 pub record SameWords (first rank monitors rule addresses disk_a disk_b turns first' rank' monitors' rule' addresses' disk_a' disk_b' turns' : List ℕ) : Type 0 where
