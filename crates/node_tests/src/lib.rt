@@ -5,5 +5,3 @@
 mod alone;
 #[cfg(test)]
 mod rig;
-#[cfg(test)]
-mod three;
