@@ -1,0 +1,65 @@
+ghost use Rattle.mon_msg.specs.Protocol.Readings.{readings_of};
+ghost use Rattle.svc_core.specs.Cache.{Follows};
+
+use election_rules::Rule;
+use mon_core::{Core, CoreStop, Input};
+use mon_kv::Kv;
+use mon_tx::{Area, Key, Transaction};
+use mon_types::{GREATEST, Member, Moment, Rank, Which};
+use std::alloc::Global;
+use std::test::Fail;
+
+/// What a store tells: how often its monitor was started, its epoch, the last proposal number that it made, and its last version.
+#[derive(Clone, Copy, Debug)]
+struct Told(u64, u64, u64, u64);
+
+fn store(alloc: Global, told: Told) -> Result<Kv, Fail> {
+    let Told(boot, epoch, pn, last) = told;
+    let mut tx = Transaction::new(alloc);
+    tx.put_number(Area::Monitor, Key::BootCount, boot)?;
+    tx.put_number(Area::Monitor, Key::ElectionEpoch, epoch)?;
+    tx.put_number(Area::Paxos, Key::LastPn, pn)?;
+    tx.put_number(Area::Paxos, Key::LastCommitted, last)?;
+    let mut kv = Kv::empty(alloc);
+    kv.apply(&tx)?;
+    Ok(kv)
+}
+
+/// A monitor that is alone in its map, before it starts over this store.
+fn alone(alloc: Global, member: Member, kv: &Kv) -> Core
+    ensures { Follows result.cache (readings_of kv.now) }
+{
+    Core::boot(alloc, member, Rule::Classic)
+}
+
+/// Which number runs out where a monitor that is alone in its map starts, and so wins.
+fn spent(alloc: Global, told: Told) -> Result<Option<Which>, Fail> {
+    let member = Member::new(Rank::known(0), 1).ok_or("a member")?;
+    let kv = store(alloc, told)?;
+    let mut core = alone(alloc, member, &kv);
+    match core.react(alloc, &kv, &Input::Start, Moment::known(1000)) {
+        Ok(_) => Ok(None),
+        Err(CoreStop::Spent { which }) => Ok(Some(which)),
+        Err(CoreStop::OutOfMemory) => Err("memory".into()),
+    }
+}
+
+#[test]
+fn the_first_number_that_runs_out_is_told(rt: HostRuntime) -> Result<(), Fail> {
+    // monitor 0 makes multiples of 100, and behind this number there is a last one up to 2^62
+    let most_pn = 4_611_686_018_427_387_899;
+    for (told, wanted) in [
+        (Told(3, 8, GREATEST, 5), Some(Which::Pn)),
+        (Told(3, 8, most_pn + 1, 5), Some(Which::Pn)),
+        (Told(3, 8, most_pn, 5), None),
+        (Told(GREATEST, GREATEST, GREATEST, 5), Some(Which::Boot)),
+        (Told(3, GREATEST, GREATEST, 5), Some(Which::Epoch)),
+        (Told(3, GREATEST - 2, GREATEST, 5), Some(Which::Pn)),
+        // no version is made by whoever wins
+        (Told(3, 8, 100, GREATEST), None),
+    ] {
+        let found = spent(rt.alloc(), told)?;
+        assert_eq!(rt; found, wanted, "{told:?}");
+    }
+    Ok(())
+}
