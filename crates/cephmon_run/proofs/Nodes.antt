@@ -1,5 +1,6 @@
 -- How the ends of a node, and of opening its store, end the program.
-use Rattle.std.proofs.Common.{◌≡◌, ℕ, None, inl, inr, subst, sym}
+use Rattle.std.proofs.Common.{◌≡◌, ℕ, List, Option, None, IsTrue, inl, inr, subst, sym}
+use Rattle.std.specs.Prelude.{is_some}
 use Rattle.mon_disk.specs.Calls.{DiskState}
 use Rattle.mon_msg.specs.declared.view.Me.{Me}
 use Rattle.mon_node.specs.declared.end.NodeEnd.{NodeEnd}
@@ -48,3 +49,7 @@ pub count_since : (e : NodeEnd) (old_a old_b mid_a mid_b new_a new_b : ℕ) → 
     → DisksCountAt e old_a old_b new_a new_b
 count_since e old_a old_b mid_a mid_b new_a new_b same_a same_b counts =
     subst (λ (a : ℕ). DisksCountAt e a old_b new_a new_b) same_a (subst (λ (b : ℕ). DisksCountAt e mid_a b new_a new_b) same_b counts)
+
+-- a disk goes on telling what it holds
+pub tells_still : (old new : Option (List ℕ)) → is_some new ≡ is_some old → IsTrue (is_some old) → IsTrue (is_some new)
+tells_still old new same tells = subst IsTrue (sym same) tells

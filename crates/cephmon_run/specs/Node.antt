@@ -14,7 +14,8 @@ use Rattle.mon_store.specs.declared.stop.OpenStop.TheVariants as open_stop
 use Rattle.mon_types.specs.declared.member.Member.{Member}
 use Rattle.mon_node.specs.Hearing.{Given, faults_at}
 use Rattle.mon_node.specs.Keeping.{DisksCountAt}
-use Rattle.mon_node.specs.Nodes.{unstarted}
+use Rattle.mon_node.specs.Lasting.{BothTell, StandsThrough}
+use Rattle.mon_node.specs.Nodes.{Disks, unstarted, disks as disks_held}
 use Rattle.mon_node.specs.Serving.{Serves}
 use Rattle.mon_node.specs.declared.end.NodeEnd.{NodeEnd}
 use Rattle.mon_node.specs.declared.end.NodeEnd.TheVariants as end
@@ -47,15 +48,24 @@ module _ {D : Type 0} (state : D → DiskState) where
     pub link : after.link ≡ before.link
     pub clock : after.clock ≡ before.clock
 
+  -- what two disks hold
+  abbrev pub contents : NodeDisks D → Disks
+  contents disks = disks_held state disks.a disks.b
+
   -- A store was opened, and the monitor served from it and ended so. What clock and link told at each turn decides what was kept, what was
-  -- sent and how long was waited.
+  -- sent and how long was waited. Where the disks tell what they hold: a crash while the store was opened left what they might have stood for
+  -- before, and from then on, turn after turn and at the end, it left what the store stood for within that turn.
   pub record Served (me : Me) (turns : ℕ) (before after : Around D) (e : NodeEnd) : Type 0 where
     pub stood : Stood
     pub opened : OpensTo me.member before.disks (λ read. read ≡ Ok stood)
+    pub open_disks : NodeDisks D
+    pub alike : LeavesAlike me.member before.disks open_disks
     pub begun : ℕ
     pub first : ℕ
     pub given : List Given
     pub serves : Serves me (unstarted me.member.rank stood before.clock before.link.told) turns e begun after.clock after.link.told first given
+    pub stands : BothTell (contents before.disks)
+        → StandsThrough me first (unstarted me.member.rank stood before.clock before.link.told) given e after.link.told (contents open_disks) (contents after.disks)
     pub link_counts : after.link.faults ≡ faults_at e before.link.faults
     pub disks_count : DisksCountAt e (state before.disks.a).faults (state before.disks.b).faults (state after.disks.a).faults (state after.disks.b).faults
 

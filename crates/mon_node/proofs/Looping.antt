@@ -11,7 +11,7 @@ use Rattle.mon_msg.specs.declared.view.Me.{Me}
 use Rattle.mon_store.specs.Stood.{Stood}
 use Rattle.mon_store.specs.declared.store.Store.{Store as StoreOn}
 use Rattle.mon_node.specs.Hearing.{Given, IsGiven, IsReading, at_moment}
-use Rattle.mon_node.specs.Lasting.{BothTell, Leave, Through, Pass, IsWithinTurn, IsLeft, PassTurn, PassTurns, AreLeft, moments}
+use Rattle.mon_node.specs.Lasting.{BothTell, Leave, Through, Pass, IsWithinTurn, IsLeft, PassTurn, PassTurns, StandsThrough, moments}
 use Rattle.mon_node.specs.Nodes.{Serving, Disks, disks_of, unstarted}
 use Rattle.mon_node.specs.Serving.{Has, EndsAt, EndsTurn, EndsAfter, AreGiven, Serves}
 use Rattle.mon_node.specs.Turns.{Turn, start, turn, ended_turn, last_turn, served}
@@ -52,7 +52,7 @@ pub record HasServed (me : Me) (s : Serving) (old : Disks) (done : ℕ) (now : S
 -- the turns that a node made, whatever they are
 abbrev pub SomeServe : Me → Serving → (old : Disks) → (turns : ℕ) → NodeEnd → (begun : ℕ) → Option Readings → Option Told → (new : Disks) → Type 0
 SomeServe me s old turns e begun clock link new =
-    (first : ℕ) × (given : List Given) × Serves me s turns e begun clock link first given × (BothTell old → PassTurns me first s given old new × AreLeft me first s given e link new)
+    (first : ℕ) × (given : List Given) × Serves me s turns e begun clock link first given × (BothTell old → StandsThrough me first s given e link old new)
 
 ends_after : (me : Me) (turns begun : ℕ) (t : Turn) (e : NodeEnd) (clock : Option Readings) (link : Option Told) → EndsAt me t e clock link → EndsAfter me turns begun t e clock link
 ends_after me turns begun t end.TurnsUsed clock link h = absurd h.cause
@@ -89,7 +89,7 @@ module _ (me : Me) (s : Serving) (old : Disks) where
       most = omega arith;
       ends = ends_after me turns 0 (start first s) e clock link h;
     },
-    λ both. (start_passes first new (pass both).0, (pass both).1),
+    λ both. let p = pass both in record { turns = start_passes first new p.0; left = p.1 },
   )
 
   -- one more turn
@@ -140,7 +140,7 @@ module _ (me : Me) (s : Serving) (old : Disks) where
           most = subst (λ (n : ℕ). n ≤ turns) counted (omega (arith, within));
           ends = at_last (λ (t : Turn). EndsAfter me turns (done + 1) t e clock link) (ends_after me turns (done + 1) (turn me g now) e clock link h);
         },
-        λ both. let p = pass (so_far.passes both).tell in (passes_on new both p.0, at_last (λ (t : Turn). Leave new (IsLeft me t e link)) p.1),
+        λ both. let p = pass (so_far.passes both).tell in record { turns = passes_on new both p.0; left = at_last (λ (t : Turn). Leave new (IsLeft me t e link)) p.1 },
       )
 
     -- all of them
@@ -154,7 +154,7 @@ module _ (me : Me) (s : Serving) (old : Disks) where
         most = subst (λ (n : ℕ). n ≤ turns) so_far.done_are (omega (arith, all));
         ends = at_last (last_turn me so_far.first s so_far.given) so_far.served_is;
       },
-      λ both. (so_far.passes both, are_left (last_turn me so_far.first s so_far.given) so_far.served_is),
+      λ both. record { turns = so_far.passes both; left = are_left (last_turn me so_far.first s so_far.given) so_far.served_is },
     )
       where
         at_last : (x : Result Turn NodeEnd) → (x >>= ended_turn me) ≡ Ok now → Has x (λ (t : Turn). EndsAfter me turns turns t end.TurnsUsed now.outside.clock now.outside.link)

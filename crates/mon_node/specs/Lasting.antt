@@ -114,3 +114,8 @@ pub record PassTurns (me : Me) (first : ℕ) (s : Serving) (given : List Given) 
 -- what they are left with, where the node ended at the last one
 abbrev pub AreLeft : Me → (first : ℕ) → Serving → List Given → NodeEnd → Option Told → Disks → Type 0
 AreLeft me first s given e link d = Has (last_turn me first s given) (λ t. Leave d (IsLeft me t e link))
+
+-- What two disks go through in these turns, and what they are left with where the node ended so at the last one.
+pub record StandsThrough (me : Me) (first : ℕ) (s : Serving) (given : List Given) (e : NodeEnd) (link : Option Told) (old new : Disks) : Type 0 where
+  pub turns : PassTurns me first s given old new
+  pub left : AreLeft me first s given e link new

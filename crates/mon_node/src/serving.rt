@@ -1,7 +1,7 @@
 ghost use Rattle.std.specs.Prelude.{◌≡◌, ℕ, List, false};
 ghost use Rattle.mon_node.specs.Hearing.{Given, faults_at};
 ghost use Rattle.mon_node.specs.Keeping.{DisksCountAt};
-ghost use Rattle.mon_node.specs.Lasting.{BothTell, PassTurns, AreLeft};
+ghost use Rattle.mon_node.specs.Lasting.{BothTell, StandsThrough};
 ghost use Rattle.mon_node.specs.Nodes.{unstarted, stood_of, disks, disks_of};
 ghost use Rattle.mon_node.specs.Serving.{Serves};
 ghost use Rattle.mon_store.specs.Whole.{IsSound, disk_a, disk_b};
@@ -45,7 +45,7 @@ pub fn serve<D: Disk, L: Link, C: Clock>(
         let old = disks_of D.state store in let new = disks D.state result.disks.a result.disks.b in
         (first : ℕ) × (given : List Given)
         × Serves (record { member = member; rule = rule }) start turns result.end result.turns (C.left clock.new) (L.state link.new).told first given
-        × (BothTell old → PassTurns (record { member = member; rule = rule }) first start given old new × AreLeft (record { member = member; rule = rule }) first start given result.end (L.state link.new).told new) }
+        × (BothTell old → StandsThrough (record { member = member; rule = rule }) first start given result.end (L.state link.new).told old new) }
 
     ensures faults { (L.state link.new).faults ≡ faults_at result.end (L.state link.old).faults }
     ensures counts { DisksCountAt result.end (D.state (disk_a store)).faults (D.state (disk_b store)).faults (D.state result.disks.a).faults (D.state result.disks.b).faults }

@@ -1,7 +1,7 @@
 use Rattle.std.proofs.Common.{◌≡◌, refl}
 use Rattle.mon_store.specs.Whole.{disk_a, disk_b}
 use Rattle.mon_node.specs.Nodes.{stood_of}
-use Rattle.cephmon_run.proofs.Nodes.{count_since, counted_none, ends_served, ends_unopened}
+use Rattle.cephmon_run.proofs.Nodes.{count_since, counted_none, ends_served, ends_unopened, tells_still}
 use Rattle.cephmon_run.proofs.node.run_node.Goals as goal
 
 pub returns-in-Err : goal.returns-in-Err
@@ -26,10 +26,16 @@ returns-in-Ok g c =
     (record {
       stood = stood_of c.in-Ok.store;
       opened = it.answer;
+      open_disks = record { a = disk_a c.in-Ok.store; b = disk_b c.in-Ok.store };
+      alike = it.any_moment;
       begun = c.serve-served.result.turns;
       first = run.0;
       given = run.1;
       serves = run.2;
+      stands = λ tell. run.3 (
+        tells_still (state c.args.disks.a).content.seen (state (disk_a c.in-Ok.store)).content.seen it.a_tells tell.0,
+        tells_still (state c.args.disks.b).content.seen (state (disk_b c.in-Ok.store)).content.seen it.b_tells tell.1,
+      );
       link_counts = c.serve-served.ensures.faults;
       disks_count = count_since c.serve-served.result.end _ _ _ _ _ _ none.0 none.1 c.serve-served.ensures.counts;
     })
