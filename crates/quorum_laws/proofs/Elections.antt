@@ -1,4 +1,5 @@
 -- What is known of elections in every run.
+use Rattle.log_model.proofs.Lists.{all_front}
 use Rattle.mon_msg.specs.Protocol.Phases.{is_member}
 use Rattle.mon_msg.specs.Protocol.Readings.{epoch_of}
 use Rattle.mon_msg.specs.Protocol.State.{State, quorum_of}
@@ -13,11 +14,11 @@ use Rattle.quorum_laws.proofs.Leaving.{member_in}
 use Rattle.quorum_laws.proofs.Reading.{among_of, at_least, sent_holds, state_holds}
 use Rattle.quorum_laws.specs.Accepting.{readings_at}
 use Rattle.quorum_laws.specs.Elections.{ActiveAreLed, EpochsSent, IsLed, IsMember, IsQuorum, leader_of}
-use Rattle.quorum_model.specs.Events.{AllFit}
+use Rattle.quorum_model.specs.Events.{AllFit, PlainFits}
 use Rattle.quorum_model.specs.Monitors.{Monitors}
 use Rattle.quorum_model.specs.Runs.{run}
 use Rattle.quorum_model.specs.Safe.{OneActive}
-use Rattle.quorum_model.specs.World.{Event, World, first_world}
+use Rattle.quorum_model.specs.World.{Event, World, first_world, plain_of}
 use Rattle.quorum_walk.proofs.Lists.{all_among}
 use Rattle.quorum_walk.proofs.Ranks.{majorities}
 use Rattle.quorum_walk.proofs.Sparing.{own_of}
@@ -87,10 +88,6 @@ member_once ms before after F i e l k q r a b =
 
 -- ---- once, and without a break
 
-fits_front : (n : ℕ) (a b : List Event) → AllFit n (a ++ b) → AllFit n a
-fits_front n [] b F = tt
-fits_front n (e ∷ a) b F = (F.0, fits_front n a b F.1)
-
 in_state : (o : Option State) → is_in o ≡ true → (s : State) × (o ≡ Some s) × (is_member s.phase ≡ true)
 in_state None t = absurd (false≢true t)
 in_state (Some s) t = (s, refl, t)
@@ -98,7 +95,7 @@ in_state (Some s) t = (s, refl, t)
 pub member_between : (ms : Monitors) (before between after : List Event) → AllFit ms.count ((before ++ between) ++ after) → (i e l k : ℕ) (q r : List Bool) → IsMember (run ms before) i e l q → IsMember (run ms ((before ++ between) ++ after)) i e k r
     → IsMember (run ms (before ++ between)) i e l q
 member_between ms before between after F i e l k q r a b =
-    let G = fits_front ms.count (before ++ between) after F in
+    let G = all_front (λ (e : Event). PlainFits ms.count (plain_of e)) (before ++ between) after F in
     let first = (both_runs ms first_world before between G (at_first ms)).3.each i in
     let second = (both_runs ms first_world (before ++ between) after F (at_first ms)).3.each i in
     let up = first.epoch in
