@@ -1,4 +1,4 @@
-ghost use Rattle.std.specs.Prelude.{◌≡◌, ℕ, ◌<◌, ◌^◌, ◌++◌, length, IsTrue, OnOk};
+ghost use Rattle.std.specs.Prelude.{◌≡◌, ℕ, ◌<◌, ◌^◌, ◌++◌, length, IsTrue, OnOk, OnErr};
 ghost use Rattle.std.specs.Str.{is_utf8};
 ghost use Rattle.mon_bytes.specs.Forms.{u32_bytes, text_bytes, text_at, Reads};
 
@@ -7,10 +7,11 @@ use crate::cursor::Cursor;
 use crate::memory::OutOfMemory;
 use crate::out::Out;
 use crate::texts::Text;
+use byteorder::{ByteOrder, LittleEndian};
 use std::alloc::Global;
 
 /// Reads a length in four bytes and a text of so many bytes. A field that doesn't fit, and bytes that aren't UTF-8, are at
-/// fault at their first place.
+/// fault at their first place. A refusal leaves the cursor anywhere.
 #[tactic(auto, unfolding(crate::specs::Forms::text_at))]
 pub fn read_text(alloc: Global, cursor: &mut Cursor<'_>) -> Result<Text, MapRefused>
     ensures { Reads (λ text. text) result cursor.new (text_at cursor.old) }
@@ -25,21 +26,26 @@ pub fn read_text(alloc: Global, cursor: &mut Cursor<'_>) -> Result<Text, MapRefu
     Ok(text)
 }
 
-/// Appends a number in four bytes.
+/// Appends a number in four bytes. A refusal leaves the bytes as they were.
 #[tactic(auto, unfolding(crate::specs::Forms::u32_bytes))]
 pub fn write_count(out: &mut Out, count: u32) -> Result<(), OutOfMemory>
-    ensures { OnOk result (out.new ≡ out.old ++ u32_bytes count) }
+    ensures ok { OnOk result (out.new ≡ out.old ++ u32_bytes count) }
+    ensures err { OnErr result (out.new ≡ out.old) }
 {
     out.put_u32(count)
 }
 
-/// Appends a text with its length in four bytes. It is for texts of fewer than 2 ^ 32 bytes.
+/// Appends a text with its length in four bytes. It is for texts of fewer than 2 ^ 32 bytes. A refusal leaves the bytes as
+/// they were.
+#[tactic(auto, unfolding(crate::specs::Forms::u32_bytes))]
 pub fn write_text(out: &mut Out, text: &Text) -> Result<(), OutOfMemory>
     requires { length text.now < 2 ^ 32 }
     ensures bytes { OnOk result (out.new ≡ out.old ++ text_bytes text.now) }
+    ensures err { OnErr result (out.new ≡ out.old) }
     ensures form { IsTrue (is_utf8 text.now) }
 {
     let bytes = text.as_slice();
-    write_count(out, bytes.len() as u32)?;
-    out.put_bytes(bytes)
+    let mut length = [0; 4];
+    LittleEndian::write_u32(&mut length, bytes.len() as u32);
+    out.put_both(&length, bytes)
 }

@@ -80,9 +80,17 @@ impl Out {
         ensures ok { OnOk result (self.new ≡ self.old ++ length word.now ∷ word.now) }
         ensures err { OnErr result (self.new ≡ self.old) }
     {
+        self.put_both(&[word.len() as u8], word)
+    }
+
+    /// Appends these bytes and then those.
+    pub(crate) fn put_both(&mut self, first: &[u8], second: &[u8]) -> Result<(), OutOfMemory>
+        ensures ok { OnOk result (self.new ≡ self.old ++ first.now ++ second.now) }
+        ensures err { OnErr result (self.new ≡ self.old) }
+    {
         let before = self.bytes.len();
-        self.put_u8(word.len() as u8)?;
-        let put = self.put_bytes(word);
+        self.put_bytes(first)?;
+        let put = self.put_bytes(second);
         if put.is_err() {
             self.bytes.truncate(before);
         }

@@ -6,6 +6,7 @@ use Rattle.std.proofs.lemmas.Bool.{eqb-true, leb-false, leb-true}
 use Rattle.std.proofs.lemmas.List.{drop_at, length-replicate}
 use Rattle.std.proofs.lemmas.List.Quantifiers.{position-Some}
 use Rattle.std.proofs.lemmas.Option.{get_or_from_slice_get}
+use Rattle.mon_bytes.specs.declared.limits.TheConstants.{MOST_MESSAGE}
 use Rattle.mon_bytes.specs.Answers.{◌>>=◌}
 use Rattle.mon_bytes.proofs.Ascii.{both}
 use Rattle.mon_link.specs.declared.link.Peer.{Peer}
@@ -193,7 +194,7 @@ formed_cases count h =
     (or_fault (not (h.zero_3 == 0)) (Form 3) _ h
     (or_fault (nat_lt (2 ^ 62) h.boot) (Form 4) _ h
     (or_fault (nat_lt (2 ^ 62) h.seq) (Form 12) _ h
-    (or_fault (nat_lt h.total 60001 || nat_lt 1048576 h.total) (Form 20) _ h
+    (or_fault (nat_lt h.total 60001 || nat_lt MOST_MESSAGE h.total) (Form 20) _ h
     (or_fault (not (h.place % 59000 == 0) || nat_le h.total h.place) (Form 24) _ h
     (or_fault (not (count == min 59000 (h.total - h.place))) (Form 28) _ h (inl refl))))))))
 

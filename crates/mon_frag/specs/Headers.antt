@@ -1,6 +1,7 @@
 -- How the header of a piece is read.
 use Rattle.std.specs.Prelude.{ℕ, ◌-◌, ◌%◌, ◌^◌, ◌==◌, nat_le, nat_lt, min, ◌||◌, not, Bool, false, List, [], ◌∷◌, length, drop, Result, Ok, Err, if◌then◌else◌}
 use Rattle.mon_bytes.specs.declared.cursor.Short.{Short}
+use Rattle.mon_bytes.specs.declared.limits.TheConstants.{MOST_MESSAGE}
 use Rattle.mon_bytes.specs.Reading.{Reading, number}
 use Rattle.mon_bytes.specs.Answers.{◌>>=◌, at_fault}
 use Rattle.mon_frag.specs.declared.header.Header.{Header}
@@ -40,7 +41,7 @@ formed count h =
     else if not (h.zero_3 == 0) then Err (Form 3)
     else if nat_lt (2 ^ 62) h.boot then Err (Form 4)
     else if nat_lt (2 ^ 62) h.seq then Err (Form 12)
-    else if nat_lt h.total 60001 || nat_lt 1048576 h.total then Err (Form 20)
+    else if nat_lt h.total 60001 || nat_lt MOST_MESSAGE h.total then Err (Form 20)
     else if not (h.place % 59000 == 0) || nat_le h.total h.place then Err (Form 24)
     else if not (count == min 59000 (h.total - h.place)) then Err (Form 28)
     else Ok h

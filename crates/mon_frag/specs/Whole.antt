@@ -1,6 +1,7 @@
 -- What peers send, what comes of it, and what an assembly answers to that.
 use Rattle.std.specs.Prelude.{◌≡◌, ◌≤◌, ◌<◌, ◌^◌, ℕ, false, List, [], ◌∷◌, length, Option, Some, None, Ok, Err}
 use Rattle.std.specs.List.{Any, Contains, AllByRecursion}
+use Rattle.mon_bytes.specs.declared.limits.TheConstants.{MOST_MESSAGE}
 use Rattle.mon_link.specs.declared.link.Peer.{Peer}
 use Rattle.mon_frag.specs.declared.partial.Partial.{Partial}
 use Rattle.mon_frag.specs.Pieces.{pieces_of}
@@ -16,7 +17,7 @@ pub record Message : Type 0 where
 
 -- a message that can be cut, and isn't taken for a piece
 pub record IsMessage (m : Message) : Type 0 where
-  pub most : length m.bytes ≤ 1048576
+  pub most : length m.bytes ≤ MOST_MESSAGE
   pub boot : m.boot < 2 ^ 64
   pub seq : m.seq < 2 ^ 64
   pub no_piece : is_piece m.bytes ≡ false

@@ -1,4 +1,5 @@
 ghost use Rattle.std.specs.Prelude.{◌≡◌, ◌+◌, ◌*◌, ◌≤◌, ◌<◌, ◌++◌, length, IfOk, OnOk};
+ghost use Rattle.mon_bytes.specs.declared.limits.TheConstants.{MOST_MESSAGE};
 ghost use Rattle.mon_frag.specs.Pieces.{u64_bytes, header, part_at, piece, pieces_of, piece_count};
 
 use crate::header::PART;
@@ -53,7 +54,7 @@ fn cut(
     seq: u64,
     place: usize,
 ) -> Result<Bytes, OutOfMemory>
-    requires most { length message.now ≤ 1048576 }
+    requires most { length message.now ≤ MOST_MESSAGE }
     requires within { place < length message.now }
     ensures { IfOk result (λ bytes. bytes ≡ piece message.now boot seq place) }
 {
@@ -72,7 +73,7 @@ pub fn pieces(
     boot: u64,
     seq: u64,
 ) -> Result<Items<Bytes>, OutOfMemory>
-    requires { length message.now ≤ 1048576 }
+    requires { length message.now ≤ MOST_MESSAGE }
     ensures { IfOk result (λ datagrams. datagrams ≡ pieces_of message.now boot seq) }
 {
     let mut datagrams = Items::new(alloc);

@@ -2,7 +2,7 @@ ghost use Rattle.std.specs.Prelude.{◌≡◌, ◌<◌, drop, IfOk};
 ghost use Rattle.mon_frag.specs.Headers.{fields_of, formed, header_of};
 
 use crate::refused::FragRefused;
-use mon_bytes::Cursor;
+use mon_bytes::{Cursor, MOST_MESSAGE};
 use mon_types::GREATEST;
 
 /// The bytes of a piece in front of those of its message.
@@ -11,10 +11,8 @@ const HEADER: usize = 28;
 /// The most bytes of a message that a piece has.
 pub const PART: u32 = 59_000;
 
-/// The least and the most bytes of a message that is cut.
+/// The least bytes of a message that is cut.
 const LEAST: u32 = 60_001;
-
-const MOST: u32 = 1_048_576;
 
 /// What stands in front of the bytes of a piece.
 #[derive(Clone, Copy)]
@@ -80,7 +78,7 @@ fn check(count: usize, header: Header) -> Result<Header, FragRefused>
     if seq > GREATEST {
         return Err(FragRefused::Form { at: 12 });
     }
-    if total < LEAST || total > MOST {
+    if total < LEAST || total as usize > MOST_MESSAGE {
         return Err(FragRefused::Form { at: 20 });
     }
     if place % PART != 0 || place >= total {

@@ -1,23 +1,20 @@
 -- The fields of a store's file, from left to right, where the first one at fault is named by its first place.
-use Rattle.std.specs.Prelude.{◌≡◌, ℕ, ◌^◌, List, Result, Ok, Err, nat_lt, nat_le, ◌==◌, if◌then◌else◌, codes}
+use Rattle.std.specs.Prelude.{ℕ, ◌^◌, false, List, Result, Ok, Err, nat_lt, nat_le, ◌==◌, if◌then◌else◌, codes}
 use Rattle.std.specs.List.{list_all}
 use Rattle.std.specs.Str.{bytes_eq}
 use Rattle.mon_bytes.specs.declared.cursor.Short.{Short}
 use Rattle.mon_bytes.specs.Reading.{Reading, number, front}
+use Rattle.mon_bytes.specs.Answers as answers
+use Rattle.mon_bytes.specs.Answers.{at_fault}
+pub use Rattle.mon_bytes.specs.Answers.{◌>>=◌}
 use Rattle.mon_journal.specs.declared.stop.JournalStop.{JournalStop}
 use Rattle.mon_journal.specs.declared.stop.JournalStop.TheVariants.{NotAStore}
 use Rattle.mon_journal.specs.declared.journal.Form.{Form}
 use Rattle.mon_journal.specs.declared.journal.Form.TheVariants.{First, Second}
 
-infixl 10 ◌>>=◌
-abbrev pub ◌>>=◌ : {A B : Type 0} → Result A JournalStop → (A → Result B JournalStop) → Result B JournalStop
-(Ok x) >>= f = f x
-(Err e) >>= f = Err e
-
 -- a field that isn't there whole is at fault
 abbrev pub whole : {A : Type 0} → Result A Short → Result A JournalStop
-whole (Ok x) = Ok x
-whole (Err s) = Err (NotAStore s.at)
+whole read = at_fault (λ at. NotAStore at) read
 
 abbrev pub first_word : List ℕ
 first_word = codes "CEPHMON1"
@@ -62,5 +59,4 @@ payload_at c = do
 
 -- What a call that takes no memory answered and left is what reading gives.
 abbrev pub Reads : {X Y : Type 0} → (X → Y) → Result X JournalStop → Reading → Result (Y × Reading) JournalStop → Type 0
-Reads view (Ok x) new read = read ≡ Ok (view x, new)
-Reads view (Err e) new read = read ≡ Err e
+Reads view result new read = answers.Reads (λ e. false) view result new read

@@ -10,7 +10,7 @@ use Rattle.mon_tx.specs.Map.{Place, place_cmp, Store, number_in}
 use Rattle.mon_tx.specs.Keys.{cell, number}
 use Rattle.mon_tx.specs.Decode.{is_text}
 use Rattle.mon_kv.specs.declared.entry_ref.EntryRef.{EntryRef}
-use Rattle.mon_kv.specs.declared.kv.TheConstants.{MOST_SIZE}
+use Rattle.mon_kv.specs.declared.kv.TheConstants.{LEAST_LENGTH, MOST_SIZE}
 use Rattle.mon_kv.specs.declared.next.Found.{Found}
 
 -- the election epoch, which counts as 1 where there is none
@@ -31,6 +31,10 @@ size_of m = sum_by entry_size (entries m)
 -- the most that the map of a store may count with
 abbrev pub most_size : ℕ
 most_size = MOST_SIZE
+
+-- a store's file is begun anew only where it is longer than this, up to and with its first closed gate
+abbrev pub least_length : ℕ
+least_length = LEAST_LENGTH
 
 -- an entry as a map has it
 abbrev pub entry_of : EntryRef → Place × List ℕ

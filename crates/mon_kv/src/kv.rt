@@ -49,6 +49,9 @@ impl Model for Kv {
 /// The most that the map of a store may count with, as `size` counts.
 pub const MOST_SIZE: u64 = 268435456;
 
+/// A store's file is begun anew only where it is longer than this, up to and with its first closed gate.
+pub const LEAST_LENGTH: u64 = 1048576;
+
 /// The number that the bytes hold: eight bytes, the lowest first, and at most 2^62. It is 0 otherwise.
 #[tactic(auto, unfolding(mon_tx::specs::Map::number_in))]
 pub fn number_of(bytes: Option<&[u8]>) -> u64

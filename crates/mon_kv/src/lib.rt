@@ -14,5 +14,5 @@ mod tree;
 
 pub use chunk::KeyRun;
 pub use entry_ref::EntryRef;
-pub use kv::{Kv, MOST_SIZE, number_of};
+pub use kv::{Kv, LEAST_LENGTH, MOST_SIZE, number_of};
 pub use readers::Pending;

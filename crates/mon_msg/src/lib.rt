@@ -6,6 +6,7 @@ mod clients;
 mod election;
 pub mod input;
 mod laws;
+mod limits;
 mod paxos;
 pub mod plan;
 mod synchronisation;
@@ -14,6 +15,7 @@ mod view;
 pub use clients::{Asked, Clients, Waiting};
 pub use election::{Elector, Prober};
 pub use laws::{law_changes, law_due, law_joined, law_longest, law_readings};
+pub use limits::{MOST_REPLAYED, MOST_REPLAYED_BYTES, MOST_TOLD_BYTES, MOST_VALUE};
 pub use mon_wire::{
     Body, Cookie, Items, MOST_BYTES, Message, MsgKind, MsgRefused, Phase, Place, Reply, Request,
     Service, Session, ShownMap, Timer, Told, TryCopy, decode, law_length,

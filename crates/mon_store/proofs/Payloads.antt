@@ -3,6 +3,7 @@ use Rattle.std.proofs.Common.{◌≡◌, ℕ, ◌+◌, ◌≤◌, Bool, true, fa
 use Rattle.std.specs.FinMap.{empty}
 use Rattle.std.specs.List.{list_any}
 use Rattle.std.proofs.lemmas.Bool.{le-leb}
+use Rattle.mon_bytes.specs.Answers.{◌>>=◌}
 use Rattle.mon_tx.specs.declared.op.Op.{Op}
 use Rattle.mon_tx.specs.Map.{Store, apply}
 use Rattle.mon_tx.specs.Text.{text, is_range}
@@ -40,7 +41,7 @@ folded_more [] at m n ops so_far form small =
     rw (same, after_text ops n form small) refl
 folded_more (payload ∷ payloads) at m n ops so_far form small = by (after payload m) (λ next h. folded_more payloads (at + 5 + length payload) next n ops h form small) so_far
   where
-    by : (next : Option Store) → ((x : Store) → folded payloads (at + 5 + length payload) x ≡ Ok n → folded (payloads ++ text ops ∷ []) (at + 5 + length payload) x ≡ Ok (apply ops n)) → Rattle.mon_journal.specs.Fields.◌>>=◌ (at_fault at next) (folded payloads (at + 5 + length payload)) ≡ Ok n → Rattle.mon_journal.specs.Fields.◌>>=◌ (at_fault at next) (folded (payloads ++ text ops ∷ []) (at + 5 + length payload)) ≡ Ok (apply ops n)
+    by : (next : Option Store) → ((x : Store) → folded payloads (at + 5 + length payload) x ≡ Ok n → folded (payloads ++ text ops ∷ []) (at + 5 + length payload) x ≡ Ok (apply ops n)) → (at_fault at next >>= folded payloads (at + 5 + length payload)) ≡ Ok n → (at_fault at next >>= folded (payloads ++ text ops ∷ []) (at + 5 + length payload)) ≡ Ok (apply ops n)
     by None more h = absurd cc
     by (Some next) more h = more next h
 
@@ -53,7 +54,7 @@ map_more [] m ops so_far form small =
     rw (begun_text ops form small_first) (ap (λ n. Ok (apply ops n)) same)
 map_more (payload ∷ payloads) m ops so_far form small = by (begun payload) so_far
   where
-    by : (first : Option Store) → Rattle.mon_journal.specs.Fields.◌>>=◌ (at_fault 30 first) (folded payloads (35 + length payload)) ≡ Ok m → Rattle.mon_journal.specs.Fields.◌>>=◌ (at_fault 30 first) (folded (payloads ++ text ops ∷ []) (35 + length payload)) ≡ Ok (apply ops m)
+    by : (first : Option Store) → (at_fault 30 first >>= folded payloads (35 + length payload)) ≡ Ok m → (at_fault 30 first >>= folded (payloads ++ text ops ∷ []) (35 + length payload)) ≡ Ok (apply ops m)
     by None h = absurd cc
     by (Some first) h = folded_more payloads (35 + length payload) first m ops h form small
 

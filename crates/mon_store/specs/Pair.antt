@@ -1,6 +1,7 @@
 -- The map that the images of two disks stand for.
 use Rattle.std.specs.Prelude.{ℕ, nat_lt, ◌==◌, ◌&&◌, if◌then◌else◌, List, length, Option, Some, None, Result, Ok, Err}
 use Rattle.std.specs.FinMap.{empty}
+pub use Rattle.mon_bytes.specs.Answers.{◌>>=◌}
 use Rattle.mon_types.specs.declared.names.Side.{Side}
 use Rattle.mon_types.specs.declared.names.Side.TheVariants.{A, B}
 use Rattle.mon_tx.specs.Map.{Store}
@@ -14,11 +15,6 @@ use Rattle.mon_store.specs.Payloads.{map_of}
 pub data Refusal : Type 0 where
   NotAStore : (disk : Side) (at : ℕ) → Refusal
   Stranger : (kept asked : Owner) → Refusal
-
-infixl 10 ◌>>=◌
-abbrev pub ◌>>=◌ : {X Y : Type 0} → Result X Refusal → (X → Result Y Refusal) → Result Y Refusal
-(Ok x) >>= f = f x
-(Err e) >>= f = Err e
 
 -- a fault in a file, on its disk; bytes give NotAStore alone
 abbrev pub on : {X : Type 0} → Side → Result X JournalStop → Result X Refusal

@@ -2,6 +2,7 @@
 use Rattle.std.specs.Prelude.{ℕ, ◌+◌, Bool, false, nat_le, ◌==◌, if◌then◌else◌, List, [], ◌∷◌, length, Option, Some, None, Result, Ok, Err}
 use Rattle.std.specs.FinMap.{empty}
 use Rattle.mon_bytes.specs.declared.command.MapRefused.{MapRefused}
+use Rattle.mon_bytes.specs.Answers.{◌>>=◌}
 use Rattle.mon_tx.specs.declared.op.Op.{Op}
 use Rattle.mon_tx.specs.declared.refusal.TxRefused.{TxRefused}
 use Rattle.mon_tx.specs.Map.{Store, apply}
@@ -9,7 +10,6 @@ use Rattle.mon_tx.specs.Decode.{transaction_of}
 use Rattle.mon_kv.specs.Readers.{size_of}
 use Rattle.mon_journal.specs.declared.stop.JournalStop.{JournalStop}
 use Rattle.mon_journal.specs.declared.stop.JournalStop.TheVariants.{NotAStore}
-use Rattle.mon_journal.specs.Fields.{◌>>=◌}
 use Rattle.mon_store.specs.Checkpoint.{most_size}
 use Rattle.mon_store.specs.Decode.{checkpoint_of}
 

@@ -8,7 +8,7 @@ use Rattle.mon_tx.specs.declared.op.Op.{Op}
 use Rattle.mon_tx.specs.Map.{Store, apply}
 use Rattle.mon_tx.specs.Text.{text}
 use Rattle.mon_tx.specs.Decode.{HasText}
-use Rattle.mon_kv.specs.Readers.{size_of}
+use Rattle.mon_kv.specs.Readers.{size_of, least_length}
 use Rattle.mon_journal.specs.declared.stop.JournalStop.{JournalStop}
 use Rattle.mon_journal.specs.declared.journal.Form.{Form}
 use Rattle.mon_journal.specs.declared.journal.Form.TheVariants.{First, Second}
@@ -76,7 +76,7 @@ is_first Second = false
 -- closed gate and than four times what the map counts with. No generation passes 2^62.
 abbrev pub is_due : Journal → Store → Bool
 is_due journal m =
-    nat_lt journal.generation (2 ^ 62) && (is_first journal.form || (nat_lt 1048576 (journal.next_gate + 1) && nat_lt (4 * size_of m) (journal.next_gate + 1)))
+    nat_lt journal.generation (2 ^ 62) && (is_first journal.form || (nat_lt least_length (journal.next_gate + 1) && nat_lt (4 * size_of m) (journal.next_gate + 1)))
 
 -- what a crash may leave of the other disk while a checkpoint begins a journal there
 abbrev pub Begins : Content → Journal → Store → List ℕ → Type 0

@@ -15,13 +15,10 @@ use crate::store::Store;
 use mon_bytes::{Out, OutOfMemory};
 use mon_disk::Disk;
 use mon_journal::{Form, Journal, restart};
-use mon_kv::Kv;
+use mon_kv::{Kv, LEAST_LENGTH};
 use mon_types::GREATEST;
 use std::alloc::Global;
 use std::mem::swap;
-
-/// A live file with the second header is begun anew only where it is longer than this, up to and with its first closed gate.
-const LEAST_LENGTH: u64 = 1048576;
 
 fn is_first(form: Form) -> bool
     ensures { result ≡ is_first form }

@@ -13,7 +13,8 @@ use Rattle.mon_wire.specs.declared.refusal.MsgRefused.TheVariants as refused
 use Rattle.mon_wire.specs.Message.Format.{faults, ◌>>=◌, cut, Gives}
 use Rattle.mon_wire.specs.Message.Fields.{number_bytes, number_at}
 use Rattle.mon_wire.specs.Message.Bodies.{spelled, body_at}
-use Rattle.mon_wire.specs.Message.Whole.{most, asking, kind_of, text, IsMessage, HasText, format_at, kind_at, sender_at, epoch_at, message_at, ended, whole_at, message_of}
+use Rattle.mon_wire.specs.Message.Length.{most_message}
+use Rattle.mon_wire.specs.Message.Whole.{asking, kind_of, text, IsMessage, HasText, format_at, kind_at, sender_at, epoch_at, message_at, ended, whole_at, message_of}
 use Rattle.mon_bytes.proofs.Formats.{bind_ok, at_fault_ok, not_zero, above_zero}
 use Rattle.mon_wire.proofs.FieldLaws.{numeral-lawful}
 use Rattle.mon_wire.proofs.BodyLaws.{kind_byte, body_takes, kind_in, tag-is, body_found}
@@ -135,13 +136,13 @@ message_of_takes : (bytes : List ℕ) (m : Message) → IsBytes bytes → messag
 unfolding message_of whole_at
 message_of_takes bytes m fits e =
     let c : Reading = record { at = 0; rest = bytes } in
-    let g = guard_ok (ltb most (length bytes)) (refused.At 0 fault.TooLong) (message_at c >>= λ message. ended message) m e in
+    let g = guard_ok (ltb most_message (length bytes)) (refused.At 0 fault.TooLong) (message_at c >>= λ message. ended message) m e in
     let a = bind_ok (message_at c) (λ message. ended message) m g.1 in
     let done = ended_ok a.0 m a.2 in
     let t = message_takes c a.0 fits a.1 in
     let whole : bytes ≡ text a.0.0 = Takes-whole c a.0.1 (text a.0.0) t.0 done.1 in
-    let short : length bytes ≤ most = ltb-false _ _ g.0 in
-    subst (λ (m : Message). HasText m × (bytes ≡ text m)) done.0 (record { form = t.1; short = subst (λ (bs : List ℕ). length bs ≤ most) whole short }, whole)
+    let short : length bytes ≤ most_message = ltb-false _ _ g.0 in
+    subst (λ (m : Message). HasText m × (bytes ≡ text m)) done.0 (record { form = t.1; short = subst (λ (bs : List ℕ). length bs ≤ most_message) whole short }, whole)
 
 pub message_is_found : (bytes : List ℕ) (r : Result Message MsgRefused) → IsBytes bytes → Gives (λ x. x) r (message_of bytes) → IfOk r (λ m. HasText m × (bytes ≡ text m))
 message_is_found bytes (Ok m) fits h = message_of_takes bytes m fits h
@@ -197,6 +198,6 @@ ended_found x c e = rw e refl
 pub message_again : (m : Message) → HasText m → message_of (text m) ≡ Ok m
 unfolding message_of whole_at
 message_again m has =
-    let short : ltb most (length (text m)) ≡ false = le-ltb _ _ has.short in
+    let short : ltb most_message (length (text m)) ≡ false = le-ltb _ _ has.short in
     let a = message_found (record { at = 0; rest = text m }) m refl has.form in
     rw (short, a.2) (ended_found m a.0 a.1)

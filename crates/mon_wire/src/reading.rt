@@ -10,12 +10,9 @@ use crate::kind::Kind;
 use crate::message::Message;
 use crate::read_body::read_body;
 use crate::refusal::{MsgKind, MsgRefused};
-use mon_bytes::Cursor;
+use mon_bytes::{Cursor, MOST_MESSAGE};
 use mon_types::{Epoch, Member, Rank};
 use std::alloc::Global;
-
-/// The most bytes of a message.
-pub const MOST_BYTES: usize = 1_048_576;
 
 /// The byte of a client's request, which names no sender and no epoch.
 const ASKING: u8 = 24;
@@ -173,7 +170,7 @@ fn read_whole(alloc: Global, cursor: &mut Cursor<'_>) -> Result<Message, MsgRefu
 fn read(alloc: Global, bytes: &[u8]) -> Result<Message, MsgRefused>
     ensures { Gives (λ x. x) result (message_of bytes.now) }
 {
-    if bytes.len() > MOST_BYTES {
+    if bytes.len() > MOST_MESSAGE {
         return Err(MsgRefused::At {
             at: 0,
             kind: MsgKind::TooLong,

@@ -15,6 +15,9 @@ use mon_bytes::{Bytes, Entry, Out, OutOfMemory, write_count};
 use mon_tx::Transaction;
 use mon_types::Rank;
 
+/// The most items of a message's list.
+pub const MOST_ITEMS: usize = 65_535;
+
 fn write_entry(out: &mut Out, held: &Entry) -> Result<(), OutOfMemory>
     requires { length held.now.value < 2 ^ 32 }
     ensures { OnOk result (out.new ≡ out.old ++ entry.text held.now) }

@@ -1,5 +1,7 @@
 -- The rows of clients' commands, at the leader and by way of a peon.
 use Rattle.std.specs.Prelude.{ℕ, suc, Bool, not, ◌&&◌, ◌==◌, nat_le, nat_lt, List, Result, Ok, if◌then◌else◌, [], ◌∷◌, ◌++◌, filter, map, length, slice_set, slice_index_or}
+use Rattle.map_kv.specs.declared.command.TheConstants.{MOST_VALUE}
+use Rattle.map_log.specs.declared.command.TheConstants.{MOST_TEXT}
 use Rattle.mon_bytes.specs.declared.command.Command.TheVariants as command
 use Rattle.mon_bytes.specs.declared.command.Command.{Command}
 use Rattle.mon_msg.specs.Protocol.Course.{Course, ◌▸◌, ◌>>=◌, checked, dropped, nothing_more, say, clients_are}
@@ -31,9 +33,9 @@ most_waiting = 64
 
 -- the longest value or text of a command, in bytes, and that of the command
 abbrev pub most_text : Command → ℕ
-most_text (command.Set key value) = 65536
+most_text (command.Set key value) = MOST_VALUE
 most_text (command.Remove key) = 0
-most_text (command.Log text) = 1024
+most_text (command.Log text) = MOST_TEXT
 
 abbrev pub text_length : Command → ℕ
 text_length (command.Set key value) = length value

@@ -2,8 +2,10 @@
 use Rattle.std.specs.FinMap.{empty}
 use Rattle.std.specs.Option.{option_map, option_and_then}
 use Rattle.std.specs.Prelude.{ℕ, nat_le, List, Option, Some, None, Result, Ok, if◌then◌else◌, [], Err, length}
+use Rattle.map_kv.specs.declared.command.TheConstants as of_kv
 use Rattle.map_kv.specs.Decode as kv_decode
 use Rattle.map_kv.specs.Map as kv
+use Rattle.map_log.specs.declared.surplus.TheConstants as of_log
 use Rattle.map_log.specs.Decode as log_decode
 use Rattle.map_log.specs.Map as log
 use Rattle.mon_msg.specs.Protocol.Parts.{map_text}
@@ -22,8 +24,8 @@ empty_map Log = map.Log []
 
 -- the longest text of a service's map, in bytes
 abbrev pub most_map : Service → ℕ
-most_map Kv = 393216
-most_map Log = 12288
+most_map Kv = of_kv.MOST_MAP
+most_map Log = of_log.MOST_MAP
 
 abbrev pub short_map : Service → ShownMap → Option ShownMap
 short_map s m = if nat_le (length (map_text m)) (most_map s) then Some m else None

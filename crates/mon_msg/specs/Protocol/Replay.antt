@@ -1,6 +1,7 @@
 -- The versions that a whole copy replays.
 use Rattle.std.specs.Option.{option_map}
 use Rattle.std.specs.Prelude.{ℕ, suc, ◌+◌, nat_le, nat_lt, List, Option, Some, None, Result, Ok, if◌then◌else◌, [], ◌∷◌, zero, ◌-◌, min, length}
+use Rattle.mon_msg.specs.declared.limits.TheConstants.{MOST_REPLAYED, MOST_REPLAYED_BYTES}
 use Rattle.mon_msg.specs.Protocol.Changes.{Last, Unmark}
 use Rattle.mon_msg.specs.Protocol.Course.{Course, ◌▸◌, nothing_more, change, change_all, requester_is, arm}
 use Rattle.mon_msg.specs.Protocol.Entering.{bootstrap}
@@ -19,10 +20,10 @@ use Rattle.mon_types.specs.declared.names.Which.{Which}
 
 -- how many versions one step replays, and of how many bytes; a step replays one version at least
 abbrev pub most_versions : ℕ
-most_versions = 64
+most_versions = MOST_REPLAYED
 
 abbrev pub most_bytes : ℕ
-most_bytes = 524288
+most_bytes = MOST_REPLAYED_BYTES
 
 -- at most so many versions from v on, whose values take at most so many bytes; none where one of the records is missing
 unfoldable pub more_of : (records : ℕ → Cell) → (count room v : ℕ) → Option (List (List Op))

@@ -1,6 +1,7 @@
 -- What a monitor keeps of a service: its map, and what changed it.
 use Rattle.std.specs.Option.{option_and_then}
 use Rattle.std.specs.Prelude.{ℕ, suc, ◌+◌, Bool, ◌&&◌, nat_le, List, Option, Some, None, if◌then◌else◌, [], ◌∷◌, zero, ◌-◌, length, sum_by}
+use Rattle.mon_msg.specs.declared.limits.TheConstants.{MOST_TOLD_BYTES}
 use Rattle.mon_msg.specs.Protocol.Maps.{empty_map, spelled_map, next_map}
 use Rattle.mon_msg.specs.Protocol.Readings.{Readings}
 use Rattle.mon_wire.specs.declared.reply.ShownMap.{ShownMap}
@@ -50,4 +51,4 @@ kept_from w s (suc count) v = elim (w.row s (key.Version v)) as (λ _. List (Lis
 ]
 
 abbrev pub may_tell : List (List ℕ) → Bool
-may_tell incrementals = nat_le (length incrementals) 65535 && nat_le (sum_by (λ bytes. length bytes + 4) incrementals) 524288
+may_tell incrementals = nat_le (length incrementals) 65535 && nat_le (sum_by (λ bytes. length bytes + 4) incrementals) MOST_TOLD_BYTES

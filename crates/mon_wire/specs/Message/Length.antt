@@ -1,5 +1,7 @@
 -- How many bytes a message takes, and which messages may be sent.
 use Rattle.std.specs.Prelude.{ℕ, ◌+◌, Bool, true, ◌&&◌, nat_le, List, length}
+use Rattle.mon_bytes.specs.declared.limits.TheConstants.{MOST_MESSAGE}
+use Rattle.mon_wire.specs.declared.write_lists.TheConstants.{MOST_ITEMS}
 use Rattle.mon_wire.specs.Message.PartLengths.{value_length, list_length, table_length, place_length, entry_length, told_length, command_length, request_length, reply_length}
 use Rattle.mon_wire.specs.declared.body.Body.TheVariants as body
 use Rattle.mon_wire.specs.declared.body.Body.{Body}
@@ -39,10 +41,10 @@ abbrev pub message_length : ℕ → Body → ℕ
 message_length n b = 12 + body_length n b
 
 abbrev pub most_message : ℕ
-most_message = 1048576
+most_message = MOST_MESSAGE
 
 abbrev pub short_list : {A : Type 0} → List A → Bool
-short_list items = nat_le (length items) 65535
+short_list items = nat_le (length items) MOST_ITEMS
 
 abbrev pub short_lists : Body → Bool
 short_lists (body.Last pn first last whole from values pending) = short_list values

@@ -10,10 +10,7 @@ use Rattle.mon_wire.specs.declared.refusal.MsgRefused.TheVariants as refused
 use Rattle.mon_wire.specs.Message.Format.{◌>>=◌, cut, Reader}
 use Rattle.mon_wire.specs.Message.Fields.{number_bytes, number_at}
 use Rattle.mon_wire.specs.Message.Bodies.{spelled, body_at}
-
--- the most bytes of a message
-abbrev pub most : ℕ
-most = 1048576
+use Rattle.mon_wire.specs.Message.Length.{most_message}
 
 -- the kind of a client's request, which names no sender and no epoch
 abbrev pub asking : ℕ
@@ -46,7 +43,7 @@ pub record IsMessage (m : Message) : Type 0 where
 
 pub record HasText (m : Message) : Type 0 where
   pub form : IsMessage m
-  pub short : length (text m) ≤ most
+  pub short : length (text m) ≤ most_message
 
 -- ---- how they are read
 
@@ -94,4 +91,4 @@ whole_at c = do
 
 -- the message that the bytes spell, all of them, or the first fault
 unfoldable pub message_of : List ℕ → Result Message MsgRefused
-message_of bytes = if nat_lt most (length bytes) then Err (refused.At 0 fault.TooLong) else whole_at (record { at = 0; rest = bytes })
+message_of bytes = if nat_lt most_message (length bytes) then Err (refused.At 0 fault.TooLong) else whole_at (record { at = 0; rest = bytes })

@@ -19,7 +19,7 @@ loop-next-init c =
     record {
       walks = begins m next found start c.next_entry-next.ensures.form;
       text = ap (λ es. c.write_count.new.out ++ flat_map entry_text es) (left_first m next found start)
-          ∙ ap (λ bs. bs ++ flat_map entry_text (entries m)) (c.in_ok-write_count.ensures ∙ ap (λ bs. bs ++ u32_bytes c.count.result) c.in_ok-put_u8.ensures.ok ∙ ap (λ n. (c.args.out.now ++ 128 ∷ []) ++ u32_bytes n) c.count.ensures)
+          ∙ ap (λ bs. bs ++ flat_map entry_text (entries m)) (c.in_ok-write_count.ensures.ok ∙ ap (λ bs. bs ++ u32_bytes c.count.result) c.in_ok-put_u8.ensures.ok ∙ ap (λ n. (c.args.out.now ++ 128 ∷ []) ++ u32_bytes n) c.count.ensures)
           ∙ head_parts c.args.out.now (128 ∷ []) (u32_bytes (len m)) (flat_map entry_text (entries m));
     }
 
