@@ -6,6 +6,7 @@ pub mod Finds
 pub mod Gates
 pub mod Headers
 pub mod Keeping
+pub mod Loads
 pub mod Local
 pub mod Makes
 pub mod Parts

@@ -1,6 +1,6 @@
 //! A whole disk, read once it is synced.
 
-ghost use Rattle.std.specs.Prelude.{◌≡◌, [], ◌∷◌, length, OnOk, IfOk, IfErr, IfSome};
+ghost use Rattle.std.specs.Prelude.{◌≡◌, ◌≤◌, ◌+◌, ◌++◌, [], ◌∷◌, length, take, OnOk, IfOk, IfErr, IfSome};
 ghost use Rattle.std.specs.Result.{result_err};
 ghost use Rattle.mon_disk.specs.Images.{Only, images};
 ghost use Rattle.mon_disk.specs.Calls.{Called};
@@ -12,6 +12,9 @@ use mon_bytes::OutOfMemory;
 use mon_disk::Disk;
 use mon_types::Stop;
 use std::alloc::Global;
+
+/// How many bytes are read at once.
+const PIECE: usize = 65536;
 
 fn synced_len<D: Disk>(disk: &mut D) -> Result<u64, Stop>
     ensures call { Called (Sync ∷ []) (images (D.state disk.old).content) (result_err result) (D.state disk.old) (D.state disk.new) }
@@ -25,10 +28,40 @@ fn synced_len<D: Disk>(disk: &mut D) -> Result<u64, Stop>
     Ok(len)
 }
 
-fn zeros(alloc: Global, len: u64) -> Result<Vec<u8>, OutOfMemory>
+fn zeros(alloc: Global, len: usize) -> Result<Vec<u8>, OutOfMemory>
     ensures { IfOk result (λ bytes. length bytes.items ≡ len) }
 {
-    Ok(vec![in alloc; 0; len as usize]?)
+    Ok(vec![in alloc; 0; len]?)
+}
+
+/// Room for so many bytes. It is a power of two, so that what one opening gives back serves the next, of a longer file.
+fn room(alloc: Global, len: usize) -> Result<Vec<u8>, OutOfMemory>
+    ensures { IfOk result (λ bytes. bytes.items ≡ []) }
+{
+    let capacity = len.checked_next_power_of_two().unwrap_or(len);
+    Ok(Vec::with_capacity(alloc, capacity)?)
+}
+
+fn append(bytes: &mut Vec<u8>, piece: &[u8]) -> Result<(), OutOfMemory>
+    ensures { OnOk result (bytes.new.items ≡ bytes.old.items ++ piece.now) }
+{
+    Ok(bytes.extend_from_slice(piece)?)
+}
+
+/// Reads as many bytes as a piece has, behind those that were read, and appends them.
+fn read_on<D: Disk>(disk: &mut D, piece: &mut [u8], bytes: &mut Vec<u8>) -> Result<(), JournalStop>
+    requires { length bytes.old.items + length piece.old ≤ (D.state disk.old).known }
+    ensures call { Called [] (images (D.state disk.old).content) (stop_in result) (D.state disk.old) (D.state disk.new) }
+    ensures whole { OnOk result (IfSome (D.state disk.old).content.seen (λ file. bytes.old.items ≡ take (length bytes.old.items) file → bytes.new.items ≡ take (length bytes.new.items) file)) }
+    ensures length { OnOk result (length bytes.new.items ≡ length bytes.old.items + length piece.old) }
+    ensures room { length piece.new ≡ length piece.old }
+    ensures known { (D.state disk.new).known ≡ (D.state disk.old).known }
+    ensures seen { (D.state disk.new).content.seen ≡ (D.state disk.old).content.seen }
+    ensures outside { IfErr result IsOutside }
+{
+    disk.read(bytes.len() as u64, piece)?;
+    append(bytes, piece)?;
+    Ok(())
 }
 
 /// Syncs, and reads all that the disk holds.
@@ -41,7 +74,11 @@ pub fn load<D: Disk>(alloc: Global, disk: &mut D) -> Result<Vec<u8>, JournalStop
     ensures outside { IfErr result IsOutside }
 {
     let len = synced_len(disk)?;
-    let mut bytes = zeros(alloc, len)?;
-    disk.read(0, &mut bytes)?;
+    let mut bytes = room(alloc, len as usize)?;
+    let mut piece = zeros(alloc, PIECE.min(len as usize))?;
+    while bytes.len() < len as usize {
+        let count = piece.len().min(len as usize - bytes.len());
+        read_on(disk, &mut piece[..count], &mut bytes)?;
+    }
     Ok(bytes)
 }

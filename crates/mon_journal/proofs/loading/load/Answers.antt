@@ -1,7 +1,7 @@
 use Rattle.std.proofs.Common.{List, ℕ}
 use Rattle.std.proofs.lemmas.Result.{err_from_is_err_and}
 use Rattle.mon_disk.specs.Images.{images}
-use Rattle.mon_disk.proofs.Following.{then_calls, without_memory, now}
+use Rattle.mon_disk.proofs.Following.{without_memory}
 use Rattle.mon_journal.proofs.Stops.{stop_back}
 use Rattle.mon_journal.proofs.loading.load.Goals as goal
 
@@ -15,15 +15,7 @@ returns-in_err-bytes-clause-call g c =
     let p = err_from_is_err_and c.from_residual-in_err-bytes.result c.from_residual-in_err-bytes.ensures.1 in
     rw (p.1, p.2) (without_memory (images (g.D.Disk.state c.args.disk.now).content) c.in_ok-len.ensures.call)
 
-pub returns-in_err-read-clause-call : goal.returns-in_err-read-clause-call
-returns-in_err-read-clause-call g c =
-    let p = err_from_is_err_and c.from_residual-in_err-read.result c.from_residual-in_err-read.ensures.1 in
-    let old = (g.D.Disk.state c.args.disk.now).content in
-    let mid = (g.D.Disk.state c.synced_len.new.disk).content in
-    rw (p.1, p.2, stop_back (List ℕ) c.in_err-read.field-0.0) (then_calls (images old) (images mid) (images old) c.in_ok-len.ensures.call c.in_err-read.ensures.call (λ d h. h) (λ d h. now old mid (images old) c.in_ok-len.ensures.call.any_moment d h))
-
-pub returns-clause-call : goal.returns-clause-call
-returns-clause-call g c =
-    let old = (g.D.Disk.state c.args.disk.now).content in
-    let mid = (g.D.Disk.state c.synced_len.new.disk).content in
-    then_calls (images old) (images mid) (images old) c.in_ok-len.ensures.call c.in_ok-read.ensures.call (λ d h. h) (λ d h. now old mid (images old) c.in_ok-len.ensures.call.any_moment d h)
+pub returns-in_err-piece-clause-call : goal.returns-in_err-piece-clause-call
+returns-in_err-piece-clause-call g c =
+    let p = err_from_is_err_and c.from_residual-in_err-piece.result c.from_residual-in_err-piece.ensures.1 in
+    rw (p.1, p.2) (without_memory (images (g.D.Disk.state c.args.disk.now).content) c.in_ok-len.ensures.call)
