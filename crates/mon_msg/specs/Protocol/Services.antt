@@ -5,6 +5,7 @@ use Rattle.mon_msg.specs.declared.limits.TheConstants.{MOST_TOLD_BYTES}
 use Rattle.mon_msg.specs.Protocol.Maps.{empty_map, spelled_map, next_map}
 use Rattle.mon_msg.specs.Protocol.Readings.{Readings}
 use Rattle.mon_wire.specs.declared.reply.ShownMap.{ShownMap}
+use Rattle.mon_wire.specs.declared.write_lists.TheConstants.{MOST_ITEMS}
 use Rattle.mon_wire.specs.declared.request.Service.{Service}
 use Rattle.mon_tx.specs.Map.{number_in}
 use Rattle.mon_tx.specs.declared.key.Key.TheVariants as key
@@ -51,4 +52,4 @@ kept_from w s (suc count) v = elim (w.row s (key.Version v)) as (λ _. List (Lis
 ]
 
 abbrev pub may_tell : List (List ℕ) → Bool
-may_tell incrementals = nat_le (length incrementals) 65535 && nat_le (sum_by (λ bytes. length bytes + 4) incrementals) MOST_TOLD_BYTES
+may_tell incrementals = nat_le (length incrementals) MOST_ITEMS && nat_le (sum_by (λ bytes. length bytes + 4) incrementals) MOST_TOLD_BYTES
