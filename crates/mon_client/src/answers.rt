@@ -5,6 +5,8 @@ ghost use Rattle.mon_msg.specs.Protocol.Commands.{most_text, text_length, is_too
 ghost use Rattle.mon_msg.specs.Protocol.Readings.{epoch_of, readings_of};
 ghost use Rattle.mon_msg.specs.declared.plan.Next.TheVariants as next;
 
+use map_kv::MOST_VALUE;
+use map_log::MOST_TEXT;
 use mon_bytes::{Command, Items, OutOfMemory};
 use mon_kv::Kv;
 use mon_msg::plan::Sent;
@@ -42,9 +44,9 @@ fn most_text(command: &Command) -> u64
     ensures { result ≡ most_text command.now }
 {
     match command {
-        Command::Set { .. } => 65_536,
+        Command::Set { .. } => MOST_VALUE,
         Command::Remove { .. } => 0,
-        Command::Log { .. } => 1_024,
+        Command::Log { .. } => MOST_TEXT,
     }
 }
 

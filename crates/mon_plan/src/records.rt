@@ -9,19 +9,14 @@ ghost use Rattle.mon_plan.specs.Runs.{run_within, where_room};
 
 use crate::stored::Stored;
 use mon_bytes::{Items, OutOfMemory};
-use mon_msg::{Found, MOST_BYTES};
+pub use mon_msg::MOST_VALUE;
+use mon_msg::{Found, MOST_BYTES, MOST_ITEMS};
 use mon_tx::{Transaction, TxRefused, decode, is_text};
 use mon_types::Version;
 use std::alloc::Global;
 
-/// The longest value that is proposed, in bytes.
-pub const MOST_VALUE: usize = 524_288;
-
 /// The longest text of a value of which a BEGIN may be sent, in bytes: that of a message without what it takes besides.
 const MOST_BEGUN: usize = 1_048_544;
-
-/// The most items of a message's list.
-const MOST_ITEMS: usize = 65_535;
 
 /// The value that bytes spell of which a BEGIN may be sent. What is longer isn't decoded.
 fn value_in(alloc: Global, bytes: &[u8]) -> Result<Option<Transaction>, OutOfMemory>

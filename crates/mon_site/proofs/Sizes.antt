@@ -8,7 +8,7 @@ use Rattle.mon_bytes.specs.Forms.{u32_bytes}
 use Rattle.mon_bytes.proofs.Forms.{length-u32_bytes}
 use Rattle.mon_tx.specs.Map.{Store}
 use Rattle.mon_kv.specs.Chunks.{entry_len}
-use Rattle.mon_kv.specs.Readers.{size_of}
+use Rattle.mon_kv.specs.Readers.{size_of, least_length}
 use Rattle.mon_journal.specs.declared.journal.Form.TheVariants.{Second}
 use Rattle.mon_journal.specs.declared.journal.Journal.{Journal}
 use Rattle.mon_journal.specs.Written.{payload_bytes}
@@ -42,4 +42,4 @@ next_file j m =
 
 -- a checkpoint is due of a file with the second header
 pub due_is : (j : Journal) (m : Store) → j.form ≡ Second → stored.is_due j m ≡ model.is_due (file_by j) m
-due_is j m second = ap (λ (first : Bool). nat_lt j.generation (2 ^ 62) && (first || (nat_lt 1048576 (j.next_gate + 1) && nat_lt (4 * size_of m) (j.next_gate + 1)))) (ap is_first second)
+due_is j m second = ap (λ (first : Bool). nat_lt j.generation (2 ^ 62) && (first || (nat_lt least_length (j.next_gate + 1) && nat_lt (4 * size_of m) (j.next_gate + 1)))) (ap is_first second)

@@ -12,6 +12,7 @@ use Rattle.schedule_text.specs.declared.event.Plain.TheVariants.{Start, Deliver,
 use Rattle.schedule_text.specs.declared.event.Event.{Event}
 use Rattle.schedule_text.specs.declared.event.Event.TheVariants as event
 use Rattle.schedule_text.specs.declared.schedule.Schedule.{Schedule}
+use Rattle.schedule_text.specs.declared.schedule.TheConstants.{MOST_BYTES, MOST_EVENTS}
 use Rattle.schedule_text.specs.Words.{printable, service_text, side_text, timer_text}
 use Rattle.schedule_text.specs.Fields.{within}
 use Rattle.schedule_text.specs.Ranks.{behind, ranks_text, below}
@@ -97,10 +98,10 @@ abbrev pub schedule_text : Schedule → List ℕ
 schedule_text s = ended_line (header s.monitors s.rule) ++ flat_map event_line s.events
 
 abbrev pub most_events : ℕ
-most_events = 200000
+most_events = MOST_EVENTS
 
 abbrev pub most_bytes : ℕ
-most_bytes = 16777216
+most_bytes = MOST_BYTES
 
 -- what has a text that is read
 pub record HasText (s : Schedule) : Type 0 where

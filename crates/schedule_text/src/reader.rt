@@ -1,6 +1,6 @@
 ghost use Rattle.std.specs.Prelude.{◌≡◌, ℕ, ◌≤◌, ◌<◌, ◌+◌, length, Ok, IfOk};
 ghost use Rattle.schedule_text.specs.declared.schedule.Schedule.{Schedule};
-ghost use Rattle.schedule_text.specs.Spelling.{HasText, schedule_text};
+ghost use Rattle.schedule_text.specs.Spelling.{HasText, most_events, schedule_text};
 ghost use Rattle.schedule_text.specs.Schedule.{lines_of, on_first_line, header_at, event_line_at, events_at, whole_at, schedule_at, Gives};
 
 use crate::event::Event;
@@ -29,9 +29,9 @@ fn event_line_at(
     line: &[u8],
 ) -> Result<Event, ScheduleRefused>
     requires monitors { monitors ≤ 15 }
-    requires count { count ≤ 200000 }
+    requires count { count ≤ most_events }
     ensures value { Gives (λ e. e) result (event_line_at monitors count line.now) }
-    ensures count { IfOk result (λ _. count < 200000) }
+    ensures count { IfOk result (λ _. count < most_events) }
 {
     if count >= MOST_EVENTS {
         return Err(at(count + 2, ScheduleKind::TooMany));
@@ -45,7 +45,7 @@ fn event_line_at(
 
 /// As many events as there are lines, so that their list has its room from the start.
 fn room_of(body: &[u8]) -> usize
-    ensures { result ≤ 200000 }
+    ensures { result ≤ most_events }
 {
     memchr_iter(b'\n', body).count().min(MOST_EVENTS as usize)
 }

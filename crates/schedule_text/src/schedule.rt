@@ -16,10 +16,10 @@ use mon_types::{GREATEST, Moment, Rank, RankSet};
 use mon_wire::{Request, Session};
 
 /// The most bytes of a schedule's text.
-pub(crate) const MOST_BYTES: usize = 16777216;
+pub const MOST_BYTES: usize = 16777216;
 
 /// The most events of a schedule with a text.
-pub(crate) const MOST_EVENTS: u32 = 200000;
+pub const MOST_EVENTS: u32 = 200000;
 
 /// A quorum's monitors, how they rank one another, and the events that happen to them.
 #[derive(Debug, Drop)]

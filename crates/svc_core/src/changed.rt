@@ -10,14 +10,9 @@ use crate::reading::read;
 use crate::row::{first_version, incremental, last_version};
 use mon_bytes::{Bytes, OutOfMemory};
 use mon_kv::Kv;
-use mon_msg::{Items, Reply, Service};
+use mon_msg::{Items, MOST_ITEMS, MOST_TOLD_BYTES, Reply, Service};
 use mon_types::Version;
 use std::alloc::Global;
-
-/// The most incrementals that are told, and the most bytes of them, with four for each.
-const MOST_TOLD: usize = 65535;
-
-const MOST_BYTES: usize = 524288;
 
 /// Incrementals in order, and whether one follows.
 #[derive(Drop)]
@@ -34,12 +29,12 @@ fn told_after(alloc: Global, kv: &Kv, service: Service, v: u64) -> Result<Change
 {
     let last = last_version(kv, service);
     let mut told = Items::new(alloc);
-    let mut room = MOST_BYTES;
+    let mut room = MOST_TOLD_BYTES;
     for n in v..last {
         let Some(bytes) = incremental(kv, service, n + 1) else {
             return Ok(Changes { told, more: false });
         };
-        if told.as_slice().len() == MOST_TOLD || bytes.len() + 4 > room {
+        if told.as_slice().len() == MOST_ITEMS || bytes.len() + 4 > room {
             return Ok(Changes { told, more: true });
         }
         room -= bytes.len() + 4;

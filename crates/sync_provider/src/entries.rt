@@ -10,16 +10,13 @@ ghost use Rattle.sync_provider.specs.Taken.{IsTaken, IsGiven};
 
 use mon_bytes::{Entry, KeyPlace, OutOfMemory};
 use mon_kv::{KeyRun, Kv};
-use mon_msg::{MOST_BYTES, Place};
+use mon_msg::{MOST_BYTES, MOST_ITEMS, Place};
 
 /// How many bytes a CHUNK takes besides its place, its values and its entries.
 pub const BESIDES: usize = 33;
 
 /// How many a LAST_CHUNK takes.
 pub const BESIDES_LAST: usize = 40;
-
-/// The most items of a message's list.
-const MOST_ITEMS: usize = 65_535;
 
 fn key_place_len(at: &KeyPlace) -> usize
     ensures value { result ≡ key_place_length at.now }

@@ -12,17 +12,13 @@ ghost use Rattle.mon_plan.specs.Plans.{PlansRow};
 ghost use Rattle.sync_requester.specs.Rows.{Holds};
 
 use mon_bytes::{Items, OutOfMemory};
-use mon_msg::{Next, Plan, Requester, RoleStop, SyncStage, Timer};
+use mon_msg::{
+    MOST_REPLAYED, MOST_REPLAYED_BYTES, Next, Plan, Requester, RoleStop, SyncStage, Timer,
+};
 use mon_plan::{Stored, armed, planned, put_last, put_learned, put_unmark};
 use mon_tx::Transaction;
 use mon_types::{Moment, Version};
 use std::alloc::Global;
-
-/// The most versions that a step replays.
-const MOST_VERSIONS: u64 = 64;
-
-/// The most bytes that the values of a step have, unless it replays one version alone.
-const MOST_BYTES: u64 = 524_288;
 
 /// These values, and behind them those of the versions from `from` up to but not including `to` for which there is room; or
 /// `None` where a record is missing among them or right behind them.
@@ -70,9 +66,9 @@ fn step_values(
     let Some(value) = stored.record_at(alloc, from)? else {
         return Ok(None);
     };
-    let room = MOST_BYTES.saturating_sub(value.text_len());
+    let room = MOST_REPLAYED_BYTES.saturating_sub(value.text_len());
     values.push(value)?;
-    let to = past.min(from + MOST_VERSIONS);
+    let to = past.min(from + MOST_REPLAYED);
     with_more(alloc, stored, values, from + 1, to, room)
 }
 
