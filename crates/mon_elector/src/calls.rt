@@ -50,7 +50,7 @@ fn call(
       next = next.Stay;
     }) }
 {
-    let table = table_told(&me.rule, &state.scores);
+    let table = table_told(alloc, &me.rule, &state.scores)?;
     let out = tell_others(alloc, me, epoch, &Body::Propose { table })?;
     let arming = armed(now, Timer::Election);
     tell_until(alloc, tx, out, standing(me, state), arming)

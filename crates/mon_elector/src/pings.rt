@@ -11,7 +11,7 @@ use crate::seen::table_told;
 use crate::steps::{tell_others, tell_until};
 use election_rules::Scores;
 use mon_bytes::{Items, OutOfMemory};
-use mon_msg::{Body, Elector, Me, Next, Plan, RoleStop, Timer, View};
+use mon_msg::{Body, Elector, Me, Next, Plan, RoleStop, ScoreTable, Timer, View};
 use mon_plan::{Stored, armed, message, others, stay};
 use mon_tx::Transaction;
 use mon_types::{Moment, Rank, RankSet};
@@ -38,7 +38,7 @@ pub fn hear_ping(
     view: &View,
     state: &Elector,
     from: Rank,
-    table: &Option<Scores>,
+    table: &Option<ScoreTable>,
 ) -> Result<Plan<Elector>, RoleStop>
     ensures plans { (now : ℕ) → PlansElection me.now now (readings_of stored.now) view.now state.now (hear_ping me.now from table.now) result }
     ensures leaves { IfOk result (λ p. Leaves view.now.phase p.next p.tx) }
@@ -46,8 +46,8 @@ pub fn hear_ping(
     let Some(table) = table else {
         return Ok(stay(alloc, *state));
     };
-    let heard = with_heard(state, from, table);
-    let table = table_told(&me.rule, &heard.scores);
+    let heard = with_heard(state, from, table.scores());
+    let table = table_told(alloc, &me.rule, &heard.scores)?;
     let mut out = Items::new(alloc);
     out.push(message(me, stored.epoch(), Body::PingReply { table }, from))?;
     Ok(Plan {
@@ -67,7 +67,7 @@ pub fn hear_ping_reply(
     view: &View,
     state: &Elector,
     from: Rank,
-    table: &Option<Scores>,
+    table: &Option<ScoreTable>,
 ) -> Plan<Elector>
     ensures plans { (now : ℕ) → PlansElection me.now now (readings_of stored.now) view.now state.now
         (hear_ping_reply from table.now) (Ok result) }
@@ -75,7 +75,7 @@ pub fn hear_ping_reply(
 {
     match table {
         None => stay(alloc, *state),
-        Some(table) => stay(alloc, with_heard(state, from, table)),
+        Some(table) => stay(alloc, with_heard(state, from, table.scores())),
     }
 }
 
@@ -130,7 +130,7 @@ pub fn ping(
     ensures leaves { IfOk result (λ p. Leaves view.now.phase p.next p.tx) }
 {
     let elector = measured(alloc, me, state, now)?;
-    let table = table_told(&me.rule, &elector.scores);
+    let table = table_told(alloc, &me.rule, &elector.scores)?;
     let out = tell_others(alloc, me, stored.epoch(), &Body::Ping { table })?;
     let tx = Transaction::new(alloc);
     Ok(tell_until(alloc, tx, out, elector, armed(now, Timer::Ping))?)

@@ -10,8 +10,7 @@ use crate::seen::{
     is_better, is_deaf, is_idle, is_later, is_left_out, is_past, may_defer, table_or,
 };
 use crate::steps::{defer, enter_epoch, join_and_defer, joining, merged};
-use election_rules::Scores;
-use mon_msg::{Elector, Me, Next, Plan, RoleStop, Timer, View};
+use mon_msg::{Elector, Me, Next, Plan, RoleStop, ScoreTable, Timer, View};
 use mon_plan::{Stored, armed, planned, stay};
 use mon_types::{Epoch, Moment, Rank};
 use std::alloc::Global;
@@ -25,7 +24,7 @@ pub fn hear_propose(
     state: &Elector,
     from: Rank,
     epoch: Epoch,
-    table: &Option<Scores>,
+    table: &Option<ScoreTable>,
     now: Moment,
 ) -> Result<Plan<Elector>, RoleStop>
     ensures plans { PlansElection me.now now (readings_of stored.now) view.now state.now (hear_propose me.now now from epoch table.now) result }

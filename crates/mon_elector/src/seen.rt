@@ -1,6 +1,6 @@
 //! What an elector asks of what it sees and remembers.
 
-ghost use Rattle.std.specs.Prelude.{◌≡◌, ◌&&◌, ◌||◌, ◌==◌, not, nat_lt, nat_le, suc, is_some};
+ghost use Rattle.std.specs.Prelude.{◌≡◌, ◌&&◌, ◌||◌, ◌==◌, not, nat_lt, nat_le, suc, is_some, IfOk};
 ghost use Rattle.election_rules.specs.Ranking.{outranks as is_before};
 ghost use Rattle.mon_msg.specs.Protocol.Elections.{is_allowed, stands_before, may_defer, is_whole, table_or};
 ghost use Rattle.mon_msg.specs.Protocol.Entering.{is_even, scores_count};
@@ -11,9 +11,11 @@ ghost use Rattle.mon_wire.specs.declared.phase.Phase.TheVariants as phase_is;
 ghost use Rattle.mon_elector.specs.Rows.{table_told};
 
 use election_rules::{Rule, Scores, outranks};
-use mon_msg::{Elector, Me, Phase, View};
+use mon_bytes::OutOfMemory;
+use mon_msg::{Elector, Me, Phase, ScoreTable, View};
 use mon_plan::Stored;
 use mon_types::{Epoch, Rank, RankSet};
+use std::alloc::Global;
 
 /// Whether a monitor in this phase takes part in elections.
 fn votes(phase: Phase) -> bool
@@ -94,11 +96,11 @@ pub fn is_left_out(stored: &Stored<'_>, view: &View, from: Rank) -> bool
 }
 
 /// The table that a message tells, or else the own one.
-pub fn table_or<'a>(table: &'a Option<Scores>, own: &'a Scores) -> &'a Scores
+pub fn table_or<'a>(table: &'a Option<ScoreTable>, own: &'a Scores) -> &'a Scores
     ensures { result.now ≡ table_or table.now own.now }
 {
     match table {
-        Some(table) => table,
+        Some(table) => table.scores(),
         None => own,
     }
 }
@@ -151,11 +153,15 @@ pub fn may_follow(me: &Me, quorum: RankSet, leader: Rank) -> bool
 }
 
 /// The table that a monitor tells: its own, where scores count.
-pub fn table_told(rule: &Rule, scores: &Scores) -> Option<Scores>
-    ensures { result ≡ table_told rule.now scores.now }
+pub fn table_told(
+    alloc: Global,
+    rule: &Rule,
+    scores: &Scores,
+) -> Result<Option<ScoreTable>, OutOfMemory>
+    ensures { IfOk result (λ table. table ≡ table_told rule.now scores.now) }
 {
     match rule {
-        Rule::Classic | Rule::Disallow(_) => None,
-        Rule::Connectivity(_) => Some(*scores),
+        Rule::Classic | Rule::Disallow(_) => Ok(None),
+        Rule::Connectivity(_) => Ok(Some(ScoreTable::of(alloc, scores)?)),
     }
 }

@@ -14,22 +14,21 @@ ghost use Rattle.mon_wire.specs.declared.phase.Phase.{Phase};
 ghost use Rattle.mon_plan.specs.Leaves.{Leaves};
 ghost use Rattle.mon_elector.specs.Rows.{Wins};
 
-use election_rules::Scores;
 use mon_bytes::{Items, OutOfMemory};
 use mon_msg::plan::Sent;
-use mon_msg::{Arming, Body, Elector, Me, Next, Plan, RoleStop};
+use mon_msg::{Arming, Body, Elector, Me, Next, Plan, RoleStop, ScoreTable};
 use mon_plan::{Stored, message, others, put_epoch, send_each};
 use mon_tx::Transaction;
 use mon_types::{Epoch, Rank, RankSet, Which};
 use std::alloc::Global;
 
 /// The elector with what a message tells of connections.
-pub fn merged(table: &Option<Scores>, state: &Elector) -> Elector
+pub fn merged(table: &Option<ScoreTable>, state: &Elector) -> Elector
     ensures { result ≡ record state.now { scores = merged_if_told table.now state.now.scores } }
 {
     let mut scores = state.scores;
     if let Some(table) = table {
-        scores.merge(table);
+        scores.merge(table.scores());
     }
     Elector { scores, ..*state }
 }

@@ -11,10 +11,10 @@ ghost use Rattle.mon_plan.specs.Seen.{leader_of, IsSeen};
 ghost use Rattle.mon_event.specs.State.{state_of};
 
 use crate::state::State;
-use election_rules::{Rule, Scores};
+use election_rules::Rule;
 use mon_kv::Kv;
 use mon_lease::{Lease, readable};
-use mon_msg::{Body, Me, Message, Phase, View};
+use mon_msg::{Body, Me, Message, Phase, ScoreTable, View};
 use mon_plan::Stored;
 use mon_types::{Moment, Rank, RankSet};
 use std::alloc::Global;
@@ -111,7 +111,7 @@ pub fn scores_count(rule: &Rule) -> bool
 }
 
 /// Whether a table is told exactly where scores count.
-fn fits_rule(me: &Me, table: &Option<Scores>) -> bool
+fn fits_rule(me: &Me, table: &Option<ScoreTable>) -> bool
     ensures { result ≡ fits_rule me.now table.now }
 {
     match table {

@@ -3,7 +3,7 @@ ghost use Rattle.std.specs.Prelude.{◌≡◌, IfOk};
 use crate::parts::{Cookie, Place, Told};
 use crate::reply::Reply;
 use crate::request::Request;
-use election_rules::Scores;
+use crate::score_table::ScoreTable;
 use mon_bytes::{Command, Entry, Items};
 use mon_tx::Transaction;
 use mon_types::{Pn, RankSet, Version};
@@ -21,7 +21,7 @@ pub enum Body {
     },
     /// The sender stands for election. Where scores count it tells its table.
     Propose {
-        table: Option<Scores>,
+        table: Option<ScoreTable>,
     },
     /// The sender defers to the receiver.
     Ack,
@@ -119,11 +119,11 @@ pub enum Body {
     },
     /// Are you there? Where scores count the sender tells its table.
     Ping {
-        table: Option<Scores>,
+        table: Option<ScoreTable>,
     },
     /// The sender is there.
     PingReply {
-        table: Option<Scores>,
+        table: Option<ScoreTable>,
     },
     /// A client asks, under a number of its own.
     Request {

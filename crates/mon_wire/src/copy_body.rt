@@ -5,10 +5,23 @@ ghost use Rattle.mon_wire.specs.declared.body.Body.TheVariants as body;
 
 use crate::body::Body;
 use crate::parts::{Cookie, Place, Told};
+use crate::score_table::ScoreTable;
 use mon_bytes::{Entry, Items, OutOfMemory};
 use mon_tx::Transaction;
 use mon_types::Version;
 use std::alloc::Global;
+
+fn copied_table(
+    table: &Option<ScoreTable>,
+    alloc: Global,
+) -> Result<Option<ScoreTable>, OutOfMemory>
+    ensures { IfOk result (λ copied. copied ≡ table.now) }
+{
+    match table {
+        None => Ok(None),
+        Some(table) => Ok(Some(table.copy(alloc)?)),
+    }
+}
 
 fn copied_told(pending: &Option<Told>) -> Result<Option<Told>, OutOfMemory>
     ensures { IfOk result (λ copied. copied ≡ pending.now) }
@@ -73,7 +86,9 @@ impl Body {
                 first: *first,
                 last: *last,
             },
-            Body::Propose { table } => Body::Propose { table: *table },
+            Body::Propose { table } => Body::Propose {
+                table: copied_table(table, alloc)?,
+            },
             Body::Ack => Body::Ack,
             Body::Victory { quorum } => Body::Victory { quorum: *quorum },
             Body::Collect { pn, first, last } => Body::Collect {
@@ -150,8 +165,12 @@ impl Body {
                 last,
             } => return copied_last_chunk(*cookie, place, values, entries, *last, alloc),
             Body::NoCookie { cookie } => Body::NoCookie { cookie: *cookie },
-            Body::Ping { table } => Body::Ping { table: *table },
-            Body::PingReply { table } => Body::PingReply { table: *table },
+            Body::Ping { table } => Body::Ping {
+                table: copied_table(table, alloc)?,
+            },
+            Body::PingReply { table } => Body::PingReply {
+                table: copied_table(table, alloc)?,
+            },
             Body::Request { id, request } => Body::Request {
                 id: *id,
                 request: request.copy(alloc)?,

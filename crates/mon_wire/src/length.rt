@@ -11,7 +11,7 @@ use crate::message::Message;
 use crate::parts::{Place, Told};
 use crate::reply::{Reply, ShownMap};
 use crate::request::Request;
-use election_rules::Scores;
+use crate::score_table::ScoreTable;
 use mon_bytes::{Bytes, Command, Entry, KeyPlace, Name, Text};
 use mon_tx::Transaction;
 
@@ -65,7 +65,7 @@ fn entries_len(entries: &[Entry]) -> usize
 }
 
 /// The length of the table of scores among `n` monitors.
-fn table_len(n: u8, table: &Option<Scores>) -> usize
+fn table_len(n: u8, table: &Option<ScoreTable>) -> usize
     ensures { result ≡ table_length n table.now }
 {
     let n = usize::from(n);

@@ -188,11 +188,16 @@ fn read_answered(
     Ok(Body::Reply { id, reply })
 }
 
-fn read_propose(n: u8, own: Rank, cursor: &mut Cursor<'_>) -> Result<Body, MsgRefused>
+fn read_propose(
+    alloc: Global,
+    n: u8,
+    own: Rank,
+    cursor: &mut Cursor<'_>,
+) -> Result<Body, MsgRefused>
     requires { n ≤ 15 }
     ensures { Reads (λ x. x) result cursor.new (body_at n own Kind.Propose cursor.old) }
 {
-    let table = read_table(n, own, cursor)?;
+    let table = read_table(alloc, n, own, cursor)?;
     Ok(Body::Propose { table })
 }
 
@@ -232,19 +237,24 @@ fn read_no_cookie(n: u8, own: Rank, cursor: &mut Cursor<'_>) -> Result<Body, Msg
     Ok(Body::NoCookie { cookie })
 }
 
-fn read_ping(n: u8, own: Rank, cursor: &mut Cursor<'_>) -> Result<Body, MsgRefused>
+fn read_ping(alloc: Global, n: u8, own: Rank, cursor: &mut Cursor<'_>) -> Result<Body, MsgRefused>
     requires { n ≤ 15 }
     ensures { Reads (λ x. x) result cursor.new (body_at n own Kind.Ping cursor.old) }
 {
-    let table = read_table(n, own, cursor)?;
+    let table = read_table(alloc, n, own, cursor)?;
     Ok(Body::Ping { table })
 }
 
-fn read_ping_reply(n: u8, own: Rank, cursor: &mut Cursor<'_>) -> Result<Body, MsgRefused>
+fn read_ping_reply(
+    alloc: Global,
+    n: u8,
+    own: Rank,
+    cursor: &mut Cursor<'_>,
+) -> Result<Body, MsgRefused>
     requires { n ≤ 15 }
     ensures { Reads (λ x. x) result cursor.new (body_at n own Kind.PingReply cursor.old) }
 {
-    let table = read_table(n, own, cursor)?;
+    let table = read_table(alloc, n, own, cursor)?;
     Ok(Body::PingReply { table })
 }
 
@@ -262,7 +272,7 @@ pub(crate) fn read_body(
     match kind {
         Kind::Probe => Ok(Body::Probe),
         Kind::ProbeReply => read_probe_reply(n, own, cursor),
-        Kind::Propose => read_propose(n, own, cursor),
+        Kind::Propose => read_propose(alloc, n, own, cursor),
         Kind::Ack => Ok(Body::Ack),
         Kind::Victory => read_victory(n, own, cursor),
         Kind::Collect => read_collect(n, own, cursor),
@@ -281,8 +291,8 @@ pub(crate) fn read_body(
         Kind::Chunk => read_chunk(alloc, n, own, cursor),
         Kind::LastChunk => read_last_chunk(alloc, n, own, cursor),
         Kind::NoCookie => read_no_cookie(n, own, cursor),
-        Kind::Ping => read_ping(n, own, cursor),
-        Kind::PingReply => read_ping_reply(n, own, cursor),
+        Kind::Ping => read_ping(alloc, n, own, cursor),
+        Kind::PingReply => read_ping_reply(alloc, n, own, cursor),
         Kind::Request => read_asked(alloc, n, own, cursor),
         Kind::Reply => read_answered(alloc, n, own, cursor),
     }

@@ -9,9 +9,11 @@ ghost use Rattle.mon_wire.specs.Message.Scores.{padded_at, score_at, row, table}
 
 use crate::fields::read_count;
 use crate::refusal::{MsgKind, MsgRefused};
+use crate::score_table::ScoreTable;
 use election_rules::{FULL, Row, Scores};
 use mon_bytes::Cursor;
 use mon_types::{Rank, RankSet};
+use std::alloc::Global;
 
 /// Whether a bit of rank `n` or above is 1.
 fn is_above(number: u16, n: u8) -> bool
@@ -101,17 +103,21 @@ fn read_scores(n: u8, own: Rank, cursor: &mut Cursor<'_>) -> Result<Scores, MsgR
 
 /// A flag, and with 1 the sender's table.
 pub(crate) fn read_table(
+    alloc: Global,
     n: u8,
     own: Rank,
     cursor: &mut Cursor<'_>,
-) -> Result<Option<Scores>, MsgRefused>
+) -> Result<Option<ScoreTable>, MsgRefused>
     requires { n ≤ 15 }
     ensures { Reads (λ x. x) result cursor.new ((optional (table n own)).read cursor.old) }
 {
     let at = cursor.at();
     match cursor.take_u8()? {
         0 => Ok(None),
-        1 => Ok(Some(read_scores(n, own, cursor)?)),
+        1 => {
+            let scores = read_scores(n, own, cursor)?;
+            Ok(Some(ScoreTable::of(alloc, &scores)?))
+        }
         _ => Err(MsgRefused::At {
             at,
             kind: MsgKind::Value,

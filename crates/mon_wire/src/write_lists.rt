@@ -9,8 +9,9 @@ ghost use Rattle.mon_wire.specs.Message.Fields.{value, blob};
 ghost use Rattle.mon_wire.specs.Message.Parts.{optional, entry};
 ghost use Rattle.mon_wire.specs.Message.Scores.{row, table};
 
+use crate::score_table::ScoreTable;
 use crate::write_fields::{write_bytes, write_number, write_u16, write_value};
-use election_rules::{Row, Scores};
+use election_rules::Row;
 use mon_bytes::{Bytes, Entry, Out, OutOfMemory, write_count};
 use mon_tx::Transaction;
 use mon_types::Rank;
@@ -96,17 +97,17 @@ pub(crate) fn write_table(
     out: &mut Out,
     n: u8,
     own: Rank,
-    scores: &Option<Scores>,
+    told: &Option<ScoreTable>,
 ) -> Result<(), OutOfMemory>
     requires { n ≤ 15 }
-    ensures { OnOk result (out.new ≡ out.old ++ (optional (table n own)).text scores.now) }
+    ensures { OnOk result (out.new ≡ out.old ++ (optional (table n own)).text told.now) }
 {
-    match scores {
+    match told {
         None => out.put_u8(0),
-        Some(scores) => {
+        Some(table) => {
             out.put_u8(1)?;
-            let told = &scores.rows[..usize::from(n)];
-            write_rows(out, n, told)
+            let rows = &table.scores().rows[..usize::from(n)];
+            write_rows(out, n, rows)
         }
     }
 }

@@ -33,7 +33,8 @@ returns-clause-plans c =
     let w = readings_of c.args.stored.now in
     let f = c.args.from in
     let table = c.in-Some.table in
-    let told : c.table_told-table.result ≡ table_told me.rule (with_heard f table s).scores = c.table_told-table.ensures ∙ ap (λ (t : Elector). table_told me.rule t.scores) c.with_heard-heard.ensures in
+    let heard : c.with_heard-heard.result ≡ with_heard f table s = c.with_heard-heard.ensures ∙ ap (λ (t : Scores). with_heard f t s) c.scores.ensures in
+    let told : c.in_ok-table.table ≡ table_told me.rule (with_heard f table s).scores = c.in_ok-table.ensures ∙ ap (λ (t : Elector). table_told me.rule t.scores) heard in
     does me now elector_is (Met me now w c.args.view.now s) (λ x. x) (hear_ping me f c.args.table.now)
     [] tt (message_to me (epoch_of w) (body.PingReply (table_told me.rule (with_heard f table s).scores)) f ∷ []) [] (with_heard f table s) next.Stay
     (λ x b. ap (λ (t : Option Scores). hear_ping me f t x) c.in-Some.is ∙ laws.ping-answered me now w c.args.view.now s x b f table)
@@ -41,4 +42,4 @@ returns-clause-plans c =
     c.new.ensures
     (c.in_ok-push.ensures.ok ∙ ap (λ (l : List Sent). l ++ c.message.result ∷ []) c.new-out.ensures
     ∙ ap (λ (m : Sent). m ∷ []) (c.message.ensures ∙ (λ i. message_to me (c.epoch.ensures i) (body.PingReply (told i)) f)))
-    c.new-2.ensures c.with_heard-heard.ensures refl
+    c.new-2.ensures heard refl

@@ -1,4 +1,4 @@
-use Rattle.std.proofs.Common.{[], Option, ap, ◌∙◌}
+use Rattle.std.proofs.Common.{◌≡◌, [], Option, ap, ◌∙◌}
 use Rattle.election_rules.specs.declared.scores.Scores.{Scores}
 use Rattle.mon_msg.specs.Protocol.Pings.{hear_ping_reply, with_heard}
 use Rattle.mon_msg.specs.Protocol.Readings.{readings_of}
@@ -21,7 +21,8 @@ returns-in-Some-clause-plans c =
     let w = readings_of c.args.stored.now in
     let f = c.args.from in
     let table = c.in-Some.table in
+    let heard : c.with_heard.result ≡ with_heard f table s = c.with_heard.ensures ∙ ap (λ (t : Scores). with_heard f t s) c.scores.ensures in
     plans c.args.me.now now w c.args.view.now s (hear_ping_reply f c.args.table.now) c.stay-in-Some.result
     [] tt [] [] (with_heard f table s) next.Stay
-    (c.stay-in-Some.ensures ∙ (λ i. plan_of [] [] [] (c.with_heard.ensures i) next.Stay))
+    (c.stay-in-Some.ensures ∙ (λ i. plan_of [] [] [] (heard i) next.Stay))
     (λ x b. ap (λ (t : Option Scores). hear_ping_reply f t x) c.in-Some.is ∙ laws.ping_reply-noted c.args.me.now now w c.args.view.now s x b f table)

@@ -19,7 +19,7 @@ returns-clause-plans c =
     let w = readings_of c.args.stored.now in
     let now = c.args.now in
     let state : c.in_ok-elector.elector ≡ measure me now s = c.in_ok-elector.ensures in
-    let told : c.table_told-table.result ≡ table_told me.rule (measure me now s).scores = c.table_told-table.ensures ∙ ap (λ (t : Elector). table_told me.rule t.scores) state in
+    let told : c.in_ok-table.table ≡ table_told me.rule (measure me now s).scores = c.in_ok-table.ensures ∙ ap (λ (t : Elector). table_told me.rule t.scores) state in
     let out : c.in_ok-out.out ≡ laws.asks me now (epoch_of w) s = c.in_ok-out.ensures ∙ (λ i. map (message_to me (c.epoch.ensures i) (body.Ping (told i))) (others me)) in
     plans me now w c.args.view.now s (ping me now) c.in_ok-tell_until.field-0
     [] tt (laws.asks me now (epoch_of w) s) (arming.Arm timer.Ping (min (now + 2000) (2 ^ 62)) ∷ []) (measure me now s) next.Stay
