@@ -2,7 +2,7 @@ use Rattle.std.proofs.Common.{◌≡◌, ◌≤◌, ◌<◌, ◌+◌, ◌⊎◌,
 use Rattle.mon_msg.specs.Protocol.Readings.{readings_of}
 use Rattle.svc_core.proofs.Tellings.{tells_more, tells_full, tells_gap, tells_last}
 use Rattle.svc_core.proofs.changed.told_after.Goals as goal
-use Rattle.svc_core.proofs.changed.told_after.Goals.{then-as_slice-eq-MOST_TOLD-via-then-as_slice-eq-MOST_TOLD, then-as_slice-eq-MOST_TOLD-via-else-as_slice-eq-MOST_TOLD+then-bytes-room}
+use Rattle.svc_core.proofs.changed.told_after.Goals.{then-as_slice-eq-MOST_ITEMS-via-then-as_slice-eq-MOST_ITEMS, then-as_slice-eq-MOST_ITEMS-via-else-as_slice-eq-MOST_ITEMS+then-bytes-room}
 
 pub returns-in_default-clause-told : goal.returns-in_default-clause-told
 returns-in_default-clause-told c =
@@ -14,22 +14,22 @@ returns-in_default-clause-more c =
     rw (← c.last_version-last.ensures.value)
     (tells_gap (readings_of c.args.kv.now) c.args.service c.last_version-last.result c.args.v c.loop-n.n c.loop-n.told c.loop-n.room c.loop-n-test.true (sym (rw c.in_default.is at c.incremental.ensures)) c.loop-n.invariant).1
 
-pub returns-then-as_slice-eq-MOST_TOLD-clause-told : goal.returns-then-as_slice-eq-MOST_TOLD-clause-told
-returns-then-as_slice-eq-MOST_TOLD-clause-told c =
+pub returns-then-as_slice-eq-MOST_ITEMS-clause-told : goal.returns-then-as_slice-eq-MOST_ITEMS-clause-told
+returns-then-as_slice-eq-MOST_ITEMS-clause-told c =
     let full : (65535 ≤ length c.loop-n.told) ⊎ (c.loop-n.room < length c.in-Some.bytes.now + 4) =
-    elim c.then-as_slice-eq-MOST_TOLD.branch [
-      | then-as_slice-eq-MOST_TOLD-via-then-as_slice-eq-MOST_TOLD w ↦ inl (omega (arith, ap length c.as_slice.ensures))
-      | then-as_slice-eq-MOST_TOLD-via-else-as_slice-eq-MOST_TOLD+then-bytes-room w ↦ inr w.if-bytes-room.true
+    elim c.then-as_slice-eq-MOST_ITEMS.branch [
+      | then-as_slice-eq-MOST_ITEMS-via-then-as_slice-eq-MOST_ITEMS w ↦ inl (omega (arith, ap length c.as_slice.ensures))
+      | then-as_slice-eq-MOST_ITEMS-via-else-as_slice-eq-MOST_ITEMS+then-bytes-room w ↦ inr w.if-bytes-room.true
     ] in
     rw (← c.last_version-last.ensures.value)
     (tells_full (readings_of c.args.kv.now) c.args.service c.last_version-last.result c.args.v c.loop-n.n c.loop-n.told c.loop-n.room c.in-Some.bytes.now c.loop-n-test.true (sym (rw c.in-Some.is at c.incremental.ensures)) full c.loop-n.invariant).0
 
-pub returns-then-as_slice-eq-MOST_TOLD-clause-more : goal.returns-then-as_slice-eq-MOST_TOLD-clause-more
-returns-then-as_slice-eq-MOST_TOLD-clause-more c =
+pub returns-then-as_slice-eq-MOST_ITEMS-clause-more : goal.returns-then-as_slice-eq-MOST_ITEMS-clause-more
+returns-then-as_slice-eq-MOST_ITEMS-clause-more c =
     let full : (65535 ≤ length c.loop-n.told) ⊎ (c.loop-n.room < length c.in-Some.bytes.now + 4) =
-    elim c.then-as_slice-eq-MOST_TOLD.branch [
-      | then-as_slice-eq-MOST_TOLD-via-then-as_slice-eq-MOST_TOLD w ↦ inl (omega (arith, ap length c.as_slice.ensures))
-      | then-as_slice-eq-MOST_TOLD-via-else-as_slice-eq-MOST_TOLD+then-bytes-room w ↦ inr w.if-bytes-room.true
+    elim c.then-as_slice-eq-MOST_ITEMS.branch [
+      | then-as_slice-eq-MOST_ITEMS-via-then-as_slice-eq-MOST_ITEMS w ↦ inl (omega (arith, ap length c.as_slice.ensures))
+      | then-as_slice-eq-MOST_ITEMS-via-else-as_slice-eq-MOST_ITEMS+then-bytes-room w ↦ inr w.if-bytes-room.true
     ] in
     rw (← c.last_version-last.ensures.value)
     (tells_full (readings_of c.args.kv.now) c.args.service c.last_version-last.result c.args.v c.loop-n.n c.loop-n.told c.loop-n.room c.in-Some.bytes.now c.loop-n-test.true (sym (rw c.in-Some.is at c.incremental.ensures)) full c.loop-n.invariant).1
