@@ -94,7 +94,7 @@ module _ (bytes : List ℕ) (journal : Journal) (payloads : List (List ℕ)) (is
   abbrev held : Held
   held = held_by journal payloads
 
-  holds : Holds journal payloads bytes
+  pub holds : Holds journal payloads bytes
   holds = is_some bytes is_open ∙ ap (λ (r : Result Held JournalStop). Some r) read
 
   abbrev q : FileParts bytes held

@@ -13,3 +13,4 @@ pub mod Parts
 pub mod RecordParts
 pub mod Spells
 mod Stops
+pub mod Walks

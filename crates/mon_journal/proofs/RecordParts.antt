@@ -98,7 +98,7 @@ regroup : (payload : List ℕ) (payloads : List (List ℕ)) (found : Found) → 
 regroup payload payloads (Ok x) = refl
 regroup payload payloads (Err e) = refl
 
-none_before : (found : Found) → with_front [] found ≡ found
+pub none_before : (found : Found) → with_front [] found ≡ found
 none_before (Ok x) = refl
 none_before (Err e) = refl
 

@@ -99,3 +99,21 @@ IsOfForm OutOfMemory = Unit {0}
 abbrev pub Gives : {X Y : Type 0} → (X → Y) → Result X JournalStop → Result Y JournalStop → Type 0
 Gives view (Ok x) read = read ≡ Ok (view x)
 Gives view (Err e) read = Fails e read
+
+-- What a call answered is what reading gives, but for the payloads.
+abbrev pub Finds : {X Y : Type 0} → (X → List (List ℕ) → Y) → Result X JournalStop → Result Y JournalStop → Type 0
+Finds view (Ok x) read = (payloads : List (List ℕ)) × (read ≡ Ok (view x payloads))
+Finds view (Err e) read = Fails e read
+
+-- a file is a store's
+abbrev pub IsStore : List ℕ → Type 0
+IsStore file = (held : Held) × (content file ≡ Some (Ok held))
+
+-- these payloads are left to be read
+abbrev pub IsLeft : List (List ℕ) → Reading → Type 0
+IsLeft payloads c = (gate : ℕ) × (records_at c ≡ Ok (payloads, gate))
+
+-- the first of them, and the others are left
+abbrev pub IsNext : Option (List ℕ) → List (List ℕ) → Reading → Type 0
+IsNext None payloads c = payloads ≡ []
+IsNext (Some payload) payloads c = (others : List (List ℕ)) × (payloads ≡ payload ∷ others) × IsLeft others c

@@ -115,7 +115,7 @@ OpensBy stop old new =
 -- What opening answered is what the disk held, where the disk tells it, and stands on it safe from a crash.
 abbrev pub Opens : Option (List ℕ) → ℕ → Content → Result Opened JournalStop → Type 0
 Opens seen known new (Ok (Closed len)) = Only new × (new.seen ≡ seen) × (known ≡ len) × IfSome seen (λ file. (content file ≡ None) × (len ≡ length file))
-Opens seen known new (Ok (Live journal payloads)) = Keeps journal payloads.items known new × IfSome seen (Holds journal payloads.items)
+Opens seen known new (Ok (Live journal payloads)) = Keeps journal payloads known new × IfSome seen (Holds journal payloads)
 Opens seen known new (Err (NotAStore at)) = Only new × (new.seen ≡ seen) × IfSome seen (λ file. content file ≡ Some (Err (NotAStore at)))
 Opens seen known new (Err DiskFault) = Unit {0}
 Opens seen known new (Err OutOfMemory) = Unit {0}

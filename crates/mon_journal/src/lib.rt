@@ -18,5 +18,5 @@ pub use journal::{Form, Journal};
 pub use law::law_written;
 pub use making::{create, restart};
 pub use opening::{Opened, open};
-pub use payloads::Payloads;
+pub use payloads::{Payloads, Unread};
 pub use stop::JournalStop;

@@ -2,10 +2,10 @@ ghost use Rattle.mon_journal.specs.Steps.{Opens, OpensBy, stop_in};
 
 use crate::journal::Journal;
 use crate::loading::load;
+use crate::payloads::Payloads;
 use crate::records::{held_in, is_closed};
 use crate::step::write_synced;
 use crate::stop::JournalStop;
-use mon_bytes::Bytes;
 use mon_disk::Disk;
 use std::alloc::Global;
 
@@ -19,13 +19,13 @@ pub enum Opened {
     /// A store's file, with the payloads of the records whose gates are open, in order.
     Live {
         journal: Journal,
-        payloads: Vec<Bytes>,
+        payloads: Payloads,
     },
 }
 
 /// Opens what a crash may have left on a disk. It begins with a sync, and on an open disk it ends with zero at the first
-/// closed gate. Its time is linear in the file's length, and it takes no memory for a payload that the file only claims to
-/// have.
+/// closed gate. Its time is linear in the file's length, and it takes memory for the file once, and for no payload beside
+/// that.
 pub fn open<D: Disk>(alloc: Global, disk: &mut D) -> Result<Opened, JournalStop>
     ensures found { Opens (D.state disk.old).content.seen (D.state disk.new).known (D.state disk.new).content result }
 
@@ -39,10 +39,10 @@ pub fn open<D: Disk>(alloc: Global, disk: &mut D) -> Result<Opened, JournalStop>
             len: file.len() as u64,
         });
     }
-    let found = held_in(alloc, &file)?;
-    write_synced(disk, found.journal.next_gate, &[0])?;
+    let journal = held_in(&file)?;
+    write_synced(disk, journal.next_gate, &[0])?;
     Ok(Opened::Live {
-        journal: found.journal,
-        payloads: found.payloads.into_vec(),
+        journal,
+        payloads: Payloads::of(file),
     })
 }

@@ -116,7 +116,7 @@ at_some s x P is h = subst (λ t. IfSome t P) is h
 -- what opening a disk told of its bytes
 pub holds : (on : Opened) (s : Option (List ℕ)) (known : ℕ) (new : Content) (x : List ℕ) → s ≡ Some x → Opens s known new (Ok on) → (side : Side) → held_on side (content x) ≡ Ok (held_in on)
 holds (disk.Closed len) s known new x is h side = ap (held_on side) (at_some s x (λ file. (content file ≡ None) × (len ≡ length file)) is h.3).0
-holds (disk.Live journal payloads) s known new x is h side = ap (held_on side) (at_some s x (λ file. content file ≡ Some (Ok (held_by journal payloads.items))) is h.1)
+holds (disk.Live journal payloads) s known new x is h side = ap (held_on side) (at_some s x (λ file. content file ≡ Some (Ok (held_by journal payloads))) is h.1)
 
 -- disk A's refusal is that of the two
 pub refused_a : (e : JournalStop) (s t : Option (List ℕ)) (known : ℕ) (new : Content) → Opens s known new (Err e) → IfSome s (λ x. IfSome t (λ y. Tells (named A e) (found x y)))

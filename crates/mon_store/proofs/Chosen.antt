@@ -1,6 +1,6 @@
 -- The disk that is live where two were opened.
 use Rattle.std.proofs.Common.{◌≡◌, ◌≢◌, ◌⊎◌, inl, inr, ℕ, ◌≤◌, ◌<◌, Bool, true, false, cond, eqb, ltb, List, [], length, Option, Some, None, Result, Ok, Err, refl, sym, ap, subst, ◌∙◌, arith}
-use Rattle.std.specs.Prelude.{IfSome, slice_index_or}
+use Rattle.std.specs.Prelude.{IfOk, IfSome, slice_index_or}
 use Rattle.std.proofs.lemmas.Bool.{ltb-true, ltb-false, eqb-false}
 use Rattle.mon_types.specs.declared.names.Side.{Side}
 use Rattle.mon_types.specs.declared.names.Side.TheVariants.{A, B}
@@ -13,6 +13,8 @@ use Rattle.mon_journal.specs.declared.opening.Opened.{Opened}
 use Rattle.mon_journal.specs.declared.opening.Opened.TheVariants as disk
 use Rattle.mon_journal.specs.Content.{Held, content, payloads_of, held_by, Holds}
 use Rattle.mon_journal.specs.Steps.{Opens, Stands}
+use Rattle.mon_store.specs.declared.opening.Standing.{Standing}
+use Rattle.mon_store.specs.declared.stop.OpenStop.{OpenStop}
 use Rattle.mon_store.specs.Checkpoint.{most_size}
 use Rattle.mon_store.specs.Payloads.{map_of}
 use Rattle.mon_store.specs.Pair.{Refusal, NotAStore, Found, Create, Live, newer, chosen}
@@ -52,12 +54,12 @@ chosen_live (disk.Closed la) (disk.Closed lb) side held h = absurd (none (ltb 26
     none false true h = cc
     none false false h = cc
 chosen_live (disk.Live j p) (disk.Closed lb) side held h =
-    let is = same_live A side (held_by j p.items) held h in
+    let is = same_live A side (held_by j p) held h in
     subst (λ s. Chosen s held (disk.Live j p) (disk.Closed lb)) is.0 (record { live = ap (λ x. Some x) is.1; other = tt })
 chosen_live (disk.Closed la) (disk.Live k q) side held h =
-    let is = same_live B side (held_by k q.items) held h in
+    let is = same_live B side (held_by k q) held h in
     subst (λ s. Chosen s held (disk.Closed la) (disk.Live k q)) is.0 (record { live = ap (λ x. Some x) is.1; other = tt })
-chosen_live (disk.Live j p) (disk.Live k q) side held h = elim (newer_is j k p.items q.items side held h) [
+chosen_live (disk.Live j p) (disk.Live k q) side held h = elim (newer_is j k p q side held h) [
   | inl x ↦ subst (λ s. Chosen s held (disk.Live j p) (disk.Live k q)) (sym x.0) (record { live = ap (λ y. Some y) x.1; other = subst (λ (y : Held). k.generation < y.header.generation) x.1 x.2 })
   | inr x ↦ subst (λ s. Chosen s held (disk.Live j p) (disk.Live k q)) (sym x.0) (record { live = ap (λ y. Some y) x.1; other = subst (λ (y : Held). j.generation < y.header.generation) x.1 x.2 })
 ]
@@ -80,7 +82,7 @@ chosen_new (disk.Live j p) (disk.Closed lb) h = absurd cc
 chosen_new (disk.Closed la) (disk.Live k q) h = absurd cc
 chosen_new (disk.Live j p) (disk.Live k q) h = absurd (none (eqb j.generation k.generation) (ltb k.generation j.generation) h)
   where
-    none : (p1 q1 : Bool) → cond p1 (Err (NotAStore B 0)) (cond q1 (Ok (Live A (held_by j p.items))) (Ok (Live B (held_by k q.items)))) ≡ Ok Create → ⊥
+    none : (p1 q1 : Bool) → cond p1 (Err (NotAStore B 0)) (cond q1 (Ok (Live A (held_by j p))) (Ok (Live B (held_by k q)))) ≡ Ok Create → ⊥
     none true q1 h = cc
     none false true h = cc
     none false false h = cc
@@ -110,12 +112,12 @@ pub stands_open : (on : Opened) (j : Journal) (payloads : List (List ℕ)) (m : 
     → Stands j known x × IfSome x.seen (λ file. map_of (payloads_of file) ≡ Ok m)
 stands_open (disk.Closed len) j payloads m s known x is map h = absurd cc
 stands_open (disk.Live k p) j payloads m s known x is map h =
-    let same : held_by k p.items ≡ held_by j payloads = cc in
-    (stands_as k j p.items payloads known x same h.0.stands, by x.seen h.0.payloads_are)
+    let same : held_by k p ≡ held_by j payloads = cc in
+    (stands_as k j p payloads known x same h.0.stands, by x.seen h.0.payloads_are)
   where
-    by : (t : Option (List ℕ)) → IfSome t (λ file. payloads_of file ≡ p.items) → IfSome t (λ file. map_of (payloads_of file) ≡ Ok m)
+    by : (t : Option (List ℕ)) → IfSome t (λ file. payloads_of file ≡ p) → IfSome t (λ file. map_of (payloads_of file) ≡ Ok m)
     by None g = tt
-    by (Some file) g = let these : p.items ≡ payloads = ap (λ (o : Option Held). Rattle.std.specs.Option.unwrap_or (Rattle.std.specs.Option.option_map (λ (y : Held). y.payloads) o) []) is in ap map_of (g ∙ these) ∙ map
+    by (Some file) g = let these : p ≡ payloads = ap (λ (o : Option Held). Rattle.std.specs.Option.unwrap_or (Rattle.std.specs.Option.option_map (λ (y : Held). y.payloads) o) []) is in ap map_of (g ∙ these) ∙ map
 
 -- the other one
 pub stands_aside : (on : Opened) (generation : ℕ) (s : Option (List ℕ)) (known : ℕ) (x : Content) → IsOther generation on → Opens s known x (Ok on) → Only x × IfSome x.seen (λ file. IsBelow generation (content file))
@@ -143,3 +145,15 @@ pub sound_live : {D : Type 0} (state : D → DiskState) (a b : Opened) (on_a on_
     → Sound j m (state (of_live side on_a on_b)).known (state (of_live side on_a on_b)).content (state (of_live (other_side side) on_a on_b)).content
 sound_live state a b on_a on_b s t A j payloads m is map small h k = sound_open a b j payloads m s t (state on_a).known (state on_b).known (state on_a).content (state on_b).content is.live is.other map small h k
 sound_live state a b on_a on_b s t B j payloads m is map small h k = sound_open b a j payloads m t s (state on_b).known (state on_a).known (state on_b).content (state on_a).content is.live is.other map small k h
+
+-- and whatever restoring it answers
+pub sound_restored : {D : Type 0} (state : D → DiskState) (a b : Opened) (on_a on_b : D) (s t : Option (List ℕ)) (side : Side) (j : Journal) (payloads : List (List ℕ)) → chosen (held_in a) (held_in b) (len_of a) (len_of b) ≡ Ok (Live side (held_by j payloads))
+    → Opens s (state on_a).known (state on_a).content (Ok a) → Opens t (state on_b).known (state on_b).content (Ok b)
+    → (result : Result Standing OpenStop) → IfOk result (λ r. r.side ≡ side) → IfOk result (λ r. r.journal ≡ j) → IfOk result (λ r. map_of payloads ≡ Ok r.kv) → IfOk result (λ r. size_of r.kv ≤ most_size)
+    → IfOk result (λ r. Sound r.journal r.kv (state (of_live r.side on_a on_b)).known (state (of_live r.side on_a on_b)).content (state (of_live (other_side r.side) on_a on_b)).content)
+sound_restored state a b on_a on_b s t side j payloads is h k (Err e) at_side journal map small = tt
+sound_restored state a b on_a on_b s t side j payloads is h k (Ok r) at_side journal map small =
+    let sound : Sound j r.kv (state (of_live side on_a on_b)).known (state (of_live side on_a on_b)).content (state (of_live (other_side side) on_a on_b)).content =
+    sound_live state a b on_a on_b s t side j payloads r.kv (chosen_live a b side (held_by j payloads) is) map small h k in
+    subst (λ (i : Side). Sound r.journal r.kv (state (of_live i on_a on_b)).known (state (of_live i on_a on_b)).content (state (of_live (other_side i) on_a on_b)).content) (sym at_side)
+    (subst (λ (i : Journal). Sound i r.kv (state (of_live side on_a on_b)).known (state (of_live side on_a on_b)).content (state (of_live (other_side side) on_a on_b)).content) (sym journal) sound)

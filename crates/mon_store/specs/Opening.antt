@@ -25,7 +25,7 @@ use Rattle.mon_store.specs.Pair.{Refusal, NotAStore, Stranger, Found, Create, Li
 -- what a disk was found to hold, and how long it is where that is nothing
 abbrev pub held_in : Opened → Option Held
 held_in (disk.Closed len) = None
-held_in (disk.Live journal payloads) = Some (held_by journal payloads.items)
+held_in (disk.Live journal payloads) = Some (held_by journal payloads)
 
 abbrev pub len_of : Opened → ℕ
 len_of (disk.Closed len) = len
@@ -33,7 +33,7 @@ len_of (disk.Live journal payloads) = 0
 
 abbrev pub found_of : Choice → Found
 found_of choice.New = Create
-found_of (choice.Live side journal payloads) = Live side (held_by journal payloads.items)
+found_of (choice.Live side journal payloads) = Live side (held_by journal payloads)
 
 -- a journal's fault, on its disk
 abbrev pub named : Side → JournalStop → OpenStop

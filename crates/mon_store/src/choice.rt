@@ -6,8 +6,7 @@ ghost use Rattle.mon_store.specs.Opening.{held_in, len_of, found_of, Gives, IsRe
 ghost use Rattle.mon_journal.specs.Content.{held_by};
 
 use crate::stop::OpenStop;
-use mon_bytes::Bytes;
-use mon_journal::{Journal, Opened};
+use mon_journal::{Journal, Opened, Payloads};
 use mon_types::Side;
 
 /// The most bytes that a creation which a crash cut short leaves on disk A.
@@ -22,7 +21,7 @@ pub(crate) enum Choice {
     Live {
         side: Side,
         journal: Journal,
-        payloads: Vec<Bytes>,
+        payloads: Payloads,
     },
 }
 
@@ -48,11 +47,11 @@ fn new_store(a: u64, b: u64) -> Result<Choice, OpenStop>
 
 fn newer(
     a: Journal,
-    a_payloads: Vec<Bytes>,
+    a_payloads: Payloads,
     b: Journal,
-    b_payloads: Vec<Bytes>,
+    b_payloads: Payloads,
 ) -> Result<Choice, OpenStop>
-    ensures found { Gives found_of result (newer (held_by a a_payloads.items) (held_by b b_payloads.items)) }
+    ensures found { Gives found_of result (newer (held_by a a_payloads) (held_by b b_payloads)) }
     ensures refused { IfErr result IsRefusal }
 {
     if a.generation == b.generation {

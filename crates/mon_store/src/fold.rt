@@ -9,8 +9,8 @@ ghost use Rattle.mon_store.specs.Decode.{checkpoint_of};
 
 use crate::checkpoint::MOST_SIZE;
 use crate::reading::read_checkpoint;
-use mon_bytes::{Bytes, Cursor, MapRefused};
-use mon_journal::JournalStop;
+use mon_bytes::{Cursor, MapRefused};
+use mon_journal::{JournalStop, Payloads};
 use mon_kv::Kv;
 use mon_tx::{TxRefused, decode};
 use std::alloc::Global;
@@ -87,19 +87,20 @@ fn behind(at: u64, payload: &[u8]) -> Result<u64, JournalStop>
 }
 
 /// The map that the payloads of a file stand for. `NotAStore` names the first byte of the first payload at fault.
-pub fn fold(alloc: Global, payloads: &[Bytes]) -> Result<Kv, JournalStop>
+pub fn fold(alloc: Global, payloads: &Payloads) -> Result<Kv, JournalStop>
     ensures map { Gives (λ kv. kv) result (map_of payloads.now) }
     ensures size { IfOk result (λ kv. size_of kv ≤ most_size) }
     ensures form { IfErr result IsOfForm }
 {
-    let Some((first, others)) = payloads.split_first() else {
+    let mut unread = payloads.unread();
+    let Some(first) = unread.next_payload() else {
         return Ok(Kv::empty(alloc));
     };
-    let mut at = behind(30, first.as_slice())?;
-    let mut kv = begun(alloc, first.as_slice(), 30)?;
-    for payload in others {
-        kv = after(alloc, kv, payload.as_slice(), at)?;
-        at = behind(at, payload.as_slice())?;
+    let mut at = behind(30, first)?;
+    let mut kv = begun(alloc, first, 30)?;
+    while let Some(payload) = unread.next_payload() {
+        kv = after(alloc, kv, payload, at)?;
+        at = behind(at, payload)?;
     }
     Ok(kv)
 }

@@ -20,9 +20,8 @@ ghost use Rattle.mon_store.specs.OpeningCalls.{both_calls, opening_calls, OpensW
 use crate::choice::{Choice, choose};
 use crate::fold::fold;
 use crate::stop::OpenStop;
-use mon_bytes::Bytes;
 use mon_disk::Disk;
-use mon_journal::{Journal, JournalStop, Opened, create, open};
+use mon_journal::{Journal, JournalStop, Opened, Payloads, create, open};
 use mon_kv::Kv;
 use mon_types::{Member, Side};
 use std::alloc::Global;
@@ -51,7 +50,7 @@ fn restore(
     alloc: Global,
     side: Side,
     journal: Journal,
-    payloads: &[Bytes],
+    payloads: &Payloads,
     member: &Member,
 ) -> Result<Standing, OpenStop>
     ensures answer { Gives (λ s. (Live side (held_by journal payloads.now), s.kv)) result (taken (owner_of member.now) (Live side (held_by journal payloads.now))) }
@@ -153,6 +152,6 @@ pub(crate) fn open_disks<D: Disk>(
             side,
             journal,
             payloads,
-        } => restore(alloc, side, journal, payloads.as_slice(), member),
+        } => restore(alloc, side, journal, &payloads, member),
     }
 }

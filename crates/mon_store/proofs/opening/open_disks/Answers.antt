@@ -1,4 +1,4 @@
-use Rattle.std.proofs.Common.{◌≡◌, ℕ, false, List, None, Ok, Err, sym, ap, ◌∙◌, ◌≤◌, arith}
+use Rattle.std.proofs.Common.{◌≡◌, false, None, Ok, Err, ap, ◌∙◌, ◌≤◌, arith}
 use Rattle.std.specs.Prelude.{IfSome}
 use Rattle.mon_journal.specs.Steps.{made_more, create_calls}
 use Rattle.std.proofs.lemmas.Result.{err_from_is_err_and}
@@ -11,7 +11,7 @@ use Rattle.mon_store.specs.Opening.{held_in, len_of, found_of, AlikePair, Alike,
 use Rattle.mon_store.proofs.Moments.{weaker, ends, now}
 use Rattle.mon_store.proofs.Alike.{is_alike, both_settle, when_some, one_call}
 use Rattle.mon_store.proofs.Answering.{refused, not_chosen, answers_err, answers_new, answers_live}
-use Rattle.mon_store.proofs.Chosen.{chosen_new}
+use Rattle.mon_store.proofs.Chosen.{chosen_new, sound_restored}
 use Rattle.mon_store.proofs.Creating.{closed_of, opened_c, settled_c, sound_new}
 use Rattle.mon_store.proofs.Called.{on_a}
 use Rattle.mon_store.proofs.OpenCalls.{calls_refused, refusal_no_fault, calls_none, calls_live, calls_new}
@@ -136,9 +136,9 @@ returns-in-Live-clause-answer g c =
     let t = (g.D.Disk.state c.args.b.now).content.seen in
     let side = c.in-Live.side in
     let j = c.in-Live.journal in
-    let payloads = c.as_slice.result.now in
+    let payloads = c.in-Live.payloads in
     let is : chosen (held_in c.in_ok-both.both.a) (held_in c.in_ok-both.both.b) (len_of c.in_ok-both.both.a) (len_of c.in_ok-both.both.b) ≡ Ok (Live side (held_by j payloads)) =
-    c.in_ok-choose.ensures.found ∙ ap (λ x. Ok (found_of x)) c.in-Live.is ∙ ap (λ (ps : List (List ℕ)). Ok (Live side (held_by j ps))) (sym c.as_slice.ensures.value) in
+    c.in_ok-choose.ensures.found ∙ ap (λ x. Ok (found_of x)) c.in-Live.is in
     answers_live c.in_ok-both.both.a c.in_ok-both.both.b s t (g.D.Disk.state a).known (g.D.Disk.state b).known (g.D.Disk.state a).content (g.D.Disk.state b).content c.in_ok-both.ensures.a c.in_ok-both.ensures.b c.args.member.now
     c.restore.result side j payloads is c.restore.ensures.answer c.restore.ensures.side c.restore.ensures.journal c.restore.ensures.owner
 
@@ -150,7 +150,16 @@ returns-in-Live-clause-calls g c =
     let t = (g.D.Disk.state c.args.b.now).content.seen in
     calls_live c.in_ok-both.both.a c.in_ok-both.both.b s t (g.D.Disk.state a).known (g.D.Disk.state b).known (g.D.Disk.state a).content (g.D.Disk.state b).content c.in_ok-both.ensures.a c.in_ok-both.ensures.b (owner_of c.args.member.now)
     (g.D.Disk.state c.args.a.now).told (g.D.Disk.state c.args.b.now).told (g.D.Disk.state a).told (g.D.Disk.state b).told Both Standing c.in_ok-both.both c.in_ok-both.ensures.calls
-    c.in-Live.side (held_by c.in-Live.journal c.in-Live.payloads.items) c.restore.result (c.in_ok-choose.ensures.found ∙ ap (λ x. Ok (found_of x)) c.in-Live.is) c.restore.ensures.no_fault
+    c.in-Live.side (held_by c.in-Live.journal c.in-Live.payloads) c.restore.result (c.in_ok-choose.ensures.found ∙ ap (λ x. Ok (found_of x)) c.in-Live.is) c.restore.ensures.no_fault
+
+pub returns-in-Live-clause-sound : goal.returns-in-Live-clause-sound
+returns-in-Live-clause-sound g c =
+    let state = g.D.Disk.state in
+    let a = c.open_both.new.a in
+    let b = c.open_both.new.b in
+    sound_restored state c.in_ok-both.both.a c.in_ok-both.both.b a b (state c.args.a.now).content.seen (state c.args.b.now).content.seen c.in-Live.side c.in-Live.journal c.in-Live.payloads
+    (c.in_ok-choose.ensures.found ∙ ap (λ x. Ok (found_of x)) c.in-Live.is) c.in_ok-both.ensures.a c.in_ok-both.ensures.b
+    c.restore.result c.restore.ensures.side c.restore.ensures.journal c.restore.ensures.map c.restore.ensures.size
 
 pub returns-in_err-both-clause-settles : goal.returns-in_err-both-clause-settles
 returns-in_err-both-clause-settles g c = λ told_a told_b.
