@@ -5,19 +5,11 @@ use Rattle.mon_types.specs.declared.names.Stop.TheVariants.{Failed, OutOfMemory}
 use Rattle.mon_disk.specs.declared.disk.DiskCall.{DiskCall}
 use Rattle.mon_disk.specs.Images.{LeavesOnly}
 use Rattle.mon_disk.specs.Calls.{DiskState, Called}
-use Rattle.mon_journal.specs.declared.stop.JournalStop.{JournalStop}
-use Rattle.mon_journal.specs.declared.stop.JournalStop.TheVariants as journal
 use Rattle.mon_journal.specs.Steps.{stopped, stop_in}
 
 pub stop_back : (T : Type 0) (s : Stop) → stop_in {T = T} (Err (stopped s)) ≡ Some s
 stop_back T Failed = refl
 stop_back T OutOfMemory = refl
-
--- the stop of another result
-pub same_stop : (T U : Type 0) (e : JournalStop) → stop_in {T = T} (Err e) ≡ stop_in {T = U} (Err e)
-same_stop T U journal.DiskFault = refl
-same_stop T U (journal.NotAStore at) = refl
-same_stop T U journal.OutOfMemory = refl
 
 pub with_moments : {calls : List DiskCall} {stop : Option Stop} {old new : DiskState} (P R : List ℕ → Type 0) → Called calls P stop old new → LeavesOnly old.content new.content R → Called calls R stop old new
 with_moments P R c moments = record { tells = c.tells; any_moment = moments; made = c.made; faults = c.faults; wants = c.wants }
