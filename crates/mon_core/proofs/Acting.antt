@@ -23,7 +23,6 @@ use Rattle.mon_core.specs.Acts.{Acts, KeepsAll}
 use Rattle.mon_core.specs.Rows.{AnswersRow, IsReady}
 use Rattle.mon_event.specs.Events.{Goes, IsCarried, IsUnderWay, Reaches}
 use Rattle.mon_event.specs.State.{state_of}
-use Rattle.mon_event.specs.declared.event.Carried.{Carried}
 use Rattle.mon_event.specs.declared.event.Event.{Event}
 
 -- ---- what the store tells
@@ -47,28 +46,29 @@ kept m e x h k = subst (λ (w : Readings). w ≡ record (readings_of m) { epoch 
 module _ {S : Type 0} (me : Me) (now : ℕ) (is : S → Course → Course) (B : Course → Type 0) (start : Course → Course)
     (wanted : Course → Result Course Which) (w : Readings) (x : Course) (b : B x) where
   -- no plan was made
-  fails : (e : RoleStop) → Plans me now is B start wanted (Err e) → Reaches w (wanted x) (Err e)
-  fails stop.OutOfMemory h = tt
-  fails (stop.Spent which) h = h x b
+  fails : (e : Event) (why : RoleStop) → Plans me now is B start wanted (Err why) → Reaches w (wanted x) e (Err why)
+  fails e stop.OutOfMemory h = tt
+  fails e (stop.Spent which) h = h x b
 
   -- one was made and carried out in an event that stands where it starts
-  module _ (p : Plan S) (d : Does me now is B start wanted p) (e : Event) (h : IsUnderWay w e (start x)) (c : Carried) (k : IsCarried is e p c) where
+  module _ (p : Plan S) (d : Does me now is B start wanted p) (e : Event) (h : IsUnderWay w e (start x))
+      (c : Event) (n : Next) (k : IsCarried is e p c n) where
     abbrev after : Course
     after = done is d.changes p (start x)
 
-    under_way : IsUnderWay w c.event after
+    under_way : IsUnderWay w c after
     under_way = k.done d.changes d.fit d.spelled w (start x) h
 
     -- and then the act that it names
-    goes_on : (result : Result Event RoleStop) → ((y : Course) → IsUnderWay w c.event y → Reaches w (act me now c.next y) result)
-        → Reaches w (wanted x) result
-    goes_on result f =
-        subst (λ (r : Result Course Which). Reaches w r result)
+    goes_on : (new : Event) (result : Result Unit RoleStop) → ((y : Course) → IsUnderWay w c y → Reaches w (act me now n y) new result)
+        → Reaches w (wanted x) new result
+    goes_on new result f =
+        subst (λ (r : Result Course Which). Reaches w r new result)
         (sym (d.row x b ∙ ap (λ n. act me now n after) (sym k.next)))
         (f after under_way)
 
     -- and it names none
-    ends : p.next ≡ next.Stay → Reaches w (wanted x) (Ok c.event)
+    ends : p.next ≡ next.Stay → Reaches w (wanted x) c (Ok tt)
     ends stays = record {
       course = after;
       wanted_is = d.row x b ∙ ap (λ n. act me now n after) stays;
@@ -79,18 +79,18 @@ module _ {S : Type 0} (me : Me) (now : ℕ) (is : S → Course → Course) (B : 
 
 module _ {S : Type 0} (me : Me) (now : ℕ) (m : Store) (is : S → Course → Course) (n : Next) (e : Event)
     (B : Course → Type 0) (before : (x : Course) → IsUnderWay (readings_of m) e x → B x) where
-  pub act_fails : (why : RoleStop) → PlansAct me now is B n (Err why) → Acts me m now e n (Err why)
-  act_fails why h = λ x u. fails me now is B (entered n) (act me now n) (readings_of m) x (before x u) why h
+  pub act_fails : (new : Event) (why : RoleStop) → PlansAct me now is B n (Err why) → Acts me m now e n new (Err why)
+  act_fails new why h = λ x u. fails me now is B (entered n) (act me now n) (readings_of m) x (before x u) new why h
 
   module _ (begun : Event) (enters : Goes e begun (entered n)) (p : Plan S) (d : Does me now is B (entered n) (act me now n) p)
-      (c : Carried) (k : IsCarried is begun p c) where
-    pub act_ends : p.next ≡ next.Stay → Acts me m now e n (Ok c.event)
+      (c : Event) (then_act : Next) (k : IsCarried is begun p c then_act) where
+    pub act_ends : p.next ≡ next.Stay → Acts me m now e n c (Ok tt)
     act_ends stays = λ x u.
-        ends me now is B (entered n) (act me now n) (readings_of m) x (before x u) p d begun (enters (readings_of m) x u) c k stays
+        ends me now is B (entered n) (act me now n) (readings_of m) x (before x u) p d begun (enters (readings_of m) x u) c then_act k stays
 
-    pub act_goes_on : (result : Result Event RoleStop) → Acts me m now c.event c.next result → Acts me m now e n result
-    act_goes_on result f = λ x u.
-        goes_on me now is B (entered n) (act me now n) (readings_of m) x (before x u) p d begun (enters (readings_of m) x u) c k result f
+    pub act_goes_on : (new : Event) (result : Result Unit RoleStop) → Acts me m now c then_act new result → Acts me m now e n new result
+    act_goes_on new result f = λ x u.
+        goes_on me now is B (entered n) (act me now n) (readings_of m) x (before x u) p d begun (enters (readings_of m) x u) c then_act k new result f
 
 -- ---- a row, of an event that has just begun
 
@@ -111,10 +111,10 @@ module _ {S : Type 0} (me : Me) (now : ℕ) (m : Store) (is : S → Course → C
   met : Before begins
   met = record { readings = refl; role = refl; seen = seen }
 
-  pub row_fails : (why : RoleStop) → PlansRow me now is Before wanted (Err why) → AnswersRow me m now e came (Err why)
-  row_fails why h = fails me now is Before (λ x. x) wanted (readings_of m) begins met why h
+  pub row_fails : (new : Event) (why : RoleStop) → PlansRow me now is Before wanted (Err why) → AnswersRow me m now e came new (Err why)
+  row_fails new why h = fails me now is Before (λ x. x) wanted (readings_of m) begins met new why h
 
-  pub row_goes_on : (p : Plan S) → Does me now is Before (λ x. x) wanted p → (c : Carried) → IsCarried is e p c
-      → (result : Result Event RoleStop) → Acts me m now c.event c.next result → AnswersRow me m now e came result
-  row_goes_on p d c k result f =
-      goes_on me now is Before (λ x. x) wanted (readings_of m) begins met p d e (rests me m e r) c k result f
+  pub row_goes_on : (p : Plan S) → Does me now is Before (λ x. x) wanted p → (c : Event) (n : Next) → IsCarried is e p c n
+      → (new : Event) (result : Result Unit RoleStop) → Acts me m now c n new result → AnswersRow me m now e came new result
+  row_goes_on p d c n k new result f =
+      goes_on me now is Before (λ x. x) wanted (readings_of m) begins met p d e (rests me m e r) c n k new result f

@@ -31,7 +31,7 @@ use Rattle.mon_core.proofs.Taking.{unheard}
 
 -- an event that has just begun is where nothing is done
 pub drops : (me : Me) (m : Store) (e : Event) → IsReady me e
-    → (wanted : Result Course Which) → wanted ≡ Ok (at_rest (readings_of m) (state_of e.state)) → Reaches (readings_of m) wanted (Ok e)
+    → (wanted : Result Course Which) → wanted ≡ Ok (at_rest (readings_of m) (state_of e.state)) → Reaches (readings_of m) wanted e (Ok tt)
 drops me m e r wanted is = record { course = at_rest (readings_of m) (state_of e.state); wanted_is = is; under_way = rests me m e r }
 
 -- ---- messages

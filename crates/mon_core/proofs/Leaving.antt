@@ -28,7 +28,6 @@ use Rattle.mon_core.specs.Rows.{IsReady}
 use Rattle.mon_core.proofs.Acting.{rests}
 use Rattle.mon_event.specs.Events.{IsCarried, IsUnderWay}
 use Rattle.mon_event.specs.State.{state_of}
-use Rattle.mon_event.specs.declared.event.Carried.{Carried}
 use Rattle.mon_event.specs.declared.event.Event.{Event}
 
 -- ---- what the store tells, but for the epoch and the count of starts
@@ -76,11 +75,12 @@ sending-state (m ∷ ms) x = refl
 -- ---- plans
 
 module _ {S : Type 0} (is : S → Course → Course) (on : LeadsOn is) (me : Me) (m : Store) (e : Event) (r : IsReady me e)
-    (p : Plan S) (cs : List Change) (fit : AllByRecursion Fits cs) (spells : p.tx ≡ spelled cs) (c : Carried) (k : IsCarried is e p c) where
+    (p : Plan S) (cs : List Change) (fit : AllByRecursion Fits cs) (spells : p.tx ≡ spelled cs)
+    (c : Event) (n : Next) (k : IsCarried is e p c n) where
   abbrev begins : Course
   begins = at_rest (readings_of m) (state_of e.state)
 
-  after : IsUnderWay (readings_of m) c.event (done is cs p begins)
+  after : IsUnderWay (readings_of m) c (done is cs p begins)
   after = k.done cs fit spells (readings_of m) begins (rests me m e r)
 
   -- as the plan's role remembers anew
@@ -88,11 +88,11 @@ module _ {S : Type 0} (is : S → Course → Course) (on : LeadsOn is) (me : Me)
   by_then = changed cs (stands p.next begins)
 
   -- the event has written what the plan writes
-  writes : c.event.tx ≡ p.tx
+  writes : c.tx ≡ p.tx
   writes = k.written ∙ ap (λ (ops : List Op). ops ++ p.tx) r.unwritten
 
   -- where no other phase begins with the plan
-  leads : stands p.next begins ≡ begins → e.state.phase ≡ phase.Active → Leads (state_of c.event.state)
+  leads : stands p.next begins ≡ begins → e.state.phase ≡ phase.Active → Leads (state_of c.state)
   leads stays active =
       let state : by_then.state ≡ state_of e.state = changed-state cs (stands p.next begins) ∙ ap (λ (x : Course). x.state) stays in
       let began : Leads (state_of e.state) = sym (r.remembers.placed.leads (ap is_leading active)) in
@@ -100,22 +100,22 @@ module _ {S : Type 0} (is : S → Course → Course) (on : LeadsOn is) (me : Me)
       (subst Leads (sym (sending-state p.out (arm_all p.timers (is p.state by_then))))
       (on p.state by_then (ap (λ (s : State). s.phase) state ∙ active) (subst Leads (sym state) began)))
 
-  pub may_act : (at : Phase) → at ≡ e.state.phase → Leaves at p.next p.tx → MayAct me m c.event c.next
-  may_act at is_at left = subst (MayAct me m c.event) (sym k.next) (by p.next refl left)
+  pub may_act : (at : Phase) → at ≡ e.state.phase → Leaves at p.next p.tx → MayAct me m c n
+  may_act at is_at left = subst (MayAct me m c) (sym k.next) (by p.next refl left)
     where
-      by : (n : Next) → p.next ≡ n → Leaves at n p.tx → MayAct me m c.event n
+      by : (n : Next) → p.next ≡ n → Leaves at n p.tx → MayAct me m c n
       by next.Stay e l = tt
       by next.Electing e l = tt
       by (next.Follow leader quorum) e l = tt
       by next.Elect e l = tt
-      by next.Bootstrap e (inl none) = λ _. keeps_none m c.event.tx (writes ∙ none)
+      by next.Bootstrap e (inl none) = λ _. keeps_none m c.tx (writes ∙ none)
       by next.Bootstrap e (inr copies) = λ alone.
           let many = r.remembers.placed.copies (sym is_at ∙ copies) in
           let yes = lt-ltb 1 me.member.monitors many in
           absurd cc
-      by (next.Win quorum) e l = keeps_more m [] p.tx c.event.tx writes (keeps_none m [] refl) l
-      by (next.FullSync from) e l = keeps_none m c.event.tx (writes ∙ l)
-      by (next.RecentSync from) e l = keeps_none m c.event.tx (writes ∙ l)
+      by (next.Win quorum) e l = keeps_more m [] p.tx c.tx writes (keeps_none m [] refl) l
+      by (next.FullSync from) e l = keeps_none m c.tx (writes ∙ l)
+      by (next.RecentSync from) e l = keeps_none m c.tx (writes ∙ l)
       by (next.Begin value o) e l = (writes ∙ l.0, leads (ap (λ n. stands n begins) e) (sym is_at ∙ l.1), l.2)
 
 -- ---- what follows where a monitor begins anew
@@ -133,10 +133,10 @@ ends_last me tx (next.Begin value o) h = h
 
 -- one that wins alone kept what its store told
 module _ (me : Me) (m : Store) (e begun : Event) (same : begun.tx ≡ e.tx) (may : MayAct me m e next.Bootstrap)
-    (tx : List Op) (c : Carried) (written : c.event.tx ≡ begun.tx ++ tx) where
-  pub may_end : (n : Next) → Ends me n tx → MayAct me m c.event n
+    (tx : List Op) (c : Event) (written : c.tx ≡ begun.tx ++ tx) where
+  pub may_end : (n : Next) → Ends me n tx → MayAct me m c n
   may_end next.Stay h = tt
-  may_end (next.Win quorum) h = keeps_more m e.tx tx c.event.tx (written ∙ ap (λ (ops : List Op). ops ++ tx) same) (may h.0) h.1
+  may_end (next.Win quorum) h = keeps_more m e.tx tx c.tx (written ∙ ap (λ (ops : List Op). ops ++ tx) same) (may h.0) h.1
   may_end next.Bootstrap h = absurd h
   may_end next.Elect h = absurd h
   may_end next.Electing h = absurd h

@@ -45,5 +45,5 @@ IsLast (next.RecentSync from) = ⊥
 IsLast (next.Begin value o) = ⊥
 
 -- the act is done, from wherever the event has come
-abbrev pub Acts : Me → Store → (now : ℕ) → Event → Next → Result Event RoleStop → Type 0
-Acts me m now e n result = (x : Course) → IsUnderWay (readings_of m) e x → Reaches (readings_of m) (act me now n x) result
+abbrev pub Acts : Me → Store → (now : ℕ) → (old : Event) → Next → (new : Event) → Result Unit RoleStop → Type 0
+Acts me m now old n new result = (x : Course) → IsUnderWay (readings_of m) old x → Reaches (readings_of m) (act me now n x) new result

@@ -1,6 +1,5 @@
 pub mod Acts
 pub mod Core
 pub mod Known
-pub mod Reacted
 pub mod Reacts
 pub mod Rows

@@ -26,10 +26,10 @@ core_stop role_stop.OutOfMemory = stop.OutOfMemory
 core_stop (role_stop.Spent which) = stop.Spent which
 
 -- an event comes to what the protocol says of an input, or its role stops
-abbrev pub Comes : Me → Store → (now : ℕ) → Event → Input → Result Event CoreStop → Type 0
-Comes me m now e came (Ok done) = AnswersInput me m now e came (Ok done)
-Comes me m now e came (Err stop.OutOfMemory) = Unit {0}
-Comes me m now e came (Err (stop.Spent which)) = AnswersInput me m now e came (Err (role_stop.Spent which))
+abbrev pub Comes : Me → Store → (now : ℕ) → (old : Event) → Input → (new : Event) → Result Unit CoreStop → Type 0
+Comes me m now old came new (Ok done) = AnswersInput me m now old came new (Ok done)
+Comes me m now old came new (Err stop.OutOfMemory) = Unit {0}
+Comes me m now old came new (Err (stop.Spent which)) = AnswersInput me m now old came new (Err (role_stop.Spent which))
 
 -- the entries of a store that a message tells are named as they must be
 abbrev pub TellsNamed : Sent → Type 0

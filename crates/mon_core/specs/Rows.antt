@@ -33,17 +33,17 @@ pub record IsFor (me : Me) (r : Role) (came : Input) : Type 0 where
   pub comes : may_come me.member.monitors came ≡ true
 
 -- such an event comes to what is wanted of it
-abbrev pub ReachesFrom : Store → Event → (Course → Result Course Which) → Result Event RoleStop → Type 0
-ReachesFrom m e wanted result = Reaches (readings_of m) (wanted (at_rest (readings_of m) (state_of e.state))) result
+abbrev pub ReachesFrom : Store → (old : Event) → (Course → Result Course Which) → (new : Event) → Result Unit RoleStop → Type 0
+ReachesFrom m old wanted new result = Reaches (readings_of m) (wanted (at_rest (readings_of m) (state_of old.state))) new result
 
 -- to the protocol's row
-abbrev pub AnswersRow : Me → Store → (now : ℕ) → Event → Input → Result Event RoleStop → Type 0
-AnswersRow me m now e came result = ReachesFrom m e (row me (shared_entries m) now came) result
+abbrev pub AnswersRow : Me → Store → (now : ℕ) → (old : Event) → Input → (new : Event) → Result Unit RoleStop → Type 0
+AnswersRow me m now old came new result = ReachesFrom m old (row me (shared_entries m) now came) new result
 
 -- to what the protocol says
-abbrev pub AnswersInput : Me → Store → (now : ℕ) → Event → Input → Result Event RoleStop → Type 0
-AnswersInput me m now e came result =
-    ReachesFrom m e (λ x. react me (shared_entries m) now x.readings x.state came) result
+abbrev pub AnswersInput : Me → Store → (now : ℕ) → (old : Event) → Input → (new : Event) → Result Unit RoleStop → Type 0
+AnswersInput me m now old came new result =
+    ReachesFrom m old (λ x. react me (shared_entries m) now x.readings x.state came) new result
 
 -- what a start writes: it is counted, and an epoch that isn't there is put as 1
 abbrev pub first_changes : (boot : ℕ) → (has_epoch : Bool) → List Change

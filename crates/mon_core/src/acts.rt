@@ -16,17 +16,17 @@ fn lead_alone(
     alloc: Global,
     kv: &Kv,
     me: &Me,
-    event: Event,
+    event: &mut Event,
     next: Next,
     now: Moment,
-) -> Result<Event, RoleStop>
+) -> Result<(), RoleStop>
     requires last { IsLast next }
-    requires may { MayAct me.now kv.now event next }
-    ensures { Acts me.now kv.now now event next result }
+    requires may { MayAct me.now kv.now event.old next }
+    ensures { Acts me.now kv.now now event.old next event.new result }
 {
     match next {
         Next::Win { quorum } => reign(alloc, kv, me, event, quorum, now),
-        _ => Ok(event),
+        _ => Ok(()),
     }
 }
 
@@ -35,28 +35,28 @@ pub(crate) fn bootstrap(
     alloc: Global,
     kv: &Kv,
     me: &Me,
-    mut event: Event,
+    event: &mut Event,
     now: Moment,
-) -> Result<Event, RoleStop>
-    requires { MayAct me.now kv.now event next.Bootstrap }
-    ensures { Acts me.now kv.now now event next.Bootstrap result }
+) -> Result<(), RoleStop>
+    requires { MayAct me.now kv.now event.old next.Bootstrap }
+    ensures { Acts me.now kv.now now event.old next.Bootstrap event.new result }
 {
     let epoch = event.epoch(alloc, kv)?;
     let plan = mon_probe::enter(alloc, kv, me, epoch, now)?;
     event.start_over(alloc, Phase::Probing);
-    let carried = event.carry_prober(alloc, plan)?;
-    lead_alone(alloc, kv, me, carried.event, carried.next, now)
+    let next = event.carry_prober(alloc, plan)?;
+    lead_alone(alloc, kv, me, event, next, now)
 }
 
 /// It calls an election, and stands in it.
-fn elect(alloc: Global, kv: &Kv, me: &Me, mut event: Event, now: Moment) -> Result<Event, RoleStop>
-    ensures { Acts me.now kv.now now event next.Elect result }
+fn elect(alloc: Global, kv: &Kv, me: &Me, event: &mut Event, now: Moment) -> Result<(), RoleStop>
+    ensures { Acts me.now kv.now now event.old next.Elect event.new result }
 {
     let epoch = event.epoch(alloc, kv)?;
     let plan = mon_elector::enter(alloc, me, epoch, &event.state.elector, now)?;
     event.start_over(alloc, Phase::Electing);
-    let carried = event.carry_elector(alloc, plan)?;
-    Ok(carried.event)
+    event.carry_elector(alloc, plan)?;
+    Ok(())
 }
 
 /// It leads this quorum.
@@ -64,18 +64,18 @@ fn reign(
     alloc: Global,
     kv: &Kv,
     me: &Me,
-    mut event: Event,
+    event: &mut Event,
     quorum: RankSet,
     now: Moment,
-) -> Result<Event, RoleStop>
-    requires { MayAct me.now kv.now event (next.Win quorum) }
-    ensures { Acts me.now kv.now now event (next.Win quorum) result }
+) -> Result<(), RoleStop>
+    requires { MayAct me.now kv.now event.old (next.Win quorum) }
+    ensures { Acts me.now kv.now now event.old (next.Win quorum) event.new result }
 {
     let epoch = event.epoch(alloc, kv)?;
     let plan = paxos_leader::enter(alloc, kv, me, epoch, quorum, now)?;
     event.enter_phase(Phase::Collecting);
-    let carried = event.carry_leader(alloc, plan)?;
-    Ok(carried.event)
+    event.carry_leader(alloc, plan)?;
+    Ok(())
 }
 
 /// It takes another monitor's store: a whole copy, or the versions that it lacks.
@@ -83,19 +83,19 @@ fn synchronize(
     alloc: Global,
     kv: &Kv,
     me: &Me,
-    mut event: Event,
+    event: &mut Event,
     from: Rank,
     full: bool,
     now: Moment,
-) -> Result<Event, RoleStop>
-    requires { MayAct me.now kv.now event (if full then next.FullSync from else next.RecentSync from) }
-    ensures { Acts me.now kv.now now event (if full then next.FullSync from else next.RecentSync from) result }
+) -> Result<(), RoleStop>
+    requires { MayAct me.now kv.now event.old (if full then next.FullSync from else next.RecentSync from) }
+    ensures { Acts me.now kv.now now event.old (if full then next.FullSync from else next.RecentSync from) event.new result }
 {
     let epoch = event.epoch(alloc, kv)?;
     let plan = sync_requester::enter(alloc, kv, me, epoch, from, full, now)?;
     event.enter_phase(Phase::Synchronizing);
-    let carried = event.carry_requester(alloc, plan)?;
-    Ok(carried.event)
+    event.carry_requester(alloc, plan)?;
+    Ok(())
 }
 
 /// The value of a command is begun.
@@ -103,17 +103,17 @@ fn begin(
     alloc: Global,
     kv: &Kv,
     me: &Me,
-    event: Event,
+    event: &mut Event,
     value: &Transaction,
     origin: &Origin,
     now: Moment,
-) -> Result<Event, RoleStop>
-    requires { MayAct me.now kv.now event (next.Begin value.now origin.now) }
-    ensures { Acts me.now kv.now now event (next.Begin value.now origin.now) result }
+) -> Result<(), RoleStop>
+    requires { MayAct me.now kv.now event.old (next.Begin value.now origin.now) }
+    ensures { Acts me.now kv.now now event.old (next.Begin value.now origin.now) event.new result }
 {
     let plan = paxos_leader::begin(alloc, kv, me, &event.state.leader, value, origin, now)?;
-    let carried = event.carry_leader(alloc, plan)?;
-    Ok(carried.event)
+    event.carry_leader(alloc, plan)?;
+    Ok(())
 }
 
 /// The act that a plan names, in the same event.
@@ -121,15 +121,15 @@ pub(crate) fn act(
     alloc: Global,
     kv: &Kv,
     me: &Me,
-    event: Event,
+    event: &mut Event,
     next: Next,
     now: Moment,
-) -> Result<Event, RoleStop>
-    requires { MayAct me.now kv.now event next }
-    ensures { Acts me.now kv.now now event next result }
+) -> Result<(), RoleStop>
+    requires { MayAct me.now kv.now event.old next }
+    ensures { Acts me.now kv.now now event.old next event.new result }
 {
     match next {
-        Next::Stay | Next::Electing | Next::Follow { .. } => Ok(event),
+        Next::Stay | Next::Electing | Next::Follow { .. } => Ok(()),
         Next::Bootstrap => bootstrap(alloc, kv, me, event, now),
         Next::Elect => elect(alloc, kv, me, event, now),
         Next::Win { quorum } => reign(alloc, kv, me, event, quorum, now),

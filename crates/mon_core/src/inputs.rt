@@ -1,6 +1,6 @@
 //! What a monitor does at each input, but where a map is to be shown.
 
-ghost use Rattle.std.specs.Prelude.{◌≡◌, ◌≤◌, ◌^◌, ◌++◌, true, false, is_some, IfOk};
+ghost use Rattle.std.specs.Prelude.{◌≡◌, ◌≤◌, ◌^◌, ◌++◌, true, false, is_some, IfOk, OnOk};
 ghost use Rattle.std.specs.List.{AllByRecursion};
 ghost use Rattle.mon_bounds.specs.Fitting.{MayCome};
 ghost use Rattle.mon_msg.specs.Protocol.Changes.{spelled};
@@ -77,35 +77,35 @@ fn count_start(
     alloc: Global,
     stored: &Stored<'_>,
     me: &Me,
-    mut event: Event,
+    event: &mut Event,
     boot: u64,
     now: Moment,
-) -> Result<Event, OutOfMemory>
+) -> Result<(), OutOfMemory>
     requires { boot ≤ 2 ^ 62 }
-    ensures goes { IfOk result (λ done. Goes event done
-        (started me.now now boot (is_some (readings_of stored.now).epoch) event.state.elector)) }
-    ensures written { IfOk result (λ done. done.tx ≡ event.tx ++ spelled (first_changes boot (is_some (readings_of stored.now).epoch))) }
+    ensures goes { OnOk result (Goes event.old event.new
+        (started me.now now boot (is_some (readings_of stored.now).epoch) event.old.state.elector)) }
+    ensures written { OnOk result (event.new.tx ≡ event.old.tx ++ spelled (first_changes boot (is_some (readings_of stored.now).epoch))) }
 {
     let elector = measuring(me, &event.state.elector, boot, now);
     let first = first_changes(alloc, stored, boot)?;
     event.write(first)?;
     event.state.elector = elector;
-    begin_to_ping(me, &mut event, now);
-    Ok(event)
+    begin_to_ping(me, event, now);
+    Ok(())
 }
 
 /// It starts, is counted, and bootstraps.
-fn start(alloc: Global, kv: &Kv, me: &Me, event: Event, now: Moment) -> Result<Event, RoleStop>
-    requires { IsReady me.now event }
-    ensures { ReachesFrom kv.now event (start me.now now) result }
+fn start(alloc: Global, kv: &Kv, me: &Me, event: &mut Event, now: Moment) -> Result<(), RoleStop>
+    requires { IsReady me.now event.old }
+    ensures { ReachesFrom kv.now event.old (start me.now now) event.new result }
 {
     let stored = Stored::of(alloc, kv);
     let boot = stored.boot() + 1;
     if boot > GREATEST {
         return Err(RoleStop::Spent { which: Which::Boot });
     }
-    let counted = count_start(alloc, &stored, me, event, boot, now)?;
-    bootstrap(alloc, kv, me, counted, now)
+    count_start(alloc, &stored, me, event, boot, now)?;
+    bootstrap(alloc, kv, me, event, now)
 }
 
 /// What comes before the start is dropped, and clients are told.
@@ -113,19 +113,19 @@ fn before_start(
     alloc: Global,
     kv: &Kv,
     me: &Me,
-    mut event: Event,
+    event: &mut Event,
     input: &Input,
     now: Moment,
-) -> Result<Event, RoleStop>
-    requires { IsReady me.now event }
-    ensures { ReachesFrom kv.now event (before_start me.now now input.now) result }
+) -> Result<(), RoleStop>
+    requires { IsReady me.now event.old }
+    ensures { ReachesFrom kv.now event.old (before_start me.now now input.now) event.new result }
 {
     match input {
         Input::Start => start(alloc, kv, me, event, now),
-        Input::Deliver(_) | Input::Timer(_) => Ok(event),
+        Input::Deliver(_) | Input::Timer(_) => Ok(()),
         Input::Client(session, _) => {
             event.reply(*session, Reply::Unavailable)?;
-            Ok(event)
+            Ok(())
         }
     }
 }
@@ -137,23 +137,23 @@ fn deliver(
     alloc: Global,
     kv: &Kv,
     me: &Me,
-    event: Event,
+    event: &mut Event,
     message: &Message,
     input: &Input,
     now: Moment,
-) -> Result<Event, RoleStop>
+) -> Result<(), RoleStop>
     requires is { input.now ≡ Input.Deliver message.now }
     requires comes { MayCome input.now }
-    requires ready { IsReady me.now event }
-    ensures { ReachesFrom kv.now event (running me.now (shared_entries kv.now) now input.now) result }
+    requires ready { IsReady me.now event.old }
+    ensures { ReachesFrom kv.now event.old (running me.now (shared_entries kv.now) now input.now) event.new result }
 {
     let heard = is_heard(me, message);
     if !heard {
-        return Ok(event);
+        return Ok(());
     }
     match role_of(input) {
         Some(role) => answer(alloc, kv, me, event, role, input, now),
-        None => Ok(event),
+        None => Ok(()),
     }
 }
 
@@ -162,17 +162,17 @@ fn ring(
     alloc: Global,
     kv: &Kv,
     me: &Me,
-    mut event: Event,
+    event: &mut Event,
     kind: Timer,
     input: &Input,
     now: Moment,
-) -> Result<Event, RoleStop>
+) -> Result<(), RoleStop>
     requires is { input.now ≡ Input.Timer kind }
-    requires ready { IsReady me.now event }
-    ensures { ReachesFrom kv.now event (running me.now (shared_entries kv.now) now input.now) result }
+    requires ready { IsReady me.now event.old }
+    ensures { ReachesFrom kv.now event.old (running me.now (shared_entries kv.now) now input.now) event.new result }
 {
     if !event.state.timers.is_armed(kind) {
-        return Ok(event);
+        return Ok(());
     }
     event.state.timers.disarm(kind);
     match role_of(input) {
@@ -186,14 +186,14 @@ fn serve(
     alloc: Global,
     kv: &Kv,
     me: &Me,
-    event: Event,
+    event: &mut Event,
     input: &Input,
     now: Moment,
-) -> Result<Event, RoleStop>
+) -> Result<(), RoleStop>
     requires role { is_some (role_of input.now) ≡ true }
     requires comes { may_come me.now.member.monitors input.now ≡ true }
-    requires ready { IsReady me.now event }
-    ensures { AnswersRow me.now kv.now now event input.now result }
+    requires ready { IsReady me.now event.old }
+    ensures { AnswersRow me.now kv.now now event.old input.now event.new result }
 {
     match role_of(input) {
         Some(role) => answer(alloc, kv, me, event, role, input, now),
@@ -212,20 +212,20 @@ pub(crate) fn run(
     alloc: Global,
     kv: &Kv,
     me: &Me,
-    event: Event,
+    event: &mut Event,
     input: &Input,
     now: Moment,
-) -> Result<Event, RoleStop>
+) -> Result<(), RoleStop>
     requires asks { asks_any_map input.now ≡ false }
     requires comes { MayCome input.now }
-    requires ready { IsReady me.now event }
-    ensures { AnswersInput me.now kv.now now event input.now result }
+    requires ready { IsReady me.now event.old }
+    ensures { AnswersInput me.now kv.now now event.old input.now event.new result }
 {
     if is_booting(event.state.phase) {
         return before_start(alloc, kv, me, event, input, now);
     }
     match input {
-        Input::Start => Ok(event),
+        Input::Start => Ok(()),
         Input::Deliver(message) => deliver(alloc, kv, me, event, message, input, now),
         Input::Timer(kind) => ring(alloc, kv, me, event, *kind, input, now),
         Input::Client(..) => serve(alloc, kv, me, event, input, now),

@@ -3,14 +3,12 @@
 ghost use Rattle.std.specs.Prelude.{◌≡◌, None, OnOk};
 ghost use Rattle.std.specs.Option.{option_copied, option_map};
 ghost use Rattle.mon_bounds.specs.Fitting.{MayCome};
-ghost use Rattle.mon_bounds.specs.Remembered.{MayRemember};
 ghost use Rattle.mon_msg.specs.Protocol.Readings.{readings_of};
 ghost use Rattle.mon_msg.specs.Protocol.State.{booting};
 ghost use Rattle.mon_msg.specs.Protocol.Timers.{due};
 ghost use Rattle.mon_wire.specs.declared.request.Service as services;
 ghost use Rattle.svc_core.specs.Cache.{Follows, known};
 ghost use Rattle.mon_core.specs.Known.{known_by_then};
-ghost use Rattle.mon_core.specs.Reacted.{DoesReact};
 ghost use Rattle.mon_core.specs.Reacts.{Comes, Reacts};
 ghost use Rattle.mon_core.specs.Rows.{IsReady};
 ghost use Rattle.mon_event.specs.State.{state_of};
@@ -33,19 +31,20 @@ use std::marker::Model;
 use std::mem;
 use svc_core::Cache;
 
-/// One monitor, but for its store: what it remembers, and the services' maps that it keeps.
+/// One monitor, but for its store: what it remembers, and the services' maps that it keeps. The event has just begun: the next
+/// input is played in it.
 #[derive(Drop)]
 pub struct Core {
     me: Me,
-    state: State,
+    event: Event,
     cache: Cache,
 }
 
 impl Model for Core {
     ghost use Rattle.std.specs.Coded.{codes};
     ghost use Rattle.map_kv.specs.contracts.map.KvMap as kv_map;
-    ghost use Rattle.mon_bounds.specs.Remembered.{MayRemember};
     ghost use Rattle.mon_core.specs.Core.{Monitor};
+    ghost use Rattle.mon_core.specs.Rows.{IsReady};
 
     ghost Value = { Monitor };
 
@@ -53,9 +52,9 @@ impl Model for Core {
 
     ghost use Rattle.mon_event.specs.State.{state_of};
 
-    ghost view = { λ c. record { me = c.me; state = state_of c.state; cache = c.cache } };
+    ghost view = { λ c. record { me = c.me; state = state_of c.event.state; cache = c.cache } };
 
-    ghost invariant = { λ c. MayRemember c.me (state_of c.state) };
+    ghost invariant = { λ c. IsReady c.me c.event };
 }
 
 /// What the core does at an input, before its transaction is joined.
@@ -64,16 +63,16 @@ fn played(
     kv: &Kv,
     me: &Me,
     cache: &mut Cache,
-    event: Event,
+    event: &mut Event,
     input: &Input,
     now: Moment,
-) -> Result<Event, CoreStop>
+) -> Result<(), CoreStop>
     requires follows { Follows cache.old (readings_of kv.now) }
     requires comes { MayCome input.now }
-    requires ready { IsReady me.now event }
-    ensures comes { Comes me.now kv.now now event input.now result }
+    requires ready { IsReady me.now event.old }
+    ensures comes { Comes me.now kv.now now event.old input.now event.new result }
     ensures known { OnOk result ((s : services.Service) → known cache.new s
-        ≡ known_by_then me.now now (readings_of kv.now) (state_of event.state) input.now s (known cache.old s)) }
+        ≡ known_by_then me.now now (readings_of kv.now) (state_of event.old.state) input.now s (known cache.old s)) }
     ensures follows { OnOk result (Follows cache.new (readings_of kv.now)) }
 {
     match input {
@@ -92,41 +91,37 @@ fn played(
     }
 }
 
-/// What the core does at an input, and what it remembers from then on.
-#[derive(Drop)]
-struct Reacted {
-    reaction: Reaction,
-    state: State,
-}
-
-/// The reaction to an input of a monitor that remembers this.
+/// The reaction to an input in an event that has just begun. Another may begin from what it leaves.
 fn react_to(
     alloc: Global,
     kv: &Kv,
     me: &Me,
     cache: &mut Cache,
-    state: State,
+    event: &mut Event,
     input: &Input,
     now: Moment,
-) -> Result<Reacted, CoreStop>
-    requires remembers { MayRemember me.now (state_of state) }
+) -> Result<Reaction, CoreStop>
     requires follows { Follows cache.old (readings_of kv.now) }
     requires comes { MayCome input.now }
-    ensures { DoesReact me.now kv.now now input.now (state_of state) cache.old cache.new result }
+    requires ready { IsReady me.now event.old }
+    ensures reacts { Reacts (record { me = me.now; state = state_of event.old.state; cache = cache.old })
+        (record { me = me.now; state = state_of event.new.state; cache = cache.new }) kv.now now input.now result }
+    ensures ready { OnOk result (IsReady me.now event.new) }
 {
-    let event = Event {
-        tx: Transaction::new(alloc),
-        out: Items::new(alloc),
-        state,
-    };
-    let done = played(alloc, kv, me, cache, event, input, now)?;
-    let tx = joined(alloc, &done.tx)?;
+    played(alloc, kv, me, cache, event, input, now)?;
+    let written = mem::replace(&mut event.tx, Transaction::new(alloc));
+    let out = mem::replace(&mut event.out, Items::new(alloc));
+    let tx = joined(alloc, &written)?;
     cache.follow(alloc, &tx)?;
-    tell_named(done.out.as_slice());
-    Ok(Reacted {
-        reaction: Reaction { tx, out: done.out },
-        state: done.state,
-    })
+    tell_named(out.as_slice());
+    Ok(Reaction { tx, out })
+}
+
+/// Nothing is left of an event that was broken off, nor of what its monitor remembered.
+fn forget(alloc: Global, me: &Me, event: &mut Event)
+    ensures { IsReady me.now event.new }
+{
+    *event = Event::begun(alloc, State::booting(alloc, me.member.rank));
 }
 
 impl Core {
@@ -140,7 +135,7 @@ impl Core {
         let state = State::booting(alloc, member.rank);
         Core {
             me: Me { member, rule },
-            state,
+            event: Event::begun(alloc, state),
             cache: Cache::empty(),
         }
     }
@@ -149,7 +144,7 @@ impl Core {
     pub fn phase(&self) -> Phase
         ensures { result ≡ self.now.state.phase }
     {
-        self.state.phase
+        self.event.state.phase
     }
 
     /// The timer that comes next, and its moment: the one armed for the least moment, and of several the first kind. `None` exactly
@@ -157,7 +152,7 @@ impl Core {
     pub fn due(&self) -> Option<(Timer, Moment)>
         ensures { result ≡ due self.now.state.timers }
     {
-        self.state.timers.due()
+        self.event.state.timers.due()
     }
 
     /// The map of a service that the core keeps, and `None` exactly where it isn't known. It takes no memory.
@@ -182,10 +177,18 @@ impl Core {
         requires comes { MayCome input.now }
         ensures { Reacts self.old self.new kv.now now input.now result }
     {
-        let booting = State::booting(alloc, self.me.member.rank);
-        let state = mem::replace(&mut self.state, booting);
-        let done = react_to(alloc, kv, &self.me, &mut self.cache, state, input, now)?;
-        self.state = done.state;
-        Ok(done.reaction)
+        let done = react_to(
+            alloc,
+            kv,
+            &self.me,
+            &mut self.cache,
+            &mut self.event,
+            input,
+            now,
+        );
+        if done.is_err() {
+            forget(alloc, &self.me, &mut self.event);
+        }
+        done
     }
 }

@@ -82,20 +82,21 @@ pub(crate) fn show(
     kv: &Kv,
     me: &Me,
     cache: &mut Cache,
-    mut event: Event,
+    event: &mut Event,
     session: Session,
     service: Service,
     now: Moment,
-) -> Result<Event, OutOfMemory>
+) -> Result<(), OutOfMemory>
     requires follows { Follows cache.old (readings_of kv.now) }
-    requires ready { IsReady me.now event }
-    ensures row { IfOk result (λ done. AnswersInput me.now kv.now now event (input.Client session (request.Show service)) (Ok done)) }
+    requires ready { IsReady me.now event.old }
+    ensures row { OnOk result (AnswersInput me.now kv.now now event.old (input.Client session (request.Show service)) event.new (Ok tt)) }
     ensures known { OnOk result ((t : services.Service) → known cache.new t
-        ≡ known_by_then me.now now (readings_of kv.now) (state_of event.state) (input.Client session (request.Show service)) t (known cache.old t)) }
+        ≡ known_by_then me.now now (readings_of kv.now) (state_of event.old.state)
+        (input.Client session (request.Show service)) t (known cache.old t)) }
     ensures follows { OnOk result (Follows cache.new (readings_of kv.now)) }
 {
     let view = view(alloc, kv, me, &event.state, now);
     let answer = told(alloc, kv, &view, cache, service)?;
     event.reply(session, answer)?;
-    Ok(event)
+    Ok(())
 }

@@ -66,7 +66,7 @@ sends old new ms e = λ w x h. along w new (say ms x) (sending ms x) (sym (sendi
 pub carries : {S : Type 0} (is : S → Course → Course) (e begun set ended : Event) (p : Plan S)
     → ((cs : List Change) → AllByRecursion Fits cs → p.tx ≡ spelled cs → Goes e begun (λ x. changed cs (stands p.next x)))
     → Goes begun set (is p.state) → Goes set ended (λ x. sending p.out (arm_all p.timers x)) → ended.tx ≡ e.tx ++ p.tx
-    → IsCarried is e p (record { event = ended; next = p.next })
+    → IsCarried is e p ended p.next
 carries is e begun set ended p first anew last written = record {
   next = refl;
   written = written;

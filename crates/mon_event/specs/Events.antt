@@ -6,13 +6,13 @@ use Rattle.mon_msg.specs.Protocol.Changes.{Change, spelled}
 use Rattle.mon_msg.specs.Protocol.Course.{Course}
 use Rattle.mon_msg.specs.Protocol.Played.{Fits, played}
 use Rattle.mon_msg.specs.Protocol.Readings.{Readings}
+use Rattle.mon_msg.specs.declared.plan.Next.{Next}
 use Rattle.mon_msg.specs.declared.plan.Plan.{Plan}
 use Rattle.mon_msg.specs.declared.plan.RoleStop.TheVariants as stop
 use Rattle.mon_msg.specs.declared.plan.RoleStop.{RoleStop}
 use Rattle.mon_types.specs.declared.names.Which.{Which}
 use Rattle.mon_plan.specs.Plans.{done}
 use Rattle.mon_event.specs.State.{state_of}
-use Rattle.mon_event.specs.declared.event.Carried.{Carried}
 use Rattle.mon_event.specs.declared.event.Event.{Event}
 
 -- The event writes, sends and remembers what the course does, and the store tells what the changes so far leave.
@@ -34,19 +34,20 @@ pub record IsReached (w : Readings) (wanted : Result Course Which) (e : Event) :
   pub under_way : IsUnderWay w e course
 
 -- it does, or it tells which number runs out; or memory ran out
-abbrev pub Reaches : Readings → Result Course Which → Result Event RoleStop → Type 0
-Reaches w wanted (Ok e) = IsReached w wanted e
-Reaches w wanted (Err stop.OutOfMemory) = Unit {0}
-Reaches w wanted (Err (stop.Spent which)) = wanted ≡ Err which
+abbrev pub Reaches : Readings → Result Course Which → Event → Result Unit RoleStop → Type 0
+Reaches w wanted e (Ok done) = IsReached w wanted e
+Reaches w wanted e (Err stop.OutOfMemory) = Unit {0}
+Reaches w wanted e (Err (stop.Spent which)) = wanted ≡ Err which
 
 -- ---- plans
 
--- A plan was carried out: its transaction is written behind what was, and is done whichever changes it spells.
-pub record IsCarried {S : Type 0} (is : S → Course → Course) (e : Event) (p : Plan S) (c : Carried) : Type 0 where
-  pub next : c.next ≡ p.next
-  pub written : c.event.tx ≡ e.tx ++ p.tx
-  pub done : (cs : List Change) → AllByRecursion Fits cs → p.tx ≡ spelled cs → Goes e c.event (done is cs p)
+-- A plan was carried out: its transaction is written behind what was, and is done whichever changes it spells. The act that it
+-- names comes next.
+pub record IsCarried {S : Type 0} (is : S → Course → Course) (old : Event) (p : Plan S) (new : Event) (n : Next) : Type 0 where
+  pub next : n ≡ p.next
+  pub written : new.tx ≡ old.tx ++ p.tx
+  pub done : (cs : List Change) → AllByRecursion Fits cs → p.tx ≡ spelled cs → Goes old new (done is cs p)
 
-abbrev pub Carries : {S : Type 0} → (S → Course → Course) → Event → Plan S → Result Carried OutOfMemory → Type 0
-Carries is e p (Ok c) = IsCarried is e p c
-Carries is e p (Err no_memory) = Unit {0}
+abbrev pub Carries : {S : Type 0} → (S → Course → Course) → (old : Event) → Plan S → (new : Event) → Result Next OutOfMemory → Type 0
+Carries is old p new (Ok n) = IsCarried is old p new n
+Carries is old p new (Err no_memory) = Unit {0}

@@ -1,9 +1,9 @@
 //! An event under way, and how a role's plan is carried out in it.
 
-ghost use Rattle.std.specs.Prelude.{◌≡◌, ◌++◌, OnOk, IfOk, List, None};
+ghost use Rattle.std.specs.Prelude.{◌≡◌, ◌++◌, OnOk, IfOk, List, [], None};
 ghost use Rattle.std.specs.List.{AllByRecursion};
 ghost use Rattle.mon_msg.specs.Protocol.Changes.{Change, spelled};
-ghost use Rattle.mon_msg.specs.Protocol.Course.{Course, in_phase, forget_clients, elector_is, prober_is, peon_is, clients_are, provider_is, requester_is};
+ghost use Rattle.mon_msg.specs.Protocol.Course.{in_phase, forget_clients, elector_is, prober_is, peon_is, clients_are, provider_is, requester_is};
 ghost use Rattle.mon_msg.specs.Protocol.Played.{Fits};
 ghost use Rattle.mon_msg.specs.Protocol.Sending.{reply_to};
 ghost use Rattle.mon_msg.specs.Protocol.Readings.{epoch_of, readings_of};
@@ -34,14 +34,18 @@ pub struct Event {
     pub state: State,
 }
 
-/// An event after a plan, and the act that the plan names.
-#[derive(Drop)]
-pub struct Carried {
-    pub event: Event,
-    pub next: Next,
-}
-
 impl Event {
+    /// One that has just begun, at a monitor that remembers this. It takes no memory.
+    pub fn begun(alloc: Global, state: State) -> Event
+        ensures { result ≡ record { tx = []; out = []; state = state } }
+    {
+        Event {
+            tx: Transaction::new(alloc),
+            out: Items::new(alloc),
+            state,
+        }
+    }
+
     /// The epoch after what is written so far.
     pub fn epoch(&self, alloc: Global, kv: &Kv) -> Result<Epoch, OutOfMemory>
         ensures { IfOk result (λ e. e ≡ epoch_of (readings_of (apply self.now.tx kv.now))) }
@@ -151,12 +155,9 @@ impl Event {
         Ok(())
     }
 
-    pub fn carry_elector(
-        mut self,
-        alloc: Global,
-        plan: Plan<Elector>,
-    ) -> Result<Carried, OutOfMemory>
-        ensures { Carries elector_is self plan result }
+    /// It carries out an elector's plan, and answers the act that the plan names.
+    pub fn carry_elector(&mut self, alloc: Global, plan: Plan<Elector>) -> Result<Next, OutOfMemory>
+        ensures { Carries elector_is self.old plan self.new result }
     {
         let Plan {
             tx,
@@ -168,11 +169,12 @@ impl Event {
         self.begin(alloc, &next, tx)?;
         self.state.elector = state;
         self.end(alloc, timers, out)?;
-        Ok(Carried { event: self, next })
+        Ok(next)
     }
 
-    pub fn carry_prober(mut self, alloc: Global, plan: Plan<Prober>) -> Result<Carried, OutOfMemory>
-        ensures { Carries prober_is self plan result }
+    /// It carries out a prober's plan, and answers the act that the plan names.
+    pub fn carry_prober(&mut self, alloc: Global, plan: Plan<Prober>) -> Result<Next, OutOfMemory>
+        ensures { Carries prober_is self.old plan self.new result }
     {
         let Plan {
             tx,
@@ -184,11 +186,12 @@ impl Event {
         self.begin(alloc, &next, tx)?;
         self.state.prober = state;
         self.end(alloc, timers, out)?;
-        Ok(Carried { event: self, next })
+        Ok(next)
     }
 
-    pub fn carry_leader(mut self, alloc: Global, plan: Plan<Leader>) -> Result<Carried, OutOfMemory>
-        ensures { Carries leads self plan result }
+    /// It carries out a leader's plan, and answers the act that the plan names.
+    pub fn carry_leader(&mut self, alloc: Global, plan: Plan<Leader>) -> Result<Next, OutOfMemory>
+        ensures { Carries leads self.old plan self.new result }
     {
         let Plan {
             tx,
@@ -200,11 +203,12 @@ impl Event {
         self.begin(alloc, &next, tx)?;
         self.state.lead(state);
         self.end(alloc, timers, out)?;
-        Ok(Carried { event: self, next })
+        Ok(next)
     }
 
-    pub fn carry_peon(mut self, alloc: Global, plan: Plan<Peon>) -> Result<Carried, OutOfMemory>
-        ensures { Carries peon_is self plan result }
+    /// It carries out a peon's plan, and answers the act that the plan names.
+    pub fn carry_peon(&mut self, alloc: Global, plan: Plan<Peon>) -> Result<Next, OutOfMemory>
+        ensures { Carries peon_is self.old plan self.new result }
     {
         let Plan {
             tx,
@@ -216,15 +220,12 @@ impl Event {
         self.begin(alloc, &next, tx)?;
         self.state.peon = state;
         self.end(alloc, timers, out)?;
-        Ok(Carried { event: self, next })
+        Ok(next)
     }
 
-    pub fn carry_clients(
-        mut self,
-        alloc: Global,
-        plan: Plan<Clients>,
-    ) -> Result<Carried, OutOfMemory>
-        ensures { Carries clients_are self plan result }
+    /// It carries out the plan of a step with clients, and answers the act that the plan names.
+    pub fn carry_clients(&mut self, alloc: Global, plan: Plan<Clients>) -> Result<Next, OutOfMemory>
+        ensures { Carries clients_are self.old plan self.new result }
     {
         let Plan {
             tx,
@@ -236,15 +237,16 @@ impl Event {
         self.begin(alloc, &next, tx)?;
         self.state.clients = state;
         self.end(alloc, timers, out)?;
-        Ok(Carried { event: self, next })
+        Ok(next)
     }
 
+    /// It carries out a provider's plan, and answers the act that the plan names.
     pub fn carry_provider(
-        mut self,
+        &mut self,
         alloc: Global,
         plan: Plan<Provider>,
-    ) -> Result<Carried, OutOfMemory>
-        ensures { Carries provider_is self plan result }
+    ) -> Result<Next, OutOfMemory>
+        ensures { Carries provider_is self.old plan self.new result }
     {
         let Plan {
             tx,
@@ -256,15 +258,16 @@ impl Event {
         self.begin(alloc, &next, tx)?;
         self.state.provider = state;
         self.end(alloc, timers, out)?;
-        Ok(Carried { event: self, next })
+        Ok(next)
     }
 
+    /// It carries out a requester's plan, and answers the act that the plan names.
     pub fn carry_requester(
-        mut self,
+        &mut self,
         alloc: Global,
         plan: Plan<Requester>,
-    ) -> Result<Carried, OutOfMemory>
-        ensures { Carries requester_is self plan result }
+    ) -> Result<Next, OutOfMemory>
+        ensures { Carries requester_is self.old plan self.new result }
     {
         let Plan {
             tx,
@@ -276,6 +279,6 @@ impl Event {
         self.begin(alloc, &next, tx)?;
         self.state.requester = state;
         self.end(alloc, timers, out)?;
-        Ok(Carried { event: self, next })
+        Ok(next)
     }
 }

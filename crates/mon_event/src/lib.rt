@@ -8,7 +8,7 @@ mod seen;
 mod state;
 mod timers;
 
-pub use event::{Carried, Event};
+pub use event::Event;
 pub use role::{Role, role_of};
 pub use seen::{is_heard, is_leading, is_peon, scores_count, view};
 pub use state::State;

@@ -8,7 +8,6 @@ use Rattle.mon_tx.specs.Map.{apply}
 use Rattle.mon_tx.specs.declared.op.Op.{Op}
 use Rattle.paxos_leader.specs.Drafts.{IsLed}
 use Rattle.mon_msg.specs.declared.plan.RoleStop.{RoleStop}
-use Rattle.mon_event.specs.declared.event.Event.{Event}
 use Rattle.mon_core.specs.Acts.{Acts}
 use Rattle.mon_core.proofs.Acting.{act_ends, act_fails, tells}
 use Rattle.mon_core.proofs.acts.begin.Goals as goal
@@ -19,21 +18,22 @@ begin-requires c = c.requires.2
 pub returns-in_err-plan : goal.returns-in_err-plan
 returns-in_err-plan c =
     let m = c.args.kv.now in
-    let e = c.args.event in
+    let e = c.args.event.now in
     let p = err_from_is_err_and c.from_residual.result c.from_residual.ensures.1 in
-    subst (λ (r : Result Event RoleStop). Acts c.args.me.now m c.args.now e (next.Begin c.args.value.now c.args.origin.now) r) (sym (p.1 ∙ ap Err p.2))
+    subst (λ (r : Result Unit RoleStop). Acts c.args.me.now m c.args.now e (next.Begin c.args.value.now c.args.origin.now) e r)
+    (sym (p.1 ∙ ap Err p.2))
     (act_fails c.args.me.now c.args.now m leads (next.Begin c.args.value.now c.args.origin.now) e (IsLed (readings_of m) e.state.leader)
     (λ x u. record {
       readings = tells m e x u ∙ ap (λ (ops : List Op). readings_of (apply ops m)) c.requires.0;
       role = ap (λ (s : State). s.leader) (sym u.state);
       phase = ap (λ (s : State). s.phase) (sym u.state) ∙ c.requires.1;
     })
-    c.in_err-plan.field-0.0 c.in_err-plan.ensures.plans)
+    e c.in_err-plan.field-0.0 c.in_err-plan.ensures.plans)
 
 pub returns : goal.returns
 returns c =
     let m = c.args.kv.now in
-    let e = c.args.event in
+    let e = c.args.event.now in
     act_ends c.args.me.now c.args.now m leads (next.Begin c.args.value.now c.args.origin.now) e (IsLed (readings_of m) e.state.leader)
     (λ x u. record {
       readings = tells m e x u ∙ ap (λ (ops : List Op). readings_of (apply ops m)) c.requires.0;
@@ -41,4 +41,4 @@ returns c =
       phase = ap (λ (s : State). s.phase) (sym u.state) ∙ c.requires.1;
     })
     e (λ w x u. u) c.in_ok-plan.plan c.in_ok-plan.ensures.plans
-    c.in_ok-carried.carried c.in_ok-carried.ensures c.in_ok-plan.ensures.stays
+    c.carry_leader.new.self c.in_ok-carry_leader.field-0 c.in_ok-carry_leader.ensures c.in_ok-plan.ensures.stays

@@ -5,7 +5,6 @@ use Rattle.mon_msg.specs.Protocol.State.{State}
 use Rattle.mon_msg.specs.declared.plan.Next.TheVariants as next
 use Rattle.mon_elector.specs.Rows.{IsCalled}
 use Rattle.mon_msg.specs.declared.plan.RoleStop.{RoleStop}
-use Rattle.mon_event.specs.declared.event.Event.{Event}
 use Rattle.mon_core.specs.Acts.{Acts}
 use Rattle.mon_core.proofs.Acting.{act_ends, act_fails, tells_epoch}
 use Rattle.mon_core.proofs.acts.elect.Goals as goal
@@ -13,18 +12,18 @@ use Rattle.mon_core.proofs.acts.elect.Goals as goal
 pub returns-in_err-plan : goal.returns-in_err-plan
 returns-in_err-plan c =
     let m = c.args.kv.now in
-    let e = c.args.event in
+    let e = c.args.event.now in
     let p = err_from_is_err_and c.from_residual-in_err-plan.result c.from_residual-in_err-plan.ensures.1 in
-    subst (λ (r : Result Event RoleStop). Acts c.args.me.now m c.args.now e next.Elect r) (sym (p.1 ∙ ap Err p.2))
+    subst (λ (r : Result Unit RoleStop). Acts c.args.me.now m c.args.now e next.Elect e r) (sym (p.1 ∙ ap Err p.2))
     (act_fails c.args.me.now c.args.now m elector_is next.Elect e (IsCalled c.in_ok-epoch.epoch e.state.elector)
     (λ x u. record { epoch = tells_epoch m e x u c.in_ok-epoch.epoch c.in_ok-epoch.ensures; role = ap (λ (s : State). s.elector) (sym u.state) })
-    c.in_err-plan.field-0.0 c.in_err-plan.ensures.plans)
+    e c.in_err-plan.field-0.0 c.in_err-plan.ensures.plans)
 
 pub returns : goal.returns
 returns c =
     let m = c.args.kv.now in
-    let e = c.args.event in
+    let e = c.args.event.now in
     act_ends c.args.me.now c.args.now m elector_is next.Elect e (IsCalled c.in_ok-epoch.epoch e.state.elector)
     (λ x u. record { epoch = tells_epoch m e x u c.in_ok-epoch.epoch c.in_ok-epoch.ensures; role = ap (λ (s : State). s.elector) (sym u.state) })
     c.start_over.new.self c.start_over.ensures.goes c.in_ok-plan.plan c.in_ok-plan.ensures.plans
-    c.in_ok-carried.carried c.in_ok-carried.ensures c.in_ok-plan.ensures.stays
+    c.carry_elector.new.self c.in_ok-carry_elector.field-0 c.in_ok-carry_elector.ensures c.in_ok-plan.ensures.stays

@@ -32,24 +32,25 @@ enters false from e begun h = h
 pub returns-in_err-plan : goal.returns-in_err-plan
 returns-in_err-plan c =
     let m = c.args.kv.now in
-    let e = c.args.event in
+    let e = c.args.event.now in
     let p = err_from_is_err_and c.from_residual-in_err-plan.result c.from_residual-in_err-plan.ensures.1 in
-    subst (λ (r : Result Event RoleStop). Acts c.args.me.now m c.args.now e (copying c.args.full c.args.from) r) (sym (p.1 ∙ ap Err p.2))
+    subst (λ (r : Result Unit RoleStop). Acts c.args.me.now m c.args.now e (copying c.args.full c.args.from) e r) (sym (p.1 ∙ ap Err p.2))
     (act_fails c.args.me.now c.args.now m requester_is (copying c.args.full c.args.from) e (IsEntering c.in_ok-epoch.epoch (readings_of m))
     (λ x u. record {
       epoch = tells_epoch m e x u c.in_ok-epoch.epoch c.in_ok-epoch.ensures;
       kept = kept m e x u (keeps c.args.full c.args.from c.args.me.now m e c.requires);
     })
-    c.in_err-plan.field-0.0 c.in_err-plan.ensures.plans)
+    e c.in_err-plan.field-0.0 c.in_err-plan.ensures.plans)
 
 pub returns : goal.returns
 returns c =
     let m = c.args.kv.now in
-    let e = c.args.event in
+    let e = c.args.event.now in
     act_ends c.args.me.now c.args.now m requester_is (copying c.args.full c.args.from) e (IsEntering c.in_ok-epoch.epoch (readings_of m))
     (λ x u. record {
       epoch = tells_epoch m e x u c.in_ok-epoch.epoch c.in_ok-epoch.ensures;
       kept = kept m e x u (keeps c.args.full c.args.from c.args.me.now m e c.requires);
     })
     c.enter_phase.new.self (enters c.args.full c.args.from e c.enter_phase.new.self c.enter_phase.ensures.goes)
-    c.in_ok-plan.plan c.in_ok-plan.ensures.plans c.in_ok-carried.carried c.in_ok-carried.ensures c.in_ok-plan.ensures.stays
+    c.in_ok-plan.plan c.in_ok-plan.ensures.plans
+    c.carry_requester.new.self c.in_ok-carry_requester.field-0 c.in_ok-carry_requester.ensures c.in_ok-plan.ensures.stays

@@ -17,7 +17,7 @@ use Rattle.mon_core.proofs.inputs.count_start.Goals as goal
 pub returns-clause-goes : goal.returns-clause-goes
 returns-clause-goes c =
     let me = c.args.me.now in
-    let e = c.args.event in
+    let e = c.args.event.now in
     let cs = first_changes c.args.boot (is_some (readings_of c.args.stored.now).epoch) in
     let elector : Elector = first_elector me c.args.now c.args.boot e.state.elector in
     let written = c.write.new.self in
@@ -32,4 +32,4 @@ returns-clause-goes c =
 pub returns-clause-written : goal.returns-clause-written
 returns-clause-written c =
     c.begin_to_ping.ensures.written ∙ ap (λ (e : Event). e.tx) c.in_ok-write.ensures
-    ∙ ap (λ (ops : List Op). c.args.event.tx ++ ops) c.in_ok-first.ensures.changes
+    ∙ ap (λ (ops : List Op). c.args.event.now.tx ++ ops) c.in_ok-first.ensures.changes

@@ -16,8 +16,8 @@ pub returns-then-not-heard : goal.returns-then-not-heard
 returns-then-not-heard c =
     let me = c.args.me.now in
     let m = c.args.kv.now in
-    let x = at_rest (readings_of m) (state_of c.args.event.state) in
-    drops me m c.args.event c.requires.ready (running me (shared_entries m) c.args.now c.args.input.now x)
+    let x = at_rest (readings_of m) (state_of c.args.event.now.state) in
+    drops me m c.args.event.now c.requires.ready (running me (shared_entries m) c.args.now c.args.input.now x)
     (ap (λ (came : Input). running me (shared_entries m) c.args.now came x) c.requires.is
     ∙ not_heard me (shared_entries m) c.args.now c.args.message.now x (sym c.is_heard-heard.ensures ∙ c.if-not-heard.true))
 
@@ -35,8 +35,8 @@ pub returns-in-Some : goal.returns-in-Some
 returns-in-Some c =
     let me = c.args.me.now in
     let m = c.args.kv.now in
-    let x = at_rest (readings_of m) (state_of c.args.event.state) in
-    subst (λ (r : Result Course Which). Reaches (readings_of m) r c.answer.result)
+    let x = at_rest (readings_of m) (state_of c.args.event.now.state) in
+    subst (λ (r : Result Course Which). Reaches (readings_of m) r c.answer.new.event c.answer.result)
     (sym
     (ap (λ (came : Input). running me (shared_entries m) c.args.now came x) c.requires.is
     ∙ heard me (shared_entries m) c.args.now c.args.message.now x (sym c.is_heard-heard.ensures ∙ c.if-not-heard.false)
@@ -47,8 +47,8 @@ pub returns-in-None : goal.returns-in-None
 returns-in-None c =
     let me = c.args.me.now in
     let m = c.args.kv.now in
-    let x = at_rest (readings_of m) (state_of c.args.event.state) in
-    drops me m c.args.event c.requires.ready (running me (shared_entries m) c.args.now c.args.input.now x)
+    let x = at_rest (readings_of m) (state_of c.args.event.now.state) in
+    drops me m c.args.event.now c.requires.ready (running me (shared_entries m) c.args.now c.args.input.now x)
     (ap (λ (came : Input). running me (shared_entries m) c.args.now came x) c.requires.is
     ∙ nobodys me (shared_entries m) c.args.now c.args.message.now x (sym c.is_heard-heard.ensures ∙ c.if-not-heard.false)
     (sym (ap role_of c.requires.is) ∙ sym c.role_of.ensures ∙ c.in-None.is))

@@ -15,8 +15,8 @@ pub returns-then-not-is_armed : goal.returns-then-not-is_armed
 returns-then-not-is_armed c =
     let me = c.args.me.now in
     let m = c.args.kv.now in
-    let x = at_rest (readings_of m) (state_of c.args.event.state) in
-    drops me m c.args.event c.requires.ready (running me (shared_entries m) c.args.now c.args.input.now x)
+    let x = at_rest (readings_of m) (state_of c.args.event.now.state) in
+    drops me m c.args.event.now c.requires.ready (running me (shared_entries m) c.args.now c.args.input.now x)
     (ap (λ (came : Input). running me (shared_entries m) c.args.now came x) c.requires.is
     ∙ not_armed me (shared_entries m) c.args.now c.args.kind x (sym c.is_armed.ensures ∙ c.if-not-is_armed.true))
 
@@ -47,9 +47,9 @@ returns c =
     let me = c.args.me.now in
     let m = c.args.kv.now in
     let w = readings_of m in
-    let s = state_of c.args.event.state in
+    let s = state_of c.args.event.now.state in
     let x = at_rest w s in
-    subst (λ (r : Result Course Which). Reaches w r c.answer.result)
+    subst (λ (r : Result Course Which). Reaches w r c.answer.new.event c.answer.result)
     (sym
     (ap (λ (came : Input). running me (shared_entries m) c.args.now came x) c.requires.is
     ∙ armed me (shared_entries m) c.args.now c.args.kind x (sym c.is_armed.ensures ∙ c.if-not-is_armed.false)

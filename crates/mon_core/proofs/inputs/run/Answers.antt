@@ -14,8 +14,8 @@ pub returns-then-is_booting : goal.returns-then-is_booting
 returns-then-is_booting c =
     let m = c.args.kv.now in
     let w = readings_of m in
-    let s = state_of c.args.event.state in
-    subst (λ (r : Result Course Which). Reaches w r c.before_start.result)
+    let s = state_of c.args.event.now.state in
+    subst (λ (r : Result Course Which). Reaches w r c.before_start.new.event c.before_start.result)
     (sym (not_started c.args.me.now (shared_entries m) c.args.now w s c.args.input.now (sym c.is_booting.ensures ∙ c.if-is_booting.true)))
     c.before_start.ensures
 
@@ -24,8 +24,8 @@ returns-in-Start c =
     let me = c.args.me.now in
     let m = c.args.kv.now in
     let w = readings_of m in
-    let s = state_of c.args.event.state in
-    drops me m c.args.event c.requires.ready (react me (shared_entries m) c.args.now w s c.args.input.now)
+    let s = state_of c.args.event.now.state in
+    drops me m c.args.event.now c.requires.ready (react me (shared_entries m) c.args.now w s c.args.input.now)
     (started me (shared_entries m) c.args.now w s c.args.input.now (sym c.is_booting.ensures ∙ c.if-is_booting.false)
     ∙ ap (λ (came : Input). running me (shared_entries m) c.args.now came (at_rest w s)) c.in-Start.is)
 
@@ -33,8 +33,8 @@ pub returns-in-Deliver : goal.returns-in-Deliver
 returns-in-Deliver c =
     let m = c.args.kv.now in
     let w = readings_of m in
-    let s = state_of c.args.event.state in
-    subst (λ (r : Result Course Which). Reaches w r c.deliver.result)
+    let s = state_of c.args.event.now.state in
+    subst (λ (r : Result Course Which). Reaches w r c.deliver.new.event c.deliver.result)
     (sym (started c.args.me.now (shared_entries m) c.args.now w s c.args.input.now (sym c.is_booting.ensures ∙ c.if-is_booting.false)))
     c.deliver.ensures
 
@@ -42,8 +42,8 @@ pub returns-in-Timer : goal.returns-in-Timer
 returns-in-Timer c =
     let m = c.args.kv.now in
     let w = readings_of m in
-    let s = state_of c.args.event.state in
-    subst (λ (r : Result Course Which). Reaches w r c.ring.result)
+    let s = state_of c.args.event.now.state in
+    subst (λ (r : Result Course Which). Reaches w r c.ring.new.event c.ring.result)
     (sym (started c.args.me.now (shared_entries m) c.args.now w s c.args.input.now (sym c.is_booting.ensures ∙ c.if-is_booting.false)))
     c.ring.ensures
 
@@ -52,8 +52,8 @@ returns-in-Client c =
     let me = c.args.me.now in
     let m = c.args.kv.now in
     let w = readings_of m in
-    let s = state_of c.args.event.state in
-    subst (λ (r : Result Course Which). Reaches w r c.serve.result)
+    let s = state_of c.args.event.now.state in
+    subst (λ (r : Result Course Which). Reaches w r c.serve.new.event c.serve.result)
     (sym
     (started me (shared_entries m) c.args.now w s c.args.input.now (sym c.is_booting.ensures ∙ c.if-is_booting.false)
     ∙ ap (λ (came : Input). running me (shared_entries m) c.args.now came (at_rest w s)) c.in-Client.is

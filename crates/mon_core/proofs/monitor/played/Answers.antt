@@ -13,5 +13,5 @@ returns-in_ok-run-in-Set-clause-known c =
     let k = known c.args.cache.now s in
     let none : asks_any_map c.args.input.now ≡ false = search rules in
     sym
-    (unasked (is_shown c.args.me.now c.args.now w (state_of c.args.event.state)) (asks_for s c.args.input.now) (known_once_read w s k) k
+    (unasked (is_shown c.args.me.now c.args.now w (state_of c.args.event.now.state)) (asks_for s c.args.input.now) (known_once_read w s k) k
     (asks_none c.args.input.now none s))

@@ -4,7 +4,6 @@ use Rattle.mon_msg.specs.Protocol.Course.{clients_are}
 use Rattle.mon_msg.specs.Protocol.Readings.{shared_entries}
 use Rattle.mon_msg.specs.Protocol.State.{State}
 use Rattle.mon_msg.specs.declared.plan.RoleStop.{RoleStop}
-use Rattle.mon_event.specs.declared.event.Event.{Event}
 use Rattle.mon_core.specs.Rows.{AnswersRow}
 use Rattle.mon_event.specs.declared.role.Role.TheVariants as role
 use Rattle.mon_core.proofs.Acting.{row_fails, row_goes_on}
@@ -28,23 +27,23 @@ pub act-requires : goal.act-requires
 act-requires c =
     let m = c.args.kv.now in
     let d = c.in_ok-plan.ensures.plans (shared_entries m) in
-    may_act clients_are on c.args.me.now m c.args.event c.requires.ready c.in_ok-plan.plan d.changes d.fit d.spelled
-    c.in_ok-carried.carried c.in_ok-carried.ensures c.view-view.result.phase c.view-view.ensures.phase c.in_ok-plan.ensures.leaves
+    may_act clients_are on c.args.me.now m c.args.event.now c.requires.ready c.in_ok-plan.plan d.changes d.fit d.spelled
+    c.carry_clients.new.self c.in_ok-next.next c.in_ok-next.ensures c.view-view.result.phase c.view-view.ensures.phase c.in_ok-plan.ensures.leaves
 
 pub returns-in_err-plan : goal.returns-in_err-plan
 returns-in_err-plan c =
     let me = c.args.me.now in
     let m = c.args.kv.now in
-    let e = c.args.event in
+    let e = c.args.event.now in
     let came = c.args.input.now in
     let p = err_from_is_err_and c.from_residual.result c.from_residual.ensures.1 in
-    subst (λ (r : Result Event RoleStop). AnswersRow me m c.args.now e came r) (sym (p.1 ∙ ap Err p.2))
+    subst (λ (r : Result Unit RoleStop). AnswersRow me m c.args.now e came e r) (sym (p.1 ∙ ap Err p.2))
     (row_fails me c.args.now m clients_are (λ (s : State). s.clients) e c.requires.ready came c.view-view.result c.view-view.ensures
-    c.in_err-plan.field-0.0 (c.in_err-plan.ensures.plans (shared_entries m)))
+    e c.in_err-plan.field-0.0 (c.in_err-plan.ensures.plans (shared_entries m)))
 
 pub returns : goal.returns
 returns c =
     let m = c.args.kv.now in
-    row_goes_on c.args.me.now c.args.now m clients_are (λ (s : State). s.clients) c.args.event c.requires.ready c.args.input.now
+    row_goes_on c.args.me.now c.args.now m clients_are (λ (s : State). s.clients) c.args.event.now c.requires.ready c.args.input.now
     c.view-view.result c.view-view.ensures c.in_ok-plan.plan (c.in_ok-plan.ensures.plans (shared_entries m))
-    c.in_ok-carried.carried c.in_ok-carried.ensures c.act.result c.act.ensures
+    c.carry_clients.new.self c.in_ok-next.next c.in_ok-next.ensures c.act.new.event c.act.result c.act.ensures

@@ -13,7 +13,7 @@ returns-clause-row c =
     let me = c.args.me.now in
     let m = c.args.kv.now in
     let w = readings_of m in
-    let s = state_of c.args.event.state in
+    let s = state_of c.args.event.now.state in
     let x = at_rest w s in
     let session = c.args.session in
     record {
@@ -22,5 +22,5 @@ returns-clause-row c =
           shows me (shared_entries m) c.args.now w s session c.args.service
           ∙ ap (λ (r : Reply). Ok (reply_to session r x))
           (sym (c.in_ok-answer.ensures.reply ∙ told_seen me c.args.now w s c.view-view.result c.view-view.ensures c.args.service));
-      under_way = c.in_ok-reply.ensures w x (rests me m c.args.event c.requires.ready);
+      under_way = c.in_ok-reply.ensures w x (rests me m c.args.event.now c.requires.ready);
     }

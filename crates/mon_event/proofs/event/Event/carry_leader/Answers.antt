@@ -11,7 +11,7 @@ returns c =
     let begun = c.begin.new.self in
     let p = c.args.plan in
     let set : Event = record begun { state = c.lead.new.self } in
-    carries leads c.args.self begun set c.end.new.self p c.in_ok-begin.ensures.goes
+    carries leads c.args.self.now begun set c.end.new.self p c.in_ok-begin.ensures.goes
     (remembers begun set
     (λ (s : State). record s { phase = phase_as p.state.stage s.phase; timers = timers_in (phase_as p.state.stage s.phase) s; leader = p.state })
     refl refl c.lead.ensures)

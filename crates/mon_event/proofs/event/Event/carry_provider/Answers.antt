@@ -10,6 +10,6 @@ returns c =
     let begun = c.begin.new.self in
     let p = c.args.plan in
     let set : Event = record begun { state = record begun.state { provider = p.state } } in
-    carries provider_is c.args.self begun set c.end.new.self p c.in_ok-begin.ensures.goes
+    carries provider_is c.args.self.now begun set c.end.new.self p c.in_ok-begin.ensures.goes
     (remembers begun set (λ (s : State). record s { provider = p.state }) refl refl refl) c.in_ok-end.ensures.goes
     (c.in_ok-end.ensures.written ∙ c.in_ok-begin.ensures.written)

@@ -10,6 +10,6 @@ returns c =
     let begun = c.begin.new.self in
     let p = c.args.plan in
     let set : Event = record begun { state = record begun.state { requester = p.state } } in
-    carries requester_is c.args.self begun set c.end.new.self p c.in_ok-begin.ensures.goes
+    carries requester_is c.args.self.now begun set c.end.new.self p c.in_ok-begin.ensures.goes
     (remembers begun set (λ (s : State). record s { requester = p.state }) refl refl refl) c.in_ok-end.ensures.goes
     (c.in_ok-end.ensures.written ∙ c.in_ok-begin.ensures.written)

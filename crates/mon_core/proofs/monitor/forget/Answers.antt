@@ -1,0 +1,5 @@
+use Rattle.mon_core.proofs.Reacting.{rests_ready}
+use Rattle.mon_core.proofs.monitor.forget.Goals as goal
+
+pub returns : goal.returns
+returns c = rests_ready c.args.me.now c.booting.result c.booting.ensures c.begun.result c.begun.ensures
