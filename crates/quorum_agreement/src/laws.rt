@@ -32,8 +32,8 @@ pub fn law_agree()
 pub fn law_marked()
     ensures told { (ms : Monitors) (events : List Event) → AllFit ms.count events → (e : Envelope) → Contains (run ms events).messages e
         → TellsLog (run ms events).log e.message.body }
-    ensures copied { (ms : Monitors) (events : List Event) → AllFit ms.count events → (i : ℕ) → i < ms.count → is_marked ((run ms events).store i) ≡ true
-        → IsCopying (run ms events).log ((run ms events).store i) ((run ms events).state i) }
+    ensures copied { (ms : Monitors) (events : List Event) → AllFit ms.count events → (i : ℕ) → i < ms.count
+        → is_marked ((run ms events).store i) ≡ true → IsCopying (run ms events).log ((run ms events).store i) ((run ms events).state i) }
 {}
 
 /// Every run of any monitors under any rule is safe, whatever is lost, repeated or late and wherever monitors crash: no two monitors
