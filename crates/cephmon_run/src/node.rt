@@ -27,7 +27,10 @@ pub fn run_node<D: Disk, L: Link, C: Clock>(
     clock: &mut C,
     turns: u64,
 ) -> Ended<D>
-    ensures { NodeCause D.state me.now turns (record { disks = disks; link = L.state link.old; clock = C.left clock.old }) (record { disks = result.disks; link = L.state link.new; clock = C.left clock.new }) result.status }
+    ensures { NodeCause D.state me.now turns
+        (record { disks = disks; link = L.state link.old; clock = C.left clock.old })
+        (record { disks = result.disks; link = L.state link.new; clock = C.left clock.new })
+        result.status }
 {
     match Store::open(alloc, disks, me.member) {
         Ok(store) => {

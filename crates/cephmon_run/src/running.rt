@@ -25,7 +25,7 @@ use std::alloc::Global;
 use task_words::{Task, WordsStop, read_words};
 
 /// One more byte than a schedule may have.
-const MOST_READ: usize = 16777217;
+const MOST_READ: usize = 16_777_217;
 
 /// The schedule that the bytes spell, or the status that says why there is none.
 fn schedule_of(alloc: Global, bytes: &[u8]) -> Result<Schedule, Status>

@@ -100,7 +100,8 @@ fn ask<L: Link, C: Clock>(
 ) -> Result<Option<TimedInput>, NodeEnd>
     ensures heard { let old = outside_of assembly.old (C.left clock.old) (L.state link.old).told in
         (answer : Result gots stops) × (later : ℕ) × AreAnswers old answer later
-        × Hears (answer_came monitors later answer (link_asked wait answer old)) result (outside_of assembly.new (C.left clock.new) (L.state link.new).told) }
+        × Hears (answer_came monitors later answer (link_asked wait answer old)) result
+        (outside_of assembly.new (C.left clock.new) (L.state link.new).told) }
     ensures comes { IfOk result (λ came. IfSome came (λ it. MayCome it.input)) }
     ensures faults { (L.state link.new).faults ≡ faults_by result (L.state link.old).faults }
 {
@@ -129,7 +130,8 @@ pub(crate) fn hear<L: Link, C: Clock>(
     clock: &mut C,
 ) -> Result<Option<TimedInput>, NodeEnd>
     ensures heard { let old = outside_of assembly.old (C.left clock.old) (L.state link.old).told in
-        (g : Given) × IsGiven next.now g old × Hears (heard monitors next.now g old) result (outside_of assembly.new (C.left clock.new) (L.state link.new).told) }
+        (g : Given) × IsGiven next.now g old
+        × Hears (heard monitors next.now g old) result (outside_of assembly.new (C.left clock.new) (L.state link.new).told) }
     ensures comes { IfOk result (λ came. IfSome came (λ it. MayCome it.input)) }
     ensures faults { (L.state link.new).faults ≡ faults_by result (L.state link.old).faults }
 {

@@ -23,7 +23,8 @@ fn change<D: Disk>(store: &mut Store<D>, tx: &Transaction) -> Result<(), NodeEnd
     ensures unbroken { OnOk result (store.new.broken ≡ false) }
     ensures keeps { Keeps tx.now store.old.kv store.new.kv result }
     ensures stands { OnOk result (stood_of store.new ≡ changed tx.now (stood_of store.old)) }
-    ensures counts { DisksCount result (D.state (disk_a store.old)).faults (D.state (disk_b store.old)).faults (D.state (disk_a store.new)).faults (D.state (disk_b store.new)).faults }
+    ensures counts { DisksCount result (D.state (disk_a store.old)).faults (D.state (disk_b store.old)).faults
+        (D.state (disk_a store.new)).faults (D.state (disk_b store.new)).faults }
     ensures full { IfErr result (λ end. StaysIfFull end (disk_a store.old) (disk_b store.old) (disk_a store.new) (disk_b store.new)) }
     ensures tells { BothTell (disks_of D.state store.old) → BothTell (disks_of D.state store.new) }
 
@@ -49,7 +50,8 @@ fn renew<D: Disk>(store: &mut Store<D>) -> Result<(), NodeEnd>
     ensures map { store.new.kv ≡ store.old.kv }
     ensures stands { OnOk result (stood_of store.new ≡ renewed (stood_of store.old)) }
     ensures stop { IfErr result IsOfDisk }
-    ensures counts { DisksCount result (D.state (disk_a store.old)).faults (D.state (disk_b store.old)).faults (D.state (disk_a store.new)).faults (D.state (disk_b store.new)).faults }
+    ensures counts { DisksCount result (D.state (disk_a store.old)).faults (D.state (disk_b store.old)).faults
+        (D.state (disk_a store.new)).faults (D.state (disk_b store.new)).faults }
     ensures tells { BothTell (disks_of D.state store.old) → BothTell (disks_of D.state store.new) }
 
     // A crash at any moment leaves the store as it stood, or behind the checkpoint that is due.
@@ -73,9 +75,11 @@ pub(crate) fn keep<D: Disk>(store: &mut Store<D>, tx: &Transaction) -> Result<()
     ensures unbroken { OnOk result (store.new.broken ≡ false) }
     ensures keeps { Keeps tx.now store.old.kv store.new.kv result }
     ensures stands { OnOk result (stood_of store.new ≡ kept tx.now (stood_of store.old)) }
-    ensures counts { DisksCount result (D.state (disk_a store.old)).faults (D.state (disk_b store.old)).faults (D.state (disk_a store.new)).faults (D.state (disk_b store.new)).faults }
+    ensures counts { DisksCount result (D.state (disk_a store.old)).faults (D.state (disk_b store.old)).faults
+        (D.state (disk_a store.new)).faults (D.state (disk_b store.new)).faults }
     ensures full { IfErr result (λ end. StaysIfFull end (disk_a store.old) (disk_b store.old) (disk_a store.new) (disk_b store.new)) }
-    ensures passes { BothTell (disks_of D.state store.old) → Pass (IsWithin tx.now (stood_of store.old)) (disks_of D.state store.old) (disks_of D.state store.new) }
+    ensures passes { BothTell (disks_of D.state store.old)
+        → Pass (IsWithin tx.now (stood_of store.old)) (disks_of D.state store.old) (disks_of D.state store.new) }
 {
     change(store, tx)?;
     renew(store)?;

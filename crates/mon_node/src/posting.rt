@@ -96,7 +96,8 @@ fn answer_in(
     id: u64,
     reply: &Reply,
 ) -> Result<Message, OutOfMemory>
-    ensures { IfOk result (λ m. m ≡ record { from = me.now.member.rank; monitors = me.now.member.monitors; epoch = epoch; body = body.Reply id reply.now }) }
+    ensures { IfOk result (λ m. m ≡
+        record { from = me.now.member.rank; monitors = me.now.member.monitors; epoch = epoch; body = body.Reply id reply.now }) }
 {
     Ok(Message {
         from: me.member.rank,

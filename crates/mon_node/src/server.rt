@@ -48,7 +48,8 @@ impl<D: Disk> Server<D> {
         ensures in_use { IsInUse D.state result }
         ensures me { result.me ≡ me.now }
         ensures store { result.store ≡ store }
-        ensures serving { (clock : Option Readings) (link : Option Told) → serving_of result clock link ≡ unstarted me.now.member.rank (stood_of store) clock link }
+        ensures serving { (clock : Option Readings) (link : Option Told)
+            → serving_of result clock link ≡ unstarted me.now.member.rank (stood_of store) clock link }
     {
         Server {
             alloc,
@@ -71,11 +72,16 @@ impl<D: Disk> Server<D> {
         requires comes { MayCome input.now }
         ensures in_use { OnOk result (IsInUse D.state self.new) }
         ensures me { self.new.me ≡ self.old.me }
-        ensures ends { (clock : Option Readings) → EndsTurn self.old.me (record { came = Ok (Some (at_moment now input.now)); serving = serving_of self.old clock (L.state link.old).told }) result (serving_of self.new clock (L.state link.new).told) }
+        ensures ends { (clock : Option Readings) → EndsTurn self.old.me
+            (record { came = Ok (Some (at_moment now input.now)); serving = serving_of self.old clock (L.state link.old).told })
+            result (serving_of self.new clock (L.state link.new).told) }
         ensures kind { IfErr result IsOfInput }
         ensures faults { (L.state link.new).faults ≡ (L.state link.old).faults }
-        ensures counts { DisksCount result (D.state (disk_a self.old.store)).faults (D.state (disk_b self.old.store)).faults (D.state (disk_a self.new.store)).faults (D.state (disk_b self.new.store)).faults }
-        ensures passes { (clock : Option Readings) → BothTell (disks_of D.state self.old.store) → PassTurn self.old.me (record { came = Ok (Some (at_moment now input.now)); serving = serving_of self.old clock (L.state link.old).told }) result (L.state link.new).told (disks_of D.state self.old.store) (disks_of D.state self.new.store) }
+        ensures counts { DisksCount result (D.state (disk_a self.old.store)).faults (D.state (disk_b self.old.store)).faults
+            (D.state (disk_a self.new.store)).faults (D.state (disk_b self.new.store)).faults }
+        ensures passes { (clock : Option Readings) → BothTell (disks_of D.state self.old.store) → PassTurn self.old.me
+            (record { came = Ok (Some (at_moment now input.now)); serving = serving_of self.old clock (L.state link.old).told })
+            result (L.state link.new).told (disks_of D.state self.old.store) (disks_of D.state self.new.store) }
     {
         let reaction = self.core.react(self.alloc, self.store.kv(), input, now)?;
         keep(&mut self.store, &reaction.tx)?;
@@ -102,9 +108,11 @@ impl<D: Disk> Server<D> {
         ensures turn { let old = serving_of self.old (C.left clock.old) (L.state link.old).told in let disks = disks_of D.state self.old.store in
             (g : Given) × IsGiven (due self.old.core.state.timers) g old.outside
             × EndsTurn self.old.me (turn self.old.me g old) result (serving_of self.new (C.left clock.new) (L.state link.new).told)
-            × (BothTell disks → PassTurn self.old.me (turn self.old.me g old) result (L.state link.new).told disks (disks_of D.state self.new.store)) }
+            × (BothTell disks → PassTurn self.old.me (turn self.old.me g old) result (L.state link.new).told disks
+            (disks_of D.state self.new.store)) }
         ensures faults { (L.state link.new).faults ≡ faults_by result (L.state link.old).faults }
-        ensures counts { DisksCount result (D.state (disk_a self.old.store)).faults (D.state (disk_b self.old.store)).faults (D.state (disk_a self.new.store)).faults (D.state (disk_b self.new.store)).faults }
+        ensures counts { DisksCount result (D.state (disk_a self.old.store)).faults (D.state (disk_b self.old.store)).faults
+            (D.state (disk_a self.new.store)).faults (D.state (disk_b self.new.store)).faults }
     {
         let next = self.core.due();
         let came = hear(

@@ -48,7 +48,8 @@ pub fn serve<D: Disk, L: Link, C: Clock>(
         × (BothTell old → StandsThrough (record { member = member; rule = rule }) first start given result.end (L.state link.new).told old new) }
 
     ensures faults { (L.state link.new).faults ≡ faults_at result.end (L.state link.old).faults }
-    ensures counts { DisksCountAt result.end (D.state (disk_a store)).faults (D.state (disk_b store)).faults (D.state result.disks.a).faults (D.state result.disks.b).faults }
+    ensures counts { DisksCountAt result.end
+        (D.state (disk_a store)).faults (D.state (disk_b store)).faults (D.state result.disks.a).faults (D.state result.disks.b).faults }
 {
     let me = Me { member, rule };
     let mut server = Server::new(alloc, store, &me);

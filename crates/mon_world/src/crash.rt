@@ -65,7 +65,8 @@ fn end_with(
 ) -> Result<Fallen, WorldStop>
     requires falls { Falling upset store }
     requires short { length (text tx.now) ≤ most }
-    ensures { (member : Member) (m : Map) (f : Files) → IsFalling upset.disk upset.call upset.image member m f store → EndsWith upset member m f tx.now result }
+    ensures { (member : Member) (m : Map) (f : Files) → IsFalling upset.disk upset.call upset.image member m f store
+        → EndsWith upset member m f tx.now result }
 {
     let written = written_by(alloc, &store, tx)?;
     match finish(store, tx, upset) {
@@ -90,7 +91,8 @@ fn end(
     requires falls { Falling upset store }
     requires follows { Follows core.old.cache (readings_of store.kv) }
     requires comes { MayCome input.now }
-    ensures { (m : Map) (f : Files) → IsFalling upset.disk upset.call upset.image core.old.me.member m f store → Ends upset core.old.me.member m f (reaction core.old.me now m core.old.state input.now) result }
+    ensures { (m : Map) (f : Files) → IsFalling upset.disk upset.call upset.image core.old.me.member m f store
+        → Ends upset core.old.me.member m f (reaction core.old.me now m core.old.state input.now) result }
 {
     let reaction = core.react(alloc, store.kv(), input, now)?;
     end_with(alloc, store, &reaction.tx, upset)
@@ -130,7 +132,8 @@ pub(crate) fn fall(
     requires first { 1 ≤ upset.call }
     requires most { upset.call ≤ 65535 }
     requires image { upset.image ≤ 3 }
-    ensures { (m : Map) (f : Files) → Rests member m f disks.a disks.b → Falls upset member m f input.now (reaction core.old.me now m core.old.state input.now) result }
+    ensures { (m : Map) (f : Files) → Rests member m f disks.a disks.b
+        → Falls upset member m f input.now (reaction core.old.me now m core.old.state input.now) result }
 {
     let opening = opening_count(&mut disks, upset.disk)?;
     let from = counted_from(upset, input, opening);

@@ -55,7 +55,8 @@ fn take_turn(
 ) -> Result<Turn, WorldStop>
     requires up { StandingUp monitor.old }
     requires comes { MayCome input.now }
-    ensures { (me : Me) (m : Map) (s : State) (f : Files) → Stands me m (Some s) f monitor.old → Turns me at m s f before input.now monitor.new result }
+    ensures { (me : Me) (m : Map) (s : State) (f : Files) → Stands me m (Some s) f monitor.old
+        → Turns me at m s f before input.now monitor.new result }
 {
     let reaction = monitor.react(input, at)?;
     let last = monitor.last();
@@ -75,7 +76,8 @@ fn take_turn(
 fn start(monitor: &mut Monitor, input: &Input, at: Moment) -> Result<Turn, WorldStop>
     requires stands { Standing monitor.old }
     requires start { input.now ≡ Start }
-    ensures { (me : Me) (m : Map) (s : Option State) (f : Files) → Stands me m s f monitor.old → Turns me at m (booting me.member.rank) (after_opening f) None Start monitor.new result }
+    ensures { (me : Me) (m : Map) (s : Option State) (f : Files) → Stands me m s f monitor.old
+        → Turns me at m (booting me.member.rank) (after_opening f) None Start monitor.new result }
 {
     monitor.start()?;
     take_turn(monitor, None, input, at)
@@ -112,7 +114,8 @@ pub(crate) fn meet_upset(
     requires first { 1 ≤ upset.call }
     requires most { upset.call ≤ 65535 }
     requires image { upset.image ≤ 3 }
-    ensures { (me : Me) (m : Map) (s : Option State) (f : Files) → Stands me m s f monitor.old → MeetsFall upset me at m s f input.now monitor.new result }
+    ensures { (me : Me) (m : Map) (s : Option State) (f : Files) → Stands me m s f monitor.old
+        → MeetsFall upset me at m s f input.now monitor.new result }
 {
     if !is_start(input) && monitor.state().is_none() {
         return Ok(None);

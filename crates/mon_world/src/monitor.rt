@@ -44,6 +44,7 @@ pub(crate) struct Running {
     core: Core,
 }
 
+/// What a monitor keeps: its disks where it is down, and else its open store and its core.
 #[derive(Drop)]
 pub(crate) enum Kept {
     Down(NodeDisks<MemoryDisk>),
@@ -110,7 +111,9 @@ fn fallen(
     requires first { 1 ≤ upset.call }
     requires most { upset.call ≤ 65535 }
     requires image { upset.image ≤ 3 }
-    ensures { (m : Map) (s : Option State) (t : State) (f : Files) → Holds me.now m s f kept.old → state_at me.now.member.rank s input.now ≡ Some t → Falls upset me.now.member m f input.now (reaction me.now now m t input.now) result }
+    ensures { (m : Map) (s : Option State) (t : State) (f : Files) → Holds me.now m s f kept.old
+        → state_at me.now.member.rank s input.now ≡ Some t
+        → Falls upset me.now.member m f input.now (reaction me.now now m t input.now) result }
 {
     let Taken { disks, core } = take(alloc, me, kept);
     let mut core = core_at(alloc, me, core, input);
@@ -207,7 +210,8 @@ impl Monitor {
     /// Opens the store on the disks, and forgets all that it doesn't keep.
     pub(crate) fn start(&mut self) -> Result<(), OutOfMemory>
         requires { Standing self.old }
-        ensures { (me : Me) (m : Map) (s : Option State) (f : Files) → Stands me m s f self.old → OnOk result (Stands me m (Some (booting me.member.rank)) (after_opening f) self.new) }
+        ensures { (me : Me) (m : Map) (s : Option State) (f : Files) → Stands me m s f self.old
+            → OnOk result (Stands me m (Some (booting me.member.rank)) (after_opening f) self.new) }
     {
         let Taken { disks, .. } = take(self.alloc, &self.me, &mut self.kept);
         let store = start(self.alloc, disks, self.me.member)?;
@@ -245,7 +249,9 @@ impl Monitor {
         requires first { 1 ≤ upset.call }
         requires most { upset.call ≤ 65535 }
         requires image { upset.image ≤ 3 }
-        ensures { (me : Me) (m : Map) (s : Option State) (t : State) (f : Files) → Stands me m s f self.old → state_at me.member.rank s input.now ≡ Some t → FallsDown upset me m f input.now (reaction me now m t input.now) self.new result }
+        ensures { (me : Me) (m : Map) (s : Option State) (t : State) (f : Files) → Stands me m s f self.old
+            → state_at me.member.rank s input.now ≡ Some t
+            → FallsDown upset me m f input.now (reaction me now m t input.now) self.new result }
     {
         let Fallen { disks, kept } = fallen(
             self.alloc,

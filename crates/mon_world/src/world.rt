@@ -23,7 +23,8 @@ ghost use Rattle.mon_world.specs.Events.{plain_event};
 ghost use Rattle.mon_world.specs.Falls.{upset_of};
 ghost use Rattle.mon_world.specs.Meeting.{Meets, MeetsFall};
 ghost use Rattle.mon_world.specs.Monitor.{Standing, Stands};
-ghost use Rattle.mon_world.specs.Stands.{Does, DoesUpset, Fits, FitsPlain, IsWorld, Leads, StandsFor, StandsForRun, and_event, arrival_of, envelope_of};
+ghost use Rattle.mon_world.specs.Stands.{Does, DoesUpset, Fits, FitsPlain, IsWorld, Leads, StandsFor, StandsForRun};
+ghost use Rattle.mon_world.specs.Stands.{and_event, arrival_of, envelope_of};
 ghost use Rattle.mon_world.specs.Step.{log_after, step};
 ghost use Rattle.mon_world.specs.Telling.{Leaves, Tells};
 
@@ -103,7 +104,8 @@ fn delivered(
     number: u64,
     at: Moment,
 ) -> Result<Option<Arrival>, OutOfMemory>
-    ensures { (w : model.World) → map envelope_of messages.now ≡ w.messages → IfOk result (λ a. option_map arrival_of a ≡ meets.arrival w (model.Deliver number at)) }
+    ensures { (w : model.World) → map envelope_of messages.now ≡ w.messages
+        → IfOk result (λ a. option_map arrival_of a ≡ meets.arrival w (model.Deliver number at)) }
 {
     if number == 0 || number > messages.len() as u64 {
         return Ok(None);
@@ -122,7 +124,8 @@ fn arriving(
     messages: &[Envelope],
     event: &Plain,
 ) -> Result<Option<Arrival>, OutOfMemory>
-    ensures { (w : model.World) → map envelope_of messages.now ≡ w.messages → IfOk result (λ a. option_map arrival_of a ≡ meets.arrival w (plain_event event.now)) }
+    ensures { (w : model.World) → map envelope_of messages.now ≡ w.messages
+        → IfOk result (λ a. option_map arrival_of a ≡ meets.arrival w (plain_event event.now)) }
 {
     match event {
         Plain::Start { rank, at } => Ok(Some(Arrival {
@@ -275,7 +278,8 @@ impl World {
         requires world { IsWorld self.old }
         requires within { arrival.now.rank < length self.old.monitors.items }
         requires comes { MayCome arrival.now.input }
-        ensures { (ms : Monitors) (c : Scene) (p : Plain) → StandsFor ms self.old c → meets.arrival c.world (plain_event p) ≡ Some (arrival_of arrival.now)
+        ensures { (ms : Monitors) (c : Scene) (p : Plain) → StandsFor ms self.old c
+            → meets.arrival c.world (plain_event p) ≡ Some (arrival_of arrival.now)
             → Does ms result self.new (step ms c (events.Plain p)) }
     {
         let Some(turn) = meet_at(&mut self.monitors, arrival.rank, &arrival.input, arrival.at)?
@@ -355,7 +359,8 @@ impl World {
         ensures does { (ms : Monitors) (c : Scene) → StandsFor ms self.old c → Does ms result self.new (step ms c event.now) }
         ensures goes_on { (ms : Monitors) (c : Scene) (events : List model.Event) → StandsForRun ms events self.old c
             → Leads (StandsForRun ms (and_event ms events c event.now) self.new) result (step ms c event.now) }
-        ensures safe { (ms : Monitors) (c : Scene) (events : List model.Event) → StandsForRun ms events self.old c → Safe ms (and_event ms events c event.now) }
+        ensures safe { (ms : Monitors) (c : Scene) (events : List model.Event) → StandsForRun ms events self.old c
+            → Safe ms (and_event ms events c event.now) }
     {
         match event {
             Event::Plain(event) => self.plain(event),
