@@ -1,22 +1,18 @@
-//! Tests of bytes, disks, the journal, transactions, the maps and the store, as their users see them.
+//! Tests of bytes that other programs spelled, of files whose system fails, and of what no contract says.
 #![tactic(auto)]
 
 #[cfg(test)]
-mod bytes;
-#[cfg(test)]
 mod contents;
+#[cfg(test)]
+mod digits;
 #[cfg(test)]
 mod file_disk;
 #[cfg(test)]
-mod journal;
-#[cfg(test)]
 mod kv;
-#[cfg(test)]
-mod kv_map;
 #[cfg(test)]
 mod log_map;
 #[cfg(test)]
-mod memory_disk;
+mod rows;
 #[cfg(test)]
 mod store;
 #[cfg(test)]

@@ -1,43 +1,75 @@
-ghost use Rattle.std.specs.Prelude.{◌≡◌, false, IfOk};
-ghost use Rattle.mon_store.specs.Whole.{IsSound};
+//! Files that are a store, or are none.
 
-use crate::contents::contents;
-use mon_disk::{Disk, FileDisk, MemoryDisk, NodeDisks};
+use crate::digits::{bytes_of, number};
+use mon_disk::{Disk, MemoryDisk, NodeDisks};
 use mon_kv::Kv;
-use mon_store::*;
-use mon_tx::Transaction;
-use mon_types::{Member, Rank, Side};
+use mon_store::Store;
+use mon_types::{Member, Rank};
 use std::alloc::Global;
-use std::fs;
 use std::test::Fail;
 
-/// The one transaction that puts a key of the area `kv` and erases the area `log`, in its 21 bytes.
-const TEXT: &[u8] = b"\x01\x02\0\0\0\x01\x02kv\x01a\x01\0\0\0x\x03\x03log";
+/// Files of rank 0 of 1 in hexadecimal digits, and what a store holds under the keys `a`, `b` and `c` of the area `kv`, or why it is refused:
+/// a new one, one with a record, one with a checkpoint, one with a first header, and others that are none.
+const FILES: &str = "\
+01434550484d4f4e320001000000000000010000000000000000 ...\n\
+01434550484d4f4e32000100000000000001000000000000000115000000010200000001026b760161010000007803\
+    036c6f6700 x..\n\
+01434550484d4f4e3200010000000000000200000000000000010f0000008001000000026b760161010000007800 x\
+    ..\n\
+01434550484d4f4e31000100000000000001000000000000000115000000010200000001026b760161010000007803\
+    036c6f6700 x..\n\
+000000000000000000000000000000000000000000000000000000 NotAStore { disk: A, at: 0 }\n\
+01434550484d4f4e33 NotAStore { disk: A, at: 1 }\n\
+01434550484d4f4e32000100000000000001000000000000000115000000010200000001026b760161010000007803\
+    036c6f6701010000000300 NotAStore { disk: A, at: 56 }\n\
+";
 
-/// The checkpoint of a map that holds `kv/a` = `x` alone.
-const CHECKPOINT: &[u8] = b"\x80\x01\0\0\0\x02kv\x01a\x01\0\0\0x";
+/// The file of three records, which put `kv/a` = `x`, `kv/b` = `y` and `kv/c` = `z`.
+const THREE: &str = "\
+01434550484d4f4e32000100000000000001000000000000000110000000010100000001026b760161010000007801100000\
+    00010100000001026b76016201000000790110000000010100000001026b760163010000007a00";
 
-fn member(rank: u8, monitors: u8) -> Result<Member, Fail> {
-    let rank = Rank::new(rank).ok_or("a rank")?;
-    Ok(Member::new(rank, monitors).ok_or("a member")?)
-}
-
-/// A file of rank 0 of 1 with this last byte of its word, this generation and this record.
-fn file(alloc: Global, word: u8, generation: u8, records: &[&[u8]]) -> Result<Vec<u8>, Fail> {
-    let mut bytes = b"\x01CEPHMON".to_vec(alloc)?;
-    bytes.extend_from_slice(&[word, 0, 1, 0, 0, 0, 0, 0, 0])?;
-    bytes.extend_from_slice(&[generation, 0, 0, 0, 0, 0, 0, 0])?;
-    for record in records {
-        let Ok(length) = u32::try_from(record.len()) else {
-            return Err("a long record".into());
-        };
-        bytes.push(1)?;
-        bytes.extend_from_slice(&length.to_le_bytes())?;
-        bytes.extend_from_slice(record)?;
-    }
-    bytes.push(0)?;
-    Ok(bytes)
-}
+/// How many bytes of it there are, which one has all its bits turned, and what is found then.
+const SPOILED: &str = "\
+89 - xyz\n\
+0 - ...\n\
+1 - ...\n\
+2 - NotAStore { disk: A, at: 1 }\n\
+8 - NotAStore { disk: A, at: 1 }\n\
+9 - NotAStore { disk: A, at: 9 }\n\
+10 - NotAStore { disk: A, at: 10 }\n\
+11 - NotAStore { disk: A, at: 11 }\n\
+16 - NotAStore { disk: A, at: 11 }\n\
+17 - NotAStore { disk: A, at: 17 }\n\
+24 - NotAStore { disk: A, at: 17 }\n\
+25 - NotAStore { disk: A, at: 25 }\n\
+26 - NotAStore { disk: A, at: 26 }\n\
+29 - NotAStore { disk: A, at: 26 }\n\
+30 - NotAStore { disk: A, at: 30 }\n\
+45 - NotAStore { disk: A, at: 30 }\n\
+46 - NotAStore { disk: A, at: 46 }\n\
+47 - NotAStore { disk: A, at: 47 }\n\
+67 - NotAStore { disk: A, at: 67 }\n\
+88 - NotAStore { disk: A, at: 88 }\n\
+89 0 NotAStore { disk: A, at: 0 }\n\
+89 1 NotAStore { disk: A, at: 1 }\n\
+89 8 NotAStore { disk: A, at: 1 }\n\
+89 9 NotAStore { disk: A, at: 9 }\n\
+89 10 NotAStore { disk: A, at: 10 }\n\
+89 16 NotAStore { disk: A, at: 11 }\n\
+89 17 xyz\n\
+89 24 NotAStore { disk: A, at: 17 }\n\
+89 25 ...\n\
+89 46 x..\n\
+89 67 xy.\n\
+89 88 xyz\n\
+89 26 NotAStore { disk: A, at: 30 }\n\
+89 29 NotAStore { disk: A, at: 30 }\n\
+89 30 NotAStore { disk: A, at: 30 }\n\
+89 40 NotAStore { disk: A, at: 30 }\n\
+89 50 NotAStore { disk: A, at: 51 }\n\
+89 71 NotAStore { disk: A, at: 72 }\n\
+";
 
 /// A disk that holds these bytes.
 fn disk(alloc: Global, bytes: &[u8]) -> Result<MemoryDisk, Fail> {
@@ -47,244 +79,72 @@ fn disk(alloc: Global, bytes: &[u8]) -> Result<MemoryDisk, Fail> {
     Ok(disk)
 }
 
-/// The store of rank 0 of 1 on two disks.
-fn opened<D: Disk + Drop>(alloc: Global, a: D, b: D) -> Result<Store<D>, Fail>
-    ensures sound { IfOk result (IsSound D.state) }
-    ensures broken { IfOk result (λ store. store.broken ≡ false) }
-{
-    match Store::open(alloc, NodeDisks { a, b }, member(0, 1)?) {
-        Ok(store) => Ok(store),
-        Err(_) => Err("the disks are refused".into()),
+/// What is held under the three keys, with a point for none.
+fn values(alloc: Global, kv: &Kv) -> Result<String, Fail> {
+    let mut values = String::new(alloc);
+    for key in ["a", "b", "c"] {
+        let value = kv.get(b"kv", key.as_bytes()).unwrap_or(b".");
+        values.push_str(str::from_utf8(value).map_err(|_| "a text")?)?;
+    }
+    Ok(values)
+}
+
+/// What two disks hold, or why they are refused.
+fn found(alloc: Global, a: &[u8], b: &[u8]) -> Result<String, Fail> {
+    let (a, b) = (disk(alloc, a)?, disk(alloc, b)?);
+    let member = Member::new(Rank::known(0), 1).ok_or("a member")?;
+    match Store::open(alloc, NodeDisks { a, b }, member) {
+        Ok(store) => values(alloc, store.kv()),
+        Err(refused) => {
+            let why = refused.why;
+            Ok(format!(in alloc; "{why:?}")?)
+        }
     }
 }
 
-/// The file of a new store after a transaction.
-fn made(alloc: Global, tx: &Transaction) -> Result<Vec<u8>, Fail> {
-    let mut store = opened(alloc, MemoryDisk::new(alloc), MemoryDisk::new(alloc))?;
-    store.apply(tx)?;
-    let NodeDisks { mut a, b: _ } = store.close();
-    contents(alloc, &mut a)
+/// What a file is, and what its row says.
+fn of_file<'a>(alloc: Global, row: &'a str) -> Result<(String, &'a str), Fail> {
+    let (digits, told) = row.split_once(' ').ok_or("digits")?;
+    Ok((found(alloc, &bytes_of(alloc, digits)?, b"")?, told))
 }
 
 #[test]
-fn a_new_store_takes_a_transaction(rt: HostRuntime) -> Result<(), Fail> {
+fn files_of_stores(rt: HostRuntime) -> Result<(), Fail> {
     let alloc = rt.alloc();
-    let created = file(alloc, b'2', 1, &[])?;
-    assert_eq!(rt; made(alloc, &Transaction::new(alloc))?, created);
-    let kept = file(alloc, b'2', 1, &[TEXT])?;
-    assert_eq!(rt; made(alloc, &mon_tx::decode(alloc, TEXT)?)?, kept);
-    Ok(())
-}
-
-/// The one byte under a key of the area `kv`, or else `.`.
-fn value(kv: &Kv, key: &[u8]) -> u8 {
-    match kv.get(b"kv", key) {
-        Some([byte]) => *byte,
-        _ => b'.',
-    }
-}
-
-fn values(kv: &Kv) -> [u8; 3] {
-    [value(kv, b"a"), value(kv, b"b"), value(kv, b"c")]
-}
-
-/// What two disks hold under the keys `a`, `b` and `c` of the area `kv`, or why they are refused.
-fn found(
-    alloc: Global,
-    a: &[u8],
-    b: &[u8],
-    asked: Member,
-) -> Result<Result<[u8; 3], OpenStop>, Fail> {
-    let disks = NodeDisks {
-        a: disk(alloc, a)?,
-        b: disk(alloc, b)?,
-    };
-    match Store::open(alloc, disks, asked) {
-        Ok(store) => Ok(Ok(values(store.kv()))),
-        Err(refused) => Ok(Err(refused.why)),
-    }
-}
-
-/// A file that is longer than 1,048,576 bytes, with `kv/a` = `x` at its end.
-fn long_file(alloc: Global) -> Result<Vec<u8>, Fail> {
-    let mut large = b"\x01\x01\0\0\0\x01\x02kv\x01a\0\0\x10\0".to_vec(alloc)?;
-    large.extend_from_slice(vec![in alloc; 0u8; 1_048_576]?.as_slice())?;
-    file(alloc, b'2', 1, &[large.as_slice(), TEXT])
-}
-
-/// The file on disk B that takes the place of this one, which is due.
-fn begun_anew(alloc: Global, whole: &[u8]) -> Result<Vec<u8>, Fail> {
-    let mut store = opened(alloc, disk(alloc, whole)?, MemoryDisk::new(alloc))?;
-    if store.restart_if_due() != Ok(true) {
-        return Err("it isn't due".into());
-    }
-    let NodeDisks { a: _, mut b } = store.close();
-    contents(alloc, &mut b)
-}
-
-// The first header is of an earlier form of the file.
-#[test]
-fn a_long_file_and_one_with_the_first_header_are_begun_anew(rt: HostRuntime) -> Result<(), Fail> {
-    let alloc = rt.alloc();
-    let begun = file(alloc, b'2', 2, &[CHECKPOINT])?;
-    for whole in [long_file(alloc)?, file(alloc, b'1', 1, &[TEXT])?] {
-        assert_eq!(rt; begun_anew(alloc, &whole)?, begun);
+    for row in FILES.lines() {
+        let (found, told) = of_file(alloc, row)?;
+        assert_eq!(rt; found.as_str(), told, "{row}");
     }
     Ok(())
 }
 
-#[test]
-fn what_is_no_store_is_refused(rt: HostRuntime) -> Result<(), Fail> {
-    let alloc = rt.alloc();
-    let second = file(alloc, b'2', 2, &[])?;
-    let faulty = file(alloc, b'2', 1, &[TEXT, b"\x03"])?;
-    let own = member(0, 1)?;
-    for (a, b, disk, at) in [
-        (second.as_slice(), second.as_slice(), Side::B, 0),
-        (&[0; 27], b"", Side::A, 0),
-        (&[0; 26], b"\0", Side::B, 0),
-        (faulty.as_slice(), b"", Side::A, 56),
-        (b"\x01CEPHMON3", b"", Side::A, 1),
-    ] {
-        assert_eq!(rt;
-            found(alloc, a, b, own)?,
-            Err(OpenStop::NotAStore { disk, at })
-        );
+/// The file of three records, spoiled as a row says.
+fn spoiled(alloc: Global, length: &str, turned: &str) -> Result<Vec<u8>, Fail> {
+    let mut bytes = bytes_of(alloc, THREE)?;
+    if turned != "-" {
+        let at = number(Some(turned))? as usize;
+        let byte = bytes.get_mut(at).ok_or("a byte")?;
+        *byte = !*byte;
     }
-    let asked = member(1, 3)?;
-    let stranger = found(alloc, &second, &[], asked)?;
-    assert_eq!(rt; stranger, Err(OpenStop::Stranger { kept: own, asked }));
-    Ok(())
+    bytes.truncate(number(Some(length))? as usize);
+    Ok(bytes)
 }
 
-/// The file of three records, which put `kv/a` = `x`, `kv/b` = `y` and `kv/c` = `z`. Each has 21 bytes, and the first begins
-/// at 25.
-fn three(alloc: Global) -> Result<Vec<u8>, Fail> {
-    let records: [&[u8]; 3] = [
-        b"\x01\x01\0\0\0\x01\x02kv\x01a\x01\0\0\0x",
-        b"\x01\x01\0\0\0\x01\x02kv\x01b\x01\0\0\0y",
-        b"\x01\x01\0\0\0\x01\x02kv\x01c\x01\0\0\0z",
-    ];
-    file(alloc, b'2', 1, &records)
-}
-
-/// Of the bytes 0 to 24, where the field of each begins.
-fn header_field(at: usize) -> u64 {
-    match at {
-        0 => 0,
-        1..=8 => 1,
-        9 => 9,
-        10 => 10,
-        11..=16 => 11,
-        _ => 17,
-    }
-}
-
-fn not_a_store(at: u64) -> Result<[u8; 3], OpenStop> {
-    let disk = Side::A;
-    Err(OpenStop::NotAStore { disk, at })
-}
-
-/// Where each front of the file of three records is refused. At most one byte is a closed disk, on which a store is created.
-fn front_refused(length: usize) -> Option<u64> {
-    if length <= 1 || length >= 89 {
-        return None;
-    }
-    if length < 25 {
-        return Some(header_field(length));
-    }
-    let record = (length - 25) / 21 * 21 + 25;
-    Some(match length - record {
-        0 => record,
-        1..=4 => record + 1,
-        _ => record + 5,
-    } as u64)
+/// What that file is, and what its row says.
+fn of_spoiled<'a>(alloc: Global, row: &'a str) -> Result<(String, &'a str), Fail> {
+    let mut words = row.splitn(3, ' ');
+    let length = words.next().ok_or("a length")?;
+    let turned = words.next().ok_or("a place")?;
+    let told = words.next().ok_or("an outcome")?;
+    let bytes = spoiled(alloc, length, turned)?;
+    Ok((found(alloc, &bytes, b"")?, told))
 }
 
 #[test]
-fn each_front_of_a_file_is_refused_where_it_ends(rt: HostRuntime) -> Result<(), Fail> {
-    let alloc = rt.alloc();
-    let whole = three(alloc)?;
-    assert_eq!(rt; whole.len(), 89);
-    for length in 0..=whole.len() {
-        let wanted = match front_refused(length) {
-            Some(at) => not_a_store(at),
-            None if length == whole.len() => Ok(*b"xyz"),
-            None => Ok(*b"..."),
-        };
-        let found = found(alloc, &whole[..length], &[], member(0, 1)?)?;
-        assert_eq!(rt; found, wanted, "{length} bytes");
+fn a_spoiled_file_is_refused_where_it_ends_or_holds_less(rt: HostRuntime) -> Result<(), Fail> {
+    for row in SPOILED.lines() {
+        let (found, told) = of_spoiled(rt.alloc(), row)?;
+        assert_eq!(rt; found.as_str(), told, "{row}");
     }
-    Ok(())
-}
-
-/// What the file of three records holds with all bits of one byte turned.
-fn turned_holds(at: usize) -> Result<[u8; 3], OpenStop> {
-    if at < 25 {
-        // A generation of 2 to 2^62 is another one.
-        return match at {
-            17..=23 => Ok(*b"xyz"),
-            _ => not_a_store(header_field(at)),
-        };
-    }
-    let (record, byte) = ((at - 25) / 21, (at - 25) % 21);
-    match (byte, record) {
-        // A gate that isn't open, with the records before it.
-        (0, 0) => Ok(*b"..."),
-        (0, 1) => Ok(*b"x.."),
-        (0, 2) => Ok(*b"xy."),
-        (0, _) => Ok(*b"xyz"),
-        // The last byte is a value's.
-        (20, 0) => Ok([!b'x', b'y', b'z']),
-        (20, 1) => Ok([b'x', !b'y', b'z']),
-        (20, _) => Ok([b'x', b'y', !b'z']),
-        // A length that is too great, and a payload that isn't a transaction.
-        _ => not_a_store(25 + 21 * record as u64 + 5),
-    }
-}
-
-#[test]
-fn each_turned_byte_is_found_or_makes_no_difference(rt: HostRuntime) -> Result<(), Fail> {
-    let alloc = rt.alloc();
-    let whole = three(alloc)?;
-    for at in 0..whole.len() {
-        let mut bytes = whole.as_slice().to_vec(alloc)?;
-        bytes[at] = !bytes[at];
-        let found = found(alloc, &bytes, &[], member(0, 1)?)?;
-        assert_eq!(rt; found, turned_holds(at), "byte {at}");
-    }
-    Ok(())
-}
-
-/// Two disks on the files of two names.
-fn on_files(rt: &HostRuntime, a: &str, b: &str) -> Result<NodeDisks<FileDisk<HostRuntime>>, Fail> {
-    let alloc = rt.alloc();
-    Ok(NodeDisks {
-        a: FileDisk::named(rt, String::from_str(alloc, a)?),
-        b: FileDisk::named(rt, String::from_str(alloc, b)?),
-    })
-}
-
-/// Makes the store on two files, with one transaction, and closes it.
-fn made_on_files(rt: &HostRuntime, a: &str, b: &str) -> Result<bool, Fail> {
-    let files = on_files(rt, a, b)?;
-    let mut store = opened(rt.alloc(), files.a, files.b)?;
-    let tx = mon_tx::decode(rt.alloc(), TEXT)?;
-    Ok(store.apply(&tx) == Ok(()))
-}
-
-#[test]
-fn files_are_made_and_opened_again(rt: HostRuntime) -> Result<(), Fail> {
-    let (a, b) = ("mon_store_test_a", "mon_store_test_b");
-    let _old = (fs::remove_file(&rt, a), fs::remove_file(&rt, b));
-    assert!(rt; made_on_files(&rt, a, b)?);
-    let files = on_files(&rt, a, b)?;
-    let store = opened(rt.alloc(), files.a, files.b)?;
-    assert_eq!(rt;
-        (value(store.kv(), b"a"), value(store.kv(), b"b")),
-        (b'x', b'.')
-    );
-    fs::remove_file(&rt, a)?;
-    fs::remove_file(&rt, b)?;
     Ok(())
 }
