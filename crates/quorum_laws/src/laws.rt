@@ -30,8 +30,9 @@ pub fn law_elections()
         → IsMember (run ms events) i e l q → IsQuorum ms.count i e l q }
     ensures once { (ms : Monitors) (before after : List Event) → AllFit ms.count (before ++ after) → (i e l k : ℕ) (q r : List Bool)
         → IsMember (run ms before) i e l q → IsMember (run ms (before ++ after)) i e k r → (l ≡ k) × (q ≡ r) }
-    ensures between { (ms : Monitors) (before between after : List Event) → AllFit ms.count ((before ++ between) ++ after) → (i e l k : ℕ) (q r : List Bool)
-        → IsMember (run ms before) i e l q → IsMember (run ms ((before ++ between) ++ after)) i e k r → IsMember (run ms (before ++ between)) i e l q }
+    ensures between { (ms : Monitors) (before between after : List Event) → AllFit ms.count ((before ++ between) ++ after)
+        → (i e l k : ℕ) (q r : List Bool) → IsMember (run ms before) i e l q
+        → IsMember (run ms ((before ++ between) ++ after)) i e k r → IsMember (run ms (before ++ between)) i e l q }
     ensures led { (ms : Monitors) (events : List Event) → AllFit ms.count events → ActiveAreLed ms.count (run ms events) }
 {}
 
