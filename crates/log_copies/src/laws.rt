@@ -30,12 +30,15 @@ pub fn law_caught_up()
 /// log of values again. Its own changes, a vote for the next version among them, leave it the versions. What it sends of its records
 /// from a version on are that version's value and the next ones.
 pub fn law_learned()
-    ensures learned { (log : List (List ℕ)) → length log ≤ 2 ^ 62 → AllValues log → (c : ℕ) (m : Store) → HasVersions log c m → (count : ℕ) → suc c + count ≤ length log
+    ensures learned { (log : List (List ℕ)) → length log ≤ 2 ^ 62 → AllValues log → (c : ℕ) (m : Store) → HasVersions log c m
+        → (count : ℕ) → suc c + count ≤ length log
         → HasVersions log (suc c + count) (behind (learn_changes (suc c) (values_from log (suc c) (suc count)) ++ Last (suc c + count) ∷ []) m) }
-    ensures committed { (log : List (List ℕ)) → length log < 2 ^ 62 → AllValues log → (w : Readings) → Keeps log (length log) w → w.last ≡ length log → (value : List Op) → IsValue w value
-        → (m : Store) → HasVersions log (length log) m
-        → AllValues (log ++ text value ∷ []) × HasVersions (log ++ text value ∷ []) (suc (length log)) (behind (Learn (suc (length log)) value ∷ Last (suc (length log)) ∷ []) m) }
-    ensures kept { (log : List (List ℕ)) (c : ℕ) (m : Store) → HasVersions log c m → (changes : List Change) → AllByRecursion (IsOwnChange c) changes → HasVersions log c (behind changes m) }
+    ensures committed { (log : List (List ℕ)) → length log < 2 ^ 62 → AllValues log → (w : Readings) → Keeps log (length log) w → w.last ≡ length log
+        → (value : List Op) → IsValue w value → (m : Store) → HasVersions log (length log) m
+        → AllValues (log ++ text value ∷ [])
+        × HasVersions (log ++ text value ∷ []) (suc (length log)) (behind (Learn (suc (length log)) value ∷ Last (suc (length log)) ∷ []) m) }
+    ensures kept { (log : List (List ℕ)) (c : ℕ) (m : Store) → HasVersions log c m → (changes : List Change)
+        → AllByRecursion (IsOwnChange c) changes → HasVersions log c (behind changes m) }
     ensures told { (log : List (List ℕ)) → length log ≤ 2 ^ 62 → AllValues log → (c : ℕ) (m : Store) → HasVersions log c m → (v : ℕ)
         → run_from (readings_of m).record_of c (suc v) ≡ values_from log (suc v) (length (run_from (readings_of m).record_of c (suc v))) }
 {}
@@ -46,9 +49,10 @@ pub fn law_learned()
 /// began, and it has the promise, the last proposal number and the epoch from before. It begins at a store with no other keys than
 /// the monitor's own and those of the log and of the services: as every monitor of the log is, and as it leaves the store itself.
 pub fn law_synchronized()
-    ensures finished { (log : List (List ℕ)) → length log ≤ 2 ^ 62 → AllValues log → (me : Me) → 1 < me.member.monitors → (before : Store) → IsShaped before → (after : Store) (s : State)
-        → Synchronizes log me before after s → (readings_of after).marked ≡ false → IsSynchronized log (readings_of before) (floor_of (readings_of before)) after }
-    ensures again { (log : List (List ℕ)) → length log ≤ 2 ^ 62 → AllValues log → (me : Me) → 1 < me.member.monitors → (before : Store) → IsShaped before
-        → (after : Store) (s : State) → Synchronizes log me before after s → IsShaped after }
+    ensures finished { (log : List (List ℕ)) → length log ≤ 2 ^ 62 → AllValues log → (me : Me) → 1 < me.member.monitors → (before : Store)
+        → IsShaped before → (after : Store) (s : State) → Synchronizes log me before after s → (readings_of after).marked ≡ false
+        → IsSynchronized log (readings_of before) (floor_of (readings_of before)) after }
+    ensures again { (log : List (List ℕ)) → length log ≤ 2 ^ 62 → AllValues log → (me : Me) → 1 < me.member.monitors → (before : Store)
+        → IsShaped before → (after : Store) (s : State) → Synchronizes log me before after s → IsShaped after }
     ensures first { (log : List (List ℕ)) → length log ≤ 2 ^ 62 → AllValues log → (c : ℕ) (m : Store) → HasVersions log c m → IsShaped m }
 {}
