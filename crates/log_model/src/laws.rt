@@ -1,4 +1,5 @@
-ghost use Rattle.std.specs.Prelude.{◌≡◌, ℕ, suc, ◌<◌, ◌≤◌, ◌^◌, List, [], ◌∷◌, ◌++◌, Some, None, true, ◌⊎◌, length, take, drop, ◌+◌, ◌↔◌, nat_lt, IsTrue};
+ghost use Rattle.std.specs.Prelude.{◌≡◌, ℕ, suc, ◌<◌, ◌≤◌, ◌^◌, List, [], ◌∷◌, ◌++◌, Some, None, true};
+ghost use Rattle.std.specs.Prelude.{◌⊎◌, length, take, drop, ◌+◌, ◌↔◌, nat_lt, IsTrue};
 ghost use Rattle.std.specs.FinMap.{get};
 ghost use Rattle.std.specs.declared.cmp.Ordering.TheVariants.{Less};
 ghost use Rattle.mon_tx.specs.declared.key.Area.TheVariants as area;
@@ -23,7 +24,8 @@ ghost use Rattle.log_model.specs.Windows.{Keeps, IsKeptKey, Shows};
 /// text, which is short enough to be proposed, and with that text the versions before it are again such a log.
 pub fn law_windows()
     ensures fold { (log : List (List ℕ)) → length log ≤ 2 ^ 62 → AllValues log → (c : ℕ) → c ≤ length log → Keeps log c (readings_of (fold log c)) }
-    ensures above { (log : List (List ℕ)) → length log ≤ 2 ^ 62 → AllValues log → (c : ℕ) → c ≤ length log → (v : ℕ) → c < v → (readings_of (fold log c)).record_of v ≡ None }
+    ensures above { (log : List (List ℕ)) → length log ≤ 2 ^ 62 → AllValues log → (c : ℕ) → c ≤ length log → (v : ℕ) → c < v
+        → (readings_of (fold log c)).record_of v ≡ None }
     ensures learned { (log : List (List ℕ)) → length log ≤ 2 ^ 62 → AllValues log → (c : ℕ) → c < length log → (w : Readings)
         → Keeps log c w → Keeps log (suc c) (after (put area.Paxos (key.Version (suc c)) (entry log (suc c)) ∷ ops_in (entry log (suc c))) w) }
     ensures some { (n : ℕ) → n ≤ 2 ^ 62 → LogOf n }
@@ -42,22 +44,29 @@ pub fn law_proposed()
 /// the log's first version. A store that shares what the fold is keeps the windows, and shares the next fold once it learns the
 /// next version.
 pub fn law_shared()
-    ensures keys { (log : List (List ℕ)) → length log ≤ 2 ^ 62 → AllValues log → (c : ℕ) → c ≤ length log → (at : Place) (bytes : List ℕ) → get (fold log c) at ≡ Some bytes → IsKeptKey at }
-    ensures own { (log : List (List ℕ)) → length log ≤ 2 ^ 62 → AllValues log → (c : ℕ) → c ≤ length log → (at : Place) → is_local c at ≡ true → get (fold log c) at ≡ None }
+    ensures keys { (log : List (List ℕ)) → length log ≤ 2 ^ 62 → AllValues log → (c : ℕ) → c ≤ length log → (at : Place) (bytes : List ℕ)
+        → get (fold log c) at ≡ Some bytes → IsKeptKey at }
+    ensures own { (log : List (List ℕ)) → length log ≤ 2 ^ 62 → AllValues log → (c : ℕ) → c ≤ length log → (at : Place)
+        → is_local c at ≡ true → get (fold log c) at ≡ None }
     ensures greatest { (log : List (List ℕ)) → length log ≤ 2 ^ 62 → AllValues log → (c : ℕ) → c ≤ length log → (at : Place) (bytes : List ℕ)
-        → get (fold log c) at ≡ Some bytes → (at ≡ place area.Paxos key.FirstCommitted) ⊎ (place_cmp at (place area.Paxos key.FirstCommitted) ≡ Less) }
+        → get (fold log c) at ≡ Some bytes
+        → (at ≡ place area.Paxos key.FirstCommitted) ⊎ (place_cmp at (place area.Paxos key.FirstCommitted) ≡ Less) }
     ensures keeps { (log : List (List ℕ)) → length log ≤ 2 ^ 62 → AllValues log → (c : ℕ) → c ≤ length log → (m : Store)
         → shared m ≡ fold log c → number m area.Paxos key.LastCommitted ≡ c → Keeps log c (readings_of m) }
     ensures learned { (log : List (List ℕ)) → length log ≤ 2 ^ 62 → AllValues log → (c : ℕ) → c < length log → (m : Store)
         → shared m ≡ fold log c → number m area.Paxos key.LastCommitted ≡ c
-        → shared (apply (put area.Paxos (key.Version (suc c)) (entry log (suc c)) ∷ (ops_in (entry log (suc c)) ++ put_number area.Paxos key.LastCommitted (suc c) ∷ [])) m) ≡ fold log (suc c) }
+        → shared (apply (put area.Paxos (key.Version (suc c)) (entry log (suc c))
+        ∷ (ops_in (entry log (suc c)) ++ put_number area.Paxos key.LastCommitted (suc c) ∷ [])) m) ≡ fold log (suc c) }
 {}
 
 /// What is shown of a service is what the log makes of it, however much was trimmed: its map, its version and its incrementals.
 /// As many of these as a reply may tell are the first ones, and it tells whether there are more.
 pub fn law_shown()
-    ensures kept { (log : List (List ℕ)) → length log ≤ 2 ^ 62 → AllValues log → (c : ℕ) → c ≤ length log → (w : Readings) → Keeps log c w → Shows log c w }
-    ensures shared { (log : List (List ℕ)) → length log ≤ 2 ^ 62 → AllValues log → (c : ℕ) → c ≤ length log → (m : Store) → shared m ≡ fold log c → Shows log c (readings_of m) }
+    ensures kept { (log : List (List ℕ)) → length log ≤ 2 ^ 62 → AllValues log → (c : ℕ) → c ≤ length log → (w : Readings)
+        → Keeps log c w → Shows log c w }
+    ensures shared { (log : List (List ℕ)) → length log ≤ 2 ^ 62 → AllValues log → (c : ℕ) → c ≤ length log → (m : Store)
+        → shared m ≡ fold log c → Shows log c (readings_of m) }
     ensures first { (incrementals : List (List ℕ)) → longest may_tell incrementals ≡ take (length (longest may_tell incrementals)) incrementals }
-    ensures more { (incrementals : List (List ℕ)) (v told : ℕ) → IsTrue (nat_lt told (length (drop v incrementals))) ↔ (v + told < length incrementals) }
+    ensures more { (incrementals : List (List ℕ)) (v told : ℕ)
+        → IsTrue (nat_lt told (length (drop v incrementals))) ↔ (v + told < length incrementals) }
 {}
