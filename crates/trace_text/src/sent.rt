@@ -2,7 +2,8 @@
 
 ghost use Rattle.std.specs.Prelude.{◌≡◌, ◌<◌, ◌^◌, ◌++◌, codes, decimal, string_bytes, OnOk};
 ghost use Rattle.std.specs.List.{flat_map};
-ghost use Rattle.trace_text.specs.Sent.{quorum_text, last_text, kept_text, collect_text, pending_number, told_text, vote_text, versions_text, cookie_text, key_text, asked_text, chunk_text, agreeing_text, copying_text, fields_text, sent_line};
+ghost use Rattle.trace_text.specs.Sent.{quorum_text, last_text, kept_text, collect_text, pending_number, told_text, vote_text, versions_text};
+ghost use Rattle.trace_text.specs.Sent.{cookie_text, key_text, asked_text, chunk_text, agreeing_text, copying_text, fields_text, sent_line};
 ghost use Rattle.trace_text.specs.Words.{flag_text};
 
 use crate::step::Numbered;
@@ -148,7 +149,8 @@ fn put_granted(
     cookie: Cookie,
     last: Version,
 ) -> Result<(), AllocError>
-    ensures { OnOk result (string_bytes out.new ≡ string_bytes out.old ++ codes " full=" ++ (flag_text full ++ (cookie_text cookie ++ last_text last))) }
+    ensures { OnOk result (string_bytes out.new ≡ string_bytes out.old
+        ++ codes " full=" ++ (flag_text full ++ (cookie_text cookie ++ last_text last))) }
 {
     let full = flag(full);
     write!(out, " full={full}")?;
