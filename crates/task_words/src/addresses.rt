@@ -48,7 +48,7 @@ fn port_of(text: Option<&[u8]>) -> Result<u16, ScheduleKind>
     match text {
         None => Err(ScheduleKind::Word),
         Some(text) => {
-            let port = number_of(text, 1, 65535)?;
+            let port = number_of(text, 1, 65_535)?;
             Ok(port as u16)
         }
     }
@@ -74,7 +74,7 @@ fn next_address(parts: &mut Parts<'_>) -> Result<Address, ScheduleKind>
     address_of(part)
 }
 
-/// Whether a text is so many addresses with commas between them. It takes no memory.
+/// Whether a text is so many addresses with commas between them: `addresses_of` without memory.
 pub(crate) fn are_addresses(monitors: u8, text: &[u8]) -> bool
     ensures { result ≡ is_ok (addresses_of monitors text.now) }
 {

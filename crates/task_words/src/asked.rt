@@ -13,7 +13,7 @@ use mon_types::GREATEST;
 const LONGEST: usize = 4096;
 
 /// The most events of a made schedule.
-pub(crate) const MOST_MADE: u64 = 100000;
+pub(crate) const MOST_MADE: u64 = 100_000;
 
 /// Whether a word may stand among the words at all.
 fn is_word(word: &[u8]) -> bool

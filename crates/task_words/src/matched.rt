@@ -98,7 +98,8 @@ fn made_in(found: &ArgMatches<'_>) -> Result<Task, WordsStop>
 fn node_in(alloc: Global, found: &ArgMatches<'_>) -> Result<Task, WordsStop>
     ensures { (member : members) (rule : rules) (addresses : List places) (disk_a disk_b : List ℕ) (turns : ℕ)
         → HasWords (task.Node member rule addresses disk_a disk_b turns)
-        → AreTexts (rows_of (found_of found.now)) node_texts (decimal member.rank ∷ decimal member.monitors ∷ rule_text rule ∷ addresses_text addresses ∷ disk_a ∷ disk_b ∷ decimal turns ∷ [])
+        → AreTexts (rows_of (found_of found.now)) node_texts
+        (decimal member.rank ∷ decimal member.monitors ∷ rule_text rule ∷ addresses_text addresses ∷ disk_a ∷ disk_b ∷ decimal turns ∷ [])
         → IsGiven (task.Node member rule addresses disk_a disk_b turns) result }
 {
     let member = member_in(found)?;
