@@ -17,3 +17,8 @@ pub(crate) fn number(word: Option<&str>) -> Result<u64, Fail> {
     let word = word.ok_or("a number")?;
     word.parse::<u64>().map_err(|_| Fail::from("digits"))
 }
+
+/// So many bytes.
+pub(crate) fn filled(alloc: Global, byte: u8, length: usize) -> Result<Vec<u8>, Fail> {
+    Ok(vec![in alloc; byte; length]?)
+}

@@ -1,3 +1,4 @@
+use crate::digits::filled;
 use mon_frag::*;
 use mon_link::Peer;
 use std::alloc::Global;
@@ -7,8 +8,8 @@ const CLIENT: Peer = Peer::Client(3);
 
 /// A message with two pieces.
 fn message(alloc: Global) -> Result<Vec<u8>, Fail> {
-    let mut message = vec![in alloc; 7; 59_000]?;
-    message.extend_from_slice(&[9; 1_001])?;
+    let mut message = filled(alloc, 7, 59_000)?;
+    message.extend_from_slice(&filled(alloc, 9, 1_001)?)?;
     Ok(message)
 }
 
@@ -43,6 +44,14 @@ fn altered(
     Ok(altered)
 }
 
+/// The message that is whole with these bytes, or else nothing.
+fn whole(alloc: Global, assembly: &mut Assembly, bytes: &[u8]) -> Result<Vec<u8>, Fail> {
+    match assembly.take(CLIENT, bytes)? {
+        Some(message) => Ok(Vec::from_slice(alloc, message.as_slice())?),
+        None => Ok(Vec::new(alloc)),
+    }
+}
+
 #[test]
 fn pieces_make_the_message_whole(rt: HostRuntime) -> Result<(), Fail> {
     let alloc = rt.alloc();
@@ -51,10 +60,24 @@ fn pieces_make_the_message_whole(rt: HostRuntime) -> Result<(), Fail> {
     let last = piece(alloc, &message, 5, 1, 2)?;
     assert_eq!(rt; (first.len(), last.len()), (59_028, 1_029));
     let mut assembly = Assembly::new(alloc);
-    assert!(rt; assembly.take(CLIENT, &last)?.is_none());
-    let whole = assembly.take(CLIENT, &first)?.ok_or("no message")?;
-    assert_eq!(rt; whole.as_slice(), message.as_slice());
+    for (bytes, made) in [(&last, 0), (&last, 0), (&first, message.len())] {
+        let whole = whole(alloc, &mut assembly, bytes)?;
+        assert_eq!(rt; Some(whole.as_slice()), message.as_slice().get(..made));
+    }
     Ok(())
+}
+
+#[test]
+fn a_message_of_60_000_bytes_is_one_datagram(rt: HostRuntime) -> Result<(), Fail> {
+    let alloc = rt.alloc();
+    let whole = filled(alloc, 7, 60_000)?;
+    assert_eq!(rt; piece(alloc, &whole, 5, 0, 1)?.len(), 60_000);
+    Ok(())
+}
+
+/// Why these bytes are refused, if they are.
+fn refused(assembly: &mut Assembly, bytes: &[u8]) -> Option<FragRefused> {
+    assembly.take(CLIENT, bytes).err()
 }
 
 #[test]
@@ -62,8 +85,10 @@ fn faults_have_their_places(rt: HostRuntime) -> Result<(), Fail> {
     let alloc = rt.alloc();
     let piece = piece(alloc, &message(alloc)?, 5, 1, 2)?;
     let mut assembly = Assembly::new(alloc);
-    assert!(rt; assembly.take(CLIENT, &piece)?.is_none());
-    for (at, two, length, refused) in [
+    assert_eq!(rt; refused(&mut assembly, &piece), None);
+    let long = filled(alloc, 1, 60_001)?;
+    assert_eq!(rt; refused(&mut assembly, &long), Some(FragRefused::TooLong));
+    for (at, two, length, wanted) in [
         (0usize, [2u8, 0], 1usize, FragRefused::Cut { at: 1 }),
         (0, [2, 0], 27, FragRefused::Cut { at: 24 }),
         (3, [1, 1], 11, FragRefused::Cut { at: 4 }),
@@ -76,8 +101,11 @@ fn faults_have_their_places(rt: HostRuntime) -> Result<(), Fail> {
         (28, [8, 9], 1_029, FragRefused::Clash),
     ] {
         let wrong = altered(alloc, &piece, at, &two, length)?;
-        let answer = assembly.take(CLIENT, &wrong).map(|_| ());
-        assert_eq!(rt; answer, Err(refused), "at {at} of {length}");
+        assert_eq!(rt;
+            refused(&mut assembly, &wrong),
+            Some(wanted),
+            "at {at} of {length}"
+        );
     }
     Ok(())
 }

@@ -1,12 +1,10 @@
-//! Tests of what goes in and out as its users see it: schedules, messages, traces, links, and the values and maps of the services.
+//! Tests of what goes in and out, against what other programs read and print: schedules, messages, traces, scores and links.
 #![tactic(auto)]
 
 #[cfg(test)]
 mod digits;
 #[cfg(test)]
 mod frag;
-#[cfg(test)]
-mod lease;
 #[cfg(test)]
 mod links;
 #[cfg(test)]
@@ -18,14 +16,8 @@ mod schedule;
 #[cfg(test)]
 mod schedule_faults;
 #[cfg(test)]
-mod service_readings;
-#[cfg(test)]
-mod services;
-#[cfg(test)]
 mod sources;
 #[cfg(test)]
 mod trace;
-#[cfg(test)]
-mod trace_of_messages;
 #[cfg(test)]
 mod wire;

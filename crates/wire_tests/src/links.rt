@@ -1,5 +1,5 @@
 use mon_link::*;
-use mon_types::{Moment, Rank, Stop};
+use mon_types::{Rank, Stop};
 use std::io;
 use std::io::ErrorKind;
 use std::net::{Ipv4Addr, Net, SocketAddr, TcpListener, TcpStream, UdpSocket};
@@ -18,13 +18,7 @@ fn shown(got: Result<Got, Stop>) -> Result<Option<(Peer, u8, usize)>, Stop> {
 }
 
 #[test]
-fn clocks_show(rt: HostRuntime) -> Result<(), Fail> {
-    let alloc = rt.alloc();
-    let moments = vec![in alloc; Moment::known(4), Moment::known(9)]?;
-    let mut clock = ListClock::new(moments);
-    for shown in [4, 9, 9] {
-        assert_eq!(rt; clock.now().get(), shown);
-    }
+fn a_clock_runs(rt: HostRuntime) -> Result<(), Fail> {
     let mut clock = RunClock::new(&rt);
     let first = clock.now().get();
     let second = clock.now().get();
@@ -83,4 +77,24 @@ fn a_client_is_answered(rt: HostRuntime) -> Result<(), Fail> {
     assert_eq!(rt; link.send(Peer::Client(0), b"here"), Ok(()));
     assert_eq!(rt; shown(client.next(5_000)), Ok(Some((monitor, b'h', 4))));
     Ok(())
+}
+
+/// Monitor 1 of 2 probes.
+const PROBE: &[u8] = b"\x01\x01\x01\x02\x01\0\0\0\0\0\0\0";
+
+#[test]
+fn a_monitor_is_known_by_its_address(rt: HostRuntime) -> Result<(), Fail> {
+    let alloc = rt.alloc();
+    let addresses = [free_address(&rt)?, free_address(&rt)?];
+    let mut first = UdpLink::named(&rt, Rank::known(0), addresses.to_vec(alloc)?);
+    assert_eq!(rt; shown(first.next(1)), Ok(None));
+    let mut second = UdpLink::named(&rt, Rank::known(1), addresses.to_vec(alloc)?);
+    assert_eq!(rt; second.send(Peer::Monitor(Rank::known(0)), PROBE), Ok(()));
+    match first.next(5_000) {
+        Ok(Got::Datagram { from, bytes }) => {
+            assert!(rt; from == Peer::Monitor(Rank::known(1)) && bytes.as_slice() == PROBE);
+            Ok(())
+        }
+        _ => Err("a datagram".into()),
+    }
 }

@@ -1,5 +1,6 @@
+use crate::digits::filled;
 use schedule_text::*;
-use std::alloc::{AllocError, Global};
+use std::alloc::Global;
 use std::test::Fail;
 
 /// The line at fault and what is wrong with it, where the text is refused.
@@ -44,34 +45,16 @@ fn the_first_line_at_fault_is_named(rt: HostRuntime) -> Result<(), Fail> {
     Ok(())
 }
 
-/// A schedule of so many starts.
-fn starts(alloc: Global, count: u32) -> Result<String, AllocError> {
-    let mut text = String::from_str(alloc, "monitors 1 classic\n")?;
-    for _ in 0..count {
-        text.push_str("start 0 0\n")?;
-    }
-    Ok(text)
-}
-
-#[test]
-fn a_schedule_has_at_most_200_000_events(rt: HostRuntime) -> Result<(), Fail> {
-    let alloc = rt.alloc();
-    for (count, fault) in [
-        (200_000u32, None),
-        (200_001, Some((200_002u32, ScheduleKind::TooMany))),
-    ] {
-        let text = starts(alloc, count)?;
-        assert_eq!(rt; refused(alloc, text.as_bytes()), fault, "{count}");
-    }
-    Ok(())
-}
-
 #[test]
 fn too_many_bytes_are_refused_first(rt: HostRuntime) -> Result<(), Fail> {
     let alloc = rt.alloc();
-    let text = vec![in alloc; 97; 16777217]?;
-    assert_eq!(rt; refused(alloc, &text), Some((0, ScheduleKind::TooLong)));
-    assert_eq!(rt; refused(alloc, &text[1..]), Some((1, ScheduleKind::End)));
+    for (length, wanted) in [
+        (16777217, (0u32, ScheduleKind::TooLong)),
+        (16777216, (1, ScheduleKind::End)),
+    ] {
+        let text = filled(alloc, 97, length)?;
+        assert_eq!(rt; refused(alloc, &text), Some(wanted));
+    }
     Ok(())
 }
 

@@ -1,6 +1,6 @@
 use mon_link::*;
 use mon_types::Stop;
-use std::alloc::{Allocator, Global};
+use std::alloc::Allocator;
 use std::fmt::Display;
 use std::io;
 use std::io::{BufRead, ErrorKind, Lines, Read};
@@ -71,40 +71,6 @@ impl Print for Narrow {
         }
         Ok(bytes.len().min(self.width))
     }
-}
-
-fn source(alloc: Global, length: usize, failing: u64) -> Result<MemorySource, Fail> {
-    let bytes = vec![in alloc; 120; length]?;
-    Ok(MemorySource::new(bytes, vec![in alloc; failing]?))
-}
-
-#[test]
-fn reads_to_the_end_or_the_most(rt: HostRuntime) -> Result<(), Fail> {
-    let alloc = rt.alloc();
-    for (length, failing, most, read) in [
-        (5000usize, 0u64, 6000usize, Ok(5000usize)),
-        (5000, 0, 5000, Ok(5000)),
-        (5000, 0, 4999, Ok(4999)),
-        (0, 0, 9, Ok(0)),
-        (5000, 1, 9, Err(Stop::Failed)),
-        (5000, 2, 6000, Err(Stop::Failed)),
-        (5000, 2, 9, Ok(9)),
-    ] {
-        let mut source = source(alloc, length, failing)?;
-        let found = read_all(alloc, &mut source, most).map(|bytes| bytes.len());
-        assert_eq!(rt; found, read, "{length} bytes, {most} at most");
-    }
-    Ok(())
-}
-
-#[test]
-fn writes_the_whole_or_a_front(rt: HostRuntime) -> Result<(), Fail> {
-    let alloc = rt.alloc();
-    let mut sink = MemorySink::new(alloc, vec![in alloc; 2]?);
-    let wrote = (write_all(&mut sink, b"ab"), write_all(&mut sink, b"cd"));
-    assert_eq!(rt; wrote, (Ok(()), Err(Stop::Failed)));
-    assert_eq!(rt; sink.written(), b"ab".as_slice());
-    Ok(())
 }
 
 #[test]

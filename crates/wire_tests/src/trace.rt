@@ -16,7 +16,7 @@ fn version(n: u64) -> Result<Version, Fail> {
 }
 
 /// Where a monitor in epoch 2 stands.
-pub(crate) fn state(phase: Phase, last: u64) -> Result<StateLine, Fail> {
+fn state(phase: Phase, last: u64) -> Result<StateLine, Fail> {
     Ok(StateLine {
         phase,
         epoch: Epoch::new(2).ok_or("an epoch")?,
@@ -25,7 +25,7 @@ pub(crate) fn state(phase: Phase, last: u64) -> Result<StateLine, Fail> {
 }
 
 /// One reply, to 1.2.
-pub(crate) fn replied(alloc: Global, reply: Reply) -> Result<Replies, Fail> {
+fn replied(alloc: Global, reply: Reply) -> Result<Replies, Fail> {
     let mut replies = Replies::new(alloc);
     replies.push(Replied {
         rank: Rank::new(0).ok_or("a rank")?,
@@ -46,12 +46,7 @@ fn traced(alloc: Global, line: &str, step: &StepLine) -> Result<Vec<u8>, Fail> {
 }
 
 /// Whether these lines tell what that event did, behind its own.
-pub(crate) fn is_traced(
-    alloc: Global,
-    line: &str,
-    step: &StepLine,
-    lines: &str,
-) -> Result<bool, Fail> {
+fn is_traced(alloc: Global, line: &str, step: &StepLine, lines: &str) -> Result<bool, Fail> {
     let written = traced(alloc, line, step)?;
     let wanted = format!(in alloc; "7 {line}\n{lines}")?;
     Ok(written.as_slice() == wanted.as_bytes())
@@ -105,25 +100,6 @@ fn is_replied(alloc: Global, reply: Reply, told: &str) -> Result<bool, Fail> {
     is_traced(alloc, SHOW, &step, line.as_str())
 }
 
-#[test]
-fn lines_of_replies(rt: HostRuntime) -> Result<(), Fail> {
-    let alloc = rt.alloc();
-    let unread = Reply::NotReadable {
-        has: version(0)?,
-        lease: true,
-    };
-    let rows = [
-        (Reply::NoSuch, "nosuch"),
-        (Reply::Busy { waiting: 64 }, "busy waiting=64"),
-        (Reply::Unavailable, "unavailable"),
-        (unread, "notreadable has=0 lease=1"),
-    ];
-    for (reply, told) in rows {
-        assert!(rt; is_replied(alloc, reply, told)?, "{told}");
-    }
-    Ok(())
-}
-
 fn set(alloc: Global, key: &str, value: &str) -> Result<KvInc, Fail> {
     let key = Name::new(key.as_bytes().to_vec(alloc)?).ok_or("a key")?;
     let value = Text::new(value.as_bytes().to_vec(alloc)?).ok_or("a value")?;
@@ -150,14 +126,5 @@ fn the_line_of_a_shown_map(rt: HostRuntime) -> Result<(), Fail> {
     };
     let told = "shown kv paxos=3 version=3 {\"a\":\"x\",\"b\":\"\\\"\\\\ y \",\"~\":\"\"}";
     assert!(rt; is_replied(alloc, show, told)?);
-    Ok(())
-}
-
-#[test]
-fn the_last_line_of_a_trace(rt: HostRuntime) -> Result<(), Fail> {
-    assert_eq!(rt;
-        end_line(rt.alloc(), 7, 3)?.as_slice(),
-        b"end events=7 log=3\n".as_slice()
-    );
     Ok(())
 }
