@@ -1,0 +1,5 @@
+//! Tests of the top call, as its users see it.
+#![tactic(auto)]
+
+#[cfg(test)]
+mod statuses;
