@@ -1,35 +1,132 @@
-//! What the tests of several roles give: numbers, monitors and values.
+//! What the tests of several roles give: numbers, monitors, stores, values and messages.
+
+ghost use Rattle.std.specs.Prelude.{IsTrue};
+ghost use Rattle.mon_plan.specs.Inputs.{may_come};
+ghost use Rattle.mon_msg.specs.Protocol.Length.{fits};
 
 use election_rules::Rule;
-use mon_bytes::Items;
-use mon_msg::Me;
+use mon_bytes::{Bytes, Items};
+use mon_kv::Kv;
+use mon_msg::input::Input;
+use mon_msg::{Body, MOST_BYTES, Me, Message, Phase, Reply, View};
 use mon_tx::{Area, Key, Transaction};
-use mon_types::{Member, Number, Rank};
+use mon_types::{Member, Number, Rank, RankSet};
 use std::alloc::Global;
 use std::test::Fail;
 
-pub(crate) fn number<K: Copy>(n: u64) -> Result<Number<K>, Fail> {
-    Ok(Number::new(n).ok_or("a number")?)
+pub(crate) fn number<K: Copy>(n: u32) -> Number<K> {
+    Number::known(u64::from(n))
 }
 
 /// A monitor of so many.
-pub(crate) fn me(rank: u8, monitors: u8, rule: Rule) -> Result<Me, Fail> {
-    let rank = Rank::new(rank).ok_or("a rank")?;
+pub(crate) fn me(rank: Rank, monitors: u8, rule: Rule) -> Result<Me, Fail> {
     let member = Member::new(rank, monitors).ok_or("a member")?;
     Ok(Me { member, rule })
 }
 
-/// The value of a version of the log: it puts one number.
-pub(crate) fn value(alloc: Global) -> Result<Transaction, Fail> {
+/// What the roles of a monitor know of it in a phase, with this leader and the bits of this quorum, and a lease that stands.
+pub(crate) fn view(phase: Phase, leader: Rank, quorum: u16) -> View {
+    View {
+        phase,
+        leader,
+        quorum: RankSet::from_bits(quorum),
+        standing: true,
+        readable: true,
+    }
+}
+
+/// A message of another monitor, in an epoch, as it comes to a monitor.
+pub(crate) fn deliver(me: &Me, from: Rank, epoch: u32, body: Body) -> Input {
+    Input::Deliver(Message {
+        from,
+        monitors: me.member.monitors,
+        epoch: number(epoch),
+        body,
+    })
+}
+
+/// Whether a message may be sent. It is `false` also for those that no test here gives.
+fn may_be_sent(message: &Message) -> bool
+    ensures { IsTrue result → IsTrue (fits message.now.monitors message.now.body) }
+{
+    if message.len() > MOST_BYTES {
+        return false;
+    }
+    match &message.body {
+        Body::Collect { .. } => true,
+        Body::Last { values, .. } => values.len() <= 65_535,
+        Body::Begin { .. } => true,
+        Body::Accept { .. } => true,
+        Body::Commit { values, .. } => values.len() <= 65_535,
+        Body::Lease { .. } => true,
+        Body::LeaseAck { .. } => true,
+        Body::Forward { .. } => true,
+        Body::Route {
+            reply: Reply::Done { .. },
+            ..
+        } => true,
+        Body::Cookie { .. } => true,
+        Body::LastChunk {
+            values,
+            entries,
+            ..
+        } => values.len() <= 65_535 && entries.len() <= 65_535,
+        Body::NoCookie { .. } => true,
+        _ => false,
+    }
+}
+
+/// Whether an input may come to a monitor.
+pub(crate) fn may_come(me: &Me, input: &Input) -> bool
+    ensures { IsTrue result → IsTrue (may_come me.now.member.monitors input.now) }
+{
+    match input {
+        Input::Deliver(message) => {
+            message.monitors == me.member.monitors && may_be_sent(message)
+        }
+        _ => true,
+    }
+}
+
+/// The changes are made to a store.
+pub(crate) fn apply(kv: &mut Kv, tx: &Transaction) -> Result<(), Fail> {
+    kv.apply(tx)?;
+    Ok(())
+}
+
+/// A store that holds these numbers.
+pub(crate) fn store(alloc: Global, numbers: &[(Area, Key, u64)]) -> Result<Kv, Fail> {
+    let mut tx = Transaction::new(alloc);
+    for (area, key, n) in numbers {
+        tx.put_number(*area, *key, *n)?;
+    }
+    let mut kv = Kv::empty(alloc);
+    kv.apply(&tx)?;
+    Ok(kv)
+}
+
+/// The value of a version of the log: it puts this number.
+pub(crate) fn value(alloc: Global, n: u64) -> Result<Transaction, Fail> {
     let mut value = Transaction::new(alloc);
-    value.put_number(Area::Kv, Key::LastCommitted, 1)?;
+    value.put_number(Area::Kv, Key::LastCommitted, n)?;
     Ok(value)
 }
 
 pub(crate) fn values(alloc: Global, count: u64) -> Result<Items<Transaction>, Fail> {
     let mut values = Items::new(alloc);
-    for _ in 0..count {
-        values.push(value(alloc)?)?;
+    for n in 0..count {
+        values.push(value(alloc, n)?)?;
     }
     Ok(values)
+}
+
+/// Puts the records of the versions from `first` to `last`, each of which puts its own version.
+pub(crate) fn put_records(alloc: Global, kv: &mut Kv, first: u64, last: u64) -> Result<(), Fail> {
+    let mut tx = Transaction::new(alloc);
+    for v in first..last.saturating_add(1) {
+        let record = Bytes::new(value(alloc, v)?.encode()?);
+        tx.put(Area::Paxos, Key::Version(v), record)?;
+    }
+    kv.apply(&tx)?;
+    Ok(())
 }

@@ -2,10 +2,12 @@
 #![tactic(auto)]
 
 #[cfg(test)]
+mod done;
+#[cfg(test)]
 mod given;
+#[cfg(test)]
+mod leader;
 #[cfg(test)]
 mod peon;
 #[cfg(test)]
 mod plan;
-#[cfg(test)]
-mod shown;
