@@ -133,26 +133,6 @@ fn fault(alloc: Global, bytes: &[u8]) -> Result<Option<(MsgKind, usize)>, Fail> 
     }
 }
 
-/// Whether the bytes of the message that these digits spell are the same again, as many as it says.
-fn is_spelled_again(alloc: Global, digits: &str) -> Result<bool, Fail> {
-    let bytes = bytes_of(alloc, digits)?;
-    match decode(alloc, &bytes) {
-        Ok(message) => {
-            let again = message.encode(alloc)?;
-            Ok(again.as_slice() == bytes.as_slice() && message.len() == again.len())
-        }
-        Err(_) => Ok(false),
-    }
-}
-
-#[test]
-fn each_message_is_spelled_as_it_was(rt: HostRuntime) -> Result<(), Fail> {
-    for digits in EXAMPLES.lines() {
-        assert!(rt; is_spelled_again(rt.alloc(), digits)?, "{digits}");
-    }
-    Ok(())
-}
-
 #[test]
 fn a_part_is_cut_and_a_byte_more_is_too_many(rt: HostRuntime) -> Result<(), Fail> {
     let alloc = rt.alloc();
