@@ -441,8 +441,8 @@ if __name__ == '__main__':
     if sys.argv[1] == 'calm':
         name = lambda k: Con('Set', (b'k%d' % k, b'v'))
         orders = [Tup(0, name(1)), Tup(1, Con('Log', (b'text',))), Tup(2, Con('Remove', (b'none',))), Tup(1, Con('Remove', (b'k1',))), Tup(0, name(2))]
-        for n in map(int, sys.argv[2:]): calm(n, []); calm(n, [Tup(o.a[0] % n, o.a[1]) for o in orders])
-        sys.exit()
+        good = [calm(n, asked) for n in map(int, sys.argv[2:]) for asked in ([], [Tup(o.a[0] % n, o.a[1]) for o in orders])]
+        sys.exit(not all(good))
     program, profile = sys.argv[1:3]
     if profile == 'file':
         schedule = open(sys.argv[3]).read()
