@@ -2,55 +2,91 @@
 import random
 import run
 TIMERS = list(run.TIMER)
-def text(rng, length): return ''.join(rng.choice('abcxyz "\\~') for _ in range(length))
+
+
+def text(rng, length):
+    return ''.join(rng.choice('abcxyz "\\~') for _ in range(length))
+
+
 def request(rng, big):
     length = rng.choice([0, 1, 5, 60, 1024, 1025, 65536, 65537, 60000] if big else [0, 1, 3, 8, 40])
     draw = rng.random()
-    if draw < 0.35: return 'set k%d %s' % (rng.randrange(12), text(rng, length))
-    if draw < 0.5: return 'remove k%d' % rng.randrange(12)
-    if draw < 0.7: return 'log %s' % text(rng, length)
-    if draw < 0.85: return 'show %s' % rng.choice(['kv', 'log'])
+    if draw < 0.35:
+        return 'set k%d %s' % (rng.randrange(12), text(rng, length))
+    if draw < 0.5:
+        return 'remove k%d' % rng.randrange(12)
+    if draw < 0.7:
+        return 'log %s' % text(rng, length)
+    if draw < 0.85:
+        return 'show %s' % rng.choice(['kv', 'log'])
     return 'since %s %d' % (rng.choice(['kv', 'log']), rng.choice([0, 1, 2, 5, 20, 30, 60, 2 ** 62]))
+
+
 def first_line(rng, big):
     n = rng.choice([3, 5] if big else [1, 2, 3, 3, 3, 4, 5, 5, 7, 15])
     rule = rng.choice(['classic', 'disallow=', 'connectivity', 'connectivity='])
-    if rule.endswith('='): rule += ','.join(map(str, sorted(rng.sample(range(n), rng.randint(1, max(1, n // 2))))))
+    if rule.endswith('='):
+        rule += ','.join(map(str, sorted(rng.sample(range(n), rng.randint(1, max(1, n // 2))))))
     return n, 'monitors %d %s' % (n, rule)
+
+
 def schedule_of(seed, events, flavour):
     """the schedule of a number, and how it was played"""
-    rng = random.Random(seed); big = flavour == 'big'
-    n, first = first_line(rng, big); play = run.Play(first); lines = [first]
-    waiting = []; now = 0; session = 0; sent = 0
+    rng = random.Random(seed)
+    big = flavour == 'big'
+    n, first = first_line(rng, big)
+    play = run.Play(first)
+    lines = [first]
+    waiting = []
+    now = 0
+    session = 0
+    sent = 0
     often = {'timer': rng.choice([0.02, 0.1, 0.25]), 'start': rng.choice([0, 0.002, 0.01]), 'client': rng.choice([0.05, 0.15, 0.4])}
     old, lost, armed, crashed = rng.choice([0, 0.05, 0.2]), rng.choice([0, 0.02, 0.1]), rng.choice([0.3, 0.7]), rng.choice([0, 0.01, 0.04])
     state = lambda i: run.app(play.scene.d['world'].d['state'], i)
     # most begin with an election and some commands that nothing disturbs
     quiet = rng.choice([0, 1, 1]) * (5 * n * n + 40)
     while len(lines) <= events:
-        if len(lines) > quiet and rng.random() < 0.3: now = max(0, now + rng.choice([0, 1, 10, 100, 999, 1000, 2000, 3000, 5000, 5001, 30000, -1500, 43200000]))
-        draw = rng.random(); down = [i for i in range(n) if state(i).n == 'None']
-        if len(lines) <= n and rng.random() < 0.95: line = 'start %d %d' % (len(lines) - 1, now)
+        if len(lines) > quiet and rng.random() < 0.3:
+            now = max(0, now + rng.choice([0, 1, 10, 100, 999, 1000, 2000, 3000, 5000, 5001, 30000, -1500, 43200000]))
+        draw = rng.random()
+        down = [i for i in range(n) if state(i).n == 'None']
+        if len(lines) <= n and rng.random() < 0.95:
+            line = 'start %d %d' % (len(lines) - 1, now)
         elif len(lines) <= quiet:
-            if waiting: line = 'deliver %d %d' % (waiting.pop(0), now)
-            else: session += 1; line = 'client %d %d %d %d %s' % (rng.randrange(n), now, rng.randint(0, 3), session, request(rng, big))
-        elif down and rng.random() < 0.1: line = 'start %d %d' % (rng.choice(down), now)
-        elif draw < often['start']: line = 'start %d %d' % (rng.randrange(n), now)
+            if waiting:
+                line = 'deliver %d %d' % (waiting.pop(0), now)
+            else:
+                session += 1
+                line = 'client %d %d %d %d %s' % (rng.randrange(n), now, rng.randint(0, 3), session, request(rng, big))
+        elif down and rng.random() < 0.1:
+            line = 'start %d %d' % (rng.choice(down), now)
+        elif draw < often['start']:
+            line = 'start %d %d' % (rng.randrange(n), now)
         elif draw < often['start'] + often['timer']:
-            rank = rng.randrange(n); kind = rng.choice(TIMERS)
+            rank = rng.randrange(n)
+            kind = rng.choice(TIMERS)
             if rng.random() < armed and state(rank).n == 'Some':
                 kind = rng.choice([TIMERS[i] for i, t in enumerate(state(rank).a[0].d['timers']) if t.n == 'Some'] or [kind])
             line = 'timer %d %s %d' % (rank, kind, now)
         elif draw < often['start'] + often['timer'] + often['client']:
             leads = [i for i in range(n) if state(i).n == 'Some' and state(i).a[0].d['phase'].n in ('Active', 'Updating')]
-            rank = rng.choice(leads) if leads and rng.random() < 0.5 else rng.randrange(n); session += 1
+            rank = rng.choice(leads) if leads and rng.random() < 0.5 else rng.randrange(n)
+            session += 1
             line = 'client %d %d %d %d %s' % (rank, now, rng.randint(0, 3), session, request(rng, big))
         elif waiting and rng.random() > old:
             number = waiting.pop(0 if rng.random() < 0.8 else rng.randrange(min(len(waiting), 12)))
-            if rng.random() < lost: continue
+            if rng.random() < lost:
+                continue
             line = 'deliver %d %d' % (number, now)
-        else: line = 'deliver %d %d' % (rng.randint(max(1, sent - 60), sent + 1), now)
-        if len(lines) > quiet and rng.random() < crashed: line = '%s %s %d %d %s' % (rng.choice(['crash', 'fail']), rng.choice('ab'), rng.randint(1, 14), rng.randrange(4), line)
+        else:
+            line = 'deliver %d %d' % (rng.randint(max(1, sent - 60), sent + 1), now)
+        if len(lines) > quiet and rng.random() < crashed:
+            line = '%s %s %d %d %s' % (rng.choice(['crash', 'fail']), rng.choice('ab'), rng.randint(1, 14), rng.randrange(4), line)
         lines.append(line)
-        if not play.take(line): break
-        others = len(play.scene.d['world'].d['messages']); waiting += range(sent + 1, others + 1); sent = others
+        if not play.take(line):
+            break
+        others = len(play.scene.d['world'].d['messages'])
+        waiting += range(sent + 1, others + 1)
+        sent = others
     return '\n'.join(lines) + '\n', play
