@@ -19,7 +19,7 @@ use Rattle.mon_msg.specs.Protocol.Places.{is_after, after_entries}
 use Rattle.log_copies.specs.Copies.{is_past}
 use Rattle.log_copies.proofs.Chunks.{between}
 use Rattle.log_copies.proofs.Taken.{copies_put}
-use Rattle.log_model.proofs.Lists.{all_map}
+use Rattle.log_model.proofs.Lists.{all_front, all_map}
 use Rattle.log_model.proofs.SharedEntries.{Pair, below_each}
 
 abbrev pub entry_of : Pair → Entry
@@ -49,10 +49,6 @@ not_itself p e = let a = is_less (place_cmp p p) e in let b = places_total.antis
 
 abbrev pub AllPast : KeyPlace → List Pair → Type 0
 AllPast x es = AllByRecursion (λ (e : Pair). is_past x e.0 ≡ true) es
-
-all_front : {A : Type 0} (P : A → Type 0) (xs ys : List A) → AllByRecursion P (xs ++ ys) → AllByRecursion P xs
-all_front P [] ys h = tt
-all_front P (x ∷ xs) ys h = (h.0, all_front P xs ys h.1)
 
 pub all_at : {A : Type 0} (P : A → Type 0) (xs : List A) (y : A) (ys : List A) → AllByRecursion P (xs ++ y ∷ ys) → P y
 all_at P [] y ys h = h.0
