@@ -17,7 +17,7 @@ ghost use Rattle.quorum_model.specs.Files.{Files, after_opening, no_files};
 ghost use Rattle.quorum_model.specs.Growth.{last_of};
 ghost use Rattle.quorum_model.specs.Meets.{state_at};
 ghost use Rattle.svc_core.specs.Cache.{Follows};
-ghost use Rattle.mon_world.specs.Falls.{Falls, FallsDown};
+ghost use Rattle.mon_world.specs.Falls.{Falls, FallsDown, MayBe};
 ghost use Rattle.mon_world.specs.Monitor.{Holds, InUse, IsHeld, IsRunning, IsUp, Keeps, Reacts, Standing, StandingUp, Stands, StandsAfter, Takes};
 ghost use Rattle.mon_world.specs.Step.{state_if_up, state_of};
 
@@ -108,9 +108,7 @@ fn fallen(
 ) -> Result<Fallen, WorldStop>
     requires held { IsHeld me.now kept.old }
     requires comes { MayCome input.now }
-    requires first { 1 ≤ upset.call }
-    requires most { upset.call ≤ 65535 }
-    requires image { upset.image ≤ 3 }
+    requires may { MayBe upset }
     ensures { (m : Map) (s : Option State) (t : State) (f : Files) → Holds me.now m s f kept.old
         → state_at me.now.member.rank s input.now ≡ Some t
         → Falls upset me.now.member m f input.now (reaction me.now now m t input.now) result }
@@ -246,9 +244,7 @@ impl Monitor {
     ) -> Result<Option<bool>, WorldStop>
         requires stands { Standing self.old }
         requires comes { MayCome input.now }
-        requires first { 1 ≤ upset.call }
-        requires most { upset.call ≤ 65535 }
-        requires image { upset.image ≤ 3 }
+        requires may { MayBe upset }
         ensures { (me : Me) (m : Map) (s : Option State) (t : State) (f : Files) → Stands me m s f self.old
             → state_at me.member.rank s input.now ≡ Some t
             → FallsDown upset me m f input.now (reaction me now m t input.now) self.new result }
