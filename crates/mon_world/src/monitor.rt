@@ -92,7 +92,10 @@ fn core_at(alloc: Global, me: &Me, core: Core, input: &Input) -> Core
     ensures follows { (w : Readings) → Follows core.cache w → Follows result.cache w }
 {
     match input {
-        Input::Start => Core::boot(alloc, me.member, me.rule),
+        Input::Start => {
+            drop(core);
+            Core::boot(alloc, me.member, me.rule)
+        }
         Input::Deliver(_) | Input::Timer(_) | Input::Client(..) => core,
     }
 }
@@ -115,7 +118,16 @@ fn fallen(
 {
     let Taken { disks, core } = take(alloc, me, kept);
     let mut core = core_at(alloc, me, core, input);
-    fall(alloc, me.member, disks, &mut core, upset, input, now)
+    let left = fall(alloc, me.member, disks, &mut core, upset, input, now);
+    drop(core);
+    left
+}
+
+/// A monitor keeps something else from then on.
+fn put(kept: &mut Kept, next: Kept)
+    ensures { kept.new ≡ next }
+{
+    drop(mem::replace(kept, next));
 }
 
 /// The last committed version.
@@ -211,10 +223,14 @@ impl Monitor {
         ensures { (me : Me) (m : Map) (s : Option State) (f : Files) → Stands me m s f self.old
             → OnOk result (Stands me m (Some (booting me.member.rank)) (after_opening f) self.new) }
     {
-        let Taken { disks, .. } = take(self.alloc, &self.me, &mut self.kept);
+        let Taken {
+            disks,
+            core: before,
+        } = take(self.alloc, &self.me, &mut self.kept);
+        drop(before);
         let store = start(self.alloc, disks, self.me.member)?;
         let core = Core::boot(self.alloc, self.me.member, self.me.rule);
-        self.kept = Kept::Up(Running { store, core });
+        put(&mut self.kept, Kept::Up(Running { store, core }));
         Ok(())
     }
 
@@ -257,7 +273,7 @@ impl Monitor {
             input,
             now,
         )?;
-        self.kept = Kept::Down(disks);
+        put(&mut self.kept, Kept::Down(disks));
         match kept {
             Some(written) => {
                 self.last = written.last;

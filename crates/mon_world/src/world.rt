@@ -304,7 +304,11 @@ impl World {
     {
         match arriving(self.alloc, self.messages.as_slice(), event)? {
             None => Ok(still(self.alloc, Outcome::NoMessage)),
-            Some(arrival) => self.come(&arrival),
+            Some(arrival) => {
+                let line = self.come(&arrival);
+                drop(arrival);
+                line
+            }
         }
     }
 
@@ -350,7 +354,11 @@ impl World {
     {
         match arriving(self.alloc, self.messages.as_slice(), event)? {
             None => Ok(Upshot::NoMessage),
-            Some(arrival) => self.fall(&arrival, upset),
+            Some(arrival) => {
+                let upshot = self.fall(&arrival, upset);
+                drop(arrival);
+                upshot
+            }
         }
     }
 
