@@ -26,6 +26,7 @@ use Rattle.schedule_text.specs.declared.event.Plain.{Plain}
 use Rattle.schedule_text.specs.declared.event.Plain.TheVariants as plain
 use Rattle.mon_world.specs.Events.{plain_event, scheduled_of}
 use Rattle.mon_types.specs.declared.names.Side.{Side}
+use Rattle.mon_world.specs.Falls.{MayBe}
 use Rattle.mon_world.specs.Stands.{Fits, FitsPlain, MayArrive}
 
 below : (n k : ℕ) → IsTrue (ltb k n) → k < n
@@ -135,14 +136,12 @@ may_meet n w (plain.Client rank at session asked) fits h =
 
 -- ---- what an event says happens
 
-pub record IsUpsetBy (n call image : ℕ) (p : Plain) : Type 0 where
-  pub first : 1 ≤ call
-  pub most : call ≤ 65535
-  pub image_is : image ≤ 3
+pub record IsUpsetBy (n : ℕ) (disk : Side) (call image : ℕ) (p : Plain) : Type 0 where
+  pub may : MayBe (record { disk = disk; call = call; image = image })
   pub plain_fits_too : FitsPlain n p
 
 upset_by : (n : ℕ) (word : List ℕ) (disk : Side) (call image : ℕ) (p : Plain) → IsTrue (within 1 1000 call && (leb image 3 && plain_fits n p))
-    → length (spaced word (upset_text disk call image p)) ≤ most_bytes → IsUpsetBy n call image p
+    → length (spaced word (upset_text disk call image p)) ≤ most_bytes → IsUpsetBy n disk call image p
 upset_by n word disk call image p form short =
     let a = both (within 1 1000 call) (leb image 3 && plain_fits n p) form in
     let b = both (leb image 3) (plain_fits n p) a.1 in
@@ -153,9 +152,7 @@ upset_by n word disk call image p form short =
     let c = spaced (decimal image) d in
     let e = spaced (decimal call) c in
     record {
-      first = first;
-      most = omega (arith, last);
-      image_is = at_most 3 image b.0;
+      may = record { first = first; most = omega (arith, last); image = at_most 3 image b.0 };
       plain_fits_too = record {
         form = b.1;
         short = omega (arith, short, rest_within (decimal image) d, rest_within (decimal call) c, rest_within (side_text disk) e, rest_within word (upset_text disk call image p));
@@ -165,8 +162,8 @@ upset_by n word disk call image p form short =
 pub plain_fit : (n : ℕ) (p : Plain) → Fits n (events.Plain p) → FitsPlain n p
 plain_fit n p fits = record { form = fits.form; short = fits.short }
 
-pub crash_fits : (n : ℕ) (disk : Side) (call image : ℕ) (p : Plain) → Fits n (events.Crash disk call image p) → IsUpsetBy n call image p
+pub crash_fits : (n : ℕ) (disk : Side) (call image : ℕ) (p : Plain) → Fits n (events.Crash disk call image p) → IsUpsetBy n disk call image p
 crash_fits n disk call image p fits = upset_by n (codes "crash") disk call image p fits.form fits.short
 
-pub fail_fits : (n : ℕ) (disk : Side) (call image : ℕ) (p : Plain) → Fits n (events.Fail disk call image p) → IsUpsetBy n call image p
+pub fail_fits : (n : ℕ) (disk : Side) (call image : ℕ) (p : Plain) → Fits n (events.Fail disk call image p) → IsUpsetBy n disk call image p
 fail_fits n disk call image p fits = upset_by n (codes "fail") disk call image p fits.form fits.short

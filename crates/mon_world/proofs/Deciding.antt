@@ -22,7 +22,7 @@ use Rattle.mon_types.specs.declared.member.Member.{Member}
 use Rattle.mon_world.specs.declared.crash.Fallen.{Fallen}
 use Rattle.mon_world.specs.declared.stop.WorldStop.{WorldStop}
 use Rattle.mon_world.specs.declared.stop.WorldStop.TheVariants.{OutOfMemory, Spent, Full}
-use Rattle.mon_world.specs.Falls.{Ends, Falls, IsLeft, Settled, StopsKept, counted, files_left, keeps, upset_of, written_if}
+use Rattle.mon_world.specs.Falls.{Ends, Falls, IsLeft, Settled, StopsKept, counted, files_left, keeps, map_left, upset_of, written_if}
 use Rattle.mon_world.specs.Stops.{Stops}
 
 -- creating a store leaves disk a live
@@ -90,6 +90,7 @@ module _ (u : Upset) (m : Store) (f : Files) (opening : ℕ) (late : opening < u
 
 module _ (u : Upset) (member : Member) (m : Store) (f : Files) (came : Input) (later : opening_of came u.disk f < u.call) where
   left : (x : Reaction) (fallen : Fallen) → Settled (behind u (opening_of came u.disk f)) member m (after_opening f) x.transaction fallen → IsLeft u member m f came (Ok x) fallen
+  unfolding keeps map_left files_left
   left x fallen s =
       let same = kept_so u m f (opening_of came u.disk f) later x s.room in
       let files = files_so u m f (opening_of came u.disk f) later x.transaction in record {
@@ -101,6 +102,7 @@ module _ (u : Upset) (member : Member) (m : Store) (f : Files) (came : Input) (l
       }
 
   stopped : (e : WorldStop) (r : Result Reaction Which) → Stops e (unless_stopped m r) → StopsKept e (keeps u m f came r) (unless_stopped m r)
+  unfolding keeps
   stopped OutOfMemory r h = tt
   stopped (Spent which) r h = (stop_kept u m f (opening_of came u.disk f) later r (ap is_err h), h)
   stopped (Full would_be) r h = (stop_kept u m f (opening_of came u.disk f) later r (ap is_err h), h)
@@ -111,6 +113,7 @@ module _ (u : Upset) (member : Member) (m : Store) (f : Files) (came : Input) (l
 
 -- a start whose opening failed loses what it would write
 lost : (u : Upset) (m : Store) (f : Files) (r : Result Reaction Which) → u.call ≤ opening_count u.disk f → writes_nothing r ≡ false → keeps u m f input.Start r ≡ false
+unfolding keeps
 lost u m f r early writes =
     let never : nat_lt (opening_count u.disk f) u.call ≡ false = le-ltb (opening_count u.disk f) u.call early in
     let none : u.call - opening_count u.disk f ≡ 0 = omega arith in
@@ -125,6 +128,7 @@ lost u m f r early writes =
 
 pub failed : (u : Upset) (member : Member) (m : Store) (f : Files) (r : Result Reaction Which) (fallen : Fallen) → u.call ≤ opening_count u.disk f → writes_nothing r ≡ false
     → fallen.kept ≡ None → Rests member m (opening_cut f u.disk u.call u.image) fallen.disks.a fallen.disks.b → IsLeft u member m f input.Start r fallen
+unfolding keeps map_left files_left
 failed u member m f r fallen early writes none rests =
     let is = lost u m f r early writes in
     let files : files_left u m f input.Start r ≡ opening_cut f u.disk u.call u.image =

@@ -75,6 +75,10 @@ module _ (u : Upset) (me : Me) (m : Store) (f : Files) (came : Input) (r : Resul
   holds : Holds me (map_left u m f came r) None (files_left u m f came r) new.kept
   holds = subst (Holds me (map_left u m f came r) None (files_left u m f came r)) (sym down) left.rests
 
+  left_is : (k : Bool) → keeps u m f came r ≡ k → map_left u m f came r ≡ (if k then apply (ops_of r) m else m)
+  unfolding map_left
+  left_is k so = ap (λ (k : Bool). if k then apply (ops_of r) m else m) so
+
   -- its transaction is kept
   pub down_kept : (w : Written) → fallen.kept ≡ Some w → new.last ≡ w.last → IsDown u me m f came r (Some w.marked) new
   down_kept w some last = by (keeps u m f came r) refl
@@ -86,7 +90,7 @@ module _ (u : Upset) (me : Me) (m : Store) (f : Files) (came : Input) (r : Resul
             told_is = ap (λ (w : Written). Some w.marked) is ∙ ap (λ (k : Bool). marked_if k (apply (ops_of r) m)) (sym so);
             stands = record {
               me_is = me_is;
-              last = last ∙ (ap (λ (w : Written). w.last) is ∙ ap (λ (k : Bool). last_of (if k then apply (ops_of r) m else m)) (sym so));
+              last = last ∙ (ap (λ (w : Written). w.last) is ∙ ap last_of (sym (left_is true so)));
               holds = holds;
             };
           }
@@ -102,7 +106,7 @@ module _ (u : Upset) (me : Me) (m : Store) (f : Files) (came : Input) (r : Resul
         told_is = ap (λ (k : Bool). marked_if k (apply (ops_of r) m)) (sym so);
         stands = record {
           me_is = me_is;
-          last = last ∙ ap (λ (k : Bool). last_of (if k then apply (ops_of r) m else m)) (sym so);
+          last = last ∙ ap last_of (sym (left_is false so));
           holds = holds;
         };
       }

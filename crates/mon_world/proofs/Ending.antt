@@ -19,6 +19,7 @@ use Rattle.mon_world.specs.declared.crash.Fallen.{Fallen}
 use Rattle.mon_world.specs.declared.crash.Written.{Written}
 use Rattle.mon_world.specs.declared.stop.WorldStop.{WorldStop}
 use Rattle.mon_world.specs.Falls.{Ends, EndsWith, Settled, written, written_if}
+use Rattle.mon_world.specs.Monitor.{does}
 use Rattle.mon_world.proofs.Reacting.{not_kept}
 
 then_some_is : (kept : Bool) (m : Store) → then_some kept (written m) ≡ written_if kept m
@@ -40,5 +41,6 @@ settled u member m f ops a b kept w fallen x is some rests = record {
 -- what its reaction writes is kept or lost, or stops the run as it should
 pub ends : (me : Me) (now : ℕ) (m : Store) (s : State) (came : Input) (u : Upset) (member : Member) (f : Files) (r : Reaction) (result : Result Fallen WorldStop)
     → reaction me now m s came ≡ Ok r → EndsWith u member m f r.transaction result → Ends u member m f (reaction me now m s came) result
+unfolding does
 ends me now m s came u member f r (Ok fallen) is h = (r, is, h)
 ends me now m s came u member f r (Err e) is h = not_kept me now m s came r e is h

@@ -19,22 +19,27 @@ use Rattle.quorum_model.specs.Monitors.{Monitors}
 use Rattle.quorum_model.specs.Scenes.{Scene, all_files_after, event_at, files_after, kept_at, ops_of, with_files}
 use Rattle.quorum_model.specs.Upsets.{Upset}
 use Rattle.quorum_model.specs.World.{Crash, Plain}
+use Rattle.schedule_text.specs.declared.event.Plain as schedule
 use Rattle.trace_text.specs.declared.step.Outcome.{Outcome}
+use Rattle.trace_text.specs.declared.step.Outcome.TheVariants as outcome
 use Rattle.trace_text.specs.declared.step.StepLine.{StepLine}
 use Rattle.mon_world.specs.declared.meeting.Fall.{Fall}
 use Rattle.mon_world.specs.declared.monitor.Monitor.{Monitor}
 use Rattle.mon_world.specs.declared.stop.WorldStop.{WorldStop}
 use Rattle.mon_world.specs.declared.stop.WorldStop.TheVariants.{OutOfMemory, Spent, Full}
+use Rattle.mon_world.specs.declared.world.Fault.{Fault}
+use Rattle.mon_world.specs.declared.world.Fault.TheVariants as fault
 use Rattle.mon_world.specs.declared.world.Upshot.{Upshot}
 use Rattle.mon_world.specs.declared.world.Upshot.TheVariants as upshot
 use Rattle.mon_world.specs.declared.world.World.{World}
-use Rattle.mon_world.specs.Falls.{StopsKept, keeps, marked_if, upset_of}
+use Rattle.mon_world.specs.Events.{plain_event}
+use Rattle.mon_world.specs.Falls.{StopsKept, files_left, keeps, map_left, marked_if, upset_of}
 use Rattle.mon_world.specs.Meeting.{MeetsFall}
 use Rattle.mon_world.specs.Monitor.{Stands}
 use Rattle.mon_world.specs.Stands.{Does, DoesUpset, StandsAt, StandsFor, envelope_of, upset_step, upshot_at}
-use Rattle.mon_world.specs.Step.{log_after, still_line, upset_line, with_line}
+use Rattle.mon_world.specs.Step.{log_after, step, still_line, upset_line, with_line}
 use Rattle.mon_world.specs.Stops.{Stops}
-use Rattle.mon_world.specs.Telling.{GrowsIf, Leaves, outcome_of}
+use Rattle.mon_world.specs.Telling.{GrowsIf, Leaves, faulty_event, outcome_of, stopped_as}
 use Rattle.mon_world.proofs.Arriving.{Reaches, after_none, elsewhere, meets_down, meets_none, meets_up, new_found, put_each, stands_at, still_each, unmoved_stands}
 use Rattle.mon_world.proofs.Growing.{grown-length}
 use Rattle.mon_world.proofs.Stepping.{is_reaction}
@@ -152,6 +157,7 @@ module _ (ms : Monitors) (old mid : World) (c : Scene) (u : site.Upset) (p : Pla
   reacts before = reaction r.me a.at (c.world.store a.rank) before a.input
 
   pub fell_stop : (e : WorldStop) → FallsAt u old.monitors.items mid.monitors.items a (Err e) → Stops e (upset_step ms c (upset_of u) p)
+  unfolding keeps
   fell_stop e h =
       let m = (fell (Err e) h).2 in
       stop_fell c (upset_of u) p a.rank a.input (reaction r.me a.at (c.world.store a.rank) m.0 a.input) ms e
@@ -171,6 +177,7 @@ module _ (ms : Monitors) (old mid : World) (c : Scene) (u : site.Upset) (p : Pla
 
     fell_lost : (fall : Fall) → fall.kept ≡ None → FallsAt u old.monitors.items mid.monitors.items a (Ok (Some fall)) → mid.log ≡ old.log
         → DoesUpset ms (Ok (upshot.Stopped false)) mid c (upset_of u) p
+    unfolding keeps map_left files_left
     fell_lost fall none h log =
         let m = fell (Ok (Some fall)) h in
         let x : Result Reaction Which = reaction r.me a.at (c.world.store a.rank) m.2.0 a.input in
@@ -189,6 +196,7 @@ module _ (ms : Monitors) (old mid : World) (c : Scene) (u : site.Upset) (p : Pla
     fell_kept : (fall : Fall) (marked : Bool) → fall.kept ≡ Some marked → FallsAt u old.monitors.items mid.monitors.items a (Ok (Some fall))
         → ((m : Store) → fall.last ≡ last_of m → marked ≡ is_marked m → mid.log ≡ log_after old.log m)
         → DoesUpset ms (Ok (upshot.Stopped true)) mid c (upset_of u) p
+    unfolding keeps map_left files_left
     fell_kept fall marked some h log =
         let m = fell (Ok (Some fall)) h in
         let y : Result Reaction Which = reaction r.me a.at (c.world.store a.rank) m.2.0 a.input in
@@ -252,7 +260,7 @@ module _ (c : Scene) (u : Upset) (how : Bool → Outcome) where
   abbrev upset_told : Monitors → Plain → Result (Scene × StepLine) happens.Stop
   upset_told ms p = with_line (upset_line c u how (meets ms c.world p)) (upset_step ms c u p)
 
-  pub told : (ms : Monitors) (new : World) (p : Plain) (up : Upshot) → DoesUpset ms (Ok up) new c u p → Does ms (Ok (still_line (outcome_of how up))) new (upset_told ms p)
+  told : (ms : Monitors) (new : World) (p : Plain) (up : Upshot) → DoesUpset ms (Ok up) new c u p → Does ms (Ok (still_line (outcome_of how up))) new (upset_told ms p)
   told ms new p up d = (
     d.0,
     ap (with_line (upset_line c u how (meets ms c.world p))) d.1
@@ -260,7 +268,18 @@ module _ (c : Scene) (u : Upset) (how : Bool → Outcome) where
     d.3,
   )
 
-  pub stops_told : (ms : Monitors) (p : Plain) (e : WorldStop) → Stops e (upset_step ms c u p) → Stops e (upset_told ms p)
+  stops_told : (ms : Monitors) (p : Plain) (e : WorldStop) → Stops e (upset_step ms c u p) → Stops e (upset_told ms p)
   stops_told ms p OutOfMemory h = tt
   stops_told ms p (Spent which) h = ap (with_line (upset_line c u how (meets ms c.world p))) h
   stops_told ms p (Full would_be) h = ap (with_line (upset_line c u how (meets ms c.world p))) h
+
+-- by what is to become of the monitor
+pub told_as : (way : Fault) (c : Scene) (u : site.Upset) (ms : Monitors) (new : World) (p : schedule.Plain) (up : Upshot) → DoesUpset ms (Ok up) new c (upset_of u) (plain_event p)
+    → Does ms (Ok (still_line (outcome_of (stopped_as way) up))) new (step ms c (faulty_event way u p))
+told_as fault.Crash c u ms new p up d = told c (upset_of u) outcome.Crashed ms new (plain_event p) up d
+told_as fault.Fail c u ms new p up d = told c (upset_of u) outcome.Failed ms new (plain_event p) up d
+
+pub stops_as : (way : Fault) (c : Scene) (u : site.Upset) (ms : Monitors) (p : schedule.Plain) (e : WorldStop) → Stops e (upset_step ms c (upset_of u) (plain_event p))
+    → Stops e (step ms c (faulty_event way u p))
+stops_as fault.Crash c u ms p e h = stops_told c (upset_of u) outcome.Crashed ms (plain_event p) e h
+stops_as fault.Fail c u ms p e h = stops_told c (upset_of u) outcome.Failed ms (plain_event p) e h

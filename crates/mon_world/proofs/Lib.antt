@@ -20,3 +20,4 @@ pub mod Falling
 pub mod Remembering
 pub mod Holding
 pub mod Safety
+pub mod Tracing

@@ -5,7 +5,9 @@ use Rattle.std.specs.Prelude.{nat_lt}
 use Rattle.std.proofs.lemmas.Bool.{le-ltb, lt-ltb}
 use Rattle.mon_bounds.specs.Fitting.{MaySend}
 use Rattle.mon_core.specs.Core.{Monitor}
-use Rattle.mon_core.specs.Reacts.{IsReaction}
+use Rattle.mon_core.specs.Reacts.{IsReaction, Reacts}
+use Rattle.mon_core.specs.declared.reaction.CoreStop.{CoreStop}
+use Rattle.mon_core.specs.declared.reaction.CoreStop.TheVariants as stop
 use Rattle.mon_core.specs.declared.reaction.Reaction as core
 use Rattle.mon_kv.specs.Readers.{size_of, most_size}
 use Rattle.mon_msg.specs.Protocol.Reaction.{Reaction, reaction}
@@ -20,15 +22,17 @@ use Rattle.mon_world.specs.declared.stop.WorldStop.{WorldStop}
 use Rattle.mon_world.specs.declared.stop.WorldStop.TheVariants as world
 use Rattle.mon_world.specs.Monitor.{IsDone, IsUp, Keeps, does}
 use Rattle.mon_world.specs.Monitor.{Reacts as Answers}
-use Rattle.mon_world.specs.Stops.{IsntKept, Stops}
+use Rattle.mon_world.specs.Stops.{IsntKept, Stops, core_stop}
 
 module _ (me : Me) (now : ℕ) (m : Store) (s : State) (came : Input) where
   has_room : (r : Reaction) → size_of (apply r.transaction m) ≤ most_size → reaction me now m s came ≡ Ok r → does me now m s came ≡ Ok r
+  unfolding does
   has_room r small is =
       let fits : nat_lt most_size (size_of (apply r.transaction m)) ≡ false = le-ltb most_size (size_of (apply r.transaction m)) small in
       ap (unless_stopped m) is ∙ rw fits refl
 
   no_room : (r : Reaction) → most_size < size_of (apply r.transaction m) → reaction me now m s came ≡ Ok r → does me now m s came ≡ Err (Full (size_of (apply r.transaction m)))
+  unfolding does
   no_room r large is =
       let past : nat_lt most_size (size_of (apply r.transaction m)) ≡ true = lt-ltb most_size (size_of (apply r.transaction m)) large in
       ap (unless_stopped m) is ∙ rw past refl
@@ -66,3 +70,10 @@ pub unkept : (me : Me) (now : ℕ) (m : Store) (s : State) (f : Files) (came : I
 unkept me now m s f came old new kv r e up is x h =
     let so = subst (λ (k : Store). IsReaction old.core new k now came r) (is ∙ up.runs.map) x in
     not_kept me now m s came (record { transaction = r.tx; sends = r.out; state = new.state }) e (reacts_so me now m s came old.core new up.me_is up.state r so) h
+
+-- a core's stop stops the run as it should
+pub core_stops : (me : Me) (now : ℕ) (m : Store) (s : State) (came : Input) (old new : Monitor) (kv : Store) (e : CoreStop) → old.me ≡ me → old.state ≡ s → kv ≡ m → Reacts old new kv now came (Err e)
+    → Stops (core_stop e) (unless_stopped m (reaction me now m s came))
+core_stops me now m s came old new kv stop.OutOfMemory me_is state_is is h = tt
+core_stops me now m s came old new kv (stop.Spent which) me_is state_is is h =
+    ap (unless_stopped m) ((λ i. reaction (sym me_is i) now (sym is i) (sym state_is i) came) ∙ h)

@@ -37,7 +37,7 @@ use Rattle.mon_world.specs.declared.stop.WorldStop.TheVariants.{OutOfMemory, Spe
 use Rattle.mon_world.specs.declared.world.World.{World}
 use Rattle.mon_world.specs.Events.{plain_event}
 use Rattle.mon_world.specs.Meeting.{Meets}
-use Rattle.mon_world.specs.Monitor.{Stands}
+use Rattle.mon_world.specs.Monitor.{Stands, does, files_kept}
 use Rattle.mon_world.specs.Stands.{Does, MayArrive, StandsAt, StandsFor, envelope_of}
 use Rattle.mon_world.specs.Step.{log_after, met_line, ran_line, step, still_line, with_line}
 use Rattle.mon_world.specs.Stops.{Stops}
@@ -156,6 +156,7 @@ module _ (ms : Monitors) (old mid : World) (c : Scene) (p : Plain) (a : Arrival)
     (comes : arrival c.world (plain_event p) ≡ Some a) (count : length mid.monitors.items ≡ length old.monitors.items) where
   -- it stops the run
   pub met_stop : (e : WorldStop) → MeetsAt old.monitors.items mid.monitors.items a (Err e) → Stops e (step ms c (events.Plain p))
+  unfolding does
   met_stop e h =
       let m = (met ms old mid c a r count (Err e) h).2 in
       stop_met c p a.rank a.input ms (reaction r.me a.at (c.world.store a.rank) m.0 a.input) e
@@ -176,6 +177,7 @@ module _ (ms : Monitors) (old mid : World) (c : Scene) (p : Plain) (a : Arrival)
     -- it does something, and that is told
     pub met_turn : (new : World) (t : Turn) (line : StepLine) → MeetsAt old.monitors.items mid.monitors.items a (Ok (Some t)) → Tells a.rank t mid new line
         → Does ms (Ok line) new (step ms c (events.Plain p))
+    unfolding does files_kept
     met_turn new t line h tells =
         let m = met ms old mid c a r count (Ok (Some t)) h in
         let turn = m.2.2 in

@@ -33,6 +33,12 @@ use Rattle.mon_world.specs.Stops.{Stops, IsntKept}
 abbrev pub upset_of : Upset → model.Upset
 upset_of u = record { disk = u.disk; call = u.call; image = u.image }
 
+-- It is one that an event of a schedule may have: its call is counted from 1, and there are four images.
+pub record MayBe (u : Upset) : Type 0 where
+  pub first : 1 ≤ u.call
+  pub most : u.call ≤ 65535
+  pub image : u.image ≤ 3
+
 -- A start's calls are counted from its opening on, and those of another input from behind an opening of so many calls.
 abbrev pub counted : Upset → Input → ℕ → Upset
 counted u input.Start opening = u
@@ -67,14 +73,14 @@ Ends u member m f r (Err e) = Stops e (unless_stopped m r)
 -- ---- as the model says, where the monitor's reaction to an input is this
 
 -- whether it is kept
-abbrev pub keeps : Upset → Store → Files → Input → Result Reaction Which → Bool
+unfoldable pub keeps : Upset → Store → Files → Input → Result Reaction Which → Bool
 keeps u m f came r = crash_keeps f m (opening_of came u.disk f) (upset_of u) r
 
 -- the map and the files that it leaves
-abbrev pub map_left : Upset → Store → Files → Input → Result Reaction Which → Store
+unfoldable pub map_left : Upset → Store → Files → Input → Result Reaction Which → Store
 map_left u m f came r = if keeps u m f came r then apply (ops_of r) m else m
 
-abbrev pub files_left : Upset → Store → Files → Input → Result Reaction Which → Files
+unfoldable pub files_left : Upset → Store → Files → Input → Result Reaction Which → Files
 files_left u m f came r = files_cut f m (opening_of came u.disk f) (upset_of u) (ops_of r)
 
 -- what is kept doesn't stop the run

@@ -7,3 +7,4 @@ pub mod Meeting
 pub mod Stands
 pub mod Sending
 pub mod Telling
+pub mod Traced

@@ -8,9 +8,9 @@ use Rattle.mon_msg.specs.declared.view.Me.{Me}
 use Rattle.mon_site.specs.declared.upset.Upset.{Upset}
 use Rattle.mon_tx.specs.Map.{Store, apply}
 use Rattle.mon_types.specs.declared.names.Which.{Which}
-use Rattle.quorum_model.specs.Cuts.{after_checkpoint}
-use Rattle.quorum_model.specs.Files.{Files, after_append}
+use Rattle.quorum_model.specs.Files.{Files}
 use Rattle.quorum_model.specs.Growth.{last_of}
+use Rattle.quorum_model.specs.Happens.{unless_stopped}
 use Rattle.quorum_model.specs.Meets.{state_at}
 use Rattle.quorum_model.specs.Scenes.{files_at}
 use Rattle.trace_text.specs.declared.step.StateLine.{StateLine}
@@ -19,7 +19,7 @@ use Rattle.mon_world.specs.declared.meeting.Turn.{Turn}
 use Rattle.mon_world.specs.declared.monitor.Monitor.{Monitor}
 use Rattle.mon_world.specs.declared.stop.WorldStop.{WorldStop}
 use Rattle.mon_world.specs.Falls.{IsDown, StopsKept, keeps, map_left}
-use Rattle.mon_world.specs.Monitor.{IsDone, Stands, does}
+use Rattle.mon_world.specs.Monitor.{IsDone, Stands, does, files_kept}
 use Rattle.mon_world.specs.Step.{state_before, state_of, told}
 use Rattle.mon_world.specs.Stops.{Stops}
 
@@ -27,7 +27,7 @@ use Rattle.mon_world.specs.Stops.{Stops}
 pub record IsTurn (me : Me) (now : ℕ) (m : Store) (s : State) (f : Files) (before : Option StateLine) (came : Input) (t : Turn) (new : Monitor) : Type 0 where
   pub state : State
   pub is_done : IsDone me now m s came state t.reaction
-  pub stands : Stands me (apply t.reaction.tx m) (Some state) (after_checkpoint (apply t.reaction.tx m) (after_append t.reaction.tx f)) new
+  pub stands : Stands me (apply t.reaction.tx m) (Some state) (files_kept m f t.reaction.tx) new
   pub told_is : t.told ≡ told before (state_of (apply t.reaction.tx m) state)
   pub last : t.last ≡ last_of (apply t.reaction.tx m)
   pub marked : t.marked ≡ is_marked (apply t.reaction.tx m)
@@ -58,4 +58,4 @@ MeetsFall u me now m s f came new (Ok (Some fall)) =
     (before : State) × (state_at me.member.rank s came ≡ Some before) × IsFall u me m f came (reaction me now m before came) fall new
 MeetsFall u me now m s f came new (Err e) =
     (before : State) × (state_at me.member.rank s came ≡ Some before)
-    × StopsKept e (keeps u m f came (reaction me now m before came)) (does me now m before came)
+    × StopsKept e (keeps u m f came (reaction me now m before came)) (unless_stopped m (reaction me now m before came))

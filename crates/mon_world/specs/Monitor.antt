@@ -85,14 +85,18 @@ pub record Takes (me : Me) (m : Store) (s : Option State) (f : Files) (taken : T
   pub state : taken.core.state ≡ remembered me s
   pub follows : Follows taken.core.cache (readings_of m)
 
+-- what a transaction over a map leaves of the files, with the checkpoint behind it that is due, if one is
+unfoldable pub files_kept : Store → Files → List Op → Files
+files_kept m f ops = after_checkpoint (apply ops m) (after_append ops f)
+
 -- what becomes of a store that makes a transaction's changes
 abbrev pub Keeps : Member → Store → Files → List Op → kept.Store MemoryState → Result Unit WorldStop → Type 0
 Keeps member m f ops store (Ok done) =
-    (size_of (apply ops m) ≤ most_size) × Runs member (apply ops m) (after_checkpoint (apply ops m) (after_append ops f)) store
+    (size_of (apply ops m) ≤ most_size) × Runs member (apply ops m) (files_kept m f ops) store
 Keeps member m f ops store (Err e) = IsntKept ops m e
 
 -- what a monitor does at an input, or what stops the run before it
-abbrev pub does : Me → (now : ℕ) → Store → State → Input → Result Reaction Stop
+unfoldable pub does : Me → (now : ℕ) → Store → State → Input → Result Reaction Stop
 does me now m s came = unless_stopped m (reaction me now m s came)
 
 -- It does what the protocol says. What it writes isn't too long, and what it sends may go.
@@ -106,11 +110,11 @@ pub record IsDone (me : Me) (now : ℕ) (m : Store) (s : State) (came : Input) (
 abbrev pub Reacts : Me → (now : ℕ) → Store → State → Files → Input → Running → Result core.Reaction WorldStop → Type 0
 Reacts me now m s f came new (Ok r) =
     (state : State) × IsDone me now m s came state r
-    × IsUp me (apply r.tx m) state (after_checkpoint (apply r.tx m) (after_append r.tx f)) new
+    × IsUp me (apply r.tx m) state (files_kept m f r.tx) new
 Reacts me now m s f came new (Err e) = Stops e (does me now m s came)
 
 abbrev pub StandsAfter : Me → (now : ℕ) → Store → State → Files → Input → Monitor → Result core.Reaction WorldStop → Type 0
 StandsAfter me now m s f came new (Ok r) =
     (state : State) × IsDone me now m s came state r
-    × Stands me (apply r.tx m) (Some state) (after_checkpoint (apply r.tx m) (after_append r.tx f)) new
+    × Stands me (apply r.tx m) (Some state) (files_kept m f r.tx) new
 StandsAfter me now m s f came new (Err e) = Stops e (does me now m s came)

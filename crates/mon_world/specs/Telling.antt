@@ -1,14 +1,20 @@
 -- What is told of an event, and what the world keeps of it.
 use Rattle.std.specs.Prelude.{◌≡◌, ℕ, suc, Bool, ◌++◌, length, map, Option, Some, None, is_some}
 use Rattle.mon_kv.specs.Readers.{is_marked}
+use Rattle.mon_site.specs.declared.upset.Upset.{Upset}
 use Rattle.mon_tx.specs.Map.{Store}
 use Rattle.quorum_model.specs.Clients.{messages_of}
 use Rattle.quorum_model.specs.Growth.{last_of}
+use Rattle.schedule_text.specs.declared.event.Event.{Event}
+use Rattle.schedule_text.specs.declared.event.Event.TheVariants as events
+use Rattle.schedule_text.specs.declared.event.Plain.{Plain}
 use Rattle.trace_text.specs.declared.step.Outcome.{Outcome}
 use Rattle.trace_text.specs.declared.step.Outcome.TheVariants as outcome
 use Rattle.trace_text.specs.declared.step.StepLine.{StepLine}
 use Rattle.mon_world.specs.declared.meeting.Fall.{Fall}
 use Rattle.mon_world.specs.declared.meeting.Turn.{Turn}
+use Rattle.mon_world.specs.declared.world.Fault.{Fault}
+use Rattle.mon_world.specs.declared.world.Fault.TheVariants as fault
 use Rattle.mon_world.specs.declared.world.Upshot.{Upshot}
 use Rattle.mon_world.specs.declared.world.Upshot.TheVariants as upshot
 use Rattle.mon_world.specs.declared.world.World.{World}
@@ -39,6 +45,15 @@ abbrev pub outcome_of : (Bool → Outcome) → Upshot → Outcome
 outcome_of how upshot.NoMessage = outcome.NoMessage
 outcome_of how upshot.Down = outcome.Down
 outcome_of how (upshot.Stopped kept) = how kept
+
+-- what is to become of a monitor: what is told of it where it stopped, and the event that says so
+abbrev pub stopped_as : Fault → Bool → Outcome
+stopped_as fault.Crash = outcome.Crashed
+stopped_as fault.Fail = outcome.Failed
+
+abbrev pub faulty_event : Fault → Upset → Plain → Event
+faulty_event fault.Crash u p = events.Crash u.disk u.call u.image p
+faulty_event fault.Fail u p = events.Fail u.disk u.call u.image p
 
 -- the log grows by what a monitor wrote that fell, where that is kept
 abbrev pub GrowsIf : Option Bool → (last old new : ℕ) → Type 0

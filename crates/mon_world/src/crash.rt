@@ -13,7 +13,7 @@ ghost use Rattle.mon_types.specs.declared.member.Member.{Member};
 ghost use Rattle.mon_wire.specs.declared.phase.Phase.TheVariants.{Booting};
 ghost use Rattle.quorum_model.specs.Files.{Files};
 ghost use Rattle.svc_core.specs.Cache.{Follows};
-ghost use Rattle.mon_world.specs.Falls.{Ends, EndsWith, Falling, Falls, counted, written};
+ghost use Rattle.mon_world.specs.Falls.{Ends, EndsWith, Falling, Falls, MayBe, counted, written};
 
 use crate::stop::{WorldStop, stop_of};
 use mon_bytes::OutOfMemory;
@@ -100,7 +100,7 @@ fn end(
 
 /// The upset of a start is counted from its opening on, and that of any other input from behind an opening of so many calls.
 fn counted_from(upset: Upset, input: &Input, opening: u64) -> Upset
-    requires call { upset.call ≤ 65535 }
+    requires may { MayBe upset }
     requires opening { opening ≤ 7 }
     ensures { result ≡ counted upset input.now opening }
 {
@@ -129,9 +129,7 @@ pub(crate) fn fall(
     requires follows { (m : Map) (f : Files) → Rests member m f disks.a disks.b → Follows core.old.cache (readings_of m) }
     requires comes { MayCome input.now }
     requires starts { input.now ≡ Start → core.old.state.phase ≡ Booting }
-    requires first { 1 ≤ upset.call }
-    requires most { upset.call ≤ 65535 }
-    requires image { upset.image ≤ 3 }
+    requires may { MayBe upset }
     ensures { (m : Map) (f : Files) → Rests member m f disks.a disks.b
         → Falls upset member m f input.now (reaction core.old.me now m core.old.state input.now) result }
 {

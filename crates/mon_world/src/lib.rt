@@ -2,6 +2,7 @@
 #![tactic(auto)]
 
 mod crash;
+mod laws;
 mod lines;
 mod meeting;
 mod monitor;
@@ -9,5 +10,6 @@ mod sending;
 mod stop;
 mod world;
 
+pub use laws::law_told;
 pub use stop::WorldStop;
 pub use world::World;

@@ -1,12 +1,13 @@
 //! What comes of an input at a monitor that may be down.
 
-ghost use Rattle.std.specs.Prelude.{◌≡◌, ◌≤◌, ◌↔◌, Option, None, Some, IsTrue};
+ghost use Rattle.std.specs.Prelude.{◌≡◌, ◌↔◌, Option, None, Some, IsTrue};
 ghost use Rattle.mon_bounds.specs.Fitting.{MayCome};
 ghost use Rattle.mon_msg.specs.Protocol.State.{State, booting};
 ghost use Rattle.mon_msg.specs.declared.input.Input.TheVariants.{Start};
 ghost use Rattle.mon_msg.specs.declared.view.Me.{Me};
 ghost use Rattle.mon_tx.specs.Map.{Store as Map};
 ghost use Rattle.quorum_model.specs.Files.{Files, after_opening};
+ghost use Rattle.mon_world.specs.Falls.{MayBe};
 ghost use Rattle.mon_world.specs.Meeting.{Meets, MeetsFall, Turns};
 ghost use Rattle.mon_world.specs.Monitor.{Standing, StandingUp, Stands};
 
@@ -30,7 +31,7 @@ pub(crate) struct Turn {
     pub(crate) marked: bool,
 }
 
-/// What is left of what a monitor did in whose event a disk failed.
+/// What is left of a monitor that fell: one in whose event a disk failed.
 #[derive(Clone, Copy)]
 pub(crate) struct Fall {
     /// Whether its map is marked then, where its transaction is kept.
@@ -46,7 +47,7 @@ fn is_start(input: &Input) -> bool
     matches!(input, Input::Start)
 }
 
-/// What a monitor that is up does at an input, and stood so before.
+/// What a monitor that is up does at an input. `before` is where it stood.
 fn take_turn(
     monitor: &mut Monitor,
     before: Option<StateLine>,
@@ -111,9 +112,7 @@ pub(crate) fn meet_upset(
 ) -> Result<Option<Fall>, WorldStop>
     requires stands { Standing monitor.old }
     requires comes { MayCome input.now }
-    requires first { 1 ≤ upset.call }
-    requires most { upset.call ≤ 65535 }
-    requires image { upset.image ≤ 3 }
+    requires may { MayBe upset }
     ensures { (me : Me) (m : Map) (s : Option State) (f : Files) → Stands me m s f monitor.old
         → MeetsFall upset me at m s f input.now monitor.new result }
 {

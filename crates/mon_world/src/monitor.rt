@@ -17,7 +17,7 @@ ghost use Rattle.quorum_model.specs.Files.{Files, after_opening, no_files};
 ghost use Rattle.quorum_model.specs.Growth.{last_of};
 ghost use Rattle.quorum_model.specs.Meets.{state_at};
 ghost use Rattle.svc_core.specs.Cache.{Follows};
-ghost use Rattle.mon_world.specs.Falls.{Falls, FallsDown};
+ghost use Rattle.mon_world.specs.Falls.{Falls, FallsDown, MayBe};
 ghost use Rattle.mon_world.specs.Monitor.{Holds, InUse, IsHeld, IsRunning, IsUp, Keeps, Reacts, Standing, StandingUp, Stands, StandsAfter, Takes};
 ghost use Rattle.mon_world.specs.Step.{state_if_up, state_of};
 
@@ -92,7 +92,10 @@ fn core_at(alloc: Global, me: &Me, core: Core, input: &Input) -> Core
     ensures follows { (w : Readings) → Follows core.cache w → Follows result.cache w }
 {
     match input {
-        Input::Start => Core::boot(alloc, me.member, me.rule),
+        Input::Start => {
+            drop(core);
+            Core::boot(alloc, me.member, me.rule)
+        }
         Input::Deliver(_) | Input::Timer(_) | Input::Client(..) => core,
     }
 }
@@ -108,16 +111,23 @@ fn fallen(
 ) -> Result<Fallen, WorldStop>
     requires held { IsHeld me.now kept.old }
     requires comes { MayCome input.now }
-    requires first { 1 ≤ upset.call }
-    requires most { upset.call ≤ 65535 }
-    requires image { upset.image ≤ 3 }
+    requires may { MayBe upset }
     ensures { (m : Map) (s : Option State) (t : State) (f : Files) → Holds me.now m s f kept.old
         → state_at me.now.member.rank s input.now ≡ Some t
         → Falls upset me.now.member m f input.now (reaction me.now now m t input.now) result }
 {
     let Taken { disks, core } = take(alloc, me, kept);
     let mut core = core_at(alloc, me, core, input);
-    fall(alloc, me.member, disks, &mut core, upset, input, now)
+    let left = fall(alloc, me.member, disks, &mut core, upset, input, now);
+    drop(core);
+    left
+}
+
+/// A monitor keeps something else from then on.
+fn put(kept: &mut Kept, next: Kept)
+    ensures { kept.new ≡ next }
+{
+    drop(mem::replace(kept, next));
 }
 
 /// The last committed version.
@@ -213,10 +223,14 @@ impl Monitor {
         ensures { (me : Me) (m : Map) (s : Option State) (f : Files) → Stands me m s f self.old
             → OnOk result (Stands me m (Some (booting me.member.rank)) (after_opening f) self.new) }
     {
-        let Taken { disks, .. } = take(self.alloc, &self.me, &mut self.kept);
+        let Taken {
+            disks,
+            core: before,
+        } = take(self.alloc, &self.me, &mut self.kept);
+        drop(before);
         let store = start(self.alloc, disks, self.me.member)?;
         let core = Core::boot(self.alloc, self.me.member, self.me.rule);
-        self.kept = Kept::Up(Running { store, core });
+        put(&mut self.kept, Kept::Up(Running { store, core }));
         Ok(())
     }
 
@@ -246,9 +260,7 @@ impl Monitor {
     ) -> Result<Option<bool>, WorldStop>
         requires stands { Standing self.old }
         requires comes { MayCome input.now }
-        requires first { 1 ≤ upset.call }
-        requires most { upset.call ≤ 65535 }
-        requires image { upset.image ≤ 3 }
+        requires may { MayBe upset }
         ensures { (me : Me) (m : Map) (s : Option State) (t : State) (f : Files) → Stands me m s f self.old
             → state_at me.member.rank s input.now ≡ Some t
             → FallsDown upset me m f input.now (reaction me now m t input.now) self.new result }
@@ -261,7 +273,7 @@ impl Monitor {
             input,
             now,
         )?;
-        self.kept = Kept::Down(disks);
+        put(&mut self.kept, Kept::Down(disks));
         match kept {
             Some(written) => {
                 self.last = written.last;

@@ -10,6 +10,7 @@ use thiserror::Error;
 /// Why a run stops. What stops it at a number or a size leaves the event undone. The world isn't used again.
 #[derive(Clone, Copy, Debug, PartialEq, Eq, Error)]
 pub enum WorldStop {
+    /// An allocation was refused.
     #[error("out of memory")]
     OutOfMemory,
     /// A number of this kind would pass 2^62.

@@ -20,13 +20,13 @@ ghost use Rattle.quorum_model.specs.World as model;
 ghost use Rattle.schedule_text.specs.declared.event.Event.TheVariants as events;
 ghost use Rattle.schedule_text.specs.declared.event.Plain.{Plain};
 ghost use Rattle.mon_world.specs.Events.{plain_event};
-ghost use Rattle.mon_world.specs.Falls.{upset_of};
+ghost use Rattle.mon_world.specs.Falls.{MayBe, upset_of};
 ghost use Rattle.mon_world.specs.Meeting.{Meets, MeetsFall};
 ghost use Rattle.mon_world.specs.Monitor.{Standing, Stands};
 ghost use Rattle.mon_world.specs.Stands.{Does, DoesUpset, Fits, FitsPlain, IsWorld, Leads, StandsFor, StandsForRun};
 ghost use Rattle.mon_world.specs.Stands.{and_event, arrival_of, envelope_of};
 ghost use Rattle.mon_world.specs.Step.{log_after, step};
-ghost use Rattle.mon_world.specs.Telling.{Leaves, Tells};
+ghost use Rattle.mon_world.specs.Telling.{Leaves, Tells, faulty_event};
 
 use crate::lines::still;
 use crate::meeting::{Fall, Turn, meet, meet_upset};
@@ -38,7 +38,7 @@ use mon_bytes::OutOfMemory;
 use mon_core::{Input, Reaction};
 use mon_msg::Me;
 use mon_site::Upset;
-use mon_types::{Member, Moment, Rank, Version};
+use mon_types::{Member, Moment, Rank, Side, Version};
 use schedule_text::{Event, Plain};
 use std::alloc::Global;
 use trace_text::{Outcome, StepLine};
@@ -49,6 +49,13 @@ struct Arrival {
     rank: Rank,
     at: Moment,
     input: Input,
+}
+
+/// What is to become of a monitor of which a disk fails.
+#[derive(Clone, Copy)]
+enum Fault {
+    Crash,
+    Fail,
 }
 
 /// What an event comes to in which a disk is to fail.
@@ -62,29 +69,31 @@ enum Upshot {
 
 impl Upshot {
     ghost use Rattle.std.specs.Prelude.{◌≡◌};
-    ghost use Rattle.trace_text.specs.declared.step.Outcome.TheVariants.{Crashed, Failed};
-    ghost use Rattle.mon_world.specs.Telling.{outcome_of};
+    ghost use Rattle.mon_world.specs.Telling.{outcome_of, stopped_as};
 
-    /// What is told of it where the monitor is to crash.
-    fn crashed(self) -> Outcome
-        ensures { result ≡ outcome_of Crashed self }
+    /// What is told of it.
+    fn told(self, fault: Fault) -> Outcome
+        ensures { result ≡ outcome_of (stopped_as fault) self }
     {
         match self {
             Upshot::NoMessage => Outcome::NoMessage,
             Upshot::Down => Outcome::Down,
-            Upshot::Stopped { kept } => Outcome::Crashed { kept },
+            Upshot::Stopped { kept } => match fault {
+                Fault::Crash => Outcome::Crashed { kept },
+                Fault::Fail => Outcome::Failed { kept },
+            },
         }
     }
+}
 
-    /// What is told of it where only the disk is to fail.
-    fn failed(self) -> Outcome
-        ensures { result ≡ outcome_of Failed self }
-    {
-        match self {
-            Upshot::NoMessage => Outcome::NoMessage,
-            Upshot::Down => Outcome::Down,
-            Upshot::Stopped { kept } => Outcome::Failed { kept },
-        }
+/// An upset, as an event says it.
+fn upset_at(disk: Side, call: u16, image: u8) -> Upset
+    ensures { result ≡ record { disk = disk; call = call; image = image } }
+{
+    Upset {
+        disk,
+        call: call as u64,
+        image,
     }
 }
 
@@ -188,9 +197,7 @@ fn meet_upset_at(
     requires within { rank < length monitors.old.items }
     requires stands { (monitor : Monitor) → slice_get monitors.old.items rank ≡ Some monitor → Standing monitor }
     requires comes { MayCome input.now }
-    requires first { 1 ≤ upset.call }
-    requires most { upset.call ≤ 65535 }
-    requires image { upset.image ≤ 3 }
+    requires may { MayBe upset }
     ensures count { length monitors.new.items ≡ length monitors.old.items }
     ensures others { (i : ℕ) → i ≢ rank → slice_get monitors.new.items i ≡ slice_get monitors.old.items i }
     ensures meets { (old new : Monitor) → slice_get monitors.old.items rank ≡ Some old → slice_get monitors.new.items rank ≡ Some new
@@ -218,7 +225,7 @@ fn down(alloc: Global, rank: u8, monitors: u8, rule: &Rule) -> Monitor
 }
 
 impl World {
-    /// All monitors are down, with empty disks, and the log is empty: nothing has happened.
+    /// So many monitors, all down, with empty disks and an empty log: nothing has happened.
     pub fn new(alloc: Global, monitors: u8, rule: Rule) -> Result<World, OutOfMemory>
         requires { monitors ≤ 15 }
         ensures { (ms : Monitors) → ms.count ≡ monitors → ms.rule ≡ rule → IfOk result (λ world. StandsForRun ms [] world first_scene) }
@@ -235,14 +242,14 @@ impl World {
         })
     }
 
-    /// How long the log is.
+    /// How many versions the log has.
     pub fn log_len(&self) -> u64
         ensures { result ≡ self.now.log }
     {
         self.log
     }
 
-    /// The last committed version of a monitor's map.
+    /// The last committed version of a monitor's map, and 0 where there is none.
     pub fn last_of(&self, rank: Rank) -> Version
         requires { rank < length self.now.monitors.items }
         ensures { (ms : Monitors) (c : Scene) → StandsFor ms self.now c → result ≡ last_of (c.world.store rank) }
@@ -297,7 +304,11 @@ impl World {
     {
         match arriving(self.alloc, self.messages.as_slice(), event)? {
             None => Ok(still(self.alloc, Outcome::NoMessage)),
-            Some(arrival) => self.come(&arrival),
+            Some(arrival) => {
+                let line = self.come(&arrival);
+                drop(arrival);
+                line
+            }
         }
     }
 
@@ -317,9 +328,7 @@ impl World {
         requires world { IsWorld self.old }
         requires within { arrival.now.rank < length self.old.monitors.items }
         requires comes { MayCome arrival.now.input }
-        requires first { 1 ≤ upset.call }
-        requires most { upset.call ≤ 65535 }
-        requires image { upset.image ≤ 3 }
+        requires may { MayBe upset }
         ensures { (ms : Monitors) (c : Scene) (p : model.Plain) → StandsFor ms self.old c → meets.arrival c.world p ≡ Some (arrival_of arrival.now)
             → DoesUpset ms result self.new c (upset_of upset) p }
     {
@@ -340,19 +349,56 @@ impl World {
     fn upset(&mut self, event: &Plain, upset: Upset) -> Result<Upshot, WorldStop>
         requires world { IsWorld self.old }
         requires fits { FitsPlain (length self.old.monitors.items) event.now }
-        requires first { 1 ≤ upset.call }
-        requires most { upset.call ≤ 65535 }
-        requires image { upset.image ≤ 3 }
+        requires may { MayBe upset }
         ensures { (ms : Monitors) (c : Scene) → StandsFor ms self.old c → DoesUpset ms result self.new c (upset_of upset) (plain_event event.now) }
     {
         match arriving(self.alloc, self.messages.as_slice(), event)? {
             None => Ok(Upshot::NoMessage),
-            Some(arrival) => self.fall(&arrival, upset),
+            Some(arrival) => {
+                let upshot = self.fall(&arrival, upset);
+                drop(arrival);
+                upshot
+            }
         }
     }
 
-    /// One event of a schedule of as many monitors, and its lines of the trace. Behind whatever events the world stands for, the run goes on
-    /// with this one, and is safe. After an `Err` the world isn't used again.
+    /// An event in which a disk of its monitor fails, and its lines of the trace.
+    fn faulty(&mut self, event: &Plain, upset: Upset, fault: Fault) -> Result<StepLine, WorldStop>
+        requires world { IsWorld self.old }
+        requires fits { FitsPlain (length self.old.monitors.items) event.now }
+        requires may { MayBe upset }
+        ensures { (ms : Monitors) (c : Scene) → StandsFor ms self.old c → Does ms result self.new (step ms c (faulty_event fault upset event.now)) }
+    {
+        let upshot = self.upset(event, upset)?;
+        Ok(still(self.alloc, upshot.told(fault)))
+    }
+
+    /// An event of a schedule, and its lines of the trace.
+    fn happen(&mut self, event: &Event) -> Result<StepLine, WorldStop>
+        requires world { IsWorld self.old }
+        requires fits { Fits (length self.old.monitors.items) event.now }
+        ensures { (ms : Monitors) (c : Scene) → StandsFor ms self.old c → Does ms result self.new (step ms c event.now) }
+    {
+        match event {
+            Event::Plain(event) => self.plain(event),
+            Event::Crash {
+                disk,
+                call,
+                image,
+                event,
+            } => self.faulty(event, upset_at(*disk, *call, *image), Fault::Crash),
+            Event::Fail {
+                disk,
+                call,
+                image,
+                event,
+            } => self.faulty(event, upset_at(*disk, *call, *image), Fault::Fail),
+        }
+    }
+
+    /// One event of a schedule of as many monitors, and its lines of the trace. Whatever events the world stood for, it then stands for
+    /// these and this one, whose run is safe. `Spent` and `Full` come exactly where the model's run stops before the event, with the same
+    /// number or size; `OutOfMemory` where an allocation was refused. After an `Err` the world isn't used again.
     pub fn step(&mut self, event: &Event) -> Result<StepLine, WorldStop>
         requires world { IsWorld self.old }
         requires fits { Fits (length self.old.monitors.items) event.now }
@@ -362,36 +408,6 @@ impl World {
         ensures safe { (ms : Monitors) (c : Scene) (events : List model.Event) → StandsForRun ms events self.old c
             → Safe ms (and_event ms events c event.now) }
     {
-        match event {
-            Event::Plain(event) => self.plain(event),
-            Event::Crash {
-                disk,
-                call,
-                image,
-                event,
-            } => {
-                let upset = Upset {
-                    disk: *disk,
-                    call: *call as u64,
-                    image: *image,
-                };
-                let upshot = self.upset(event, upset)?;
-                Ok(still(self.alloc, upshot.crashed()))
-            }
-            Event::Fail {
-                disk,
-                call,
-                image,
-                event,
-            } => {
-                let upset = Upset {
-                    disk: *disk,
-                    call: *call as u64,
-                    image: *image,
-                };
-                let upshot = self.upset(event, upset)?;
-                Ok(still(self.alloc, upshot.failed()))
-            }
-        }
+        self.happen(event)
     }
 }

@@ -30,11 +30,11 @@ upset_one-requires-clause-calm_b c = let x = c.requires.rests in (c.opening_coun
 
 pub upset_one-requires-clause-first : goal.upset_one-requires-clause-first
 upset_one-requires-clause-first c =
-    subst (λ (v : Upset). 1 ≤ v.call) (sym c.counted_from-from.ensures) (first_counted c.args.upset c.args.input.now c.in_ok-opening.opening c.requires.first)
+    subst (λ (v : Upset). 1 ≤ v.call) (sym c.counted_from-from.ensures) (first_counted c.args.upset c.args.input.now c.in_ok-opening.opening c.requires.may.first)
 
 pub upset_one-requires-clause-most : goal.upset_one-requires-clause-most
 upset_one-requires-clause-most c =
-    subst (λ (v : Upset). v.image ≤ 3) (sym c.counted_from-from.ensures) (rw (image_counted c.args.upset c.args.input.now c.in_ok-opening.opening) c.requires.image)
+    subst (λ (v : Upset). v.image ≤ 3) (sym c.counted_from-from.ensures) (rw (image_counted c.args.upset c.args.input.now c.in_ok-opening.opening) c.requires.may.image)
 
 pub open-requires : goal.open-requires
 open-requires c =
@@ -77,7 +77,7 @@ returns-in-Open c m f rests =
     let b = subst (λ (b : Begun). Begins from member m f (Ok b)) c.in-Open.is (c.in_ok-store.ensures m f (c.upset_one.ensures member m f (c.opening_count.ensures.rests member m f rests))) in
     let falling = opens_falling c.args.upset member m f c.args.input.now opening is from c.counted_from-from.ensures c.in-Open.store b in
     let r = reaction core.me c.args.now m core.state c.args.input.now in
-    ended_so c.args.upset member m f c.args.input.now opening is from c.counted_from-from.ensures c.requires.first r c.end.result b.0
+    ended_so c.args.upset member m f c.args.input.now opening is from c.counted_from-from.ensures c.requires.may.first r c.end.result b.0
     (subst (λ (member : Member). Ends (behind from opening) member m (after_opening f) r c.end.result) c.requires.member
     (c.end.ensures m (after_opening f) (subst (λ (member : Member). IsFalling from.disk (from.call - opening) from.image member m (after_opening f) c.in-Open.store) (sym c.requires.member) falling)))
 
@@ -89,6 +89,6 @@ returns-in_ok-settle_both-in-Failed c m f rests =
     let is = c.in_ok-opening.ensures.count member m f rests in
     let from = c.counted_from-from.result in
     let b = subst (λ (b : Begun). Begins from member m f (Ok b)) c.in-Failed.is (c.in_ok-store.ensures m f (c.upset_one.ensures member m f (c.opening_count.ensures.rests member m f rests))) in
-    failed_so c.args.upset member m f c.args.input.now opening is from c.counted_from-from.ensures c.requires.first (reaction core.me c.args.now m core.state c.args.input.now) _
+    failed_so c.args.upset member m f c.args.input.now opening is from c.counted_from-from.ensures c.requires.may.first (reaction core.me c.args.now m core.state c.args.input.now) _
     (λ starting. start_writes core.me c.args.now m core.state c.args.input.now (c.requires.starts starting) starting) b.0 refl
     (c.in_ok-settle_both-in-Failed.ensures member m (opening_cut f from.disk from.call from.image) b.1)

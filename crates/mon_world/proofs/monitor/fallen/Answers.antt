@@ -6,19 +6,19 @@ use Rattle.mon_world.proofs.monitor.fallen.Goals as goal
 pub core_at-core-requires : goal.core_at-core-requires
 core_at-core-requires c = let x = c.requires.held in (c.take-disks.ensures x.0 x.1 x.2 x.3).me_is
 
-pub fall-requires-clause-rests : goal.fall-requires-clause-rests
-fall-requires-clause-rests c = let x = c.requires.held in (x.0, x.2, (c.take-disks.ensures x.0 x.1 x.2 x.3).rests)
+pub fall-left-requires-clause-rests : goal.fall-left-requires-clause-rests
+fall-left-requires-clause-rests c = let x = c.requires.held in (x.0, x.2, (c.take-disks.ensures x.0 x.1 x.2 x.3).rests)
 
-pub fall-requires-clause-follows : goal.fall-requires-clause-follows
-fall-requires-clause-follows c n g rests =
+pub fall-left-requires-clause-follows : goal.fall-left-requires-clause-follows
+fall-left-requires-clause-follows c n g rests =
     let x = c.requires.held in
     let t = c.take-disks.ensures x.0 x.1 x.2 x.3 in
     let d = c.take-disks.result.disks in
     let core = c.core_at-core in
     follows_each c.args.me.now.member x.0 n x.2 g d.a d.b core.result.cache t.rests (core.ensures.follows (readings_of x.0) t.follows) rests
 
-pub fall-requires-clause-starts : goal.fall-requires-clause-starts
-fall-requires-clause-starts c starting =
+pub fall-left-requires-clause-starts : goal.fall-left-requires-clause-starts
+fall-left-requires-clause-starts c starting =
     start_boots c.args.me.now.member.rank c.take-disks.result.core.state c.core_at-core.result.state c.args.input.now starting c.core_at-core.ensures.state
 
 pub returns : goal.returns
@@ -28,4 +28,4 @@ returns c m s to f holds at =
     let core = c.core_at-core.result in
     let t = c.take-disks.ensures m s f holds in
     let state = remembers me s came c.take-disks.result.core.state core.state to t.state c.core_at-core.ensures.state at in
-    falls_as c.args.upset m f came c.args.now c.fall.result core me to c.core_at-core.ensures.me state (c.fall.ensures m f t.rests)
+    falls_as c.args.upset m f came c.args.now c.fall-left.result core me to c.core_at-core.ensures.me state (c.fall-left.ensures m f t.rests)

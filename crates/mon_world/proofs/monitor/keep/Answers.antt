@@ -1,4 +1,5 @@
 use Rattle.std.proofs.Common.{sym, subst}
+use Rattle.mon_world.specs.Monitor.{files_kept}
 use Rattle.mon_world.specs.Stops.{IsntKept}
 use Rattle.mon_world.proofs.Stopping.{can_stop, isnt_kept}
 use Rattle.mon_world.proofs.monitor.keep.Goals as goal
@@ -7,6 +8,10 @@ pub stop_of-requires : goal.stop_of-requires
 stop_of-requires c =
     let x = c.requires.runs in
     can_stop x.1 c.args.tx.now c.in-Err.stop c.requires.short (c.in-Err.ensures.applies x.0 x.1 x.2 x.3)
+
+pub returns-in-Ok : goal.returns-in-Ok
+unfolding files_kept
+returns-in-Ok c member m f runs = c.in-Ok.ensures.applies member m f runs
 
 pub returns-in-Err : goal.returns-in-Err
 returns-in-Err c member m f runs =

@@ -22,7 +22,7 @@ returns-in-Some c me m s to f stands at =
     let left = c.in_ok-disks.field-0 in
     let is = falls_itself c.args.upset m s f came c.args.now (Ok left) c.args.self.now me to stands at (c.in_ok-disks.ensures m s to f) in
     let kept : c.in_ok-disks.field-0.kept ≡ Some c.in-Some.written = cc in
-    down_kept c.args.upset me m f came (reaction me c.args.now m to came) left is _ stands.me_is refl c.in-Some.written kept refl
+    down_kept c.args.upset me m f came (reaction me c.args.now m to came) left is _ stands.me_is c.put.ensures c.in-Some.written kept refl
 
 pub returns-in-None : goal.returns-in-None
 returns-in-None c me m s to f stands at =
@@ -30,4 +30,4 @@ returns-in-None c me m s to f stands at =
     let left = c.in_ok-disks.field-0 in
     let is = falls_itself c.args.upset m s f came c.args.now (Ok left) c.args.self.now me to stands at (c.in_ok-disks.ensures m s to f) in
     let kept : ◌≡◌ {A = Option Written} c.in_ok-disks.field-0.kept None = cc in
-    down_lost c.args.upset me m f came (reaction me c.args.now m to came) left is _ stands.me_is refl kept stands.last
+    down_lost c.args.upset me m f came (reaction me c.args.now m to came) left is _ stands.me_is c.put.ensures kept stands.last

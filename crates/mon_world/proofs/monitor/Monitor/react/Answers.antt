@@ -1,11 +1,21 @@
-use Rattle.std.proofs.Common.{ap, ◌∙◌}
+use Rattle.std.proofs.Common.{Some, ap, subst, ◌∙◌}
+use Rattle.std.proofs.lemmas.Result.{err_from_is_err_and}
 use Rattle.quorum_model.specs.Growth.{last_of}
+use Rattle.mon_world.specs.Monitor.{Holds}
 use Rattle.mon_world.proofs.Holding.{as_known, stands_after}
 use Rattle.mon_world.proofs.monitor.Monitor.react.Goals as goal
 
 pub react-requires-clause-up : goal.react-requires-clause-up
 react-requires-clause-up c =
     let x = c.requires.up in (x.0, x.1, x.2, x.3, as_known x.0 x.1 x.2 x.3 c.args.self.now.kept c.in-Up.running c.in-Up.is x.4.holds)
+
+pub unreachable-requires : goal.unreachable-requires
+unreachable-requires c = let x = c.requires.up in subst (Holds x.0 x.1 (Some x.2) x.3) c.in-Down.is x.4.holds
+
+pub returns-in_err-reaction-in-Up : goal.returns-in_err-reaction-in-Up
+returns-in_err-reaction-in-Up c me m s f stands =
+    let p = err_from_is_err_and c.from_residual.result c.from_residual.ensures.1 in
+    rw (p.1, p.2) (c.in_err-reaction-in-Up.ensures me m s f (as_known me m s f c.args.self.now.kept c.in-Up.running c.in-Up.is stands.holds))
 
 pub returns : goal.returns
 returns c me m s f stands =

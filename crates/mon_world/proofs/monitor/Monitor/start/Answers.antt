@@ -1,3 +1,8 @@
+use Rattle.std.proofs.Common.{Some, sym, subst}
+use Rattle.mon_msg.specs.Protocol.State.{booting}
+use Rattle.quorum_model.specs.Files.{after_opening}
+use Rattle.mon_world.specs.declared.monitor.Kept.{Kept}
+use Rattle.mon_world.specs.Monitor.{Stands}
 use Rattle.mon_world.proofs.Holding.{holds_itself, started}
 use Rattle.mon_world.proofs.monitor.Monitor.start.Goals as goal
 
@@ -11,4 +16,5 @@ returns c me m s f stands =
     let self = c.args.self.now in
     let t = c.take-disks.ensures m s f (holds_itself me m s f self stands) in
     let boot = c.boot-core.ensures in
-    started me m f self stands.me_is stands.last c.in_ok-store.store c.boot-core.result (c.in_ok-store.ensures m f t.rests) boot.member boot.rule boot.state boot.known
+    subst (λ (k : Kept). Stands me m (Some (booting me.member.rank)) (after_opening f) (record self { kept = k })) (sym c.put.ensures)
+    (started me m f self stands.me_is stands.last c.in_ok-store.store c.boot-core.result (c.in_ok-store.ensures m f t.rests) boot.member boot.rule boot.state boot.known)

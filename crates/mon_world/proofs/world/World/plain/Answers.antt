@@ -13,14 +13,14 @@ returns-in-None c = λ ms d s.
     let is = sym (c.in_ok-arriving.ensures d.world (ap (map envelope_of) c.as_slice.ensures.value ∙ s.messages)) ∙ ap (option_map arrival_of) c.in-None.is in
     subst (λ (line : StepLine). Does ms (Ok line) c.args.self.now (step ms d (events.Plain c.args.event.now))) (sym c.still.ensures) (none_met ms c.args.self.now d c.args.event.now s is)
 
-pub come-requires-clause-within : goal.come-requires-clause-within
-come-requires-clause-within c =
+pub come-line-requires-clause-within : goal.come-line-requires-clause-within
+come-line-requires-clause-within c =
     let w = c.requires.world in
     let is = sym (c.in_ok-arriving.ensures w.1.world (ap (map envelope_of) c.as_slice.ensures.value ∙ w.2.messages)) ∙ ap (option_map arrival_of) c.in-Some.is in
     (arrives w.0 c.args.self.now w.1 c.args.event.now (arrival_of c.in-Some.arrival) w.2 c.requires.fits is).0
 
-pub come-requires-clause-comes : goal.come-requires-clause-comes
-come-requires-clause-comes c =
+pub come-line-requires-clause-comes : goal.come-line-requires-clause-comes
+come-line-requires-clause-comes c =
     let w = c.requires.world in
     let is = sym (c.in_ok-arriving.ensures w.1.world (ap (map envelope_of) c.as_slice.ensures.value ∙ w.2.messages)) ∙ ap (option_map arrival_of) c.in-Some.is in
     (arrives w.0 c.args.self.now w.1 c.args.event.now (arrival_of c.in-Some.arrival) w.2 c.requires.fits is).1
@@ -28,4 +28,4 @@ come-requires-clause-comes c =
 pub returns-in-Some : goal.returns-in-Some
 returns-in-Some c = λ ms d s.
     let is = sym (c.in_ok-arriving.ensures d.world (ap (map envelope_of) c.as_slice.ensures.value ∙ s.messages)) ∙ ap (option_map arrival_of) c.in-Some.is in
-    c.come.ensures ms d c.args.event.now s is
+    c.come-line.ensures ms d c.args.event.now s is

@@ -12,14 +12,14 @@ returns-in-None c = λ ms d s.
     let is = sym (c.in_ok-arriving.ensures d.world (ap (map envelope_of) c.as_slice.ensures.value ∙ s.messages)) ∙ ap (option_map arrival_of) c.in-None.is in
     none_fell ms c.args.self.now d (upset_of c.args.upset) (plain_event c.args.event.now) s is
 
-pub fall-requires-clause-within : goal.fall-requires-clause-within
-fall-requires-clause-within c =
+pub fall-upshot-requires-clause-within : goal.fall-upshot-requires-clause-within
+fall-upshot-requires-clause-within c =
     let w = c.requires.world in
     let is = sym (c.in_ok-arriving.ensures w.1.world (ap (map envelope_of) c.as_slice.ensures.value ∙ w.2.messages)) ∙ ap (option_map arrival_of) c.in-Some.is in
     (arrives w.0 c.args.self.now w.1 c.args.event.now (arrival_of c.in-Some.arrival) w.2 c.requires.fits is).0
 
-pub fall-requires-clause-comes : goal.fall-requires-clause-comes
-fall-requires-clause-comes c =
+pub fall-upshot-requires-clause-comes : goal.fall-upshot-requires-clause-comes
+fall-upshot-requires-clause-comes c =
     let w = c.requires.world in
     let is = sym (c.in_ok-arriving.ensures w.1.world (ap (map envelope_of) c.as_slice.ensures.value ∙ w.2.messages)) ∙ ap (option_map arrival_of) c.in-Some.is in
     (arrives w.0 c.args.self.now w.1 c.args.event.now (arrival_of c.in-Some.arrival) w.2 c.requires.fits is).1
@@ -27,4 +27,4 @@ fall-requires-clause-comes c =
 pub returns-in-Some : goal.returns-in-Some
 returns-in-Some c = λ ms d s.
     let is = sym (c.in_ok-arriving.ensures d.world (ap (map envelope_of) c.as_slice.ensures.value ∙ s.messages)) ∙ ap (option_map arrival_of) c.in-Some.is in
-    c.fall.ensures ms d (plain_event c.args.event.now) s is
+    c.fall-upshot.ensures ms d (plain_event c.args.event.now) s is

@@ -1,0 +1,11 @@
+//! What is known of a schedule's trace before it is run.
+
+ghost use Rattle.std.specs.Prelude.{List};
+ghost use Rattle.quorum_model.specs.Monitors.{Monitors};
+ghost use Rattle.schedule_text.specs.declared.event.Event.{Event};
+ghost use Rattle.mon_world.specs.Traced.{TracesRun};
+
+/// Behind any events of a schedule the trace stands at the world of their run, and has come to the same stop, if to any.
+pub fn law_told()
+    ensures { (ms : Monitors) (events : List Event) → TracesRun ms events }
+{}
