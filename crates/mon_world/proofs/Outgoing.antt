@@ -1,9 +1,11 @@
 -- What goes out behind what went out before.
-use Rattle.std.proofs.Common.{◌≡◌, ℕ, suc, ◌+◌, List, [], ◌∷◌, ◌++◌, length, map, sym, ap, ◌∙◌, refl, arith, append_assoc, length-append}
-use Rattle.std.proofs.lemmas.List.{length-map}
+use Rattle.std.proofs.Common.{◌≡◌, ℕ, suc, ◌+◌, ◌-◌, List, [], ◌∷◌, ◌++◌, length, map, get_or, slice_get, Some, sym, ap, ◌∙◌, refl, arith, append_assoc, length-append}
+use Rattle.std.proofs.lemmas.List.{append-nil, length-map, map-append}
+use Rattle.std.proofs.lemmas.Option.{same_Some, slice_get_read}
 use Rattle.std.proofs.lemmas.List.Elements.{filter_map-append}
 use Rattle.mon_msg.specs.declared.plan.Sent.{Sent}
 use Rattle.mon_msg.specs.declared.plan.Sent.TheVariants as sent
+use Rattle.mon_wire.specs.declared.message.Message.{Message}
 use Rattle.quorum_model.specs.Clients as clients
 use Rattle.quorum_model.specs.Clients.{messages_of}
 use Rattle.quorum_model.specs.World as model
@@ -48,4 +50,31 @@ one_more rank before old new sends one gone after so goes =
             ∙ sym (numbered-append (suc (length before)) (messages_of sends) (messages_of (one ∷ []))) ∙ ap (numbered (suc (length before))) (sym more);
         replies = goes.replies ∙ ap (λ (all : List Replied). all ++ replied rank (one ∷ [])) so.gone_is.replies ∙ sym (replied-append rank sends (one ∷ []));
       };
+    }
+
+-- ---- one of them
+
+last_there : (xs : List Envelope) (x : Envelope) → slice_get (xs ++ x ∷ []) (length xs) ≡ Some x
+last_there [] x = refl
+last_there (y ∷ xs) x = last_there xs x
+
+-- what stands at the last place
+pub last_is : (all before : List Envelope) (last found : Envelope) (place : ℕ) → all ≡ before ++ last ∷ [] → place ≡ length all - 1 → found ≡ get_or all place found → found ≡ last
+last_is all before last found place ends at read =
+    let many : length all ≡ length before + 1 = omega (arith, ap length ends, length-append before (last ∷ [])) in
+    let there : slice_get all place ≡ Some found = slice_get_read all (length all) place found refl (omega arith) read in
+    let here : place ≡ length before = omega arith in
+    same_Some found last
+    (sym there ∙ (λ i. slice_get (ends i) (here i)) ∙ last_there before last)
+
+pub message_sent : (rank number : ℕ) (to : ℕ) (message copy : Message) (old new : List Envelope) (before after : Gone) → new ≡ old ++ record { to = to; message = message } ∷ [] → copy ≡ message
+    → number ≡ length new → after.sent ≡ before.sent ++ record { number = number; to = to; message = copy } ∷ [] → after.replies ≡ before.replies
+    → Sends rank (sent.Message to message) old new before after
+message_sent rank number to message copy old new before after pushed copied counted told others =
+    let e : Envelope = record { to = to; message = message } in
+    let next : number ≡ suc (length old) = omega (arith, ap length pushed, length-append old (e ∷ [])) in
+    record {
+      messages = ap (map envelope_of) pushed ∙ map-append envelope_of old (e ∷ []);
+      sent = told ∙ (λ i. before.sent ++ record { number = next i; to = to; message = copied i } ∷ []);
+      replies = others ∙ sym (append-nil before.replies);
     }

@@ -1,6 +1,7 @@
 //! What goes out of what a monitor sent.
 
-ghost use Rattle.std.specs.Prelude.{◌≡◌, ◌++◌, suc, length, map, IfOk, OnOk};
+ghost use Rattle.std.specs.Prelude.{◌≡◌, ℕ, suc, ◌≤◌, List, [], ◌∷◌, ◌++◌, length, map, IfOk, OnOk};
+ghost use Rattle.mon_msg.specs.declared.plan.Sent.TheVariants.{Message as message_to};
 ghost use Rattle.quorum_model.specs.Clients.{messages_of};
 ghost use Rattle.mon_world.specs.Sending.{GoesOut, Sends};
 ghost use Rattle.mon_world.specs.Stands.{envelope_of};
@@ -26,6 +27,37 @@ pub(crate) struct Gone {
     pub(crate) replies: Replies,
 }
 
+/// A copy of the message that went out last.
+fn last_copy(alloc: Global, messages: &[Envelope]) -> Result<Message, OutOfMemory>
+    requires { 1 ≤ length messages.now }
+    ensures { (before : List Envelope) (last : Envelope) → messages.now ≡ before ++ last ∷ []
+        → IfOk result (λ copy. copy ≡ last.message) }
+{
+    let place = messages.len() - 1;
+    let last = &messages[place];
+    last.message.copy(alloc)
+}
+
+/// A message goes out. It is kept first, and then told by a copy.
+fn send_message(
+    alloc: Global,
+    messages: &mut Vec<Envelope>,
+    gone: &mut Gone,
+    to: Rank,
+    message: Message,
+) -> Result<(), OutOfMemory>
+    ensures { (rank : ℕ) → OnOk result (Sends rank (message_to to message) messages.old.items messages.new.items gone.old gone.new) }
+{
+    messages.push(Envelope { to, message })?;
+    let copy = last_copy(alloc, messages.as_slice())?;
+    gone.sent.push(Numbered {
+        number: messages.len() as u64,
+        to,
+        message: copy,
+    })?;
+    Ok(())
+}
+
 /// A message or a reply of the monitor of this rank goes out.
 fn send_one(
     alloc: Global,
@@ -37,22 +69,13 @@ fn send_one(
     ensures { OnOk result (Sends rank one messages.old.items messages.new.items gone.old gone.new) }
 {
     match one {
-        Sent::Message { to, message } => {
-            let copy = message.copy(alloc)?;
-            messages.push(Envelope { to, message })?;
-            gone.sent.push(Numbered {
-                number: messages.len() as u64,
-                to,
-                message: copy,
-            })?;
-        }
+        Sent::Message { to, message } => send_message(alloc, messages, gone, to, message),
         Sent::Reply { to, reply } => gone.replies.push(Replied {
             rank,
             session: to,
             reply,
-        })?,
+        }),
     }
-    Ok(())
 }
 
 /// What the monitor of this rank sent goes out, in order.
