@@ -6,7 +6,7 @@ use Rattle.std.specs.Prelude.{IfSome}
 use Rattle.std.specs.declared.alloc.Global.{Global}
 use Rattle.cephmon_run.proofs.Schedules.{same_monitors}
 use Rattle.cephmon_run.specs.Node.{Around, NodeCause, OpensTo, Served, Unopened}
-use Rattle.cephmon_run.specs.Run.{Completes, HasCause, HasStatus, Holds, IsCaused, IsServed, Made, MadeCause, NoneFailed, NothingFailed, OfRead, Outside, ReplayCause, Replayed, Replays, SummedAll, Tells, TellsLine, TellsRefusal, WroteAll, most_read}
+use Rattle.cephmon_run.specs.Run.{Completes, Ends, HasCause, HasStatus, Holds, IsCaused, IsServed, Made, MadeCause, NoneFailed, NothingFailed, OfRead, Outside, ReplayCause, Replayed, Replays, SummedAll, Tells, TellsLine, TellsRefusal, WroteAll, most_read}
 use Rattle.cephmon_run.specs.Summary.{summary}
 use Rattle.cephmon_run.specs.Trace.{Trace, trace}
 use Rattle.cephmon_run.specs.declared.status.Status.TheVariants as status
@@ -54,7 +54,7 @@ module _ {D : Type 0} (state : D → DiskState) (words : List (String Global)) (
   no_words (task.Made number events) cause = cause.0
   no_words (task.Node member rule addresses disk_a disk_b turns) cause = cause.0
 
-  pub asked : (t : Task) (s : Status) → AsksFor t words → HasCause state t before after around left s → HasStatus state words before after around left s
+  asked : (t : Task) (s : Status) → AsksFor t words → HasCause state t before after around left s → HasStatus state words before after around left s
   asked t status.Done asks cause = (t, asks, cause)
   asked t status.Words asks cause = absurd (no_words t cause)
   asked t (status.Schedule line kind) asks cause = (t, asks, cause)
@@ -323,12 +323,12 @@ nothing_read : (old : Option (List ℕ)) → ConsumesFront old old
 nothing_read None = ([], tt)
 nothing_read (Some xs) = ([], refl)
 
-pub no_memory : {D : Type 0} (state : D → DiskState) (before : Outside) (around : Around D) (t : Task) → HasCause state t before before around around status.OutOfMemory
+no_memory : {D : Type 0} (state : D → DiskState) (before : Outside) (around : Around D) (t : Task) → HasCause state t before before around around status.OutOfMemory
 no_memory state before around task.Replay = (inl (nothing_read before.left, (refl, refl)), refl)
 no_memory state before around (task.Made number events) = (((refl, refl), inl (refl, refl)), refl)
 no_memory state before around (task.Node member rule addresses disk_a disk_b turns) = (inl refl, refl)
 
-pub completes : {D : Type 0} (state : D → DiskState) (words : List (String Global)) (before after : Outside) (around left : Around D) (s : Status)
+completes : {D : Type 0} (state : D → DiskState) (words : List (String Global)) (before after : Outside) (around left : Around D) (s : Status)
     → HasStatus state words before after around left s → Completes state words before after around left s
 completes state words before after around left s has = record {
   faulty = faulty_words state words before after around left s has;
@@ -343,3 +343,19 @@ completes state words before after around left s has = record {
   unopened = λ member rule addresses disk_a disk_b turns asks calm refusal holds.
       unopened_so state around left calm (record { member = member; rule = rule }) turns refusal holds s (cause_of state words before after around left (task.Node member rule addresses disk_a disk_b turns) s asks has).0;
 }
+
+-- ---- how a run ends, that was asked for and that wasn't
+
+module _ {D : Type 0} (state : D → DiskState) (words : List (String Global)) where
+  ends : (before after : Outside) (around left : Around D) (s : Status) → HasStatus state words before after around left s → Ends state words before after around left s
+  ends before after around left s has = record { status = has; complete = completes state words before after around left s has }
+
+  pub ends_asked : (before after : Outside) (around left : Around D) (t : Task) (s : Status) → AsksFor t words → HasCause state t before after around left s
+      → Ends state words before after around left s
+  ends_asked before after around left t s asks cause = ends before after around left s (asked state words before after around left t s asks cause)
+
+  pub ends_refused : (before : Outside) (around : Around D) → AsksForNone words → Ends state words before before around around status.Words
+  ends_refused before around none = ends before before around around status.Words (none, refl, refl)
+
+  pub ends_early : (before : Outside) (around : Around D) (t : Task) → AsksFor t words → Ends state words before before around around status.OutOfMemory
+  ends_early before around t asks = ends_asked before before around around t status.OutOfMemory asks (no_memory state before around t)

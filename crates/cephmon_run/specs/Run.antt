@@ -1,5 +1,5 @@
 -- What a run reads and writes, and the cause of each status.
-use Rattle.std.specs.Prelude.{◌≡◌, ℕ, ◌≤◌, ◌⊎◌, List, length, map, Option, Some, None, Result, Ok, Err, String}
+use Rattle.std.specs.Prelude.{◌≡◌, ℕ, ◌≤◌, ◌⊎◌, List, ◌++◌, length, map, Option, Some, None, Result, Ok, Err, String}
 use Rattle.std.specs.declared.alloc.Global.{Global}
 use Rattle.std.specs.Io.KnownBytes.{Appends, IsAtEnd}
 use Rattle.mon_types.specs.Faults.{Rose}
@@ -22,6 +22,7 @@ use Rattle.quorum_model.specs.Happens as happens
 use Rattle.quorum_model.specs.Monitors.{Monitors}
 use Rattle.quorum_model.specs.Safe.{Safe}
 use Rattle.quorum_model.specs.Scenes.{events_of}
+use Rattle.quorum_model.specs.World.{Event}
 use Rattle.cephmon_run.specs.declared.status.Status.{Status}
 use Rattle.cephmon_run.specs.declared.status.Status.TheVariants as status
 use Rattle.mon_world.specs.Events.{scheduled_of}
@@ -48,11 +49,11 @@ most_read = 16777217
 abbrev pub OfRead : Outside → Outside → (List ℕ → Type 0) → Type 0
 OfRead before after fact = (bytes : List ℕ) × (length bytes ≤ most_read) × ReadsWhole most_read before.left after.left bytes × fact bytes
 
--- the monitors of a schedule, whose run is safe
+-- the monitors of a schedule, whose run is safe at each moment: after each beginning of its events, none and all of them among these
 pub record Runs (schedule : Schedule) (ms : Monitors) : Type 0 where
   pub count : ms.count ≡ schedule.monitors
   pub rule : ms.rule ≡ schedule.rule
-  pub safe : Safe ms (events_of ms (map scheduled_of schedule.events))
+  pub safe : (before after : List Event) → before ++ after ≡ events_of ms (map scheduled_of schedule.events) → Safe ms before
 
 -- the bytes are the text of a schedule, its run is safe, and its trace has this fact
 pub record Replays (bytes : List ℕ) (fact : Trace → Type 0) : Type 0 where
@@ -208,3 +209,10 @@ pub record Completes {D : Type 0} (state : D → DiskState) (words : List (Strin
   pub unopened : (member : Member) (rule : Rule) (addresses : List Address) (disk_a disk_b : List ℕ) (turns : ℕ)
       → AsksFor (task.Node member rule addresses disk_a disk_b turns) words → NoneFailed state around left
       → (refusal : Refusal) → Holds state member around (Err refusal) → TellsRefusal refusal s
+
+-- ---- what is promised of a run
+
+-- The status has its cause, and it is the one that comes.
+pub record Ends {D : Type 0} (state : D → DiskState) (words : List (String Global)) (before after : Outside) (around left : Around D) (s : Status) : Type 0 where
+  pub status : HasStatus state words before after around left s
+  pub complete : Completes state words before after around left s

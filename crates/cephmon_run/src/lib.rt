@@ -1,4 +1,4 @@
-//! What the words of a command line ask for is done: a schedule is replayed, one is made and run, or a monitor serves.
+//! Does what the words of a command line ask for: replays a schedule, runs one that is made, or serves as a monitor.
 #![tactic(auto)]
 
 mod node;

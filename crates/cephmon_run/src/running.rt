@@ -6,7 +6,7 @@ ghost use Rattle.quorum_model.specs.Monitors.{Monitors};
 ghost use Rattle.schedule_made.specs.Made.{made_schedule};
 ghost use Rattle.schedule_text.specs.Spelling.{HasText, schedule_text};
 ghost use Rattle.task_words.specs.Task.{HasWords};
-ghost use Rattle.cephmon_run.specs.Run.{Completes, HasCause, HasStatus, MadeCause, ReplayCause, TellsFault};
+ghost use Rattle.cephmon_run.specs.Run.{Ends, HasCause, MadeCause, ReplayCause, TellsFault};
 ghost use Rattle.cephmon_run.specs.Replay.{StopsAs, status_of};
 ghost use Rattle.cephmon_run.specs.Summary.{IsLine, summary};
 
@@ -159,16 +159,9 @@ pub fn run<S: Source, K: Sink, D: Disk, L: Link, C: Clock>(
     link: &mut L,
     clock: &mut C,
 ) -> Ended<D>
-    // What each status tells of what was asked, read, written and served. Each run that it speaks of is safe.
-    ensures status { HasStatus D.state words.now
-        (record { left = S.left source.old; held = K.held sink.old; read_faults = S.faults source.old; write_faults = K.faults sink.old })
-        (record { left = S.left source.new; held = K.held sink.new; read_faults = S.faults source.new; write_faults = K.faults sink.new })
-        (record { disks = disks; link = L.state link.old; clock = C.left clock.old })
-        (record { disks = result.disks; link = L.state link.new; clock = C.left clock.new })
-        result.status }
-
-    // Which status comes, where nothing fails.
-    ensures complete { Completes D.state words.now
+    // What the status tells of what was asked, read, written and served, and which status comes where nothing fails. Each run that it speaks
+    // of is safe at each moment.
+    ensures { Ends D.state words.now
         (record { left = S.left source.old; held = K.held sink.old; read_faults = S.faults source.old; write_faults = K.faults sink.old })
         (record { left = S.left source.new; held = K.held sink.new; read_faults = S.faults source.new; write_faults = K.faults sink.new })
         (record { disks = disks; link = L.state link.old; clock = C.left clock.old })

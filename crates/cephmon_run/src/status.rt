@@ -19,17 +19,17 @@ pub enum Status {
     WriteFault,
     /// A disk of the node failed.
     DiskFault,
-    /// The node's link couldn't tell what comes.
+    /// The node's link failed to tell what comes.
     LinkFault,
-    /// That disk holds no store, or none beside the other one, from this byte on. What the disks stand for is unchanged.
+    /// That disk holds no store, or none that goes with the other one, from this byte on. What the disks stand for is unchanged.
     NotAStore { disk: Side, at: u64 },
     /// The store is another monitor's, or of another number of monitors. What the disks stand for is unchanged.
     Stranger { kept: Member, asked: Member },
-    /// A number of this kind would pass 2^62. The lines of the events before were written.
+    /// A number of this kind would pass 2^62. Of a trace the lines of the events before were written, and of a summary nothing.
     Spent { which: Which },
     /// The node made as many turns as were asked.
     TurnsUsed,
-    /// The monitor's map would have the size `would_be`, above 268,435,456. The lines of the events before were written.
+    /// A monitor's map would have the size `would_be`, above 268,435,456. What was written is as with `Spent`.
     Full { would_be: u64 },
     /// An allocation was refused. What went out is a front of the output.
     OutOfMemory,

@@ -1,7 +1,7 @@
 -- A world goes on with the run of its events, which is safe.
-use Rattle.std.proofs.Common.{◌≡◌, ℕ, List, [], ◌∷◌, ◌++◌, length, map, IsTrue, None, Result, Ok, Err, refl, ap, subst, ◌∙◌}
+use Rattle.std.proofs.Common.{◌≡◌, ℕ, List, [], ◌∷◌, ◌++◌, length, map, IsTrue, None, Result, Ok, Err, refl, sym, ap, subst, ◌∙◌}
 use Rattle.std.specs.List.{list_all}
-use Rattle.log_model.proofs.Lists.{all_append}
+use Rattle.log_model.proofs.Lists.{all_append, all_front}
 use Rattle.quorum_agreement.proofs.SafeWorlds.{safe}
 use Rattle.quorum_model.proofs.Fitting.{all_fit}
 use Rattle.quorum_model.specs.Events.{AllFit, PlainFits}
@@ -80,5 +80,8 @@ module _ (ms : Monitors) (old : code.World) (c : Scene) (events : List Event) (e
 
 -- ---- the schedule
 
-pub schedule_safe : (ms : Monitors) (es : List schedule.Event) → IsTrue (list_all (event_fits ms.count) es) → Safe ms (events_of ms (map scheduled_of es))
-schedule_safe ms es fit = safe ms (events_of ms (map scheduled_of es)) (all_spoken ms es fit)
+pub schedule_safe : (ms : Monitors) (es : List schedule.Event) → IsTrue (list_all (event_fits ms.count) es)
+    → (before after : List Event) → before ++ after ≡ events_of ms (map scheduled_of es) → Safe ms before
+schedule_safe ms es fit before after is =
+    let all = subst (λ (events : List Event). AllFit ms.count events) (sym is) (all_spoken ms es fit) in
+    safe ms before (all_front (λ (e : Event). PlainFits ms.count (plain_of e)) before after all)

@@ -1,35 +1,29 @@
-use Rattle.std.proofs.Common.{Err, refl, subst}
-use Rattle.task_words.specs.Task.{AsksFor, AsksForNone, IsAsked, Reads}
+use Rattle.std.proofs.Common.{Err, subst}
+use Rattle.task_words.specs.Task.{AsksForNone, IsAsked, Reads}
 use Rattle.task_words.specs.declared.task.WordsStop.{WordsStop}
 use Rattle.cephmon_run.specs.Node.{Around}
-use Rattle.cephmon_run.specs.Run.{HasStatus, Outside}
-use Rattle.cephmon_run.specs.declared.status.Status.TheVariants as status
-use Rattle.cephmon_run.proofs.Exact.{asked, completes, no_memory}
+use Rattle.cephmon_run.specs.Run.{Outside}
+use Rattle.cephmon_run.proofs.Exact.{ends_asked, ends_early, ends_refused}
 use Rattle.cephmon_run.proofs.running.run.Goals as goal
 
--- In each arm the status has its cause, and that it completes follows from it.
 pub returns-in-Ok : goal.returns-in-Ok
 returns-in-Ok g c =
     let before : Outside = record { left = g.S.Source.left c.args.source.now; held = g.K.Sink.held c.args.sink.now; read_faults = g.S.Source.faults c.args.source.now; write_faults = g.K.Sink.faults c.args.sink.now } in
     let after : Outside = record { left = g.S.Source.left c.run_task.new.source; held = g.K.Sink.held c.run_task.new.sink; read_faults = g.S.Source.faults c.run_task.new.source; write_faults = g.K.Sink.faults c.run_task.new.sink } in
     let around : Around g.row.D.Denot = record { disks = c.args.disks; link = g.L.Link.state c.args.link.now; clock = g.C.Clock.left c.args.clock.now } in
     let left : Around g.row.D.Denot = record { disks = c.run_task.result.disks; link = g.L.Link.state c.run_task.new.link; clock = g.C.Clock.left c.run_task.new.clock } in
-    let asks : AsksFor c.in-Ok.task c.args.words.now = c.in-Ok.ensures in
-    let has = asked g.D.Disk.state c.args.words.now before after around left c.in-Ok.task c.run_task.result.status asks c.run_task.ensures in
-    record { status = has; complete = completes g.D.Disk.state c.args.words.now before after around left c.run_task.result.status has }
+    ends_asked g.D.Disk.state c.args.words.now before after around left c.in-Ok.task c.run_task.result.status c.in-Ok.ensures c.run_task.ensures
 
 pub returns-in-Err-Refused : goal.returns-in-Err-Refused
 returns-in-Err-Refused g c =
     let before : Outside = record { left = g.S.Source.left c.args.source.now; held = g.K.Sink.held c.args.sink.now; read_faults = g.S.Source.faults c.args.source.now; write_faults = g.K.Sink.faults c.args.sink.now } in
     let around : Around g.row.D.Denot = record { disks = c.args.disks; link = g.L.Link.state c.args.link.now; clock = g.C.Clock.left c.args.clock.now } in
     let none : AsksForNone c.args.words.now = subst (λ (w : WordsStop). Reads (Err w) c.args.words.now) c.in-Err-Refused.field-0-is c.in-Err-Refused.ensures in
-    let has : HasStatus g.D.Disk.state c.args.words.now before before around around status.Words = (none, refl, refl) in
-    record { status = has; complete = completes g.D.Disk.state c.args.words.now before before around around status.Words has }
+    ends_refused g.D.Disk.state c.args.words.now before around none
 
 pub returns-in-Err-OutOfMemory : goal.returns-in-Err-OutOfMemory
 returns-in-Err-OutOfMemory g c =
     let before : Outside = record { left = g.S.Source.left c.args.source.now; held = g.K.Sink.held c.args.sink.now; read_faults = g.S.Source.faults c.args.source.now; write_faults = g.K.Sink.faults c.args.sink.now } in
     let around : Around g.row.D.Denot = record { disks = c.args.disks; link = g.L.Link.state c.args.link.now; clock = g.C.Clock.left c.args.clock.now } in
     let it : IsAsked c.args.words.now = subst (λ (w : WordsStop). Reads (Err w) c.args.words.now) c.in-Err-OutOfMemory.field-0-is c.in-Err-OutOfMemory.ensures in
-    let has = asked g.D.Disk.state c.args.words.now before before around around it.0 status.OutOfMemory it.1 (no_memory g.D.Disk.state before around it.0) in
-    record { status = has; complete = completes g.D.Disk.state c.args.words.now before before around around status.OutOfMemory has }
+    ends_early g.D.Disk.state c.args.words.now before around it.0 it.1
