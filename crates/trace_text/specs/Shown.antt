@@ -2,6 +2,7 @@
 use Rattle.std.specs.Prelude.{ℕ, List, [], ◌∷◌, ◌++◌, codes, decimal}
 use Rattle.std.specs.FinMap.{entries}
 use Rattle.json.specs.Print.{quoted}
+use Rattle.json.specs.Token.{Token, begin_object, end_object, begin_array, end_array, key, string, number}
 use Rattle.map_log.specs.declared.inc.LogInc.{LogInc}
 use Rattle.mon_wire.specs.declared.reply.ShownMap.{ShownMap}
 use Rattle.mon_wire.specs.declared.reply.ShownMap.TheVariants.{Kv, Log}
@@ -37,3 +38,22 @@ array_text (inc ∷ incs) = 91 ∷ (item_text inc ++ items_text incs)
 abbrev pub shown_text : ShownMap → List ℕ
 shown_text (Kv map) = object_text (entries map)
 shown_text (Log incs) = array_text incs
+
+-- the same as a writer's tokens: a member, members and the end of their object, an item, items and the end of their array
+abbrev pub member_tokens : List ℕ × List ℕ → List Token
+member_tokens member = key member.0 ∷ string member.1 ∷ []
+
+abbrev pub members_tokens : List (List ℕ × List ℕ) → List Token
+members_tokens [] = end_object ∷ []
+members_tokens (member ∷ members) = key member.0 ∷ string member.1 ∷ members_tokens members
+
+abbrev pub item_tokens : LogInc → List Token
+item_tokens inc = begin_array ∷ number (decimal inc.rank) ∷ string inc.text ∷ end_array ∷ []
+
+abbrev pub items_tokens : List LogInc → List Token
+items_tokens [] = end_array ∷ []
+items_tokens (inc ∷ incs) = begin_array ∷ number (decimal inc.rank) ∷ string inc.text ∷ end_array ∷ items_tokens incs
+
+abbrev pub shown_tokens : ShownMap → List Token
+shown_tokens (Kv map) = begin_object ∷ members_tokens (entries map)
+shown_tokens (Log incs) = begin_array ∷ items_tokens incs

@@ -1,99 +1,106 @@
 //! A shown map as compact JSON.
 
-ghost use Rattle.std.specs.Prelude.{◌≡◌, ◌++◌, string_bytes, OnOk};
+ghost use Rattle.std.specs.Prelude.{◌≡◌, ◌++◌, ◌∷◌, string_bytes, OnOk};
 ghost use Rattle.std.specs.FinMap.{entries};
-ghost use Rattle.json.specs.Print.{quoted};
+ghost use Rattle.std.specs.Str.{IsUtf8};
+ghost use Rattle.json.specs.Token.{begin_object, begin_array};
 ghost use Rattle.map_kv.specs.Kept.{pairs};
-ghost use Rattle.trace_text.specs.Shown.{member_text, members_text, object_text, item_text, items_text, array_text, shown_text};
+ghost use Rattle.trace_text.specs.Shown.{member_tokens, members_tokens, item_tokens, items_tokens, shown_tokens, shown_text};
 
+use json::Writer;
 use map_kv::KvMap;
 use map_log::{LogInc, LogMap};
 use mon_bytes::Text;
 use mon_wire::ShownMap;
-use serde_json::Value;
 use std::alloc::{AllocError, Global};
 use std::collections::btree_map::Iter;
-use std::fmt::Write;
+use std::mem;
 
-fn put_string(alloc: Global, out: &mut String, text: &str) -> Result<(), AllocError>
-    ensures { OnOk result (string_bytes out.new ≡ string_bytes out.old ++ quoted text.now) }
+fn put_member(json: &mut Writer, key: &str, value: &str) -> Result<(), AllocError>
+    ensures tokens { OnOk result (json.new.tokens ≡ json.old.tokens ++ (member_tokens (key.now, value.now))) }
+    ensures before { OnOk result (json.new.before ≡ json.old.before) }
 {
-    let json = Value::String(String::from_str(alloc, text)?).to_string(alloc)?;
-    out.push_str(json.as_str())
+    json.key(key)?;
+    json.string(value)
 }
 
-fn put_member(alloc: Global, out: &mut String, key: &str, value: &str) -> Result<(), AllocError>
-    ensures { OnOk result (string_bytes out.new ≡ string_bytes out.old ++ member_text (key.now, value.now)) }
-{
-    put_string(alloc, out, key)?;
-    out.push_str(":")?;
-    put_string(alloc, out, value)
-}
-
-/// The members behind the first, and the end of the object.
-fn put_members(
-    alloc: Global,
-    out: &mut String,
-    entries: Iter<'_, String, Text>,
-) -> Result<(), AllocError>
-    ensures { OnOk result (string_bytes out.new ≡ string_bytes out.old ++ members_text (pairs entries.entry)) }
+/// The members of an object, and its end.
+fn put_members(json: &mut Writer, entries: Iter<'_, String, Text>) -> Result<(), AllocError>
+    ensures tokens { OnOk result (json.new.tokens ≡ json.old.tokens ++ (members_tokens (pairs entries.entry))) }
+    ensures before { OnOk result (json.new.before ≡ json.old.before) }
 {
     for (key, value) in entries {
-        out.push_str(",")?;
-        put_member(alloc, out, key.as_str(), value.as_str())?;
+        put_member(json, key.as_str(), value.as_str())?;
     }
-    out.push_str("}")
+    json.end_object()
 }
 
-fn put_object(alloc: Global, out: &mut String, map: &KvMap) -> Result<(), AllocError>
-    ensures { OnOk result (string_bytes out.new ≡ string_bytes out.old ++ object_text (entries map.now)) }
+fn put_object(json: &mut Writer, map: &KvMap) -> Result<(), AllocError>
+    ensures tokens { OnOk result (json.new.tokens ≡ json.old.tokens ++ begin_object ∷ members_tokens (entries map.now)) }
+    ensures before { OnOk result (json.new.before ≡ json.old.before) }
 {
-    let mut entries = map.iter();
-    let Some((key, value)) = entries.next() else {
-        return out.push_str("{}");
-    };
-    out.push_str("{")?;
-    put_member(alloc, out, key.as_str(), value.as_str())?;
-    put_members(alloc, out, entries)
+    json.begin_object()?;
+    put_members(json, map.iter())
 }
 
-fn put_item(alloc: Global, out: &mut String, inc: &LogInc) -> Result<(), AllocError>
-    ensures { OnOk result (string_bytes out.new ≡ string_bytes out.old ++ item_text inc.now) }
+fn put_item(json: &mut Writer, inc: &LogInc) -> Result<(), AllocError>
+    ensures tokens { OnOk result (json.new.tokens ≡ json.old.tokens ++ (item_tokens inc.now)) }
+    ensures before { OnOk result (json.new.before ≡ json.old.before) }
 {
-    let rank = inc.rank.get();
-    write!(out, "[{rank},")?;
-    put_string(alloc, out, inc.text.as_str())?;
-    out.push_str("]")
+    json.begin_array()?;
+    json.u64(u64::from(inc.rank.get()))?;
+    json.string(inc.text.as_str())?;
+    json.end_array()
 }
 
-/// The items behind the first, and the end of the array.
-fn put_items(alloc: Global, out: &mut String, incs: &[LogInc]) -> Result<(), AllocError>
-    ensures { OnOk result (string_bytes out.new ≡ string_bytes out.old ++ items_text incs.now) }
+/// The items of an array, and its end.
+fn put_items(json: &mut Writer, incs: &[LogInc]) -> Result<(), AllocError>
+    ensures tokens { OnOk result (json.new.tokens ≡ json.old.tokens ++ (items_tokens incs.now)) }
+    ensures before { OnOk result (json.new.before ≡ json.old.before) }
 {
     for inc in incs {
-        out.push_str(",")?;
-        put_item(alloc, out, inc)?;
+        put_item(json, inc)?;
     }
-    out.push_str("]")
+    json.end_array()
 }
 
-fn put_array(alloc: Global, out: &mut String, map: &LogMap) -> Result<(), AllocError>
-    ensures { OnOk result (string_bytes out.new ≡ string_bytes out.old ++ array_text map.now) }
+fn put_array(json: &mut Writer, map: &LogMap) -> Result<(), AllocError>
+    ensures tokens { OnOk result (json.new.tokens ≡ json.old.tokens ++ begin_array ∷ items_tokens map.now) }
+    ensures before { OnOk result (json.new.before ≡ json.old.before) }
 {
-    let [first, others @ ..] = map.entries() else {
-        return out.push_str("[]");
-    };
-    out.push_str("[")?;
-    put_item(alloc, out, first)?;
-    put_items(alloc, out, others)
+    json.begin_array()?;
+    put_items(json, map.entries())
+}
+
+fn put_map(json: &mut Writer, shown: &ShownMap) -> Result<(), AllocError>
+    ensures tokens { OnOk result (json.new.tokens ≡ json.old.tokens ++ (shown_tokens shown.now)) }
+    ensures before { OnOk result (json.new.before ≡ json.old.before) }
+{
+    match shown {
+        ShownMap::Kv(map) => put_object(json, map),
+        ShownMap::Log(map) => put_array(json, map),
+    }
+}
+
+/// The text of bytes that are one.
+fn text_of(bytes: Vec<u8>) -> String
+    requires { IsUtf8 bytes.items }
+    ensures { string_bytes result ≡ bytes.items }
+{
+    match String::from_utf8(bytes) {
+        Ok(text) => text,
+        Err(_) => unreachable!(),
+    }
 }
 
 /// The map of a service.
+#[tactic(auto, using(crate::proofs::Printed::printed))]
 pub fn put_shown(alloc: Global, out: &mut String, shown: &ShownMap) -> Result<(), AllocError>
     ensures { OnOk result (string_bytes out.new ≡ string_bytes out.old ++ shown_text shown.now) }
 {
-    match shown {
-        ShownMap::Kv(map) => put_object(alloc, out, map),
-        ShownMap::Log(map) => put_array(alloc, out, map),
-    }
+    let before = mem::replace(out, String::new(alloc));
+    let mut json = Writer::new(before.into_bytes());
+    put_map(&mut json, shown)?;
+    *out = text_of(json.into_inner());
+    Ok(())
 }

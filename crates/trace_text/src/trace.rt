@@ -13,6 +13,9 @@ use schedule_text::{Event, service_word};
 use std::alloc::{AllocError, Global};
 use std::fmt::Write;
 
+/// The lines of most events are no longer than this.
+const ROOM: usize = 512;
+
 /// The text of an answer with so many incrementals.
 fn put_since(
     out: &mut String,
@@ -148,7 +151,7 @@ pub fn trace_line(
 ) -> Result<Vec<u8>, OutOfMemory>
     ensures { IfOk result (λ bytes. bytes.items ≡ step_lines number event.now step.now) }
 {
-    let mut out = String::new(alloc);
+    let mut out = String::with_capacity(alloc, ROOM)?;
     write!(out, "{number} {event}\n")?;
     put_done(alloc, &mut out, step)?;
     Ok(out.into_bytes())

@@ -1,6 +1,8 @@
-use Rattle.std.proofs.Common.{◌≡◌, ◌++◌, drop, string_bytes}
-use Rattle.trace_text.specs.Shown.{items_text}
+use Rattle.std.proofs.Common.{◌≡◌, ◌++◌, drop}
+use Rattle.trace_text.specs.Shown.{items_tokens}
 use Rattle.trace_text.proofs.shown.put_items.Given as goal
 
 abbrev pub invariant-loop-inc : goal.invariant-loop-inc
-invariant-loop-inc l = string_bytes l.out ++ items_text (drop l.inc-index l.incs) ≡ string_bytes l.fn.out ++ items_text l.incs
+invariant-loop-inc l =
+    (l.json.tokens ++ items_tokens (drop l.inc-index l.incs) ≡ l.fn.json.tokens ++ items_tokens l.incs)
+    × (l.json.before ≡ l.fn.json.before)
