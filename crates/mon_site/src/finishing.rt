@@ -102,6 +102,9 @@ pub fn finish(
             disks: store.close(),
             kept,
         }),
-        Err(stop) => Err(stop),
+        Err(stop) => {
+            drop(store);
+            Err(stop)
+        }
     }
 }

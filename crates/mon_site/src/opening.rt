@@ -36,7 +36,10 @@ pub fn open(
         Ok(store) => Ok(Begun::Open(store)),
         Err(OpenRefused { why, disks }) => match why {
             OpenStop::DiskFault => Ok(Begun::Failed(disks)),
-            OpenStop::OutOfMemory => Err(OutOfMemory),
+            OpenStop::OutOfMemory => {
+                drop(disks);
+                Err(OutOfMemory)
+            }
             OpenStop::NotAStore { .. } | OpenStop::Stranger { .. } => unreachable!(),
         },
     }

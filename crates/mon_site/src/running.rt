@@ -27,10 +27,13 @@ pub fn start(
 {
     match Store::open(alloc, disks, member) {
         Ok(store) => Ok(store),
-        Err(OpenRefused { why, disks: _disks }) => match why {
-            OpenStop::OutOfMemory => Err(OutOfMemory),
-            _ => unreachable!(),
-        },
+        Err(OpenRefused { why, disks }) => {
+            drop(disks);
+            match why {
+                OpenStop::OutOfMemory => Err(OutOfMemory),
+                _ => unreachable!(),
+            }
+        }
     }
 }
 

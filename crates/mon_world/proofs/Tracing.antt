@@ -1,5 +1,5 @@
 -- The trace of a schedule's events tells their run.
-use Rattle.std.proofs.Common.{◌≡◌, ℕ, List, [], ◌∷◌, map, Some, None, Result, Ok, Err, refl, ap}
+use Rattle.std.proofs.Common.{◌≡◌, ℕ, List, [], ◌∷◌, map, Result, Ok, Err, refl, ap}
 use Rattle.quorum_model.specs.Files.{Files}
 use Rattle.quorum_model.specs.Happens.{Stop, happens}
 use Rattle.quorum_model.specs.Meets.{meets}
