@@ -3,6 +3,7 @@ pub mod Coming
 pub mod Holding
 pub mod Leaving
 pub mod Naming
+pub mod PutOnce
 pub mod Reacting
 pub mod Starting
 pub mod Taking

@@ -3,6 +3,7 @@
 
 mod acts;
 mod inputs;
+mod joining;
 mod monitor;
 mod names;
 mod reaction;

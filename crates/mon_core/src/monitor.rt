@@ -14,6 +14,7 @@ ghost use Rattle.mon_core.specs.Rows.{IsReady};
 ghost use Rattle.mon_event.specs.State.{state_of};
 
 use crate::inputs::run;
+use crate::joining::joined;
 use crate::names::tell_named;
 use crate::reaction::{CoreStop, Reaction};
 use crate::showing::show;
@@ -23,7 +24,6 @@ use mon_event::{Event, State};
 use mon_kv::Kv;
 use mon_msg::input::Input;
 use mon_msg::{Me, Phase, Request, Service, ShownMap, Timer};
-use mon_plan::joined;
 use mon_tx::Transaction;
 use mon_types::{Member, Moment};
 use std::alloc::Global;
@@ -111,7 +111,7 @@ fn react_to(
     played(alloc, kv, me, cache, event, input, now)?;
     let written = mem::replace(&mut event.tx, Transaction::new(alloc));
     let out = mem::replace(&mut event.out, Items::new(alloc));
-    let tx = joined(alloc, &written)?;
+    let tx = joined(alloc, written)?;
     cache.follow(alloc, &tx)?;
     tell_named(out.as_slice());
     Ok(Reaction { tx, out })

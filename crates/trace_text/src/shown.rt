@@ -17,7 +17,7 @@ use std::collections::btree_map::Iter;
 use std::mem;
 
 fn put_member(json: &mut Writer, key: &str, value: &str) -> Result<(), AllocError>
-    ensures tokens { OnOk result (json.new.tokens ≡ json.old.tokens ++ (member_tokens (key.now, value.now))) }
+    ensures tokens { OnOk result (json.new.tokens ≡ json.old.tokens ++ member_tokens (key.now, value.now)) }
     ensures before { OnOk result (json.new.before ≡ json.old.before) }
 {
     json.key(key)?;
@@ -26,7 +26,7 @@ fn put_member(json: &mut Writer, key: &str, value: &str) -> Result<(), AllocErro
 
 /// The members of an object, and its end.
 fn put_members(json: &mut Writer, entries: Iter<'_, String, Text>) -> Result<(), AllocError>
-    ensures tokens { OnOk result (json.new.tokens ≡ json.old.tokens ++ (members_tokens (pairs entries.entry))) }
+    ensures tokens { OnOk result (json.new.tokens ≡ json.old.tokens ++ members_tokens (pairs entries.entry)) }
     ensures before { OnOk result (json.new.before ≡ json.old.before) }
 {
     for (key, value) in entries {
@@ -44,7 +44,7 @@ fn put_object(json: &mut Writer, map: &KvMap) -> Result<(), AllocError>
 }
 
 fn put_item(json: &mut Writer, inc: &LogInc) -> Result<(), AllocError>
-    ensures tokens { OnOk result (json.new.tokens ≡ json.old.tokens ++ (item_tokens inc.now)) }
+    ensures tokens { OnOk result (json.new.tokens ≡ json.old.tokens ++ item_tokens inc.now) }
     ensures before { OnOk result (json.new.before ≡ json.old.before) }
 {
     json.begin_array()?;
@@ -55,7 +55,7 @@ fn put_item(json: &mut Writer, inc: &LogInc) -> Result<(), AllocError>
 
 /// The items of an array, and its end.
 fn put_items(json: &mut Writer, incs: &[LogInc]) -> Result<(), AllocError>
-    ensures tokens { OnOk result (json.new.tokens ≡ json.old.tokens ++ (items_tokens incs.now)) }
+    ensures tokens { OnOk result (json.new.tokens ≡ json.old.tokens ++ items_tokens incs.now) }
     ensures before { OnOk result (json.new.before ≡ json.old.before) }
 {
     for inc in incs {
@@ -73,7 +73,7 @@ fn put_array(json: &mut Writer, map: &LogMap) -> Result<(), AllocError>
 }
 
 fn put_map(json: &mut Writer, shown: &ShownMap) -> Result<(), AllocError>
-    ensures tokens { OnOk result (json.new.tokens ≡ json.old.tokens ++ (shown_tokens shown.now)) }
+    ensures tokens { OnOk result (json.new.tokens ≡ json.old.tokens ++ shown_tokens shown.now) }
     ensures before { OnOk result (json.new.before ≡ json.old.before) }
 {
     match shown {
