@@ -1,13 +1,10 @@
 //! A node whose link gives what a table says.
 
-ghost use Rattle.std.specs.Prelude.{◌≡◌, None};
-
 use crate::rig::*;
-use mon_disk::{Disk, MemoryDisk, NodeDisks};
+use mon_disk::{MemoryDisk, NodeDisks};
 use mon_frag::pieces;
-use mon_link::{Got, MemoryLink, Peer};
+use mon_link::{Got, MemoryLink, Outgoing, Peer};
 use mon_node::NodeEnd;
-use mon_store::Store;
 use mon_types::Rank;
 use std::alloc::Global;
 use std::test::Fail;
@@ -36,210 +33,225 @@ const REPLY: &[u8] = b"\x01\x19\x01\x03\x01\0\0\0\0\0\0\0\x08\0\0\0\0\0\0\0\x07"
 /// The file of a new store of monitor 0 of 3 with the first header, which is begun anew at once.
 const FIRST_HEADER: &[u8] = b"\x01CEPHMON1\0\x03\0\0\0\0\0\0\x01\0\0\0\0\0\0\0\0";
 
-/// Makes a call on a disk fail, and each later one.
-fn upset(disk: &mut MemoryDisk, call: u64, image: u8) -> Result<(), Fail>
-    requires { disk.old.life.upset ≡ None }
-{
-    if call == 0 || image > 3 {
-        return Err("no call or no image".into());
-    }
-    disk.upset(call, image);
-    Ok(())
+/// Whether this is sent to the client: its command is done.
+fn is_answer(sent: &Outgoing) -> bool {
+    sent.to == Peer::Client(3) && sent.bytes.as_slice() == DONE
 }
 
-/// Whether the first version of the key-value service is on these disks, as a crash leaves them.
-fn has_version(alloc: Global, disks: NodeDisks<MemoryDisk>) -> Result<bool, Fail> {
-    let NodeDisks { mut a, mut b } = disks;
-    a.settle()?;
-    b.settle()?;
-    match Store::open(alloc, NodeDisks { a, b }, member(0, 1)?) {
-        Ok(store) => Ok(store.kv().get(b"kv", b"1").is_some()),
-        Err(_) => Err("a store".into()),
+/// How many answers the client was sent, where that is all that was sent.
+fn answers(link: &MemoryLink) -> Option<usize> {
+    match link.sent() {
+        [] => Some(0),
+        [one] => { if is_answer(one) { Some(1) } else { None } }
+        _ => None,
     }
+}
+
+/// How a node ends that is given the client's command and whose disk A fails, how often it answered, and whether the command is kept.
+fn command(alloc: Global, call: u64, image: u8) -> Result<(NodeEnd, Option<usize>, bool), Fail> {
+    let member = member(0, 1)?;
+    let got = one_datagram(alloc, Peer::Client(3), SET)?;
+    let disks = NodeDisks {
+        a: failing(alloc, call, image)?,
+        b: MemoryDisk::new(alloc),
+    };
+    let Ran { served, link } = run(alloc, disks, &member, link(alloc, got), &[5], 9)?;
+    let kept = keeps_version(alloc, served.disks)?;
+    Ok((served.end, answers(&link), kept))
 }
 
 // The calls 12 to 15 of disk A are those with which the command's transaction is kept.
 #[test]
 fn a_command_is_answered_once_it_is_kept(rt: HostRuntime) -> Result<(), Fail> {
-    let alloc = rt.alloc();
-    for (call, image, end, kept) in [
-        (12u64, 1u8, NodeEnd::DiskFault, false),
-        (14, 0, NodeEnd::DiskFault, false),
-        (14, 1, NodeEnd::DiskFault, true),
-        (15, 0, NodeEnd::DiskFault, false),
-        (15, 1, NodeEnd::DiskFault, true),
-        (16, 0, NodeEnd::Closed, true),
+    for (call, image, wanted) in [
+        (12u64, 1u8, (NodeEnd::DiskFault, Some(0usize), false)),
+        (14, 0, (NodeEnd::DiskFault, Some(0), false)),
+        (14, 1, (NodeEnd::DiskFault, Some(0), true)),
+        (15, 0, (NodeEnd::DiskFault, Some(0), false)),
+        (15, 1, (NodeEnd::DiskFault, Some(0), true)),
+        (16, 0, (NodeEnd::Closed, Some(1), true)),
     ] {
-        let mut link = link(
-            alloc,
-            vec![in alloc; datagram(alloc, Peer::Client(3), SET)?]?,
-        );
-        let mut disks = empty_disks(alloc);
-        upset(&mut disks.a, call, image)?;
-        let mut clock = clock(alloc, &[5])?;
-        let ended = served(alloc, disks, &member(0, 1)?, &mut link, &mut clock, 9)?;
-        assert_eq!(rt; ended.end, end, "call {call}, image {image}");
-        match link.sent() {
-            [] => assert!(rt; end == NodeEnd::DiskFault),
-            [one] => assert!(rt;
-                end == NodeEnd::Closed && one.to == Peer::Client(3) && one.bytes.as_slice() == DONE
-            ),
-            _ => return Err("at most one answer".into()),
-        }
-        assert_eq!(rt;
-            has_version(alloc, ended.disks)?,
-            kept,
-            "call {call}, image {image}"
-        );
+        let found = command(rt.alloc(), call, image)?;
+        assert_eq!(rt; found, wanted, "call {call}, image {image}");
     }
     Ok(())
 }
 
+/// How a node of three ends whose checkpoint is due at its start and whose disk B fails from a call on, and how many messages it sent.
+fn checkpoint(alloc: Global, call: u64) -> Result<(NodeEnd, usize), Fail> {
+    let member = member(0, 3)?;
+    let b = failing(alloc, call, 0)?;
+    let a = holding(MemoryDisk::new(alloc), FIRST_HEADER)?;
+    let link = link(alloc, Vec::new(alloc));
+    let Ran { served, link } = run(alloc, NodeDisks { a, b }, &member, link, &[0], 0)?;
+    Ok((served.end, link.sent().len()))
+}
+
+// The calls 2 to 7 of disk B are those of the checkpoint.
 #[test]
 fn a_due_checkpoint_is_made_before_anything_is_sent(rt: HostRuntime) -> Result<(), Fail> {
-    let alloc = rt.alloc();
-    // The calls 2 to 7 of disk B are those of the checkpoint.
-    for (call, end, sent) in [
-        (7u64, NodeEnd::DiskFault, 0usize),
-        (8, NodeEnd::TurnsUsed, 2),
-    ] {
-        let mut disks = empty_disks(alloc);
-        disks.a.write_at(0, FIRST_HEADER)?;
-        disks.a.sync()?;
-        upset(&mut disks.b, call, 0)?;
-        let mut link = link(alloc, Vec::new(alloc));
-        let mut clock = clock(alloc, &[0])?;
-        let ended = served(alloc, disks, &member(0, 3)?, &mut link, &mut clock, 0)?;
-        assert_eq!(rt; ended.end, end, "call {call}");
-        assert_eq!(rt; link.sent().len(), sent, "call {call}");
-    }
+    let early = checkpoint(rt.alloc(), 7)?;
+    assert_eq!(rt; early, (NodeEnd::DiskFault, 0usize));
+    let late = checkpoint(rt.alloc(), 8)?;
+    assert_eq!(rt; late, (NodeEnd::TurnsUsed, 2usize));
     Ok(())
 }
 
-/// How many datagrams a monitor of three sends at one that comes, besides its probes, and how long its disk is then.
-fn answers_to(alloc: Global, got: Vec<Got>) -> Result<(usize, u64), Fail> {
+/// Whether a node used so many turns, in each of which it asked its link once.
+fn used_turns(ended: &Ran, turns: u64) -> bool {
+    ended.served.end == NodeEnd::TurnsUsed
+        && ended.served.turns == turns
+        && ended.link.waits().len() as u64 == turns
+}
+
+/// Whether a monitor of three uses a turn for each datagram that comes, how many it sends, its two probes among them, and how long
+/// its disk is then.
+fn heard(alloc: Global, got: Vec<Got>) -> Result<(bool, usize, u64), Fail> {
     let turns = got.len() as u64;
-    let mut link = link(alloc, got);
-    let mut clock = clock(alloc, &[0])?;
-    let mut ended = served(
+    let member = member(0, 3)?;
+    let mut ended = run(
         alloc,
         empty_disks(alloc),
-        &member(0, 3)?,
-        &mut link,
-        &mut clock,
+        &member,
+        link(alloc, got),
+        &[0],
         turns,
     )?;
-    if ended.end != NodeEnd::TurnsUsed
-        || ended.turns != turns
-        || link.waits().len() as u64 != turns
-    {
-        return Err("a turn for each".into());
-    }
-    let answers = link.sent().len().checked_sub(2).ok_or("two probes")?;
-    Ok((answers, ended.disks.a.len()?))
+    let length = length(&mut ended.served.disks.a)?;
+    Ok((used_turns(&ended, turns), ended.link.sent().len(), length))
+}
+
+/// How a monitor of three hears a datagram.
+fn hears(alloc: Global, from: Peer, bytes: &[u8]) -> Result<(bool, usize, u64), Fail> {
+    heard(alloc, one_datagram(alloc, from, bytes)?)
 }
 
 #[test]
 fn only_a_whole_message_of_whom_it_names_is_heard(rt: HostRuntime) -> Result<(), Fail> {
     let alloc = rt.alloc();
-    let (none, started) = answers_to(alloc, Vec::new(alloc))?;
-    assert_eq!(rt; none, 0);
-    let monitors = [Rank::known(0), Rank::known(1), Rank::known(2)].map(Peer::Monitor);
+    let (used, probes, started) = heard(alloc, Vec::new(alloc))?;
+    assert!(rt; used && probes == 2);
+    let own = Peer::Monitor(Rank::known(0));
+    let one = Peer::Monitor(Rank::known(1));
+    let two = Peer::Monitor(Rank::known(2));
     let client = Peer::Client(3);
-    let long = vec![in alloc; 1u8; 60_001]?;
-    for (from, bytes, answers) in [
-        (monitors[1], PROBE, 1usize),
-        (monitors[2], PROBE, 0),
-        (client, PROBE, 0),
-        (monitors[1], PROBE_OF_TWO, 0),
-        (monitors[0], OWN_PROBE, 0),
-        (client, SHOW_OF_THREE, 1),
-        (monitors[0], SHOW_OF_THREE, 0),
-        (client, SHOW, 0),
-        (monitors[1], REPLY, 0),
-        (client, REPLY, 0),
-        (client, b"".as_slice(), 0),
-        (client, b"\x01".as_slice(), 0),
-        (client, b"\x02".as_slice(), 0),
-        (client, long.as_slice(), 0),
+    for (from, bytes, sent) in [
+        (one, PROBE, 3usize),
+        (two, PROBE, 2),
+        (client, PROBE, 2),
+        (one, PROBE_OF_TWO, 2),
+        (own, OWN_PROBE, 2),
+        (client, SHOW_OF_THREE, 3),
+        (own, SHOW_OF_THREE, 2),
+        (client, SHOW, 2),
+        (one, REPLY, 2),
+        (client, REPLY, 2),
+        (client, b"", 2),
+        (client, b"\x01", 2),
+        (client, b"\x02", 2),
     ] {
-        let got = vec![in alloc; datagram(alloc, from, bytes)?]?;
-        assert_eq!(rt;
-            answers_to(alloc, got)?,
-            (answers, started),
-            "{from:?}, {bytes:?}"
-        );
+        let found = hears(alloc, from, bytes)?;
+        assert_eq!(rt; found, (true, sent, started), "{from:?}, {bytes:?}");
     }
     Ok(())
+}
+
+/// Datagrams of 0, 1 and 60,001 bytes, of which none is a whole message.
+fn too_short_and_too_long(alloc: Global) -> Result<Vec<Got>, Fail> {
+    let mut got = Vec::new(alloc);
+    for length in [0usize, 1, 60_001] {
+        let bytes = vec![in alloc; 1u8; length]?;
+        got.push(datagram(alloc, Peer::Client(3), bytes.as_slice())?)?;
+    }
+    Ok(got)
+}
+
+#[test]
+fn nothing_is_kept_or_sent_for_what_is_too_short_or_too_long(rt: HostRuntime) -> Result<(), Fail> {
+    let alloc = rt.alloc();
+    let started = heard(alloc, Vec::new(alloc))?;
+    let found = heard(alloc, too_short_and_too_long(alloc)?)?;
+    assert_eq!(rt; found, started);
+    Ok(())
+}
+
+/// A link that is idle so often and then closed, or fails at a call. The first two messages that it is to send are lost.
+fn idle_link(alloc: Global, idle: usize, failing: u64) -> Result<MemoryLink, Fail> {
+    let mut got = Vec::new(alloc);
+    for _idle in 0..idle {
+        got.push(Got::Idle)?;
+    }
+    let failing = vec![in alloc; failing]?;
+    let lost = vec![in alloc; 1, 2]?;
+    Ok(MemoryLink::new(alloc, got, failing, lost))
+}
+
+/// How a monitor of three ends whose link is so, in which turn, and how many messages it sent.
+fn end_of(
+    alloc: Global,
+    idle: usize,
+    failing: u64,
+    turns: u64,
+) -> Result<(NodeEnd, u64, usize), Fail> {
+    let member = member(0, 3)?;
+    let link = idle_link(alloc, idle, failing)?;
+    let Ran { served, link } = run(alloc, empty_disks(alloc), &member, link, &[0], turns)?;
+    Ok((served.end, served.turns, link.sent().len()))
 }
 
 #[test]
 fn a_node_ends_as_its_link_does(rt: HostRuntime) -> Result<(), Fail> {
-    let alloc = rt.alloc();
-    for (idle, failing, turns, end, begun) in [
-        (0usize, 9u64, 9u64, NodeEnd::Closed, 1u64),
-        (1, 9, 1, NodeEnd::TurnsUsed, 1),
-        (1, 9, 0, NodeEnd::TurnsUsed, 0),
-        (0, 1, 9, NodeEnd::LinkFault, 1),
-        (1, 2, 9, NodeEnd::LinkFault, 2),
+    for (idle, failing, turns, wanted) in [
+        (0usize, 9u64, 9u64, (NodeEnd::Closed, 1u64, 2usize)),
+        (1, 9, 1, (NodeEnd::TurnsUsed, 1, 2)),
+        (1, 9, 0, (NodeEnd::TurnsUsed, 0, 2)),
+        (0, 1, 9, (NodeEnd::LinkFault, 1, 2)),
+        (1, 2, 9, (NodeEnd::LinkFault, 2, 2)),
     ] {
-        let mut got = Vec::new(alloc);
-        for _idle in 0..idle {
-            got.push(Got::Idle)?;
-        }
-        // Its probes are lost.
-        let lost = vec![in alloc; 1, 2]?;
-        let mut link = MemoryLink::new(alloc, got, vec![in alloc; failing]?, lost);
-        let mut clock = clock(alloc, &[0])?;
-        let ended = served(
-            alloc,
-            empty_disks(alloc),
-            &member(0, 3)?,
-            &mut link,
-            &mut clock,
-            turns,
-        )?;
-        assert_eq!(rt; (ended.end, ended.turns), (end, begun));
-        assert_eq!(rt; link.sent().len(), 2);
+        let found = end_of(rt.alloc(), idle, failing, turns)?;
+        assert_eq!(rt; found, wanted, "{idle} times idle, failing at {failing}");
     }
     Ok(())
 }
 
+/// A monitor of three whose link is idle four times, once it made its five turns while its clock shows these moments.
+fn waiting(alloc: Global, moments: &[u64]) -> Result<Ran, Fail> {
+    let member = member(1, 3)?;
+    let link = idle_link(alloc, 4, 9)?;
+    run(alloc, empty_disks(alloc), &member, link, moments, 5)
+}
+
+// A monitor of three probes at 0, and again at 2000.
 #[test]
 fn a_wait_ends_with_the_timer_that_comes_next(rt: HostRuntime) -> Result<(), Fail> {
-    let alloc = rt.alloc();
-    // A monitor of three probes at 0, and again at 2000.
-    let mut clock = clock(alloc, &[0, 1, 1700, 1999, 2000, 2001])?;
-    let mut link = link(
-        alloc,
-        vec![in alloc; Got::Idle, Got::Idle, Got::Idle, Got::Idle]?,
-    );
-    let ended = served(
-        alloc,
-        empty_disks(alloc),
-        &member(1, 3)?,
-        &mut link,
-        &mut clock,
-        5,
-    )?;
-    assert!(rt; ended.end == NodeEnd::TurnsUsed);
+    let Ran { served, link } = waiting(rt.alloc(), &[0, 1, 1700, 1999, 2000, 2001])?;
+    assert!(rt; served.end == NodeEnd::TurnsUsed);
     assert!(rt; link.waits() == [1000, 300, 1, 1000].as_slice());
     assert!(rt; link.sent().len() == 4);
     Ok(())
 }
 
-/// A client's request to set `a` to 65,536 letters, in its pieces.
-fn long_request(alloc: Global) -> Result<Vec<Got>, Fail> {
+/// A client's request to set `a` to 65,536 letters.
+fn long_message(alloc: Global) -> Result<Vec<u8>, Fail> {
     let mut message = b"\x01\x18\0\x01\0\0\0\0\0\0\0\0\x07\0\0\0\0\0\0\0\x01\x01a\0\0\x01\0".to_vec(
         alloc,
     )?;
-    message.extend_from_slice(vec![in alloc; b'x'; 65_536]?.as_slice())?;
+    let letters = vec![in alloc; b'x'; 65_536]?;
+    message.extend_from_slice(letters.as_slice())?;
+    Ok(message)
+}
+
+/// A long message in its pieces, and then twice the question what the map is.
+fn long_talk(alloc: Global, message: &[u8]) -> Result<Vec<Got>, Fail> {
     if message.len() > 1_048_576 {
         return Err("a shorter message".into());
     }
     let mut got = Vec::new(alloc);
-    for piece in pieces(alloc, &message, 4, 5)?.as_slice() {
+    for piece in pieces(alloc, message, 4, 5)?.as_slice() {
         got.push(datagram(alloc, Peer::Client(3), piece.as_slice())?)?;
+    }
+    for _question in 0..2 {
+        got.push(datagram(alloc, Peer::Client(3), SHOW)?)?;
     }
     Ok(got)
 }
@@ -250,27 +262,35 @@ fn head(bytes: &[u8]) -> (usize, [u8; 3]) {
     (bytes.len(), [at(0), at(4), at(12)])
 }
 
-#[test]
-fn long_messages_come_and_go_in_pieces(rt: HostRuntime) -> Result<(), Fail> {
-    let alloc = rt.alloc();
-    let mut got = long_request(alloc)?;
-    got.push(datagram(alloc, Peer::Client(3), SHOW)?)?;
-    got.push(datagram(alloc, Peer::Client(3), SHOW)?)?;
-    let mut link = link(alloc, got);
-    let mut clock = clock(alloc, &[0])?;
-    let ended = served(
-        alloc,
-        empty_disks(alloc),
-        &member(0, 1)?,
-        &mut link,
-        &mut clock,
-        4,
-    )?;
-    assert!(rt; ended.end == NodeEnd::TurnsUsed);
+fn heads(alloc: Global, link: &MemoryLink) -> Result<Vec<(usize, [u8; 3])>, Fail> {
     let mut heads = Vec::new(alloc);
     for one in link.sent() {
         heads.push(head(one.bytes.as_slice()))?;
     }
+    Ok(heads)
+}
+
+/// A node alone that is told a long command and is asked for the map twice.
+fn told_long(alloc: Global) -> Result<Ran, Fail> {
+    let member = member(0, 1)?;
+    let message = long_message(alloc)?;
+    let got = long_talk(alloc, message.as_slice())?;
+    run(
+        alloc,
+        empty_disks(alloc),
+        &member,
+        link(alloc, got),
+        &[0],
+        4,
+    )
+}
+
+#[test]
+fn long_messages_come_and_go_in_pieces(rt: HostRuntime) -> Result<(), Fail> {
+    let alloc = rt.alloc();
+    let Ran { served, link } = told_long(alloc)?;
+    assert!(rt; served.end == NodeEnd::TurnsUsed);
+    let heads = heads(alloc, &link)?;
     let wanted = [
         (29, [1, 2, 7]),
         (59_028, [2, 1, 1]),
