@@ -51,7 +51,7 @@ fn call(
     }) }
 {
     let table = table_told(alloc, &me.rule, &state.scores)?;
-    let out = tell_others(alloc, me, epoch, &Body::Propose { table })?;
+    let out = tell_others(alloc, me, epoch, Body::Propose { table })?;
     let arming = armed(now, Timer::Election);
     tell_until(alloc, tx, out, standing(me, state), arming)
 }

@@ -131,7 +131,7 @@ pub fn ping(
 {
     let elector = measured(alloc, me, state, now)?;
     let table = table_told(alloc, &me.rule, &elector.scores)?;
-    let out = tell_others(alloc, me, stored.epoch(), &Body::Ping { table })?;
+    let out = tell_others(alloc, me, stored.epoch(), Body::Ping { table })?;
     let tx = Transaction::new(alloc);
     Ok(tell_until(alloc, tx, out, elector, armed(now, Timer::Ping))?)
 }

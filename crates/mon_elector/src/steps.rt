@@ -109,8 +109,8 @@ pub fn enter_epoch_until(
     })
 }
 
-/// The same message to all others.
-pub fn tell_others(
+/// A copy of this to each of all others.
+fn tell_copies(
     alloc: Global,
     me: &Me,
     epoch: Epoch,
@@ -122,6 +122,20 @@ pub fn tell_others(
     let mut out = Items::new(alloc);
     send_each(alloc, &mut out, me, epoch, ranks.as_slice(), body)?;
     Ok(out)
+}
+
+/// The same message to all others.
+pub fn tell_others(
+    alloc: Global,
+    me: &Me,
+    epoch: Epoch,
+    body: Body,
+) -> Result<Items<Sent>, OutOfMemory>
+    ensures { IfOk result (λ out. out ≡ map (message_to me.now epoch body) (others me.now)) }
+{
+    let out = tell_copies(alloc, me, epoch, &body);
+    drop(body);
+    out
 }
 
 /// It tells the others, and arms a timer.
