@@ -45,18 +45,23 @@ fn a_file_is_made_and_opened_again(rt: HostRuntime) -> Result<(), Fail> {
     Ok(())
 }
 
+/// Why a file of that name has no length, if it has none.
+fn failure(rt: &HostRuntime, name: &str) -> Result<Option<ErrorKind>, Fail> {
+    let mut disk = named(rt, name)?;
+    if disk.len() != Err(Stop::Failed) {
+        return Ok(None);
+    }
+    Ok(disk.failure().map(|error| error.kind()))
+}
+
 #[test]
 fn what_is_no_file_fails(rt: HostRuntime) -> Result<(), Fail> {
-    let alloc = rt.alloc();
     for (name, kind) in [
         ("mon_disk_no_folder/file", ErrorKind::NotFound),
         ("/dev/null", ErrorKind::Unsupported),
         (".", ErrorKind::IsADirectory),
     ] {
-        let mut disk = FileDisk::named(&rt, String::from_str(alloc, name)?);
-        assert_eq!(rt; disk.len(), Err(Stop::Failed), "{name}");
-        let said = disk.failure().map(|error| error.kind());
-        assert_eq!(rt; said, Some(kind), "{name}");
+        assert_eq!(rt; failure(&rt, name)?, Some(kind), "{name}");
     }
     Ok(())
 }

@@ -1,7 +1,88 @@
+use crate::digits::bytes_of;
+use mon_bytes::KeyPlace;
 use mon_kv::Kv;
 use mon_tx::{Area, Key, Transaction};
 use std::alloc::Global;
 use std::test::Fail;
+
+/// A transaction that puts keys of three areas, of which one is a monitor's own, and one that puts versions and erases those from 99 to 100.
+const FOUR: &str = "\
+010400000001057061786f730e6c6173745f636f6d6d697474656408000000010000000000000001076d6f6e69746f720a\
+    626f6f745f636f756e7408000000010000000000000001057061786f730131010000007901026b7601610100000078";
+
+const RANGE: &str = "\
+020500000001057061786f73023939010000006101057061786f7303313030010000006201057061786f73043130303001\
+    0000006301057061786f730f66697273745f636f6d6d697474656408000000630000000000000004057061786f7363000000\
+    000000006500000000000000";
+
+/// What a transaction leaves of a map of nothing.
+fn made(alloc: Global, digits: &str) -> Result<Kv, Fail> {
+    let tx = mon_tx::decode(alloc, &bytes_of(alloc, digits)?)?;
+    let mut kv = Kv::empty(alloc);
+    kv.apply(&tx)?;
+    Ok(kv)
+}
+
+/// The name of a key, with a space behind it.
+fn name(alloc: Global, prefix: &[u8], key: &[u8]) -> Result<String, Fail> {
+    let prefix = str::from_utf8(prefix).map_err(|_| "a prefix")?;
+    let key = str::from_utf8(key).map_err(|_| "a key")?;
+    Ok(format!(in alloc; "{prefix}/{key} ")?)
+}
+
+/// The keys of a map of at most five, and its size.
+fn keys(alloc: Global, digits: &str) -> Result<String, Fail> {
+    let kv = made(alloc, digits)?;
+    let mut keys = String::new(alloc);
+    let (mut prefix, mut key) = (b"".as_slice(), b"".as_slice());
+    for _ in 0..5 {
+        let Some(entry) = kv.next_entry(prefix, key) else {
+            break;
+        };
+        keys.push_str(name(alloc, entry.prefix, entry.key)?.as_str())?;
+        (prefix, key) = (entry.prefix, entry.key);
+    }
+    Ok(format!(in alloc; "{keys}{}", kv.size())?)
+}
+
+#[test]
+fn keys_stand_in_order_and_a_range_erases_the_numbers_in_it(rt: HostRuntime) -> Result<(), Fail> {
+    for (digits, told) in [
+        (
+            FOUR,
+            "kv/a monitor/boot_count paxos/1 paxos/last_committed 127",
+        ),
+        (RANGE, "paxos/1000 paxos/first_committed 70"),
+    ] {
+        assert_eq!(rt; keys(rt.alloc(), digits)?.as_str(), told);
+    }
+    Ok(())
+}
+
+/// The run of shared keys that finds room, and whether it is the last.
+fn run(alloc: Global, room: usize, most: usize) -> Result<String, Fail> {
+    let kv = made(alloc, FOUR)?;
+    let run = kv.chunk_from(&KeyPlace::Start, room, most)?;
+    let mut keys = String::new(alloc);
+    for entry in run.entries.iter() {
+        keys.push_str(name(alloc, entry.prefix.as_slice(), entry.key.as_slice())?.as_str())?;
+    }
+    Ok(format!(in alloc; "{keys}{}", run.done)?)
+}
+
+#[test]
+fn a_run_of_shared_keys_stops_at_the_room_and_the_count(rt: HostRuntime) -> Result<(), Fail> {
+    for (room, most, told) in [
+        (9usize, 9usize, "false"),
+        (10, 9, "kv/a false"),
+        (22, 9, "kv/a false"),
+        (23, 1, "kv/a false"),
+        (23, 9, "kv/a paxos/1 true"),
+    ] {
+        assert_eq!(rt; run(rt.alloc(), room, most)?.as_str(), told, "{room}");
+    }
+    Ok(())
+}
 
 /// A map where 100,000 versions came in their order, 1,000 at a time.
 fn many_versions(alloc: Global) -> Result<Kv, Fail> {

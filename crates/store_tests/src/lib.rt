@@ -1,14 +1,18 @@
-//! Tests of bytes that other programs spelled, of files whose system fails, and of what no contract says.
+//! Tests of bytes that other programs spelled or spoiled, of what stores leave on disks, of files whose system fails, and of the height of trees.
 #![tactic(auto)]
 
 #[cfg(test)]
 mod contents;
+#[cfg(test)]
+mod cursor;
 #[cfg(test)]
 mod digits;
 #[cfg(test)]
 mod file_disk;
 #[cfg(test)]
 mod kv;
+#[cfg(test)]
+mod kv_map;
 #[cfg(test)]
 mod log_map;
 #[cfg(test)]
