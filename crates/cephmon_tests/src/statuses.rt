@@ -1,14 +1,10 @@
 //! What the program says on standard error.
 
+use crate::rig::member;
 use cephmon_run::Status;
-use mon_types::{Member, Rank, Side, Which};
+use mon_types::{Side, Which};
 use schedule_text::ScheduleKind;
 use std::test::Fail;
-
-fn member(rank: u8, monitors: u8) -> Result<Member, Fail> {
-    let rank = Rank::new(rank).ok_or("a rank")?;
-    Ok(Member::new(rank, monitors).ok_or("a member")?)
-}
 
 #[test]
 fn each_status_has_its_text(rt: HostRuntime) -> Result<(), Fail> {
