@@ -96,23 +96,19 @@ module _ (me : Me) (now f e : ℕ) (x : Course) (pn v : ℕ) where
   accept-dropped other = rw other refl
 
   module _ (mine : of_member phases f e x ≡ true) where
-    pub accept-number : pn ≢ x.state.leader.pn → hear_accept me now f e pn v x ≡ Ok x
+    pub accept-other : (pn == x.state.leader.pn && v == suc x.readings.last) ≡ false → hear_accept me now f e pn v x ≡ Ok x
     unfolding hear_accept
-    accept-number other = let t = ne_eqb pn x.state.leader.pn other in rw (mine, t) refl
+    accept-other other = rw (mine, other) refl
 
-    pub accept-version : pn ≡ x.state.leader.pn → v ≢ suc x.readings.last → hear_accept me now f e pn v x ≡ Ok x
-    unfolding hear_accept
-    accept-version same other = let t = eq-eqb pn x.state.leader.pn same in let u = ne_eqb v (suc x.readings.last) other in rw (mine, t, u) refl
-
-    module _ (same : pn ≡ x.state.leader.pn) (is : v ≡ suc x.readings.last) where
+    module _ (asked : (pn == x.state.leader.pn && v == suc x.readings.last) ≡ true) where
       pub accept-waits : are_within me.member.monitors x.state.leader.quorum with_vote.accepted ≡ false → hear_accept me now f e pn v x ≡ Ok (leader_is with_vote x)
       unfolding hear_accept
-      accept-waits few = let t = eq-eqb pn x.state.leader.pn same in let u = eq-eqb v (suc x.readings.last) is in rw (mine, t, u, few) refl
+      accept-waits few = rw (mine, asked, few) refl
 
       pub accept-all : are_within me.member.monitors x.state.leader.quorum with_vote.accepted ≡ true
           → hear_accept me now f e pn v x ≡ commit_any me now x.state.leader.value (leader_is with_vote x)
       unfolding hear_accept
-      accept-all all = let t = eq-eqb pn x.state.leader.pn same in let u = eq-eqb v (suc x.readings.last) is in rw (mine, t, u, all) refl
+      accept-all all = rw (mine, asked, all) refl
 
 -- ---- LEASE_ACK
 
@@ -229,25 +225,22 @@ module _ (n pn first last : ℕ) (whole : Bool) (from : ℕ) (values : List (Lis
 -- ---- what is heard of a member, by what the leader remembers then
 
 module _ (me : Me) (now f e : ℕ) (pn v : ℕ) (w : Readings) (l new : Leader) (x : Course) (b : IsHeard (phase.Previous ∷ phase.Updating ∷ []) f e w l x)
-    (voted : new ≡ record l { accepted = with_rank l.accepted f }) (same : pn ≡ l.pn) (is : v ≡ suc w.last) where
+    (voted : new ≡ record l { accepted = with_rank l.accepted f }) (asked : (pn == l.pn && v == suc w.last) ≡ true) where
   there : with_vote me now f e x pn v ≡ new
   there = ap (λ (k : Leader). record k { accepted = with_rank k.accepted f }) b.role ∙ sym voted
 
-  same_there : pn ≡ x.state.leader.pn
-  same_there = same ∙ sym (ap (λ (k : Leader). k.pn) b.role)
-
-  is_there : v ≡ suc x.readings.last
-  is_there = is ∙ sym (ap (λ (r : Readings). suc r.last) b.readings)
+  asked_there : (pn == x.state.leader.pn && v == suc x.readings.last) ≡ true
+  asked_there = (λ i. pn == (b.role i).pn && v == suc (b.readings i).last) ∙ asked
 
   within : are_within me.member.monitors x.state.leader.quorum (with_vote me now f e x pn v).accepted ≡ are_within me.member.monitors new.quorum new.accepted
   within = ap (λ (k : Leader). are_within me.member.monitors k.quorum k.accepted) there
 
   pub heard-waits : are_within me.member.monitors new.quorum new.accepted ≡ false → hear_accept me now f e pn v x ≡ Ok (leader_is new x)
-  heard-waits few = accept-waits me now f e x pn v b.member same_there is_there (within ∙ few) ∙ ap (λ k. Ok (leader_is k x)) there
+  heard-waits few = accept-waits me now f e x pn v b.member asked_there (within ∙ few) ∙ ap (λ k. Ok (leader_is k x)) there
 
   pub heard-all : are_within me.member.monitors new.quorum new.accepted ≡ true → hear_accept me now f e pn v x ≡ commit_any me now new.value (leader_is new x)
   heard-all all =
-      accept-all me now f e x pn v b.member same_there is_there (within ∙ all)
+      accept-all me now f e x pn v b.member asked_there (within ∙ all)
       ∙ ap (λ (k : Leader). commit_any me now k.value (leader_is k x)) there
 
   pub heard-votes : IsVoted w (leader_is new x)

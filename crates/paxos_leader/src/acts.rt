@@ -64,7 +64,7 @@ fn tell_lease(
     ensures { IfOk result (λ sent. sent ≡ out ++ map (message_to me.now epoch (Body.Lease last)) (members_of me.now quorum)) }
 {
     let lease = Body::Lease { last };
-    tell(alloc, out, me, epoch, quorum, &lease)
+    tell(alloc, out, me, epoch, quorum, lease)
 }
 
 /// The timers of a leader that gives a lease to this quorum.
@@ -142,7 +142,7 @@ fn ask(
         version,
         value: value.copy()?,
     };
-    tell(alloc, out, me, epoch, state.quorum, &begin)
+    tell(alloc, out, me, epoch, state.quorum, begin)
 }
 
 /// The leader accepts a value itself, and asks its members to.

@@ -21,10 +21,11 @@ ghost use Rattle.paxos_leader.specs.Inputs.{may_begin_found};
 ghost use Rattle.paxos_leader.specs.Parts.{with_answer};
 ghost use Rattle.paxos_leader.specs.Rows.{IsHeard, Notes, NotesFound, may_begin_told, goes_on};
 
-use crate::collecting::{collect, settle, take_found};
+use crate::collecting::{ask_again, settle, take_found};
 use crate::draft::Draft;
+use crate::seen::own_last;
 use crate::sets::are_within;
-use mon_bytes::{Items, OutOfMemory};
+use mon_bytes::OutOfMemory;
 use mon_kv::Kv;
 use mon_msg::{Found, Leader, Me, Next, Plan, RoleStop, Told};
 use mon_plan::{MOST_VALUE, Stored, learn, planned, stay};
@@ -183,10 +184,8 @@ fn go_on(
     if answer.whole {
         return hear_whole(alloc, stored, me, state, answer, now);
     }
-    let out = Items::new(alloc);
     let above = Pn::known(0);
-    let epoch = stored.epoch();
-    collect(alloc, stored, me, epoch, out, state.quorum, above, now)
+    ask_again(alloc, stored, me, state.quorum, above, now)
 }
 
 /// What follows, by the store after these changes.
@@ -265,7 +264,7 @@ fn hear_answer(
         answer.now.pending.now) result }
     ensures stays { IfOk result (λ p. p.next ≡ Next.Stay) }
 {
-    let own = Stored::of(alloc, kv).last();
+    let own = own_last(alloc, kv);
     let mut tx = Transaction::new(alloc);
     match learn_news(&mut tx, own, answer) {
         Ok(()) => {}
@@ -302,16 +301,14 @@ pub(crate) fn hear_last(
         answer.now.start answer.now.values.now answer.now.pending.now) result }
     ensures leaves { (at : Phase) → IfOk result (λ p. Leaves at p.next p.tx) }
 {
-    let stored = Stored::of(alloc, kv);
     if answer.pn.get() > state.pn.get() {
-        let out = Items::new(alloc);
-        let epoch = stored.epoch();
-        return collect(alloc, &stored, me, epoch, out, state.quorum, answer.pn, now);
+        let stored = Stored::of(alloc, kv);
+        return ask_again(alloc, &stored, me, state.quorum, answer.pn, now);
     }
     if answer.pn.get() < state.pn.get() {
         return Ok(stay(alloc, state.copy()?));
     }
-    if is_behind(stored.last(), answer) {
+    if is_behind(own_last(alloc, kv), answer) {
         return Ok(planned(alloc, state.copy()?, Next::Bootstrap));
     }
     hear_answer(alloc, kv, me, state, answer, now)

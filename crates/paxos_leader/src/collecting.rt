@@ -3,7 +3,7 @@
 ghost use Rattle.std.specs.Prelude.{◌≡◌, ◌≤◌, ◌^◌, ◌↔◌, true, [], ◌∷◌, ◌++◌, Some, IfOk, IfSome, IsSome};
 ghost use Rattle.mon_msg.specs.Protocol.Changes.{Numbers, spelled};
 ghost use Rattle.mon_msg.specs.Protocol.Collecting.{begin_found as begins_found, collect as collected, collector as collecting, settle as settled};
-ghost use Rattle.mon_msg.specs.Protocol.Readings.{readings_of, or_zero};
+ghost use Rattle.mon_msg.specs.Protocol.Readings.{epoch_of, readings_of, or_zero};
 ghost use Rattle.mon_msg.specs.Protocol.Sets.{only as only_one};
 ghost use Rattle.mon_msg.specs.Protocol.State.{start_leader};
 ghost use Rattle.paxos_leader.specs.Drafts.{GoesOn, IsAsking, IsCollecting, IsHere, armed_now};
@@ -172,7 +172,7 @@ fn tell_question(
         first: stored.first(),
         last: stored.last(),
     };
-    tell(alloc, out, me, epoch, quorum, &question)
+    tell(alloc, out, me, epoch, quorum, question)
 }
 
 /// The transaction that makes a number.
@@ -248,10 +248,28 @@ pub(crate) fn collect(
     let Some(pn) = made(stored, me, above) else {
         return Err(RoleStop::Spent { which: Which::Pn });
     };
-    let draft = ask(alloc, stored, me, epoch, out, quorum, pn)?;
     let alone = is_alone(alloc, me, quorum)?;
+    let draft = ask(alloc, stored, me, epoch, out, quorum, pn)?;
     if alone {
         return settle(alloc, stored, me, epoch, draft, now);
     }
     Ok(await_answers(alloc, draft, now)?)
+}
+
+/// A leader whose event has written and sent nothing so far asks its quorum, under a number that is also above this one.
+pub(crate) fn ask_again(
+    alloc: Global,
+    stored: &Stored<'_>,
+    me: &Me,
+    quorum: RankSet,
+    above: Pn,
+    now: Moment,
+) -> Result<Plan<Leader>, RoleStop>
+    ensures goes { GoesOn me.now now (IsAsking (epoch_of (readings_of stored.now)) (readings_of stored.now))
+        (record { tx = []; out = []; state = start_leader }) (collected me.now now quorum above) result }
+    ensures stays { IfOk result (λ p. p.next ≡ Next.Stay) }
+{
+    let out = Items::new(alloc);
+    let epoch = stored.epoch();
+    collect(alloc, stored, me, epoch, out, quorum, above, now)
 }

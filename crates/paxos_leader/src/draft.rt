@@ -32,8 +32,8 @@ impl Draft {
     }
 }
 
-/// Besides what was sent so far, the same message goes to the other members of a quorum.
-pub(crate) fn tell(
+/// Besides what was sent so far, a copy of this goes to each of the other members of a quorum.
+fn tell_copies(
     alloc: Global,
     out: Items<Sent>,
     me: &Me,
@@ -47,4 +47,20 @@ pub(crate) fn tell(
     let mut out = out;
     send_each(alloc, &mut out, me, epoch, peons.as_slice(), body)?;
     Ok(out)
+}
+
+/// Besides what was sent so far, the same message goes to the other members of a quorum.
+pub(crate) fn tell(
+    alloc: Global,
+    out: Items<Sent>,
+    me: &Me,
+    epoch: Epoch,
+    quorum: RankSet,
+    body: Body,
+) -> Result<Items<Sent>, OutOfMemory>
+    ensures { IfOk result (λ sent. sent ≡ out ++ map (message_to me.now epoch body) (members_of me.now quorum)) }
+{
+    let sent = tell_copies(alloc, out, me, epoch, quorum, &body);
+    drop(body);
+    sent
 }

@@ -25,6 +25,7 @@ use crate::acts::{at_rest, be_active, begin_with, leads_alone};
 use crate::answers::{Answer, hear_last};
 use crate::collecting::collect;
 use crate::draft::{Draft, tell};
+use crate::seen::{own_epoch, own_last};
 use crate::values::{hear_accept, hear_lease_ack};
 use mon_bytes::{Items, OutOfMemory};
 use mon_kv::Kv;
@@ -126,7 +127,7 @@ fn hear(
         (hears me.now shared now message.now.from message.now.epoch message.now.body) result }
     ensures leaves { IfOk result (λ p. Leaves view.now.phase p.next p.tx) }
 {
-    let epoch = Stored::of(alloc, kv).epoch();
+    let epoch = own_epoch(alloc, kv);
     if !is_ours(epoch, view, state, message) {
         return Ok(stay(alloc, state.copy()?));
     }
@@ -178,9 +179,10 @@ fn renew(
     if !is_active(view.phase) {
         return Ok(stay(alloc, state));
     }
-    let stored = Stored::of(alloc, kv);
+    let epoch = own_epoch(alloc, kv);
+    let last = own_last(alloc, kv);
     let draft = Draft::new(alloc, state);
-    Ok(be_active(alloc, me, stored.epoch(), stored.last(), draft, now)?)
+    Ok(be_active(alloc, me, epoch, last, draft, now)?)
 }
 
 /// A timer of its own comes. But for the one that renews leases it means that its quorum is lost.
@@ -240,7 +242,7 @@ fn tell_victory(
     ensures { IfOk result (λ sent. sent ≡ map (message_to me.now epoch (Body.Victory quorum)) (members_of me.now quorum)) }
 {
     let victory = Body::Victory { quorum };
-    tell(alloc, Items::new(alloc), me, epoch, quorum, &victory)
+    tell(alloc, Items::new(alloc), me, epoch, quorum, victory)
 }
 
 /// It has won, and begins to lead this quorum: it asks it under a new number what was accepted. `epoch` is the epoch that it
@@ -325,8 +327,7 @@ pub fn begin(
     ensures plans { PlansAct me.now now leads (IsLed (readings_of kv.now) state.now) (Next.Begin value.now origin.now) result }
     ensures stays { IfOk result (λ p. p.next ≡ Next.Stay) }
 {
-    let stored = Stored::of(alloc, kv);
-    let Some(version) = stored.last().plus_one() else {
+    let Some(version) = own_last(alloc, kv).plus_one() else {
         return Err(RoleStop::Spent {
             which: Which::Version,
         });
@@ -337,7 +338,7 @@ pub fn begin(
     if alone {
         return begin_answered(alloc, kv, me, state, version, value, *origin);
     }
-    let epoch = stored.epoch();
+    let epoch = own_epoch(alloc, kv);
     let draft = Draft::new(alloc, state);
     let stage = LeaderStage::Updating;
     begin_with(

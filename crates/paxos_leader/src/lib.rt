@@ -7,6 +7,7 @@ mod catch_up;
 mod collecting;
 mod draft;
 mod inputs;
+mod seen;
 mod sets;
 mod timers;
 mod values;

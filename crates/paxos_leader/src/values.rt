@@ -1,6 +1,6 @@
 //! What a leader does when members accept its value and take its leases.
 
-ghost use Rattle.std.specs.Prelude.{◌≡◌, ℕ, ◌≤◌, [], ◌∷◌, ◌++◌, length, map, true, None, Some, IfOk};
+ghost use Rattle.std.specs.Prelude.{◌≡◌, ℕ, suc, ◌≤◌, ◌==◌, ◌&&◌, [], ◌∷◌, ◌++◌, length, map, true, None, Some, IfOk};
 ghost use Rattle.mon_msg.specs.Protocol.Leader.{commit_any as commits_any, hear_accept as accept_row, hear_lease_ack as ack_row};
 ghost use Rattle.mon_msg.specs.Protocol.Leading.{commit as commits};
 ghost use Rattle.mon_msg.specs.Protocol.Readings.{readings_of, epoch_of};
@@ -19,6 +19,7 @@ ghost use Rattle.paxos_leader.specs.Rows.{IsHeard};
 
 use crate::acts::be_active;
 use crate::draft::{Draft, tell};
+use crate::seen::own_last;
 use crate::sets::are_within;
 use crate::timers::one_timer;
 use mon_bytes::{Items, OutOfMemory};
@@ -74,7 +75,7 @@ fn tell_commit(
     ensures { IfOk result (λ sent. sent ≡ map (message_to me.now epoch (Body.Commit from values)) (members_of me.now quorum)) }
 {
     let commit = Body::Commit { from, values };
-    tell(alloc, Items::new(alloc), me, epoch, quorum, &commit)
+    tell(alloc, Items::new(alloc), me, epoch, quorum, commit)
 }
 
 /// The members hear of values that are committed, and whoever waits for the first of them is answered.
@@ -151,7 +152,7 @@ fn commit(
         (commits me.now now value) result }
     ensures stays { IfOk result (λ p. p.next ≡ Next.Stay) }
 {
-    let Some(version) = Stored::of(alloc, kv).last().plus_one() else {
+    let Some(version) = own_last(alloc, kv).plus_one() else {
         return Err(RoleStop::Spent {
             which: Which::Version,
         });
@@ -234,6 +235,13 @@ fn all_accepted(me: &Me, state: &Leader) -> bool
     are_within(me, state.quorum, state.accepted)
 }
 
+/// Whether a member accepted what it is asked to: under the leader's number, for the version after the last one.
+fn is_asked(alloc: Global, kv: &Kv, state: &Leader, pn: Pn, version: Version) -> bool
+    ensures { result ≡ (pn == state.now.pn && version == suc (readings_of kv.now).last) }
+{
+    pn.get() == state.pn.get() && version.get() == own_last(alloc, kv).get() + 1
+}
+
 /// A member accepted a value.
 pub(crate) fn hear_accept(
     alloc: Global,
@@ -250,11 +258,7 @@ pub(crate) fn hear_accept(
         (accept_row me.now now from e pn version) result }
     ensures stays { IfOk result (λ p. p.next ≡ Next.Stay) }
 {
-    if pn.get() != state.pn.get() {
-        return Ok(stay(alloc, state.copy()?));
-    }
-    let next = Stored::of(alloc, kv).last().get() + 1;
-    if version.get() != next {
+    if !is_asked(alloc, kv, state, pn, version) {
         return Ok(stay(alloc, state.copy()?));
     }
     let state = with_vote(state, from)?;
@@ -300,7 +304,7 @@ pub(crate) fn hear_lease_ack(
         (ack_row me.now from e last) result }
     ensures stays { IfOk result (λ p. p.next ≡ Next.Stay) }
 {
-    let own = Stored::of(alloc, kv).last();
+    let own = own_last(alloc, kv);
     if last.get() != own.get() {
         return Ok(stay(alloc, state.copy()?));
     }

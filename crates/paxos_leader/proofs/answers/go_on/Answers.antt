@@ -29,10 +29,10 @@ returns-clause-goes c =
     let a = c.args.answer.now in
     let w : Readings = readings_of c.args.stored.now in
     hands_on me now (IsAsking (epoch_of w) w) (record { tx = []; out = []; state = l }) (goes_on me now a.from a.last a.whole a.pending.now)
-    (IsAsking c.epoch-epoch.result w) (record { tx = []; out = c.new-out.result; state = start_leader }) (collect me now l.quorum c.known-above.result) [] tt [] refl c.new-out.ensures
-    (λ y b r. record { epoch = b.epoch ∙ sym c.epoch-epoch.ensures; kept = b.kept; phase = b.phase; stage = refl })
+    (IsAsking (epoch_of w) w) (record { tx = []; out = []; state = start_leader }) (collect me now l.quorum c.known-above.result) [] tt [] refl refl
+    (λ y b r. record { epoch = b.epoch; kept = b.kept; phase = b.phase; stage = refl })
     (λ y b r.
     goes-asking me now a.from a.last a.pending.now a.whole y l.quorum c.if-answer.false (ap (λ (k : Leader). k.quorum) r)
     ∙ ap (λ n. collect me now l.quorum n y) (sym c.known-above.ensures)
     ∙ sym (collect-fresh me now l.quorum c.known-above.result y start_leader))
-    c.collect.result c.collect.ensures.goes
+    c.ask_again.result c.ask_again.ensures.goes

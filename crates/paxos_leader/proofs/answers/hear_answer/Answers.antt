@@ -26,8 +26,8 @@ returns-in-Err-clause-plans c =
     let now = c.args.now in
     let a = c.args.answer.now in
     let w : Readings = readings_of c.args.kv.now in
-    let own = c.last-own.result in
-    let is : own ≡ w.last = c.last-own.ensures.value ∙ ap (λ (m : Store). (readings_of m).last) c.of.ensures in
+    let own = c.own_last-own.result in
+    let is : own ≡ w.last = c.own_last-own.ensures in
     learning-fails me now (IsHeard (phase.Collecting ∷ []) a.from e w c.args.state.now) (news_from own a.start) (news own a.start a.values.now) (goes_on me now a.from a.last a.whole a.pending.now)
     (hear_answer me now a.from a.last a.whole a.start a.values.now a.pending.now) c.in-Err.stop c.in-Err.ensures.act
     (λ x b. answer-is me now a.from e x a.pn a.first a.last a.whole a.start a.values.now a.pending.now own (ap (λ (r : Readings). r.last) b.readings ∙ sym is))
@@ -41,8 +41,8 @@ returns-in-Err-go_on_after-clause-plans c =
     let a = c.args.answer.now in
     let m : Store = c.args.kv.now in
     let w : Readings = readings_of m in
-    let own = c.last-own.result in
-    let is : own ≡ w.last = c.last-own.ensures.value ∙ ap (λ (m : Store). (readings_of m).last) c.of.ensures in
+    let own = c.own_last-own.result in
+    let is : own ≡ w.last = c.own_last-own.ensures in
     let cs : List Change = learned (news_from own a.start) (news own a.start a.values.now) in
     let fit : AllByRecursion Fits cs = c.in-Ok.ensures.fit in
     let tx : List Op = c.learn_news.new.tx in
@@ -63,8 +63,8 @@ returns-in_ok-behind-in-Ok-go_on_after-clause-plans c =
     let a = c.args.answer.now in
     let m : Store = c.args.kv.now in
     let w : Readings = readings_of m in
-    let own = c.last-own.result in
-    let is : own ≡ w.last = c.last-own.ensures.value ∙ ap (λ (m : Store). (readings_of m).last) c.of.ensures in
+    let own = c.own_last-own.result in
+    let is : own ≡ w.last = c.own_last-own.ensures in
     let cs : List Change = learned (news_from own a.start) (news own a.start a.values.now) in
     let fit : AllByRecursion Fits cs = c.in-Ok.ensures.fit in
     let tx : List Op = c.learn_news.new.tx in

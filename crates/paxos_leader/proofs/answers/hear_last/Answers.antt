@@ -1,13 +1,12 @@
-use Rattle.std.proofs.Common.{◌≡◌, ℕ, suc, ◌<◌, ◌&&◌, List, [], ◌∷◌, refl, sym, ap, subst, ◌∙◌, arith}
+use Rattle.std.proofs.Common.{◌≡◌, ℕ, suc, ◌<◌, ◌&&◌, [], ◌∷◌, refl, sym, ap, subst, ◌∙◌, arith}
 use Rattle.std.specs.Prelude.{nat_lt}
 use Rattle.mon_msg.specs.Protocol.Collecting.{collect}
 use Rattle.mon_msg.specs.Protocol.Leader.{hear_last, hear_answer}
-use Rattle.mon_msg.specs.Protocol.Readings.{Readings, readings_of}
+use Rattle.mon_msg.specs.Protocol.Readings.{Readings, readings_of, epoch_of}
 use Rattle.mon_msg.specs.Protocol.State.{start_leader}
 use Rattle.mon_msg.specs.declared.paxos.Leader.{Leader}
 use Rattle.mon_msg.specs.declared.plan.Next.TheVariants as next
 use Rattle.mon_msg.specs.declared.plan.Plan.{Plan}
-use Rattle.mon_msg.specs.declared.plan.Sent.{Sent}
 use Rattle.mon_tx.specs.Map.{Store}
 use Rattle.mon_wire.specs.declared.phase.Phase.TheVariants as phase
 use Rattle.mon_plan.specs.Plans.{leads}
@@ -29,12 +28,11 @@ returns-then-get-clause-plans c =
     let l : Leader = c.args.state.now in
     let a = c.args.answer.now in
     let w : Readings = readings_of c.args.kv.now in
-    let ws : Readings = readings_of c.of-stored.result in
     let At = IsHeard (phase.Collecting ∷ []) a.from e w l in
-    from_start me now (IsAsking c.epoch-epoch.result ws) (record { tx = []; out = []; state = start_leader }) (collect me now l.quorum a.pn) c.collect.result refl
-    (subst (λ (o : List Sent). GoesOn me now (IsAsking c.epoch-epoch.result ws) (record { tx = []; out = o; state = start_leader }) (collect me now l.quorum a.pn) c.collect.result) c.new-out.ensures c.collect.ensures.goes)
+    from_start me now (IsAsking (epoch_of w) w) (record { tx = []; out = []; state = start_leader }) (collect me now l.quorum a.pn) c.ask_again.result refl
+    (subst (λ (m : Store). GoesOn me now (IsAsking (epoch_of (readings_of m)) (readings_of m)) (record { tx = []; out = []; state = start_leader }) (collect me now l.quorum a.pn) c.ask_again.result) c.of-stored.ensures c.ask_again.ensures.goes)
     At (λ x. x) (hear_last me now a.from e a.pn a.first a.last a.whole a.start a.values.now a.pending.now)
-    (λ x b. asks-here c.epoch-epoch.result ws x (b.readings ∙ ap readings_of (sym c.of-stored.ensures)) c.epoch-epoch.ensures (heard-phase a.from e w l x b))
+    (λ x b. asks-here (epoch_of w) w x b.readings refl (heard-phase a.from e w l x b))
     (λ x b.
     last-above me now a.from e x a.pn a.first a.last a.whole a.start a.values.now a.pending.now b.member
     (subst (λ (k : Leader). k.pn < a.pn) (sym b.role) (omega (arith, c.if-get.true, c.get.ensures.value, c.get-2.ensures.value)))
@@ -42,7 +40,7 @@ returns-then-get-clause-plans c =
     ∙ sym (collect-fresh me now l.quorum a.pn x start_leader))
 
 pub returns-then-get-clause-leaves : goal.returns-then-get-clause-leaves
-returns-then-get-clause-leaves c = λ at. stays_leaves at c.collect.result c.collect.ensures.stays
+returns-then-get-clause-leaves c = λ at. stays_leaves at c.ask_again.result c.ask_again.ensures.stays
 
 pub returns-then-get-2-clause-plans : goal.returns-then-get-2-clause-plans
 returns-then-get-2-clause-plans c =
@@ -68,14 +66,13 @@ returns-then-is_behind-clause-plans c =
     let l : Leader = c.args.state.now in
     let a = c.args.answer.now in
     let w : Readings = readings_of c.args.kv.now in
-    let own : c.last.result ≡ w.last = c.last.ensures.value ∙ ap (λ (m : Store). (readings_of m).last) c.of-stored.ensures in
     let At = IsHeard (phase.Collecting ∷ []) a.from e w l in
     nothing_but me now At (hear_last me now a.from e a.pn a.first a.last a.whole a.start a.values.now a.pending.now) l (λ x b _. b.stage)
     next.Bootstrap (λ x. refl) (λ x b. b.role)
     (λ x b.
     last-behind me now a.from e x a.pn a.first a.last a.whole a.start a.values.now a.pending.now b.member
     (subst (λ (k : Leader). a.pn ≡ k.pn) (sym b.role) (omega arith))
-    (ap (λ (n : ℕ). nat_lt (suc n) a.first && nat_lt n a.last) (ap (λ (r : Readings). r.last) b.readings ∙ sym own) ∙ sym c.is_behind.ensures ∙ c.if-is_behind.true))
+    (ap (λ (n : ℕ). nat_lt (suc n) a.first && nat_lt n a.last) (ap (λ (r : Readings). r.last) b.readings ∙ sym c.own_last.ensures) ∙ sym c.is_behind.ensures ∙ c.if-is_behind.true))
     c.planned.result (c.planned.ensures ∙ ap (λ (k : Leader). record { tx = []; out = []; timers = []; state = k; next = next.Bootstrap }) c.in_ok-copy-2.ensures)
 
 pub returns-then-is_behind-clause-leaves : goal.returns-then-is_behind-clause-leaves
@@ -93,14 +90,13 @@ returns-clause-plans c =
     let l : Leader = c.args.state.now in
     let a = c.args.answer.now in
     let w : Readings = readings_of c.args.kv.now in
-    let own : c.last.result ≡ w.last = c.last.ensures.value ∙ ap (λ (m : Store). (readings_of m).last) c.of-stored.ensures in
     let At = IsHeard (phase.Collecting ∷ []) a.from e w l in
     instead me now leads At (λ x. x) (hear_answer me now a.from a.last a.whole a.start a.values.now a.pending.now)
     (hear_last me now a.from e a.pn a.first a.last a.whole a.start a.values.now a.pending.now) c.hear_answer.result
     (λ x b.
     last-answer me now a.from e x a.pn a.first a.last a.whole a.start a.values.now a.pending.now b.member
     (subst (λ (k : Leader). a.pn ≡ k.pn) (sym b.role) (omega arith))
-    (ap (λ (n : ℕ). nat_lt (suc n) a.first && nat_lt n a.last) (ap (λ (r : Readings). r.last) b.readings ∙ sym own) ∙ sym c.is_behind.ensures ∙ c.if-is_behind.false))
+    (ap (λ (n : ℕ). nat_lt (suc n) a.first && nat_lt n a.last) (ap (λ (r : Readings). r.last) b.readings ∙ sym c.own_last.ensures) ∙ sym c.is_behind.ensures ∙ c.if-is_behind.false))
     (c.hear_answer.ensures.plans e)
 
 pub returns-clause-leaves : goal.returns-clause-leaves

@@ -5,7 +5,6 @@ use Rattle.mon_msg.specs.Protocol.Sending.{members}
 use Rattle.mon_msg.specs.Protocol.Sets.{is_empty}
 use Rattle.mon_msg.specs.declared.paxos.Leader.{Leader}
 use Rattle.mon_msg.specs.declared.paxos.LeaderStage.TheVariants as stage
-use Rattle.mon_tx.specs.Map.{Store}
 use Rattle.mon_tx.specs.Text.{text, most}
 use Rattle.mon_tx.specs.declared.op.Op.{Op}
 use Rattle.mon_plan.specs.Plans.{Plans, leads}
@@ -32,8 +31,8 @@ pub returns-in_default-clause-plans : goal.returns-in_default-clause-plans
 returns-in_default-clause-plans c =
     λ x b.
     let w : Readings = readings_of c.args.kv.now in
-    let own : c.last.result ≡ w.last = c.last.ensures.value ∙ ap (λ (m : Store). (readings_of m).last) c.of-stored.ensures in
-    let spent : 2 ^ 62 < suc c.last.result = over c.last.result c.in_default.ensures.valid.1 in
+    let own : c.own_last.result ≡ w.last = c.own_last.ensures in
+    let spent : 2 ^ 62 < suc c.own_last.result = over c.own_last.result c.in_default.ensures.valid.1 in
     begin-spent c.args.me.now c.args.now x stage.Updating c.args.value.now (Some c.args.origin.now) (omega (arith, spent, own, ap (λ (r : Readings). r.last) b.readings))
 
 pub returns-then-alone-clause-plans : goal.returns-then-alone-clause-plans
@@ -46,7 +45,7 @@ returns-then-alone-clause-plans c =
     let value : List Op = c.args.value.now in
     let o = c.args.origin.now in
     let r = c.begin_answered.result in
-    let own : c.last.result ≡ w.last = c.last.ensures.value ∙ ap (λ (m : Store). (readings_of m).last) c.of-stored.ensures in
+    let own : c.own_last.result ≡ w.last = c.own_last.ensures in
     let alone : is_empty (members me l.quorum) ≡ true = ap (λ (k : Leader). is_empty (members me k.quorum)) (sym c.in_ok-state.ensures) ∙ sym c.in_ok-alone.ensures ∙ c.if-alone.true in
     instead me now leads (IsLed w l) (λ x. x) (begin_alone me v value (Some o)) (λ x. begin me now stage.Updating value (Some o) x) r
     (λ x b. begins-alone me now (epoch_of w) w.last l x (led-here w l x b) b.role stage.Updating value (Some o) v (omega (arith, own, c.in-Some.ensures.value)) (omega (arith, c.in-Some.ensures.value, c.in-Some.ensures.valid.0 refl)) alone)
@@ -62,10 +61,10 @@ returns-clause-plans c =
     let v = c.in-Some.version in
     let value : List Op = c.args.value.now in
     let o = c.args.origin.now in
-    let e = c.epoch-epoch.result in
+    let e = c.own_epoch-epoch.result in
     let r = c.begin_with.result in
-    let own : c.last.result ≡ w.last = c.last.ensures.value ∙ ap (λ (m : Store). (readings_of m).last) c.of-stored.ensures in
-    let is_epoch : epoch_of w ≡ e = ap (λ (m : Store). epoch_of (readings_of m)) (sym c.of-stored.ensures) ∙ sym c.epoch-epoch.ensures in
+    let own : c.own_last.result ≡ w.last = c.own_last.ensures in
+    let is_epoch : epoch_of w ≡ e = sym c.own_epoch-epoch.ensures in
     let among : is_empty (members me l.quorum) ≡ false = ap (λ (k : Leader). is_empty (members me k.quorum)) (sym c.in_ok-state.ensures) ∙ sym c.in_ok-alone.ensures ∙ c.if-alone.false in
     let drafted : c.new-draft.result ≡ record { tx = []; out = []; state = l } = c.new-draft.ensures ∙ ap (λ (k : Leader). record { tx = []; out = []; state = k }) c.in_ok-state.ensures in
     from_start me now (IsHere e w.last) (record { tx = []; out = []; state = l }) (λ y. Ok (begin_with me now stage.Updating v value (Some o) y)) r refl

@@ -9,7 +9,6 @@ use Rattle.mon_msg.specs.Protocol.Readings.{Readings, readings_of, epoch_of}
 use Rattle.mon_msg.specs.declared.paxos.Leader.{Leader}
 use Rattle.mon_msg.specs.declared.plan.Next.TheVariants as next
 use Rattle.mon_msg.specs.declared.plan.Plan.{Plan}
-use Rattle.mon_tx.specs.Map.{Store}
 use Rattle.mon_tx.specs.Text.{text, most}
 use Rattle.mon_tx.specs.declared.op.Op.{Op}
 use Rattle.mon_types.specs.Ranks.{has}
@@ -49,7 +48,7 @@ returns-then-not-is_ours-clause-plans c =
     let w : Readings = readings_of c.args.kv.now in
     let v = c.args.view.now in
     let m = c.args.message.now in
-    let epoch : epoch_of w ≡ c.epoch-epoch.result = ap (λ (m : Store). epoch_of (readings_of m)) (sym c.of.ensures) ∙ sym c.epoch-epoch.ensures in
+    let epoch : epoch_of w ≡ c.own_epoch-epoch.result = sym c.own_epoch-epoch.ensures in
     let ours : (is_one_of (phases_for m.body) v.phase && m.epoch == epoch_of w && has l.quorum m.from) ≡ false =
     ap (λ (e : ℕ). is_one_of (phases_for m.body) v.phase && m.epoch == e && has l.quorum m.from) epoch ∙ sym c.is_ours.ensures ∙ c.if-not-is_ours.true in
     nothing_but me now (IsMet me now w v (λ s. s.leader) l) (hear me shared now m.from m.epoch m.body) l
@@ -72,7 +71,7 @@ returns-in-Last-clause-plans c =
     let m = c.args.message.now in
     let i = c.in-Last in
     let b : Body = body.Last i.pn i.first i.last i.whole i.start i.values i.pending in
-    let epoch : epoch_of w ≡ c.epoch-epoch.result = ap (λ (m : Store). epoch_of (readings_of m)) (sym c.of.ensures) ∙ sym c.epoch-epoch.ensures in
+    let epoch : epoch_of w ≡ c.own_epoch-epoch.result = sym c.own_epoch-epoch.ensures in
     let ours : (is_one_of (phases_for m.body) v.phase && m.epoch == epoch_of w && has l.quorum m.from) ≡ true =
     ap (λ (e : ℕ). is_one_of (phases_for m.body) v.phase && m.epoch == e && has l.quorum m.from) epoch ∙ sym c.is_ours.ensures ∙ c.if-not-is_ours.false in
     subst (λ (b : Body). PlansRow me now leads (IsMet me now w v (λ s. s.leader) l) (hear me shared now m.from m.epoch b) c.hear_last.result) (sym c.in-Last.is)
@@ -94,7 +93,7 @@ returns-in-Accept-clause-plans c =
     let v = c.args.view.now in
     let m = c.args.message.now in
     let b : Body = body.Accept c.in-Accept.pn c.in-Accept.version in
-    let epoch : epoch_of w ≡ c.epoch-epoch.result = ap (λ (m : Store). epoch_of (readings_of m)) (sym c.of.ensures) ∙ sym c.epoch-epoch.ensures in
+    let epoch : epoch_of w ≡ c.own_epoch-epoch.result = sym c.own_epoch-epoch.ensures in
     let ours : (is_one_of (phases_for m.body) v.phase && m.epoch == epoch_of w && has l.quorum m.from) ≡ true =
     ap (λ (e : ℕ). is_one_of (phases_for m.body) v.phase && m.epoch == e && has l.quorum m.from) epoch ∙ sym c.is_ours.ensures ∙ c.if-not-is_ours.false in
     subst (λ (b : Body). PlansRow me now leads (IsMet me now w v (λ s. s.leader) l) (hear me shared now m.from m.epoch b) c.hear_accept.result) (sym c.in-Accept.is)
@@ -114,7 +113,7 @@ returns-in-LeaseAck-clause-plans c =
     let v = c.args.view.now in
     let m = c.args.message.now in
     let b : Body = body.LeaseAck c.in-LeaseAck.last in
-    let epoch : epoch_of w ≡ c.epoch-epoch.result = ap (λ (m : Store). epoch_of (readings_of m)) (sym c.of.ensures) ∙ sym c.epoch-epoch.ensures in
+    let epoch : epoch_of w ≡ c.own_epoch-epoch.result = sym c.own_epoch-epoch.ensures in
     let ours : (is_one_of (phases_for m.body) v.phase && m.epoch == epoch_of w && has l.quorum m.from) ≡ true =
     ap (λ (e : ℕ). is_one_of (phases_for m.body) v.phase && m.epoch == e && has l.quorum m.from) epoch ∙ sym c.is_ours.ensures ∙ c.if-not-is_ours.false in
     subst (λ (b : Body). PlansRow me now leads (IsMet me now w v (λ s. s.leader) l) (hear me shared now m.from m.epoch b) c.hear_lease_ack.result) (sym c.in-LeaseAck.is)

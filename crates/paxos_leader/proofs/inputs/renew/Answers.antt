@@ -34,9 +34,8 @@ returns-clause-plans c =
     let now = c.args.now in
     let l : Leader = c.args.state.now in
     let w : Readings = readings_of c.args.kv.now in
-    let e = c.epoch.result in
-    let v = c.last.result in
-    let stored : readings_of c.of-stored.result ≡ w = ap readings_of c.of-stored.ensures in
+    let e = c.own_epoch-epoch.result in
+    let v = c.own_last-last.result in
     let drafted : c.new-draft.result ≡ record { tx = []; out = []; state = l } = c.new-draft.ensures ∙ ap (λ (k : Leader). record { tx = []; out = []; state = k }) c.in_ok-state.ensures in
     from_start me now (IsHere e v) (record { tx = []; out = []; state = l }) (λ y. Ok (be_active me now y)) (Ok c.in_ok-be_active.field-0) refl
     (subst (λ (d : Draft). GoesOn me now (IsHere e v) d (λ y. Ok (be_active me now y)) (Ok c.in_ok-be_active.field-0)) drafted c.in_ok-be_active.ensures.goes)
@@ -44,8 +43,8 @@ returns-clause-plans c =
     (λ x b.
     let phases : x.state.phase ≡ phase.Active = sym b.seen.phase ∙ acts c.args.view.now.phase (sym c.is_active.ensures ∙ c.if-not-is_active.false) in
     record {
-      epoch = ap epoch_of (b.readings ∙ sym stored) ∙ sym c.epoch.ensures;
-      last = ap (λ (r : Readings). r.last) (b.readings ∙ sym stored) ∙ sym c.last.ensures.value;
+      epoch = ap epoch_of b.readings ∙ sym c.own_epoch-epoch.ensures;
+      last = ap (λ (r : Readings). r.last) b.readings ∙ sym c.own_last-last.ensures;
       leads = ap is_leading phases;
     })
     (λ x b.

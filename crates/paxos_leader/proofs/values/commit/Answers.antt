@@ -32,14 +32,14 @@ pub returns-in_default-clause-goes : goal.returns-in_default-clause-goes
 returns-in_default-clause-goes c =
     λ cs fits is x b.
     let w : Readings = readings_of c.args.kv.now in
-    let own : c.last-2.result ≡ w.last = c.last-2.ensures.value ∙ ap (λ (m : Store). (readings_of m).last) c.of.ensures in
+    let own : c.own_last.result ≡ w.last = c.own_last.ensures in
     commit-over c.args.me.now c.args.now c.args.value w.last (under_way cs [] (record c.args.state { value = Some c.args.value }) x) (ap (λ (r : Readings). r.last) b.readings)
-    (subst (λ (n : ℕ). 2 ^ 62 < suc n) own (over c.last-2.result c.in_default.ensures.valid.1))
+    (subst (λ (n : ℕ). 2 ^ 62 < suc n) own (over c.own_last.result c.in_default.ensures.valid.1))
 
 pub returns-in-Err-clause-goes : goal.returns-in-Err-clause-goes
 returns-in-Err-clause-goes c =
     let w : Readings = readings_of c.args.kv.now in
-    let own : c.last-2.result ≡ w.last = c.last-2.ensures.value ∙ ap (λ (m : Store). (readings_of m).last) c.of.ensures in
+    let own : c.own_last.result ≡ w.last = c.own_last.ensures in
     commit-fails c.args.me.now c.args.now c.args.value w (record { tx = []; out = []; state = record c.args.state { value = Some c.args.value } }) c.in-Some.version
     (omega (arith, own, c.in-Some.ensures.value)) c.in-Err.stop
     (subst (λ (vs : List (List Op)). Learns c.in-Some.version vs (Err c.in-Err.stop)) (c.as_slice.ensures ∙ c.in_ok-values.ensures)
@@ -54,7 +54,7 @@ returns-clause-goes c =
     let v = c.in-Some.version in
     let value = c.args.value in
     let l : Leader = c.args.state in
-    let own : c.last-2.result ≡ w.last = c.last-2.ensures.value ∙ ap (λ (m : Store). (readings_of m).last) c.of.ensures in
+    let own : c.own_last.result ≡ w.last = c.own_last.ensures in
     let is : v ≡ suc w.last = omega (arith, own, c.in-Some.ensures.value) in
     let one : c.as_slice.result.now ≡ value ∷ [] = c.as_slice.ensures ∙ c.in_ok-values.ensures in
     let cs : List Change = learned v (value ∷ []) in

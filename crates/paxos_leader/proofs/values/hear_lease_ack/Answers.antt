@@ -5,7 +5,6 @@ use Rattle.mon_msg.specs.Protocol.Readings.{Readings, readings_of}
 use Rattle.mon_msg.specs.declared.paxos.Leader.{Leader}
 use Rattle.mon_msg.specs.declared.plan.Arming.TheVariants as arming
 use Rattle.mon_msg.specs.declared.plan.Next.TheVariants as next
-use Rattle.mon_tx.specs.Map.{Store}
 use Rattle.mon_wire.specs.declared.phase.Phase.TheVariants as phase
 use Rattle.mon_wire.specs.declared.phase.Timer.TheVariants as timer
 use Rattle.paxos_leader.specs.Rows.{IsHeard}
@@ -19,7 +18,7 @@ returns-then-get-clause-plans c =
     let me = c.args.me.now in
     let l : Leader = c.args.state.now in
     let w : Readings = readings_of c.args.kv.now in
-    let own : c.last-own.result ≡ w.last = c.last-own.ensures.value ∙ ap (λ (m : Store). (readings_of m).last) c.of.ensures in
+    let own : c.own_last-own.result ≡ w.last = c.own_last-own.ensures in
     nothing_but me now (IsHeard (phase.Active ∷ []) c.args.from e w l) (hear_lease_ack me c.args.from e c.args.last) l (λ x b _. b.stage)
     next.Stay (λ x. refl) (λ x b. b.role)
     (λ x b. ack-other me c.args.from e x c.args.last b.member
@@ -33,7 +32,7 @@ returns-then-not-are_within-clause-plans c =
     let l : Leader = c.args.state.now in
     let w : Readings = readings_of c.args.kv.now in
     let new : Leader = c.in_ok-state.state in
-    let own : c.last-own.result ≡ w.last = c.last-own.ensures.value ∙ ap (λ (m : Store). (readings_of m).last) c.of.ensures in
+    let own : c.own_last-own.result ≡ w.last = c.own_last-own.ensures in
     let is : c.args.last ≡ w.last = omega (arith, own, c.if-get.false, c.get.ensures.value, c.get-2.ensures.value) in
     notes me now (IsHeard (phase.Active ∷ []) c.args.from e w l) (hear_lease_ack me c.args.from e c.args.last) new
     (λ x b _. ap (λ (k : Leader). phase_of k.stage) c.in_ok-state.ensures ∙ b.stage) []
@@ -47,7 +46,7 @@ returns-clause-plans c =
     let l : Leader = c.args.state.now in
     let w : Readings = readings_of c.args.kv.now in
     let new : Leader = c.in_ok-state.state in
-    let own : c.last-own.result ≡ w.last = c.last-own.ensures.value ∙ ap (λ (m : Store). (readings_of m).last) c.of.ensures in
+    let own : c.own_last-own.result ≡ w.last = c.own_last-own.ensures in
     let is : c.args.last ≡ w.last = omega (arith, own, c.if-get.false, c.get.ensures.value, c.get-2.ensures.value) in
     notes me now (IsHeard (phase.Active ∷ []) c.args.from e w l) (hear_lease_ack me c.args.from e c.args.last) new
     (λ x b _. ap (λ (k : Leader). phase_of k.stage) c.in_ok-state.ensures ∙ b.stage) (arming.Disarm timer.LeaseAck ∷ [])
