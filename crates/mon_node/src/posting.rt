@@ -88,6 +88,17 @@ fn text_of(alloc: Global, message: &Message) -> Result<Bytes, OutOfMemory>
     Ok(Bytes::new(message.encode(alloc)?))
 }
 
+/// The bytes of a message that is used up.
+fn into_text(alloc: Global, message: Message) -> Result<Bytes, OutOfMemory>
+    requires { HasText message }
+    ensures text { IfOk result (λ bytes. bytes ≡ text message) }
+    ensures short { IfOk result (λ bytes. length bytes ≤ 1048576) }
+{
+    let text = text_of(alloc, &message);
+    drop(message);
+    text
+}
+
 /// The message that brings a client its answer.
 fn answer_in(
     alloc: Global,
@@ -127,7 +138,7 @@ fn letter(alloc: Global, me: &Me, epoch: Epoch, sent: &Sent) -> Result<Outgoing,
             let message = answer_in(alloc, me, epoch, to.id, reply)?;
             Ok(Outgoing {
                 to: Peer::Client(to.client),
-                bytes: text_of(alloc, &message)?,
+                bytes: into_text(alloc, message)?,
             })
         }
     }

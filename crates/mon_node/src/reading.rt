@@ -27,7 +27,10 @@ fn from_client(client: u32, message: Message) -> Option<Input>
 {
     match message.body {
         Body::Request { id, request } => Some(Input::Client(Session { client, id }, request)),
-        _ => None,
+        other => {
+            drop(other);
+            None
+        }
     }
 }
 
@@ -41,6 +44,7 @@ fn from_monitor(rank: Rank, message: Message) -> Option<Input>
     if message.from == rank && !is_request(&message.body) {
         Some(Input::Deliver(message))
     } else {
+        drop(message);
         None
     }
 }
@@ -52,6 +56,7 @@ fn input_of(monitors: u8, from: &Peer, message: Message) -> Option<Input>
     ensures comes { IfSome result MayCome }
 {
     if message.monitors != monitors {
+        drop(message);
         return None;
     }
     match from {

@@ -124,7 +124,11 @@ impl<D: Disk> Server<D> {
             clock,
         )?;
         match came {
-            Some(timed) => self.take(link, &timed.input, timed.at),
+            Some(timed) => {
+                let done = self.take(link, &timed.input, timed.at);
+                drop(timed);
+                done
+            }
             None => Ok(()),
         }
     }
@@ -136,10 +140,18 @@ impl<D: Disk> Server<D> {
         ensures a { result.disks.a ≡ disk_a self.store }
         ensures b { result.disks.b ≡ disk_b self.store }
     {
+        let Server {
+            store,
+            core,
+            assembly,
+            ..
+        } = self;
+        drop(core);
+        drop(assembly);
         Served {
             end,
             turns,
-            disks: self.store.close(),
+            disks: store.close(),
         }
     }
 }

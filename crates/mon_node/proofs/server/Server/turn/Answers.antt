@@ -36,8 +36,8 @@ returns-in-Some-clause-turn g c =
     let so = sym (turn_with s.me h.0 old (Ok (Some timed)) left is) in (
       h.0,
       h.1,
-      subst (λ (t : Turn). EndsTurn s.me t c.take.result (serving_of c.take.new.self clock (g.L.Link.state c.take.new.link).told)) so (c.take.ensures.ends clock),
-      λ both. subst (λ (t : Turn). PassTurn s.me t c.take.result (g.L.Link.state c.take.new.link).told (disks_of g.D.Disk.state s.store) (disks_of g.D.Disk.state c.take.new.self.store)) so (c.take.ensures.passes clock both),
+      subst (λ (t : Turn). EndsTurn s.me t c.take-done.result (serving_of c.take-done.new.self clock (g.L.Link.state c.take-done.new.link).told)) so (c.take-done.ensures.ends clock),
+      λ both. subst (λ (t : Turn). PassTurn s.me t c.take-done.result (g.L.Link.state c.take-done.new.link).told (disks_of g.D.Disk.state s.store) (disks_of g.D.Disk.state c.take-done.new.self.store)) so (c.take-done.ensures.passes clock both),
     )
 
 pub returns-in-None-clause-turn : goal.returns-in-None-clause-turn
