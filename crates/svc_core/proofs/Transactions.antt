@@ -14,10 +14,8 @@ use Rattle.mon_msg.specs.Protocol.Readings.{Readings, readings_of}
 use Rattle.mon_msg.specs.Puts.{area_of}
 use Rattle.mon_wire.specs.declared.reply.ShownMap.{ShownMap}
 use Rattle.mon_wire.specs.declared.request.Service.{Service}
-use Rattle.mon_wire.specs.declared.request.Service.TheVariants as service
-use Rattle.svc_core.specs.Cache.{known_in, known, Follows, IsCurrent, after_put, after_op, after_ops, of_service, where_told, known_after}
+use Rattle.svc_core.specs.Cache.{known, Follows, IsCurrent, after_put, after_op, after_ops, of_service, where_told, known_after}
 use Rattle.svc_core.specs.declared.cache.Cache.{Cache}
-use Rattle.svc_core.specs.declared.cache.Kept.{Kept}
 use Rattle.svc_core.specs.declared.cache.Known.{Known}
 use Rattle.svc_core.specs.declared.turn.Turn.{Turn}
 use Rattle.svc_core.proofs.Currents.{base, read_from, goes_from, read_map-from, reaches-from, StandsFor, unchanged, first_put, last_put, version_put}
@@ -112,7 +110,6 @@ module _ (s : Service) where
           told true f g = ended (readings_of (apply ops m)) t f g
           told false f g = tt
 
-pub follows_after : (old : Cache) (kv log : Kept) (ops : List Op) → known_in kv ≡ known_after service.Kv ops (known_in old.kv) → known_in log ≡ known_after service.Log ops (known_in old.log)
-    → (m : Store) → Follows old (readings_of m) → (s : Service) → IfSome (known (record { kv = kv; log = log }) s) (IsCurrent (readings_of (apply ops m)) s)
-follows_after old kv log ops a b m h service.Kv = rw a (current_after service.Kv ops m (known_in old.kv) (h service.Kv))
-follows_after old kv log ops a b m h service.Log = rw b (current_after service.Log ops m (known_in old.log) (h service.Log))
+pub follows_after : (old new : Cache) (ops : List Op) → ((s : Service) → known new s ≡ known_after s ops (known old s))
+    → (m : Store) → Follows old (readings_of m) → Follows new (readings_of (apply ops m))
+follows_after old new ops h m f s = rw (h s) (current_after s ops m (known old s) (f s))

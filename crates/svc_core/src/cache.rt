@@ -76,6 +76,18 @@ impl Kept {
             Kept::Nothing | Kept::Read(_) => None,
         }
     }
+
+    /// Follows a transaction, and tells how many incrementals were applied to what is still known.
+    fn follow(&mut self, alloc: Global, service: Service, ops: &[Op]) -> Result<u64, OutOfMemory>
+        ensures known { OnOk result (known_in self.new ≡ known_after service ops.now (known_in self.old)) }
+        ensures applied { IfOk result (λ n. n ≡ risen (known_in self.old) (known_in self.new)) }
+        ensures most { IfOk result (λ n. n ≤ 2 ^ 62) }
+    {
+        let before = mem::replace(self, Kept::Nothing);
+        let Followed { kept, applied } = kept_after(alloc, service, before, ops)?;
+        drop(mem::replace(self, kept));
+        Ok(applied)
+    }
 }
 
 /// What is kept of a service once it was read: it is known where its reading reaches the last version and no full map is newer.
@@ -180,6 +192,23 @@ impl Cache {
         self.kept(service).known()
     }
 
+    /// Knows no service any more.
+    fn forget(&mut self)
+        ensures { (s : services.Service) → known self.new s ≡ None }
+    {
+        drop(mem::replace(self, Cache::empty()));
+    }
+
+    /// Follows the changes of a transaction, and tells how many incrementals were applied.
+    fn follow_ops(&mut self, alloc: Global, ops: &[Op]) -> Result<u64, OutOfMemory>
+        ensures known { OnOk result ((s : services.Service) → known self.new s ≡ known_after s ops.now (known self.old s)) }
+        ensures applied { IfOk result (λ n. n ≡ applied self.old self.new) }
+    {
+        let kv = self.kv.follow(alloc, Service::Kv, ops)?;
+        let log = self.log.follow(alloc, Service::Log, ops)?;
+        Ok(kv + log)
+    }
+
     /// Makes a cache that follows a store into one that follows the store after a transaction, and tells how many incrementals
     /// were applied to the maps that are still known. After `OutOfMemory` the cache is empty.
     pub fn follow(&mut self, alloc: Global, tx: &Transaction) -> Result<u32, OutOfMemory>
@@ -188,13 +217,25 @@ impl Cache {
         ensures follows { OnOk result ((m : Store) → Follows self.old (readings_of m) → Follows self.new (readings_of (apply tx.now m))) }
         ensures empty { OnErr result ((s : services.Service) → known self.new s ≡ None) }
     {
-        let kv = mem::replace(&mut self.kv, Kept::Nothing);
-        let log = mem::replace(&mut self.log, Kept::Nothing);
-        let kv = kept_after(alloc, Service::Kv, kv, tx.ops())?;
-        let log = kept_after(alloc, Service::Log, log, tx.ops())?;
-        self.kv = kv.kept;
-        self.log = log.kept;
-        Ok(u32::try_from(kv.applied + log.applied).unwrap_or(u32::MAX))
+        match self.follow_ops(alloc, tx.ops()) {
+            Ok(applied) => Ok(u32::try_from(applied).unwrap_or(u32::MAX)),
+            Err(e) => {
+                self.forget();
+                Err(e)
+            }
+        }
+    }
+
+    /// Keeps this of a service.
+    fn keep(&mut self, service: Service, kept: Kept)
+        ensures keeps { kept_of self.new service ≡ kept }
+        ensures others { (s : services.Service) → (s ≡ service → ⊥) → kept_of self.new s ≡ kept_of self.old s }
+    {
+        let before = match service {
+            Service::Kv => mem::replace(&mut self.kv, kept),
+            Service::Log => mem::replace(&mut self.log, kept),
+        };
+        drop(before);
     }
 
     /// Reads a service that isn't known.
@@ -208,14 +249,11 @@ impl Cache {
         }
         match read_kept(alloc, kv, service) {
             Ok(kept) => {
-                match service {
-                    Service::Kv => self.kv = kept,
-                    Service::Log => self.log = kept,
-                }
+                self.keep(service, kept);
                 Ok(())
             }
             Err(e) => {
-                *self = Cache::empty();
+                self.forget();
                 Err(e)
             }
         }

@@ -2,6 +2,10 @@
 
 ghost use Rattle.std.specs.Prelude.{◌≡◌, ℕ, IfOk};
 ghost use Rattle.map_kv.specs.Made.{IsOfKv};
+ghost use Rattle.map_kv.specs.Map as kv_map;
+ghost use Rattle.map_kv.specs.Text as kv_text;
+ghost use Rattle.map_log.specs.Map as log_map;
+ghost use Rattle.map_log.specs.Text as log_text;
 ghost use Rattle.mon_bytes.specs.Makes.{Makes};
 ghost use Rattle.mon_bytes.specs.declared.command.Command.TheVariants as command;
 ghost use Rattle.mon_msg.specs.Protocol.Services.{read_map};
@@ -10,9 +14,9 @@ ghost use Rattle.mon_msg.specs.Protocol.Readings.{readings_of};
 ghost use Rattle.svc_core.specs.Drafts.{drafted, IsShort};
 
 use crate::reading::read;
-use map_kv::make as make_kv;
-use map_log::make as make_log;
-use mon_bytes::{Bytes, Command, CommandRefused, Text};
+use map_kv::{KvInc, KvMap, make as make_kv};
+use map_log::{LogInc, LogMap, make as make_log};
+use mon_bytes::{Bytes, Command, CommandRefused, OutOfMemory, Text};
 use mon_kv::Kv;
 use mon_msg::{Service, ShownMap};
 use mon_types::Rank;
@@ -25,26 +29,47 @@ pub(crate) struct Draft {
     pub(crate) text: Bytes,
 }
 
+/// The text of a key-value map after an incremental.
+fn kv_text_after(mut map: KvMap, inc: KvInc) -> Result<Bytes, OutOfMemory>
+    requires { kv_text.MapIsShort (kv_map.with_inc map inc) }
+    ensures { IfOk result (λ text. text ≡ kv_text.map_text (kv_map.with_inc map inc)) }
+{
+    let applied = map.apply(&inc);
+    drop(inc);
+    applied?;
+    Ok(Bytes::new(map.encode()?))
+}
+
+/// The text of the cluster log after an entry.
+fn log_text_after(mut map: LogMap, inc: LogInc) -> Result<Bytes, OutOfMemory>
+    ensures { IfOk result (λ text. text ≡ log_text.map_text (log_map.with_inc map inc)) }
+{
+    let applied = map.apply(&inc);
+    drop(inc);
+    applied?;
+    Ok(Bytes::new(map.encode()?))
+}
+
 fn kv_made(alloc: Global, kv: &Kv, command: &Command, due: bool) -> Result<Draft, CommandRefused>
     requires { IsOfKv command.now }
     ensures made { (asked : ℕ) → Makes result (drafted due (made (read_map (readings_of kv.now) Service.Kv) asked command.now)) }
     ensures short { IfOk result IsShort }
 {
-    let ShownMap::Kv(mut map) = read(alloc, kv, Service::Kv)? else {
+    let ShownMap::Kv(map) = read(alloc, kv, Service::Kv)? else {
         unreachable!()
     };
     let inc = make_kv(alloc, &map, command)?;
     let incremental = Bytes::new(inc.encode(alloc)?);
     if !due {
+        drop(inc);
         return Ok(Draft {
             incremental,
             text: Bytes::new(Vec::new(alloc)),
         });
     }
-    map.apply(&inc)?;
     Ok(Draft {
         incremental,
-        text: Bytes::new(map.encode()?),
+        text: kv_text_after(map, inc)?,
     })
 }
 
@@ -62,18 +87,18 @@ fn log_made(
     let inc = make_log(alloc, asked, text)?;
     let incremental = Bytes::new(inc.encode(alloc)?);
     if !due {
+        drop(inc);
         return Ok(Draft {
             incremental,
             text: Bytes::new(Vec::new(alloc)),
         });
     }
-    let ShownMap::Log(mut map) = read(alloc, kv, Service::Log)? else {
+    let ShownMap::Log(map) = read(alloc, kv, Service::Log)? else {
         unreachable!()
     };
-    map.apply(&inc)?;
     Ok(Draft {
         incremental,
-        text: Bytes::new(map.encode()?),
+        text: log_text_after(map, inc)?,
     })
 }
 

@@ -1,7 +1,5 @@
 use Rattle.std.proofs.Common.{◌++◌, ◌∷◌, [], arith}
 use Rattle.std.proofs.lemmas.Result.{err_from_is_err_and}
-use Rattle.map_log.specs.Map.{with_inc}
-use Rattle.map_log.proofs.Lengths.{is_short}
 use Rattle.mon_msg.specs.Protocol.Services.{read_map}
 use Rattle.mon_msg.specs.Protocol.Readings.{readings_of}
 use Rattle.mon_wire.specs.declared.request.Service.TheVariants as service
@@ -24,12 +22,8 @@ returns-then-not-due c =
       short = record { incremental = log_inc_short c.args.asked c.args.text.now c.in_ok-inc.inc c.in_ok-inc.ensures.made; text = omega arith };
     })
 
-pub encode-requires-2 : goal.encode-requires-2
-encode-requires-2 c =
-    rw c.in_ok-apply.ensures.ok (is_short (with_inc c.in-Log.map c.in_ok-inc.inc) (omega (arith, trimmed_short (c.in-Log.map ++ c.in_ok-inc.inc ∷ []))))
-
 pub returns-clause-short : goal.returns-clause-short
 returns-clause-short c =
     let short = log_inc_short c.args.asked c.args.text.now c.in_ok-inc.inc c.in_ok-inc.ensures.made in
     let whole = trimmed_short (c.in-Log.map ++ c.in_ok-inc.inc ∷ []) in
-    rw (c.incremental.view_is, c.new-incremental.ensures, c.in_ok-encode.ensures.text, c.new-2.ensures, c.in_ok-encode-2.ensures.text, c.in_ok-apply.ensures.ok) (record { incremental = short; text = omega arith })
+    rw (c.incremental.view_is, c.new-incremental.ensures, c.in_ok-encode.ensures.text, c.in_ok-log_text_after.ensures) (record { incremental = short; text = omega arith })
