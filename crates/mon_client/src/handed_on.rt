@@ -79,7 +79,6 @@ pub fn forward(
         return Ok(stay(alloc, clients));
     }
     let origin = Origin::Forwarded { rank: from, seq };
-    let command = command.copy(alloc)?;
     at_leader(
         alloc,
         kv,

@@ -7,7 +7,7 @@ use Rattle.mon_msg.specs.declared.plan.Sent.TheVariants as sent
 use Rattle.mon_wire.specs.declared.reply.Reply.TheVariants as reply
 use Rattle.mon_client.proofs.Planned.{answers}
 use Rattle.mon_client.proofs.CommandLaws.{Met, same, by_copy, under_way, ask-leads, ask-follows, ask-nobody}
-use Rattle.mon_client.proofs.commands.ask.Goals as goal
+use Rattle.mon_client.proofs.commands.ask_for.Goals as goal
 
 pub returns-then-is_leading-clause-plans : goal.returns-then-is_leading-clause-plans
 returns-then-is_leading-clause-plans c =
@@ -15,8 +15,8 @@ returns-then-is_leading-clause-plans c =
     let w = readings_of c.args.kv.now in
     let v = c.args.view.now in
     let s = c.args.state.now in
-    by_copy me c.args.now w v s c.in_ok-clients.clients c.in_ok-clients.ensures (at_leader me c.args.now c.args.command (origin.Session c.args.session)) (ask me c.args.now c.args.session c.args.command) c.at_leader.result
-    (λ x b. ask-leads me c.args.now w v x (under_way me c.args.now w v s x b) c.args.command c.args.session (sym c.is_leading.ensures ∙ c.if-is_leading.true))
+    by_copy me c.args.now w v s c.in_ok-clients.clients c.in_ok-clients.ensures (at_leader me c.args.now c.args.command.now (origin.Session c.args.session)) (ask me c.args.now c.args.session c.args.command.now) c.at_leader.result
+    (λ x b. ask-leads me c.args.now w v x (under_way me c.args.now w v s x b) c.args.command.now c.args.session (sym c.is_leading.ensures ∙ c.if-is_leading.true))
     c.at_leader.ensures.plans
 
 pub at_peon-requires : goal.at_peon-requires
@@ -28,9 +28,9 @@ returns-then-is_peon-clause-plans c =
     let w = readings_of c.args.kv.now in
     let v = c.args.view.now in
     let s = c.args.state.now in
-    by_copy me c.args.now w v s c.in_ok-clients.clients c.in_ok-clients.ensures (at_peon me c.args.command c.args.session) (ask me c.args.now c.args.session c.args.command) c.at_peon.result
+    by_copy me c.args.now w v s c.in_ok-clients.clients c.in_ok-clients.ensures (at_peon me c.args.command.now c.args.session) (ask me c.args.now c.args.session c.args.command.now) c.at_peon.result
     (λ x b.
-    ask-follows me c.args.now w v x (under_way me c.args.now w v s x b) c.args.command c.args.session (sym c.is_leading.ensures ∙ c.if-is_leading.false) (sym c.is_peon.ensures ∙ c.if-is_peon.true))
+    ask-follows me c.args.now w v x (under_way me c.args.now w v s x b) c.args.command.now c.args.session (sym c.is_leading.ensures ∙ c.if-is_leading.false) (sym c.is_peon.ensures ∙ c.if-is_peon.true))
     (c.at_peon.ensures.plans c.args.now)
 
 pub returns-clause-plans : goal.returns-clause-plans
@@ -39,9 +39,9 @@ returns-clause-plans c =
     let w = readings_of c.args.kv.now in
     let v = c.args.view.now in
     let s = c.args.state.now in
-    answers me c.args.now (Met me c.args.now w v s c.in_ok-clients.clients c.in_ok-clients.ensures) (ask me c.args.now c.args.session c.args.command)
+    answers me c.args.now (Met me c.args.now w v s c.in_ok-clients.clients c.in_ok-clients.ensures) (ask me c.args.now c.args.session c.args.command.now)
     (sent.Reply c.args.session reply.Unavailable) c.in_ok-clients.clients
     (λ x b.
-    ask-nobody me c.args.now w v x (under_way me c.args.now w v s x b) c.args.command c.args.session (sym c.is_leading.ensures ∙ c.if-is_leading.false) (sym c.is_peon.ensures ∙ c.if-is_peon.false)
+    ask-nobody me c.args.now w v x (under_way me c.args.now w v s x b) c.args.command.now c.args.session (sym c.is_leading.ensures ∙ c.if-is_leading.false) (sym c.is_peon.ensures ∙ c.if-is_peon.false)
     ∙ ap (λ (y : Course). Ok (say (sent.Reply c.args.session reply.Unavailable ∷ []) y)) (same me c.args.now w v s c.in_ok-clients.clients c.in_ok-clients.ensures x b))
     c.in_ok-answered.field-0 c.in_ok-answered.ensures

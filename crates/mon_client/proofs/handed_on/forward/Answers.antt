@@ -1,6 +1,5 @@
 use Rattle.std.proofs.Common.{◌≡◌, ℕ, List, ltb, set, Ok, refl, ap, sym, ◌∙◌}
 use Rattle.std.proofs.Math.ListN.{get_or}
-use Rattle.mon_bytes.specs.declared.command.Command.{Command}
 use Rattle.mon_msg.specs.Protocol.Commands.{at_leader, hear_forward}
 use Rattle.mon_msg.specs.Protocol.Course.{Course, clients_are}
 use Rattle.mon_msg.specs.Protocol.Readings.{readings_of}
@@ -48,10 +47,9 @@ returns-clause-plans c =
     let o = origin.Forwarded c.args.from c.args.seq in
     let after = c.mark_taken.ensures ∙ ap (λ (k : Clients). record k { taken = set k.taken c.args.from c.args.seq }) c.in_ok-clients.ensures in
     instead me c.args.now clients_are met (λ x. x)
-    (λ x. at_leader me c.args.now c.in_ok-command.command o (clients_are c.mark_taken.result x)) (hear_forward me c.args.now c.args.from c.args.epoch c.args.seq c.args.command.now) c.at_leader.result
+    (λ x. at_leader me c.args.now c.args.command.now o (clients_are c.mark_taken.result x)) (hear_forward me c.args.now c.args.from c.args.epoch c.args.seq c.args.command.now) c.at_leader.result
     (λ x b.
     forward-new me c.args.now w v s x b c.args.from c.args.epoch c.args.seq c.args.command.now (sym c.is_of_member.ensures ∙ c.if-not-is_of_member.false)
-    (ap (λ (k : Clients). ltb (get_or k.taken c.args.from 0) c.args.seq) (sym c.in_ok-clients.ensures) ∙ sym c.is_new.ensures ∙ c.if-not-is_new.false) c.mark_taken.result after
-    ∙ ap (λ (k : Command). at_leader me c.args.now k o (clients_are c.mark_taken.result x)) (sym c.in_ok-command.ensures))
+    (ap (λ (k : Clients). ltb (get_or k.taken c.args.from 0) c.args.seq) (sym c.in_ok-clients.ensures) ∙ sym c.is_new.ensures ∙ c.if-not-is_new.false) c.mark_taken.result after)
     (weaken me c.args.now clients_are (IsUnderWay me c.args.now w v) met (λ x. x)
-    (λ x. at_leader me c.args.now c.in_ok-command.command o (clients_are c.mark_taken.result x)) c.at_leader.result (λ x b. under_way me c.args.now w v s x b) c.at_leader.ensures.plans)
+    (λ x. at_leader me c.args.now c.args.command.now o (clients_are c.mark_taken.result x)) c.at_leader.result (λ x b. under_way me c.args.now w v s x b) c.at_leader.ensures.plans)
