@@ -14,15 +14,34 @@ fn named(rt: &HostRuntime, name: &str) -> Result<FileDisk<HostRuntime>, Fail> {
     Ok(FileDisk::named(rt, String::from_str(rt.alloc(), name)?))
 }
 
-/// A disk on a new file, after three writes.
-fn made(rt: &HostRuntime, name: &str) -> Result<FileDisk<HostRuntime>, Fail> {
-    let _old = fs::remove_file(rt, name);
-    let mut disk = named(rt, name)?;
+/// Makes three writes.
+fn fill(disk: &mut FileDisk<HostRuntime>) -> Result<(), Fail> {
     disk.write_at(0, b"abc")?;
     disk.write_at(3, b"def")?;
     disk.write_at(1, b"XY")?;
     disk.sync()?;
-    Ok(disk)
+    Ok(())
+}
+
+/// A disk on a new file, after three writes.
+fn made(rt: &HostRuntime, name: &str) -> Result<FileDisk<HostRuntime>, Fail> {
+    let _old = fs::remove_file(rt, name);
+    let mut disk = named(rt, name)?;
+    match fill(&mut disk) {
+        Ok(()) => Ok(disk),
+        Err(why) => {
+            drop(disk);
+            Err(why)
+        }
+    }
+}
+
+/// What another disk on the file reads.
+fn read_again(rt: &HostRuntime, name: &str) -> Result<Vec<u8>, Fail> {
+    let mut disk = named(rt, name)?;
+    let bytes = contents(rt.alloc(), &mut disk);
+    drop(disk);
+    bytes
 }
 
 /// Whether another disk on the file finds it locked, and is given up once the file is let go.
@@ -38,9 +57,7 @@ fn a_file_is_made_and_opened_again(rt: HostRuntime) -> Result<(), Fail> {
     let name = "mon_disk_test_file";
     let disk = made(&rt, name)?;
     assert!(rt; is_locked(&rt, name, disk)?);
-    let mut again = named(&rt, name)?;
-    let bytes = contents(rt.alloc(), &mut again)?;
-    assert_eq!(rt; bytes.as_slice(), b"aXYdef".as_slice());
+    assert_eq!(rt; read_again(&rt, name)?.as_slice(), b"aXYdef".as_slice());
     fs::remove_file(&rt, name)?;
     Ok(())
 }
@@ -257,10 +274,11 @@ fn run_on_file(alloc: Global, failing: usize) -> Result<Went, Fail> {
         len: 0,
         at: 0,
     };
+    let name = String::from_str(alloc, "link")?;
     let fake = Fake {
         asked: Rc::new(alloc, Cell::new(nothing))?,
     };
-    let mut disk = FileDisk::named(&&fake, String::from_str(alloc, "link")?);
+    let mut disk = FileDisk::named(&&fake, name);
     let kept = disk.len() == Ok(0) && disk.write_at(0, b"ab").is_ok() && disk.sync().is_ok();
     let mut done = false;
     if kept && disk.len() == Ok(2) {
@@ -269,10 +287,13 @@ fn run_on_file(alloc: Global, failing: usize) -> Result<Went, Fail> {
     }
     let asked = fake.asked.get();
     let stopped = disk.sync() == Err(Stop::Failed);
+    drop(disk);
+    let given_up = stopped && fake.asked.get().count == asked.count;
+    drop(fake);
     Ok(Went {
         asked,
         done,
-        given_up: stopped && fake.asked.get().count == asked.count,
+        given_up,
     })
 }
 

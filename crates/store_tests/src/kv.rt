@@ -1,6 +1,6 @@
 use crate::digits::bytes_of;
 use mon_bytes::KeyPlace;
-use mon_kv::Kv;
+use mon_kv::{KeyRun, Kv};
 use mon_tx::{Area, Key, Transaction};
 use std::alloc::Global;
 use std::test::Fail;
@@ -30,9 +30,8 @@ fn name(alloc: Global, prefix: &[u8], key: &[u8]) -> Result<String, Fail> {
     Ok(format!(in alloc; "{prefix}/{key} ")?)
 }
 
-/// The keys of a map of at most five, and its size.
-fn keys(alloc: Global, digits: &str) -> Result<String, Fail> {
-    let kv = made(alloc, digits)?;
+/// The keys of a map of at most five.
+fn keys(alloc: Global, kv: &Kv) -> Result<String, Fail> {
     let mut keys = String::new(alloc);
     let (mut prefix, mut key) = (b"".as_slice(), b"".as_slice());
     for _ in 0..5 {
@@ -42,7 +41,16 @@ fn keys(alloc: Global, digits: &str) -> Result<String, Fail> {
         keys.push_str(name(alloc, entry.prefix, entry.key)?.as_str())?;
         (prefix, key) = (entry.prefix, entry.key);
     }
-    Ok(format!(in alloc; "{keys}{}", kv.size())?)
+    Ok(keys)
+}
+
+/// What a transaction leaves: the keys, and the size of the map.
+fn left(alloc: Global, digits: &str) -> Result<String, Fail> {
+    let kv = made(alloc, digits)?;
+    let (keys, size) = (keys(alloc, &kv), kv.size());
+    drop(kv);
+    let keys = keys?;
+    Ok(format!(in alloc; "{keys}{size}")?)
 }
 
 #[test]
@@ -54,20 +62,29 @@ fn keys_stand_in_order_and_a_range_erases_the_numbers_in_it(rt: HostRuntime) -> 
         ),
         (RANGE, "paxos/1000 paxos/first_committed 70"),
     ] {
-        assert_eq!(rt; keys(rt.alloc(), digits)?.as_str(), told);
+        assert_eq!(rt; left(rt.alloc(), digits)?.as_str(), told);
     }
     Ok(())
 }
 
-/// The run of shared keys that finds room, and whether it is the last.
-fn run(alloc: Global, room: usize, most: usize) -> Result<String, Fail> {
-    let kv = made(alloc, FOUR)?;
-    let run = kv.chunk_from(&KeyPlace::Start, room, most)?;
+/// The keys of a run, and whether it is the last.
+fn told(alloc: Global, run: &KeyRun) -> Result<String, Fail> {
     let mut keys = String::new(alloc);
     for entry in run.entries.iter() {
         keys.push_str(name(alloc, entry.prefix.as_slice(), entry.key.as_slice())?.as_str())?;
     }
     Ok(format!(in alloc; "{keys}{}", run.done)?)
+}
+
+/// The run of shared keys that finds room.
+fn run(alloc: Global, room: usize, most: usize) -> Result<String, Fail> {
+    let kv = made(alloc, FOUR)?;
+    let run = kv.chunk_from(&KeyPlace::Start, room, most);
+    drop(kv);
+    let run = run?;
+    let told = told(alloc, &run);
+    drop(run);
+    told
 }
 
 #[test]
@@ -84,31 +101,37 @@ fn a_run_of_shared_keys_stops_at_the_room_and_the_count(rt: HostRuntime) -> Resu
     Ok(())
 }
 
-/// A map where 100,000 versions came in their order, 1,000 at a time.
-fn many_versions(alloc: Global) -> Result<Kv, Fail> {
-    let mut kv = Kv::empty(alloc);
-    for thousand in 0..100u64 {
-        let mut tx = Transaction::new(alloc);
-        for v in 0..1_000u64 {
-            tx.put_number(Area::Paxos, Key::Version(1_000 * thousand + v), v)?;
-        }
-        kv.apply(&tx)?;
+/// Puts a thousand versions in their order.
+fn put_thousand(alloc: Global, kv: &mut Kv, first: u64) -> Result<(), Fail> {
+    let mut tx = Transaction::new(alloc);
+    for v in 0..1_000u64 {
+        tx.put_number(Area::Paxos, Key::Version(first.saturating_add(v)), v)?;
     }
-    Ok(kv)
+    let done = kv.apply(&tx);
+    drop(tx);
+    Ok(done?)
+}
+
+/// Puts 100,000 versions in their order, and erases all but ten at either end.
+fn put_and_erase(alloc: Global, kv: &mut Kv) -> Result<(), Fail> {
+    for thousand in 0..100u64 {
+        put_thousand(alloc, kv, 1_000 * thousand)?;
+    }
+    let mut tx = Transaction::new(alloc);
+    tx.erase_range(Area::Paxos, 11, 99_990)?;
+    let done = kv.apply(&tx);
+    drop(tx);
+    Ok(done?)
 }
 
 // A tree that was a list would be too deep for the stack.
 #[test]
 fn keys_that_come_in_order_make_a_low_tree(rt: HostRuntime) -> Result<(), Fail> {
-    let alloc = rt.alloc();
-    let mut kv = many_versions(alloc)?;
-    let mut tx = Transaction::new(alloc);
-    tx.erase_range(Area::Paxos, 11, 99_990)?;
-    kv.apply(&tx)?;
-    let stays = |v: u64| kv.stored(v).is_some();
-    assert_eq!(rt;
-        (stays(10), stays(11), stays(99_989), stays(99_990)),
-        (true, false, false, true)
-    );
+    let mut kv = Kv::empty(rt.alloc());
+    let done = put_and_erase(rt.alloc(), &mut kv);
+    let stay = [10u64, 11, 99_989, 99_990].map(|v| kv.stored(v).is_some());
+    drop(kv);
+    done?;
+    assert_eq!(rt; stay, [true, false, false, true]);
     Ok(())
 }

@@ -10,18 +10,30 @@ fn entry(alloc: Global, byte: u8, length: usize) -> Result<LogInc, Fail> {
     Ok(LogInc { rank, text })
 }
 
+/// How many entries a map has, and its size, once it was given an entry of this length.
+fn given(alloc: Global, map: &mut LogMap, length: usize) -> Result<(usize, u64), Fail> {
+    let entry = entry(alloc, 120, length)?;
+    let done = map.apply(&entry);
+    drop(entry);
+    done?;
+    Ok((map.entries().len(), map.size()))
+}
+
+/// The same of four entries, one after the other.
+fn four_given(alloc: Global, map: &mut LogMap) -> Result<[(usize, u64); 4], Fail> {
+    Ok([
+        given(alloc, map, 12_279)?,
+        given(alloc, map, 0)?,
+        given(alloc, map, 12_274)?,
+        given(alloc, map, 12_280)?,
+    ])
+}
+
 #[test]
 fn entries_go_until_the_bytes_fit(rt: HostRuntime) -> Result<(), Fail> {
-    let alloc = rt.alloc();
-    let mut map = LogMap::new(alloc);
-    for (length, entries, size) in [
-        (12279, 1usize, 12288),
-        (0, 1, 9),
-        (12274, 2, 12288),
-        (12280, 0, 4),
-    ] {
-        map.apply(&entry(alloc, 120, length)?)?;
-        assert_eq!(rt; (map.entries().len(), map.size()), (entries, size));
-    }
+    let mut map = LogMap::new(rt.alloc());
+    let found = four_given(rt.alloc(), &mut map);
+    drop(map);
+    assert_eq!(rt; found?, [(1, 12_288), (1, 9), (2, 12_288), (0, 4)]);
     Ok(())
 }

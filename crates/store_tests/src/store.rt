@@ -1,82 +1,96 @@
-//! Files that are a store, or are none.
+//! Files that are a store, or are none, and what steps of a store leave of them.
 
+ghost use Rattle.mon_store.specs.Whole.{IsSound};
+
+use crate::contents::contents;
 use crate::digits::{bytes_of, number};
 use mon_disk::{Disk, MemoryDisk, NodeDisks};
 use mon_kv::Kv;
-use mon_store::Store;
+use mon_store::{OpenRefused, Store};
 use mon_types::{Member, Rank};
 use std::alloc::Global;
 use std::test::Fail;
-
-/// Files of rank 0 of 1 in hexadecimal digits, and what a store holds under the keys `a`, `b` and `c` of the area `kv`, or why it is refused:
-/// a new one, one with a record, one with a checkpoint, one with a first header, and others that are none.
-const FILES: &str = "\
-01434550484d4f4e320001000000000000010000000000000000 ...\n\
-01434550484d4f4e32000100000000000001000000000000000115000000010200000001026b760161010000007803\
-    036c6f6700 x..\n\
-01434550484d4f4e3200010000000000000200000000000000010f0000008001000000026b760161010000007800 x\
-    ..\n\
-01434550484d4f4e31000100000000000001000000000000000115000000010200000001026b760161010000007803\
-    036c6f6700 x..\n\
-000000000000000000000000000000000000000000000000000000 NotAStore { disk: A, at: 0 }\n\
-01434550484d4f4e33 NotAStore { disk: A, at: 1 }\n\
-01434550484d4f4e32000100000000000001000000000000000115000000010200000001026b760161010000007803\
-    036c6f6701010000000300 NotAStore { disk: A, at: 56 }\n\
-";
 
 /// The file of three records, which put `kv/a` = `x`, `kv/b` = `y` and `kv/c` = `z`.
 const THREE: &str = "\
 01434550484d4f4e32000100000000000001000000000000000110000000010100000001026b760161010000007801100000\
     00010100000001026b76016201000000790110000000010100000001026b760163010000007a00";
 
-/// How many bytes of it there are, which one has all its bits turned, and what is found then.
+/// What is left of it, a front of so many bytes or all with the bits of one byte turned, from the first such number to the last one, and what
+/// is found then.
 const SPOILED: &str = "\
-89 - xyz\n\
-0 - ...\n\
-1 - ...\n\
-2 - NotAStore { disk: A, at: 1 }\n\
-8 - NotAStore { disk: A, at: 1 }\n\
-9 - NotAStore { disk: A, at: 9 }\n\
-10 - NotAStore { disk: A, at: 10 }\n\
-11 - NotAStore { disk: A, at: 11 }\n\
-16 - NotAStore { disk: A, at: 11 }\n\
-17 - NotAStore { disk: A, at: 17 }\n\
-24 - NotAStore { disk: A, at: 17 }\n\
-25 - NotAStore { disk: A, at: 25 }\n\
-26 - NotAStore { disk: A, at: 26 }\n\
-29 - NotAStore { disk: A, at: 26 }\n\
-30 - NotAStore { disk: A, at: 30 }\n\
-45 - NotAStore { disk: A, at: 30 }\n\
-46 - NotAStore { disk: A, at: 46 }\n\
-47 - NotAStore { disk: A, at: 47 }\n\
-67 - NotAStore { disk: A, at: 67 }\n\
-88 - NotAStore { disk: A, at: 88 }\n\
-89 0 NotAStore { disk: A, at: 0 }\n\
-89 1 NotAStore { disk: A, at: 1 }\n\
-89 8 NotAStore { disk: A, at: 1 }\n\
-89 9 NotAStore { disk: A, at: 9 }\n\
-89 10 NotAStore { disk: A, at: 10 }\n\
-89 16 NotAStore { disk: A, at: 11 }\n\
-89 17 xyz\n\
-89 24 NotAStore { disk: A, at: 17 }\n\
-89 25 ...\n\
-89 46 x..\n\
-89 67 xy.\n\
-89 88 xyz\n\
-89 26 NotAStore { disk: A, at: 30 }\n\
-89 29 NotAStore { disk: A, at: 30 }\n\
-89 30 NotAStore { disk: A, at: 30 }\n\
-89 40 NotAStore { disk: A, at: 30 }\n\
-89 50 NotAStore { disk: A, at: 51 }\n\
-89 71 NotAStore { disk: A, at: 72 }\n\
+front 89 89 xyz\n\
+front 0 1 ...\n\
+front 2 8 NotAStore { disk: A, at: 1 }\n\
+front 9 9 NotAStore { disk: A, at: 9 }\n\
+front 10 10 NotAStore { disk: A, at: 10 }\n\
+front 11 16 NotAStore { disk: A, at: 11 }\n\
+front 17 24 NotAStore { disk: A, at: 17 }\n\
+front 25 25 NotAStore { disk: A, at: 25 }\n\
+front 26 29 NotAStore { disk: A, at: 26 }\n\
+front 30 45 NotAStore { disk: A, at: 30 }\n\
+front 46 46 NotAStore { disk: A, at: 46 }\n\
+front 47 50 NotAStore { disk: A, at: 47 }\n\
+front 51 66 NotAStore { disk: A, at: 51 }\n\
+front 67 67 NotAStore { disk: A, at: 67 }\n\
+front 68 71 NotAStore { disk: A, at: 68 }\n\
+front 72 87 NotAStore { disk: A, at: 72 }\n\
+front 88 88 NotAStore { disk: A, at: 88 }\n\
+turned 0 0 NotAStore { disk: A, at: 0 }\n\
+turned 1 8 NotAStore { disk: A, at: 1 }\n\
+turned 9 9 NotAStore { disk: A, at: 9 }\n\
+turned 10 10 NotAStore { disk: A, at: 10 }\n\
+turned 11 16 NotAStore { disk: A, at: 11 }\n\
+turned 24 24 NotAStore { disk: A, at: 17 }\n\
+turned 26 44 NotAStore { disk: A, at: 30 }\n\
+turned 47 65 NotAStore { disk: A, at: 51 }\n\
+turned 68 86 NotAStore { disk: A, at: 72 }\n\
+turned 17 23 xyz\n\
+turned 25 25 ...\n\
+turned 46 46 x..\n\
+turned 67 67 xy.\n\
+turned 88 88 xyz\n\
 ";
 
-/// A disk that holds these bytes.
-fn disk(alloc: Global, bytes: &[u8]) -> Result<MemoryDisk, Fail> {
+/// A file of one record, which puts `kv/a` = `x` and erases the log, and the transaction that puts `kv/b` = `y`.
+const ONE: &str = "\
+01434550484d4f4e32000100000000000001000000000000000115000000010200000001026b760161010000007803\
+    036c6f6700";
+
+const NEXT: &str = "010100000001026b7601620100000079";
+
+/// Two steps of a store of rank 0 of 1, a transaction, or to begin its file anew where that is due; the file of disk A; the files of both disks
+/// then; and the answers, whether these are the files, and what is found there. Or why the file is refused. All bytes are digits.
+const STEPS: &str = "\
+due due  01434550484d4f4e320001000000000000010000000000000000  Ok(false) Ok(false) true true ...\n\
+010200000001026b760161010000007803036c6f67 due  01434550484d4f4e320001000000000000010000000000000001\
+    15000000010200000001026b760161010000007803036c6f6700  Ok(()) Ok(false) true true x..\n\
+due due 01434550484d4f4e3200010000000000000200000000000000010f0000008001000000026b760161010000007800 0143455048\
+    4d4f4e3200010000000000000200000000000000010f0000008001000000026b760161010000007800  Ok(false) Ok(fal\
+    se) true true x..\n\
+due due 01434550484d4f4e31000100000000000001000000000000000115000000010200000001026b760161010000007803\
+    036c6f6700 01434550484d4f4e3100010000000000000100000000000000011500000001\
+    0200000001026b760161010000007803036c6f6700 01434550484d4f4e3200010000000000000200000000000000010f00\
+    00008001000000026b760161010000007800 Ok(true) Ok(false) true true x..\n\
+due due 000000000000000000000000000000000000000000000000000000   NotAStore { disk: A, at: 0 }\n\
+due due 01434550484d4f4e33   NotAStore { disk: A, at: 1 }\n\
+due due 01434550484d4f4e32000100000000000001000000000000000115000000010200000001026b760161010000007803\
+    036c6f6701010000000300   NotAStore { disk: A, at: 56 }\n\
+";
+
+/// A call that no test makes.
+const NEVER: u64 = 1_000;
+
+/// A disk that holds these bytes. From this call on its calls fail, with this image.
+fn disk(alloc: Global, bytes: &[u8], call: u64, image: u8) -> Result<MemoryDisk, Fail> {
     let mut disk = MemoryDisk::new(alloc);
-    disk.write_at(0, bytes)?;
-    disk.sync()?;
-    Ok(disk)
+    // the bytes take two calls
+    disk.upset(call.saturating_add(2), image.min(3));
+    if disk.write_at(0, bytes).is_ok() && disk.sync().is_ok() {
+        return Ok(disk);
+    }
+    drop(disk);
+    Err("the bytes are kept".into())
 }
 
 /// What is held under the three keys, with a point for none.
@@ -89,62 +103,258 @@ fn values(alloc: Global, kv: &Kv) -> Result<String, Fail> {
     Ok(values)
 }
 
+/// Why the disks are refused.
+fn refusal(alloc: Global, refused: OpenRefused<MemoryDisk>) -> Result<String, Fail> {
+    let OpenRefused { why, disks } = refused;
+    drop(disks);
+    Ok(format!(in alloc; "{why:?}")?)
+}
+
 /// What two disks hold, or why they are refused.
-fn found(alloc: Global, a: &[u8], b: &[u8]) -> Result<String, Fail> {
-    let (a, b) = (disk(alloc, a)?, disk(alloc, b)?);
-    let member = Member::new(Rank::known(0), 1).ok_or("a member")?;
-    match Store::open(alloc, NodeDisks { a, b }, member) {
-        Ok(store) => values(alloc, store.kv()),
-        Err(refused) => {
-            let why = refused.why;
-            Ok(format!(in alloc; "{why:?}")?)
+fn found(alloc: Global, disks: NodeDisks<MemoryDisk>) -> Result<String, Fail> {
+    let Some(member) = Member::new(Rank::known(0), 1) else {
+        drop(disks);
+        return Err("a member".into());
+    };
+    match Store::open(alloc, disks, member) {
+        Ok(store) => {
+            let values = values(alloc, store.kv());
+            drop(store);
+            values
         }
+        Err(refused) => refusal(alloc, refused),
     }
 }
 
-/// What a file is, and what its row says.
-fn of_file<'a>(alloc: Global, row: &'a str) -> Result<(String, &'a str), Fail> {
-    let (digits, told) = row.split_once(' ').ok_or("digits")?;
-    Ok((found(alloc, &bytes_of(alloc, digits)?, b"")?, told))
+/// What is found on a disk with this file, and an empty one.
+fn file_found(alloc: Global, bytes: &[u8]) -> Result<String, Fail> {
+    let a = disk(alloc, bytes, NEVER, 0)?;
+    let b = MemoryDisk::new(alloc);
+    found(alloc, NodeDisks { a, b })
 }
 
-#[test]
-fn files_of_stores(rt: HostRuntime) -> Result<(), Fail> {
-    let alloc = rt.alloc();
-    for row in FILES.lines() {
-        let (found, told) = of_file(alloc, row)?;
-        assert_eq!(rt; found.as_str(), told, "{row}");
-    }
-    Ok(())
-}
-
-/// The file of three records, spoiled as a row says.
-fn spoiled(alloc: Global, length: &str, turned: &str) -> Result<Vec<u8>, Fail> {
+/// A front of the file of three records, or the file with one byte turned.
+fn spoiled(alloc: Global, how: &str, at: usize) -> Result<Vec<u8>, Fail> {
     let mut bytes = bytes_of(alloc, THREE)?;
-    if turned != "-" {
-        let at = number(Some(turned))? as usize;
-        let byte = bytes.get_mut(at).ok_or("a byte")?;
-        *byte = !*byte;
+    if how == "front" {
+        bytes.truncate(at);
+        return Ok(bytes);
     }
-    bytes.truncate(number(Some(length))? as usize);
+    let byte = bytes.get_mut(at).ok_or("a byte")?;
+    *byte = !*byte;
     Ok(bytes)
 }
 
-/// What that file is, and what its row says.
-fn of_spoiled<'a>(alloc: Global, row: &'a str) -> Result<(String, &'a str), Fail> {
-    let mut words = row.splitn(3, ' ');
-    let length = words.next().ok_or("a length")?;
-    let turned = words.next().ok_or("a place")?;
+/// Whether what its row says is found of the file, spoiled in each of these ways.
+fn are_found(alloc: Global, row: &str) -> Result<bool, Fail> {
+    let mut words = row.splitn(4, ' ');
+    let how = words.next().ok_or("a way")?;
+    let (first, last) = (number(words.next())?, number(words.next())?);
     let told = words.next().ok_or("an outcome")?;
-    let bytes = spoiled(alloc, length, turned)?;
-    Ok((found(alloc, &bytes, b"")?, told))
+    for at in first..last.saturating_add(1) {
+        let bytes = spoiled(alloc, how, at as usize)?;
+        if file_found(alloc, &bytes)?.as_str() != told {
+            return Ok(false);
+        }
+    }
+    Ok(true)
 }
 
 #[test]
 fn a_spoiled_file_is_refused_where_it_ends_or_holds_less(rt: HostRuntime) -> Result<(), Fail> {
     for row in SPOILED.lines() {
-        let (found, told) = of_spoiled(rt.alloc(), row)?;
+        assert!(rt; are_found(rt.alloc(), row)?, "{row}");
+    }
+    Ok(())
+}
+
+/// What a store answers to a step: to a transaction, or to `due`, whether its file was begun anew.
+fn step<D: Disk>(alloc: Global, store: &mut Store<D>, word: &str) -> Result<String, Fail>
+    requires { IsSound D.state store.old }
+    ensures { IsSound D.state store.new }
+{
+    if word == "due" {
+        let answer = store.restart_if_due();
+        return Ok(format!(in alloc; "{answer:?}")?);
+    }
+    let tx = mon_tx::decode(alloc, &bytes_of(alloc, word)?)?;
+    let answer = store.apply(&tx);
+    Ok(format!(in alloc; "{answer:?}")?)
+}
+
+/// The answers to two steps.
+fn answers<D: Disk>(alloc: Global, store: &mut Store<D>, steps: [&str; 2]) -> Result<String, Fail>
+    requires { IsSound D.state store.old }
+{
+    let first = step(alloc, store, steps[0])?;
+    let second = step(alloc, store, steps[1])?;
+    Ok(format!(in alloc; "{first} {second}")?)
+}
+
+/// Whether a disk holds these bytes.
+fn holds(alloc: Global, disk: &mut MemoryDisk, digits: &str) -> Result<bool, Fail> {
+    let bytes = contents(alloc, disk)?;
+    Ok(bytes == bytes_of(alloc, digits)?)
+}
+
+/// Whether a disk holds these bytes after a crash.
+fn settled(alloc: Global, disk: &mut MemoryDisk, digits: &str) -> Result<bool, Fail> {
+    disk.settle()?;
+    holds(alloc, disk, digits)
+}
+
+/// Whether two disks hold these bytes after a crash.
+fn both_settled(
+    alloc: Global,
+    a: &mut MemoryDisk,
+    b: &mut MemoryDisk,
+    files: [&str; 2],
+) -> Result<String, Fail> {
+    let on_a = settled(alloc, a, files[0])?;
+    let on_b = settled(alloc, b, files[1])?;
+    Ok(format!(in alloc; "{on_a} {on_b}")?)
+}
+
+/// What is left on two disks after a crash, behind the answers.
+fn told(
+    alloc: Global,
+    answers: String,
+    mut a: MemoryDisk,
+    mut b: MemoryDisk,
+    files: [&str; 2],
+) -> Result<String, Fail> {
+    match both_settled(alloc, &mut a, &mut b, files) {
+        Ok(alike) => {
+            let found = found(alloc, NodeDisks { a, b })?;
+            Ok(format!(in alloc; "{answers} {alike} {found}")?)
+        }
+        Err(why) => {
+            drop(a);
+            drop(b);
+            Err(why)
+        }
+    }
+}
+
+/// What two steps of the store on two disks answer, and what they leave after a crash.
+fn stepped(
+    alloc: Global,
+    disks: NodeDisks<MemoryDisk>,
+    steps: [&str; 2],
+    files: [&str; 2],
+) -> Result<String, Fail> {
+    let Some(member) = Member::new(Rank::known(0), 1) else {
+        drop(disks);
+        return Err("a member".into());
+    };
+    match Store::open(alloc, disks, member) {
+        Ok(mut store) => match answers(alloc, &mut store, steps) {
+            Ok(answers) => {
+                let NodeDisks { a, b } = store.close();
+                told(alloc, answers, a, b, files)
+            }
+            Err(why) => {
+                drop(store);
+                Err(why)
+            }
+        },
+        Err(refused) => refusal(alloc, refused),
+    }
+}
+
+/// What becomes of a row's file, and what the row says.
+fn of_steps<'a>(alloc: Global, row: &'a str) -> Result<(String, &'a str), Fail> {
+    let mut words = row.splitn(6, ' ');
+    let steps = [words.next().unwrap_or(""), words.next().unwrap_or("")];
+    let file = words.next().unwrap_or("");
+    let files = [words.next().unwrap_or(""), words.next().unwrap_or("")];
+    let told = words.next().ok_or("an outcome")?;
+    let a = disk(alloc, &bytes_of(alloc, file)?, NEVER, 0)?;
+    let b = MemoryDisk::new(alloc);
+    Ok((stepped(alloc, NodeDisks { a, b }, steps, files)?, told))
+}
+
+#[test]
+fn steps_of_a_store_leave_these_bytes(rt: HostRuntime) -> Result<(), Fail> {
+    for row in STEPS.lines() {
+        let (found, told) = of_steps(rt.alloc(), row)?;
         assert_eq!(rt; found.as_str(), told, "{row}");
+    }
+    Ok(())
+}
+
+/// The front of a file of two records, of which the first puts `kv/a` = 1,048,576 bytes, and the second one `kv/a` = `x`; and the file that takes
+/// its place on disk B.
+const FRONT: &str = "\
+01434550484d4f4e3200010000000000000100000000000000010f001000010100000001026b76016100001000";
+
+const BACK: &str = "0110000000010100000001026b760161010000007800";
+
+const ANEW: &str = "\
+01434550484d4f4e3200010000000000000200000000000000010f0000008001000000026b760161010000007800";
+
+fn long(alloc: Global) -> Result<Vec<u8>, Fail> {
+    let mut file = bytes_of(alloc, FRONT)?;
+    file.extend_from_slice(vec![in alloc; 0u8; 1_048_576]?.as_slice())?;
+    file.extend_from_slice(&bytes_of(alloc, BACK)?)?;
+    Ok(file)
+}
+
+/// What becomes of a file that is due to be begun anew, where disk B fails from this call on.
+fn begun(alloc: Global, file: &[u8], call: u64, image: u8) -> Result<String, Fail> {
+    let a = disk(alloc, file, NEVER, 0)?;
+    match disk(alloc, b"", call, image) {
+        Ok(b) => stepped(alloc, NodeDisks { a, b }, ["due", "due"], ["", ANEW]),
+        Err(why) => {
+            drop(a);
+            Err(why)
+        }
+    }
+}
+
+/// Whether two steps failed, and what is found is this.
+fn failed(told: &str, found: &str) -> bool {
+    told.starts_with("Err(DiskFault) Err(Broken) ") && told.ends_with(found)
+}
+
+// Call 1 of disk B is made as the store is opened, and the calls 2 to 7 begin the file anew.
+#[test]
+fn a_long_file_is_begun_anew_or_stays(rt: HostRuntime) -> Result<(), Fail> {
+    let file = long(rt.alloc())?;
+    for call in 2u64..=7 {
+        for image in 0u8..=3 {
+            let left = begun(rt.alloc(), &file, call, image)?;
+            assert!(rt; failed(left.as_str(), " x.."), "{call} {image}");
+        }
+    }
+    assert_eq!(rt;
+        begun(rt.alloc(), &file, NEVER, 0)?.as_str(),
+        "Ok(true) Ok(false) false true x.."
+    );
+    Ok(())
+}
+
+/// What becomes of a file with one record, where its disk fails from this call of the second transaction on.
+fn upset(alloc: Global, call: u64, image: u8) -> Result<String, Fail> {
+    // opening takes three calls
+    let a = disk(alloc, &bytes_of(alloc, ONE)?, call.saturating_add(3), image)?;
+    let b = MemoryDisk::new(alloc);
+    stepped(alloc, NodeDisks { a, b }, [NEXT, NEXT], ["", ""])
+}
+
+// A record is there exactly where its opened gate is on the disk.
+#[test]
+fn a_record_stays_where_its_gate_is_open(rt: HostRuntime) -> Result<(), Fail> {
+    for call in 1u64..=4 {
+        for image in 0u8..=3 {
+            let left = upset(rt.alloc(), call, image)?;
+            let kept = if call >= 3 && image == 1 {
+                " xy."
+            } else {
+                " x.."
+            };
+            assert!(rt; failed(left.as_str(), kept), "{call} {image}");
+        }
     }
     Ok(())
 }
