@@ -1,6 +1,6 @@
-//! What the tests of several roles give: numbers, monitors, stores, values and messages.
+//! What the tests of several roles give: numbers, monitors, stores and values.
 
-ghost use Rattle.std.specs.Prelude.{IsTrue};
+ghost use Rattle.std.specs.Prelude.{◌<◌, ◌≤◌, IsTrue};
 ghost use Rattle.mon_plan.specs.Inputs.{may_come};
 ghost use Rattle.mon_msg.specs.Protocol.Length.{fits};
 
@@ -10,18 +10,22 @@ use mon_kv::Kv;
 use mon_msg::input::Input;
 use mon_msg::{Body, MOST_BYTES, Me, Message, Phase, Reply, View};
 use mon_tx::{Area, Key, Transaction};
-use mon_types::{Member, Number, Rank, RankSet};
+use mon_types::{GREATEST, Member, Number, Rank, RankSet};
 use std::alloc::Global;
 use std::test::Fail;
 
-pub(crate) fn number<K: Copy>(n: u32) -> Number<K> {
-    Number::known(u64::from(n))
+/// That number, or else the greatest.
+pub(crate) fn number<K: Copy>(n: u64) -> Number<K> {
+    Number::known(n.min(GREATEST))
 }
 
 /// A monitor of so many.
-pub(crate) fn me(rank: Rank, monitors: u8, rule: Rule) -> Result<Me, Fail> {
-    let member = Member::new(rank, monitors).ok_or("a member")?;
-    Ok(Me { member, rule })
+pub(crate) fn me(rank: Rank, monitors: u8, rule: Rule) -> Me
+    requires in_map { rank < monitors }
+    requires most { monitors ≤ 15 }
+{
+    let member = Member { rank, monitors };
+    Me { member, rule }
 }
 
 /// What the roles of a monitor know of it in a phase, with this leader and the bits of this quorum, and a lease that stands.
@@ -33,16 +37,6 @@ pub(crate) fn view(phase: Phase, leader: Rank, quorum: u16) -> View {
         standing: true,
         readable: true,
     }
-}
-
-/// A message of another monitor, in an epoch, as it comes to a monitor.
-pub(crate) fn deliver(me: &Me, from: Rank, epoch: u32, body: Body) -> Input {
-    Input::Deliver(Message {
-        from,
-        monitors: me.member.monitors,
-        epoch: number(epoch),
-        body,
-    })
 }
 
 /// Whether a message may be sent. It is `false` also for those that no test here gives.
@@ -59,13 +53,17 @@ fn may_be_sent(message: &Message) -> bool
         Body::Accept { .. } => true,
         Body::Commit { values, .. } => values.len() <= 65_535,
         Body::Lease { .. } => true,
-        Body::LeaseAck { .. } => true,
         Body::Forward { .. } => true,
         Body::Route {
             reply: Reply::Done { .. },
             ..
         } => true,
         Body::Cookie { .. } => true,
+        Body::Chunk {
+            values,
+            entries,
+            ..
+        } => values.len() <= 65_535 && entries.len() <= 65_535,
         Body::LastChunk {
             values,
             entries,
@@ -86,12 +84,6 @@ pub(crate) fn may_come(me: &Me, input: &Input) -> bool
         }
         _ => true,
     }
-}
-
-/// The changes are made to a store.
-pub(crate) fn apply(kv: &mut Kv, tx: &Transaction) -> Result<(), Fail> {
-    kv.apply(tx)?;
-    Ok(())
 }
 
 /// A store that holds these numbers.

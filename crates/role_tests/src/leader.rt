@@ -1,18 +1,19 @@
-ghost use Rattle.std.specs.Prelude.{◌≡◌, true};
+ghost use Rattle.std.specs.Prelude.{◌≡◌, ◌<◌, true};
 ghost use Rattle.mon_msg.specs.Protocol.Records.{may_begin};
 ghost use Rattle.paxos_leader.specs.Inputs.{is_input, may_begin_any, may_begin_found, may_begin_all};
 
-use crate::done::{Done, NOTHING, done};
-use crate::given::{apply, deliver, may_come, me, number, store, value, view};
+use crate::comes::Comes;
+use crate::given::{may_come, me, number, store, value, view};
+use crate::site::{Role, Site, all_are, begun, done};
 use election_rules::Rule;
-use mon_bytes::Items;
 use mon_kv::Kv;
 use mon_msg::input::Input;
-use mon_msg::{Body, Found, Leader, LeaderStage, Me, Origin, Phase, Plan, Session, View};
+use mon_msg::{Body, Found, Leader, LeaderStage, Origin, Phase, Plan, RoleStop, Session, View};
 use mon_tx::{Area, Key, Transaction};
 use mon_types::{Moment, Rank, RankSet};
 use paxos_leader::*;
 use std::alloc::Global;
+use std::process::Abort;
 use std::test::Fail;
 
 /// Whether it is an input of a leader that a test gives.
@@ -57,64 +58,6 @@ fn may_begin_all(state: &Leader) -> bool
     may_begin_any(&state.value) && may_begin_found(&state.found)
 }
 
-fn plan(
-    alloc: Global,
-    kv: &Kv,
-    me: &Me,
-    view: &View,
-    state: &Leader,
-    input: &Input,
-) -> Result<Plan<Leader>, Fail> {
-    if !is_input(input) {
-        return Err("an input of a leader".into());
-    }
-    if !may_come(me, input) {
-        return Err("a message that may be sent".into());
-    }
-    if !may_begin_all(state) {
-        return Err("short values".into());
-    }
-    Ok(step(alloc, kv, me, view, state, input, Moment::known(7))?)
-}
-
-/// It begins the value of a client's command.
-fn begun(alloc: Global, kv: &Kv, me: &Me, state: &Leader) -> Result<Plan<Leader>, Fail> {
-    let origin = Origin::Session(Session { client: 1, id: 1 });
-    let value = value(alloc, 1)?;
-    if !may_begin(&value) {
-        return Err("a short value".into());
-    }
-    Ok(begin(alloc, kv, me, state, &value, &origin, Moment::known(7))?)
-}
-
-/// What comes to a leader: an answer to its COLLECT that is whole and tells of no version and no value, with its number; an
-/// ACCEPT with its number and version, each of a rank. Or a command comes whose value is begun.
-#[derive(Drop)]
-enum Comes {
-    Last(Rank, u32),
-    Accept(Rank, u32, u32),
-    Command,
-}
-
-fn last(alloc: Global, pn: u32) -> Body {
-    Body::Last {
-        pn: number(pn),
-        first: number(0),
-        last: number(0),
-        whole: true,
-        from: number(1),
-        values: Items::new(alloc),
-        pending: None,
-    }
-}
-
-/// A leader with its store, in epoch 2.
-#[derive(Drop)]
-struct Site {
-    kv: Kv,
-    state: Leader,
-}
-
 fn phase_of(state: &Leader) -> Phase {
     match state.stage {
         LeaderStage::Collecting => Phase::Collecting,
@@ -124,64 +67,171 @@ fn phase_of(state: &Leader) -> Phase {
     }
 }
 
-/// What monitor 0 of 3 does that leads all of them.
-fn planned(alloc: Global, site: &Site, comes: &Comes) -> Result<Plan<Leader>, Fail> {
-    let own = Rank::known(0);
-    let me = me(own, 3, Rule::Classic)?;
-    let input = match comes {
-        Comes::Last(from, pn) => deliver(&me, *from, 2, last(alloc, *pn)),
-        Comes::Accept(from, pn, version) => {
-            let (pn, version) = (number(*pn), number(*version));
-            deliver(&me, *from, 2, Body::Accept { pn, version })
+impl Role for Leader {
+    fn plan(
+        alloc: Global,
+        site: &Site<Leader>,
+        input: &Input,
+    ) -> Option<Result<Plan<Leader>, RoleStop>> {
+        if !is_input(input) || !may_come(&site.me, input) || !may_begin_all(&site.role) {
+            return None;
         }
-        Comes::Command => return begun(alloc, &site.kv, &me, &site.state),
-    };
-    let view = view(phase_of(&site.state), own, 7);
-    plan(alloc, &site.kv, &me, &view, &site.state, &input)
+        let view = View {
+            phase: phase_of(&site.role),
+            ..site.view
+        };
+        let now = Moment::known(7);
+        Some(step(alloc, &site.kv, &site.me, &view, &site.role, input, now))
+    }
+
+    fn remembers(&self) -> &'static str {
+        match self.stage {
+            LeaderStage::Collecting => "collecting",
+            LeaderStage::Previous => "previous",
+            LeaderStage::Active => "active",
+            LeaderStage::Updating => "updating",
+        }
+    }
 }
 
-/// The same, once it is done.
-fn heard(alloc: Global, site: &mut Site, comes: &Comes) -> Result<Done, Fail> {
-    let plan = planned(alloc, site, comes)?;
-    let done = done(&plan);
-    let Plan { tx, state, .. } = plan;
-    apply(&mut site.kv, &tx)?;
-    site.state = state;
-    Ok(done)
-}
-
-/// It has won epoch 2, and collects.
-fn won(alloc: Global) -> Result<(Site, Done), Fail> {
-    let me = me(Rank::known(0), 3, Rule::Classic)?;
-    let mut kv = store(alloc, &[(Area::Monitor, Key::ElectionEpoch, 2)])?;
+/// A monitor of 3 that has won epoch 2 with all of them, once it has done what `wanted` tells.
+fn won(
+    rt: &impl Abort,
+    alloc: Global,
+    own: Rank,
+    kv: Kv,
+    wanted: &str,
+) -> Result<Site<Leader>, Fail>
+    requires { own < 3 }
+{
+    let me = me(own, 3, Rule::Classic);
+    let epoch = number(2);
     let quorum = RankSet::from_bits(7);
-    let plan = enter(alloc, &kv, &me, number(2), quorum, Moment::known(0))?;
-    let done = done(&plan);
-    let Plan { tx, state, .. } = plan;
-    apply(&mut kv, &tx)?;
-    Ok((Site { kv, state }, done))
+    let plan = enter(alloc, &kv, &me, epoch, quorum, Moment::known(0))?;
+    let view = view(Phase::Collecting, own, 7);
+    begun(rt, alloc, &me, view, epoch, kv, plan, wanted)
 }
+
+fn planned(
+    alloc: Global,
+    site: &Site<Leader>,
+    value: &Transaction,
+) -> Option<Result<Plan<Leader>, RoleStop>> {
+    if !may_begin(value) {
+        return None;
+    }
+    let origin = Origin::Session(Session { client: 1, id: 1 });
+    let now = Moment::known(7);
+    Some(begin(alloc, &site.kv, &site.me, &site.role, value, &origin, now))
+}
+
+/// It begins the value of a client's command.
+fn command(
+    rt: &impl Abort,
+    alloc: Global,
+    site: Site<Leader>,
+    wanted: &str,
+) -> Result<Site<Leader>, Fail> {
+    let value = value(alloc, 1)?;
+    let planned = planned(alloc, &site, &value);
+    drop(value);
+    match planned {
+        Some(Ok(plan)) => done(rt, alloc, site, plan, wanted),
+        _ => Err("a plan".into()),
+    }
+}
+
+/// A store in epoch 2.
+fn fresh(alloc: Global) -> Result<Kv, Fail> {
+    store(alloc, &[(Area::Monitor, Key::ElectionEpoch, 2)])
+}
+
+const WON: &str = "store 2;send 1 0>1 VICTORY e=2 quorum=0,1,2;send 1 0>2 VICTORY e=2 quorum=0,1,2;\
+    send 1 0>1 COLLECT e=2 pn=100 first=0 last=0;send 1 0>2 COLLECT e=2 pn=100 first=0 last=0;collecting";
+
+const LEASES: &str = "send 1 0>1 LEASE e=2 last=0;send 1 0>2 LEASE e=2 last=0;active";
 
 #[test]
 fn a_greater_number_is_outbid(rt: HostRuntime) -> Result<(), Fail> {
     let alloc = rt.alloc();
-    let (one, two) = (Rank::known(1), Rank::known(2));
-    let (mut site, first) = won(alloc)?;
-    assert_eq!(rt; first, (2, 4, ("VICTORY", 0, 0), ""));
+    let outbid = "store 2;send 1 0>1 COLLECT e=2 pn=400 first=0 last=0;\
+        send 1 0>2 COLLECT e=2 pn=400 first=0 last=0;collecting";
     let rows = [
-        (Comes::Last(one, 301), (2, 2, ("COLLECT", 400, 0), "")),
-        (Comes::Last(one, 100), NOTHING),
+        (1, Comes::Last(301, 0, 0), outbid),
+        (1, Comes::Last(100, 0, 0), "collecting"),
         // this one counts, so that the next one is the last that lacks
-        (Comes::Last(one, 400), NOTHING),
-        (Comes::Last(two, 400), (0, 2, ("LEASE", 0, 0), "")),
-        (Comes::Command, (3, 2, ("BEGIN", 400, 1), "")),
-        (Comes::Accept(one, 400, 1), NOTHING),
-        (Comes::Accept(two, 400, 1), (3, 5, ("COMMIT", 1, 1), "")),
+        (1, Comes::Last(400, 0, 0), "collecting"),
+        (2, Comes::Last(400, 0, 0), LEASES),
     ];
-    for (i, (comes, wanted)) in rows.iter().enumerate() {
-        let found = heard(alloc, &mut site, comes)?;
-        assert_eq!(rt; found, *wanted, "{i}");
+    let site = won(&rt, alloc, Rank::known(0), fresh(alloc)?, WON)?;
+    let site = all_are(&rt, alloc, site, &rows)?;
+    let numbers = (site.kv.last_pn(), site.kv.promise());
+    drop(site);
+    assert_eq!(rt; numbers, (400, 400));
+    Ok(())
+}
+
+#[test]
+fn an_acceptance_counts_once(rt: HostRuntime) -> Result<(), Fail> {
+    let alloc = rt.alloc();
+    let collected = [
+        (1, Comes::Last(100, 0, 0), "collecting"),
+        (2, Comes::Last(100, 0, 0), LEASES),
+    ];
+    let begins = "store 3;send 1 0>1 BEGIN e=2 pn=100 v=1;send 1 0>2 BEGIN e=2 pn=100 v=1;updating";
+    let again = (1, Comes::Accept(100, 1), "updating");
+    let commits = "store 3;send 1 0>1 COMMIT e=2 v=1..1;send 1 0>2 COMMIT e=2 v=1..1;\
+        send 1 0>1 LEASE e=2 last=1;send 1 0>2 LEASE e=2 last=1;reply 0 1.1 done 1;active";
+    let accepted = [
+        again,
+        again,
+        (2, Comes::Accept(100, 1), commits),
+        (2, Comes::Accept(100, 1), "active"),
+    ];
+    let next = "store 3;send 1 0>1 BEGIN e=2 pn=100 v=2;send 1 0>2 BEGIN e=2 pn=100 v=2;updating";
+    let site = won(&rt, alloc, Rank::known(0), fresh(alloc)?, WON)?;
+    let site = all_are(&rt, alloc, site, &collected)?;
+    let site = command(&rt, alloc, site, begins)?;
+    let site = all_are(&rt, alloc, site, &accepted)?;
+    let site = command(&rt, alloc, site, next)?;
+    drop(all_are(&rt, alloc, site, &[again])?);
+    Ok(())
+}
+
+/// A store in epoch 2 that promised 200, and has committed 4 versions.
+fn committed(alloc: Global) -> Result<Kv, Fail> {
+    let numbers = [
+        (Area::Monitor, Key::ElectionEpoch, 2),
+        (Area::Paxos, Key::AcceptedPn, 200),
+        (Area::Paxos, Key::FirstCommitted, 1),
+        (Area::Paxos, Key::LastCommitted, 4),
+    ];
+    store(alloc, &numbers)
+}
+
+/// Whether the record of version 5 is the value of this number.
+fn is_stored(alloc: Global, kv: &Kv, n: u64) -> Result<bool, Fail> {
+    let bytes = value(alloc, n)?.encode()?;
+    Ok(kv.stored(5) == Some(bytes.as_slice()))
+}
+
+#[test]
+fn the_newest_pending_value_is_begun(rt: HostRuntime) -> Result<(), Fail> {
+    let alloc = rt.alloc();
+    let collects =
+        "store 2;send 1 2>0 VICTORY e=2 quorum=0,1,2;send 1 2>1 VICTORY e=2 quorum=0,1,2;\
+        send 1 2>0 COLLECT e=2 pn=302 first=1 last=4;send 1 2>1 COLLECT e=2 pn=302 first=1 last=4;collecting";
+    let begins = "store 3;send 1 2>0 BEGIN e=2 pn=302 v=5;send 1 2>1 BEGIN e=2 pn=302 v=5;previous";
+    for (first, second) in [(101, 200), (200, 101)] {
+        let rows = [
+            (0, Comes::Last(302, 4, first), "collecting"),
+            (1, Comes::Last(302, 4, second), begins),
+        ];
+        let site = won(&rt, alloc, Rank::known(2), committed(alloc)?, collects)?;
+        let site = all_are(&rt, alloc, site, &rows)?;
+        let newest = is_stored(alloc, &site.kv, 200);
+        drop(site);
+        assert!(rt; newest?);
     }
-    assert_eq!(rt; (site.kv.last_pn(), site.kv.promise()), (400, 400));
     Ok(())
 }

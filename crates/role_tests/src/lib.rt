@@ -2,7 +2,11 @@
 #![tactic(auto)]
 
 #[cfg(test)]
-mod done;
+mod client;
+#[cfg(test)]
+mod comes;
+#[cfg(test)]
+mod elector;
 #[cfg(test)]
 mod given;
 #[cfg(test)]
@@ -11,3 +15,13 @@ mod leader;
 mod peon;
 #[cfg(test)]
 mod plan;
+#[cfg(test)]
+mod probe;
+#[cfg(test)]
+mod provider;
+#[cfg(test)]
+mod requester;
+#[cfg(test)]
+mod shown;
+#[cfg(test)]
+mod site;

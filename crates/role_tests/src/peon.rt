@@ -1,22 +1,22 @@
 ghost use Rattle.std.specs.Prelude.{IsTrue};
-ghost use Rattle.mon_plan.specs.Inputs.{may_come};
 ghost use Rattle.paxos_peon.specs.Rows.{is_input};
 
-use crate::done::{Done, NOTHING, SILENCE, done};
-use crate::given::{apply, deliver, may_come, me, number, put_records, store, value, values, view};
+use crate::comes::Comes;
+use crate::given::{may_come, me, number, put_records, store, view};
+use crate::site::{Role, Site, all_are};
 use election_rules::Rule;
+use mon_bytes::Bytes;
 use mon_kv::Kv;
 use mon_lease::Lease;
 use mon_msg::input::Input;
-use mon_msg::{Body, Me, Peon, Phase, Plan, View};
-use mon_tx::{Area, Key};
-use mon_types::{Moment, Rank, RankSet};
+use mon_msg::{Body, Peon, Phase, Plan, RoleStop, Timer};
+use mon_tx::{Area, Key, Transaction};
+use mon_types::{GREATEST, Moment, Rank, RankSet};
 use paxos_peon::*;
 use std::alloc::Global;
-use std::process::Abort;
 use std::test::Fail;
 
-/// Whether it is an input of a peon that a test gives.
+/// Whether it is an input of a peon.
 fn is_input(input: &Input) -> bool
     ensures { IsTrue result → IsTrue (is_input input.now) }
 {
@@ -25,133 +25,67 @@ fn is_input(input: &Input) -> bool
             &message.body,
             Body::Collect { .. } | Body::Begin { .. } | Body::Commit { .. } | Body::Lease { .. }
         ),
+        Input::Timer(Timer::Lease) => true,
         _ => false,
     }
 }
 
-fn plan(
-    alloc: Global,
-    kv: &Kv,
-    me: &Me,
-    view: &View,
-    state: &Peon,
-    input: &Input,
-) -> Result<Plan<Peon>, Fail> {
-    if !is_input(input) {
-        return Err("an input of a peon".into());
+impl Role for Peon {
+    fn plan(
+        alloc: Global,
+        site: &Site<Peon>,
+        input: &Input,
+    ) -> Option<Result<Plan<Peon>, RoleStop>> {
+        if !is_input(input) || !may_come(&site.me, input) {
+            return None;
+        }
+        let now = Moment::known(7);
+        Some(step(
+            alloc, &site.kv, &site.me, &site.view, &site.role, input, now,
+        ))
     }
-    if !may_come(me, input) {
-        return Err("a message that may be sent".into());
+
+    /// Which lease stands: one that was given at 7, or one that was given at 0.
+    fn remembers(&self) -> &'static str {
+        if self.lease.standing(Moment::known(5_006)) {
+            return "new lease";
+        }
+        if self.lease.standing(Moment::known(4_999)) {
+            return "old lease";
+        }
+        "no lease"
     }
-    Ok(step(alloc, kv, me, view, state, input, Moment::known(7))?)
 }
 
-/// What a leader says: a COLLECT with its number and its first and last version; a BEGIN with its number and version; a
-/// COMMIT with its first version and how many values; a LEASE with its version.
-#[derive(Drop)]
-enum Says {
-    Collect(u32, u32, u32),
-    Begin(u32, u32),
-    Commit(u32, u64),
-    Lease(u32),
-}
-
-fn body(alloc: Global, says: &Says) -> Result<Body, Fail> {
-    Ok(match says {
-        Says::Collect(pn, first, last) => Body::Collect {
-            pn: number(*pn),
-            first: number(*first),
-            last: number(*last),
-        },
-        Says::Begin(pn, version) => Body::Begin {
-            pn: number(*pn),
-            version: number(*version),
-            value: value(alloc, 1)?,
-        },
-        Says::Commit(from, count) => Body::Commit {
-            from: number(*from),
-            values: values(alloc, *count)?,
-        },
-        Says::Lease(last) => Body::Lease {
-            last: number(*last),
-        },
-    })
-}
-
-/// Which lease stands: one that was given at 7, or one that was given at 0.
-fn leased(lease: &Lease) -> &'static str {
-    if lease.standing(Moment::known(5_006)) {
-        return "new";
-    }
-    if lease.standing(Moment::known(4_999)) {
-        return "old";
-    }
-    "none"
-}
-
-/// What monitor 1 of 3 does in epoch 2 that follows monitor 0 and has a lease that was given at 0, and its lease then.
-fn heard(alloc: Global, kv: &mut Kv, says: &Says) -> Result<(Done, &'static str), Fail> {
+/// Monitor 1 of 3 that follows monitor 0, with a lease that was given at 0, as it hears of an epoch in a phase.
+fn following(kv: Kv, phase: Phase, epoch: u64) -> Site<Peon> {
     let leader = Rank::known(0);
-    let me = me(Rank::known(1), 3, Rule::Classic)?;
     let mut lease = Lease::none();
     lease.extend(Moment::known(0));
-    let state = Peon {
-        leader,
-        quorum: RankSet::from_bits(7),
-        lease,
-    };
-    let input = deliver(&me, leader, 2, body(alloc, says)?);
-    let view = view(Phase::Peon, leader, 7);
-    let plan = plan(alloc, kv, &me, &view, &state, &input)?;
-    apply(kv, &plan.tx)?;
-    Ok((done(&plan), leased(&plan.state.lease)))
-}
-
-/// What is done at one message after the other.
-fn all_are(
-    rt: &impl Abort,
-    alloc: Global,
-    kv: &mut Kv,
-    rows: &[(Says, (Done, &'static str))],
-) -> Result<(), Fail> {
-    for (i, (says, wanted)) in rows.iter().enumerate() {
-        let found = heard(alloc, kv, says)?;
-        assert_eq!(rt; found, *wanted, "{i}");
+    Site {
+        me: me(Rank::known(1), 3, Rule::Classic),
+        view: view(phase, leader, 7),
+        epoch: number(epoch),
+        kv,
+        role: Peon {
+            leader,
+            quorum: RankSet::from_bits(7),
+            lease,
+        },
     }
-    Ok(())
 }
 
-#[test]
-fn a_value_is_accepted_and_then_learned(rt: HostRuntime) -> Result<(), Fail> {
-    let alloc = rt.alloc();
+/// A store in epoch 2 that promised 100.
+fn promised(alloc: Global) -> Result<Kv, Fail> {
     let numbers = [
         (Area::Monitor, Key::ElectionEpoch, 2),
         (Area::Paxos, Key::AcceptedPn, 100),
     ];
-    let accepted = ((3, 1, ("ACCEPT", 100, 1), ""), "none");
-    let learned = ((3, 0, SILENCE, ""), "old");
-    let dropped = (NOTHING, "old");
-    let rows = [
-        (Says::Lease(0), ((0, 1, ("LEASE_ACK", 0, 0), ""), "new")),
-        (Says::Begin(99, 1), dropped),
-        (Says::Begin(100, 2), dropped),
-        (Says::Begin(100, 1), accepted),
-        (Says::Begin(100, 1), accepted),
-        (Says::Lease(0), dropped),
-        (Says::Commit(2, 1), dropped),
-        (Says::Commit(1, 1), learned),
-        (Says::Commit(1, 1), dropped),
-        (Says::Begin(100, 1), dropped),
-        (Says::Commit(1, 2), learned),
-        (Says::Lease(1), dropped),
-        (Says::Lease(2), ((0, 1, ("LEASE_ACK", 2, 0), ""), "new")),
-    ];
-    all_are(&rt, alloc, &mut store(alloc, &numbers)?, &rows)
+    store(alloc, &numbers)
 }
 
-#[test]
-fn a_leader_that_collects_is_told(rt: HostRuntime) -> Result<(), Fail> {
-    let alloc = rt.alloc();
+/// The same with the versions 1 to 3, and a value accepted for version 4 under 100.
+fn with_records(alloc: Global) -> Result<Kv, Fail> {
     let numbers = [
         (Area::Monitor, Key::ElectionEpoch, 2),
         (Area::Paxos, Key::AcceptedPn, 100),
@@ -162,18 +96,120 @@ fn a_leader_that_collects_is_told(rt: HostRuntime) -> Result<(), Fail> {
     ];
     let mut kv = store(alloc, &numbers)?;
     put_records(alloc, &mut kv, 1, 4)?;
-    let pending = ((0, 1, ("LAST", 0, 100), ""), "none");
+    Ok(kv)
+}
+
+#[test]
+fn a_value_is_accepted_and_then_learned(rt: HostRuntime) -> Result<(), Fail> {
+    let alloc = rt.alloc();
+    let accepted = "store 3;send 1 1>0 ACCEPT e=2 pn=100 v=1;no lease";
     let rows = [
-        (Says::Collect(100, 1, 3), pending),
-        (Says::Collect(99, 4, 9), pending),
         (
-            Says::Collect(201, 5, 9),
-            ((0, 0, SILENCE, "bootstrap"), "old"),
+            0,
+            Comes::Lease(0),
+            "send 1 1>0 LEASE_ACK e=2 last=0;new lease",
         ),
+        (0, Comes::Begin(99, 1), "new lease"),
+        (0, Comes::Begin(100, 2), "new lease"),
+        (0, Comes::Begin(100, 1), accepted),
+        (0, Comes::Begin(100, 1), accepted),
+        (0, Comes::Lease(0), "no lease"),
+        (0, Comes::Commit(2, 1), "no lease"),
+        (0, Comes::Commit(1, 0), "no lease"),
+        (0, Comes::Commit(1, 1), "store 3;no lease"),
+        (0, Comes::Commit(1, 1), "no lease"),
+        (0, Comes::Begin(100, 1), "no lease"),
+        (0, Comes::Commit(0, 3), "store 3;no lease"),
+        (0, Comes::Lease(1), "no lease"),
         (
-            Says::Collect(201, 1, 1),
-            ((1, 1, ("LAST", 2, 100), ""), "none"),
+            0,
+            Comes::Lease(2),
+            "send 1 1>0 LEASE_ACK e=2 last=2;new lease",
         ),
     ];
-    all_are(&rt, alloc, &mut kv, &rows)
+    let site = following(promised(alloc)?, Phase::Peon, 2);
+    drop(all_are(&rt, alloc, site, &rows)?);
+    Ok(())
+}
+
+#[test]
+fn a_leader_that_collects_is_told(rt: HostRuntime) -> Result<(), Fail> {
+    let alloc = rt.alloc();
+    let told = "send 1 1>0 LAST e=2 pn=100 first=1 last=3 whole=1 values=0 pending=100;no lease";
+    let newer =
+        "store 1;send 1 1>0 LAST e=2 pn=201 first=1 last=3 whole=1 values=2 pending=100;no lease";
+    let rows = [
+        (0, Comes::Collect(201, 5, 9), "bootstrap;old lease"),
+        (0, Comes::Collect(201, 5, GREATEST), "bootstrap;old lease"),
+        (
+            0,
+            Comes::Collect(201, 1, GREATEST),
+            "Spent { which: Version }",
+        ),
+        (0, Comes::Collect(100, 1, 3), told),
+        (0, Comes::Collect(99, 4, 9), told),
+        (0, Comes::Collect(201, 1, 1), newer),
+    ];
+    let site = following(with_records(alloc)?, Phase::Peon, 2);
+    drop(all_are(&rt, alloc, site, &rows)?);
+    Ok(())
+}
+
+/// What spoils two records.
+fn spoils(alloc: Global) -> Result<Transaction, Fail> {
+    let mut tx = Transaction::new(alloc);
+    tx.put(Area::Paxos, Key::Version(2), Bytes::new(Vec::new(alloc)))?;
+    tx.put(Area::Paxos, Key::Version(4), Bytes::new(Vec::new(alloc)))?;
+    Ok(tx)
+}
+
+/// The same with two records that aren't transactions.
+fn with_spoiled_records(alloc: Global) -> Result<Kv, Fail> {
+    let tx = spoils(alloc)?;
+    let mut kv = with_records(alloc)?;
+    kv.apply(&tx)?;
+    Ok(kv)
+}
+
+#[test]
+fn what_is_no_transaction_is_left_out(rt: HostRuntime) -> Result<(), Fail> {
+    let alloc = rt.alloc();
+    let cut = "send 1 1>0 LAST e=2 pn=100 first=1 last=3 whole=0 values=1 pending=0;no lease";
+    let whole = "send 1 1>0 LAST e=2 pn=100 first=1 last=3 whole=1 values=1 pending=0;no lease";
+    let rows = [
+        (0, Comes::Collect(100, 1, 0), cut),
+        (0, Comes::Collect(100, 1, 2), whole),
+        (
+            0,
+            Comes::Lease(3),
+            "send 1 1>0 LEASE_ACK e=2 last=3;new lease",
+        ),
+    ];
+    let site = following(with_spoiled_records(alloc)?, Phase::Peon, 2);
+    drop(all_are(&rt, alloc, site, &rows)?);
+    Ok(())
+}
+
+#[test]
+fn only_the_leader_is_heard(rt: HostRuntime) -> Result<(), Fail> {
+    let alloc = rt.alloc();
+    for (phase, from, epoch) in [
+        (Phase::Electing, 0, 2),
+        (Phase::Peon, 2, 2),
+        (Phase::Peon, 0, 4),
+    ] {
+        let site = following(promised(alloc)?, phase, epoch);
+        let rows = [(from, Comes::Begin(100, 1), "old lease")];
+        drop(all_are(&rt, alloc, site, &rows)?);
+    }
+    Ok(())
+}
+
+#[test]
+fn a_lease_that_ends_is_the_end_of_a_quorum(rt: HostRuntime) -> Result<(), Fail> {
+    let alloc = rt.alloc();
+    let rows = [(1, Comes::Rings(Timer::Lease), "bootstrap;old lease")];
+    let site = following(promised(alloc)?, Phase::Peon, 2);
+    drop(all_are(&rt, alloc, site, &rows)?);
+    Ok(())
 }

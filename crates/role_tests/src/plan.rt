@@ -1,4 +1,5 @@
 use crate::given::{store, value};
+use mon_kv::Kv;
 use mon_plan::*;
 use mon_tx::{Area, Key, Transaction};
 use mon_types::{Pn, Version};
@@ -35,22 +36,38 @@ fn learning(alloc: Global) -> Result<Transaction, Fail> {
     Ok(tx)
 }
 
+/// The last version, the last number, and how many records follow version 1, as they are read.
+fn read(alloc: Global, stored: &Stored<'_>) -> Result<(Version, Option<Pn>, usize), Fail> {
+    let run = stored.run(alloc, 2, 100, 100)?;
+    let count = run.values.len();
+    drop(run);
+    Ok((stored.last(), stored.last_pn(), count))
+}
+
+/// The same of a store after changes.
+fn read_after(
+    alloc: Global,
+    kv: &Kv,
+    tx: &Transaction,
+) -> Result<(Version, Option<Pn>, usize), Fail> {
+    let stored = Stored::after(alloc, kv, tx)?;
+    let read = read(alloc, &stored);
+    drop(stored);
+    read
+}
+
 #[test]
 fn a_store_is_read_after_changes(rt: HostRuntime) -> Result<(), Fail> {
     let alloc = rt.alloc();
-    let kv = store(
-        alloc,
-        &[
-            (Area::Paxos, Key::LastCommitted, 1),
-            (Area::Paxos, Key::LastPn, 100),
-        ],
-    )?;
+    let numbers = [
+        (Area::Paxos, Key::LastCommitted, 1),
+        (Area::Paxos, Key::LastPn, 100),
+    ];
     let tx = learning(alloc)?;
-    let stored = Stored::after(alloc, &kv, &tx)?;
-    assert_eq!(rt;
-        (stored.last(), stored.last_pn()),
-        (Version::known(2), Some(Pn::known(100)))
-    );
-    assert_eq!(rt; stored.run(alloc, 2, 100, 100)?.values.len(), 1);
+    let kv = store(alloc, &numbers)?;
+    let found = read_after(alloc, &kv, &tx);
+    drop(kv);
+    drop(tx);
+    assert_eq!(rt; found?, (Version::known(2), Some(Pn::known(100)), 1));
     Ok(())
 }
