@@ -5,3 +5,5 @@
 mod maps;
 #[cfg(test)]
 mod numbers;
+#[cfg(test)]
+mod trims;

@@ -1,6 +1,7 @@
-ghost use Rattle.std.specs.Prelude.{◌≡◌, IfOk};
+ghost use Rattle.std.specs.Prelude.{◌≡◌, ◌≤◌, ◌^◌, length, IfSome};
 ghost use Rattle.mon_bounds.specs.Fitting.{MayCome};
 ghost use Rattle.mon_msg.specs.Protocol.Readings.{readings_of};
+ghost use Rattle.mon_tx.specs.Map.{apply};
 ghost use Rattle.svc_core.specs.Cache.{Follows};
 
 use election_rules::Rule;
@@ -21,49 +22,130 @@ struct Running {
     kv: Kv,
 }
 
-/// A monitor that is alone in its map, before it starts.
-fn alone(alloc: Global) -> Result<Running, Fail>
-    ensures { IfOk result (λ one. Follows one.core.cache (readings_of one.kv)) }
+/// A monitor before it starts.
+fn begun(alloc: Global, member: Member) -> Running
+    ensures { Follows result.core.cache (readings_of result.kv) }
 {
-    let rank = Rank::new(0).ok_or("a rank")?;
-    let member = Member::new(rank, 1).ok_or("a member")?;
-    Ok(Running {
+    Running {
         core: Core::boot(alloc, member, Rule::Classic),
         kv: Kv::empty(alloc),
-    })
-}
-
-/// What an input makes it write, and what it is then.
-fn take(alloc: Global, one: Running, input: &Input, at: u64) -> Result<(Running, Transaction), Fail>
-    requires comes { MayCome input.now }
-    requires follows { Follows one.core.cache (readings_of one.kv) }
-    ensures { IfOk result (λ taken. Follows taken.0.core.cache (readings_of taken.0.kv)) }
-{
-    let Running { mut core, mut kv } = one;
-    let now = Moment::new(at).ok_or("a moment")?;
-    let reaction = core.react(alloc, &kv, input, now)?;
-    let Reaction { tx, .. } = reaction;
-    kv.apply(&tx)?;
-    Ok((Running { core, kv }, tx))
-}
-
-fn set(alloc: Global, key: &[u8], value: &[u8]) -> Result<Input, Fail>
-    ensures { IfOk result MayCome }
-{
-    if value.len() > 65536 {
-        return Err("a short value".into());
     }
-    let key = Name::new(key.to_vec(alloc)?).ok_or("a key")?;
-    let value = Text::new(value.to_vec(alloc)?).ok_or("a text")?;
-    let session = Session { client: 1, id: 1 };
-    Ok(Input::Client(session, Request::Set { key, value }))
 }
 
-fn show(service: Service) -> Input
+/// What a monitor is given: its start, or that a client sets a key of one letter to a value of one letter, or asks for that map.
+#[derive(Clone, Copy)]
+enum Act {
+    Start,
+    Set(u8, u8),
+    Show,
+}
+
+fn name(alloc: Global, letter: u8) -> Option<Name> {
+    let Ok(bytes) = vec![in alloc; letter] else {
+        return None;
+    };
+    Name::new(bytes)
+}
+
+fn text(alloc: Global, letter: u8) -> Option<Text>
+    ensures { IfSome result (λ text. length text ≤ 2 ^ 62) }
+{
+    let Ok(bytes) = vec![in alloc; letter] else {
+        return None;
+    };
+    if bytes.len() > 65536 {
+        return None;
+    }
+    Text::new(bytes)
+}
+
+fn set(alloc: Global, key: u8, value: u8) -> Option<Input>
+    ensures { IfSome result MayCome }
+{
+    let Some(key) = name(alloc, key) else {
+        return None;
+    };
+    match text(alloc, value) {
+        Some(value) => {
+            let _word = key.as_slice();
+            let _utf8 = value.as_slice();
+            let session = Session { client: 1, id: 1 };
+            Some(Input::Client(session, Request::Set { key, value }))
+        }
+        None => {
+            drop(key);
+            None
+        }
+    }
+}
+
+fn show() -> Input
     ensures { MayCome result }
 {
     let session = Session { client: 2, id: 1 };
+    let service = Service::Kv;
     Input::Client(session, Request::Show { service })
+}
+
+fn input(alloc: Global, act: Act) -> Option<Input>
+    ensures { IfSome result MayCome }
+{
+    match act {
+        Act::Start => Some(Input::Start),
+        Act::Set(key, value) => set(alloc, key, value),
+        Act::Show => Some(show()),
+    }
+}
+
+// What owns much is let go by a call, since a check goes through what is let go in place.
+
+/// How many incrementals of a transaction a cache applies that knows the key-value map of a store.
+fn applied(alloc: Global, kv: &Kv, tx: &Transaction) -> Option<u32> {
+    let mut cache = Cache::empty();
+    let known = cache.get(alloc, kv, Service::Kv).is_ok();
+    let applied = cache.follow(alloc, tx);
+    drop(cache);
+    if known { applied.ok() } else { None }
+}
+
+/// Makes the changes of a transaction, and tells how many incrementals of it are applied to the key-value map that was known.
+fn keep(alloc: Global, kv: &mut Kv, tx: Transaction) -> Option<u32>
+    ensures { IfSome result (λ n. kv.new ≡ apply tx kv.old) }
+{
+    let applied = applied(alloc, kv, &tx);
+    let kept = kv.apply(&tx);
+    drop(tx);
+    match kept {
+        Ok(()) => applied,
+        Err(_) => None,
+    }
+}
+
+/// Gives a monitor an input and keeps what that makes it write.
+fn react(alloc: Global, one: &mut Running, input: Input, now: Moment) -> Option<u32>
+    requires comes { MayCome input }
+    requires follows { Follows one.old.core.cache (readings_of one.old.kv) }
+    ensures { IfSome result (λ n. Follows one.new.core.cache (readings_of one.new.kv)) }
+{
+    let reaction = one.core.react(alloc, &one.kv, &input, now);
+    drop(input);
+    match reaction {
+        Ok(Reaction { tx, out }) => {
+            drop(out);
+            keep(alloc, &mut one.kv, tx)
+        }
+        Err(_) => None,
+    }
+}
+
+fn take(alloc: Global, one: &mut Running, act: Act, now: Moment) -> Option<u32>
+    requires { Follows one.old.core.cache (readings_of one.old.kv) }
+    ensures { IfSome result (λ n. Follows one.new.core.cache (readings_of one.new.kv)) }
+{
+    match input(alloc, act) {
+        Some(input) => react(alloc, one, input, now),
+        None => None,
+    }
 }
 
 /// Whether the map that is kept of the key-value service has these values under `a` and `b`, and no others.
@@ -75,29 +157,55 @@ fn holds(core: &Core, a: Option<&[u8]>, b: Option<&[u8]>) -> bool {
     map.get(b"a") == a && map.get(b"b") == b && map.len() == others
 }
 
-#[test]
-fn a_map_is_kept_once_it_was_shown(rt: HostRuntime) -> Result<(), Fail> {
-    let alloc = rt.alloc();
-    let (one, _) = take(alloc, alone(alloc)?, &Input::Start, 1000)?;
-    let (one, _) = take(alloc, one, &set(alloc, b"a", b"x")?, 1001)?;
-    assert!(rt; one.core.cached(Service::Kv).is_none());
-    let (one, _) = take(alloc, one, &show(Service::Kv), 1002)?;
-    assert!(rt; holds(&one.core, Some(b"x"), None));
-    let mut cache = Cache::empty();
-    let _shown = cache.get(alloc, &one.kv, Service::Kv)?;
-    let (one, tx) = take(alloc, one, &set(alloc, b"b", b"y")?, 1003)?;
-    assert!(rt; holds(&one.core, Some(b"x"), Some(b"y")));
-    assert!(rt; one.core.cached(Service::Log).is_none());
-    assert!(rt; cache.follow(alloc, &tx)? == 1);
-    Ok(())
+/// What is seen of a monitor that starts, sets `a` to `x`, shows the map, and sets `b` to `y`.
+#[derive(Clone, Copy)]
+struct Seen {
+    /// Whether a timer is due before its start and after it.
+    due: (bool, bool),
+    /// Whether the key-value map is kept before it is shown, whether it is the right one then, and after the last set.
+    kept: (bool, bool, bool),
+    log_kept: bool,
+    /// How many incrementals of the last set are applied.
+    applied: u32,
+}
+
+fn watched(alloc: Global, one: &mut Running) -> Option<Seen>
+    requires { Follows one.old.core.cache (readings_of one.old.kv) }
+{
+    let idle = one.core.due().is_some();
+    take(alloc, one, Act::Start, Moment::known(1000))?;
+    let due = one.core.due().is_some();
+    take(alloc, one, Act::Set(b'a', b'x'), Moment::known(1001))?;
+    let early = one.core.cached(Service::Kv).is_some();
+    take(alloc, one, Act::Show, Moment::known(1002))?;
+    let shown = holds(&one.core, Some(b"x"), None);
+    let applied = take(alloc, one, Act::Set(b'b', b'y'), Moment::known(1003))?;
+    Some(Seen {
+        due: (idle, due),
+        kept: (early, shown, holds(&one.core, Some(b"x"), Some(b"y"))),
+        log_kept: one.core.cached(Service::Log).is_some(),
+        applied,
+    })
 }
 
 #[test]
-fn a_timer_is_due_once_it_started(rt: HostRuntime) -> Result<(), Fail> {
+fn a_timer_is_due_once_it_started_and_a_map_is_kept_once_it_was_shown(
+    rt: HostRuntime,
+) -> Result<(), Fail> {
     let alloc = rt.alloc();
-    let one = alone(alloc)?;
-    assert!(rt; one.core.due().is_none());
-    let (one, _) = take(alloc, one, &Input::Start, 1000)?;
-    assert!(rt; one.core.due().is_some());
+    let member = Member::new(Rank::known(0), 1).ok_or("a member")?;
+    let mut one = begun(alloc, member);
+    let seen = watched(alloc, &mut one);
+    drop(one);
+    let Seen {
+        due,
+        kept,
+        log_kept,
+        applied,
+    } = seen.ok_or("memory")?;
+    assert!(rt; due == (false, true));
+    assert!(rt; kept == (false, true, true));
+    assert!(rt; !log_kept);
+    assert!(rt; applied == 1);
     Ok(())
 }

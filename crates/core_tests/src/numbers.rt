@@ -2,6 +2,7 @@ ghost use Rattle.mon_msg.specs.Protocol.Readings.{readings_of};
 ghost use Rattle.svc_core.specs.Cache.{Follows};
 
 use election_rules::Rule;
+use mon_bytes::OutOfMemory;
 use mon_core::{Core, CoreStop, Input};
 use mon_kv::Kv;
 use mon_tx::{Area, Key, Transaction};
@@ -13,16 +14,14 @@ use std::test::Fail;
 #[derive(Clone, Copy, Debug)]
 struct Told(u64, u64, u64, u64);
 
-fn store(alloc: Global, told: Told) -> Result<Kv, Fail> {
+fn told_by(alloc: Global, told: Told) -> Result<Transaction, OutOfMemory> {
     let Told(boot, epoch, pn, last) = told;
     let mut tx = Transaction::new(alloc);
     tx.put_number(Area::Monitor, Key::BootCount, boot)?;
     tx.put_number(Area::Monitor, Key::ElectionEpoch, epoch)?;
     tx.put_number(Area::Paxos, Key::LastPn, pn)?;
     tx.put_number(Area::Paxos, Key::LastCommitted, last)?;
-    let mut kv = Kv::empty(alloc);
-    kv.apply(&tx)?;
-    Ok(kv)
+    Ok(tx)
 }
 
 /// A monitor that is alone in its map, before it starts over this store.
@@ -32,16 +31,35 @@ fn alone(alloc: Global, member: Member, kv: &Kv) -> Core
     Core::boot(alloc, member, Rule::Classic)
 }
 
-/// Which number runs out where a monitor that is alone in its map starts, and so wins.
-fn spent(alloc: Global, told: Told) -> Result<Option<Which>, Fail> {
+/// Which number runs out where such a monitor starts over this store.
+fn spent_over(alloc: Global, kv: &Kv) -> Result<Option<Which>, Fail> {
     let member = Member::new(Rank::known(0), 1).ok_or("a member")?;
-    let kv = store(alloc, told)?;
-    let mut core = alone(alloc, member, &kv);
-    match core.react(alloc, &kv, &Input::Start, Moment::known(1000)) {
-        Ok(_) => Ok(None),
+    let mut core = alone(alloc, member, kv);
+    let reaction = core.react(alloc, kv, &Input::Start, Moment::known(1000));
+    drop(core);
+    match reaction {
+        Ok(reaction) => {
+            drop(reaction);
+            Ok(None)
+        }
         Err(CoreStop::Spent { which }) => Ok(Some(which)),
         Err(CoreStop::OutOfMemory) => Err("memory".into()),
     }
+}
+
+/// Which number runs out where a monitor that is alone in its map starts, and so wins.
+fn spent(alloc: Global, told: Told) -> Result<Option<Which>, Fail> {
+    let tx = told_by(alloc, told)?;
+    let mut kv = Kv::empty(alloc);
+    let kept = kv.apply(&tx);
+    drop(tx);
+    if kept.is_err() {
+        drop(kv);
+        return Err("memory".into());
+    }
+    let spent = spent_over(alloc, &kv);
+    drop(kv);
+    spent
 }
 
 #[test]
