@@ -148,7 +148,7 @@ fn a_vote_moves_to_a_lower_rank(rt: HostRuntime) -> Result<(), Fail> {
     Ok(())
 }
 
-/// It hears of the next epoch.
+/// The same in a phase, as it hears of this epoch.
 fn in_next_epoch(mut site: Site<Elector>, phase: Phase, epoch: u64) -> Site<Elector> {
     site.view.phase = phase;
     site.epoch = number(epoch);

@@ -139,6 +139,7 @@ fn a_copy_that_was_stopped_begins_again(rt: HostRuntime) -> Result<(), Fail> {
     let site = probing(stored_by(site));
     let rows = [
         (0, Comes::ProbeReply(0, 1, 4), "alone"),
+        (0, Comes::ProbeReply(0, 1, 5), "full;alone"),
         (0, Comes::ProbeReply(0, 6, 9), "full;alone"),
     ];
     drop(all_are(&rt, alloc, site, &rows)?);
