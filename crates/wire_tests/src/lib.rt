@@ -1,4 +1,4 @@
-//! Tests of what goes in and out, against what other programs read and print: schedules, messages, traces, scores and links.
+//! Tests of what goes in and out, against what other programs read and print: schedules, messages, scores and links.
 #![tactic(auto)]
 
 #[cfg(test)]
@@ -17,7 +17,5 @@ mod schedule;
 mod schedule_faults;
 #[cfg(test)]
 mod sources;
-#[cfg(test)]
-mod trace;
 #[cfg(test)]
 mod wire;

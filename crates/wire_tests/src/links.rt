@@ -50,6 +50,7 @@ fn a_link_without_a_network_fails(rt: HostRuntime) -> Result<(), Fail> {
     let mut link = UdpLink::client(&Bare, Vec::new(alloc));
     assert_eq!(rt; shown(link.next(1)), Err(Stop::Failed));
     assert_eq!(rt; link.send(Peer::Client(0), b"a"), Err(Stop::Failed));
+    drop(link);
     Ok(())
 }
 
@@ -65,10 +66,11 @@ fn free_address(rt: &HostRuntime) -> Result<Address, Fail> {
 fn a_client_is_answered(rt: HostRuntime) -> Result<(), Fail> {
     let alloc = rt.alloc();
     let addresses = [free_address(&rt)?];
-    let mut link = UdpLink::named(&rt, Rank::known(0), addresses.to_vec(alloc)?);
+    let (of_link, of_client) = (addresses.to_vec(alloc)?, addresses.to_vec(alloc)?);
+    let mut link = UdpLink::named(&rt, Rank::known(0), of_link);
     assert_eq!(rt; shown(link.next(1)), Ok(None));
     let monitor = Peer::Monitor(Rank::known(0));
-    let mut client = UdpLink::client(&rt, addresses.to_vec(alloc)?);
+    let mut client = UdpLink::client(&rt, of_client);
     assert_eq!(rt; client.send(monitor, b"ask"), Ok(()));
     assert_eq!(rt;
         shown(link.next(5_000)),
@@ -76,25 +78,35 @@ fn a_client_is_answered(rt: HostRuntime) -> Result<(), Fail> {
     );
     assert_eq!(rt; link.send(Peer::Client(0), b"here"), Ok(()));
     assert_eq!(rt; shown(client.next(5_000)), Ok(Some((monitor, b'h', 4))));
+    drop(client);
+    drop(link);
     Ok(())
 }
 
 /// Monitor 1 of 2 probes.
 const PROBE: &[u8] = b"\x01\x01\x01\x02\x01\0\0\0\0\0\0\0";
 
+/// Whether this came, and from that monitor.
+fn is_probe_of(got: Result<Got, Stop>, rank: Rank) -> bool {
+    let Ok(Got::Datagram { from, bytes }) = got else {
+        return false;
+    };
+    let is_probe = bytes.as_slice() == PROBE;
+    drop(bytes);
+    is_probe && from == Peer::Monitor(rank)
+}
+
 #[test]
 fn a_monitor_is_known_by_its_address(rt: HostRuntime) -> Result<(), Fail> {
     let alloc = rt.alloc();
     let addresses = [free_address(&rt)?, free_address(&rt)?];
-    let mut first = UdpLink::named(&rt, Rank::known(0), addresses.to_vec(alloc)?);
+    let (of_first, of_second) = (addresses.to_vec(alloc)?, addresses.to_vec(alloc)?);
+    let mut first = UdpLink::named(&rt, Rank::known(0), of_first);
     assert_eq!(rt; shown(first.next(1)), Ok(None));
-    let mut second = UdpLink::named(&rt, Rank::known(1), addresses.to_vec(alloc)?);
+    let mut second = UdpLink::named(&rt, Rank::known(1), of_second);
     assert_eq!(rt; second.send(Peer::Monitor(Rank::known(0)), PROBE), Ok(()));
-    match first.next(5_000) {
-        Ok(Got::Datagram { from, bytes }) => {
-            assert!(rt; from == Peer::Monitor(Rank::known(1)) && bytes.as_slice() == PROBE);
-            Ok(())
-        }
-        _ => Err("a datagram".into()),
-    }
+    assert!(rt; is_probe_of(first.next(5_000), Rank::known(1)));
+    drop(second);
+    drop(first);
+    Ok(())
 }

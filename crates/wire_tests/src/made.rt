@@ -1,5 +1,7 @@
+use crate::schedule::read;
 use schedule_made::*;
 use schedule_text::print;
+use std::alloc::Global;
 use std::test::Fail;
 
 /// What every schedule of 33 events or more begins with.
@@ -32,17 +34,37 @@ const LATER: [(u64, u32, &str); 3] = [
     ),
 ];
 
+/// The text of the schedule that a number has.
+fn printed(alloc: Global, number: u64, events: u32) -> Result<Vec<u8>, Fail> {
+    if events == 0 || events > 100_000 {
+        return Err("a schedule".into());
+    }
+    let schedule = made(alloc, number, events)?;
+    let printed = print(alloc, &schedule);
+    drop(schedule);
+    Ok(printed?)
+}
+
 #[test]
 fn each_number_has_its_schedule(rt: HostRuntime) -> Result<(), Fail> {
     let alloc = rt.alloc();
     for (number, events, later) in LATER {
         let text = format!(in alloc; "{OPENING}{later}")?;
-        let schedule = made(alloc, number, events)?;
         assert_eq!(rt;
-            print(alloc, &schedule)?.as_slice(),
+            printed(alloc, number, events)?.as_slice(),
             text.as_bytes(),
             "{number}"
         );
     }
+    Ok(())
+}
+
+#[test]
+fn a_short_one_is_read_as_it_is_printed(rt: HostRuntime) -> Result<(), Fail> {
+    let text = printed(rt.alloc(), 1, 10)?;
+    assert!(rt; OPENING.as_bytes().starts_with(&text));
+    let (count, _, again) = read(rt.alloc(), &text)?;
+    assert_eq!(rt; count, 10);
+    assert_eq!(rt; again.as_slice(), text.as_slice());
     Ok(())
 }

@@ -6,8 +6,12 @@ use std::test::Fail;
 /// The line at fault and what is wrong with it, where the text is refused.
 pub(crate) fn refused(alloc: Global, text: &[u8]) -> Option<(u32, ScheduleKind)> {
     match parse(alloc, text) {
+        Ok(schedule) => {
+            drop(schedule);
+            None
+        }
         Err(ScheduleRefused::At { line, kind }) => Some((line, kind)),
-        _ => None,
+        Err(ScheduleRefused::OutOfMemory) => None,
     }
 }
 
@@ -70,12 +74,19 @@ crash a 1000 3 client 1 2 3 4 log \n\
 fail b 1 0 client 1 2 3 4 since kv 7\n\
 client 3 4 5 6 remove k\n";
 
+/// How many events a text's schedule has, whether it has a text, and how it is printed.
+pub(crate) fn read(alloc: Global, text: &[u8]) -> Result<(usize, bool, Vec<u8>), Fail> {
+    let schedule = parse(alloc, text)?;
+    let (count, has_text) = (schedule.events.as_slice().len(), schedule.has_text());
+    let printed = print(alloc, &schedule);
+    drop(schedule);
+    Ok((count, has_text, printed?))
+}
+
 #[test]
 fn what_is_read_is_printed_again(rt: HostRuntime) -> Result<(), Fail> {
-    let alloc = rt.alloc();
-    let schedule = parse(alloc, SCHEDULE.as_bytes())?;
-    assert_eq!(rt; schedule.events.as_slice().len(), 9);
-    assert!(rt; schedule.has_text());
-    assert_eq!(rt; print(alloc, &schedule)?.as_slice(), SCHEDULE.as_bytes());
+    let (count, has_text, printed) = read(rt.alloc(), SCHEDULE.as_bytes())?;
+    assert_eq!(rt; (count, has_text), (9, true));
+    assert_eq!(rt; printed.as_slice(), SCHEDULE.as_bytes());
     Ok(())
 }

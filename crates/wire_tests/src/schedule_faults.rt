@@ -387,8 +387,9 @@ fn fields_at_fault_are_refused_by_kind(rt: HostRuntime) -> Result<(), Fail> {
 fn is_printed(alloc: Global, line: &str) -> Result<bool, Fail> {
     let text = format!(in alloc; "{line}\n")?;
     let schedule = parse(alloc, text.as_bytes())?;
-    let printed = header_line(alloc, &schedule)?;
-    Ok(printed.as_slice() == text.as_bytes())
+    let printed = header_line(alloc, &schedule);
+    drop(schedule);
+    Ok(printed?.as_slice() == text.as_bytes())
 }
 
 #[test]

@@ -127,7 +127,10 @@ const FAULTS: &str = "\
 /// The fault that decoding names, or nothing where there is none.
 fn fault(alloc: Global, bytes: &[u8]) -> Result<Option<(MsgKind, usize)>, Fail> {
     match decode(alloc, bytes) {
-        Ok(_) => Ok(None),
+        Ok(message) => {
+            drop(message);
+            Ok(None)
+        }
         Err(MsgRefused::At { at, kind }) => Ok(Some((kind, at))),
         Err(MsgRefused::OutOfMemory) => Err(Fail::from("out of memory")),
     }
@@ -138,6 +141,10 @@ fn a_part_is_cut_and_a_byte_more_is_too_many(rt: HostRuntime) -> Result<(), Fail
     let alloc = rt.alloc();
     assert_eq!(rt; fault(alloc, b"")?, Some((MsgKind::Cut, 0)));
     assert_eq!(rt; fault(alloc, b"\x01")?, Some((MsgKind::Cut, 1)));
+    // the last byte of an ACCEPT's version is left out
+    let mut accept = changed(alloc, 8, 0, 1)?;
+    accept.truncate(27);
+    assert_eq!(rt; fault(alloc, &accept)?, Some((MsgKind::Cut, 20)));
     for digits in EXAMPLES.lines() {
         let mut bytes = bytes_of(alloc, digits)?;
         for n in 0..bytes.len() {
