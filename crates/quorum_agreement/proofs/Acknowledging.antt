@@ -13,11 +13,12 @@ use Rattle.mon_wire.specs.declared.body.Body.TheVariants as body
 use Rattle.mon_wire.specs.declared.body.Body.{Body}
 use Rattle.mon_wire.specs.declared.reply.Reply.TheVariants as reply
 use Rattle.mon_wire.specs.declared.reply.Reply.{Reply}
+use Rattle.mon_wire.specs.declared.request.Session.{Session}
 use Rattle.quorum_agreement.proofs.Answering.{AllPlain, IsPlain, IsPlainBody, IsPlainReply}
 use Rattle.quorum_model.specs.Acknowledging.{acknowledgement, acknowledgements_of, done_by, done_by_route, done_in}
 use Rattle.quorum_model.specs.Clients.{messages_of, replies_of}
 use Rattle.quorum_model.specs.Growth.{last_of}
-use Rattle.quorum_model.specs.Shown.{IsFenced, ShowsLog}
+use Rattle.quorum_model.specs.Shown.{IsFenced, ShowsLog, WasAskedFor}
 use Rattle.quorum_model.specs.World.{Acknowledged, Envelope, Replied, World}
 use Rattle.quorum_walk.proofs.Lists.{all_map}
 use Rattle.std.proofs.Common.{Bool, List, None, Some, [], ap, arith, cond, false, length, refl, true, ℕ, ◌++◌, ◌<◌, ◌∙◌, ◌∷◌, ◌≡◌, ◌≤◌}
@@ -106,16 +107,22 @@ module _ (event : ℕ) (m : Store) (s : State) where
 
 -- ---- what is replied
 
--- a reply shows the log's
+-- a reply shows the log's, and what was asked for
 pub record IsShownIn (w : World) (r : Replied) : Type 0 where
   pub event : r.event ≤ w.events
   pub last : r.last ≤ length w.log
   pub shows : ShowsLog w r r.reply
+  pub asked : WasAskedFor w r r.reply
 
 shows_nothing : (w : World) (r : Replied) (y : Reply) → NoShow y → ShowsLog w r y
 shows_nothing w r (reply.Shown s paxos version map) k = absurd k
 shows_nothing w r (reply.Since s from told more) k = absurd k
 shows_nothing w r other k = tt
+
+asked_nothing : (w : World) (r : Replied) (y : Reply) → NoShow y → WasAskedFor w r y
+asked_nothing w r (reply.Shown s paxos version map) k = absurd k
+asked_nothing w r (reply.Since s from told more) k = absurd k
+asked_nothing w r other k = tt
 
 fenced_nothing : (a : Acknowledged) (r : Replied) (y : Reply) → NoShow y → IsFenced a r y
 fenced_nothing a r (reply.Shown s paxos version map) k = absurd k
@@ -132,7 +139,10 @@ pub quiet_replies : (w : World) (rank : ℕ) (m : Store) → last_of m ≤ lengt
 quiet_replies w rank m le [] k = tt
 quiet_replies w rank m le (sent.Message to x ∷ sends) k = quiet_replies w rank m le sends k.1
 quiet_replies w rank m le (sent.Reply t y ∷ sends) k =
-    (record { event = omega arith; last = le; shows = shows_nothing w (record { event = w.events; rank = rank; epoch = epoch_of (readings_of m); last = last_of m; session = t; reply = y }) y k.0 }, quiet_replies w rank m le sends k.1)
+    (record { event = omega arith; last = le; shows = shows_nothing w (told t y) y k.0; asked = asked_nothing w (told t y) y k.0 }, quiet_replies w rank m le sends k.1)
+  where
+    told : Session → Reply → Replied
+    told t y = record { event = w.events; rank = rank; epoch = epoch_of (readings_of m); last = last_of m; session = t; reply = y }
 
 pub quiet_fenced : (a : Acknowledged) (event rank : ℕ) (m : Store) (sends : List Sent) → AllByRecursion NoShowSent sends → AllByRecursion (λ (r : Replied). IsFenced a r r.reply) (replies_of event rank m sends)
 quiet_fenced a event rank m [] k = tt

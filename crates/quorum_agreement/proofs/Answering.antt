@@ -141,7 +141,7 @@ sync_leads_not phase.Peon t = refl
 
 -- ---- an event, from what the store told and what was remembered before it
 
-module _ (me : Me) (now : ℕ) (w : Readings) (s : State) (From : ℕ → Command → Origin → Type 0) (Routed : (f e seq : ℕ) → Reply → Type 0) (Voted : (f pn v : ℕ) → Type 0) where
+module _ (me : Me) (now : ℕ) (w : Readings) (s : State) (From : ℕ → Command → Origin → Type 0) (Routed : (f e seq : ℕ) → Reply → Type 0) (Voted : (f pn v : ℕ) → Type 0) (Looked : Session → Request → Type 0) where
   -- a value that is begun: a command's of which so much is known
   pub record Begun (l : Leader) (e : ℕ) : Type 0 where
     pub epoch : e ≡ epoch_of w
@@ -202,9 +202,9 @@ module _ (me : Me) (now : ℕ) (w : Readings) (s : State) (From : ℕ → Comman
     pub quorum : y.state.leader.quorum ≡ s.leader.quorum
     pub how : Completes origin ops ⊎ AtOnce origin ops
 
-  -- what is shown of a service
-  abbrev pub IsRead : Reply → Type 0
-  IsRead r = ((v : Service) × (r ≡ shown w v)) ⊎ ((v : Service) × (k : ℕ) × (r ≡ since w v k))
+  -- what a session is shown of a service that it looks at
+  abbrev pub IsRead : Session → Reply → Type 0
+  IsRead t r = ((v : Service) × Looked t (request.Show v) × (r ≡ shown w v)) ⊎ ((v : Service) × (k : ℕ) × Looked t (request.Since v k) × (r ≡ since w v k))
 
   pub record Reads (y : Course) : Type 0 where
     pub session : Session
@@ -213,7 +213,7 @@ module _ (me : Me) (now : ℕ) (w : Readings) (s : State) (From : ℕ → Comman
     pub is : y ≡ reply_to session reply (at_rest w s)
     pub member : is_member s.phase ≡ true
     pub readable : readable w.last me.member.monitors (lease_of s) now ≡ true
-    pub read : IsRead reply
+    pub read : IsRead session reply
 
   -- a leader's answer goes to the sessions that wait for it
   pub record Hands (y : Course) : Type 0 where
@@ -618,7 +618,7 @@ module _ (me : Me) (now : ℕ) (w : Readings) (s : State) (From : ℕ → Comman
           leader = eqb-true f s.peon.leader t.2;
         })))))
 
-    reads : (t : Session) (reading : Readings → Reply) → IsRead (reading w) → Then Outcome (read me now t reading x0)
+    reads : (t : Session) (reading : Readings → Reply) → IsRead t (reading w) → Then Outcome (read me now t reading x0)
     reads t reading k =
         by_test (not (is_member s.phase)) (λ _. replies t reply.Unavailable tt) (λ member.
         by_test (not (readable w.last me.member.monitors (lease_of s) now)) (λ _. replies t (reply.NotReadable w.last (is_standing me now s)) tt)
@@ -717,7 +717,8 @@ module _ (me : Me) (now : ℕ) (w : Readings) (s : State) (From : ℕ → Comman
     RequestKnown t (request.Set key value) = From (epoch_of w) (command.Set key value) (origin.Session t)
     RequestKnown t (request.Remove key) = From (epoch_of w) (command.Remove key) (origin.Session t)
     RequestKnown t (request.Log text) = From (epoch_of w) (command.Log text) (origin.Session t)
-    RequestKnown t other = Unit {0}
+    RequestKnown t (request.Show v) = Looked t (request.Show v)
+    RequestKnown t (request.Since v k) = Looked t (request.Since v k)
 
     abbrev pub InputKnown : Input → Type 0
     InputKnown (input.Deliver m) = BodyKnown m.from m.epoch m.body
@@ -771,8 +772,8 @@ module _ (me : Me) (now : ℕ) (w : Readings) (s : State) (From : ℕ → Comman
       clients t (request.Set key value) F = asks t (command.Set key value) F
       clients t (request.Remove key) F = asks t (command.Remove key) F
       clients t (request.Log text) F = asks t (command.Log text) F
-      clients t (request.Show v) F = reads t (λ z. shown z v) (inl (v, refl))
-      clients t (request.Since v n) F = reads t (λ z. since z v n) (inr (v, n, refl))
+      clients t (request.Show v) F = reads t (λ z. shown z v) (inl (v, F, refl))
+      clients t (request.Since v n) F = reads t (λ z. since z v n) (inr (v, n, F, refl))
 
       before : (came : Input) → Then Outcome (before_start me now came x0)
       before input.Start = starts

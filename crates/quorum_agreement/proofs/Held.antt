@@ -3,7 +3,7 @@
 use Rattle.log_model.proofs.Logs.{Fronts, entry_stays}
 use Rattle.mon_lease.specs.Lease.{readable, stands}
 use Rattle.mon_msg.specs.Fold.{entry, put_in}
-use Rattle.mon_msg.specs.Protocol.Phases.{is_leading, is_member, is_peon}
+use Rattle.mon_msg.specs.Protocol.Phases.{is_leading, is_member, is_peon, votes}
 use Rattle.mon_msg.specs.Protocol.Readings.{epoch_of, readings_of}
 use Rattle.mon_msg.specs.Protocol.State.{State, lease_of}
 use Rattle.mon_msg.specs.declared.paxos.Leader.{Leader}
@@ -15,7 +15,8 @@ use Rattle.mon_wire.specs.declared.phase.Phase.{Phase}
 use Rattle.quorum_history.proofs.History.{Entered, Ghost, RolesHold}
 use Rattle.quorum_history.proofs.Holds.{Core, InPhase, LeadsIn, core_of, epoch_in, level_in}
 use Rattle.quorum_history.proofs.Numbers.{level_is}
-use Rattle.quorum_history.proofs.Phases.{no}
+use Rattle.quorum_agreement.proofs.Result.{there_marked}
+use Rattle.quorum_history.proofs.Phases.{no, votes_unmarked}
 use Rattle.quorum_laws.proofs.Chosen.{leaders_know, stays_nothing}
 use Rattle.quorum_laws.proofs.Invariant.{Further, InvOf, WasActive}
 use Rattle.quorum_laws.proofs.Later.{Later}
@@ -31,7 +32,7 @@ use Rattle.quorum_model.specs.World.{Acknowledged, Asked, World}
 use Rattle.quorum_walk.proofs.Ranks.{majorities}
 use Rattle.quorum_walk.proofs.Sparing.{own_of}
 use Rattle.std.proofs.Common.{Bool, List, None, Option, Some, ap, arith, cond, eqb, false, inl, inr, length, ltb, refl, subst, sym, true, ℕ, ◌%◌, ◌<◌, ◌||◌, ◌∙◌, ◌≡◌, ◌≤◌, ◌⊎◌}
-use Rattle.std.proofs.lemmas.Bool.{and_parts, cases_lt, eqb-true, or_cases}
+use Rattle.std.proofs.lemmas.Bool.{and_parts, cases_lt, eqb-true, false≢true, or_cases}
 use Rattle.std.specs.List.{Contains}
 use Rattle.std.specs.Prelude.{is_some}
 
@@ -218,9 +219,24 @@ module _ (ms : Monitors) (w : World) (J : InvOf ms w) (a : Acknowledged) (H : Is
       pub shows_it : is_member s.phase ≡ true → a.version ≤ (readings_at w i).last
       shows_it member = in_phase_shows s.phase refl member still (state_holds ms w J i s up)
 
+  active_votes : (p : Phase) → is_active p ≡ true → votes p ≡ true
+  active_votes phase.Active t = refl
+  active_votes phase.Updating t = refl
+  active_votes phase.Booting t = no t
+  active_votes phase.Probing t = no t
+  active_votes phase.Synchronizing t = no t
+  active_votes phase.Electing t = no t
+  active_votes phase.Collecting t = no t
+  active_votes phase.Previous t = no t
+  active_votes phase.Peon t = no t
+
   leader_has : (i : ℕ) → i < n → (o : Option State) → w.state i ≡ o → LeaderHas a o (w.store i)
   leader_has i lt None e = tt
-  leader_has i lt (Some s) e = λ t le. let k = in_phase_has i lt s e s.phase refl t (state_holds ms w J i s e) le in let l = last_is (w.store i) in omega arith
+  leader_has i lt (Some s) e = λ t le.
+      let K = state_holds ms w J i s e in
+      let k = in_phase_has i lt s e s.phase refl t K le in
+      let l = last_is (w.store i) in
+      (omega arith, λ marked. false≢true (sym (votes_unmarked n J.g i (core_of (own_of (readings_at w i)) s) s.phase (active_votes s.phase t) K) ∙ there_marked (w.store i) marked))
 
   pub is_kept : IsKept n w a
   is_kept = record { some = H.some; within = H.within; put = H.put; leaders = λ i lt. leader_has i lt (w.state i) refl }

@@ -61,7 +61,7 @@ marked_there : (m : Store) → (readings_of m).marked ≡ true → is_marked m �
 unfolding readings_of
 marked_there m t = t
 
-there_marked : (m : Store) → is_marked m ≡ true → (readings_of m).marked ≡ true
+pub there_marked : (m : Store) → is_marked m ≡ true → (readings_of m).marked ≡ true
 unfolding readings_of
 there_marked m t = t
 

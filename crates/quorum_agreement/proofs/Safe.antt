@@ -14,11 +14,11 @@ use Rattle.quorum_laws.proofs.Invariant.{InvOf}
 use Rattle.quorum_laws.specs.Accepting.{readings_at}
 use Rattle.quorum_model.specs.Kept.{AcknowledgedOnce, DoneIsAnswered}
 use Rattle.quorum_model.specs.Monitors.{Monitors}
-use Rattle.quorum_model.specs.Shown.{Fence, IsFenced, ShowsLog}
-use Rattle.quorum_model.specs.World.{Acknowledged, Envelope, Replied, World}
+use Rattle.quorum_model.specs.Shown.{Fence, IsFenced, ShowsLog, WasAskedFor}
+use Rattle.quorum_model.specs.World.{Acknowledged, Asked, Envelope, Replied, World}
 use Rattle.quorum_walk.proofs.Lists.{all_append, all_both, all_map}
-use Rattle.std.proofs.Common.{List, Some, arith, map, subst, suc, sym, ℕ, ◌++◌, ◌≡◌, ◌≤◌}
-use Rattle.std.specs.List.{AllByRecursion}
+use Rattle.std.proofs.Common.{List, Some, arith, inl, inr, map, subst, suc, sym, ℕ, ◌++◌, ◌≡◌, ◌≤◌}
+use Rattle.std.specs.List.{AllByRecursion, Contains}
 use Rattle.quorum_agreement.proofs.Answered.{Routes, Stems, answer_lasts, routes_last, stems_further}
 
 pub record IsSafe (ms : Monitors) (w : World) (I : InvOf ms w) : Type 0 where
@@ -43,11 +43,18 @@ shows_told w r (reply.Shown s paxos version map) k = k
 shows_told w r (reply.Since s from told more) k = record { same = k.0; others = k.1 }
 shows_told w r other k = tt
 
+asked_lasts : (w next : World) → ((a : Asked) → Contains w.asked a → Contains next.asked a) → (r : Replied) (y : Reply) → WasAskedFor w r y → WasAskedFor next r y
+asked_lasts w next keeps r (reply.Shown s paxos version map) (inl k) = inl (keeps _ k)
+asked_lasts w next keeps r (reply.Shown s paxos version map) (inr k) = inr (k.0, keeps _ k.1)
+asked_lasts w next keeps r (reply.Since s from told more) k = keeps _ k
+asked_lasts w next keeps r other k = tt
+
 shown_lasts : (w next : World) (g h : Ghost) → Onward w next g h → (r : Replied) → IsShownIn w r → IsShownIn next r
 shown_lasts w next g h O r k = record {
   event = let e = k.event in let f = O.events in omega arith;
   last = let e = k.last in let f = O.fronts in let s = f.short in omega arith;
   shows = shows_told next r r.reply (told_stays O.fronts r.last k.last r.reply (told_of w r r.reply k.shows));
+  asked = asked_lasts w next O.asked r r.reply k.asked;
 }
 
 -- ---- nothing is acknowledged or replied

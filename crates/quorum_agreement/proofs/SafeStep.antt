@@ -48,6 +48,7 @@ use Rattle.mon_wire.specs.declared.reply.Reply.{Reply}
 use Rattle.mon_wire.specs.declared.request.Request.TheVariants as request
 use Rattle.mon_wire.specs.declared.request.Request.{Request}
 use Rattle.mon_wire.specs.declared.request.Service.{Service}
+use Rattle.mon_wire.specs.declared.request.Session.{Session}
 use Rattle.quorum_agreement.proofs.Acknowledging.{IsShownIn, NoShowSent, answer_shows_nothing, fenced_by, no_acks, one_ack, plain_acks, plain_shows_nothing, quiet_fenced, quiet_replies, replies_event}
 use Rattle.quorum_agreement.proofs.Answering.{Acks, AtOnce, BodyKnown, Completes, Hands, InputKnown, IsRead, Lead, Outcome, Reads, RequestKnown, answers, peon_leads_not}
 use Rattle.quorum_agreement.proofs.Grown.{first_is}
@@ -62,7 +63,7 @@ use Rattle.quorum_history.proofs.Numbers.{level_is}
 use Rattle.quorum_history.proofs.Phases.{no, peon_is_peon, votes_unmarked}
 use Rattle.quorum_history.proofs.Rows.{InputHolds}
 use Rattle.quorum_laws.proofs.Chosen.{chosen_once, nothing_lower, stays_nothing}
-use Rattle.quorum_laws.proofs.Events.{Does, ToldOf, member_of}
+use Rattle.quorum_laws.proofs.Events.{Does, IsNoted, ToldOf, member_of}
 use Rattle.quorum_laws.proofs.Invariant.{Further, InvOf, InvWith, WasActive}
 use Rattle.quorum_laws.proofs.Reading.{state_holds}
 use Rattle.quorum_laws.specs.Accepting.{HasAccepted, IsMajorityOf, readings_at}
@@ -75,7 +76,7 @@ use Rattle.quorum_model.specs.Growth.{last_of}
 use Rattle.quorum_model.specs.Happens.{is_active}
 use Rattle.quorum_model.specs.Kept.{AcknowledgedOnce, DoneIsAnswered}
 use Rattle.quorum_model.specs.Monitors.{Monitors}
-use Rattle.quorum_model.specs.Shown.{IsFenced}
+use Rattle.quorum_model.specs.Shown.{AskedFor, IsFenced, WasAskedFor}
 use Rattle.quorum_model.specs.World.{Acknowledged, Asked, Envelope, Replied, World}
 use Rattle.quorum_walk.proofs.Lists.{Among, all_among, all_append, all_both, all_map, all_of}
 use Rattle.quorum_walk.proofs.Sparing.{Own, learned_own, own_of}
@@ -99,6 +100,11 @@ since_done : (r : Readings) (v : Service) (k : ℕ) → done_in (since r v k) �
 unfolding since
 since_done r v k = cond_both (leb (service_first r v) (suc k)) (changes_after r v k (kept_from r v (service_last r v - k) (suc k))) (shown r v) (λ y. done_in y ≡ None) (λ t. refl) (λ t. refl)
 
+-- what is told since a version was asked for
+since_asked : (w : World) (x : Replied) (r : Readings) (v : Service) (k : ℕ) → AskedFor w x (request.Since v k) → WasAskedFor w x (since r v k)
+unfolding since
+since_asked w x r v k a = cond_both (leb (service_first r v) (suc k)) (changes_after r v k (kept_from r v (service_last r v - k) (suc k))) (shown r v) (WasAskedFor w x) (λ t. a) (λ t. inr (k, a))
+
 member_votes : (p : Phase) → is_member p ≡ true → votes p ≡ true
 member_votes p e = ap (λ (b : Bool). b || same_phase p phase.Electing) e
 
@@ -109,27 +115,27 @@ once_push (b ∷ before) a h k = (all_append (λ (c : Acknowledged). ¬ (c.versi
 
 -- ---- an event
 
-lead_of : (me : Me) (now : ℕ) (r : Readings) (s : State) (From : ℕ → Command → Origin → Type 0) (Routed : (f e seq : ℕ) → Reply → Type 0) (Voted : (f pn v : ℕ) → Type 0) (p : Phase) → s.phase ≡ p → Still p s.leader → Lead me now r s From Routed Voted p s.leader (epoch_of r)
-lead_of me now r s From Routed Voted phase.Collecting e k = k
-lead_of me now r s From Routed Voted phase.Previous e k = k
-lead_of me now r s From Routed Voted phase.Updating e k = inl (record { epoch = refl; updating = e; origin = refl; proposes = refl; number = refl })
-lead_of me now r s From Routed Voted phase.Booting e k = tt
-lead_of me now r s From Routed Voted phase.Probing e k = tt
-lead_of me now r s From Routed Voted phase.Synchronizing e k = tt
-lead_of me now r s From Routed Voted phase.Electing e k = tt
-lead_of me now r s From Routed Voted phase.Active e k = tt
-lead_of me now r s From Routed Voted phase.Peon e k = tt
+lead_of : (me : Me) (now : ℕ) (r : Readings) (s : State) (From : ℕ → Command → Origin → Type 0) (Routed : (f e seq : ℕ) → Reply → Type 0) (Voted : (f pn v : ℕ) → Type 0) (Looked : Session → Request → Type 0) (p : Phase) → s.phase ≡ p → Still p s.leader → Lead me now r s From Routed Voted Looked p s.leader (epoch_of r)
+lead_of me now r s From Routed Voted Looked phase.Collecting e k = k
+lead_of me now r s From Routed Voted Looked phase.Previous e k = k
+lead_of me now r s From Routed Voted Looked phase.Updating e k = inl (record { epoch = refl; updating = e; origin = refl; proposes = refl; number = refl })
+lead_of me now r s From Routed Voted Looked phase.Booting e k = tt
+lead_of me now r s From Routed Voted Looked phase.Probing e k = tt
+lead_of me now r s From Routed Voted Looked phase.Synchronizing e k = tt
+lead_of me now r s From Routed Voted Looked phase.Electing e k = tt
+lead_of me now r s From Routed Voted Looked phase.Active e k = tt
+lead_of me now r s From Routed Voted Looked phase.Peon e k = tt
 
-still_of : (me : Me) (now : ℕ) (r : Readings) (s : State) (From : ℕ → Command → Origin → Type 0) (Routed : (f e seq : ℕ) → Reply → Type 0) (Voted : (f pn v : ℕ) → Type 0) (p : Phase) (l : Leader) (e : ℕ) → Lead me now r s From Routed Voted p l e → Still p l
-still_of me now r s From Routed Voted phase.Collecting l e k = k
-still_of me now r s From Routed Voted phase.Previous l e k = k
-still_of me now r s From Routed Voted phase.Updating l e k = tt
-still_of me now r s From Routed Voted phase.Booting l e k = tt
-still_of me now r s From Routed Voted phase.Probing l e k = tt
-still_of me now r s From Routed Voted phase.Synchronizing l e k = tt
-still_of me now r s From Routed Voted phase.Electing l e k = tt
-still_of me now r s From Routed Voted phase.Active l e k = tt
-still_of me now r s From Routed Voted phase.Peon l e k = tt
+still_of : (me : Me) (now : ℕ) (r : Readings) (s : State) (From : ℕ → Command → Origin → Type 0) (Routed : (f e seq : ℕ) → Reply → Type 0) (Voted : (f pn v : ℕ) → Type 0) (Looked : Session → Request → Type 0) (p : Phase) (l : Leader) (e : ℕ) → Lead me now r s From Routed Voted Looked p l e → Still p l
+still_of me now r s From Routed Voted Looked phase.Collecting l e k = k
+still_of me now r s From Routed Voted Looked phase.Previous l e k = k
+still_of me now r s From Routed Voted Looked phase.Updating l e k = tt
+still_of me now r s From Routed Voted Looked phase.Booting l e k = tt
+still_of me now r s From Routed Voted Looked phase.Probing l e k = tt
+still_of me now r s From Routed Voted Looked phase.Synchronizing l e k = tt
+still_of me now r s From Routed Voted Looked phase.Electing l e k = tt
+still_of me now r s From Routed Voted Looked phase.Active l e k = tt
+still_of me now r s From Routed Voted Looked phase.Peon l e k = tt
 
 -- what a reaction makes of the world
 pub record Moved (w next : World) (rank : ℕ) (m : Store) (y : Course) : Type 0 where
@@ -178,8 +184,11 @@ module _ (ms : Monitors) (w next : World) (I : InvOf ms w) (K : InvOf ms next) (
   abbrev Voted : (f pn v : ℕ) → Type 0
   Voted f pn v = (x : List Op) × Accepted J.g f v pn x
 
+  abbrev Looked : Session → Request → Type 0
+  Looked t r = Contains asked (record { rank = d.by.rank; session = t; request = r })
+
   abbrev Says : Course → Type 0
-  Says = Outcome me d.by.at w0 s From Routed Voted
+  Says = Outcome me d.by.at w0 s From Routed Voted Looked
 
   -- ---- what it does
 
@@ -190,38 +199,38 @@ module _ (ms : Monitors) (w next : World) (I : InvOf ms w) (K : InvOf ms next) (
       by (inl e) = S.still rank s e
       by (inr e) = subst (λ (z : State). Still z.phase z.leader) (sym e) tt
 
-  lead : Lead me d.by.at w0 s From Routed Voted s.phase s.leader (epoch_of w0)
-  lead = lead_of me d.by.at w0 s From Routed Voted s.phase refl still_before
+  lead : Lead me d.by.at w0 s From Routed Voted Looked s.phase s.leader (epoch_of w0)
+  lead = lead_of me d.by.at w0 s From Routed Voted Looked s.phase refl still_before
 
   queued : same_phase s.phase phase.Active ≡ true → AllByRecursion (λ (q : Waiting). From (epoch_of w0) q.command q.origin) s.clients.queue
   queued t = let k = subst (InPhase count J.g rank (core_of (own_of w0) s)) (active_is s.phase t) d.by.on in k.0.reigns.queue
 
-  known : (came : Input) → InputHolds me J.g came → ToldOf (Routes w I.g) rank came → InputKnown me d.by.at w0 s From Routed Voted lead came
-  known (input.Deliver e) h t = by e.body refl
+  known : (came : Input) → InputHolds me J.g came → ToldOf (Routes w I.g) rank came → IsNoted asked rank came → InputKnown me d.by.at w0 s From Routed Voted Looked lead came
+  known (input.Deliver e) h t n = by e.body refl
     where
-      by : (b : Body) → e.body ≡ b → BodyKnown me d.by.at w0 s From Routed Voted lead e.from e.epoch b
+      by : (b : Body) → e.body ≡ b → BodyKnown me d.by.at w0 s From Routed Voted Looked lead e.from e.epoch b
       by (body.Forward seq c) q = subst (BodyHolds J.g e.from rank e.epoch) q h.1.body
       by (body.Route seq r) q = subst (BodyRoutes w I.g rank e.epoch) q t
       by (body.Accept pn v) q = let B = subst (BodyHolds J.g e.from rank e.epoch) q h.1.body in (B.1, B.2)
       by b q = tt
-  known (input.Client t r) h k = by r h
+  known (input.Client t r) h k n = by r h n
     where
-      by : (r : Request) → clients.IsAsked J.g rank t r → RequestKnown me d.by.at w0 s From Routed Voted lead t r
-      by (request.Set key value) h = h
-      by (request.Remove key) h = h
-      by (request.Log text) h = h
-      by (request.Show v) h = tt
-      by (request.Since v z) h = tt
-  known other h t = tt
+      by : (r : Request) → clients.IsAsked J.g rank t r → Looked t r → RequestKnown me d.by.at w0 s From Routed Voted Looked lead t r
+      by (request.Set key value) h n = h
+      by (request.Remove key) h n = h
+      by (request.Log text) h n = h
+      by (request.Show v) h n = n
+      by (request.Since v z) h n = n
+  known other h t n = tt
 
   says : Says d.y
-  says = (subst (Then Says) d.is (answers me d.by.at w0 s From Routed Voted lead queued (shared_entries (w.store rank)) d.by.came (known d.by.came d.by.holds routes))).holds
+  says = (subst (Then Says) d.is (answers me d.by.at w0 s From Routed Voted Looked lead queued (shared_entries (w.store rank)) d.by.came (known d.by.came d.by.holds routes d.by.noted))).holds
 
   still_after : Still d.y.state.phase d.y.state.leader
   still_after = by says
     where
       by : Says d.y → Still d.y.state.phase d.y.state.leader
-      by (inl C) = still_of me d.by.at w0 s From Routed Voted d.y.state.phase d.y.state.leader (epoch_of d.y.readings) C.lead
+      by (inl C) = still_of me d.by.at w0 s From Routed Voted Looked d.y.state.phase d.y.state.leader (epoch_of d.y.readings) C.lead
       by (inr (inl A)) = subst (λ (p : Phase). Still p d.y.state.leader) (sym A.active) tt
       by (inr (inr (inl R))) = subst (λ (z : Course). Still z.state.phase z.state.leader) (sym R.is) still_before
       by (inr (inr (inr H))) = subst (λ (p : Phase). Still p d.y.state.leader) (sym H.in_phase) (subst (Still s.phase) (sym H.same) still_before)
@@ -238,7 +247,7 @@ module _ (ms : Monitors) (w next : World) (I : InvOf ms w) (K : InvOf ms next) (
       by (inl e) = stems_further I.g K.g O.further rank (epoch_of w0) s.leader (S.stems rank s e u)
       by (inr e) = no (sym (ap (same_phase phase.Booting) u) ∙ ap (λ (z : State). same_phase phase.Booting z.phase) e)
 
-  lead_stems : (l : Leader) (e : ℕ) → Lead me d.by.at w0 s From Routed Voted phase.Updating l e → Stems K.g rank e l
+  lead_stems : (l : Leader) (e : ℕ) → Lead me d.by.at w0 s From Routed Voted Looked phase.Updating l e → Stems K.g rank e l
   lead_stems l e (inl Q) =
       let T = stemmed Q.updating in
       subst (λ (z : ℕ). Stems K.g rank z l) (sym Q.epoch) (record { origin = T.origin; is = Q.origin ∙ T.is; ops = T.ops; proposes = Q.proposes ∙ T.proposes; comes = T.comes })
@@ -259,7 +268,7 @@ module _ (ms : Monitors) (w next : World) (I : InvOf ms w) (K : InvOf ms next) (
   stems_after u = subst (λ (r : Readings). Stems K.g rank (epoch_of r) d.y.state.leader) (sym (ap readings_of M.store ∙ M.read)) (by says)
     where
       by : Says d.y → Stems K.g rank (epoch_of d.y.readings) d.y.state.leader
-      by (inl C) = lead_stems d.y.state.leader (epoch_of d.y.readings) (subst (λ (p : Phase). Lead me d.by.at w0 s From Routed Voted p d.y.state.leader (epoch_of d.y.readings)) u C.lead)
+      by (inl C) = lead_stems d.y.state.leader (epoch_of d.y.readings) (subst (λ (p : Phase). Lead me d.by.at w0 s From Routed Voted Looked p d.y.state.leader (epoch_of d.y.readings)) u C.lead)
       by (inr (inl A)) = no (sym (ap (same_phase phase.Active) (sym A.active ∙ u)))
       by (inr (inr (inl R))) = subst (λ (z : Course). Stems K.g rank (epoch_of z.readings) z.state.leader) (sym R.is) (stemmed (ap (λ (z : Course). z.state.phase) (sym R.is) ∙ u))
       by (inr (inr (inr H))) = no (sym (ap is_peon (sym H.in_phase ∙ u)) ∙ H.peon)
@@ -293,7 +302,7 @@ module _ (ms : Monitors) (w next : World) (I : InvOf ms w) (K : InvOf ms next) (
       (founded_routes next K.g next.events rank m d.y.out f)
 
   -- a session is shown what the store tells
-  module _ (R : Reads me d.by.at w0 s From Routed Voted d.y) where
+  module _ (R : Reads me d.by.at w0 s From Routed Voted Looked d.y) where
     there_before : w.state rank ≡ Some s
     there_before = by d.by.remembers
       where
@@ -323,12 +332,22 @@ module _ (ms : Monitors) (w next : World) (I : InvOf ms w) (K : InvOf ms next) (
     tells : IsTold w.log stands.last R.reply
     tells = by R.read
       where
-        by : IsRead me d.by.at w0 s From Routed Voted R.reply → IsTold w.log stands.last R.reply
-        by (inl k) = subst (IsTold w.log stands.last) (sym k.1) (shown_told w.log L.short L.values stands.last (w.store rank) stands.versions k.0)
-        by (inr k) = subst (IsTold w.log stands.last) (sym k.2) (since_told w.log L.short L.values stands.last (w.store rank) stands.versions k.0 k.1)
+        by : IsRead me d.by.at w0 s From Routed Voted Looked R.session R.reply → IsTold w.log stands.last R.reply
+        by (inl k) = subst (IsTold w.log stands.last) (sym k.2) (shown_told w.log L.short L.values stands.last (w.store rank) stands.versions k.0)
+        by (inr k) = subst (IsTold w.log stands.last) (sym k.3) (since_told w.log L.short L.values stands.last (w.store rank) stands.versions k.0 k.1)
+
+    asked_there : (q : Request) → Looked R.session q → AskedFor next answer q
+    asked_there q k = subst (λ (xs : List Asked). Contains xs (record { rank = rank; session = R.session; request = q })) (sym asked_are) k
+
+    asked_for : WasAskedFor next answer R.reply
+    asked_for = by R.read
+      where
+        by : IsRead me d.by.at w0 s From Routed Voted Looked R.session R.reply → WasAskedFor next answer R.reply
+        by (inl k) = subst (WasAskedFor next answer) (sym k.2) (inl (asked_there (request.Show k.0) k.1))
+        by (inr k) = subst (WasAskedFor next answer) (sym k.3) (since_asked next answer w0 k.0 k.1 (asked_there (request.Since k.0 k.1) k.2))
 
     is_shown : IsShownIn next answer
-    is_shown = record { event = omega arith; last = last_then; shows = shows_told next answer R.reply (subst (λ (c : ℕ). IsTold next.log c R.reply) last_same (told_stays O.fronts stands.last (let h = stands.versions in h.within) R.reply tells)) }
+    is_shown = record { event = omega arith; last = last_then; shows = shows_told next answer R.reply (subst (λ (c : ℕ). IsTold next.log c R.reply) last_same (told_stays O.fronts stands.last (let h = stands.versions in h.within) R.reply tells)); asked = asked_for }
 
     fenced : (a : Acknowledged) → IsHeld count w I.g a → IsFenced a answer R.reply
     fenced a h = fenced_by a answer R.reply (λ lt e. let v = shows_it ms w I a h rank below s there_before d.by.at R.readable still_before (e ∙ ap epoch_of same) R.member in let l = last_is m in let q = ap (λ (r : Readings). r.last) same in omega arith)
@@ -339,9 +358,9 @@ module _ (ms : Monitors) (w next : World) (I : InvOf ms w) (K : InvOf ms next) (
         no_done : done_in R.reply ≡ None
         no_done = by R.read
           where
-            by : IsRead me d.by.at w0 s From Routed Voted R.reply → done_in R.reply ≡ None
-            by (inl k) = ap done_in k.1
-            by (inr k) = ap done_in k.2 ∙ since_done w0 k.0 k.1
+            by : IsRead me d.by.at w0 s From Routed Voted Looked R.session R.reply → done_in R.reply ≡ None
+            by (inl k) = ap done_in k.2
+            by (inr k) = ap done_in k.3 ∙ since_done w0 k.0 k.1
 
         nothing_done : (b : Bool) → cond b (done_in R.reply) None ≡ None
         nothing_done true = no_done
@@ -351,7 +370,7 @@ module _ (ms : Monitors) (w next : World) (I : InvOf ms w) (K : InvOf ms next) (
         none = no_acks next.events m d.y.state (sent.Reply R.session R.reply ∷ []) (nothing_done (is_leading d.y.state.phase), tt)
 
   -- a leader's answer goes to the sessions that wait for it
-  handed_then : Hands me d.by.at w0 s From Routed Voted d.y → IsSafe ms next K
+  handed_then : Hands me d.by.at w0 s From Routed Voted Looked d.y → IsSafe ms next K
   handed_then H = quietly (ap (acknowledgements_of next.events m d.y.state) H.out ∙ no_acks next.events m d.y.state _ (all_of (λ (x : Sent). done_by d.y.state x ≡ None) (λ (a : waiting.Asked). sent.Reply a.session H.reply) (λ a. no_leader (is_leading d.y.state.phase) (ap is_leading H.in_phase ∙ peon_leads_not s.phase H.peon)) (filter (λ (a : waiting.Asked). eqb a.seq H.seq) s.clients.sessions)))
       (subst (AllByRecursion NoShowSent) (sym H.out) (all_of NoShowSent (λ (a : waiting.Asked). sent.Reply a.session H.reply) (λ a. route_shows_nothing w I.g rank H.epoch H.seq H.reply H.known) (filter (λ (a : waiting.Asked). eqb a.seq H.seq) s.clients.sessions)))
       (subst (AllByRecursion Founded) (sym H.out) (each s.clients.sessions follows.sessions))
@@ -390,7 +409,7 @@ module _ (ms : Monitors) (w next : World) (I : InvOf ms w) (K : InvOf ms next) (
 
   -- ---- a version is acknowledged
 
-  module _ (A : Acks me d.by.at w0 s From Routed Voted d.y) where
+  module _ (A : Acks me d.by.at w0 s From Routed Voted Looked d.y) where
     abbrev v : ℕ
     v = suc w0.last
 
@@ -400,7 +419,7 @@ module _ (ms : Monitors) (w next : World) (I : InvOf ms w) (K : InvOf ms next) (
     leads : is_leading s.phase ≡ true
     leads = by A.how
       where
-        by : Completes me d.by.at w0 s From Routed Voted A.origin A.ops ⊎ AtOnce me d.by.at w0 s From Routed Voted A.origin A.ops → is_leading s.phase ≡ true
+        by : Completes me d.by.at w0 s From Routed Voted Looked A.origin A.ops ⊎ AtOnce me d.by.at w0 s From Routed Voted Looked A.origin A.ops → is_leading s.phase ≡ true
         by (inl C) = elim C.in_phase [ inl e ↦ ap is_leading e | inr e ↦ ap is_leading e ]
         by (inr B) = ap is_leading B.active
 
@@ -481,16 +500,16 @@ module _ (ms : Monitors) (w next : World) (I : InvOf ms w) (K : InvOf ms next) (
     quorum_is : led.0 ≡ s.leader.quorum
     quorum_is = (K.glob.roles.once rank ack.epoch rank rank led.0 d.y.state.leader.quorum led.1 (subst (λ (r : Readings). Entered K.g rank (epoch_of r) rank d.y.state.leader.quorum) stored acts.0.reigns.role)).1 ∙ A.quorum
 
-    updates : Completes me d.by.at w0 s From Routed Voted A.origin A.ops → s.phase ≡ phase.Updating
+    updates : Completes me d.by.at w0 s From Routed Voted Looked A.origin A.ops → s.phase ≡ phase.Updating
     updates C = elim C.in_phase [ inl e ↦ (let q = (subst (λ (p : Phase). Still p s.leader) e still_before).1 in let z : None ≡ Some A.origin = sym q ∙ C.waits in absurd cc) | inr e ↦ e ]
 
     -- ---- several monitors
 
     module _ (several : 1 < count) where
-      completes : Completes me d.by.at w0 s From Routed Voted A.origin A.ops
+      completes : Completes me d.by.at w0 s From Routed Voted Looked A.origin A.ops
       completes = by A.how
         where
-          by : Completes me d.by.at w0 s From Routed Voted A.origin A.ops ⊎ AtOnce me d.by.at w0 s From Routed Voted A.origin A.ops → Completes me d.by.at w0 s From Routed Voted A.origin A.ops
+          by : Completes me d.by.at w0 s From Routed Voted Looked A.origin A.ops ⊎ AtOnce me d.by.at w0 s From Routed Voted Looked A.origin A.ops → Completes me d.by.at w0 s From Routed Voted Looked A.origin A.ops
           by (inl C) = C
           by (inr B) = no (sym (leads_others me J.g w0 s J.glob several d.by.on leads) ∙ B.alone)
 
@@ -534,7 +553,7 @@ module _ (ms : Monitors) (w next : World) (I : InvOf ms w) (K : InvOf ms next) (
     source : ComesFrom J.g rank (epoch_of w0) A.origin A.ops
     source = by A.how
       where
-        by : Completes me d.by.at w0 s From Routed Voted A.origin A.ops ⊎ AtOnce me d.by.at w0 s From Routed Voted A.origin A.ops → ComesFrom J.g rank (epoch_of w0) A.origin A.ops
+        by : Completes me d.by.at w0 s From Routed Voted Looked A.origin A.ops ⊎ AtOnce me d.by.at w0 s From Routed Voted Looked A.origin A.ops → ComesFrom J.g rank (epoch_of w0) A.origin A.ops
         by (inl C) =
             let T = S.stems rank s was_up (updates C) in
             let at : Some T.origin ≡ Some A.origin = sym T.is ∙ C.waits in

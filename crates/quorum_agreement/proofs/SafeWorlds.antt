@@ -145,7 +145,7 @@ module _ (ms : Monitors) (Base : World → Type 0) (one : (w : World) → Base w
     module _ (d : Does ms w Said asked J) where
       abbrev d1 : Does ms w (EnvelopeTells w.log) asked J
       d1 = let a = d.by in record {
-        by = record { rank = a.rank; lt = a.lt; at = a.at; state = a.state; remembers = a.remembers; came = a.came; on = a.on; fits = a.fits; holds = a.holds; fine = a.fine; told = first_told w I.g a.rank a.came a.told };
+        by = record { rank = a.rank; lt = a.lt; at = a.at; state = a.state; remembers = a.remembers; came = a.came; on = a.on; fits = a.fits; holds = a.holds; fine = a.fine; told = first_told w I.g a.rank a.came a.told; noted = a.noted };
         y = d.y;
         is = d.is;
       }
@@ -214,7 +214,7 @@ module _ (ms : Monitors) (Base : World → Type 0) (one : (w : World) → Base w
   facts : (w : World) → SafeHolds w → SafeFacts ms w
   facts w h = let S = h.2 in record {
     kept = record { each = all_map _ _ (λ a k. is_kept ms w h.1 a k) w.acknowledged S.acks; once = S.once; answered = S.answers };
-    shown = all_map _ _ (λ r k. k.shows) w.replied S.replies;
+    shown = all_map _ _ (λ r k. record { within = k.last; shows = k.shows; asked = k.asked }) w.replied S.replies;
     fence = S.fence;
   }
 

@@ -52,8 +52,8 @@ use Rattle.quorum_walk.proofs.Sparing.{own_of}
 use Rattle.quorum_walk.proofs.Walk.{Then}
 use Rattle.std.proofs.Common.{Bool, Err, IfSome, List, None, Ok, Option, Result, Some, [], ap, arith, cond, eqb, false, inl, inr, ltb, refl, subst, suc, sym, true, zero, ℕ, ◌%◌, ◌++◌, ◌<◌, ◌∙◌, ◌∷◌, ◌≡◌, ◌≤◌, ◌⊎◌}
 use Rattle.std.proofs.lemmas.Bool.{cond_both, eqb-true, false≢true, ltb-true}
-use Rattle.std.proofs.lemmas.List.Elements.{Contains-append_right}
-use Rattle.std.specs.List.{AllByRecursion}
+use Rattle.std.proofs.lemmas.List.Elements.{Contains-append_right, Contains-push}
+use Rattle.std.specs.List.{AllByRecursion, Contains}
 use Rattle.std.specs.Option.{option_map}
 use Rattle.std.specs.Prelude.{IfOk, slice_get}
 
@@ -283,6 +283,11 @@ abbrev pub ToldOf : (Envelope → Type 0) → (rank : ℕ) → Input → Type 0
 ToldOf Told rank (input.Deliver m) = Told (record { to = rank; message = m })
 ToldOf Told rank other = Unit {0}
 
+-- what a client asks is noted
+abbrev pub IsNoted : List Asked → (rank : ℕ) → Input → Type 0
+IsNoted asked rank (input.Client s r) = Contains asked (record { rank = rank; session = s; request = r })
+IsNoted asked rank other = Unit {0}
+
 module _ (ms : Monitors) (w : World) (Told : Envelope → Type 0) where
   -- what comes to a monitor that is up, or that starts
   pub record Arrives (asked : List Asked) (I : InvWith ms w asked) : Type 0 where
@@ -297,6 +302,7 @@ module _ (ms : Monitors) (w : World) (Told : Envelope → Type 0) where
     pub holds : InputHolds (member_of ms rank lt) I.g came
     pub fine : (S : AllByRecursion EntryFine (shared_entries (w.store rank))) → ComesFine (member_of ms rank lt) at (readings_of (w.store rank)) made (shared_entries (w.store rank)) S came
     pub told : ToldOf Told rank came
+    pub noted : IsNoted asked rank came
 
   -- and what it does
   pub record Does (asked : List Asked) (I : InvWith ms w asked) : Type 0 where
@@ -337,12 +343,12 @@ module _ (ms : Monitors) (w : World) (Told : Envelope → Type 0) where
     not_there (Some false) met (inr q) = subst (Follows (Some false)) (sym q) K.nothing
 
     module _ (how : Option Bool) (rank at : ℕ) (came : Input) (c : (lt : ltb rank ms.count ≡ true) → InputHolds (member_of ms rank lt) I.g came)
-        (d : (lt : ltb rank ms.count ≡ true) (S : AllByRecursion EntryFine (shared_entries (w.store rank))) → ComesFine (member_of ms rank lt) at (readings_of (w.store rank)) made (shared_entries (w.store rank)) S came) (t : ToldOf Told rank came) where
+        (d : (lt : ltb rank ms.count ≡ true) (S : AllByRecursion EntryFine (shared_entries (w.store rank))) → ComesFine (member_of ms rank lt) at (readings_of (w.store rank)) made (shared_entries (w.store rank)) S came) (t : ToldOf Told rank came) (noted : IsNoted (with_asked p w.asked) rank came) where
       -- it comes to a monitor that is up, down or not there
       arrives : (o : Option State) → OnState ms.count I.g rank (readings_of (w.store rank)) o → IfSome o StateFits → ((s : State) → o ≡ Some s → (w.state rank ≡ Some s) ⊎ (s ≡ booting rank))
           → (b : Bool) (q : ltb rank ms.count ≡ b) → Follows how (meeting (record { rank = rank; at = at; input = came }) (w.store rank) (me_if ms rank b q) o)
       arrives (Some s) k z r true q =
-          reacts how (record { rank = rank; lt = q; at = at; state = s; remembers = r s refl; came = came; on = k; fits = z; holds = c q; fine = d q; told = t }) _ refl
+          reacts how (record { rank = rank; lt = q; at = at; state = s; remembers = r s refl; came = came; on = k; fits = z; holds = c q; fine = d q; told = t; noted = noted }) _ refl
       arrives None k z r true q = not_there how Down (inl refl)
       arrives (Some s) k z r false q = not_there how Down (inl refl)
       arrives None k z r false q = not_there how Down (inl refl)
@@ -354,7 +360,7 @@ module _ (ms : Monitors) (w : World) (Told : Envelope → Type 0) where
     delivered : (how : Option Bool) (at : ℕ) (o : Option Envelope) → IfSome o (EnvelopeHolds ms.count I.g) → IfSome o EnvelopeFine → IfSome o Told
         → Follows how (meeting_at ms w (option_map (λ v. record { rank = v.to; at = at; input = input.Deliver v.message }) o))
     delivered how at None k z t = not_there how NoMessage (inr refl)
-    delivered how at (Some v) k z t = comes_to how v.to at (input.Deliver v.message) (λ lt. k) (λ lt S. (let a = k.0 in let b = ms.most in omega arith, z)) t (I.mine v.to).state (I.mine v.to).fits (λ s e. inl e)
+    delivered how at (Some v) k z t = comes_to how v.to at (input.Deliver v.message) (λ lt. k) (λ lt S. (let a = k.0 in let b = ms.most in omega arith, z)) t tt (I.mine v.to).state (I.mine v.to).fits (λ s e. inl e)
 
   module _ (I : InvOf ms w) (P : World → Type 0) where
     -- where it is so whatever what is asked adds to the history
@@ -366,14 +372,14 @@ module _ (ms : Monitors) (w : World) (Told : Envelope → Type 0) where
     asks_command how rank at s r c lt is form known fine K =
         let A = command_asked ms.count w.store w.state w.transactions w.messages w.active w.asked I rank s r c lt is form in
         let J = A.0.0 in
-        comes_to P (Client rank at s r) J (K J A.0.1) how rank at (input.Client s r) (λ lt. known J.g A.1) (λ lt S. fine) tt (J.mine rank).state (J.mine rank).fits (λ s e. inl e)
+        comes_to P (Client rank at s r) J (K J A.0.1) how rank at (input.Client s r) (λ lt. known J.g A.1) (λ lt S. fine) tt (Contains-push w.asked (record { rank = rank; session = s; request = r })) (J.mine rank).state (J.mine rank).fits (λ s e. inl e)
 
     asks_map : (how : Option Bool) (rank at : ℕ) (s : Session) (r : Request) → ((g : Ghost) → IsAsked g rank s r) → RequestFine r → AllKeep (Client rank at s r)
         → IfOk (after_meeting w (event_of how (Client rank at s r)) (meets ms w (Client rank at s r))) P
     asks_map how rank at s r known fine K =
         let A = map_asked ms.count w.store w.state w.transactions w.messages w.active w.asked I (record { rank = rank; session = s; request = r } ∷ []) in
         let J = A.0 in
-        comes_to P (Client rank at s r) J (K J A.1) how rank at (input.Client s r) (λ lt. known J.g) (λ lt S. fine) tt (J.mine rank).state (J.mine rank).fits (λ s e. inl e)
+        comes_to P (Client rank at s r) J (K J A.1) how rank at (input.Client s r) (λ lt. known J.g) (λ lt S. fine) tt (Contains-push w.asked (record { rank = rank; session = s; request = r })) (J.mine rank).state (J.mine rank).fits (λ s e. inl e)
 
     asks_for : (how : Option Bool) (rank at : ℕ) (s : Session) (r : Request) → rank < ms.count → RequestFits r → AllKeep (Client rank at s r)
         → IfOk (after_meeting w (event_of how (Client rank at s r)) (meets ms w (Client rank at s r))) P
@@ -385,12 +391,12 @@ module _ (ms : Monitors) (w : World) (Told : Envelope → Type 0) where
 
     comes : AllByRecursion Told w.messages → (how : Option Bool) (p : Plain) → PlainFits ms.count p → AllKeep p → IfOk (after_meeting w (event_of how p) (meets ms w p)) P
     comes T how (Start rank at) F K =
-        comes_to P (Start rank at) I (K I (further_refl I.g)) how rank at input.Start (λ lt. tt) (λ lt S. tt) tt tt (record { found = tt; value = tt; pn = omega arith; stage = tt; queue = tt }) (λ s e. let q : s ≡ booting rank = cc in inr q)
+        comes_to P (Start rank at) I (K I (further_refl I.g)) how rank at input.Start (λ lt. tt) (λ lt S. tt) tt tt tt (record { found = tt; value = tt; pn = omega arith; stage = tt; queue = tt }) (λ s e. let q : s ≡ booting rank = cc in inr q)
     comes T how (Deliver zero at) F K = not_there P (Deliver zero at) I (K I (further_refl I.g)) how NoMessage (inr refl)
     comes T how (Deliver (suc k) at) F K =
         delivered P (Deliver (suc k) at) I (K I (further_refl I.g)) how at (slice_get w.messages k) (all_get (EnvelopeHolds ms.count I.g) w.messages k I.sent) (all_get EnvelopeFine w.messages k I.sizes) (all_get Told w.messages k T)
     comes T how (Ring rank timer at) F K =
-        comes_to P (Ring rank timer at) I (K I (further_refl I.g)) how rank at (input.Timer timer) (λ lt. tt) (λ lt S. tt) tt (I.mine rank).state (I.mine rank).fits (λ s e. inl e)
+        comes_to P (Ring rank timer at) I (K I (further_refl I.g)) how rank at (input.Timer timer) (λ lt. tt) (λ lt S. tt) tt tt (I.mine rank).state (I.mine rank).fits (λ s e. inl e)
     comes T how (Client rank at s r) F K = asks_for how rank at s r F.0 F.1 K
 
     pub each_event : AllByRecursion Told w.messages → (e : Event) → PlainFits ms.count (plain_of e) → AllKeep (plain_of e) → IfOk (happens ms w e) P

@@ -1,6 +1,7 @@
 -- What was acknowledged is kept.
 use Rattle.std.specs.Prelude.{◌≡◌, ℕ, ◌<◌, ◌≤◌, true, List, [], ◌∷◌, length, Option, Some, None}
 use Rattle.std.specs.List.{AllByRecursion, Contains}
+use Rattle.mon_kv.specs.Readers.{is_marked}
 use Rattle.mon_tx.specs.Map.{Store}
 use Rattle.mon_tx.specs.Decode.{ops_in}
 use Rattle.mon_msg.specs.Fold.{entry, put_in}
@@ -12,10 +13,10 @@ use Rattle.quorum_model.specs.Growth.{last_of}
 use Rattle.quorum_model.specs.Happens.{is_active}
 use Rattle.quorum_model.specs.World.{World, Asked, Acknowledged, Replied}
 
--- an active leader with a number of at least that of the acknowledgement has the version
+-- an active leader with a number of at least that of the acknowledgement has the version, and is under no full synchronisation
 abbrev pub LeaderHas : Acknowledged → Option State → Store → Type 0
 LeaderHas a None m = Unit {0}
-LeaderHas a (Some s) m = is_active s.phase ≡ true → a.pn ≤ s.leader.pn → a.version ≤ last_of m
+LeaderHas a (Some s) m = is_active s.phase ≡ true → a.pn ≤ s.leader.pn → (a.version ≤ last_of m) × ¬ (is_marked m ≡ true)
 
 -- the version is in the log and puts what was acknowledged, and every later leader has it
 pub record IsKept (n : ℕ) (w : World) (a : Acknowledged) : Type 0 where

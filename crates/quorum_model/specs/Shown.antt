@@ -1,9 +1,11 @@
--- What clients are shown is the log's, and isn't older than what was acknowledged in the same epoch.
-use Rattle.std.specs.Prelude.{◌≡◌, ℕ, ◌+◌, ◌<◌, ◌≤◌, ◌↔◌, Bool, IsTrue, List, length, take, drop}
-use Rattle.std.specs.List.{AllByRecursion}
+-- What clients are shown is the log's, is what they asked for, and isn't older than what was acknowledged in the same epoch.
+use Rattle.std.specs.Prelude.{◌≡◌, ℕ, ◌+◌, ◌<◌, ◌≤◌, ◌↔◌, ◌⊎◌, Bool, IsTrue, List, length, take, drop}
+use Rattle.std.specs.List.{AllByRecursion, Contains}
 use Rattle.mon_msg.specs.Fold.{incrementals, map_of_log, version_of_log}
 use Rattle.mon_wire.specs.declared.reply.Reply.{Reply}
 use Rattle.mon_wire.specs.declared.reply.Reply.TheVariants as reply
+use Rattle.mon_wire.specs.declared.request.Request.{Request}
+use Rattle.mon_wire.specs.declared.request.Request.TheVariants as request
 use Rattle.quorum_model.specs.World.{World, Acknowledged, Replied}
 
 -- these are the incrementals after the first `from` ones, and `more` tells whether others follow
@@ -18,8 +20,24 @@ ShowsLog w r (reply.Shown s paxos version map) =
 ShowsLog w r (reply.Since s from told more) = AreAfter (incrementals s w.log r.last) from told more
 ShowsLog w r other = Unit {0}
 
+-- the session asked that of this monitor
+abbrev pub AskedFor : World → Replied → Request → Type 0
+AskedFor w r what = Contains w.asked (record { rank = r.rank; session = r.session; request = what })
+
+-- what is shown or told was asked for; who asks for changes that aren't kept any more is shown the map
+abbrev pub WasAskedFor : World → Replied → Reply → Type 0
+WasAskedFor w r (reply.Shown s paxos version map) = AskedFor w r (request.Show s) ⊎ ((v : ℕ) × AskedFor w r (request.Since s v))
+WasAskedFor w r (reply.Since s from told more) = AskedFor w r (request.Since s from)
+WasAskedFor w r other = Unit {0}
+
+-- a reply's monitor has versions of the log alone, and what it shows is theirs, and what it was asked for
+pub record IsShown (w : World) (r : Replied) : Type 0 where
+  pub within : r.last ≤ length w.log
+  pub shows : ShowsLog w r r.reply
+  pub asked : WasAskedFor w r r.reply
+
 abbrev pub Shown : World → Type 0
-Shown w = AllByRecursion (λ r. ShowsLog w r r.reply) w.replied
+Shown w = AllByRecursion (IsShown w) w.replied
 
 -- ---- the fence of an acknowledgement
 
