@@ -26,10 +26,11 @@ use Rattle.cephmon_run.specs.Run.{Made, MadeCause, Outside, ReplayCause, Replaye
 use Rattle.cephmon_run.specs.Summary.{IsLine, Summary, counted_from, no_counts, summary, summed}
 use Rattle.cephmon_run.specs.Trace.{Trace, trace}
 use Rattle.mon_world.proofs.Safety.{schedule_safe}
+use Rattle.mon_world.proofs.Tracing.{traces_run}
 use Rattle.cephmon_run.proofs.Schedules.{monitors_of}
 
 runs : (s : Schedule) (h : HasText s) → Runs s (monitors_of s h)
-runs s h = record { count = refl; rule = refl; safe = schedule_safe (monitors_of s h) s.events h.each }
+runs s h = record { count = refl; rule = refl; safe = schedule_safe (monitors_of s h) s.events h.each; told = traces_run (monitors_of s h) s.events }
 
 -- ---- of what was read
 

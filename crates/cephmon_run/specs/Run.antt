@@ -26,6 +26,7 @@ use Rattle.quorum_model.specs.World.{Event}
 use Rattle.cephmon_run.specs.declared.status.Status.{Status}
 use Rattle.cephmon_run.specs.declared.status.Status.TheVariants as status
 use Rattle.mon_world.specs.Events.{scheduled_of}
+use Rattle.mon_world.specs.Traced.{TracesRun}
 use Rattle.task_words.specs.declared.task.Task.{Task}
 use Rattle.task_words.specs.declared.task.Task.TheVariants as task
 use Rattle.cephmon_run.specs.Summary.{Summary, summary}
@@ -49,11 +50,13 @@ most_read = 16777217
 abbrev pub OfRead : Outside → Outside → (List ℕ → Type 0) → Type 0
 OfRead before after fact = (bytes : List ℕ) × (length bytes ≤ most_read) × ReadsWhole most_read before.left after.left bytes × fact bytes
 
--- the monitors of a schedule, whose run is safe at each moment: after each beginning of its events, none and all of them among these
+-- the monitors of a schedule, whose run is safe at each moment: after each beginning of its events, none and all of them among these; and
+-- its trace tells that run
 pub record Runs (schedule : Schedule) (ms : Monitors) : Type 0 where
   pub count : ms.count ≡ schedule.monitors
   pub rule : ms.rule ≡ schedule.rule
   pub safe : (before after : List Event) → before ++ after ≡ events_of ms (map scheduled_of schedule.events) → Safe ms before
+  pub told : TracesRun ms schedule.events
 
 -- the bytes are the text of a schedule, its run is safe, and its trace has this fact
 pub record Replays (bytes : List ℕ) (fact : Trace → Type 0) : Type 0 where

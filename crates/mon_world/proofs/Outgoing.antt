@@ -17,7 +17,7 @@ use Rattle.mon_world.specs.Sending.{GoesOut, Sends}
 use Rattle.mon_world.specs.Stands.{envelope_of}
 use Rattle.mon_world.specs.Step.{numbered, replied}
 
-numbered-append : (n : ℕ) (xs ys : List model.Envelope) → numbered n (xs ++ ys) ≡ numbered n xs ++ numbered (n + length xs) ys
+pub numbered-append : (n : ℕ) (xs ys : List model.Envelope) → numbered n (xs ++ ys) ≡ numbered n xs ++ numbered (n + length xs) ys
 numbered-append n [] ys = let e : n ≡ n + 0 = omega arith in ap (λ (k : ℕ). numbered k ys) e
 numbered-append n (x ∷ xs) ys =
     let e : suc n + length xs ≡ n + suc (length xs) = omega arith in

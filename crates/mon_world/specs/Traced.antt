@@ -1,32 +1,46 @@
--- Where the trace of a schedule's events comes to.
+-- Where the trace of a schedule's events comes to, and what its lines tell.
 use Rattle.std.specs.Prelude.{◌≡◌, List, [], ◌∷◌, map, Option, Some, None, Result, Ok, Err}
+use Rattle.std.specs.List.{flat_map}
 use Rattle.quorum_model.specs.Happens.{Stop}
 use Rattle.quorum_model.specs.Monitors.{Monitors}
 use Rattle.quorum_model.specs.Runs.{ran, run}
 use Rattle.quorum_model.specs.Scenes.{Scene, events_of, first_scene}
+use Rattle.quorum_model.specs.World as model
 use Rattle.schedule_text.specs.declared.event.Event.{Event}
+use Rattle.trace_text.specs.declared.step.Replied.{Replied}
 use Rattle.trace_text.specs.declared.step.StepLine.{StepLine}
 use Rattle.mon_world.specs.Events.{scheduled_of}
-use Rattle.mon_world.specs.Step.{step}
+use Rattle.mon_world.specs.Step.{numbered, step}
 
--- the scene behind the last event that is told, and what stopped the run there, if anything did
+-- what is told of each event, the scene behind the last one, and what stopped the run there, if anything did
 pub record Traced : Type 0 where
+  pub lines : List StepLine
   pub scene : Scene
   pub stop : Option Stop
 
+abbrev pub behind : StepLine → Traced → Traced
+behind line t = record { lines = line ∷ t.lines; scene = t.scene; stop = t.stop }
+
 abbrev pub traced_on : Scene → (Scene → Traced) → Result (Scene × StepLine) Stop → Traced
-traced_on c others (Ok done) = others done.0
-traced_on c others (Err stop) = record { scene = c; stop = Some stop }
+traced_on c others (Ok done) = behind done.1 (others done.0)
+traced_on c others (Err stop) = record { lines = []; scene = c; stop = Some stop }
 
 -- each event is told from the scene that the one before it led to
 unfoldable pub traced_from : Monitors → Scene → List Event → Traced
-traced_from ms c [] = record { scene = c; stop = None }
+traced_from ms c [] = record { lines = []; scene = c; stop = None }
 traced_from ms c (e ∷ es) = traced_on c (λ next. traced_from ms next es) (step ms c e)
 
 abbrev pub traced : Monitors → List Event → Traced
 traced ms es = traced_from ms first_scene es
 
--- The trace is that of the run: it comes to the run's world, and what stops the one stops the other.
+-- a reply, as a line tells it
+abbrev pub as_told : model.Replied → Replied
+as_told r = record { rank = r.rank; session = r.session; reply = r.reply }
+
+-- The trace is that of the run: it comes to the run's world, what stops the one stops the other, and its lines tell each reply and each
+-- message of the run, in order, and no others.
 pub record TracesRun (ms : Monitors) (es : List Event) : Type 0 where
   pub world : (traced ms es).scene.world ≡ run ms (events_of ms (map scheduled_of es))
   pub stop : (traced ms es).stop ≡ (ran ms (events_of ms (map scheduled_of es))).stop
+  pub replies : flat_map (λ (l : StepLine). l.replies) (traced ms es).lines ≡ map as_told (run ms (events_of ms (map scheduled_of es))).replied
+  pub messages : flat_map (λ (l : StepLine). l.sent) (traced ms es).lines ≡ numbered 1 (run ms (events_of ms (map scheduled_of es))).messages
