@@ -10,4 +10,5 @@ pub mod Ranges
 pub mod Over
 pub mod Takes
 pub mod Ties
+pub mod Unread
 pub mod Words

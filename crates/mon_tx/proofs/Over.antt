@@ -13,11 +13,11 @@ use Rattle.mon_tx.specs.Decode.{op_at, ops_at, ops_of}
 use Rattle.mon_tx.specs.Spelled.{range_at, with_range, ranges_at}
 use Rattle.mon_tx.proofs.Loop.{one_more}
 
-or-assoc : (a b c : Bool) → (a || (b || c)) ≡ ((a || b) || c)
+pub or-assoc : (a b c : Bool) → (a || (b || c)) ≡ ((a || b) || c)
 or-assoc true b c = refl
 or-assoc false b c = refl
 
-or-false : (a : Bool) → (a || false) ≡ a
+pub or-false : (a : Bool) → (a || false) ≡ a
 or-false true = refl
 or-false false = refl
 

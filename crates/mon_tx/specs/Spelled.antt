@@ -1,12 +1,14 @@
 -- A change as it stands in a text, and reading over changes.
-use Rattle.std.specs.Prelude.{ℕ, Bool, ◌||◌, List, Result, Ok}
+use Rattle.std.specs.Prelude.{◌≡◌, ℕ, Bool, not, ◌&&◌, ◌||◌, ◌==◌, if◌then◌else◌, List, [], ◌∷◌, length, Option, Some, None, Result, Ok, Err}
 use Rattle.std.specs.List.{list_any}
 use Rattle.mon_bytes.specs.Reading.{Reading}
 use Rattle.mon_tx.specs.declared.op.Op.{Op}
 use Rattle.mon_tx.specs.declared.op.Op.TheVariants.{Put, Erase, ErasePrefix, EraseRange}
 use Rattle.mon_tx.specs.declared.refusal.TxRefused.{TxRefused}
+use Rattle.mon_tx.specs.declared.refusal.TxRefused.TheVariants as refused
 use Rattle.mon_tx.specs.declared.spelled.Spelled.{Spelled}
 use Rattle.mon_tx.specs.declared.spelled.Spelled.TheVariants as spelled
+use Rattle.mon_tx.specs.declared.spelled_ops.SpelledOps.{SpelledOps}
 use Rattle.mon_tx.specs.Text.{is_range}
 use Rattle.mon_tx.specs.Fields.{◌>>=◌}
 use Rattle.mon_tx.specs.Decode.{op_at, ops_at}
@@ -35,3 +37,19 @@ abbrev pub ranges_at : ℕ → ℕ → Reading → Result (Bool × Reading) TxRe
 ranges_at format count c = do
   ops ← ops_at format count c
   Ok (list_any is_range ops.0, ops.1)
+
+-- what a text's changes are from here on: so many, and nothing behind them, where a range was met before or not
+unfoldable pub unread : ℕ → ℕ → Bool → Reading → Result (List Op) TxRefused
+unread format left ranged c = do
+  ops ← ops_at format left c
+  if not (length ops.1.rest == 0) then Err (refused.Rest ops.1.at) else (
+      if format == 2 && not (ranged || list_any is_range ops.0) then Err (refused.Kind 0) else Ok ops.0)
+
+abbrev pub rest_of : SpelledOps → Result (List Op) TxRefused
+rest_of s = unread s.format s.left s.ranged s.cursor
+
+-- What a call answers that reads the next change, where `before` was to be read and `after` still is.
+abbrev pub GoesOn : Result (Option Spelled) TxRefused → Result (List Op) TxRefused → Result (List Op) TxRefused → Type 0
+GoesOn (Ok (Some op)) before after = before ≡ (after >>= λ ops. Ok (change op ∷ ops))
+GoesOn (Ok None) before after = before ≡ Ok []
+GoesOn (Err e) before after = before ≡ Err e

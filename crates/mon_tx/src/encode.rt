@@ -5,7 +5,8 @@ ghost use Rattle.mon_tx.specs.Decode.{OpFits, HasText};
 
 use crate::op::Op;
 use crate::transaction::Transaction;
-use mon_bytes::{Out, OutOfMemory};
+use mon_bytes::{Bytes, Name, Out, OutOfMemory, Prefix};
+use mon_types::Version;
 use thiserror::Error;
 
 /// The most bytes that a transaction's text may have.
@@ -37,6 +38,51 @@ fn op_len(op: &Op) -> u64
     }
 }
 
+fn put_put(out: &mut Out, prefix: &Prefix, key: &Name, value: &Bytes) -> Result<(), OutOfMemory>
+    requires { length value.now < 2 ^ 32 }
+    ensures text { OnOk result (out.new ≡ out.old ++ op_text (Op.Put prefix.now key.now value.now)) }
+    ensures fits { OnOk result (OpFits (Op.Put prefix.now key.now value.now)) }
+{
+    out.put_u8(1)?;
+    out.put_word(prefix.as_slice())?;
+    out.put_word(key.as_slice())?;
+    out.put_u32(value.as_slice().len() as u32)?;
+    out.put_bytes(value.as_slice())
+}
+
+fn put_erase(out: &mut Out, prefix: &Prefix, key: &Name) -> Result<(), OutOfMemory>
+    ensures text { OnOk result (out.new ≡ out.old ++ op_text (Op.Erase prefix.now key.now)) }
+    ensures fits { OnOk result (OpFits (Op.Erase prefix.now key.now)) }
+{
+    out.put_u8(2)?;
+    out.put_word(prefix.as_slice())?;
+    out.put_word(key.as_slice())
+}
+
+fn put_erase_prefix(out: &mut Out, prefix: &Prefix) -> Result<(), OutOfMemory>
+    ensures text { OnOk result (out.new ≡ out.old ++ op_text (Op.ErasePrefix prefix.now)) }
+    ensures fits { OnOk result (OpFits (Op.ErasePrefix prefix.now)) }
+{
+    out.put_u8(3)?;
+    out.put_word(prefix.as_slice())
+}
+
+fn put_range(
+    out: &mut Out,
+    prefix: &Prefix,
+    from: &Version,
+    to: &Version,
+) -> Result<(), OutOfMemory>
+    requires { from.now < to.now }
+    ensures text { OnOk result (out.new ≡ out.old ++ op_text (Op.EraseRange prefix.now from.now to.now)) }
+    ensures fits { OnOk result (OpFits (Op.EraseRange prefix.now from.now to.now)) }
+{
+    out.put_u8(4)?;
+    out.put_word(prefix.as_slice())?;
+    out.put_u64(from.get())?;
+    out.put_u64(to.get())
+}
+
 fn put_op(out: &mut Out, op: &Op) -> Result<(), OutOfMemory>
     requires short { value_len op.now < 2 ^ 32 }
     requires upward { IsTrue (is_upward op.now) }
@@ -44,28 +90,10 @@ fn put_op(out: &mut Out, op: &Op) -> Result<(), OutOfMemory>
     ensures fits { OnOk result (OpFits op.now) }
 {
     match op {
-        Op::Put { prefix, key, value } => {
-            out.put_u8(1)?;
-            out.put_word(prefix.as_slice())?;
-            out.put_word(key.as_slice())?;
-            out.put_u32(value.as_slice().len() as u32)?;
-            out.put_bytes(value.as_slice())
-        }
-        Op::Erase { prefix, key } => {
-            out.put_u8(2)?;
-            out.put_word(prefix.as_slice())?;
-            out.put_word(key.as_slice())
-        }
-        Op::ErasePrefix { prefix } => {
-            out.put_u8(3)?;
-            out.put_word(prefix.as_slice())
-        }
-        Op::EraseRange { prefix, from, to } => {
-            out.put_u8(4)?;
-            out.put_word(prefix.as_slice())?;
-            out.put_u64(from.get())?;
-            out.put_u64(to.get())
-        }
+        Op::Put { prefix, key, value } => put_put(out, prefix, key, value),
+        Op::Erase { prefix, key } => put_erase(out, prefix, key),
+        Op::ErasePrefix { prefix } => put_erase_prefix(out, prefix),
+        Op::EraseRange { prefix, from, to } => put_range(out, prefix, from, to),
     }
 }
 

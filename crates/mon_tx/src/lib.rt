@@ -11,6 +11,7 @@ mod reading;
 mod refusal;
 mod scan;
 mod spelled;
+mod spelled_ops;
 mod transaction;
 
 pub use encode::{EncodeRefused, MOST_BYTES};
@@ -20,4 +21,6 @@ pub use op::Op;
 pub use reading::decode;
 pub use refusal::TxRefused;
 pub use scan::is_text;
+pub use spelled::Spelled;
+pub use spelled_ops::SpelledOps;
 pub use transaction::Transaction;

@@ -31,29 +31,43 @@ pub enum Op {
     },
 }
 
+/// An equal put.
+fn copied_put(alloc: Global, prefix: &Prefix, key: &Name, value: &Bytes) -> Result<Op, OutOfMemory>
+    ensures { IfOk result (λ op. op ≡ Op.Put prefix.now key.now value.now) }
+{
+    Ok(Op::Put {
+        prefix: prefix.copy(alloc)?,
+        key: key.copy(alloc)?,
+        value: value.copy(alloc)?,
+    })
+}
+
+/// An equal erasure of a key.
+fn copied_erase(alloc: Global, prefix: &Prefix, key: &Name) -> Result<Op, OutOfMemory>
+    ensures { IfOk result (λ op. op ≡ Op.Erase prefix.now key.now) }
+{
+    Ok(Op::Erase {
+        prefix: prefix.copy(alloc)?,
+        key: key.copy(alloc)?,
+    })
+}
+
 impl Op {
     /// An equal change.
     pub fn copy(&self, alloc: Global) -> Result<Op, OutOfMemory>
         ensures { IfOk result (λ op. op ≡ self.now) }
     {
-        Ok(match self {
-            Op::Put { prefix, key, value } => Op::Put {
+        match self {
+            Op::Put { prefix, key, value } => copied_put(alloc, prefix, key, value),
+            Op::Erase { prefix, key } => copied_erase(alloc, prefix, key),
+            Op::ErasePrefix { prefix } => Ok(Op::ErasePrefix {
                 prefix: prefix.copy(alloc)?,
-                key: key.copy(alloc)?,
-                value: value.copy(alloc)?,
-            },
-            Op::Erase { prefix, key } => Op::Erase {
-                prefix: prefix.copy(alloc)?,
-                key: key.copy(alloc)?,
-            },
-            Op::ErasePrefix { prefix } => Op::ErasePrefix {
-                prefix: prefix.copy(alloc)?,
-            },
-            Op::EraseRange { prefix, from, to } => Op::EraseRange {
+            }),
+            Op::EraseRange { prefix, from, to } => Ok(Op::EraseRange {
                 prefix: prefix.copy(alloc)?,
                 from: *from,
                 to: *to,
-            },
-        })
+            }),
+        }
     }
 }

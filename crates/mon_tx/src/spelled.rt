@@ -1,6 +1,7 @@
 //! One change of a transaction's text, read without memory.
 
 ghost use Rattle.std.specs.Prelude.{◌≡◌, ℕ, List, IfOk, IsTrue};
+ghost use Rattle.mon_bytes.specs.Texts.{is_name, is_prefix};
 ghost use Rattle.mon_tx.specs.Text.{is_range, is_upward};
 ghost use Rattle.mon_tx.specs.Fields.{Scans};
 ghost use Rattle.mon_tx.specs.Decode.{put_at, erase_at, erase_prefix_at, erase_range_at, op_at, OpFits};
@@ -103,6 +104,31 @@ pub fn op_at<'a>(format: u8, cursor: &mut Cursor<'a>) -> Result<Spelled<'a>, TxR
     }
 }
 
+/// A put of copies.
+fn put_of(alloc: Global, prefix: &[u8], key: &[u8], value: &[u8]) -> Result<Op, OutOfMemory>
+    requires prefix { IsTrue (is_prefix prefix.now) }
+    requires key { IsTrue (is_name key.now) }
+    ensures { IfOk result (λ op. op ≡ Op.Put prefix.now key.now value.now) }
+{
+    Ok(Op::Put {
+        prefix: Prefix::from_slice(alloc, prefix)?,
+        key: Name::from_slice(alloc, key)?,
+        value: Bytes::new(Vec::from_slice(alloc, value)?),
+    })
+}
+
+/// An erasure of a copied key.
+fn erase_of(alloc: Global, prefix: &[u8], key: &[u8]) -> Result<Op, OutOfMemory>
+    requires prefix { IsTrue (is_prefix prefix.now) }
+    requires key { IsTrue (is_name key.now) }
+    ensures { IfOk result (λ op. op ≡ Op.Erase prefix.now key.now) }
+{
+    Ok(Op::Erase {
+        prefix: Prefix::from_slice(alloc, prefix)?,
+        key: Name::from_slice(alloc, key)?,
+    })
+}
+
 impl<'a> Spelled<'a> {
     pub fn is_range(&self) -> bool
         ensures { result ≡ is_range (change self.now) }
@@ -119,24 +145,17 @@ impl<'a> Spelled<'a> {
         ensures op { IfOk result (λ op. op ≡ change self.now) }
         ensures upward { IfOk result (λ op. IsTrue (is_upward op)) }
     {
-        Ok(match self {
-            Spelled::Put { prefix, key, value } => Op::Put {
+        match self {
+            Spelled::Put { prefix, key, value } => put_of(alloc, prefix, key, value),
+            Spelled::Erase { prefix, key } => erase_of(alloc, prefix, key),
+            Spelled::ErasePrefix { prefix } => Ok(Op::ErasePrefix {
                 prefix: Prefix::from_slice(alloc, prefix)?,
-                key: Name::from_slice(alloc, key)?,
-                value: Bytes::new(Vec::from_slice(alloc, value)?),
-            },
-            Spelled::Erase { prefix, key } => Op::Erase {
-                prefix: Prefix::from_slice(alloc, prefix)?,
-                key: Name::from_slice(alloc, key)?,
-            },
-            Spelled::ErasePrefix { prefix } => Op::ErasePrefix {
-                prefix: Prefix::from_slice(alloc, prefix)?,
-            },
-            Spelled::EraseRange { prefix, from, to } => Op::EraseRange {
+            }),
+            Spelled::EraseRange { prefix, from, to } => Ok(Op::EraseRange {
                 prefix: Prefix::from_slice(alloc, prefix)?,
                 from: *from,
                 to: *to,
-            },
-        })
+            }),
+        }
     }
 }

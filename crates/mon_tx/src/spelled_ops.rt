@@ -1,0 +1,81 @@
+//! The changes that a text spells, read one after the other without memory.
+
+ghost use Rattle.std.specs.Prelude.{◌≡◌, ◌<◌, false, [], Err, IfOk, IfErr, IfSome};
+ghost use Rattle.mon_bytes.specs.Answers.{Gives};
+ghost use Rattle.mon_tx.specs.Decode.{transaction_of, OpFits};
+ghost use Rattle.mon_tx.specs.Spelled.{change, rest_of, GoesOn};
+
+use crate::encode::MOST_BYTES;
+use crate::fields::format_at;
+use crate::refusal::TxRefused;
+use crate::spelled::{Spelled, op_at};
+use mon_bytes::Cursor;
+
+/// The changes of a text that aren't read yet.
+#[derive(Drop)]
+pub struct SpelledOps<'a> {
+    cursor: Cursor<'a>,
+    format: u8,
+    left: u32,
+    /// Whether a range is among the changes that were read.
+    ranged: bool,
+}
+
+impl<'a> SpelledOps<'a> {
+    /// The changes of a text, of which the first field is still to be read that tells more than how many there are. An `Err` is
+    /// what the text is refused with.
+    #[tactic(auto, unfolding(crate::specs::Decode::transaction_of, crate::specs::Decode::ops_of, crate::specs::Spelled::unread))]
+    pub fn new(text: &'a [u8]) -> Result<SpelledOps<'a>, TxRefused>
+        ensures ok { IfOk result (λ ops. rest_of ops ≡ transaction_of text.now) }
+        ensures err { IfErr result (λ e. transaction_of text.now ≡ Err e) }
+    {
+        if text.len() as u64 > MOST_BYTES {
+            return Err(TxRefused::TooLong { len: text.len() });
+        }
+        let mut cursor = Cursor::new(text);
+        let format = format_at(&mut cursor)?;
+        let left = cursor.take_u32()?;
+        Ok(SpelledOps {
+            cursor,
+            format,
+            left,
+            ranged: false,
+        })
+    }
+
+    /// Whether the text may end behind its last change.
+    fn end(&self) -> Result<(), TxRefused>
+        requires { self.now.left ≡ 0 }
+        ensures { Gives (λ e. false) (λ _. []) result (rest_of self.now) }
+    {
+        if self.cursor.left() != 0 {
+            return Err(TxRefused::Rest {
+                at: self.cursor.at(),
+            });
+        }
+        if self.format == 2 && !self.ranged {
+            return Err(TxRefused::Kind { at: 0 });
+        }
+        Ok(())
+    }
+
+    /// The next change, and `None` behind the last one, where the text ends well. An `Err` is what the text is refused with.
+    pub fn next_op(&mut self) -> Result<Option<Spelled<'a>>, TxRefused>
+        ensures op { GoesOn result (rest_of self.old) (rest_of self.new) }
+        ensures fits { IfOk result (λ next. IfSome next (λ op. OpFits (change op))) }
+        ensures less { IfOk result (λ next. IfSome next (λ _. self.new.left < self.old.left)) }
+    {
+        if self.left == 0 {
+            self.end()?;
+            return Ok(None);
+        }
+        match op_at(self.format, &mut self.cursor) {
+            Ok(op) => {
+                self.left -= 1;
+                self.ranged = self.ranged | op.is_range();
+                Ok(Some(op))
+            }
+            Err(refused) => Err(refused),
+        }
+    }
+}
