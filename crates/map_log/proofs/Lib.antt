@@ -1,4 +1,2 @@
 pub mod Lengths
-pub mod Loop
 pub mod Laws
-pub mod Again

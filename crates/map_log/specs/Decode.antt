@@ -3,8 +3,10 @@ use Rattle.std.specs.Prelude.{ℕ, zero, suc, List, [], ◌∷◌, Result, Ok, E
 use Rattle.mon_bytes.specs.declared.command.MapRefused.{MapRefused}
 use Rattle.mon_bytes.specs.declared.command.MapRefused.TheVariants.{Form}
 use Rattle.mon_bytes.specs.Reading.{Reading, number}
+use Rattle.mon_bytes.specs.Format.{Format}
 use Rattle.mon_bytes.specs.Forms.{◌>>=◌, fitted, text_at, ended}
 use Rattle.map_log.specs.declared.inc.LogInc.{LogInc}
+use Rattle.map_log.specs.Text.{inc_text, map_text, IncFits, MapFits}
 
 -- the rank of a monitor
 unfoldable pub rank_at : Reading → Result (ℕ × Reading) MapRefused
@@ -38,3 +40,11 @@ map_of bytes = do
   count ← fitted (number 4 (record { at = 0; rest = bytes }))
   entries ← entries_at count.0 count.1
   ended entries
+
+-- ---- how both are spelled and read
+
+abbrev pub inc_format : Format MapRefused LogInc
+inc_format = record { text = inc_text; read = inc_at; Form = IncFits }
+
+abbrev pub map_format : Format MapRefused (List LogInc)
+map_format = record { text = map_text; read = λ c. fitted (number 4 c) >>= λ count. entries_at count.0 count.1; Form = MapFits }

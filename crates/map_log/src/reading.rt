@@ -1,12 +1,9 @@
-ghost use Rattle.std.specs.Prelude.{◌≡◌, List, IfOk, Ok};
-ghost use Rattle.mon_bytes.specs.Forms.{Reads, Gives};
-ghost use Rattle.map_log.specs.declared.inc.LogInc.{LogInc as Inc};
-ghost use Rattle.map_log.specs.Text.{inc_text, map_text, IncFits, MapFits};
-ghost use Rattle.map_log.specs.Decode.{rank_at, inc_at, inc_of, entries_at, map_of};
+ghost use Rattle.mon_bytes.specs.Forms.{Reads};
+ghost use Rattle.map_log.specs.Decode.{rank_at, entries_at};
 
 use crate::inc::LogInc;
 use crate::map::LogMap;
-use mon_bytes::{Cursor, MapRefused, read_text};
+use mon_bytes::{Cursor, Decode, MapRefused, read_text};
 use mon_types::Rank;
 use std::alloc::Global;
 
@@ -22,25 +19,19 @@ fn rank_at(cursor: &mut Cursor<'_>) -> Result<Rank, MapRefused>
     }
 }
 
-#[tactic(auto, unfolding(crate::specs::Decode::inc_at))]
-fn inc_at(alloc: Global, cursor: &mut Cursor<'_>) -> Result<LogInc, MapRefused>
-    ensures { Reads (λ x. x) result cursor.new (inc_at cursor.old) }
-{
-    let rank = rank_at(cursor)?;
-    let text = read_text(alloc, cursor)?;
-    Ok(LogInc { rank, text })
-}
+impl Decode for LogInc {
+    ghost use Rattle.map_log.specs.Decode.{inc_format, inc_of};
 
-#[tactic(auto, unfolding(crate::specs::Decode::inc_of, mon_bytes::specs::Forms::ended))]
-fn inc_of(alloc: Global, bytes: &[u8]) -> Result<LogInc, MapRefused>
-    ensures { Gives (λ x. x) result (inc_of bytes.now) }
-{
-    let mut cursor = Cursor::new(bytes);
-    let inc = inc_at(alloc, &mut cursor)?;
-    if cursor.left() != 0 {
-        return Err(MapRefused::Form { at: cursor.at() });
+    ghost format = { inc_format };
+
+    ghost spelled = { inc_of };
+
+    #[tactic(auto, using(crate::proofs::Laws::inc_is_lawful, crate::proofs::Laws::inc_is_whole), unfolding(crate::specs::Decode::inc_at))]
+    fn read(alloc: Global, cursor: &mut Cursor<'_>) -> Result<LogInc, MapRefused> {
+        let rank = rank_at(cursor)?;
+        let text = read_text(alloc, cursor)?;
+        Ok(LogInc { rank, text })
     }
-    Ok(inc)
 }
 
 fn entries_at(alloc: Global, count: u32, cursor: &mut Cursor<'_>) -> Result<LogMap, MapRefused>
@@ -48,50 +39,23 @@ fn entries_at(alloc: Global, count: u32, cursor: &mut Cursor<'_>) -> Result<LogM
 {
     let mut map = LogMap::new(alloc);
     for _ in 0..count {
-        let inc = inc_at(alloc, cursor)?;
+        let inc = LogInc::read(alloc, cursor)?;
         map.push(inc)?;
     }
     Ok(map)
 }
 
-#[tactic(auto, unfolding(crate::specs::Decode::map_of, mon_bytes::specs::Forms::ended))]
-fn map_of(alloc: Global, bytes: &[u8]) -> Result<LogMap, MapRefused>
-    ensures { Gives (λ x. x) result (map_of bytes.now) }
-{
-    let mut cursor = Cursor::new(bytes);
-    let count = cursor.take_u32()?;
-    let map = entries_at(alloc, count, &mut cursor)?;
-    if cursor.left() != 0 {
-        return Err(MapRefused::Form { at: cursor.at() });
-    }
-    Ok(map)
-}
+/// A map above the limits of `apply` is read as it stands.
+impl Decode for LogMap {
+    ghost use Rattle.map_log.specs.Decode.{map_format, map_of};
 
-impl LogInc {
-    /// The entry that the bytes spell, all of the bytes. `Form` names the first place of the first field at fault.
-    pub fn decode(alloc: Global, bytes: &[u8]) -> Result<LogInc, MapRefused>
-        // What is read is spelled so.
-        ensures found { IfOk result (λ inc. IncFits inc × (bytes.now ≡ inc_text inc)) }
-        // What is spelled so is read, unless memory runs out.
-        ensures only { (inc : Inc) → IncFits inc → bytes.now ≡ inc_text inc → Gives (λ x. x) result (Ok inc) }
-        // Which field is at fault.
-        ensures exact { Gives (λ x. x) result (inc_of bytes.now) }
-    {
-        inc_of(alloc, bytes)
-    }
-}
+    ghost format = { map_format };
 
-impl LogMap {
-    /// The map that the bytes spell, all of the bytes. `Form` names the first place of the first field at fault. A map above
-    /// the limits of `apply` is read as it stands.
-    pub fn decode(alloc: Global, bytes: &[u8]) -> Result<LogMap, MapRefused>
-        // What is read is spelled so.
-        ensures found { IfOk result (λ map. MapFits map × (bytes.now ≡ map_text map)) }
-        // What is spelled so is read, unless memory runs out.
-        ensures only { (map : List Inc) → MapFits map → bytes.now ≡ map_text map → Gives (λ x. x) result (Ok map) }
-        // Which field is at fault.
-        ensures exact { Gives (λ x. x) result (map_of bytes.now) }
-    {
-        map_of(alloc, bytes)
+    ghost spelled = { map_of };
+
+    #[tactic(auto, using(crate::proofs::Laws::map_is_lawful, crate::proofs::Laws::map_is_whole))]
+    fn read(alloc: Global, cursor: &mut Cursor<'_>) -> Result<LogMap, MapRefused> {
+        let count = cursor.take_u32()?;
+        entries_at(alloc, count, cursor)
     }
 }

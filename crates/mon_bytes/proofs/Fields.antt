@@ -4,6 +4,7 @@ use Rattle.std.proofs.lemmas.Bool.{cases_lt, ltb-false, le-ltb}
 use Rattle.std.proofs.lemmas.List.{append-nil, take_at, drop_at, take-append-drop, length-append, length-take, get_or-drop, get_or-take, get_or_past}
 use Rattle.byteorder.specs.Endian.{little_bytes, little_number}
 use Rattle.mon_bytes.specs.Reading.{IsBytes, Reading, moved, number, front}
+pub use Rattle.mon_bytes.specs.Reading.{Takes, Found}
 use Rattle.mon_bytes.proofs.LittleEndian.{little_number-below, little_bytes-little_number}
 
 IsBytes-drop : (n : ℕ) (bytes : List ℕ) → IsBytes bytes → IsBytes (drop n bytes)
@@ -26,11 +27,6 @@ chosen_ok false d r y e = absurd cc
 
 pub ok_is : {A E : Type 0} (x y : A) → ◌≡◌ {A = Result A E} (Ok x) (Ok y) → x ≡ y
 ok_is x y e = cc
-
--- what a reader took from the front
-pub record Takes (c : Reading) (taken : List ℕ) (after : Reading) : Type 0 where
-  pub parts : c.rest ≡ taken ++ after.rest
-  pub bytes : IsBytes after.rest
 
 pub Takes-then : (a b c : Reading) (x y : List ℕ) → Takes a x b → Takes b y c → Takes a (x ++ y) c
 Takes-then a b c x y p q = record { parts = p.parts ∙ ap (λ (t : List ℕ). x ++ t) q.parts ∙ sym (append_assoc x y c.rest); bytes = q.bytes }
@@ -60,10 +56,6 @@ byte_takes c x fits e =
     let t = number_takes 1 c x fits e in
     let one : little_bytes 1 x.0 ≡ x.0 ∷ [] = ap (λ (n : ℕ). n ∷ []) (omega (arith, t.1)) in
     (subst (λ (bs : List ℕ). Takes c bs x.1) one t.0, omega (arith, t.1))
-
--- a reader finds this in front of the rest
-abbrev pub Found : {A E : Type 0} → Result (A × Reading) E → A → List ℕ → Type 0
-Found read x rest = (after : Reading) × (after.rest ≡ rest) × (read ≡ Ok (x, after))
 
 pub number_found : (k : ℕ) (c : Reading) (bytes rest : List ℕ) (n : ℕ) → c.rest ≡ bytes ++ rest → length bytes ≡ k → little_number k bytes ≡ n → Found (number k c) n rest
 number_found k c bytes rest n e len is =

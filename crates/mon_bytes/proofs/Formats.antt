@@ -9,11 +9,16 @@ use Rattle.mon_bytes.specs.declared.cursor.Short.{Short}
 use Rattle.mon_bytes.specs.Reading.{IsBytes, Reading, number}
 use Rattle.mon_bytes.proofs.Fields.{guard_ok, ok_is, Takes, Takes-then, number_takes, byte_takes, Found, number_found, byte_found}
 use Rattle.mon_bytes.specs.Answers.{◌>>=◌, at_fault, Fails, Unless}
+pub use Rattle.mon_bytes.specs.Format.{IsLawful}
 use Rattle.mon_bytes.specs.Format.{Faults, Reader, Format, nothing, dependent, seen_as, as_parts, items, u16_bytes, list, some, Spelling, variant, chosen, tagged}
 
 pub bind_ok : {A B E : Type 0} (r : Result A E) (f : A → Result B E) (y : B) → (r >>= f) ≡ Ok y → (x : A) × (r ≡ Ok x) × (f x ≡ Ok y)
 bind_ok (Ok x) f y e = (x, refl, e)
 bind_ok (Err d) f y e = absurd cc
+
+pub bind_bind : {A B C E : Type 0} (r : Result A E) (f : A → Result B E) (g : B → Result C E) → ((r >>= f) >>= g) ≡ (r >>= λ x. f x >>= g)
+bind_bind (Ok x) f g = refl
+bind_bind (Err d) f g = refl
 
 pub at_fault_ok : {A E : Type 0} (fault : ℕ → E) (r : Result A Short) (x : A) → at_fault fault r ≡ Ok x → r ≡ Ok x
 at_fault_ok fault (Ok y) x e = let same : y ≡ x = cc in ap (λ z. Ok z) same
@@ -26,10 +31,6 @@ fails_on {A} {B} {E} no_memory e part more = by (no_memory e)
     by : (b : Bool) → Unless b (part ≡ Err e) → Unless b ((part >>= more) ≡ Err e)
     by true h = tt
     by false h = rw h refl
-
-pub record IsLawful {E A : Type 0} (f : Format E A) : Type 0 where
-  pub takes : (c : Reading) (x : A × Reading) → IsBytes c.rest → f.read c ≡ Ok x → Takes c (f.text x.0) x.1 × f.Form x.0
-  pub found : (c : Reading) (x : A) (rest : List ℕ) → c.rest ≡ f.text x ++ rest → f.Form x → Found (f.read c) x rest
 
 pub nothing-lawful : {E : Type 0} → IsLawful (nothing {E = E})
 nothing-lawful {E} = record {

@@ -4,3 +4,4 @@ pub mod Formats
 pub mod Forms
 pub mod ItemsLoop
 pub mod LittleEndian
+pub mod Ordered

@@ -1,8 +1,8 @@
 -- Formats: how values are spelled in bytes, how they are read, and which values have a spelling.
-use Rattle.std.specs.Prelude.{ℕ, zero, suc, ◌≤◌, ◌<◌, ◌^◌, List, [], ◌∷◌, ◌++◌, length, Result, Ok, Err, ◌==◌, if◌then◌else◌}
+use Rattle.std.specs.Prelude.{◌≡◌, ℕ, zero, suc, ◌≤◌, ◌<◌, ◌^◌, List, [], ◌∷◌, ◌++◌, length, Result, Ok, Err, ◌==◌, if◌then◌else◌}
 use Rattle.std.specs.List.{flat_map, AllByRecursion}
 use Rattle.byteorder.specs.Endian.{little_bytes}
-use Rattle.mon_bytes.specs.Reading.{Reading, number}
+use Rattle.mon_bytes.specs.Reading.{IsBytes, Reading, Takes, Found, number}
 use Rattle.mon_bytes.specs.Answers.{◌>>=◌, at_fault}
 
 -- what is said of a field that is cut, and of one that is outside its set, by the place where it begins
@@ -17,6 +17,11 @@ pub record Format (E A : Type 0) : Type 1 where
   pub text : A → List ℕ
   pub read : Reader E A
   pub Form : A → Type 0
+
+-- What is read in a format is spelled so, and what is spelled so is read.
+pub record IsLawful {E A : Type 0} (f : Format E A) : Type 0 where
+  pub takes : (c : Reading) (x : A × Reading) → IsBytes c.rest → f.read c ≡ Ok x → Takes c (f.text x.0) x.1 × f.Form x.0
+  pub found : (c : Reading) (x : A) (rest : List ℕ) → c.rest ≡ f.text x ++ rest → f.Form x → Found (f.read c) x rest
 
 -- no bytes
 abbrev pub nothing : {E : Type 0} → Format E (Unit {0})

@@ -8,6 +8,7 @@ use Rattle.mon_bytes.specs.declared.command.MapRefused.TheVariants as refused
 use Rattle.mon_bytes.specs.Reading.{Reading, number, front}
 use Rattle.mon_bytes.specs.Answers as answers
 use Rattle.mon_bytes.specs.Answers.{at_fault}
+use Rattle.mon_bytes.specs.Format.{Format}
 pub use Rattle.mon_bytes.specs.Answers.{◌>>=◌}
 
 -- whether memory ran out
@@ -47,3 +48,7 @@ text_at c = do
 -- what was read, where nothing is left; the first byte too many is at fault
 unfoldable pub ended : {A : Type 0} → A × Reading → Result A MapRefused
 ended x = if length x.1.rest == 0 then Ok x.0 else Err (refused.Form x.1.at)
+
+-- what all of the bytes spell
+unfoldable pub whole : {A : Type 0} → Format MapRefused A → List ℕ → Result A MapRefused
+whole f bytes = f.read (record { at = 0; rest = bytes }) >>= λ x. ended x

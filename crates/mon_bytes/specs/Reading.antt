@@ -1,5 +1,5 @@
 -- Reading from left to right.
-use Rattle.std.specs.Prelude.{◌≡◌, ℕ, ◌+◌, ◌<◌, List, length, take, drop, get_or, Result, Ok, Err, nat_lt, if◌then◌else◌}
+use Rattle.std.specs.Prelude.{◌≡◌, ℕ, ◌+◌, ◌<◌, List, ◌++◌, length, take, drop, get_or, Result, Ok, Err, nat_lt, if◌then◌else◌}
 use Rattle.byteorder.specs.Endian.{little_number}
 use Rattle.mon_bytes.specs.declared.cursor.Short.{Short}
 
@@ -27,3 +27,12 @@ number n c = if nat_lt (length c.rest) n then Err (record { at = c.at }) else Ok
 abbrev pub Steps : {X Y : Type 0} → (X → Y) → Result X Short → Reading → Reading → Result (Y × Reading) Short → Type 0
 Steps view (Ok x) old new wanted = wanted ≡ Ok (view x, new)
 Steps view (Err e) old new wanted = (wanted ≡ Err e) × (new ≡ old)
+
+-- what a reader took from the front
+pub record Takes (c : Reading) (taken : List ℕ) (after : Reading) : Type 0 where
+  pub parts : c.rest ≡ taken ++ after.rest
+  pub bytes : IsBytes after.rest
+
+-- a reader finds this in front of the rest
+abbrev pub Found : {A E : Type 0} → Result (A × Reading) E → A → List ℕ → Type 0
+Found read x rest = (after : Reading) × (after.rest ≡ rest) × (read ≡ Ok (x, after))

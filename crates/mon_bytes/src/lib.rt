@@ -3,6 +3,7 @@
 
 mod command;
 mod cursor;
+mod decode;
 mod entry;
 mod form;
 mod items;
@@ -15,6 +16,7 @@ mod word;
 
 pub use command::{Command, CommandRefused, MapRefused};
 pub use cursor::{Cursor, Short};
+pub use decode::Decode;
 pub use entry::{Entry, KeyPlace};
 pub use form::{read_text, write_count, write_text};
 pub use items::{Items, TryCopy};

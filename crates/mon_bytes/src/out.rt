@@ -1,4 +1,4 @@
-ghost use Rattle.std.specs.Prelude.{◌≡◌, ℕ, ◌<◌, List, [], ◌∷◌, ◌++◌, length, OnOk, OnErr};
+ghost use Rattle.std.specs.Prelude.{◌≡◌, ℕ, ◌<◌, List, [], ◌∷◌, ◌++◌, length, IfOk, OnOk, OnErr};
 ghost use Rattle.byteorder.specs.Endian.{little_bytes};
 
 use crate::memory::OutOfMemory;
@@ -26,6 +26,15 @@ impl Out {
         Out {
             bytes: Vec::new(alloc),
         }
+    }
+
+    /// No bytes yet, with room for so many.
+    pub fn with_capacity(alloc: Global, most: usize) -> Result<Out, OutOfMemory>
+        ensures { IfOk result (λ out. out ≡ []) }
+    {
+        Ok(Out {
+            bytes: Vec::with_capacity(alloc, most)?,
+        })
     }
 
     /// Appends the bytes.
