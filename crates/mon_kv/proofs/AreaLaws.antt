@@ -8,7 +8,8 @@ use Rattle.std.specs.Ordering.{eq_by_cmp, is_eq}
 use Rattle.std.specs.Cmp.{eq_by_cmp_equiv, alike_right, tied_itself}
 use Rattle.std.specs.FinMap.Entries.{find, put, where_key, is_sorted, by_order, find-put, find_tied, find-where_key, is_sorted-put, is_sorted-where_key}
 use Rattle.std.proofs.lemmas.Bool.{and_parts}
-use Rattle.mon_bytes.specs.Texts.{is_prefix}
+use Rattle.mon_bytes.specs.Texts.{is_name, is_prefix}
+use Rattle.mon_tx.proofs.Words.{word_parts, is_word_by}
 use Rattle.mon_kv.specs.Tree.{bytes_cmp, entries, is_empty, IsInOrder}
 use Rattle.mon_kv.specs.Areas.{Records, under, is_area, with_area, record_size, freed_size, area_size, areas_size, weight_of, IsWhole, IsTaken, Changes}
 use Rattle.mon_kv.specs.declared.tree.Tree.{Tree, Leaf}
@@ -24,6 +25,10 @@ to_T b h = subst T (sym h) tt
 pub from_T : (b : Bool) → T b → b ≡ true
 from_T true h = refl
 from_T false h = absurd h
+
+-- a prefix has the form of a name
+pub prefix_name : (prefix : List ℕ) → is_prefix prefix ≡ true → is_name prefix ≡ true
+prefix_name prefix h = let p = word_parts 32 prefix h in is_word_by 255 prefix p.low (omega (arith, p.high)) p.good
 
 -- ---- two changes at one key
 module _ {V : Type 0} where

@@ -3,7 +3,7 @@
 ghost use Rattle.std.specs.Prelude.{◌≡◌, ◌+◌, ◌-◌, ◌<◌, ◌^◌, [], not, min, IsTrue, IsSome, IfSome, IfNone, IfOk, OnOk, OnErr};
 ghost use Rattle.std.specs.Ordering.{eq_by_cmp};
 ghost use Rattle.std.specs.FinMap.Entries.{find, put, where_key};
-ghost use Rattle.mon_bytes.specs.Texts.{is_prefix};
+ghost use Rattle.mon_bytes.specs.Texts.{is_name, is_prefix};
 ghost use Rattle.mon_tx.specs.Map.{is_within};
 ghost use Rattle.mon_tx.specs.Keys.{decimal_text};
 ghost use Rattle.mon_kv.specs.Tree.{bytes_cmp, entries, IsInOrder};
@@ -11,40 +11,30 @@ ghost use Rattle.mon_kv.specs.Areas.{under, with_area, record_size, freed_size, 
 
 use crate::tree::Tree;
 use itoa::Buffer;
-use mon_bytes::{Bytes, Name, OutOfMemory, Prefix};
+use mon_bytes::{Bytes, OutOfMemory};
 use std::alloc::Global;
 use std::mem::replace;
 
 /// The trees of all prefixes, none of them empty.
 pub(crate) type Areas = Tree<Tree<Bytes>>;
 
-/// A prefix as a name.
-fn name_of(alloc: Global, prefix: &Prefix) -> Result<Name, OutOfMemory>
-    ensures value { IfOk result (λ name. name ≡ prefix.now) }
-    ensures form { IsTrue (is_prefix prefix.now) }
-{
-    match Name::new(Vec::from_slice(alloc, prefix.as_slice())?) {
-        Some(name) => Ok(name),
-        None => unreachable!(),
-    }
-}
-
 /// What a key with its value counts with.
-pub(crate) fn record_size(prefix: &Prefix, key: &Name, value: &Bytes) -> u64
+pub(crate) fn record_size(prefix: &[u8], key: &[u8], value: &[u8]) -> u64
+    requires prefix { IsTrue (is_prefix prefix.now) }
+    requires key { IsTrue (is_name key.now) }
     ensures { result ≡ record_size prefix.now key.now value.now }
 {
-    prefix.as_slice().len() as u64
-        + key.as_slice().len() as u64
-        + value.as_slice().len() as u64
-        + 16
+    prefix.len() as u64 + key.len() as u64 + value.len() as u64 + 16
 }
 
 /// The same of a value that was there, and 0 where none was.
-fn freed_size(prefix: &Prefix, key: &Name, value: &Option<Bytes>) -> u64
+fn freed_size(prefix: &[u8], key: &[u8], value: &Option<Bytes>) -> u64
+    requires prefix { IsTrue (is_prefix prefix.now) }
+    requires key { IsTrue (is_name key.now) }
     ensures { result ≡ freed_size prefix.now key.now value.now }
 {
     match value {
-        Some(value) => record_size(prefix, key, value),
+        Some(value) => record_size(prefix, key, value.as_slice()),
         None => 0,
     }
 }
@@ -65,14 +55,15 @@ fn weight(records: &Tree<Bytes>, prefix_len: u64) -> u64
 }
 
 /// Takes the tree of a prefix out, where there is one, and leaves an empty one in its place.
-fn take(areas: &mut Areas, prefix: &Prefix) -> Option<Tree<Bytes>>
-    requires { IsWhole areas.old }
+fn take(areas: &mut Areas, prefix: &[u8]) -> Option<Tree<Bytes>>
+    requires whole { IsWhole areas.old }
+    requires prefix { IsTrue (is_prefix prefix.now) }
     ensures some { IfSome result (IsTaken areas.old areas.new prefix.now) }
     ensures none { IfNone result (entries areas.new ≡ entries areas.old) }
     ensures nothing { IfNone result (under (find bytes_cmp prefix.now (entries areas.old)) ≡ []) }
 {
     let mut records = Tree::Leaf;
-    if areas.exchange(prefix.as_slice(), &mut records) {
+    if areas.exchange(prefix, &mut records) {
         Some(records)
     } else {
         None
@@ -80,34 +71,36 @@ fn take(areas: &mut Areas, prefix: &Prefix) -> Option<Tree<Bytes>>
 }
 
 /// Sets the tree of a prefix that has one, or takes the prefix away where that tree is empty.
-fn set(areas: &mut Areas, prefix: &Prefix, mut records: Tree<Bytes>)
+fn set(areas: &mut Areas, prefix: &[u8], mut records: Tree<Bytes>)
     requires in_order { IsInOrder areas.old }
     requires there { IsSome (find bytes_cmp prefix.now (entries areas.old)) }
     ensures { entries areas.new ≡ with_area prefix.now records (entries areas.old) }
 {
     if records.is_empty() {
-        areas.remove(prefix.as_slice());
+        areas.remove(prefix);
     } else {
-        areas.exchange(prefix.as_slice(), &mut records);
+        areas.exchange(prefix, &mut records);
     }
 }
 
 /// Puts a first key under a prefix that has none.
+#[tactic(auto, using(crate::proofs::AreaLaws::prefix_name))]
 fn begin(
     areas: &mut Areas,
     alloc: Global,
-    prefix: &Prefix,
-    key: &Name,
+    prefix: &[u8],
+    key: &[u8],
     value: Bytes,
 ) -> Result<(), OutOfMemory>
-    requires { IsWhole areas.old }
+    requires whole { IsWhole areas.old }
+    requires prefix { IsTrue (is_prefix prefix.now) }
+    requires key { IsTrue (is_name key.now) }
     ensures ok { OnOk result (Changes areas.old areas.new prefix.now (put bytes_cmp key.now value [])) }
     ensures err { OnErr result (entries areas.new ≡ entries areas.old) }
 {
-    let name = name_of(alloc, prefix)?;
     let mut records = Tree::Leaf;
     records.put(alloc, key, value)?;
-    areas.put(alloc, &name, records)?;
+    areas.put(alloc, prefix, records)?;
     Ok(())
 }
 
@@ -115,11 +108,13 @@ fn begin(
 pub(crate) fn put(
     areas: &mut Areas,
     alloc: Global,
-    prefix: &Prefix,
-    key: &Name,
+    prefix: &[u8],
+    key: &[u8],
     value: Bytes,
 ) -> Result<u64, OutOfMemory>
-    requires { IsWhole areas.old }
+    requires whole { IsWhole areas.old }
+    requires prefix { IsTrue (is_prefix prefix.now) }
+    requires key { IsTrue (is_name key.now) }
     ensures freed { IfOk result (λ freed. areas_size (entries areas.new) + freed ≡ areas_size (entries areas.old) + record_size prefix.now key.now value) }
     ensures ok { OnOk result (Changes areas.old areas.new prefix.now (put bytes_cmp key.now value (under (find bytes_cmp prefix.now (entries areas.old))))) }
     ensures err { OnErr result (Changes areas.old areas.new prefix.now (under (find bytes_cmp prefix.now (entries areas.old)))) }
@@ -137,14 +132,16 @@ pub(crate) fn put(
 }
 
 /// Takes a key away, and tells what it counted with.
-pub(crate) fn erase(areas: &mut Areas, prefix: &Prefix, key: &Name) -> u64
-    requires { IsWhole areas.old }
+pub(crate) fn erase(areas: &mut Areas, prefix: &[u8], key: &[u8]) -> u64
+    requires whole { IsWhole areas.old }
+    requires prefix { IsTrue (is_prefix prefix.now) }
+    requires key { IsTrue (is_name key.now) }
     ensures freed { areas_size (entries areas.new) + result ≡ areas_size (entries areas.old) }
     ensures after { Changes areas.old areas.new prefix.now (where_key bytes_cmp (λ x. not (eq_by_cmp bytes_cmp key.now x)) (under (find bytes_cmp prefix.now (entries areas.old)))) }
 {
     match take(areas, prefix) {
         Some(mut records) => {
-            let old = records.remove(key.as_slice());
+            let old = records.remove(key);
             set(areas, prefix, records);
             freed_size(prefix, key, &old)
         }
@@ -153,14 +150,14 @@ pub(crate) fn erase(areas: &mut Areas, prefix: &Prefix, key: &Name) -> u64
 }
 
 /// Takes every key of a prefix away, and tells what they counted with.
-pub(crate) fn erase_prefix(areas: &mut Areas, prefix: &Prefix) -> u64
+pub(crate) fn erase_prefix(areas: &mut Areas, prefix: &[u8]) -> u64
     requires whole { IsWhole areas.old }
     requires fits { areas_size (entries areas.old) < 2 ^ 64 }
     ensures freed { areas_size (entries areas.new) + result ≡ areas_size (entries areas.old) }
     ensures after { Changes areas.old areas.new prefix.now [] }
 {
-    match areas.remove(prefix.as_slice()) {
-        Some(records) => weight(&records, prefix.as_slice().len() as u64),
+    match areas.remove(prefix) {
+        Some(records) => weight(&records, prefix.len() as u64),
         None => 0,
     }
 }
@@ -231,16 +228,16 @@ fn erase_versions(records: &mut Tree<Bytes>, prefix_len: u64, from: u64, to: u64
 /// Takes away every key of a prefix that is the decimal number of a version from `from` up to but not including `to`,
 /// and tells what they counted with. It takes a look-up for each number of the range, or one pass over the keys of that
 /// prefix where they are fewer.
-pub(crate) fn erase_range(areas: &mut Areas, prefix: &Prefix, from: u64, to: u64) -> u64
+pub(crate) fn erase_range(areas: &mut Areas, prefix: &[u8], from: u64, to: u64) -> u64
     requires whole { IsWhole areas.old }
+    requires prefix { IsTrue (is_prefix prefix.now) }
     requires fits { areas_size (entries areas.old) < 2 ^ 64 }
     ensures freed { areas_size (entries areas.new) + result ≡ areas_size (entries areas.old) }
     ensures after { Changes areas.old areas.new prefix.now (where_key bytes_cmp (λ x. not (is_within from to x)) (under (find bytes_cmp prefix.now (entries areas.old)))) }
 {
     match take(areas, prefix) {
         Some(mut records) => {
-            let prefix_len = prefix.as_slice().len() as u64;
-            let freed = erase_versions(&mut records, prefix_len, from, to);
+            let freed = erase_versions(&mut records, prefix.len() as u64, from, to);
             set(areas, prefix, records);
             freed
         }

@@ -96,8 +96,31 @@ pub(crate) fn joined<V: Drop>(left: Tree<V>, node: Box<Node<V>>, right: Tree<V>)
     }
 }
 
-/// Brings the two sides of a tree into balance.
+/// Sets the height of a tree's root from those of its sides, and tells whether the sides are in balance.
+fn is_level<V>(tree: &mut Tree<V>) -> bool
+    ensures { entries tree.new ≡ entries tree.old }
+{
+    match tree {
+        Tree::Leaf => true,
+        Tree::Fork(node) => {
+            let (low, high) = (node.left.height(), node.right.height());
+            node.height = low.max(high).saturating_add(1);
+            low.abs_diff(high) <= 1
+        }
+    }
+}
+
+/// Brings the two sides of a tree into balance. Where they are so already, nothing is moved.
 pub(crate) fn settle<V: Drop>(tree: &mut Tree<V>)
+    ensures { entries tree.new ≡ entries tree.old }
+{
+    if !is_level(tree) {
+        turn(tree);
+    }
+}
+
+/// The same where the sides are out of balance.
+fn turn<V: Drop>(tree: &mut Tree<V>)
     ensures { entries tree.new ≡ entries tree.old }
 {
     if let Tree::Fork(mut node) = replace(tree, Tree::Leaf) {

@@ -1,22 +1,25 @@
 //! The map of a monitor.
 
 ghost use Rattle.std.specs.Prelude.{◌≡◌, ℕ, [], ◌≤◌, ◌^◌, OnOk, IfSome, IsTrue, Some};
-ghost use Rattle.std.specs.FinMap.{get};
+ghost use Rattle.std.specs.FinMap.{get, insert};
 ghost use Rattle.std.specs.Option.{option_copied, option_map};
 ghost use Rattle.mon_bytes.specs.Texts.{is_name, is_prefix};
 ghost use Rattle.mon_tx.specs.Map.{number_in, number_at, apply_op, apply};
+ghost use Rattle.mon_tx.specs.Fields.{Gives};
+ghost use Rattle.mon_tx.specs.Decode.{transaction_of, OpFits};
+ghost use Rattle.mon_tx.specs.Spelled.{change, rest_of};
 ghost use Rattle.mon_kv.specs.Tree.{first};
 ghost use Rattle.mon_kv.specs.Readers.{entry_of, found_of, entries_after};
-ghost use Rattle.mon_kv.specs.Readers.{size_of};
+ghost use Rattle.mon_kv.specs.Readers.{size_of, applied};
 
 use crate::areas::{Areas, erase, erase_prefix, erase_range, put, record_size};
 use crate::entry_ref::EntryRef;
 use crate::next::{Found, next};
 use crate::tree::Tree;
 use byteorder::{ByteOrder, LittleEndian};
-use mon_bytes::OutOfMemory;
-use mon_tx::{Op, Transaction};
-use mon_types::GREATEST;
+use mon_bytes::{Bytes, OutOfMemory};
+use mon_tx::{Op, Spelled, SpelledOps, Transaction, TxRefused};
+use mon_types::{GREATEST, Version};
 use std::alloc::Global;
 use std::marker::Model;
 
@@ -142,23 +145,52 @@ impl Kv {
         self.alloc
     }
 
+    /// Puts the value of a key. After `OutOfMemory` the map is spoiled and is not to be used.
+    pub fn put(&mut self, prefix: &[u8], key: &[u8], value: &[u8]) -> Result<(), OutOfMemory>
+        requires prefix { IsTrue (is_prefix prefix.now) }
+        requires key { IsTrue (is_name key.now) }
+        ensures { OnOk result (self.new ≡ insert self.old (prefix.now, key.now) value.now) }
+    {
+        let Some(grown) = self.size.checked_add(record_size(prefix, key, value)) else {
+            return Err(OutOfMemory);
+        };
+        let value = Bytes::new(Vec::from_slice(self.alloc, value)?);
+        let freed = put(&mut self.areas, self.alloc, prefix, key, value)?;
+        self.size = grown - freed;
+        Ok(())
+    }
+
+    fn erase(&mut self, prefix: &[u8], key: &[u8])
+        requires prefix { IsTrue (is_prefix prefix.now) }
+        requires key { IsTrue (is_name key.now) }
+        ensures { self.new ≡ apply_op (Op.Erase prefix.now key.now) self.old }
+    {
+        self.size -= erase(&mut self.areas, prefix, key);
+    }
+
+    fn erase_prefix(&mut self, prefix: &[u8])
+        ensures { self.new ≡ apply_op (Op.ErasePrefix prefix.now) self.old }
+    {
+        self.size -= erase_prefix(&mut self.areas, prefix);
+    }
+
+    fn erase_range(&mut self, prefix: &[u8], from: &Version, to: &Version)
+        requires { IsTrue (is_prefix prefix.now) }
+        ensures { self.new ≡ apply_op (Op.EraseRange prefix.now from.now to.now) self.old }
+    {
+        self.size -= erase_range(&mut self.areas, prefix, from.get(), to.get());
+    }
+
     fn apply_op(&mut self, op: &Op) -> Result<(), OutOfMemory>
         ensures { OnOk result (self.new ≡ apply_op op.now self.old) }
     {
         match op {
             Op::Put { prefix, key, value } => {
-                let Some(grown) = self.size.checked_add(record_size(prefix, key, value)) else {
-                    return Err(OutOfMemory);
-                };
-                let value = value.copy(self.alloc)?;
-                let freed = put(&mut self.areas, self.alloc, prefix, key, value)?;
-                self.size = grown - freed;
+                self.put(prefix.as_slice(), key.as_slice(), value.as_slice())?;
             }
-            Op::Erase { prefix, key } => self.size -= erase(&mut self.areas, prefix, key),
-            Op::ErasePrefix { prefix } => self.size -= erase_prefix(&mut self.areas, prefix),
-            Op::EraseRange { prefix, from, to } => {
-                self.size -= erase_range(&mut self.areas, prefix, from.get(), to.get());
-            }
+            Op::Erase { prefix, key } => self.erase(prefix.as_slice(), key.as_slice()),
+            Op::ErasePrefix { prefix } => self.erase_prefix(prefix.as_slice()),
+            Op::EraseRange { prefix, from, to } => self.erase_range(prefix.as_slice(), from, to),
         }
         Ok(())
     }
@@ -171,5 +203,41 @@ impl Kv {
             self.apply_op(op)?;
         }
         Ok(())
+    }
+
+    fn apply_spelled(&mut self, op: &Spelled<'_>) -> Result<(), OutOfMemory>
+        requires { OpFits (change op.now) }
+        ensures { OnOk result (self.new ≡ apply_op (change op.now) self.old) }
+    {
+        match op {
+            Spelled::Put { prefix, key, value } => self.put(prefix, key, value)?,
+            Spelled::Erase { prefix, key } => self.erase(prefix, key),
+            Spelled::ErasePrefix { prefix } => self.erase_prefix(prefix),
+            Spelled::EraseRange { prefix, from, to } => self.erase_range(prefix, from, to),
+        }
+        Ok(())
+    }
+
+    fn apply_each(&mut self, mut ops: SpelledOps<'_>) -> Result<(), TxRefused>
+        ensures { Gives (λ _. self.new) result (applied self.old (rest_of ops.entry)) }
+    {
+        loop {
+            match ops.next_op() {
+                Ok(Some(op)) => self.apply_spelled(&op)?,
+                Ok(None) => return Ok(()),
+                Err(refused) => return Err(refused),
+            }
+        }
+    }
+
+    /// Makes the changes that a text spells, in order, as they are read. It takes memory for what the map keeps alone. An `Err`
+    /// is what the text is refused with, or `OutOfMemory`; after it the map is spoiled and is not to be used.
+    pub fn apply_text(&mut self, text: &[u8]) -> Result<(), TxRefused>
+        ensures { Gives (λ _. self.new) result (applied self.old (transaction_of text.now)) }
+    {
+        match SpelledOps::new(text) {
+            Ok(ops) => self.apply_each(ops),
+            Err(refused) => Err(refused),
+        }
     }
 }

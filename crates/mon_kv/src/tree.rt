@@ -2,6 +2,7 @@ ghost use Rattle.std.specs.Prelude.{◌≡◌, ℕ, List, [], ◌∷◌, ◌++�
 ghost use Rattle.std.specs.Option.{option_copied, option_map, unwrap_or};
 ghost use Rattle.std.specs.Ordering.{eq_by_cmp};
 ghost use Rattle.std.specs.FinMap.Entries.{find, put, where_key, is_sorted};
+ghost use Rattle.mon_bytes.specs.Texts.{is_name};
 ghost use Rattle.mon_tx.specs.Map.{is_within};
 ghost use Rattle.mon_kv.specs.Tree.{bytes_cmp, entries, is_empty, first, above, IsInOrder};
 
@@ -117,31 +118,40 @@ impl<V> Tree<V> {
     }
 }
 
+/// A tree of one entry.
+fn single<V: Drop>(alloc: Global, key: &[u8], value: V) -> Result<Tree<V>, OutOfMemory>
+    requires { IsTrue (is_name key.now) }
+    ensures { IfOk result (λ tree. entries tree ≡ (key.now, value) ∷ []) }
+{
+    let node = Node {
+        left: Tree::Leaf,
+        key: Name::from_slice(alloc, key)?,
+        value,
+        height: 1,
+        right: Tree::Leaf,
+    };
+    Ok(Tree::Fork(Box::new(alloc, node)?))
+}
+
 impl<V: Drop> Tree<V> {
     /// Puts a value, and gives the one that was there. An `Err` leaves the tree.
     pub(crate) fn put(
         &mut self,
         alloc: Global,
-        key: &Name,
+        key: &[u8],
         value: V,
     ) -> Result<Option<V>, OutOfMemory>
+        requires { IsTrue (is_name key.now) }
         ensures old { IfOk result (λ old. IsInOrder self.old → old ≡ find bytes_cmp key.now (entries self.old)) }
         ensures ok { IfOk result (λ _. IsInOrder self.old → entries self.new ≡ put bytes_cmp key.now value (entries self.old)) }
         ensures err { OnErr result (entries self.new ≡ entries self.old) }
     {
         match self {
             Tree::Leaf => {
-                let node = Node {
-                    left: Tree::Leaf,
-                    key: key.copy(alloc)?,
-                    value,
-                    height: 1,
-                    right: Tree::Leaf,
-                };
-                *self = Tree::Fork(Box::new(alloc, node)?);
+                *self = single(alloc, key, value)?;
                 Ok(None)
             }
-            Tree::Fork(node) => match compare(key.as_slice(), node.key.as_slice()) {
+            Tree::Fork(node) => match compare(key, node.key.as_slice()) {
                 Ordering::Less => {
                     let old = node.left.put(alloc, key, value)?;
                     settle(self);

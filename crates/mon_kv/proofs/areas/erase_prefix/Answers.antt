@@ -4,17 +4,17 @@ use Rattle.mon_kv.proofs.AreaLaws.{changes_without, size_prefix, size_prefix_non
 use Rattle.mon_kv.proofs.areas.erase_prefix.Goals as goal
 
 pub returns-in-Some-clause-after : goal.returns-in-Some-clause-after
-returns-in-Some-clause-after c = changes_without _ _ _ c.requires.whole (rw c.as_slice.ensures.value at c.remove.ensures.entries c.requires.whole.in_order)
+returns-in-Some-clause-after c = changes_without _ _ _ c.requires.whole (c.remove.ensures.entries c.requires.whole.in_order)
 
 pub returns-in-Some-clause-freed : goal.returns-in-Some-clause-freed
 returns-in-Some-clause-freed c =
-    let found = rw c.as_slice.ensures.value at c.remove.ensures.value c.requires.whole.in_order in
-    size_prefix _ _ _ _ _ (returns-in-Some-clause-after c) (ap under (sym found ∙ c.in-Some.is)) c.requires.fits (rw c.as_slice-in-Some.ensures.value at c.weight.ensures)
+    let found = c.remove.ensures.value c.requires.whole.in_order in
+    size_prefix _ _ _ _ _ (returns-in-Some-clause-after c) (ap under (sym found ∙ c.in-Some.is)) c.requires.fits c.weight.ensures
 
 pub returns-in-None-clause-after : goal.returns-in-None-clause-after
-returns-in-None-clause-after c = changes_without _ _ _ c.requires.whole (rw c.as_slice.ensures.value at c.remove.ensures.entries c.requires.whole.in_order)
+returns-in-None-clause-after c = changes_without _ _ _ c.requires.whole (c.remove.ensures.entries c.requires.whole.in_order)
 
 pub returns-in-None-clause-freed : goal.returns-in-None-clause-freed
 returns-in-None-clause-freed c =
-    let found = rw c.as_slice.ensures.value at c.remove.ensures.value c.requires.whole.in_order in
+    let found = c.remove.ensures.value c.requires.whole.in_order in
     size_prefix_none _ _ _ (returns-in-None-clause-after c) (ap under (sym found ∙ c.in-None.is))

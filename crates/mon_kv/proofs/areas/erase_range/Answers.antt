@@ -6,8 +6,7 @@ returns-in-Some-clause-after c = changes_back_where _ _ _ _ _ c.erase_versions-f
 
 pub returns-in-Some-clause-freed : goal.returns-in-Some-clause-freed
 returns-in-Some-clause-freed c =
-    let freed = rw c.as_slice.ensures.value at c.erase_versions-freed.ensures.freed in
-    size_where _ _ _ _ _ c.erase_versions-freed.new.records _ _ c.in-Some.ensures.some (returns-in-Some-clause-after c) c.erase_versions-freed.ensures.after freed
+    size_where _ _ _ _ _ c.erase_versions-freed.new.records _ _ c.in-Some.ensures.some (returns-in-Some-clause-after c) c.erase_versions-freed.ensures.after c.erase_versions-freed.ensures.freed
 
 pub returns-in-None-clause-after : goal.returns-in-None-clause-after
 returns-in-None-clause-after c = changes_where_none _ _ _ c.requires.whole c.in-None.ensures.none c.in-None.ensures.nothing _

@@ -6,15 +6,15 @@ use Rattle.mon_kv.proofs.AreaLaws.{changes_back_put, changes_back_same, changes_
 use Rattle.mon_kv.proofs.areas.put.Goals as goal
 
 pub returns-in_err-begin-clause-err : goal.returns-in_err-begin-clause-err
-returns-in_err-begin-clause-err c = at_err c.from_residual.result (changes_none _ _ _ c.requires (c.in_err-begin.ensures.err ∙ c.in_default.ensures.none))
+returns-in_err-begin-clause-err c = at_err c.from_residual.result (changes_none _ _ _ c.requires.whole (c.in_err-begin.ensures.err ∙ c.in_default.ensures.none))
 
 pub returns-in-Ok-clause-ok : goal.returns-in-Ok-clause-ok
-returns-in-Ok-clause-ok c = changes_back_put _ _ _ _ _ c.put-outcome.new.self c.requires c.in-Some.ensures.some c.set.ensures _ _ c.in-Ok.ensures.ok
+returns-in-Ok-clause-ok c = changes_back_put _ _ _ _ _ c.put-outcome.new.self c.requires.whole c.in-Some.ensures.some c.set.ensures _ _ c.in-Ok.ensures.ok
 
 pub returns-in-Ok-clause-freed : goal.returns-in-Ok-clause-freed
 returns-in-Ok-clause-freed c =
     let t = c.in-Some.ensures.some in
-    size_put _ _ _ _ _ _ c.requires (returns-in-Ok-clause-ok c) (c.freed_size.ensures ∙ ap (freed_size c.args.prefix.now c.args.key.now) (c.in-Ok.ensures.old t.sorted ∙ ap (find bytes_cmp c.args.key.now) t.held))
+    size_put _ _ _ _ _ _ c.requires.whole (returns-in-Ok-clause-ok c) (c.freed_size.ensures ∙ ap (freed_size c.args.prefix.now c.args.key.now) (c.in-Ok.ensures.old t.sorted ∙ ap (find bytes_cmp c.args.key.now) t.held))
 
 pub returns-in-Err-clause-err : goal.returns-in-Err-clause-err
-returns-in-Err-clause-err c = changes_back_same _ _ _ _ _ c.put-outcome.new.self c.requires c.in-Some.ensures.some c.set.ensures c.in-Err.ensures.err
+returns-in-Err-clause-err c = changes_back_same _ _ _ _ _ c.put-outcome.new.self c.requires.whole c.in-Some.ensures.some c.set.ensures c.in-Err.ensures.err
