@@ -1,27 +1,27 @@
--- What is read is spelled so, and what is spelled so is read.
-use Rattle.std.proofs.Common.{◌≡◌, ℕ, zero, suc, ◌+◌, ◌<◌, ◌^◌, ◌⊎◌, true, false, cond, eqb, List, [], ◌∷◌, ◌++◌, length, Result, Ok, Err, Less, nat_cmp, IsTrue, T, refl, sym, ap, subst, ◌∙◌, arith, inl, inr}
+-- What is read is spelled so, and the formats are lawful.
+use Rattle.std.proofs.Common.{◌≡◌, ℕ, ◌+◌, ◌<◌, ◌^◌, cond, eqb, List, [], ◌∷◌, ◌++◌, length, Result, Ok, Err, nat_cmp, IsTrue, T, refl, sym, ap, subst, ◌∙◌, arith, inl, inr}
 use Rattle.std.specs.Prelude.{IfOk}
 use Rattle.std.specs.Cmp.Lexicographic.{slice_cmp}
 use Rattle.std.specs.List.{flat_map, AllByRecursion}
 use Rattle.std.specs.Ordering.{is_lt}
 use Rattle.std.specs.FinMap.{entries, len, from_sorted, is_sorted, entries-from_sorted, len-entries}
-use Rattle.std.specs.FinMap.Entries.{below_all}
-use Rattle.std.proofs.lemmas.Bool.{cases_eq}
-use Rattle.std.proofs.lemmas.Bool.Decides.{nat_tests}
 use Rattle.mon_bytes.specs.declared.command.MapRefused.{MapRefused}
 use Rattle.mon_bytes.specs.declared.command.MapRefused.TheVariants as refused
 use Rattle.mon_bytes.specs.Reading.{IsBytes, Reading, number, front}
+use Rattle.mon_bytes.specs.Format.{IsLawful}
 use Rattle.mon_bytes.specs.Texts.{is_name}
-use Rattle.mon_bytes.specs.Forms.{◌>>=◌, fitted, u32_bytes, text_bytes, text_at, ended, Gives}
-use Rattle.mon_bytes.proofs.Fields.{guard_ok, chosen_ok, ok_is, Takes, Takes-then, Takes-whole, front_takes, byte_takes}
-use Rattle.mon_bytes.proofs.Forms.{bind_ok, fitted_ok, u32_takes, text_takes, ended_ok}
+use Rattle.mon_bytes.specs.Forms.{◌>>=◌, fitted, u32_bytes, text_bytes, text_at, ended, whole, Gives}
+use Rattle.mon_bytes.proofs.Fields.{guard_ok, chosen_ok, ok_is, Takes, Takes-then, front_takes, byte_takes}
+use Rattle.mon_bytes.proofs.Formats.{bind_bind, tested}
+use Rattle.mon_bytes.proofs.Forms.{bind_ok, fitted_ok, u32_takes, counted, text_takes, is_found}
+use Rattle.mon_bytes.proofs.Ordered.{TakesEntry, entries_takes}
 use Rattle.map_kv.specs.Map.{Kv}
 use Rattle.map_kv.specs.Text.{key_text, entry_text, inc_text, map_text, EntryFits, IncFits, MapFits}
-use Rattle.map_kv.specs.Decode.{name_at, set_at, remove_at, inc_at, inc_of, key_at, entry_at, entries_at, map_of}
+use Rattle.map_kv.specs.Decode.{name_at, set_at, remove_at, inc_at, inc_of, key_at, entry_at, entries_at, map_of, inc_format, map_format}
 use Rattle.map_kv.specs.declared.inc.KvInc.{KvInc}
 use Rattle.map_kv.specs.declared.inc.KvInc.TheVariants.{Set, Remove}
-use Rattle.map_kv.proofs.Pairs.{Entry, below_less}
-use Rattle.map_kv.proofs.Pairs.{both as joined}
+use Rattle.map_kv.proofs.Found.{inc_found, map_found, entries_in_order}
+use Rattle.map_kv.proofs.Pairs.{Entry}
 use Rattle.map_kv.proofs.Loop.{key_rises}
 
 name_takes : (c : Reading) (x : List ℕ × Reading) → IsBytes c.rest → name_at c ≡ Ok x → Takes c (key_text x.0) x.1 × IsTrue (is_name x.0)
@@ -66,13 +66,6 @@ remove_takes c x fits e =
     let t0 = name_takes c a.0 fits a.1 in
     subst (TakesInc c (2 ∷ [])) (ok_is (Remove a.0.0, a.0.1) x a.2) (λ first kind. (Takes-then first c a.0.1 (2 ∷ []) (key_text a.0.0) kind t0.0, t0.1))
 
-tested : {A : Type 0} (m n : ℕ) (r s : Result A MapRefused) (x : A) → cond (eqb m n) r s ≡ Ok x → ((m ≡ n) × (r ≡ Ok x)) ⊎ (s ≡ Ok x)
-tested m n r s x e =
-    elim (cases_eq m n) [
-      | inl same ↦ let t : eqb m n ≡ true = grind (arith, nat_tests) in inl (same, rw t at e)
-      | inr ne ↦ let t : eqb m n ≡ false = grind (arith, nat_tests) in inr (rw t at e)
-    ]
-
 inc_takes : (c : Reading) (x : KvInc × Reading) → IsBytes c.rest → inc_at c ≡ Ok x → Takes c (inc_text x.0) x.1 × IncFits x.0
 unfolding inc_at
 inc_takes c x fits e =
@@ -87,59 +80,24 @@ inc_takes c x fits e =
       ]
     ]
 
-inc_of_takes : (bytes : List ℕ) (inc : KvInc) → IsBytes bytes → inc_of bytes ≡ Ok inc → IncFits inc × (bytes ≡ inc_text inc)
-unfolding inc_of
-inc_of_takes bytes inc fits e =
-    let c : Reading = record { at = 0; rest = bytes } in
-    let a = bind_ok (inc_at c) (λ x. ended x) inc e in
-    let done = ended_ok a.0 inc a.2 in
-    let t = inc_takes c a.0 fits a.1 in
-    subst (λ (i : KvInc). IncFits i × (bytes ≡ inc_text i)) done.0 (t.1, Takes-whole c a.0.1 (inc_text a.0.0) t.0 done.1)
+pub inc_is_lawful : IsLawful inc_format
+inc_is_lawful = record { takes = inc_takes; found = inc_found }
 
-pub inc_is_found : (bytes : List ℕ) (r : Result KvInc MapRefused) → IsBytes bytes → Gives (λ x. x) r (inc_of bytes) → IfOk r (λ inc. IncFits inc × (bytes ≡ inc_text inc))
-inc_is_found bytes (Ok inc) fits h = inc_of_takes bytes inc fits h
-inc_is_found bytes (Err e) fits h = tt
+pub inc_is_whole : (bytes : List ℕ) → inc_of bytes ≡ whole inc_format bytes
+unfolding inc_of whole
+inc_is_whole bytes = refl
 
 -- ---- the entries of a map
 
-record TakesEntry (before : List ℕ) (c : Reading) (x : Entry × Reading) : Type 0 where
-  all : Takes c (entry_text x.0) x.1
-  form : EntryFits x.0
-  rises : slice_cmp nat_cmp before x.0.0 ≡ Less
-
-entry_takes : (before : List ℕ) (c : Reading) (x : Entry × Reading) → IsBytes c.rest → entry_at before c ≡ Ok x → TakesEntry before c x
+entry_takes : (before : List ℕ) (c : Reading) (x : Entry × Reading) → IsBytes c.rest → entry_at before c ≡ Ok x → TakesEntry entries_in_order before c x
 unfolding entry_at
 entry_takes before c x fits e =
     let a = bind_ok (key_at before c) (λ key. text_at key.1 >>= λ value. Ok ((key.0, value.0), value.1)) x e in
     let b = bind_ok (text_at a.0.1) (λ value. Ok ((a.0.0, value.0), value.1)) x a.2 in
     let t0 = key_takes before c a.0 fits a.1 in
     let t1 = text_takes a.0.1 b.0 t0.0.bytes b.1 in
-    subst (TakesEntry before c) (ok_is ((a.0.0, b.0.0), b.0.1) x b.2)
+    subst (TakesEntry entries_in_order before c) (ok_is ((a.0.0, b.0.0), b.0.1) x b.2)
     (record { all = Takes-then c a.0.1 b.0.1 (key_text a.0.0) (text_bytes b.0.0) t0.0 t1.0; form = (t0.1, t1.1, t1.2); rises = key_rises before c a.0 a.1 })
-
-record TakesEntries (n : ℕ) (before : List ℕ) (c : Reading) (x : List Entry × Reading) : Type 0 where
-  all : Takes c (flat_map entry_text x.0) x.1
-  each : AllByRecursion EntryFits x.0
-  sorted : T (is_sorted (slice_cmp nat_cmp) x.0)
-  above : T (below_all (slice_cmp nat_cmp) before x.0)
-  count : length x.0 ≡ n
-
-entries_takes : (n : ℕ) (before : List ℕ) (c : Reading) (x : List Entry × Reading) → IsBytes c.rest → entries_at n before c ≡ Ok x → TakesEntries n before c x
-unfolding entries_at
-entries_takes zero before c x fits e = subst (TakesEntries 0 before c) (ok_is ([], c) x e) (record { all = record { parts = refl; bytes = fits }; each = tt; sorted = tt; above = tt; count = refl })
-entries_takes (suc n) before c x fits e =
-    let a = bind_ok (entry_at before c) (λ first. entries_at n first.0.0 first.1 >>= λ others. Ok (first.0 ∷ others.0, others.1)) x e in
-    let b = bind_ok (entries_at n a.0.0.0 a.0.1) (λ others. Ok (a.0.0 ∷ others.0, others.1)) x a.2 in
-    let t0 = entry_takes before c a.0 fits a.1 in
-    let t1 = entries_takes n a.0.0.0 a.0.1 b.0 t0.all.bytes b.1 in
-    subst (TakesEntries (suc n) before c) (ok_is (a.0.0 ∷ b.0.0, b.0.1) x b.2)
-    (record {
-      all = Takes-then c a.0.1 b.0.1 (entry_text a.0.0) (flat_map entry_text b.0.0) t0.all t1.all;
-      each = (t0.form, t1.each);
-      sorted = joined _ _ t1.above t1.sorted;
-      above = joined _ _ (subst (λ r. T (is_lt r)) (sym t0.rises) tt) (below_less before a.0.0.0 b.0.0 t0.rises t1.above);
-      count = omega (arith, t1.count);
-    })
 
 -- the map of entries in order has these entries
 map_of_entries : (es : List Entry) → T (is_sorted (slice_cmp nat_cmp) es) → AllByRecursion EntryFits es → length es < 2 ^ 32 → MapFits (from_sorted es) × (map_text (from_sorted es) ≡ u32_bytes (length es) ++ flat_map entry_text es)
@@ -148,21 +106,28 @@ map_of_entries es sorted each few =
     let count : len (from_sorted {R = slice_cmp nat_cmp} es) ≡ length es = len-entries (from_sorted es) ∙ ap length same in
     (record { each = subst (AllByRecursion EntryFits) (sym same) each; count = omega (arith, count, few) }, rw (same, count) refl)
 
-map_of_takes : (bytes : List ℕ) (map : Kv) → IsBytes bytes → map_of bytes ≡ Ok map → MapFits map × (bytes ≡ map_text map)
-unfolding map_of
-map_of_takes bytes map fits e =
-    let c : Reading = record { at = 0; rest = bytes } in
-    let a = bind_ok (fitted (number 4 c)) (λ count. entries_at count.0 [] count.1 >>= λ es. ended (from_sorted es.0, es.1)) map e in
-    let b = bind_ok (entries_at a.0.0 [] a.0.1) (λ es. ended (from_sorted es.0, es.1)) map a.2 in
-    let done = ended_ok (from_sorted b.0.0, b.0.1) map b.2 in
+map_takes : (c : Reading) (x : Kv × Reading) → IsBytes c.rest → map_format.read c ≡ Ok x → Takes c (map_text x.0) x.1 × MapFits x.0
+map_takes c x fits e =
+    let a = bind_ok (fitted (number 4 c)) (λ count. entries_at count.0 [] count.1 >>= λ es. Ok (from_sorted es.0, es.1)) x e in
+    let b = bind_ok (entries_at a.0.0 [] a.0.1) (λ es. Ok (from_sorted es.0, es.1)) x a.2 in
     let t0 = u32_takes c a.0 fits (fitted_ok (number 4 c) a.0 a.1) in
-    let t1 = entries_takes a.0.0 [] a.0.1 b.0 t0.0.bytes b.1 in
-    let few : length b.0.0 < 2 ^ 32 = omega (arith, t0.1, t1.count) in
-    let whole = Takes-whole c b.0.1 (u32_bytes a.0.0 ++ flat_map entry_text b.0.0) (Takes-then c a.0.1 b.0.1 (u32_bytes a.0.0) (flat_map entry_text b.0.0) t0.0 t1.all) done.1 in
-    let form = map_of_entries b.0.0 t1.sorted t1.each few in
-    subst (λ (m : Kv). MapFits m × (bytes ≡ map_text m)) done.0
-    (form.0, whole ∙ ap (λ (n : ℕ). u32_bytes n ++ flat_map entry_text b.0.0) (sym t1.count) ∙ sym form.1)
+    let t1 = entries_takes entries_in_order entry_takes a.0.0 [] a.0.1 b.0 t0.0.bytes b.1 in
+    let all = counted c a.0 b.0.1 (length b.0.0) (flat_map entry_text b.0.0) t0 t1.count t1.all in
+    let form = map_of_entries b.0.0 t1.sorted t1.each all.1 in
+    subst (λ (p : Kv × Reading). Takes c (map_text p.0) p.1 × MapFits p.0) (ok_is (from_sorted b.0.0, b.0.1) x b.2)
+    (subst (λ (bytes : List ℕ). Takes c bytes b.0.1) (sym form.1) all.0, form.0)
+
+pub map_is_lawful : IsLawful map_format
+map_is_lawful = record { takes = map_takes; found = map_found }
+
+then_ended : (r : Result (ℕ × Reading) MapRefused) (f : ℕ × Reading → Result (List Entry × Reading) MapRefused) (whole_map : List Entry → Kv)
+    → ((r >>= λ count. f count >>= λ es. Ok (whole_map es.0, es.1)) >>= λ x. ended x) ≡ (r >>= λ count. f count >>= λ es. ended (whole_map es.0, es.1))
+then_ended (Ok count) f whole_map = bind_bind (f count) (λ es. Ok (whole_map es.0, es.1)) (λ x. ended x)
+then_ended (Err e) f whole_map = refl
+
+pub map_is_whole : (bytes : List ℕ) → map_of bytes ≡ whole map_format bytes
+unfolding map_of whole
+map_is_whole bytes = sym (then_ended (fitted (number 4 (record { at = 0; rest = bytes }))) (λ count. entries_at count.0 [] count.1) from_sorted)
 
 pub map_is_found : (bytes : List ℕ) (r : Result Kv MapRefused) → IsBytes bytes → Gives (λ x. x) r (map_of bytes) → IfOk r (λ map. MapFits map × (bytes ≡ map_text map))
-map_is_found bytes (Ok map) fits h = map_of_takes bytes map fits h
-map_is_found bytes (Err e) fits h = tt
+map_is_found bytes r fits h = is_found map_format map_is_lawful bytes r fits (subst (Gives (λ x. x) r) (map_is_whole bytes) h)

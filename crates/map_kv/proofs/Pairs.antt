@@ -1,34 +1,19 @@
 -- Lists of entries in ascending order of key, as texts in a tree and as bytes.
-use Rattle.std.proofs.Common.{◌≡◌, ℕ, ◌+◌, List, [], ◌∷◌, ◌++◌, Bool, true, false, cond, ◌&&◌, Some, None, Ordering, Less, Equal, Greater, String, Global, string_bytes, string_cmp, nat_cmp, is_eq, T, refl, ap, ◌∙◌, arith}
+use Rattle.std.proofs.Common.{◌≡◌, ℕ, ◌+◌, List, [], ◌∷◌, ◌++◌, Bool, true, false, cond, Some, None, Ordering, Less, Equal, Greater, String, Global, string_bytes, string_cmp, nat_cmp, is_eq, T, refl, ap, ◌∙◌, arith}
 use Rattle.std.specs.Cmp.Lexicographic.{slice_cmp, nat_list_cmp_total}
 use Rattle.std.specs.List.{AllByRecursion}
 use Rattle.std.specs.List.Sorted.{IsStrictlySortedBy}
 use Rattle.std.specs.Map.{lookup, keys_of, remove_entry}
 use Rattle.std.specs.BTreeMap.{is_at, insert_entry}
-use Rattle.std.specs.Ordering.{is_lt, match_ordering, ordering_reverse}
+use Rattle.std.specs.Ordering.{match_ordering, ordering_reverse}
 use Rattle.std.specs.FinMap.{find, put, is_sorted, slice_cmp-IsAntisymmetric, nat_cmp-IsAntisymmetric}
 use Rattle.std.specs.FinMap.Entries.{below_all, by_order}
+pub use Rattle.mon_bytes.proofs.Ordered.{both, first, second, less}
+use Rattle.mon_bytes.proofs.Ordered as ordered
 use Rattle.map_kv.specs.Kept.{pairs, size_of, entry_size, held, IsPair}
 
 abbrev pub Node : Type 0
 Node = String Global × List ℕ
-
-pub both : (a b : Bool) → T a → T b → T (a && b)
-both true b p q = q
-both false b p q = absurd p
-
-pub first : (a b : Bool) → T (a && b) → T a
-first true b p = tt
-first false b p = absurd p
-
-pub second : (a b : Bool) → T (a && b) → T b
-second true b p = p
-second false b p = absurd p
-
-pub less : (o : Ordering) → T (is_lt o) → o ≡ Less
-less Less p = refl
-less Equal p = absurd p
-less Greater p = absurd p
 
 is_below : (x : String Global) (es : List Node) → AllByRecursion (λ y. string_cmp x y ≡ Less) (keys_of es) → T (below_all (slice_cmp nat_cmp) (string_bytes x) (pairs es))
 is_below x [] h = tt
@@ -119,13 +104,4 @@ pairs-insert_entry (e ∷ es) k v =
     ]
 
 pub below_less : (x y : List ℕ) (es : List Entry) → slice_cmp nat_cmp x y ≡ Less → T (below_all (slice_cmp nat_cmp) y es) → T (below_all (slice_cmp nat_cmp) x es)
-below_less x y [] p h = tt
-below_less x y (e ∷ es) p h =
-    let below : slice_cmp nat_cmp x e.0 ≡ Less = nat_list_cmp_total.trans x y e.0 p (less _ (first _ _ h)) in
-    rw below (below_less x y es p (second _ _ h))
-
-pub sorted_parts : (e : Entry) (es : List Entry) → T (is_sorted (slice_cmp nat_cmp) (e ∷ es)) → T (below_all (slice_cmp nat_cmp) e.0 es) × T (is_sorted (slice_cmp nat_cmp) es)
-sorted_parts e es h = (first _ _ h, second _ _ h)
-
-pub above_parts : (x : List ℕ) (e : Entry) (es : List Entry) → T (below_all (slice_cmp nat_cmp) x (e ∷ es)) → (slice_cmp nat_cmp x e.0 ≡ Less) × T (below_all (slice_cmp nat_cmp) x es)
-above_parts x e es h = (less _ (first _ _ h), second _ _ h)
+below_less = ordered.below_less nat_list_cmp_total

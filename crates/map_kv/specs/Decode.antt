@@ -6,9 +6,11 @@ use Rattle.std.specs.FinMap.{from_sorted}
 use Rattle.mon_bytes.specs.declared.command.MapRefused.{MapRefused}
 use Rattle.mon_bytes.specs.declared.command.MapRefused.TheVariants.{Form}
 use Rattle.mon_bytes.specs.Reading.{Reading, number, front}
+use Rattle.mon_bytes.specs.Format.{Format}
 use Rattle.mon_bytes.specs.Texts.{is_name}
 use Rattle.mon_bytes.specs.Forms.{◌>>=◌, fitted, text_at, ended}
 use Rattle.map_kv.specs.Map.{Kv}
+use Rattle.map_kv.specs.Text.{inc_text, map_text, IncFits, MapFits}
 use Rattle.map_kv.specs.declared.inc.KvInc.{KvInc}
 use Rattle.map_kv.specs.declared.inc.KvInc.TheVariants.{Set, Remove}
 
@@ -69,3 +71,15 @@ map_of bytes = do
   count ← fitted (number 4 (record { at = 0; rest = bytes }))
   entries ← entries_at count.0 [] count.1
   ended (from_sorted entries.0, entries.1)
+
+-- ---- how both are spelled and read
+
+abbrev pub inc_format : Format MapRefused KvInc
+inc_format = record { text = inc_text; read = inc_at; Form = IncFits }
+
+abbrev pub map_format : Format MapRefused Kv
+map_format = record {
+  text = map_text;
+  read = λ c. fitted (number 4 c) >>= λ count. entries_at count.0 [] count.1 >>= λ entries. Ok (from_sorted entries.0, entries.1);
+  Form = MapFits;
+}

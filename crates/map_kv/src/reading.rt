@@ -1,15 +1,12 @@
-ghost use Rattle.std.specs.Prelude.{◌≡◌, List, [], IsTrue, IfOk, Ok};
+ghost use Rattle.std.specs.Prelude.{[], IsTrue, IfOk};
 ghost use Rattle.std.specs.FinMap.{entries};
 ghost use Rattle.mon_bytes.specs.Texts.{is_name};
-ghost use Rattle.mon_bytes.specs.Forms.{Reads, Gives};
-ghost use Rattle.map_kv.specs.declared.inc.KvInc.{KvInc as Inc};
-ghost use Rattle.map_kv.specs.Map.{Kv};
-ghost use Rattle.map_kv.specs.Text.{inc_text, map_text, IncFits, MapFits};
-ghost use Rattle.map_kv.specs.Decode.{name_at, set_at, remove_at, inc_at, inc_of, key_at, entries_at, map_of};
+ghost use Rattle.mon_bytes.specs.Forms.{Reads};
+ghost use Rattle.map_kv.specs.Decode.{name_at, set_at, remove_at, key_at, entries_at};
 
 use crate::inc::KvInc;
 use crate::map::KvMap;
-use mon_bytes::{Cursor, MapRefused, Name, read_text};
+use mon_bytes::{Cursor, Decode, MapRefused, Name, read_text};
 use std::alloc::Global;
 use std::cmp::Ordering;
 
@@ -50,28 +47,22 @@ fn remove_at(alloc: Global, cursor: &mut Cursor<'_>) -> Result<KvInc, MapRefused
     Ok(KvInc::Remove { key })
 }
 
-#[tactic(auto, unfolding(crate::specs::Decode::inc_at))]
-fn inc_at(alloc: Global, cursor: &mut Cursor<'_>) -> Result<KvInc, MapRefused>
-    ensures { Reads (λ x. x) result cursor.new (inc_at cursor.old) }
-{
-    let at = cursor.at();
-    match cursor.take_u8()? {
-        1 => set_at(alloc, cursor),
-        2 => remove_at(alloc, cursor),
-        _ => Err(MapRefused::Form { at }),
-    }
-}
+impl Decode for KvInc {
+    ghost use Rattle.map_kv.specs.Decode.{inc_format, inc_of};
 
-#[tactic(auto, unfolding(crate::specs::Decode::inc_of, mon_bytes::specs::Forms::ended))]
-fn inc_of(alloc: Global, bytes: &[u8]) -> Result<KvInc, MapRefused>
-    ensures { Gives (λ x. x) result (inc_of bytes.now) }
-{
-    let mut cursor = Cursor::new(bytes);
-    let inc = inc_at(alloc, &mut cursor)?;
-    if cursor.left() != 0 {
-        return Err(MapRefused::Form { at: cursor.at() });
+    ghost format = { inc_format };
+
+    ghost spelled = { inc_of };
+
+    #[tactic(auto, using(crate::proofs::Laws::inc_is_lawful, crate::proofs::Laws::inc_is_whole), unfolding(crate::specs::Decode::inc_at))]
+    fn read(alloc: Global, cursor: &mut Cursor<'_>) -> Result<KvInc, MapRefused> {
+        let at = cursor.at();
+        match cursor.take_u8()? {
+            1 => set_at(alloc, cursor),
+            2 => remove_at(alloc, cursor),
+            _ => Err(MapRefused::Form { at }),
+        }
     }
-    Ok(inc)
 }
 
 #[tactic(auto, unfolding(crate::specs::Decode::key_at))]
@@ -101,43 +92,16 @@ fn entries_at(alloc: Global, count: u32, cursor: &mut Cursor<'_>) -> Result<KvMa
     Ok(map)
 }
 
-#[tactic(auto, unfolding(crate::specs::Decode::map_of, mon_bytes::specs::Forms::ended))]
-fn map_of(alloc: Global, bytes: &[u8]) -> Result<KvMap, MapRefused>
-    ensures { Gives (λ x. x) result (map_of bytes.now) }
-{
-    let mut cursor = Cursor::new(bytes);
-    let count = cursor.take_u32()?;
-    let map = entries_at(alloc, count, &mut cursor)?;
-    if cursor.left() != 0 {
-        return Err(MapRefused::Form { at: cursor.at() });
-    }
-    Ok(map)
-}
+impl Decode for KvMap {
+    ghost use Rattle.map_kv.specs.Decode.{map_format, map_of};
 
-impl KvInc {
-    /// The incremental that the bytes spell, all of the bytes. `Form` names the first place of the first field at fault.
-    pub fn decode(alloc: Global, bytes: &[u8]) -> Result<KvInc, MapRefused>
-        // What is read is spelled so.
-        ensures found { IfOk result (λ inc. IncFits inc × (bytes.now ≡ inc_text inc)) }
-        // What is spelled so is read, unless memory runs out.
-        ensures only { (inc : Inc) → IncFits inc → bytes.now ≡ inc_text inc → Gives (λ x. x) result (Ok inc) }
-        // Which field is at fault.
-        ensures exact { Gives (λ x. x) result (inc_of bytes.now) }
-    {
-        inc_of(alloc, bytes)
-    }
-}
+    ghost format = { map_format };
 
-impl KvMap {
-    /// The map that the bytes spell, all of the bytes. `Form` names the first place of the first field at fault.
-    pub fn decode(alloc: Global, bytes: &[u8]) -> Result<KvMap, MapRefused>
-        // What is read is spelled so.
-        ensures found { IfOk result (λ map. MapFits map × (bytes.now ≡ map_text map)) }
-        // What is spelled so is read, unless memory runs out.
-        ensures only { (map : Kv) → MapFits map → bytes.now ≡ map_text map → Gives (λ x. x) result (Ok map) }
-        // Which field is at fault.
-        ensures exact { Gives (λ x. x) result (map_of bytes.now) }
-    {
-        map_of(alloc, bytes)
+    ghost spelled = { map_of };
+
+    #[tactic(auto, using(crate::proofs::Laws::map_is_lawful, crate::proofs::Laws::map_is_whole))]
+    fn read(alloc: Global, cursor: &mut Cursor<'_>) -> Result<KvMap, MapRefused> {
+        let count = cursor.take_u32()?;
+        entries_at(alloc, count, cursor)
     }
 }

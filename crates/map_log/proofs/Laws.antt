@@ -1,17 +1,18 @@
 -- What is read is spelled so, and what is spelled so is read.
-use Rattle.std.proofs.Common.{◌≡◌, ℕ, zero, suc, ◌≤◌, cond, ltb, false, List, [], ◌∷◌, ◌++◌, length, Result, Ok, Err, refl, sym, subst, ◌∙◌, append_assoc, arith}
+use Rattle.std.proofs.Common.{◌≡◌, ℕ, zero, suc, ◌≤◌, cond, ltb, false, List, [], ◌∷◌, ◌++◌, length, Result, Ok, Err, refl, sym, subst, ◌∙◌, append_assoc}
+use Rattle.std.specs.Prelude.{IfOk}
 use Rattle.std.specs.List.{flat_map}
 use Rattle.std.proofs.lemmas.Bool.{ltb-false, le-ltb}
 use Rattle.mon_bytes.specs.declared.command.MapRefused.{MapRefused}
 use Rattle.mon_bytes.specs.declared.command.MapRefused.TheVariants as refused
 use Rattle.mon_bytes.specs.Reading.{IsBytes, Reading, number}
 use Rattle.mon_bytes.specs.Format.{IsLawful, items}
-use Rattle.mon_bytes.specs.Forms.{◌>>=◌, fitted, u32_bytes, text_bytes, text_at, ended, whole}
+use Rattle.mon_bytes.specs.Forms.{◌>>=◌, fitted, u32_bytes, text_bytes, text_at, ended, whole, Gives}
 use Rattle.mon_bytes.proofs.Fields.{guard_ok, ok_is, Takes, Takes-then, byte_takes, Found, byte_found}
 use Rattle.mon_bytes.proofs.Formats.{bind_bind, items_takes, items_found}
-use Rattle.mon_bytes.proofs.Forms.{bind_ok, fitted_ok, u32_takes, u32_found, counted, text_takes, text_found}
+use Rattle.mon_bytes.proofs.Forms.{bind_ok, fitted_ok, u32_takes, u32_found, counted, text_takes, text_found, is_found}
 use Rattle.map_log.specs.declared.inc.LogInc.{LogInc}
-use Rattle.map_log.specs.Text.{inc_text, map_text, IncFits}
+use Rattle.map_log.specs.Text.{inc_text, map_text, IncFits, MapFits}
 use Rattle.map_log.specs.Decode.{rank_at, inc_at, inc_of, entries_at, map_of, inc_format, map_format}
 
 rank_takes : (c : Reading) (x : ℕ × Reading) → IsBytes c.rest → rank_at c ≡ Ok x → Takes c (x.0 ∷ []) x.1 × (x.0 ≤ 14)
@@ -81,3 +82,6 @@ map_is_lawful = record {
 pub map_is_whole : (bytes : List ℕ) → map_of bytes ≡ whole map_format bytes
 unfolding map_of whole
 map_is_whole bytes = sym (bind_bind (fitted (number 4 (record { at = 0; rest = bytes }))) (λ count. entries_at count.0 count.1) (λ x. ended x))
+
+pub map_is_found : (bytes : List ℕ) (r : Result (List LogInc) MapRefused) → IsBytes bytes → Gives (λ x. x) r (map_of bytes) → IfOk r (λ map. MapFits map × (bytes ≡ map_text map))
+map_is_found bytes r fits h = is_found map_format map_is_lawful bytes r fits (subst (Gives (λ x. x) r) (map_is_whole bytes) h)
