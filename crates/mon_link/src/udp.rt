@@ -1,6 +1,8 @@
 //! Datagrams of the system. They tell nothing of what they give or take, only whether a call failed.
 
 ghost use Rattle.std.specs.Prelude.{◌≡◌, None, Some, ◌≤◌, length, IfOk, option_map};
+ghost use Rattle.mon_types.specs.Faults.{risen};
+ghost use Rattle.mon_types.specs.declared.names.Stop.TheVariants.{Failed};
 
 use crate::clients::Clients;
 use crate::link::{Got, Link, Peer};
@@ -35,7 +37,8 @@ impl Address {
 }
 
 /// A socket for datagrams. What comes from a monitor's address comes from that monitor, and what comes from any other
-/// one from a client: the newest 1,024 of these addresses are the clients 0 to 1,023.
+/// one from a client. Each new address is the client of the next number, and the newest 1,024 are known. It fails where
+/// it can't bind or receive, and once 2^32 clients came, at what comes from one that isn't known.
 #[derive(Drop)]
 pub struct UdpLink<R: Net + Copy> {
     rt: R,
@@ -144,8 +147,8 @@ impl<R: Net + Copy> UdpLink<R> {
         }
     }
 
-    /// Who is at an address.
-    fn peer_at(&mut self, sender: SocketAddr) -> Result<Peer, OutOfMemory>
+    /// Who is at an address, unless that is a client and no number is left for it.
+    fn peer_at(&mut self, sender: SocketAddr) -> Result<Option<Peer>, OutOfMemory>
         ensures faults { self.new.faults ≡ self.old.faults }
         ensures losses { self.new.losses ≡ self.old.losses }
     {
@@ -153,10 +156,24 @@ impl<R: Net + Copy> UdpLink<R> {
             if let Some(rank) = Rank::new(r)
                 && self.monitor(rank) == Some(sender)
             {
-                return Ok(Peer::Monitor(rank));
+                return Ok(Some(Peer::Monitor(rank)));
             }
         }
-        Ok(Peer::Client(self.clients.number_of(sender)?))
+        match self.clients.number_of(sender)? {
+            Some(number) => Ok(Some(Peer::Client(number))),
+            None => Ok(None),
+        }
+    }
+
+    /// A call of `next` failed so.
+    fn fail(&mut self, said: Error) -> Stop
+        ensures faults { self.new.faults ≡ risen self.old.faults }
+        ensures losses { self.new.losses ≡ self.old.losses }
+        ensures stop { result ≡ Failed }
+    {
+        self.failure = self.failure.take().or(Some(said));
+        self.faults = raised(self.faults);
+        Stop::Failed
     }
 
     fn put(&mut self, to: Peer, bytes: &[u8]) -> io::Result<usize>
@@ -200,8 +217,11 @@ impl<R: Net + Copy> Link for UdpLink<R> {
         };
         match self.receive(wait, bytes.as_mut_slice()) {
             Ok((count, sender)) => {
-                let Ok(from) = self.peer_at(sender) else {
+                let Ok(peer) = self.peer_at(sender) else {
                     return Err(Stop::OutOfMemory);
+                };
+                let Some(from) = peer else {
+                    return Err(self.fail(ErrorKind::QuotaExceeded.into()));
                 };
                 bytes.truncate(count);
                 let bytes = Bytes::new(bytes);
@@ -211,9 +231,7 @@ impl<R: Net + Copy> Link for UdpLink<R> {
                 if is_idle(said.kind()) {
                     return Ok(Got::Idle);
                 }
-                self.failure = self.failure.take().or(Some(said));
-                self.faults = raised(self.faults);
-                Err(Stop::Failed)
+                Err(self.fail(said))
             }
         }
     }
