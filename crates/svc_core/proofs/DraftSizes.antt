@@ -15,10 +15,13 @@ use Rattle.mon_bytes.specs.declared.command.Command.{Command}
 use Rattle.mon_bytes.specs.declared.command.Command.TheVariants as command
 use Rattle.mon_bytes.specs.declared.command.CommandRefused.{CommandRefused}
 use Rattle.mon_bytes.specs.declared.command.CommandRefused.TheVariants as refused
+use Rattle.mon_wire.specs.declared.reply.ShownMap.{ShownMap}
+use Rattle.mon_wire.specs.declared.reply.ShownMap.TheVariants as map
+use Rattle.svc_core.specs.Drafts.{kv_incremental}
 use Rattle.mon_bytes.proofs.Fields.{guard_ok, chosen_ok, ok_is}
 use Rattle.mon_bytes.proofs.Forms.{length-u32_bytes}
 
-name_length : (k : List ℕ) → IsTrue (is_name k) → length k ≤ 255
+pub name_length : (k : List ℕ) → IsTrue (is_name k) → length k ≤ 255
 name_length k h = leb-true (length k) 255 (and_parts _ _ (and_parts _ _ h).0).1
 
 pub kv_inc_short : (m : kv.Kv) (c : Command) (inc : KvInc) → kv_text.IncFits inc → kv_made.made m c ≡ Ok inc → length (kv_text.inc_text inc) ≤ 65797
@@ -37,6 +40,10 @@ kv_inc_short m (command.Remove k) inc form e =
     let fits = rw (← same) at form in
     let n = name_length k fits in rw (← same) (omega arith)
 kv_inc_short m (command.Log t) inc form e = absurd cc
+
+pub incremental_short : (m : ShownMap) (c : Command) (inc : KvInc) → kv_text.IncFits inc → kv_incremental m c ≡ Ok inc → length (kv_text.inc_text inc) ≤ 65797
+incremental_short (map.Kv m) c inc form e = kv_inc_short m c inc form e
+incremental_short (map.Log es) c inc form e = absurd cc
 
 pub log_inc_short : (asked : ℕ) (text : List ℕ) (inc : LogInc) → log_made.made asked text ≡ Ok inc → length (log_text.inc_text inc) ≤ 65797
 log_inc_short asked text inc e =

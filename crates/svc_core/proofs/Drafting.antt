@@ -1,6 +1,6 @@
 -- What a command makes of the map that is read.
 use Rattle.std.proofs.Common.{◌≡◌, ℕ, suc, ◌+◌, ◌≤◌, ◌%◌, Bool, true, false, cond, eqb, ltb, List, [], length, Option, Some, None, Result, Ok, Err, refl, sym, ap, ◌∙◌, add-one, arith}
-use Rattle.std.proofs.lemmas.Bool.{ltb-false}
+use Rattle.std.proofs.lemmas.Bool.{ltb-false, le-ltb}
 use Rattle.std.specs.FinMap.{insert, contains_key}
 use Rattle.map_kv.specs.Made as kv_made
 use Rattle.map_kv.specs.Map as kv
@@ -28,9 +28,11 @@ use Rattle.mon_wire.specs.declared.reply.ShownMap.{ShownMap}
 use Rattle.mon_wire.specs.declared.reply.ShownMap.TheVariants as map
 use Rattle.mon_wire.specs.declared.request.Service.{Service}
 use Rattle.mon_wire.specs.declared.request.Service.TheVariants as service
-use Rattle.svc_core.specs.Drafts.{drafted}
+use Rattle.svc_core.specs.Drafts.{drafted, kv_incremental}
 use Rattle.svc_core.specs.Kinds.{kind}
+use Rattle.svc_core.specs.Room.{IsWithin}
 use Rattle.svc_core.specs.declared.made.Draft.{Draft}
+use Rattle.map_kv.proofs.Kept.{length-inserted}
 use Rattle.map_kv.proofs.Removed.{length_removed}
 
 -- the map with the incremental that is made of it isn't too long
@@ -45,6 +47,16 @@ made_short m (command.Remove k) inc h e =
     let same = ok_is {E = CommandRefused} (kv_inc.Remove k) inc p.1 in
     rw (← same) (omega (arith, length_removed m k))
 made_short m (command.Log t) inc h e = absurd cc
+
+-- a set is made of a map that surely has room for it
+pub set_fits : (m : ShownMap) (k v : List ℕ) (n : ℕ) → length v ≤ 65536 → n + (length k + length v + 5) ≤ 393216 → IsWithin n m → kv_incremental m (command.Set k v) ≡ Ok (kv_inc.Set k v)
+set_fits (map.Kv m) k v n short room h =
+    let fits : length (kv_text.map_text (insert m k v)) ≤ 393216 = omega (arith, length-inserted m k v) in
+    rw (le-ltb 65536 (length v) short, le-ltb 393216 (length (kv_text.map_text (insert m k v))) fits) refl
+set_fits (map.Log es) k v n short room h = absurd h
+
+pub draft_is : (d : Draft) (incremental text : List ℕ) → d.incremental ≡ incremental → d.text ≡ text → ◌≡◌ {A = Draft} (record { incremental = incremental; text = text }) d
+draft_is d incremental text p q = rw (← p, ← q) refl
 
 -- a text that is too long is refused whatever the cluster log is
 pub log_refused : (m : ShownMap) (due : Bool) (asked : ℕ) (text : List ℕ) (e : CommandRefused) → kind m ≡ service.Log → Refuses e (log_made.made asked text) → Refuses e (drafted due (made m asked (command.Log text)))

@@ -6,6 +6,7 @@ pub mod Fulls
 pub mod Kindly
 pub mod MapSizes
 pub mod Onwards
+pub mod Rooms
 pub mod Rows
 pub mod ShortValues
 pub mod Starts

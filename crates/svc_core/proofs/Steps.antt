@@ -47,7 +47,7 @@ kind_kept (map.Log es) bytes x e = by (if_ok (log_decode.inc_of bytes)) e
     by None e = absurd cc
     by (Some inc) e = let same : map.Log (log.with_inc es inc) ≡ x = cc in rw (← same) refl
 
-shortened : (s : Service) (m x : ShownMap) → short_map s m ≡ Some x → (m ≡ x) × (length (map_text x) ≤ most_map s)
+pub shortened : (s : Service) (m x : ShownMap) → short_map s m ≡ Some x → (m ≡ x) × (length (map_text x) ≤ most_map s)
 shortened s m x e = by (leb (length (map_text m)) (most_map s)) refl e
   where
     by : (b : Bool) → leb (length (map_text m)) (most_map s) ≡ b → cond b (Some m) None ≡ Some x → (m ≡ x) × (length (map_text x) ≤ most_map s)
@@ -68,8 +68,9 @@ next_is s m bytes x e h = by (with_incremental m bytes) refl e
     by None f e = absurd cc
     by (Some y) f e = record { kind_is = next_kind s m bytes x (ap (option_and_then (short_map s)) f ∙ e) ∙ h.kind_is; short = (shortened s y x e).1 }
 
+pub length-empty : length (kv_text.map_text empty) ≡ 4
+length-empty = kv_lengths.length-map_text empty ∙ ap (λ (es : List (List ℕ × List ℕ)). 4 + size_of es) (sym (ap entries (none_kept [] refl)) ∙ entries-kept_map [] tt)
+
 pub empty_is : (s : Service) → IsMapOf s (empty_map s)
-empty_is service.Kv =
-    let four = kv_lengths.length-map_text empty ∙ ap (λ (es : List (List ℕ × List ℕ)). 4 + size_of es) (sym (ap entries (none_kept [] refl)) ∙ entries-kept_map [] tt) in
-    record { kind_is = refl; short = omega (arith, four) }
+empty_is service.Kv = record { kind_is = refl; short = omega (arith, length-empty) }
 empty_is service.Log = record { kind_is = refl; short = omega (arith, log_lengths.length-map_text []) }

@@ -1,9 +1,14 @@
 -- What a value is made of: the incremental, and the map's text where a full map is due.
 use Rattle.std.specs.Prelude.{◌≡◌, ℕ, suc, ◌+◌, ◌≤◌, Bool, List, [], length, Result, Ok, Err, if◌then◌else◌}
+use Rattle.mon_bytes.specs.declared.command.Command.{Command}
 use Rattle.mon_bytes.specs.declared.command.CommandRefused.{CommandRefused}
+use Rattle.mon_bytes.specs.declared.command.CommandRefused.TheVariants as refused
+use Rattle.map_kv.specs.Made as kv_made
 use Rattle.map_kv.specs.declared.command.TheConstants.{MOST_MAP, MOST_VALUE}
+use Rattle.map_kv.specs.declared.inc.KvInc.{KvInc}
 use Rattle.mon_msg.specs.Protocol.Parts.{map_text}
 use Rattle.mon_wire.specs.declared.reply.ShownMap.{ShownMap}
+use Rattle.mon_wire.specs.declared.reply.ShownMap.TheVariants as map
 use Rattle.mon_wire.specs.declared.request.Service.{Service}
 use Rattle.mon_msg.specs.Protocol.Services.{service_first, service_last}
 use Rattle.mon_msg.specs.Protocol.Rules.{value_ops}
@@ -15,6 +20,11 @@ use Rattle.svc_core.specs.declared.made.Draft.{Draft}
 -- the longest incremental: a set of the longest key to the longest value
 abbrev pub most_incremental : ℕ
 most_incremental = MOST_VALUE + 261
+
+-- the incremental that a command makes of a key-value map
+abbrev pub kv_incremental : ShownMap → Command → Result KvInc CommandRefused
+kv_incremental (map.Kv m) c = kv_made.made m c
+kv_incremental (map.Log es) c = Err refused.NoSuch
 
 abbrev pub text_if : Bool → ShownMap → List ℕ
 text_if due next = if due then map_text next else []

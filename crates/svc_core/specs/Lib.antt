@@ -2,3 +2,4 @@ pub mod Cache
 pub mod Drafts
 pub mod Kinds
 pub mod Onward
+pub mod Room

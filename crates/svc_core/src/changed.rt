@@ -1,6 +1,6 @@
 //! What changed a service's map after a version.
 
-ghost use Rattle.std.specs.Prelude.{◌≡◌, ◌-◌, ◌≤◌, ◌^◌, suc, length, nat_lt, IfOk};
+ghost use Rattle.std.specs.Prelude.{◌≡◌, ◌-◌, ◌≤◌, ◌^◌, suc, [], ◌∷◌, ◌++◌, length, nat_lt, IfOk, OnOk};
 ghost use Rattle.mon_msg.specs.Protocol.Services.{service_last, kept_from, may_tell};
 ghost use Rattle.mon_msg.specs.Protocol.Reads.{since, shown};
 ghost use Rattle.mon_msg.specs.Protocol.Records.{longest};
@@ -21,6 +21,13 @@ struct Changes {
     more: bool,
 }
 
+/// Appends a copy of the bytes.
+fn push_copy(alloc: Global, told: &mut Items<Bytes>, bytes: &[u8]) -> Result<(), OutOfMemory>
+    ensures { OnOk result (told.new ≡ told.old ++ bytes.now ∷ []) }
+{
+    told.push(Bytes::new(Vec::from_slice(alloc, bytes)?))
+}
+
 /// The incrementals after version `v` up to the first that isn't there, as many as are told.
 fn told_after(alloc: Global, kv: &Kv, service: Service, v: u64) -> Result<Changes, OutOfMemory>
     requires { v ≤ 2 ^ 62 }
@@ -38,7 +45,7 @@ fn told_after(alloc: Global, kv: &Kv, service: Service, v: u64) -> Result<Change
             return Ok(Changes { told, more: true });
         }
         room -= bytes.len() + 4;
-        told.push(Bytes::new(Vec::from_slice(alloc, bytes)?))?;
+        push_copy(alloc, &mut told, bytes)?;
     }
     Ok(Changes { told, more: false })
 }

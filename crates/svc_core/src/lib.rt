@@ -4,9 +4,10 @@
 mod cache;
 mod changed;
 mod made;
-pub mod mon_trim;
+mod mon_trim;
 mod proposal;
 mod reading;
+mod room;
 mod row;
 mod rules;
 mod step;

@@ -1,9 +1,10 @@
 //! What a command makes of a service's map.
 
-ghost use Rattle.std.specs.Prelude.{◌≡◌, ℕ, IfOk};
+ghost use Rattle.std.specs.Prelude.{◌≡◌, ℕ, ◌≤◌, length, [], true, false, Ok, IfOk, IfSome};
 ghost use Rattle.map_kv.specs.Made.{IsOfKv};
 ghost use Rattle.map_kv.specs.Map as kv_map;
 ghost use Rattle.map_kv.specs.Text as kv_text;
+ghost use Rattle.map_kv.specs.declared.command.TheConstants.{MOST_MAP};
 ghost use Rattle.map_log.specs.Map as log_map;
 ghost use Rattle.map_log.specs.Text as log_text;
 ghost use Rattle.mon_bytes.specs.Makes.{Makes};
@@ -11,14 +12,15 @@ ghost use Rattle.mon_bytes.specs.declared.command.Command.TheVariants as command
 ghost use Rattle.mon_msg.specs.Protocol.Services.{read_map};
 ghost use Rattle.mon_msg.specs.Protocol.Value.{made, service_of};
 ghost use Rattle.mon_msg.specs.Protocol.Readings.{readings_of};
-ghost use Rattle.svc_core.specs.Drafts.{drafted, IsShort};
+ghost use Rattle.svc_core.specs.Drafts.{drafted, kv_incremental, IsShort};
 
-use crate::reading::read;
-use map_kv::{KvInc, KvMap, make as make_kv};
+use crate::reading::{read_kv, read_log};
+use crate::room::is_within;
+use map_kv::{KvInc, KvMap, MOST_MAP, MOST_VALUE, make as make_kv};
 use map_log::{LogInc, LogMap, make as make_log};
 use mon_bytes::{Bytes, Command, CommandRefused, OutOfMemory, Text};
 use mon_kv::Kv;
-use mon_msg::{Service, ShownMap};
+use mon_msg::Service;
 use mon_types::Rank;
 use std::alloc::Global;
 
@@ -27,6 +29,57 @@ use std::alloc::Global;
 pub(crate) struct Draft {
     pub(crate) incremental: Bytes,
     pub(crate) text: Bytes,
+}
+
+impl Draft {
+    /// An incremental where no full map is due.
+    fn bare(alloc: Global, incremental: Bytes) -> Draft
+        ensures incremental { result.incremental ≡ incremental }
+        ensures text { result.text ≡ [] }
+    {
+        Draft {
+            incremental,
+            text: Bytes::new(Vec::new(alloc)),
+        }
+    }
+}
+
+/// The incremental of a set that surely fits, and `None` where that isn't sure without the map.
+fn sure_set(alloc: Global, kv: &Kv, command: &Command) -> Result<Option<KvInc>, OutOfMemory>
+    ensures made { IfOk result (λ made. IfSome made (λ inc. kv_incremental (read_map (readings_of kv.now) Service.Kv) command.now ≡ Ok inc)) }
+    ensures form { IfOk result (λ made. IfSome made kv_text.IncFits) }
+{
+    let Command::Set { key, value } = command else {
+        return Ok(None);
+    };
+    let len = value.as_slice().len() as u64;
+    if len > MOST_VALUE {
+        return Ok(None);
+    }
+    let longer = key.as_slice().len() as u64 + len + 5;
+    if !is_within(alloc, kv, MOST_MAP - longer)? {
+        return Ok(None);
+    }
+    Ok(Some(KvInc::Set {
+        key: key.copy(alloc)?,
+        value: value.copy(alloc)?,
+    }))
+}
+
+/// The incremental of a command over the map that is read.
+fn kv_incremental(alloc: Global, kv: &Kv, command: &Command) -> Result<KvInc, CommandRefused>
+    requires { IsOfKv command.now }
+    ensures made { Makes result (kv_incremental (read_map (readings_of kv.now) Service.Kv) command.now) }
+    ensures form { IfOk result kv_text.IncFits }
+{
+    // Reading the map is dear, so a set that surely fits is made without it.
+    if let Some(inc) = sure_set(alloc, kv, command)? {
+        return Ok(inc);
+    }
+    let map = read_kv(alloc, kv)?;
+    let made = make_kv(alloc, &map, command);
+    drop(map);
+    made
 }
 
 /// The text of a key-value map after an incremental.
@@ -50,30 +103,61 @@ fn log_text_after(mut map: LogMap, inc: LogInc) -> Result<Bytes, OutOfMemory>
     Ok(Bytes::new(map.encode()?))
 }
 
+/// The incremental, and the text of a key-value map after it.
+fn kv_draft(alloc: Global, map: KvMap, inc: KvInc) -> Result<Draft, OutOfMemory>
+    requires form { kv_text.IncFits inc }
+    requires map { kv_text.MapIsShort (kv_map.with_inc map inc) }
+    ensures incremental { IfOk result (λ d. d.incremental ≡ kv_text.inc_text inc) }
+    ensures text { IfOk result (λ d. d.text ≡ kv_text.map_text (kv_map.with_inc map inc)) }
+{
+    let incremental = inc.encode(alloc);
+    let text = kv_text_after(map, inc);
+    Ok(Draft {
+        incremental: Bytes::new(incremental?),
+        text: text?,
+    })
+}
+
+/// What a command makes where a full map is due.
+fn kv_full(alloc: Global, kv: &Kv, command: &Command) -> Result<Draft, CommandRefused>
+    requires { IsOfKv command.now }
+    ensures made { (asked : ℕ) → Makes result (drafted true (made (read_map (readings_of kv.now) Service.Kv) asked command.now)) }
+    ensures short { IfOk result IsShort }
+{
+    let map = read_kv(alloc, kv)?;
+    let inc = make_kv(alloc, &map, command)?;
+    Ok(kv_draft(alloc, map, inc)?)
+}
+
 fn kv_made(alloc: Global, kv: &Kv, command: &Command, due: bool) -> Result<Draft, CommandRefused>
     requires { IsOfKv command.now }
     ensures made { (asked : ℕ) → Makes result (drafted due (made (read_map (readings_of kv.now) Service.Kv) asked command.now)) }
     ensures short { IfOk result IsShort }
 {
-    let ShownMap::Kv(map) = read(alloc, kv, Service::Kv)? else {
-        unreachable!()
-    };
-    let inc = make_kv(alloc, &map, command)?;
-    let incremental = Bytes::new(inc.encode(alloc)?);
-    if !due {
-        drop(inc);
-        return Ok(Draft {
-            incremental,
-            text: Bytes::new(Vec::new(alloc)),
-        });
+    if due {
+        return kv_full(alloc, kv, command);
     }
+    let inc = kv_incremental(alloc, kv, command)?;
+    let incremental = inc.encode(alloc);
+    drop(inc);
+    Ok(Draft::bare(alloc, Bytes::new(incremental?)))
+}
+
+/// The incremental, and the text of the cluster log after it.
+fn log_draft(alloc: Global, map: LogMap, inc: LogInc) -> Result<Draft, OutOfMemory>
+    requires { log_text.IncFits inc }
+    ensures incremental { IfOk result (λ d. d.incremental ≡ log_text.inc_text inc) }
+    ensures text { IfOk result (λ d. d.text ≡ log_text.map_text (log_map.with_inc map inc)) }
+{
+    let incremental = inc.encode(alloc);
+    let text = log_text_after(map, inc);
     Ok(Draft {
-        incremental,
-        text: kv_text_after(map, inc)?,
+        incremental: Bytes::new(incremental?),
+        text: text?,
     })
 }
 
-/// Where no full map is due the map isn't read.
+/// The map is read only where a full map is due.
 fn log_made(
     alloc: Global,
     kv: &Kv,
@@ -85,21 +169,13 @@ fn log_made(
     ensures short { IfOk result IsShort }
 {
     let inc = make_log(alloc, asked, text)?;
-    let incremental = Bytes::new(inc.encode(alloc)?);
-    if !due {
-        drop(inc);
-        return Ok(Draft {
-            incremental,
-            text: Bytes::new(Vec::new(alloc)),
-        });
+    if due {
+        let map = read_log(alloc, kv)?;
+        return Ok(log_draft(alloc, map, inc)?);
     }
-    let ShownMap::Log(map) = read(alloc, kv, Service::Log)? else {
-        unreachable!()
-    };
-    Ok(Draft {
-        incremental,
-        text: log_text_after(map, inc)?,
-    })
+    let incremental = inc.encode(alloc);
+    drop(inc);
+    Ok(Draft::bare(alloc, Bytes::new(incremental?)))
 }
 
 /// The incremental of a command, and the map's text with it where a full map is due.

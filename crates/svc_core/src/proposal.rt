@@ -1,6 +1,6 @@
 //! The value of a command: the changes that it makes in every monitor's store.
 
-ghost use Rattle.std.specs.Prelude.{◌≡◌, ◌+◌, ◌<◌, ◌≤◌, ◌^◌, suc, length, IfOk};
+ghost use Rattle.std.specs.Prelude.{◌≡◌, ◌+◌, ◌<◌, ◌≤◌, ◌^◌, suc, [], length, IfOk, OnOk};
 ghost use Rattle.mon_bytes.specs.Makes.{Makes};
 ghost use Rattle.mon_msg.specs.Protocol.Services.{service_first, service_last};
 ghost use Rattle.mon_msg.specs.Protocol.Rules.{value_ops};
@@ -32,8 +32,30 @@ pub fn service_of(command: &Command) -> Service
     }
 }
 
-/// The changes of the value that makes version `n` of a service.
+/// Appends the changes of the value that makes version `n` of a service.
 #[tactic(auto, unfolding(mon_msg::specs::Protocol::Rules::value_ops, mon_msg::specs::Protocol::Readings::readings_of))]
+fn push_value(
+    tx: &mut Transaction,
+    kv: &Kv,
+    service: Service,
+    n: u64,
+    made: Draft,
+) -> Result<(), OutOfMemory>
+    requires version { n ≤ 2 ^ 62 }
+    requires empty { tx.old ≡ [] }
+    ensures { OnOk result (tx.new ≡ value_ops (readings_of kv.now).first (readings_of kv.now).last (area_of service) n (service_first (readings_of kv.now) service) made.incremental made.text) }
+{
+    let area = area_of(service);
+    let last = kv.last_committed();
+    let Draft { incremental, text } = made;
+    push_paxos_begins(tx, last)?;
+    push_new_version(tx, area, n, incremental)?;
+    push_full_version(tx, area, n, text)?;
+    push_service_trim(tx, area, n, first_version(kv, service))?;
+    push_trim(tx, kv.first_committed(), last)
+}
+
+/// The changes of the value that makes version `n` of a service.
 fn value_tx(
     alloc: Global,
     kv: &Kv,
@@ -44,15 +66,8 @@ fn value_tx(
     requires { n ≤ 2 ^ 62 }
     ensures { IfOk result (λ tx. tx ≡ value_ops (readings_of kv.now).first (readings_of kv.now).last (area_of service) n (service_first (readings_of kv.now) service) made.incremental made.text) }
 {
-    let area = area_of(service);
-    let last = kv.last_committed();
-    let Draft { incremental, text } = made;
     let mut tx = Transaction::new(alloc);
-    push_paxos_begins(&mut tx, last)?;
-    push_new_version(&mut tx, area, n, incremental)?;
-    push_full_version(&mut tx, area, n, text)?;
-    push_service_trim(&mut tx, area, n, first_version(kv, service))?;
-    push_trim(&mut tx, kv.first_committed(), last)?;
+    push_value(&mut tx, kv, service, n, made)?;
     Ok(tx)
 }
 

@@ -3,6 +3,8 @@
 ghost use Rattle.std.specs.Prelude.{◌≡◌, ◌+◌, ◌-◌, ◌≤◌, ◌^◌, suc, length, IfOk, IfSome};
 ghost use Rattle.std.specs.Option.{option_map};
 ghost use Rattle.map_kv.specs.Decode as kv_decode;
+ghost use Rattle.map_kv.specs.Text as kv_text;
+ghost use Rattle.map_kv.specs.declared.command.TheConstants.{MOST_MAP};
 ghost use Rattle.map_log.specs.Decode as log_decode;
 ghost use Rattle.mon_msg.specs.Protocol.Maps.{empty_map, if_ok, spelled_map};
 ghost use Rattle.mon_msg.specs.Protocol.Services.{service_last, full_latest, full_map, read_on, read_map};
@@ -11,14 +13,13 @@ ghost use Rattle.mon_msg.specs.Protocol.Readings.{readings_of};
 ghost use Rattle.svc_core.specs.Kinds.{IsMapOf, Stepped};
 ghost use Rattle.svc_core.specs.Onward.{step_at, goes_on, reaches_last};
 
-use crate::row::{area_of, full_latest, incremental, last_version};
+use crate::row::{full, full_latest, incremental, last_version};
 use crate::step::{most_map, step};
 use map_kv::KvMap;
 use map_log::LogMap;
 use mon_bytes::{MapRefused, OutOfMemory};
 use mon_kv::Kv;
 use mon_msg::{Service, ShownMap};
-use mon_tx::Key;
 use std::alloc::Global;
 
 fn empty_map(alloc: Global, service: Service) -> ShownMap
@@ -72,7 +73,6 @@ fn spelled_map(
 }
 
 /// The newest full map, unless it is newer than the last version, is none or is too long.
-#[tactic(auto, unfolding(mon_msg::specs::Protocol::Readings::readings_of))]
 fn full_map(alloc: Global, kv: &Kv, service: Service) -> Result<Option<ShownMap>, OutOfMemory>
     ensures map { IfOk result (λ map. map ≡ full_map (readings_of kv.now) service) }
     ensures form { IfOk result (λ map. IfSome map (IsMapOf service)) }
@@ -82,8 +82,7 @@ fn full_map(alloc: Global, kv: &Kv, service: Service) -> Result<Option<ShownMap>
     if latest > last_version(kv, service) {
         return Ok(None);
     }
-    let key = Key::Full(latest).name(alloc)?;
-    match kv.get(area_of(service).as_str().as_bytes(), key.as_slice()) {
+    match full(alloc, kv, service, latest)? {
         Some(bytes) => spelled_map(alloc, service, bytes),
         None => Ok(None),
     }
@@ -184,4 +183,25 @@ pub fn read(alloc: Global, kv: &Kv, service: Service) -> Result<ShownMap, OutOfM
     ensures form { IfOk result (IsMapOf service) }
 {
     Ok(read_whole(alloc, kv, service)?.map)
+}
+
+/// Reads the key-value map.
+pub(crate) fn read_kv(alloc: Global, kv: &Kv) -> Result<KvMap, OutOfMemory>
+    ensures map { IfOk result (λ map. read_map (readings_of kv.now) Service.Kv ≡ ShownMap.Kv map) }
+    ensures short { IfOk result (λ map. length (kv_text.map_text map) ≤ MOST_MAP) }
+{
+    match read(alloc, kv, Service::Kv)? {
+        ShownMap::Kv(map) => Ok(map),
+        ShownMap::Log(_) => unreachable!(),
+    }
+}
+
+/// Reads the cluster log.
+pub(crate) fn read_log(alloc: Global, kv: &Kv) -> Result<LogMap, OutOfMemory>
+    ensures { IfOk result (λ map. read_map (readings_of kv.now) Service.Log ≡ ShownMap.Log map) }
+{
+    match read(alloc, kv, Service::Log)? {
+        ShownMap::Log(map) => Ok(map),
+        ShownMap::Kv(_) => unreachable!(),
+    }
 }

@@ -1,6 +1,6 @@
 //! What a store tells of a service.
 
-ghost use Rattle.std.specs.Prelude.{◌≡◌, ◌≤◌, ◌^◌};
+ghost use Rattle.std.specs.Prelude.{◌≡◌, ◌≤◌, ◌^◌, IfOk};
 ghost use Rattle.std.specs.Option.{option_copied};
 ghost use Rattle.mon_tx.specs.Keys.{area_text};
 ghost use Rattle.mon_tx.specs.Map.{number_at};
@@ -10,9 +10,11 @@ ghost use Rattle.mon_msg.specs.Protocol.Readings.{readings_of};
 ghost use Rattle.mon_msg.specs.Puts.{area_of};
 
 use itoa::Buffer;
+use mon_bytes::OutOfMemory;
 use mon_kv::Kv;
 use mon_msg::Service;
-use mon_tx::Area;
+use mon_tx::{Area, Key};
+use std::alloc::Global;
 
 /// Where a service keeps its map.
 pub(crate) fn area_of(service: Service) -> Area
@@ -69,4 +71,18 @@ pub(crate) fn incremental(kv: &Kv, service: Service, v: u64) -> Option<&[u8]>
         area_of(service).as_str().as_bytes(),
         digits.format(v).as_bytes(),
     )
+}
+
+/// The bytes of the full map at a version, or `None` exactly where there are none.
+#[tactic(auto, unfolding(mon_msg::specs::Protocol::Readings::readings_of))]
+pub(crate) fn full(
+    alloc: Global,
+    kv: &Kv,
+    service: Service,
+    v: u64,
+) -> Result<Option<&[u8]>, OutOfMemory>
+    ensures { IfOk result (λ bytes. option_copied bytes ≡ (readings_of kv.now).row service (keys.Full v)) }
+{
+    let key = Key::Full(v).name(alloc)?;
+    Ok(kv.get(area_of(service).as_str().as_bytes(), key.as_slice()))
 }

@@ -1,8 +1,9 @@
 //! The step that an incremental takes on a map.
 
 ghost use Rattle.std.specs.Prelude.{◌≡◌, IfOk};
-ghost use Rattle.mon_msg.specs.Protocol.Maps.{if_ok, most_map, next_map};
+ghost use Rattle.mon_msg.specs.Protocol.Maps.{if_ok, most_map, next_map, short_map};
 ghost use Rattle.map_kv.specs.Decode as kv_decode;
+ghost use Rattle.map_kv.specs.Map as kv_map;
 ghost use Rattle.map_log.specs.Decode as log_decode;
 ghost use Rattle.svc_core.specs.Kinds.{IsMapOf, Stepped};
 
@@ -44,8 +45,19 @@ fn log_inc(alloc: Global, bytes: &[u8]) -> Result<Option<LogInc>, OutOfMemory>
     }
 }
 
-/// Takes the step of the incremental that the bytes are. There is none where they are none or the map would have more than `most`
-/// bytes, and the map stays then.
+/// Applies an incremental, unless the map would have more bytes than it may have. It tells whether it did.
+fn kv_apply(service: Service, map: &mut KvMap, inc: &KvInc) -> Result<bool, OutOfMemory>
+    ensures { IfOk result (Stepped (ShownMap.Kv map.old) (ShownMap.Kv map.new) (short_map service (ShownMap.Kv (kv_map.with_inc map.old inc.now)))) }
+{
+    if map.size_after(inc) > most_map(service) {
+        return Ok(false);
+    }
+    map.apply(inc)?;
+    Ok(true)
+}
+
+/// Takes the step of the incremental that the bytes are. There is none where they are none or the map would be too long, and the
+/// map stays then.
 fn kv_step(
     alloc: Global,
     service: Service,
@@ -57,11 +69,9 @@ fn kv_step(
     let Some(inc) = kv_inc(alloc, bytes)? else {
         return Ok(false);
     };
-    if map.size_after(&inc) > most_map(service) {
-        return Ok(false);
-    }
-    map.apply(&inc)?;
-    Ok(true)
+    let stepped = kv_apply(service, map, &inc);
+    drop(inc);
+    stepped
 }
 
 /// The same of the cluster log, which is never too long.

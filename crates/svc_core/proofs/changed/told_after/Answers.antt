@@ -37,7 +37,7 @@ returns-then-as_slice-eq-MOST_ITEMS-clause-more c =
 pub loop-n-preserved : goal.loop-n-preserved
 loop-n-preserved c =
     let few : length c.loop-n.told < 65535 = omega (arith, ap length c.as_slice.ensures, c.loop-n.invariant.many) in
-    rw (c.in_ok-push.ensures.ok, c.new.ensures, c.in_ok-from_slice.ensures.items)
+    rw c.in_ok-push_copy.ensures
     (tells_more (readings_of c.args.kv.now) c.args.service c.last_version-last.result c.args.v c.loop-n.n c.loop-n.told c.loop-n.room c.in-Some.bytes.now c.loop-n-test.true (sym (rw c.in-Some.is at c.incremental.ensures)) few c.if-bytes-room.false c.loop-n.invariant)
 
 pub returns-clause-told : goal.returns-clause-told
