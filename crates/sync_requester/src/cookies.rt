@@ -18,10 +18,11 @@ ghost use Rattle.sync_requester.specs.Rows.{IsHeard};
 
 use crate::places::{first_place, is_same_cookie};
 use mon_bytes::{Items, OutOfMemory};
-use mon_msg::{Body, Cookie, Me, Next, Place, Plan, Requester, RoleStop, SyncStage, Timer};
+use mon_msg::plan::Sent;
+use mon_msg::{Arming, Body, Cookie, Me, Next, Place, Plan, Requester, RoleStop, SyncStage, Timer};
 use mon_plan::{Stored, armed, message, planned, stay};
 use mon_tx::Transaction;
-use mon_types::{Epoch, Moment, Version};
+use mon_types::{Epoch, Moment, Rank, Version};
 use std::alloc::Global;
 
 /// No cookie at all: a provider that can't serve a recent synchronisation tells it.
@@ -60,6 +61,25 @@ fn with_cookie(state: &Requester, cookie: Cookie, place: Place) -> Requester
     }
 }
 
+/// The provider is asked for something: the message to it, and the timer within which it answers.
+pub(crate) fn asking(
+    alloc: Global,
+    me: &Me,
+    epoch: Epoch,
+    body: Body,
+    to: Rank,
+    now: Moment,
+) -> Result<(Items<Sent>, Items<Arming>), OutOfMemory>
+    ensures out { IfOk result (λ asked. asked.0 ≡ message_to me.now epoch body to ∷ []) }
+    ensures timers { IfOk result (λ asked. asked.1 ≡ arming.Arm Timer.Sync (min (now + length_of Timer.Sync) (2 ^ 62)) ∷ []) }
+{
+    let mut out = Items::new(alloc);
+    out.push(message(me, epoch, body, to))?;
+    let mut timers = Items::new(alloc);
+    timers.push(armed(now, Timer::Sync))?;
+    Ok((out, timers))
+}
+
 /// After these changes, the chunk that follows the requester's place is asked for.
 pub fn ask(
     alloc: Global,
@@ -78,14 +98,9 @@ pub fn ask(
       next = next.Stay;
     }) }
 {
-    let asked = Body::GetChunk {
-        cookie,
-        place: state.place.copy(alloc)?,
-    };
-    let mut out = Items::new(alloc);
-    out.push(message(me, epoch, asked, state.provider))?;
-    let mut timers = Items::new(alloc);
-    timers.push(armed(now, Timer::Sync))?;
+    let place = state.place.copy(alloc)?;
+    let asked = Body::GetChunk { cookie, place };
+    let (out, timers) = asking(alloc, me, epoch, asked, state.provider, now)?;
     Ok(Plan {
         tx,
         out,

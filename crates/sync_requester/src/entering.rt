@@ -9,13 +9,15 @@ ghost use Rattle.mon_msg.specs.Protocol.Synchronizing.{floor_of};
 ghost use Rattle.mon_msg.specs.Protocol.Timers.{length_of};
 ghost use Rattle.mon_msg.specs.declared.plan.Arming.TheVariants as arming;
 ghost use Rattle.mon_msg.specs.declared.plan.Next.TheVariants as next;
+ghost use Rattle.mon_wire.specs.declared.phase.Timer.TheVariants as timer;
 ghost use Rattle.mon_plan.specs.Plans.{PlansAct};
 ghost use Rattle.sync_requester.specs.Rows.{IsEntering};
 
-use mon_bytes::{Items, KeyPlace, OutOfMemory};
+use crate::cookies::asking;
+use mon_bytes::{KeyPlace, OutOfMemory};
 use mon_kv::Kv;
-use mon_msg::{Body, Me, Next, Place, Plan, Requester, RoleStop, SyncStage, Timer};
-use mon_plan::{Stored, armed, message, put_mark};
+use mon_msg::{Body, Me, Next, Place, Plan, Requester, RoleStop, SyncStage};
+use mon_plan::{Stored, put_mark};
 use mon_tx::Transaction;
 use mon_types::{Epoch, Moment, Rank, Version};
 use std::alloc::Global;
@@ -63,15 +65,12 @@ fn ask_cookie(
     ensures { IfOk result (λ p. p ≡ record {
       tx = tx;
       out = message_to me.now epoch body from ∷ [];
-      timers = arming.Arm Timer.Sync (min (now + length_of Timer.Sync) (2 ^ 62)) ∷ [];
+      timers = arming.Arm timer.Sync (min (now + length_of timer.Sync) (2 ^ 62)) ∷ [];
       state = start_requester from full;
       next = next.Stay;
     }) }
 {
-    let mut out = Items::new(alloc);
-    out.push(message(me, epoch, body, from))?;
-    let mut timers = Items::new(alloc);
-    timers.push(armed(now, Timer::Sync))?;
+    let (out, timers) = asking(alloc, me, epoch, body, from, now)?;
     Ok(Plan {
         tx,
         out,
@@ -99,12 +98,15 @@ pub fn enter(
     let stored = Stored::of(alloc, kv);
     let mut tx = Transaction::new(alloc);
     if !full {
-        let asked = Body::GetCookieRecent {
-            last: stored.last(),
-        };
+        let last = stored.last();
+        drop(stored);
+        let asked = Body::GetCookieRecent { last };
         return Ok(ask_cookie(alloc, me, epoch, tx, from, false, asked, now)?);
     }
     let floor = floor_of(&stored);
-    put_mark(&mut tx, floor, stored.last_pn(), stored.promised())?;
+    let last_pn = stored.last_pn();
+    let promised = stored.promised();
+    drop(stored);
+    put_mark(&mut tx, floor, last_pn, promised)?;
     Ok(ask_cookie(alloc, me, epoch, tx, from, true, Body::GetCookieFull, now)?)
 }

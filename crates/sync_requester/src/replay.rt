@@ -1,10 +1,17 @@
 //! The versions behind the beginning of a whole copy are learned once more.
 
-ghost use Rattle.std.specs.Prelude.{◌≡◌, suc, ◌+◌, ◌-◌, ◌++◌, IfOk};
+ghost use Rattle.std.specs.Prelude.{◌≡◌, suc, ◌+◌, ◌-◌, ◌≤◌, ◌^◌, [], ◌∷◌, ◌++◌, length, min, IfOk};
+ghost use Rattle.std.specs.List.{AllByRecursion};
 ghost use Rattle.std.specs.Option.{option_map};
+ghost use Rattle.mon_tx.specs.Text.{text, most};
+ghost use Rattle.mon_msg.specs.Protocol.Changes.{Last, Unmark, ops_of, spelled};
 ghost use Rattle.mon_msg.specs.Protocol.Course.{requester_is};
+ghost use Rattle.mon_msg.specs.Protocol.Learning.{learn_changes};
+ghost use Rattle.mon_msg.specs.Protocol.Played.{Fits};
 ghost use Rattle.mon_msg.specs.Protocol.Readings.{readings_of};
 ghost use Rattle.mon_msg.specs.Protocol.Replay.{more_of, step_of, step_in};
+ghost use Rattle.mon_msg.specs.Protocol.Timers.{length_of};
+ghost use Rattle.mon_msg.specs.declared.plan.Arming.TheVariants as arming;
 ghost use Rattle.mon_msg.specs.declared.view.Me.{Me};
 ghost use Rattle.mon_wire.specs.declared.phase.Phase.TheVariants as phase;
 ghost use Rattle.mon_plan.specs.Leaves.{Leaves};
@@ -72,6 +79,74 @@ fn step_values(
     with_more(alloc, stored, values, from + 1, to, room)
 }
 
+/// The transaction that learns these values, of the versions from `from` on.
+fn to_learn(
+    alloc: Global,
+    from: Version,
+    values: &[Transaction],
+) -> Result<Transaction, OutOfMemory>
+    requires { AllByRecursion (λ ops. length (text ops) ≤ most) values.now }
+    ensures { IfOk result (λ tx. tx ≡ spelled (learn_changes from values.now)) }
+{
+    let mut tx = Transaction::new(alloc);
+    put_learned(&mut tx, from.get(), values)?;
+    Ok(tx)
+}
+
+/// The last step, after these changes: the copy is over, and the monitor begins anew with it.
+fn end_with(
+    alloc: Global,
+    kept: Requester,
+    tx: Transaction,
+    end: Version,
+) -> Result<Plan<Requester>, OutOfMemory>
+    ensures plan { IfOk result (λ p. p ≡ record {
+      tx = (tx ++ ops_of (Last end)) ++ ops_of Unmark;
+      out = [];
+      timers = [];
+      state = kept;
+      next = Next.Bootstrap;
+    }) }
+    ensures fit { Fits (Last end) }
+{
+    let mut tx = tx;
+    put_last(&mut tx, end)?;
+    put_unmark(&mut tx)?;
+    Ok(Plan {
+        tx,
+        out: Items::new(alloc),
+        timers: Items::new(alloc),
+        state: kept,
+        next: Next::Bootstrap,
+    })
+}
+
+/// A step with these changes, behind which there is another one.
+fn go_on(
+    alloc: Global,
+    kept: Requester,
+    tx: Transaction,
+    now: Moment,
+) -> Result<Plan<Requester>, OutOfMemory>
+    ensures { IfOk result (λ p. p ≡ record {
+      tx = tx;
+      out = [];
+      timers = arming.Arm Timer.Step (min (now + length_of Timer.Step) (2 ^ 62)) ∷ [];
+      state = kept;
+      next = Next.Stay;
+    }) }
+{
+    let mut timers = Items::new(alloc);
+    timers.push(armed(now, Timer::Step))?;
+    Ok(Plan {
+        tx,
+        out: Items::new(alloc),
+        timers,
+        state: kept,
+        next: Next::Stay,
+    })
+}
+
 /// A step of the replay of the versions from `next` to `end`. After the last of them the copy is over; where a record is
 /// missing the monitor begins anew, and nothing of the step is written.
 pub fn replay(
@@ -85,35 +160,19 @@ pub fn replay(
     ensures plans { (me : Me) → PlansRow me now requester_is (Holds (readings_of stored.now) state.now) (step_in me now (SyncStage.Replay next end)) result }
     ensures leaves { IfOk result (λ plan. Leaves phase.Synchronizing plan.next plan.tx) }
 {
+    let values = step_values(alloc, stored, next, end)?;
     let mut kept = state.copy(alloc)?;
-    let Some(values) = step_values(alloc, stored, next, end)? else {
+    let Some(values) = values else {
         return Ok(planned(alloc, kept, Next::Bootstrap));
     };
-    let mut tx = Transaction::new(alloc);
-    put_learned(&mut tx, next.get(), values.as_slice())?;
+    let tx = to_learn(alloc, next, values.as_slice())?;
     let after = next.get() + values.len() as u64;
     if after > end.get() {
-        put_last(&mut tx, end)?;
-        put_unmark(&mut tx)?;
-        return Ok(Plan {
-            tx,
-            out: Items::new(alloc),
-            timers: Items::new(alloc),
-            state: kept,
-            next: Next::Bootstrap,
-        });
+        return Ok(end_with(alloc, kept, tx, end)?);
     }
-    let mut timers = Items::new(alloc);
-    timers.push(armed(now, Timer::Step))?;
     kept.stage = SyncStage::Replay {
         next: Version::known(after),
         end,
     };
-    Ok(Plan {
-        tx,
-        out: Items::new(alloc),
-        timers,
-        state: kept,
-        next: Next::Stay,
-    })
+    Ok(go_on(alloc, kept, tx, now)?)
 }

@@ -17,7 +17,7 @@ pub returns-then-not-full-clause-plans : goal.returns-then-not-full-clause-plans
 returns-then-not-full-clause-plans c =
     let me = c.args.me.now in
     let w = readings_of c.args.kv.now in
-    let last = c.last.ensures.value ∙ ap (λ (m : Store). (readings_of m).last) c.of-stored.ensures in
+    let last = c.last-last.ensures.value ∙ ap (λ (m : Store). (readings_of m).last) c.of-stored.ensures in
     subst (λ (t : Bool). PlansAct me c.args.now requester_is (IsEntering c.args.epoch w) (cond t (next.FullSync c.args.from) (next.RecentSync c.args.from)) (Ok c.in_ok-ask_cookie.field-0)) (sym c.if-not-full.true)
     (does_as me c.args.now requester_is (IsEntering c.args.epoch w) (entered (next.RecentSync c.args.from)) (act me c.args.now (next.RecentSync c.args.from))
     [] tt (asks me c.args.now [] (body.GetCookieRecent w.last) (start_requester c.args.from false) c.args.epoch) refl
@@ -29,8 +29,8 @@ pub returns-clause-plans : goal.returns-clause-plans
 returns-clause-plans c =
     let me = c.args.me.now in
     let w = readings_of c.args.kv.now in
-    let marked : Mark c.floor_of-floor.result c.last_pn.result c.promised.result ≡ mark w =
-    (λ i. Mark (c.floor_of-floor.ensures i) (c.last_pn.ensures i) (c.promised.ensures i)) ∙ ap (λ (m : Store). mark (readings_of m)) c.of-stored.ensures in
+    let marked : Mark c.floor_of-floor.result c.last_pn-last_pn.result c.promised-promised.result ≡ mark w =
+    (λ i. Mark (c.floor_of-floor.ensures i) (c.last_pn-last_pn.ensures i) (c.promised-promised.ensures i)) ∙ ap (λ (m : Store). mark (readings_of m)) c.of-stored.ensures in
     let tx : c.put_mark.new.tx ≡ spelled (mark w ∷ []) =
     c.in_ok-put_mark.ensures.changes ∙ (λ i. c.new-tx.ensures i ++ ops_of (marked i)) ∙ sym (append-nil (ops_of (mark w))) in
     subst (λ (t : Bool). PlansAct me c.args.now requester_is (IsEntering c.args.epoch w) (cond t (next.FullSync c.args.from) (next.RecentSync c.args.from)) (Ok c.in_ok-ask_cookie-2.field-0)) (sym c.if-not-full.false)

@@ -1,4 +1,4 @@
-use Rattle.std.proofs.Common.{◌≡◌, ◌+◌, ◌-◌, ◌≤◌, ◌++◌, ℕ, suc, List, [], ◌∷◌, length, refl, sym, ap, subst, ◌∙◌, arith}
+use Rattle.std.proofs.Common.{◌≡◌, ◌+◌, ◌-◌, ◌≤◌, ◌++◌, ℕ, suc, List, length, refl, sym, ap, subst, ◌∙◌, arith}
 use Rattle.std.specs.List.{AllByRecursion}
 use Rattle.mon_msg.specs.Protocol.Changes.{Last, Unmark, ops_of, spelled}
 use Rattle.mon_msg.specs.Protocol.Course.{requester_is}
@@ -24,8 +24,8 @@ returns-in_default-clause-plans c =
     (λ x b. replay-lost w s x b me c.args.now c.args.next c.args.end (sym c.in_default.is ∙ c.in_ok-values.ensures))
     c.planned.result c.in_ok-kept.kept c.in_ok-kept.ensures c.planned.ensures
 
-pub put_learned-requires-clause-short : goal.put_learned-requires-clause-short
-put_learned-requires-clause-short c =
+pub to_learn-requires : goal.to_learn-requires
+to_learn-requires c =
     let records = (readings_of c.args.stored.now).record_of in
     let few = few-of records (suc c.args.end - c.args.next) c.args.next c.in-Some.values (sym c.in-Some.is ∙ c.in_ok-values.ensures) in
     subst (AllByRecursion (λ (ops : List Op). length (text ops) ≤ most)) (sym c.as_slice.ensures) few.0
@@ -39,15 +39,14 @@ returns-then-after-get-clause-plans c =
     let first : ℕ = c.args.next in
     let end : ℕ = c.args.end in
     let there = sym c.in-Some.is ∙ c.in_ok-values.ensures in
-    let learned : c.put_learned.new.tx ≡ spelled (learn_changes first values) =
-    c.in_ok-put_learned.ensures.changes ∙ (λ i. c.new-tx.ensures i ++ spelled (learn_changes (c.get.ensures.value i) (c.as_slice.ensures i))) in
-    let tx : c.put_unmark.new.tx ≡ spelled (end_changes first end values) =
-    c.in_ok-put_unmark.ensures ∙ ap (λ (ops : List Op). ops ++ ops_of Unmark) (c.in_ok-put_last.ensures.changes ∙ ap (λ (ops : List Op). ops ++ ops_of (Last end)) learned) ∙ end-spelled first end values in
+    let learned : c.in_ok-tx.tx ≡ spelled (learn_changes first values) = c.in_ok-tx.ensures ∙ (λ i. spelled (learn_changes first (c.as_slice.ensures i))) in
+    let tx : (c.in_ok-tx.tx ++ ops_of (Last end)) ++ ops_of Unmark ≡ spelled (end_changes first end values) =
+    ap (λ (ops : List Op). (ops ++ ops_of (Last end)) ++ ops_of Unmark) learned ∙ end-spelled first end values in
     does_as me c.args.now requester_is (Holds w s) (λ x. x) (step_in me c.args.now (sync.Replay first end))
-    (end_changes first end values) (end-fits first end values c.in_ok-put_last.ensures.fit) (then_acts (spelled (end_changes first end values)) s next.Bootstrap) refl
-    (λ x b. replay-ends w s x b me c.args.now first end values there (omega (arith, c.if-after-get.true, c.get-2.ensures.value, c.get-3.ensures.value, c.len.ensures)))
-    (record { tx = c.put_unmark.new.tx; out = c.new.result; timers = c.new-then-after-get.result; state = c.in_ok-kept.kept; next = next.Bootstrap })
-    (λ i. record { tx = tx i; out = c.new.ensures i; timers = c.new-then-after-get.ensures i; state = c.in_ok-kept.ensures i; next = next.Bootstrap })
+    (end_changes first end values) (end-fits first end values c.in_ok-end_with.ensures.fit) (then_acts (spelled (end_changes first end values)) s next.Bootstrap) refl
+    (λ x b. replay-ends w s x b me c.args.now first end values there (omega (arith, c.if-after-get.true, c.get.ensures.value, c.get-2.ensures.value, c.len.ensures)))
+    c.in_ok-end_with.field-0
+    (c.in_ok-end_with.ensures.plan ∙ (λ i. then_acts (tx i) (c.in_ok-kept.ensures i) next.Bootstrap))
 
 pub returns-clause-plans : goal.returns-clause-plans
 returns-clause-plans c =
@@ -59,12 +58,10 @@ returns-clause-plans c =
     let end : ℕ = c.args.end in
     let there = sym c.in-Some.is ∙ c.in_ok-values.ensures in
     let cs = learn_changes first values in
-    let learned : c.put_learned.new.tx ≡ spelled cs =
-    c.in_ok-put_learned.ensures.changes ∙ (λ i. c.new-tx.ensures i ++ spelled (learn_changes (c.get.ensures.value i) (c.as_slice.ensures i))) in
-    let timers = c.in_ok-push.ensures.ok ∙ (λ j. c.new-timers.ensures j ++ c.armed.ensures j ∷ []) in
-    let after : c.known.result ≡ first + length values = omega (arith, c.known.ensures, c.get-2.ensures.value, c.len.ensures) in
+    let learned : c.in_ok-tx.tx ≡ spelled cs = c.in_ok-tx.ensures ∙ (λ i. spelled (learn_changes first (c.as_slice.ensures i))) in
+    let after : c.known.result ≡ first + length values = omega (arith, c.known.ensures, c.get.ensures.value, c.len.ensures) in
     does_as me c.args.now requester_is (Holds w s) (λ x. x) (step_in me c.args.now (sync.Replay first end))
     cs (learned-fit first values) (steps_on c.args.now (spelled cs) (record s { stage = sync.Replay (first + length values) end })) refl
-    (λ x b. replay-steps w s x b me c.args.now first end values there (omega (arith, c.if-after-get.false, c.get-2.ensures.value, c.get-3.ensures.value, c.len.ensures)))
-    (record { tx = c.put_learned.new.tx; out = c.new-2.result; timers = c.push.new.self; state = record c.in_ok-kept.kept { stage = sync.Replay c.known.result c.args.end }; next = next.Stay })
-    (λ i. record { tx = learned i; out = c.new-2.ensures i; timers = timers i; state = record (c.in_ok-kept.ensures i) { stage = sync.Replay (after i) c.args.end }; next = next.Stay })
+    (λ x b. replay-steps w s x b me c.args.now first end values there (omega (arith, c.if-after-get.false, c.get.ensures.value, c.get-2.ensures.value, c.len.ensures)))
+    c.in_ok-go_on.field-0
+    (c.in_ok-go_on.ensures ∙ (λ i. steps_on c.args.now (learned i) (record (c.in_ok-kept.ensures i) { stage = sync.Replay (after i) end })))
