@@ -10,39 +10,39 @@ use mon_bytes::Entry;
 use mon_msg::Body;
 use mon_msg::plan::Sent;
 
-fn is_named(entry: &Entry)
+fn see_entry(entry: &Entry)
     ensures { IsNamed entry.now }
 {
     entry.prefix.as_slice();
     entry.key.as_slice();
 }
 
-fn are_named(entries: &[Entry])
+fn see_entries(entries: &[Entry])
     ensures { AllByRecursion IsNamed entries.now }
 {
     for entry in entries {
-        is_named(entry);
+        see_entry(entry);
     }
 }
 
-fn tells_named(sent: &Sent)
+fn see_sent(sent: &Sent)
     ensures { TellsNamed sent.now }
 {
     let Sent::Message { message, .. } = sent else {
         return;
     };
     match &message.body {
-        Body::Chunk { entries, .. } => are_named(entries.as_slice()),
-        Body::LastChunk { entries, .. } => are_named(entries.as_slice()),
+        Body::Chunk { entries, .. } => see_entries(entries.as_slice()),
+        Body::LastChunk { entries, .. } => see_entries(entries.as_slice()),
         _ => {}
     }
 }
 
 /// Each message that is sent.
-pub(crate) fn tell_named(out: &[Sent])
+pub(crate) fn see_named(out: &[Sent])
     ensures { AllByRecursion TellsNamed out.now }
 {
     for sent in out {
-        tells_named(sent);
+        see_sent(sent);
     }
 }
