@@ -121,7 +121,8 @@ fn react_to(
 fn forget(alloc: Global, me: &Me, event: &mut Event)
     ensures { IsReady me.now event.new }
 {
-    *event = Event::begun(alloc, State::booting(alloc, me.member.rank));
+    let begun = Event::begun(alloc, State::booting(alloc, me.member.rank));
+    drop(mem::replace(event, begun));
 }
 
 impl Core {

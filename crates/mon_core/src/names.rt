@@ -1,9 +1,8 @@
 //! The entries of a store that messages tell are named as they must be, since their names can be no others. Nothing is done but
 //! to see it.
 
-ghost use Rattle.std.specs.Prelude.{◌≡◌, IsTrue};
 ghost use Rattle.std.specs.List.{AllByRecursion};
-ghost use Rattle.mon_bounds.specs.Fitting.{IsNamed, entries_in};
+ghost use Rattle.mon_bounds.specs.Fitting.{IsNamed};
 ghost use Rattle.mon_core.specs.Reacts.{TellsNamed};
 
 use mon_bytes::Entry;

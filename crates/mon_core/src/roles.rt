@@ -1,6 +1,6 @@
 //! Each role's part: it plans what its input does, the plan is carried out, and the act that it names is done.
 
-ghost use Rattle.std.specs.Prelude.{◌≡◌, IfOk};
+ghost use Rattle.std.specs.Prelude.{IfOk};
 ghost use Rattle.std.proofs.Common.{ap};
 ghost use Rattle.mon_bounds.specs.Remembered.{MayRemember};
 ghost use Rattle.mon_msg.specs.Protocol.Readings.{readings_of, shared_entries};
