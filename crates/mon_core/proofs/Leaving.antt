@@ -4,7 +4,7 @@ use Rattle.std.proofs.lemmas.Bool.{lt-ltb}
 use Rattle.std.specs.List.{AllByRecursion}
 use Rattle.mon_msg.specs.Protocol.Changes.{Change, Boot, Epoch, spelled}
 use Rattle.mon_msg.specs.Protocol.Course.{Course}
-use Rattle.mon_msg.specs.Protocol.Phases.{phase_of, is_leading}
+use Rattle.mon_msg.specs.Protocol.Phases.{is_leading}
 use Rattle.mon_msg.specs.Protocol.Played.{Fits, played}
 use Rattle.mon_msg.specs.Protocol.Readings.{Readings, readings_of}
 use Rattle.mon_msg.specs.Protocol.State.{State}
@@ -23,10 +23,10 @@ use Rattle.mon_plan.specs.Leaves.{Ends, Leaves, TellsEpoch}
 use Rattle.mon_plan.specs.Plans.{done, stands, changed, arm_all, sending}
 use Rattle.mon_plan.proofs.Planning.{changed-state}
 use Rattle.mon_plan.proofs.Standing.{readings-after}
-use Rattle.mon_core.specs.Acts.{IsLast, KeepsAll, MayAct}
+use Rattle.mon_core.specs.Acts.{IsLast, KeepsAll, Leads, LeadsOn, MayAct}
 use Rattle.mon_core.specs.Rows.{IsReady}
 use Rattle.mon_core.proofs.Acting.{rests}
-use Rattle.mon_event.specs.Events.{IsCarried, IsUnderWay}
+use Rattle.mon_event.specs.Events.{IsCarried, IsUnderWay, remembering}
 use Rattle.mon_event.specs.State.{state_of}
 use Rattle.mon_event.specs.declared.event.Event.{Event}
 
@@ -61,26 +61,19 @@ keeps_more m before tx all is k t =
 
 -- ---- the leader's stage stays its phase
 
-abbrev pub Leads : State → Type 0
-Leads s = s.phase ≡ phase_of s.leader.stage
-
--- A role that remembers anew leaves an active leader's stage its phase.
-abbrev pub LeadsOn : {S : Type 0} → (S → Course → Course) → Type 0
-LeadsOn {S} is = (s : S) (x : Course) → x.state.phase ≡ phase.Active → Leads x.state → Leads (is s x).state
-
 sending-state : (ms : List Sent) (x : Course) → (sending ms x).state ≡ x.state
 sending-state [] x = refl
 sending-state (m ∷ ms) x = refl
 
 -- ---- plans
 
-module _ {S : Type 0} (is : S → Course → Course) (on : LeadsOn is) (me : Me) (m : Store) (e : Event) (r : IsReady me e)
+module _ {S : Type 0} (put : S → State → State) (on : LeadsOn put) (me : Me) (m : Store) (e : Event) (r : IsReady me e)
     (p : Plan S) (cs : List Change) (fit : AllByRecursion Fits cs) (spells : p.tx ≡ spelled cs)
-    (c : Event) (n : Next) (k : IsCarried is e p c n) where
+    (c : Event) (n : Next) (k : IsCarried (remembering put) e p c n) where
   abbrev begins : Course
   begins = at_rest (readings_of m) (state_of e.state)
 
-  after : IsUnderWay (readings_of m) c (done is cs p begins)
+  after : IsUnderWay (readings_of m) c (done (remembering put) cs p begins)
   after = k.done cs fit spells (readings_of m) begins (rests me m e r)
 
   -- as the plan's role remembers anew
@@ -97,8 +90,8 @@ module _ {S : Type 0} (is : S → Course → Course) (on : LeadsOn is) (me : Me)
       let state : by_then.state ≡ state_of e.state = changed-state cs (stands p.next begins) ∙ ap (λ (x : Course). x.state) stays in
       let began : Leads (state_of e.state) = sym (r.remembers.placed.leads (ap is_leading active)) in
       subst Leads (sym after.state)
-      (subst Leads (sym (sending-state p.out (arm_all p.timers (is p.state by_then))))
-      (on p.state by_then (ap (λ (s : State). s.phase) state ∙ active) (subst Leads (sym state) began)))
+      (subst Leads (sym (sending-state p.out (arm_all p.timers (remembering put p.state by_then))))
+      (on p.state by_then.state (ap (λ (s : State). s.phase) state ∙ active) (subst Leads (sym state) began)))
 
   pub may_act : (at : Phase) → at ≡ e.state.phase → Leaves at p.next p.tx → MayAct me m c n
   may_act at is_at left = subst (MayAct me m c) (sym k.next) (by p.next refl left)

@@ -15,7 +15,7 @@ use Rattle.mon_wire.specs.declared.request.Request.{Request}
 use Rattle.mon_wire.specs.declared.request.Session.{Session}
 use Rattle.mon_client.specs.Rows as client
 use Rattle.mon_elector.specs.Rows as elector
-use Rattle.mon_event.specs.Roles.{hearer, waker, helper, role_of}
+use Rattle.mon_event.specs.Roles.{hearer, woken_by, helper, role_of}
 use Rattle.mon_event.specs.declared.role.Role.TheVariants as role
 use Rattle.mon_event.specs.declared.role.Role.{Role}
 use Rattle.mon_probe.specs.Rows as probe
@@ -70,7 +70,7 @@ module _ (f n e : ℕ) where
   told (body.Request id q) r h = absurd cc
   told (body.Reply id p) r h = absurd cc
 
-rung : (t : Timer) (r : Role) → Some (waker t) ≡ Some r → Takes (input.Timer t) r
+rung : (t : Timer) (r : Role) → Some (woken_by t) ≡ Some r → Takes (input.Timer t) r
 rung timer.Probe r h = same role.Prober r (input.Timer timer.Probe) h refl
 rung timer.Election r h = same role.Elector r (input.Timer timer.Election) h refl
 rung timer.Collect r h = same role.Leader r (input.Timer timer.Collect) h refl

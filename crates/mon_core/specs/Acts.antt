@@ -4,6 +4,7 @@ use Rattle.mon_msg.specs.Protocol.Course.{Course}
 use Rattle.mon_msg.specs.Protocol.Phases.{phase_of}
 use Rattle.mon_msg.specs.Protocol.Readings.{readings_of}
 use Rattle.mon_msg.specs.Protocol.Records.{may_begin}
+use Rattle.mon_msg.specs.Protocol.State.{State}
 use Rattle.mon_msg.specs.declared.plan.Next.TheVariants as next
 use Rattle.mon_msg.specs.declared.plan.Next.{Next}
 use Rattle.mon_msg.specs.declared.plan.RoleStop.{RoleStop}
@@ -11,6 +12,7 @@ use Rattle.mon_msg.specs.declared.view.Me.{Me}
 use Rattle.mon_tx.specs.Map.{Store, apply}
 use Rattle.mon_tx.specs.declared.op.Op.{Op}
 use Rattle.mon_plan.specs.Plans.{act}
+use Rattle.mon_wire.specs.declared.phase.Phase.TheVariants as phase
 use Rattle.mon_event.specs.Events.{IsUnderWay, Reaches}
 use Rattle.mon_event.specs.declared.event.Event.{Event}
 
@@ -31,6 +33,14 @@ MayAct me m e (next.FullSync from) = KeepsAll m e.tx
 MayAct me m e (next.RecentSync from) = KeepsAll m e.tx
 MayAct me m e (next.Begin value o) =
     (e.tx ≡ []) × (e.state.phase ≡ phase_of e.state.leader.stage) × (may_begin value ≡ true)
+
+-- a leader's stage is its phase
+abbrev pub Leads : State → Type 0
+Leads s = s.phase ≡ phase_of s.leader.stage
+
+-- so it stays with an active leader, whatever a role remembers anew
+abbrev pub LeadsOn : {S : Type 0} → (put : S → State → State) → Type 0
+LeadsOn {S} put = (x : S) (s : State) → s.phase ≡ phase.Active → Leads s → Leads (put x s)
 
 -- after which no other act comes in the same event
 abbrev pub IsLast : Next → Type 0

@@ -11,7 +11,7 @@ use mon_tx::Transaction;
 use mon_types::{Moment, Rank, RankSet};
 use std::alloc::Global;
 
-/// One that is alone in its map may have won as it began anew, and leads.
+/// A monitor that is alone in its map may have won as it began anew, and leads.
 fn lead_alone(
     alloc: Global,
     kv: &Kv,
@@ -30,7 +30,7 @@ fn lead_alone(
     }
 }
 
-/// It begins anew and probes.
+/// The monitor begins anew, and probes.
 pub(crate) fn bootstrap(
     alloc: Global,
     kv: &Kv,
@@ -44,22 +44,22 @@ pub(crate) fn bootstrap(
     let epoch = event.epoch(alloc, kv)?;
     let plan = mon_probe::enter(alloc, kv, me, epoch, now)?;
     event.start_over(alloc, Phase::Probing);
-    let next = event.carry_prober(alloc, plan)?;
+    let next = event.carry_out(alloc, plan)?;
     lead_alone(alloc, kv, me, event, next, now)
 }
 
-/// It calls an election, and stands in it.
+/// The monitor calls an election, and stands in it.
 fn elect(alloc: Global, kv: &Kv, me: &Me, event: &mut Event, now: Moment) -> Result<(), RoleStop>
     ensures { Acts me.now kv.now now event.old next.Elect event.new result }
 {
     let epoch = event.epoch(alloc, kv)?;
     let plan = mon_elector::enter(alloc, me, epoch, &event.state.elector, now)?;
     event.start_over(alloc, Phase::Electing);
-    event.carry_elector(alloc, plan)?;
+    event.carry_out(alloc, plan)?;
     Ok(())
 }
 
-/// It leads this quorum.
+/// The monitor leads this quorum.
 fn reign(
     alloc: Global,
     kv: &Kv,
@@ -74,11 +74,11 @@ fn reign(
     let epoch = event.epoch(alloc, kv)?;
     let plan = paxos_leader::enter(alloc, kv, me, epoch, quorum, now)?;
     event.enter_phase(Phase::Collecting);
-    event.carry_leader(alloc, plan)?;
+    event.carry_out(alloc, plan)?;
     Ok(())
 }
 
-/// It takes another monitor's store: a whole copy, or the versions that it lacks.
+/// The monitor takes another's store: a whole copy, or the versions that its own lacks.
 fn synchronize(
     alloc: Global,
     kv: &Kv,
@@ -94,7 +94,7 @@ fn synchronize(
     let epoch = event.epoch(alloc, kv)?;
     let plan = sync_requester::enter(alloc, kv, me, epoch, from, full, now)?;
     event.enter_phase(Phase::Synchronizing);
-    event.carry_requester(alloc, plan)?;
+    event.carry_out(alloc, plan)?;
     Ok(())
 }
 
@@ -112,7 +112,7 @@ fn begin(
     ensures { Acts me.now kv.now now event.old (next.Begin value.now origin.now) event.new result }
 {
     let plan = paxos_leader::begin(alloc, kv, me, &event.state.leader, value, origin, now)?;
-    event.carry_leader(alloc, plan)?;
+    event.carry_out(alloc, plan)?;
     Ok(())
 }
 

@@ -1,6 +1,6 @@
 //! What a monitor does at each input, but where a map is to be shown.
 
-ghost use Rattle.std.specs.Prelude.{◌≡◌, ◌≤◌, ◌^◌, ◌++◌, true, false, is_some, IfOk, OnOk};
+ghost use Rattle.std.specs.Prelude.{◌≡◌, ◌≤◌, ◌^◌, ◌++◌, false, is_some, IfOk, OnOk};
 ghost use Rattle.std.specs.List.{AllByRecursion};
 ghost use Rattle.mon_bounds.specs.Fitting.{MayCome};
 ghost use Rattle.mon_msg.specs.Protocol.Changes.{spelled};
@@ -12,15 +12,13 @@ ghost use Rattle.mon_msg.specs.Protocol.Readings.{readings_of, shared_entries};
 ghost use Rattle.mon_msg.specs.Protocol.Table.{start, first_elector, before_start, running};
 ghost use Rattle.mon_event.specs.Events.{Goes};
 ghost use Rattle.mon_core.specs.Known.{asks_any_map};
-ghost use Rattle.mon_event.specs.Roles.{role_of};
-ghost use Rattle.mon_plan.specs.Inputs.{may_come};
-ghost use Rattle.mon_core.specs.Rows.{AnswersInput, AnswersRow, IsReady, ReachesFrom, first_changes, started};
+ghost use Rattle.mon_core.specs.Rows.{AnswersInput, IsReady, ReachesFrom, first_changes, started};
 
 use crate::acts::bootstrap;
 use crate::roles::answer;
 use election_rules::Scores;
 use mon_bytes::OutOfMemory;
-use mon_event::{Event, is_heard, role_of, scores_count};
+use mon_event::{Event, Role, hearer, is_heard, scores_count, woken_by};
 use mon_kv::Kv;
 use mon_msg::input::Input;
 use mon_msg::{Elector, Me, Message, Phase, Reply, RoleStop, Timer};
@@ -46,7 +44,7 @@ fn first_changes(alloc: Global, stored: &Stored<'_>, boot: u64) -> Result<Transa
     Ok(tx)
 }
 
-/// Under connectivity it begins to measure.
+/// What the elector remembers after a start: under connectivity the monitor begins to measure.
 fn measuring(me: &Me, elector: &Elector, boot: u64, now: Moment) -> Elector
     ensures { result ≡ first_elector me.now now boot elector.now }
 {
@@ -61,7 +59,7 @@ fn measuring(me: &Me, elector: &Elector, boot: u64, now: Moment) -> Elector
     }
 }
 
-/// And pings.
+/// Under connectivity the monitor begins to ping.
 fn begin_to_ping(me: &Me, event: &mut Event, now: Moment)
     ensures goes { Goes event.old event.new (arm_if (scores_count me.now.rule) now Timer.Ping) }
     ensures written { event.new.tx ≡ event.old.tx }
@@ -72,7 +70,7 @@ fn begin_to_ping(me: &Me, event: &mut Event, now: Moment)
     }
 }
 
-/// A start is counted.
+/// A start is counted, and what comes with it before the monitor bootstraps.
 fn count_start(
     alloc: Global,
     stored: &Stored<'_>,
@@ -94,7 +92,7 @@ fn count_start(
     Ok(())
 }
 
-/// It starts, is counted, and bootstraps.
+/// The monitor starts, counts that, and bootstraps.
 fn start(alloc: Global, kv: &Kv, me: &Me, event: &mut Event, now: Moment) -> Result<(), RoleStop>
     requires { IsReady me.now event.old }
     ensures { ReachesFrom kv.now event.old (start me.now now) event.new result }
@@ -108,7 +106,7 @@ fn start(alloc: Global, kv: &Kv, me: &Me, event: &mut Event, now: Moment) -> Res
     bootstrap(alloc, kv, me, event, now)
 }
 
-/// What comes before the start is dropped, and clients are told.
+/// What comes before the start is dropped, and clients are told that the monitor is unavailable.
 fn before_start(
     alloc: Global,
     kv: &Kv,
@@ -151,7 +149,7 @@ fn deliver(
     if !heard {
         return Ok(());
     }
-    match role_of(input) {
+    match hearer(&message.body) {
         Some(role) => answer(alloc, kv, me, event, role, input, now),
         None => Ok(()),
     }
@@ -175,30 +173,7 @@ fn ring(
         return Ok(());
     }
     event.state.timers.disarm(kind);
-    match role_of(input) {
-        Some(role) => answer(alloc, kv, me, event, role, input, now),
-        None => unreachable!(),
-    }
-}
-
-/// What a client asks, but for a map.
-fn serve(
-    alloc: Global,
-    kv: &Kv,
-    me: &Me,
-    event: &mut Event,
-    input: &Input,
-    now: Moment,
-) -> Result<(), RoleStop>
-    requires role { is_some (role_of input.now) ≡ true }
-    requires comes { may_come me.now.member.monitors input.now ≡ true }
-    requires ready { IsReady me.now event.old }
-    ensures { AnswersRow me.now kv.now now event.old input.now event.new result }
-{
-    match role_of(input) {
-        Some(role) => answer(alloc, kv, me, event, role, input, now),
-        None => unreachable!(),
-    }
+    answer(alloc, kv, me, event, woken_by(kind), input, now)
 }
 
 fn is_booting(phase: Phase) -> bool
@@ -228,6 +203,6 @@ pub(crate) fn run(
         Input::Start => Ok(()),
         Input::Deliver(message) => deliver(alloc, kv, me, event, message, input, now),
         Input::Timer(kind) => ring(alloc, kv, me, event, *kind, input, now),
-        Input::Client(..) => serve(alloc, kv, me, event, input, now),
+        Input::Client(..) => answer(alloc, kv, me, event, Role::Clients, input, now),
     }
 }

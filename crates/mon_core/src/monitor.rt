@@ -3,7 +3,7 @@
 ghost use Rattle.std.specs.Prelude.{◌≡◌, None, OnOk};
 ghost use Rattle.std.specs.Option.{option_copied, option_map};
 ghost use Rattle.mon_bounds.specs.Fitting.{MayCome};
-ghost use Rattle.mon_msg.specs.Protocol.Readings.{readings_of};
+ghost use Rattle.mon_msg.specs.Protocol.Readings.{Readings, readings_of};
 ghost use Rattle.mon_msg.specs.Protocol.State.{booting};
 ghost use Rattle.mon_msg.specs.Protocol.Timers.{due};
 ghost use Rattle.mon_wire.specs.declared.request.Service as services;
@@ -15,7 +15,7 @@ ghost use Rattle.mon_event.specs.State.{state_of};
 
 use crate::inputs::run;
 use crate::joining::joined;
-use crate::names::tell_named;
+use crate::names::see_named;
 use crate::reaction::{CoreStop, Reaction};
 use crate::showing::show;
 use election_rules::Rule;
@@ -113,7 +113,7 @@ fn react_to(
     let out = mem::replace(&mut event.out, Items::new(alloc));
     let tx = joined(alloc, written)?;
     cache.follow(alloc, &tx)?;
-    tell_named(out.as_slice());
+    see_named(out.as_slice());
     Ok(Reaction { tx, out })
 }
 
@@ -121,16 +121,18 @@ fn react_to(
 fn forget(alloc: Global, me: &Me, event: &mut Event)
     ensures { IsReady me.now event.new }
 {
-    *event = Event::begun(alloc, State::booting(alloc, me.member.rank));
+    let begun = Event::begun(alloc, State::booting(alloc, me.member.rank));
+    drop(mem::replace(event, begun));
 }
 
 impl Core {
-    /// A monitor that isn't started yet. It knows no service, and takes no memory.
+    /// A monitor that isn't started yet. It knows no service, so it follows any store, and takes no memory.
     pub fn boot(alloc: Global, member: Member, rule: Rule) -> Core
         ensures member { result.me.member ≡ member }
         ensures rule { result.me.rule ≡ rule }
         ensures state { result.state ≡ booting member.rank }
         ensures known { (s : services.Service) → known result.cache s ≡ None }
+        ensures follows { (w : Readings) → Follows result.cache w }
     {
         let state = State::booting(alloc, member.rank);
         Core {

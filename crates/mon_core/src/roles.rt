@@ -1,125 +1,200 @@
 //! Each role's part: it plans what its input does, the plan is carried out, and the act that it names is done.
 
-ghost use Rattle.mon_core.specs.Rows.{AnswersRow, IsFor, IsReady};
+ghost use Rattle.std.specs.Prelude.{IfOk};
+ghost use Rattle.std.proofs.Common.{ap};
+ghost use Rattle.mon_bounds.specs.Remembered.{MayRemember};
+ghost use Rattle.mon_msg.specs.Protocol.Readings.{readings_of, shared_entries};
+ghost use Rattle.mon_msg.specs.Protocol.State.{State as Remembered};
+ghost use Rattle.mon_plan.specs.Inputs.{row};
+ghost use Rattle.mon_plan.specs.Leaves.{Leaves};
+ghost use Rattle.mon_plan.specs.Plans.{PlansRow, phase_as};
+ghost use Rattle.mon_plan.specs.Seen.{IsMet};
+ghost use Rattle.mon_event.specs.Events.{remembering};
+ghost use Rattle.mon_event.specs.State.{state_of};
+ghost use Rattle.mon_event.specs.declared.role.Role.{Role as AnyRole};
 ghost use Rattle.mon_event.specs.declared.role.Role.TheVariants as roles;
+ghost use Rattle.mon_core.specs.Acts.{LeadsOn};
+ghost use Rattle.mon_core.specs.Rows.{AnswersRow, IsFor, IsReady};
 
 use crate::acts::act;
-use mon_event::{Event, Role, view};
+use mon_event::{Event, Role, RoleState, State, view};
 use mon_kv::Kv;
 use mon_msg::input::Input;
-use mon_msg::{Me, RoleStop};
+use mon_msg::{
+    Clients, Elector, Leader, Me, Peon, Plan, Prober, Provider, Requester, RoleStop, View,
+};
 use mon_types::Moment;
 use std::alloc::Global;
 
-fn prober(
-    alloc: Global,
-    kv: &Kv,
-    me: &Me,
-    event: &mut Event,
-    input: &Input,
-    now: Moment,
-) -> Result<(), RoleStop>
-    requires input { IsFor me.now roles.Prober input.now }
-    requires ready { IsReady me.now event.old }
-    ensures { AnswersRow me.now kv.now now event.old input.now event.new result }
-{
-    let view = view(alloc, kv, me, &event.state, now);
-    let plan = mon_probe::step(alloc, kv, me, &view, &event.state.prober, input, now)?;
-    let next = event.carry_prober(alloc, plan)?;
-    act(alloc, kv, me, event, next, now)
+/// A role that plans what an input of its own does, from what it remembers.
+trait Planner: RoleState {
+    /// The role whose inputs these are.
+    ghost role: { AnyRole };
+
+    /// What the role remembers, of all that its monitor does.
+    ghost part_of: { Remembered → Self };
+
+    fn step(
+        alloc: Global,
+        kv: &Kv,
+        me: &Me,
+        view: &View,
+        state: &State,
+        input: &Input,
+        now: Moment,
+    ) -> Result<Plan<Self>, RoleStop>
+        requires input { IsFor me.now role input.now }
+        requires remembers { MayRemember me.now (state_of state.now) }
+        ensures plans { PlansRow me.now now (remembering Self.put)
+            (IsMet me.now now (readings_of kv.now) view.now part_of (part_of (state_of state.now)))
+            (row me.now (shared_entries kv.now) now input.now) result }
+        ensures leaves { IfOk result (λ p. Leaves view.now.phase p.next p.tx) };
+
+    ghost leads_on: { LeadsOn Self.put };
 }
 
-fn elector(
-    alloc: Global,
-    kv: &Kv,
-    me: &Me,
-    event: &mut Event,
-    input: &Input,
-    now: Moment,
-) -> Result<(), RoleStop>
-    requires input { IsFor me.now roles.Elector input.now }
-    requires ready { IsReady me.now event.old }
-    ensures { AnswersRow me.now kv.now now event.old input.now event.new result }
-{
-    let view = view(alloc, kv, me, &event.state, now);
-    let plan = mon_elector::step(alloc, kv, me, &view, &event.state.elector, input, now)?;
-    let next = event.carry_elector(alloc, plan)?;
-    act(alloc, kv, me, event, next, now)
+impl Planner for Prober {
+    ghost role = { roles.Prober };
+
+    ghost part_of = { λ s. s.prober };
+
+    ghost leads_on = { λ prober s active stage. stage };
+
+    fn step(
+        alloc: Global,
+        kv: &Kv,
+        me: &Me,
+        view: &View,
+        state: &State,
+        input: &Input,
+        now: Moment,
+    ) -> Result<Plan<Prober>, RoleStop> {
+        mon_probe::step(alloc, kv, me, view, &state.prober, input, now)
+    }
 }
 
-fn leader(
-    alloc: Global,
-    kv: &Kv,
-    me: &Me,
-    event: &mut Event,
-    input: &Input,
-    now: Moment,
-) -> Result<(), RoleStop>
-    requires input { IsFor me.now roles.Leader input.now }
-    requires ready { IsReady me.now event.old }
-    ensures { AnswersRow me.now kv.now now event.old input.now event.new result }
-{
-    let view = view(alloc, kv, me, &event.state, now);
-    let plan = paxos_leader::step(alloc, kv, me, &view, &event.state.leader, input, now)?;
-    let next = event.carry_leader(alloc, plan)?;
-    act(alloc, kv, me, event, next, now)
+impl Planner for Elector {
+    ghost role = { roles.Elector };
+
+    ghost part_of = { λ s. s.elector };
+
+    ghost leads_on = { λ elector s active stage. stage };
+
+    fn step(
+        alloc: Global,
+        kv: &Kv,
+        me: &Me,
+        view: &View,
+        state: &State,
+        input: &Input,
+        now: Moment,
+    ) -> Result<Plan<Elector>, RoleStop> {
+        mon_elector::step(alloc, kv, me, view, &state.elector, input, now)
+    }
 }
 
-fn peon(
-    alloc: Global,
-    kv: &Kv,
-    me: &Me,
-    event: &mut Event,
-    input: &Input,
-    now: Moment,
-) -> Result<(), RoleStop>
-    requires input { IsFor me.now roles.Peon input.now }
-    requires ready { IsReady me.now event.old }
-    ensures { AnswersRow me.now kv.now now event.old input.now event.new result }
-{
-    let view = view(alloc, kv, me, &event.state, now);
-    let plan = paxos_peon::step(alloc, kv, me, &view, &event.state.peon, input, now)?;
-    let next = event.carry_peon(alloc, plan)?;
-    act(alloc, kv, me, event, next, now)
+impl Planner for Leader {
+    ghost role = { roles.Leader };
+
+    ghost part_of = { λ s. s.leader };
+
+    ghost leads_on = { λ l s active stage. ap (phase_as l.stage) active };
+
+    fn step(
+        alloc: Global,
+        kv: &Kv,
+        me: &Me,
+        view: &View,
+        state: &State,
+        input: &Input,
+        now: Moment,
+    ) -> Result<Plan<Leader>, RoleStop> {
+        paxos_leader::step(alloc, kv, me, view, &state.leader, input, now)
+    }
 }
 
-fn clients(
-    alloc: Global,
-    kv: &Kv,
-    me: &Me,
-    event: &mut Event,
-    input: &Input,
-    now: Moment,
-) -> Result<(), RoleStop>
-    requires input { IsFor me.now roles.Clients input.now }
-    requires ready { IsReady me.now event.old }
-    ensures { AnswersRow me.now kv.now now event.old input.now event.new result }
-{
-    let view = view(alloc, kv, me, &event.state, now);
-    let plan = mon_client::step(alloc, kv, me, &view, &event.state.clients, input, now)?;
-    let next = event.carry_clients(alloc, plan)?;
-    act(alloc, kv, me, event, next, now)
+impl Planner for Peon {
+    ghost role = { roles.Peon };
+
+    ghost part_of = { λ s. s.peon };
+
+    ghost leads_on = { λ peon s active stage. stage };
+
+    fn step(
+        alloc: Global,
+        kv: &Kv,
+        me: &Me,
+        view: &View,
+        state: &State,
+        input: &Input,
+        now: Moment,
+    ) -> Result<Plan<Peon>, RoleStop> {
+        paxos_peon::step(alloc, kv, me, view, &state.peon, input, now)
+    }
 }
 
-fn provider(
-    alloc: Global,
-    kv: &Kv,
-    me: &Me,
-    event: &mut Event,
-    input: &Input,
-    now: Moment,
-) -> Result<(), RoleStop>
-    requires input { IsFor me.now roles.Provider input.now }
-    requires ready { IsReady me.now event.old }
-    ensures { AnswersRow me.now kv.now now event.old input.now event.new result }
-{
-    let view = view(alloc, kv, me, &event.state, now);
-    let plan = sync_provider::step(alloc, kv, me, &view, &event.state.provider, input, now)?;
-    let next = event.carry_provider(alloc, plan)?;
-    act(alloc, kv, me, event, next, now)
+impl Planner for Clients {
+    ghost role = { roles.Clients };
+
+    ghost part_of = { λ s. s.clients };
+
+    ghost leads_on = { λ clients s active stage. stage };
+
+    fn step(
+        alloc: Global,
+        kv: &Kv,
+        me: &Me,
+        view: &View,
+        state: &State,
+        input: &Input,
+        now: Moment,
+    ) -> Result<Plan<Clients>, RoleStop> {
+        mon_client::step(alloc, kv, me, view, &state.clients, input, now)
+    }
 }
 
-fn requester(
+impl Planner for Provider {
+    ghost role = { roles.Provider };
+
+    ghost part_of = { λ s. s.provider };
+
+    ghost leads_on = { λ provider s active stage. stage };
+
+    fn step(
+        alloc: Global,
+        kv: &Kv,
+        me: &Me,
+        view: &View,
+        state: &State,
+        input: &Input,
+        now: Moment,
+    ) -> Result<Plan<Provider>, RoleStop> {
+        sync_provider::step(alloc, kv, me, view, &state.provider, input, now)
+    }
+}
+
+impl Planner for Requester {
+    ghost role = { roles.Requester };
+
+    ghost part_of = { λ s. s.requester };
+
+    ghost leads_on = { λ requester s active stage. stage };
+
+    fn step(
+        alloc: Global,
+        kv: &Kv,
+        me: &Me,
+        view: &View,
+        state: &State,
+        input: &Input,
+        now: Moment,
+    ) -> Result<Plan<Requester>, RoleStop> {
+        sync_requester::step(alloc, kv, me, view, &state.requester, input, now)
+    }
+}
+
+/// The row of an input of one role.
+fn play<S: Planner>(
     alloc: Global,
     kv: &Kv,
     me: &Me,
@@ -127,13 +202,13 @@ fn requester(
     input: &Input,
     now: Moment,
 ) -> Result<(), RoleStop>
-    requires input { IsFor me.now roles.Requester input.now }
+    requires input { IsFor me.now S.role input.now }
     requires ready { IsReady me.now event.old }
     ensures { AnswersRow me.now kv.now now event.old input.now event.new result }
 {
     let view = view(alloc, kv, me, &event.state, now);
-    let plan = sync_requester::step(alloc, kv, me, &view, &event.state.requester, input, now)?;
-    let next = event.carry_requester(alloc, plan)?;
+    let plan = S::step(alloc, kv, me, &view, &event.state, input, now)?;
+    let next = event.carry_out(alloc, plan)?;
     act(alloc, kv, me, event, next, now)
 }
 
@@ -152,12 +227,12 @@ pub(crate) fn answer(
     ensures { AnswersRow me.now kv.now now event.old input.now event.new result }
 {
     match role {
-        Role::Prober => prober(alloc, kv, me, event, input, now),
-        Role::Elector => elector(alloc, kv, me, event, input, now),
-        Role::Leader => leader(alloc, kv, me, event, input, now),
-        Role::Peon => peon(alloc, kv, me, event, input, now),
-        Role::Clients => clients(alloc, kv, me, event, input, now),
-        Role::Provider => provider(alloc, kv, me, event, input, now),
-        Role::Requester => requester(alloc, kv, me, event, input, now),
+        Role::Prober => play::<Prober>(alloc, kv, me, event, input, now),
+        Role::Elector => play::<Elector>(alloc, kv, me, event, input, now),
+        Role::Leader => play::<Leader>(alloc, kv, me, event, input, now),
+        Role::Peon => play::<Peon>(alloc, kv, me, event, input, now),
+        Role::Clients => play::<Clients>(alloc, kv, me, event, input, now),
+        Role::Provider => play::<Provider>(alloc, kv, me, event, input, now),
+        Role::Requester => play::<Requester>(alloc, kv, me, event, input, now),
     }
 }

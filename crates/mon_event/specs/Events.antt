@@ -6,6 +6,7 @@ use Rattle.mon_msg.specs.Protocol.Changes.{Change, spelled}
 use Rattle.mon_msg.specs.Protocol.Course.{Course}
 use Rattle.mon_msg.specs.Protocol.Played.{Fits, played}
 use Rattle.mon_msg.specs.Protocol.Readings.{Readings}
+use Rattle.mon_msg.specs.Protocol.State.{State}
 use Rattle.mon_msg.specs.declared.plan.Next.{Next}
 use Rattle.mon_msg.specs.declared.plan.Plan.{Plan}
 use Rattle.mon_msg.specs.declared.plan.RoleStop.TheVariants as stop
@@ -40,6 +41,10 @@ Reaches w wanted e (Err stop.OutOfMemory) = Unit {0}
 Reaches w wanted e (Err (stop.Spent which)) = wanted ≡ Err which
 
 -- ---- plans
+
+-- a role remembers anew, where `put` is what the monitor remembers then
+abbrev pub remembering : {S : Type 0} → (S → State → State) → S → Course → Course
+remembering put s x = record x { state = put s x.state }
 
 -- A plan was carried out: its transaction is written behind what was, and is done whichever changes it spells. The act that it
 -- names comes next.

@@ -39,18 +39,18 @@ hearer (body.PingReply table) = Some role.Elector
 hearer (body.Request id r) = None
 hearer (body.Reply id r) = None
 
-abbrev pub waker : Timer → Role
-waker timer.Probe = role.Prober
-waker timer.Election = role.Elector
-waker timer.Collect = role.Leader
-waker timer.Accept = role.Leader
-waker timer.Renew = role.Leader
-waker timer.LeaseAck = role.Leader
-waker timer.Lease = role.Peon
-waker timer.Sync = role.Requester
-waker timer.Step = role.Requester
-waker timer.Propose = role.Clients
-waker timer.Ping = role.Elector
+abbrev pub woken_by : Timer → Role
+woken_by timer.Probe = role.Prober
+woken_by timer.Election = role.Elector
+woken_by timer.Collect = role.Leader
+woken_by timer.Accept = role.Leader
+woken_by timer.Renew = role.Leader
+woken_by timer.LeaseAck = role.Leader
+woken_by timer.Lease = role.Peon
+woken_by timer.Sync = role.Requester
+woken_by timer.Step = role.Requester
+woken_by timer.Propose = role.Clients
+woken_by timer.Ping = role.Elector
 
 -- a map is shown by the core itself
 abbrev pub helper : Request → Option Role
@@ -63,5 +63,5 @@ helper (request.Show s) = None
 abbrev pub role_of : Input → Option Role
 role_of input.Start = None
 role_of (input.Deliver m) = hearer m.body
-role_of (input.Timer t) = Some (waker t)
+role_of (input.Timer t) = Some (woken_by t)
 role_of (input.Client session r) = helper r

@@ -3,23 +3,21 @@
 ghost use Rattle.std.specs.Prelude.{◌≡◌, ◌++◌, OnOk, IfOk, List, [], None};
 ghost use Rattle.std.specs.List.{AllByRecursion};
 ghost use Rattle.mon_msg.specs.Protocol.Changes.{Change, spelled};
-ghost use Rattle.mon_msg.specs.Protocol.Course.{in_phase, forget_clients, elector_is, prober_is, peon_is, clients_are, provider_is, requester_is};
+ghost use Rattle.mon_msg.specs.Protocol.Course.{in_phase, forget_clients, peon_is};
 ghost use Rattle.mon_msg.specs.Protocol.Played.{Fits};
 ghost use Rattle.mon_msg.specs.Protocol.Sending.{reply_to};
 ghost use Rattle.mon_msg.specs.Protocol.Readings.{epoch_of, readings_of};
 ghost use Rattle.mon_tx.specs.Map.{apply};
 ghost use Rattle.mon_wire.specs.declared.phase.Phase.TheVariants as phases;
-ghost use Rattle.mon_plan.specs.Plans.{stands, changed, arm_all, sending, leads};
-ghost use Rattle.mon_event.specs.Events.{Goes, Carries};
+ghost use Rattle.mon_plan.specs.Plans.{stands, changed, arm_all, sending};
+ghost use Rattle.mon_event.specs.Events.{Goes, Carries, remembering};
 
+use crate::role_state::RoleState;
 use crate::state::State;
 use mon_bytes::{Items, OutOfMemory};
 use mon_kv::Kv;
 use mon_msg::plan::Sent;
-use mon_msg::{
-    Arming, Clients, Elector, Leader, Next, Peon, Phase, Plan, Prober, Provider, Reply, Requester,
-    Session,
-};
+use mon_msg::{Arming, Next, Phase, Plan, Reply, Session};
 use mon_plan::Stored;
 use mon_tx::Transaction;
 use mon_types::{Epoch, Rank, RankSet};
@@ -54,7 +52,7 @@ impl Event {
         Ok(stored.epoch())
     }
 
-    /// It writes this too.
+    /// Writes a transaction behind what is written so far.
     pub fn write(&mut self, tx: Transaction) -> Result<(), OutOfMemory>
         ensures { OnOk result (self.new ≡ record self.old { tx = self.old.tx ++ tx }) }
     {
@@ -66,10 +64,14 @@ impl Event {
         Ok(())
     }
 
-    /// It sends this too.
+    /// Sends messages and replies behind what is sent so far.
     pub fn send(&mut self, alloc: Global, out: Items<Sent>) -> Result<(), OutOfMemory>
         ensures { OnOk result (self.new ≡ record self.old { out = self.old.out ++ out }) }
     {
+        if self.out.is_empty() {
+            self.out = out;
+            return Ok(());
+        }
         let mut all = mem::replace(&mut self.out, Items::new(alloc)).into_vec();
         let mut more = out.into_vec();
         all.append(&mut more)?;
@@ -77,7 +79,7 @@ impl Event {
         Ok(())
     }
 
-    /// It answers a client.
+    /// Answers a client.
     pub fn reply(&mut self, to: Session, reply: Reply) -> Result<(), OutOfMemory>
         ensures { OnOk result (Goes self.old self.new (reply_to to reply)) }
     {
@@ -93,7 +95,7 @@ impl Event {
         self.state.enter_phase(phase);
     }
 
-    /// The same, and it forgets who waits.
+    /// From now on the monitor stands in this phase, and forgets who waits.
     pub fn start_over(&mut self, alloc: Global, phase: Phase)
         ensures goes { Goes self.old self.new (λ x. forget_clients (in_phase phase x)) }
         ensures written { self.new.tx ≡ self.old.tx }
@@ -102,7 +104,7 @@ impl Event {
         self.state.forget_clients(alloc);
     }
 
-    /// It follows this leader in this quorum, without a lease.
+    /// From now on the monitor follows this leader in this quorum, without a lease.
     fn follow(&mut self, leader: Rank, quorum: RankSet)
         ensures goes { Goes self.old self.new (λ x. peon_is (record { leader = leader; quorum = quorum; lease = None }) (in_phase phases.Peon x)) }
         ensures written { self.new.tx ≡ self.old.tx }
@@ -155,98 +157,13 @@ impl Event {
         Ok(())
     }
 
-    /// It carries out an elector's plan, and answers the act that the plan names.
-    pub fn carry_elector(&mut self, alloc: Global, plan: Plan<Elector>) -> Result<Next, OutOfMemory>
-        ensures { Carries elector_is self.old plan self.new result }
-    {
-        let Plan {
-            tx,
-            out,
-            timers,
-            state,
-            next,
-        } = plan;
-        self.begin(alloc, &next, tx)?;
-        self.state.elector = state;
-        self.end(alloc, timers, out)?;
-        Ok(next)
-    }
-
-    /// It carries out a prober's plan, and answers the act that the plan names.
-    pub fn carry_prober(&mut self, alloc: Global, plan: Plan<Prober>) -> Result<Next, OutOfMemory>
-        ensures { Carries prober_is self.old plan self.new result }
-    {
-        let Plan {
-            tx,
-            out,
-            timers,
-            state,
-            next,
-        } = plan;
-        self.begin(alloc, &next, tx)?;
-        self.state.prober = state;
-        self.end(alloc, timers, out)?;
-        Ok(next)
-    }
-
-    /// It carries out a leader's plan, and answers the act that the plan names.
-    pub fn carry_leader(&mut self, alloc: Global, plan: Plan<Leader>) -> Result<Next, OutOfMemory>
-        ensures { Carries leads self.old plan self.new result }
-    {
-        let Plan {
-            tx,
-            out,
-            timers,
-            state,
-            next,
-        } = plan;
-        self.begin(alloc, &next, tx)?;
-        self.state.lead(state);
-        self.end(alloc, timers, out)?;
-        Ok(next)
-    }
-
-    /// It carries out a peon's plan, and answers the act that the plan names.
-    pub fn carry_peon(&mut self, alloc: Global, plan: Plan<Peon>) -> Result<Next, OutOfMemory>
-        ensures { Carries peon_is self.old plan self.new result }
-    {
-        let Plan {
-            tx,
-            out,
-            timers,
-            state,
-            next,
-        } = plan;
-        self.begin(alloc, &next, tx)?;
-        self.state.peon = state;
-        self.end(alloc, timers, out)?;
-        Ok(next)
-    }
-
-    /// It carries out the plan of a step with clients, and answers the act that the plan names.
-    pub fn carry_clients(&mut self, alloc: Global, plan: Plan<Clients>) -> Result<Next, OutOfMemory>
-        ensures { Carries clients_are self.old plan self.new result }
-    {
-        let Plan {
-            tx,
-            out,
-            timers,
-            state,
-            next,
-        } = plan;
-        self.begin(alloc, &next, tx)?;
-        self.state.clients = state;
-        self.end(alloc, timers, out)?;
-        Ok(next)
-    }
-
-    /// It carries out a provider's plan, and answers the act that the plan names.
-    pub fn carry_provider(
+    /// Carries out a role's plan, and answers the act that the plan names.
+    pub fn carry_out<S: RoleState>(
         &mut self,
         alloc: Global,
-        plan: Plan<Provider>,
+        plan: Plan<S>,
     ) -> Result<Next, OutOfMemory>
-        ensures { Carries provider_is self.old plan self.new result }
+        ensures { Carries (remembering S.put) self.old plan self.new result }
     {
         let Plan {
             tx,
@@ -256,28 +173,7 @@ impl Event {
             next,
         } = plan;
         self.begin(alloc, &next, tx)?;
-        self.state.provider = state;
-        self.end(alloc, timers, out)?;
-        Ok(next)
-    }
-
-    /// It carries out a requester's plan, and answers the act that the plan names.
-    pub fn carry_requester(
-        &mut self,
-        alloc: Global,
-        plan: Plan<Requester>,
-    ) -> Result<Next, OutOfMemory>
-        ensures { Carries requester_is self.old plan self.new result }
-    {
-        let Plan {
-            tx,
-            out,
-            timers,
-            state,
-            next,
-        } = plan;
-        self.begin(alloc, &next, tx)?;
-        self.state.requester = state;
+        state.put_in(&mut self.state);
         self.end(alloc, timers, out)?;
         Ok(next)
     }

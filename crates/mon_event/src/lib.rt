@@ -4,12 +4,14 @@
 
 mod event;
 mod role;
+mod role_state;
 mod seen;
 mod state;
 mod timers;
 
 pub use event::Event;
-pub use role::{Role, role_of};
+pub use role::{Role, hearer, woken_by};
+pub use role_state::RoleState;
 pub use seen::{is_heard, is_leading, is_peon, scores_count, view};
-pub use state::State;
+pub use state::{State, is_same_phase};
 pub use timers::Timers;

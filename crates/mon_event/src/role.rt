@@ -1,10 +1,9 @@
 //! Which role of a monitor answers an input.
 
 ghost use Rattle.std.specs.Prelude.{◌≡◌};
-ghost use Rattle.mon_event.specs.Roles.{hearer, waker, helper, role_of};
+ghost use Rattle.mon_event.specs.Roles.{hearer, woken_by};
 
-use mon_msg::input::Input;
-use mon_msg::{Body, Request, Timer};
+use mon_msg::{Body, Timer};
 
 /// The roles of a monitor.
 #[derive(Clone, Copy, Debug, PartialEq, Eq)]
@@ -18,8 +17,8 @@ pub enum Role {
     Requester,
 }
 
-/// The role that hears a message.
-fn hearer(body: &Body) -> Option<Role>
+/// The role that hears a message, where one does: what clients and monitors say to each other is nothing among monitors.
+pub fn hearer(body: &Body) -> Option<Role>
     ensures { result ≡ hearer body.now }
 {
     match body {
@@ -39,8 +38,8 @@ fn hearer(body: &Body) -> Option<Role>
 }
 
 /// The role that a timer wakes.
-fn waker(kind: Timer) -> Role
-    ensures { result ≡ waker kind }
+pub fn woken_by(kind: Timer) -> Role
+    ensures { result ≡ woken_by kind }
 {
     match kind {
         Timer::Probe => Role::Prober,
@@ -49,28 +48,5 @@ fn waker(kind: Timer) -> Role
         Timer::Lease => Role::Peon,
         Timer::Sync | Timer::Step => Role::Requester,
         Timer::Propose => Role::Clients,
-    }
-}
-
-/// The role that does what a client asks. None shows a map.
-fn helper(request: &Request) -> Option<Role>
-    ensures { result ≡ helper request.now }
-{
-    match request {
-        Request::Set { .. } | Request::Remove { .. } => Some(Role::Clients),
-        Request::Log { .. } | Request::Since { .. } => Some(Role::Clients),
-        Request::Show { .. } => None,
-    }
-}
-
-/// The role that answers an input, where one does.
-pub fn role_of(input: &Input) -> Option<Role>
-    ensures { result ≡ role_of input.now }
-{
-    match input {
-        Input::Start => None,
-        Input::Deliver(message) => hearer(&message.body),
-        Input::Timer(kind) => Some(waker(*kind)),
-        Input::Client(_, request) => helper(request),
     }
 }

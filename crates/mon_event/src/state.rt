@@ -94,7 +94,7 @@ fn no_clients(alloc: Global) -> Clients
 }
 
 /// Whether two phases are the same.
-fn is_same(a: Phase, b: Phase) -> bool
+pub fn is_same_phase(a: Phase, b: Phase) -> bool
     ensures { result ≡ same_phase a b }
 {
     match a {
@@ -159,24 +159,25 @@ impl State {
         }
     }
 
-    /// From now on it stands in this phase. Where it is another one than before, all timers but the one that pings are disarmed.
+    /// From now on the monitor stands in this phase. Where that is another one than before, all timers but the one that pings are
+    /// disarmed.
     pub fn enter_phase(&mut self, phase: Phase)
         ensures { state_of self.new ≡ record (state_of self.old) { phase = phase; timers = timers_in phase (state_of self.old) } }
     {
-        if !is_same(self.phase, phase) {
+        if !is_same_phase(self.phase, phase) {
             self.timers = self.timers.only_ping();
         }
         self.phase = phase;
     }
 
-    /// It forgets who waits.
+    /// The monitor forgets who waits.
     pub fn forget_clients(&mut self, alloc: Global)
         ensures { state_of self.new ≡ record (state_of self.old) { clients = no_clients } }
     {
         self.clients = no_clients(alloc);
     }
 
-    /// It follows this leader in this quorum, without a lease.
+    /// From now on the monitor follows this leader in this quorum, without a lease.
     pub fn follow(&mut self, leader: Rank, quorum: RankSet)
         ensures { state_of self.new ≡ record (state_of self.old) { peon = record { leader = leader; quorum = quorum; lease = None } } }
     {
@@ -187,7 +188,7 @@ impl State {
         };
     }
 
-    /// It leads so from now on, in the phase of that stage.
+    /// From now on the monitor leads so, in the phase of that stage.
     pub fn lead(&mut self, leader: Leader)
         ensures { let p = phase_as leader.stage self.old.phase in
             state_of self.new ≡ record (state_of self.old) { phase = p; timers = timers_in p (state_of self.old); leader = leader } }

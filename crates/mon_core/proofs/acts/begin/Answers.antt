@@ -41,4 +41,4 @@ returns c =
       phase = ap (λ (s : State). s.phase) (sym u.state) ∙ c.requires.1;
     })
     e (λ w x u. u) c.in_ok-plan.plan c.in_ok-plan.ensures.plans
-    c.carry_leader.new.self c.in_ok-carry_leader.field-0 c.in_ok-carry_leader.ensures c.in_ok-plan.ensures.stays
+    c.carry_out.new.self c.in_ok-carry_out.field-0 c.in_ok-carry_out.ensures c.in_ok-plan.ensures.stays

@@ -34,9 +34,9 @@ pub lead_alone-requires-clause-may : goal.lead_alone-requires-clause-may
 lead_alone-requires-clause-may c =
     let me = c.args.me.now in
     let m = c.args.kv.now in
-    subst (λ (n : Next). MayAct me m c.carry_prober.new.self n) (sym c.in_ok-next.ensures.next)
+    subst (λ (n : Next). MayAct me m c.carry_out.new.self n) (sym c.in_ok-next.ensures.next)
     (may_end me m c.args.event.now c.start_over.new.self c.start_over.ensures.written c.requires
-    c.in_ok-plan.plan.tx c.carry_prober.new.self c.in_ok-next.ensures.written c.in_ok-plan.plan.next c.in_ok-plan.ensures.ends)
+    c.in_ok-plan.plan.tx c.carry_out.new.self c.in_ok-next.ensures.written c.in_ok-plan.plan.next c.in_ok-plan.ensures.ends)
 
 pub returns : goal.returns
 returns c =
@@ -48,4 +48,4 @@ returns c =
       marked = λ alone. ap (λ (w : Readings). w.marked) (kept m e x u (c.requires alone));
     })
     c.start_over.new.self c.start_over.ensures.goes c.in_ok-plan.plan c.in_ok-plan.ensures.plans
-    c.carry_prober.new.self c.in_ok-next.next c.in_ok-next.ensures c.lead_alone.new.event c.lead_alone.result c.lead_alone.ensures
+    c.carry_out.new.self c.in_ok-next.next c.in_ok-next.ensures c.lead_alone.new.event c.lead_alone.result c.lead_alone.ensures

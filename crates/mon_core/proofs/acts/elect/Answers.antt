@@ -26,4 +26,4 @@ returns c =
     act_ends c.args.me.now c.args.now m elector_is next.Elect e (IsCalled c.in_ok-epoch.epoch e.state.elector)
     (λ x u. record { epoch = tells_epoch m e x u c.in_ok-epoch.epoch c.in_ok-epoch.ensures; role = ap (λ (s : State). s.elector) (sym u.state) })
     c.start_over.new.self c.start_over.ensures.goes c.in_ok-plan.plan c.in_ok-plan.ensures.plans
-    c.carry_elector.new.self c.in_ok-carry_elector.field-0 c.in_ok-carry_elector.ensures c.in_ok-plan.ensures.stays
+    c.carry_out.new.self c.in_ok-carry_out.field-0 c.in_ok-carry_out.ensures c.in_ok-plan.ensures.stays

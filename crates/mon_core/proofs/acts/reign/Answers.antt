@@ -26,4 +26,4 @@ returns c =
     act_ends c.args.me.now c.args.now m leads (next.Win c.args.quorum) e (IsWon c.in_ok-epoch.epoch (readings_of m))
     (λ x u. record { epoch = tells_epoch m e x u c.in_ok-epoch.epoch c.in_ok-epoch.ensures; kept = kept m e x u c.requires })
     c.enter_phase.new.self c.enter_phase.ensures.goes c.in_ok-plan.plan c.in_ok-plan.ensures.plans
-    c.carry_leader.new.self c.in_ok-carry_leader.field-0 c.in_ok-carry_leader.ensures c.in_ok-plan.ensures.stays
+    c.carry_out.new.self c.in_ok-carry_out.field-0 c.in_ok-carry_out.ensures c.in_ok-plan.ensures.stays

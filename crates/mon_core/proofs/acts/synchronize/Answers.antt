@@ -53,4 +53,4 @@ returns c =
     })
     c.enter_phase.new.self (enters c.args.full c.args.from e c.enter_phase.new.self c.enter_phase.ensures.goes)
     c.in_ok-plan.plan c.in_ok-plan.ensures.plans
-    c.carry_requester.new.self c.in_ok-carry_requester.field-0 c.in_ok-carry_requester.ensures c.in_ok-plan.ensures.stays
+    c.carry_out.new.self c.in_ok-carry_out.field-0 c.in_ok-carry_out.ensures c.in_ok-plan.ensures.stays

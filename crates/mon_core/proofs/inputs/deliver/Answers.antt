@@ -25,7 +25,7 @@ pub answer-requires-clause-input : goal.answer-requires-clause-input
 answer-requires-clause-input c =
     let me = c.args.me.now in
     record {
-      role = sym c.role_of.ensures ∙ c.in-Some.is;
+      role = ap role_of c.requires.is ∙ sym c.hearer.ensures ∙ c.in-Some.is;
       comes =
           subst (λ (came : Input). may_come me.member.monitors came ≡ true) (sym c.requires.is)
           (heard_fits me c.args.message.now (sym c.is_heard-heard.ensures ∙ c.if-not-heard.false) (subst MayCome c.requires.is c.requires.comes));
@@ -51,4 +51,4 @@ returns-in-None c =
     drops me m c.args.event.now c.requires.ready (running me (shared_entries m) c.args.now c.args.input.now x)
     (ap (λ (came : Input). running me (shared_entries m) c.args.now came x) c.requires.is
     ∙ nobodys me (shared_entries m) c.args.now c.args.message.now x (sym c.is_heard-heard.ensures ∙ c.if-not-heard.false)
-    (sym (ap role_of c.requires.is) ∙ sym c.role_of.ensures ∙ c.in-None.is))
+    (sym c.hearer.ensures ∙ c.in-None.is))

@@ -1,4 +1,4 @@
-use Rattle.std.proofs.Common.{◌≡◌, ℕ, true, List, Option, Result, refl, ap, sym, subst, ◌∙◌}
+use Rattle.std.proofs.Common.{◌≡◌, ℕ, true, List, Option, Some, Result, refl, ap, sym, subst, ◌∙◌}
 use Rattle.mon_msg.specs.Protocol.Course.{Course}
 use Rattle.mon_msg.specs.Protocol.Readings.{readings_of, shared_entries}
 use Rattle.mon_msg.specs.Protocol.Table.{at_rest, running}
@@ -7,6 +7,7 @@ use Rattle.mon_msg.specs.declared.input.Input.{Input}
 use Rattle.mon_plan.specs.Inputs.{may_come, row}
 use Rattle.mon_types.specs.declared.names.Which.{Which}
 use Rattle.mon_event.specs.Events.{Reaches}
+use Rattle.mon_event.specs.Roles.{role_of}
 use Rattle.mon_event.specs.State.{state_of}
 use Rattle.mon_core.proofs.Coming.{armed, drops, not_armed}
 use Rattle.mon_core.proofs.inputs.ring.Goals as goal
@@ -22,7 +23,7 @@ returns-then-not-is_armed c =
 
 pub answer-requires-clause-input : goal.answer-requires-clause-input
 answer-requires-clause-input c = record {
-  role = sym c.role_of.ensures ∙ c.in-Some.is;
+  role = ap role_of c.requires.is ∙ ap Some (sym c.woken_by.ensures);
   comes = subst (λ (came : Input). may_come c.args.me.now.member.monitors came ≡ true) (sym c.requires.is) refl;
 }
 

@@ -53,9 +53,9 @@ returns-in-Client c =
     let m = c.args.kv.now in
     let w = readings_of m in
     let s = state_of c.args.event.now.state in
-    subst (λ (r : Result Course Which). Reaches w r c.serve.new.event c.serve.result)
+    subst (λ (r : Result Course Which). Reaches w r c.answer.new.event c.answer.result)
     (sym
     (started me (shared_entries m) c.args.now w s c.args.input.now (sym c.is_booting.ensures ∙ c.if-is_booting.false)
     ∙ ap (λ (came : Input). running me (shared_entries m) c.args.now came (at_rest w s)) c.in-Client.is
     ∙ sym (ap (λ (came : Input). row me (shared_entries m) c.args.now came (at_rest w s)) c.in-Client.is)))
-    c.serve.ensures
+    c.answer.ensures

@@ -37,7 +37,7 @@ returns-clause-reacts c =
       me = refl;
       reacts = is;
       bounded = IfOk-at_ok (IsBounded me) is (reaction_ok me c.args.now m (state_of e.state) came c.requires.ready.remembers c.requires.comes);
-      named = subst (AllByRecursion TellsNamed) c.as_slice.ensures c.tell_named.ensures;
+      named = subst (AllByRecursion TellsNamed) c.as_slice.ensures c.see_named.ensures;
       known = λ s. c.in_ok-follow.ensures.known s ∙ ap (known_after s tx) (c.in_ok-played.ensures.known s);
       follows = c.in_ok-follow.ensures.follows m c.in_ok-played.ensures.follows;
     }

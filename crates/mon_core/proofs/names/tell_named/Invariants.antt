@@ -1,7 +1,0 @@
-use Rattle.std.proofs.Common.{take}
-use Rattle.std.specs.List.{All}
-use Rattle.mon_core.specs.Reacts.{TellsNamed}
-use Rattle.mon_core.proofs.names.tell_named.Given as goal
-
-abbrev pub invariant-loop-sent : goal.invariant-loop-sent
-invariant-loop-sent l = All TellsNamed (take l.sent-index l.out)
