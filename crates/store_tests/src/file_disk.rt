@@ -15,12 +15,11 @@ fn named(rt: &HostRuntime, name: &str) -> Result<FileDisk<HostRuntime>, Fail> {
 }
 
 /// Makes three writes.
-fn fill(disk: &mut FileDisk<HostRuntime>) -> Result<(), Fail> {
+fn fill(disk: &mut FileDisk<HostRuntime>) -> Result<(), Stop> {
     disk.write_at(0, b"abc")?;
     disk.write_at(3, b"def")?;
     disk.write_at(1, b"XY")?;
-    disk.sync()?;
-    Ok(())
+    disk.sync()
 }
 
 /// A disk on a new file, after three writes.
@@ -31,7 +30,7 @@ fn made(rt: &HostRuntime, name: &str) -> Result<FileDisk<HostRuntime>, Fail> {
         Ok(()) => Ok(disk),
         Err(why) => {
             drop(disk);
-            Err(why)
+            Err(why.into())
         }
     }
 }
@@ -45,19 +44,21 @@ fn read_again(rt: &HostRuntime, name: &str) -> Result<Vec<u8>, Fail> {
 }
 
 /// Whether another disk on the file finds it locked, and is given up once the file is let go.
-fn is_locked(rt: &HostRuntime, name: &str, disk: FileDisk<HostRuntime>) -> Result<bool, Fail> {
+fn is_locked(rt: &HostRuntime, name: &str) -> Result<bool, Fail> {
     let mut second = named(rt, name)?;
+    let first = made(rt, name)?;
     let locked = second.sync() == Err(Stop::Failed);
-    drop(disk);
-    Ok(locked && second.sync() == Err(Stop::Failed))
+    drop(first);
+    let given_up = second.sync() == Err(Stop::Failed);
+    drop(second);
+    Ok(locked && given_up)
 }
 
 #[test]
 fn a_file_is_made_and_opened_again(rt: HostRuntime) -> Result<(), Fail> {
     let name = "mon_disk_test_file";
-    let disk = made(&rt, name)?;
-    assert!(rt; is_locked(&rt, name, disk)?);
-    assert_eq!(rt; read_again(&rt, name)?.as_slice(), b"aXYdef".as_slice());
+    assert!(rt; is_locked(&rt, name)?);
+    assert!(rt; read_again(&rt, name)?.as_slice() == b"aXYdef".as_slice());
     fs::remove_file(&rt, name)?;
     Ok(())
 }
@@ -65,10 +66,10 @@ fn a_file_is_made_and_opened_again(rt: HostRuntime) -> Result<(), Fail> {
 /// Why a file of that name has no length, if it has none.
 fn failure(rt: &HostRuntime, name: &str) -> Result<Option<ErrorKind>, Fail> {
     let mut disk = named(rt, name)?;
-    if disk.len() != Err(Stop::Failed) {
-        return Ok(None);
-    }
-    Ok(disk.failure().map(|error| error.kind()))
+    let failed = disk.len() == Err(Stop::Failed);
+    let kind = disk.failure().map(|error| error.kind());
+    drop(disk);
+    Ok(if failed { kind } else { None })
 }
 
 #[test]
@@ -78,7 +79,7 @@ fn what_is_no_file_fails(rt: HostRuntime) -> Result<(), Fail> {
         ("/dev/null", ErrorKind::Unsupported),
         (".", ErrorKind::IsADirectory),
     ] {
-        assert_eq!(rt; failure(&rt, name)?, Some(kind), "{name}");
+        assert!(rt; failure(&rt, name)? == Some(kind), "{name}");
     }
     Ok(())
 }
@@ -265,6 +266,30 @@ struct Went {
     given_up: bool,
 }
 
+/// Whether each of these calls went well.
+fn done<D: Disk>(disk: &mut D) -> bool {
+    if disk.len() != Ok(0) || disk.write_at(0, b"ab").is_err() || disk.sync().is_err() {
+        return false;
+    }
+    let mut bytes = [0u8; 2];
+    disk.len() == Ok(2) && disk.read(0, &mut bytes).is_ok() && bytes == *b"ab"
+}
+
+fn run_on(alloc: Global, fake: &Fake) -> Result<Went, Fail> {
+    let name = String::from_str(alloc, "link")?;
+    let mut disk = FileDisk::named(&fake, name);
+    let done = done(&mut disk);
+    let asked = fake.asked.get();
+    let stopped = disk.sync() == Err(Stop::Failed);
+    drop(disk);
+    Ok(Went {
+        asked,
+        done,
+        given_up: stopped && fake.asked.get().count == asked.count,
+    })
+}
+
+/// How they go on the file of a system of which the call of that number fails.
 fn run_on_file(alloc: Global, failing: usize) -> Result<Went, Fail> {
     let nothing = Asked {
         calls: [0; 32],
@@ -274,37 +299,23 @@ fn run_on_file(alloc: Global, failing: usize) -> Result<Went, Fail> {
         len: 0,
         at: 0,
     };
-    let name = String::from_str(alloc, "link")?;
     let fake = Fake {
         asked: Rc::new(alloc, Cell::new(nothing))?,
     };
-    let mut disk = FileDisk::named(&&fake, name);
-    let kept = disk.len() == Ok(0) && disk.write_at(0, b"ab").is_ok() && disk.sync().is_ok();
-    let mut done = false;
-    if kept && disk.len() == Ok(2) {
-        let mut bytes = [0u8; 2];
-        done = disk.read(0, &mut bytes).is_ok() && bytes == *b"ab";
-    }
-    let asked = fake.asked.get();
-    let stopped = disk.sync() == Err(Stop::Failed);
-    drop(disk);
-    let given_up = stopped && fake.asked.get().count == asked.count;
+    let went = run_on(alloc, &fake);
     drop(fake);
-    Ok(Went {
-        asked,
-        done,
-        given_up,
-    })
+    went
 }
 
 #[test]
 fn a_file_is_synced_and_so_is_its_folder(rt: HostRuntime) -> Result<(), Fail> {
-    let went = run_on_file(rt.alloc(), 0)?;
-    assert!(rt; went.done && !went.given_up);
-    assert_eq!(rt;
-        went.asked.calls.as_slice().get(..went.asked.count),
-        Some(b"ocmsfpOSmkwwdmkrr".as_slice())
-    );
+    let Went {
+        asked,
+        done,
+        given_up,
+    } = run_on_file(rt.alloc(), 0)?;
+    assert!(rt; done && !given_up);
+    assert!(rt; asked.calls.starts_with(b"ocmsfpOSmkwwdmkrr") && asked.count == 17);
     Ok(())
 }
 

@@ -1,8 +1,9 @@
-use crate::digits::bytes_of;
+use crate::transaction::transaction;
 use mon_bytes::KeyPlace;
 use mon_kv::{KeyRun, Kv};
 use mon_tx::{Area, Key, Transaction};
 use std::alloc::Global;
+use std::fmt::Write;
 use std::test::Fail;
 
 /// A transaction that puts keys of three areas, of which one is a monitor's own, and one that puts versions and erases those from 99 to 100.
@@ -17,17 +18,23 @@ const RANGE: &str = "\
 
 /// What a transaction leaves of a map of nothing.
 fn made(alloc: Global, digits: &str) -> Result<Kv, Fail> {
-    let tx = mon_tx::decode(alloc, &bytes_of(alloc, digits)?)?;
+    let tx = transaction(alloc, digits)?;
     let mut kv = Kv::empty(alloc);
-    kv.apply(&tx)?;
-    Ok(kv)
+    let done = kv.apply(&tx);
+    drop(tx);
+    match done {
+        Ok(()) => Ok(kv),
+        Err(why) => {
+            drop(kv);
+            Err(why.into())
+        }
+    }
 }
 
-/// The name of a key, with a space behind it.
-fn name(alloc: Global, prefix: &[u8], key: &[u8]) -> Result<String, Fail> {
-    let prefix = str::from_utf8(prefix).map_err(|_| "a prefix")?;
-    let key = str::from_utf8(key).map_err(|_| "a key")?;
-    Ok(format!(in alloc; "{prefix}/{key} ")?)
+/// Puts the name of a key, with a space behind it.
+fn push_name(names: &mut String, prefix: &[u8], key: &[u8]) -> Result<(), Fail> {
+    let (prefix, key) = (str::from_utf8(prefix)?, str::from_utf8(key)?);
+    Ok(write!(names, "{prefix}/{key} ")?)
 }
 
 /// The keys of a map of at most five.
@@ -38,7 +45,7 @@ fn keys(alloc: Global, kv: &Kv) -> Result<String, Fail> {
         let Some(entry) = kv.next_entry(prefix, key) else {
             break;
         };
-        keys.push_str(name(alloc, entry.prefix, entry.key)?.as_str())?;
+        push_name(&mut keys, entry.prefix, entry.key)?;
         (prefix, key) = (entry.prefix, entry.key);
     }
     Ok(keys)
@@ -62,7 +69,7 @@ fn keys_stand_in_order_and_a_range_erases_the_numbers_in_it(rt: HostRuntime) -> 
         ),
         (RANGE, "paxos/1000 paxos/first_committed 70"),
     ] {
-        assert_eq!(rt; left(rt.alloc(), digits)?.as_str(), told);
+        assert!(rt; left(rt.alloc(), digits)?.as_str() == told, "{told}");
     }
     Ok(())
 }
@@ -71,7 +78,7 @@ fn keys_stand_in_order_and_a_range_erases_the_numbers_in_it(rt: HostRuntime) -> 
 fn told(alloc: Global, run: &KeyRun) -> Result<String, Fail> {
     let mut keys = String::new(alloc);
     for entry in run.entries.iter() {
-        keys.push_str(name(alloc, entry.prefix.as_slice(), entry.key.as_slice())?.as_str())?;
+        push_name(&mut keys, entry.prefix.as_slice(), entry.key.as_slice())?;
     }
     Ok(format!(in alloc; "{keys}{}", run.done)?)
 }
@@ -96,7 +103,7 @@ fn a_run_of_shared_keys_stops_at_the_room_and_the_count(rt: HostRuntime) -> Resu
         (23, 1, "kv/a false"),
         (23, 9, "kv/a paxos/1 true"),
     ] {
-        assert_eq!(rt; run(rt.alloc(), room, most)?.as_str(), told, "{room}");
+        assert!(rt; run(rt.alloc(), room, most)?.as_str() == told, "{room}");
     }
     Ok(())
 }
@@ -124,14 +131,19 @@ fn put_and_erase(alloc: Global, kv: &mut Kv) -> Result<(), Fail> {
     Ok(done?)
 }
 
+/// Whether two versions are there.
+fn stay(kv: &Kv, first: u64, second: u64) -> (bool, bool) {
+    (kv.stored(first).is_some(), kv.stored(second).is_some())
+}
+
 // A tree that was a list would be too deep for the stack.
 #[test]
 fn keys_that_come_in_order_make_a_low_tree(rt: HostRuntime) -> Result<(), Fail> {
     let mut kv = Kv::empty(rt.alloc());
     let done = put_and_erase(rt.alloc(), &mut kv);
-    let stay = [10u64, 11, 99_989, 99_990].map(|v| kv.stored(v).is_some());
+    let (low, high) = (stay(&kv, 10, 11), stay(&kv, 99_989, 99_990));
     drop(kv);
     done?;
-    assert_eq!(rt; stay, [true, false, false, true]);
+    assert!(rt; low == (true, false) && high == (false, true));
     Ok(())
 }

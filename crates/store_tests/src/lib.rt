@@ -6,8 +6,6 @@ mod contents;
 #[cfg(test)]
 mod cursor;
 #[cfg(test)]
-mod digits;
-#[cfg(test)]
 mod file_disk;
 #[cfg(test)]
 mod kv;
@@ -19,6 +17,8 @@ mod log_map;
 mod rows;
 #[cfg(test)]
 mod store;
+#[cfg(test)]
+mod transaction;
 #[cfg(test)]
 mod tx;
 #[cfg(test)]

@@ -3,7 +3,7 @@
 ghost use Rattle.mon_store.specs.Whole.{IsSound};
 
 use crate::contents::contents;
-use crate::digits::{bytes_of, number};
+use crate::transaction::transaction;
 use mon_disk::{Disk, MemoryDisk, NodeDisks};
 use mon_kv::Kv;
 use mon_store::{OpenRefused, Store};
@@ -93,14 +93,15 @@ fn disk(alloc: Global, bytes: &[u8], call: u64, image: u8) -> Result<MemoryDisk,
     Err("the bytes are kept".into())
 }
 
-/// What is held under the three keys, with a point for none.
+/// What is held under a key, or a point for nothing.
+fn value<'a>(kv: &'a Kv, key: &[u8]) -> Result<&'a str, Fail> {
+    Ok(str::from_utf8(kv.get(b"kv", key).unwrap_or(b"."))?)
+}
+
+/// What is held under the three keys.
 fn values(alloc: Global, kv: &Kv) -> Result<String, Fail> {
-    let mut values = String::new(alloc);
-    for key in ["a", "b", "c"] {
-        let value = kv.get(b"kv", key.as_bytes()).unwrap_or(b".");
-        values.push_str(str::from_utf8(value).map_err(|_| "a text")?)?;
-    }
-    Ok(values)
+    let (a, b, c) = (value(kv, b"a")?, value(kv, b"b")?, value(kv, b"c")?);
+    Ok(format!(in alloc; "{a}{b}{c}")?)
 }
 
 /// Why the disks are refused.
@@ -133,27 +134,48 @@ fn file_found(alloc: Global, bytes: &[u8]) -> Result<String, Fail> {
     found(alloc, NodeDisks { a, b })
 }
 
-/// A front of the file of three records, or the file with one byte turned.
-fn spoiled(alloc: Global, how: &str, at: usize) -> Result<Vec<u8>, Fail> {
-    let mut bytes = bytes_of(alloc, THREE)?;
-    if how == "front" {
-        bytes.truncate(at);
-        return Ok(bytes);
-    }
-    let byte = bytes.get_mut(at).ok_or("a byte")?;
+/// What is found of a front of a file.
+fn front_found(alloc: Global, file: &[u8], length: usize) -> Result<String, Fail> {
+    file_found(alloc, file.get(..length).ok_or("a front")?)
+}
+
+/// What is found of a file, of which it turns one byte.
+fn turned_found(alloc: Global, file: &mut [u8], place: usize) -> Result<String, Fail> {
+    let byte = file.get_mut(place).ok_or("a byte")?;
     *byte = !*byte;
-    Ok(bytes)
+    file_found(alloc, file)
+}
+
+/// What is found of the file of three records, spoiled in this way.
+fn spoiled_found(alloc: Global, how: &str, at: usize) -> Result<String, Fail> {
+    let mut file = hex::decode(alloc, THREE)?;
+    let found = if how == "front" {
+        front_found(alloc, &file, at)
+    } else {
+        turned_found(alloc, &mut file, at)
+    };
+    drop(file);
+    found
+}
+
+/// Whether this is found of it.
+fn is_found(alloc: Global, how: &str, at: usize, told: &str) -> Result<bool, Fail> {
+    Ok(spoiled_found(alloc, how, at)?.as_str() == told)
+}
+
+/// The number that the word spells.
+fn number(word: Option<&str>) -> Result<usize, Fail> {
+    Ok(word.ok_or("a number")?.parse::<usize>()?)
 }
 
 /// Whether what its row says is found of the file, spoiled in each of these ways.
 fn are_found(alloc: Global, row: &str) -> Result<bool, Fail> {
     let mut words = row.splitn(4, ' ');
-    let how = words.next().ok_or("a way")?;
+    let how = words.next().unwrap_or("");
     let (first, last) = (number(words.next())?, number(words.next())?);
-    let told = words.next().ok_or("an outcome")?;
-    for at in first..last.saturating_add(1) {
-        let bytes = spoiled(alloc, how, at as usize)?;
-        if file_found(alloc, &bytes)?.as_str() != told {
+    let told = words.next().unwrap_or("");
+    for at in first..=last {
+        if !is_found(alloc, how, at, told)? {
             return Ok(false);
         }
     }
@@ -177,8 +199,9 @@ fn step<D: Disk>(alloc: Global, store: &mut Store<D>, word: &str) -> Result<Stri
         let answer = store.restart_if_due();
         return Ok(format!(in alloc; "{answer:?}")?);
     }
-    let tx = mon_tx::decode(alloc, &bytes_of(alloc, word)?)?;
+    let tx = transaction(alloc, word)?;
     let answer = store.apply(&tx);
+    drop(tx);
     Ok(format!(in alloc; "{answer:?}")?)
 }
 
@@ -193,8 +216,8 @@ fn answers<D: Disk>(alloc: Global, store: &mut Store<D>, steps: [&str; 2]) -> Re
 
 /// Whether a disk holds these bytes.
 fn holds(alloc: Global, disk: &mut MemoryDisk, digits: &str) -> Result<bool, Fail> {
-    let bytes = contents(alloc, disk)?;
-    Ok(bytes == bytes_of(alloc, digits)?)
+    let held = hex::encode(alloc, contents(alloc, disk)?)?;
+    Ok(held.as_str() == digits)
 }
 
 /// Whether a disk holds these bytes after a crash.
@@ -262,23 +285,40 @@ fn stepped(
     }
 }
 
-/// What becomes of a row's file, and what the row says.
-fn of_steps<'a>(alloc: Global, row: &'a str) -> Result<(String, &'a str), Fail> {
+/// A disk that holds what the digits spell, whose calls do not fail.
+fn spelled(alloc: Global, digits: &str) -> Result<MemoryDisk, Fail> {
+    let bytes = hex::decode(alloc, digits)?;
+    let disk = disk(alloc, &bytes, NEVER, 0);
+    drop(bytes);
+    disk
+}
+
+/// What becomes of the file on disk A.
+fn file_stepped(
+    alloc: Global,
+    file: &str,
+    steps: [&str; 2],
+    files: [&str; 2],
+) -> Result<String, Fail> {
+    let a = spelled(alloc, file)?;
+    let b = MemoryDisk::new(alloc);
+    stepped(alloc, NodeDisks { a, b }, steps, files)
+}
+
+/// Whether that becomes of a row's file what the row says.
+fn is_told(alloc: Global, row: &str) -> Result<bool, Fail> {
     let mut words = row.splitn(6, ' ');
     let steps = [words.next().unwrap_or(""), words.next().unwrap_or("")];
     let file = words.next().unwrap_or("");
     let files = [words.next().unwrap_or(""), words.next().unwrap_or("")];
-    let told = words.next().ok_or("an outcome")?;
-    let a = disk(alloc, &bytes_of(alloc, file)?, NEVER, 0)?;
-    let b = MemoryDisk::new(alloc);
-    Ok((stepped(alloc, NodeDisks { a, b }, steps, files)?, told))
+    let left = file_stepped(alloc, file, steps, files)?;
+    Ok(Some(left.as_str()) == words.next())
 }
 
 #[test]
 fn steps_of_a_store_leave_these_bytes(rt: HostRuntime) -> Result<(), Fail> {
     for row in STEPS.lines() {
-        let (found, told) = of_steps(rt.alloc(), row)?;
-        assert_eq!(rt; found.as_str(), told, "{row}");
+        assert!(rt; is_told(rt.alloc(), row)?, "{row}");
     }
     Ok(())
 }
@@ -294,10 +334,10 @@ const ANEW: &str = "\
 01434550484d4f4e3200010000000000000200000000000000010f0000008001000000026b760161010000007800";
 
 fn long(alloc: Global) -> Result<Vec<u8>, Fail> {
-    let mut file = bytes_of(alloc, FRONT)?;
-    file.extend_from_slice(vec![in alloc; 0u8; 1_048_576]?.as_slice())?;
-    file.extend_from_slice(&bytes_of(alloc, BACK)?)?;
-    Ok(file)
+    let value = "00".repeat(alloc, 1_048_576)?;
+    let digits = format!(in alloc; "{FRONT}{value}{BACK}");
+    drop(value);
+    Ok(hex::decode(alloc, digits?)?)
 }
 
 /// What becomes of a file that is due to be begun anew, where disk B fails from this call on.
@@ -317,43 +357,72 @@ fn failed(told: &str, found: &str) -> bool {
     told.starts_with("Err(DiskFault) Err(Broken) ") && told.ends_with(found)
 }
 
-// Call 1 of disk B is made as the store is opened, and the calls 2 to 7 begin the file anew.
-#[test]
-fn a_long_file_is_begun_anew_or_stays(rt: HostRuntime) -> Result<(), Fail> {
-    let file = long(rt.alloc())?;
+/// Whether a file stays where disk B fails so.
+fn stays(alloc: Global, file: &[u8], call: u64, image: u8) -> Result<bool, Fail> {
+    Ok(failed(begun(alloc, file, call, image)?.as_str(), " x.."))
+}
+
+/// Whether it stays at each call that begins it anew. Call 1 of disk B is made as the store is opened, and the calls 2 to 7 begin the file.
+fn always_stays(alloc: Global, file: &[u8]) -> Result<bool, Fail> {
     for call in 2u64..=7 {
         for image in 0u8..=3 {
-            let left = begun(rt.alloc(), &file, call, image)?;
-            assert!(rt; failed(left.as_str(), " x.."), "{call} {image}");
+            if !stays(alloc, file, call, image)? {
+                return Ok(false);
+            }
         }
     }
-    assert_eq!(rt;
-        begun(rt.alloc(), &file, NEVER, 0)?.as_str(),
-        "Ok(true) Ok(false) false true x.."
-    );
+    Ok(true)
+}
+
+/// Whether the long file does.
+fn long_stays(alloc: Global) -> Result<bool, Fail> {
+    let file = long(alloc)?;
+    let stays = always_stays(alloc, &file);
+    drop(file);
+    stays
+}
+
+/// What becomes of it where nothing fails.
+fn long_begun(alloc: Global) -> Result<String, Fail> {
+    let file = long(alloc)?;
+    let left = begun(alloc, &file, NEVER, 0);
+    drop(file);
+    left
+}
+
+#[test]
+fn a_long_file_is_begun_anew_or_stays(rt: HostRuntime) -> Result<(), Fail> {
+    assert!(rt; long_stays(rt.alloc())?);
+    let left = long_begun(rt.alloc())?;
+    assert_eq!(rt; left.as_str(), "Ok(true) Ok(false) false true x..");
     Ok(())
 }
 
 /// What becomes of a file with one record, where its disk fails from this call of the second transaction on.
 fn upset(alloc: Global, call: u64, image: u8) -> Result<String, Fail> {
+    let file = hex::decode(alloc, ONE)?;
     // opening takes three calls
-    let a = disk(alloc, &bytes_of(alloc, ONE)?, call.saturating_add(3), image)?;
-    let b = MemoryDisk::new(alloc);
+    let a = disk(alloc, &file, call.saturating_add(3), image);
+    drop(file);
+    let (a, b) = (a?, MemoryDisk::new(alloc));
     stepped(alloc, NodeDisks { a, b }, [NEXT, NEXT], ["", ""])
 }
 
-// A record is there exactly where its opened gate is on the disk.
+/// Whether a record is there exactly where its opened gate is on the disk.
+fn kept_so(alloc: Global, call: u64, image: u8) -> Result<bool, Fail> {
+    let kept = if call >= 3 && image == 1 {
+        " xy."
+    } else {
+        " x.."
+    };
+    Ok(failed(upset(alloc, call, image)?.as_str(), kept))
+}
+
 #[test]
 fn a_record_stays_where_its_gate_is_open(rt: HostRuntime) -> Result<(), Fail> {
     for call in 1u64..=4 {
         for image in 0u8..=3 {
-            let left = upset(rt.alloc(), call, image)?;
-            let kept = if call >= 3 && image == 1 {
-                " xy."
-            } else {
-                " x.."
-            };
-            assert!(rt; failed(left.as_str(), kept), "{call} {image}");
+            assert!(rt; kept_so(rt.alloc(), call, image)?, "{call} {image}");
         }
     }
     Ok(())
