@@ -7,6 +7,7 @@ use crate::op::Op;
 use crate::transaction::Transaction;
 use mon_bytes::{Bytes, Name, Out, OutOfMemory, Prefix};
 use mon_types::Version;
+use std::alloc::Global;
 use thiserror::Error;
 
 /// The most bytes that a transaction's text may have.
@@ -142,6 +143,18 @@ fn put_ops(out: &mut Out, ops: &[Op]) -> Result<(), OutOfMemory>
     Ok(())
 }
 
+/// The text, which has so many bytes.
+fn text_of(alloc: Global, len: usize, ops: &[Op]) -> Result<Vec<u8>, OutOfMemory>
+    requires short { length (text ops.now) ≤ most }
+    requires upward { IsTrue (list_all is_upward ops.now) }
+    ensures text { IfOk result (λ bytes. bytes.items ≡ text ops.now) }
+    ensures fits { OnOk result (AllByRecursion OpFits ops.now) }
+{
+    let mut out = Out::with_capacity(alloc, len)?;
+    put_ops(&mut out, ops)?;
+    Ok(out.into_bytes())
+}
+
 impl Transaction {
     /// How many bytes the one text of the transaction has, 2^64 - 1 where that is more. It takes no memory.
     pub fn text_len(&self) -> u64
@@ -162,10 +175,9 @@ impl Transaction {
         if len > MOST_BYTES {
             return Err(EncodeRefused::TooLong { len });
         }
-        let mut out = Out::new(self.allocator());
-        if put_ops(&mut out, self.ops()).is_err() {
-            return Err(EncodeRefused::OutOfMemory);
+        match text_of(self.allocator(), len as usize, self.ops()) {
+            Ok(bytes) => Ok(bytes),
+            Err(_) => Err(EncodeRefused::OutOfMemory),
         }
-        Ok(out.into_bytes())
     }
 }
