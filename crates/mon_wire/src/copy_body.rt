@@ -42,11 +42,13 @@ fn copied_chunk(
 ) -> Result<Body, OutOfMemory>
     ensures { IfOk result (λ copied. copied ≡ body.Chunk cookie place.now values.now entries.now done) }
 {
+    let values = values.copy(alloc)?;
+    let entries = entries.copy(alloc)?;
     Ok(Body::Chunk {
         cookie,
         place: place.copy(alloc)?,
-        values: values.copy(alloc)?,
-        entries: entries.copy(alloc)?,
+        values,
+        entries,
         done,
     })
 }
@@ -61,11 +63,13 @@ fn copied_last_chunk(
 ) -> Result<Body, OutOfMemory>
     ensures { IfOk result (λ copied. copied ≡ body.LastChunk cookie place.now values.now entries.now last) }
 {
+    let values = values.copy(alloc)?;
+    let entries = entries.copy(alloc)?;
     Ok(Body::LastChunk {
         cookie,
         place: place.copy(alloc)?,
-        values: values.copy(alloc)?,
-        entries: entries.copy(alloc)?,
+        values,
+        entries,
         last,
     })
 }
@@ -75,108 +79,101 @@ impl Body {
     pub fn copy(&self, alloc: Global) -> Result<Body, OutOfMemory>
         ensures { IfOk result (λ body. body ≡ self.now) }
     {
-        Ok(match self {
+        Ok(match *self {
             Body::Probe => Body::Probe,
             Body::ProbeReply {
                 quorum,
                 first,
                 last,
             } => Body::ProbeReply {
-                quorum: *quorum,
-                first: *first,
-                last: *last,
+                quorum,
+                first,
+                last,
             },
-            Body::Propose { table } => Body::Propose {
+            Body::Propose { ref table } => Body::Propose {
                 table: copied_table(table, alloc)?,
             },
             Body::Ack => Body::Ack,
-            Body::Victory { quorum } => Body::Victory { quorum: *quorum },
-            Body::Collect { pn, first, last } => Body::Collect {
-                pn: *pn,
-                first: *first,
-                last: *last,
-            },
+            Body::Victory { quorum } => Body::Victory { quorum },
+            Body::Collect { pn, first, last } => Body::Collect { pn, first, last },
             Body::Last {
                 pn,
                 first,
                 last,
                 whole,
                 from,
-                values,
-                pending,
+                ref values,
+                ref pending,
             } => {
-                let pending = copied_told(pending)?;
+                let values = values.copy(alloc)?;
                 Body::Last {
-                    pn: *pn,
-                    first: *first,
-                    last: *last,
-                    whole: *whole,
-                    from: *from,
-                    values: values.copy(alloc)?,
-                    pending,
+                    pn,
+                    first,
+                    last,
+                    whole,
+                    from,
+                    values,
+                    pending: copied_told(pending)?,
                 }
             }
-            Body::Begin { pn, version, value } => Body::Begin {
-                pn: *pn,
-                version: *version,
+            Body::Begin {
+                pn,
+                version,
+                ref value,
+            } => Body::Begin {
+                pn,
+                version,
                 value: value.copy()?,
             },
-            Body::Accept { pn, version } => Body::Accept {
-                pn: *pn,
-                version: *version,
-            },
-            Body::Commit { from, values } => Body::Commit {
-                from: *from,
+            Body::Accept { pn, version } => Body::Accept { pn, version },
+            Body::Commit { from, ref values } => Body::Commit {
+                from,
                 values: values.copy(alloc)?,
             },
-            Body::Lease { last } => Body::Lease { last: *last },
-            Body::LeaseAck { last } => Body::LeaseAck { last: *last },
-            Body::Forward { seq, command } => Body::Forward {
-                seq: *seq,
+            Body::Lease { last } => Body::Lease { last },
+            Body::LeaseAck { last } => Body::LeaseAck { last },
+            Body::Forward { seq, ref command } => Body::Forward {
+                seq,
                 command: command.copy(alloc)?,
             },
-            Body::Route { seq, reply } => Body::Route {
-                seq: *seq,
+            Body::Route { seq, ref reply } => Body::Route {
+                seq,
                 reply: reply.copy(alloc)?,
             },
             Body::GetCookieFull => Body::GetCookieFull,
-            Body::GetCookieRecent { last } => Body::GetCookieRecent { last: *last },
-            Body::Cookie { full, cookie, last } => Body::Cookie {
-                full: *full,
-                cookie: *cookie,
-                last: *last,
-            },
-            Body::GetChunk { cookie, place } => Body::GetChunk {
-                cookie: *cookie,
+            Body::GetCookieRecent { last } => Body::GetCookieRecent { last },
+            Body::Cookie { full, cookie, last } => Body::Cookie { full, cookie, last },
+            Body::GetChunk { cookie, ref place } => Body::GetChunk {
+                cookie,
                 place: place.copy(alloc)?,
             },
             Body::Chunk {
                 cookie,
-                place,
-                values,
-                entries,
+                ref place,
+                ref values,
+                ref entries,
                 done,
-            } => return copied_chunk(*cookie, place, values, entries, *done, alloc),
+            } => return copied_chunk(cookie, place, values, entries, done, alloc),
             Body::LastChunk {
                 cookie,
-                place,
-                values,
-                entries,
+                ref place,
+                ref values,
+                ref entries,
                 last,
-            } => return copied_last_chunk(*cookie, place, values, entries, *last, alloc),
-            Body::NoCookie { cookie } => Body::NoCookie { cookie: *cookie },
-            Body::Ping { table } => Body::Ping {
+            } => return copied_last_chunk(cookie, place, values, entries, last, alloc),
+            Body::NoCookie { cookie } => Body::NoCookie { cookie },
+            Body::Ping { ref table } => Body::Ping {
                 table: copied_table(table, alloc)?,
             },
-            Body::PingReply { table } => Body::PingReply {
+            Body::PingReply { ref table } => Body::PingReply {
                 table: copied_table(table, alloc)?,
             },
-            Body::Request { id, request } => Body::Request {
-                id: *id,
+            Body::Request { id, ref request } => Body::Request {
+                id,
                 request: request.copy(alloc)?,
             },
-            Body::Reply { id, reply } => Body::Reply {
-                id: *id,
+            Body::Reply { id, ref reply } => Body::Reply {
+                id,
                 reply: reply.copy(alloc)?,
             },
         })

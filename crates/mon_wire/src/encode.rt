@@ -58,73 +58,77 @@ fn write_body(out: &mut Out, n: u8, own: Rank, body: &Body) -> Result<(), OutOfM
     requires form { (spelled n own body.now).Form }
     ensures { OnOk result (out.new ≡ out.old ++ (spelled n own body.now).text) }
 {
-    match body {
+    match *body {
         Body::Probe => Ok(()),
         Body::ProbeReply {
             quorum,
             first,
             last,
-        } => write_probe_reply(out, n, *quorum, *first, *last),
-        Body::Propose { table } => write_table(out, n, own, table),
+        } => write_probe_reply(out, n, quorum, first, last),
+        Body::Propose { ref table } => write_table(out, n, own, table),
         Body::Ack => Ok(()),
-        Body::Victory { quorum } => write_set(out, *quorum),
-        Body::Collect { pn, first, last } => write_collect(out, *pn, *first, *last),
+        Body::Victory { quorum } => write_set(out, quorum),
+        Body::Collect { pn, first, last } => write_collect(out, pn, first, last),
         Body::Last {
             pn,
             first,
             last,
             whole,
             from,
-            values,
-            pending,
+            ref values,
+            ref pending,
         } => {
-            write_collect(out, *pn, *first, *last)?;
-            write_found(out, *whole, *from, values.as_slice(), pending)
+            write_collect(out, pn, first, last)?;
+            write_found(out, whole, from, values.as_slice(), pending)
         }
-        Body::Begin { pn, version, value } => write_begin(out, *pn, *version, value),
-        Body::Accept { pn, version } => write_accept(out, *pn, *version),
-        Body::Commit { from, values } => write_commit(out, *from, values.as_slice()),
+        Body::Begin {
+            pn,
+            version,
+            ref value,
+        } => write_begin(out, pn, version, value),
+        Body::Accept { pn, version } => write_accept(out, pn, version),
+        Body::Commit { from, ref values } => write_commit(out, from, values.as_slice()),
         Body::Lease { last } => write_number(out, last.get()),
         Body::LeaseAck { last } => write_number(out, last.get()),
-        Body::Forward { seq, command } => write_forward(out, *seq, command),
-        Body::Route { seq, reply } => write_numbered_reply(out, *seq, reply),
+        Body::Forward { seq, ref command } => write_forward(out, seq, command),
+        Body::Route { seq, ref reply } => write_numbered_reply(out, seq, reply),
         Body::GetCookieFull => Ok(()),
         Body::GetCookieRecent { last } => write_number(out, last.get()),
-        Body::Cookie { full, cookie, last } => write_granted(out, *full, *cookie, *last),
-        Body::GetChunk { cookie, place } => write_asked(out, *cookie, place),
+        Body::Cookie { full, cookie, last } => write_granted(out, full, cookie, last),
+        Body::GetChunk { cookie, ref place } => write_asked(out, cookie, place),
         Body::Chunk {
             cookie,
-            place,
-            values,
-            entries,
+            ref place,
+            ref values,
+            ref entries,
             done,
         } => write_chunk(
             out,
-            *cookie,
+            cookie,
             place,
             values.as_slice(),
             entries.as_slice(),
-            *done,
+            done,
         ),
         Body::LastChunk {
             cookie,
-            place,
-            values,
-            entries,
+            ref place,
+            ref values,
+            ref entries,
             last,
         } => write_last_chunk(
             out,
-            *cookie,
+            cookie,
             place,
             values.as_slice(),
             entries.as_slice(),
-            *last,
+            last,
         ),
-        Body::NoCookie { cookie } => write_cookie(out, *cookie),
-        Body::Ping { table } => write_table(out, n, own, table),
-        Body::PingReply { table } => write_table(out, n, own, table),
-        Body::Request { id, request } => write_numbered_request(out, *id, request),
-        Body::Reply { id, reply } => write_numbered_reply(out, *id, reply),
+        Body::NoCookie { cookie } => write_cookie(out, cookie),
+        Body::Ping { ref table } => write_table(out, n, own, table),
+        Body::PingReply { ref table } => write_table(out, n, own, table),
+        Body::Request { id, ref request } => write_numbered_request(out, id, request),
+        Body::Reply { id, ref reply } => write_numbered_reply(out, id, reply),
     }
 }
 

@@ -149,13 +149,14 @@ fn read_message(alloc: Global, cursor: &mut Cursor<'_>) -> Result<Message, MsgRe
 fn ended(message: Message, cursor: &Cursor<'_>) -> Result<Message, MsgRefused>
     ensures { Gives (λ x. x) result (ended (message, cursor.now)) }
 {
-    if cursor.left() == 0 {
-        return Ok(message);
+    if cursor.left() > 0 {
+        drop(message);
+        return Err(MsgRefused::At {
+            at: cursor.at(),
+            kind: MsgKind::Rest,
+        });
     }
-    Err(MsgRefused::At {
-        at: cursor.at(),
-        kind: MsgKind::Rest,
-    })
+    Ok(message)
 }
 
 #[tactic(auto, unfolding(crate::specs::Message::Whole::whole_at))]
