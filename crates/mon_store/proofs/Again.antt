@@ -1,9 +1,9 @@
 -- What is spelled so is read.
-use Rattle.std.proofs.Common.{◌≡◌, ℕ, ◌≤◌, ◌<◌, ◌^◌, false, ◌&&◌, leb, ltb, eqb, List, [], ◌∷◌, ◌++◌, length, Ok, Less, Equal, Greater, Ordering, Result, Err, nat_cmp, IsTrue, T, refl, sym, ap, subst, ◌∙◌, append_assoc, arith}
+use Rattle.std.proofs.Common.{◌≡◌, ℕ, suc, ◌≤◌, ◌<◌, ◌^◌, false, ◌&&◌, leb, ltb, eqb, List, [], ◌∷◌, ◌++◌, length, Ok, Less, Equal, Greater, Ordering, Result, Err, nat_cmp, IsTrue, T, refl, sym, ap, subst, ◌∙◌, append_assoc, arith}
 use Rattle.std.specs.Cmp.Lexicographic.{slice_cmp, nat_list_cmp_total}
 use Rattle.std.specs.List.{list_all, flat_map, AllByRecursion}
 use Rattle.std.specs.Ordering.{is_lt, ordering_then, ordering_reverse}
-use Rattle.std.specs.FinMap.{entries, len, from_sorted, is_sorted, entries-from_sorted, entries_sorted, same_entries_map, len-entries}
+use Rattle.std.specs.FinMap.{entries, len, from_sorted, entries-from_sorted, entries_sorted, same_entries_map, len-entries}
 use Rattle.std.specs.FinMap.Entries.{below_all}
 use Rattle.std.proofs.lemmas.Bool.{leb-true, le-ltb}
 use Rattle.std.proofs.lemmas.Bool.Decides.{nat_tests}
@@ -16,10 +16,11 @@ use Rattle.mon_bytes.specs.Forms.{◌>>=◌, u32_bytes, Reads}
 use Rattle.mon_bytes.proofs.Ascii.{both}
 use Rattle.mon_bytes.proofs.Fields.{Found, byte_found, front_found}
 use Rattle.mon_bytes.proofs.Forms.{u32_found, ended_found}
+use Rattle.mon_bytes.proofs.Ordered.{Entries, entries_found}
 use Rattle.mon_tx.specs.Map.{Place, place_cmp, Store}
+use Rattle.mon_tx.proofs.Places.{places_total}
 use Rattle.mon_store.specs.Checkpoint.{Entry, entry_text, checkpoint_text, EntryFits, HasCheckpoint}
 use Rattle.mon_store.specs.Decode.{word_at, value_at, prefix_at, key_at, entry_at, entries_at, map_at, checkpoint_of}
-use Rattle.mon_store.proofs.Order.{sorted_parts, above_parts}
 
 -- how long a word is
 record IsLong (most : ℕ) (bytes : List ℕ) : Type 0 where
@@ -73,15 +74,16 @@ entry_found before e c rest is fits rises =
     let d = value_found b.0 e.1 rest b.1 fits.2 in
     (d.0, d.1, rw (a.2, not_below before e.0 rises, b.2, rises, d.2) refl)
 
-entries_found : (before : Place) (es : List Entry) (c : Reading) (rest : List ℕ) → c.rest ≡ flat_map entry_text es ++ rest → AllByRecursion EntryFits es → T (is_sorted place_cmp es) → T (below_all place_cmp before es)
-    → Found (entries_at (length es) before c) es rest
+pub none_left : (before : Place) (c : Reading) → entries_at 0 before c ≡ Ok ([], c)
 unfolding entries_at
-entries_found before [] c rest e each sorted above = (c, e, refl)
-entries_found before (x ∷ es) c rest e each sorted above =
-    let order = sorted_parts x es sorted in
-    let a = entry_found before x c (flat_map entry_text es ++ rest) (e ∙ append_assoc (entry_text x) (flat_map entry_text es) rest) each.0 (above_parts before x es above).0 in
-    let b = entries_found x.0 es a.0 rest a.1 each.1 order.1 order.0 in
-    (b.0, b.1, rw (a.2, b.2) refl)
+none_left before c = refl
+
+pub some_left : (n : ℕ) (before : Place) (c : Reading) → entries_at (suc n) before c ≡ (entry_at before c >>= λ first. entries_at n first.0.0 first.1 >>= λ others. Ok (first.0 ∷ others.0, others.1))
+unfolding entries_at
+some_left n before c = refl
+
+abbrev pub entries_in_order : Entries MapRefused Place (List ℕ)
+entries_in_order = record { cmp = place_cmp; total = places_total; text = entry_text; Form = EntryFits; one = entry_at; many = entries_at; none = none_left; some = some_left }
 
 -- nothing is below each prefix
 above_nothing : (es : List Entry) → AllByRecursion EntryFits es → T (below_all place_cmp ([], []) es)
@@ -101,7 +103,7 @@ map_found m c rest e fits =
     let es = entries m in
     let k = byte_found c 128 (u32_bytes (len m) ++ (flat_map entry_text es ++ rest)) (e ∙ ap (λ (bs : List ℕ). 128 ∷ bs) (append_assoc (u32_bytes (len m)) (flat_map entry_text es) rest)) in
     let a = u32_found k.0 (len m) (flat_map entry_text es ++ rest) k.1 fits.count in
-    let b = entries_found ([], []) es a.0 rest a.1 fits.each (entries_sorted m) (above_nothing es fits.each) in
+    let b = entries_found entries_in_order entry_found ([], []) es a.0 rest a.1 fits.each (entries_sorted m) (above_nothing es fits.each) in
     let all = subst (λ (n : ℕ). entries_at n ([], []) a.0 ≡ Ok (es, b.0)) (sym (len-entries m)) b.2 in
     (b.0, b.1, rw (k.2, a.2, all, same_map_of_entries m) refl)
 

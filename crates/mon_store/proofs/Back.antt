@@ -1,22 +1,22 @@
 -- What is read is spelled so.
-use Rattle.std.proofs.Common.{◌≡◌, ℕ, zero, suc, ◌+◌, ◌<◌, ◌^◌, cond, eqb, ltb, ◌||◌, List, [], ◌∷◌, ◌++◌, length, Ok, Err, Less, nat_cmp, IsTrue, T, refl, sym, ap, subst, ◌∙◌, arith}
+use Rattle.std.proofs.Common.{◌≡◌, ℕ, ◌+◌, ◌<◌, ◌^◌, cond, eqb, ltb, ◌||◌, List, [], ◌∷◌, ◌++◌, length, Ok, Err, Less, nat_cmp, IsTrue, T, refl, sym, ap, subst, ◌∙◌, arith}
 use Rattle.std.specs.Cmp.Lexicographic.{slice_cmp}
 use Rattle.std.specs.List.{flat_map, AllByRecursion}
 use Rattle.std.specs.Ordering.{is_lt}
 use Rattle.std.specs.FinMap.{entries, len, from_sorted, is_sorted, entries-from_sorted, len-entries}
-use Rattle.std.specs.FinMap.Entries.{below_all}
 use Rattle.std.proofs.lemmas.Bool.{eqb-true}
 use Rattle.mon_bytes.specs.declared.command.MapRefused.TheVariants.{Form}
 use Rattle.mon_bytes.specs.Reading.{IsBytes, Reading, number, front}
 use Rattle.mon_bytes.specs.Texts.{is_word}
 use Rattle.mon_bytes.specs.Forms.{◌>>=◌, fitted, u32_bytes, ended}
 use Rattle.mon_bytes.proofs.Fields.{guard_ok, chosen_ok, ok_is, Takes, Takes-then, Takes-whole, front_takes, byte_takes}
-use Rattle.mon_bytes.proofs.Forms.{bind_ok, fitted_ok, u32_takes, ended_ok}
+use Rattle.mon_bytes.proofs.Forms.{bind_ok, fitted_ok, u32_takes, counted, ended_ok}
+use Rattle.mon_bytes.proofs.Ordered.{less, TakesEntry, entries_takes}
 use Rattle.mon_tx.specs.Map.{Place, place_cmp, Store}
 use Rattle.mon_tx.specs.Text.{word}
 use Rattle.mon_store.specs.Checkpoint.{Entry, entry_text, value_text, checkpoint_text, EntryFits, HasCheckpoint}
 use Rattle.mon_store.specs.Decode.{word_at, value_at, prefix_at, key_at, entry_at, entries_at, map_at, checkpoint_of}
-use Rattle.mon_store.proofs.Order.{joined, less, below_less}
+use Rattle.mon_store.proofs.Again.{entries_in_order}
 
 -- a word that was taken
 abbrev TakesWord : ℕ → Reading → List ℕ × Reading → Type 0
@@ -60,12 +60,7 @@ key_takes before prefix c x fits e =
     subst (λ (p : List ℕ × Reading). TakesWord 255 c p × (place_cmp before (prefix, p.0) ≡ Less)) (ok_is a.0 x g.1)
     (word_takes 255 c a.0 fits a.1, less (place_cmp before (prefix, a.0.0)) (subst (λ b. T b) (sym g.0) tt))
 
-record TakesEntry (before : Place) (c : Reading) (x : Entry × Reading) : Type 0 where
-  all : Takes c (entry_text x.0) x.1
-  form : EntryFits x.0
-  rises : place_cmp before x.0.0 ≡ Less
-
-entry_takes : (before : Place) (c : Reading) (x : Entry × Reading) → IsBytes c.rest → entry_at before c ≡ Ok x → TakesEntry before c x
+entry_takes : (before : Place) (c : Reading) (x : Entry × Reading) → IsBytes c.rest → entry_at before c ≡ Ok x → TakesEntry entries_in_order before c x
 unfolding entry_at
 entry_takes before c x fits e =
     let a = bind_ok (prefix_at before.0 c) (λ prefix. key_at before prefix.0 prefix.1 >>= λ key. value_at key.1 >>= λ value. Ok (((prefix.0, key.0), value.0), value.1)) x e in
@@ -74,35 +69,11 @@ entry_takes before c x fits e =
     let t0 = prefix_takes before.0 c a.0 fits a.1 in
     let t1 = key_takes before a.0.0 a.0.1 b.0 t0.0.bytes b.1 in
     let t2 = value_takes b.0.1 d.0 t1.0.0.bytes d.1 in
-    subst (TakesEntry before c) (ok_is (((a.0.0, b.0.0), d.0.0), d.0.1) x d.2)
+    subst (TakesEntry entries_in_order before c) (ok_is (((a.0.0, b.0.0), d.0.0), d.0.1) x d.2)
     (record {
       all = Takes-then c b.0.1 d.0.1 (word a.0.0 ++ word b.0.0) (value_text d.0.0) (Takes-then c a.0.1 b.0.1 (word a.0.0) (word b.0.0) t0.0 t1.0.0) t2.0;
       form = (t0.1, t1.0.1, t2.1);
       rises = t1.1;
-    })
-
-record TakesEntries (n : ℕ) (before : Place) (c : Reading) (x : List Entry × Reading) : Type 0 where
-  all : Takes c (flat_map entry_text x.0) x.1
-  each : AllByRecursion EntryFits x.0
-  sorted : T (is_sorted place_cmp x.0)
-  above : T (below_all place_cmp before x.0)
-  count : length x.0 ≡ n
-
-entries_takes : (n : ℕ) (before : Place) (c : Reading) (x : List Entry × Reading) → IsBytes c.rest → entries_at n before c ≡ Ok x → TakesEntries n before c x
-unfolding entries_at
-entries_takes zero before c x fits e = subst (TakesEntries 0 before c) (ok_is ([], c) x e) (record { all = record { parts = refl; bytes = fits }; each = tt; sorted = tt; above = tt; count = refl })
-entries_takes (suc n) before c x fits e =
-    let a = bind_ok (entry_at before c) (λ first. entries_at n first.0.0 first.1 >>= λ others. Ok (first.0 ∷ others.0, others.1)) x e in
-    let b = bind_ok (entries_at n a.0.0.0 a.0.1) (λ others. Ok (a.0.0 ∷ others.0, others.1)) x a.2 in
-    let t0 = entry_takes before c a.0 fits a.1 in
-    let t1 = entries_takes n a.0.0.0 a.0.1 b.0 t0.all.bytes b.1 in
-    subst (TakesEntries (suc n) before c) (ok_is (a.0.0 ∷ b.0.0, b.0.1) x b.2)
-    (record {
-      all = Takes-then c a.0.1 b.0.1 (entry_text a.0.0) (flat_map entry_text b.0.0) t0.all t1.all;
-      each = (t0.form, t1.each);
-      sorted = joined _ _ t1.above t1.sorted;
-      above = joined _ _ (subst (λ r. T (is_lt r)) (sym t0.rises) tt) (below_less before a.0.0.0 b.0.0 t0.rises t1.above);
-      count = omega (arith, t1.count);
     })
 
 -- the map of entries in order has these entries
@@ -126,12 +97,11 @@ map_takes c x fits e =
     let d = bind_ok (entries_at b.0.0 ([], []) b.0.1) (λ es. Ok (from_sorted es.0, es.1)) x b.2 in
     let t0 = byte_takes c kind fits (fitted_ok (number 1 c) kind a.1) in
     let t1 = u32_takes kind.1 b.0 t0.0.bytes (fitted_ok (number 4 kind.1) b.0 b.1) in
-    let t2 = entries_takes b.0.0 ([], []) b.0.1 d.0 t1.0.bytes d.1 in
-    let few : length d.0.0 < 2 ^ 32 = omega (arith, t1.1, t2.count) in
-    let m = map_of_entries d.0.0 t2.sorted t2.each few in
+    let t2 = entries_takes entries_in_order entry_takes b.0.0 ([], []) b.0.1 d.0 t1.0.bytes d.1 in
+    let entries = counted kind.1 b.0 d.0.1 (length d.0.0) (flat_map entry_text d.0.0) t1 t2.count t2.all in
+    let m = map_of_entries d.0.0 t2.sorted t2.each entries.1 in
     let first : Takes c (128 ∷ []) kind.1 = subst (λ (n : ℕ). Takes c (n ∷ []) kind.1) (eqb-true kind.0 128 g.0) t0.0 in
-    let counted : Takes kind.1 (u32_bytes (length d.0.0)) b.0.1 = subst (λ (n : ℕ). Takes kind.1 (u32_bytes n) b.0.1) (sym t2.count) t1.0 in
-    let whole = Takes-then c kind.1 d.0.1 (128 ∷ []) (u32_bytes (length d.0.0) ++ flat_map entry_text d.0.0) first (Takes-then kind.1 b.0.1 d.0.1 (u32_bytes (length d.0.0)) (flat_map entry_text d.0.0) counted t2.all) in
+    let whole = Takes-then c kind.1 d.0.1 (128 ∷ []) (u32_bytes (length d.0.0) ++ flat_map entry_text d.0.0) first entries.0 in
     subst (TakesMap c) (ok_is (from_sorted d.0.0, d.0.1) x d.2) (record { all = subst (λ (t : List ℕ). Takes c t d.0.1) (sym m.1) whole; form = m.0 })
 
 pub checkpoint_takes : (c : Reading) (m : Store) → IsBytes c.rest → checkpoint_of c ≡ Ok m → HasCheckpoint m × (c.rest ≡ checkpoint_text m)

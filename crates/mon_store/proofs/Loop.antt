@@ -9,10 +9,11 @@ use Rattle.mon_bytes.specs.declared.command.MapRefused.TheVariants as refused
 use Rattle.mon_bytes.specs.Forms.{◌>>=◌, Fails}
 use Rattle.mon_bytes.proofs.Fields.{chosen_ok, ok_is}
 use Rattle.mon_bytes.proofs.Forms.{bind_ok}
+use Rattle.mon_bytes.proofs.Ordered.{less}
 use Rattle.mon_tx.specs.Map.{Place, place_cmp, Store}
 use Rattle.mon_store.specs.Checkpoint.{Entry}
 use Rattle.mon_store.specs.Decode.{word_at, value_at, prefix_at, key_at, entry_at, entries_at}
-use Rattle.mon_store.proofs.Order.{less, entries-empty}
+use Rattle.mon_store.proofs.Order.{entries-empty}
 
 -- what was read before, and what is still read
 abbrev pub with_front : List Entry → Result (List Entry × Reading) MapRefused → Result (List Entry × Reading) MapRefused

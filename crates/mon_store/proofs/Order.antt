@@ -1,43 +1,13 @@
 -- Entries in ascending order of prefix and then key.
-use Rattle.std.proofs.Common.{◌≡◌, ℕ, List, [], ◌∷◌, ◌++◌, Bool, true, false, ◌&&◌, Less, Equal, Greater, Ordering, T, refl, ap, ◌∙◌}
+use Rattle.std.proofs.Common.{◌≡◌, ℕ, List, [], ◌∷◌, ◌++◌, Less, Greater, refl, sym, ap, ◌∙◌}
 use Rattle.std.specs.List.{AllByRecursion}
-use Rattle.std.specs.Ordering.{is_lt, ordering_reverse}
+use Rattle.std.specs.Ordering.{ordering_reverse}
 use Rattle.std.specs.FinMap.{entries, insert, empty, entries-insert, len-entries, len-empty}
-use Rattle.std.specs.FinMap.Entries.{put, is_sorted, below_all}
+use Rattle.std.specs.FinMap.Entries.{put}
 use Rattle.std.proofs.lemmas.List.{nil_from_length}
 use Rattle.mon_tx.specs.Map.{Place, place_cmp, Store}
 use Rattle.mon_tx.proofs.Places.{places_total}
 use Rattle.mon_store.specs.Checkpoint.{Entry}
-use Rattle.std.proofs.Common.{sym}
-
-pub joined : (a b : Bool) → T a → T b → T (a && b)
-joined true b p q = q
-joined false b p q = absurd p
-
-first : (a b : Bool) → T (a && b) → T a
-first true b p = tt
-first false b p = absurd p
-
-second : (a b : Bool) → T (a && b) → T b
-second true b p = p
-second false b p = absurd p
-
-pub less : (o : Ordering) → T (is_lt o) → o ≡ Less
-less Less p = refl
-less Equal p = absurd p
-less Greater p = absurd p
-
-pub sorted_parts : (e : Entry) (es : List Entry) → T (is_sorted place_cmp (e ∷ es)) → T (below_all place_cmp e.0 es) × T (is_sorted place_cmp es)
-sorted_parts e es h = (first _ _ h, second _ _ h)
-
-pub above_parts : (x : Place) (e : Entry) (es : List Entry) → T (below_all place_cmp x (e ∷ es)) → (place_cmp x e.0 ≡ Less) × T (below_all place_cmp x es)
-above_parts x e es h = (less _ (first _ _ h), second _ _ h)
-
-pub below_less : (x y : Place) (es : List Entry) → place_cmp x y ≡ Less → T (below_all place_cmp y es) → T (below_all place_cmp x es)
-below_less x y [] p h = tt
-below_less x y (e ∷ es) p h =
-    let below : place_cmp x e.0 ≡ Less = places_total.trans x y e.0 p (less _ (first _ _ h)) in
-    rw below (below_less x y es p (second _ _ h))
 
 -- a place above all others goes to the end
 put_above : (front : List Entry) (k : Place) (v : List ℕ) → AllByRecursion (λ e. place_cmp e.0 k ≡ Less) front → put place_cmp k v front ≡ front ++ (k, v) ∷ []
