@@ -11,7 +11,7 @@ use crate::reply::ShownMap;
 use crate::request::Service;
 use map_kv::KvMap;
 use map_log::LogMap;
-use mon_bytes::{Command, Cursor, Entry, KeyPlace, MapRefused};
+use mon_bytes::{Command, Cursor, Decode, Entry, KeyPlace, MapRefused};
 use std::alloc::Global;
 
 /// What names a synchronisation.

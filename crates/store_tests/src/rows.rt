@@ -2,6 +2,7 @@
 
 use map_kv::{KvInc, KvMap};
 use map_log::LogMap;
+use mon_bytes::Decode;
 use std::alloc::Global;
 use std::test::Fail;
 

@@ -17,7 +17,7 @@ use crate::row::{full, full_latest, incremental, last_version};
 use crate::step::{most_map, step};
 use map_kv::KvMap;
 use map_log::LogMap;
-use mon_bytes::{MapRefused, OutOfMemory};
+use mon_bytes::{Decode, MapRefused, OutOfMemory};
 use mon_kv::Kv;
 use mon_msg::{Service, ShownMap};
 use std::alloc::Global;

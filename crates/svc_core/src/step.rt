@@ -9,7 +9,7 @@ ghost use Rattle.svc_core.specs.Kinds.{IsMapOf, Stepped};
 
 use map_kv::{KvInc, KvMap};
 use map_log::{LogInc, LogMap};
-use mon_bytes::{MapRefused, OutOfMemory};
+use mon_bytes::{Decode, MapRefused, OutOfMemory};
 use mon_msg::{Service, ShownMap};
 use std::alloc::Global;
 
