@@ -12,7 +12,7 @@ use crate::reading::read_checkpoint;
 use mon_bytes::{Cursor, MapRefused};
 use mon_journal::{JournalStop, Payloads};
 use mon_kv::Kv;
-use mon_tx::{TxRefused, decode};
+use mon_tx::TxRefused;
 use std::alloc::Global;
 
 /// The map, where it isn't larger than a store may be.
@@ -28,18 +28,16 @@ fn within(kv: Kv, at: u64) -> Result<Kv, JournalStop>
 }
 
 #[tactic(auto, unfolding(crate::specs::Payloads::after))]
-fn after(alloc: Global, mut kv: Kv, payload: &[u8], at: u64) -> Result<Kv, JournalStop>
+fn after(mut kv: Kv, payload: &[u8], at: u64) -> Result<Kv, JournalStop>
     ensures map { Gives (λ kv. kv) result (at_fault at (after payload.now kv)) }
     ensures size { IfOk result (λ kv. size_of kv ≤ most_size) }
     ensures form { IfErr result IsOfForm }
 {
-    let tx = match decode(alloc, payload) {
-        Ok(tx) => tx,
-        Err(TxRefused::OutOfMemory) => return Err(JournalStop::OutOfMemory),
-        Err(_) => return Err(JournalStop::NotAStore { at }),
-    };
-    kv.apply(&tx)?;
-    within(kv, at)
+    match kv.apply_text(payload) {
+        Ok(()) => within(kv, at),
+        Err(TxRefused::OutOfMemory) => Err(JournalStop::OutOfMemory),
+        Err(_) => Err(JournalStop::NotAStore { at }),
+    }
 }
 
 fn restored(alloc: Global, payload: &[u8], at: u64) -> Result<Kv, JournalStop>
@@ -73,7 +71,7 @@ fn begun(alloc: Global, payload: &[u8], at: u64) -> Result<Kv, JournalStop>
     if is_checkpoint(payload) {
         return restored(alloc, payload, at);
     }
-    after(alloc, Kv::empty(alloc), payload, at)
+    after(Kv::empty(alloc), payload, at)
 }
 
 /// The place of what follows a payload: behind a gate and a length.
@@ -99,7 +97,7 @@ pub fn fold(alloc: Global, payloads: &Payloads) -> Result<Kv, JournalStop>
     let mut at = behind(30, first)?;
     let mut kv = begun(alloc, first, 30)?;
     while let Some(payload) = unread.next_payload() {
-        kv = after(alloc, kv, payload, at)?;
+        kv = after(kv, payload, at)?;
         at = behind(at, payload)?;
     }
     Ok(kv)

@@ -1,15 +1,14 @@
 //! A map from a checkpoint.
 
-ghost use Rattle.std.specs.Prelude.{◌≡◌, [], IsTrue, IfOk, OnOk};
-ghost use Rattle.std.specs.FinMap.{entries, insert};
+ghost use Rattle.std.specs.Prelude.{[], IsTrue, IfOk};
+ghost use Rattle.std.specs.FinMap.{entries};
 ghost use Rattle.mon_bytes.specs.Texts.{is_word, is_name, is_prefix};
 ghost use Rattle.mon_bytes.specs.Forms.{Reads, Gives};
 ghost use Rattle.mon_kv.specs.Readers.{entry_of};
 ghost use Rattle.mon_store.specs.Decode.{word_at, value_at, prefix_at, key_at, entry_at, entries_at, map_at, checkpoint_of};
 
-use mon_bytes::{Bytes, Cursor, MapRefused, Name, OutOfMemory, Prefix, Word};
+use mon_bytes::{Cursor, MapRefused, Word};
 use mon_kv::{EntryRef, Kv};
-use mon_tx::{Op, Transaction};
 use std::alloc::Global;
 use std::cmp::Ordering;
 
@@ -85,41 +84,6 @@ fn entry_at<'a>(
     Ok(EntryRef { prefix, key, value })
 }
 
-fn prefix_of(alloc: Global, bytes: &[u8]) -> Result<Prefix, OutOfMemory>
-    requires { IsTrue (is_prefix bytes.now) }
-    ensures { IfOk result (λ prefix. prefix ≡ bytes.now) }
-{
-    match Prefix::new(Vec::from_slice(alloc, bytes)?) {
-        Some(prefix) => Ok(prefix),
-        None => unreachable!(),
-    }
-}
-
-fn name_of(alloc: Global, bytes: &[u8]) -> Result<Name, OutOfMemory>
-    requires { IsTrue (is_name bytes.now) }
-    ensures { IfOk result (λ name. name ≡ bytes.now) }
-{
-    match Name::new(Vec::from_slice(alloc, bytes)?) {
-        Some(name) => Ok(name),
-        None => unreachable!(),
-    }
-}
-
-/// Puts an entry into the map.
-fn put(alloc: Global, kv: &mut Kv, entry: &EntryRef<'_>) -> Result<(), OutOfMemory>
-    requires prefix { IsTrue (is_prefix entry.now.prefix.now) }
-    requires key { IsTrue (is_name entry.now.key.now) }
-    ensures { OnOk result (kv.new ≡ insert kv.old (entry_of entry.now).0 (entry_of entry.now).1) }
-{
-    let mut tx = Transaction::new(alloc);
-    tx.push(Op::Put {
-        prefix: prefix_of(alloc, entry.prefix)?,
-        key: name_of(alloc, entry.key)?,
-        value: Bytes::new(Vec::from_slice(alloc, entry.value)?),
-    })?;
-    kv.apply(&tx)
-}
-
 fn entries_at(alloc: Global, count: u32, cursor: &mut Cursor<'_>) -> Result<Kv, MapRefused>
     ensures { Reads entries result cursor.new (entries_at count ([], []) cursor.old) }
 {
@@ -127,7 +91,7 @@ fn entries_at(alloc: Global, count: u32, cursor: &mut Cursor<'_>) -> Result<Kv, 
     let (mut prefix, mut key): (&[u8], &[u8]) = (&[], &[]);
     for _ in 0..count {
         let entry = entry_at(prefix, key, cursor)?;
-        put(alloc, &mut kv, &entry)?;
+        kv.put(entry.prefix, entry.key, entry.value)?;
         prefix = entry.prefix;
         key = entry.key;
     }
