@@ -1,27 +1,23 @@
 -- A cache that follows a store follows it through a transaction.
-use Rattle.std.proofs.Common.{◌≡◌, ◌≢◌, ℕ, zero, suc, ◌+◌, ◌-◌, ◌<◌, ◌≤◌, Bool, true, false, cond, ◌&&◌, leb, eqb, List, [], ◌∷◌, Option, Some, None, bytes_eq, refl, sym, ap, ◌∙◌, arith}
-use Rattle.std.proofs.lemmas.Bool.{le-leb, ne_eqb, eq-eqb, eqb-true, and_parts}
-use Rattle.std.specs.Option.{option_and_then, option_map}
-use Rattle.std.specs.Prelude.{IfSome}
-use Rattle.mon_tx.specs.Decision.{Cell}
+use Rattle.std.proofs.Common.{◌≡◌, ℕ, zero, suc, ◌+◌, ◌-◌, ◌≤◌, Bool, true, false, cond, List, Option, Some, None, bytes_eq, refl, sym, ap, ◌∙◌, arith}
+use Rattle.std.proofs.lemmas.Bool.{le-leb, ne_eqb, eq-eqb}
+use Rattle.std.specs.Option.{option_and_then}
 use Rattle.mon_tx.specs.Keys.{area_text, key_text}
-use Rattle.mon_tx.specs.Map.{Store, number_in, apply_op, apply}
+use Rattle.mon_tx.specs.Map.{Store, number_in, apply_op}
 use Rattle.mon_tx.specs.declared.key.Key.{Key}
 use Rattle.mon_tx.specs.declared.key.Key.TheVariants as key
 use Rattle.mon_tx.specs.declared.op.Op.{Op}
-use Rattle.mon_tx.specs.declared.op.Op.TheVariants.{Put, Erase, ErasePrefix, EraseRange}
+use Rattle.mon_tx.specs.declared.op.Op.TheVariants.{Put}
 use Rattle.mon_msg.specs.Protocol.Maps.{empty_map, next_map, spelled_map}
 use Rattle.mon_msg.specs.Protocol.Services.{service_last, full_latest, full_map, read_on, read_map}
 use Rattle.mon_msg.specs.Protocol.Readings.{Readings, readings_of}
 use Rattle.mon_msg.specs.Puts.{area_of}
 use Rattle.mon_wire.specs.declared.reply.ShownMap.{ShownMap}
 use Rattle.mon_wire.specs.declared.request.Service.{Service}
-use Rattle.svc_core.specs.Cache.{IsCurrent, after_put, after_op, after_ops, of_service, where_told, known_after}
 use Rattle.svc_core.specs.Onward.{step_at, goes_on, reaches_last}
-use Rattle.svc_core.specs.declared.cache.Known.{Known}
 use Rattle.svc_core.specs.declared.turn.Turn.{Turn}
 use Rattle.svc_core.proofs.Onwards.{read-none, read-some, goes-none, goes-some}
-use Rattle.svc_core.proofs.Rows.{same_bytes, prefix_of, row_stays, row_put}
+use Rattle.svc_core.proofs.Rows.{prefix_of, row_stays, row_put}
 use Rattle.svc_core.proofs.Starts.{read-full, reaches-full, read-empty, reaches-empty}
 
 -- ---- readings up to a version

@@ -1,5 +1,5 @@
 -- How long the incremental of a command is at most.
-use Rattle.std.proofs.Common.{◌≡◌, ℕ, ◌≤◌, ltb, List, length, Ok, IsTrue, ap, sym, arith, length-append}
+use Rattle.std.proofs.Common.{◌≡◌, ℕ, ◌≤◌, ltb, List, length, Ok, IsTrue, arith, length-append}
 use Rattle.std.proofs.lemmas.Bool.{ltb-false, and_parts, leb-true}
 use Rattle.std.specs.FinMap.{insert, contains_key}
 use Rattle.map_kv.specs.Made as kv_made

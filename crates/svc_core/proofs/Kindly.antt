@@ -7,7 +7,7 @@ use Rattle.map_log.specs.Decode as log_decode
 use Rattle.map_log.specs.declared.inc.LogInc.{LogInc}
 use Rattle.mon_tx.specs.declared.key.Key.TheVariants as key
 use Rattle.mon_tx.specs.Decision.{Cell}
-use Rattle.mon_msg.specs.Protocol.Maps.{empty_map, if_ok, most_map, short_map, with_incremental, next_map, spelled_map}
+use Rattle.mon_msg.specs.Protocol.Maps.{empty_map, if_ok, next_map, spelled_map}
 use Rattle.mon_msg.specs.Protocol.Services.{service_last, full_latest, full_map, read_on, read_map}
 use Rattle.mon_msg.specs.Protocol.Readings.{Readings}
 use Rattle.mon_wire.specs.declared.reply.ShownMap.{ShownMap}

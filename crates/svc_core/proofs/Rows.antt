@@ -1,14 +1,12 @@
 -- What one change of the store does to a service's row.
-use Rattle.std.proofs.Common.{◌≡◌, ℕ, Bool, true, false, cond, ◌&&◌, List, Option, Some, None, bytes_eq, nat_cmp, refl, sym, ap, ◌∙◌}
+use Rattle.std.proofs.Common.{◌≡◌, ℕ, Bool, true, false, cond, ◌&&◌, List, Some, None, bytes_eq, refl, sym, ap, ◌∙◌}
 use Rattle.std.proofs.lemmas.Bool.{false_from_ne_true}
 use Rattle.std.proofs.lemmas.Map.Text.{is_eq-slice_cmp}
-use Rattle.std.specs.Cmp.Lexicographic.{slice_cmp}
 use Rattle.std.specs.FinMap.{get, slice_cmp-IsAntisymmetric, nat_cmp-IsAntisymmetric}
 use Rattle.std.specs.Ordering.{eq_by_cmp}
-use Rattle.mon_tx.specs.Decision.{Cell, decided, or_before}
-use Rattle.mon_tx.specs.Keys.{area_text, key_text, place, same_area, same_key}
+use Rattle.mon_tx.specs.Decision.{decided, or_before}
+use Rattle.mon_tx.specs.Keys.{area_text, key_text, place, same_key}
 use Rattle.mon_tx.specs.Map.{Store, place_cmp, apply_op, is_within}
-use Rattle.mon_tx.specs.declared.key.Area.{Area}
 use Rattle.mon_tx.specs.declared.key.Key.{Key}
 use Rattle.mon_tx.specs.declared.op.Op.{Op}
 use Rattle.mon_tx.specs.declared.op.Op.TheVariants.{Put, Erase, ErasePrefix, EraseRange}

@@ -1,5 +1,5 @@
 -- A value is made of a draft that is no longer than it may be.
-use Rattle.std.proofs.Common.{◌≡◌, ℕ, suc, ◌+◌, List, subst, sym, arith}
+use Rattle.std.proofs.Common.{◌≡◌, ℕ, suc, ◌+◌, List, subst, arith}
 use Rattle.mon_bytes.specs.declared.command.Command.{Command}
 use Rattle.mon_tx.specs.declared.op.Op.{Op}
 use Rattle.mon_msg.specs.Protocol.Services.{service_first, service_last}

@@ -1,5 +1,5 @@
 -- Where a reading begins.
-use Rattle.std.proofs.Common.{◌≡◌, ℕ, suc, ◌-◌, ◌≤◌, Some, None, refl}
+use Rattle.std.proofs.Common.{◌≡◌, suc, ◌-◌, Some, None, refl}
 use Rattle.mon_msg.specs.Protocol.Maps.{empty_map}
 use Rattle.mon_msg.specs.Protocol.Services.{service_last, full_latest, full_map, read_on, read_map}
 use Rattle.mon_msg.specs.Protocol.Readings.{Readings}

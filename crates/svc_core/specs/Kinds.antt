@@ -1,5 +1,5 @@
 -- Which service a map is of.
-use Rattle.std.specs.Prelude.{◌≡◌, ◌≤◌, ℕ, Bool, true, false, length, Option, Some, None}
+use Rattle.std.specs.Prelude.{◌≡◌, ◌≤◌, Bool, true, false, length, Option, Some, None}
 use Rattle.mon_msg.specs.Protocol.Maps.{most_map}
 use Rattle.mon_msg.specs.Protocol.Parts.{map_text}
 use Rattle.mon_wire.specs.declared.reply.ShownMap.{ShownMap}

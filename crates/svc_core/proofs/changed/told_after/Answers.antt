@@ -1,4 +1,4 @@
-use Rattle.std.proofs.Common.{◌≡◌, ◌≤◌, ◌<◌, ◌+◌, ◌⊎◌, inl, inr, length, sym, ap, arith}
+use Rattle.std.proofs.Common.{◌≤◌, ◌<◌, ◌+◌, ◌⊎◌, inl, inr, length, sym, ap, arith}
 use Rattle.mon_msg.specs.Protocol.Readings.{readings_of}
 use Rattle.svc_core.proofs.Tellings.{tells_more, tells_full, tells_gap, tells_last}
 use Rattle.svc_core.proofs.changed.told_after.Goals as goal

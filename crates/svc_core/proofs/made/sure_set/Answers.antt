@@ -1,4 +1,4 @@
-use Rattle.std.proofs.Common.{◌≡◌, ℕ, ◌+◌, ◌-◌, length, ap, arith}
+use Rattle.std.proofs.Common.{ℕ, ◌+◌, ◌-◌, length, ap, arith}
 use Rattle.mon_msg.specs.Protocol.Readings.{readings_of}
 use Rattle.mon_msg.specs.Protocol.Services.{read_map}
 use Rattle.mon_wire.specs.declared.request.Service.TheVariants as service

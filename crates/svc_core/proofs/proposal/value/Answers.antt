@@ -1,5 +1,4 @@
-use Rattle.std.proofs.Common.{Ok, sym, ap, ◌∙◌, ◌≡◌, ◌+◌}
-use Rattle.mon_msg.specs.Protocol.Services.{service_last}
+use Rattle.std.proofs.Common.{Ok, sym, ap, ◌∙◌, ◌+◌}
 use Rattle.mon_msg.specs.Protocol.Readings.{readings_of}
 use Rattle.svc_core.proofs.Drafting.{value_made}
 use Rattle.svc_core.proofs.ShortValues.{short_value}

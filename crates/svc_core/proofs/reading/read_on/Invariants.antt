@@ -1,4 +1,3 @@
-use Rattle.std.proofs.Common.{ℕ}
 use Rattle.mon_msg.specs.Protocol.Readings.{readings_of}
 use Rattle.svc_core.specs.Kinds.{IsMapOf}
 use Rattle.svc_core.proofs.Onwards.{IsAt}

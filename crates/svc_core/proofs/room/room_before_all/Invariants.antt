@@ -1,4 +1,4 @@
-use Rattle.std.proofs.Common.{ℕ, ◌-◌, ◌≤◌}
+use Rattle.std.proofs.Common.{◌-◌, ◌≤◌}
 use Rattle.mon_msg.specs.Protocol.Readings.{readings_of}
 use Rattle.svc_core.specs.Room.{IsRoom}
 use Rattle.svc_core.proofs.room.room_before_all.Given as goal

@@ -1,4 +1,4 @@
-use Rattle.std.proofs.Common.{Some, sym, ap, refl, ◌∙◌}
+use Rattle.std.proofs.Common.{ap, refl, ◌∙◌}
 use Rattle.svc_core.specs.Cache.{map_in}
 use Rattle.svc_core.proofs.cache.Cache.get.Goals as goal
 
