@@ -1,5 +1,5 @@
 -- The acts of an active leader, as plans do them.
-use Rattle.std.proofs.Common.{◌≡◌, ◌≢◌, ℕ, suc, ◌+◌, ◌≤◌, ◌<◌, ◌^◌, true, false, eqb, List, [], ◌∷◌, map, length, Option, Some, None, Ok, Err, refl, sym, ap, ◌∙◌, append-nil, ne_eqb, inl, inr, ◌⊎◌, arith}
+use Rattle.std.proofs.Common.{◌≡◌, ◌≢◌, ℕ, suc, ◌+◌, ◌≤◌, ◌<◌, ◌^◌, true, false, List, [], ◌∷◌, map, Option, Some, None, Ok, Err, refl, sym, ap, ◌∙◌, append-nil, inl, inr, ◌⊎◌, arith}
 use Rattle.std.proofs.lemmas.Bool.{cases_Bool, cases_lt, le-leb, lt-leb}
 use Rattle.mon_lease.specs.Lease.{extended}
 use Rattle.mon_msg.specs.Protocol.Changes.{Vote}
@@ -30,10 +30,6 @@ use Rattle.mon_plan.proofs.Learning.{learn-done}
 use Rattle.paxos_leader.specs.Drafts.{under_way, GoesOn, IsHere, lease_timers, value_timers}
 use Rattle.paxos_leader.specs.declared.draft.Draft.{Draft}
 use Rattle.paxos_leader.proofs.Going.{finish, finish-unarmed}
-
-pub none_empty : {A : Type 0} (xs : List A) → eqb (length xs) 0 ≡ is_empty xs
-none_empty [] = refl
-none_empty (x ∷ xs) = ne_eqb (suc (length xs)) 0 (omega arith)
 
 abbrev pub leasing : Me → ℕ → Leader → Leader
 leasing me now l = record l { stage = stage.Active; lease = extended now; acks = only me.member.rank }

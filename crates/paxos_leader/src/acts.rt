@@ -2,54 +2,38 @@
 
 ghost use Rattle.std.specs.Prelude.{◌≡◌, ℕ, ◌≤◌, ◌++◌, length, map, None, Some, IfOk};
 ghost use Rattle.mon_lease.specs.Lease.{extended};
-ghost use Rattle.mon_msg.specs.Protocol.Leading.{be_active as active, begin_with as begun_with, begin_alone as begun_alone, begin as begun, is_alone as alone_in};
+ghost use Rattle.mon_msg.specs.Protocol.Changes.{Vote, ops_of};
+ghost use Rattle.mon_msg.specs.Protocol.Leading.{be_active as active, begin_with as begun_with, begin_alone as begun_alone, begin as begun};
+ghost use Rattle.mon_msg.specs.Protocol.Played.{Fits};
 ghost use Rattle.mon_msg.specs.Protocol.Sending.{members as members_of, message_to};
-ghost use Rattle.mon_msg.specs.Protocol.Sets.{is_empty, only as only_one};
+ghost use Rattle.mon_msg.specs.Protocol.Sets.{only as only_one};
 ghost use Rattle.mon_msg.specs.declared.paxos.LeaderStage.TheVariants as stage;
 ghost use Rattle.mon_msg.specs.declared.view.Me.{Me};
 ghost use Rattle.mon_tx.specs.Text.{text, most};
-ghost use Rattle.paxos_leader.specs.Drafts.{GoesOn, IsHere, lease_timers as timers_of_leases};
+ghost use Rattle.paxos_leader.specs.Drafts.{GoesOn, IsHere};
 
 use crate::draft::{Draft, tell};
-use crate::sets::only;
+use crate::sets::{is_alone, leads_alone, only};
 use crate::timers::{lease_timers, value_timers};
 use mon_bytes::{Items, OutOfMemory};
 use mon_lease::Lease;
 use mon_msg::plan::Sent;
-use mon_msg::{Arming, Body, Leader, LeaderStage, Me, Next, Origin, Plan, RoleStop};
-use mon_plan::{learn, members, put_vote, send_each};
+use mon_msg::{Body, Leader, LeaderStage, Me, Next, Origin, Plan, RoleStop};
+use mon_plan::{learn, put_vote};
 use mon_tx::Transaction;
-use mon_types::{Epoch, Moment, Rank, RankSet, Version, Which};
+use mon_types::{Epoch, Moment, RankSet, Version, Which};
 use std::alloc::Global;
 
 /// What an active leader remembers that gives a lease now.
-fn leasing(me: &Me, state: Leader, now: Moment) -> Leader
+fn leasing(me: &Me, mut state: Leader, now: Moment) -> Leader
     ensures { result ≡ record state { stage = stage.Active; lease = extended now; acks = only_one me.now.member.rank } }
 {
     let mut lease = Lease::none();
     lease.extend(now);
-    Leader {
-        stage: LeaderStage::Active,
-        lease,
-        acks: only(me),
-        ..state
-    }
-}
-
-/// Whether there is no monitor among these.
-#[tactic(auto, using(crate::proofs::Acting::none_empty))]
-fn are_none(ranks: &[Rank]) -> bool
-    ensures { result ≡ is_empty ranks.now }
-{
-    ranks.is_empty()
-}
-
-/// Whether a leader of this quorum is alone in it.
-pub(crate) fn is_alone(alloc: Global, me: &Me, quorum: RankSet) -> Result<bool, OutOfMemory>
-    ensures { IfOk result (λ alone. alone ≡ alone_in me.now quorum) }
-{
-    let peons = members(alloc, me, quorum)?;
-    Ok(are_none(peons.as_slice()))
+    state.stage = LeaderStage::Active;
+    state.lease = lease;
+    state.acks = only(me);
+    state
 }
 
 /// Besides what was sent so far, the lease goes to all members.
@@ -67,19 +51,6 @@ fn tell_lease(
     tell(alloc, out, me, epoch, quorum, lease)
 }
 
-/// The timers of a leader that gives a lease to this quorum.
-fn timers_for(
-    alloc: Global,
-    me: &Me,
-    quorum: RankSet,
-    now: Moment,
-) -> Result<Items<Arming>, OutOfMemory>
-    ensures { IfOk result (λ timers. timers ≡ timers_of_leases (is_empty (members_of me.now quorum)) now) }
-{
-    let alone = is_alone(alloc, me, quorum)?;
-    lease_timers(alloc, alone, now)
-}
-
 /// The leader is active, and gives a lease to all members.
 pub(crate) fn be_active(
     alloc: Global,
@@ -94,7 +65,7 @@ pub(crate) fn be_active(
 {
     let Draft { tx, out, state } = draft;
     let out = tell_lease(alloc, out, me, epoch, state.quorum, last)?;
-    let timers = timers_for(alloc, me, state.quorum, now)?;
+    let timers = lease_timers(alloc, is_alone(me, state.quorum), now)?;
     let state = leasing(me, state, now);
     Ok(Plan {
         tx,
@@ -108,20 +79,18 @@ pub(crate) fn be_active(
 /// What a leader remembers whose value waits for its members.
 fn valued(
     me: &Me,
-    state: Leader,
+    mut state: Leader,
     stage: LeaderStage,
     value: Transaction,
     origin: Option<Origin>,
 ) -> Leader
     ensures { result ≡ record state { stage = stage; accepted = only_one me.now.member.rank; value = Some value; origin = origin } }
 {
-    Leader {
-        stage,
-        accepted: only(me),
-        value: Some(value),
-        origin,
-        ..state
-    }
+    state.stage = stage;
+    state.accepted = only(me);
+    state.value = Some(value);
+    state.origin = origin;
+    state
 }
 
 /// The other members are asked to accept a value.
@@ -145,7 +114,30 @@ fn ask(
     tell(alloc, out, me, epoch, state.quorum, begin)
 }
 
-/// The leader accepts a value itself, and asks its members to.
+/// The leader accepts a value itself, and asks its members to. What it remembers stays the same.
+fn put_to_vote(
+    alloc: Global,
+    me: &Me,
+    epoch: Epoch,
+    draft: Draft,
+    version: Version,
+    value: &Transaction,
+) -> Result<Draft, OutOfMemory>
+    requires { length (text value.now) ≤ most }
+    ensures draft { IfOk result (λ d. d ≡ record {
+      tx = draft.tx ++ ops_of (Vote version draft.state.pn value.now);
+      out = draft.out ++ map (message_to me.now epoch (Body.Begin draft.state.pn version value.now)) (members_of me.now draft.state.quorum);
+      state = draft.state;
+    }) }
+    ensures fit { Fits (Vote version draft.state.pn value.now) }
+{
+    let Draft { mut tx, out, state } = draft;
+    put_vote(&mut tx, version, state.pn, value)?;
+    let out = ask(alloc, out, me, epoch, &state, version, value)?;
+    Ok(Draft { tx, out, state })
+}
+
+/// A value is put to the vote, and the leader waits for its members.
 pub(crate) fn begin_with(
     alloc: Global,
     me: &Me,
@@ -161,10 +153,9 @@ pub(crate) fn begin_with(
     ensures goes { (last : ℕ) → GoesOn me.now now (IsHere epoch last) draft (λ y. Ok (begun_with me.now now stage version value origin y)) result }
     ensures stays { IfOk result (λ p. p.next ≡ Next.Stay) }
 {
-    let Draft { mut tx, out, state } = draft;
-    put_vote(&mut tx, version, state.pn, &value)?;
-    let out = ask(alloc, out, me, epoch, &state, version, &value)?;
     let timers = value_timers(alloc, now)?;
+    let asked = put_to_vote(alloc, me, epoch, draft, version, &value)?;
+    let Draft { tx, out, state } = asked;
     Ok(Plan {
         tx,
         out,
@@ -175,13 +166,11 @@ pub(crate) fn begin_with(
 }
 
 /// What a leader remembers that is active.
-pub(crate) fn at_rest(state: Leader) -> Leader
+pub(crate) fn at_rest(mut state: Leader) -> Leader
     ensures { result ≡ record state { stage = stage.Active } }
 {
-    Leader {
-        stage: LeaderStage::Active,
-        ..state
-    }
+    state.stage = LeaderStage::Active;
+    state
 }
 
 /// A quorum of the leader alone commits a value at once. Nobody is answered.
@@ -199,7 +188,10 @@ pub(crate) fn begin_alone(
     let Draft { mut tx, out, state } = draft;
     match learn(&mut tx, version.get(), &[value]) {
         Ok(()) => {}
-        Err(stop) => return Err(stop),
+        Err(stop) => {
+            drop(state);
+            return Err(stop);
+        }
     }
     Ok(Plan {
         tx,
@@ -208,13 +200,6 @@ pub(crate) fn begin_alone(
         state: at_rest(state),
         next: Next::Stay,
     })
-}
-
-/// Whether a leader is alone in its quorum.
-pub(crate) fn leads_alone(alloc: Global, me: &Me, state: &Leader) -> Result<bool, OutOfMemory>
-    ensures { IfOk result (λ alone. alone ≡ alone_in me.now state.now.quorum) }
-{
-    is_alone(alloc, me, state.quorum)
 }
 
 /// A value is begun for which nobody waits.
@@ -233,12 +218,13 @@ pub(crate) fn begin_value(
     ensures stays { IfOk result (λ p. p.next ≡ Next.Stay) }
 {
     let Some(version) = last.plus_one() else {
+        drop(draft);
+        drop(value);
         return Err(RoleStop::Spent {
             which: Which::Version,
         });
     };
-    let alone = leads_alone(alloc, me, &draft.state)?;
-    if alone {
+    if leads_alone(me, &draft.state) {
         return begin_alone(alloc, draft, version, value);
     }
     begin_with(alloc, me, epoch, draft, stage, version, value, None, now)

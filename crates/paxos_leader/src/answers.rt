@@ -110,17 +110,13 @@ fn found_with_any(
 }
 
 /// What a leader remembers once a member answered with all that it has, and told its last version.
-fn answered(state: Leader, from: Rank, last: Version, found: Option<Found>) -> Leader
+fn answered(mut state: Leader, from: Rank, last: Version, found: Option<Found>) -> Leader
     ensures { result ≡ with_answer from last found state }
 {
-    let mut lasts = state.lasts;
-    lasts[usize::from(from.get())] = last;
-    Leader {
-        answered: state.answered.with(from),
-        lasts,
-        found,
-        ..state
-    }
+    state.answered = state.answered.with(from);
+    state.lasts[usize::from(from.get())] = last;
+    state.found = found;
+    state
 }
 
 /// The same, by what the member told.
@@ -134,7 +130,10 @@ fn note(state: &Leader, answer: &Answer<'_>) -> Result<Leader, RoleStop>
     let (state, old) = take_found(state.copy()?);
     match found_with_any(old, answer.last, answer.pending) {
         Ok(found) => Ok(answered(state, answer.from, answer.last, found)),
-        Err(stop) => Err(stop),
+        Err(stop) => {
+            drop(state);
+            Err(stop)
+        }
     }
 }
 
@@ -210,25 +209,12 @@ fn go_on_after(
 }
 
 /// A plan after changes that came before it.
-fn behind(tx: Transaction, plan: Plan<Leader>) -> Result<Plan<Leader>, OutOfMemory>
+fn behind(mut tx: Transaction, mut plan: Plan<Leader>) -> Result<Plan<Leader>, OutOfMemory>
     ensures { IfOk result (λ p. p ≡ record plan { tx = tx ++ plan.tx }) }
 {
-    let mut tx = tx;
     tx.append(&plan.tx)?;
-    let Plan {
-        tx: _more,
-        out,
-        timers,
-        state,
-        next,
-    } = plan;
-    Ok(Plan {
-        tx,
-        out,
-        timers,
-        state,
-        next,
-    })
+    plan.tx = tx;
+    Ok(plan)
 }
 
 /// The values of an answer above the last version are learned.

@@ -10,10 +10,10 @@ ghost use Rattle.paxos_leader.specs.Drafts.{GoesOn, IsAsking, IsCollecting, IsHe
 ghost use Rattle.paxos_leader.specs.Inputs.{may_begin_found};
 ghost use Rattle.paxos_leader.specs.Parts.{asked, made, without_found};
 
-use crate::acts::{be_active, begin_value, is_alone};
+use crate::acts::{be_active, begin_value};
 use crate::catch_up::send_missed;
 use crate::draft::{Draft, tell};
-use crate::sets::only;
+use crate::sets::{is_alone, only};
 use crate::timers::one_timer;
 use mon_bytes::{Items, OutOfMemory};
 use mon_lease::Lease;
@@ -67,35 +67,10 @@ fn begin_found(
 }
 
 /// What was found is taken out of what the leader remembers.
-pub(crate) fn take_found(state: Leader) -> (Leader, Option<Found>)
+pub(crate) fn take_found(mut state: Leader) -> (Leader, Option<Found>)
     ensures { result ≡ (without_found state, state.found) }
 {
-    let Leader {
-        quorum,
-        pn,
-        stage,
-        answered,
-        lasts,
-        found,
-        accepted,
-        value,
-        origin,
-        lease,
-        acks,
-    } = state;
-    let state = Leader {
-        quorum,
-        pn,
-        stage,
-        answered,
-        lasts,
-        found: None,
-        accepted,
-        value,
-        origin,
-        lease,
-        acks,
-    };
+    let found = state.found.take();
     (state, found)
 }
 
@@ -248,9 +223,8 @@ pub(crate) fn collect(
     let Some(pn) = made(stored, me, above) else {
         return Err(RoleStop::Spent { which: Which::Pn });
     };
-    let alone = is_alone(alloc, me, quorum)?;
     let draft = ask(alloc, stored, me, epoch, out, quorum, pn)?;
-    if alone {
+    if is_alone(me, quorum) {
         return settle(alloc, stored, me, epoch, draft, now);
     }
     Ok(await_answers(alloc, draft, now)?)

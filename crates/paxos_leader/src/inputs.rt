@@ -21,11 +21,12 @@ ghost use Rattle.mon_wire.specs.declared.phase.Phase.TheVariants as phases;
 ghost use Rattle.paxos_leader.specs.Drafts.{IsLed, IsWon};
 ghost use Rattle.paxos_leader.specs.Inputs.{is_input, is_own, is_told, may_begin_all, phases_for};
 
-use crate::acts::{at_rest, be_active, begin_with, leads_alone};
+use crate::acts::{at_rest, be_active, begin_with};
 use crate::answers::{Answer, hear_last};
 use crate::collecting::collect;
 use crate::draft::{Draft, tell};
 use crate::seen::{own_epoch, own_last};
+use crate::sets::leads_alone;
 use crate::values::{hear_accept, hear_lease_ack};
 use mon_bytes::{Items, OutOfMemory};
 use mon_kv::Kv;
@@ -300,7 +301,10 @@ fn begin_answered(
     let mut tx = Transaction::new(alloc);
     match learn(&mut tx, version.get(), &[value]) {
         Ok(()) => {}
-        Err(stop) => return Err(stop),
+        Err(stop) => {
+            drop(state);
+            return Err(stop);
+        }
     }
     let out = answers(alloc, kv, me, &tx, version, origin)?;
     Ok(Plan {
@@ -332,9 +336,9 @@ pub fn begin(
             which: Which::Version,
         });
     };
+    let alone = leads_alone(me, state);
     let value = value.copy()?;
     let state = state.copy()?;
-    let alone = leads_alone(alloc, me, &state)?;
     if alone {
         return begin_answered(alloc, kv, me, state, version, value, *origin);
     }

@@ -1,10 +1,11 @@
 //! Sets of ranks.
 
 ghost use Rattle.std.specs.Prelude.{◌≡◌, not, ◌||◌};
+ghost use Rattle.mon_msg.specs.Protocol.Leading.{is_alone as alone_in};
 ghost use Rattle.mon_msg.specs.Protocol.Sets.{are_within as within, only as only_one};
 ghost use Rattle.mon_types.specs.Ranks.{has};
 
-use mon_msg::Me;
+use mon_msg::{Leader, Me};
 use mon_types::{Rank, RankSet};
 
 /// The monitor alone.
@@ -31,4 +32,18 @@ pub(crate) fn are_within(me: &Me, these: RankSet, those: RankSet) -> bool
         }
     }
     true
+}
+
+/// Whether there is no other monitor in a set.
+pub(crate) fn is_alone(me: &Me, quorum: RankSet) -> bool
+    ensures { result ≡ alone_in me.now quorum }
+{
+    are_within(me, quorum, only(me))
+}
+
+/// Whether a leader is alone in its quorum.
+pub(crate) fn leads_alone(me: &Me, state: &Leader) -> bool
+    ensures { result ≡ alone_in me.now state.now.quorum }
+{
+    is_alone(me, state.quorum)
 }

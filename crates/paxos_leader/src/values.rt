@@ -53,14 +53,12 @@ fn answered(
 }
 
 /// What a leader remembers that has no value any more.
-fn without_value(state: Leader) -> Leader
+fn without_value(mut state: Leader) -> Leader
     ensures { result ≡ without_value state }
 {
-    Leader {
-        value: None,
-        origin: None,
-        ..state
-    }
+    state.value = None;
+    state.origin = None;
+    state
 }
 
 /// The message to the members that these values are committed.
@@ -153,6 +151,8 @@ fn commit(
     ensures stays { IfOk result (λ p. p.next ≡ Next.Stay) }
 {
     let Some(version) = own_last(alloc, kv).plus_one() else {
+        drop(state);
+        drop(value);
         return Err(RoleStop::Spent {
             which: Which::Version,
         });
@@ -161,41 +161,19 @@ fn commit(
     let mut tx = Transaction::new(alloc);
     match learn(&mut tx, version.get(), values.as_slice()) {
         Ok(()) => {}
-        Err(stop) => return Err(stop),
+        Err(stop) => {
+            drop(state);
+            return Err(stop);
+        }
     }
     Ok(announce_after(alloc, kv, me, tx, state, version, values, now)?)
 }
 
 /// The value is taken out of what a leader remembers.
-fn take_value(state: Leader) -> (Leader, Option<Transaction>)
+fn take_value(mut state: Leader) -> (Leader, Option<Transaction>)
     ensures { result ≡ (record state { value = None }, state.value) }
 {
-    let Leader {
-        quorum,
-        pn,
-        stage,
-        answered,
-        lasts,
-        found,
-        accepted,
-        value,
-        origin,
-        lease,
-        acks,
-    } = state;
-    let state = Leader {
-        quorum,
-        pn,
-        stage,
-        answered,
-        lasts,
-        found,
-        accepted,
-        value: None,
-        origin,
-        lease,
-        acks,
-    };
+    let value = state.value.take();
     (state, value)
 }
 

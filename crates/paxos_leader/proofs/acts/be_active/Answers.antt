@@ -1,4 +1,4 @@
-use Rattle.std.proofs.Common.{ℕ, List, [], Ok, map, refl, sym, ap, append-nil}
+use Rattle.std.proofs.Common.{ℕ, List, [], Ok, map, refl, sym, ap, ◌∙◌, append-nil}
 use Rattle.mon_msg.specs.Protocol.Leading.{be_active}
 use Rattle.mon_msg.specs.Protocol.Sending.{members, message_to}
 use Rattle.mon_msg.specs.Protocol.Sets.{is_empty}
@@ -20,5 +20,5 @@ returns-clause-goes c =
     (record { tx = d.tx; out = c.in_ok-out.out; timers = c.in_ok-timers.timers; state = c.leasing-state.result; next = next.Stay })
     (sym (append-nil d.tx))
     c.in_ok-out.ensures
-    c.in_ok-timers.ensures
+    (c.in_ok-timers.ensures ∙ ap (λ alone. lease_timers alone c.args.now) c.is_alone.ensures)
     c.leasing-state.ensures refl

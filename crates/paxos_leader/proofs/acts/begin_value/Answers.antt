@@ -10,13 +10,13 @@ returns-in_default-clause-goes c =
     λ cs fits is x b.
     begin-over c.args.me.now c.args.now c.args.epoch c.args.last c.args.draft.state _ b refl c.args.stage c.args.value None (over c.args.last c.in_default.ensures.valid.1)
 
-pub returns-then-alone-clause-goes : goal.returns-then-alone-clause-goes
-returns-then-alone-clause-goes c =
+pub returns-then-leads_alone-clause-goes : goal.returns-then-leads_alone-clause-goes
+returns-then-leads_alone-clause-goes c =
     let me = c.args.me.now in
     let now = c.args.now in
     let d = c.args.draft in
     otherwise me now (IsHere c.args.epoch c.args.last) d (begin me now c.args.stage c.args.value None) (begin_alone me c.in-Some.version c.args.value None)
-    (λ y b e. begins-alone me now c.args.epoch c.args.last d.state y b e c.args.stage c.args.value None c.in-Some.version c.in-Some.ensures.value (omega (arith, c.in-Some.ensures.value, c.in-Some.ensures.valid.0 refl)) (sym c.in_ok-alone.ensures ∙ c.if-alone.true))
+    (λ y b e. begins-alone me now c.args.epoch c.args.last d.state y b e c.args.stage c.args.value None c.in-Some.version c.in-Some.ensures.value (omega (arith, c.in-Some.ensures.value, c.in-Some.ensures.valid.0 refl)) (sym c.leads_alone.ensures ∙ c.if-leads_alone.true))
     c.begin_alone.result (c.begin_alone.ensures.goes me now c.args.epoch c.args.last)
 
 pub returns-clause-goes : goal.returns-clause-goes
@@ -25,5 +25,5 @@ returns-clause-goes c =
     let now = c.args.now in
     let d = c.args.draft in
     otherwise me now (IsHere c.args.epoch c.args.last) d (begin me now c.args.stage c.args.value None) (λ y. Ok (begin_with me now c.args.stage c.in-Some.version c.args.value None y))
-    (λ y b e. begins-among me now c.args.epoch c.args.last d.state y b e c.args.stage c.args.value None c.in-Some.version c.in-Some.ensures.value (omega (arith, c.in-Some.ensures.value, c.in-Some.ensures.valid.0 refl)) (sym c.in_ok-alone.ensures ∙ c.if-alone.false))
+    (λ y b e. begins-among me now c.args.epoch c.args.last d.state y b e c.args.stage c.args.value None c.in-Some.version c.in-Some.ensures.value (omega (arith, c.in-Some.ensures.value, c.in-Some.ensures.valid.0 refl)) (sym c.leads_alone.ensures ∙ c.if-leads_alone.false))
     c.begin_with.result (c.begin_with.ensures.goes c.args.last)

@@ -24,8 +24,8 @@ returns-in_default-clause-goes c =
     collect-over c.args.me.now c.args.now c.args.quorum c.args.above c.args.epoch w (under_way cs c.args.out start_leader x) b
     (above (made c.args.me.now c.args.above w) (2 ^ 62) c.in_default.ensures.fits.1)
 
-pub returns-then-alone-clause-goes : goal.returns-then-alone-clause-goes
-returns-then-alone-clause-goes c =
+pub returns-then-is_alone-clause-goes : goal.returns-then-is_alone-clause-goes
+returns-then-is_alone-clause-goes c =
     let me = c.args.me.now in
     let now = c.args.now in
     let e = c.args.epoch in
@@ -37,7 +37,7 @@ returns-then-alone-clause-goes c =
     let sends : List Sent = asked me q pn e w in
     let drafted = c.in_ok-draft.ensures.draft in
     let role : c.in_ok-draft.draft.state ≡ collector me q pn w = ap (λ (d : Draft). d.state) drafted in
-    let alone : is_empty (members me q) ≡ true = sym c.in_ok-alone.ensures ∙ c.if-alone.true in
+    let alone : is_empty (members me q) ≡ true = sym c.is_alone.ensures ∙ c.if-is_alone.true in
     hands_on me now (IsAsking e w) (record { tx = []; out = c.args.out; state = start_leader }) (collect me now q c.args.above) (IsCollecting e w) c.in_ok-draft.draft (settle me now)
     (Numbers pn ∷ []) (subst (λ (n : ℕ). n ≤ 2 ^ 62) (sym is) short, tt) sends
     (ap (λ (d : Draft). d.tx) drafted) (ap (λ (d : Draft). d.out) drafted)
@@ -57,7 +57,7 @@ returns-clause-goes c =
     let short : made me c.args.above w ≤ 2 ^ 62 = c.in-Some.ensures.fits.0 refl in
     let drafted = c.in_ok-draft.ensures.draft in
     let role : c.in_ok-draft.draft.state ≡ collector me q pn w = ap (λ (d : Draft). d.state) drafted in
-    let others : is_empty (members me q) ≡ false = sym c.in_ok-alone.ensures ∙ c.if-alone.false in
+    let others : is_empty (members me q) ≡ false = sym c.is_alone.ensures ∙ c.if-is_alone.false in
     let p : Plan Leader = c.in_ok-await_answers.field-0 in
     let waits = c.in_ok-await_answers.ensures in
     goes me now (IsAsking e w) (record { tx = []; out = c.args.out; state = start_leader }) (collect me now q c.args.above)

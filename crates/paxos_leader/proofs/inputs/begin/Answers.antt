@@ -46,7 +46,7 @@ returns-then-alone-clause-plans c =
     let o = c.args.origin.now in
     let r = c.begin_answered.result in
     let own : c.own_last.result ≡ w.last = c.own_last.ensures in
-    let alone : is_empty (members me l.quorum) ≡ true = ap (λ (k : Leader). is_empty (members me k.quorum)) (sym c.in_ok-state.ensures) ∙ sym c.in_ok-alone.ensures ∙ c.if-alone.true in
+    let alone : is_empty (members me l.quorum) ≡ true = sym c.leads_alone-alone.ensures ∙ c.if-alone.true in
     instead me now leads (IsLed w l) (λ x. x) (begin_alone me v value (Some o)) (λ x. begin me now stage.Updating value (Some o) x) r
     (λ x b. begins-alone me now (epoch_of w) w.last l x (led-here w l x b) b.role stage.Updating value (Some o) v (omega (arith, own, c.in-Some.ensures.value)) (omega (arith, c.in-Some.ensures.value, c.in-Some.ensures.valid.0 refl)) alone)
     (subst (λ (k : Leader). Plans me now leads (IsLed w k) (λ x. x) (begin_alone me v value (Some o)) r) c.in_ok-state.ensures
@@ -65,7 +65,7 @@ returns-clause-plans c =
     let r = c.begin_with.result in
     let own : c.own_last.result ≡ w.last = c.own_last.ensures in
     let is_epoch : epoch_of w ≡ e = sym c.own_epoch-epoch.ensures in
-    let among : is_empty (members me l.quorum) ≡ false = ap (λ (k : Leader). is_empty (members me k.quorum)) (sym c.in_ok-state.ensures) ∙ sym c.in_ok-alone.ensures ∙ c.if-alone.false in
+    let among : is_empty (members me l.quorum) ≡ false = sym c.leads_alone-alone.ensures ∙ c.if-alone.false in
     let drafted : c.new-draft.result ≡ record { tx = []; out = []; state = l } = c.new-draft.ensures ∙ ap (λ (k : Leader). record { tx = []; out = []; state = k }) c.in_ok-state.ensures in
     from_start me now (IsHere e w.last) (record { tx = []; out = []; state = l }) (λ y. Ok (begin_with me now stage.Updating v value (Some o) y)) r refl
     (subst (λ (d : Draft). GoesOn me now (IsHere e w.last) d (λ y. Ok (begin_with me now stage.Updating v value (Some o) y)) r) drafted
