@@ -1,6 +1,3 @@
-ghost use Rattle.mon_msg.specs.Protocol.Readings.{readings_of};
-ghost use Rattle.svc_core.specs.Cache.{Follows};
-
 use election_rules::Rule;
 use mon_bytes::OutOfMemory;
 use mon_core::{Core, CoreStop, Input};
@@ -24,17 +21,10 @@ fn told_by(alloc: Global, told: Told) -> Result<Transaction, OutOfMemory> {
     Ok(tx)
 }
 
-/// A monitor that is alone in its map, before it starts over this store.
-fn alone(alloc: Global, member: Member, kv: &Kv) -> Core
-    ensures { Follows result.cache (readings_of kv.now) }
-{
-    Core::boot(alloc, member, Rule::Classic)
-}
-
-/// Which number runs out where such a monitor starts over this store.
+/// Which number runs out where a monitor that is alone in its map starts over this store.
 fn spent_over(alloc: Global, kv: &Kv) -> Result<Option<Which>, Fail> {
     let member = Member::new(Rank::known(0), 1).ok_or("a member")?;
-    let mut core = alone(alloc, member, kv);
+    let mut core = Core::boot(alloc, member, Rule::Classic);
     let reaction = core.react(alloc, kv, &Input::Start, Moment::known(1000));
     drop(core);
     match reaction {
