@@ -79,6 +79,7 @@ fn pending(alloc: Global, pn: u64) -> Result<Option<Told>, Fail> {
 }
 
 fn last(alloc: Global, pn: u64, last: u64, told: u64) -> Result<Body, Fail> {
+    let pending = pending(alloc, told)?;
     Ok(Body::Last {
         pn: number(pn),
         first: number(last.min(1)),
@@ -86,7 +87,7 @@ fn last(alloc: Global, pn: u64, last: u64, told: u64) -> Result<Body, Fail> {
         whole: true,
         from: number(last.saturating_add(1)),
         values: Items::new(alloc),
-        pending: pending(alloc, told)?,
+        pending,
     })
 }
 
@@ -108,10 +109,17 @@ fn entry(alloc: Global, v: u64) -> Result<Entry, Fail> {
     })
 }
 
-fn chunk(alloc: Global) -> Result<Body, Fail> {
+/// The entries of the keys `kv/5` and `kv/7`.
+fn entries(alloc: Global) -> Result<Items<Entry>, Fail> {
     let mut entries = Items::new(alloc);
-    entries.push(entry(alloc, 5)?)?;
-    entries.push(entry(alloc, 7)?)?;
+    for v in [5, 7] {
+        entries.push(entry(alloc, v)?)?;
+    }
+    Ok(entries)
+}
+
+fn chunk(alloc: Global) -> Result<Body, Fail> {
+    let entries = entries(alloc)?;
     Ok(Body::Chunk {
         cookie: COOKIE,
         place: Place {
@@ -124,39 +132,53 @@ fn chunk(alloc: Global) -> Result<Body, Fail> {
     })
 }
 
+fn erases(alloc: Global) -> Result<Transaction, Fail> {
+    let mut tx = Transaction::new(alloc);
+    tx.erase(Area::Kv, Key::Version(5))?;
+    Ok(tx)
+}
+
+fn puts(alloc: Global) -> Result<Transaction, Fail> {
+    let mut tx = Transaction::new(alloc);
+    tx.put_number(Area::Kv, Key::Version(10), 14)?;
+    Ok(tx)
+}
+
 fn meanwhile(alloc: Global) -> Result<Items<Transaction>, Fail> {
-    let mut erases = Transaction::new(alloc);
-    erases.erase(Area::Kv, Key::Version(5))?;
-    let mut puts = Transaction::new(alloc);
-    puts.put_number(Area::Kv, Key::Version(10), 14)?;
     let mut values = Items::new(alloc);
-    values.push(erases)?;
-    values.push(puts)?;
+    values.push(erases(alloc)?)?;
+    values.push(puts(alloc)?)?;
     Ok(values)
 }
 
+/// Behind the key `kv/7`.
+fn behind_seven(alloc: Global) -> Result<KeyPlace, Fail> {
+    let prefix = Area::Kv.prefix(alloc)?;
+    let key = Key::Version(7).name(alloc)?;
+    Ok(KeyPlace::After { prefix, key })
+}
+
 fn last_chunk(alloc: Global) -> Result<Body, Fail> {
-    let key = KeyPlace::After {
-        prefix: Area::Kv.prefix(alloc)?,
-        key: Key::Version(7).name(alloc)?,
-    };
+    let values = meanwhile(alloc)?;
+    let key = behind_seven(alloc)?;
     Ok(Body::LastChunk {
         cookie: COOKIE,
         place: Place {
             version: number(12),
             key,
         },
-        values: meanwhile(alloc)?,
+        values,
         entries: Items::new(alloc),
         last: number(14),
     })
 }
 
 fn versions(alloc: Global) -> Result<Body, Fail> {
+    let values = values(alloc, 11)?;
     Ok(Body::LastChunk {
         cookie: COOKIE,
         place: behind_keys(5),
-        values: values(alloc, 11)?,
+        values,
         entries: Items::new(alloc),
         last: number(16),
     })
@@ -170,7 +192,8 @@ pub(crate) fn behind_keys(version: u64) -> Place {
     }
 }
 
-fn body(alloc: Global, comes: Comes) -> Result<Body, Fail> {
+/// What a prober or an elector says.
+fn election(alloc: Global, comes: Comes) -> Result<Body, Fail> {
     Ok(match comes {
         Comes::Probe => Body::Probe,
         Comes::ProbeReply(quorum, first, last) => Body::ProbeReply {
@@ -186,48 +209,91 @@ fn body(alloc: Global, comes: Comes) -> Result<Body, Fail> {
         Comes::Victory(quorum) => Body::Victory {
             quorum: RankSet::from_bits(quorum),
         },
-        Comes::Collect(pn, first, last) => Body::Collect {
+        _ => return Err("another message".into()),
+    })
+}
+
+fn begin(alloc: Global, pn: u64, version: u64) -> Result<Body, Fail> {
+    let value = value(alloc, 1)?;
+    Ok(Body::Begin {
+        pn: number(pn),
+        version: number(version),
+        value,
+    })
+}
+
+fn commit(alloc: Global, from: u64, count: u64) -> Result<Body, Fail> {
+    let values = values(alloc, count)?;
+    Ok(Body::Commit {
+        from: number(from),
+        values,
+    })
+}
+
+/// What a leader or a peon says.
+fn paxos(alloc: Global, comes: Comes) -> Result<Body, Fail> {
+    match comes {
+        Comes::Collect(pn, first, last) => Ok(Body::Collect {
             pn: number(pn),
             first: number(first),
             last: number(last),
-        },
-        Comes::Last(pn, at, told) => last(alloc, pn, at, told)?,
-        Comes::Begin(pn, version) => Body::Begin {
+        }),
+        Comes::Last(pn, at, told) => last(alloc, pn, at, told),
+        Comes::Begin(pn, version) => begin(alloc, pn, version),
+        Comes::Accept(pn, version) => Ok(Body::Accept {
             pn: number(pn),
             version: number(version),
-            value: value(alloc, 1)?,
-        },
-        Comes::Accept(pn, version) => Body::Accept {
-            pn: number(pn),
-            version: number(version),
-        },
-        Comes::Commit(from, count) => Body::Commit {
-            from: number(from),
-            values: values(alloc, count)?,
-        },
-        Comes::Lease(last) => Body::Lease { last: number(last) },
-        Comes::Forward(seq) => forward(alloc, seq)?,
-        Comes::Route(seq) => Body::Route {
-            seq,
-            reply: Reply::Done { version: number(1) },
-        },
-        Comes::GetCookieFull => Body::GetCookieFull,
-        Comes::GetCookieRecent(last) => Body::GetCookieRecent { last: number(last) },
-        Comes::GetChunk(version) => Body::GetChunk {
+        }),
+        Comes::Commit(from, count) => commit(alloc, from, count),
+        Comes::Lease(last) => Ok(Body::Lease { last: number(last) }),
+        _ => Err("another message".into()),
+    }
+}
+
+/// What a requester or a provider says.
+fn copying(alloc: Global, comes: Comes) -> Result<Body, Fail> {
+    match comes {
+        Comes::GetCookieFull => Ok(Body::GetCookieFull),
+        Comes::GetCookieRecent(last) => Ok(Body::GetCookieRecent { last: number(last) }),
+        Comes::GetChunk(version) => Ok(Body::GetChunk {
             cookie: COOKIE,
             place: behind_keys(version),
-        },
-        Comes::Cookie(full, last) => Body::Cookie {
+        }),
+        Comes::Cookie(full, last) => Ok(Body::Cookie {
             full,
             cookie: COOKIE,
             last: number(last),
-        },
-        Comes::Chunk => chunk(alloc)?,
-        Comes::LastChunk => last_chunk(alloc)?,
-        Comes::Versions => versions(alloc)?,
-        Comes::NoCookie => Body::NoCookie { cookie: COOKIE },
-        Comes::Rings(_) | Comes::Logs(_) => return Err("a message".into()),
-    })
+        }),
+        Comes::Chunk => chunk(alloc),
+        Comes::LastChunk => last_chunk(alloc),
+        Comes::Versions => versions(alloc),
+        Comes::NoCookie => Ok(Body::NoCookie { cookie: COOKIE }),
+        _ => Err("another message".into()),
+    }
+}
+
+fn body(alloc: Global, comes: Comes) -> Result<Body, Fail> {
+    match comes {
+        Comes::Probe
+        | Comes::ProbeReply(..)
+        | Comes::Propose
+        | Comes::ProposeWith(_)
+        | Comes::Ack
+        | Comes::Victory(_) => election(alloc, comes),
+        Comes::Collect(..)
+        | Comes::Last(..)
+        | Comes::Begin(..)
+        | Comes::Accept(..)
+        | Comes::Commit(..)
+        | Comes::Lease(_) => paxos(alloc, comes),
+        Comes::Forward(seq) => forward(alloc, seq),
+        Comes::Route(seq) => Ok(Body::Route {
+            seq,
+            reply: Reply::Done { version: number(1) },
+        }),
+        Comes::Rings(_) | Comes::Logs(_) => Err("a message".into()),
+        _ => copying(alloc, comes),
+    }
 }
 
 /// What comes to a monitor, of another one where it is a message.
@@ -245,11 +311,14 @@ pub(crate) fn input(
             let session = Session { client: 5, id: 6 };
             Ok(Input::Client(session, Request::Log { text }))
         }
-        _ => Ok(Input::Deliver(Message {
-            from: Rank::known(from.min(14)),
-            monitors: me.member.monitors,
-            epoch,
-            body: body(alloc, comes)?,
-        })),
+        _ => {
+            let body = body(alloc, comes)?;
+            Ok(Input::Deliver(Message {
+                from: Rank::known(from.min(14)),
+                monitors: me.member.monitors,
+                epoch,
+                body,
+            }))
+        }
     }
 }

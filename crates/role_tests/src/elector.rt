@@ -186,14 +186,9 @@ fn called(rt: &impl Abort, alloc: Global, epoch: u64, wanted: &str) -> Result<Si
 
 #[test]
 fn an_election_is_called_in_an_odd_epoch(rt: HostRuntime) -> Result<(), Fail> {
-    for (epoch, wanted) in [
-        (1, "send 1 0>1 PROPOSE e=1;send 1 0>2 PROPOSE e=1;candidate"),
-        (
-            2,
-            "store 1;send 1 0>1 PROPOSE e=3;send 1 0>2 PROPOSE e=3;candidate",
-        ),
-    ] {
-        drop(called(&rt, rt.alloc(), epoch, wanted)?);
-    }
+    let odd = "send 1 0>1 PROPOSE e=1;send 1 0>2 PROPOSE e=1;candidate";
+    drop(called(&rt, rt.alloc(), 1, odd)?);
+    let even = "store 1;send 1 0>1 PROPOSE e=3;send 1 0>2 PROPOSE e=3;candidate";
+    drop(called(&rt, rt.alloc(), 2, even)?);
     Ok(())
 }

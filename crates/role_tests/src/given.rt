@@ -47,18 +47,19 @@ fn may_be_sent(message: &Message) -> bool
         return false;
     }
     match &message.body {
-        Body::Collect { .. } => true,
-        Body::Last { values, .. } => values.len() <= 65_535,
-        Body::Begin { .. } => true,
-        Body::Accept { .. } => true,
-        Body::Commit { values, .. } => values.len() <= 65_535,
-        Body::Lease { .. } => true,
-        Body::Forward { .. } => true,
-        Body::Route {
+        Body::Collect { .. }
+        | Body::Begin { .. }
+        | Body::Accept { .. }
+        | Body::Lease { .. }
+        | Body::Forward { .. }
+        | Body::Route {
             reply: Reply::Done { .. },
             ..
-        } => true,
-        Body::Cookie { .. } => true,
+        }
+        | Body::Cookie { .. }
+        | Body::NoCookie { .. } => true,
+        Body::Last { values, .. } => values.len() <= 65_535,
+        Body::Commit { values, .. } => values.len() <= 65_535,
         Body::Chunk {
             values,
             entries,
@@ -69,7 +70,6 @@ fn may_be_sent(message: &Message) -> bool
             entries,
             ..
         } => values.len() <= 65_535 && entries.len() <= 65_535,
-        Body::NoCookie { .. } => true,
         _ => false,
     }
 }
@@ -86,14 +86,27 @@ pub(crate) fn may_come(me: &Me, input: &Input) -> bool
     }
 }
 
-/// A store that holds these numbers.
-pub(crate) fn store(alloc: Global, numbers: &[(Area, Key, u64)]) -> Result<Kv, Fail> {
+/// What puts these numbers.
+fn puts(alloc: Global, numbers: &[(Area, Key, u64)]) -> Result<Transaction, Fail> {
     let mut tx = Transaction::new(alloc);
     for (area, key, n) in numbers {
         tx.put_number(*area, *key, *n)?;
     }
+    Ok(tx)
+}
+
+/// Makes the changes of a transaction.
+pub(crate) fn keep(kv: &mut Kv, tx: Transaction) -> Result<(), Fail> {
+    let kept = kv.apply(&tx);
+    drop(tx);
+    Ok(kept?)
+}
+
+/// A store that holds these numbers.
+pub(crate) fn store(alloc: Global, numbers: &[(Area, Key, u64)]) -> Result<Kv, Fail> {
+    let tx = puts(alloc, numbers)?;
     let mut kv = Kv::empty(alloc);
-    kv.apply(&tx)?;
+    keep(&mut kv, tx)?;
     Ok(kv)
 }
 
@@ -112,13 +125,24 @@ pub(crate) fn values(alloc: Global, count: u64) -> Result<Items<Transaction>, Fa
     Ok(values)
 }
 
-/// Puts the records of the versions from `first` to `last`, each of which puts its own version.
-pub(crate) fn put_records(alloc: Global, kv: &mut Kv, first: u64, last: u64) -> Result<(), Fail> {
+/// The bytes of the value that puts this number.
+pub(crate) fn record(alloc: Global, n: u64) -> Result<Vec<u8>, Fail> {
+    let value = value(alloc, n)?;
+    let record = value.encode();
+    drop(value);
+    Ok(record?)
+}
+
+fn records(alloc: Global, first: u64, last: u64) -> Result<Transaction, Fail> {
     let mut tx = Transaction::new(alloc);
     for v in first..last.saturating_add(1) {
-        let record = Bytes::new(value(alloc, v)?.encode()?);
+        let record = Bytes::new(record(alloc, v)?);
         tx.put(Area::Paxos, Key::Version(v), record)?;
     }
-    kv.apply(&tx)?;
-    Ok(())
+    Ok(tx)
+}
+
+/// Puts the records of the versions from `first` to `last`, each of which puts its own version.
+pub(crate) fn put_records(alloc: Global, kv: &mut Kv, first: u64, last: u64) -> Result<(), Fail> {
+    keep(kv, records(alloc, first, last)?)
 }

@@ -3,7 +3,7 @@ ghost use Rattle.mon_msg.specs.Protocol.Records.{may_begin};
 ghost use Rattle.paxos_leader.specs.Inputs.{is_input, may_begin_any, may_begin_found, may_begin_all};
 
 use crate::comes::Comes;
-use crate::given::{may_come, me, number, store, value, view};
+use crate::given::{may_come, me, number, record, store, value, view};
 use crate::site::{Role, Site, all_are, begun, done};
 use election_rules::Rule;
 use mon_kv::Kv;
@@ -137,7 +137,14 @@ fn command(
     drop(value);
     match planned {
         Some(Ok(plan)) => done(rt, alloc, site, plan, wanted),
-        _ => Err("a plan".into()),
+        Some(Err(stop)) => {
+            drop(site);
+            Err(stop.into())
+        }
+        None => {
+            drop(site);
+            Err("a plan".into())
+        }
     }
 }
 
@@ -167,7 +174,7 @@ fn a_greater_number_is_outbid(rt: HostRuntime) -> Result<(), Fail> {
     let site = all_are(&rt, alloc, site, &rows)?;
     let numbers = (site.kv.last_pn(), site.kv.promise());
     drop(site);
-    assert_eq!(rt; numbers, (400, 400));
+    assert!(rt; numbers == (400, 400));
     Ok(())
 }
 
@@ -211,27 +218,30 @@ fn committed(alloc: Global) -> Result<Kv, Fail> {
 
 /// Whether the record of version 5 is the value of this number.
 fn is_stored(alloc: Global, kv: &Kv, n: u64) -> Result<bool, Fail> {
-    let bytes = value(alloc, n)?.encode()?;
-    Ok(kv.stored(5) == Some(bytes.as_slice()))
+    Ok(kv.stored(5) == Some(record(alloc, n)?.as_slice()))
+}
+
+const COLLECTS: &str =
+    "store 2;send 1 2>0 VICTORY e=2 quorum=0,1,2;send 1 2>1 VICTORY e=2 quorum=0,1,2;\
+    send 1 2>0 COLLECT e=2 pn=302 first=1 last=4;send 1 2>1 COLLECT e=2 pn=302 first=1 last=4;collecting";
+
+/// Whether the value of number 200 is begun where these are told as pending.
+fn newest_is_begun(rt: &impl Abort, alloc: Global, first: u64, second: u64) -> Result<bool, Fail> {
+    let begins = "store 3;send 1 2>0 BEGIN e=2 pn=302 v=5;send 1 2>1 BEGIN e=2 pn=302 v=5;previous";
+    let rows = [
+        (0, Comes::Last(302, 4, first), "collecting"),
+        (1, Comes::Last(302, 4, second), begins),
+    ];
+    let site = won(rt, alloc, Rank::known(2), committed(alloc)?, COLLECTS)?;
+    let site = all_are(rt, alloc, site, &rows)?;
+    let newest = is_stored(alloc, &site.kv, 200);
+    drop(site);
+    newest
 }
 
 #[test]
 fn the_newest_pending_value_is_begun(rt: HostRuntime) -> Result<(), Fail> {
-    let alloc = rt.alloc();
-    let collects =
-        "store 2;send 1 2>0 VICTORY e=2 quorum=0,1,2;send 1 2>1 VICTORY e=2 quorum=0,1,2;\
-        send 1 2>0 COLLECT e=2 pn=302 first=1 last=4;send 1 2>1 COLLECT e=2 pn=302 first=1 last=4;collecting";
-    let begins = "store 3;send 1 2>0 BEGIN e=2 pn=302 v=5;send 1 2>1 BEGIN e=2 pn=302 v=5;previous";
-    for (first, second) in [(101, 200), (200, 101)] {
-        let rows = [
-            (0, Comes::Last(302, 4, first), "collecting"),
-            (1, Comes::Last(302, 4, second), begins),
-        ];
-        let site = won(&rt, alloc, Rank::known(2), committed(alloc)?, collects)?;
-        let site = all_are(&rt, alloc, site, &rows)?;
-        let newest = is_stored(alloc, &site.kv, 200);
-        drop(site);
-        assert!(rt; newest?);
-    }
+    assert!(rt; newest_is_begun(&rt, rt.alloc(), 101, 200)?);
+    assert!(rt; newest_is_begun(&rt, rt.alloc(), 200, 101)?);
     Ok(())
 }

@@ -2,7 +2,7 @@ ghost use Rattle.std.specs.Prelude.{IsTrue};
 ghost use Rattle.paxos_peon.specs.Rows.{is_input};
 
 use crate::comes::Comes;
-use crate::given::{may_come, me, number, put_records, store, view};
+use crate::given::{keep, may_come, me, number, put_records, store, view};
 use crate::site::{Role, Site, all_are};
 use election_rules::Rule;
 use mon_bytes::Bytes;
@@ -14,6 +14,7 @@ use mon_tx::{Area, Key, Transaction};
 use mon_types::{GREATEST, Moment, Rank, RankSet};
 use paxos_peon::*;
 use std::alloc::Global;
+use std::process::Abort;
 use std::test::Fail;
 
 /// Whether it is an input of a peon.
@@ -165,9 +166,8 @@ fn spoils(alloc: Global) -> Result<Transaction, Fail> {
 
 /// The same with two records that aren't transactions.
 fn with_spoiled_records(alloc: Global) -> Result<Kv, Fail> {
-    let tx = spoils(alloc)?;
     let mut kv = with_records(alloc)?;
-    kv.apply(&tx)?;
+    keep(&mut kv, spoils(alloc)?)?;
     Ok(kv)
 }
 
@@ -190,19 +190,19 @@ fn what_is_no_transaction_is_left_out(rt: HostRuntime) -> Result<(), Fail> {
     Ok(())
 }
 
+/// A value of that monitor does nothing in a phase and an epoch.
+fn unheard(rt: &impl Abort, alloc: Global, phase: Phase, from: u8, epoch: u64) -> Result<(), Fail> {
+    let site = following(promised(alloc)?, phase, epoch);
+    let rows = [(from, Comes::Begin(100, 1), "old lease")];
+    drop(all_are(rt, alloc, site, &rows)?);
+    Ok(())
+}
+
 #[test]
 fn only_the_leader_is_heard(rt: HostRuntime) -> Result<(), Fail> {
-    let alloc = rt.alloc();
-    for (phase, from, epoch) in [
-        (Phase::Electing, 0, 2),
-        (Phase::Peon, 2, 2),
-        (Phase::Peon, 0, 4),
-    ] {
-        let site = following(promised(alloc)?, phase, epoch);
-        let rows = [(from, Comes::Begin(100, 1), "old lease")];
-        drop(all_are(&rt, alloc, site, &rows)?);
-    }
-    Ok(())
+    unheard(&rt, rt.alloc(), Phase::Electing, 0, 2)?;
+    unheard(&rt, rt.alloc(), Phase::Peon, 2, 2)?;
+    unheard(&rt, rt.alloc(), Phase::Peon, 0, 4)
 }
 
 #[test]

@@ -143,7 +143,7 @@ fn a_copy_that_was_stopped_begins_again(rt: HostRuntime) -> Result<(), Fail> {
         (0, Comes::ProbeReply(0, 6, 9), "full;alone"),
     ];
     drop(all_are(&rt, alloc, site, &rows)?);
-    assert_eq!(rt; there, [true, true, true, false]);
+    assert!(rt; there == [true, true, true, false]);
     Ok(())
 }
 
@@ -179,7 +179,7 @@ fn what_changed_before_a_chunk_is_caught_up(rt: HostRuntime) -> Result<(), Fail>
     let stopped = stored_by(half(&rt, alloc, accepted(alloc)?)?);
     let site = half(&rt, alloc, stopped)?;
     let found = ended(&rt, alloc, site)?;
-    assert_eq!(rt; found, ([false, false, false, true], 7, 302, 14));
+    assert!(rt; found == ([false, false, false, true], 7, 302, 14));
     Ok(())
 }
 
@@ -281,6 +281,6 @@ fn few_versions_are_replayed_at_once(rt: HostRuntime) -> Result<(), Fail> {
     let kv = stored_by(all_are(&rt, alloc, replaying(copied(alloc)?), &rows)?);
     let found = (keys(&kv), kv.last_committed());
     drop(kv);
-    assert_eq!(rt; found, ([false, false, false, false], 130));
+    assert!(rt; found == ([false, false, false, false], 130));
     Ok(())
 }

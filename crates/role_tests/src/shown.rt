@@ -1,6 +1,6 @@
 //! Plans in the words of a trace.
 
-use mon_bytes::Items;
+use mon_bytes::{Items, OutOfMemory};
 use mon_kv::Kv;
 use mon_msg::Next;
 use mon_msg::plan::Sent;
@@ -8,26 +8,37 @@ use mon_tx::Transaction;
 use mon_types::{Moment, Rank};
 use schedule_text::{Event, Plain};
 use std::alloc::Global;
+use std::fmt::Write;
 use std::test::Fail;
 use trace_text::{Numbered, Outcome, Replied, Replies, StepLine, trace_line};
 
-/// So many changes, with what the monitor of this rank sends and answers. Each message has the number 1.
+/// Puts what the monitor of this rank sends or answers. Each message has the number 1.
+fn put(
+    own: Rank,
+    sent: &mut Items<Numbered>,
+    replies: &mut Replies,
+    each: Sent,
+) -> Result<(), OutOfMemory> {
+    match each {
+        Sent::Message { to, message } => sent.push(Numbered {
+            number: 1,
+            to,
+            message,
+        }),
+        Sent::Reply { to, reply } => replies.push(Replied {
+            rank: own,
+            session: to,
+            reply,
+        }),
+    }
+}
+
+/// So many changes, with what the monitor of this rank sends and answers.
 fn step_of(alloc: Global, own: Rank, ops: u32, out: Items<Sent>) -> Result<StepLine, Fail> {
     let mut sent = Items::new(alloc);
     let mut replies = Replies::new(alloc);
     for each in out.into_vec() {
-        match each {
-            Sent::Message { to, message } => sent.push(Numbered {
-                number: 1,
-                to,
-                message,
-            })?,
-            Sent::Reply { to, reply } => replies.push(Replied {
-                rank: own,
-                session: to,
-                reply,
-            })?,
-        }
+        put(own, &mut sent, &mut replies, each)?;
     }
     Ok(StepLine {
         outcome: Outcome::Ran,
@@ -72,21 +83,19 @@ fn act(next: Next) -> &'static str {
 
 /// The lines behind the first one, with a semicolon behind each, and these words.
 fn joined(alloc: Global, lines: &[u8], act: &str, remembers: &str) -> Result<String, Fail> {
-    let lines = str::from_utf8(lines).map_err(|_| "a text")?;
+    let lines = str::from_utf8(lines)?;
     let mut text = String::new(alloc);
     for line in lines.lines().skip(1) {
-        text.push_str(line.trim_start())?;
-        text.push_str(";")?;
+        write!(text, "{};", line.trim_start())?;
     }
-    text.push_str(act)?;
-    text.push_str(remembers)?;
+    write!(text, "{act}{remembers}")?;
     Ok(text)
 }
 
 /// The changes are made to a store; how many they are.
 fn made(kv: &mut Kv, tx: &Transaction) -> Result<u32, Fail> {
     kv.apply(tx)?;
-    Ok(u32::try_from(tx.ops().len()).map_err(|_| "few changes")?)
+    Ok(u32::try_from(tx.ops().len())?)
 }
 
 /// What a plan of the monitor of this rank does to its store, as a trace tells it, the act that follows, and what is remembered
