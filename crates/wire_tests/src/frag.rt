@@ -10,7 +10,7 @@ const CLIENT: Peer = Peer::Client(3);
 /// A message with two pieces.
 fn message(alloc: Global) -> Result<Vec<u8>, Fail> {
     let mut message = filled(alloc, 7, 59_000)?;
-    message.extend_from_slice(&filled(alloc, 9, 1_001)?)?;
+    message.resize(60_001, 9)?;
     Ok(message)
 }
 
@@ -44,63 +44,85 @@ fn altered(
 ) -> Result<Vec<u8>, Fail> {
     let (front, rest) = bytes.split_at_checked(at).ok_or("out of the bytes")?;
     let (_, back) = rest.split_at_checked(2).ok_or("out of the bytes")?;
-    let mut altered = Vec::from_slice(alloc, front)?;
-    altered.extend_from_slice(two)?;
-    altered.extend_from_slice(back)?;
+    let mut altered = [front, two, back].concat(alloc)?;
     altered.truncate(length);
     Ok(altered)
 }
 
-/// How long the message is that is whole with these bytes, and whether it is this one. Or else nothing, and whether that is.
-fn whole(assembly: &mut Assembly, bytes: &[u8], message: &[u8]) -> Result<(usize, bool), Fail> {
+/// Whether this message is whole with these bytes. One that is another is refused.
+fn whole(assembly: &mut Assembly, bytes: &[u8], message: &[u8]) -> Result<bool, Fail> {
     match assembly.take(CLIENT, bytes)? {
         Some(made) => {
             let alike = made.as_slice() == message;
-            let length = made.as_slice().len();
             drop(made);
-            Ok((length, alike))
+            if alike {
+                Ok(true)
+            } else {
+                Err("another message".into())
+            }
         }
-        None => Ok((0, false)),
+        None => Ok(false),
     }
 }
 
-/// How long the messages are that are whole with the last piece twice, with the first one, and with the first one twice more, and
-/// which are this one.
-fn put_together(
+/// How long this piece of the message is, and whether the message is whole with it.
+fn whole_with(
+    alloc: Global,
     assembly: &mut Assembly,
-    first: &[u8],
-    last: &[u8],
+    message: &[u8],
+    k: usize,
+) -> Result<(usize, bool), Fail> {
+    let piece = piece(alloc, message, 5, k, 2)?;
+    let whole = whole(assembly, &piece, message);
+    let length = piece.len();
+    drop(piece);
+    Ok((length, whole?))
+}
+
+/// The same of the last piece twice, of the first one, and of the first one twice more.
+fn put_together(
+    alloc: Global,
+    assembly: &mut Assembly,
     message: &[u8],
 ) -> Result<[(usize, bool); 5], Fail> {
     Ok([
-        whole(assembly, last, message)?,
-        whole(assembly, last, message)?,
-        whole(assembly, first, message)?,
-        whole(assembly, first, message)?,
-        whole(assembly, first, message)?,
+        whole_with(alloc, assembly, message, 1)?,
+        whole_with(alloc, assembly, message, 1)?,
+        whole_with(alloc, assembly, message, 0)?,
+        whole_with(alloc, assembly, message, 0)?,
+        whole_with(alloc, assembly, message, 0)?,
     ])
+}
+
+fn message_put_together(alloc: Global) -> Result<[(usize, bool); 5], Fail> {
+    let message = message(alloc)?;
+    let mut assembly = Assembly::new(alloc);
+    let found = put_together(alloc, &mut assembly, &message);
+    drop(assembly);
+    drop(message);
+    found
 }
 
 #[test]
 fn pieces_make_the_message_whole(rt: HostRuntime) -> Result<(), Fail> {
-    let alloc = rt.alloc();
-    let message = message(alloc)?;
-    let first = piece(alloc, &message, 5, 0, 2)?;
-    let last = piece(alloc, &message, 5, 1, 2)?;
-    assert_eq!(rt; (first.len(), last.len()), (59_028, 1_029));
-    let mut assembly = Assembly::new(alloc);
-    let found = put_together(&mut assembly, &first, &last, &message);
-    drop(assembly);
-    let none = (0, false);
-    assert_eq!(rt; found?, [none, none, (60_001, true), none, none]);
+    let (first, last) = (59_028, 1_029);
+    let found = message_put_together(rt.alloc())?;
+    assert!(rt; found[..2] == [(last, false), (last, false)]);
+    assert!(rt; found[2..] == [(first, true), (first, false), (first, false)]);
     Ok(())
+}
+
+/// How long the one piece of a message of so many bytes is.
+fn only_piece(alloc: Global, length: usize) -> Result<usize, Fail> {
+    let message = filled(alloc, 7, length)?;
+    let piece = piece(alloc, &message, 5, 0, 1);
+    drop(message);
+    Ok(piece?.len())
 }
 
 #[test]
 fn a_message_of_60_000_bytes_is_one_datagram(rt: HostRuntime) -> Result<(), Fail> {
-    let alloc = rt.alloc();
-    let whole = filled(alloc, 7, 60_000)?;
-    assert_eq!(rt; piece(alloc, &whole, 5, 0, 1)?.len(), 60_000);
+    assert_eq!(rt; only_piece(rt.alloc(), 60_000)?, 60_000);
     Ok(())
 }
 
@@ -129,32 +151,62 @@ const FAULTS: [(usize, [u8; 2], usize, FragRefused); 10] = [
     (28, [8, 9], 1_029, FragRefused::Clash),
 ];
 
-/// How many of them are refused so, of a piece that was taken before.
-fn refused_so(alloc: Global, assembly: &mut Assembly, piece: &[u8]) -> Result<usize, Fail> {
-    let mut count = 0usize;
-    for (at, two, length, wanted) in FAULTS {
-        let wrong = altered(alloc, piece, at, &two, length)?;
-        if refused(assembly, &wrong) != Some(wanted) {
-            return Ok(count);
+/// Whether a piece that was taken before is refused for this, once it is altered so.
+fn is_refused_so(
+    alloc: Global,
+    assembly: &mut Assembly,
+    piece: &[u8],
+    fault: &(usize, [u8; 2], usize, FragRefused),
+) -> Result<bool, Fail> {
+    let (at, two, length, wanted) = fault;
+    let wrong = altered(alloc, piece, *at, two, *length)?;
+    let found = refused(assembly, &wrong);
+    drop(wrong);
+    Ok(found == Some(*wanted))
+}
+
+/// Whether it is refused for each of them.
+fn are_refused_so(alloc: Global, assembly: &mut Assembly, piece: &[u8]) -> Result<bool, Fail> {
+    for fault in &FAULTS {
+        if !is_refused_so(alloc, assembly, piece, fault)? {
+            return Ok(false);
         }
-        count = count.saturating_add(1);
     }
-    Ok(count)
+    Ok(true)
+}
+
+/// Whether a datagram of one byte too many is refused.
+fn is_too_long(alloc: Global, assembly: &mut Assembly) -> Result<bool, Fail> {
+    let long = filled(alloc, 1, 60_001)?;
+    let found = refused(assembly, &long);
+    drop(long);
+    Ok(found == Some(FragRefused::TooLong))
+}
+
+/// Whether that is refused, and a piece with each fault, once the piece was taken.
+fn faults_are_refused(alloc: Global, assembly: &mut Assembly, piece: &[u8]) -> Result<bool, Fail> {
+    let taken = refused(assembly, piece).is_none();
+    Ok(taken && is_too_long(alloc, assembly)? && are_refused_so(alloc, assembly, piece)?)
+}
+
+fn last_piece(alloc: Global) -> Result<Vec<u8>, Fail> {
+    let message = message(alloc)?;
+    let piece = piece(alloc, &message, 5, 1, 2);
+    drop(message);
+    piece
+}
+
+fn faults_of_last_are_refused(alloc: Global) -> Result<bool, Fail> {
+    let piece = last_piece(alloc)?;
+    let mut assembly = Assembly::new(alloc);
+    let found = faults_are_refused(alloc, &mut assembly, &piece);
+    drop(assembly);
+    drop(piece);
+    found
 }
 
 #[test]
 fn faults_have_their_places(rt: HostRuntime) -> Result<(), Fail> {
-    let alloc = rt.alloc();
-    let piece = piece(alloc, &message(alloc)?, 5, 1, 2)?;
-    let long = filled(alloc, 1, 60_001)?;
-    let mut assembly = Assembly::new(alloc);
-    let first = (
-        refused(&mut assembly, &piece),
-        refused(&mut assembly, &long),
-    );
-    let count = refused_so(alloc, &mut assembly, &piece);
-    drop(assembly);
-    assert_eq!(rt; first, (None, Some(FragRefused::TooLong)));
-    assert_eq!(rt; count?, 10);
+    assert!(rt; faults_of_last_are_refused(rt.alloc())?);
     Ok(())
 }

@@ -48,8 +48,8 @@ impl Net for Bare {
 fn a_link_without_a_network_fails(rt: HostRuntime) -> Result<(), Fail> {
     let alloc = rt.alloc();
     let mut link = UdpLink::client(&Bare, Vec::new(alloc));
-    assert_eq!(rt; shown(link.next(1)), Err(Stop::Failed));
-    assert_eq!(rt; link.send(Peer::Client(0), b"a"), Err(Stop::Failed));
+    assert!(rt; shown(link.next(1)) == Err(Stop::Failed));
+    assert!(rt; link.send(Peer::Client(0), b"a") == Err(Stop::Failed));
     drop(link);
     Ok(())
 }
@@ -68,16 +68,13 @@ fn a_client_is_answered(rt: HostRuntime) -> Result<(), Fail> {
     let addresses = [free_address(&rt)?];
     let (of_link, of_client) = (addresses.to_vec(alloc)?, addresses.to_vec(alloc)?);
     let mut link = UdpLink::named(&rt, Rank::known(0), of_link);
-    assert_eq!(rt; shown(link.next(1)), Ok(None));
+    assert!(rt; shown(link.next(1)) == Ok(None));
     let monitor = Peer::Monitor(Rank::known(0));
     let mut client = UdpLink::client(&rt, of_client);
-    assert_eq!(rt; client.send(monitor, b"ask"), Ok(()));
-    assert_eq!(rt;
-        shown(link.next(5_000)),
-        Ok(Some((Peer::Client(0), b'a', 3)))
-    );
-    assert_eq!(rt; link.send(Peer::Client(0), b"here"), Ok(()));
-    assert_eq!(rt; shown(client.next(5_000)), Ok(Some((monitor, b'h', 4))));
+    assert!(rt; client.send(monitor, b"ask") == Ok(()));
+    assert!(rt; shown(link.next(5_000)) == Ok(Some((Peer::Client(0), b'a', 3))));
+    assert!(rt; link.send(Peer::Client(0), b"here") == Ok(()));
+    assert!(rt; shown(client.next(5_000)) == Ok(Some((monitor, b'h', 4))));
     drop(client);
     drop(link);
     Ok(())
@@ -102,9 +99,9 @@ fn a_monitor_is_known_by_its_address(rt: HostRuntime) -> Result<(), Fail> {
     let addresses = [free_address(&rt)?, free_address(&rt)?];
     let (of_first, of_second) = (addresses.to_vec(alloc)?, addresses.to_vec(alloc)?);
     let mut first = UdpLink::named(&rt, Rank::known(0), of_first);
-    assert_eq!(rt; shown(first.next(1)), Ok(None));
+    assert!(rt; shown(first.next(1)) == Ok(None));
     let mut second = UdpLink::named(&rt, Rank::known(1), of_second);
-    assert_eq!(rt; second.send(Peer::Monitor(Rank::known(0)), PROBE), Ok(()));
+    assert!(rt; second.send(Peer::Monitor(Rank::known(0)), PROBE) == Ok(()));
     assert!(rt; is_probe_of(first.next(5_000), Rank::known(1)));
     drop(second);
     drop(first);

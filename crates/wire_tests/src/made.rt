@@ -45,26 +45,36 @@ fn printed(alloc: Global, number: u64, events: u32) -> Result<Vec<u8>, Fail> {
     Ok(printed?)
 }
 
+/// Whether a number has the schedule that begins with the opening, and goes on with this.
+fn is_made(alloc: Global, number: u64, events: u32, later: &str) -> Result<bool, Fail> {
+    let printed = printed(alloc, number, events)?;
+    let text = printed.as_slice();
+    let alike = text.starts_with(OPENING.as_bytes())
+        && text.get(OPENING.len()..) == Some(later.as_bytes());
+    drop(printed);
+    Ok(alike)
+}
+
 #[test]
 fn each_number_has_its_schedule(rt: HostRuntime) -> Result<(), Fail> {
-    let alloc = rt.alloc();
-    for (number, events, later) in LATER {
-        let text = format!(in alloc; "{OPENING}{later}")?;
-        assert_eq!(rt;
-            printed(alloc, number, events)?.as_slice(),
-            text.as_bytes(),
-            "{number}"
-        );
+    for (number, events, later) in &LATER {
+        assert!(rt; is_made(rt.alloc(), *number, *events, *later)?, "{number}");
     }
     Ok(())
 }
 
+/// Whether the opening begins with this schedule, and how many events are read of it, and whether it is printed so again.
+fn read_again(alloc: Global, number: u64, events: u32) -> Result<(bool, usize, bool), Fail> {
+    let text = printed(alloc, number, events)?;
+    let opens = OPENING.as_bytes().starts_with(&text);
+    let again = read(alloc, &text);
+    drop(text);
+    let (count, _, alike) = again?;
+    Ok((opens, count, alike))
+}
+
 #[test]
 fn a_short_one_is_read_as_it_is_printed(rt: HostRuntime) -> Result<(), Fail> {
-    let text = printed(rt.alloc(), 1, 10)?;
-    assert!(rt; OPENING.as_bytes().starts_with(&text));
-    let (count, _, again) = read(rt.alloc(), &text)?;
-    assert_eq!(rt; count, 10);
-    assert_eq!(rt; again.as_slice(), text.as_slice());
+    assert!(rt; read_again(rt.alloc(), 1, 10)? == (true, 10, true));
     Ok(())
 }

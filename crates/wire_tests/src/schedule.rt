@@ -32,12 +32,13 @@ const FAULTS: &str = "\
 
 /// Whether the schedule has the fault that stands in front of it.
 fn is_refused_so(alloc: Global, row: &str) -> Result<bool, Fail> {
-    let mut words = row.splitn(3, ' ');
-    let (at, named) = (words.next(), words.next());
-    let text = words.next().ok_or("a schedule")?.replace(alloc, "|", "\n")?;
-    let (line, kind) = refused(alloc, text.as_bytes()).ok_or("a fault")?;
-    let (line, kind) = (format!(in alloc; "{line}")?, format!(in alloc; "{kind:?}")?);
-    Ok(at == Some(line.as_str()) && named == Some(kind.as_str()))
+    let text = row.splitn(3, ' ').nth(2).ok_or("a schedule")?;
+    let text = text.replace(alloc, "|", "\n")?;
+    let refused = refused(alloc, text.as_bytes());
+    drop(text);
+    let (line, kind) = refused.ok_or("a fault")?;
+    let found = format!(in alloc; "{line} {kind:?} ")?;
+    Ok(row.starts_with(found.as_str()))
 }
 
 #[test]
@@ -49,16 +50,19 @@ fn the_first_line_at_fault_is_named(rt: HostRuntime) -> Result<(), Fail> {
     Ok(())
 }
 
+/// The fault of so many bytes.
+fn refused_length(alloc: Global, length: usize) -> Result<Option<(u32, ScheduleKind)>, Fail> {
+    let text = filled(alloc, 97, length)?;
+    let refused = refused(alloc, &text);
+    drop(text);
+    Ok(refused)
+}
+
 #[test]
 fn too_many_bytes_are_refused_first(rt: HostRuntime) -> Result<(), Fail> {
     let alloc = rt.alloc();
-    for (length, wanted) in [
-        (16777217, (0u32, ScheduleKind::TooLong)),
-        (16777216, (1, ScheduleKind::End)),
-    ] {
-        let text = filled(alloc, 97, length)?;
-        assert_eq!(rt; refused(alloc, &text), Some(wanted));
-    }
+    assert!(rt; refused_length(alloc, 16777217)? == Some((0, ScheduleKind::TooLong)));
+    assert!(rt; refused_length(alloc, 16777216)? == Some((1, ScheduleKind::End)));
     Ok(())
 }
 
@@ -74,19 +78,18 @@ crash a 1000 3 client 1 2 3 4 log \n\
 fail b 1 0 client 1 2 3 4 since kv 7\n\
 client 3 4 5 6 remove k\n";
 
-/// How many events a text's schedule has, whether it has a text, and how it is printed.
-pub(crate) fn read(alloc: Global, text: &[u8]) -> Result<(usize, bool, Vec<u8>), Fail> {
+/// How many events a text's schedule has, whether it has a text, and whether it is printed as it was read.
+pub(crate) fn read(alloc: Global, text: &[u8]) -> Result<(usize, bool, bool), Fail> {
     let schedule = parse(alloc, text)?;
     let (count, has_text) = (schedule.events.as_slice().len(), schedule.has_text());
     let printed = print(alloc, &schedule);
     drop(schedule);
-    Ok((count, has_text, printed?))
+    let alike = printed?.as_slice() == text;
+    Ok((count, has_text, alike))
 }
 
 #[test]
 fn what_is_read_is_printed_again(rt: HostRuntime) -> Result<(), Fail> {
-    let (count, has_text, printed) = read(rt.alloc(), SCHEDULE.as_bytes())?;
-    assert_eq!(rt; (count, has_text), (9, true));
-    assert_eq!(rt; printed.as_slice(), SCHEDULE.as_bytes());
+    assert!(rt; read(rt.alloc(), SCHEDULE.as_bytes())? == (9, true, true));
     Ok(())
 }

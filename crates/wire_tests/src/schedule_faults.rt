@@ -362,11 +362,18 @@ monitors 3 disallow=2,0\n\
 monitors 3 disallow=0,0\n\
 monitors 3 disallow=00";
 
-/// Whether each line has this fault as the second one of a schedule of three monitors.
+/// The fault of a schedule of three monitors with this second line.
+fn refused_second(alloc: Global, line: &str) -> Result<Option<(u32, ScheduleKind)>, AllocError> {
+    let text = format!(in alloc; "monitors 3 classic\n{line}\n")?;
+    let found = refused(alloc, text.as_bytes());
+    drop(text);
+    Ok(found)
+}
+
+/// Whether each line has this fault there.
 fn have_fault(alloc: Global, lines: &str, fault: Option<ScheduleKind>) -> Result<bool, AllocError> {
     for line in lines.split('\n') {
-        let text = format!(in alloc; "monitors 3 classic\n{line}\n")?;
-        if refused(alloc, text.as_bytes()) != fault.map(|kind| (2, kind)) {
+        if refused_second(alloc, line)? != fault.map(|kind| (2, kind)) {
             return Ok(false);
         }
     }
@@ -383,31 +390,44 @@ fn fields_at_fault_are_refused_by_kind(rt: HostRuntime) -> Result<(), Fail> {
     Ok(())
 }
 
-/// Whether a schedule of this first line alone prints it again.
-fn is_printed(alloc: Global, line: &str) -> Result<bool, Fail> {
-    let text = format!(in alloc; "{line}\n")?;
-    let schedule = parse(alloc, text.as_bytes())?;
+/// Whether a schedule of a first line alone prints it again.
+fn is_printed(alloc: Global, text: &[u8]) -> Result<bool, Fail> {
+    let schedule = parse(alloc, text)?;
     let printed = header_line(alloc, &schedule);
     drop(schedule);
-    Ok(printed?.as_slice() == text.as_bytes())
+    Ok(printed?.as_slice() == text)
+}
+
+fn line_is_printed(alloc: Global, line: &str) -> Result<bool, Fail> {
+    let text = format!(in alloc; "{line}\n")?;
+    let is_printed = is_printed(alloc, text.as_bytes());
+    drop(text);
+    is_printed
 }
 
 #[test]
 fn first_lines_are_printed_as_they_were(rt: HostRuntime) -> Result<(), Fail> {
     let alloc = rt.alloc();
     for line in FIRST_LINES.split('\n') {
-        assert!(rt; is_printed(alloc, line)?, "{line}");
+        assert!(rt; line_is_printed(alloc, line)?, "{line}");
     }
     Ok(())
+}
+
+/// The fault of a schedule of this first line alone.
+fn refused_first(alloc: Global, line: &str) -> Result<Option<(u32, ScheduleKind)>, AllocError> {
+    let text = format!(in alloc; "{line}\n")?;
+    let found = refused(alloc, text.as_bytes());
+    drop(text);
+    Ok(found)
 }
 
 #[test]
 fn first_lines_at_fault_are_refused(rt: HostRuntime) -> Result<(), Fail> {
     let alloc = rt.alloc();
     for line in HEADERS.split('\n') {
-        let text = format!(in alloc; "{line}\n")?;
-        let found = refused(alloc, text.as_bytes());
-        assert_eq!(rt; found, Some((1, ScheduleKind::Header)), "{line}");
+        let found = refused_first(alloc, line)?;
+        assert!(rt; found == Some((1, ScheduleKind::Header)), "{line}");
     }
     Ok(())
 }

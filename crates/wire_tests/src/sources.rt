@@ -4,7 +4,6 @@ use std::alloc::Allocator;
 use std::fmt::Display;
 use std::io;
 use std::io::{BufRead, ErrorKind, Lines, Read};
-use std::test::Fail;
 
 /// A system whose input has no end, or whose every reading fails.
 #[derive(Clone, Copy)]
@@ -73,26 +72,28 @@ impl Print for Narrow {
     }
 }
 
-#[test]
-fn an_output_takes_all_or_fails(rt: HostRuntime) -> Result<(), Fail> {
-    for (width, whole, nothing) in [
-        (1usize, Ok(()), Ok(0)),
-        (0, Err(Stop::Failed), Ok(0)),
-        (9, Err(Stop::Failed), Err(Stop::Failed)),
-    ] {
-        let mut sink = StdoutSink::new(&Narrow { width });
-        let wrote = (write_all(&mut sink, b"abc"), sink.write(b""));
-        assert_eq!(rt; wrote, (whole, nothing), "{width} bytes at once");
-    }
-    Ok(())
+/// How a writing of three bytes goes where so many are taken at once, and then one of none.
+fn wrote(width: usize) -> (Result<(), Stop>, Result<usize, Stop>) {
+    let mut sink = StdoutSink::new(&Narrow { width });
+    (write_all(&mut sink, b"abc"), sink.write(b""))
 }
 
 #[test]
-fn an_input_gives_or_fails(rt: HostRuntime) -> Result<(), Fail> {
-    for (fails, answer, left) in [(false, Ok(4), [120; 4]), (true, Err(Stop::Failed), [0; 4])] {
-        let mut room = [0; 4];
-        let read = StdinSource::new(&Given { fails }).read(&mut room);
-        assert_eq!(rt; (read, room), (answer, left));
-    }
-    Ok(())
+fn an_output_takes_all_or_fails(rt: HostRuntime) {
+    assert!(rt; wrote(1) == (Ok(()), Ok(0)));
+    assert!(rt; wrote(0) == (Err(Stop::Failed), Ok(0)));
+    assert!(rt; wrote(9) == (Err(Stop::Failed), Err(Stop::Failed)));
+}
+
+/// How a reading goes, and what is in its room then.
+fn read(fails: bool) -> (Result<usize, Stop>, [u8; 4]) {
+    let mut room = [0; 4];
+    let read = StdinSource::new(&Given { fails }).read(&mut room);
+    (read, room)
+}
+
+#[test]
+fn an_input_gives_or_fails(rt: HostRuntime) {
+    assert!(rt; read(false) == (Ok(4), [120; 4]));
+    assert!(rt; read(true) == (Err(Stop::Failed), [0; 4]));
 }

@@ -1,4 +1,4 @@
-use crate::digits::{bytes_of, number};
+use crate::digits::number;
 use mon_wire::*;
 use std::alloc::Global;
 use std::test::Fail;
@@ -136,52 +136,106 @@ fn fault(alloc: Global, bytes: &[u8]) -> Result<Option<(MsgKind, usize)>, Fail> 
     }
 }
 
+/// The same of the bytes that the digits spell.
+fn fault_of(alloc: Global, digits: &str) -> Result<Option<(MsgKind, usize)>, Fail> {
+    let bytes = hex::decode(alloc, digits)?;
+    let found = fault(alloc, &bytes);
+    drop(bytes);
+    found
+}
+
+/// Whether each front of a message is cut.
+fn fronts_are_cut(alloc: Global, message: &[u8]) -> Result<bool, Fail> {
+    for n in 0..message.len() {
+        let (kind, _) = fault(alloc, &message[..n])?.ok_or("a fault")?;
+        if kind != MsgKind::Cut {
+            return Ok(false);
+        }
+    }
+    Ok(true)
+}
+
+fn all_fronts_are_cut(alloc: Global, digits: &str) -> Result<bool, Fail> {
+    let message = hex::decode(alloc, digits)?;
+    let found = fronts_are_cut(alloc, &message);
+    drop(message);
+    found
+}
+
+/// Whether one byte more than a message is too many.
+fn is_whole(alloc: Global, digits: &str) -> Result<bool, Fail> {
+    let more = format!(in alloc; "{digits}00")?;
+    let found = fault_of(alloc, more.as_str());
+    drop(more);
+    Ok(found? == Some((MsgKind::Rest, digits.len() / 2)))
+}
+
+/// Whether a message is neither shorter nor longer.
+fn is_as_long(alloc: Global, digits: &str) -> Result<bool, Fail> {
+    Ok(all_fronts_are_cut(alloc, digits)? && is_whole(alloc, digits)?)
+}
+
+/// The digits of the message of that number from 0 on.
+fn example(message: usize) -> Result<&'static str, Fail> {
+    Ok(EXAMPLES.lines().nth(message).ok_or("a message")?)
+}
+
 #[test]
 fn a_part_is_cut_and_a_byte_more_is_too_many(rt: HostRuntime) -> Result<(), Fail> {
-    let alloc = rt.alloc();
-    assert_eq!(rt; fault(alloc, b"")?, Some((MsgKind::Cut, 0)));
-    assert_eq!(rt; fault(alloc, b"\x01")?, Some((MsgKind::Cut, 1)));
-    // the last byte of an ACCEPT's version is left out
-    let mut accept = changed(alloc, 8, 0, 1)?;
-    accept.truncate(27);
-    assert_eq!(rt; fault(alloc, &accept)?, Some((MsgKind::Cut, 20)));
     for digits in EXAMPLES.lines() {
-        let mut bytes = bytes_of(alloc, digits)?;
-        for n in 0..bytes.len() {
-            let found = fault(alloc, &bytes[..n])?.map(|f| f.0);
-            assert_eq!(rt; found, Some(MsgKind::Cut), "{n} of {digits}");
-        }
-        let whole = bytes.len();
-        bytes.push(0)?;
-        assert_eq!(rt;
-            fault(alloc, &bytes)?,
-            Some((MsgKind::Rest, whole)),
-            "{digits}"
-        );
+        assert!(rt; is_as_long(rt.alloc(), digits)?, "{digits}");
     }
     Ok(())
 }
 
-/// The message of that number from 0 on, with one byte changed.
-fn changed(alloc: Global, message: usize, place: usize, byte: u8) -> Result<Vec<u8>, Fail> {
-    let digits = EXAMPLES.lines().nth(message).ok_or("a message")?;
-    let mut bytes = bytes_of(alloc, digits)?;
-    *bytes.get_mut(place).ok_or("a place")? = byte;
-    Ok(bytes)
+#[test]
+fn the_place_of_a_cut_is_that_of_its_field(rt: HostRuntime) -> Result<(), Fail> {
+    let alloc = rt.alloc();
+    // the last byte of an ACCEPT's version is left out
+    let accept = example(8)?.get(..54).ok_or("a front")?;
+    assert!(rt; fault_of(alloc, "")? == Some((MsgKind::Cut, 0)));
+    assert!(rt; fault_of(alloc, "01")? == Some((MsgKind::Cut, 1)));
+    assert!(rt; fault_of(alloc, accept)? == Some((MsgKind::Cut, 20)));
+    Ok(())
+}
+
+/// The fault of a message with this byte at a place.
+fn fault_with(
+    alloc: Global,
+    message: &mut [u8],
+    place: usize,
+    byte: u8,
+) -> Result<Option<(MsgKind, usize)>, Fail> {
+    *message.get_mut(place).ok_or("a place")? = byte;
+    fault(alloc, message)
+}
+
+fn fault_of_changed(
+    alloc: Global,
+    digits: &str,
+    place: usize,
+    byte: u8,
+) -> Result<Option<(MsgKind, usize)>, Fail> {
+    let mut message = hex::decode(alloc, digits)?;
+    let found = fault_with(alloc, &mut message, place, byte);
+    drop(message);
+    found
+}
+
+/// Whether a row's byte makes the fault that it says.
+fn is_told(alloc: Global, row: &str) -> Result<bool, Fail> {
+    let mut words = row.splitn(4, ' ');
+    let (message, place) = (number(words.next())?, number(words.next())?);
+    let byte = u8::try_from(number(words.next())?)?;
+    let (kind, at) = fault_of_changed(alloc, example(message)?, place, byte)?.ok_or("a fault")?;
+    let found = format!(in alloc; "{kind:?} {at}")?;
+    Ok(Some(found.as_str()) == words.next())
 }
 
 #[test]
 fn the_fault_of_a_changed_byte(rt: HostRuntime) -> Result<(), Fail> {
-    let alloc = rt.alloc();
-    for line in FAULTS.lines() {
-        let mut words = line.splitn(4, ' ');
-        let message = number(words.next())? as usize;
-        let place = number(words.next())? as usize;
-        let byte = u8::try_from(number(words.next())?).map_err(|_| "a byte")?;
-        let bytes = changed(alloc, message, place, byte)?;
-        let (kind, at) = fault(alloc, &bytes)?.ok_or("a fault")?;
-        let found = format!(in alloc; "{kind:?} {at}")?;
-        assert_eq!(rt; Some(found.as_str()), words.next(), "{line}");
+    for row in FAULTS.lines() {
+        assert!(rt; is_told(rt.alloc(), row)?, "{row}");
     }
     Ok(())
 }
