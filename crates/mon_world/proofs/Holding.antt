@@ -12,16 +12,14 @@ use Rattle.mon_site.specs.Calm.{Runs}
 use Rattle.mon_site.specs.Falls.{Rests}
 use Rattle.mon_store.specs.declared.store.Store as kept
 use Rattle.mon_tx.specs.Map.{Store}
-use Rattle.mon_wire.specs.declared.request.Service.{Service}
 use Rattle.quorum_model.specs.Files.{Files, after_opening}
 use Rattle.quorum_model.specs.Growth.{last_of}
-use Rattle.svc_core.specs.Cache.{known}
+use Rattle.svc_core.specs.Cache.{Follows}
 use Rattle.mon_world.specs.declared.monitor.Kept.{Kept}
 use Rattle.mon_world.specs.declared.monitor.Kept.TheVariants.{Up}
 use Rattle.mon_world.specs.declared.monitor.Monitor.{Monitor}
 use Rattle.mon_world.specs.declared.monitor.Running.{Running}
 use Rattle.mon_world.specs.Monitor.{Holds, IsUp, Reacts, Stands, StandsAfter, Takes, remembered}
-use Rattle.mon_world.proofs.Remembering.{follows_none}
 
 -- it remembers something
 pub record IsInUse (me : Me) (m : Store) (s : Option State) (f : Files) (r : Running) : Type 0 where
@@ -61,16 +59,16 @@ same_me a b member rule = λ i. record { member = member i; rule = rule i }
 
 -- its store is open again, and it has forgotten all else
 pub started : (me : Me) (m : Store) (f : Files) (old : Monitor) → old.me ≡ me → old.last ≡ last_of m → (store : kept.Store MemoryState) (boot : Core) → Runs old.me.member m (after_opening f) store
-    → boot.me.member ≡ old.me.member → boot.me.rule ≡ old.me.rule → boot.state ≡ booting old.me.member.rank → ((s : Service) → known boot.cache s ≡ None)
+    → boot.me.member ≡ old.me.member → boot.me.rule ≡ old.me.rule → boot.state ≡ booting old.me.member.rank → Follows boot.cache (readings_of m)
     → Stands me m (Some (booting me.member.rank)) (after_opening f) (record old { kept = Up (record { store = store; core = boot }) })
-started me m f old me_is last store boot runs member rule state none = record {
+started me m f old me_is last store boot runs member rule state follows = record {
   me_is = me_is;
   last = last;
   holds = record {
     runs = subst (λ (me : Me). Runs me.member m (after_opening f) store) me_is runs;
     me_is = same_me boot.me old.me member rule ∙ me_is;
     state = state ∙ ap (λ (me : Me). booting me.member.rank) me_is;
-    follows = follows_none boot.cache (readings_of m) none;
+    follows = follows;
   };
 }
 

@@ -1,16 +1,11 @@
 -- What a monitor remembers when something comes.
-use Rattle.std.proofs.Common.{◌≡◌, ℕ, Option, Some, None, IfSome, sym, ap, subst}
-use Rattle.mon_msg.specs.Protocol.Readings.{Readings}
+use Rattle.std.proofs.Common.{◌≡◌, ℕ, Option, Some, None, sym, ap, subst}
 use Rattle.mon_msg.specs.Protocol.State.{State, booting}
 use Rattle.mon_msg.specs.declared.input.Input.{Input}
 use Rattle.mon_msg.specs.declared.input.Input.TheVariants as input
 use Rattle.mon_msg.specs.declared.view.Me.{Me}
 use Rattle.mon_wire.specs.declared.phase.Phase.TheVariants as phase
-use Rattle.mon_wire.specs.declared.request.Service.{Service}
 use Rattle.quorum_model.specs.Meets.{state_at}
-use Rattle.svc_core.specs.Cache.{Follows, IsCurrent, known}
-use Rattle.svc_core.specs.declared.cache.Cache.{Cache}
-use Rattle.svc_core.specs.declared.cache.Known.{Known}
 use Rattle.mon_world.specs.Monitor.{remembered}
 
 -- one that is down is asked nothing but to start
@@ -31,7 +26,3 @@ pub start_boots : (rank : ℕ) (x y : State) (came : Input) → came ≡ input.S
 start_boots rank x y came is e =
     let so = subst (λ (came : Input). state_at rank (Some x) came ≡ Some y) is e in
     sym (ap (λ (s : State). s.phase) (same_state (booting rank) y so))
-
--- a cache that knows nothing follows any store
-pub follows_none : (c : Cache) (w : Readings) → ((s : Service) → known c s ≡ None) → Follows c w
-follows_none c w none s = subst (λ (k : Option Known). IfSome k (IsCurrent w s)) (sym (none s)) tt

@@ -1,4 +1,5 @@
 use Rattle.std.proofs.Common.{Some, sym, subst}
+use Rattle.mon_msg.specs.Protocol.Readings.{readings_of}
 use Rattle.mon_msg.specs.Protocol.State.{booting}
 use Rattle.quorum_model.specs.Files.{after_opening}
 use Rattle.mon_world.specs.declared.monitor.Kept.{Kept}
@@ -17,4 +18,4 @@ returns c me m s f stands =
     let t = c.take-disks.ensures m s f (holds_itself me m s f self stands) in
     let boot = c.boot-core.ensures in
     subst (λ (k : Kept). Stands me m (Some (booting me.member.rank)) (after_opening f) (record self { kept = k })) (sym c.put.ensures)
-    (started me m f self stands.me_is stands.last c.in_ok-store.store c.boot-core.result (c.in_ok-store.ensures m f t.rests) boot.member boot.rule boot.state boot.known)
+    (started me m f self stands.me_is stands.last c.in_ok-store.store c.boot-core.result (c.in_ok-store.ensures m f t.rests) boot.member boot.rule boot.state (boot.follows (readings_of m)))
