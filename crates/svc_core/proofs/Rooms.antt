@@ -8,11 +8,11 @@ use Rattle.map_kv.specs.Text as kv_text
 use Rattle.map_kv.specs.declared.inc.KvInc.{KvInc}
 use Rattle.map_kv.specs.declared.inc.KvInc.TheVariants as kv_inc
 use Rattle.map_kv.proofs.Kept.{length-inserted}
-use Rattle.map_kv.proofs.Laws.{inc_is_found, map_is_found}
+use Rattle.map_kv.proofs.Laws.{inc_is_lawful, inc_is_whole, map_is_found}
 use Rattle.map_kv.proofs.Removed.{length_removed}
 use Rattle.mon_bytes.specs.Reading.{IsBytes}
 use Rattle.mon_bytes.specs.declared.command.MapRefused.{MapRefused}
-use Rattle.mon_bytes.proofs.Forms.{length-u32_bytes}
+use Rattle.mon_bytes.proofs.Forms.{is_found, length-u32_bytes}
 use Rattle.mon_tx.specs.Decision.{Cell}
 use Rattle.mon_tx.specs.declared.key.Key.TheVariants as key
 use Rattle.mon_msg.specs.Protocol.Maps.{empty_map, if_ok, short_map, next_map, spelled_map}
@@ -44,9 +44,10 @@ next_grows bytes n (map.Kv y) x fits e h = by (kv_decode.inc_of bytes) refl e
   where
     by : (r : Result KvInc MapRefused) → kv_decode.inc_of bytes ≡ r → option_and_then (short_map service.Kv) (option_map (λ inc. map.Kv (kv.with_inc y inc)) (if_ok r)) ≡ Some x → IsWithin (n + length bytes) x
     by (Ok inc) f e =
-        let found = inc_is_found bytes (Ok inc) fits f in
+        let found = is_found kv_decode.inc_format inc_is_lawful bytes (Ok inc) fits (sym (inc_is_whole bytes) ∙ f) in
+        let long : length bytes ≡ length (kv_text.inc_text inc) = ap length found.1 in
         let same = (shortened service.Kv (map.Kv (kv.with_inc y inc)) x e).0 in
-        rw (← same) (omega (arith, inc_grows y inc, ap length found.1))
+        rw (← same) (omega (arith, inc_grows y inc, long))
     by (Err r) f e = absurd cc
 next_grows bytes n (map.Log es) x fits e h = absurd h
 
