@@ -38,6 +38,13 @@ impl Lease {
         self.end = Moment::new((now.get() + LENGTH).min(GREATEST));
     }
 
+    /// From now on there is no lease.
+    pub fn cancel(&mut self)
+        ensures { self.new ≡ None }
+    {
+        self.end = None;
+    }
+
     /// Whether there is a lease and `now` is below its end.
     pub fn standing(&self, now: Moment) -> bool
         ensures { result ≡ stands self.now now }

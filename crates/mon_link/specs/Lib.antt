@@ -1,4 +1,3 @@
-pub mod Clients
 pub mod Clocks
 pub mod Links
 pub mod Memory

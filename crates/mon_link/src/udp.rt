@@ -1,8 +1,6 @@
 //! Datagrams of the system. They tell nothing of what they give or take, only whether a call failed.
 
 ghost use Rattle.std.specs.Prelude.{◌≡◌, None, Some, ◌≤◌, length, IfOk, option_map};
-ghost use Rattle.mon_types.specs.Faults.{risen};
-ghost use Rattle.mon_types.specs.declared.names.Stop.TheVariants.{Failed};
 
 use crate::clients::Clients;
 use crate::link::{Got, Link, Peer};
@@ -37,8 +35,7 @@ impl Address {
 }
 
 /// A socket for datagrams. What comes from a monitor's address comes from that monitor, and what comes from any other
-/// one from a client. Each new address is the client of the next number, and the newest 1,024 are known. It fails where
-/// it can't bind or receive, and once 2^32 clients came, at what comes from one that isn't known.
+/// one from a client: the newest 1,024 of these addresses are the clients 0 to 1,023.
 #[derive(Drop)]
 pub struct UdpLink<R: Net + Copy> {
     rt: R,
@@ -147,8 +144,8 @@ impl<R: Net + Copy> UdpLink<R> {
         }
     }
 
-    /// Who is at an address, unless that is a client and no number is left for it.
-    fn peer_at(&mut self, sender: SocketAddr) -> Result<Option<Peer>, OutOfMemory>
+    /// Who is at an address.
+    fn peer_at(&mut self, sender: SocketAddr) -> Result<Peer, OutOfMemory>
         ensures faults { self.new.faults ≡ self.old.faults }
         ensures losses { self.new.losses ≡ self.old.losses }
     {
@@ -156,24 +153,10 @@ impl<R: Net + Copy> UdpLink<R> {
             if let Some(rank) = Rank::new(r)
                 && self.monitor(rank) == Some(sender)
             {
-                return Ok(Some(Peer::Monitor(rank)));
+                return Ok(Peer::Monitor(rank));
             }
         }
-        match self.clients.number_of(sender)? {
-            Some(number) => Ok(Some(Peer::Client(number))),
-            None => Ok(None),
-        }
-    }
-
-    /// A call of `next` failed so.
-    fn fail(&mut self, said: Error) -> Stop
-        ensures faults { self.new.faults ≡ risen self.old.faults }
-        ensures losses { self.new.losses ≡ self.old.losses }
-        ensures stop { result ≡ Failed }
-    {
-        self.failure = self.failure.take().or(Some(said));
-        self.faults = raised(self.faults);
-        Stop::Failed
+        Ok(Peer::Client(self.clients.number_of(sender)?))
     }
 
     fn put(&mut self, to: Peer, bytes: &[u8]) -> io::Result<usize>
@@ -217,11 +200,8 @@ impl<R: Net + Copy> Link for UdpLink<R> {
         };
         match self.receive(wait, bytes.as_mut_slice()) {
             Ok((count, sender)) => {
-                let Ok(peer) = self.peer_at(sender) else {
+                let Ok(from) = self.peer_at(sender) else {
                     return Err(Stop::OutOfMemory);
-                };
-                let Some(from) = peer else {
-                    return Err(self.fail(ErrorKind::QuotaExceeded.into()));
                 };
                 bytes.truncate(count);
                 let bytes = Bytes::new(bytes);
@@ -231,7 +211,9 @@ impl<R: Net + Copy> Link for UdpLink<R> {
                 if is_idle(said.kind()) {
                     return Ok(Got::Idle);
                 }
-                Err(self.fail(said))
+                self.failure = self.failure.take().or(Some(said));
+                self.faults = raised(self.faults);
+                Err(Stop::Failed)
             }
         }
     }

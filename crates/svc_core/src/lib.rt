@@ -4,7 +4,7 @@
 mod cache;
 mod changed;
 mod made;
-mod mon_trim;
+pub mod mon_trim;
 mod proposal;
 mod reading;
 mod room;
