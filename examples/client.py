@@ -7,7 +7,7 @@ usage: examples/client.py [--monitor R] [--timeout SECONDS] [--once] ADDRESSES C
     remove KEY          removes a key, and prints the version that did it
     log TEXT            adds a text to the cluster log, and prints the version that did it
     show SERVICE        prints the map of a service, kv or log
-    since SERVICE V     prints what changed it behind its version V, or all of it where that isn't told any more
+    since SERVICE V     prints what changed it after its version V, or all of it where that isn't told any more
 
 ADDRESSES are those of all monitors in order of rank, as the monitors have them: 127.0.0.1:4000,127.0.0.1:4001,127.0.0.1:4002.
 One monitor is asked after the other until one answers, for 10 seconds in all unless another time is given; with --monitor R that

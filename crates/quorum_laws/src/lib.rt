@@ -1,5 +1,5 @@
-//! The laws of elections, promises and accepted values: for any monitors, up to fifteen under any rule, and every list of events,
-//! crashes among them.
+//! The laws of elections, promises, accepted values, leases and commands: for any monitors, up to fifteen under any rule, and every
+//! list of events, crashes among them.
 #![tactic(auto)]
 
 mod laws;

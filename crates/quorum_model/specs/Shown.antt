@@ -30,7 +30,7 @@ WasAskedFor w r (reply.Shown s paxos version map) = AskedFor w r (request.Show s
 WasAskedFor w r (reply.Since s from told more) = AskedFor w r (request.Since s from)
 WasAskedFor w r other = Unit {0}
 
--- a reply's monitor has versions of the log alone, and what it shows is theirs, and what it was asked for
+-- the monitor's last version isn't above the log's; what the reply shows is the log's up to it, and was asked for
 pub record IsShown (w : World) (r : Replied) : Type 0 where
   pub within : r.last ≤ length w.log
   pub shows : ShowsLog w r r.reply

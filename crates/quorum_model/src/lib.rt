@@ -1,4 +1,5 @@
-//! The laws of the quorum, over every list of events, with those of its log.
+//! All monitors of a map: what can happen to them, and what of that is safe; with the laws of what each store kept, and that the log
+//! of a safe run is one of values.
 #![tactic(auto)]
 
 mod laws;
