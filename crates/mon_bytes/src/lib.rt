@@ -1,4 +1,5 @@
-//! Byte texts with their bounds, reading and writing of little-endian bytes, and what the services are asked.
+//! Byte texts with their bounds, reading and writing of little-endian bytes, decoding by a format, and what the
+//! services are asked.
 #![tactic(auto)]
 
 mod command;
