@@ -143,7 +143,7 @@ fn put_ops(out: &mut Out, ops: &[Op]) -> Result<(), OutOfMemory>
     Ok(())
 }
 
-/// The text, which has so many bytes.
+/// The text, which has `len` bytes.
 fn text_of(alloc: Global, len: usize, ops: &[Op]) -> Result<Vec<u8>, OutOfMemory>
     requires short { length (text ops.now) ≤ most }
     requires upward { IsTrue (list_all is_upward ops.now) }
@@ -168,8 +168,10 @@ impl Transaction {
         ensures text { IfOk result (λ bytes. bytes.items ≡ text self.now) }
         ensures fits { IfOk result (λ bytes. length bytes.items ≤ most) }
         ensures form { IfOk result (λ _. HasText self.now) }
-        ensures too_long { (len : ℕ) → result ≡ Err (EncodeRefused.TooLong len) → (most < length (text self.now)) × (len ≡ min (length (text self.now)) (2 ^ 64 - 1)) }
-        ensures whole { most < length (text self.now) → result ≡ Err (EncodeRefused.TooLong (min (length (text self.now)) (2 ^ 64 - 1))) }
+        ensures too_long { (len : ℕ) → result ≡ Err (EncodeRefused.TooLong len)
+            → (most < length (text self.now)) × (len ≡ min (length (text self.now)) (2 ^ 64 - 1)) }
+        ensures whole { most < length (text self.now)
+            → result ≡ Err (EncodeRefused.TooLong (min (length (text self.now)) (2 ^ 64 - 1))) }
     {
         let len = self.text_len();
         if len > MOST_BYTES {

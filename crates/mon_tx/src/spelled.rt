@@ -17,18 +17,22 @@ use std::alloc::Global;
 /// A change as it stands in a text.
 #[derive(Clone, Copy)]
 pub enum Spelled<'a> {
+    /// Sets the value of a key.
     Put {
         prefix: &'a [u8],
         key: &'a [u8],
         value: &'a [u8],
     },
+    /// Takes a key away.
     Erase {
         prefix: &'a [u8],
         key: &'a [u8],
     },
+    /// Takes every key of the prefix away.
     ErasePrefix {
         prefix: &'a [u8],
     },
+    /// Takes the keys of the versions from `from` up to but not including `to` away.
     EraseRange {
         prefix: &'a [u8],
         from: Version,
@@ -130,6 +134,7 @@ fn erase_of(alloc: Global, prefix: &[u8], key: &[u8]) -> Result<Op, OutOfMemory>
 }
 
 impl<'a> Spelled<'a> {
+    /// Whether it takes a range of versions away.
     pub fn is_range(&self) -> bool
         ensures { result ≡ is_range (change self.now) }
     {
