@@ -8,6 +8,7 @@ ghost use Rattle.mon_tx.specs.Decode.{put_at, erase_at, erase_prefix_at, erase_r
 ghost use Rattle.mon_tx.specs.Spelled.{change};
 
 use crate::fields::{value_at, version_at, word_at};
+use crate::kinds::{ERASE, ERASE_PREFIX, ERASE_RANGE, PUT};
 use crate::op::Op;
 use crate::refusal::TxRefused;
 use mon_bytes::{Bytes, Cursor, Name, OutOfMemory, Prefix};
@@ -94,10 +95,10 @@ pub fn op_at<'a>(format: u8, cursor: &mut Cursor<'a>) -> Result<Spelled<'a>, TxR
 {
     let at = cursor.at();
     match cursor.take_u8()? {
-        1 => put_at(cursor),
-        2 => erase_at(cursor),
-        3 => erase_prefix_at(cursor),
-        4 => {
+        PUT => put_at(cursor),
+        ERASE => erase_at(cursor),
+        ERASE_PREFIX => erase_prefix_at(cursor),
+        ERASE_RANGE => {
             if format == 2 {
                 erase_range_at(cursor)
             } else {
