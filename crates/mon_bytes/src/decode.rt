@@ -6,7 +6,7 @@ use crate::command::MapRefused;
 use crate::cursor::Cursor;
 use std::alloc::Global;
 
-/// What a service keeps in bytes.
+/// A value that a service keeps in bytes: a map, or a change of one.
 pub trait Decode: Drop + Sized {
     ghost use Rattle.std.specs.Prelude.{List, Result, ℕ};
     ghost use Rattle.mon_bytes.specs.declared.command.MapRefused.{MapRefused};
@@ -23,7 +23,7 @@ pub trait Decode: Drop + Sized {
         ensures value { Reads (λ x. x) result cursor.new (format.read cursor.old) }
         // What is read is spelled so, and what is spelled so is read.
         ensures lawful { IsLawful format }
-        // All of the bytes are one value, behind which nothing is left.
+        // `spelled` reads one value, and nothing may be left behind it.
         ensures whole { (bytes : List ℕ) → spelled bytes ≡ whole format bytes };
 
     /// The value that the bytes spell, all of the bytes. `Form` names the first place of the first field at fault.

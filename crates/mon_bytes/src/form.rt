@@ -10,8 +10,8 @@ use crate::texts::Text;
 use byteorder::{ByteOrder, LittleEndian};
 use std::alloc::Global;
 
-/// Reads a length in four bytes and a text of so many bytes. A field that doesn't fit, and bytes that aren't UTF-8, are at
-/// fault at their first place. A refusal leaves the cursor anywhere.
+/// Reads a length in four bytes and a text of so many bytes. A field that doesn't fit, and bytes that aren't UTF-8, are
+/// at fault at their first place. A refusal leaves the cursor anywhere.
 #[tactic(auto, unfolding(crate::specs::Forms::text_at))]
 pub fn read_text(alloc: Global, cursor: &mut Cursor<'_>) -> Result<Text, MapRefused>
     ensures { Reads (λ text. text) result cursor.new (text_at cursor.old) }
@@ -35,8 +35,8 @@ pub fn write_count(out: &mut Out, count: u32) -> Result<(), OutOfMemory>
     out.put_u32(count)
 }
 
-/// Appends a text with its length in four bytes. It is for texts of fewer than 2 ^ 32 bytes. A refusal leaves the bytes as
-/// they were.
+/// Appends a text with its length in four bytes. It is for texts of fewer than 2 ^ 32 bytes. A refusal leaves the bytes
+/// as they were.
 #[tactic(auto, unfolding(crate::specs::Forms::u32_bytes))]
 pub fn write_text(out: &mut Out, text: &Text) -> Result<(), OutOfMemory>
     requires { length text.now < 2 ^ 32 }

@@ -6,6 +6,8 @@ ghost use Rattle.mon_bytes.specs.Reading.{IsBytes};
 
 /// The bytes of the number that so many bytes read as are those bytes, and the number is in the range of so many bytes.
 pub fn law_little_endian()
-    ensures back { (count : ℕ) (bytes : List ℕ) → length bytes ≡ count → IsBytes bytes → little_bytes count (little_number count bytes) ≡ bytes }
-    ensures range { (count : ℕ) (bytes : List ℕ) → length bytes ≡ count → IsBytes bytes → little_number count bytes < 256 ^ count }
+    ensures back { (count : ℕ) (bytes : List ℕ) → length bytes ≡ count → IsBytes bytes
+        → little_bytes count (little_number count bytes) ≡ bytes }
+    ensures range { (count : ℕ) (bytes : List ℕ) → length bytes ≡ count → IsBytes bytes
+        → little_number count bytes < 256 ^ count }
 {}

@@ -28,7 +28,7 @@ impl Out {
         }
     }
 
-    /// No bytes yet, with room for so many.
+    /// No bytes yet, with room for `most`.
     pub fn with_capacity(alloc: Global, most: usize) -> Result<Out, OutOfMemory>
         ensures { IfOk result (λ out. out ≡ []) }
     {

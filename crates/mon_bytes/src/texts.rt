@@ -32,13 +32,6 @@ impl Bytes {
         self.bytes.as_slice()
     }
 
-    /// The bytes, taken out without memory.
-    pub fn into_bytes(self) -> Vec<u8>
-        ensures { result.items ≡ self }
-    {
-        self.bytes
-    }
-
     /// Equal bytes.
     pub fn copy(&self, alloc: Global) -> Result<Bytes, OutOfMemory>
         ensures { IfOk result (λ x. x ≡ self.now) }

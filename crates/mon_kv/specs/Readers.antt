@@ -1,14 +1,12 @@
 -- What the map of a monitor tells its readers.
-use Rattle.std.specs.Prelude.{ℕ, ◌+◌, ◌==◌, if◌then◌else◌, Bool, List, length, Option, Some, None, Result, Ok, Err}
+use Rattle.std.specs.Prelude.{ℕ, ◌+◌, ◌==◌, if◌then◌else◌, Bool, List, length, Option, Some, None}
 use Rattle.std.specs.FinMap.{entries}
 use Rattle.std.specs.List.{filter, sum_by}
 use Rattle.std.specs.Option.{option_map, unwrap_or}
 use Rattle.std.specs.Ordering.{is_lt}
 use Rattle.mon_tx.specs.declared.key.Area.TheVariants as area
 use Rattle.mon_tx.specs.declared.key.Key.TheVariants as key
-use Rattle.mon_tx.specs.declared.op.Op.{Op}
-use Rattle.mon_tx.specs.declared.refusal.TxRefused.{TxRefused}
-use Rattle.mon_tx.specs.Map.{Place, place_cmp, Store, number_in, apply}
+use Rattle.mon_tx.specs.Map.{Place, place_cmp, Store, number_in}
 use Rattle.mon_tx.specs.Keys.{cell, number}
 use Rattle.mon_tx.specs.Decode.{is_text}
 use Rattle.mon_kv.specs.declared.entry_ref.EntryRef.{EntryRef}
@@ -68,8 +66,3 @@ waiting v pn last record_there = if v == last + 1 then option_map (λ bytes. (la
 unfoldable pub pending : Store → Option Waiting
 pending m =
     waiting (number m area.Paxos key.PendingV) (number m area.Paxos key.PendingPn) (number m area.Paxos key.LastCommitted) (cell m area.Paxos (key.Version (number m area.Paxos key.LastCommitted + 1)))
-
--- what changes make of a map that were read, where they could be
-abbrev pub applied : Store → Result (List Op) TxRefused → Result Store TxRefused
-applied m (Ok ops) = Ok (apply ops m)
-applied m (Err e) = Err e

@@ -27,7 +27,7 @@ pub(crate) fn record_size(prefix: &[u8], key: &[u8], value: &[u8]) -> u64
     prefix.len() as u64 + key.len() as u64 + value.len() as u64 + 16
 }
 
-/// The same of a value that was there, and 0 where none was.
+/// What a key counted with whose value was there, and 0 where none was.
 fn freed_size(prefix: &[u8], key: &[u8], value: &Option<Bytes>) -> u64
     requires prefix { IsTrue (is_prefix prefix.now) }
     requires key { IsTrue (is_name key.now) }
@@ -115,9 +115,12 @@ pub(crate) fn put(
     requires whole { IsWhole areas.old }
     requires prefix { IsTrue (is_prefix prefix.now) }
     requires key { IsTrue (is_name key.now) }
-    ensures freed { IfOk result (λ freed. areas_size (entries areas.new) + freed ≡ areas_size (entries areas.old) + record_size prefix.now key.now value) }
-    ensures ok { OnOk result (Changes areas.old areas.new prefix.now (put bytes_cmp key.now value (under (find bytes_cmp prefix.now (entries areas.old))))) }
-    ensures err { OnErr result (Changes areas.old areas.new prefix.now (under (find bytes_cmp prefix.now (entries areas.old)))) }
+    ensures freed { IfOk result (λ freed. areas_size (entries areas.new) + freed
+        ≡ areas_size (entries areas.old) + record_size prefix.now key.now value) }
+    ensures ok { OnOk result (Changes areas.old areas.new prefix.now
+        (put bytes_cmp key.now value (under (find bytes_cmp prefix.now (entries areas.old))))) }
+    ensures err { OnErr result (Changes areas.old areas.new prefix.now
+        (under (find bytes_cmp prefix.now (entries areas.old)))) }
 {
     let Some(mut records) = take(areas, prefix) else {
         begin(areas, alloc, prefix, key, value)?;
@@ -137,7 +140,9 @@ pub(crate) fn erase(areas: &mut Areas, prefix: &[u8], key: &[u8]) -> u64
     requires prefix { IsTrue (is_prefix prefix.now) }
     requires key { IsTrue (is_name key.now) }
     ensures freed { areas_size (entries areas.new) + result ≡ areas_size (entries areas.old) }
-    ensures after { Changes areas.old areas.new prefix.now (where_key bytes_cmp (λ x. not (eq_by_cmp bytes_cmp key.now x)) (under (find bytes_cmp prefix.now (entries areas.old)))) }
+    ensures after { Changes areas.old areas.new prefix.now
+        (where_key bytes_cmp (λ x. not (eq_by_cmp bytes_cmp key.now x))
+        (under (find bytes_cmp prefix.now (entries areas.old)))) }
 {
     match take(areas, prefix) {
         Some(mut records) => {
@@ -168,7 +173,8 @@ fn erase_version(records: &mut Tree<Bytes>, prefix_len: u64, version: u64) -> u6
     requires in_order { IsInOrder records.old }
     requires fits { weight_of prefix_len (entries records.old) < 2 ^ 64 }
     ensures freed { weight_of prefix_len (entries records.new) + result ≡ weight_of prefix_len (entries records.old) }
-    ensures after { entries records.new ≡ where_key bytes_cmp (λ x. not (eq_by_cmp bytes_cmp (decimal_text version) x)) (entries records.old) }
+    ensures after { entries records.new ≡ where_key bytes_cmp
+        (λ x. not (eq_by_cmp bytes_cmp (decimal_text version) x)) (entries records.old) }
 {
     let mut digits = Buffer::new();
     let key = digits.format(version);
@@ -181,8 +187,8 @@ fn erase_version(records: &mut Tree<Bytes>, prefix_len: u64, version: u64) -> u6
     }
 }
 
-/// Takes the decimal keys from `from` up to but not including `to` away, one after the other, and tells what they counted
-/// with under a prefix of this length.
+/// Takes the decimal keys from `from` up to but not including `to` away, one after the other, and tells what they
+/// counted with under a prefix of this length.
 fn erase_each(records: &mut Tree<Bytes>, prefix_len: u64, from: u64, to: u64) -> u64
     requires in_order { IsInOrder records.old }
     requires fits { weight_of prefix_len (entries records.old) < 2 ^ 64 }
@@ -210,8 +216,8 @@ fn erase_passing(records: &mut Tree<Bytes>, prefix_len: u64, from: u64, to: u64)
     before.saturating_sub(after)
 }
 
-/// Takes the decimal keys from `from` up to but not including `to` away, and tells what they counted with under a prefix
-/// of this length. It looks each number up, or passes over all keys where they are fewer than the numbers.
+/// Takes the decimal keys from `from` up to but not including `to` away, and tells what they counted with under a
+/// prefix of this length. It looks each number up, or passes over all keys where they are fewer than the numbers.
 fn erase_versions(records: &mut Tree<Bytes>, prefix_len: u64, from: u64, to: u64) -> u64
     requires in_order { IsInOrder records.old }
     requires fits { weight_of prefix_len (entries records.old) < 2 ^ 64 }
@@ -233,7 +239,8 @@ pub(crate) fn erase_range(areas: &mut Areas, prefix: &[u8], from: u64, to: u64) 
     requires prefix { IsTrue (is_prefix prefix.now) }
     requires fits { areas_size (entries areas.old) < 2 ^ 64 }
     ensures freed { areas_size (entries areas.new) + result ≡ areas_size (entries areas.old) }
-    ensures after { Changes areas.old areas.new prefix.now (where_key bytes_cmp (λ x. not (is_within from to x)) (under (find bytes_cmp prefix.now (entries areas.old)))) }
+    ensures after { Changes areas.old areas.new prefix.now
+        (where_key bytes_cmp (λ x. not (is_within from to x)) (under (find bytes_cmp prefix.now (entries areas.old)))) }
 {
     match take(areas, prefix) {
         Some(mut records) => {

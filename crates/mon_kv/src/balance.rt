@@ -22,7 +22,7 @@ fn fork<V: Drop>(left: Tree<V>, mut node: Box<Node<V>>, right: Tree<V>) -> Tree<
     Tree::Fork(node)
 }
 
-/// The same where the left side is higher by two.
+/// The entry of `node` between two trees, of which the left one is higher by two.
 fn lean_left<V: Drop>(left: Tree<V>, node: Box<Node<V>>, right: Tree<V>) -> Tree<V>
     ensures { entries result ≡ entries left ++ (node.value.key, node.value.value) ∷ entries right }
 {
@@ -42,7 +42,7 @@ fn lean_left<V: Drop>(left: Tree<V>, node: Box<Node<V>>, right: Tree<V>) -> Tree
     fork(fork(outer, top, low), mid, fork(high, node, right))
 }
 
-/// The same where the right side is higher by two.
+/// The entry of `node` between two trees, of which the right one is higher by two.
 fn lean_right<V: Drop>(left: Tree<V>, node: Box<Node<V>>, right: Tree<V>) -> Tree<V>
     ensures { entries result ≡ entries left ++ (node.value.key, node.value.value) ∷ entries right }
 {
@@ -96,8 +96,8 @@ pub(crate) fn joined<V: Drop>(left: Tree<V>, node: Box<Node<V>>, right: Tree<V>)
     }
 }
 
-/// Sets the height of a tree's root from those of its sides, and tells whether the sides are in balance.
-fn is_level<V>(tree: &mut Tree<V>) -> bool
+/// Sets the height of a tree's root from those of its sides. It tells whether the sides are in balance.
+fn set_height<V>(tree: &mut Tree<V>) -> bool
     ensures { entries tree.new ≡ entries tree.old }
 {
     match tree {
@@ -114,12 +114,12 @@ fn is_level<V>(tree: &mut Tree<V>) -> bool
 pub(crate) fn settle<V: Drop>(tree: &mut Tree<V>)
     ensures { entries tree.new ≡ entries tree.old }
 {
-    if !is_level(tree) {
+    if !set_height(tree) {
         turn(tree);
     }
 }
 
-/// The same where the sides are out of balance.
+/// Brings two sides that are out of balance into balance.
 fn turn<V: Drop>(tree: &mut Tree<V>)
     ensures { entries tree.new ≡ entries tree.old }
 {

@@ -47,8 +47,8 @@ fn copied(alloc: Global, found: &Found<'_>) -> Result<Entry, OutOfMemory>
 impl Kv {
     ghost use Rattle.std.specs.FinMap.{entries};
 
-    /// The longest run of at most `most` shared entries after the place, in order, that are together at most `room` long
-    /// in a message. Nothing is after `Done`.
+    /// The longest run of at most `most` shared entries after the place, in order, that are together at most `room`
+    /// long in a message. Nothing is after `Done`.
     pub fn chunk_from<'a>(
         &'a self,
         after: &'a KeyPlace,
@@ -77,7 +77,9 @@ impl Kv {
         room: usize,
         most: usize,
     ) -> Result<KeyRun, OutOfMemory>
-        ensures { IfOk result (IsLongestRun (shared_of (number self.now area.Paxos named.LastCommitted) (entries_after self.now (prefix.now, key.now))) room most) }
+        ensures { IfOk result (IsLongestRun
+            (shared_of (number self.now area.Paxos named.LastCommitted) (entries_after self.now (prefix.now, key.now)))
+            room most) }
     {
         let last = self.last_committed();
         let (mut passed_prefix, mut passed_key) = (prefix, key);

@@ -10,7 +10,8 @@ ghost use Rattle.mon_tx.specs.Decode.{transaction_of, OpFits};
 ghost use Rattle.mon_tx.specs.Spelled.{change, rest_of};
 ghost use Rattle.mon_kv.specs.Tree.{first};
 ghost use Rattle.mon_kv.specs.Readers.{entry_of, found_of, entries_after};
-ghost use Rattle.mon_kv.specs.Readers.{size_of, applied};
+ghost use Rattle.mon_kv.specs.Readers.{size_of};
+ghost use Rattle.mon_kv.specs.Applied.{applied};
 
 use crate::areas::{Areas, erase, erase_prefix, erase_range, put, record_size};
 use crate::entry_ref::EntryRef;
@@ -112,8 +113,8 @@ impl Kv {
         self.size
     }
 
-    /// The first entry above the pair of prefix and key, in the order by prefix and then key. It is `None` exactly where
-    /// there is none. Two empty slices stand before every entry.
+    /// The first entry above the pair of prefix and key, in the order by prefix and then key. It is `None` exactly
+    /// where there is none. Two empty slices stand before every entry.
     pub fn next_entry(&self, prefix: &[u8], key: &[u8]) -> Option<EntryRef<'_>>
         ensures value { option_map entry_of result ≡ first (entries_after self.now (prefix.now, key.now)) }
         ensures form { IfSome result (λ e. IsTrue (is_prefix e.prefix.now) × IsTrue (is_name e.key.now)) }
@@ -129,7 +130,7 @@ impl Kv {
         }
     }
 
-    /// The same entry, where it stands in the trees.
+    /// The first entry above the pair of prefix and key, where it stands in the trees.
     pub(crate) fn next_found(&self, prefix: &[u8], key: &[u8]) -> Option<Found<'_>>
         ensures value { option_map found_of result ≡ first (entries_after self.now (prefix.now, key.now)) }
         ensures form { IfSome result (λ e. IsTrue (is_prefix e.prefix.now)) }
@@ -230,14 +231,11 @@ impl Kv {
         }
     }
 
-    /// Makes the changes that a text spells, in order, as they are read. It takes memory for what the map keeps alone. An `Err`
-    /// is what the text is refused with, or `OutOfMemory`; after it the map is spoiled and is not to be used.
+    /// Makes the changes that a text spells, in order, as they are read. It takes no memory but for what the map keeps.
+    /// An `Err` is what the text is refused with, or `OutOfMemory`; after it the map is spoiled and is not to be used.
     pub fn apply_text(&mut self, text: &[u8]) -> Result<(), TxRefused>
         ensures { Gives (λ _. self.new) result (applied self.old (transaction_of text.now)) }
     {
-        match SpelledOps::new(text) {
-            Ok(ops) => self.apply_each(ops),
-            Err(refused) => Err(refused),
-        }
+        self.apply_each(SpelledOps::new(text)?)
     }
 }

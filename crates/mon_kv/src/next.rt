@@ -31,7 +31,8 @@ fn under_prefix<'a>(prefix: &'a Name, found: Option<(&'a Name, &'a Bytes)>) -> O
 
 /// The first entry above a prefix and a key.
 pub(crate) fn next<'a>(areas: &'a Areas, prefix: &[u8], key: &[u8]) -> Option<Found<'a>>
-    ensures { IsWhole areas.now → option_map found_of result ≡ first (after (prefix.now, key.now) (places (entries areas.now))) }
+    ensures { IsWhole areas.now → option_map found_of result
+        ≡ first (after (prefix.now, key.now) (places (entries areas.now))) }
 {
     match areas {
         Tree::Leaf => None,

@@ -103,7 +103,8 @@ impl<V> Tree<V> {
 
     /// The first entry whose key is above this one.
     pub(crate) fn first_above(&self, key: &[u8]) -> Option<(&Name, &V)>
-        ensures { IsInOrder self.now → option_map (λ e. (e.0.now, e.1.now)) result ≡ first (above key.now (entries self.now)) }
+        ensures { IsInOrder self.now → option_map (λ e. (e.0.now, e.1.now)) result
+            ≡ first (above key.now (entries self.now)) }
     {
         match self {
             Tree::Leaf => None,
@@ -143,7 +144,8 @@ impl<V: Drop> Tree<V> {
     ) -> Result<Option<V>, OutOfMemory>
         requires { IsTrue (is_name key.now) }
         ensures old { IfOk result (λ old. IsInOrder self.old → old ≡ find bytes_cmp key.now (entries self.old)) }
-        ensures ok { IfOk result (λ _. IsInOrder self.old → entries self.new ≡ put bytes_cmp key.now value (entries self.old)) }
+        ensures ok { IfOk result (λ _. IsInOrder self.old
+            → entries self.new ≡ put bytes_cmp key.now value (entries self.old)) }
         ensures err { OnErr result (entries self.new ≡ entries self.old) }
     {
         match self {
@@ -170,8 +172,11 @@ impl<V: Drop> Tree<V> {
     /// Sets the value of a key that is there, and gives the old one in its place.
     pub(crate) fn exchange(&mut self, key: &[u8], value: &mut V) -> bool
         ensures found { IsInOrder self.old → result ≡ is_some (find bytes_cmp key.now (entries self.old)) }
-        ensures entries { IsInOrder self.old → entries self.new ≡ (if result then put bytes_cmp key.now value.old (entries self.old) else entries self.old) }
-        ensures value { IsInOrder self.old → value.new ≡ unwrap_or (find bytes_cmp key.now (entries self.old)) value.old }
+        ensures entries { IsInOrder self.old
+            → entries self.new ≡ (if result then put bytes_cmp key.now value.old
+            (entries self.old) else entries self.old) }
+        ensures value { IsInOrder self.old
+            → value.new ≡ unwrap_or (find bytes_cmp key.now (entries self.old)) value.old }
     {
         match self {
             Tree::Leaf => false,
@@ -189,7 +194,8 @@ impl<V: Drop> Tree<V> {
     /// Takes the key away, and gives its value.
     pub(crate) fn remove(&mut self, key: &[u8]) -> Option<V>
         ensures value { IsInOrder self.old → result ≡ find bytes_cmp key.now (entries self.old) }
-        ensures entries { IsInOrder self.old → entries self.new ≡ where_key bytes_cmp (λ x. not (eq_by_cmp bytes_cmp key.now x)) (entries self.old) }
+        ensures entries { IsInOrder self.old
+            → entries self.new ≡ where_key bytes_cmp (λ x. not (eq_by_cmp bytes_cmp key.now x)) (entries self.old) }
     {
         match self {
             Tree::Leaf => None,

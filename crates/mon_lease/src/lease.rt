@@ -35,7 +35,7 @@ impl Lease {
     pub fn extend(&mut self, now: Moment)
         ensures { self.new ≡ extended now }
     {
-        self.end = Moment::new((now.get() + LENGTH).min(GREATEST));
+        self.end = Some(Moment::known((now.get() + LENGTH).min(GREATEST)));
     }
 
     /// From now on there is no lease.

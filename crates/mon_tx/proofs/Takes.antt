@@ -1,16 +1,16 @@
 -- What is read is spelled so.
-use Rattle.std.proofs.Common.{◌≡◌, ℕ, zero, suc, ◌+◌, ◌^◌, ◌≤◌, ◌<◌, ◌⊎◌, Bool, true, false, not, ◌&&◌, ◌||◌, cond, ltb, eqb, List, [], ◌∷◌, ◌++◌, length, take, drop, Result, Ok, Err, IsTrue, refl, sym, ap, subst, ◌∙◌, append_assoc, arith, inl, inr}
+use Rattle.std.proofs.Common.{◌≡◌, ℕ, zero, suc, ◌+◌, ◌^◌, ◌≤◌, ◌<◌, ◌⊎◌, Bool, true, false, not, ◌&&◌, ◌||◌, cond, ltb, eqb, List, [], ◌∷◌, ◌++◌, length, Result, Ok, Err, IsTrue, refl, sym, ap, subst, ◌∙◌, append_assoc, arith, inl, inr}
 use Rattle.std.specs.Prelude.{IfOk}
 use Rattle.std.specs.List.{list_any, flat_map, AllByRecursion}
-use Rattle.std.proofs.lemmas.Bool.{cases_lt, cases_eq, and_parts, eqb-true, ltb-true, ltb-false}
+use Rattle.std.proofs.lemmas.Bool.{cases_eq, and_parts, eqb-true, ltb-true, ltb-false}
 use Rattle.std.proofs.lemmas.Bool.Decides.{nat_tests}
-use Rattle.std.proofs.lemmas.List.{take-append-drop, length-take, get_or-drop, get_or-take, get_or_past, append-nil, nil_from_length}
-use Rattle.byteorder.specs.Endian.{little_bytes, little_number}
+use Rattle.std.proofs.lemmas.List.{append-nil, nil_from_length}
+use Rattle.byteorder.specs.Endian.{little_bytes}
 use Rattle.mon_bytes.specs.declared.cursor.Short.{Short}
-use Rattle.mon_bytes.specs.Reading.{IsBytes, Reading, moved, number, front}
+use Rattle.mon_bytes.specs.Reading.{IsBytes, Reading, number, front}
 use Rattle.mon_bytes.specs.Texts.{is_word}
+use Rattle.mon_bytes.proofs.Fields.{guard_ok, chosen_ok, ok_is, Takes, Takes-then, front_takes, byte_takes, number_takes}
 use Rattle.mon_bytes.proofs.Formats.{bind_ok, at_fault_ok}
-use Rattle.mon_bytes.proofs.LittleEndian.{little_bytes-little_number, little_number-below}
 use Rattle.mon_tx.specs.declared.op.Op.{Op}
 use Rattle.mon_tx.specs.declared.op.Op.TheVariants.{Put, Erase, ErasePrefix, EraseRange}
 use Rattle.mon_tx.specs.declared.transaction.Transaction.{Transaction}
@@ -21,71 +21,12 @@ use Rattle.mon_tx.specs.Fields.{◌>>=◌, cut, Gives, graphic_front, word_at, v
 use Rattle.mon_tx.specs.Decode.{put_at, erase_at, erase_prefix_at, erase_range_at, op_at, ops_at, ops_of, transaction_of, OpFits, HasText}
 use Rattle.mon_tx.proofs.Words.{is_word_by}
 
-IsBytes-drop : (n : ℕ) (bytes : List ℕ) → IsBytes bytes → IsBytes (drop n bytes)
-IsBytes-drop n bytes h i = rw get_or-drop (h (n + i))
-
-IsBytes-take : (n : ℕ) (bytes : List ℕ) → IsBytes bytes → IsBytes (take n bytes)
-IsBytes-take n bytes h i =
-    elim (cases_lt i n) [
-      | inl lt ↦ rw (get_or-take n bytes i 0 lt) (h i)
-      | inr le ↦ rw (get_or_past (take n bytes) i 0 (omega (arith, length-take n bytes))) (omega arith)
-    ]
-
 cut_ok : {A : Type 0} (r : Result A Short) (x : A) → cut r ≡ Ok x → r ≡ Ok x
 cut_ok r x e = at_fault_ok (λ at. refused.Cut at) r x e
-
-guard_ok : {A E : Type 0} (b : Bool) (d : E) (r : Result A E) (y : A) → cond b (Err d) r ≡ Ok y → (b ≡ false) × (r ≡ Ok y)
-guard_ok true d r y e = absurd cc
-guard_ok false d r y e = (refl, e)
-
-chosen_ok : {A E : Type 0} (b : Bool) (d : E) (r : Result A E) (y : A) → cond b r (Err d) ≡ Ok y → (b ≡ true) × (r ≡ Ok y)
-chosen_ok true d r y e = (refl, e)
-chosen_ok false d r y e = absurd cc
 
 not_false : (b : Bool) → not b ≡ false → b ≡ true
 not_false true e = refl
 not_false false e = absurd cc
-
-ok_is : {A E : Type 0} (x y : A) → ◌≡◌ {A = Result A E} (Ok x) (Ok y) → x ≡ y
-ok_is x y e = cc
-
--- what a reader took from the front
-record Takes (c : Reading) (taken : List ℕ) (after : Reading) : Type 0 where
-  parts : c.rest ≡ taken ++ after.rest
-  bytes : IsBytes after.rest
-
-Takes-then : (a b c : Reading) (x y : List ℕ) → Takes a x b → Takes b y c → Takes a (x ++ y) c
-Takes-then a b c x y p q = record { parts = p.parts ∙ ap (λ (t : List ℕ). x ++ t) q.parts ∙ sym (append_assoc x y c.rest); bytes = q.bytes }
-
-front_takes : (n : ℕ) (c : Reading) (x : List ℕ × Reading) → IsBytes c.rest → front n c ≡ Ok x → Takes c x.0 x.1 × (length x.0 ≡ n)
-front_takes n c x fits e =
-    let g = guard_ok (ltb (length c.rest) n) (record { at = c.at }) (Ok (take n c.rest, moved n c)) x e in
-    let long : n ≤ length c.rest = ltb-false _ _ g.0 in
-    subst (λ (p : List ℕ × Reading). Takes c p.0 p.1 × (length p.0 ≡ n)) (ok_is (take n c.rest, moved n c) x g.1)
-    (record { parts = sym (take-append-drop n c.rest); bytes = IsBytes-drop n c.rest fits }, omega (arith, length-take n c.rest))
-
-one_back : (bs : List ℕ) → length bs ≡ 1 → bs ≡ little_number 1 bs ∷ []
-one_back [] len = absurd (omega arith)
-one_back (b ∷ []) len = ap (λ (n : ℕ). n ∷ []) (omega arith)
-one_back (b ∷ c ∷ bs) len = absurd (omega arith)
-
-byte_takes : (c : Reading) (x : ℕ × Reading) → IsBytes c.rest → number 1 c ≡ Ok x → Takes c (x.0 ∷ []) x.1
-byte_takes c x fits e =
-    let g = guard_ok (ltb (length c.rest) 1) (record { at = c.at }) (Ok (little_number 1 (take 1 c.rest), moved 1 c)) x e in
-    let long : 1 ≤ length c.rest = ltb-false _ _ g.0 in
-    let one = one_back (take 1 c.rest) (omega (arith, length-take 1 c.rest)) in
-    subst (λ (p : ℕ × Reading). Takes c (p.0 ∷ []) p.1) (ok_is (little_number 1 (take 1 c.rest), moved 1 c) x g.1)
-    (record { parts = sym (take-append-drop 1 c.rest) ∙ ap (λ (t : List ℕ). t ++ drop 1 c.rest) one; bytes = IsBytes-drop 1 c.rest fits })
-
-number_takes : (k : ℕ) (c : Reading) (x : ℕ × Reading) → IsBytes c.rest → number k c ≡ Ok x → Takes c (little_bytes k x.0) x.1 × (x.0 < 256 ^ k)
-number_takes k c x fits e =
-    let g = guard_ok (ltb (length c.rest) k) (record { at = c.at }) (Ok (little_number k (take k c.rest), moved k c)) x e in
-    let long : k ≤ length c.rest = ltb-false _ _ g.0 in
-    let len : length (take k c.rest) ≡ k = omega (arith, length-take k c.rest) in
-    let few = IsBytes-take k c.rest fits in
-    let back = little_bytes-little_number k (take k c.rest) len few in
-    subst (λ (p : ℕ × Reading). Takes c (little_bytes k p.0) p.1 × (p.0 < 256 ^ k)) (ok_is (little_number k (take k c.rest), moved k c) x g.1)
-    (record { parts = sym (take-append-drop k c.rest) ∙ ap (λ (t : List ℕ). t ++ drop k c.rest) (sym back); bytes = IsBytes-drop k c.rest fits }, little_number-below k (take k c.rest) len few)
 
 four_takes : (c : Reading) (x : ℕ × Reading) → IsBytes c.rest → number 4 c ≡ Ok x → Takes c (little_bytes 4 x.0) x.1 × (x.0 < 2 ^ 32)
 four_takes c x fits e = number_takes 4 c x fits e
@@ -99,7 +40,7 @@ word_takes limit c x fits e =
     let high = guard_ok (ltb limit n.0) (refused.Name c.at) (cut (front n.0 n.1) >>= λ bytes. cond (ltb (graphic_front bytes.0) (length bytes.0)) (Err (refused.Name (n.1.at + graphic_front bytes.0))) (Ok bytes)) x low.1 in
     let b = bind_ok (cut (front n.0 n.1)) (λ bytes. cond (ltb (graphic_front bytes.0) (length bytes.0)) (Err (refused.Name (n.1.at + graphic_front bytes.0))) (Ok bytes)) x high.1 in
     let good = guard_ok (ltb (graphic_front b.0.0) (length b.0.0)) (refused.Name (n.1.at + graphic_front b.0.0)) (Ok b.0) x b.2 in
-    let t0 = byte_takes c n fits (cut_ok (number 1 c) n a.1) in
+    let t0 = (byte_takes c n fits (cut_ok (number 1 c) n a.1)).0 in
     let t1 = front_takes n.0 n.1 b.0 t0.bytes (cut_ok (front n.0 n.1) b.0 b.1) in
     let len = t1.1 in
     let lo : 1 ≤ n.0 = ltb-false _ _ low.0 in
@@ -199,7 +140,7 @@ unfolding op_at
 op_takes format c x fits e =
     let a = bind_ok (cut (number 1 c)) (λ kind. cond (eqb kind.0 1) (put_at kind.1) (cond (eqb kind.0 2) (erase_at kind.1) (cond (eqb kind.0 3) (erase_prefix_at kind.1) (cond (eqb kind.0 4 && eqb format 2) (erase_range_at kind.1) (Err (refused.Kind c.at)))))) x e in
     let kind = a.0 in
-    let t0 = byte_takes c kind fits (cut_ok (number 1 c) kind a.1) in
+    let t0 = (byte_takes c kind fits (cut_ok (number 1 c) kind a.1)).0 in
     elim (tested kind.0 1 (put_at kind.1) (cond (eqb kind.0 2) (erase_at kind.1) (cond (eqb kind.0 3) (erase_prefix_at kind.1) (cond (eqb kind.0 4 && eqb format 2) (erase_range_at kind.1) (Err (refused.Kind c.at))))) x a.2) [
       | inl h ↦ plain format c x (put_takes kind.1 x t0.bytes h.1 c (subst (λ (n : ℕ). Takes c (n ∷ []) kind.1) h.0 t0))
       | inr h ↦ elim (tested kind.0 2 (erase_at kind.1) (cond (eqb kind.0 3) (erase_prefix_at kind.1) (cond (eqb kind.0 4 && eqb format 2) (erase_range_at kind.1) (Err (refused.Kind c.at)))) x h) [
@@ -246,7 +187,7 @@ format_takes : (c : Reading) (x : ℕ × Reading) → IsBytes c.rest → format_
 unfolding format_at
 format_takes c x fits e =
     let a = bind_ok (cut (number 1 c)) (λ f. cond (eqb f.0 1) (Ok f) (cond (eqb f.0 2) (Ok f) (Err (refused.Kind c.at)))) x e in
-    let t = byte_takes c a.0 fits (cut_ok (number 1 c) a.0 a.1) in
+    let t = (byte_takes c a.0 fits (cut_ok (number 1 c) a.0 a.1)).0 in
     let all = λ (same : a.0 ≡ x) (which : (a.0.0 ≡ 1) ⊎ (a.0.0 ≡ 2)). subst (λ (p : ℕ × Reading). Takes c (p.0 ∷ []) p.1 × ((p.0 ≡ 1) ⊎ (p.0 ≡ 2))) same (t, which) in
     elim (tested a.0.0 1 (Ok a.0) (cond (eqb a.0.0 2) (Ok a.0) (Err (refused.Kind c.at))) x a.2) [
       | inl h ↦ all (ok_is a.0 x h.1) (inl h.0)

@@ -3,6 +3,7 @@ use Rattle.std.specs.Prelude.{ℕ, zero, suc, ◌<◌, ◌≤◌, ◌^◌, ◌&&
 use Rattle.std.specs.List.{list_any, AllByRecursion}
 use Rattle.mon_bytes.specs.Reading.{Reading, number}
 use Rattle.mon_bytes.specs.Texts.{is_name, is_prefix}
+use Rattle.mon_tx.specs.declared.kinds.TheConstants.{PUT, ERASE, ERASE_PREFIX, ERASE_RANGE}
 use Rattle.mon_tx.specs.declared.op.Op.{Op}
 use Rattle.mon_tx.specs.declared.op.Op.TheVariants.{Put, Erase, ErasePrefix, EraseRange}
 use Rattle.mon_tx.specs.declared.refusal.TxRefused.{TxRefused}
@@ -39,8 +40,8 @@ erase_range_at c = do
 unfoldable pub op_at : ℕ → Reading → Result (Op × Reading) TxRefused
 op_at format c = do
   kind ← cut (number 1 c)
-  if kind.0 == 1 then put_at kind.1 else (if kind.0 == 2 then erase_at kind.1 else (if kind.0 == 3 then erase_prefix_at kind.1 else (
-      if kind.0 == 4 && format == 2 then erase_range_at kind.1 else Err (refused.Kind c.at))))
+  if kind.0 == PUT then put_at kind.1 else (if kind.0 == ERASE then erase_at kind.1 else (if kind.0 == ERASE_PREFIX then erase_prefix_at kind.1 else (
+      if kind.0 == ERASE_RANGE && format == 2 then erase_range_at kind.1 else Err (refused.Kind c.at))))
 
 unfoldable pub ops_at : ℕ → ℕ → Reading → Result (List Op × Reading) TxRefused
 ops_at format zero c = Ok ([], c)

@@ -38,13 +38,15 @@ ranges_at format count c = do
   ops ← ops_at format count c
   Ok (list_any is_range ops.0, ops.1)
 
--- what a text's changes are from here on: so many, and nothing behind them, where a range was met before or not
+-- the changes that are left of a text of this format: so many, and nothing behind them; `ranged` tells whether a range was
+-- read before
 unfoldable pub unread : ℕ → ℕ → Bool → Reading → Result (List Op) TxRefused
 unread format left ranged c = do
   ops ← ops_at format left c
   if not (length ops.1.rest == 0) then Err (refused.Rest ops.1.at) else (
       if format == 2 && not (ranged || list_any is_range ops.0) then Err (refused.Kind 0) else Ok ops.0)
 
+-- what is still to be read
 abbrev pub rest_of : SpelledOps → Result (List Op) TxRefused
 rest_of s = unread s.format s.left s.ranged s.cursor
 

@@ -3,6 +3,7 @@ use Rattle.std.specs.Prelude.{ℕ, Bool, true, false, List, ◌∷◌, ◌++◌,
 use Rattle.std.specs.List.{flat_map, list_any}
 use Rattle.byteorder.specs.Endian.{little_bytes}
 use Rattle.mon_tx.specs.declared.encode.TheConstants.{MOST_BYTES}
+use Rattle.mon_tx.specs.declared.kinds.TheConstants.{PUT, ERASE, ERASE_PREFIX, ERASE_RANGE}
 use Rattle.mon_tx.specs.declared.op.Op.{Op}
 use Rattle.mon_tx.specs.declared.op.Op.TheVariants.{Put, Erase, ErasePrefix, EraseRange}
 
@@ -12,10 +13,10 @@ word bytes = length bytes ∷ bytes
 
 -- a kind, and the fields of that kind
 abbrev pub op_text : Op → List ℕ
-op_text (Put prefix key value) = 1 ∷ word prefix ++ word key ++ little_bytes 4 (length value) ++ value
-op_text (Erase prefix key) = 2 ∷ word prefix ++ word key
-op_text (ErasePrefix prefix) = 3 ∷ word prefix
-op_text (EraseRange prefix from to) = 4 ∷ word prefix ++ little_bytes 8 from ++ little_bytes 8 to
+op_text (Put prefix key value) = PUT ∷ word prefix ++ word key ++ little_bytes 4 (length value) ++ value
+op_text (Erase prefix key) = ERASE ∷ word prefix ++ word key
+op_text (ErasePrefix prefix) = ERASE_PREFIX ∷ word prefix
+op_text (EraseRange prefix from to) = ERASE_RANGE ∷ word prefix ++ little_bytes 8 from ++ little_bytes 8 to
 
 abbrev pub is_range : Op → Bool
 is_range (Put prefix key value) = false

@@ -33,8 +33,8 @@ impl Transaction {
         self.push(Op::Put { prefix, key, value })
     }
 
-    /// Appends a put of a number, in eight bytes, the lowest first. A number above 2^62 is put too, and whoever reads the key
-    /// takes it for 0. An `Err` leaves the transaction.
+    /// Appends a put of a number, in eight bytes, the lowest first. A number above 2^62 is put too, and whoever reads
+    /// the key takes it for 0. An `Err` leaves the transaction.
     pub fn put_number(&mut self, area: Area, key: Key, n: u64) -> Result<(), OutOfMemory>
         ensures ok { OnOk result (self.new ≡ self.old ++ put_number area key n ∷ []) }
         ensures err { OnErr result (self.new ≡ self.old) }
@@ -54,8 +54,8 @@ impl Transaction {
         self.push(Op::Erase { prefix, key })
     }
 
-    /// Appends an erasure of an area's versions from `from` up to but not including `to`, which has to be above `from` and at
-    /// most 2^62. An `Err` leaves the transaction.
+    /// Appends an erasure of an area's versions from `from` up to but not including `to`, which has to be above `from`
+    /// and at most 2^62. An `Err` leaves the transaction.
     pub fn erase_range(&mut self, area: Area, from: u64, to: u64) -> Result<(), OutOfMemory>
         requires upward { from < to }
         requires most { to ≤ 2 ^ 62 }

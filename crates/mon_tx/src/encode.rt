@@ -3,6 +3,7 @@ ghost use Rattle.std.specs.List.{flat_map, list_all, list_any, AllByRecursion};
 ghost use Rattle.mon_tx.specs.Text.{op_text, text, format, is_range, is_upward, value_len, most};
 ghost use Rattle.mon_tx.specs.Decode.{OpFits, HasText};
 
+use crate::kinds::{ERASE, ERASE_PREFIX, ERASE_RANGE, PUT};
 use crate::op::Op;
 use crate::transaction::Transaction;
 use mon_bytes::{Bytes, Name, Out, OutOfMemory, Prefix};
@@ -44,7 +45,7 @@ fn put_put(out: &mut Out, prefix: &Prefix, key: &Name, value: &Bytes) -> Result<
     ensures text { OnOk result (out.new ≡ out.old ++ op_text (Op.Put prefix.now key.now value.now)) }
     ensures fits { OnOk result (OpFits (Op.Put prefix.now key.now value.now)) }
 {
-    out.put_u8(1)?;
+    out.put_u8(PUT)?;
     out.put_word(prefix.as_slice())?;
     out.put_word(key.as_slice())?;
     out.put_u32(value.as_slice().len() as u32)?;
@@ -55,7 +56,7 @@ fn put_erase(out: &mut Out, prefix: &Prefix, key: &Name) -> Result<(), OutOfMemo
     ensures text { OnOk result (out.new ≡ out.old ++ op_text (Op.Erase prefix.now key.now)) }
     ensures fits { OnOk result (OpFits (Op.Erase prefix.now key.now)) }
 {
-    out.put_u8(2)?;
+    out.put_u8(ERASE)?;
     out.put_word(prefix.as_slice())?;
     out.put_word(key.as_slice())
 }
@@ -64,7 +65,7 @@ fn put_erase_prefix(out: &mut Out, prefix: &Prefix) -> Result<(), OutOfMemory>
     ensures text { OnOk result (out.new ≡ out.old ++ op_text (Op.ErasePrefix prefix.now)) }
     ensures fits { OnOk result (OpFits (Op.ErasePrefix prefix.now)) }
 {
-    out.put_u8(3)?;
+    out.put_u8(ERASE_PREFIX)?;
     out.put_word(prefix.as_slice())
 }
 
@@ -78,7 +79,7 @@ fn put_range(
     ensures text { OnOk result (out.new ≡ out.old ++ op_text (Op.EraseRange prefix.now from.now to.now)) }
     ensures fits { OnOk result (OpFits (Op.EraseRange prefix.now from.now to.now)) }
 {
-    out.put_u8(4)?;
+    out.put_u8(ERASE_RANGE)?;
     out.put_word(prefix.as_slice())?;
     out.put_u64(from.get())?;
     out.put_u64(to.get())
@@ -143,7 +144,7 @@ fn put_ops(out: &mut Out, ops: &[Op]) -> Result<(), OutOfMemory>
     Ok(())
 }
 
-/// The text, which has so many bytes.
+/// The text, which has `len` bytes.
 fn text_of(alloc: Global, len: usize, ops: &[Op]) -> Result<Vec<u8>, OutOfMemory>
     requires short { length (text ops.now) ≤ most }
     requires upward { IsTrue (list_all is_upward ops.now) }
@@ -168,8 +169,10 @@ impl Transaction {
         ensures text { IfOk result (λ bytes. bytes.items ≡ text self.now) }
         ensures fits { IfOk result (λ bytes. length bytes.items ≤ most) }
         ensures form { IfOk result (λ _. HasText self.now) }
-        ensures too_long { (len : ℕ) → result ≡ Err (EncodeRefused.TooLong len) → (most < length (text self.now)) × (len ≡ min (length (text self.now)) (2 ^ 64 - 1)) }
-        ensures whole { most < length (text self.now) → result ≡ Err (EncodeRefused.TooLong (min (length (text self.now)) (2 ^ 64 - 1))) }
+        ensures too_long { (len : ℕ) → result ≡ Err (EncodeRefused.TooLong len)
+            → (most < length (text self.now)) × (len ≡ min (length (text self.now)) (2 ^ 64 - 1)) }
+        ensures whole { most < length (text self.now)
+            → result ≡ Err (EncodeRefused.TooLong (min (length (text self.now)) (2 ^ 64 - 1))) }
     {
         let len = self.text_len();
         if len > MOST_BYTES {

@@ -14,7 +14,8 @@ ghost use Rattle.mon_tx.specs.Decision.{decision, or_before};
 
 /// The reader takes exactly the texts, and gives the transactions that they spell.
 pub fn law_reading()
-    ensures found { (bytes : List ℕ) (ops : List Op) → IsBytes bytes → transaction_of bytes ≡ Ok ops → HasText ops × (bytes ≡ text ops) }
+    ensures found { (bytes : List ℕ) (ops : List Op) → IsBytes bytes → transaction_of bytes ≡ Ok ops
+        → HasText ops × (bytes ≡ text ops) }
     ensures only { (ops : List Op) → HasText ops → transaction_of (text ops) ≡ Ok ops }
 {}
 
@@ -35,7 +36,11 @@ pub fn law_last_decides()
 
 /// A range goes by number: of the decimal keys it takes away those of the versions in it, and no other named key.
 pub fn law_range()
-    ensures versions { (m : Store) (prefix : List ℕ) (from to v : ℕ) → get (apply_op (EraseRange prefix from to) m) (prefix, decimal_text v) ≡ if nat_le from v && nat_lt v to then None else get m (prefix, decimal_text v) }
-    ensures named { (m : Store) (prefix : List ℕ) (from to : ℕ) (key : Key) → covers from to key ≡ false → get (apply_op (EraseRange prefix from to) m) (prefix, key_text key) ≡ get m (prefix, key_text key) }
-    ensures example { map (is_within 99 101) (codes "99" ∷ codes "100" ∷ codes "1000" ∷ codes "first_committed" ∷ []) ≡ true ∷ true ∷ false ∷ false ∷ [] }
+    ensures versions { (m : Store) (prefix : List ℕ) (from to v : ℕ)
+        → get (apply_op (EraseRange prefix from to) m) (prefix, decimal_text v)
+        ≡ if nat_le from v && nat_lt v to then None else get m (prefix, decimal_text v) }
+    ensures named { (m : Store) (prefix : List ℕ) (from to : ℕ) (key : Key) → covers from to key ≡ false
+        → get (apply_op (EraseRange prefix from to) m) (prefix, key_text key) ≡ get m (prefix, key_text key) }
+    ensures example { map (is_within 99 101) (codes "99" ∷ codes "100" ∷ codes "1000" ∷ codes "first_committed" ∷ [])
+        ≡ true ∷ true ∷ false ∷ false ∷ [] }
 {}

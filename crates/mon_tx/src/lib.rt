@@ -5,6 +5,7 @@ mod changes;
 mod encode;
 mod fields;
 mod key;
+mod kinds;
 mod law;
 mod op;
 mod reading;

@@ -8,6 +8,7 @@ ghost use Rattle.mon_tx.specs.Decode.{put_at, erase_at, erase_prefix_at, erase_r
 ghost use Rattle.mon_tx.specs.Spelled.{change};
 
 use crate::fields::{value_at, version_at, word_at};
+use crate::kinds::{ERASE, ERASE_PREFIX, ERASE_RANGE, PUT};
 use crate::op::Op;
 use crate::refusal::TxRefused;
 use mon_bytes::{Bytes, Cursor, Name, OutOfMemory, Prefix};
@@ -17,18 +18,22 @@ use std::alloc::Global;
 /// A change as it stands in a text.
 #[derive(Clone, Copy)]
 pub enum Spelled<'a> {
+    /// Sets the value of a key.
     Put {
         prefix: &'a [u8],
         key: &'a [u8],
         value: &'a [u8],
     },
+    /// Takes a key away.
     Erase {
         prefix: &'a [u8],
         key: &'a [u8],
     },
+    /// Takes every key of the prefix away.
     ErasePrefix {
         prefix: &'a [u8],
     },
+    /// Takes the keys of the versions from `from` up to but not including `to` away.
     EraseRange {
         prefix: &'a [u8],
         from: Version,
@@ -90,10 +95,10 @@ pub fn op_at<'a>(format: u8, cursor: &mut Cursor<'a>) -> Result<Spelled<'a>, TxR
 {
     let at = cursor.at();
     match cursor.take_u8()? {
-        1 => put_at(cursor),
-        2 => erase_at(cursor),
-        3 => erase_prefix_at(cursor),
-        4 => {
+        PUT => put_at(cursor),
+        ERASE => erase_at(cursor),
+        ERASE_PREFIX => erase_prefix_at(cursor),
+        ERASE_RANGE => {
             if format == 2 {
                 erase_range_at(cursor)
             } else {
@@ -130,6 +135,7 @@ fn erase_of(alloc: Global, prefix: &[u8], key: &[u8]) -> Result<Op, OutOfMemory>
 }
 
 impl<'a> Spelled<'a> {
+    /// Whether it takes a range of versions away.
     pub fn is_range(&self) -> bool
         ensures { result ≡ is_range (change self.now) }
     {

@@ -22,8 +22,8 @@ pub struct SpelledOps<'a> {
 }
 
 impl<'a> SpelledOps<'a> {
-    /// The changes of a text, of which the first field is still to be read that tells more than how many there are. An `Err` is
-    /// what the text is refused with.
+    /// The changes of a text, of which its format and their number alone are read. An `Err` is what the text is refused
+    /// with.
     #[tactic(auto, unfolding(crate::specs::Decode::transaction_of, crate::specs::Decode::ops_of, crate::specs::Spelled::unread))]
     pub fn new(text: &'a [u8]) -> Result<SpelledOps<'a>, TxRefused>
         ensures ok { IfOk result (λ ops. rest_of ops ≡ transaction_of text.now) }
@@ -59,7 +59,8 @@ impl<'a> SpelledOps<'a> {
         Ok(())
     }
 
-    /// The next change, and `None` behind the last one, where the text ends well. An `Err` is what the text is refused with.
+    /// The next change, and `None` behind the last one, where the text ends well. An `Err` is what the text is refused
+    /// with; after it the changes are not to be read on.
     pub fn next_op(&mut self) -> Result<Option<Spelled<'a>>, TxRefused>
         ensures op { GoesOn result (rest_of self.old) (rest_of self.new) }
         ensures fits { IfOk result (λ next. IfSome next (λ op. OpFits (change op))) }
@@ -72,7 +73,7 @@ impl<'a> SpelledOps<'a> {
         match op_at(self.format, &mut self.cursor) {
             Ok(op) => {
                 self.left -= 1;
-                self.ranged = self.ranged | op.is_range();
+                self.ranged |= op.is_range();
                 Ok(Some(op))
             }
             Err(refused) => Err(refused),

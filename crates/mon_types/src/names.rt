@@ -1,18 +1,26 @@
 /// A kind of number that can run out, at 2^62.
 #[derive(Clone, Copy, Debug, PartialEq, Eq)]
 pub enum Which {
+    /// A monitor's epoch of elections.
     Epoch,
+    /// A proposal number.
     Pn,
+    /// A version of the log.
     Version,
+    /// How often a monitor was started.
     Boot,
+    /// The number that a monitor gives a command that it hands on.
     Seq,
+    /// The number of a synchronisation that a monitor gives another.
     Cookie,
 }
 
 /// One of a monitor's two disks.
 #[derive(Clone, Copy, Debug, PartialEq, Eq)]
 pub enum Side {
+    /// The first disk.
     A,
+    /// The second disk.
     B,
 }
 

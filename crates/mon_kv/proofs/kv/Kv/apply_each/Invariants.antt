@@ -1,6 +1,6 @@
 use Rattle.std.proofs.Common.{◌≡◌}
 use Rattle.mon_tx.specs.Spelled.{rest_of}
-use Rattle.mon_kv.specs.Readers.{applied}
+use Rattle.mon_kv.specs.Applied.{applied}
 use Rattle.mon_kv.proofs.kv.Kv.apply_each.Given as goal
 
 abbrev pub invariant-loop-op : goal.invariant-loop-op
