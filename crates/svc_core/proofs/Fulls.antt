@@ -1,6 +1,5 @@
 -- The full maps of a range of versions, one version after the other.
-use Rattle.std.proofs.Common.{◌≡◌, ℕ, suc, ◌+◌, ◌-◌, ◌<◌, ◌≤◌, ◌%◌, Bool, true, false, cond, eqb, List, [], ◌∷◌, ◌++◌, map, append_assoc, sym, ap, ◌∙◌, arith}
-use Rattle.std.proofs.lemmas.List.{append-nil}
+use Rattle.std.proofs.Common.{◌≡◌, ℕ, suc, ◌+◌, ◌-◌, ◌<◌, ◌%◌, Bool, true, false, cond, eqb, List, [], ◌∷◌, ◌++◌, map, append_assoc, sym, ap, ◌∙◌, arith}
 use Rattle.std.specs.List.{filter, range_with_len}
 use Rattle.mon_tx.specs.declared.key.Area.{Area}
 use Rattle.mon_tx.specs.declared.key.Key.TheVariants as key
@@ -25,6 +24,3 @@ erased tx all a v to lt e h = append_assoc tx (erase a (key.Full v) ∷ []) (era
 
 pub passed : (tx all : List Op) (a : Area) (v to : ℕ) → v < to → eqb (v % full_every) 0 ≡ false → tx ++ erasures a v (to - v) ≡ all → tx ++ erasures a (v + 1) (to - (v + 1)) ≡ all
 passed tx all a v to lt e h = at_full tx all a v (to - (v + 1)) false e (ap (λ (k : ℕ). tx ++ erasures a v k) (sym (next_version v to lt)) ∙ h)
-
-pub all_erased : (tx all : List Op) (a : Area) (v to : ℕ) → to ≤ v → tx ++ erasures a v (to - v) ≡ all → tx ≡ all
-all_erased tx all a v to le h = let none : to - v ≡ 0 = omega arith in sym (append-nil tx) ∙ (rw none at h)

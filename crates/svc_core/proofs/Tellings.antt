@@ -33,9 +33,6 @@ module _ (w : Readings) (s : Service) where
     pub room_is : room + sum_by size told ≡ 524288
     pub many : length told ≤ 65535
 
-  pub tells_first : (last v : ℕ) → Tells last v v [] 524288
-  tells_first last v = record { so_far = refl; count = omega arith; room_is = omega arith; many = omega arith }
-
   next_is : (last n : ℕ) (bytes : List ℕ) → n < last → w.row s (key.Version (n + 1)) ≡ Some bytes → after last n ≡ bytes ∷ after last (n + 1)
   next_is last n bytes lt e =
       let a : last - n ≡ suc (last - (n + 1)) = omega arith in

@@ -59,11 +59,13 @@ Follows c w = (s : Service) → IfSome (known c s) (IsCurrent w s)
 abbrev pub known_once_read : Readings → Service → Option Known → Option Known
 known_once_read w s (Some k) = Some k
 known_once_read w s None =
-    if reaches_last w s && nat_le (full_latest w s) (service_last w s) then Some (record { version = service_last w s; map = read_map w s }) else None
+    if reaches_last w s && nat_le (full_latest w s) (service_last w s)
+    then Some (record { version = service_last w s; map = read_map w s }) else None
 
 -- ---- a transaction
 
--- In the course of a transaction a turn has the version and the map so far, and whether its last version was told since it rose.
+-- In the course of a transaction a turn has the version and the map so far, and whether its last version was told since
+-- it rose.
 
 -- a put is of the next version's incremental, of the first version, or of the version so far as the last one
 abbrev pub after_put : Service → List ℕ → List ℕ → Turn → Option Turn
@@ -71,7 +73,8 @@ after_put s k value t =
     if bytes_eq k (key_text (key.Version (suc t.version)))
     then option_map (λ m. record { version = suc t.version; map = m; told = false }) (next_map s t.map value) else (
     if bytes_eq k (key_text key.FirstCommitted) then Some t else (
-    if bytes_eq k (key_text key.LastCommitted) && number_in (Some value) == t.version then Some (record { version = t.version; map = t.map; told = true }) else None))
+    if bytes_eq k (key_text key.LastCommitted) && number_in (Some value) == t.version
+    then Some (record { version = t.version; map = t.map; told = true }) else None))
 
 abbrev pub of_service : Service → List ℕ → Bool
 of_service s prefix = bytes_eq prefix (area_text (area_of s))
@@ -92,7 +95,8 @@ where_told t = if t.told then Some (record { version = t.version; map = t.map })
 
 -- what is known of a service after a transaction
 abbrev pub known_after : Service → List Op → Option Known → Option Known
-known_after s ops k = option_and_then (λ k. option_and_then where_told (after_ops s ops (record { version = k.version; map = k.map; told = true }))) k
+known_after s ops k = option_and_then (λ k. option_and_then where_told
+    (after_ops s ops (record { version = k.version; map = k.map; told = true }))) k
 
 -- by how many versions a service rose that is known before and after
 abbrev pub risen : Option Known → Option Known → ℕ
@@ -106,7 +110,8 @@ Went new next false = next ≡ None
 
 -- how many incrementals were applied
 abbrev pub applied : Cache → Cache → ℕ
-applied before now = risen (known before service.Kv) (known now service.Kv) + risen (known before service.Log) (known now service.Log)
+applied before now =
+    risen (known before service.Kv) (known now service.Kv) + risen (known before service.Log) (known now service.Log)
 
 -- What a cache knows once a service was read, where it follows the store. It keeps the map that was read.
 pub record IsAnswered (old new : Cache) (w : Readings) (s : Service) : Type 0 where

@@ -38,7 +38,8 @@ pub record IsShort (d : Draft) : Type 0 where
   pub incremental : length d.incremental ≤ most_incremental
   pub text : length d.text ≤ MOST_MAP
 
--- the value that makes the next version of a service by an incremental and a map's text that are no longer than they may be
+-- the value that makes the next version of a service by an incremental and a map's text that are no longer than they
+-- may be
 pub record IsShortValue (w : Readings) (s : Service) (ops : List Op) : Type 0 where
   pub incremental : List ℕ
   pub text : List ℕ

@@ -90,7 +90,8 @@ impl Kept {
     }
 }
 
-/// What is kept of a service once it was read: it is known where its reading reaches the last version and no full map is newer.
+/// What is kept of a service once it was read: it is known where its reading reaches the last version and no full map
+/// is newer.
 fn read_kept(alloc: Global, kv: &Kv, service: Service) -> Result<Kept, OutOfMemory>
     ensures known { IfOk result (λ kept. known_in kept ≡ known_once_read (readings_of kv.now) service None) }
     ensures map { IfOk result (λ kept. map_in kept ≡ Some (read_map (readings_of kv.now) service)) }
@@ -201,7 +202,8 @@ impl Cache {
 
     /// Follows the changes of a transaction, and tells how many incrementals were applied.
     fn follow_ops(&mut self, alloc: Global, ops: &[Op]) -> Result<u64, OutOfMemory>
-        ensures known { OnOk result ((s : services.Service) → known self.new s ≡ known_after s ops.now (known self.old s)) }
+        ensures known { OnOk result ((s : services.Service) →
+            known self.new s ≡ known_after s ops.now (known self.old s)) }
         ensures applied { IfOk result (λ n. n ≡ applied self.old self.new) }
     {
         let kv = self.kv.follow(alloc, Service::Kv, ops)?;
@@ -209,12 +211,14 @@ impl Cache {
         Ok(kv + log)
     }
 
-    /// Makes a cache that follows a store into one that follows the store after a transaction, and tells how many incrementals
-    /// were applied to the maps that are still known. After `OutOfMemory` the cache is empty.
+    /// Makes a cache that follows a store into one that follows the store after a transaction, and tells how many
+    /// incrementals were applied to the maps that are still known. After `OutOfMemory` the cache is empty.
     pub fn follow(&mut self, alloc: Global, tx: &Transaction) -> Result<u32, OutOfMemory>
-        ensures known { OnOk result ((s : services.Service) → known self.new s ≡ known_after s tx.now (known self.old s)) }
+        ensures known { OnOk result ((s : services.Service) →
+            known self.new s ≡ known_after s tx.now (known self.old s)) }
         ensures applied { IfOk result (λ n. n ≡ min (applied self.old self.new) (2 ^ 32 - 1)) }
-        ensures follows { OnOk result ((m : Store) → Follows self.old (readings_of m) → Follows self.new (readings_of (apply tx.now m))) }
+        ensures follows { OnOk result ((m : Store) → Follows self.old (readings_of m) →
+            Follows self.new (readings_of (apply tx.now m))) }
         ensures empty { OnErr result ((s : services.Service) → known self.new s ≡ None) }
     {
         match self.follow_ops(alloc, tx.ops()) {
@@ -229,7 +233,8 @@ impl Cache {
     /// Keeps this of a service.
     fn keep(&mut self, service: Service, kept: Kept)
         ensures keeps { kept_of self.new service ≡ kept }
-        ensures others { (s : services.Service) → (s ≡ service → ⊥) → kept_of self.new s ≡ kept_of self.old s }
+        ensures others { (s : services.Service) → (s ≡ service → ⊥) →
+            kept_of self.new s ≡ kept_of self.old s }
     {
         let before = match service {
             Service::Kv => mem::replace(&mut self.kv, kept),
@@ -259,8 +264,9 @@ impl Cache {
         }
     }
 
-    /// What `read` answers, of a store that the cache follows. A service that wasn't known is known afterwards exactly where its
-    /// reading reaches its last version and no full map is newer than that. After `OutOfMemory` the cache is empty.
+    /// What `read` answers, of a store that the cache follows. A service that wasn't known is known afterwards exactly
+    /// where its reading reaches its last version and no full map is newer than that. After `OutOfMemory` the cache is
+    /// empty.
     pub fn get(
         &mut self,
         alloc: Global,

@@ -31,8 +31,12 @@ fn push_copy(alloc: Global, told: &mut Items<Bytes>, bytes: &[u8]) -> Result<(),
 /// The incrementals after version `v` up to the first that isn't there, as many as are told.
 fn told_after(alloc: Global, kv: &Kv, service: Service, v: u64) -> Result<Changes, OutOfMemory>
     requires { v ≤ 2 ^ 62 }
-    ensures told { IfOk result (λ c. c.told ≡ longest may_tell (kept_from (readings_of kv.now) service (service_last (readings_of kv.now) service - v) (suc v))) }
-    ensures more { IfOk result (λ c. c.more ≡ nat_lt (length c.told) (length (kept_from (readings_of kv.now) service (service_last (readings_of kv.now) service - v) (suc v)))) }
+    ensures told { IfOk result
+        (λ c. c.told ≡ longest may_tell
+        (kept_from (readings_of kv.now) service (service_last (readings_of kv.now) service - v) (suc v))) }
+    ensures more { IfOk result
+        (λ c. c.more ≡ nat_lt (length c.told)
+        (length (kept_from (readings_of kv.now) service (service_last (readings_of kv.now) service - v) (suc v)))) }
 {
     let last = last_version(kv, service);
     let mut told = Items::new(alloc);
@@ -63,8 +67,8 @@ pub fn shown(alloc: Global, kv: &Kv, service: Service) -> Result<Reply, OutOfMem
     })
 }
 
-/// What changed a service's map after version `v`: the incrementals from the next version on, as many as one reply takes, where
-/// that version is kept or would be the next one; and the whole map where it isn't kept any more.
+/// What changed a service's map after version `v`: the incrementals from the next version on, as many as one reply
+/// takes, where that version is kept or would be the next one; and the whole map where it isn't kept any more.
 #[tactic(auto, unfolding(mon_msg::specs::Protocol::Reads::since))]
 pub fn since(alloc: Global, kv: &Kv, service: Service, v: u64) -> Result<Reply, OutOfMemory>
     requires { v ≤ 2 ^ 62 }

@@ -1,4 +1,5 @@
-//! What a service keeps: the value that a command makes, the map that is read, what changed it, and a cache of the maps.
+//! What a service keeps: the value that a command makes, the map that is read, what changed it, and a cache of the
+//! maps.
 #![tactic(auto)]
 
 mod cache;

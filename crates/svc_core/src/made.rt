@@ -46,7 +46,9 @@ impl Draft {
 
 /// The incremental of a set that surely fits, and `None` where that isn't sure without the map.
 fn sure_set(alloc: Global, kv: &Kv, command: &Command) -> Result<Option<KvInc>, OutOfMemory>
-    ensures made { IfOk result (λ made. IfSome made (λ inc. kv_incremental (read_map (readings_of kv.now) Service.Kv) command.now ≡ Ok inc)) }
+    ensures made { IfOk result
+        (λ made. IfSome made (λ inc. kv_incremental (read_map (readings_of kv.now) Service.Kv) command.now ≡
+        Ok inc)) }
     ensures form { IfOk result (λ made. IfSome made kv_text.IncFits) }
 {
     let Command::Set { key, value } = command else {
@@ -56,6 +58,7 @@ fn sure_set(alloc: Global, kv: &Kv, command: &Command) -> Result<Option<KvInc>, 
     if len > MOST_VALUE {
         return Ok(None);
     }
+    // An entry has its key's length in one byte and its value's in four.
     let longer = key.as_slice().len() as u64 + len + 5;
     if !is_within(alloc, kv, MOST_MAP - longer)? {
         return Ok(None);
@@ -121,7 +124,8 @@ fn kv_draft(alloc: Global, map: KvMap, inc: KvInc) -> Result<Draft, OutOfMemory>
 /// What a command makes where a full map is due.
 fn kv_full(alloc: Global, kv: &Kv, command: &Command) -> Result<Draft, CommandRefused>
     requires { IsOfKv command.now }
-    ensures made { (asked : ℕ) → Makes result (drafted true (made (read_map (readings_of kv.now) Service.Kv) asked command.now)) }
+    ensures made { (asked : ℕ) →
+        Makes result (drafted true (made (read_map (readings_of kv.now) Service.Kv) asked command.now)) }
     ensures short { IfOk result IsShort }
 {
     let map = read_kv(alloc, kv)?;
@@ -129,9 +133,12 @@ fn kv_full(alloc: Global, kv: &Kv, command: &Command) -> Result<Draft, CommandRe
     Ok(kv_draft(alloc, map, inc)?)
 }
 
+/// What a command makes of the key-value map. The map is read where a full map is due, and where a set doesn't surely
+/// fit.
 fn kv_made(alloc: Global, kv: &Kv, command: &Command, due: bool) -> Result<Draft, CommandRefused>
     requires { IsOfKv command.now }
-    ensures made { (asked : ℕ) → Makes result (drafted due (made (read_map (readings_of kv.now) Service.Kv) asked command.now)) }
+    ensures made { (asked : ℕ) →
+        Makes result (drafted due (made (read_map (readings_of kv.now) Service.Kv) asked command.now)) }
     ensures short { IfOk result IsShort }
 {
     if due {
@@ -157,7 +164,7 @@ fn log_draft(alloc: Global, map: LogMap, inc: LogInc) -> Result<Draft, OutOfMemo
     })
 }
 
-/// The map is read only where a full map is due.
+/// What a text makes of the cluster log. The map is read only where a full map is due.
 fn log_made(
     alloc: Global,
     kv: &Kv,
@@ -165,7 +172,8 @@ fn log_made(
     asked: Rank,
     due: bool,
 ) -> Result<Draft, CommandRefused>
-    ensures made { Makes result (drafted due (made (read_map (readings_of kv.now) Service.Log) asked (command.Log text.now))) }
+    ensures made { Makes result
+        (drafted due (made (read_map (readings_of kv.now) Service.Log) asked (command.Log text.now))) }
     ensures short { IfOk result IsShort }
 {
     let inc = make_log(alloc, asked, text)?;
@@ -186,7 +194,8 @@ pub(crate) fn made(
     asked: Rank,
     due: bool,
 ) -> Result<Draft, CommandRefused>
-    ensures made { Makes result (drafted due (made (read_map (readings_of kv.now) (service_of command.now)) asked command.now)) }
+    ensures made { Makes result
+        (drafted due (made (read_map (readings_of kv.now) (service_of command.now)) asked command.now)) }
     ensures short { IfOk result IsShort }
 {
     match command {

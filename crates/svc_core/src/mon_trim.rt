@@ -29,9 +29,9 @@ pub(crate) fn push_trim(tx: &mut Transaction, first: u64, last: u64) -> Result<(
     tx.put_number(Area::Paxos, Key::FirstCommitted, to)
 }
 
-/// What trims a log that keeps the versions from `first` to `last`: nothing where 750 of them or fewer lie after the first
-/// one, and otherwise an erasure from `first` on of 500 of them, or of as many as leave 500 after the first one that is kept,
-/// and that number.
+/// What trims a log that keeps the versions from `first` to `last`: nothing where 750 of them or fewer lie after the
+/// first one, and otherwise an erasure from `first` on of 500 of them, or of as many as leave 500 after the first one
+/// that is kept, and that number.
 pub fn trim_ops(alloc: Global, first: u64, last: u64) -> Result<Vec<Op>, OutOfMemory>
     requires first { first ≤ 2 ^ 62 }
     requires last { last ≤ 2 ^ 62 }

@@ -43,7 +43,8 @@ fn push_value(
 ) -> Result<(), OutOfMemory>
     requires version { n ≤ 2 ^ 62 }
     requires empty { tx.old ≡ [] }
-    ensures { OnOk result (tx.new ≡ value_ops (readings_of kv.now).first (readings_of kv.now).last (area_of service) n (service_first (readings_of kv.now) service) made.incremental made.text) }
+    ensures { OnOk result (tx.new ≡ value_ops (readings_of kv.now).first (readings_of kv.now).last (area_of service) n
+        (service_first (readings_of kv.now) service) made.incremental made.text) }
 {
     let area = area_of(service);
     let last = kv.last_committed();
@@ -64,17 +65,19 @@ fn value_tx(
     made: Draft,
 ) -> Result<Transaction, OutOfMemory>
     requires { n ≤ 2 ^ 62 }
-    ensures { IfOk result (λ tx. tx ≡ value_ops (readings_of kv.now).first (readings_of kv.now).last (area_of service) n (service_first (readings_of kv.now) service) made.incremental made.text) }
+    ensures { IfOk result (λ tx. tx ≡ value_ops (readings_of kv.now).first (readings_of kv.now).last
+        (area_of service) n
+        (service_first (readings_of kv.now) service) made.incremental made.text) }
 {
     let mut tx = Transaction::new(alloc);
     push_value(&mut tx, kv, service, n, made)?;
     Ok(tx)
 }
 
-/// The value of a command over a store, where `asked` is the monitor that was asked. The service's last version has to be below
-/// 2^62. A command that makes no version is refused: `NoSuch` comes exactly where a key that isn't there is to be removed,
-/// `TooLong` exactly where a value has more than 65,536 bytes or a logged text more than 1,024, and `MapFull` exactly where the
-/// value isn't too long and the map with it would have more than 393,216.
+/// The value of a command over a store, where `asked` is the monitor that was asked. The service's last version has to
+/// be below 2^62. A command that makes no version is refused: `NoSuch` comes exactly where a key that isn't there is to
+/// be removed, `TooLong` exactly where a value has more than 65,536 bytes or a logged text more than 1,024, and
+/// `MapFull` exactly where the value isn't too long and the map with it would have more than 393,216.
 #[tactic(auto, unfolding(mon_msg::specs::Protocol::Value::value))]
 pub fn value(
     alloc: Global,

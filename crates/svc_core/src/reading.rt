@@ -14,10 +14,10 @@ ghost use Rattle.svc_core.specs.Kinds.{IsMapOf, Stepped};
 ghost use Rattle.svc_core.specs.Onward.{step_at, goes_on, reaches_last};
 
 use crate::row::{full, full_latest, incremental, last_version};
-use crate::step::{most_map, step};
+use crate::step::{decoded, most_map, step};
 use map_kv::KvMap;
 use map_log::LogMap;
-use mon_bytes::{Decode, MapRefused, OutOfMemory};
+use mon_bytes::OutOfMemory;
 use mon_kv::Kv;
 use mon_msg::{Service, ShownMap};
 use std::alloc::Global;
@@ -36,10 +36,9 @@ fn kv_map(alloc: Global, bytes: &[u8]) -> Result<Option<ShownMap>, OutOfMemory>
     ensures map { IfOk result (λ map. map ≡ option_map ShownMap.Kv (if_ok (kv_decode.map_of bytes.now))) }
     ensures text { IfOk result (λ map. IfSome map (λ m. bytes.now ≡ map_text m)) }
 {
-    match KvMap::decode(alloc, bytes) {
-        Ok(map) => Ok(Some(ShownMap::Kv(map))),
-        Err(MapRefused::Form { .. }) => Ok(None),
-        Err(MapRefused::OutOfMemory) => Err(OutOfMemory),
+    match decoded(alloc, bytes)? {
+        Some(map) => Ok(Some(ShownMap::Kv(map))),
+        None => Ok(None),
     }
 }
 
@@ -47,10 +46,9 @@ fn log_map(alloc: Global, bytes: &[u8]) -> Result<Option<ShownMap>, OutOfMemory>
     ensures map { IfOk result (λ map. map ≡ option_map ShownMap.Log (if_ok (log_decode.map_of bytes.now))) }
     ensures text { IfOk result (λ map. IfSome map (λ m. bytes.now ≡ map_text m)) }
 {
-    match LogMap::decode(alloc, bytes) {
-        Ok(map) => Ok(Some(ShownMap::Log(map))),
-        Err(MapRefused::Form { .. }) => Ok(None),
-        Err(MapRefused::OutOfMemory) => Err(OutOfMemory),
+    match decoded(alloc, bytes)? {
+        Some(map) => Ok(Some(ShownMap::Log(map))),
+        None => Ok(None),
     }
 }
 
@@ -76,7 +74,9 @@ fn spelled_map(
 fn full_map(alloc: Global, kv: &Kv, service: Service) -> Result<Option<ShownMap>, OutOfMemory>
     ensures map { IfOk result (λ map. map ≡ full_map (readings_of kv.now) service) }
     ensures form { IfOk result (λ map. IfSome map (IsMapOf service)) }
-    ensures not_newer { IfOk result (λ map. IfSome map (λ _. full_latest (readings_of kv.now) service ≤ service_last (readings_of kv.now) service)) }
+    ensures not_newer { IfOk result
+        (λ map. IfSome map (λ _. full_latest (readings_of kv.now) service ≤
+        service_last (readings_of kv.now) service)) }
 {
     let latest = full_latest(kv, service);
     if latest > last_version(kv, service) {
@@ -99,8 +99,14 @@ struct Base {
 fn start(alloc: Global, kv: &Kv, service: Service) -> Result<Base, OutOfMemory>
     ensures form { IfOk result (λ s. IsMapOf service s.map) }
     ensures not_newer { IfOk result (λ s. s.version ≤ service_last (readings_of kv.now) service) }
-    ensures read { IfOk result (λ s. read_map (readings_of kv.now) service ≡ read_on (readings_of kv.now) service (service_last (readings_of kv.now) service - s.version) (suc s.version) s.map) }
-    ensures reaches { IfOk result (λ s. reaches_last (readings_of kv.now) service ≡ goes_on (readings_of kv.now) service (service_last (readings_of kv.now) service - s.version) (suc s.version) s.map) }
+    ensures read { IfOk result
+        (λ s. read_map (readings_of kv.now) service ≡
+        read_on (readings_of kv.now) service (service_last (readings_of kv.now) service - s.version)
+        (suc s.version) s.map) }
+    ensures reaches { IfOk result
+        (λ s. reaches_last (readings_of kv.now) service ≡
+        goes_on (readings_of kv.now) service (service_last (readings_of kv.now) service - s.version)
+        (suc s.version) s.map) }
 {
     match full_map(alloc, kv, service)? {
         Some(map) => Ok(Base {
@@ -131,8 +137,8 @@ fn step_at(
     }
 }
 
-/// Takes the steps of so many incrementals, from version `v` on. It ends before the first that isn't there, is none or gives too
-/// long a map, and tells whether there was no such.
+/// Takes the steps of so many incrementals, from version `v` on. It ends before the first that isn't there, is none or
+/// gives too long a map, and tells whether there was no such.
 fn read_on(
     alloc: Global,
     kv: &Kv,
@@ -174,10 +180,10 @@ pub(crate) fn read_whole(alloc: Global, kv: &Kv, service: Service) -> Result<Rea
     Ok(Reading { map, reached })
 }
 
-/// The map that a store keeps of a service: the full map at `full_latest` and the incrementals after it, in order, up to the
-/// last version. The empty map with the incrementals from 1 on takes the place of a full map that isn't there, is none, is too
-/// long or is newer than the last version. It ends before the first incremental that isn't there, is none or gives too long a
-/// map.
+/// The map that a store keeps of a service: the full map at `full_latest` and the incrementals after it, in order, up
+/// to the last version. The empty map with the incrementals from 1 on takes the place of a full map that isn't there,
+/// is none, is too long or is newer than the last version. It ends before the first incremental that isn't there, is
+/// none or gives too long a map.
 pub fn read(alloc: Global, kv: &Kv, service: Service) -> Result<ShownMap, OutOfMemory>
     ensures map { IfOk result (λ map. map ≡ read_map (readings_of kv.now) service) }
     ensures form { IfOk result (IsMapOf service) }

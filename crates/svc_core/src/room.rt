@@ -1,7 +1,7 @@
 //! Whether the key-value map surely has room, told without reading it.
 //!
-//! An incremental makes the map at most as much longer as it is long itself. So the lengths of the newest full map and of the
-//! incrementals after it tell how long the map is at most.
+//! An incremental makes the map at most as much longer as it is long itself. So the lengths of the newest full map and
+//! of the incrementals after it tell how long the map is at most.
 
 ghost use Rattle.std.specs.Prelude.{◌≡◌, ◌-◌, ◌≤◌, length, true, IfOk, IfSome};
 ghost use Rattle.mon_bytes.specs.Reading.{IsBytes};
@@ -10,13 +10,11 @@ ghost use Rattle.mon_msg.specs.Protocol.Readings.{readings_of};
 ghost use Rattle.svc_core.specs.Room.{IsWithin, IsRoom};
 
 use crate::row::{full, full_latest, incremental, last_version};
+use crate::rules::FULL_EVERY;
 use mon_bytes::OutOfMemory;
 use mon_kv::Kv;
 use mon_msg::Service;
 use std::alloc::Global;
-
-/// A full map is kept at each multiple of 25, so more incrementals follow it only in a store that lacks some.
-const MOST_AFTER_FULL: u64 = 25;
 
 /// The length of the empty map.
 const EMPTY: u64 = 4;
@@ -39,8 +37,8 @@ fn room_before(kv: &Kv, v: u64, room: u64) -> Option<u64>
     }
 }
 
-/// How long the map may be before the incrementals from a version up to but not including another, so that it has at most `most`
-/// bytes after them.
+/// How long the map may be before the incrementals from a version up to but not including another, so that it has at
+/// most `most` bytes after them.
 fn room_before_all(kv: &Kv, from: u64, to: u64, most: u64) -> Option<u64>
     requires { from ≤ to }
     ensures { IfSome result (IsRoom (readings_of kv.now) most (to - from) from) }
@@ -64,14 +62,16 @@ fn most_full(alloc: Global, kv: &Kv, latest: u64) -> Result<u64, OutOfMemory>
     }
 }
 
-/// Whether the map that is read surely has at most so many bytes. That isn't sure where version 1 is kept, since all incrementals
-/// are then read in place of a full map that is none.
+/// Whether the map that is read surely has at most so many bytes. That isn't sure where version 1 is kept, since all
+/// incrementals are then read in place of a full map that is none.
 pub(crate) fn is_within(alloc: Global, kv: &Kv, most: u64) -> Result<bool, OutOfMemory>
     ensures { IfOk result (λ sure. sure ≡ true → IsWithin most (read_map (readings_of kv.now) Service.Kv)) }
 {
     let last = last_version(kv, Service::Kv);
     let latest = full_latest(kv, Service::Kv);
-    if latest > last || last - latest > MOST_AFTER_FULL {
+    // A full map is kept at each multiple of this, so more incrementals follow it only in a store that lacks some full
+    // maps.
+    if latest > last || last - latest > FULL_EVERY {
         return Ok(false);
     }
     if incremental(kv, Service::Kv, 1).is_some() {

@@ -9,7 +9,7 @@ use mon_bytes::{Bytes, OutOfMemory};
 use mon_tx::{Area, Key, Transaction};
 
 /// A full map is kept at each multiple of this.
-const FULL_EVERY: u64 = 25;
+pub(crate) const FULL_EVERY: u64 = 25;
 
 /// A service is trimmed where so many versions lie after its first one. It keeps so many, and so many go at most.
 const DUE: u64 = 75;
