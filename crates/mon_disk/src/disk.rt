@@ -31,7 +31,8 @@ pub trait Disk {
 
     /// The length in bytes. It is the known length then.
     fn len(&mut self) -> Result<u64, Stop>
-        ensures call { Called [] (images (state self.old).content) (result_err result) (state self.old) (state self.new) }
+        ensures call { Called [] (images (state self.old).content) (result_err result) (state self.old)
+            (state self.new) }
         ensures length { IfOk result (λ n. IfSome (state self.old).content.seen (λ file. n ≡ length file)) }
         ensures known { IfOk result (λ n. (state self.new).known ≡ n) }
         ensures known_err { OnErr result ((state self.new).known ≡ (state self.old).known) }
@@ -41,7 +42,8 @@ pub trait Disk {
     /// Reads the bytes from a place on, as many as there is room for. After an `Err` the room may hold any bytes.
     fn read(&mut self, at: u64, into: &mut [u8]) -> Result<(), Stop>
         requires { at + length into.old ≤ (state self.old).known }
-        ensures call { Called [] (images (state self.old).content) (result_err result) (state self.old) (state self.new) }
+        ensures call { Called [] (images (state self.old).content) (result_err result) (state self.old)
+            (state self.new) }
         ensures room { length into.new ≡ length into.old }
         ensures bytes { OnOk result (Reads (state self.old).content.seen at into.new) }
         ensures known { (state self.new).known ≡ (state self.old).known }
@@ -52,16 +54,18 @@ pub trait Disk {
     /// `Failed` a read too may give what was cut short.
     fn write_at(&mut self, at: u64, bytes: &[u8]) -> Result<(), Stop>
         requires { at ≤ (state self.old).known }
-        ensures call { Called (DiskCall.Write at bytes.now ∷ []) (TornFrom (state self.old).content at bytes.now) (result_err result)
-            (state self.old) (state self.new) }
-        ensures written { OnOk result ((state self.new).content.seen ≡ written at bytes.now (state self.old).content.seen) }
+        ensures call { Called (DiskCall.Write at bytes.now ∷ []) (TornFrom (state self.old).content at bytes.now)
+            (result_err result) (state self.old) (state self.new) }
+        ensures written { OnOk result ((state self.new).content.seen
+            ≡ written at bytes.now (state self.old).content.seen) }
         ensures known { OnOk result ((state self.new).known ≡ max (state self.old).known (at + length bytes.now)) }
         ensures known_err { OnErr result ((state self.new).known ≡ (state self.old).known) }
         ensures no_memory { result ≡ Err OutOfMemory → Unmade (state self.old) (state self.new) };
 
     /// Keeps what was written. After `Ok` a crash leaves what a read gives.
     fn sync(&mut self) -> Result<(), Stop>
-        ensures call { Called (DiskCall.Sync ∷ []) (images (state self.old).content) (result_err result) (state self.old) (state self.new) }
+        ensures call { Called (DiskCall.Sync ∷ []) (images (state self.old).content) (result_err result)
+            (state self.old) (state self.new) }
         ensures durable { OnOk result (Only (state self.new).content) }
         ensures seen { OnOk result ((state self.new).content.seen ≡ (state self.old).content.seen) }
         ensures known { (state self.new).known ≡ (state self.old).known }

@@ -57,6 +57,7 @@ where
     }
 
     /// Opens the file, unless it is open.
+    // A call that lends the file out can't say what it leaves of the rest, so each caller looks at it again.
     fn open(&mut self) -> io::Result<()>
         ensures known { self.new.known ≡ self.old.known }
         ensures faults { self.new.faults ≡ self.old.faults }

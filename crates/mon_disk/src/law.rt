@@ -11,12 +11,14 @@ ghost use Rattle.mon_disk.specs.MemoryDisk.{MemoryState, state_of, fails, after_
 /// fails; what a read gives, after a sync; whatever it might have left, where an upset begins; and what a disk settles
 /// to.
 pub fn law_images()
-    ensures written { (d : MemoryState) (at : ℕ) (bytes c e : List ℕ) → fails d.life ≡ false → images (state_of d).content c
+    ensures written { (d : MemoryState) (at : ℕ) (bytes c e : List ℕ) → fails d.life ≡ false
+        → images (state_of d).content c
         → Torn at bytes c e → images (state_of (after_call (Write at bytes) None d)).content e }
     ensures failed { (d : MemoryState) (at : ℕ) (bytes c e : List ℕ) → fails d.life ≡ true
         → lost_of (from_of d.life.upset) d.life.calls ≡ [] → images (state_of d).content c
         → Torn at bytes c e → images (state_of (after_call (Write at bytes) (Some Failed) d)).content e }
-    ensures synced { (d : MemoryState) → fails d.life ≡ false → images (state_of (after_call Sync None d)).content (seen_of d.life) }
+    ensures synced { (d : MemoryState) → fails d.life ≡ false
+        → images (state_of (after_call Sync None d)).content (seen_of d.life) }
     ensures upset { (d : MemoryState) (call image : ℕ) (c : List ℕ) → d.life.upset ≡ None → 1 ≤ call
         → images (state_of d).content c → images (state_of (upset_by call image d)).content c }
     ensures settled { (d : MemoryState) → images (state_of (settle_of d)).content (settled d.life) }

@@ -68,7 +68,8 @@ impl MemoryDisk {
         requires image { image ≤ 3 }
         ensures state { self.new ≡ upset_by call image self.old }
         ensures seen { seen_of self.new.life ≡ seen_of self.old.life }
-        ensures any_moment { let old = content_of self.old.past self.old.life in LeavesOnly old (content_of self.new.past self.new.life) (images old) }
+        ensures any_moment { let old = content_of self.old.past self.old.life in
+            LeavesOnly old (content_of self.new.past self.new.life) (images old) }
     {
         self.held.upset(call, image);
         self.history = self.history.then(&Step::Upset { call, image });
@@ -80,7 +81,8 @@ impl MemoryDisk {
         ensures ok { OnOk result (self.new ≡ settle_of self.old) }
         ensures err { OnErr result (self.new ≡ self.old) }
         ensures durable { OnOk result (Only (content_of self.new.past self.new.life)) }
-        ensures any_moment { let old = content_of self.old.past self.old.life in LeavesOnly old (content_of self.new.past self.new.life) (images old) }
+        ensures any_moment { let old = content_of self.old.past self.old.life in
+            LeavesOnly old (content_of self.new.past self.new.life) (images old) }
     {
         let file = self.held.settled(self.alloc)?;
         self.held = Holding::of(self.alloc, file);

@@ -3,7 +3,7 @@ ghost use Rattle.mon_disk.specs.Calls.{Called};
 ghost use Rattle.mon_journal.specs.Content.{appended, WithOrWithout};
 ghost use Rattle.mon_journal.specs.Steps.{append_calls, payloads_seen, Stands, Keeps, stop_in, IsOutside, WantsFirst};
 
-use crate::journal::Journal;
+use crate::journal::{Journal, RECORD_HEAD};
 use crate::spelled::record_body;
 use crate::step::write_synced;
 use crate::stop::JournalStop;
@@ -11,9 +11,9 @@ use mon_disk::Disk;
 use std::alloc::Global;
 
 impl Journal {
-    /// Appends a record with this payload: it is written behind the closed gate, and then that gate is opened. After `Ok` a
-    /// crash leaves the payload; at each moment before it leaves the payloads from before, with the new one or without it. It
-    /// takes its memory before the first write.
+    /// Appends a record with this payload: it is written behind the closed gate, and then that gate is opened. After
+    /// `Ok` a crash leaves the payload; at each moment before it leaves the payloads from before, with the new one or
+    /// without it. It takes its memory before the first write.
     pub fn append<D: Disk>(
         &mut self,
         alloc: Global,
@@ -23,15 +23,17 @@ impl Journal {
         requires short { length payload.now < 2 ^ 32 }
         requires stands { Stands self.old (D.state disk.old).known (D.state disk.old).content }
 
-        // Its writes and syncs are made. A crash at any moment of the call leaves the payloads from before it, and the new one
-        // where its gate is open.
+        // Its writes and syncs are made. A crash at any moment of the call leaves the payloads from before it, and the
+        // new one where its gate is open.
         ensures call { let old = D.state disk.old in Called (append_calls self.old.next_gate payload.now)
             (WithOrWithout self.old (payloads_seen old.content) payload.now) (stop_in result) old (D.state disk.new) }
 
         // What the disk settles to, too, where it tells it.
-        ensures settles { IfSome (D.state disk.new).told (λ t. WithOrWithout self.old (payloads_seen (D.state disk.old).content) payload.now (t.settles t.made)) }
+        ensures settles { IfSome (D.state disk.new).told
+            (λ t. WithOrWithout self.old (payloads_seen (D.state disk.old).content) payload.now (t.settles t.made)) }
 
-        ensures kept { OnOk result (Keeps self.new (payloads_seen (D.state disk.old).content ++ payload.now ∷ []) (D.state disk.new).known (D.state disk.new).content) }
+        ensures kept { OnOk result (Keeps self.new (payloads_seen (D.state disk.old).content ++ payload.now ∷ [])
+            (D.state disk.new).known (D.state disk.new).content) }
         ensures journal { OnOk result (self.new ≡ appended self.old payload.now) }
         ensures journal_err { OnErr result (self.new ≡ self.old) }
         ensures outside { IfErr result IsOutside }
@@ -39,7 +41,10 @@ impl Journal {
     {
         let body = record_body(alloc, payload)?;
         // A file ends below the last place that a number can tell.
-        let Some(next_gate) = self.next_gate.checked_add(5 + payload.len() as u64) else {
+        let Some(next_gate) = self
+            .next_gate
+            .checked_add(RECORD_HEAD + payload.len() as u64)
+        else {
             return Err(JournalStop::OutOfMemory);
         };
         write_synced(disk, self.next_gate + 1, &body)?;

@@ -14,7 +14,7 @@ mod spelled;
 mod step;
 mod stop;
 
-pub use journal::{Form, Journal};
+pub use journal::{FIRST_PAYLOAD, Form, HEADER, Journal, RECORD_HEAD};
 pub use law::law_written;
 pub use making::{create, restart};
 pub use opening::{Opened, open};

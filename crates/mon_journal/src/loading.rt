@@ -17,7 +17,8 @@ use std::alloc::Global;
 const PIECE: usize = 65536;
 
 fn synced_len<D: Disk>(disk: &mut D) -> Result<u64, Stop>
-    ensures call { Called (Sync ∷ []) (images (D.state disk.old).content) (result_err result) (D.state disk.old) (D.state disk.new) }
+    ensures call { Called (Sync ∷ []) (images (D.state disk.old).content) (result_err result) (D.state disk.old)
+        (D.state disk.new) }
     ensures length { IfOk result (λ n. IfSome (D.state disk.old).content.seen (λ file. n ≡ length file)) }
     ensures known { IfOk result (λ n. (D.state disk.new).known ≡ n) }
     ensures seen { OnOk result ((D.state disk.new).content.seen ≡ (D.state disk.old).content.seen) }
@@ -51,8 +52,11 @@ fn append(bytes: &mut Vec<u8>, piece: &[u8]) -> Result<(), OutOfMemory>
 /// Reads as many bytes as a piece has, behind those that were read, and appends them.
 fn read_on<D: Disk>(disk: &mut D, piece: &mut [u8], bytes: &mut Vec<u8>) -> Result<(), JournalStop>
     requires { length bytes.old.items + length piece.old ≤ (D.state disk.old).known }
-    ensures call { Called [] (images (D.state disk.old).content) (stop_in result) (D.state disk.old) (D.state disk.new) }
-    ensures whole { OnOk result (IfSome (D.state disk.old).content.seen (λ file. bytes.old.items ≡ take (length bytes.old.items) file → bytes.new.items ≡ take (length bytes.new.items) file)) }
+    ensures call { Called [] (images (D.state disk.old).content) (stop_in result) (D.state disk.old)
+        (D.state disk.new) }
+    ensures whole { OnOk result (IfSome (D.state disk.old).content.seen
+        (λ file. bytes.old.items ≡ take (length bytes.old.items) file
+        → bytes.new.items ≡ take (length bytes.new.items) file)) }
     ensures length { OnOk result (length bytes.new.items ≡ length bytes.old.items + length piece.old) }
     ensures room { length piece.new ≡ length piece.old }
     ensures known { (D.state disk.new).known ≡ (D.state disk.old).known }
@@ -66,7 +70,8 @@ fn read_on<D: Disk>(disk: &mut D, piece: &mut [u8], bytes: &mut Vec<u8>) -> Resu
 
 /// Syncs, and reads all that the disk holds.
 pub fn load<D: Disk>(alloc: Global, disk: &mut D) -> Result<Vec<u8>, JournalStop>
-    ensures call { Called (Sync ∷ []) (images (D.state disk.old).content) (stop_in result) (D.state disk.old) (D.state disk.new) }
+    ensures call { Called (Sync ∷ []) (images (D.state disk.old).content) (stop_in result) (D.state disk.old)
+        (D.state disk.new) }
     ensures whole { IfOk result (λ bytes. IfSome (D.state disk.old).content.seen (λ file. file ≡ bytes.items)) }
     ensures known { IfOk result (λ bytes. (D.state disk.new).known ≡ length bytes.items) }
     ensures seen { OnOk result ((D.state disk.new).content.seen ≡ (D.state disk.old).content.seen) }

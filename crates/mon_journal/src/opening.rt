@@ -23,14 +23,14 @@ pub enum Opened {
     },
 }
 
-/// Opens what a crash may have left on a disk. It begins with a sync, and on an open disk it ends with zero at the first
-/// closed gate. Its time is linear in the file's length, and it takes memory for the file once, and for no payload beside
-/// that.
+/// Opens what a crash may have left on a disk. It begins with a sync, and on an open disk it ends with zero at the
+/// first closed gate. Its time is linear in the file's length, and it takes memory for the file once, and for no
+/// payload beside that.
 pub fn open<D: Disk>(alloc: Global, disk: &mut D) -> Result<Opened, JournalStop>
     ensures found { Opens (D.state disk.old).content.seen (D.state disk.new).known (D.state disk.new).content result }
 
-    // Which writes and syncs were made. A crash at any moment of the call leaves a file that stands for what one did that it
-    // might have left before.
+    // Which writes and syncs were made. A crash at any moment of the call leaves a file that stands for what one did
+    // that it might have left before.
     ensures call { OpensBy (stop_in result) (D.state disk.old) (D.state disk.new) }
 {
     let file = load(alloc, disk)?;

@@ -53,7 +53,8 @@ pub struct Unread<'a> {
 impl<'a> Unread<'a> {
     /// The next payload, where one is left.
     pub fn next_payload(&mut self) -> Option<&'a [u8]>
-        ensures next { (payloads : List (List ℕ)) → IsLeft payloads self.old.cursor → IsNext (option_map (λ payload. payload.now) result) payloads self.new.cursor }
+        ensures next { (payloads : List (List ℕ)) → IsLeft payloads self.old.cursor
+            → IsNext (option_map (λ payload. payload.now) result) payloads self.new.cursor }
         ensures less { IfSome result (λ _. length self.new.cursor.rest < length self.old.cursor.rest) }
     {
         let Ok(gate) = self.cursor.take_u8() else {

@@ -41,7 +41,8 @@ fn form_at(cursor: &mut Cursor<'_>) -> Result<Form, JournalStop>
 
 #[tactic(auto, unfolding(crate::specs::Fields::owner_at))]
 fn owner_at(cursor: &mut Cursor<'_>) -> Result<Member, JournalStop>
-    ensures owner { Reads (λ member. record { rank = member.rank; monitors = member.monitors }) result cursor.new (owner_at cursor.old) }
+    ensures owner { Reads (λ member. record { rank = member.rank; monitors = member.monitors }) result cursor.new
+        (owner_at cursor.old) }
     ensures form { IfErr result IsOfForm }
 {
     let at = cursor.at();
@@ -54,10 +55,8 @@ fn owner_at(cursor: &mut Cursor<'_>) -> Result<Member, JournalStop>
     if monitors > 15 {
         return Err(JournalStop::NotAStore { at: behind as u64 });
     }
-    let Some(rank) = Rank::new(number) else {
-        return Err(JournalStop::NotAStore { at: at as u64 });
-    };
-    Member::new(rank, monitors).ok_or(JournalStop::NotAStore { at: at as u64 })
+    let rank = Rank::known(number);
+    Ok(Member { rank, monitors })
 }
 
 fn are_zeros(bytes: &[u8]) -> bool

@@ -60,7 +60,8 @@ pub fn head_bytes(
     first: Option<&[u8]>,
 ) -> Result<Vec<u8>, OutOfMemory>
     requires { ForSome first (λ payload. length payload.now < 2 ^ 32) }
-    ensures { IfOk result (λ bytes. bytes.items ≡ head_bytes (owner_of member.now) generation (option_map (λ payload. payload.now) first.entry)) }
+    ensures { IfOk result (λ bytes. bytes.items
+        ≡ head_bytes (owner_of member.now) generation (option_map (λ payload. payload.now) first.entry)) }
 {
     let mut out = Out::new(alloc);
     put_header(&mut out, member, generation)?;

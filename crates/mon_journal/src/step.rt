@@ -14,15 +14,18 @@ use mon_types::Stop;
 /// Writes over what is there, and syncs.
 pub fn write_synced<D: Disk>(disk: &mut D, at: u64, bytes: &[u8]) -> Result<(), Stop>
     requires { at ≤ (D.state disk.old).known }
-    ensures call { Called (Write at bytes.now ∷ Sync ∷ []) (TornFrom (D.state disk.old).content at bytes.now) (result_err result)
-        (D.state disk.old) (D.state disk.new) }
-    ensures seen { OnOk result ((D.state disk.new).content.seen ≡ written at bytes.now (D.state disk.old).content.seen) }
+    ensures call { Called (Write at bytes.now ∷ Sync ∷ []) (TornFrom (D.state disk.old).content at bytes.now)
+        (result_err result) (D.state disk.old) (D.state disk.new) }
+    ensures seen { OnOk result ((D.state disk.new).content.seen
+        ≡ written at bytes.now (D.state disk.old).content.seen) }
     ensures durable { OnOk result (Only (D.state disk.new).content) }
     ensures known { OnOk result ((D.state disk.new).known ≡ max (D.state disk.old).known (at + length bytes.now)) }
     ensures no_memory { result ≡ Err OutOfMemory → (D.state disk.new).wants ≡ risen (D.state disk.old).wants }
 
     // Where no call was made a crash leaves nothing new.
-    ensures not_begun { let old = D.state disk.old in IfSome old.told (λ s. (D.state disk.new).told ≡ Some s → LeavesOnly old.content (D.state disk.new).content (images old.content)) }
+    ensures not_begun { let old = D.state disk.old in
+        IfSome old.told (λ s. (D.state disk.new).told ≡ Some s
+        → LeavesOnly old.content (D.state disk.new).content (images old.content)) }
 {
     disk.write_at(at, bytes)?;
     disk.sync()?;

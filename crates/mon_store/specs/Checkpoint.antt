@@ -7,6 +7,7 @@ use Rattle.mon_bytes.specs.Forms.{u32_bytes}
 use Rattle.mon_tx.specs.Map.{Place, Store}
 use Rattle.mon_tx.specs.Text.{word}
 pub use Rattle.mon_kv.specs.Readers.{most_size}
+use Rattle.mon_store.specs.declared.checkpoint.TheConstants.{CHECKPOINT}
 
 abbrev pub Entry : Type 0
 Entry = Place × List ℕ
@@ -18,9 +19,9 @@ value_text value = u32_bytes (length value) ++ value
 abbrev pub entry_text : Entry → List ℕ
 entry_text e = word e.0.0 ++ word e.0.1 ++ value_text e.1
 
--- the byte 0x80, how many entries there are, and the entries in ascending order of prefix and then key
+-- the byte of a checkpoint, how many entries there are, and the entries in ascending order of prefix and then key
 abbrev pub checkpoint_text : Store → List ℕ
-checkpoint_text m = 128 ∷ u32_bytes (len m) ++ flat_map entry_text (entries m)
+checkpoint_text m = CHECKPOINT ∷ u32_bytes (len m) ++ flat_map entry_text (entries m)
 
 -- ---- what has a text
 

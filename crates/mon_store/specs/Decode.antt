@@ -9,6 +9,7 @@ use Rattle.mon_bytes.specs.Reading.{Reading, number, front}
 use Rattle.mon_bytes.specs.Texts.{is_word}
 use Rattle.mon_bytes.specs.Forms.{◌>>=◌, fitted, ended}
 use Rattle.mon_tx.specs.Map.{Place, place_cmp, Store}
+use Rattle.mon_store.specs.declared.checkpoint.TheConstants.{CHECKPOINT}
 use Rattle.mon_store.specs.Checkpoint.{Entry}
 
 -- a length from 1 to `most`, and so many bytes that are a word
@@ -56,7 +57,7 @@ entries_at (suc n) before c = do
 unfoldable pub map_at : Reading → Result (Store × Reading) MapRefused
 map_at c = do
   kind ← fitted (number 1 c)
-  if kind.0 == 128 then (do
+  if kind.0 == CHECKPOINT then (do
     count ← fitted (number 4 kind.1)
     entries ← entries_at count.0 ([], []) count.1
     Ok (from_sorted entries.0, entries.1)) else Err (Form c.at)

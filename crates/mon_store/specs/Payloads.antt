@@ -10,6 +10,8 @@ use Rattle.mon_tx.specs.Decode.{transaction_of}
 use Rattle.mon_kv.specs.Readers.{size_of}
 use Rattle.mon_journal.specs.declared.stop.JournalStop.{JournalStop}
 use Rattle.mon_journal.specs.declared.stop.JournalStop.TheVariants.{NotAStore}
+use Rattle.mon_journal.specs.declared.journal.TheConstants.{FIRST_PAYLOAD}
+use Rattle.mon_store.specs.declared.checkpoint.TheConstants.{CHECKPOINT}
 use Rattle.mon_store.specs.Checkpoint.{most_size}
 use Rattle.mon_store.specs.Decode.{checkpoint_of}
 
@@ -32,7 +34,7 @@ restored (Err e) = None
 -- whether a payload begins as a checkpoint
 abbrev pub is_checkpoint : List ℕ → Bool
 is_checkpoint [] = false
-is_checkpoint (kind ∷ bytes) = kind == 128
+is_checkpoint (kind ∷ bytes) = kind == CHECKPOINT
 
 -- The map behind the first payload of a file: that of a checkpoint, or what a transaction makes of nothing.
 unfoldable pub begun : List ℕ → Option Store
@@ -54,5 +56,5 @@ folded (payload ∷ payloads) at m = do
 unfoldable pub map_of : List (List ℕ) → Result Store JournalStop
 map_of [] = Ok empty
 map_of (payload ∷ payloads) = do
-  first ← at_fault 30 (begun payload)
+  first ← at_fault FIRST_PAYLOAD (begun payload)
   folded payloads (35 + length payload) first

@@ -11,12 +11,11 @@ ghost use Rattle.mon_store.specs.Sound.{WithChange};
 ghost use Rattle.mon_store.specs.Calls.{stop_in, unless_early, apply_calls, journal_after};
 ghost use Rattle.mon_store.specs.Refusals.{Refuses, IsEarly, LeavesDisk, Answers, breaks};
 
-use crate::checkpoint::MOST_SIZE;
 use crate::stop::StoreStop;
 use crate::store::Store;
 use mon_disk::Disk;
 use mon_journal::Journal;
-use mon_kv::Kv;
+use mon_kv::{Kv, MOST_SIZE};
 use mon_tx::Transaction;
 use std::alloc::Global;
 
@@ -47,7 +46,8 @@ pub(crate) fn keep<D: Disk>(
     tx: &Transaction,
 ) -> Result<(), StoreStop>
     requires { Stands journal.old (D.state disk.old).known (D.state disk.old).content }
-    ensures kept { OnOk result (Keeps journal.new (payloads_seen (D.state disk.old).content ++ text tx.now ∷ []) (D.state disk.new).known (D.state disk.new).content) }
+    ensures kept { OnOk result (Keeps journal.new (payloads_seen (D.state disk.old).content ++ text tx.now ∷ [])
+        (D.state disk.new).known (D.state disk.new).content) }
     ensures journal { OnOk result (journal.new ≡ appended journal.old (text tx.now)) }
     ensures journal_err { OnErr result (journal.new ≡ journal.old) }
     ensures form { OnOk result (HasText tx.now) }
@@ -56,9 +56,10 @@ pub(crate) fn keep<D: Disk>(
     ensures refused { IfErr result (Refuses tx.now kv.old kv.new) }
     ensures disk { IfErr result (LeavesDisk disk.old disk.new) }
 
-    // Its writes and syncs are made. A crash at any moment leaves the payloads from before, and the transaction where its gate is
-    // open.
-    ensures call { let old = D.state disk.old in Called (unless_early result (append_calls journal.old.next_gate (text tx.now)))
+    // Its writes and syncs are made. A crash at any moment leaves the payloads from before, and the transaction where
+    // its gate is open.
+    ensures call { let old = D.state disk.old in
+        Called (unless_early result (append_calls journal.old.next_gate (text tx.now)))
         (WithChange journal.old (payloads_seen old.content) kv.old tx.now) (stop_in result) old (D.state disk.new) }
     ensures no_memory { WantsFirst D.state StoreStop.OutOfMemory result disk.old disk.new }
 {
@@ -83,10 +84,11 @@ impl<D: Disk> Store<D> {
     ghost use Rattle.mon_store.specs.Sound.{StandsOn, BeforeOrAfter};
     ghost use Rattle.mon_store.specs.Whole.{IsSound, disk_a, disk_b, Stays};
 
-    /// Makes a transaction's changes: in the map, and with a record on the live disk. An empty one makes no call on a disk.
-    /// Broken is answered where an earlier call broke the store, and then TooLong, where the text passes 4,194,304 bytes; then
-    /// nothing changed. Each later refusal breaks the store: OutOfMemory; Full, where the map would be too large; DiskFault.
-    /// After DiskFault, and after OutOfMemory, the disks stand for the old map or for the new one.
+    /// Makes a transaction's changes: in the map, and with a record on the live disk. An empty one makes no call on a
+    /// disk. Broken is answered where an earlier call broke the store, and then TooLong, where the text passes
+    /// 4,194,304 bytes; then nothing changed. Each later refusal breaks the store: OutOfMemory; Full, where the map
+    /// would be too large; DiskFault. After DiskFault, and after OutOfMemory, the disks stand for the old map or for
+    /// the new one.
     pub fn apply(&mut self, tx: &Transaction) -> Result<(), StoreStop>
         requires { IsSound D.state self.old }
         ensures sound { IsSound D.state self.new }
@@ -94,14 +96,23 @@ impl<D: Disk> Store<D> {
         ensures broken { self.new.broken ≡ (self.old.broken || breaks result) }
         ensures same { Stays tx.now self.old self.new result }
 
-        // A crash at any moment leaves the store as it stood, or with the change exactly where the gate of its record is open.
-        ensures any_moment { self.old.broken ≡ false → IsTrue (is_some (D.state self.old.live).content.seen) → Meanwhile (D.state (disk_a self.old)).content (D.state (disk_b self.old)).content (D.state (disk_a self.new)).content (D.state (disk_b self.new)).content (BeforeOrAfter self.old.side self.old.journal self.old.kv tx.now) }
+        // A crash at any moment leaves the store as it stood, or with the change exactly where the gate of its record
+        // is open.
+        ensures any_moment { self.old.broken ≡ false → IsTrue (is_some (D.state self.old.live).content.seen)
+            → Meanwhile (D.state (disk_a self.old)).content (D.state (disk_b self.old)).content
+            (D.state (disk_a self.new)).content (D.state (disk_b self.new)).content
+            (BeforeOrAfter self.old.side self.old.journal self.old.kv tx.now) }
 
         // What the disks settle to, too, where they tell it.
-        ensures settles { self.old.broken ≡ false → IsTrue (is_some (D.state self.old.live).content.seen) → IfSome (D.state (disk_a self.new)).told (λ s. IfSome (D.state (disk_b self.new)).told (λ t. BeforeOrAfter self.old.side self.old.journal self.old.kv tx.now (s.settles s.made) (t.settles t.made))) }
+        ensures settles { self.old.broken ≡ false → IsTrue (is_some (D.state self.old.live).content.seen)
+            → IfSome (D.state (disk_a self.new)).told
+            (λ s. IfSome (D.state (disk_b self.new)).told
+            (λ t. BeforeOrAfter self.old.side self.old.journal self.old.kv tx.now (s.settles s.made)
+            (t.settles t.made))) }
 
         // After Ok it leaves the store as it stands alone.
-        ensures safe { OnOk result (EachPair (D.state (disk_a self.new)).content (D.state (disk_b self.new)).content (StandsOn self.new.side self.new.journal self.new.kv)) }
+        ensures safe { OnOk result (EachPair (D.state (disk_a self.new)).content (D.state (disk_b self.new)).content
+            (StandsOn self.new.side self.new.journal self.new.kv)) }
 
         ensures journal { OnOk result (self.new.journal ≡ journal_after self.old.journal tx.now) }
         ensures journal_err { OnErr result (self.new.journal ≡ self.old.journal) }
@@ -109,9 +120,10 @@ impl<D: Disk> Store<D> {
         ensures other { self.new.other ≡ self.old.other }
         ensures side { self.new.side ≡ self.old.side }
 
-        // Which writes and syncs were made on the live disk, and what it counted. Want of memory that it didn't count came before
-        // the first of them.
-        ensures call { Called (unless_early result (apply_calls self.old.journal.next_gate tx.now)) Any (stop_in result) (D.state self.old.live) (D.state self.new.live) }
+        // Which writes and syncs were made on the live disk, and what it counted. Want of memory that it didn't count
+        // came before the first of them.
+        ensures call { Called (unless_early result (apply_calls self.old.journal.next_gate tx.now)) Any (stop_in result)
+            (D.state self.old.live) (D.state self.new.live) }
         ensures no_memory { WantsFirst D.state StoreStop.OutOfMemory result self.old.live self.new.live }
     {
         if self.broken {

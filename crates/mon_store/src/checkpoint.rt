@@ -6,8 +6,10 @@ ghost use Rattle.mon_kv.specs.Readers.{entry_of, size_of};
 ghost use Rattle.mon_store.specs.Checkpoint.{value_text, entry_text, checkpoint_text, most_size, EntryFits, HasCheckpoint};
 
 use mon_bytes::{Out, OutOfMemory, write_count};
-pub use mon_kv::MOST_SIZE;
 use mon_kv::{EntryRef, Kv};
+
+/// The byte that a checkpoint begins with. No transaction does.
+pub(crate) const CHECKPOINT: u8 = 0x80;
 
 fn put_entry(out: &mut Out, entry: &EntryRef<'_>) -> Result<(), OutOfMemory>
     requires { EntryFits (entry_of entry.now) }
@@ -33,13 +35,14 @@ fn count(kv: &Kv) -> u32
     count
 }
 
-/// Appends a checkpoint of the map. Its time is that of two look-ups for each entry, and it takes memory for the bytes alone.
-pub fn write_checkpoint(out: &mut Out, kv: &Kv) -> Result<(), OutOfMemory>
+/// Appends a checkpoint of the map. Its time is that of two look-ups for each entry, and it takes memory for the bytes
+/// alone. After an `Err` a front of it may be there.
+pub(crate) fn write_checkpoint(out: &mut Out, kv: &Kv) -> Result<(), OutOfMemory>
     requires { size_of kv.now ≤ most_size }
     ensures text { OnOk result (out.new ≡ out.old ++ checkpoint_text kv.now) }
     ensures form { OnOk result (HasCheckpoint kv.now) }
 {
-    out.put_u8(0x80)?;
+    out.put_u8(CHECKPOINT)?;
     write_count(out, count(kv))?;
     let mut next = kv.next_entry(&[], &[]);
     while let Some(entry) = next {

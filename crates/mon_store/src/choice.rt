@@ -6,11 +6,11 @@ ghost use Rattle.mon_store.specs.Opening.{held_in, len_of, found_of, Gives, IsRe
 ghost use Rattle.mon_journal.specs.Content.{held_by};
 
 use crate::stop::OpenStop;
-use mon_journal::{Journal, Opened, Payloads};
+use mon_journal::{HEADER, Journal, Opened, Payloads};
 use mon_types::Side;
 
-/// The most bytes that a creation which a crash cut short leaves on disk A.
-const MOST_NEW: u64 = 26;
+/// The most bytes that a creation which a crash cut short leaves on disk A: a header, and a closed gate.
+const MOST_NEW: u64 = HEADER + 1;
 
 /// Where the map of a store is.
 #[derive(Drop)]

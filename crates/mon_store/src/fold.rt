@@ -7,11 +7,11 @@ ghost use Rattle.mon_store.specs.Checkpoint.{most_size};
 ghost use Rattle.mon_store.specs.Payloads.{within, after, is_checkpoint, restored, begun, at_fault, folded, map_of};
 ghost use Rattle.mon_store.specs.Decode.{checkpoint_of};
 
-use crate::checkpoint::MOST_SIZE;
+use crate::checkpoint::CHECKPOINT;
 use crate::reading::read_checkpoint;
 use mon_bytes::{Cursor, MapRefused};
-use mon_journal::{JournalStop, Payloads};
-use mon_kv::Kv;
+use mon_journal::{FIRST_PAYLOAD, JournalStop, Payloads, RECORD_HEAD};
+use mon_kv::{Kv, MOST_SIZE};
 use mon_tx::TxRefused;
 use std::alloc::Global;
 
@@ -43,7 +43,8 @@ fn after(mut kv: Kv, payload: &[u8], at: u64) -> Result<Kv, JournalStop>
 fn restored(alloc: Global, payload: &[u8], at: u64) -> Result<Kv, JournalStop>
     ensures size { IfOk result (λ kv. size_of kv ≤ most_size) }
     ensures form { IfErr result IsOfForm }
-    ensures map { Gives (λ kv. kv) result (at_fault at (restored (checkpoint_of (record { at = 0; rest = payload.now })))) }
+    ensures map { Gives (λ kv. kv) result
+        (at_fault at (restored (checkpoint_of (record { at = 0; rest = payload.now })))) }
 {
     let mut cursor = Cursor::new(payload);
     match read_checkpoint(alloc, &mut cursor) {
@@ -57,7 +58,7 @@ fn is_checkpoint(payload: &[u8]) -> bool
     ensures { result ≡ is_checkpoint payload.now }
 {
     match payload {
-        [kind, ..] => *kind == 0x80,
+        [kind, ..] => *kind == CHECKPOINT,
         _ => false,
     }
 }
@@ -79,7 +80,7 @@ fn behind(at: u64, payload: &[u8]) -> Result<u64, JournalStop>
     ensures place { Gives (λ n. n) result (Ok (at + 5 + length payload.now)) }
     ensures form { IfErr result IsOfForm }
 {
-    at.checked_add(5)
+    at.checked_add(RECORD_HEAD)
         .and_then(|at| at.checked_add(payload.len() as u64))
         .ok_or(JournalStop::OutOfMemory)
 }
@@ -94,8 +95,8 @@ pub fn fold(alloc: Global, payloads: &Payloads) -> Result<Kv, JournalStop>
     let Some(first) = unread.next_payload() else {
         return Ok(Kv::empty(alloc));
     };
-    let mut at = behind(30, first)?;
-    let mut kv = begun(alloc, first, 30)?;
+    let mut at = behind(FIRST_PAYLOAD, first)?;
+    let mut kv = begun(alloc, first, FIRST_PAYLOAD)?;
     while let Some(payload) = unread.next_payload() {
         kv = after(kv, payload, at)?;
         at = behind(at, payload)?;

@@ -15,12 +15,16 @@ ghost use Rattle.mon_store.specs.Stood.{opens_as};
 
 /// The reader takes exactly the checkpoints, and gives the maps that they spell. So each map has one.
 pub fn law_checkpoints()
-    ensures found { (c : Reading) (m : Store) → IsBytes c.rest → checkpoint_of c ≡ Ok m → HasCheckpoint m × (c.rest ≡ checkpoint_text m) }
+    ensures found { (c : Reading) (m : Store) → IsBytes c.rest → checkpoint_of c ≡ Ok m
+        → HasCheckpoint m × (c.rest ≡ checkpoint_text m) }
     ensures only { (c : Reading) (m : Store) → c.rest ≡ checkpoint_text m → HasCheckpoint m → checkpoint_of c ≡ Ok m }
 {}
 
 /// Two files on which a store stands stand for its map, and its member opens it on them.
 pub fn law_stands()
-    ensures map { (side : Side) (journal : Journal) (m : Store) (a b : List ℕ) → StandsOn side journal m a b → stands a b ≡ Ok m }
-    ensures opens { (member : Member) (side : Side) (journal : Journal) (m : Store) (a b : List ℕ) → StandsOn side journal m a b → owner_of journal.member ≡ owner_of member → opens_as member a b ≡ Ok (record { side = side; journal = journal; kv = m }) }
+    ensures map { (side : Side) (journal : Journal) (m : Store) (a b : List ℕ) → StandsOn side journal m a b
+        → stands a b ≡ Ok m }
+    ensures opens { (member : Member) (side : Side) (journal : Journal) (m : Store) (a b : List ℕ)
+        → StandsOn side journal m a b → owner_of journal.member ≡ owner_of member
+        → opens_as member a b ≡ Ok (record { side = side; journal = journal; kv = m }) }
 {}

@@ -13,8 +13,6 @@ mod restart;
 mod stop;
 mod store;
 
-pub use checkpoint::{MOST_SIZE, write_checkpoint};
 pub use law::{law_checkpoints, law_stands};
-pub use reading::read_checkpoint;
 pub use stop::{OpenRefused, OpenStop, StoreStop};
 pub use store::Store;

@@ -53,7 +53,8 @@ fn restore(
     payloads: &Payloads,
     member: &Member,
 ) -> Result<Standing, OpenStop>
-    ensures answer { Gives (λ s. (Live side (held_by journal payloads.now), s.kv)) result (taken (owner_of member.now) (Live side (held_by journal payloads.now))) }
+    ensures answer { Gives (λ s. (Live side (held_by journal payloads.now), s.kv)) result
+        (taken (owner_of member.now) (Live side (held_by journal payloads.now))) }
     ensures side { IfOk result (λ s. s.side ≡ side) }
     ensures journal { IfOk result (λ s. s.journal ≡ journal) }
     ensures owner { IfOk result (λ s. owner_of s.journal.member ≡ owner_of member.now) }
@@ -84,17 +85,27 @@ struct Both {
 
 /// Opens disk A and then disk B.
 fn open_both<D: Disk>(alloc: Global, a: &mut D, b: &mut D) -> Result<Both, OpenStop>
-    ensures a { IfOk result (λ both. Opens (D.state a.old).content.seen (D.state a.new).known (D.state a.new).content (Ok both.a)) }
-    ensures b { IfOk result (λ both. Opens (D.state b.old).content.seen (D.state b.new).known (D.state b.new).content (Ok both.b)) }
-    ensures refused { IfErr result (λ e. IfSome (D.state a.old).content.seen (λ x. IfSome (D.state b.old).content.seen (λ y. Tells e (found x y)))) }
-    ensures a_moment { OnOk result (LeavesOnly (D.state a.old).content (D.state a.new).content (AlikeFrom (D.state a.old).content)) }
-    ensures b_moment { OnOk result (LeavesOnly (D.state b.old).content (D.state b.new).content (AlikeFrom (D.state b.old).content)) }
-    ensures any_moment { (member : Member) → Meanwhile (D.state a.old).content (D.state b.old).content (D.state a.new).content (D.state b.new).content (AlikePair member (D.state a.old).content (D.state b.old).content false) }
+    ensures a { IfOk result (λ both. Opens (D.state a.old).content.seen (D.state a.new).known (D.state a.new).content
+        (Ok both.a)) }
+    ensures b { IfOk result (λ both. Opens (D.state b.old).content.seen (D.state b.new).known (D.state b.new).content
+        (Ok both.b)) }
+    ensures refused { IfErr result (λ e. IfSome (D.state a.old).content.seen
+        (λ x. IfSome (D.state b.old).content.seen (λ y. Tells e (found x y)))) }
+    ensures a_moment { OnOk result (LeavesOnly (D.state a.old).content (D.state a.new).content
+        (AlikeFrom (D.state a.old).content)) }
+    ensures b_moment { OnOk result (LeavesOnly (D.state b.old).content (D.state b.new).content
+        (AlikeFrom (D.state b.old).content)) }
+    ensures any_moment { (member : Member)
+        → Meanwhile (D.state a.old).content (D.state b.old).content (D.state a.new).content (D.state b.new).content
+        (AlikePair member (D.state a.old).content (D.state b.old).content false) }
     ensures a_tells { is_some (D.state a.new).content.seen ≡ is_some (D.state a.old).content.seen }
     ensures b_tells { is_some (D.state b.new).content.seen ≡ is_some (D.state b.old).content.seen }
-    ensures few { IfSome (D.state a.old).content.seen (λ _. IfSome (D.state a.old).told (λ s. IfSome (D.state a.new).told (λ t. made_more 5 s t ≡ false))) }
-    ensures made { OnOk result (IfSome (D.state a.old).content.seen (λ x. Makes (open_calls (content x)) None (D.state a.old).told (D.state a.new).told)) }
-    ensures calls { OpensWith both_calls (D.state a.old).content.seen (D.state b.old).content.seen (D.state a.old).told (D.state b.old).told (D.state a.new).told (D.state b.new).told result }
+    ensures few { IfSome (D.state a.old).content.seen
+        (λ _. IfSome (D.state a.old).told (λ s. IfSome (D.state a.new).told (λ t. made_more 5 s t ≡ false))) }
+    ensures made { OnOk result (IfSome (D.state a.old).content.seen
+        (λ x. Makes (open_calls (content x)) None (D.state a.old).told (D.state a.new).told)) }
+    ensures calls { OpensWith both_calls (D.state a.old).content.seen (D.state b.old).content.seen (D.state a.old).told
+        (D.state b.old).told (D.state a.new).told (D.state b.new).told result }
     ensures counts { BothCount (stop_in result) (D.state a.old) (D.state b.old) (D.state a.new) (D.state b.new) }
 {
     let on_a = match open(alloc, a) {
@@ -114,8 +125,12 @@ fn create_on<D: Disk>(alloc: Global, a: &mut D, member: &Member) -> Result<Stand
     ensures map { IfOk result (λ s. s.kv ≡ empty) }
     ensures kept { IfOk result (λ s. Keeps s.journal [] (D.state a.new).known (D.state a.new).content) }
     ensures outside { IfErr result IsOutside }
-    ensures call { Called (create_calls (owner_of member.now) 1 None) (CreatedFrom (D.state a.old).content (created member.now 1 None) []) (stop_in result) (D.state a.old) (D.state a.new) }
-    ensures settles { IfSome (D.state a.old).told (λ s. IfSome (D.state a.new).told (λ t. Made (D.state a.old).content (created member.now 1 None) [] (made_more 4 s t) (t.settles t.made))) }
+    ensures call { Called (create_calls (owner_of member.now) 1 None)
+        (CreatedFrom (D.state a.old).content (created member.now 1 None) []) (stop_in result) (D.state a.old)
+        (D.state a.new) }
+    ensures settles { IfSome (D.state a.old).told
+        (λ s. IfSome (D.state a.new).told
+        (λ t. Made (D.state a.old).content (created member.now 1 None) [] (made_more 4 s t) (t.settles t.made))) }
 {
     let journal = match create(alloc, a, *member, 1, None) {
         Ok(journal) => journal,
@@ -135,14 +150,23 @@ pub(crate) fn open_disks<D: Disk>(
     b: &mut D,
     member: &Member,
 ) -> Result<Standing, OpenStop>
-    ensures sound { IfOk result (λ s. Sound s.journal s.kv (D.state (of_live s.side a.new b.new)).known (D.state (of_live s.side a.new b.new)).content (D.state (of_live (other_side s.side) a.new b.new)).content) }
+    ensures sound { IfOk result (λ s. Sound s.journal s.kv (D.state (of_live s.side a.new b.new)).known
+        (D.state (of_live s.side a.new b.new)).content (D.state (of_live (other_side s.side) a.new b.new)).content) }
     ensures owner { IfOk result (λ s. owner_of s.journal.member ≡ owner_of member.now) }
-    ensures answer { IfSome (D.state a.old).content.seen (λ x. IfSome (D.state b.old).content.seen (λ y. Answers member.now x y result)) }
-    ensures any_moment { IsTrue (is_some (D.state a.old).content.seen) → IsTrue (is_some (D.state b.old).content.seen) → WhileOpening (D.state a.old).content (D.state b.old).content (D.state a.new).content (D.state b.new).content (Alike member.now (D.state a.old).content (D.state b.old).content) }
-    ensures settles { IsTrue (is_some (D.state a.old).content.seen) → IsTrue (is_some (D.state b.old).content.seen) → IfSome (D.state a.old).told (λ s. IfSome (D.state a.new).told (λ t. IfSome (D.state b.new).told (λ u. Settled member.now (D.state a.old).content (D.state b.old).content s t u))) }
+    ensures answer { IfSome (D.state a.old).content.seen
+        (λ x. IfSome (D.state b.old).content.seen (λ y. Answers member.now x y result)) }
+    ensures any_moment { IsTrue (is_some (D.state a.old).content.seen) → IsTrue (is_some (D.state b.old).content.seen)
+        → WhileOpening (D.state a.old).content (D.state b.old).content (D.state a.new).content (D.state b.new).content
+        (Alike member.now (D.state a.old).content (D.state b.old).content) }
+    ensures settles { IsTrue (is_some (D.state a.old).content.seen) → IsTrue (is_some (D.state b.old).content.seen)
+        → IfSome (D.state a.old).told (λ s. IfSome (D.state a.new).told
+        (λ t. IfSome (D.state b.new).told
+        (λ u. Settled member.now (D.state a.old).content (D.state b.old).content s t u))) }
     ensures a_tells { is_some (D.state a.new).content.seen ≡ is_some (D.state a.old).content.seen }
     ensures b_tells { is_some (D.state b.new).content.seen ≡ is_some (D.state b.old).content.seen }
-    ensures calls { OpensWith (opening_calls (owner_of member.now)) (D.state a.old).content.seen (D.state b.old).content.seen (D.state a.old).told (D.state b.old).told (D.state a.new).told (D.state b.new).told result }
+    ensures calls { OpensWith (opening_calls (owner_of member.now)) (D.state a.old).content.seen
+        (D.state b.old).content.seen (D.state a.old).told (D.state b.old).told (D.state a.new).told
+        (D.state b.new).told result }
     ensures counts { BothCount (stop_in result) (D.state a.old) (D.state b.old) (D.state a.new) (D.state b.new) }
 {
     let both = open_both(alloc, a, b)?;

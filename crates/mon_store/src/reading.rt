@@ -7,6 +7,7 @@ ghost use Rattle.mon_bytes.specs.Forms.{Reads, Gives};
 ghost use Rattle.mon_kv.specs.Readers.{entry_of};
 ghost use Rattle.mon_store.specs.Decode.{word_at, value_at, prefix_at, key_at, entry_at, entries_at, map_at, checkpoint_of};
 
+use crate::checkpoint::CHECKPOINT;
 use mon_bytes::{Cursor, MapRefused, Word};
 use mon_kv::{EntryRef, Kv};
 use std::alloc::Global;
@@ -58,7 +59,8 @@ fn key_at<'a>(
     prefix: &[u8],
     cursor: &mut Cursor<'a>,
 ) -> Result<&'a [u8], MapRefused>
-    ensures bytes { Reads (λ x. x.now) result cursor.new (key_at (before_prefix.now, before_key.now) prefix.now cursor.old) }
+    ensures bytes { Reads (λ x. x.now) result cursor.new
+        (key_at (before_prefix.now, before_key.now) prefix.now cursor.old) }
     ensures form { IfOk result (λ x. IsTrue (is_name x.now)) }
 {
     let at = cursor.at();
@@ -103,17 +105,17 @@ fn map_at(alloc: Global, cursor: &mut Cursor<'_>) -> Result<Kv, MapRefused>
     ensures { Reads (λ kv. kv) result cursor.new (map_at cursor.old) }
 {
     let at = cursor.at();
-    if cursor.take_u8()? != 0x80 {
+    if cursor.take_u8()? != CHECKPOINT {
         return Err(MapRefused::Form { at });
     }
     let count = cursor.take_u32()?;
     entries_at(alloc, count, cursor)
 }
 
-/// The map that a checkpoint spells, which is all that is left. `Form` names the first place of the first field at fault.
-/// Its time is that of so many look-ups as there are entries.
+/// The map that a checkpoint spells, which is all that is left. `Form` names the first place of the first field at
+/// fault. Its time is that of one look-up for each entry.
 #[tactic(auto, unfolding(crate::specs::Decode::checkpoint_of, mon_bytes::specs::Forms::ended))]
-pub fn read_checkpoint(alloc: Global, cursor: &mut Cursor<'_>) -> Result<Kv, MapRefused>
+pub(crate) fn read_checkpoint(alloc: Global, cursor: &mut Cursor<'_>) -> Result<Kv, MapRefused>
     ensures { Gives (λ kv. kv) result (checkpoint_of cursor.old) }
 {
     let kv = map_at(alloc, cursor)?;

@@ -4,8 +4,8 @@ use mon_kv::Kv;
 use mon_types::Side;
 use std::alloc::Global;
 
-/// A map on two disks. Each transaction is a record of the live one's journal; from time to time a checkpoint begins a new
-/// journal on the other one, which then is live.
+/// A map on two disks. Each transaction is a record of the live one's journal; from time to time a checkpoint begins a
+/// new journal on the other one, which then is live.
 #[derive(Drop)]
 pub struct Store<D> {
     pub(crate) alloc: Global,
