@@ -66,7 +66,8 @@ or_else None other = other
 abbrev pub oldest_against : Peer → List Partial → Option ℕ
 oldest_against (Monitor r) kept = first_of MOST_OF_MONITOR (λ p. same_peer (Monitor r) p.from) kept
 oldest_against (Client c) kept =
-    or_else (first_of MOST_OF_CLIENT (λ p. same_peer (Client c) p.from) kept) (first_of MOST_OF_CLIENTS (λ p. is_client p.from) kept)
+    or_else (first_of MOST_OF_CLIENT (λ p. same_peer (Client c) p.from) kept)
+    (first_of MOST_OF_CLIENTS (λ p. is_client p.from) kept)
 
 abbrev pub without : List Partial → Option ℕ → List Partial
 without kept None = kept

@@ -22,8 +22,8 @@ pub const MOST_OF_CLIENT: usize = 1;
 /// How many messages of all clients together are kept.
 pub const MOST_OF_CLIENTS: usize = 64;
 
-/// The messages of which not all pieces came yet: at most `MOST_OF_MONITOR` of each monitor, `MOST_OF_CLIENT` of each client,
-/// and `MOST_OF_CLIENTS` of all clients together.
+/// The messages of which not all pieces came yet: at most `MOST_OF_MONITOR` of each monitor, `MOST_OF_CLIENT` of each
+/// client, and `MOST_OF_CLIENTS` of all clients together.
 #[derive(Drop)]
 pub struct Assembly {
     kept: Vec<Partial>,
@@ -190,8 +190,8 @@ impl Assembly {
         }
     }
 
-    /// Takes a datagram from a peer, and answers a message where one is whole then: the datagram itself, where it doesn't
-    /// begin with the byte 02, or that of which it is the last piece to come. A piece of a new message drops the oldest
+    /// Takes a datagram from a peer, and answers a message where one is whole then: the datagram itself, where it
+    /// doesn't begin with the byte 02, or that of which it is the last piece to come. A piece of a new message drops the oldest
     /// message of which there is no room for both: one of the same peer, or else, of a client, of any client.
     pub fn take(&mut self, from: Peer, datagram: &[u8]) -> Result<Option<Bytes>, FragRefused>
         ensures { Takes result self.old self.new (taken self.old from datagram.now) }
