@@ -1,17 +1,19 @@
 -- How the header of a piece is read.
-use Rattle.std.specs.Prelude.{ℕ, ◌-◌, ◌%◌, ◌^◌, ◌==◌, nat_le, nat_lt, min, ◌||◌, not, Bool, false, List, [], ◌∷◌, length, drop, Result, Ok, Err, if◌then◌else◌}
+use Rattle.std.specs.Prelude.{ℕ, suc, ◌-◌, ◌%◌, ◌^◌, ◌==◌, nat_le, nat_lt, min, ◌||◌, not, Bool, false, List, [], ◌∷◌, length, drop, Result, Ok, Err, if◌then◌else◌}
 use Rattle.mon_bytes.specs.declared.cursor.Short.{Short}
 use Rattle.mon_bytes.specs.declared.limits.TheConstants.{MOST_MESSAGE}
 use Rattle.mon_bytes.specs.Reading.{Reading, number}
 use Rattle.mon_bytes.specs.Answers.{◌>>=◌, at_fault}
+use Rattle.mon_frag.specs.declared.cutting.TheConstants.{DATAGRAM}
 use Rattle.mon_frag.specs.declared.header.Header.{Header}
+use Rattle.mon_frag.specs.declared.header.TheConstants.{PART, HEADER, PIECE}
 use Rattle.mon_frag.specs.declared.refused.FragRefused.{FragRefused}
 use Rattle.mon_frag.specs.declared.refused.FragRefused.TheVariants.{Cut, Form}
 
 -- whether a datagram is a piece: it begins with the byte 02, with which no message begins
 abbrev pub is_piece : List ℕ → Bool
 is_piece [] = false
-is_piece (b ∷ bytes) = b == 2
+is_piece (b ∷ bytes) = b == PIECE
 
 -- a field that doesn't fit
 abbrev pub fitted : {A : Type 0} → Result A Short → Result A FragRefused
@@ -41,10 +43,10 @@ formed count h =
     else if not (h.zero_3 == 0) then Err (Form 3)
     else if nat_lt (2 ^ 62) h.boot then Err (Form 4)
     else if nat_lt (2 ^ 62) h.seq then Err (Form 12)
-    else if nat_lt h.total 60001 || nat_lt MOST_MESSAGE h.total then Err (Form 20)
-    else if not (h.place % 59000 == 0) || nat_le h.total h.place then Err (Form 24)
-    else if not (count == min 59000 (h.total - h.place)) then Err (Form 28)
+    else if nat_lt h.total (suc DATAGRAM) || nat_lt MOST_MESSAGE h.total then Err (Form 20)
+    else if not (h.place % PART == 0) || nat_le h.total h.place then Err (Form 24)
+    else if not (count == min PART (h.total - h.place)) then Err (Form 28)
     else Ok h
 
 abbrev pub header_of : List ℕ → Result Header FragRefused
-header_of datagram = fields_of datagram >>= λ h. formed (length (drop 28 datagram)) h
+header_of datagram = fields_of datagram >>= λ h. formed (length (drop HEADER datagram)) h

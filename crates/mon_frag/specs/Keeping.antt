@@ -5,7 +5,10 @@ use Rattle.std.specs.Str.{bytes_eq}
 use Rattle.mon_link.specs.declared.link.Peer.{Peer}
 use Rattle.mon_link.specs.declared.link.Peer.TheVariants.{Monitor, Client}
 use Rattle.mon_bytes.specs.Answers.{◌>>=◌}
+use Rattle.mon_frag.specs.declared.assembly.TheConstants.{MOST_OF_MONITOR, MOST_OF_CLIENT, MOST_OF_CLIENTS}
+use Rattle.mon_frag.specs.declared.cutting.TheConstants.{DATAGRAM}
 use Rattle.mon_frag.specs.declared.header.Header.{Header}
+use Rattle.mon_frag.specs.declared.header.TheConstants.{PART, HEADER}
 use Rattle.mon_frag.specs.declared.partial.Partial.{Partial}
 use Rattle.mon_frag.specs.declared.partial.Joined.{Joined}
 use Rattle.mon_frag.specs.declared.partial.Joined.TheVariants as joined
@@ -18,7 +21,7 @@ use Rattle.mon_frag.specs.Headers.{is_piece, header_of}
 
 -- its parts, of which none is there but one
 abbrev pub begun : Header → List ℕ → List (Option (List ℕ))
-begun h bytes = slice_set (replicate (piece_count h.total) None) (h.place / 59000) (Some bytes)
+begun h bytes = slice_set (replicate (piece_count h.total) None) (h.place / PART) (Some bytes)
 
 -- the message, once all of its parts are there
 abbrev pub grown : List (Option (List ℕ)) → Joined
@@ -33,7 +36,7 @@ joined_at parts k bytes (Some (Some known)) = if bytes_eq known bytes then joine
 abbrev pub joins : Partial → Header → List ℕ → Joined
 joins p h bytes =
     if p.total == h.total
-    then joined_at p.parts (h.place / 59000) bytes (slice_get p.parts (h.place / 59000))
+    then joined_at p.parts (h.place / PART) bytes (slice_get p.parts (h.place / PART))
     else joined.Clash
 
 -- ---- all that are under way, the newest last
@@ -59,10 +62,12 @@ abbrev pub or_else : Option ℕ → Option ℕ → Option ℕ
 or_else (Some i) other = Some i
 or_else None other = other
 
--- The oldest one that stands against a new one: a monitor has at most four, a client one, and all clients together 64.
+-- The oldest one that stands against a new one, where as many are kept as may be of a monitor, a client or all clients.
 abbrev pub oldest_against : Peer → List Partial → Option ℕ
-oldest_against (Monitor r) kept = first_of 4 (λ p. same_peer (Monitor r) p.from) kept
-oldest_against (Client c) kept = or_else (first_of 1 (λ p. same_peer (Client c) p.from) kept) (first_of 64 (λ p. is_client p.from) kept)
+oldest_against (Monitor r) kept = first_of MOST_OF_MONITOR (λ p. same_peer (Monitor r) p.from) kept
+oldest_against (Client c) kept =
+    or_else (first_of MOST_OF_CLIENT (λ p. same_peer (Client c) p.from) kept)
+    (first_of MOST_OF_CLIENTS (λ p. is_client p.from) kept)
 
 abbrev pub without : List Partial → Option ℕ → List Partial
 without kept None = kept
@@ -83,7 +88,7 @@ abbrev pub Outcome : Type 0
 Outcome = Result Taken FragRefused
 
 abbrev pub with_part : Header → List ℕ → Partial → Partial
-with_part h bytes p = record p { parts = slice_set p.parts (h.place / 59000) (Some bytes) }
+with_part h bytes p = record p { parts = slice_set p.parts (h.place / PART) (Some bytes) }
 
 abbrev pub after_join : List Partial → ℕ → Partial → Joined → Outcome
 after_join kept i more joined.Clash = Err Clash
@@ -105,8 +110,8 @@ piece_taken from bytes kept h = at_found from h bytes kept (position (is_of from
 
 abbrev pub taken : List Partial → Peer → List ℕ → Outcome
 taken kept from datagram =
-    if nat_lt 60000 (length datagram) then Err TooLong
-    else if is_piece datagram then header_of datagram >>= piece_taken from (drop 28 datagram) kept
+    if nat_lt DATAGRAM (length datagram) then Err TooLong
+    else if is_piece datagram then header_of datagram >>= piece_taken from (drop HEADER datagram) kept
     else Ok (record { answer = Some datagram; kept = kept })
 
 -- What a call answered and kept, where it should have taken `wanted`. A refusal changes nothing, and memory is wanted only

@@ -4,6 +4,8 @@ use Rattle.std.specs.List.{range_with_len}
 use Rattle.std.specs.Int.{div_ceil}
 use Rattle.byteorder.specs.Endian.{little_bytes}
 use Rattle.mon_bytes.specs.Forms.{u32_bytes}
+use Rattle.mon_frag.specs.declared.cutting.TheConstants.{DATAGRAM}
+use Rattle.mon_frag.specs.declared.header.TheConstants.{PART, PIECE}
 
 -- a number in eight bytes, the lowest first
 unfoldable pub u64_bytes : ℕ → List ℕ
@@ -11,15 +13,15 @@ u64_bytes n = little_bytes 8 n
 
 -- how many pieces there are of so many bytes
 abbrev pub piece_count : ℕ → ℕ
-piece_count total = div_ceil total 59000
+piece_count total = div_ceil total PART
 
--- the bytes of a message from a place on, 59,000 or the rest
+-- the bytes of a message from a place on, as many as a piece has or the rest
 abbrev pub part_at : List ℕ → ℕ → List ℕ
-part_at message place = take 59000 (drop place message)
+part_at message place = take PART (drop place message)
 
 -- what stands in front of them
 abbrev pub header : ℕ → ℕ → ℕ → ℕ → List ℕ
-header boot seq total place = 2 ∷ 0 ∷ 0 ∷ 0 ∷ u64_bytes boot ++ u64_bytes seq ++ u32_bytes total ++ u32_bytes place
+header boot seq total place = PIECE ∷ 0 ∷ 0 ∷ 0 ∷ u64_bytes boot ++ u64_bytes seq ++ u32_bytes total ++ u32_bytes place
 
 abbrev pub piece : List ℕ → ℕ → ℕ → ℕ → List ℕ
 piece message boot seq place = header boot seq (length message) place ++ part_at message place
@@ -27,6 +29,6 @@ piece message boot seq place = header boot seq (length message) place ++ part_at
 -- the datagrams of a message
 abbrev pub pieces_of : List ℕ → ℕ → ℕ → List (List ℕ)
 pieces_of message boot seq =
-    if nat_le (length message) 60000
+    if nat_le (length message) DATAGRAM
     then message ∷ []
-    else map (λ k. piece message boot seq (59000 * k)) (range_with_len 0 (piece_count (length message)))
+    else map (λ k. piece message boot seq (PART * k)) (range_with_len 0 (piece_count (length message)))

@@ -1,10 +1,11 @@
 ghost use Rattle.std.specs.Prelude.{◌≡◌, ◌<◌, nat_lt, if◌then◌else◌, None, ◌≤◌, ◌++◌, [], ◌∷◌, IfOk, IfSome, OnOk, OnErr, Some, length, slice_get};
 ghost use Rattle.std.specs.List.{position};
+ghost use Rattle.mon_frag.specs.declared.assembly.TheConstants.{MOST_OF_CLIENTS};
 ghost use Rattle.mon_frag.specs.Headers.{is_piece};
 ghost use Rattle.mon_frag.specs.Keeping.{Takes, taken, piece_taken, at_found, joined_with, first_of, oldest_against, is_client, is_of, same_peer, without};
 
 use crate::cutting::DATAGRAM;
-use crate::header::{Header, PART, behind_header, read_header};
+use crate::header::{Header, PART, PIECE, behind_header, read_header};
 use crate::partial::{Joined, Partial, is_same};
 use crate::refused::FragRefused;
 use mon_bytes::{Bytes, OutOfMemory};
@@ -12,8 +13,17 @@ use mon_link::Peer;
 use std::alloc::Global;
 use std::marker::Model;
 
-/// The messages of which not all pieces came yet: at most four of each monitor, one of each client, and 64 of all clients
-/// together.
+/// How many messages of one monitor are kept.
+pub const MOST_OF_MONITOR: usize = 4;
+
+/// How many messages of one client are kept.
+pub const MOST_OF_CLIENT: usize = 1;
+
+/// How many messages of all clients together are kept.
+pub const MOST_OF_CLIENTS: usize = 64;
+
+/// The messages of which not all pieces came yet: at most `MOST_OF_MONITOR` of each monitor, `MOST_OF_CLIENT` of each
+/// client, and `MOST_OF_CLIENTS` of all clients together.
 #[derive(Drop)]
 pub struct Assembly {
     kept: Vec<Partial>,
@@ -62,11 +72,11 @@ fn place_from_clients(kept: &[Partial]) -> Option<usize>
     kept.iter().position(|p| is_from_client(&p.from))
 }
 
-/// The place of the first one from a client, where there are 64 of them.
+/// The place of the first one from a client, where there are as many of them as are kept.
 fn first_from_clients(kept: &[Partial]) -> Option<usize>
-    ensures { result ≡ first_of 64 (λ p. is_client p.from) kept.now }
+    ensures { result ≡ first_of MOST_OF_CLIENTS (λ p. is_client p.from) kept.now }
 {
-    if kept.iter().filter(|p| is_from_client(&p.from)).count() < 64 {
+    if kept.iter().filter(|p| is_from_client(&p.from)).count() < MOST_OF_CLIENTS {
         return None;
     }
     place_from_clients(kept)
@@ -86,8 +96,8 @@ fn oldest(kept: &[Partial], from: &Peer) -> Option<usize>
     ensures within { IfSome result (λ i. i < length kept.now) }
 {
     match from {
-        Peer::Monitor(_) => first_from(kept, from, 4),
-        Peer::Client(_) => match first_from(kept, from, 1) {
+        Peer::Monitor(_) => first_from(kept, from, MOST_OF_MONITOR),
+        Peer::Client(_) => match first_from(kept, from, MOST_OF_CLIENT) {
             Some(own) => Some(own),
             None => first_from_clients(kept),
         },
@@ -180,8 +190,8 @@ impl Assembly {
         }
     }
 
-    /// Takes a datagram from a peer, and answers a message where one is whole then: the datagram itself, where it doesn't
-    /// begin with the byte 02, or that of which it is the last piece to come. A piece of a new message drops the oldest
+    /// Takes a datagram from a peer, and answers a message where one is whole then: the datagram itself, where it
+    /// doesn't begin with the byte 02, or that of which it is the last piece to come. A piece of a new message drops the oldest
     /// message of which there is no room for both: one of the same peer, or else, of a client, of any client.
     pub fn take(&mut self, from: Peer, datagram: &[u8]) -> Result<Option<Bytes>, FragRefused>
         ensures { Takes result self.old self.new (taken self.old from datagram.now) }
@@ -210,7 +220,7 @@ fn begins_a_piece(datagram: &[u8]) -> bool
     ensures { result ≡ is_piece datagram.now }
 {
     match datagram {
-        [first, ..] => *first == 2,
+        [first, ..] => *first == PIECE,
         [] => false,
     }
 }

@@ -2,7 +2,7 @@ ghost use Rattle.std.specs.Prelude.{◌≡◌, ◌+◌, ◌*◌, ◌≤◌, ◌<
 ghost use Rattle.mon_bytes.specs.declared.limits.TheConstants.{MOST_MESSAGE};
 ghost use Rattle.mon_frag.specs.Pieces.{u64_bytes, header, part_at, piece, pieces_of, piece_count};
 
-use crate::header::PART;
+use crate::header::{PART, PIECE};
 use mon_bytes::{Bytes, Items, Out, OutOfMemory, write_count};
 use std::alloc::Global;
 
@@ -28,7 +28,7 @@ fn put_u64(out: &mut Out, n: u64) -> Result<(), OutOfMemory>
 fn put_header(out: &mut Out, boot: u64, seq: u64, total: u32, place: u32) -> Result<(), OutOfMemory>
     ensures { OnOk result (out.new ≡ out.old ++ header boot seq total place) }
 {
-    out.put_bytes(&[2, 0, 0, 0])?;
+    out.put_bytes(&[PIECE, 0, 0, 0])?;
     put_u64(out, boot)?;
     put_u64(out, seq)?;
     write_count(out, total)?;

@@ -1,18 +1,23 @@
 ghost use Rattle.std.specs.Prelude.{◌≡◌, ◌<◌, drop, IfOk};
+ghost use Rattle.mon_frag.specs.declared.header.TheConstants.{HEADER};
 ghost use Rattle.mon_frag.specs.Headers.{fields_of, formed, header_of};
 
+use crate::cutting::DATAGRAM;
 use crate::refused::FragRefused;
 use mon_bytes::{Cursor, MOST_MESSAGE};
 use mon_types::GREATEST;
 
+/// The byte with which a piece begins. No message begins with it.
+pub const PIECE: u8 = 2;
+
 /// The bytes of a piece in front of those of its message.
-const HEADER: usize = 28;
+pub const HEADER: usize = 28;
 
 /// The most bytes of a message that a piece has.
 pub const PART: u32 = 59_000;
 
 /// The least bytes of a message that is cut.
-const LEAST: u32 = 60_001;
+const LEAST: u32 = DATAGRAM as u32 + 1;
 
 /// What stands in front of the bytes of a piece.
 #[derive(Clone, Copy)]
@@ -93,7 +98,7 @@ fn check(count: usize, header: Header) -> Result<Header, FragRefused>
 /// The bytes of a piece behind its header.
 #[tactic(auto, using(std::proofs::lemmas::List::drop_min))]
 pub fn behind_header(datagram: &[u8]) -> &[u8]
-    ensures { result.now ≡ drop 28 datagram.now }
+    ensures { result.now ≡ drop HEADER datagram.now }
 {
     let (_, bytes) = datagram.split_at(HEADER.min(datagram.len()));
     bytes

@@ -1,5 +1,6 @@
 ghost use Rattle.std.specs.Prelude.{◌≡◌, ◌+◌, ◌/◌, ◌<◌, ◌++◌, ◌&&◌, [], take, drop, Some, None, length, replicate, slice_get, slice_set, OnOk, OnErr, IfOk, ◌≢◌, unwrap_or, is_some};
 ghost use Rattle.std.specs.List.{list_all, flat_map};
+ghost use Rattle.mon_frag.specs.declared.header.TheConstants.{PART};
 ghost use Rattle.mon_frag.specs.Keeping.{begun, grown, joined_at, joins, is_of, same_peer};
 
 use crate::cutting::count_of;
@@ -195,7 +196,7 @@ impl Partial {
     /// What a piece does to it.
     pub fn join(&self, alloc: Global, header: Header, bytes: &[u8]) -> Result<Joined, OutOfMemory>
         ensures joined { IfOk result (λ joined. joined ≡ joins self.now header bytes.now) }
-        ensures room { IfOk result (λ joined. joined ≡ Joined.More → header.place / 59000 < length self.now.parts) }
+        ensures room { IfOk result (λ joined. joined ≡ Joined.More → header.place / PART < length self.now.parts) }
         ensures last { OnErr result (joins self.now header bytes.now ≢ Joined.Clash) }
     {
         if self.total != header.total {

@@ -1,10 +1,7 @@
-ghost use Rattle.std.specs.Prelude.{◌≡◌, IfOk};
-
 use mon_bytes::OutOfMemory;
 use mon_tx::Transaction;
 use mon_types::{Moment, Rank, RankSet, Which};
-use mon_wire::{Items, Message, Reply, Session, Timer, TryCopy};
-use std::alloc::Global;
+use mon_wire::{Items, Message, Reply, Session, Timer};
 use thiserror::Error;
 
 /// What a monitor sends once its transaction is durable.
@@ -14,30 +11,6 @@ pub enum Sent {
     Message { to: Rank, message: Message },
     /// An answer to a client.
     Reply { to: Session, reply: Reply },
-}
-
-impl Sent {
-    /// An equal message or answer, to the same.
-    pub fn copy(&self, alloc: Global) -> Result<Sent, OutOfMemory>
-        ensures { IfOk result (λ sent. sent ≡ self.now) }
-    {
-        Ok(match self {
-            Sent::Message { to, message } => Sent::Message {
-                to: *to,
-                message: message.copy(alloc)?,
-            },
-            Sent::Reply { to, reply } => Sent::Reply {
-                to: *to,
-                reply: reply.copy(alloc)?,
-            },
-        })
-    }
-}
-
-impl TryCopy for Sent {
-    fn try_copy(&self, alloc: Global) -> Result<Sent, OutOfMemory> {
-        self.copy(alloc)
-    }
 }
 
 /// What is done with a timer.
@@ -79,31 +52,6 @@ pub enum Next {
     RecentSync { from: Rank },
     /// It begins this value, and answers `origin` once it is committed.
     Begin { value: Transaction, origin: Origin },
-}
-
-impl Next {
-    /// An equal act.
-    pub fn copy(&self) -> Result<Next, OutOfMemory>
-        ensures { IfOk result (λ next. next ≡ self.now) }
-    {
-        Ok(match self {
-            Next::Stay => Next::Stay,
-            Next::Bootstrap => Next::Bootstrap,
-            Next::Elect => Next::Elect,
-            Next::Electing => Next::Electing,
-            Next::Win { quorum } => Next::Win { quorum: *quorum },
-            Next::Follow { leader, quorum } => Next::Follow {
-                leader: *leader,
-                quorum: *quorum,
-            },
-            Next::FullSync { from } => Next::FullSync { from: *from },
-            Next::RecentSync { from } => Next::RecentSync { from: *from },
-            Next::Begin { value, origin } => Next::Begin {
-                value: value.copy()?,
-                origin: *origin,
-            },
-        })
-    }
 }
 
 /// What an input makes a role do.

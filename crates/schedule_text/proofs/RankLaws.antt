@@ -1,22 +1,23 @@
 -- What is read of a set of ranks is spelled so, and what is spelled so is read.
 use Rattle.std.proofs.Common.{◌≡◌, ℕ, zero, suc, ◌+◌, ◌*◌, ◌-◌, ◌^◌, ◌<◌, ◌≤◌, Bool, true, false, ◌&&◌, cond, ltb, List, [], ◌∷◌, ◌++◌, length, replicate, Option, Some, None, Ok, IsTrue, refl, sym, ap, subst, ◌∙◌, append_assoc, append-nil, length-append, arith, inl, inr, ◌⊎◌}
-use Rattle.std.specs.Prelude.{is_some}
+use Rattle.std.specs.Prelude.{filter}
 use Rattle.std.specs.Bool.{Decides}
 use Rattle.std.specs.Cmp.{booleans_Decides}
 use Rattle.std.proofs.Math.Bool.{beq}
 use Rattle.std.specs.Cmp.Lexicographic.{pointwise}
 use Rattle.std.specs.Cmp.Lexicographic.{pointwise_decides}
 use Rattle.std.specs.Fmt.{decimal}
-use Rattle.std.specs.List.{list_all}
+use Rattle.std.specs.List.{list_all, range_with_len}
 use Rattle.std.specs.Str.{bytes_eq}
 use Rattle.std.proofs.lemmas.Bool.Decides.{nat_tests}
 use Rattle.std.proofs.lemmas.Slice.Eq.{bytes_eq-Decides}
 use Rattle.std.proofs.lemmas.Fmt.{digits_decimal, decimal_injective}
 use Rattle.std.proofs.Math.Seq.{set-append_seam}
-use Rattle.mon_types.specs.Ranks.{no_ranks, has, with_rank}
+use Rattle.mon_types.specs.Ranks.{no_ranks, has, with_rank, ranks_in}
 use Rattle.mon_bytes.proofs.Ascii.{both}
 use Rattle.schedule_text.specs.Fields.{cut, digit, ended}
 use Rattle.schedule_text.specs.Ranks.{behind, separator, ranks_from, ranks_text, flags_below, below, comes_next, behind_next, flags_at, set_of}
+use Rattle.schedule_text.proofs.Lengths.{at_most_20_digits}
 use Rattle.schedule_text.proofs.Numerals.{own}
 use Rattle.schedule_text.proofs.FieldLaws.{list_all-weaker, apart, joined, cut_joined, cut_again, ended_takes}
 
@@ -289,99 +290,58 @@ pub keeping_left : (n r : ℕ) (kept set : List Bool) → r < 15 → (ltb r n &&
 keeping_left n r kept set lt f h =
     to_next (λ k c. Keeping n k c kept set) r (keeping_leaves n r (15 - suc r) kept set f (from_here (λ k c. Keeping n k c kept set) r lt h))
 
--- looking for a rank
-pub record Finding (r count : ℕ) (set : List Bool) : Type 0 where
-  pub is : ranks_from count r set ≡ ranks_text set
+-- the text of these ranks, where there is one
+abbrev pub named : List ℕ → Option (List ℕ)
+named [] = None
+named (r ∷ rs) = Some (decimal r ++ behind 44 (named rs))
 
-pub finding_begins : (set : List Bool) → Finding 0 15 set
+named_from : (count r : ℕ) (set : List Bool) → ranks_from count r set ≡ named (filter (has set) (range_with_len r count))
+named_from zero r set = refl
+named_from (suc count) r set =
+    let next : r + 1 ≡ suc r = omega arith in
+    elim (cases_true (has set r)) [
+      | inl t ↦ rw (t, next) (ap (λ (more : Option (List ℕ)). Some (decimal r ++ behind 44 more)) (named_from count (suc r) set))
+      | inr f ↦ rw (f, next) (named_from count (suc r) set)
+    ]
+
+pub named_text : (set : List Bool) → ranks_text set ≡ named (ranks_in set)
 unfolding ranks_text
-finding_begins set = record { is = refl }
+named_text set = named_from 15 0 set
 
-finding_goes : (r count : ℕ) (set : List Bool) → has set r ≡ false → Finding r (suc count) set → Finding (suc r) count set
-finding_goes r count set f h = let here : ranks_from (suc count) r set ≡ ranks_from count (suc r) set = rw f refl in record { is = sym here ∙ h.is }
+-- what is written, once the first of these ranks is
+pub one_written : (first : Bool) (r : ℕ) (rs out : List ℕ) → (out ++ separator first ∷ decimal r) ++ behind 44 (named rs) ≡ out ++ behind (separator first) (named (r ∷ rs))
+one_written first r rs out = append_assoc out (separator first ∷ decimal r) (behind 44 (named rs))
 
-pub finding_left : (r : ℕ) (set : List Bool) → r < 15 → has set r ≡ false → Finding r (15 - r) set → Finding (r + 1) (15 - (r + 1)) set
-finding_left r set lt f h = to_next (λ k c. Finding k c set) r (finding_goes r (15 - suc r) set f (from_here (λ k c. Finding k c set) r lt h))
-
-found_next : (r count : ℕ) (set : List Bool) → has set r ≡ true → Finding r (suc count) set → is_some (ranks_text set) ≡ true
-found_next r count set t h =
-    let here : ranks_from (suc count) r set ≡ Some (decimal r ++ behind 44 (ranks_from count (suc r) set)) = rw t refl in
-    ap (λ (a : Option (List ℕ)). is_some a) (sym h.is ∙ here)
-
-pub found : (r : ℕ) (set : List Bool) → r < 15 → has set r ≡ true → Finding r (15 - r) set → true ≡ is_some (ranks_text set)
-found r set lt t h = sym (found_next r (15 - suc r) set t (from_here (λ k c. Finding k c set) r lt h))
-
-pub not_found : (set : List Bool) → Finding 15 0 set → false ≡ is_some (ranks_text set)
-not_found set h = ap (λ (a : Option (List ℕ)). is_some a) h.is
-
--- spelling a set: what is written, and what is still to be written
-pub record Putting (r count : ℕ) (first : Bool) (set : List Bool) (before out : List ℕ) : Type 0 where
-  pub is : out ++ behind (separator first) (ranks_from count r set) ≡ before ++ behind 61 (ranks_text set)
-
-pub putting_begins : (set : List Bool) (before : List ℕ) → Putting 0 15 true set before before
-unfolding ranks_text
-putting_begins set before = record { is = refl }
-
-putting_takes : (r count : ℕ) (first : Bool) (set : List Bool) (before out : List ℕ) → has set r ≡ true → Putting r (suc count) first set before out → Putting (suc r) count false set before (out ++ separator first ∷ decimal r)
-putting_takes r count first set before out t h =
-    let more = behind 44 (ranks_from count (suc r) set) in
-    let here : behind (separator first) (ranks_from (suc count) r set) ≡ separator first ∷ (decimal r ++ more) = rw t refl in
-    record { is = append_assoc out (separator first ∷ decimal r) more ∙ ap (λ (xs : List ℕ). out ++ xs) (sym here) ∙ h.is }
-
-putting_leaves : (r count : ℕ) (first : Bool) (set : List Bool) (before out : List ℕ) → has set r ≡ false → Putting r (suc count) first set before out → Putting (suc r) count first set before out
-putting_leaves r count first set before out f h =
-    let here : ranks_from (suc count) r set ≡ ranks_from count (suc r) set = rw f refl in
-    record { is = ap (λ (a : Option (List ℕ)). out ++ behind (separator first) a) (sym here) ∙ h.is }
-
-pub putting_taken : (r : ℕ) (first : Bool) (set : List Bool) (before out : List ℕ) → r < 15 → has set r ≡ true → Putting r (15 - r) first set before out → Putting (r + 1) (15 - (r + 1)) false set before (out ++ separator first ∷ decimal r)
-putting_taken r first set before out lt t h =
-    to_next (λ k c. Putting k c false set before (out ++ separator first ∷ decimal r)) r (putting_takes r (15 - suc r) first set before out t (from_here (λ k c. Putting k c first set before out) r lt h))
-
-pub putting_left : (r : ℕ) (first : Bool) (set : List Bool) (before out : List ℕ) → r < 15 → has set r ≡ false → Putting r (15 - r) first set before out → Putting (r + 1) (15 - (r + 1)) first set before out
-putting_left r first set before out lt f h =
-    to_next (λ k c. Putting k c first set before out) r (putting_leaves r (15 - suc r) first set before out f (from_here (λ k c. Putting k c first set before out) r lt h))
-
-pub putting_ends : (first : Bool) (set : List Bool) (before out : List ℕ) → Putting 15 0 first set before out → out ≡ before ++ behind 61 (ranks_text set)
-putting_ends first set before out h = sym (append-nil out) ∙ h.is
-
--- the length of a set's ranks
-pub record Counting (r count len : ℕ) (set : List Bool) : Type 0 where
-  pub so_far : len + length (behind 44 (ranks_from count r set)) ≡ length (behind 61 (ranks_text set))
-  pub most : len ≤ 21 * r
-
-same_length : (rest : Option (List ℕ)) → length (behind 44 rest) ≡ length (behind 61 rest)
+-- the length, whatever the separator
+pub same_length : (rest : Option (List ℕ)) → length (behind 44 rest) ≡ length (behind 61 rest)
 same_length None = refl
 same_length (Some rest) = refl
 
-zero_plus : (n m : ℕ) → n ≡ m → 0 + n ≡ m
-zero_plus n m e = omega arith
+-- the length, once the first of these ranks is counted
+pub one_counted : (r : ℕ) (rs : List ℕ) (len : ℕ) → (len + (1 + length (decimal r))) + length (behind 44 (named rs)) ≡ len + length (behind 44 (named (r ∷ rs)))
+one_counted r rs len =
+    let both_parts : length (decimal r ++ behind 44 (named rs)) ≡ length (decimal r) + length (behind 44 (named rs)) = length-append (decimal r) (behind 44 (named rs)) in
+    omega (arith, both_parts)
 
-pub counting_begins : (set : List Bool) → Counting 0 15 0 set
+short_from : (count r : ℕ) (set : List Bool) → r + count ≤ 15 → length (behind 44 (ranks_from count r set)) ≤ 21 * count
+short_from zero r set le = omega arith
+short_from (suc count) r set le =
+    let others = short_from count (suc r) set (omega arith) in
+    elim (cases_true (has set r)) [
+      | inl t ↦
+          let more = behind 44 (ranks_from count (suc r) set) in
+          let here : length (behind 44 (ranks_from (suc count) r set)) ≡ suc (length (decimal r ++ more)) = rw t refl in
+          let both_parts : length (decimal r ++ more) ≡ length (decimal r) + length more = length-append (decimal r) more in
+          let few : length (decimal r) ≤ 20 = at_most_20_digits r (omega arith) in
+          omega (arith, here, both_parts, few, others)
+      | inr f ↦
+          let here : length (behind 44 (ranks_from (suc count) r set)) ≡ length (behind 44 (ranks_from count (suc r) set)) = rw f refl in
+          omega (arith, here, others)
+    ]
+
+pub short_ranks : (set : List Bool) → length (behind 61 (ranks_text set)) ≤ 400
 unfolding ranks_text
-counting_begins set = record { so_far = zero_plus (length (behind 44 (ranks_from 15 0 set))) (length (behind 61 (ranks_from 15 0 set))) (same_length (ranks_from 15 0 set)); most = omega arith }
-
-counting_takes : (r count len digits : ℕ) (set : List Bool) → has set r ≡ true → digits ≡ length (decimal r) → digits ≤ 20 → Counting r (suc count) len set → Counting (suc r) count (len + (1 + digits)) set
-counting_takes r count len digits set t is le h =
-    let more = behind 44 (ranks_from count (suc r) set) in
-    let here : length (behind 44 (ranks_from (suc count) r set)) ≡ suc (length (decimal r ++ more)) = rw t refl in
-    let both_parts : length (decimal r ++ more) ≡ length (decimal r) + length more = length-append (decimal r) more in
-    record { so_far = omega (arith, here, both_parts, is, h.so_far); most = omega (arith, le, h.most) }
-
-counting_leaves : (r count len : ℕ) (set : List Bool) → has set r ≡ false → Counting r (suc count) len set → Counting (suc r) count len set
-counting_leaves r count len set f h =
-    let here : ranks_from (suc count) r set ≡ ranks_from count (suc r) set = rw f refl in
-    record { so_far = ap (λ (a : Option (List ℕ)). len + length (behind 44 a)) (sym here) ∙ h.so_far; most = omega (arith, h.most) }
-
-pub counting_taken : (r len digits : ℕ) (set : List Bool) → r < 15 → has set r ≡ true → digits ≡ length (decimal r) → digits ≤ 20 → Counting r (15 - r) len set → Counting (r + 1) (15 - (r + 1)) (len + (1 + digits)) set
-counting_taken r len digits set lt t is le h =
-    to_next (λ k c. Counting k c (len + (1 + digits)) set) r (counting_takes r (15 - suc r) len digits set t is le (from_here (λ k c. Counting k c len set) r lt h))
-
-pub counting_left : (r len : ℕ) (set : List Bool) → r < 15 → has set r ≡ false → Counting r (15 - r) len set → Counting (r + 1) (15 - (r + 1)) len set
-counting_left r len set lt f h =
-    to_next (λ k c. Counting k c len set) r (counting_leaves r (15 - suc r) len set f (from_here (λ k c. Counting k c len set) r lt h))
-
-pub counting_ends : (len : ℕ) (set : List Bool) → Counting 15 0 len set → len ≡ length (behind 61 (ranks_text set))
-counting_ends len set h = omega (arith, h.so_far)
+short_ranks set = omega (arith, short_from 15 0 set (omega arith), same_length (ranks_from 15 0 set))
 
 -- two sets are equal exactly where their flags are, one by one
 pub sets_decided : (xs ys : List Bool) → Decides (pointwise beq xs ys) (xs ≡ ys)

@@ -22,21 +22,7 @@ pub fn cut(separator: u8, bytes: &[u8]) -> (&[u8], Option<&[u8]>)
     ensures rest { option_copied result.1 ≡ (cut separator bytes.now).1 }
     ensures shorter { IfSome result.1 (λ x. length x.now < length bytes.now) }
 {
-    for (i, b) in bytes.iter().enumerate() {
-        if *b == separator {
-            return (&bytes[..i], Some(&bytes[i + 1..]));
-        }
-    }
-    (bytes, None)
-}
-
-/// The bytes up to the first line feed, and those after it.
-pub fn cut_line(bytes: &[u8]) -> (&[u8], Option<&[u8]>)
-    ensures first { result.0.now ≡ (cut 10 bytes.now).0 }
-    ensures rest { option_copied result.1 ≡ (cut 10 bytes.now).1 }
-    ensures shorter { IfSome result.1 (λ x. length x.now < length bytes.now) }
-{
-    match memchr(b'\n', bytes) {
+    match memchr(separator, bytes) {
         Some(end) => (&bytes[..end], Some(&bytes[end + 1..])),
         None => (bytes, None),
     }
@@ -239,7 +225,7 @@ impl<'a> Fields<'a> {
         match self.rest {
             None => Err(ScheduleKind::Word),
             Some(bytes) => {
-                let (field, rest) = cut(32, bytes);
+                let (field, rest) = cut(b' ', bytes);
                 if field.is_empty() {
                     return Err(ScheduleKind::Word);
                 }

@@ -34,7 +34,7 @@ fn connectivity_of(monitors: u8, ranks: Option<&[u8]>) -> Result<Rule, ScheduleK
 pub fn rule_of(monitors: u8, field: &[u8]) -> Result<Rule, ScheduleKind>
     ensures { Is (λ rule. rule) result (rule_of monitors field.now) }
 {
-    let (word, ranks) = cut(61, field);
+    let (word, ranks) = cut(b'=', field);
     if word == b"classic".as_slice() {
         return match ranks {
             None => Ok(Rule::Classic),

@@ -5,11 +5,10 @@ ghost use Rattle.schedule_text.specs.Ranks.{behind, ranks_text};
 ghost use Rattle.schedule_text.specs.Spelling.{request_text, plain_text, upset_text, event_line, rule_text, header, ended_line, schedule_text};
 
 use crate::event::{Event, Plain};
-use crate::ranks::RANKS;
 use crate::schedule::Schedule;
 use crate::words::{service_word, side_word, timer_word};
 use election_rules::Rule;
-use mon_types::{Rank, RankSet, Side};
+use mon_types::{RankSet, Side};
 use mon_wire::Request;
 
 #[tactic(auto, using(crate::proofs::Lengths::one_digit, crate::proofs::Lengths::more_digits, crate::proofs::Lengths::at_most_20_digits))]
@@ -98,11 +97,8 @@ fn ranks_len(set: RankSet) -> u64
     ensures most { result ≤ 400 }
 {
     let mut len = 0;
-    for n in 0..RANKS {
-        let rank = Rank::known(n);
-        if set.has(rank) {
-            len += 1 + decimal_len(u64::from(n));
-        }
+    for rank in set.iter() {
+        len += 1 + decimal_len(u64::from(rank.get()));
     }
     len
 }

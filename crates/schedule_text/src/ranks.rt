@@ -15,7 +15,7 @@ use std::alloc::AllocError;
 use std::fmt::Write;
 
 /// How many ranks there are.
-pub const RANKS: u8 = 15;
+const RANKS: u8 = 15;
 
 fn comes_next(rank: Rank, rest: Option<&[u8]>) -> bool
     ensures { result ≡ comes_next rank (option_copied rest.entry) }
@@ -23,7 +23,7 @@ fn comes_next(rank: Rank, rest: Option<&[u8]>) -> bool
     match rest {
         None => false,
         Some(bytes) => {
-            let (field, _) = cut(44, bytes);
+            let (field, _) = cut(b',', bytes);
             let mut digits = Buffer::new();
             let rank = digits.format(rank.get());
             field == rank.as_bytes()
@@ -37,7 +37,7 @@ fn behind_next(rest: Option<&[u8]>) -> Option<&[u8]>
     match rest {
         None => None,
         Some(bytes) => {
-            let (_, rest) = cut(44, bytes);
+            let (_, rest) = cut(b',', bytes);
             rest
         }
     }
@@ -92,12 +92,7 @@ pub fn below(monitors: u8, set: RankSet) -> RankSet
 pub fn has_ranks(set: RankSet) -> bool
     ensures { result ≡ is_some (ranks_text set) }
 {
-    for n in 0..RANKS {
-        if set.has(Rank::known(n)) {
-            return true;
-        }
-    }
-    false
+    set.iter().next().is_some()
 }
 
 /// A rank of the set behind its separator: the equals sign before the first, and a comma before each other.
@@ -114,12 +109,9 @@ pub fn put_ranks(out: &mut String, set: RankSet) -> Result<(), AllocError>
     ensures { OnOk result (string_bytes out.new ≡ string_bytes out.old ++ behind 61 (ranks_text set)) }
 {
     let mut first = true;
-    for n in 0..RANKS {
-        let rank = Rank::known(n);
-        if set.has(rank) {
-            put_rank(out, first, rank)?;
-            first = false;
-        }
+    for rank in set.iter() {
+        put_rank(out, first, rank)?;
+        first = false;
     }
     Ok(())
 }

@@ -4,7 +4,7 @@ ghost use Rattle.schedule_text.specs.Spelling.{HasText, most_events, schedule_te
 ghost use Rattle.schedule_text.specs.Schedule.{lines_of, on_first_line, header_at, event_line_at, events_at, whole_at, schedule_at, Gives};
 
 use crate::event::Event;
-use crate::fields::cut_line;
+use crate::fields::cut;
 use crate::header::header_at;
 use crate::line::event_at;
 use crate::refusal::{LineRefused, ScheduleKind, ScheduleRefused};
@@ -60,7 +60,7 @@ fn events_of(alloc: Global, monitors: u8, body: &[u8]) -> Result<Items<Event>, S
     let mut count: u32 = 0;
     let mut rest = body;
     loop {
-        let (line, after) = cut_line(rest);
+        let (line, after) = cut(b'\n', rest);
         let Some(after) = after else {
             break;
         };
@@ -94,7 +94,7 @@ fn whole(alloc: Global, bytes: &[u8]) -> Result<Schedule, ScheduleRefused>
     if bytes.is_empty() {
         return Err(at(1, ScheduleKind::Header));
     }
-    let (first, body) = cut_line(bytes);
+    let (first, body) = cut(b'\n', bytes);
     let Some(body) = body else {
         return Err(at(1, ScheduleKind::End));
     };

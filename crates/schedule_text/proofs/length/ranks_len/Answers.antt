@@ -1,24 +1,29 @@
-use Rattle.std.proofs.Common.{◌≡◌, ◌+◌, ◌-◌, length, decimal, sym, ap, subst, ◌∙◌}
-use Rattle.mon_types.specs.Ranks.{has}
-use Rattle.schedule_text.proofs.RankLaws.{at_end, Counting, counting_begins, counting_taken, counting_left, counting_ends}
-use Rattle.schedule_text.proofs.length.ranks_len.Goals.{then-has, else-has}
+use Rattle.std.proofs.Common.{◌≡◌, length, decimal, sym, ap, ◌∙◌, arith}
+use Rattle.schedule_text.specs.Ranks.{behind, ranks_text}
+use Rattle.schedule_text.proofs.RankLaws.{named, named_text, one_counted, same_length, short_ranks}
 use Rattle.schedule_text.proofs.length.ranks_len.Goals as goal
 
-pub loop-n-init : goal.loop-n-init
-loop-n-init c = counting_begins c.args.set
+pub loop-rank-init : goal.loop-rank-init
+loop-rank-init c =
+    let ranks = ap (λ rs. length (behind 44 (named rs))) (c.into_iter-rank-iterator.ensures.into_iter_gives ∙ c.iter-rank-items.ensures) in
+    let text = ap (λ t. length (behind 44 t)) (sym (named_text c.args.set)) in
+    omega (arith, ranks, text, same_length (ranks_text c.args.set))
 
-pub loop-n-preserved : goal.loop-n-preserved
-loop-n-preserved c =
-    let r = c.loop-n.n in
-    let set = c.args.set in
-    let test : c.has.result ≡ has set r = c.has.ensures ∙ ap (has set) c.known-rank.ensures in
-    elim c.if-has.branch [
-      | then-has w ↦
-          subst (λ len. Counting (r + 1) (15 - (r + 1)) len set) (sym w.len-is)
-          (counting_taken r c.loop-n.len w.decimal_len.result set c.loop-n-test.true (sym test ∙ w.if-has.true) (w.decimal_len.ensures.value ∙ ap (λ k. length (decimal k)) w.from.ensures) w.decimal_len.ensures.most c.loop-n.invariant)
-      | else-has w ↦
-          subst (λ len. Counting (r + 1) (15 - (r + 1)) len set) (sym w.len-is) (counting_left r c.loop-n.len set c.loop-n-test.true (sym test ∙ w.if-has.false) c.loop-n.invariant)
-    ]
+pub overflow_add-len-in-loop-rank : goal.overflow_add-len-in-loop-rank
+overflow_add-len-in-loop-rank c = omega (arith, c.loop-rank.invariant, short_ranks c.args.set, c.decimal_len.ensures.most)
+
+pub loop-rank-preserved : goal.loop-rank-preserved
+loop-rank-preserved c =
+    let digits : c.decimal_len.result ≡ length (decimal c.in-Some.rank) =
+    c.decimal_len.ensures.value ∙ ap (λ r. length (decimal r)) (c.from.ensures ∙ c.get.ensures.value) in
+    let step = one_counted c.in-Some.rank c.next.new.self c.loop-rank.len in
+    let ranks = ap (λ rs. length (behind 44 (named rs))) c.in-Some.ensures.steps in
+    omega (arith, digits, step, ranks, c.loop-rank.invariant)
 
 pub returns-clause-value : goal.returns-clause-value
-returns-clause-value c = counting_ends c.loop-n.len c.args.set (at_end (λ k m. Counting k m c.loop-n.len c.args.set) c.loop-n.n c.loop-n-test.false c.loop-n.auto.n-end c.loop-n.invariant)
+returns-clause-value c =
+    let ranks = ap (λ rs. length (behind 44 (named rs))) c.in-None.ensures.steps.0 in
+    omega (arith, ranks, c.loop-rank.invariant)
+
+pub returns-clause-most : goal.returns-clause-most
+returns-clause-most c = omega (arith, c.loop-rank.invariant, short_ranks c.args.set)

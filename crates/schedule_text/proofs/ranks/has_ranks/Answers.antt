@@ -1,18 +1,14 @@
-use Rattle.std.proofs.Common.{sym, ap, ◌∙◌}
-use Rattle.mon_types.specs.Ranks.{has}
-use Rattle.schedule_text.proofs.RankLaws.{at_end, Finding, finding_begins, finding_left, found, not_found}
+use Rattle.std.proofs.Common.{◌≡◌, ℕ, List, Option, Some, None, sym, ap, ◌∙◌}
+use Rattle.std.specs.Prelude.{is_some}
+use Rattle.std.specs.Iterator.{YieldsFirst}
+use Rattle.schedule_text.proofs.RankLaws.{named, named_text}
 use Rattle.schedule_text.proofs.ranks.has_ranks.Goals as goal
 
-pub loop-n-init : goal.loop-n-init
-loop-n-init c = finding_begins c.args.set
-
-pub loop-n-preserved : goal.loop-n-preserved
-loop-n-preserved c =
-    finding_left c.loop-n.n c.args.set c.loop-n-test.true (ap (has c.args.set) (sym c.known.ensures) ∙ sym c.has.ensures ∙ c.if-has.false) c.loop-n.invariant
-
-pub returns-then-has : goal.returns-then-has
-returns-then-has c =
-    found c.loop-n.n c.args.set c.loop-n-test.true (ap (has c.args.set) (sym c.known.ensures) ∙ sym c.has.ensures ∙ c.if-has.true) c.loop-n.invariant
+first_is : (ranks others : List ℕ) (first : Option ℕ) → YieldsFirst (λ r. r) ranks first others → is_some first ≡ is_some (named ranks)
+first_is ranks others None e = ap (λ rs. is_some (named rs)) (sym e.0)
+first_is ranks others (Some r) e = ap (λ rs. is_some (named rs)) (sym e)
 
 pub returns : goal.returns
-returns c = not_found c.args.set (at_end (λ k m. Finding k m c.args.set) c.loop-n.n c.loop-n-test.false c.loop-n.auto.n-end c.loop-n.invariant)
+returns c =
+    c.is_some.ensures ∙ first_is c.iter.result c.next.new.self c.next.result c.next.ensures.steps
+    ∙ ap (λ rs. is_some (named rs)) c.iter.ensures ∙ ap is_some (sym (named_text c.args.set))
