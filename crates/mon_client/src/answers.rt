@@ -16,7 +16,7 @@ use mon_tx::Transaction;
 use mon_types::Epoch;
 use std::alloc::Global;
 
-/// The own epoch.
+/// The monitor's epoch.
 pub fn epoch(alloc: Global, kv: &Kv) -> Epoch
     ensures { result ≡ epoch_of (readings_of kv.now) }
 {
@@ -61,12 +61,14 @@ fn text_length(command: &Command) -> u64
     }
 }
 
+/// Whether a command's value or text is longer than it may be.
 pub fn is_too_long(command: &Command) -> bool
     ensures { result ≡ is_too_long command.now }
 {
     text_length(command) > most_text(command)
 }
 
+/// The reply to a command whose value or text is too long.
 pub fn too_long(command: &Command) -> Reply
     ensures { result ≡ too_long command.now }
 {

@@ -35,6 +35,7 @@ fn busy() -> Reply
     }
 }
 
+/// Whether a monitor in this phase leads a quorum.
 pub fn is_leading(phase: Phase) -> bool
     ensures { result ≡ is_leading phase }
 {
@@ -44,6 +45,7 @@ pub fn is_leading(phase: Phase) -> bool
     )
 }
 
+/// Whether a monitor in this phase follows a leader.
 pub fn is_peon(phase: Phase) -> bool
     ensures { result ≡ is_peon phase }
 {

@@ -27,7 +27,7 @@ fn is_of_member(alloc: Global, kv: &Kv, view: &View, from: Rank, epoch_told: Epo
     ensures { result ≡
         (is_leading view.now.phase && epoch_told == epoch_of (readings_of kv.now) && has view.now.quorum from) }
 {
-    is_leading(view.phase) && epoch_told.get() == epoch(alloc, kv).get() && view.quorum.has(from)
+    is_leading(view.phase) && epoch_told == epoch(alloc, kv) && view.quorum.has(from)
 }
 
 /// Whether a message of an epoch is of the leader that the monitor follows.
@@ -35,7 +35,7 @@ fn is_of_leader(alloc: Global, kv: &Kv, view: &View, from: Rank, epoch_told: Epo
     ensures { result ≡
         (is_peon view.now.phase && epoch_told == epoch_of (readings_of kv.now) && from == view.now.leader) }
 {
-    is_peon(view.phase) && epoch_told.get() == epoch(alloc, kv).get() && from == view.leader
+    is_peon(view.phase) && epoch_told == epoch(alloc, kv) && from == view.leader
 }
 
 /// Whether a command of a peon wasn't taken before.

@@ -46,13 +46,15 @@ Reaches w wanted e (Err (stop.Spent which)) = wanted ≡ Err which
 abbrev pub remembering : {S : Type 0} → (S → State → State) → S → Course → Course
 remembering put s x = record x { state = put s x.state }
 
--- A plan was carried out: its transaction is written behind what was, and is done whichever changes it spells. The act that it
--- names comes next.
-pub record IsCarried {S : Type 0} (is : S → Course → Course) (old : Event) (p : Plan S) (new : Event) (n : Next) : Type 0 where
+-- A plan was carried out: its transaction is written behind what was, and is done whichever changes it spells. The act
+-- that it names comes next.
+pub record IsCarried {S : Type 0} (is : S → Course → Course) (old : Event) (p : Plan S) (new : Event)
+    (n : Next) : Type 0 where
   pub next : n ≡ p.next
   pub written : new.tx ≡ old.tx ++ p.tx
   pub done : (cs : List Change) → AllByRecursion Fits cs → p.tx ≡ spelled cs → Goes old new (done is cs p)
 
-abbrev pub Carries : {S : Type 0} → (S → Course → Course) → (old : Event) → Plan S → (new : Event) → Result Next OutOfMemory → Type 0
+abbrev pub Carries : {S : Type 0} → (S → Course → Course) → (old : Event) → Plan S → (new : Event) →
+    Result Next OutOfMemory → Type 0
 Carries is old p new (Ok n) = IsCarried is old p new n
 Carries is old p new (Err no_memory) = Unit {0}

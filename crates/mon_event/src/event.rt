@@ -27,8 +27,11 @@ use std::mem;
 /// An event under way: what it writes and sends, and what the monitor remembers by then.
 #[derive(Drop)]
 pub struct Event {
+    /// What it writes so far.
     pub tx: Transaction,
+    /// What it sends so far, in order.
     pub out: Items<Sent>,
+    /// What the monitor remembers by then.
     pub state: State,
 }
 
@@ -52,7 +55,7 @@ impl Event {
         Ok(stored.epoch())
     }
 
-    /// Writes a transaction behind what is written so far.
+    /// Writes a transaction behind what is written so far. After an `Err` a front of it may be there.
     pub fn write(&mut self, tx: Transaction) -> Result<(), OutOfMemory>
         ensures { OnOk result (self.new ≡ record self.old { tx = self.old.tx ++ tx }) }
     {
@@ -64,7 +67,7 @@ impl Event {
         Ok(())
     }
 
-    /// Sends messages and replies behind what is sent so far.
+    /// Sends messages and replies behind what is sent so far. After an `Err` the event isn't used again.
     pub fn send(&mut self, alloc: Global, out: Items<Sent>) -> Result<(), OutOfMemory>
         ensures { OnOk result (self.new ≡ record self.old { out = self.old.out ++ out }) }
     {
@@ -79,7 +82,7 @@ impl Event {
         Ok(())
     }
 
-    /// Answers a client.
+    /// Answers a client. After an `Err` the event isn't used again.
     pub fn reply(&mut self, to: Session, reply: Reply) -> Result<(), OutOfMemory>
         ensures { OnOk result (Goes self.old self.new (reply_to to reply)) }
     {
@@ -106,7 +109,8 @@ impl Event {
 
     /// From now on the monitor follows this leader in this quorum, without a lease.
     fn follow(&mut self, leader: Rank, quorum: RankSet)
-        ensures goes { Goes self.old self.new (λ x. peon_is (record { leader = leader; quorum = quorum; lease = None }) (in_phase phases.Peon x)) }
+        ensures goes { Goes self.old self.new
+            (λ x. peon_is (record { leader = leader; quorum = quorum; lease = None }) (in_phase phases.Peon x)) }
         ensures written { self.new.tx ≡ self.old.tx }
     {
         self.enter_phase(Phase::Peon);
@@ -157,7 +161,7 @@ impl Event {
         Ok(())
     }
 
-    /// Carries out a role's plan, and answers the act that the plan names.
+    /// Carries out a role's plan, and answers the act that the plan names. After an `Err` the event isn't used again.
     pub fn carry_out<S: RoleState>(
         &mut self,
         alloc: Global,

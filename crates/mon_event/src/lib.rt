@@ -1,5 +1,5 @@
-//! Of what one monitor's core is made: what it remembers, what its roles see of one another, and how their plans are carried out
-//! in an event.
+//! Of what one monitor's core is made: what it remembers, what its roles see of one another, and how their plans are
+//! carried out in an event.
 #![tactic(auto)]
 
 mod event;

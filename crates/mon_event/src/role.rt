@@ -8,16 +8,23 @@ use mon_msg::{Body, Timer};
 /// The roles of a monitor.
 #[derive(Clone, Copy, Debug, PartialEq, Eq)]
 pub enum Role {
+    /// Finds the others, and calls an election or copies a store.
     Prober,
+    /// Elects a leader, and measures who answers.
     Elector,
+    /// Leads a quorum.
     Leader,
+    /// Follows a leader.
     Peon,
+    /// Takes what clients ask, and answers it.
     Clients,
+    /// Gives its store to a monitor that fell behind.
     Provider,
+    /// Takes another's store where it fell behind itself.
     Requester,
 }
 
-/// The role that hears a message, where one does: what clients and monitors say to each other is nothing among monitors.
+/// The role that hears a message. None hears a request or a reply, which go between clients and monitors.
 pub fn hearer(body: &Body) -> Option<Role>
     ensures { result ≡ hearer body.now }
 {

@@ -1,4 +1,4 @@
-//! What each role remembers, as a part of what its monitor does.
+//! What each role remembers, as a part of what its monitor remembers.
 
 ghost use Rattle.std.specs.Prelude.{◌≡◌};
 ghost use Rattle.mon_msg.specs.Protocol.Course.{timers_in};

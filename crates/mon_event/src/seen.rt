@@ -21,6 +21,7 @@ use std::alloc::Global;
 
 // ---- phases
 
+/// Whether a monitor in this phase leads a quorum.
 pub fn is_leading(phase: Phase) -> bool
     ensures { result ≡ is_leading phase }
 {
@@ -30,6 +31,7 @@ pub fn is_leading(phase: Phase) -> bool
     )
 }
 
+/// Whether a monitor in this phase follows a leader.
 pub fn is_peon(phase: Phase) -> bool
     ensures { result ≡ is_peon phase }
 {
@@ -120,6 +122,7 @@ fn fits_rule(me: &Me, table: &Option<ScoreTable>) -> bool
     }
 }
 
+/// Whether what a message tells has a table exactly where scores count, if it may have one at all.
 fn has_fitting_table(me: &Me, body: &Body) -> bool
     ensures { result ≡ has_fitting_table me.now body.now }
 {
@@ -152,7 +155,8 @@ fn has_fitting_table(me: &Me, body: &Body) -> bool
     }
 }
 
-/// Whether a message is of another monitor of the same map.
+/// Whether a message is heard: it is of another monitor of the same map, and tells a table of scores exactly where the
+/// rule counts them.
 pub fn is_heard(me: &Me, message: &Message) -> bool
     ensures { result ≡ is_heard me.now message.now }
 {

@@ -23,14 +23,23 @@ use std::alloc::Global;
 /// What a running monitor remembers and its store doesn't keep.
 #[derive(Drop)]
 pub struct State {
+    /// Where the monitor stands.
     pub phase: Phase,
+    /// Its election, and its scores.
     pub elector: Elector,
+    /// Who else is there, as it probes.
     pub prober: Prober,
+    /// What it asked, heard and began as a leader. It counts in the phases in which the monitor leads.
     pub leader: Leader,
+    /// Whom it follows. It counts in the phase of a peon.
     pub peon: Peon,
+    /// The commands and the clients that wait.
     pub clients: Clients,
+    /// Who copies its store.
     pub provider: Provider,
+    /// How far it has copied another's store.
     pub requester: Requester,
+    /// Which timers are armed, and for when.
     pub timers: Timers,
 }
 
@@ -159,10 +168,13 @@ impl State {
         }
     }
 
-    /// From now on the monitor stands in this phase. Where that is another one than before, all timers but the one that pings are
-    /// disarmed.
+    /// From now on the monitor stands in this phase. Where that is another one than before, all timers but the one that
+    /// pings are disarmed.
     pub fn enter_phase(&mut self, phase: Phase)
-        ensures { state_of self.new ≡ record (state_of self.old) { phase = phase; timers = timers_in phase (state_of self.old) } }
+        ensures { state_of self.new ≡ record (state_of self.old) {
+          phase = phase;
+          timers = timers_in phase (state_of self.old);
+        } }
     {
         if !is_same_phase(self.phase, phase) {
             self.timers = self.timers.only_ping();
@@ -179,7 +191,8 @@ impl State {
 
     /// From now on the monitor follows this leader in this quorum, without a lease.
     pub fn follow(&mut self, leader: Rank, quorum: RankSet)
-        ensures { state_of self.new ≡ record (state_of self.old) { peon = record { leader = leader; quorum = quorum; lease = None } } }
+        ensures { state_of self.new ≡
+            record (state_of self.old) { peon = record { leader = leader; quorum = quorum; lease = None } } }
     {
         self.peon = Peon {
             leader,
@@ -191,7 +204,11 @@ impl State {
     /// From now on the monitor leads so, in the phase of that stage.
     pub fn lead(&mut self, leader: Leader)
         ensures { let p = phase_as leader.stage self.old.phase in
-            state_of self.new ≡ record (state_of self.old) { phase = p; timers = timers_in p (state_of self.old); leader = leader } }
+            state_of self.new ≡ record (state_of self.old) {
+              phase = p;
+              timers = timers_in p (state_of self.old);
+              leader = leader;
+            } }
     {
         let phase = phase_as(leader.stage, self.phase);
         self.enter_phase(phase);
@@ -207,7 +224,10 @@ impl State {
 
     /// Does what a plan does with timers.
     pub fn set_timers(&mut self, armings: &[Arming])
-        ensures { state_of self.new ≡ record (state_of self.old) { timers = all_armed (not (is_empty self.old.clients.queue)) armings.now self.old.timers } }
+        ensures { state_of self.new ≡
+            record (state_of self.old) {
+              timers = all_armed (not (is_empty self.old.clients.queue)) armings.now self.old.timers;
+            } }
     {
         let waits = self.has_queue();
         self.timers.set_all(waits, armings);

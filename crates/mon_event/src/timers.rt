@@ -98,12 +98,14 @@ impl Timers {
         self.ends[index_of(kind)]
     }
 
+    /// Whether a timer is armed.
     pub fn is_armed(&self, kind: Timer) -> bool
         ensures { result ≡ is_some (end_of kind self.now) }
     {
         self.end_of(kind).is_some()
     }
 
+    /// From now on the timer isn't armed.
     pub fn disarm(&mut self, kind: Timer)
         ensures { self.new ≡ disarmed kind self.old }
     {

@@ -62,7 +62,7 @@ pub fn is_end(kv: &Kv, place: &Place) -> Result<bool, OutOfMemory>
     Ok(found.done)
 }
 
-/// Whether a last chunk whose place and values take so many bytes has room for these entries.
+/// Whether a last chunk whose place and values take `bytes` bytes has room for these entries.
 fn are_last(entries: &[Entry], bytes: usize) -> bool
     ensures { result ≡ nat_le (40 + bytes + sum_by entry_length entries.now) 1048576 }
 {
@@ -72,7 +72,7 @@ fn are_last(entries: &[Entry], bytes: usize) -> bool
         <= MOST_BYTES
 }
 
-/// The same run without its last entry, behind which that one is left.
+/// A run without its last entry, so that this one is left behind it.
 fn without_last(run: KeyRun) -> KeyRun
     ensures entries { result.entries.items ≡ take (length run.entries.items - 1) run.entries.items }
     ensures done { result.done ≡ false }
@@ -85,7 +85,7 @@ fn without_last(run: KeyRun) -> KeyRun
     }
 }
 
-/// As many of the shared entries behind a place as a chunk takes whose place and values take so many bytes, and whether
+/// As many of the shared entries behind a place as a chunk takes whose place and values take `bytes` bytes, and whether
 /// none is left behind them. Each entry is copied once.
 fn longest_entries(kv: &Kv, place: &Place, bytes: usize) -> Result<KeyRun, OutOfMemory>
     ensures { IfOk result (IsTaken (left_after kv.now place.now.key) bytes) }
@@ -104,7 +104,7 @@ fn longest_entries(kv: &Kv, place: &Place, bytes: usize) -> Result<KeyRun, OutOf
     Ok(without_last(found))
 }
 
-/// The entries of a chunk whose place and values take so many bytes, and whether none is left behind them. There are
+/// The entries of a chunk whose place and values take `bytes` bytes, and whether none is left behind them. There are
 /// none where the values don't reach the last version.
 pub fn given_entries(
     kv: &Kv,

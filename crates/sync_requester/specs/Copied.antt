@@ -20,7 +20,8 @@ abbrev pub copied : (full : Bool) → (v : ℕ) → List (List Op) → List Entr
 copied true v values entries = record_changes v values ++ copy_changes entries
 copied false v values entries = learned v values
 
--- a call that appends these changes does what the protocol's step does, or tells which number runs out; or memory ran out
+-- a call that appends these changes does what the protocol's step does, or tells which number runs out; or memory ran
+-- out
 abbrev pub Copies : (full : Bool) → (v : ℕ) → List (List Op) → List Entry → Result Unit RoleStop → Type 0
 Copies full v values entries (Ok done) =
     (x : Course) → copy full v values entries x ≡ Ok (changed (copied full v values entries) x)

@@ -16,8 +16,8 @@ pub record IsHeard (w : Readings) (state : Requester) (f : ℕ) (x : Course) : T
   pub role : x.state.requester ≡ state
   pub ours : of_provider f x ≡ true
 
--- One of a monitor that begins to synchronise, in that epoch: the store tells all of this but the epoch and the count of its
--- starts.
+-- One of a monitor that begins to synchronise, in that epoch: the store tells all of this but the epoch and the count
+-- of its starts.
 pub record IsEntering (e : ℕ) (w : Readings) (x : Course) : Type 0 where
   pub epoch : epoch_of x.readings ≡ e
   pub kept : x.readings ≡ record w { epoch = x.readings.epoch; boot = x.readings.boot }

@@ -38,13 +38,14 @@ fn takes_chunks(stage: SyncStage) -> bool
 
 /// Whether a chunk is the one that was asked for: under the own cookie, for the own place.
 fn is_awaited(state: &Requester, cookie: Cookie, place: &Place) -> bool
-    ensures { result ≡ (takes_chunks state.now.stage && is_cookie cookie state.now.cookie && same_place place.now state.now.place) }
+    ensures { result ≡ (takes_chunks state.now.stage && is_cookie cookie state.now.cookie &&
+        same_place place.now state.now.place) }
 {
     takes_chunks(state.stage) && is_own_cookie(state, cookie) && is_same_place(place, &state.place)
 }
 
-/// What a chunk holds is written, each record and entry once: a whole copy takes them as they are, another one learns the
-/// values.
+/// What a chunk holds is written, each record and entry once: a whole copy takes them as they are, another one learns
+/// the values.
 fn write(
     tx: &mut Transaction,
     full: bool,
@@ -135,7 +136,8 @@ pub fn hear_chunk(
 ) -> Result<Plan<Requester>, RoleStop>
     requires short { AllByRecursion (λ ops. length (text ops) ≤ most) values.now }
     requires few { length values.now ≤ 65535 }
-    ensures plans { (f : ℕ) → PlansRow me.now now requester_is (IsHeard (readings_of kv.now) state.now f) (hear_chunk me.now now f cookie place.now values.now entries.now done) result }
+    ensures plans { (f : ℕ) → PlansRow me.now now requester_is (IsHeard (readings_of kv.now) state.now f)
+        (hear_chunk me.now now f cookie place.now values.now entries.now done) result }
     ensures leaves { IfOk result (λ plan. Leaves phase.Synchronizing plan.next plan.tx) }
 {
     if !is_awaited(state, cookie, place) {
@@ -177,7 +179,9 @@ fn end_copy(
     requires full { state.now.full ≡ true }
     requires short { AllByRecursion (λ ops. length (text ops) ≤ most) values.now }
     requires few { length values.now ≤ 65535 }
-    ensures plans { (me : Me) (w : Readings) (f : ℕ) → PlansRow me now requester_is (IsHeard w state.now f) (take_last me now place.now values.now entries.now last) result }
+    ensures plans { (me : Me) (w : Readings) (f : ℕ) →
+        PlansRow me now requester_is (IsHeard w state.now f)
+        (take_last me now place.now values.now entries.now last) result }
     ensures leaves { IfOk result (λ plan. Leaves phase.Synchronizing plan.next plan.tx) }
 {
     match take(alloc, state, place, values, entries, true) {
@@ -213,7 +217,9 @@ fn end_recent(
     requires recent { state.now.full ≡ false }
     requires short { AllByRecursion (λ ops. length (text ops) ≤ most) values.now }
     requires few { length values.now ≤ 65535 }
-    ensures plans { (me : Me) (w : Readings) (now f last : ℕ) → PlansRow me now requester_is (IsHeard w state.now f) (take_last me now place.now values.now entries.now last) result }
+    ensures plans { (me : Me) (w : Readings) (now f last : ℕ) →
+        PlansRow me now requester_is (IsHeard w state.now f)
+        (take_last me now place.now values.now entries.now last) result }
     ensures leaves { IfOk result (λ plan. Leaves phase.Synchronizing plan.next plan.tx) }
 {
     match take(alloc, state, place, values, entries, true) {
@@ -241,7 +247,9 @@ pub fn hear_last_chunk(
 ) -> Result<Plan<Requester>, RoleStop>
     requires short { AllByRecursion (λ ops. length (text ops) ≤ most) values.now }
     requires few { length values.now ≤ 65535 }
-    ensures plans { (me : Me) (w : Readings) (f : ℕ) → PlansRow me now requester_is (IsHeard w state.now f) (hear_last_chunk me now f cookie place.now values.now entries.now last) result }
+    ensures plans { (me : Me) (w : Readings) (f : ℕ) →
+        PlansRow me now requester_is (IsHeard w state.now f)
+        (hear_last_chunk me now f cookie place.now values.now entries.now last) result }
     ensures leaves { IfOk result (λ plan. Leaves phase.Synchronizing plan.next plan.tx) }
 {
     if !is_awaited(state, cookie, place) {

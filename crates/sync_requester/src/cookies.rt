@@ -16,7 +16,7 @@ ghost use Rattle.mon_plan.specs.Leaves.{Leaves};
 ghost use Rattle.mon_plan.specs.Plans.{PlansRow};
 ghost use Rattle.sync_requester.specs.Rows.{IsHeard};
 
-use crate::places::{first_place, is_same_cookie};
+use crate::places::first_place;
 use mon_bytes::{Items, OutOfMemory};
 use mon_msg::plan::Sent;
 use mon_msg::{Arming, Body, Cookie, Me, Next, Place, Plan, Requester, RoleStop, SyncStage, Timer};
@@ -37,9 +37,11 @@ fn awaits_cookie(stage: SyncStage) -> bool
     }
 }
 
-/// Whether a granted cookie isn't taken: it isn't the one that is awaited, or a whole copy would end below what it must reach.
+/// Whether a granted cookie isn't taken: it isn't the one that is awaited, or a whole copy would end below what it must
+/// reach.
 fn is_refused(stored: &Stored<'_>, state: &Requester, full: bool, last: Version) -> bool
-    ensures { result ≡ (not (awaits_cookie state.now.stage && same_flag full state.now.full) || (full && nat_lt last (readings_of stored.now).floor)) }
+    ensures { result ≡ (not (awaits_cookie state.now.stage && same_flag full state.now.full) ||
+        (full && nat_lt last (readings_of stored.now).floor)) }
 {
     if !awaits_cookie(state.stage) || full != state.full {
         return true;
@@ -49,7 +51,12 @@ fn is_refused(stored: &Stored<'_>, state: &Requester, full: bool, last: Version)
 
 /// What a requester remembers as it begins to take chunks.
 fn with_cookie(state: &Requester, cookie: Cookie, place: Place) -> Requester
-    ensures { result ≡ record state.now { stage = SyncStage.Chunks; cookie = Some cookie; start = place.version; place = place } }
+    ensures { result ≡ record state.now {
+      stage = SyncStage.Chunks;
+      cookie = Some cookie;
+      start = place.version;
+      place = place;
+    } }
 {
     Requester {
         provider: state.provider,
@@ -71,7 +78,8 @@ pub(crate) fn asking(
     now: Moment,
 ) -> Result<(Items<Sent>, Items<Arming>), OutOfMemory>
     ensures out { IfOk result (λ asked. asked.0 ≡ message_to me.now epoch body to ∷ []) }
-    ensures timers { IfOk result (λ asked. asked.1 ≡ arming.Arm Timer.Sync (min (now + length_of Timer.Sync) (2 ^ 62)) ∷ []) }
+    ensures timers { IfOk result
+        (λ asked. asked.1 ≡ arming.Arm Timer.Sync (min (now + length_of Timer.Sync) (2 ^ 62)) ∷ []) }
 {
     let mut out = Items::new(alloc);
     out.push(message(me, epoch, body, to))?;
@@ -121,7 +129,8 @@ pub fn hear_cookie(
     last: Version,
     now: Moment,
 ) -> Result<Plan<Requester>, RoleStop>
-    ensures plans { (f : ℕ) → PlansRow me.now now requester_is (IsHeard (readings_of stored.now) state.now f) (hear_cookie me.now now f full cookie last) result }
+    ensures plans { (f : ℕ) → PlansRow me.now now requester_is (IsHeard (readings_of stored.now) state.now f)
+        (hear_cookie me.now now f full cookie last) result }
     ensures leaves { IfOk result (λ plan. Leaves phase.Synchronizing plan.next plan.tx) }
 {
     if is_refused(stored, state, full, last) {
@@ -139,7 +148,7 @@ pub fn is_own_cookie(state: &Requester, cookie: Cookie) -> bool
 {
     match state.cookie {
         None => false,
-        Some(own) => is_same_cookie(cookie, own),
+        Some(own) => cookie == own,
     }
 }
 
@@ -147,12 +156,13 @@ pub fn is_own_cookie(state: &Requester, cookie: Cookie) -> bool
 fn is_no_grant(state: &Requester, cookie: Cookie) -> bool
     ensures { result ≡ (awaits_cookie state.now.stage && not state.now.full && same_cookie cookie no_cookie) }
 {
-    awaits_cookie(state.stage) && !state.full && is_same_cookie(cookie, NO_COOKIE)
+    awaits_cookie(state.stage) && !state.full && cookie == NO_COOKIE
 }
 
 /// Whether the provider tells that there is no cookie with which it could go on.
 fn is_lost(state: &Requester, cookie: Cookie) -> bool
-    ensures { result ≡ (is_cookie cookie state.now.cookie || (awaits_cookie state.now.stage && not state.now.full && same_cookie cookie no_cookie)) }
+    ensures { result ≡ (is_cookie cookie state.now.cookie ||
+        (awaits_cookie state.now.stage && not state.now.full && same_cookie cookie no_cookie)) }
 {
     is_own_cookie(state, cookie) || is_no_grant(state, cookie)
 }
@@ -163,7 +173,8 @@ pub fn hear_no_cookie(
     state: &Requester,
     cookie: Cookie,
 ) -> Result<Plan<Requester>, RoleStop>
-    ensures plans { (me : Me) (now f : ℕ) (w : Readings) → PlansRow me now requester_is (IsHeard w state.now f) (hear_no_cookie me now f cookie) result }
+    ensures plans { (me : Me) (now f : ℕ) (w : Readings) →
+        PlansRow me now requester_is (IsHeard w state.now f) (hear_no_cookie me now f cookie) result }
     ensures leaves { IfOk result (λ plan. Leaves phase.Synchronizing plan.next plan.tx) }
 {
     let kept = state.copy(alloc)?;

@@ -80,9 +80,9 @@ fn ask_cookie(
     })
 }
 
-/// A monitor begins to take a whole copy from another one, and gives up all that is shared but what it must reach and its own
-/// numbers; or, where it isn't `full`, to take the versions that it lacks. `epoch` is the epoch that it has now. No number runs
-/// out.
+/// A monitor begins to take a whole copy from another one, and gives up all that is shared but what it must reach and
+/// its own numbers; or, where it isn't `full`, to take the versions that it lacks. `epoch` is the epoch that it has
+/// now. No number runs out.
 pub fn enter(
     alloc: Global,
     kv: &Kv,
@@ -92,7 +92,8 @@ pub fn enter(
     full: bool,
     now: Moment,
 ) -> Result<Plan<Requester>, RoleStop>
-    ensures plans { PlansAct me.now now requester_is (IsEntering epoch (readings_of kv.now)) (if full then next.FullSync from else next.RecentSync from) result }
+    ensures plans { PlansAct me.now now requester_is (IsEntering epoch (readings_of kv.now))
+        (if full then next.FullSync from else next.RecentSync from) result }
     ensures stays { IfOk result (λ plan. plan.next ≡ next.Stay) }
 {
     let stored = Stored::of(alloc, kv);

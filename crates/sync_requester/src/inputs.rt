@@ -60,7 +60,8 @@ fn hear(
 ) -> Result<Plan<Requester>, RoleStop>
     requires input { IsTrue (is_told message.now.body) }
     requires fits { IsTrue (fits me.now.member.monitors message.now.body) }
-    ensures plans { (shared : List Entry) → PlansRow me.now now requester_is (IsMet me.now now (readings_of kv.now) view.now (λ s. s.requester) state.now)
+    ensures plans { (shared : List Entry) →
+        PlansRow me.now now requester_is (IsMet me.now now (readings_of kv.now) view.now (λ s. s.requester) state.now)
         (hears me.now shared now message.now.from message.now.epoch message.now.body) result }
     ensures leaves { IfOk result (λ plan. Leaves view.now.phase plan.next plan.tx) }
 {
@@ -120,7 +121,8 @@ fn step_replay(
     state: &Requester,
     now: Moment,
 ) -> Result<Plan<Requester>, RoleStop>
-    ensures plans { PlansRow me.now now requester_is (IsMet me.now now (readings_of kv.now) view.now (λ s. s.requester) state.now) (replay_step me.now now) result }
+    ensures plans { PlansRow me.now now requester_is
+        (IsMet me.now now (readings_of kv.now) view.now (λ s. s.requester) state.now) (replay_step me.now now) result }
     ensures leaves { IfOk result (λ plan. Leaves view.now.phase plan.next plan.tx) }
 {
     if !synchronizes(view.phase) {
@@ -146,7 +148,8 @@ fn ring(
     now: Moment,
 ) -> Result<Plan<Requester>, RoleStop>
     requires { IsTrue (is_own kind) }
-    ensures plans { PlansRow me.now now requester_is (IsMet me.now now (readings_of kv.now) view.now (λ s. s.requester) state.now) (timer_comes me.now now kind) result }
+    ensures plans { PlansRow me.now now requester_is
+        (IsMet me.now now (readings_of kv.now) view.now (λ s. s.requester) state.now) (timer_comes me.now now kind) result }
     ensures leaves { IfOk result (λ plan. Leaves view.now.phase plan.next plan.tx) }
 {
     match kind {
@@ -156,10 +159,11 @@ fn ring(
     }
 }
 
-/// What a requester does at a COOKIE, CHUNK, LAST_CHUNK or NO_COOKIE that is heard, and when one of its timers, which was armed,
-/// comes and is disarmed: its row of the protocol's table. Whatever isn't of its provider, isn't what it waits for, or comes
-/// while it doesn't synchronise does nothing, and takes no memory but for a copy of the place that is remembered. `Spent` names
-/// the version of the place behind a chunk, or the first one that is replayed, where that would pass 2^62.
+/// What a requester does at a COOKIE, CHUNK, LAST_CHUNK or NO_COOKIE that is heard, and when one of its timers, which
+/// was armed, comes and is disarmed: its row of the protocol's table. Whatever isn't of its provider, isn't what it
+/// waits for, or comes while it doesn't synchronise does nothing, and takes no memory but for a copy of the place that
+/// is remembered. `Spent` names the version of the place behind a chunk, or the first one that is replayed, where that
+/// would pass 2^62.
 pub fn step(
     alloc: Global,
     kv: &Kv,
@@ -171,7 +175,8 @@ pub fn step(
 ) -> Result<Plan<Requester>, RoleStop>
     requires input { IsTrue (is_input input.now) }
     requires fits { IsTrue (may_come me.now.member.monitors input.now) }
-    ensures plans { (shared : List Entry) → PlansRow me.now now requester_is (IsMet me.now now (readings_of kv.now) view.now (λ s. s.requester) state.now)
+    ensures plans { (shared : List Entry) →
+        PlansRow me.now now requester_is (IsMet me.now now (readings_of kv.now) view.now (λ s. s.requester) state.now)
         (row me.now shared now input.now) result }
     ensures leaves { IfOk result (λ plan. Leaves view.now.phase plan.next plan.tx) }
 {

@@ -1,5 +1,5 @@
-//! A monitor that fell behind and takes another's store: a whole copy with the versions committed meanwhile, or the versions
-//! that it lacks.
+//! A monitor that fell behind and takes another's store: a whole copy with the versions committed meanwhile, or the
+//! versions that it lacks.
 #![tactic(auto)]
 
 mod chunks;

@@ -1,20 +1,14 @@
-//! How far a synchronisation has come, and under which cookie.
+//! How far a synchronisation has come.
 
 ghost use Rattle.std.specs.Prelude.{◌≡◌, IfOk, if◌then◌else◌};
 ghost use Rattle.mon_bytes.specs.declared.entry.KeyPlace.TheVariants as key_place;
 ghost use Rattle.mon_msg.specs.Protocol.Copying.{first_place};
-ghost use Rattle.mon_msg.specs.Protocol.Places.{after_entries, same_cookie, same_key_place, same_place};
+ghost use Rattle.mon_msg.specs.Protocol.Places.{after_entries, same_key_place, same_place};
 
 use mon_bytes::{Entry, KeyPlace, OutOfMemory};
-use mon_msg::{Cookie, Place};
+use mon_msg::Place;
 use mon_types::Version;
 use std::alloc::Global;
-
-pub fn is_same_cookie(a: Cookie, b: Cookie) -> bool
-    ensures { result ≡ same_cookie a b }
-{
-    a.boot == b.boot && a.seq == b.seq
-}
 
 fn is_same_key_place(a: &KeyPlace, b: &KeyPlace) -> bool
     ensures { result ≡ same_key_place a.now b.now }
@@ -32,14 +26,15 @@ fn is_same_key_place(a: &KeyPlace, b: &KeyPlace) -> bool
     }
 }
 
+/// Whether two places are the same.
 pub fn is_same_place(a: &Place, b: &Place) -> bool
     ensures { result ≡ same_place a.now b.now }
 {
     a.version == b.version && is_same_key_place(&a.key, &b.key)
 }
 
-/// Where a synchronisation begins: a whole copy behind the provider's last version and before every key, another one behind
-/// the own last version.
+/// Where a synchronisation begins: a whole copy behind the provider's last version and before every key, another one
+/// behind the own last version.
 pub fn first_place(full: bool, last: Version, own: Version) -> Place
     ensures { result ≡ first_place full last own }
 {

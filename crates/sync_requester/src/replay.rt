@@ -27,8 +27,8 @@ use mon_tx::Transaction;
 use mon_types::{Moment, Version};
 use std::alloc::Global;
 
-/// These values, and behind them those of the versions from `from` up to but not including `to` for which there is room; or
-/// `None` where a record is missing among them or right behind them.
+/// These values, and behind them those of the versions from `from` up to but not including `to` for which there is
+/// room; or `None` where a record is missing among them or right behind them.
 fn with_more(
     alloc: Global,
     stored: &Stored<'_>,
@@ -37,7 +37,8 @@ fn with_more(
     to: u64,
     room: u64,
 ) -> Result<Option<Items<Transaction>>, OutOfMemory>
-    ensures { IfOk result (λ all. all ≡ option_map (λ more. values ++ more) (more_of (readings_of stored.now).record_of (to - from) room from)) }
+    ensures { IfOk result (λ all. all ≡ option_map
+        (λ more. values ++ more) (more_of (readings_of stored.now).record_of (to - from) room from)) }
 {
     let mut all = values;
     let mut left = room;
@@ -97,7 +98,7 @@ fn to_learn(
 fn end_with(
     alloc: Global,
     kept: Requester,
-    tx: Transaction,
+    mut tx: Transaction,
     end: Version,
 ) -> Result<Plan<Requester>, OutOfMemory>
     ensures plan { IfOk result (λ p. p ≡ record {
@@ -109,7 +110,6 @@ fn end_with(
     }) }
     ensures fit { Fits (Last end) }
 {
-    let mut tx = tx;
     put_last(&mut tx, end)?;
     put_unmark(&mut tx)?;
     Ok(Plan {
@@ -147,8 +147,8 @@ fn go_on(
     })
 }
 
-/// A step of the replay of the versions from `next` to `end`. After the last of them the copy is over; where a record is
-/// missing the monitor begins anew, and nothing of the step is written.
+/// A step of the replay of the versions from `next` to `end`. After the last of them the copy is over; where a record
+/// is missing the monitor begins anew, and nothing of the step is written.
 pub fn replay(
     alloc: Global,
     stored: &Stored<'_>,
@@ -157,7 +157,9 @@ pub fn replay(
     end: Version,
     now: Moment,
 ) -> Result<Plan<Requester>, RoleStop>
-    ensures plans { (me : Me) → PlansRow me now requester_is (Holds (readings_of stored.now) state.now) (step_in me now (SyncStage.Replay next end)) result }
+    ensures plans { (me : Me) →
+        PlansRow me now requester_is (Holds (readings_of stored.now) state.now)
+        (step_in me now (SyncStage.Replay next end)) result }
     ensures leaves { IfOk result (λ plan. Leaves phase.Synchronizing plan.next plan.tx) }
 {
     let values = step_values(alloc, stored, next, end)?;
