@@ -16,6 +16,13 @@ const RANGE: &str = "\
     0000006301057061786f730f66697273745f636f6d6d697474656408000000630000000000000004057061786f7363000000\
     000000006500000000000000";
 
+/// One that puts a value that waits as version 7 under number 201, and the version 9 that a copy must reach.
+const WAITING: &str = "\
+010500000001086d6f6e5f73796e63146c6173745f636f6d6d69747465645f666c6f6f720800000009000000000000000105\
+    7061786f73013705000000010000000001057061786f730e6c6173745f636f6d6d697474656408000000060000000000\
+    000001057061786f730a70656e64696e675f706e08000000c90000000000000001057061786f730970656e64696e675f\
+    76080000000700000000000000";
+
 /// What a transaction leaves of a map of nothing.
 fn made(alloc: Global, digits: &str) -> Result<Kv, Fail> {
     let tx = transaction(alloc, digits)?;
@@ -51,13 +58,19 @@ fn keys(alloc: Global, kv: &Kv) -> Result<String, Fail> {
     Ok(keys)
 }
 
-/// What a transaction leaves: the keys, and the size of the map.
+/// What a map of at most five keys tells: the keys, the size, the value that waits and the version that a copy must reach.
+fn summary(alloc: Global, kv: &Kv) -> Result<String, Fail> {
+    let keys = keys(alloc, kv)?;
+    let (size, pending, floor) = (kv.size(), kv.pending(), kv.floor());
+    Ok(format!(in alloc; "{keys}{size} {pending:?} {floor}")?)
+}
+
+/// What is told of what a transaction leaves.
 fn left(alloc: Global, digits: &str) -> Result<String, Fail> {
     let kv = made(alloc, digits)?;
-    let (keys, size) = (keys(alloc, &kv), kv.size());
+    let told = summary(alloc, &kv);
     drop(kv);
-    let keys = keys?;
-    Ok(format!(in alloc; "{keys}{size}")?)
+    told
 }
 
 #[test]
@@ -65,9 +78,14 @@ fn keys_stand_in_order_and_a_range_erases_the_numbers_in_it(rt: HostRuntime) -> 
     for (digits, told) in [
         (
             FOUR,
-            "kv/a monitor/boot_count paxos/1 paxos/last_committed 127",
+            "kv/a monitor/boot_count paxos/1 paxos/last_committed 127 None 0",
         ),
-        (RANGE, "paxos/1000 paxos/first_committed 70"),
+        (RANGE, "paxos/1000 paxos/first_committed 70 None 0"),
+        (
+            WAITING,
+            "mon_sync/last_committed_floor paxos/7 paxos/last_committed paxos/pending_pn paxos/pending_v 199 \
+             Some(Pending { v: 7, pn: 201, value: [1, 0, 0, 0, 0] }) 9",
+        ),
     ] {
         assert!(rt; left(rt.alloc(), digits)?.as_str() == told, "{told}");
     }
@@ -119,7 +137,7 @@ fn put_thousand(alloc: Global, kv: &mut Kv, first: u64) -> Result<(), Fail> {
     Ok(done?)
 }
 
-/// Puts 100,000 versions in their order, and erases all but ten at either end.
+/// Puts 100,000 versions in their order, and erases those from 11 to 99,989.
 fn put_and_erase(alloc: Global, kv: &mut Kv) -> Result<(), Fail> {
     for thousand in 0..100u64 {
         put_thousand(alloc, kv, 1_000 * thousand)?;
@@ -136,9 +154,9 @@ fn stay(kv: &Kv, first: u64, second: u64) -> (bool, bool) {
     (kv.stored(first).is_some(), kv.stored(second).is_some())
 }
 
-// A tree that was a list would be too deep for the stack.
+// A tree that was a list would be too deep for the stack. No more is seen of its height.
 #[test]
-fn keys_that_come_in_order_make_a_low_tree(rt: HostRuntime) -> Result<(), Fail> {
+fn keys_that_come_in_order_make_no_list(rt: HostRuntime) -> Result<(), Fail> {
     let mut kv = Kv::empty(rt.alloc());
     let done = put_and_erase(rt.alloc(), &mut kv);
     let (low, high) = (stay(&kv, 10, 11), stay(&kv, 99_989, 99_990));

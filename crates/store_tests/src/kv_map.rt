@@ -20,20 +20,25 @@ fn put_all(alloc: Global, map: &mut KvMap, keys: &str) -> Result<(), Fail> {
     Ok(())
 }
 
-/// The size of a map of keys of one byte, with the longest values.
-fn size(alloc: Global, keys: &str) -> Result<u64, Fail> {
+/// The size of a map that was given the longest values under keys of one byte, and its second key, or a point for none.
+fn filled(alloc: Global, map: &mut KvMap, keys: &str) -> Result<String, Fail> {
+    put_all(alloc, map, keys)?;
+    let second = str::from_utf8(map.key(1).unwrap_or(b"."))?;
+    Ok(format!(in alloc; "{} {second}", map.size())?)
+}
+
+/// The same of a new map.
+fn told(alloc: Global, keys: &str) -> Result<String, Fail> {
     let mut map = KvMap::new(alloc);
-    let done = put_all(alloc, &mut map, keys);
-    let size = map.size();
+    let told = filled(alloc, &mut map, keys);
     drop(map);
-    done?;
-    Ok(size)
+    told
 }
 
 #[test]
 fn a_map_is_as_long_as_its_entries(rt: HostRuntime) -> Result<(), Fail> {
-    for (keys, wanted) in [("", 4u64), ("ab", 131_088), ("abcde", 327_714)] {
-        assert_eq!(rt; size(rt.alloc(), keys)?, wanted, "{keys}");
+    for (keys, wanted) in [("", "4 ."), ("ab", "131088 b"), ("ecadb", "327714 b")] {
+        assert_eq!(rt; told(rt.alloc(), keys)?.as_str(), wanted, "{keys}");
     }
     Ok(())
 }

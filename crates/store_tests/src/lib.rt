@@ -1,4 +1,4 @@
-//! Tests of bytes that other programs spelled or spoiled, of what stores leave on disks, of files whose system fails, and of the height of trees.
+//! Tests of bytes that other programs spelled or spoiled, of what stores leave on disks, of files whose system fails, and of a tree that is no list.
 #![tactic(auto)]
 
 #[cfg(test)]

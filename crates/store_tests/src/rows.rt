@@ -125,7 +125,7 @@ fn is_told(alloc: Global, row: &str) -> Result<bool, Fail> {
 }
 
 #[test]
-fn worked_bytes_and_refusals(rt: HostRuntime) -> Result<(), Fail> {
+fn bytes_are_spelled_again_or_refused_at_their_first_fault(rt: HostRuntime) -> Result<(), Fail> {
     for row in ROWS.lines() {
         assert!(rt; is_told(rt.alloc(), row)?, "{row}");
     }

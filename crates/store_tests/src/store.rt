@@ -208,13 +208,14 @@ fn step<D: Disk>(alloc: Global, store: &mut Store<D>, word: &str) -> Result<Stri
     Ok(format!(in alloc; "{answer:?}")?)
 }
 
-/// The answers to two steps.
+/// The answers to two steps, and `broken` where the store is.
 fn answers<D: Disk>(alloc: Global, store: &mut Store<D>, steps: [&str; 2]) -> Result<String, Fail>
     requires { IsSound D.state store.old }
 {
     let first = step(alloc, store, steps[0])?;
     let second = step(alloc, store, steps[1])?;
-    Ok(format!(in alloc; "{first} {second}")?)
+    let broken = if store.is_broken() { " broken" } else { "" };
+    Ok(format!(in alloc; "{first} {second}{broken}")?)
 }
 
 /// Whether a disk holds these bytes.
@@ -355,9 +356,9 @@ fn begun(alloc: Global, file: &[u8], call: u64, image: u8) -> Result<String, Fai
     }
 }
 
-/// Whether two steps failed, and what is found is this.
+/// Whether two steps failed and the store is broken, and what is found is this.
 fn failed(told: &str, found: &str) -> bool {
-    told.starts_with("Err(DiskFault) Err(Broken) ") && told.ends_with(found)
+    told.starts_with("Err(DiskFault) Err(Broken) broken ") && told.ends_with(found)
 }
 
 /// Whether a file stays where disk B fails so.
@@ -365,24 +366,25 @@ fn stays(alloc: Global, file: &[u8], call: u64, image: u8) -> Result<bool, Fail>
     Ok(failed(begun(alloc, file, call, image)?.as_str(), " x.."))
 }
 
-/// Whether it stays at each call that begins it anew. Call 1 of disk B is made as the store is opened, and the calls 2 to 7 begin the file.
-fn always_stays(alloc: Global, file: &[u8]) -> Result<bool, Fail> {
+/// The first call and image with which it doesn't stay, of those that begin it anew. Call 1 of disk B is made as the store is opened, and the
+/// calls 2 to 7 begin the file.
+fn where_lost(alloc: Global, file: &[u8]) -> Result<Option<(u64, u8)>, Fail> {
     for call in 2u64..=7 {
         for image in 0u8..=3 {
             if !stays(alloc, file, call, image)? {
-                return Ok(false);
+                return Ok(Some((call, image)));
             }
         }
     }
-    Ok(true)
+    Ok(None)
 }
 
-/// Whether the long file does.
-fn long_stays(alloc: Global) -> Result<bool, Fail> {
+/// Where the long file doesn't stay.
+fn long_lost(alloc: Global) -> Result<Option<(u64, u8)>, Fail> {
     let file = long(alloc)?;
-    let stays = always_stays(alloc, &file);
+    let lost = where_lost(alloc, &file);
     drop(file);
-    stays
+    lost
 }
 
 /// What becomes of it where nothing fails.
@@ -395,7 +397,7 @@ fn long_begun(alloc: Global) -> Result<String, Fail> {
 
 #[test]
 fn a_long_file_is_begun_anew_or_stays(rt: HostRuntime) -> Result<(), Fail> {
-    assert!(rt; long_stays(rt.alloc())?);
+    assert_eq!(rt; long_lost(rt.alloc())?, None);
     let left = long_begun(rt.alloc())?;
     assert_eq!(rt; left.as_str(), "Ok(true) Ok(false) false true x..");
     Ok(())

@@ -2,7 +2,7 @@ use mon_tx::{Area, Key};
 use std::test::Fail;
 
 #[test]
-fn names_of_keys(rt: HostRuntime) -> Result<(), Fail> {
+fn keys_and_areas_have_these_names(rt: HostRuntime) -> Result<(), Fail> {
     let alloc = rt.alloc();
     for (key, text) in [
         (Key::FirstCommitted, "first_committed"),

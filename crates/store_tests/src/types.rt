@@ -10,7 +10,7 @@ fn rank(n: u8) -> Result<Rank, Fail> {
 }
 
 #[test]
-fn next_proposal_numbers(rt: HostRuntime) -> Result<(), Fail> {
+fn the_next_number_of_a_rank_is_above_both(rt: HostRuntime) -> Result<(), Fail> {
     for (last, gt, r, next) in [
         (0u64, 0u64, 2u8, Some(102u64)),
         (199, 0, 1, Some(201)),
