@@ -10,3 +10,4 @@ mod reading;
 pub use command::{MOST_MAP, MOST_VALUE, make};
 pub use inc::KvInc;
 pub use map::KvMap;
+pub use mon_bytes::Decode;

@@ -11,14 +11,12 @@ ghost use Rattle.map_kv.specs.Kept.{pairs, held, entry_size};
 use crate::encode::put_name;
 use crate::inc::KvInc;
 use mon_bytes::{Name, Out, OutOfMemory, Text, write_count, write_text};
+use mon_types::GREATEST;
 use std::alloc::Global;
 use std::collections::BTreeMap;
 use std::collections::btree_map::Iter;
 use std::marker::Model;
 use std::str;
-
-/// No map is longer than so many bytes: 2 ^ 62.
-const MOST: u64 = 4611686018427387904;
 
 /// A map from names to texts, in ascending order of key.
 #[derive(Debug, Drop)]
@@ -168,7 +166,7 @@ impl KvMap {
         ensures err { OnErr result (self.new ≡ self.old) }
     {
         let size = self.size_with(&key, &value);
-        if size > MOST {
+        if size > GREATEST {
             return Err(OutOfMemory);
         }
         self.entries.insert(key.into_string(), value)?;
@@ -204,8 +202,8 @@ impl KvMap {
         }
     }
 
-    /// The map's bytes, in the grammar of maps. It is for maps that have a text: with fewer than 2 ^ 32 entries, each value
-    /// of fewer than 2 ^ 32 bytes.
+    /// The map's bytes, in the grammar of maps. It is for maps that have a text: with fewer than 2 ^ 32 entries, each
+    /// value of fewer than 2 ^ 32 bytes.
     pub fn encode(&self) -> Result<Vec<u8>, OutOfMemory>
         requires { MapIsShort self.now }
         ensures text { IfOk result (λ bytes. bytes.items ≡ map_text self.now) }

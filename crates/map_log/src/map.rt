@@ -6,11 +6,9 @@ use crate::encode::put_inc;
 use crate::inc::LogInc;
 use crate::surplus::{inc_size, surplus};
 use mon_bytes::{Out, OutOfMemory, write_count};
+use mon_types::GREATEST;
 use std::alloc::Global;
 use std::marker::Model;
-
-/// No map is longer than so many bytes: 2 ^ 62.
-const MOST: u64 = 4611686018427387904;
 
 /// The entries of the cluster log, the oldest first.
 #[derive(Debug, Drop)]
@@ -77,7 +75,7 @@ impl LogMap {
         ensures err { OnErr result (self.new ≡ self.old) }
     {
         let size = self.size + inc_size(&inc);
-        if size > MOST {
+        if size > GREATEST {
             return Err(OutOfMemory);
         }
         self.entries.push(inc)?;
@@ -94,8 +92,8 @@ impl LogMap {
         self.size = size;
     }
 
-    /// Appends the entry, and then drops entries from the front while there are more than 500 or the encoded map is longer
-    /// than 12,288 bytes. After `OutOfMemory` the map is unchanged.
+    /// Appends the entry, and then drops entries from the front while there are more than 500 or the encoded map is
+    /// longer than 12,288 bytes. After `OutOfMemory` the map is unchanged.
     pub fn apply(&mut self, inc: &LogInc) -> Result<(), OutOfMemory>
         ensures ok { OnOk result (self.new ≡ with_inc self.old inc.now) }
         ensures err { OnErr result (self.new ≡ self.old) }
@@ -106,8 +104,8 @@ impl LogMap {
         Ok(())
     }
 
-    /// The map's bytes, in the grammar of maps. It is for maps that have a text: with fewer than 2 ^ 32 entries, each text of
-    /// fewer than 2 ^ 32 bytes.
+    /// The map's bytes, in the grammar of maps. It is for maps that have a text: with fewer than 2 ^ 32 entries, each
+    /// text of fewer than 2 ^ 32 bytes.
     pub fn encode(&self) -> Result<Vec<u8>, OutOfMemory>
         requires { MapIsShort self.now }
         ensures text { IfOk result (λ bytes. bytes.items ≡ map_text self.now) }

@@ -20,5 +20,5 @@ invariant_of-self-2 c =
       sorted = sorted;
       each = rw c.in_ok-insert.ensures.entries (each-insert_entry c.into_string.result c.args.value c.self.inside.entries.entries new c.self.invariant.each);
       sum = c.size_with-size.ensures.size ∙ kept_size c.insert.new.self.entries _ sorted is;
-      most = omega (arith, c.if-size-gt-MOST.false);
+      most = omega (arith, c.if-size-gt-GREATEST.false);
     }

@@ -9,5 +9,5 @@ invariant_of-self-2 c =
     record {
       each = rw c.in_ok-push.ensures.items (each-append es c.args.inc c.self.invariant.each (c.inc_size.ensures.rank, c.inc_size.ensures.text));
       sum = omega (arith, ap size_of c.in_ok-push.ensures.items, size_of-append es c.args.inc, c.inc_size.ensures.size, c.self.invariant.sum);
-      most = omega (arith, c.if-size-gt-MOST.false);
+      most = omega (arith, c.if-size-gt-GREATEST.false);
     }
