@@ -94,7 +94,7 @@ fn the_higher_total_is_first_under_connectivity_alone(rt: HostRuntime) -> Result
     ];
     for (rule, score, first, then) in &rows {
         let is_before = is_before(rule, *score, *first, *then)?;
-        assert!(rt; is_before, "{first} before {then}");
+        assert!(rt; is_before, "{rule:?} {score}: {first} before {then}");
     }
     Ok(())
 }

@@ -233,7 +233,7 @@ fn is_told(alloc: Global, row: &str) -> Result<bool, Fail> {
 }
 
 #[test]
-fn the_fault_of_a_changed_byte(rt: HostRuntime) -> Result<(), Fail> {
+fn a_changed_byte_is_refused_at_its_first_fault(rt: HostRuntime) -> Result<(), Fail> {
     for row in FAULTS.lines() {
         assert!(rt; is_told(rt.alloc(), row)?, "{row}");
     }
