@@ -27,13 +27,14 @@ use Rattle.paxos_leader.specs.declared.draft.Draft.{Draft}
 abbrev pub under_way : List Change → List Sent → Leader → Course → Course
 under_way cs sends l x = x ▸ changed cs ▸ sending sends ▸ leader_is l
 
--- A call goes on with a draft: where its transaction spells the changes so far, the plan that is answered does what was done
--- so far and then what is wanted.
+-- A call goes on with a draft: where its transaction spells the changes so far, the plan that is answered does what was
+-- done so far and then what is wanted.
 abbrev pub GoesOn : Me → (now : ℕ) → (At : Course → Type 0) → Draft → (wanted : Course → Result Course Which)
     → Result (Plan Leader) RoleStop → Type 0
 GoesOn me now At d wanted result =
     (cs : List Change) → AllByRecursion Fits cs → d.tx ≡ spelled cs
-    → Plans me now leads (λ x. At (under_way cs d.out d.state x)) (λ x. x) (λ x. wanted (under_way cs d.out d.state x)) result
+    → Plans me now leads (λ x. At (under_way cs d.out d.state x)) (λ x. x)
+    (λ x. wanted (under_way cs d.out d.state x)) result
 
 -- An event under way at a leader whose store tells this epoch and this last version.
 pub record IsHere (e v : ℕ) (y : Course) : Type 0 where

@@ -36,7 +36,8 @@ without_found l = record l { found = None }
 
 -- a member answered with all that it has, told its last version, and this is found then
 abbrev pub with_answer : (f last : ℕ) → Option Found → Leader → Leader
-with_answer f last found l = record l { answered = with_rank l.answered f; lasts = slice_set l.lasts f last; found = found }
+with_answer f last found l =
+    record l { answered = with_rank l.answered f; lasts = slice_set l.lasts f last; found = found }
 
 -- ---- a leader whose value is committed
 

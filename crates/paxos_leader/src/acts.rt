@@ -45,7 +45,8 @@ fn tell_lease(
     quorum: RankSet,
     last: Version,
 ) -> Result<Items<Sent>, OutOfMemory>
-    ensures { IfOk result (λ sent. sent ≡ out ++ map (message_to me.now epoch (Body.Lease last)) (members_of me.now quorum)) }
+    ensures { IfOk result (λ sent. sent ≡ out ++ map (message_to me.now epoch (Body.Lease last))
+        (members_of me.now quorum)) }
 {
     let lease = Body::Lease { last };
     tell(alloc, out, me, epoch, quorum, lease)
@@ -60,7 +61,8 @@ pub(crate) fn be_active(
     draft: Draft,
     now: Moment,
 ) -> Result<Plan<Leader>, OutOfMemory>
-    ensures goes { IfOk result (λ p. GoesOn me.now now (IsHere epoch last) draft (λ y. Ok (active me.now now y)) (Ok p)) }
+    ensures goes { IfOk result
+        (λ p. GoesOn me.now now (IsHere epoch last) draft (λ y. Ok (active me.now now y)) (Ok p)) }
     ensures stays { IfOk result (λ p. p.next ≡ Next.Stay) }
 {
     let Draft { tx, out, state } = draft;
@@ -84,7 +86,12 @@ fn valued(
     value: Transaction,
     origin: Option<Origin>,
 ) -> Leader
-    ensures { result ≡ record state { stage = stage; accepted = only_one me.now.member.rank; value = Some value; origin = origin } }
+    ensures { result ≡ record state {
+      stage = stage;
+      accepted = only_one me.now.member.rank;
+      value = Some value;
+      origin = origin;
+    } }
 {
     state.stage = stage;
     state.accepted = only(me);
@@ -103,7 +110,8 @@ fn ask(
     version: Version,
     value: &Transaction,
 ) -> Result<Items<Sent>, OutOfMemory>
-    ensures { IfOk result (λ sent. sent ≡ out ++ map (message_to me.now epoch (Body.Begin state.now.pn version value.now))
+    ensures { IfOk result (λ sent.
+        sent ≡ out ++ map (message_to me.now epoch (Body.Begin state.now.pn version value.now))
         (members_of me.now state.now.quorum)) }
 {
     let begin = Body::Begin {
@@ -150,7 +158,8 @@ pub(crate) fn begin_with(
     now: Moment,
 ) -> Result<Plan<Leader>, RoleStop>
     requires { length (text value) ≤ most }
-    ensures goes { (last : ℕ) → GoesOn me.now now (IsHere epoch last) draft (λ y. Ok (begun_with me.now now stage version value origin y)) result }
+    ensures goes { (last : ℕ) → GoesOn me.now now (IsHere epoch last) draft
+        (λ y. Ok (begun_with me.now now stage version value origin y)) result }
     ensures stays { IfOk result (λ p. p.next ≡ Next.Stay) }
 {
     let timers = value_timers(alloc, now)?;
@@ -182,7 +191,8 @@ pub(crate) fn begin_alone(
 ) -> Result<Plan<Leader>, RoleStop>
     requires short { length (text value) ≤ most }
     requires above { 1 ≤ version }
-    ensures goes { (me : Me) (now epoch last : ℕ) → GoesOn me now (IsHere epoch last) draft (begun_alone me version value None) result }
+    ensures goes { (me : Me) (now epoch last : ℕ) →
+        GoesOn me now (IsHere epoch last) draft (begun_alone me version value None) result }
     ensures stays { IfOk result (λ p. p.next ≡ Next.Stay) }
 {
     let Draft { mut tx, out, state } = draft;

@@ -55,7 +55,7 @@ fn is_after(version: Version, pn: Pn, found: &Found) -> bool
         || (version.get() == found.version.get() && found.pn.get() < pn.get())
 }
 
-/// The same, where something was found.
+/// Whether a version and a number are greater than those of what was found, if anything was.
 fn is_newer(version: Version, pn: Pn, found: &Option<Found>) -> bool
     ensures { result ≡ newer version pn found.now }
 {
@@ -65,8 +65,8 @@ fn is_newer(version: Version, pn: Pn, found: &Option<Found>) -> bool
     }
 }
 
-/// What is found once a member told this pending value, which is for the version after its last one. A value that is too long
-/// to be proposed counts as none.
+/// What is found once a member told this pending value, which is for the version after its last one. A value that is
+/// too long to be proposed counts as none.
 fn found_with(found: Option<Found>, last: Version, told: &Told) -> Result<Option<Found>, RoleStop>
     requires found { may_begin_found found ≡ true }
     requires told { may_begin told.now.value ≡ true }
@@ -92,7 +92,7 @@ fn found_with(found: Option<Found>, last: Version, told: &Told) -> Result<Option
     }))
 }
 
-/// The same, where it told one.
+/// What is found once a member answered, whether or not it told a pending value.
 fn found_with_any(
     found: Option<Found>,
     last: Version,
@@ -119,7 +119,7 @@ fn answered(mut state: Leader, from: Rank, last: Version, found: Option<Found>) 
     state
 }
 
-/// The same, by what the member told.
+/// What a leader remembers once a member answered with all that it has, by what the member told.
 fn note(state: &Leader, answer: &Answer<'_>) -> Result<Leader, RoleStop>
     requires found { may_begin_found state.now.found ≡ true }
     requires told { may_begin_told answer.now.pending.now ≡ true }
@@ -199,7 +199,8 @@ fn go_on_after(
 ) -> Result<Plan<Leader>, RoleStop>
     requires found { may_begin_found state.now.found ≡ true }
     requires told { may_begin_told answer.now.pending.now ≡ true }
-    ensures goes { GoesOn me.now now (IsAsking (epoch_of (readings_of (apply tx.now kv.now))) (readings_of (apply tx.now kv.now)))
+    ensures goes { GoesOn me.now now (IsAsking (epoch_of (readings_of (apply tx.now kv.now)))
+        (readings_of (apply tx.now kv.now)))
         (record { tx = []; out = []; state = state.now })
         (goes_on me.now now answer.now.from answer.now.last answer.now.whole answer.now.pending.now) result }
     ensures stays { IfOk result (λ p. p.next ≡ Next.Stay) }
@@ -224,7 +225,9 @@ fn learn_news(tx: &mut Transaction, own: Version, answer: &Answer<'_>) -> Result
     ensures act { Learns (news_from own answer.now.start) (news own answer.now.start answer.now.values.now) result }
     ensures changes { OnOk result (tx.new ≡ tx.old ++ spelled (learned (news_from own answer.now.start)
         (news own answer.now.start answer.now.values.now))) }
-    ensures fit { OnOk result (AllByRecursion Fits (learned (news_from own answer.now.start) (news own answer.now.start answer.now.values.now))) }
+    ensures fit { OnOk result
+        (AllByRecursion Fits (learned (news_from own answer.now.start)
+        (news own answer.now.start answer.now.values.now))) }
 {
     let next = own.get() + 1;
     let start = answer.start.get();
@@ -245,7 +248,8 @@ fn hear_answer(
     requires few { length answer.now.values.now ≤ 65535 }
     requires found { may_begin_found state.now.found ≡ true }
     requires told { may_begin_told answer.now.pending.now ≡ true }
-    ensures plans { (e : ℕ) → PlansRow me.now now leads (IsHeard (phases.Collecting ∷ []) answer.now.from e (readings_of kv.now) state.now)
+    ensures plans { (e : ℕ) →
+        PlansRow me.now now leads (IsHeard (phases.Collecting ∷ []) answer.now.from e (readings_of kv.now) state.now)
         (answer_row me.now now answer.now.from answer.now.last answer.now.whole answer.now.start answer.now.values.now
         answer.now.pending.now) result }
     ensures stays { IfOk result (λ p. p.next ≡ Next.Stay) }
@@ -282,7 +286,8 @@ pub(crate) fn hear_last(
     requires few { length answer.now.values.now ≤ 65535 }
     requires found { may_begin_found state.now.found ≡ true }
     requires told { may_begin_told answer.now.pending.now ≡ true }
-    ensures plans { (e : ℕ) → PlansRow me.now now leads (IsHeard (phases.Collecting ∷ []) answer.now.from e (readings_of kv.now) state.now)
+    ensures plans { (e : ℕ) →
+        PlansRow me.now now leads (IsHeard (phases.Collecting ∷ []) answer.now.from e (readings_of kv.now) state.now)
         (last_row me.now now answer.now.from e answer.now.pn answer.now.first answer.now.last answer.now.whole
         answer.now.start answer.now.values.now answer.now.pending.now) result }
     ensures leaves { (at : Phase) → IfOk result (λ p. Leaves at p.next p.tx) }

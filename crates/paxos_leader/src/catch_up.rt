@@ -26,7 +26,8 @@ fn commit_to(
     to: Rank,
     out: &mut Items<Sent>,
 ) -> Result<(), OutOfMemory>
-    ensures { OnOk result (out.new ≡ out.old ++ commits_to me.now (at_epoch epoch (readings_of stored.now)) lasts.now to) }
+    ensures { OnOk result (out.new ≡ out.old ++
+        commits_to me.now (at_epoch epoch (readings_of stored.now)) lasts.now to) }
 {
     let told = lasts[usize::from(to.get())];
     if told.get() >= stored.last().get() {
@@ -42,7 +43,7 @@ fn commit_to(
     Ok(())
 }
 
-/// The same for each of some members.
+/// Appends the commits that each of some members lacks.
 fn catch_up(
     alloc: Global,
     stored: &Stored<'_>,
@@ -52,7 +53,8 @@ fn catch_up(
     members: &[Rank],
     out: &mut Items<Sent>,
 ) -> Result<(), OutOfMemory>
-    ensures { OnOk result (out.new ≡ out.old ++ flat_map (commits_to me.now (at_epoch epoch (readings_of stored.now)) lasts.now) members.now) }
+    ensures { OnOk result (out.new ≡ out.old ++
+        flat_map (commits_to me.now (at_epoch epoch (readings_of stored.now)) lasts.now) members.now) }
 {
     for member in members {
         commit_to(alloc, stored, me, epoch, lasts, *member, out)?;

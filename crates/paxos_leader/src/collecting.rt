@@ -74,8 +74,8 @@ pub(crate) fn take_found(mut state: Leader) -> (Leader, Option<Found>)
     (state, found)
 }
 
-/// All of the quorum answered: members that lack versions get them, and a value that was found for the next version comes
-/// first.
+/// All of the quorum answered: members that lack versions get them, and a value that was found for the next version
+/// comes first.
 pub(crate) fn settle(
     alloc: Global,
     stored: &Stored<'_>,
@@ -97,7 +97,12 @@ pub(crate) fn settle(
 
 /// A leader that asks its quorum under a number, and has its own answer.
 fn collector(me: &Me, quorum: RankSet, pn: Pn, found: Option<Found>) -> Leader
-    ensures { result ≡ record start_leader { quorum = quorum; pn = pn; answered = only_one me.now.member.rank; found = found } }
+    ensures { result ≡ record start_leader {
+      quorum = quorum;
+      pn = pn;
+      answered = only_one me.now.member.rank;
+      found = found;
+    } }
 {
     Leader {
         quorum,
@@ -204,8 +209,8 @@ fn await_answers(alloc: Global, draft: Draft, now: Moment) -> Result<Plan<Leader
     })
 }
 
-/// A leader asks its quorum what was accepted, under a number above all that are known. `stored` is read, and `epoch` is the
-/// epoch that holds.
+/// A leader asks its quorum what was accepted, under a number above all that are known. `stored` is read, and `epoch`
+/// is the epoch that holds.
 pub(crate) fn collect(
     alloc: Global,
     stored: &Stored<'_>,
@@ -230,7 +235,8 @@ pub(crate) fn collect(
     Ok(await_answers(alloc, draft, now)?)
 }
 
-/// A leader whose event has written and sent nothing so far asks its quorum, under a number that is also above this one.
+/// A leader whose event has written and sent nothing so far asks its quorum, under a number that is also above this
+/// one.
 pub(crate) fn ask_again(
     alloc: Global,
     stored: &Stored<'_>,

@@ -124,7 +124,8 @@ fn hear(
     requires input { is_told message.now.body ≡ true }
     requires fits { fits me.now.member.monitors message.now.body ≡ true }
     requires held { may_begin_all state.now ≡ true }
-    ensures plans { (shared : List Entry) → PlansRow me.now now leads (IsMet me.now now (readings_of kv.now) view.now (λ s. s.leader) state.now)
+    ensures plans { (shared : List Entry) → PlansRow me.now now leads (IsMet me.now now (readings_of kv.now) view.now
+        (λ s. s.leader) state.now)
         (hears me.now shared now message.now.from message.now.epoch message.now.body) result }
     ensures leaves { IfOk result (λ p. Leaves view.now.phase p.next p.tx) }
 {
@@ -207,9 +208,10 @@ fn ring(
     }
 }
 
-/// What a leader does at a LAST, ACCEPT or LEASE_ACK that is heard, and when a timer of its own, which was armed, comes and is
-/// disarmed: its row of the protocol's table. A message that isn't of a member of its quorum in its epoch is dropped, and so
-/// is one that comes in a phase that isn't for it. `Spent` names the proposal number or the version that would pass 2^62.
+/// What a leader does at a LAST, ACCEPT or LEASE_ACK that is heard, and when a timer of its own, which was armed, comes
+/// and is disarmed: its row of the protocol's table. A message that isn't of a member of its quorum in its epoch is
+/// dropped, and so is one that comes in a phase that isn't for it. `Spent` names the proposal number or the version
+/// that would pass 2^62.
 pub fn step(
     alloc: Global,
     kv: &Kv,
@@ -222,7 +224,8 @@ pub fn step(
     requires input { is_input input.now ≡ true }
     requires fits { may_come me.now.member.monitors input.now ≡ true }
     requires held { may_begin_all state.now ≡ true }
-    ensures plans { (shared : List Entry) → PlansRow me.now now leads (IsMet me.now now (readings_of kv.now) view.now (λ s. s.leader) state.now)
+    ensures plans { (shared : List Entry) → PlansRow me.now now leads (IsMet me.now now (readings_of kv.now) view.now
+        (λ s. s.leader) state.now)
         (row me.now shared now input.now) result }
     ensures leaves { IfOk result (λ p. Leaves view.now.phase p.next p.tx) }
 {
@@ -240,14 +243,15 @@ fn tell_victory(
     epoch: Epoch,
     quorum: RankSet,
 ) -> Result<Items<Sent>, OutOfMemory>
-    ensures { IfOk result (λ sent. sent ≡ map (message_to me.now epoch (Body.Victory quorum)) (members_of me.now quorum)) }
+    ensures { IfOk result (λ sent. sent ≡ map (message_to me.now epoch (Body.Victory quorum))
+        (members_of me.now quorum)) }
 {
     let victory = Body::Victory { quorum };
     tell(alloc, Items::new(alloc), me, epoch, quorum, victory)
 }
 
-/// It has won, and begins to lead this quorum: it asks it under a new number what was accepted. `epoch` is the epoch that it
-/// has now. `Spent` names that number where it would pass 2^62, or the version after the last one.
+/// It has won, and begins to lead this quorum: it asks it under a new number what was accepted. `epoch` is the epoch
+/// that it has now. `Spent` names that number where it would pass 2^62, or the version after the last one.
 pub fn enter(
     alloc: Global,
     kv: &Kv,
@@ -274,7 +278,8 @@ fn answers(
     version: Version,
     origin: Origin,
 ) -> Result<Items<Sent>, OutOfMemory>
-    ensures { IfOk result (λ sent. sent ≡ answers_to me.now (epoch_of (readings_of (apply tx.now kv.now))) (Some origin) (Reply.Done version)) }
+    ensures { IfOk result (λ sent. sent ≡ answers_to me.now (epoch_of (readings_of (apply tx.now kv.now))) (Some origin)
+        (Reply.Done version)) }
 {
     let epoch = Stored::after(alloc, kv, tx)?.epoch();
     let mut out = Items::new(alloc);
@@ -316,8 +321,8 @@ fn begin_answered(
     })
 }
 
-/// The value of a command is begun for the version after the last one. A quorum of the leader alone commits it at once. `Spent`
-/// names the version where it would pass 2^62.
+/// The value of a command is begun for the version after the last one. A quorum of the leader alone commits it at once.
+/// `Spent` names the version where it would pass 2^62.
 pub fn begin(
     alloc: Global,
     kv: &Kv,
@@ -328,7 +333,8 @@ pub fn begin(
     now: Moment,
 ) -> Result<Plan<Leader>, RoleStop>
     requires { may_begin value.now ≡ true }
-    ensures plans { PlansAct me.now now leads (IsLed (readings_of kv.now) state.now) (Next.Begin value.now origin.now) result }
+    ensures plans { PlansAct me.now now leads (IsLed (readings_of kv.now) state.now)
+        (Next.Begin value.now origin.now) result }
     ensures stays { IfOk result (λ p. p.next ≡ Next.Stay) }
 {
     let Some(version) = own_last(alloc, kv).plus_one() else {

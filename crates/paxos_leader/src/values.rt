@@ -39,7 +39,8 @@ fn answered(
     version: Version,
     plan: Plan<Leader>,
 ) -> Result<Plan<Leader>, OutOfMemory>
-    ensures { IfOk result (λ p. p ≡ record plan { out = plan.out ++ answers_to me.now epoch origin (Reply.Done version) }) }
+    ensures { IfOk result (λ p.
+        p ≡ record plan { out = plan.out ++ answers_to me.now epoch origin (Reply.Done version) }) }
 {
     match origin {
         None => Ok(plan),
@@ -70,7 +71,8 @@ fn tell_commit(
     from: Version,
     values: Items<Transaction>,
 ) -> Result<Items<Sent>, OutOfMemory>
-    ensures { IfOk result (λ sent. sent ≡ map (message_to me.now epoch (Body.Commit from values)) (members_of me.now quorum)) }
+    ensures { IfOk result (λ sent. sent ≡ map (message_to me.now epoch (Body.Commit from values))
+        (members_of me.now quorum)) }
 {
     let commit = Body::Commit { from, values };
     tell(alloc, Items::new(alloc), me, epoch, quorum, commit)
@@ -100,7 +102,7 @@ fn announce(
     Ok(answered(me, epoch, origin, version, plan)?)
 }
 
-/// The same, by what the store tells after the changes so far.
+/// The members hear of committed values, by what the store tells after the changes so far.
 fn announce_after(
     alloc: Global,
     kv: &Kv,
@@ -111,7 +113,8 @@ fn announce_after(
     values: Items<Transaction>,
     now: Moment,
 ) -> Result<Plan<Leader>, OutOfMemory>
-    ensures goes { IfOk result (λ p. GoesOn me.now now (IsHere (epoch_of (readings_of (apply tx kv.now))) (readings_of (apply tx kv.now)).last)
+    ensures goes { IfOk result
+        (λ p. GoesOn me.now now (IsHere (epoch_of (readings_of (apply tx kv.now))) (readings_of (apply tx kv.now)).last)
         (record { tx = tx; out = []; state = state }) (announced me.now now version values) (Ok p)) }
     ensures stays { IfOk result (λ p. p.next ≡ Next.Stay) }
 {
@@ -121,7 +124,8 @@ fn announce_after(
 
 /// The epoch and the last version after changes.
 fn standing(alloc: Global, kv: &Kv, tx: &Transaction) -> Result<(Epoch, Version), OutOfMemory>
-    ensures { IfOk result (λ here. here ≡ (epoch_of (readings_of (apply tx.now kv.now)), (readings_of (apply tx.now kv.now)).last)) }
+    ensures { IfOk result (λ here.
+        here ≡ (epoch_of (readings_of (apply tx.now kv.now)), (readings_of (apply tx.now kv.now)).last)) }
 {
     let stored = Stored::after(alloc, kv, tx)?;
     Ok((stored.epoch(), stored.last()))
@@ -146,7 +150,8 @@ fn commit(
     now: Moment,
 ) -> Result<Plan<Leader>, RoleStop>
     requires { length (text value) ≤ most }
-    ensures goes { GoesOn me.now now (IsVoted (readings_of kv.now)) (record { tx = []; out = []; state = record state { value = Some value } })
+    ensures goes { GoesOn me.now now (IsVoted (readings_of kv.now))
+        (record { tx = []; out = []; state = record state { value = Some value } })
         (commits me.now now value) result }
     ensures stays { IfOk result (λ p. p.next ≡ Next.Stay) }
 {
@@ -232,7 +237,8 @@ pub(crate) fn hear_accept(
     now: Moment,
 ) -> Result<Plan<Leader>, RoleStop>
     requires { may_begin_any state.now.value ≡ true }
-    ensures plans { (e : ℕ) → PlansRow me.now now leads (IsHeard (phase.Previous ∷ phase.Updating ∷ []) from e (readings_of kv.now) state.now)
+    ensures plans { (e : ℕ) →
+        PlansRow me.now now leads (IsHeard (phase.Previous ∷ phase.Updating ∷ []) from e (readings_of kv.now) state.now)
         (accept_row me.now now from e pn version) result }
     ensures stays { IfOk result (λ p. p.next ≡ Next.Stay) }
 {
@@ -257,7 +263,13 @@ fn with_ack(state: &Leader, from: Rank) -> Result<Leader, OutOfMemory>
 
 /// All of the quorum took the lease: nobody is waited for.
 fn all_acked(alloc: Global, state: Leader) -> Result<Plan<Leader>, OutOfMemory>
-    ensures { IfOk result (λ p. p ≡ record { tx = []; out = []; timers = arming.Disarm Timer.LeaseAck ∷ []; state = state; next = Next.Stay }) }
+    ensures { IfOk result (λ p. p ≡ record {
+      tx = [];
+      out = [];
+      timers = arming.Disarm Timer.LeaseAck ∷ [];
+      state = state;
+      next = Next.Stay;
+    }) }
 {
     let timers = one_timer(alloc, disarmed(Timer::LeaseAck))?;
     Ok(Plan {
@@ -278,7 +290,8 @@ pub(crate) fn hear_lease_ack(
     from: Rank,
     last: Version,
 ) -> Result<Plan<Leader>, RoleStop>
-    ensures plans { (now e : ℕ) → PlansRow me.now now leads (IsHeard (phase.Active ∷ []) from e (readings_of kv.now) state.now)
+    ensures plans { (now e : ℕ) →
+        PlansRow me.now now leads (IsHeard (phase.Active ∷ []) from e (readings_of kv.now) state.now)
         (ack_row me.now from e last) result }
     ensures stays { IfOk result (λ p. p.next ≡ Next.Stay) }
 {
