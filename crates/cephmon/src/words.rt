@@ -6,15 +6,13 @@ ghost use Rattle.cephmon_run.specs.declared.status.Status.TheVariants.{Words, Ou
 use cephmon_run::Status;
 use std::env::{Env, FillError};
 use std::str;
-
-/// The longest word that is taken, in bytes.
-const LONGEST: usize = 4096;
+use task_words::LONGEST_WORD;
 
 /// The word at this place, or nothing behind the last one. A word that is too long or isn't UTF-8 is refused.
 fn word_at(rt: &(impl Env + AllocGlobal), place: usize) -> Result<Option<String>, Status>
     ensures { IfErr result (λ s. (s ≡ Words) ⊎ (s ≡ OutOfMemory)) }
 {
-    let mut bytes = [0; LONGEST];
+    let mut bytes = [0; LONGEST_WORD];
     let count = match rt.arg(place, &mut bytes) {
         Ok(count) => count,
         Err(FillError::TooLong) => return Err(Status::Words),

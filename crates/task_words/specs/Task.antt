@@ -3,16 +3,17 @@ use Rattle.std.specs.Prelude.{◌≡◌, ℕ, ◌≤◌, ◌^◌, ◌==◌, ◌&
 use Rattle.std.specs.declared.alloc.Global.{Global}
 use Rattle.std.specs.List.{AllByRecursion, list_all}
 use Rattle.schedule_text.specs.Spelling.{RuleFits, rule_text}
+use Rattle.task_words.specs.declared.asked.TheConstants.{LONGEST_WORD, MOST_MADE}
 use Rattle.task_words.specs.declared.task.Task.{Task}
 use Rattle.task_words.specs.declared.task.Task.TheVariants.{Replay, Made, Node}
 use Rattle.task_words.specs.declared.task.WordsStop.{WordsStop}
 use Rattle.task_words.specs.declared.task.WordsStop.TheVariants.{Refused, OutOfMemory}
 use Rattle.task_words.specs.Addresses.{IsAddress, addresses_text}
 
--- a word isn't empty, has at most 4,096 bytes and doesn't begin with a hyphen
+-- a word isn't empty, isn't too long and doesn't begin with a hyphen
 abbrev pub is_word : List ℕ → Bool
 is_word [] = false
-is_word (b ∷ bytes) = not (b == 45) && nat_le (length (b ∷ bytes)) 4096
+is_word (b ∷ bytes) = not (b == 45) && nat_le (length (b ∷ bytes)) LONGEST_WORD
 
 -- `replay`; `made NUMBER EVENTS`; `node RANK MONITORS RULE ADDRESSES DISK_A DISK_B TURNS`
 abbrev pub words_of : Task → List (List ℕ)
@@ -23,7 +24,7 @@ words_of (Node member rule addresses disk_a disk_b turns) =
 
 -- the most events of a schedule that is made
 abbrev pub most_made : ℕ
-most_made = 100000
+most_made = MOST_MADE
 
 -- Which tasks have words. A member's rank is below the number of its monitors, of which there are 1 to 15: each member is so.
 abbrev pub HasWords : Task → Type 0

@@ -10,10 +10,10 @@ use crate::numbers::{member_of, number_of, rule_in};
 use mon_types::GREATEST;
 
 /// The longest word that is taken, in bytes.
-const LONGEST: usize = 4096;
+pub const LONGEST_WORD: usize = 4_096;
 
 /// The most events of a made schedule.
-pub(crate) const MOST_MADE: u64 = 100_000;
+pub const MOST_MADE: u64 = 100_000;
 
 /// Whether a word may stand among the words at all.
 fn is_word(word: &[u8]) -> bool
@@ -21,7 +21,7 @@ fn is_word(word: &[u8]) -> bool
 {
     match word {
         [] => false,
-        [first, ..] => *first != b'-' && word.len() <= LONGEST,
+        [first, ..] => *first != b'-' && word.len() <= LONGEST_WORD,
     }
 }
 

@@ -10,5 +10,6 @@ mod parts;
 mod task;
 mod words;
 
+pub use asked::LONGEST_WORD;
 pub use task::{Task, WordsStop};
 pub use words::read_words;
