@@ -38,12 +38,15 @@ module _ {D : Type 0} (state : D → DiskState) where
   abbrev pub LeavesAlike : Member → NodeDisks D → NodeDisks D → Type 0
   LeavesAlike member old new =
       IsTrue (is_some (state old.a).content.seen) → IsTrue (is_some (state old.b).content.seen)
-      → WhileOpening (state old.a).content (state old.b).content (state new.a).content (state new.b).content (Alike member (state old.a).content (state old.b).content)
+      → WhileOpening (state old.a).content (state old.b).content (state new.a).content (state new.b).content
+      (Alike member (state old.a).content (state old.b).content)
 
-  -- No store was opened, for this reason. What the disks stand for is unchanged, and the link and the clock were left alone.
+  -- No store was opened, for this reason. What the disks stand for is unchanged, and the link and the clock were left
+  -- alone.
   pub record Unopened (member : Member) (before after : Around D) (why : OpenStop) : Type 0 where
     pub tells : OpensTo member before.disks (Tells why)
-    pub counts : BothCount (stop_in {T = Stood} (Err why)) (state before.disks.a) (state before.disks.b) (state after.disks.a) (state after.disks.b)
+    pub counts : BothCount (stop_in {T = Stood} (Err why)) (state before.disks.a) (state before.disks.b)
+        (state after.disks.a) (state after.disks.b)
     pub alike : LeavesAlike member before.disks after.disks
     pub link : after.link ≡ before.link
     pub clock : after.clock ≡ before.clock
@@ -52,9 +55,10 @@ module _ {D : Type 0} (state : D → DiskState) where
   abbrev pub contents : NodeDisks D → Disks
   contents disks = disks_held state disks.a disks.b
 
-  -- A store was opened, and the monitor served from it and ended so. What clock and link told at each turn decides what was kept, what was
-  -- sent and how long was waited. Where the disks tell what they hold: a crash while the store was opened left what they might have stood for
-  -- before, and from then on, turn after turn and at the end, it left what the store stood for within that turn.
+  -- A store was opened, and the monitor served from it and ended so. What clock and link told at each turn decides what
+  -- was kept, what was sent and how long was waited. Where the disks tell what they hold: a crash while the store was
+  -- opened left what they might have stood for before, and from then on, turn after turn and at the end, it left what
+  -- the store stood for within that turn.
   pub record Served (me : Me) (turns : ℕ) (before after : Around D) (e : NodeEnd) : Type 0 where
     pub stood : Stood
     pub opened : OpensTo me.member before.disks (λ read. read ≡ Ok stood)
@@ -65,9 +69,11 @@ module _ {D : Type 0} (state : D → DiskState) where
     pub given : List Given
     pub serves : Serves me (unstarted me.member.rank stood before.clock before.link.told) turns e begun after.clock after.link.told first given
     pub stands : BothTell (contents before.disks)
-        → StandsThrough me first (unstarted me.member.rank stood before.clock before.link.told) given e after.link.told (contents open_disks) (contents after.disks)
+        → StandsThrough me first (unstarted me.member.rank stood before.clock before.link.told) given e after.link.told
+        (contents open_disks) (contents after.disks)
     pub link_counts : after.link.faults ≡ faults_at e before.link.faults
-    pub disks_count : DisksCountAt e (state before.disks.a).faults (state before.disks.b).faults (state after.disks.a).faults (state after.disks.b).faults
+    pub disks_count : DisksCountAt e (state before.disks.a).faults (state before.disks.b).faults
+        (state after.disks.a).faults (state after.disks.b).faults
 
   -- the cause of each status
   abbrev pub NodeCause : Me → (turns : ℕ) → Around D → Around D → Status → Type 0
@@ -75,12 +81,15 @@ module _ {D : Type 0} (state : D → DiskState) where
   NodeCause me turns before after status.DiskFault =
       Unopened me.member before after open_stop.DiskFault ⊎ Served me turns before after end.DiskFault
   NodeCause me turns before after status.LinkFault = Served me turns before after end.LinkFault
-  NodeCause me turns before after (status.NotAStore disk at) = Unopened me.member before after (open_stop.NotAStore disk at)
-  NodeCause me turns before after (status.Stranger kept asked) = Unopened me.member before after (open_stop.Stranger kept asked)
+  NodeCause me turns before after (status.NotAStore disk at) =
+      Unopened me.member before after (open_stop.NotAStore disk at)
+  NodeCause me turns before after (status.Stranger kept asked) =
+      Unopened me.member before after (open_stop.Stranger kept asked)
   NodeCause me turns before after (status.Spent which) = Served me turns before after (end.Spent which)
   NodeCause me turns before after status.TurnsUsed = Served me turns before after end.TurnsUsed
   NodeCause me turns before after status.OutOfMemory =
-      (after ≡ before) ⊎ Unopened me.member before after open_stop.OutOfMemory ⊎ Served me turns before after end.OutOfMemory
+      (after ≡ before) ⊎ Unopened me.member before after open_stop.OutOfMemory ⊎
+      Served me turns before after end.OutOfMemory
   NodeCause me turns before after (status.Full would_be) = Served me turns before after (end.Full would_be)
   NodeCause me turns before after status.Words = ⊥
   NodeCause me turns before after (status.Schedule line kind) = ⊥

@@ -24,16 +24,20 @@ use Rattle.cephmon_run.specs.Trace.{Trace, goes_on}
 abbrev pub Writes : Result Unit ReplayStop → Option (List ℕ) → Option (List ℕ) → Trace → Type 0
 Writes (Ok done) old new trace = (trace.stop ≡ None) × Appends old new trace.text
 Writes (Err (stop.Spent which)) old new trace = (trace.stop ≡ Some (happens.Spent which)) × Appends old new trace.text
-Writes (Err (stop.Full would_be)) old new trace = (trace.stop ≡ Some (happens.Full would_be)) × Appends old new trace.text
+Writes (Err (stop.Full would_be)) old new trace = (trace.stop ≡ Some (happens.Full would_be)) ×
+    Appends old new trace.text
 Writes (Err stop.WriteFault) old new trace = AppendsFront old new trace.text
 Writes (Err stop.OutOfMemory) old new trace = AppendsFront old new trace.text
 
 -- What a call that does one event left, and wrote to the sink: the event's lines; or what is written of any trace that
 -- goes on with it.
-abbrev pub Did : Monitors → Result Unit ReplayStop → World → Option (List ℕ) → Option (List ℕ) → ℕ → schedule.Event → Result (Scene × StepLine) happens.Stop → Type 0
+abbrev pub Did : Monitors → Result Unit ReplayStop → World → Option (List ℕ) → Option (List ℕ) → ℕ → schedule.Event →
+    Result (Scene × StepLine) happens.Stop → Type 0
 Did ms (Ok done) world old new number e wanted =
-    (next : Scene × StepLine) × (wanted ≡ Ok next) × StandsFor ms world next.0 × Appends old new (step_lines number e next.1)
-Did ms (Err s) world old new number e wanted = (follow : Scene → Trace) → Writes (Err s) old new (goes_on number e follow wanted)
+    (next : Scene × StepLine) × (wanted ≡ Ok next) × StandsFor ms world next.0 ×
+    Appends old new (step_lines number e next.1)
+Did ms (Err s) world old new number e wanted = (follow : Scene → Trace) →
+    Writes (Err s) old new (goes_on number e follow wanted)
 
 -- how the stops of the parts end a replay
 abbrev pub stop_of : WorldStop → ReplayStop

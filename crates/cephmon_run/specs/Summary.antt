@@ -26,7 +26,8 @@ and_step line k = record {
 }
 
 -- the scene at the end and what was counted on the way, or what stops the run
-abbrev pub counts_on : (Scene → Counts → Result (Scene × Counts) Stop) → Counts → Result (Scene × StepLine) Stop → Result (Scene × Counts) Stop
+abbrev pub counts_on : (Scene → Counts → Result (Scene × Counts) Stop) → Counts → Result (Scene × StepLine) Stop →
+    Result (Scene × Counts) Stop
 counts_on follow k (Ok done) = follow done.0 (and_step done.1 k)
 counts_on follow k (Err stop) = Err stop
 
@@ -88,5 +89,8 @@ AreNumbers values ns = map view values ≡ map (λ n. number (unsigned n)) ns
 
 abbrev pub object_of : (events : ℕ) (last : Items) (log : ℕ) → Counts → Data
 object_of events last log k =
-    object (member (codes "events") (number (unsigned events)) (member (codes "last") (array last) (member (codes "log") (number (unsigned log))
-    (member (codes "replies") (number (unsigned k.replies)) (member (codes "sent") (number (unsigned k.sent)) (member (codes "stores") (number (unsigned k.stores)) no_members))))))
+    object (member (codes "events") (number (unsigned events))
+    (member (codes "last") (array last) (member (codes "log") (number (unsigned log))
+    (member (codes "replies") (number (unsigned k.replies))
+    (member (codes "sent") (number (unsigned k.sent))
+    (member (codes "stores") (number (unsigned k.stores)) no_members))))))

@@ -65,9 +65,11 @@ fn run_replay<S: Source, K: Sink>(alloc: Global, source: &mut S, sink: &mut K) -
 fn made_summary(alloc: Global, number: u64, events: u32) -> Result<Vec<u8>, WorldStop>
     requires least { 1 ≤ events }
     requires most { events ≤ 100000 }
-    ensures line { (ms : Monitors) → ms.count ≡ (made_schedule number events).monitors → ms.rule ≡ (made_schedule number events).rule
+    ensures line { (ms : Monitors) → ms.count ≡ (made_schedule number events).monitors →
+        ms.rule ≡ (made_schedule number events).rule
         → IfOk result (λ line. IsLine (summary ms (made_schedule number events).events) line.items) }
-    ensures stops { (ms : Monitors) → ms.count ≡ (made_schedule number events).monitors → ms.rule ≡ (made_schedule number events).rule
+    ensures stops { (ms : Monitors) → ms.count ≡ (made_schedule number events).monitors →
+        ms.rule ≡ (made_schedule number events).rule
         → IfErr result (λ e. StopsAs e (summary ms (made_schedule number events).events).stop) }
 {
     let schedule = made(alloc, number, events)?;
@@ -147,9 +149,9 @@ fn run_task<S: Source, K: Sink, D: Disk, L: Link, C: Clock>(
     }
 }
 
-/// Does what the words say: `replay` runs the schedule that the source has and writes its trace to the sink; `made` runs the schedule of a
-/// number and writes its summary; and `node` serves as a monitor from the two disks, over the link, and writes nothing. What a command
-/// has no use for is left as it was.
+/// Does what the words say: `replay` runs the schedule that the source has and writes its trace to the sink; `made`
+/// runs the schedule of a number and writes its summary; and `node` serves as a monitor from the two disks, over the
+/// link, and writes nothing. What a command has no use for is left as it was.
 pub fn run<S: Source, K: Sink, D: Disk, L: Link, C: Clock>(
     alloc: Global,
     words: &[String],
@@ -159,8 +161,8 @@ pub fn run<S: Source, K: Sink, D: Disk, L: Link, C: Clock>(
     link: &mut L,
     clock: &mut C,
 ) -> Ended<D>
-    // What the status tells of what was asked, read, written and served, and which status comes where nothing fails. Each run that it speaks
-    // of is safe at each moment.
+    // What the status tells of what was asked, read, written and served, and which status comes where nothing fails.
+    // Each run that it speaks of is safe at each moment.
     ensures { Ends D.state words.now
         (record { left = S.left source.old; held = K.held sink.old; read_faults = S.faults source.old; write_faults = K.faults sink.old })
         (record { left = S.left source.new; held = K.held sink.new; read_faults = S.faults source.new; write_faults = K.faults sink.new })

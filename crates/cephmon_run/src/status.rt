@@ -21,11 +21,13 @@ pub enum Status {
     DiskFault,
     /// The node's link failed to tell what comes.
     LinkFault,
-    /// That disk holds no store, or none that goes with the other one, from this byte on. What the disks stand for is unchanged.
+    /// That disk holds no store, or none that goes with the other one, from this byte on. What the disks stand for is
+    /// unchanged.
     NotAStore { disk: Side, at: u64 },
     /// The store is another monitor's, or of another number of monitors. What the disks stand for is unchanged.
     Stranger { kept: Member, asked: Member },
-    /// A number of this kind would pass 2^62. Of a trace the lines of the events before were written, and of a summary nothing.
+    /// A number of this kind would pass 2^62. Of a trace the lines of the events before were written, and of a summary
+    /// nothing.
     Spent { which: Which },
     /// The node made as many turns as were asked.
     TurnsUsed,

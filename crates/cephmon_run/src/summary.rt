@@ -59,11 +59,12 @@ fn sum(a: u64, b: u64) -> Result<u64, OutOfMemory>
     a.checked_add(b).ok_or(OutOfMemory)
 }
 
-/// The last versions of so many monitors, as JSON numbers.
+/// The last versions of the first `monitors` monitors, as JSON numbers.
 fn last_versions(alloc: Global, world: &World, monitors: u8) -> Result<Vec<Value>, OutOfMemory>
     requires there { monitors ≤ length world.now.monitors.items }
     requires most { monitors ≤ 15 }
-    ensures { (ms : Monitors) (c : Scene) → StandsFor ms world.now c → IfOk result (λ list. AreNumbers list.items (last_versions c monitors)) }
+    ensures { (ms : Monitors) (c : Scene) → StandsFor ms world.now c →
+        IfOk result (λ list. AreNumbers list.items (last_versions c monitors)) }
 {
     let mut last = Vec::new(alloc);
     for rank in 0..monitors {
@@ -79,7 +80,8 @@ fn add(
     name: &str,
     value: Value,
 ) -> Result<(), OutOfMemory>
-    ensures { OnOk result (members_view members.new.entries ≡ put name.now (view value) (members_view members.old.entries)) }
+    ensures { OnOk result (members_view members.new.entries ≡
+        put name.now (view value) (members_view members.old.entries)) }
 {
     let name = String::from_str(alloc, name)?;
     drop(members.insert(name, value)?);
@@ -114,7 +116,8 @@ fn line_of(
     log: u64,
     counts: Counts,
 ) -> Result<Vec<u8>, OutOfMemory>
-    ensures { (ns : List ℕ) → AreNumbers last.items ns → IfOk result (λ line. line.items ≡ line_text events ns log counts) }
+    ensures { (ns : List ℕ) → AreNumbers last.items ns →
+        IfOk result (λ line. line.items ≡ line_text events ns log counts) }
 {
     let summary = object_of(alloc, events, last, log, counts)?;
     let mut line = summary.to_string(alloc)?;

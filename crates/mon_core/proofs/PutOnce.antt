@@ -1,5 +1,5 @@
 -- Where each key is put once, joining leaves the list.
-use Rattle.std.proofs.Common.{◌≡◌, ℕ, suc, ◌+◌, ◌<◌, true, false, not, ◌&&◌, ◌||◌, List, [], ◌∷◌, ◌++◌, length, drop, drop-cons, get_or, None, ◌⊎◌, inl, inr, refl, sym, ap, ◌∙◌, add-one, append_assoc, append-nil}
+use Rattle.std.proofs.Common.{◌≡◌, ℕ, ◌+◌, true, false, not, ◌&&◌, ◌||◌, List, [], ◌∷◌, ◌++◌, None, ◌⊎◌, inl, inr, refl, sym, ap, ◌∙◌, append_assoc, append-nil}
 use Rattle.std.proofs.lemmas.Bool.{and_parts, cases_Bool, not-true}
 use Rattle.std.proofs.lemmas.List.Folds.{list_any-append}
 use Rattle.std.specs.Cmp.{eq_by_cmp_equiv}
@@ -75,19 +75,3 @@ apart_from_none (op ∷ ops) = (λ at here. refl, apart_from_none ops)
 pub joined_once : (ops : List Op) → are_put_once ops ≡ true → joined ops ≡ ops
 unfolding joined
 joined_once ops h = joins [] ops (apart_from_none ops) h
-
--- ---- the loop that looks
-
-pub once_next : (ops : List Op) (i : ℕ) (op : Op) → i < length ops → op ≡ get_or ops i op → is_put_again op (drop (i + 1) ops) ≡ false
-    → are_put_once (drop i ops) ≡ are_put_once (drop (i + 1) ops)
-once_next ops i op lt is h =
-    ap are_put_once (drop-cons ops i op lt ∙ ap (λ o. o ∷ drop (suc i) ops) (sym is))
-    ∙ ap (λ n. not (is_put_again op (drop n ops)) && are_put_once (drop n ops)) (sym (add-one i))
-    ∙ ap (λ b. not b && are_put_once (drop (i + 1) ops)) h
-
-pub once_not : (ops : List Op) (i : ℕ) (op : Op) → i < length ops → op ≡ get_or ops i op → is_put_again op (drop (i + 1) ops) ≡ true
-    → are_put_once (drop i ops) ≡ false
-once_not ops i op lt is h =
-    ap are_put_once (drop-cons ops i op lt ∙ ap (λ o. o ∷ drop (suc i) ops) (sym is))
-    ∙ ap (λ n. not (is_put_again op (drop n ops)) && are_put_once (drop n ops)) (sym (add-one i))
-    ∙ ap (λ b. not b && are_put_once (drop (i + 1) ops)) h

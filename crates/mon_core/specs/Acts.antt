@@ -56,4 +56,5 @@ IsLast (next.Begin value o) = ⊥
 
 -- the act is done, from wherever the event has come
 abbrev pub Acts : Me → Store → (now : ℕ) → (old : Event) → Next → (new : Event) → Result Unit RoleStop → Type 0
-Acts me m now old n new result = (x : Course) → IsUnderWay (readings_of m) old x → Reaches (readings_of m) (act me now n x) new result
+Acts me m now old n new result = (x : Course) → IsUnderWay (readings_of m) old x →
+    Reaches (readings_of m) (act me now n x) new result

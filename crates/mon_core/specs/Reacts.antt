@@ -40,11 +40,13 @@ TellsNamed (sent.Reply to r) = Unit {0}
 -- services' maps follows what is written; before that a map that is shown is read.
 pub record IsReaction (old new : Monitor) (m : Store) (now : ℕ) (came : Input) (r : Reaction) : Type 0 where
   pub me : new.me ≡ old.me
-  pub reacts : reaction old.me now m old.state came ≡ Ok (record { transaction = r.tx; sends = r.out; state = new.state })
+  pub reacts : reaction old.me now m old.state came ≡
+      Ok (record { transaction = r.tx; sends = r.out; state = new.state })
   pub bounded : IsBounded old.me (record { transaction = r.tx; sends = r.out; state = new.state })
   pub named : AllByRecursion TellsNamed r.out
   pub known : (s : Service)
-      → known new.cache s ≡ known_after s r.tx (known_by_then old.me now (readings_of m) old.state came s (known old.cache s))
+      → known new.cache s ≡ known_after s r.tx (known_by_then old.me now (readings_of m) old.state came s
+      (known old.cache s))
   pub follows : Follows new.cache (readings_of (apply r.tx m))
 
 -- or it tells which number runs out; or memory ran out

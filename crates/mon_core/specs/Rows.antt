@@ -33,8 +33,10 @@ pub record IsFor (me : Me) (r : Role) (came : Input) : Type 0 where
   pub comes : may_come me.member.monitors came ≡ true
 
 -- such an event comes to what is wanted of it
-abbrev pub ReachesFrom : Store → (old : Event) → (Course → Result Course Which) → (new : Event) → Result Unit RoleStop → Type 0
-ReachesFrom m old wanted new result = Reaches (readings_of m) (wanted (at_rest (readings_of m) (state_of old.state))) new result
+abbrev pub ReachesFrom : Store → (old : Event) → (Course → Result Course Which) → (new : Event) →
+    Result Unit RoleStop → Type 0
+ReachesFrom m old wanted new result =
+    Reaches (readings_of m) (wanted (at_rest (readings_of m) (state_of old.state))) new result
 
 -- to the protocol's row
 abbrev pub AnswersRow : Me → Store → (now : ℕ) → (old : Event) → Input → (new : Event) → Result Unit RoleStop → Type 0
@@ -50,7 +52,8 @@ abbrev pub first_changes : (boot : ℕ) → (has_epoch : Bool) → List Change
 first_changes boot true = Boot boot ∷ []
 first_changes boot false = Boot boot ∷ Epoch 1 ∷ []
 
--- A start up to where the monitor bootstraps: it is counted, and under connectivity the monitor begins to measure and to ping.
+-- A start up to where the monitor bootstraps: it is counted, and under connectivity the monitor begins to measure and
+-- to ping.
 abbrev pub started : Me → (now : ℕ) → (boot : ℕ) → (has_epoch : Bool) → Elector → Course → Course
 started me now boot has_epoch elector x =
     x

@@ -89,7 +89,8 @@ fn synchronize(
     now: Moment,
 ) -> Result<(), RoleStop>
     requires { MayAct me.now kv.now event.old (if full then next.FullSync from else next.RecentSync from) }
-    ensures { Acts me.now kv.now now event.old (if full then next.FullSync from else next.RecentSync from) event.new result }
+    ensures { Acts me.now kv.now now event.old (if full then next.FullSync from
+        else next.RecentSync from) event.new result }
 {
     let epoch = event.epoch(alloc, kv)?;
     let plan = sync_requester::enter(alloc, kv, me, epoch, from, full, now)?;

@@ -70,7 +70,8 @@ fn begin_to_ping(me: &Me, event: &mut Event, now: Moment)
     }
 }
 
-/// A start is counted, and what comes with it before the monitor bootstraps.
+/// What a start does before the monitor bootstraps: it is counted, and under connectivity the monitor begins to measure
+/// and to ping.
 fn count_start(
     alloc: Global,
     stored: &Stored<'_>,
@@ -82,7 +83,8 @@ fn count_start(
     requires { boot ≤ 2 ^ 62 }
     ensures goes { OnOk result (Goes event.old event.new
         (started me.now now boot (is_some (readings_of stored.now).epoch) event.old.state.elector)) }
-    ensures written { OnOk result (event.new.tx ≡ event.old.tx ++ spelled (first_changes boot (is_some (readings_of stored.now).epoch))) }
+    ensures written { OnOk result (event.new.tx ≡ event.old.tx ++
+        spelled (first_changes boot (is_some (readings_of stored.now).epoch))) }
 {
     let elector = measuring(me, &event.state.elector, boot, now);
     let first = first_changes(alloc, stored, boot)?;

@@ -31,8 +31,8 @@ use std::marker::Model;
 use std::mem;
 use svc_core::Cache;
 
-/// One monitor, but for its store: what it remembers, and the services' maps that it keeps. The event has just begun: the next
-/// input is played in it.
+/// One monitor, but for its store: what it remembers, and the services' maps that it keeps. The event has just begun:
+/// the next input is played in it.
 #[derive(Drop)]
 pub struct Core {
     me: Me,
@@ -149,8 +149,8 @@ impl Core {
         self.event.state.phase
     }
 
-    /// The timer that comes next, and its moment: the one armed for the least moment, and of several the first kind. `None` exactly
-    /// where no timer is armed.
+    /// The timer that comes next, and its moment: the one armed for the least moment, and of several the first kind.
+    /// `None` exactly where no timer is armed.
     pub fn due(&self) -> Option<(Timer, Moment)>
         ensures { result ≡ due self.now.state.timers }
     {
@@ -164,10 +164,10 @@ impl Core {
         self.cache.cached(service)
     }
 
-    /// What the monitor does at an input at a moment: the protocol's reaction. What it keeps of the services' maps has to follow
-    /// its store, and does so from then on once the transaction is made. `Spent` comes exactly where that number would pass 2^62. A
-    /// message, a session's number and a value have to be no longer than they may be; then nothing that is written or sent is. After
-    /// a `CoreStop` the core isn't used again.
+    /// What the monitor does at an input at a moment: the protocol's reaction. What it keeps of the services' maps has
+    /// to follow its store, and does so from then on once the transaction is made. `Spent` comes exactly where that
+    /// number would pass 2^62. A message, a session's number and a value have to be no longer than they may be; then
+    /// nothing that is written or sent is. After a `CoreStop` the core isn't used again.
     pub fn react(
         &mut self,
         alloc: Global,

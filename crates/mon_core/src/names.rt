@@ -1,5 +1,5 @@
-//! The entries of a store that messages tell are named as they must be, since their names can be no others. Nothing is done but
-//! to see it.
+//! Shows the prover that entries in messages are named as they must be. The type of an entry says so, and no code
+//! changes anything: these walks are for the proof alone.
 
 ghost use Rattle.std.specs.List.{AllByRecursion};
 ghost use Rattle.mon_bounds.specs.Fitting.{IsNamed};

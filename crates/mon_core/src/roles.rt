@@ -31,9 +31,13 @@ trait Planner: RoleState {
     /// The role whose inputs these are.
     ghost role: { AnyRole };
 
-    /// What the role remembers, of all that its monitor does.
+    /// What the role remembers, as a part of what its monitor remembers.
     ghost part_of: { Remembered → Self };
 
+    /// An active leader's stage stays its phase, whatever the role remembers.
+    ghost leads_on: { LeadsOn Self.put };
+
+    /// The plan of the role's row at an input.
     fn step(
         alloc: Global,
         kv: &Kv,
@@ -49,8 +53,6 @@ trait Planner: RoleState {
             (IsMet me.now now (readings_of kv.now) view.now part_of (part_of (state_of state.now)))
             (row me.now (shared_entries kv.now) now input.now) result }
         ensures leaves { IfOk result (λ p. Leaves view.now.phase p.next p.tx) };
-
-    ghost leads_on: { LeadsOn Self.put };
 }
 
 impl Planner for Prober {
@@ -212,7 +214,8 @@ fn play<S: Planner>(
     act(alloc, kv, me, event, next, now)
 }
 
-/// The row of an input that is one of a role's: of a message that is heard, of a timer that is disarmed, or of a request.
+/// The row of an input that is one of a role's: of a message that is heard, of a timer that is disarmed, or of a
+/// request.
 pub(crate) fn answer(
     alloc: Global,
     kv: &Kv,

@@ -32,7 +32,8 @@ fn is_member(phase: Phase) -> bool
 fn shown(alloc: Global, kv: &Kv, cache: &mut Cache, service: Service) -> Result<Reply, OutOfMemory>
     requires { Follows cache.old (readings_of kv.now) }
     ensures reply { IfOk result (λ reply. reply ≡ shown (readings_of kv.now) service) }
-    ensures known { OnOk result (known cache.new service ≡ known_once_read (readings_of kv.now) service (known cache.old service)) }
+    ensures known { OnOk result (known cache.new service ≡ known_once_read (readings_of kv.now) service
+        (known cache.old service)) }
     ensures others { OnOk result ((t : services.Service) → (t ≡ service → ⊥) → known cache.new t ≡ known cache.old t) }
     ensures follows { OnOk result (Follows cache.new (readings_of kv.now)) }
 {
@@ -89,7 +90,8 @@ pub(crate) fn show(
 ) -> Result<(), OutOfMemory>
     requires follows { Follows cache.old (readings_of kv.now) }
     requires ready { IsReady me.now event.old }
-    ensures row { OnOk result (AnswersInput me.now kv.now now event.old (input.Client session (request.Show service)) event.new (Ok tt)) }
+    ensures row { OnOk result
+        (AnswersInput me.now kv.now now event.old (input.Client session (request.Show service)) event.new (Ok tt)) }
     ensures known { OnOk result ((t : services.Service) → known cache.new t
         ≡ known_by_then me.now now (readings_of kv.now) (state_of event.old.state)
         (input.Client session (request.Show service)) t (known cache.old t)) }

@@ -46,8 +46,10 @@ is_input (input.Timer t) = is_rung t
 is_input (input.Client session r) = false
 
 -- a row, where the store tells this, the other roles are seen so, and the elector remembers that
-abbrev pub PlansElection : Me → (now : ℕ) → Readings → View → Elector → (Course → Result Course Which) → Result (Plan Elector) RoleStop → Type 0
-PlansElection me now w view s row result = PlansRow me now elector_is (IsMet me now w view (λ state. state.elector) s) row result
+abbrev pub PlansElection : Me → (now : ℕ) → Readings → View → Elector → (Course → Result Course Which) →
+    Result (Plan Elector) RoleStop → Type 0
+PlansElection me now w view s row result =
+    PlansRow me now elector_is (IsMet me now w view (λ state. state.elector) s) row result
 
 -- An event under way where an election is called: the epoch is this, and the elector remembers that.
 pub record IsCalled (e : ℕ) (s : Elector) (x : Course) : Type 0 where
@@ -61,6 +63,12 @@ table_told rule scores = if scores_count rule then Some scores else None
 -- the next epoch begins in which those lead who deferred to it, unless no number is left for it
 abbrev pub Wins : (epoch : ℕ) → Elector → (acked : List Bool) → Result (Plan Elector) RoleStop → Type 0
 Wins epoch s acked (Ok p) =
-    (suc epoch ≤ 2 ^ 62) × (p ≡ record { tx = spelled (Epoch (suc epoch) ∷ []); out = []; timers = []; state = s; next = next.Win acked })
+    (suc epoch ≤ 2 ^ 62) × (p ≡ record {
+      tx = spelled (Epoch (suc epoch) ∷ []);
+      out = [];
+      timers = [];
+      state = s;
+      next = next.Win acked;
+    })
 Wins epoch s acked (Err stop.OutOfMemory) = Unit {0}
 Wins epoch s acked (Err (stop.Spent spent)) = (spent ≡ which.Epoch) × (2 ^ 62 < suc epoch)

@@ -23,7 +23,8 @@ pub fn hear_ack(
     from: Rank,
     epoch: Epoch,
 ) -> Result<Plan<Elector>, RoleStop>
-    ensures plans { (now : ℕ) → PlansElection me.now now (readings_of stored.now) view.now state.now (hear_ack me.now now from epoch) result }
+    ensures plans { (now : ℕ) →
+        PlansElection me.now now (readings_of stored.now) view.now state.now (hear_ack me.now now from epoch) result }
     ensures leaves { IfOk result (λ p. Leaves view.now.phase p.next p.tx) }
 {
     if is_deaf(view, epoch) {
@@ -54,7 +55,8 @@ pub fn election_ends(
     view: &View,
     state: &Elector,
 ) -> Result<Plan<Elector>, RoleStop>
-    ensures plans { (now : ℕ) → PlansElection me.now now (readings_of stored.now) view.now state.now (election_ends me.now now) result }
+    ensures plans { (now : ℕ) →
+        PlansElection me.now now (readings_of stored.now) view.now state.now (election_ends me.now now) result }
     ensures leaves { IfOk result (λ p. Leaves view.now.phase p.next p.tx) }
 {
     if !is_electing(view.phase) {

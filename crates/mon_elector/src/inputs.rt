@@ -64,7 +64,8 @@ fn ring(
     now: Moment,
 ) -> Result<Plan<Elector>, RoleStop>
     requires { IsTrue (is_rung timer) }
-    ensures plans { PlansElection me.now now (readings_of stored.now) view.now state.now (timer_comes me.now now timer) result }
+    ensures plans { PlansElection me.now now (readings_of stored.now) view.now state.now
+        (timer_comes me.now now timer) result }
     ensures leaves { IfOk result (λ p. Leaves view.now.phase p.next p.tx) }
 {
     match timer {
@@ -74,9 +75,9 @@ fn ring(
     }
 }
 
-/// What an elector does at a PROPOSE, ACK, VICTORY, PING or PING_REPLY that is heard, and when the timer of an election or the one
-/// to ping, which was armed, comes and is disarmed: its row of the protocol's table. What is dropped takes no memory. `Spent`
-/// names the epoch that the monitor would lead in, where that would pass 2^62.
+/// What an elector does at a PROPOSE, ACK, VICTORY, PING or PING_REPLY that is heard, and when the timer of an election
+/// or the one to ping, which was armed, comes and is disarmed: its row of the protocol's table. What is dropped takes
+/// no memory. `Spent` names the epoch that the monitor would lead in, where that would pass 2^62.
 pub fn step(
     alloc: Global,
     kv: &Kv,

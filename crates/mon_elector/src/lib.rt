@@ -1,5 +1,5 @@
-//! How a monitor takes part in elections: to whom it defers, when it calls one, when it wins, and whom it follows; and how it
-//! measures its connections.
+//! How a monitor takes part in elections: to whom it defers, when it calls one, when it wins, and whom it follows; and
+//! how it measures its connections.
 #![tactic(auto)]
 
 mod acks;

@@ -40,7 +40,8 @@ pub fn hear_ping(
     from: Rank,
     table: &Option<ScoreTable>,
 ) -> Result<Plan<Elector>, RoleStop>
-    ensures plans { (now : ℕ) → PlansElection me.now now (readings_of stored.now) view.now state.now (hear_ping me.now from table.now) result }
+    ensures plans { (now : ℕ) →
+        PlansElection me.now now (readings_of stored.now) view.now state.now (hear_ping me.now from table.now) result }
     ensures leaves { IfOk result (λ p. Leaves view.now.phase p.next p.tx) }
 {
     let Some(table) = table else {
@@ -90,7 +91,7 @@ fn count_time(scores: &mut Scores, is_heard: bool, rank: Rank, seconds: u64)
     }
 }
 
-/// The table after so many seconds in which some of these monitors were heard.
+/// The table after `seconds` seconds in which those of `ranks` that are in `heard` were heard.
 #[tactic(auto, using(crate::proofs::PingLaws::scores_next, crate::proofs::PingLaws::scores_end))]
 fn scores_after(seconds: u64, heard: RankSet, ranks: &[Rank], scores: &Scores) -> Scores
     ensures { result ≡ scores_after seconds heard ranks.now scores.now }

@@ -27,7 +27,8 @@ pub fn hear_propose(
     table: &Option<ScoreTable>,
     now: Moment,
 ) -> Result<Plan<Elector>, RoleStop>
-    ensures plans { PlansElection me.now now (readings_of stored.now) view.now state.now (hear_propose me.now now from epoch table.now) result }
+    ensures plans { PlansElection me.now now (readings_of stored.now) view.now state.now
+        (hear_propose me.now now from epoch table.now) result }
     ensures leaves { IfOk result (λ p. Leaves view.now.phase p.next p.tx) }
 {
     if is_deaf(view, epoch) {

@@ -112,7 +112,8 @@ pub fn is_better(me: &Me, table: &Scores, from: Rank) -> bool
     me.rule.allows(from) && outranks(&me.rule, me.member.monitors, table, from, me.member.rank)
 }
 
-/// Whether the monitor may defer to a candidate: it deferred to nobody yet, or to this one, or to one that stands behind it.
+/// Whether the monitor may defer to a candidate: it deferred to nobody yet, or to this one, or to one that stands
+/// behind it.
 pub fn may_defer(me: &Me, table: &Scores, from: Rank, deferred: Option<Rank>) -> bool
     ensures { result ≡ may_defer me.now table.now from deferred }
 {
@@ -140,14 +141,16 @@ pub fn leads_all(me: &Me, acked: RankSet) -> bool
 
 /// Whether a candidate wins once the election's time is over.
 pub fn may_win(me: &Me, state: &Elector) -> bool
-    ensures { result ≡ (state.now.candidate && is_allowed me.now me.now.member.rank && is_majority me.now.member.monitors state.now.acked) }
+    ensures { result ≡ (state.now.candidate && is_allowed me.now me.now.member.rank &&
+        is_majority me.now.member.monitors state.now.acked) }
 {
     state.candidate && me.rule.allows(me.member.rank) && state.acked.is_majority(me.member.monitors)
 }
 
 /// Whether the monitor may follow a leader in a quorum: both are in it, and it is a majority.
 pub fn may_follow(me: &Me, quorum: RankSet, leader: Rank) -> bool
-    ensures { result ≡ (has quorum me.now.member.rank && has quorum leader && is_majority me.now.member.monitors quorum) }
+    ensures { result ≡ (has quorum me.now.member.rank && has quorum leader &&
+        is_majority me.now.member.monitors quorum) }
 {
     quorum.has(me.member.rank) && quorum.has(leader) && quorum.is_majority(me.member.monitors)
 }

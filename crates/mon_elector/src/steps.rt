@@ -74,7 +74,8 @@ pub fn enter_epoch(
     state: Elector,
     next: Next,
 ) -> Result<Plan<Elector>, OutOfMemory>
-    ensures plan { IfOk result (λ p. p ≡ record { tx = spelled (ToEpoch epoch ∷ []); out = []; timers = []; state = state; next = next }) }
+    ensures plan { IfOk result
+        (λ p. p ≡ record { tx = spelled (ToEpoch epoch ∷ []); out = []; timers = []; state = state; next = next }) }
     ensures fit { Fits (ToEpoch epoch) }
 {
     Ok(Plan {
@@ -86,7 +87,7 @@ pub fn enter_epoch(
     })
 }
 
-/// The same with a timer.
+/// An epoch begins, a timer is armed, and then comes an act.
 pub fn enter_epoch_until(
     alloc: Global,
     epoch: Epoch,
@@ -94,7 +95,14 @@ pub fn enter_epoch_until(
     arming: Arming,
     next: Next,
 ) -> Result<Plan<Elector>, OutOfMemory>
-    ensures plan { IfOk result (λ p. p ≡ record { tx = spelled (ToEpoch epoch ∷ []); out = []; timers = arming ∷ []; state = state; next = next }) }
+    ensures plan { IfOk result
+        (λ p. p ≡ record {
+          tx = spelled (ToEpoch epoch ∷ []);
+          out = [];
+          timers = arming ∷ [];
+          state = state;
+          next = next;
+        }) }
     ensures fit { Fits (ToEpoch epoch) }
 {
     let tx = to_epoch(alloc, epoch)?;
@@ -124,7 +132,7 @@ fn tell_copies(
     Ok(out)
 }
 
-/// The same message to all others.
+/// The messages that tell all others the same.
 pub fn tell_others(
     alloc: Global,
     me: &Me,
@@ -146,7 +154,13 @@ pub fn tell_until(
     state: Elector,
     arming: Arming,
 ) -> Result<Plan<Elector>, OutOfMemory>
-    ensures { IfOk result (λ p. p ≡ record { tx = tx; out = out; timers = arming ∷ []; state = state; next = next.Stay }) }
+    ensures { IfOk result (λ p. p ≡ record {
+      tx = tx;
+      out = out;
+      timers = arming ∷ [];
+      state = state;
+      next = next.Stay;
+    }) }
 {
     let mut timers = Items::new(alloc);
     timers.push(arming)?;

@@ -25,7 +25,8 @@ pub fn hear_victory(
     quorum: RankSet,
     now: Moment,
 ) -> Result<Plan<Elector>, RoleStop>
-    ensures plans { PlansElection me.now now (readings_of stored.now) view.now state.now (hear_victory me.now now from epoch quorum) result }
+    ensures plans { PlansElection me.now now (readings_of stored.now) view.now state.now
+        (hear_victory me.now now from epoch quorum) result }
     ensures leaves { IfOk result (λ p. Leaves view.now.phase p.next p.tx) }
 {
     if is_deaf_to_winners(view, epoch) {

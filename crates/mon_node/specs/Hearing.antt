@@ -70,8 +70,8 @@ input_in n from (Some bytes) = input_read n from (message_of bytes)
 
 -- ---- a turn
 
--- What a turn is given: what the clock shows as it begins; what the link answers, where it is asked; and what the clock shows
--- once a datagram came.
+-- What a turn is given: what the clock shows as it begins; what the link answers, where it is asked; and what the clock
+-- shows once a datagram came.
 pub record Given : Type 0 where
   pub began : ℕ
   pub answer : Result Got Stop

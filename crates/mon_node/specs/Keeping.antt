@@ -18,7 +18,8 @@ changed ops s = record { side = s.side; journal = journal_after s.journal ops; k
 
 -- and once the checkpoint that is due is made, if one is
 abbrev pub renewed : Stood → Stood
-renewed s = if is_due s.journal s.kv then (record { side = other_side s.side; journal = next_journal s.journal s.kv; kv = s.kv }) else s
+renewed s = if is_due s.journal s.kv
+    then (record { side = other_side s.side; journal = next_journal s.journal s.kv; kv = s.kv }) else s
 
 -- A transaction is kept: its changes are made, and then the checkpoint that is due, if one is.
 abbrev pub kept : List Op → Stood → Stood
@@ -27,7 +28,8 @@ kept ops s = renewed (changed ops s)
 -- the map in memory has its changes; or it would be too large; or a disk failed, or memory ran out
 abbrev pub Keeps : {T : Type 0} → List Op → (old new : Store) → Result T NodeEnd → Type 0
 Keeps ops old new (Ok x) = (size_of (apply ops old) ≤ most_size) × (new ≡ apply ops old)
-Keeps ops old new (Err (end.Full would_be)) = (most_size < size_of (apply ops old)) × (would_be ≡ size_of (apply ops old))
+Keeps ops old new (Err (end.Full would_be)) = (most_size < size_of (apply ops old)) ×
+    (would_be ≡ size_of (apply ops old))
 Keeps ops old new (Err end.DiskFault) = size_of (apply ops old) ≤ most_size
 Keeps ops old new (Err end.OutOfMemory) = Unit {0}
 Keeps ops old new (Err other) = ⊥

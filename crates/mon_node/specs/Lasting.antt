@@ -38,16 +38,18 @@ moments d = (d.a.moment, d.b.moment)
 pub record Between (d : Disks) (P : Stood → Type 0) (from to : ℕ × ℕ) : Type 0 where
   pub a_later : from.0 ≤ to.0
   pub b_later : from.1 ≤ to.1
-  pub each : (s t : ℕ) (x y : List ℕ) → from.0 ≤ s → s ≤ to.0 → from.1 ≤ t → t ≤ to.1 → d.a.images_at s x → d.b.images_at t y → On P x y
+  pub each : (s t : ℕ) (x y : List ℕ) → from.0 ≤ s → s ≤ to.0 → from.1 ≤ t → t ≤ to.1 → d.a.images_at s x →
+      d.b.images_at t y → On P x y
 
--- The same by way of two moments in between: up to them a record is written on the live disk, and then a checkpoint on the other one.
+-- The same by way of two moments in between: up to them a record is written on the live disk, and then a checkpoint on
+-- the other one.
 pub record Through (d : Disks) (P : Stood → Type 0) (from to : ℕ × ℕ) : Type 0 where
   pub mid : ℕ × ℕ
   pub written : Between d P from mid
   pub renewed : Between d P mid to
 
--- What two disks go through: what a crash might have left before stands, and at every moment since then a crash leaves two images on
--- which a store stands so that P.
+-- What two disks go through: what a crash might have left before stands, and at every moment since then a crash leaves
+-- two images on which a store stands so that P.
 pub record Pass (P : Stood → Type 0) (old new : Disks) : Type 0 where
   pub a : Lasts old.a new.a
   pub b : Lasts old.b new.b
@@ -71,7 +73,8 @@ StaysIfFull other old_a old_b new_a new_b = Unit {0}
 
 -- ---- a turn
 
--- where its store stands once the record of its input's transaction is written, and once that is kept: a turn without an input leaves it
+-- where its store stands once the record of its input's transaction is written, and once that is kept: a turn without
+-- an input leaves it
 abbrev pub stood_recorded : Me → Turn → Stood
 stood_recorded me t = of_turn me t t.serving.node.store (λ r. recorded r.transaction t.serving.node.store)
 
@@ -84,7 +87,8 @@ IsWithinTurn me t s = (s ≡ t.serving.node.store) ⊎ (s ≡ stood_recorded me 
 -- Where it stands once the node ended there, by what the link was asked to send. What is sent is kept.
 abbrev pub IsLeft : Me → Turn → NodeEnd → Option Told → Stood → Type 0
 IsLeft me t end.OutOfMemory link s =
-    ((link ≡ t.serving.outside.link) × IsWithinTurn me t s) ⊎ (SendsFront (sends_of me t) t.serving.outside.link link × (s ≡ stood_kept me t))
+    ((link ≡ t.serving.outside.link) × IsWithinTurn me t s) ⊎ (SendsFront (sends_of me t) t.serving.outside.link link ×
+    (s ≡ stood_kept me t))
 IsLeft me t end.DiskFault link s = IsWithinTurn me t s
 IsLeft me t (end.Spent spent) link s = s ≡ stood_kept me t
 IsLeft me t end.TurnsUsed link s = s ≡ stood_kept me t
@@ -94,7 +98,8 @@ IsLeft me t (end.Full would_be) link s = s ≡ t.serving.node.store
 
 -- what the disks go through in it, and what they are left with where the node ends at it
 abbrev pub PassTurn : {T : Type 0} → Me → Turn → Result T NodeEnd → Option Told → (old new : Disks) → Type 0
-PassTurn me t result link old new = Pass (IsWithinTurn me t) old new × IfErr result (λ e. Leave new (IsLeft me t e link))
+PassTurn me t result link old new = Pass (IsWithinTurn me t) old new ×
+    IfErr result (λ e. Leave new (IsLeft me t e link))
 
 -- ---- all turns
 
@@ -102,7 +107,8 @@ PassTurn me t result link old new = Pass (IsWithinTurn me t) old new × IfErr re
 abbrev pub InTurns : Me → (first : ℕ) → Serving → Disks → List Given → (from to : ℕ × ℕ) → Type 0
 InTurns me first s d [] from to = Through d (IsWithinTurn me (start first s)) from to
 InTurns me first s d (g ∷ earlier) from to =
-    (mid : ℕ × ℕ) × InTurns me first s d earlier from mid × Has (last_turn me first s (g ∷ earlier)) (λ t. Through d (IsWithinTurn me t) mid to)
+    (mid : ℕ × ℕ) × InTurns me first s d earlier from mid × Has (last_turn me first s (g ∷ earlier))
+    (λ t. Through d (IsWithinTurn me t) mid to)
 
 -- What the disks go through in these turns.
 pub record PassTurns (me : Me) (first : ℕ) (s : Serving) (given : List Given) (old new : Disks) : Type 0 where
@@ -116,6 +122,7 @@ abbrev pub AreLeft : Me → (first : ℕ) → Serving → List Given → NodeEnd
 AreLeft me first s given e link d = Has (last_turn me first s given) (λ t. Leave d (IsLeft me t e link))
 
 -- What two disks go through in these turns, and what they are left with where the node ended so at the last one.
-pub record StandsThrough (me : Me) (first : ℕ) (s : Serving) (given : List Given) (e : NodeEnd) (link : Option Told) (old new : Disks) : Type 0 where
+pub record StandsThrough (me : Me) (first : ℕ) (s : Serving) (given : List Given) (e : NodeEnd) (link : Option Told)
+    (old new : Disks) : Type 0 where
   pub turns : PassTurns me first s given old new
   pub left : AreLeft me first s given e link new

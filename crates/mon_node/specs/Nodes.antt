@@ -18,8 +18,8 @@ pub record Node : Type 0 where
   -- the number of its next message that is longer than a datagram
   pub next : ℕ
 
--- Where the outside stands: the messages of which not all pieces came yet; and what the clock and the link tell of themselves,
--- where they do.
+-- Where the outside stands: the messages of which not all pieces came yet; and what the clock and the link tell of
+-- themselves, where they do.
 pub record Outside : Type 0 where
   pub parts : List Partial
   pub clock : Option Readings

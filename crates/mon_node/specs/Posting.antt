@@ -42,7 +42,8 @@ datagrams_of boot next l = map (to_peer l.to) (pieces_of l.bytes boot next)
 
 abbrev pub datagrams : (boot next : ℕ) → List Outgoing → List Outgoing
 datagrams boot next [] = []
-datagrams boot next (l ∷ letters) = datagrams_of boot next l ++ datagrams boot (next_behind next (length l.bytes)) letters
+datagrams boot next (l ∷ letters) =
+    datagrams_of boot next l ++ datagrams boot (next_behind next (length l.bytes)) letters
 
 -- a store tells the epoch, and how often its monitor was started
 abbrev pub letters : Me → Store → List Sent → List Outgoing

@@ -48,8 +48,8 @@ OfInput me n P (Err e) = ⊥
 
 -- ---- ends
 
--- Why a node ends at a turn, for all ends that don't lie in the number of turns. A disk may fail once the transaction of an input
--- was given to the store.
+-- Why a node ends at a turn, for all ends that don't lie in the number of turns. A disk may fail once the transaction
+-- of an input was given to the store.
 abbrev pub Causes : Me → Turn → NodeEnd → Type 0
 Causes me t end.TurnsUsed = ⊥
 Causes me t end.OutOfMemory = Unit {0}
@@ -59,8 +59,8 @@ Causes me t end.LinkFault = ended_turn me t ≡ Err end.LinkFault
 Causes me t (end.Full would_be) = ended_turn me t ≡ Err (end.Full would_be)
 Causes me t (end.Spent spent) = ended_turn me t ≡ Err (end.Spent spent)
 
--- What the link was asked to send at the turn: nothing, unless memory ran out, or the number of one of its messages. Then it is a front
--- of what was to be sent.
+-- What the link was asked to send at the turn: nothing, unless memory ran out, or the number of one of its messages.
+-- Then it is a front of what was to be sent.
 abbrev pub SendsAtEnd : Me → Turn → NodeEnd → Option Told → Type 0
 SendsAtEnd me t end.OutOfMemory link = SendsFront (sends_of me t) t.serving.outside.link link
 SendsAtEnd me t (end.Spent spent) link = SendsFront (sends_of me t) t.serving.outside.link link
@@ -91,16 +91,19 @@ EndsTurn me t (Err e) now = EndsAt me t e now.outside.clock now.outside.link
 -- what each turn was given is what clock and link told then
 abbrev pub AreGiven : Me → (first : ℕ) → Serving → List Given → Type 0
 AreGiven me first s [] = IsReading s.outside.clock first
-AreGiven me first s (g ∷ earlier) = AreGiven me first s earlier × Has (served me first s earlier) (λ now. IsGiven (due now.node.state.timers) g now.outside)
+AreGiven me first s (g ∷ earlier) = AreGiven me first s earlier × Has (served me first s earlier)
+    (λ now. IsGiven (due now.node.state.timers) g now.outside)
 
--- A node ends after these turns, of which it was to make so many at most: once all of them were made, or at the last of them.
+-- A node ends after these turns, of which it was to make so many at most: once all of them were made, or at the last of
+-- them.
 abbrev pub EndsAfter : Me → (turns : ℕ) → (begun : ℕ) → Turn → NodeEnd → Option Readings → Option Told → Type 0
 EndsAfter me turns begun t end.TurnsUsed clock link =
     (begun ≡ turns) × Has (ended_turn me t) (λ now. (clock ≡ now.outside.clock) × (link ≡ now.outside.link))
 EndsAfter me turns begun t other clock link = EndsAt me t other clock link
 
 -- Which turns a node made: what they were given, what they come to, and how the node ended.
-pub record Serves (me : Me) (s : Serving) (turns : ℕ) (e : NodeEnd) (begun : ℕ) (clock : Option Readings) (link : Option Told) (first : ℕ) (given : List Given) : Type 0 where
+pub record Serves (me : Me) (s : Serving) (turns : ℕ) (e : NodeEnd) (begun : ℕ) (clock : Option Readings)
+    (link : Option Told) (first : ℕ) (given : List Given) : Type 0 where
   pub given_are : AreGiven me first s given
   pub begun_are : begun ≡ length given
   pub most : length given ≤ turns

@@ -75,10 +75,13 @@ turn me g s =
 
 -- the start, of which the clock tells the moment first
 abbrev pub start : (first : ℕ) → Serving → Turn
-start first s = record { came = Ok (Some (at_moment first input.Start)); serving = record s { outside = clock_read s.outside } }
+start first s = record {
+  came = Ok (Some (at_moment first input.Start));
+  serving = record s { outside = clock_read s.outside };
+}
 
--- The last of these turns, once it is known what it comes to. What each is given is told the newest first, and the start comes
--- before all of them.
+-- The last of these turns, once it is known what it comes to. What each is given is told the newest first, and the
+-- start comes before all of them.
 abbrev pub last_turn : Me → (first : ℕ) → Serving → List Given → Result Turn NodeEnd
 last_turn me first s [] = Ok (start first s)
 last_turn me first s (g ∷ earlier) = (last_turn me first s earlier >>= ended_turn me) >>= λ now. Ok (turn me g now)

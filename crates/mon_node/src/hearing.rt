@@ -79,7 +79,8 @@ fn brought(
     from: &Peer,
     datagram: &[u8],
 ) -> Result<Option<Input>, OutOfMemory>
-    ensures input { IfOk result (λ came. came ≡ input_in monitors from.now (answer_in (taken assembly.old from.now datagram.now))) }
+    ensures input { IfOk result
+        (λ came. came ≡ input_in monitors from.now (answer_in (taken assembly.old from.now datagram.now))) }
     ensures kept { OnOk result (assembly.new ≡ kept_in assembly.old (taken assembly.old from.now datagram.now)) }
     ensures comes { IfOk result (λ came. IfSome came MayCome) }
 {
@@ -131,7 +132,8 @@ pub(crate) fn hear<L: Link, C: Clock>(
 ) -> Result<Option<TimedInput>, NodeEnd>
     ensures heard { let old = outside_of assembly.old (C.left clock.old) (L.state link.old).told in
         (g : Given) × IsGiven next.now g old
-        × Hears (heard monitors next.now g old) result (outside_of assembly.new (C.left clock.new) (L.state link.new).told) }
+        × Hears (heard monitors next.now g old) result
+        (outside_of assembly.new (C.left clock.new) (L.state link.new).told) }
     ensures comes { IfOk result (λ came. IfSome came (λ it. MayCome it.input)) }
     ensures faults { (L.state link.new).faults ≡ faults_by result (L.state link.old).faults }
 {

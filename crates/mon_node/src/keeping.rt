@@ -25,12 +25,14 @@ fn change<D: Disk>(store: &mut Store<D>, tx: &Transaction) -> Result<(), NodeEnd
     ensures stands { OnOk result (stood_of store.new ≡ changed tx.now (stood_of store.old)) }
     ensures counts { DisksCount result (D.state (disk_a store.old)).faults (D.state (disk_b store.old)).faults
         (D.state (disk_a store.new)).faults (D.state (disk_b store.new)).faults }
-    ensures full { IfErr result (λ end. StaysIfFull end (disk_a store.old) (disk_b store.old) (disk_a store.new) (disk_b store.new)) }
+    ensures full { IfErr result
+        (λ end. StaysIfFull end (disk_a store.old) (disk_b store.old) (disk_a store.new) (disk_b store.new)) }
     ensures tells { BothTell (disks_of D.state store.old) → BothTell (disks_of D.state store.new) }
 
     // A crash at any moment leaves the store as it stood, or behind the record.
     ensures meanwhile { let old = disks_of D.state store.old in let new = disks_of D.state store.new in
-        BothTell old → Meanwhile old.a old.b new.a new.b (On (λ s. (s ≡ stood_of store.old) ⊎ (s ≡ recorded tx.now (stood_of store.old)))) }
+        BothTell old → Meanwhile old.a old.b new.a new.b (On
+        (λ s. (s ≡ stood_of store.old) ⊎ (s ≡ recorded tx.now (stood_of store.old)))) }
 {
     match store.apply(tx) {
         Ok(()) => Ok(()),
@@ -77,7 +79,8 @@ pub(crate) fn keep<D: Disk>(store: &mut Store<D>, tx: &Transaction) -> Result<()
     ensures stands { OnOk result (stood_of store.new ≡ kept tx.now (stood_of store.old)) }
     ensures counts { DisksCount result (D.state (disk_a store.old)).faults (D.state (disk_b store.old)).faults
         (D.state (disk_a store.new)).faults (D.state (disk_b store.new)).faults }
-    ensures full { IfErr result (λ end. StaysIfFull end (disk_a store.old) (disk_b store.old) (disk_a store.new) (disk_b store.new)) }
+    ensures full { IfErr result
+        (λ end. StaysIfFull end (disk_a store.old) (disk_b store.old) (disk_a store.new) (disk_b store.new)) }
     ensures passes { BothTell (disks_of D.state store.old)
         → Pass (IsWithin tx.now (stood_of store.old)) (disks_of D.state store.old) (disks_of D.state store.new) }
 {

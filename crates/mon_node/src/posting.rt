@@ -39,7 +39,7 @@ fn send_each<L: Link>(link: &mut L, to: &Peer, datagrams: &[Bytes]) -> Result<()
     Ok(())
 }
 
-/// The number under which a message of so many bytes goes out, where it is longer than a datagram. It is the next one.
+/// The number under which a message of `len` bytes goes out, where it is longer than a datagram. It is the next one.
 fn numbered(next: &mut u64, len: usize) -> Result<u64, NodeEnd>
     requires { next.old ≤ 2 ^ 62 + 1 }
     ensures number { IfOk result (λ number. number ≡ next.old) }
@@ -156,7 +156,8 @@ pub(crate) fn send_all<L: Link>(
     requires may { AllByRecursion (MaySend me.now) out.now }
     requires named { AllByRecursion TellsNamed out.now }
     requires next { next.old ≤ 2 ^ 62 + 1 }
-    ensures posts { Posts (datagrams (boot_in kv.now) next.old (letters me.now kv.now out.now)) result (L.state link.old) (L.state link.new) }
+    ensures posts { Posts (datagrams (boot_in kv.now) next.old (letters me.now kv.now out.now)) result
+        (L.state link.old) (L.state link.new) }
     ensures behind { OnOk result (next.new ≡ next_after next.old (letters me.now kv.now out.now)) }
     ensures most { OnOk result (next.new ≤ 2 ^ 62 + 1) }
     ensures spent { IfErr result (IsSpent (next_after next.old (letters me.now kv.now out.now))) }

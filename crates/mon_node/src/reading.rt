@@ -49,7 +49,7 @@ fn from_monitor(rank: Rank, message: Message) -> Option<Input>
     }
 }
 
-/// The input that a message from a peer is in a map of so many monitors, where it is one.
+/// The input that a message from a peer is in a map of `monitors` monitors, where it is one.
 fn input_of(monitors: u8, from: &Peer, message: Message) -> Option<Input>
     requires { HasText message }
     ensures input { result ≡ input_of monitors from.now message }

@@ -26,8 +26,8 @@ use mon_store::Store;
 use mon_types::Moment;
 use std::alloc::Global;
 
-/// A monitor in use: its store, its core, the messages of which not all pieces came yet, and the number of its next message
-/// that is longer than a datagram.
+/// A monitor in use: its store, its core, the messages of which not all pieces came yet, and the number of its next
+/// message that is longer than a datagram.
 #[derive(Drop)]
 pub(crate) struct Server<D> {
     alloc: Global,
@@ -77,7 +77,8 @@ impl<D: Disk> Server<D> {
             result (serving_of self.new clock (L.state link.new).told) }
         ensures kind { IfErr result IsOfInput }
         ensures faults { (L.state link.new).faults ≡ (L.state link.old).faults }
-        ensures counts { DisksCount result (D.state (disk_a self.old.store)).faults (D.state (disk_b self.old.store)).faults
+        ensures counts { DisksCount result (D.state (disk_a self.old.store)).faults
+            (D.state (disk_b self.old.store)).faults
             (D.state (disk_a self.new.store)).faults (D.state (disk_b self.new.store)).faults }
         ensures passes { (clock : Option Readings) → BothTell (disks_of D.state self.old.store) → PassTurn self.old.me
             (record { came = Ok (Some (at_moment now input.now)); serving = serving_of self.old clock (L.state link.old).told })
@@ -105,13 +106,16 @@ impl<D: Disk> Server<D> {
         requires in_use { IsInUse D.state self.old }
         ensures in_use { OnOk result (IsInUse D.state self.new) }
         ensures me { self.new.me ≡ self.old.me }
-        ensures turn { let old = serving_of self.old (C.left clock.old) (L.state link.old).told in let disks = disks_of D.state self.old.store in
+        ensures turn { let old = serving_of self.old (C.left clock.old) (L.state link.old).told in
+            let disks = disks_of D.state self.old.store in
             (g : Given) × IsGiven (due self.old.core.state.timers) g old.outside
-            × EndsTurn self.old.me (turn self.old.me g old) result (serving_of self.new (C.left clock.new) (L.state link.new).told)
+            × EndsTurn self.old.me (turn self.old.me g old) result
+            (serving_of self.new (C.left clock.new) (L.state link.new).told)
             × (BothTell disks → PassTurn self.old.me (turn self.old.me g old) result (L.state link.new).told disks
             (disks_of D.state self.new.store)) }
         ensures faults { (L.state link.new).faults ≡ faults_by result (L.state link.old).faults }
-        ensures counts { DisksCount result (D.state (disk_a self.old.store)).faults (D.state (disk_b self.old.store)).faults
+        ensures counts { DisksCount result (D.state (disk_a self.old.store)).faults
+            (D.state (disk_b self.old.store)).faults
             (D.state (disk_a self.new.store)).faults (D.state (disk_b self.new.store)).faults }
     {
         let next = self.core.due();

@@ -42,8 +42,8 @@ fn hear(
     }
 }
 
-/// What a prober does at a PROBE or PROBE_REPLY that is heard, and when the timer to probe, which was armed, comes and is
-/// disarmed: its row of the protocol's table. What is dropped takes no memory, and no number runs out.
+/// What a prober does at a PROBE or PROBE_REPLY that is heard, and when the timer to probe, which was armed, comes and
+/// is disarmed: its row of the protocol's table. What is dropped takes no memory, and no number runs out.
 pub fn step(
     alloc: Global,
     kv: &Kv,

@@ -23,7 +23,8 @@ pub fn hear_probe(
     state: &Prober,
     from: Rank,
 ) -> Result<Plan<Prober>, RoleStop>
-    ensures plans { (now : ℕ) → PlansProbe me.now now (readings_of stored.now) view.now state.now (hear_probe me.now from) result }
+    ensures plans { (now : ℕ) →
+        PlansProbe me.now now (readings_of stored.now) view.now state.now (hear_probe me.now from) result }
     ensures leaves { IfOk result (λ p. Leaves view.now.phase p.next p.tx) }
 {
     if stored.is_marked() {

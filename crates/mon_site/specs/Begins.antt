@@ -18,11 +18,12 @@ use Rattle.mon_site.specs.Falls.{IsFalling, Settles}
 abbrev pub Opens : Member → MemoryState → MemoryState → Type 0
 Opens member a b = (s : Stood) × (opens_as member (seen_of a.life) (seen_of b.life) ≡ Ok s)
 
--- The store is open where the first call that fails comes behind opening; and else the disks settle to what was there, or to what
--- a creation had come to.
+-- The store is open where the first call that fails comes behind opening; and else the disks settle to what was there,
+-- or to what a creation had come to.
 abbrev pub Begins : Upset → Member → Store → Files → Result Begun OutOfMemory → Type 0
 Begins u member m f (Ok (Open store)) =
-    (opening_count u.disk f < u.call) × IsFalling u.disk (u.call - opening_count u.disk f) u.image member m (after_opening f) store
+    (opening_count u.disk f < u.call) ×
+    IsFalling u.disk (u.call - opening_count u.disk f) u.image member m (after_opening f) store
 Begins u member m f (Ok (Failed disks)) =
     (u.call ≤ opening_count u.disk f) × Settles member m (opening_cut f u.disk u.call u.image) disks.a disks.b
 Begins u member m f (Err e) = Unit {0}

@@ -47,7 +47,8 @@ Starts member m f (Err e) = Unit {0}
 
 -- a transaction's changes are made
 abbrev pub Changes : Member → Store → Files → List Op → kept.Store MemoryState → Result Unit StoreStop → Type 0
-Changes member m f ops store (Ok done) = (size_of (apply ops m) ≤ most_size) × Runs member (apply ops m) (after_append ops f) store
+Changes member m f ops store (Ok done) = (size_of (apply ops m) ≤ most_size) ×
+    Runs member (apply ops m) (after_append ops f) store
 Changes member m f ops store (Err e) = StopsAt m ops e
 
 -- what is due is made
@@ -57,5 +58,6 @@ Renews member m f store (Err e) = IsMemory e
 
 -- and both
 abbrev pub Applies : Member → Store → Files → List Op → kept.Store MemoryState → Result Unit StoreStop → Type 0
-Applies member m f ops store (Ok done) = (size_of (apply ops m) ≤ most_size) × Runs member (apply ops m) (after_checkpoint (apply ops m) (after_append ops f)) store
+Applies member m f ops store (Ok done) = (size_of (apply ops m) ≤ most_size) ×
+    Runs member (apply ops m) (after_checkpoint (apply ops m) (after_append ops f)) store
 Applies member m f ops store (Err e) = StopsAt m ops e

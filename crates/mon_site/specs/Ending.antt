@@ -26,14 +26,16 @@ use Rattle.mon_site.specs.Falls.{Settles}
 use Rattle.mon_site.specs.Upset.{IsUpset, files_on}
 
 -- The live disk failed in none of its calls, or in none so far; the other one may still fail.
-pub record IsKept (on_live : Bool) (call image : ℕ) (member : Member) (m : Store) (f : Files) (store : kept.Store MemoryState) : Type 0 where
+pub record IsKept (on_live : Bool) (call image : ℕ) (member : Member) (m : Store) (f : Files)
+    (store : kept.Store MemoryState) : Type 0 where
   pub unbroken : store.broken ≡ false
   pub sound : Sound store.journal store.kv store.live.known (content store.live) (content store.other)
   pub form : store.journal.form ≡ Second
   pub owner : owner_of store.journal.member ≡ owner_of member
   pub map : store.kv ≡ m
   pub files : files_on (disk_a store) (disk_b store) ≡ f
-  pub other : ((on_live ≡ true) × (store.other.life.upset ≡ None)) ⊎ ((on_live ≡ false) × IsUpset call image store.other)
+  pub other : ((on_live ≡ true) × (store.other.life.upset ≡ None)) ⊎
+      ((on_live ≡ false) × IsUpset call image store.other)
 
 -- whether the upset disk is the live one
 abbrev pub on_live : Upset → Files → Bool
@@ -64,13 +66,18 @@ Keeps u member m f ops store (Ok Whole) =
     ((on_live u f && not (is_beyond u ops)) ≡ false) × (size_of (apply ops m) ≤ most_size)
     × IsKept (on_live u f) u.call u.image member (apply ops m) (after_append ops f) store
 Keeps u member m f ops store (Ok (Cut kept)) =
-    (on_live u f ≡ true) × (is_beyond u ops ≡ false) × (size_of (apply ops m) ≤ most_size) × (kept ≡ opens_gate 3 u.call u.image)
-    × Settles member (if kept then apply ops m else m) (if kept then after_append ops f else f) (disk_a store) (disk_b store)
+    (on_live u f ≡ true) × (is_beyond u ops ≡ false) × (size_of (apply ops m) ≤ most_size) ×
+    (kept ≡ opens_gate 3 u.call u.image)
+    × Settles member (if kept then apply ops m else m) (if kept then after_append ops f else f)
+    (disk_a store) (disk_b store)
 Keeps u member m f ops store (Err e) = StopsAt m ops e
 
 -- What becomes due is made, as far as the disks let it.
-abbrev pub Checkpoints : Bool → (call image : ℕ) → Member → Store → Files → kept.Store MemoryState → Result Unit StoreStop → Type 0
-Checkpoints live call image member m f store (Ok done) = Settles member m (if live then after_checkpoint m f else checkpoint_begun call image m f) (disk_a store) (disk_b store)
+abbrev pub Checkpoints : Bool → (call image : ℕ) → Member → Store → Files → kept.Store MemoryState →
+    Result Unit StoreStop → Type 0
+Checkpoints live call image member m f store (Ok done) =
+    Settles member m (if live then after_checkpoint m f else checkpoint_begun call image m f)
+    (disk_a store) (disk_b store)
 Checkpoints live call image member m f store (Err e) = IsMemory e
 
 -- whether the transaction is kept, as a crash keeps it

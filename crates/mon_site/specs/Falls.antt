@@ -1,4 +1,5 @@
--- A monitor of which one disk fails within an event: its disks before they are opened, its store, and what its disks settle to.
+-- A monitor of which one disk fails within an event: its disks before they are opened, its store, and what its disks
+-- settle to.
 use Rattle.std.specs.Prelude.{◌≡◌, ℕ, false, List, None, Ok}
 use Rattle.mon_types.specs.declared.names.Side.{Side}
 use Rattle.mon_types.specs.declared.member.Member.{Member}
@@ -25,7 +26,8 @@ pub record OpensMap (member : Member) (m : Store) (a b : List ℕ) : Type 0 wher
   pub map : stood.kv ≡ m
 
 -- Before they are opened: one of them is upset.
-pub record IsReady (disk : Side) (call image : ℕ) (member : Member) (m : Store) (f : Files) (a b : MemoryState) : Type 0 where
+pub record IsReady (disk : Side) (call image : ℕ) (member : Member) (m : Store) (f : Files)
+    (a b : MemoryState) : Type 0 where
   pub upset : IsUpset call image (of_live disk a b)
   pub calm : (of_live (other_side disk) a b).life.upset ≡ None
   pub only_a : Only (content a)
@@ -34,7 +36,8 @@ pub record IsReady (disk : Side) (call image : ℕ) (member : Member) (m : Store
   pub files : files_on a b ≡ f
 
 -- The store that stands on them.
-pub record IsFalling (disk : Side) (call image : ℕ) (member : Member) (m : Store) (f : Files) (store : kept.Store MemoryState) : Type 0 where
+pub record IsFalling (disk : Side) (call image : ℕ) (member : Member) (m : Store) (f : Files)
+    (store : kept.Store MemoryState) : Type 0 where
   pub unbroken : store.broken ≡ false
   pub sound : Sound store.journal store.kv store.live.known (content store.live) (content store.other)
   pub form : store.journal.form ≡ Second

@@ -17,7 +17,8 @@ pub fn upset_one(disks: NodeDisks<MemoryDisk>, upset: Upset) -> NodeDisks<Memory
     requires calm_b { disks.b.life.upset ≡ None }
     requires first { 1 ≤ upset.call }
     requires most { upset.image ≤ 3 }
-    ensures { (member : Member) (m : Map) (f : Files) → Rests member m f disks.a disks.b → IsReady upset.disk upset.call upset.image member m f result.a result.b }
+    ensures { (member : Member) (m : Map) (f : Files) → Rests member m f disks.a disks.b →
+        IsReady upset.disk upset.call upset.image member m f result.a result.b }
 {
     let NodeDisks { mut a, mut b } = disks;
     match upset.disk {
@@ -29,7 +30,8 @@ pub fn upset_one(disks: NodeDisks<MemoryDisk>, upset: Upset) -> NodeDisks<Memory
 
 /// Turns two disks into what a crash leaves of them.
 pub fn settle_both(disks: NodeDisks<MemoryDisk>) -> Result<NodeDisks<MemoryDisk>, OutOfMemory>
-    ensures { IfOk result (λ rest. (member : Member) (m : Map) (f : Files) → Settles member m f disks.a disks.b → Rests member m f rest.a rest.b) }
+    ensures { IfOk result (λ rest. (member : Member) (m : Map) (f : Files) → Settles member m f disks.a disks.b →
+        Rests member m f rest.a rest.b) }
 {
     let NodeDisks { mut a, mut b } = disks;
     a.settle()?;

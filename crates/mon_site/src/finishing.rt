@@ -37,14 +37,16 @@ fn opens_gate(upset: Upset) -> bool
     upset.call >= 3 && upset.image == 1
 }
 
-/// Makes a transaction's changes, as far as the live disk lets it. An append writes the record first, and then by the third call
-/// its gate, which the fourth one syncs.
+/// Makes a transaction's changes, as far as the live disk lets it. An append writes the record first, and then by the
+/// third call its gate, which the fourth one syncs.
 fn keep(store: &mut Store<MemoryDisk>, tx: &Transaction, upset: Upset) -> Result<Kept, StoreStop>
     requires unbroken { store.old.broken ≡ false }
     requires sound { IsSound state_of store.old }
     ensures sound { IsSound state_of store.new }
     ensures unbroken { result ≡ Ok Kept.Whole → store.new.broken ≡ false }
-    ensures keeps { (member : Member) (m : Map) (f : Files) → IsFalling upset.disk upset.call upset.image member m f store.old → Keeps upset member m f tx.now store.new result }
+    ensures keeps { (member : Member) (m : Map) (f : Files) →
+        IsFalling upset.disk upset.call upset.image member m f store.old →
+        Keeps upset member m f tx.now store.new result }
 {
     match store.apply(tx) {
         Ok(()) => Ok(Kept::Whole),
@@ -59,7 +61,8 @@ fn keep(store: &mut Store<MemoryDisk>, tx: &Transaction, upset: Upset) -> Result
 fn checkpoint(store: &mut Store<MemoryDisk>) -> Result<(), StoreStop>
     requires unbroken { store.old.broken ≡ false }
     requires sound { IsSound state_of store.old }
-    ensures { (live : Bool) (call image : ℕ) (member : Member) (m : Map) (f : Files) → IsKept live call image member m f store.old → Checkpoints live call image member m f store.new result }
+    ensures { (live : Bool) (call image : ℕ) (member : Member) (m : Map) (f : Files) →
+        IsKept live call image member m f store.old → Checkpoints live call image member m f store.new result }
 {
     match store.restart_if_due() {
         Ok(_) => Ok(()),
@@ -68,12 +71,14 @@ fn checkpoint(store: &mut Store<MemoryDisk>) -> Result<(), StoreStop>
     }
 }
 
-/// Makes a transaction's changes, and then the checkpoint that is due, if one is, as far as the disks let it. The answer is whether
-/// the transaction is kept.
+/// Makes a transaction's changes, and then the checkpoint that is due, if one is, as far as the disks let it. The
+/// answer is whether the transaction is kept.
 fn write(store: &mut Store<MemoryDisk>, tx: &Transaction, upset: Upset) -> Result<bool, StoreStop>
     requires unbroken { store.old.broken ≡ false }
     requires sound { IsSound state_of store.old }
-    ensures { (member : Member) (m : Map) (f : Files) → IsFalling upset.disk upset.call upset.image member m f store.old → Writes upset member m f tx.now (disk_a store.new) (disk_b store.new) result }
+    ensures { (member : Member) (m : Map) (f : Files) →
+        IsFalling upset.disk upset.call upset.image member m f store.old →
+        Writes upset member m f tx.now (disk_a store.new) (disk_b store.new) result }
 {
     match keep(store, tx, upset) {
         Ok(Kept::Whole) => match checkpoint(store) {
@@ -85,9 +90,9 @@ fn write(store: &mut Store<MemoryDisk>, tx: &Transaction, upset: Upset) -> Resul
     }
 }
 
-/// Makes a transaction's changes, and then the checkpoint that is due, if one is, as far as the disks let it, and closes the store.
-/// The upset disk fails at its call of that number behind the opening. Full comes where the map would be too large, and TooLong
-/// where the transaction's text is too long.
+/// Makes a transaction's changes, and then the checkpoint that is due, if one is, as far as the disks let it, and
+/// closes the store. The upset disk fails at its call of that number behind the opening. Full comes where the map would
+/// be too large, and TooLong where the transaction's text is too long.
 pub fn finish(
     mut store: Store<MemoryDisk>,
     tx: &Transaction,
@@ -95,7 +100,8 @@ pub fn finish(
 ) -> Result<Ended, StoreStop>
     requires unbroken { store.broken ≡ false }
     requires sound { IsSound state_of store }
-    ensures { (member : Member) (m : Map) (f : Files) → IsFalling upset.disk upset.call upset.image member m f store → Finishes upset member m f tx.now result }
+    ensures { (member : Member) (m : Map) (f : Files) → IsFalling upset.disk upset.call upset.image member m f store →
+        Finishes upset member m f tx.now result }
 {
     match write(&mut store, tx, upset) {
         Ok(kept) => Ok(Ended {

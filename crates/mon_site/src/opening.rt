@@ -21,8 +21,8 @@ pub enum Begun {
     Failed(NodeDisks<MemoryDisk>),
 }
 
-/// Opens the store that stands on two disks of which one is upset; the contract alone speaks of that. Where they are empty a store is
-/// created on disk A.
+/// Opens the store that stands on two disks of which one is upset; the contract alone speaks of that. Where they are
+/// empty a store is created on disk A.
 pub fn open(
     alloc: Global,
     disks: NodeDisks<MemoryDisk>,
@@ -30,7 +30,8 @@ pub fn open(
     _upset: Upset,
 ) -> Result<Begun, OutOfMemory>
     requires { Opens member disks.a disks.b }
-    ensures { (m : Map) (f : Files) → IsReady _upset.disk _upset.call _upset.image member m f disks.a disks.b → Begins _upset member m f result }
+    ensures { (m : Map) (f : Files) → IsReady _upset.disk _upset.call _upset.image member m f disks.a disks.b →
+        Begins _upset member m f result }
 {
     match Store::open(alloc, disks, member) {
         Ok(store) => Ok(Begun::Open(store)),

@@ -64,8 +64,8 @@ fn is_open(disk: &mut MemoryDisk) -> Result<bool, OutOfMemory>
     Ok(first_byte(disk)? == 1)
 }
 
-/// How many writes and syncs opening makes on a disk, by which of the two are open. It syncs the disk, and of an open file it writes
-/// the first closed gate, which it syncs. Where no store is there yet, disk A gets one by six calls.
+/// How many writes and syncs opening makes on a disk, by which of the two are open. It syncs the disk, and of an open
+/// file it writes the first closed gate, which it syncs. Where no store is there yet, disk A gets one by six calls.
 fn count(side: Side, a: bool, b: bool) -> u64
     ensures { (f : Files) → is_some f.a ≡ a → is_some f.b ≡ b → result ≡ opening_count side f }
 {
@@ -78,8 +78,10 @@ fn count(side: Side, a: bool, b: bool) -> u64
 
 /// How many writes and syncs opening makes on one of two disks. They rest as before.
 pub fn opening_count(disks: &mut NodeDisks<MemoryDisk>, side: Side) -> Result<u64, OutOfMemory>
-    ensures rests { (member : Member) (m : Map) (f : Files) → Rests member m f disks.old.a disks.old.b → Rests member m f disks.new.a disks.new.b }
-    ensures count { (member : Member) (m : Map) (f : Files) → Rests member m f disks.old.a disks.old.b → IfOk result (λ n. n ≡ opening_count side f) }
+    ensures rests { (member : Member) (m : Map) (f : Files) → Rests member m f disks.old.a disks.old.b →
+        Rests member m f disks.new.a disks.new.b }
+    ensures count { (member : Member) (m : Map) (f : Files) → Rests member m f disks.old.a disks.old.b →
+        IfOk result (λ n. n ≡ opening_count side f) }
 {
     let a = is_open(&mut disks.a)?;
     let b = is_open(&mut disks.b)?;

@@ -41,7 +41,8 @@ pub fn start(
 fn change(store: &mut Store<MemoryDisk>, tx: &Transaction) -> Result<(), StoreStop>
     requires sound { IsSound state_of store.old }
     ensures sound { IsSound state_of store.new }
-    ensures changes { (member : Member) (m : Map) (f : Files) → Runs member m f store.old → Changes member m f tx.now store.new result }
+    ensures changes { (member : Member) (m : Map) (f : Files) → Runs member m f store.old →
+        Changes member m f tx.now store.new result }
 {
     store.apply(tx)
 }
@@ -50,7 +51,8 @@ fn change(store: &mut Store<MemoryDisk>, tx: &Transaction) -> Result<(), StoreSt
 fn renew(store: &mut Store<MemoryDisk>) -> Result<(), StoreStop>
     requires sound { IsSound state_of store.old }
     ensures sound { IsSound state_of store.new }
-    ensures renews { (member : Member) (m : Map) (f : Files) → Runs member m f store.old → Renews member m f store.new result }
+    ensures renews { (member : Member) (m : Map) (f : Files) → Runs member m f store.old →
+        Renews member m f store.new result }
 {
     match store.restart_if_due() {
         Ok(_) => Ok(()),
@@ -58,12 +60,13 @@ fn renew(store: &mut Store<MemoryDisk>) -> Result<(), StoreStop>
     }
 }
 
-/// Makes a transaction's changes, and then the checkpoint that is due, if one is. Full comes where the map would be too large,
-/// and TooLong where the transaction's text is too long.
+/// Makes a transaction's changes, and then the checkpoint that is due, if one is. Full comes where the map would be too
+/// large, and TooLong where the transaction's text is too long.
 pub fn apply(store: &mut Store<MemoryDisk>, tx: &Transaction) -> Result<(), StoreStop>
     requires sound { IsSound state_of store.old }
     ensures sound { IsSound state_of store.new }
-    ensures applies { (member : Member) (m : Map) (f : Files) → Runs member m f store.old → Applies member m f tx.now store.new result }
+    ensures applies { (member : Member) (m : Map) (f : Files) → Runs member m f store.old →
+        Applies member m f tx.now store.new result }
 {
     match change(store, tx) {
         Ok(()) => renew(store),
@@ -73,7 +76,8 @@ pub fn apply(store: &mut Store<MemoryDisk>, tx: &Transaction) -> Result<(), Stor
 
 /// Closes a store. Then its disks rest, and one has a file.
 pub fn close(store: Store<MemoryDisk>) -> NodeDisks<MemoryDisk>
-    ensures rests { (member : Member) (m : Map) (f : Files) → Runs member m f store → Rests member m f result.a result.b }
+    ensures rests { (member : Member) (m : Map) (f : Files) → Runs member m f store →
+        Rests member m f result.a result.b }
     ensures created { (member : Member) (m : Map) (f : Files) → Runs member m f store → is_created f ≡ true }
 {
     store.close()

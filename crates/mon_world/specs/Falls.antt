@@ -56,10 +56,12 @@ abbrev pub Falling : Upset → kept.Store MemoryState → Type 0
 Falling u store = (member : Member) × (m : Store) × (f : Files) × IsFalling u.disk u.call u.image member m f store
 
 -- It has room, and it is kept or lost. The disks settle.
-pub record Settled (u : Upset) (member : Member) (m : Store) (f : Files) (ops : List Op) (fallen : Fallen) : Type 0 where
+pub record Settled (u : Upset) (member : Member) (m : Store) (f : Files) (ops : List Op)
+    (fallen : Fallen) : Type 0 where
   pub room : size_of (apply ops m) ≤ most_size
   pub kept : fallen.kept ≡ written_if (is_kept u f ops) (apply ops m)
-  pub rests : Rests member (if is_kept u f ops then apply ops m else m) (append_cut f m u.disk u.call u.image ops) fallen.disks.a fallen.disks.b
+  pub rests : Rests member (if is_kept u f ops then apply ops m
+      else m) (append_cut f m u.disk u.call u.image ops) fallen.disks.a fallen.disks.b
 
 abbrev pub EndsWith : Upset → Member → Store → Files → List Op → Result Fallen WorldStop → Type 0
 EndsWith u member m f ops (Ok fallen) = Settled u member m f ops fallen
@@ -88,7 +90,8 @@ abbrev pub GoesOn : Upset → Store → Files → Input → Result Reaction Whic
 GoesOn u m f came r = keeps u m f came r ≡ true → is_err (unless_stopped m r) ≡ false
 
 -- and the disks settle
-pub record IsLeft (u : Upset) (member : Member) (m : Store) (f : Files) (came : Input) (r : Result Reaction Which) (fallen : Fallen) : Type 0 where
+pub record IsLeft (u : Upset) (member : Member) (m : Store) (f : Files) (came : Input) (r : Result Reaction Which)
+    (fallen : Fallen) : Type 0 where
   pub goes_on : GoesOn u m f came r
   pub kept : fallen.kept ≡ written_if (keeps u m f came r) (apply (ops_of r) m)
   pub rests : Rests member (map_left u m f came r) (files_left u m f came r) fallen.disks.a fallen.disks.b
@@ -108,11 +111,13 @@ abbrev pub marked_if : Bool → Store → Option Bool
 marked_if kept m = if kept then Some (is_marked m) else None
 
 -- the monitor is down
-pub record IsDown (u : Upset) (me : Me) (m : Store) (f : Files) (came : Input) (r : Result Reaction Which) (told : Option Bool) (new : Monitor) : Type 0 where
+pub record IsDown (u : Upset) (me : Me) (m : Store) (f : Files) (came : Input) (r : Result Reaction Which)
+    (told : Option Bool) (new : Monitor) : Type 0 where
   pub goes_on : GoesOn u m f came r
   pub told_is : told ≡ marked_if (keeps u m f came r) (apply (ops_of r) m)
   pub stands : Stands me (map_left u m f came r) None (files_left u m f came r) new
 
-abbrev pub FallsDown : Upset → Me → Store → Files → Input → Result Reaction Which → Monitor → Result (Option Bool) WorldStop → Type 0
+abbrev pub FallsDown : Upset → Me → Store → Files → Input → Result Reaction Which → Monitor →
+    Result (Option Bool) WorldStop → Type 0
 FallsDown u me m f came r new (Ok told) = IsDown u me m f came r told new
 FallsDown u me m f came r new (Err e) = StopsKept e (keeps u m f came r) (unless_stopped m r)

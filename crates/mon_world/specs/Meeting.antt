@@ -24,7 +24,8 @@ use Rattle.mon_world.specs.Step.{state_before, state_of, told}
 use Rattle.mon_world.specs.Stops.{Stops}
 
 -- The monitor, which stood so before, does what the protocol says, and that is kept.
-pub record IsTurn (me : Me) (now : ℕ) (m : Store) (s : State) (f : Files) (before : Option StateLine) (came : Input) (t : Turn) (new : Monitor) : Type 0 where
+pub record IsTurn (me : Me) (now : ℕ) (m : Store) (s : State) (f : Files) (before : Option StateLine) (came : Input)
+    (t : Turn) (new : Monitor) : Type 0 where
   pub state : State
   pub is_done : IsDone me now m s came state t.reaction
   pub stands : Stands me (apply t.reaction.tx m) (Some state) (files_kept m f t.reaction.tx) new
@@ -32,12 +33,14 @@ pub record IsTurn (me : Me) (now : ℕ) (m : Store) (s : State) (f : Files) (bef
   pub last : t.last ≡ last_of (apply t.reaction.tx m)
   pub marked : t.marked ≡ is_marked (apply t.reaction.tx m)
 
-abbrev pub Turns : Me → (now : ℕ) → Store → State → Files → Option StateLine → Input → Monitor → Result Turn WorldStop → Type 0
+abbrev pub Turns : Me → (now : ℕ) → Store → State → Files → Option StateLine → Input → Monitor →
+    Result Turn WorldStop → Type 0
 Turns me now m s f before came new (Ok t) = IsTurn me now m s f before came t new
 Turns me now m s f before came new (Err e) = Stops e (does me now m s came)
 
 -- nothing, where the monitor is down and doesn't start
-abbrev pub Meets : Me → (now : ℕ) → Store → Option State → Files → Input → Monitor → Result (Option Turn) WorldStop → Type 0
+abbrev pub Meets : Me → (now : ℕ) → Store → Option State → Files → Input → Monitor →
+    Result (Option Turn) WorldStop → Type 0
 Meets me now m s f came new (Ok None) = (state_at me.member.rank s came ≡ None) × Stands me m s f new
 Meets me now m s f came new (Ok (Some t)) =
     (before : State) × (state_at me.member.rank s came ≡ Some before)
@@ -48,14 +51,17 @@ Meets me now m s f came new (Err e) =
 -- ---- where a disk fails
 
 -- it is down, and what it wrote is kept or lost
-pub record IsFall (u : Upset) (me : Me) (m : Store) (f : Files) (came : Input) (r : Result Reaction Which) (fall : Fall) (new : Monitor) : Type 0 where
+pub record IsFall (u : Upset) (me : Me) (m : Store) (f : Files) (came : Input) (r : Result Reaction Which) (fall : Fall)
+    (new : Monitor) : Type 0 where
   pub down : IsDown u me m f came r fall.kept new
   pub last : fall.last ≡ last_of (map_left u m f came r)
 
-abbrev pub MeetsFall : Upset → Me → (now : ℕ) → Store → Option State → Files → Input → Monitor → Result (Option Fall) WorldStop → Type 0
+abbrev pub MeetsFall : Upset → Me → (now : ℕ) → Store → Option State → Files → Input → Monitor →
+    Result (Option Fall) WorldStop → Type 0
 MeetsFall u me now m s f came new (Ok None) = (state_at me.member.rank s came ≡ None) × Stands me m s f new
 MeetsFall u me now m s f came new (Ok (Some fall)) =
-    (before : State) × (state_at me.member.rank s came ≡ Some before) × IsFall u me m f came (reaction me now m before came) fall new
+    (before : State) × (state_at me.member.rank s came ≡ Some before) ×
+    IsFall u me m f came (reaction me now m before came) fall new
 MeetsFall u me now m s f came new (Err e) =
     (before : State) × (state_at me.member.rank s came ≡ Some before)
     × StopsKept e (keeps u m f came (reaction me now m before came)) (unless_stopped m (reaction me now m before came))

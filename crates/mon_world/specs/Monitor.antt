@@ -100,7 +100,8 @@ unfoldable pub does : Me → (now : ℕ) → Store → State → Input → Resul
 does me now m s came = unless_stopped m (reaction me now m s came)
 
 -- It does what the protocol says. What it writes isn't too long, and what it sends may go.
-pub record IsDone (me : Me) (now : ℕ) (m : Store) (s : State) (came : Input) (state : State) (r : core.Reaction) : Type 0 where
+pub record IsDone (me : Me) (now : ℕ) (m : Store) (s : State) (came : Input) (state : State)
+    (r : core.Reaction) : Type 0 where
   pub does_so : does me now m s came ≡ Ok (record { transaction = r.tx; sends = r.out; state = state })
   pub short : length (text r.tx) ≤ most
   pub may_go : AllByRecursion (MaySend me) r.out
@@ -113,7 +114,8 @@ Reacts me now m s f came new (Ok r) =
     × IsUp me (apply r.tx m) state (files_kept m f r.tx) new
 Reacts me now m s f came new (Err e) = Stops e (does me now m s came)
 
-abbrev pub StandsAfter : Me → (now : ℕ) → Store → State → Files → Input → Monitor → Result core.Reaction WorldStop → Type 0
+abbrev pub StandsAfter : Me → (now : ℕ) → Store → State → Files → Input → Monitor →
+    Result core.Reaction WorldStop → Type 0
 StandsAfter me now m s f came new (Ok r) =
     (state : State) × IsDone me now m s came state r
     × Stands me (apply r.tx m) (Some state) (files_kept m f r.tx) new

@@ -45,7 +45,8 @@ pub record MayArrive (n : ℕ) (e : model.Envelope) : Type 0 where
 
 -- the monitor of a rank stands for a store, a state and files
 abbrev pub StandsAt : Monitors → List Monitor → ℕ → Store → Option State → Files → Type 0
-StandsAt ms monitors i m s f = (me : Me) (monitor : Monitor) → me_of ms i ≡ Some me → slice_get monitors i ≡ Some monitor → Stands me m s f monitor
+StandsAt ms monitors i m s f = (me : Me) (monitor : Monitor) → me_of ms i ≡ Some me →
+    slice_get monitors i ≡ Some monitor → Stands me m s f monitor
 
 -- each stands for the scene's
 abbrev pub EachStands : Monitors → List Monitor → Scene → Type 0
@@ -104,5 +105,6 @@ upset_step ms c u p = scene_after ms c (record { plain = p; upset = Some u })
 
 abbrev pub DoesUpset : Monitors → Result Upshot WorldStop → World → Scene → Upset → model.Plain → Type 0
 DoesUpset ms (Ok told) new c u p =
-    (next : Scene) × (upset_step ms c u p ≡ Ok next) × (told ≡ upshot_at c u (meets ms c.world p)) × StandsFor ms new next
+    (next : Scene) × (upset_step ms c u p ≡ Ok next) × (told ≡ upshot_at c u (meets ms c.world p)) ×
+    StandsFor ms new next
 DoesUpset ms (Err e) new c u p = Stops e (upset_step ms c u p)

@@ -18,11 +18,12 @@ pub record Traced : Type 0 where
   pub scene : Scene
   pub stop : Option Stop
 
-abbrev pub behind : StepLine → Traced → Traced
-behind line t = record { lines = line ∷ t.lines; scene = t.scene; stop = t.stop }
+-- the trace that tells this line and then goes on so
+abbrev pub told_first : StepLine → Traced → Traced
+told_first line t = record { lines = line ∷ t.lines; scene = t.scene; stop = t.stop }
 
 abbrev pub traced_on : Scene → (Scene → Traced) → Result (Scene × StepLine) Stop → Traced
-traced_on c others (Ok done) = behind done.1 (others done.0)
+traced_on c others (Ok done) = told_first done.1 (others done.0)
 traced_on c others (Err stop) = record { lines = []; scene = c; stop = Some stop }
 
 -- each event is told from the scene that the one before it led to
@@ -37,10 +38,12 @@ traced ms es = traced_from ms first_scene es
 abbrev pub as_told : model.Replied → Replied
 as_told r = record { rank = r.rank; session = r.session; reply = r.reply }
 
--- The trace is that of the run: it comes to the run's world, what stops the one stops the other, and its lines tell each reply and each
--- message of the run, in order, and no others.
+-- The trace is that of the run: it comes to the run's world, what stops the one stops the other, and its lines tell
+-- each reply and each message of the run, in order, and no others.
 pub record TracesRun (ms : Monitors) (es : List Event) : Type 0 where
   pub world : (traced ms es).scene.world ≡ run ms (events_of ms (map scheduled_of es))
   pub stop : (traced ms es).stop ≡ (ran ms (events_of ms (map scheduled_of es))).stop
-  pub replies : flat_map (λ (l : StepLine). l.replies) (traced ms es).lines ≡ map as_told (run ms (events_of ms (map scheduled_of es))).replied
-  pub messages : flat_map (λ (l : StepLine). l.sent) (traced ms es).lines ≡ numbered 1 (run ms (events_of ms (map scheduled_of es))).messages
+  pub replies : flat_map (λ (l : StepLine). l.replies) (traced ms es).lines ≡
+      map as_told (run ms (events_of ms (map scheduled_of es))).replied
+  pub messages : flat_map (λ (l : StepLine). l.sent) (traced ms es).lines ≡
+      numbered 1 (run ms (events_of ms (map scheduled_of es))).messages

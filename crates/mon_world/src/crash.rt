@@ -56,7 +56,8 @@ fn written_by(
     })
 }
 
-/// Makes a transaction's changes over an open store, as far as its disks let it. Then the store is closed, and its disks settle.
+/// Makes a transaction's changes over an open store, as far as its disks let it. Then the store is closed, and its
+/// disks settle.
 fn end_with(
     alloc: Global,
     store: Store<MemoryDisk>,
@@ -78,8 +79,8 @@ fn end_with(
     }
 }
 
-/// The core reacts over an open store, and its transaction is made as far as the disks let it. The upset's call is counted behind the
-/// opening.
+/// The core reacts over an open store, and its transaction is made as far as the disks let it. The upset's call is
+/// counted behind the opening.
 fn end(
     alloc: Global,
     store: Store<MemoryDisk>,
@@ -98,7 +99,8 @@ fn end(
     end_with(alloc, store, &reaction.tx, upset)
 }
 
-/// The upset of a start is counted from its opening on, and that of any other input from behind an opening of so many calls.
+/// The upset of a start is counted from its opening on, and that of any other input from behind an opening of `opening`
+/// calls.
 fn counted_from(upset: Upset, input: &Input, opening: u64) -> Upset
     requires may { MayBe upset }
     requires opening { opening ≤ 7 }
@@ -126,7 +128,8 @@ pub(crate) fn fall(
 ) -> Result<Fallen, WorldStop>
     requires member { core.old.me.member ≡ member }
     requires rests { Rest member disks.a disks.b }
-    requires follows { (m : Map) (f : Files) → Rests member m f disks.a disks.b → Follows core.old.cache (readings_of m) }
+    requires follows { (m : Map) (f : Files) → Rests member m f disks.a disks.b →
+        Follows core.old.cache (readings_of m) }
     requires comes { MayCome input.now }
     requires starts { input.now ≡ Start → core.old.state.phase ≡ Booting }
     requires may { MayBe upset }

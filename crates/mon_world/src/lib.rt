@@ -1,4 +1,5 @@
-//! The world of a schedule: its monitors, each with its map on two disks in memory, and all messages that they ever sent.
+//! The world of a schedule: its monitors, each with its map on two disks in memory, and all messages that they ever
+//! sent.
 #![tactic(auto)]
 
 mod crash;

@@ -92,7 +92,8 @@ pub(crate) fn meet(
 ) -> Result<Option<Turn>, WorldStop>
     requires stands { Standing monitor.old }
     requires comes { MayCome input.now }
-    ensures { (me : Me) (m : Map) (s : Option State) (f : Files) → Stands me m s f monitor.old → Meets me at m s f input.now monitor.new result }
+    ensures { (me : Me) (m : Map) (s : Option State) (f : Files) → Stands me m s f monitor.old →
+        Meets me at m s f input.now monitor.new result }
 {
     if is_start(input) {
         return Ok(Some(start(monitor, input, at)?));

@@ -141,7 +141,8 @@ fn last_of(kv: &Kv) -> Version
 fn keep(store: &mut Store<MemoryDisk>, tx: &Transaction) -> Result<(), WorldStop>
     requires runs { InUse store.old }
     requires short { length (text tx.now) ≤ most }
-    ensures { (member : Member) (m : Map) (f : Files) → Runs member m f store.old → Keeps member m f tx.now store.new result }
+    ensures { (member : Member) (m : Map) (f : Files) → Runs member m f store.old →
+        Keeps member m f tx.now store.new result }
 {
     match apply(store, tx) {
         Ok(()) => Ok(()),
@@ -154,7 +155,8 @@ impl Running {
     fn react(&mut self, alloc: Global, input: &Input, now: Moment) -> Result<Reaction, WorldStop>
         requires up { IsRunning self.old }
         requires comes { MayCome input.now }
-        ensures { (me : Me) (m : Map) (s : State) (f : Files) → IsUp me m s f self.old → Reacts me now m s f input.now self.new result }
+        ensures { (me : Me) (m : Map) (s : State) (f : Files) → IsUp me m s f self.old →
+            Reacts me now m s f input.now self.new result }
     {
         let reaction = self.core.react(alloc, self.store.kv(), input, now)?;
         keep(&mut self.store, &reaction.tx)?;
@@ -191,7 +193,8 @@ impl Monitor {
     /// Where the monitor stands, where it is up.
     pub(crate) fn state(&self) -> Option<StateLine>
         requires { Standing self.now }
-        ensures { (me : Me) (m : Map) (s : Option State) (f : Files) → Stands me m s f self.now → result ≡ state_if_up m s }
+        ensures { (me : Me) (m : Map) (s : Option State) (f : Files) → Stands me m s f self.now →
+            result ≡ state_if_up m s }
     {
         match &self.kept {
             Kept::Down(_) => None,
@@ -238,7 +241,8 @@ impl Monitor {
     pub(crate) fn react(&mut self, input: &Input, now: Moment) -> Result<Reaction, WorldStop>
         requires up { StandingUp self.old }
         requires comes { MayCome input.now }
-        ensures { (me : Me) (m : Map) (s : State) (f : Files) → Stands me m (Some s) f self.old → StandsAfter me now m s f input.now self.new result }
+        ensures { (me : Me) (m : Map) (s : State) (f : Files) → Stands me m (Some s) f self.old →
+            StandsAfter me now m s f input.now self.new result }
     {
         match &mut self.kept {
             Kept::Down(_) => unreachable!(),
@@ -250,8 +254,8 @@ impl Monitor {
         }
     }
 
-    /// A disk fails in the event of this input, and the monitor is down. The answer is whether its map is marked, where its
-    /// transaction is kept.
+    /// A disk fails in the event of this input, and the monitor is down. The answer is whether its map is marked, where
+    /// its transaction is kept.
     pub(crate) fn fall(
         &mut self,
         upset: Upset,

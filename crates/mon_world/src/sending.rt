@@ -46,7 +46,8 @@ fn send_message(
     to: Rank,
     message: Message,
 ) -> Result<(), OutOfMemory>
-    ensures { (rank : ℕ) → OnOk result (Sends rank (message_to to message) messages.old.items messages.new.items gone.old gone.new) }
+    ensures { (rank : ℕ) → OnOk result
+        (Sends rank (message_to to message) messages.old.items messages.new.items gone.old gone.new) }
 {
     messages.push(Envelope { to, message })?;
     let copy = last_copy(alloc, messages.as_slice())?;
@@ -85,7 +86,8 @@ pub(crate) fn send(
     rank: Rank,
     out: Items<Sent>,
 ) -> Result<Gone, OutOfMemory>
-    ensures messages { OnOk result (map envelope_of messages.new.items ≡ map envelope_of messages.old.items ++ messages_of out) }
+    ensures messages { OnOk result (map envelope_of messages.new.items ≡ map envelope_of messages.old.items ++
+        messages_of out) }
     ensures gone { IfOk result (λ gone. GoesOut rank (suc (length messages.old.items)) out gone) }
 {
     let mut gone = Gone {

@@ -46,7 +46,8 @@ impl From<CoreStop> for WorldStop {
     }
 }
 
-/// How a store's stop stops the world. No reaction has a text that is too long, and no disk fails unless an event says so.
+/// How a store's stop stops the world. No reaction has a text that is too long, and no disk fails unless an event says
+/// so.
 pub(crate) fn stop_of(stop: StoreStop) -> WorldStop
     requires { CanStop stop }
     ensures { result ≡ stop_of stop }

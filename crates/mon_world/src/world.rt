@@ -106,7 +106,7 @@ pub struct World {
     log: u64,
 }
 
-/// What comes by the sent message of this number, counted from 1, where so many were sent.
+/// What comes by the sent message of this number, counted from 1, where as many were sent.
 fn delivered(
     alloc: Global,
     messages: &[Envelope],
@@ -180,8 +180,10 @@ fn meet_at(
     requires comes { MayCome input.now }
     ensures count { length monitors.new.items ≡ length monitors.old.items }
     ensures others { (i : ℕ) → i ≢ rank → slice_get monitors.new.items i ≡ slice_get monitors.old.items i }
-    ensures meets { (old new : Monitor) → slice_get monitors.old.items rank ≡ Some old → slice_get monitors.new.items rank ≡ Some new
-        → (me : Me) (m : Map) (s : Option State) (f : Files) → Stands me m s f old → Meets me at m s f input.now new result }
+    ensures meets { (old new : Monitor) → slice_get monitors.old.items rank ≡ Some old →
+        slice_get monitors.new.items rank ≡ Some new
+        → (me : Me) (m : Map) (s : Option State) (f : Files) → Stands me m s f old →
+        Meets me at m s f input.now new result }
 {
     meet(&mut monitors[rank.get() as usize], input, at)
 }
@@ -200,8 +202,10 @@ fn meet_upset_at(
     requires may { MayBe upset }
     ensures count { length monitors.new.items ≡ length monitors.old.items }
     ensures others { (i : ℕ) → i ≢ rank → slice_get monitors.new.items i ≡ slice_get monitors.old.items i }
-    ensures meets { (old new : Monitor) → slice_get monitors.old.items rank ≡ Some old → slice_get monitors.new.items rank ≡ Some new
-        → (me : Me) (m : Map) (s : Option State) (f : Files) → Stands me m s f old → MeetsFall upset me at m s f input.now new result }
+    ensures meets { (old new : Monitor) → slice_get monitors.old.items rank ≡ Some old →
+        slice_get monitors.new.items rank ≡ Some new
+        → (me : Me) (m : Map) (s : Option State) (f : Files) → Stands me m s f old →
+        MeetsFall upset me at m s f input.now new result }
 {
     meet_upset(&mut monitors[rank.get() as usize], upset, input, at)
 }
@@ -210,10 +214,12 @@ fn meet_upset_at(
 fn down(alloc: Global, rank: u8, monitors: u8, rule: &Rule) -> Monitor
     requires in_map { rank < monitors }
     requires most { monitors ≤ 15 }
-    ensures { (me : Me) → me.member.rank ≡ rank → me.member.monitors ≡ monitors → me.rule ≡ rule.now → Stands me empty None no_files result }
+    ensures { (me : Me) → me.member.rank ≡ rank → me.member.monitors ≡ monitors → me.rule ≡ rule.now →
+        Stands me empty None no_files result }
 {
-    let Some(member) = Member::new(Rank::known(rank), monitors) else {
-        unreachable!()
+    let member = Member {
+        rank: Rank::known(rank),
+        monitors,
     };
     Monitor::new(
         alloc,
@@ -225,10 +231,11 @@ fn down(alloc: Global, rank: u8, monitors: u8, rule: &Rule) -> Monitor
 }
 
 impl World {
-    /// So many monitors, all down, with empty disks and an empty log: nothing has happened.
+    /// A world of `monitors` monitors, all down, with empty disks and an empty log: nothing has happened.
     pub fn new(alloc: Global, monitors: u8, rule: Rule) -> Result<World, OutOfMemory>
         requires { monitors ≤ 15 }
-        ensures { (ms : Monitors) → ms.count ≡ monitors → ms.rule ≡ rule → IfOk result (λ world. StandsForRun ms [] world first_scene) }
+        ensures { (ms : Monitors) → ms.count ≡ monitors → ms.rule ≡ rule →
+            IfOk result (λ world. StandsForRun ms [] world first_scene) }
     {
         let mut list = Vec::new(alloc);
         for rank in 0..monitors {
@@ -300,7 +307,8 @@ impl World {
     fn plain(&mut self, event: &Plain) -> Result<StepLine, WorldStop>
         requires world { IsWorld self.old }
         requires fits { FitsPlain (length self.old.monitors.items) event.now }
-        ensures { (ms : Monitors) (c : Scene) → StandsFor ms self.old c → Does ms result self.new (step ms c (events.Plain event.now)) }
+        ensures { (ms : Monitors) (c : Scene) → StandsFor ms self.old c →
+            Does ms result self.new (step ms c (events.Plain event.now)) }
     {
         match arriving(self.alloc, self.messages.as_slice(), event)? {
             None => Ok(still(self.alloc, Outcome::NoMessage)),
@@ -329,7 +337,8 @@ impl World {
         requires within { arrival.now.rank < length self.old.monitors.items }
         requires comes { MayCome arrival.now.input }
         requires may { MayBe upset }
-        ensures { (ms : Monitors) (c : Scene) (p : model.Plain) → StandsFor ms self.old c → meets.arrival c.world p ≡ Some (arrival_of arrival.now)
+        ensures { (ms : Monitors) (c : Scene) (p : model.Plain) → StandsFor ms self.old c →
+            meets.arrival c.world p ≡ Some (arrival_of arrival.now)
             → DoesUpset ms result self.new c (upset_of upset) p }
     {
         let Some(fall) = meet_upset_at(
@@ -350,7 +359,8 @@ impl World {
         requires world { IsWorld self.old }
         requires fits { FitsPlain (length self.old.monitors.items) event.now }
         requires may { MayBe upset }
-        ensures { (ms : Monitors) (c : Scene) → StandsFor ms self.old c → DoesUpset ms result self.new c (upset_of upset) (plain_event event.now) }
+        ensures { (ms : Monitors) (c : Scene) → StandsFor ms self.old c →
+            DoesUpset ms result self.new c (upset_of upset) (plain_event event.now) }
     {
         match arriving(self.alloc, self.messages.as_slice(), event)? {
             None => Ok(Upshot::NoMessage),
@@ -367,7 +377,8 @@ impl World {
         requires world { IsWorld self.old }
         requires fits { FitsPlain (length self.old.monitors.items) event.now }
         requires may { MayBe upset }
-        ensures { (ms : Monitors) (c : Scene) → StandsFor ms self.old c → Does ms result self.new (step ms c (faulty_event fault upset event.now)) }
+        ensures { (ms : Monitors) (c : Scene) → StandsFor ms self.old c →
+            Does ms result self.new (step ms c (faulty_event fault upset event.now)) }
     {
         let upshot = self.upset(event, upset)?;
         Ok(still(self.alloc, upshot.told(fault)))
@@ -377,7 +388,8 @@ impl World {
     fn happen(&mut self, event: &Event) -> Result<StepLine, WorldStop>
         requires world { IsWorld self.old }
         requires fits { Fits (length self.old.monitors.items) event.now }
-        ensures { (ms : Monitors) (c : Scene) → StandsFor ms self.old c → Does ms result self.new (step ms c event.now) }
+        ensures { (ms : Monitors) (c : Scene) → StandsFor ms self.old c →
+            Does ms result self.new (step ms c event.now) }
     {
         match event {
             Event::Plain(event) => self.plain(event),
@@ -396,13 +408,15 @@ impl World {
         }
     }
 
-    /// One event of a schedule of as many monitors, and its lines of the trace. Whatever events the world stood for, it then stands for
-    /// these and this one, whose run is safe. `Spent` and `Full` come exactly where the model's run stops before the event, with the same
-    /// number or size; `OutOfMemory` where an allocation was refused. After an `Err` the world isn't used again.
+    /// One event of a schedule of as many monitors, and its lines of the trace. Whatever events the world stood for, it
+    /// then stands for these and this one, whose run is safe. `Spent` and `Full` come exactly where the model's run
+    /// stops before the event, with the same number or size; `OutOfMemory` where an allocation was refused. After an
+    /// `Err` the world isn't used again.
     pub fn step(&mut self, event: &Event) -> Result<StepLine, WorldStop>
         requires world { IsWorld self.old }
         requires fits { Fits (length self.old.monitors.items) event.now }
-        ensures does { (ms : Monitors) (c : Scene) → StandsFor ms self.old c → Does ms result self.new (step ms c event.now) }
+        ensures does { (ms : Monitors) (c : Scene) → StandsFor ms self.old c →
+            Does ms result self.new (step ms c event.now) }
         ensures goes_on { (ms : Monitors) (c : Scene) (events : List model.Event) → StandsForRun ms events self.old c
             → Leads (StandsForRun ms (and_event ms events c event.now) self.new) result (step ms c event.now) }
         ensures safe { (ms : Monitors) (c : Scene) (events : List model.Event) → StandsForRun ms events self.old c

@@ -70,7 +70,7 @@ fn told_len(told: &Option<Told>) -> usize
     }
 }
 
-/// Whether an answer with values of so many bytes has room for the pending value besides.
+/// Whether an answer with values of `bytes` bytes has room for the pending value besides.
 fn has_room(bytes: usize, told: &Option<Told>) -> bool
     ensures { result ≡ nat_le (47 + bytes + told_length told.now) 1048576 }
 {

@@ -66,10 +66,10 @@ fn hear(
     }
 }
 
-/// What a peon does at a COLLECT, BEGIN, COMMIT or LEASE that is heard, and when its lease's timer, which was armed, comes
-/// and is disarmed: its row of the protocol's table. A message that isn't of its leader in its epoch is dropped, and what
-/// is dropped takes no memory. `Spent` names the version after the leader's last one, or the last one of those that are
-/// learned, where that would pass 2^62.
+/// What a peon does at a COLLECT, BEGIN, COMMIT or LEASE that is heard, and when its lease's timer, which was armed,
+/// comes and is disarmed: its row of the protocol's table. A message that isn't of its leader in its epoch is dropped,
+/// and what is dropped takes no memory. `Spent` names the version after the leader's last one, or the last one of those
+/// that are learned, where that would pass 2^62.
 pub fn step(
     alloc: Global,
     kv: &Kv,

@@ -8,5 +8,5 @@ use Rattle.mon_world.proofs.world.down.Goals as goal
 
 pub returns : goal.returns
 returns c = λ me rank monitors rule.
-    subst (λ (me : Me). Stands me empty None no_files c.new-2.result)
-    (same_me _ me (c.in-Some.ensures.value.0 ∙ c.known.ensures ∙ sym rank) (c.in-Some.ensures.value.1 ∙ sym monitors) (sym rule)) c.new-2.ensures
+    subst (λ (me : Me). Stands me empty None no_files c.new.result)
+    (same_me _ me (c.known.ensures ∙ sym rank) (sym monitors) (sym rule)) c.new.ensures
