@@ -34,9 +34,6 @@ trait Planner: RoleState {
     /// What the role remembers, as a part of what its monitor remembers.
     ghost part_of: { Remembered → Self };
 
-    /// An active leader's stage stays its phase, whatever the role remembers.
-    ghost leads_on: { LeadsOn Self.put };
-
     /// The plan of the role's row at an input.
     fn step(
         alloc: Global,
@@ -53,6 +50,9 @@ trait Planner: RoleState {
             (IsMet me.now now (readings_of kv.now) view.now part_of (part_of (state_of state.now)))
             (row me.now (shared_entries kv.now) now input.now) result }
         ensures leaves { IfOk result (λ p. Leaves view.now.phase p.next p.tx) };
+
+    /// An active leader's stage stays its phase, whatever the role remembers.
+    ghost leads_on: { LeadsOn Self.put };
 }
 
 impl Planner for Prober {
