@@ -17,8 +17,8 @@ pub use election::{Elector, Prober};
 pub use laws::{law_changes, law_due, law_joined, law_longest, law_readings};
 pub use limits::{MOST_REPLAYED, MOST_REPLAYED_BYTES, MOST_TOLD_BYTES, MOST_VALUE};
 pub use mon_wire::{
-    Body, Cookie, Items, MOST_BYTES, MOST_ITEMS, Message, MsgRefused, Phase, Place, Reply, Request,
-    ScoreTable, Service, Session, ShownMap, Timer, Told, decode,
+    Body, Cookie, Items, MOST_BYTES, MOST_ITEMS, Message, Phase, Place, Reply, Request, ScoreTable,
+    Service, Session, ShownMap, Timer, Told,
 };
 pub use paxos::{Found, Leader, LeaderStage, Peon};
 pub use plan::{Arming, Next, Origin, Plan, RoleStop};

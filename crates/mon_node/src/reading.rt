@@ -9,7 +9,8 @@ use mon_bounds::law_message_fits;
 use mon_bytes::OutOfMemory;
 use mon_core::Input;
 use mon_link::Peer;
-use mon_msg::{Body, Message, MsgRefused, Session, decode};
+use mon_decode::{MsgRefused, decode};
+use mon_msg::{Body, Message, Session};
 use mon_types::Rank;
 use std::alloc::Global;
 

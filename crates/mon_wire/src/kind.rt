@@ -1,6 +1,6 @@
 /// The kinds of messages, in the order of their bytes from 1 on.
 #[derive(Clone, Copy)]
-pub(crate) enum Kind {
+pub enum Kind {
     Probe,
     ProbeReply,
     Propose,

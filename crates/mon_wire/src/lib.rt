@@ -1,23 +1,16 @@
-//! Messages among monitors and their clients, and their bytes. The sessions, requests and replies of clients, the phases and
-//! timers of a monitor.
+//! Messages among monitors and their clients, their bytes and the number of these. The sessions, requests and replies of clients,
+//! the phases and timers of a monitor. Bytes are read by the crate above, `mon_decode`.
 #![tactic(auto)]
 
 mod body;
 mod copy_body;
 mod encode;
-mod fields;
 mod kind;
 mod laws;
 mod length;
 mod message;
 mod parts;
 mod phase;
-mod read_body;
-mod read_client;
-mod read_lists;
-mod read_parts;
-mod read_scores;
-mod reading;
 mod refusal;
 mod reply;
 mod request;
@@ -29,12 +22,12 @@ mod write_parts;
 mod write_reply;
 
 pub use body::Body;
+pub use kind::Kind;
 pub use laws::law_length;
 pub use message::Message;
 pub use mon_bytes::{Items, MOST_MESSAGE as MOST_BYTES, TryCopy};
 pub use parts::{Cookie, Place, Told};
 pub use phase::{Phase, Timer};
-pub use reading::decode;
 pub use refusal::{MsgKind, MsgRefused};
 pub use reply::{Reply, ShownMap};
 pub use request::{Request, Service, Session};

@@ -1,4 +1,5 @@
 use crate::digits::number;
+use mon_decode::decode;
 use mon_wire::*;
 use std::alloc::Global;
 use std::test::Fail;

@@ -1,0 +1,299 @@
+//! The bodies of messages, read from left to right.
+
+ghost use Rattle.std.specs.Prelude.{◌≡◌, ℕ, ◌≤◌};
+ghost use Rattle.mon_wire.specs.Message.Format.{Reads};
+ghost use Rattle.mon_wire.specs.Message.Bodies.{body_at};
+
+use mon_wire::Body;
+use crate::fields::{read_count, read_flag, read_number, read_value};
+use mon_wire::Kind;
+use crate::read_client::{read_reply, read_request, read_routed};
+use crate::read_lists::{read_entries, read_some_values, read_values};
+use crate::read_parts::{read_command, read_cookie, read_place, read_told};
+use crate::read_scores::{read_set, read_table};
+use mon_wire::MsgRefused;
+use mon_bytes::Cursor;
+use mon_types::Rank;
+use std::alloc::Global;
+
+fn read_probe_reply(n: u8, own: Rank, cursor: &mut Cursor<'_>) -> Result<Body, MsgRefused>
+    requires { n ≤ 15 }
+    ensures { Reads (λ x. x) result cursor.new (body_at n own Kind.ProbeReply cursor.old) }
+{
+    let quorum = read_set(n, cursor)?;
+    let first = read_number(cursor)?;
+    let last = read_number(cursor)?;
+    Ok(Body::ProbeReply {
+        quorum,
+        first,
+        last,
+    })
+}
+
+fn read_collect(n: u8, own: Rank, cursor: &mut Cursor<'_>) -> Result<Body, MsgRefused>
+    ensures { Reads (λ x. x) result cursor.new (body_at n own Kind.Collect cursor.old) }
+{
+    let pn = read_number(cursor)?;
+    let first = read_number(cursor)?;
+    let last = read_number(cursor)?;
+    Ok(Body::Collect { pn, first, last })
+}
+
+fn read_last(alloc: Global, n: u8, own: Rank, cursor: &mut Cursor<'_>) -> Result<Body, MsgRefused>
+    ensures { Reads (λ x. x) result cursor.new (body_at n own Kind.Last cursor.old) }
+{
+    let pn = read_number(cursor)?;
+    let first = read_number(cursor)?;
+    let last = read_number(cursor)?;
+    let whole = read_flag(cursor)?;
+    let from = read_number(cursor)?;
+    let values = read_values(alloc, cursor)?;
+    let pending = read_told(alloc, cursor)?;
+    Ok(Body::Last {
+        pn,
+        first,
+        last,
+        whole,
+        from,
+        values,
+        pending,
+    })
+}
+
+fn read_begin(alloc: Global, n: u8, own: Rank, cursor: &mut Cursor<'_>) -> Result<Body, MsgRefused>
+    ensures { Reads (λ x. x) result cursor.new (body_at n own Kind.Begin cursor.old) }
+{
+    let pn = read_number(cursor)?;
+    let version = read_number(cursor)?;
+    let value = read_value(alloc, cursor)?;
+    Ok(Body::Begin { pn, version, value })
+}
+
+fn read_accept(n: u8, own: Rank, cursor: &mut Cursor<'_>) -> Result<Body, MsgRefused>
+    ensures { Reads (λ x. x) result cursor.new (body_at n own Kind.Accept cursor.old) }
+{
+    let pn = read_number(cursor)?;
+    let version = read_number(cursor)?;
+    Ok(Body::Accept { pn, version })
+}
+
+fn read_commit(alloc: Global, n: u8, own: Rank, cursor: &mut Cursor<'_>) -> Result<Body, MsgRefused>
+    ensures { Reads (λ x. x) result cursor.new (body_at n own Kind.Commit cursor.old) }
+{
+    let from = read_number(cursor)?;
+    let values = read_some_values(alloc, cursor)?;
+    Ok(Body::Commit { from, values })
+}
+
+fn read_forward(
+    alloc: Global,
+    n: u8,
+    own: Rank,
+    cursor: &mut Cursor<'_>,
+) -> Result<Body, MsgRefused>
+    ensures { Reads (λ x. x) result cursor.new (body_at n own Kind.Forward cursor.old) }
+{
+    let seq = read_count(cursor)?;
+    let command = read_command(alloc, cursor)?;
+    Ok(Body::Forward { seq, command })
+}
+
+fn read_route(n: u8, own: Rank, cursor: &mut Cursor<'_>) -> Result<Body, MsgRefused>
+    ensures { Reads (λ x. x) result cursor.new (body_at n own Kind.Route cursor.old) }
+{
+    let seq = read_count(cursor)?;
+    let reply = read_routed(cursor)?;
+    Ok(Body::Route { seq, reply })
+}
+
+fn read_granted(n: u8, own: Rank, cursor: &mut Cursor<'_>) -> Result<Body, MsgRefused>
+    ensures { Reads (λ x. x) result cursor.new (body_at n own Kind.Cookie cursor.old) }
+{
+    let full = read_flag(cursor)?;
+    let cookie = read_cookie(cursor)?;
+    let last = read_number(cursor)?;
+    Ok(Body::Cookie { full, cookie, last })
+}
+
+fn read_get_chunk(
+    alloc: Global,
+    n: u8,
+    own: Rank,
+    cursor: &mut Cursor<'_>,
+) -> Result<Body, MsgRefused>
+    ensures { Reads (λ x. x) result cursor.new (body_at n own Kind.GetChunk cursor.old) }
+{
+    let cookie = read_cookie(cursor)?;
+    let place = read_place(alloc, cursor)?;
+    Ok(Body::GetChunk { cookie, place })
+}
+
+fn read_chunk(alloc: Global, n: u8, own: Rank, cursor: &mut Cursor<'_>) -> Result<Body, MsgRefused>
+    ensures { Reads (λ x. x) result cursor.new (body_at n own Kind.Chunk cursor.old) }
+{
+    let cookie = read_cookie(cursor)?;
+    let place = read_place(alloc, cursor)?;
+    let values = read_values(alloc, cursor)?;
+    let entries = read_entries(alloc, cursor)?;
+    let done = read_flag(cursor)?;
+    Ok(Body::Chunk {
+        cookie,
+        place,
+        values,
+        entries,
+        done,
+    })
+}
+
+fn read_last_chunk(
+    alloc: Global,
+    n: u8,
+    own: Rank,
+    cursor: &mut Cursor<'_>,
+) -> Result<Body, MsgRefused>
+    ensures { Reads (λ x. x) result cursor.new (body_at n own Kind.LastChunk cursor.old) }
+{
+    let cookie = read_cookie(cursor)?;
+    let place = read_place(alloc, cursor)?;
+    let values = read_values(alloc, cursor)?;
+    let entries = read_entries(alloc, cursor)?;
+    let last = read_number(cursor)?;
+    Ok(Body::LastChunk {
+        cookie,
+        place,
+        values,
+        entries,
+        last,
+    })
+}
+
+fn read_asked(alloc: Global, n: u8, own: Rank, cursor: &mut Cursor<'_>) -> Result<Body, MsgRefused>
+    ensures { Reads (λ x. x) result cursor.new (body_at n own Kind.Request cursor.old) }
+{
+    let id = read_count(cursor)?;
+    let request = read_request(alloc, cursor)?;
+    Ok(Body::Request { id, request })
+}
+
+fn read_answered(
+    alloc: Global,
+    n: u8,
+    own: Rank,
+    cursor: &mut Cursor<'_>,
+) -> Result<Body, MsgRefused>
+    ensures { Reads (λ x. x) result cursor.new (body_at n own Kind.Reply cursor.old) }
+{
+    let id = read_count(cursor)?;
+    let reply = read_reply(alloc, cursor)?;
+    Ok(Body::Reply { id, reply })
+}
+
+fn read_propose(
+    alloc: Global,
+    n: u8,
+    own: Rank,
+    cursor: &mut Cursor<'_>,
+) -> Result<Body, MsgRefused>
+    requires { n ≤ 15 }
+    ensures { Reads (λ x. x) result cursor.new (body_at n own Kind.Propose cursor.old) }
+{
+    let table = read_table(alloc, n, own, cursor)?;
+    Ok(Body::Propose { table })
+}
+
+fn read_victory(n: u8, own: Rank, cursor: &mut Cursor<'_>) -> Result<Body, MsgRefused>
+    requires { n ≤ 15 }
+    ensures { Reads (λ x. x) result cursor.new (body_at n own Kind.Victory cursor.old) }
+{
+    let quorum = read_set(n, cursor)?;
+    Ok(Body::Victory { quorum })
+}
+
+fn read_lease(n: u8, own: Rank, cursor: &mut Cursor<'_>) -> Result<Body, MsgRefused>
+    ensures { Reads (λ x. x) result cursor.new (body_at n own Kind.Lease cursor.old) }
+{
+    let last = read_number(cursor)?;
+    Ok(Body::Lease { last })
+}
+
+fn read_lease_ack(n: u8, own: Rank, cursor: &mut Cursor<'_>) -> Result<Body, MsgRefused>
+    ensures { Reads (λ x. x) result cursor.new (body_at n own Kind.LeaseAck cursor.old) }
+{
+    let last = read_number(cursor)?;
+    Ok(Body::LeaseAck { last })
+}
+
+fn read_recent(n: u8, own: Rank, cursor: &mut Cursor<'_>) -> Result<Body, MsgRefused>
+    ensures { Reads (λ x. x) result cursor.new (body_at n own Kind.GetCookieRecent cursor.old) }
+{
+    let last = read_number(cursor)?;
+    Ok(Body::GetCookieRecent { last })
+}
+
+fn read_no_cookie(n: u8, own: Rank, cursor: &mut Cursor<'_>) -> Result<Body, MsgRefused>
+    ensures { Reads (λ x. x) result cursor.new (body_at n own Kind.NoCookie cursor.old) }
+{
+    let cookie = read_cookie(cursor)?;
+    Ok(Body::NoCookie { cookie })
+}
+
+fn read_ping(alloc: Global, n: u8, own: Rank, cursor: &mut Cursor<'_>) -> Result<Body, MsgRefused>
+    requires { n ≤ 15 }
+    ensures { Reads (λ x. x) result cursor.new (body_at n own Kind.Ping cursor.old) }
+{
+    let table = read_table(alloc, n, own, cursor)?;
+    Ok(Body::Ping { table })
+}
+
+fn read_ping_reply(
+    alloc: Global,
+    n: u8,
+    own: Rank,
+    cursor: &mut Cursor<'_>,
+) -> Result<Body, MsgRefused>
+    requires { n ≤ 15 }
+    ensures { Reads (λ x. x) result cursor.new (body_at n own Kind.PingReply cursor.old) }
+{
+    let table = read_table(alloc, n, own, cursor)?;
+    Ok(Body::PingReply { table })
+}
+
+/// What a message of the monitor `own` of `n` says behind its header, by its kind.
+pub(crate) fn read_body(
+    alloc: Global,
+    n: u8,
+    own: Rank,
+    kind: Kind,
+    cursor: &mut Cursor<'_>,
+) -> Result<Body, MsgRefused>
+    requires { n ≤ 15 }
+    ensures { Reads (λ x. x) result cursor.new (body_at n own kind cursor.old) }
+{
+    match kind {
+        Kind::Probe => Ok(Body::Probe),
+        Kind::ProbeReply => read_probe_reply(n, own, cursor),
+        Kind::Propose => read_propose(alloc, n, own, cursor),
+        Kind::Ack => Ok(Body::Ack),
+        Kind::Victory => read_victory(n, own, cursor),
+        Kind::Collect => read_collect(n, own, cursor),
+        Kind::Last => read_last(alloc, n, own, cursor),
+        Kind::Begin => read_begin(alloc, n, own, cursor),
+        Kind::Accept => read_accept(n, own, cursor),
+        Kind::Commit => read_commit(alloc, n, own, cursor),
+        Kind::Lease => read_lease(n, own, cursor),
+        Kind::LeaseAck => read_lease_ack(n, own, cursor),
+        Kind::Forward => read_forward(alloc, n, own, cursor),
+        Kind::Route => read_route(n, own, cursor),
+        Kind::GetCookieFull => Ok(Body::GetCookieFull),
+        Kind::GetCookieRecent => read_recent(n, own, cursor),
+        Kind::Cookie => read_granted(n, own, cursor),
+        Kind::GetChunk => read_get_chunk(alloc, n, own, cursor),
+        Kind::Chunk => read_chunk(alloc, n, own, cursor),
+        Kind::LastChunk => read_last_chunk(alloc, n, own, cursor),
+        Kind::NoCookie => read_no_cookie(n, own, cursor),
+        Kind::Ping => read_ping(alloc, n, own, cursor),
+        Kind::PingReply => read_ping_reply(alloc, n, own, cursor),
+        Kind::Request => read_asked(alloc, n, own, cursor),
+        Kind::Reply => read_answered(alloc, n, own, cursor),
+    }
+}
