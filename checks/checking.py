@@ -1,0 +1,130 @@
+"""What the checks of this folder share: how a check is named, run and reported, and how the built program is run.
+
+A script of this folder is called as checks/NAME [--only TEXT] PROGRAM. It prints a line for each check, and its status is 0 if and only if all
+passed. --only takes the checks whose names have the text, of which there must be one.
+"""
+from __future__ import annotations
+
+import argparse
+import os
+import subprocess
+import sys
+import tempfile
+import traceback
+
+TOP = os.path.dirname(os.path.dirname(os.path.abspath(__file__)))
+EXAMPLES = os.path.join(TOP, 'examples')
+sys.path[:0] = [EXAMPLES, os.path.join(TOP, 'bench')]
+
+
+class Failed(Exception):
+    """A check failed, for this reason."""
+
+
+def equal(found, wanted, what=''):
+    """Fails unless the two are equal."""
+    if found != wanted:
+        raise Failed(f'{what}: ' * bool(what) + f'found {shortened(found)}, wanted {shortened(wanted)}')
+
+
+def shortened(value) -> str:
+    text = repr(value)
+    return text if len(text) <= 300 else f'{text[:200]} .. {text[-80:]}'
+
+
+def same_text(found: bytes, wanted: bytes, what=''):
+    """Fails at the first line in which the two differ."""
+    if found != wanted:
+        lines, others = found.split(b'\n'), wanted.split(b'\n')
+        at = next((at for at, pair in enumerate(zip(lines, others)) if pair[0] != pair[1]), min(len(lines), len(others)))
+        raise Failed(f'{what}: ' * bool(what) + f'line {at + 1}: found {lines[at:at + 1]}, wanted {others[at:at + 1]}')
+
+
+class Checks:
+    """Runs checks, one after the other, each in a line."""
+
+    def __init__(self, only: str | None):
+        self.only, self.passed, self.failed = only, 0, 0
+
+    def __call__(self, name: str, check, *words):
+        """Runs a check, which fails if it raises anything or returns False."""
+        if self.only is not None and self.only not in name:
+            return
+        try:
+            good, why = check(*words) is not False, ''
+        except (Failed, OSError, subprocess.SubprocessError) as error:
+            good, why = False, str(error)
+        except Exception:
+            good, why = False, traceback.format_exc()
+        self.passed += good
+        self.failed += not good
+        print(f'ok: {name}' if good else f'FAILED: {name}' + f'\n    {why}' * bool(why), flush=True)
+
+    def status(self) -> int:
+        if self.passed + self.failed == 0:
+            print(f'FAILED: no check is named {self.only}', flush=True)
+        return 0 if self.passed and not self.failed else 1
+
+
+class Ended:
+    """How a call of the program ended."""
+
+    def __init__(self, status: int, output: bytes, errors: bytes):
+        self.status, self.output, self.errors = status, output, errors
+
+
+class Program:
+    """The built program, and a folder for its files."""
+
+    def __init__(self, path: str, room: str):
+        self.path, self.room = os.path.abspath(path), room
+
+    def run(self, *words, schedule=b'', **how) -> Ended:
+        """Runs the program on these arguments and this standard input."""
+        done = subprocess.run([self.path, *words], input=schedule, stdout=subprocess.PIPE, stderr=subprocess.PIPE, timeout=120, **how)
+        return Ended(done.returncode, done.stdout, done.stderr)
+
+    def replay(self, schedule: bytes) -> bytes:
+        """The trace of a schedule, which must be replayed to its end."""
+        ended = self.run('replay', schedule=schedule)
+        equal((ended.status, ended.errors), (0, b''))
+        return ended.output
+
+    def ends(self, status: int, text: str, *words, **how):
+        """Fails unless the program ends so, with this text on standard error and nothing on standard output."""
+        ended = self.run(*words, **how)
+        equal((ended.status, ended.errors, ended.output), (status, (text + '\n').encode(), b''), ' '.join(map(shown, words))[:80])
+
+    def file(self, name: str) -> str:
+        return os.path.join(self.room, name)
+
+    def write(self, name: str, octets: bytes) -> str:
+        path = self.file(name)
+        with open(path, 'wb') as file:
+            file.write(octets)
+        return path
+
+
+def shown(word) -> str:
+    return word if isinstance(word, str) else repr(word)
+
+
+def read(*names: str) -> bytes:
+    """A file of this repository, or one by its whole path."""
+    with open(os.path.join(TOP, *names), 'rb') as file:
+        return file.read()
+
+
+def main(text: str, checks) -> int:
+    """Calls `checks` with what runs a check, and with the program if the script's text asks for one."""
+    wants = 'PROGRAM' in text
+    parser = argparse.ArgumentParser(description=text, formatter_class=argparse.RawDescriptionHelpFormatter)
+    parser.add_argument('--only', metavar='TEXT', help='only the checks whose names have this text')
+    parser.add_argument('program', metavar='PROGRAM', nargs=None if wants else '?', help='the built program' if wants else 'not needed')
+    words = parser.parse_args()
+    check = Checks(words.only)
+    with tempfile.TemporaryDirectory(prefix='checks.') as room:
+        if wants and not os.access(words.program, os.X_OK):
+            parser.error(f'{words.program} is no program')
+        checks(check, *([Program(words.program, room)] if wants else []))
+    return check.status()

@@ -1,0 +1,47 @@
+"""The bytes of a store's two files, as docs/FORMATS.md describes them, written here apart from the program."""
+import struct
+
+NEW = b'CEPHMON2'
+# The file of a new store of the one monitor of its quorum has so many bytes.
+HEADER = 26
+# What a record adds to its payload: the commit byte and the length.
+HEAD = 5
+
+
+def number(n):
+    return struct.pack('<Q', n)
+
+
+def word(text):
+    return bytes([len(text)]) + text
+
+
+def put(prefix, key, value):
+    return b'\1' + word(prefix) + word(key) + struct.pack('<I', len(value)) + value
+
+
+def erase_prefix(prefix):
+    return b'\3' + word(prefix)
+
+
+def erase_range(prefix, first, end):
+    return b'\4' + word(prefix) + number(first) + number(end)
+
+
+def transaction(*ops, version=1):
+    return bytes([version]) + struct.pack('<I', len(ops)) + b''.join(ops)
+
+
+def checkpoint(*entries):
+    """The payload with which a checkpoint begins: the entries of the map, in order of their keys."""
+    return b'\x80' + struct.pack('<I', len(entries)) + b''.join(word(prefix) + word(key) + struct.pack('<I', len(value)) + value
+                                                               for prefix, key, value in entries)
+
+
+def record(payload):
+    return b'\1' + struct.pack('<I', len(payload)) + payload
+
+
+def file(*payloads, rank=0, monitors=1, generation=1, mark=NEW):
+    """An open file with these records, and a commit byte of 0 after them."""
+    return b'\1' + mark + bytes([rank, monitors]) + bytes(6) + number(generation) + b''.join(map(record, payloads)) + b'\0'
