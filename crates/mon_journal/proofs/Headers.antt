@@ -20,7 +20,7 @@ form_again : (at : ℕ) (others : List ℕ) → form_at (from at (second_word ++
 unfolding form_at
 form_again at others = rw (front_again 8 at second_word others refl) refl
 
-owner_again : (at : ℕ) (owner : Owner) (others : List ℕ) → owner.rank < owner.monitors → owner.monitors ≤ 15 → owner_at (from at (owner.rank ∷ owner.monitors ∷ others)) ≡ Ok (owner, from (at + 1 + 1) others)
+pub owner_again : (at : ℕ) (owner : Owner) (others : List ℕ) → owner.rank < owner.monitors → owner.monitors ≤ 15 → owner_at (from at (owner.rank ∷ owner.monitors ∷ others)) ≡ Ok (owner, from (at + 1 + 1) others)
 unfolding owner_at
 owner_again at owner others below most =
     let one : ltb owner.rank owner.monitors ≡ true = grind (arith, nat_tests) in

@@ -37,7 +37,7 @@ form_takes c x fits e =
     let t = front_takes 8 c b.0 fits (whole_ok (front 8 c) b.0 b.1) in
     word_found c b.0.0 b.0.1 x (bytes_eq b.0.0 second_word) (bytes_eq b.0.0 first_word) refl refl t.0 b.2
 
-owner_takes : (c : Reading) (x : Owner × Reading) → IsBytes c.rest → owner_at c ≡ Ok x → Takes c (x.0.rank ∷ x.0.monitors ∷ []) x.1 × (x.0.rank < x.0.monitors) × (x.0.monitors ≤ 15)
+pub owner_takes : (c : Reading) (x : Owner × Reading) → IsBytes c.rest → owner_at c ≡ Ok x → Takes c (x.0.rank ∷ x.0.monitors ∷ []) x.1 × (x.0.rank < x.0.monitors) × (x.0.monitors ≤ 15)
 unfolding owner_at
 owner_takes c x fits e =
     let b = bind_ok (whole (number 1 c))

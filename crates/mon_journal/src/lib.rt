@@ -19,4 +19,5 @@ pub use law::law_written;
 pub use making::{create, restart};
 pub use opening::{Opened, open};
 pub use payloads::{Payloads, Unread};
+pub use reading::read_owner;
 pub use stop::JournalStop;

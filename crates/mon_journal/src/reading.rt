@@ -39,8 +39,10 @@ fn form_at(cursor: &mut Cursor<'_>) -> Result<Form, JournalStop>
     Err(JournalStop::NotAStore { at: at as u64 })
 }
 
+/// The rank and the number of monitors that come next in a header, or in any text that names a member so. `NotAStore`
+/// names the first place of the first of the two that isn't there, or isn't of its form. It takes no memory.
 #[tactic(auto, unfolding(crate::specs::Fields::owner_at))]
-fn owner_at(cursor: &mut Cursor<'_>) -> Result<Member, JournalStop>
+pub fn read_owner(cursor: &mut Cursor<'_>) -> Result<Member, JournalStop>
     ensures owner { Reads (λ member. record { rank = member.rank; monitors = member.monitors }) result cursor.new
         (owner_at cursor.old) }
     ensures form { IfErr result IsOfForm }
@@ -99,7 +101,7 @@ pub fn header_at(cursor: &mut Cursor<'_>) -> Result<Journal, JournalStop>
     ensures form { IfErr result IsOfForm }
 {
     let form = form_at(cursor)?;
-    let member = owner_at(cursor)?;
+    let member = read_owner(cursor)?;
     zeros_at(cursor, 6)?;
     let generation = generation_at(cursor)?;
     Ok(Journal {

@@ -9,7 +9,7 @@ use mon_bytes::{Out, OutOfMemory, write_count};
 use mon_kv::{EntryRef, Kv};
 
 /// The byte that a checkpoint begins with. No transaction does.
-pub(crate) const CHECKPOINT: u8 = 0x80;
+pub const CHECKPOINT: u8 = 0x80;
 
 fn put_entry(out: &mut Out, entry: &EntryRef<'_>) -> Result<(), OutOfMemory>
     requires { EntryFits (entry_of entry.now) }
@@ -37,7 +37,7 @@ fn count(kv: &Kv) -> u32
 
 /// Appends a checkpoint of the map. Its time is that of two look-ups for each entry, and it takes memory for the bytes
 /// alone. After an `Err` a front of it may be there.
-pub(crate) fn write_checkpoint(out: &mut Out, kv: &Kv) -> Result<(), OutOfMemory>
+pub fn write_checkpoint(out: &mut Out, kv: &Kv) -> Result<(), OutOfMemory>
     requires { size_of kv.now ≤ most_size }
     ensures text { OnOk result (out.new ≡ out.old ++ checkpoint_text kv.now) }
     ensures form { OnOk result (HasCheckpoint kv.now) }

@@ -13,6 +13,9 @@ mod restart;
 mod stop;
 mod store;
 
+pub use checkpoint::{CHECKPOINT, write_checkpoint};
 pub use law::{law_checkpoints, law_stands};
+pub use reading::read_checkpoint;
+pub use restart::checkpoint_bytes;
 pub use stop::{OpenRefused, OpenStop, StoreStop};
 pub use store::Store;

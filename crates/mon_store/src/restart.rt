@@ -41,7 +41,8 @@ fn is_due(journal: &Journal, kv: &Kv) -> bool
         || (journal.next_gate >= LEAST_LENGTH && journal.next_gate / 4 >= kv.size())
 }
 
-fn checkpoint(alloc: Global, kv: &Kv) -> Result<Vec<u8>, OutOfMemory>
+/// The checkpoint of a map, as bytes. It takes memory for the bytes alone.
+pub fn checkpoint_bytes(alloc: Global, kv: &Kv) -> Result<Vec<u8>, OutOfMemory>
     requires { size_of kv.now ≤ most_size }
     ensures text { IfOk result (λ bytes. bytes.items ≡ checkpoint_text kv.now) }
     ensures form { IfOk result (λ _. HasCheckpoint kv.now) }
@@ -79,7 +80,7 @@ pub(crate) fn begin<D: Disk>(
         (λ t. BegunAs (D.state disk.old).content (next_journal journal.now kv.now) kv.now (made_more 4 s t)
         (t.settles t.made))) }
 {
-    let text = checkpoint(alloc, kv)?;
+    let text = checkpoint_bytes(alloc, kv)?;
     let member = journal.member;
     Ok(restart(alloc, disk, member, journal.generation + 1, &text)?)
 }
