@@ -1,5 +1,5 @@
 -- What holds of each element of a list, over the edits that an assembly makes.
-use Rattle.std.proofs.Common.{◌≡◌, ◌⊎◌, ℕ, zero, suc, ◌+◌, ◌≤◌, ◌<◌, List, [], ◌∷◌, ◌++◌, length, map, take, drop, Option, Some, None, IsOk, Bool, true, false, cond, ◌&&◌, is_some, unwrap_or, append_assoc, sym, refl, ap, subst, ◌∙◌, inl, inr, add-one, arith}
+use Rattle.std.proofs.Common.{◌≡◌, ◌⊎◌, ℕ, zero, suc, ◌+◌, ◌≤◌, ◌<◌, List, [], ◌∷◌, ◌++◌, length, map, take, drop, Option, Some, IsOk, Bool, true, false, cond, ◌&&◌, is_some, unwrap_or, append_assoc, sym, refl, ap, subst, ◌∙◌, inl, inr, add-one, arith}
 use Rattle.std.proofs.lemmas.List.Edits.{remove-append_left}
 use Rattle.mon_frag.specs.declared.header.Header.{Header}
 use Rattle.mon_frag.specs.declared.partial.Partial.{Partial}

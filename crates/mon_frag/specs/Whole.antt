@@ -1,16 +1,16 @@
--- What peers send, what comes of it, and what an assembly answers to that.
+-- What a peer sends, what comes of it, and what an assembly answers to that.
 use Rattle.std.specs.Prelude.{◌≡◌, ◌≤◌, ◌<◌, ◌^◌, ℕ, false, List, [], ◌∷◌, length, Option, Some, None, Ok, Err}
-use Rattle.std.specs.List.{Any, Contains, AllByRecursion}
+use Rattle.std.specs.List.{Contains, AllByRecursion}
 use Rattle.mon_bytes.specs.declared.limits.TheConstants.{MOST_MESSAGE}
 use Rattle.mon_link.specs.declared.link.Peer.{Peer}
+use Rattle.mon_frag.specs.declared.cutting.TheConstants.{DATAGRAM}
 use Rattle.mon_frag.specs.declared.partial.Partial.{Partial}
 use Rattle.mon_frag.specs.Pieces.{pieces_of}
 use Rattle.mon_frag.specs.Headers.{is_piece}
-use Rattle.mon_frag.specs.Keeping.{Taken, Outcome, taken}
+use Rattle.mon_frag.specs.Keeping.{Outcome, taken}
 
--- a message that a peer sent, and the numbers that it sent it under
+-- a message, and the numbers that it was sent under
 pub record Message : Type 0 where
-  pub from : Peer
   pub boot : ℕ
   pub seq : ℕ
   pub bytes : List ℕ
@@ -22,23 +22,31 @@ pub record IsMessage (m : Message) : Type 0 where
   pub seq : m.seq < 2 ^ 64
   pub no_piece : is_piece m.bytes ≡ false
 
--- These are messages, and no two of one peer's share their numbers.
+-- it is longer than a datagram
+abbrev pub IsLong : Message → Type 0
+IsLong m = DATAGRAM < length m.bytes
+
+-- These are messages, and no two of them that are longer than a datagram share their two numbers.
 pub record AreSent (sent : List Message) : Type 0 where
   pub messages : (m : Message) → Contains sent m → IsMessage m
-  pub numbered : (m n : Message) → Contains sent m → Contains sent n → m.from ≡ n.from → m.boot ≡ n.boot → m.seq ≡ n.seq → m.bytes ≡ n.bytes
+  pub numbered : (m n : Message) → Contains sent m → Contains sent n → IsLong m → IsLong n → m.boot ≡ n.boot → m.seq ≡ n.seq → m.bytes ≡ n.bytes
 
 -- bytes from a peer
 pub record FromPeer : Type 0 where
   pub from : Peer
   pub bytes : List ℕ
 
--- They are a datagram of a message that this peer sent.
-abbrev pub IsDatagram : List Message → FromPeer → Type 0
-IsDatagram sent d = (m : Message) × Contains sent m × (m.from ≡ d.from) × Contains (pieces_of m.bytes m.boot m.seq) d.bytes
+-- They are a datagram of one of these messages.
+abbrev pub IsDatagram : List Message → List ℕ → Type 0
+IsDatagram sent bytes = (m : Message) × Contains sent m × Contains (pieces_of m.bytes m.boot m.seq) bytes
 
--- They are a whole message that this peer sent.
-abbrev pub IsWhole : List Message → FromPeer → Type 0
-IsWhole sent d = (m : Message) × Contains sent m × (m.from ≡ d.from) × (m.bytes ≡ d.bytes)
+-- They are one of these messages, whole.
+abbrev pub IsWhole : List Message → List ℕ → Type 0
+IsWhole sent bytes = (m : Message) × Contains sent m × (m.bytes ≡ bytes)
+
+-- if they are from this peer
+abbrev pub From : Peer → (List ℕ → Type 0) → FromPeer → Type 0
+From q P d = q ≡ d.from → P d.bytes
 
 -- what is answered to datagrams in the order in which they come, and from whom it is
 abbrev pub and_answered : Peer → Option (List ℕ) → List FromPeer → List FromPeer
@@ -58,7 +66,8 @@ answered kept [] = []
 answered kept (d ∷ later) =
     and_answered d.from (answer_in (taken kept d.from d.bytes)) (answered (kept_in kept (taken kept d.from d.bytes)) later)
 
+-- The datagrams of one peer are those of what it sent, and what comes from other peers are any bytes.
 abbrev pub AllWhole : Type 0
 AllWhole =
-    (sent : List Message) (came : List FromPeer) → AreSent sent → AllByRecursion (IsDatagram sent) came
-    → AllByRecursion (IsWhole sent) (answered [] came)
+    (q : Peer) (sent : List Message) (came : List FromPeer) → AreSent sent → AllByRecursion (From q (IsDatagram sent)) came
+    → AllByRecursion (From q (IsWhole sent)) (answered [] came)

@@ -1,4 +1,4 @@
-ghost use Rattle.std.specs.Prelude.{◌≡◌, ◌≤◌, ◌||◌, false, [], ◌∷◌, ◌++◌, length, IfOk, IfErr, OnOk, OnErr, IfSome};
+ghost use Rattle.std.specs.Prelude.{◌≡◌, ◌≤◌, ◌<◌, ◌||◌, false, [], ◌∷◌, ◌++◌, length, IfOk, IfErr, OnOk, OnErr, IfSome};
 ghost use Rattle.mon_tx.specs.Map.{apply};
 ghost use Rattle.mon_tx.specs.Text.{text, most};
 ghost use Rattle.mon_tx.specs.Decode.{HasText};
@@ -55,6 +55,7 @@ pub(crate) fn keep<D: Disk>(
     ensures size { OnOk result (size_of (apply tx.now kv.old) ≤ most_size) }
     ensures refused { IfErr result (Refuses tx.now kv.old kv.new) }
     ensures disk { IfErr result (LeavesDisk disk.old disk.new) }
+    ensures large { most_size < size_of (apply tx.now kv.old) → disk.new ≡ disk.old }
 
     // Its writes and syncs are made. A crash at any moment leaves the payloads from before, and the transaction where
     // its gate is open.
@@ -117,6 +118,10 @@ impl<D: Disk> Store<D> {
         ensures journal { OnOk result (self.new.journal ≡ journal_after self.old.journal tx.now) }
         ensures journal_err { OnErr result (self.new.journal ≡ self.old.journal) }
         ensures disk { IfErr result (LeavesDisk self.old.live self.new.live) }
+
+        // A map that would be too large leaves the disks, whatever is answered.
+        ensures large { most_size < size_of (apply tx.now self.old.kv) → self.new.live ≡ self.old.live }
+
         ensures other { self.new.other ≡ self.old.other }
         ensures side { self.new.side ≡ self.old.side }
 

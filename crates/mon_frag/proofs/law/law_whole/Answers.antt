@@ -3,4 +3,4 @@ use Rattle.mon_frag.proofs.Standing.{answered_whole}
 use Rattle.mon_frag.proofs.law.law_whole.Goals as goal
 
 pub returns : goal.returns
-returns c = λ sent came are is. answered_whole sent [] came are tt is
+returns c = λ q sent came are is. answered_whole q sent are [] came tt is

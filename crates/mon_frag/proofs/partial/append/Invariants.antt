@@ -1,4 +1,4 @@
-use Rattle.std.proofs.Common.{◌≡◌, List, [], ◌++◌, take, unwrap_or}
+use Rattle.std.proofs.Common.{◌≡◌, [], ◌++◌, take, unwrap_or}
 use Rattle.std.specs.List.{flat_map}
 use Rattle.mon_frag.proofs.partial.append.Given as goal
 

@@ -1,4 +1,4 @@
-use Rattle.std.proofs.Common.{rules, ◌≡◌, ap, subst, Some, None}
+use Rattle.std.proofs.Common.{rules, ◌≡◌, subst, Some, None}
 use Rattle.std.specs.List.{position}
 use Rattle.mon_frag.specs.Keeping.{Outcome, Takes, is_of}
 use Rattle.mon_frag.proofs.Lists.{piece_found}
