@@ -4,9 +4,10 @@ use std::fs::File;
 use std::io;
 use std::io::{Error, ErrorKind};
 use std::os::fd::AsRawFd;
+use std::os::unix::fs::FileExt;
 
 /// An open file that can be made this process's alone.
-pub trait DeviceFile: Sized {
+pub trait DeviceFile: FileExt + Sized {
     /// Locks the file for this process. One that another process has, or another handle of this one, is refused.
     fn claim(self) -> io::Result<Self>;
 

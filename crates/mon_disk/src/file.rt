@@ -9,14 +9,15 @@ use crate::disk::Disk;
 use crate::faults::raised;
 use mon_types::Stop;
 use std::alloc::Global;
-use std::fs::{File, Files, OpenFile, OpenOptions};
+use std::fs::{File, Files, OpenFile, OpenOptions, metadata};
 use std::io;
-use std::io::{Error, ErrorKind, Read, Seek, SeekFrom, Write};
-use std::os::unix::fs::OpenOptionsExt;
+use std::io::{Error, ErrorKind};
+use std::os::unix::fs::{FileExt, MetadataExt, OpenOptionsExt};
 use std::path::Path;
 
-/// The file of a name. From its first call on it is locked. After a call that failed each later one fails too: the
-/// system may have lost what was written before and then answer that all is well.
+/// The file of a name. From its first call on it is locked. A call fails if the name is gone by then, or names another
+/// file. After a call that failed each later one fails too: the system may have lost what was written before and then
+/// answer that all is well.
 #[derive(Drop)]
 pub struct FileDisk<R: Files + Copy>
 where
@@ -56,7 +57,7 @@ where
         self.failure.as_ref()
     }
 
-    /// Opens the file, unless it is open.
+    /// Opens the file, unless it is open; then its name has to be its own still.
     // A call that lends the file out can't say what it leaves of the rest, so each caller looks at it again.
     fn open(&mut self) -> io::Result<()>
         ensures known { self.new.known ≡ self.old.known }
@@ -66,11 +67,12 @@ where
         if self.failure.is_some() {
             return Err(ErrorKind::Other.into());
         }
-        if self.file.is_none() {
-            let file = settled(&self.rt, self.path.as_str())?;
-            keep_name(&self.rt, *self.path.allocator(), self.path.as_str())?;
-            self.file = Some(file);
+        if let Some(file) = &self.file {
+            return has_name(&self.rt, file, self.path.as_str());
         }
+        let file = settled(&self.rt, self.path.as_str())?;
+        keep_name(&self.rt, *self.path.allocator(), self.path.as_str())?;
+        self.file = Some(file);
         Ok(())
     }
 
@@ -108,11 +110,8 @@ where
         ensures given_up { IsTrue (is_some self.old.failure) → IsErr result }
     {
         self.open()?;
-        match &mut self.file {
-            Some(file) => {
-                file.seek(SeekFrom::Start(at))?;
-                file.read_exact(into)
-            }
+        match &self.file {
+            Some(file) => file.read_exact_at(into, at),
             None => Err(ErrorKind::NotFound.into()),
         }
     }
@@ -123,11 +122,8 @@ where
         ensures given_up { IsTrue (is_some self.old.failure) → IsErr result }
     {
         self.open()?;
-        match &mut self.file {
-            Some(file) => {
-                file.seek(SeekFrom::Start(at))?;
-                file.write_all(bytes)
-            }
+        match &self.file {
+            Some(file) => file.write_all_at(bytes, at),
             None => Err(ErrorKind::NotFound.into()),
         }
     }
@@ -161,6 +157,17 @@ where
     file.sync_all()?;
     file.forget_pages()?;
     Ok(file)
+}
+
+/// Whether a name is that of an open file still. What is written to a file that was removed, or that another one stands
+/// for, is gone when the file is closed.
+fn has_name<R: Files>(rt: &R, file: &R::File, path: &str) -> io::Result<()> {
+    let named = metadata(rt, path)?;
+    let open = file.metadata()?;
+    if named.dev() == open.dev() && named.ino() == open.ino() {
+        return Ok(());
+    }
+    Err(Error::new(ErrorKind::NotFound, "the file was replaced"))
 }
 
 /// Syncs the folder that a file's name stands in, that of its target where the name is a link, so that the name of a

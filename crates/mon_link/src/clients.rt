@@ -1,7 +1,8 @@
-ghost use Rattle.std.specs.Prelude.{◌≡◌, ◌<◌, ◌≤◌, IfOk, slice_get, vec_len};
+ghost use Rattle.std.specs.Prelude.{◌≡◌, ◌<◌, ◌≤◌, IfOk, IfSome, slice_get, vec_len};
 
 use mon_bytes::OutOfMemory;
 use std::alloc::Global;
+use std::collections::HashMap;
 use std::net::SocketAddr;
 
 /// How many clients are known at a time.
@@ -11,6 +12,7 @@ const MOST: usize = 1024;
 #[derive(Drop)]
 pub(crate) struct Clients {
     addresses: Vec<SocketAddr>,
+    numbers: HashMap<SocketAddr, u32>,
     oldest: usize,
     ghost most: { vec_len addresses ≤ 1024 },
     ghost within: { oldest < 1024 },
@@ -23,6 +25,7 @@ impl Clients {
     {
         Clients {
             addresses: Vec::new(alloc),
+            numbers: HashMap::new(alloc),
             oldest: 0,
         }
     }
@@ -31,20 +34,33 @@ impl Clients {
     pub(crate) fn number_of(&mut self, address: SocketAddr) -> Result<u32, OutOfMemory>
         ensures { IfOk result (λ n. n < vec_len self.new.addresses) }
     {
-        for at in 0..self.addresses.len() {
-            if self.addresses[at] == address {
-                return Ok(at as u32);
-            }
+        if let Some(number) = self.known(&address) {
+            return Ok(number);
         }
         let count = self.addresses.len();
         if count < MOST {
             self.addresses.push(address)?;
+            self.numbers.insert(address, count as u32)?;
             return Ok(count as u32);
         }
         let number = self.oldest;
+        let _ = self.numbers.remove(&self.addresses[number]);
         self.addresses[number] = address;
         self.oldest = (number + 1) % MOST;
+        self.numbers.insert(address, number as u32)?;
         Ok(number as u32)
+    }
+
+    /// The number of a client that is known.
+    fn known(&self, address: &SocketAddr) -> Option<u32>
+        ensures { IfSome result (λ n. n < vec_len self.now.addresses) }
+    {
+        let number = *self.numbers.get(address)?;
+        if (number as usize) < self.addresses.len() {
+            Some(number)
+        } else {
+            None
+        }
     }
 
     /// The address of the client of a number, where it is known.

@@ -1,25 +1,40 @@
 //! Datagrams of the system. They tell nothing of what they give or take, only whether a call failed.
 
-ghost use Rattle.std.specs.Prelude.{◌≡◌, None, Some, ◌≤◌, length, IfOk, option_map};
+ghost use Rattle.std.specs.Prelude.{◌≡◌, None, Some, ◌≤◌, IfOk, option_map, vec_len};
 
 use crate::clients::Clients;
 use crate::link::{Got, Link, Peer};
 use crate::outside::raised;
-use libc::net::{SO_RCVBUF, SOL_SOCKET, setsockopt};
+use libc::net::{POLLIN, POLLOUT, SO_RCVBUF, SOL_SOCKET, getsockopt, poll, setsockopt};
+use libc::types::pollfd;
 use mon_bytes::{Bytes, OutOfMemory};
 use mon_types::{Rank, Stop};
 use std::io;
 use std::io::{Error, ErrorKind};
 use std::net::{Ipv4Addr, Net, SocketAddr, UdpSocket};
 use std::os::fd::AsRawFd;
-use std::time::Duration;
 
 /// More bytes than a datagram can have.
 const ROOM: usize = 65_536;
 
 /// How many bytes the system is asked to keep of datagrams that came and weren't taken yet. A long message is up to 18 of
-/// them, sent one behind the other, and the room that a socket has by default is often that of three.
+/// them, sent one after the other, and the room that a socket has by default is often that of three.
 const RECEIVE_BUFFER: i32 = 4_194_304;
+
+/// What the system charges to a socket for one message of the greatest length: 18 datagrams of 92 KB each, in frames of
+/// 1,500 bytes.
+const LONG_MESSAGE: u32 = 1_700_000;
+
+/// How long a datagram waits until the system has room to send it, in milliseconds.
+const SEND_WAIT: u64 = 200;
+
+/// How many receives in a row may fail for a passing reason, and the longest pause after each, in milliseconds.
+const MOST_PASSING: u32 = 16;
+
+const PASSING_PAUSE: u64 = 10;
+
+/// The system's number for a lack of buffers. It has no `ErrorKind`.
+const ENOBUFS: i32 = 105;
 
 /// Where a monitor hears.
 #[derive(Clone, Copy, Debug, PartialEq, Eq)]
@@ -43,7 +58,9 @@ pub struct UdpLink<R: Net + Copy> {
     addresses: Vec<Address>,
     clients: Clients,
     socket: Option<UdpSocket>,
+    room: Vec<u8>,
     failure: Option<Error>,
+    passing: u32,
     faults: u64,
     losses: u64,
 }
@@ -78,14 +95,16 @@ impl<R: Net + Copy> UdpLink<R> {
         ensures faults { result.faults ≡ 0 }
         ensures losses { result.losses ≡ 0 }
     {
-        let clients = Clients::new(*addresses.allocator());
+        let alloc = *addresses.allocator();
         UdpLink {
             rt: *rt,
             own,
             addresses,
-            clients,
+            clients: Clients::new(alloc),
             socket: None,
+            room: Vec::new(alloc),
             failure: None,
+            passing: 0,
             faults: 0,
             losses: 0,
         }
@@ -112,36 +131,90 @@ impl<R: Net + Copy> UdpLink<R> {
         }
     }
 
-    /// Binds the socket, unless it is bound.
+    /// Binds the socket, unless it is bound, as the first call does. Returns how many bytes of datagrams the system keeps
+    /// for it, if that is less than one message of the greatest length takes. A socket that can't be bound has no room to
+    /// tell; the next call says why.
+    pub fn short_room(&mut self) -> Option<u32>
+        ensures failure { self.new.failure ≡ self.old.failure }
+        ensures faults { self.new.faults ≡ self.old.faults }
+        ensures losses { self.new.losses ≡ self.old.losses }
+    {
+        if self.open().is_err() {
+            return None;
+        }
+        let room = given_room(self.socket.as_ref()?)?;
+        if room < LONG_MESSAGE {
+            Some(room)
+        } else {
+            None
+        }
+    }
+
+    /// Binds the socket, unless it is bound. None of its calls waits by itself.
     fn open(&mut self) -> io::Result<()>
+        ensures failure { self.new.failure ≡ self.old.failure }
         ensures faults { self.new.faults ≡ self.old.faults }
         ensures losses { self.new.losses ≡ self.old.losses }
     {
         if self.socket.is_none() {
             let here = self.here()?;
             let socket = UdpSocket::bind(&self.rt, here)?;
+            socket.set_nonblocking(true)?;
             widen(&socket);
             self.socket = Some(socket);
         }
         Ok(())
     }
 
-    fn receive(&mut self, wait: u64, into: &mut [u8]) -> io::Result<(usize, SocketAddr)>
+    /// Makes the buffer into which datagrams are received, unless it is there.
+    fn make_room(&mut self) -> Result<(), OutOfMemory>
         ensures faults { self.new.faults ≡ self.old.faults }
         ensures losses { self.new.losses ≡ self.old.losses }
-        ensures bound { IfOk result (λ r. r.0 ≤ length into.new) }
+    {
+        if self.room.is_empty() {
+            self.room = vec![in *self.addresses.allocator(); 0u8; ROOM]?;
+        }
+        Ok(())
+    }
+
+    /// Receives into the buffer. Only where nothing is there is the system asked to wait.
+    fn receive(&mut self, wait: u64) -> io::Result<(usize, SocketAddr)>
+        ensures faults { self.new.faults ≡ self.old.faults }
+        ensures losses { self.new.losses ≡ self.old.losses }
+        ensures bound { IfOk result (λ r. r.0 ≤ vec_len self.new.room) }
     {
         self.open()?;
         match &self.socket {
             Some(socket) => {
-                socket.set_nonblocking(wait == 0)?;
-                if wait > 0 {
-                    socket.set_read_timeout(Some(Duration::from_millis(wait)))?;
+                let came = socket.recv_from(self.room.as_mut_slice());
+                if wait == 0 || !would_wait(&came) {
+                    return came;
                 }
-                socket.recv_from(into)
+                await_socket(socket, POLLIN, wait);
+                socket.recv_from(self.room.as_mut_slice())
             }
             None => Err(ErrorKind::NotConnected.into()),
         }
+    }
+
+    /// The bytes that were received.
+    fn received(&self, count: usize) -> Result<Bytes, OutOfMemory>
+        requires { count ≤ vec_len self.now.room }
+    {
+        let bytes = Vec::from_slice(*self.addresses.allocator(), &self.room[..count])?;
+        Ok(Bytes::new(bytes))
+    }
+
+    /// Whether a receive that failed may be tried again: it failed for a passing reason, and few before it did in a row.
+    fn passes(&mut self, said: &Error) -> bool
+        ensures faults { self.new.faults ≡ self.old.faults }
+        ensures losses { self.new.losses ≡ self.old.losses }
+    {
+        if !is_passing(said) || self.passing >= MOST_PASSING {
+            return false;
+        }
+        self.passing += 1;
+        true
     }
 
     /// Who is at an address.
@@ -169,7 +242,14 @@ impl<R: Net + Copy> UdpLink<R> {
             Peer::Client(number) => self.clients.address_of(number),
         };
         match (&self.socket, address) {
-            (Some(socket), Some(address)) => socket.send_to(bytes, address),
+            (Some(socket), Some(address)) => {
+                let went = socket.send_to(bytes, address);
+                if !would_wait(&went) {
+                    return went;
+                }
+                await_socket(socket, POLLOUT, SEND_WAIT);
+                socket.send_to(bytes, address)
+            }
             _ => Err(ErrorKind::AddrNotAvailable.into()),
         }
     }
@@ -182,6 +262,48 @@ fn widen(socket: &UdpSocket) {
     let _ = unsafe { setsockopt(socket.as_raw_fd(), SOL_SOCKET, SO_RCVBUF, &value, 4) };
 }
 
+/// How many bytes of datagrams the system keeps, as it charges them; none where it doesn't say.
+fn given_room(socket: &UdpSocket) -> Option<u32> {
+    let mut value = [0; 16];
+    let mut length = 4;
+    let status = unsafe {
+        getsockopt(
+            socket.as_raw_fd(),
+            SOL_SOCKET,
+            SO_RCVBUF,
+            &mut value,
+            &mut length,
+        )
+    };
+    if status < 0 {
+        return None;
+    }
+    Some(u32::from_ne_bytes([value[0], value[1], value[2], value[3]]))
+}
+
+/// Waits until the socket has a datagram, or room for one, or until the time is over. The call that follows says which.
+fn await_socket(socket: &UdpSocket, events: i16, wait: u64) {
+    let mut sockets = [pollfd {
+        fd: socket.as_raw_fd(),
+        events,
+        revents: 0,
+    }];
+    let _ = poll(&mut sockets, i32::try_from(wait).unwrap_or(i32::MAX));
+}
+
+/// Waits.
+fn pause(wait: u64) {
+    let _ = poll(&mut [], i32::try_from(wait).unwrap_or(i32::MAX));
+}
+
+/// Whether a call would have had to wait.
+fn would_wait<T>(ended: &io::Result<T>) -> bool {
+    match ended {
+        Ok(_) => false,
+        Err(said) => said.kind() == ErrorKind::WouldBlock,
+    }
+}
+
 /// Whether a call of the system ended since nothing came in time.
 fn is_idle(kind: ErrorKind) -> bool {
     matches!(
@@ -190,25 +312,36 @@ fn is_idle(kind: ErrorKind) -> bool {
     )
 }
 
+/// Whether the system may do at the next try what it couldn't do: it had no memory or no buffer.
+fn is_passing(said: &Error) -> bool {
+    said.kind() == ErrorKind::OutOfMemory || said.raw_os_error() == Some(ENOBUFS)
+}
+
 impl<R: Net + Copy> Link for UdpLink<R> {
     ghost state = { λ l. record { told = None; faults = l.faults; losses = l.losses } };
 
     fn next(&mut self, wait: u64) -> Result<Got, Stop> {
-        let alloc = *self.addresses.allocator();
-        let Ok(mut bytes) = vec![in alloc; 0u8; ROOM] else {
+        if self.make_room().is_err() {
             return Err(Stop::OutOfMemory);
-        };
-        match self.receive(wait, bytes.as_mut_slice()) {
+        }
+        match self.receive(wait) {
             Ok((count, sender)) => {
+                self.passing = 0;
+                let Ok(bytes) = self.received(count) else {
+                    return Err(Stop::OutOfMemory);
+                };
                 let Ok(from) = self.peer_at(sender) else {
                     return Err(Stop::OutOfMemory);
                 };
-                bytes.truncate(count);
-                let bytes = Bytes::new(bytes);
                 Ok(Got::Datagram { from, bytes })
             }
             Err(said) => {
                 if is_idle(said.kind()) {
+                    self.passing = 0;
+                    return Ok(Got::Idle);
+                }
+                if self.passes(&said) {
+                    pause(wait.min(PASSING_PAUSE));
                     return Ok(Got::Idle);
                 }
                 self.failure = self.failure.take().or(Some(said));
