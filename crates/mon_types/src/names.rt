@@ -1,3 +1,5 @@
+use thiserror::Error;
+
 /// A kind of number that can run out, at 2^62.
 #[derive(Clone, Copy, Debug, PartialEq, Eq)]
 pub enum Which {
@@ -39,10 +41,12 @@ impl Side {
     }
 }
 
-/// Why a call of the outside gave nothing.
-#[derive(Clone, Copy, Debug, PartialEq, Eq)]
+/// Why a call of a device returned nothing.
+#[derive(Clone, Copy, Debug, PartialEq, Eq, Error)]
 pub enum Stop {
-    /// The outside failed, and the count of faults tells so.
+    /// The device failed, and its count of faults rose.
+    #[error("the device failed")]
     Failed,
+    #[error("out of memory")]
     OutOfMemory,
 }
