@@ -1,7 +1,7 @@
 //! The timers of a monitor.
 
-ghost use Rattle.std.specs.Prelude.{◌≡◌, ◌<◌, is_some};
-ghost use Rattle.mon_msg.specs.Protocol.Timers.{index_of, end_of, unarmed, disarmed, only_ping, sooner, due, soonest};
+ghost use Rattle.std.specs.Prelude.{◌≡◌, ◌<◌};
+ghost use Rattle.mon_msg.specs.Protocol.Timers.{index_of, end_of, is_armed, unarmed, disarmed, only_ping, sooner, due, soonest};
 ghost use Rattle.mon_plan.specs.Plans.{is_needed, armed_as, all_armed};
 
 use mon_msg::{Arming, Timer};
@@ -43,25 +43,6 @@ fn index_of(kind: Timer) -> usize
     }
 }
 
-/// Whether a timer has anything to come for: the one that proposes has where a command waits.
-fn is_needed(waits: bool, kind: Timer) -> bool
-    ensures { result ≡ is_needed waits kind }
-{
-    match kind {
-        Timer::Propose => waits,
-        Timer::Probe
-        | Timer::Election
-        | Timer::Collect
-        | Timer::Accept
-        | Timer::Renew
-        | Timer::LeaseAck
-        | Timer::Lease
-        | Timer::Sync
-        | Timer::Step
-        | Timer::Ping => true,
-    }
-}
-
 /// The sooner of a timer and of the soonest of the kinds behind it, which it goes before where both come at once.
 fn sooner(
     kind: Timer,
@@ -100,7 +81,7 @@ impl Timers {
 
     /// Whether a timer is armed.
     pub fn is_armed(&self, kind: Timer) -> bool
-        ensures { result ≡ is_some (end_of kind self.now) }
+        ensures { result ≡ is_armed kind self.now }
     {
         self.end_of(kind).is_some()
     }
@@ -121,13 +102,33 @@ impl Timers {
         Timers { ends }
     }
 
-    /// Does one thing with a timer. The one that proposes is armed only where a command waits.
+    /// Whether arming sets a timer. The one that proposes is set only if a command waits. The one that awaits
+    /// acknowledgements of a lease is set only if it isn't armed: a leader that nobody answers awaits them no longer.
+    fn is_needed(&self, waits: bool, kind: Timer) -> bool
+        ensures { result ≡ is_needed waits kind self.now }
+    {
+        match kind {
+            Timer::Propose => waits,
+            Timer::LeaseAck => !self.is_armed(kind),
+            Timer::Probe
+            | Timer::Election
+            | Timer::Collect
+            | Timer::Accept
+            | Timer::Renew
+            | Timer::Lease
+            | Timer::Sync
+            | Timer::Step
+            | Timer::Ping => true,
+        }
+    }
+
+    /// Arms a timer, if it is needed, or disarms it.
     fn set(&mut self, waits: bool, arming: &Arming)
         ensures { self.new ≡ armed_as waits arming.now self.old }
     {
         match arming {
             Arming::Arm { kind, end } => {
-                if is_needed(waits, *kind) {
+                if self.is_needed(waits, *kind) {
                     self.ends[index_of(*kind)] = Some(*end);
                 }
             }
@@ -135,7 +136,7 @@ impl Timers {
         }
     }
 
-    /// Does what a plan does with timers, in order. The one that proposes is armed only where a command waits.
+    /// Does what a plan does with timers, in order. `waits` says whether a command waits.
     #[tactic(auto, using(crate::proofs::Setting::set_next, crate::proofs::Setting::set_end))]
     pub fn set_all(&mut self, waits: bool, armings: &[Arming])
         ensures { self.new ≡ all_armed waits armings.now self.old }

@@ -16,7 +16,8 @@ pub enum Sent {
 /// What is done with a timer.
 #[derive(Clone, Copy, Debug, PartialEq, Eq)]
 pub enum Arming {
-    /// It comes at the moment `end`, whenever it was to come before.
+    /// It comes at the moment `end`, whenever it was to come before. `Propose` doesn't if no command waits, and
+    /// `LeaseAck` keeps the end that it has.
     Arm { kind: Timer, end: Moment },
     /// It doesn't come.
     Disarm { kind: Timer },

@@ -1,6 +1,6 @@
 -- What a role's plan does to an event under way, and the act that it names.
 use Rattle.std.specs.List.{AllByRecursion}
-use Rattle.std.specs.Prelude.{◌≡◌, ℕ, Bool, true, List, Option, Some, None, Result, Ok, Err, if◌then◌else◌, [], ◌∷◌, slice_set}
+use Rattle.std.specs.Prelude.{◌≡◌, ℕ, Bool, true, not, List, Option, Some, None, Result, Ok, Err, if◌then◌else◌, [], ◌∷◌, slice_set}
 use Rattle.mon_msg.specs.Protocol.Changes.{Change, spelled}
 use Rattle.mon_msg.specs.Protocol.Collecting.{reign}
 use Rattle.mon_msg.specs.Protocol.Course.{Course, ◌▸◌, change_all, say, leader_is, peon_is, timers_are, forget_clients, in_phase}
@@ -9,7 +9,7 @@ use Rattle.mon_msg.specs.Protocol.Leading.{begin, has_queue}
 use Rattle.mon_msg.specs.Protocol.Phases.{phase_of, is_leading}
 use Rattle.mon_msg.specs.Protocol.Played.{Fits}
 use Rattle.mon_msg.specs.Protocol.Synchronizing.{full_sync, recent_sync}
-use Rattle.mon_msg.specs.Protocol.Timers.{index_of, disarmed}
+use Rattle.mon_msg.specs.Protocol.Timers.{index_of, is_armed, disarmed}
 use Rattle.mon_msg.specs.declared.paxos.Leader.{Leader}
 use Rattle.mon_msg.specs.declared.paxos.LeaderStage.TheVariants as stage
 use Rattle.mon_msg.specs.declared.paxos.LeaderStage.{LeaderStage}
@@ -39,13 +39,15 @@ abbrev pub sending : List Sent → Course → Course
 sending [] x = x
 sending (m ∷ ms) x = say (m ∷ ms) x
 
--- whether a timer has anything to come for: the one that proposes has where a command waits
-abbrev pub is_needed : (waits : Bool) → Timer → Bool
-is_needed waits timer.Propose = waits
-is_needed waits t = true
+-- Whether arming sets a timer: the one that proposes if a command waits, and the one that awaits acknowledgements of a
+-- lease if it isn't armed, so that it keeps its end.
+abbrev pub is_needed : (waits : Bool) → Timer → List (Option ℕ) → Bool
+is_needed waits timer.Propose timers = waits
+is_needed waits timer.LeaseAck timers = not (is_armed timer.LeaseAck timers)
+is_needed waits t timers = true
 
 abbrev pub armed_as : (waits : Bool) → Arming → List (Option ℕ) → List (Option ℕ)
-armed_as waits (arming.Arm t end) timers = if is_needed waits t then slice_set timers (index_of t) (Some end) else timers
+armed_as waits (arming.Arm t end) timers = if is_needed waits t timers then slice_set timers (index_of t) (Some end) else timers
 armed_as waits (arming.Disarm t) timers = disarmed t timers
 
 abbrev pub all_armed : (waits : Bool) → List Arming → List (Option ℕ) → List (Option ℕ)

@@ -18,8 +18,8 @@ pub(crate) fn one_timer(alloc: Global, timer: Arming) -> Result<Items<Arming>, O
     Ok(timers)
 }
 
-/// Those of a leader that has given a lease: to members, or to itself alone. That it proposes is wanted where a command
-/// waits.
+/// Those of a leader that has given a lease: to members, or to itself alone. It proposes only if a command waits, and
+/// `LeaseAck` keeps the end that it has.
 pub(crate) fn lease_timers(
     alloc: Global,
     alone: bool,

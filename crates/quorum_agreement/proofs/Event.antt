@@ -74,7 +74,7 @@ module _ (ms : Monitors) (w : World) (asked : List Asked) (J : InvWith ms w aske
       (let le = h.within in omega (arith, last), subst (λ (c : ℕ). Keeps w.log c (readings_of m)) (sym last) (monitor_keeps w.log O.short O.values V.last m h))
 
   makes : Makes me d.by.at J.g Known (readings_of m)
-  makes u a s c y k e = record { before = (readings_of m).last; next = refl; within = (keeps u).0; over = readings_of m; keeps = (keeps u).1; last = refl; rank = a; session = s; command = c; of = J.asks a s c k; made = e }
+  makes = ((m, refl), λ u a s c y k e. record { before = (readings_of m).last; next = refl; within = (keeps u).0; over = readings_of m; keeps = (keeps u).1; last = refl; rank = a; session = s; command = c; of = J.asks a s c k; made = e })
 
   pub good : Good me J.g Known d.y
   good = good_with w.store w.state w.transactions w.messages w.active asked me J d.by.at d.by.state d.by.came d.by.on d.by.fits d.by.holds (d.by.fine (shares w.store w.state w.transactions w.messages w.active asked me J d.by.at)) d.y d.is

@@ -3,11 +3,12 @@ use Rattle.log_model.specs.LogOfValues.{AllValues}
 use Rattle.mon_kv.specs.Readers.{is_marked}
 use Rattle.mon_msg.specs.Fold.{entry}
 use Rattle.quorum_agreement.proofs.Invariant.{EnvelopeTells}
-use Rattle.quorum_agreement.proofs.Result.{OneLog, agree, copying as copies, entries_chosen, lone_log, several_log, tells}
+use Rattle.quorum_agreement.proofs.Result.{OneLog, agree, copying as copies, entries_chosen, lone_log, marked_if_full, several_log, tells}
 use Rattle.quorum_agreement.proofs.Runs.{lone_grow, lone_run, several_grow, several_run}
-use Rattle.quorum_agreement.specs.Copying.{IsCopying}
+use Rattle.quorum_agreement.specs.Copying.{IsCopying, MarkedIfFull}
 use Rattle.quorum_agreement.specs.Growing.{GrowsBy}
 use Rattle.quorum_agreement.specs.Telling.{TellsLog}
+use Rattle.quorum_laws.proofs.Events.{all_runs}
 use Rattle.quorum_laws.proofs.Reading.{of_all}
 use Rattle.quorum_laws.specs.Values.{IsChosen}
 use Rattle.quorum_model.specs.Agree.{Agree}
@@ -48,4 +49,7 @@ pub told : (ms : Monitors) (events : List Event) → AllFit ms.count events → 
 told ms events F e c = let L = one_log ms events F in tells (run ms events).log e.message.body (of_all (EnvelopeTells (run ms events).log) (run ms events).messages L.sent e c)
 
 pub copying : (ms : Monitors) (events : List Event) → AllFit ms.count events → (i : ℕ) → i < ms.count → is_marked ((run ms events).store i) ≡ true → IsCopying (run ms events).log ((run ms events).store i) ((run ms events).state i)
-copying ms events F i lt t = copies ms (run ms events) (one_log ms events F) i lt t
+copying ms events F i lt t = copies ms (run ms events) (one_log ms events F) (all_runs ms events F) i lt t
+
+pub full : (ms : Monitors) (events : List Event) → AllFit ms.count events → (i : ℕ) → MarkedIfFull ((run ms events).store i) ((run ms events).state i)
+full ms events F i = marked_if_full ms (run ms events) (all_runs ms events F) i

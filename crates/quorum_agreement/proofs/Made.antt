@@ -1,6 +1,6 @@
 -- Accepted values are made over the log, of commands that clients asked; so the log is one of values.
 use Rattle.log_copies.proofs.Growing as growing
-use Rattle.log_model.proofs.Committed.{value_told}
+use Rattle.log_model.proofs.Committed.{texts, value_told}
 use Rattle.log_model.proofs.Logs.{Fronts, entry_push, entry_stays, fold_stays, fronts_push, incrementals_stay}
 use Rattle.log_model.proofs.Older.{older_itself}
 use Rattle.log_model.proofs.Lists.{length_push}
@@ -68,7 +68,7 @@ made_asked n asked more log v x still M = record {
 }
 
 pub version_asked : (n : ℕ) (asked more : List Asked) (log : List (List ℕ)) (v : ℕ) → ((a : Asked) → Contains asked a → Contains more a) → IsAsked n asked log v → IsAsked n more log v
-version_asked n asked more log v still A = record { by = A.by; was_asked = still A.by A.was_asked; rank = A.rank; command = A.command; is = A.is; form = A.form; ops = A.ops; made = A.made; spells = A.spells }
+version_asked n asked more log v still A = record { by = A.by; was_asked = still A.by A.was_asked; rank = A.rank; command = A.command; is = A.is; form = A.form; ops = A.ops; made = A.made; has_text = A.has_text; spells = A.spells }
 
 -- ---- the log grows
 
@@ -105,6 +105,7 @@ module _ {log more : List (List ℕ)} (F : Fronts log more) where
     form = A.form;
     ops = A.ops;
     made = ap (λ (w : Readings). value w A.command A.by.rank) view ∙ A.made;
+    has_text = A.has_text;
     spells = entry_stays F (suc v) (omega arith) ∙ A.spells;
   }
     where
@@ -142,6 +143,7 @@ module _ (n : ℕ) (few : n ≤ 15) (asked : List Asked) (log : List (List ℕ))
     form = M.of.form;
     ops = x;
     made = ap (λ (r : ℕ). value (view_at more (length log)) M.command r) M.of.at ∙ ap (λ (w : Readings). value w M.command M.rank) view ∙ value_told log (omega arith) all M.over keeps (M.last ∙ whole) M.command M.rank ∙ M.made;
+    has_text = texts log room all M.over keeps (M.last ∙ whole) x is_value;
     spells = entry_push log (text x);
   }
     where

@@ -11,6 +11,7 @@ use Rattle.mon_kv.specs.Readers.{is_marked}
 use Rattle.mon_msg.specs.Fold.{entry, fold}
 use Rattle.mon_msg.specs.Protocol.Readings.{Readings, readings_of}
 use Rattle.mon_msg.specs.Protocol.State.{State}
+use Rattle.mon_msg.specs.declared.synchronisation.Requester.{Requester}
 use Rattle.mon_msg.specs.declared.synchronisation.SyncStage.TheVariants as sync
 use Rattle.mon_msg.specs.declared.synchronisation.SyncStage.{SyncStage}
 use Rattle.mon_tx.specs.Map.{Store}
@@ -19,20 +20,25 @@ use Rattle.mon_tx.specs.declared.op.Op.{Op}
 use Rattle.mon_wire.specs.declared.body.Body.TheVariants as body
 use Rattle.mon_wire.specs.declared.body.Body.{Body}
 use Rattle.mon_wire.specs.declared.parts.Place.{Place as ChunkPlace}
+use Rattle.mon_wire.specs.declared.phase.Phase.TheVariants as phase
 use Rattle.quorum_agreement.proofs.Chosen.{Chosen}
 use Rattle.quorum_agreement.proofs.Invariant.{EnvelopeTells, LogHolds, OfLog, remembers}
 use Rattle.quorum_agreement.proofs.LoneWorlds.{LoneHolds}
 use Rattle.quorum_agreement.proofs.Made.{AllAsked}
 use Rattle.quorum_agreement.proofs.Step.{copy_marked}
-use Rattle.quorum_agreement.specs.Copying.{HasCopied, IsCopying}
+use Rattle.quorum_agreement.specs.Copying.{HasCopied, IsCopying, MarkedIfFull}
 use Rattle.quorum_agreement.specs.Telling.{AreItsEntries, AreItsValues, TellsLog}
+use Rattle.quorum_history.proofs.History.{Ghost}
+use Rattle.quorum_history.proofs.Holds.{InPhase, RequestsIn, StageHolds, core_of}
 use Rattle.quorum_laws.proofs.Invariant.{InvOf}
+use Rattle.quorum_laws.proofs.Reading.{state_holds}
 use Rattle.quorum_laws.specs.Values.{IsChosen}
 use Rattle.quorum_model.specs.Agree as agreed
 use Rattle.quorum_model.specs.Agree.{Agree}
 use Rattle.quorum_model.specs.Monitors.{Monitors}
 use Rattle.quorum_model.specs.World.{World}
-use Rattle.std.proofs.Common.{List, None, Option, Some, [], ap, arith, inl, inr, length, subst, suc, sym, true, false, zero, ℕ, ◌<◌, ◌^◌, ◌∙◌, ◌∷◌, ◌≡◌, ◌≤◌}
+use Rattle.quorum_walk.proofs.Sparing.{Own, own_of}
+use Rattle.std.proofs.Common.{Bool, List, None, Option, Some, [], ap, arith, inl, inr, length, refl, subst, suc, sym, true, false, zero, ℕ, ◌<◌, ◌^◌, ◌∙◌, ◌∷◌, ◌≡◌, ◌≤◌}
 use Rattle.std.specs.List.{AllByRecursion}
 
 -- of one monitor or of several
@@ -65,6 +71,26 @@ pub there_marked : (m : Store) → is_marked m ≡ true → (readings_of m).mark
 unfolding readings_of
 there_marked m t = t
 
+marked_is : (m : Store) → (readings_of m).marked ≡ is_marked m
+unfolding readings_of
+marked_is m = refl
+
+-- ---- what a requester has
+
+module _ (ms : Monitors) (w : World) (I : InvOf ms w) where
+  abbrev pub Requesting : (i : ℕ) → State → Type 0
+  Requesting i s = RequestsIn I.g (core_of (own_of (readings_of (w.store i))) s)
+
+  pub requesting : (i : ℕ) (s : State) → w.state i ≡ Some s → s.phase ≡ phase.Synchronizing → Requesting i s
+  requesting i s up is = subst (InPhase ms.count I.g i (core_of (own_of (readings_of (w.store i))) s)) is (state_holds ms w I i s up)
+
+  pub marked_if_full : (i : ℕ) → MarkedIfFull (w.store i) (w.state i)
+  marked_if_full i = by (w.state i) refl
+    where
+      by : (o : Option State) → w.state i ≡ o → MarkedIfFull (w.store i) o
+      by None up = tt
+      by (Some s) up = λ is. (requesting i s up is).0 ∙ marked_is (w.store i)
+
 module _ (ms : Monitors) (w : World) (L : OneLog ms w) where
   on_log : (m : Store) → OnLog w.log m → agreed.Agrees w.log m
   on_log m V =
@@ -82,22 +108,38 @@ module _ (ms : Monitors) (w : World) (L : OneLog ms w) where
       by i unmarked (inl V) = on_log (w.store i) V
       by i unmarked (inr T) = absurd (unmarked (marked_there (w.store i) (copy_marked w.log (w.store i) (remembers i (w.state i)) T)))
 
-  has_copied : (before : Readings) (floor : ℕ) (m : Store) (z : SyncStage) (start : ℕ) (p : ChunkPlace) → InStage w.log before floor m z start p → HasCopied w.log m z start p
-  has_copied before floor m sync.Cookie start p h = h
-  has_copied before floor m sync.Chunks start p h = (h.within, h.copy)
-  has_copied before floor m (sync.Replay next end) start p h = record { done = h.done; is = h.is; within = h.within; copy = h.copy }
+  -- the floor that its store tells is what it reaches
+  has_copied : (g : Ghost) (last reached provider : ℕ) (before : Readings) (floor : ℕ) (m : Store) (z : SyncStage) (start : ℕ) (p : ChunkPlace)
+      → StageHolds g last reached provider true start p.version z → InStage w.log before floor m z start p → HasCopied w.log m reached z start p
+  has_copied g last reached provider before floor m sync.Cookie start p R h = h
+  has_copied g last reached provider before floor m sync.Chunks start p R h = ((R.2 refl).0, h.within, h.copy)
+  has_copied g last reached provider before floor m (sync.Replay next end) start p R h = record {
+    done = h.done;
+    is = h.is;
+    above = (let low = R.1 in let high = R.2 in let is = h.is in omega arith);
+    within = h.within;
+    copy = h.copy;
+  }
 
-  pub copying : (i : ℕ) → i < ms.count → is_marked (w.store i) ≡ true → IsCopying w.log (w.store i) (w.state i)
-  copying i lt t = by (w.state i) (L.stores i lt)
-    where
-      up : (s : State) → (T : TakesCopy w.log (w.store i) s) → Marked w.log T.before T.floor (w.store i) s → IsCopying w.log (w.store i) (Some s)
-      up s T (inl U) = inl (record { synchronizes = U.in_phase; full = U.full; copy = has_copied T.before T.floor (w.store i) s.requester.stage s.requester.start s.requester.place U.stage })
-      up s T (inr W) = inr W.in_phase
+  module _ (I : InvOf ms w) where
+    pub copying : (i : ℕ) → i < ms.count → is_marked (w.store i) ≡ true → IsCopying w.log (w.store i) (w.state i)
+    copying i lt t = by (w.state i) refl (L.stores i lt)
+      where
+        up : (s : State) → w.state i ≡ Some s → (T : TakesCopy w.log (w.store i) s) → Marked w.log T.before T.floor (w.store i) s → IsCopying w.log (w.store i) (Some s)
+        up s is T (inl U) =
+            let m : Store = w.store i in
+            let own : Own = own_of (readings_of m) in
+            let q : Requester = s.requester in
+            let stage : StageHolds I.g own.last own.floor q.provider q.full q.start q.place.version q.stage = (requesting ms w I i s is U.in_phase).1 in
+            let full : StageHolds I.g own.last own.floor q.provider true q.start q.place.version q.stage =
+            subst (λ (b : Bool). StageHolds I.g own.last own.floor q.provider b q.start q.place.version q.stage) U.full stage in
+            inl (record { synchronizes = U.in_phase; full = U.full; copy = has_copied I.g own.last own.floor q.provider T.before T.floor m q.stage q.start q.place full U.stage })
+        up s is T (inr W) = inr W.in_phase
 
-      by : (o : Option State) → Agrees w.log (w.store i) (remembers i o) → IsCopying w.log (w.store i) o
-      by None h = tt
-      by (Some s) (inl V) = let g : true ≡ false = sym (there_marked (w.store i) t) ∙ V.unmarked in absurd cc
-      by (Some s) (inr T) = up s T T.marked
+        by : (o : Option State) → w.state i ≡ o → Agrees w.log (w.store i) (remembers i o) → IsCopying w.log (w.store i) o
+        by None is h = tt
+        by (Some s) is (inl V) = let g : true ≡ false = sym (there_marked (w.store i) t) ∙ V.unmarked in absurd cc
+        by (Some s) is (inr T) = up s is T T.marked
 
 -- ---- what they tell
 

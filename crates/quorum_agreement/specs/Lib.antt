@@ -1,3 +1,4 @@
 pub mod Copying
 pub mod Growing
+pub mod Serving
 pub mod Telling

@@ -10,8 +10,9 @@ ghost use Rattle.quorum_model.specs.Monitors.{Monitors};
 ghost use Rattle.quorum_model.specs.Runs.{run};
 ghost use Rattle.quorum_model.specs.Safe.{Safe};
 ghost use Rattle.quorum_model.specs.World.{Envelope, Event};
-ghost use Rattle.quorum_agreement.specs.Copying.{IsCopying};
+ghost use Rattle.quorum_agreement.specs.Copying.{IsCopying, MarkedIfFull};
 ghost use Rattle.quorum_agreement.specs.Growing.{GrowsBy};
+ghost use Rattle.quorum_agreement.specs.Serving.{Fenced, KeptAndShown};
 ghost use Rattle.quorum_agreement.specs.Telling.{TellsLog};
 
 /// No two monitors disagree on what is committed, in no run of any monitors under any rule, wherever monitors crash. The committed
@@ -28,12 +29,29 @@ pub fn law_agree()
 {}
 
 /// All that monitors tell each other of what is committed is the one log's, and so is what a monitor under a full synchronisation holds:
-/// told values are those of its versions, told entries are what its versions leave, and the copy is one of the log.
+/// told values are those of its versions, told entries are what its versions leave, and the copy is one of the log, from the floor on. A
+/// monitor that takes a copy is marked if and only if the copy is a full one, so a full requester is marked.
 pub fn law_marked()
     ensures told { (ms : Monitors) (events : List Event) → AllFit ms.count events → (e : Envelope) → Contains (run ms events).messages e
         → TellsLog (run ms events).log e.message.body }
     ensures copied { (ms : Monitors) (events : List Event) → AllFit ms.count events → (i : ℕ) → i < ms.count
         → is_marked ((run ms events).store i) ≡ true → IsCopying (run ms events).log ((run ms events).store i) ((run ms events).state i) }
+    ensures full { (ms : Monitors) (events : List Event) → AllFit ms.count events → (i : ℕ)
+        → MarkedIfFull ((run ms events).store i) ((run ms events).state i) }
+{}
+
+/// What was acknowledged is kept, in every run of any monitors: its version is in the log and puts what was acknowledged, every later leader
+/// has it, no version is acknowledged twice, and each Done answers a command that its session asked. What is shown is the one log's up to
+/// the monitor's last version, and was asked for.
+pub fn law_kept()
+    ensures { (ms : Monitors) (events : List Event) → AllFit ms.count events → KeptAndShown ms.count (run ms events) }
+{}
+
+/// What fences a read, in every run of any monitors. No epoch has two active leaders. A lease is given by a leader that has its whole quorum in
+/// its epoch, and a peon that has one has committed all that it ever accepted. So what is shown or told after an acknowledgement, in its
+/// epoch, has that version.
+pub fn law_fence()
+    ensures { (ms : Monitors) (events : List Event) → AllFit ms.count events → Fenced ms.count (run ms events) }
 {}
 
 /// Every run of any monitors under any rule is safe, whatever is lost, repeated or late and wherever monitors crash: no two monitors

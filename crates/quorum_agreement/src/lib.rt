@@ -3,4 +3,4 @@
 
 mod laws;
 
-pub use laws::{law_agree, law_marked, law_safe};
+pub use laws::{law_agree, law_fence, law_kept, law_marked, law_safe};

@@ -154,7 +154,7 @@ module _ (ms : Monitors) (w : World) (I : InvOf ms w) (p : Plain) (d : Does ms w
 
   pub ended : Ended (readings_of m) d.y
   ended =
-      let F : Fine (readings_of m) (at_rest (readings_of m) d.state) = record { shape = tt; tells = refl; fits = tt; readings = (I.mine d.rank).fine; state = state_fits; sends = tt } in
+      let F : Fine (readings_of m) (at_rest (readings_of m) d.state) = record { shape = tt; stored = (m, refl); tells = refl; fits = tt; readings = (I.mine d.rank).fine; state = state_fits; sends = tt } in
       (subst (Then (Ended (readings_of m))) d.is (react_fine me d.at (readings_of m) made (shared_entries m) shares (readings_of m) d.state d.came (fits d.came d.brought) F)).holds
 
   -- what its store tells then

@@ -1,7 +1,7 @@
 -- What an event leaves of all requests, and of the log.
 use Rattle.log_copies.proofs.Growing as growing
 use Rattle.log_copies.proofs.Telling.{monitor_keeps, read_last, record_there}
-use Rattle.log_model.proofs.Committed.{value_told}
+use Rattle.log_model.proofs.Committed.{texts, value_told}
 use Rattle.log_model.proofs.Lists.{length_push}
 use Rattle.log_model.proofs.Logs.{Fronts, entry_push, entry_stays, fold_stays, fronts_itself}
 use Rattle.log_model.proofs.RowReadings.{read_some}
@@ -74,8 +74,8 @@ module _ (n : ℕ) (asked more : List Asked) (still : StillAt asked more) (log n
   )
 
   -- and the new one is of that which made it
-  new_logged : (k : ℕ) → after k ≡ Begun (suc (length log)) (entry newer (suc (length log))) → MadeAt n more log k (suc (length log)) (entry newer (suc (length log))) → LoggedAt n more newer after (length log)
-  new_logged k e a = record { k = k; place = e; by = a.of.by; at = a.of.at; made = made }
+  new_logged : n ≤ 15 → length log < 2 ^ 62 → (k : ℕ) → after k ≡ Begun (suc (length log)) (entry newer (suc (length log))) → MadeAt n more log k (suc (length log)) (entry newer (suc (length log))) → LoggedAt n more newer after (length log)
+  new_logged few room k e a = record { k = k; place = e; by = a.of.by; at = a.of.at; made = made }
     where
       over : MadeOver n (a.of.by ∷ []) log (suc (length log)) a.x
       over = let O = a.of in O.made
@@ -97,22 +97,29 @@ module _ (n : ℕ) (asked more : List Asked) (still : StillAt asked more) (log n
         ops = a.x;
         made = ap (λ (r : ℕ). value (view_at newer (length log)) over.command r) over.of.at ∙ ap (λ (w : Readings). value w over.command over.rank) view
             ∙ value_told log short values over.over (subst (λ (c : ℕ). Keeps log c over.over) whole over.keeps) (over.last ∙ whole) over.command over.rank ∙ over.made;
+        has_text = texts log room values over.over (subst (λ (c : ℕ). Keeps log c over.over) whole over.keeps) (over.last ∙ whole) a.x (is_value n few (a.of.by ∷ []) log room values a.x over);
         spells = a.spells;
       }
 
   -- all of them are, if the new one is
-  pub all_logged : ((v : ℕ) → v < length log → LoggedAt n asked log places v) → ((bytes : List ℕ) → newer ≡ log ++ bytes ∷ [] → (k : ℕ) × (after k ≡ Begun (suc (length log)) (entry newer (suc (length log)))))
+  pub all_logged : n ≤ 15 → length newer ≤ 2 ^ 62 → ((v : ℕ) → v < length log → LoggedAt n asked log places v) → ((bytes : List ℕ) → newer ≡ log ++ bytes ∷ [] → (k : ℕ) × (after k ≡ Begun (suc (length log)) (entry newer (suc (length log)))))
       → ((k v : ℕ) (bytes : List ℕ) → after k ≡ Begun v bytes → MadeAt n more log k v bytes) → (v : ℕ) → v < length newer → LoggedAt n more newer after v
-  all_logged old new made v lt = by grows
+  all_logged few fits old new made v lt = by grows
     where
       by : GrowsByOne log newer → LoggedAt n more newer after v
       by (inl e) = let low : v < length log = subst (λ (l : List (List ℕ)). v < length l) e lt in (logged_lasts v low (old v low)).1
       by (inr x) = last (cases_order v (length log))
         where
+          long : length newer ≡ suc (length log)
+          long = ap (λ (z : List (List ℕ)). length z) x.1 ∙ length_push log x.0
+
+          room : length log < 2 ^ 62
+          room = omega (arith, fits, long)
+
           last : (v ≡ length log) ⊎ ((v < length log) ⊎ (length log < v)) → LoggedAt n more newer after v
-          last (inl e) = let k = new x.0 x.1 in subst (LoggedAt n more newer after) (sym e) (new_logged k.0 k.1 (made k.0 (suc (length log)) (entry newer (suc (length log))) k.1))
+          last (inl e) = let k = new x.0 x.1 in subst (LoggedAt n more newer after) (sym e) (new_logged few room k.0 k.1 (made k.0 (suc (length log)) (entry newer (suc (length log))) k.1))
           last (inr (inl low)) = (logged_lasts v low (old v low)).1
-          last (inr (inr high)) = let l = ap (λ (z : List (List ℕ)). length z) x.1 ∙ length_push log x.0 in absurd (omega arith)
+          last (inr (inr high)) = absurd (omega (arith, long))
 
 -- ---- monitors that did nothing, and what is sent
 
@@ -351,5 +358,5 @@ module _ (ms : Monitors) (w : World) (p : Plain) (I : InvOf ms w) (L : OneLog ms
       forwards = all_append (Forwards n asked E.after stores states) w.messages (messages_of d.y.out) (all_map _ (Forwards n asked E.after stores states) old_forward w.messages (all_both (EnvelopeHolds n I.g) (Forwards n w.asked places w.store w.state) w.messages I.sent T.forwards)) (sent_forward d.y.out E.sends);
       begun = λ k v bytes e. made_still n asked asked (λ j a q. q) w.log newer (grown_fronts w.log newer grows) k v bytes (made_over_old k v bytes e);
       accepted = accepts;
-      logged = all_logged n w.asked asked still w.log newer L.short L.values grows places E.after E.from i E.at E.moves T.logged new_request made_over_old;
+      logged = all_logged n w.asked asked still w.log newer L.short L.values grows places E.after E.from i E.at E.moves ms.most short T.logged new_request made_over_old;
     }

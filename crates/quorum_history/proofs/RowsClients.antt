@@ -41,7 +41,7 @@ use Rattle.quorum_history.proofs.History.{Asks, Ghost, Handed, asking}
 use Rattle.quorum_history.proofs.Holds.{At, FollowsIn, Good, HasSource, InPhase, IsHanded, SentHolds, Waits, core}
 use Rattle.quorum_history.proofs.Phases.{active_is, any_leads, as_known, in_known, peon_is_peon, queue_in}
 use Rattle.quorum_history.proofs.Steps.{handed, handed_below, hands_on, says, tells, weaken}
-use Rattle.quorum_walk.proofs.FineCourses.{Made, OriginFine, RequestFine, WaitingFine}
+use Rattle.quorum_walk.proofs.FineCourses.{IsStored, Made, OriginFine, RequestFine, WaitingFine}
 use Rattle.quorum_walk.proofs.Lists.{all_append, all_filter, all_map, all_of}
 use Rattle.quorum_walk.proofs.Walk.{Then, and_three, by_test, done, where_fits}
 use Rattle.std.proofs.Common.{Err, List, Ok, Result, Some, [], ap, arith, eqb, false, inl, leb, length, ltb, map, not, refl, subst, suc, sym, true, ℕ, ◌&&◌, ◌++◌, ◌||◌, ◌∷◌, ◌≡◌, ◌≤◌}
@@ -77,9 +77,9 @@ module _ (me : Me) (now : ℕ) (g : Ghost) (Known : ℕ → List Op → Type 0) 
   asked_below (origin.Session s) k = let a = me.member.in_map in let b = me.member.most in omega arith
   asked_below (origin.Forwarded f seq) k = k
 
-  -- the value that a command makes over a store, if it was asked, is known for the next version
+  -- a store tells this, and the value that a command makes over it, if it was asked, is known for the next version
   abbrev pub Makes : Readings → Type 0
-  Makes w = w.marked ≡ false → (a : ℕ) (s : Session) (c : Command) (y : List Op) → Asks g a s c → value w c a ≡ Ok y → Known (suc w.last) y
+  Makes w = IsStored w × (w.marked ≡ false → (a : ℕ) (s : Session) (c : Command) (y : List Op) → Asks g a s c → value w c a ≡ Ok y → Known (suc w.last) y)
 
   source_asked : (x : Course) (e : ℕ) (c : Command) (o : Origin) → (A : Good me g Known x) → HasSource A.h i e c o → (s : Session) × Asks g (asked_of me o) s c
   source_asked x e c (origin.Session s) A k = (s, A.asks (asking i s c) k)
@@ -91,7 +91,7 @@ module _ (me : Me) (now : ℕ) (g : Ghost) (Known : ℕ → List Op → Type 0) 
     where
       by : IsShort (suc (service_last x.readings (service_of c))) → (r : Result (List Op) CommandRefused) → value x.readings c (asked_of me o) ≡ r → Then (Good me g Known) (begin_made me now o r x)
       by short (Ok y) e = let B = in_known me g Known x phase.Active lead A in let u = B.fact.0.reigns.unmarked in
-          begin_new_holds me now g Known y (Some o) x (made x.readings c (asked_of me o) y form (asked_below o rank) last short e) (makes u (asked_of me o) asked.0 c y asked.1 e) u B
+          begin_new_holds me now g Known y (Some o) x (made x.readings makes.0 c (asked_of me o) y form (asked_below o rank) last short e) (makes.1 u (asked_of me o) asked.0 c y asked.1 e) u B
       by short (Err e) q = done (answered_one _ o (refusal e) x A)
 
   queued_up : (c : Command) (o : Origin) (x : Course) → is_leading x.state.phase ≡ true → HasSource g i (epoch_of x.readings) c o → Good me g Known x → Good me g Known (queue_up c o x)

@@ -71,7 +71,7 @@ module _ (store : ℕ → Store) (state : ℕ → Option State) (txs : ℕ → L
   shares = sharing m (I.mine i).fine.records
 
   fine_at_first : (s : State) → StateFits s → Fine (readings_of m) (at_rest (readings_of m) s)
-  fine_at_first s k = record { shape = tt; tells = refl; fits = tt; readings = (I.mine i).fine; state = k; sends = tt }
+  fine_at_first s k = record { shape = tt; stored = (m, refl); tells = refl; fits = tt; readings = (I.mine i).fine; state = k; sends = tt }
 
   -- this is known of what was accepted, and of what a command that was asked makes
   good_at_first : (Known : ℕ → List Op → Type 0) → ((j v p : ℕ) (x : List Op) → Accepted I.g j v p x → Known v x) → (s : State) → OnState n I.g i (readings_of m) (Some s) → Good me I.g Known (at_rest (readings_of m) s)
@@ -85,7 +85,7 @@ module _ (store : ℕ → Store) (state : ℕ → Option State) (txs : ℕ → L
         (subst (Then (Good me I.g Known)) is (react_holds me at I.g Known made (readings_of m) (shared_entries m) shares (readings_of m) s came c d (fine_at_first s z) makes (good_at_first Known known s k))).holds
 
     good : Good me I.g (λ v y. Unit {0}) x
-    good = good_with (λ v y. Unit {0}) (λ j v p y a. tt) (λ u a s c y k e. tt)
+    good = good_with (λ v y. Unit {0}) (λ j v p y a. tt) ((m, refl), λ u a s c y k e. tt)
 
     pub ended : Ended (readings_of m) x
     ended = (subst (Then (Ended (readings_of m))) is (react_fine me at (readings_of m) made (shared_entries m) shares (readings_of m) s came d (fine_at_first s z))).holds

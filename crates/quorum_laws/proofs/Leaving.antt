@@ -200,7 +200,7 @@ module _ (me : Me) (now : ℕ) (g : Ghost) (made : Made) (w : Readings) (shared 
       ]
 
   by_history : (came : Input) → InputHolds me history came → ComesFine me now w made shared sharing came → Then (IsLater e) (react me shared now w s came)
-  by_history came V F = then_so (Good me history Anything) (IsLater e) is_later (react me shared now w s came) (react_holds me now history Anything made w shared sharing w s came V F fine (λ u a z c y l q. tt) at_first)
+  by_history came V F = then_so (Good me history Anything) (IsLater e) is_later (react me shared now w s came) (react_holds me now history Anything made w shared sharing w s came V F fine (fine.stored, λ u a z c y l q. tt) at_first)
 
   -- what is dropped leaves it outside
   dropped : Then (IsLater e) (Ok (at_rest w s))

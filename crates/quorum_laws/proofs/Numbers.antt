@@ -119,7 +119,7 @@ module _ (ms : Monitors) (w : World) (I : InvOf ms w) where
   -- ---- values
 
   some_value : (x : List Op) → Val x → IsSomeValue x
-  some_value x V = (V.over, V.value)
+  some_value x V = record { over = V.over; command = V.command; form = V.form; asked = V.asked; rank = V.rank; made = V.made }
 
   some_values : (xs : List (List Op)) → AllByRecursion Val xs → AllByRecursion IsSomeValue xs
   some_values xs V = all_map Val IsSomeValue some_value xs V

@@ -1,9 +1,9 @@
 -- What the log's laws tell of values: each that a command makes goes round, and so does what a store shares.
 use Rattle.log_model.proofs.AnyValue.{value_reads, value_records, value_spares}
-use Rattle.log_model.proofs.Older.{older_itself}
 use Rattle.log_model.proofs.SharedEntries.{shared_records, shared_spares}
 use Rattle.mon_msg.specs.Protocol.Changes.{Copy, ops_of}
-use Rattle.mon_msg.specs.Protocol.Readings.{cell_after, readings_of, shared_entries}
+use Rattle.mon_msg.specs.Protocol.Readings.{Readings, cell_after, readings_of, shared_entries}
+use Rattle.mon_msg.specs.Protocol.Value.{value}
 use Rattle.mon_tx.specs.Decision.{Cell}
 use Rattle.mon_tx.specs.Map.{Store}
 use Rattle.mon_tx.specs.declared.key.Area.TheVariants as area
@@ -11,15 +11,19 @@ use Rattle.mon_tx.specs.declared.key.Key.TheVariants as key
 use Rattle.quorum_walk.proofs.FineCourses.{CellFine, EntryFine, Made, RecordsFine}
 use Rattle.quorum_walk.proofs.Lists.{all_both, all_map}
 use Rattle.quorum_walk.proofs.Sparing.{Copied, Spares}
-use Rattle.std.proofs.Common.{ℕ}
+use Rattle.std.proofs.Common.{ap, sym, ℕ, ◌∙◌}
 use Rattle.std.specs.List.{AllByRecursion}
 
 pub made : Made
-made w c asked x form rank last next e =
+made w S c asked x form rank last next e =
     let r = value_reads w c asked x e form rank last next in
     record {
-      over = w;
-      value = record { command = c; form = form; asked = asked; rank = rank; newer = x; made = e; spelled = older_itself x };
+      over = S.0;
+      command = c;
+      form = form;
+      asked = asked;
+      rank = rank;
+      made = ap (λ (v : Readings). value v c asked) (sym S.1) ∙ e;
       spares = value_spares w c asked x e;
       reads = r.1;
       short = r.0;

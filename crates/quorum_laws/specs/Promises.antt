@@ -1,8 +1,10 @@
 -- What monitors promised, and what a promise covers.
-use Rattle.log_model.specs.LogOfValues.{IsValue}
+use Rattle.log_model.specs.LogOfValues.{IsCommand}
+use Rattle.mon_bytes.specs.declared.command.Command.{Command}
 use Rattle.mon_msg.specs.Protocol.Places.{is_done}
 use Rattle.mon_msg.specs.Protocol.Readings.{Readings, epoch_of, or_zero, promise_of, readings_of}
 use Rattle.mon_msg.specs.Protocol.Records.{pending, record_at}
+use Rattle.mon_msg.specs.Protocol.Value.{value}
 use Rattle.mon_msg.specs.declared.paxos.Found.{Found}
 use Rattle.mon_tx.specs.Map.{Store, apply}
 use Rattle.mon_tx.specs.declared.op.Op.{Op}
@@ -11,7 +13,7 @@ use Rattle.mon_wire.specs.declared.body.Body.{Body}
 use Rattle.mon_wire.specs.declared.parts.Told.{Told}
 use Rattle.quorum_laws.specs.Accepting.{HasAccepted, put_alone, readings_at}
 use Rattle.quorum_model.specs.World.{Envelope, World}
-use Rattle.std.proofs.Common.{Bool, IfSome, List, Option, Some, [], false, suc, true, ℕ, ◌%◌, ◌<◌, ◌∷◌, ◌≡◌, ◌≤◌, ◌⊎◌}
+use Rattle.std.proofs.Common.{Bool, IfSome, List, Ok, Option, Some, [], false, suc, true, ℕ, ◌%◌, ◌<◌, ◌∷◌, ◌≡◌, ◌≤◌, ◌⊎◌}
 use Rattle.std.specs.FinMap.{empty}
 use Rattle.std.specs.List.{AllByRecursion, Contains}
 use Rattle.std.specs.Prelude.{if◌then◌else◌}
@@ -110,9 +112,14 @@ AnswersCover w = (e : Envelope) → Contains w.messages e → AnswerCovers w e.m
 
 -- ---- values
 
--- changes that some store makes of a command
-abbrev pub IsSomeValue : List Op → Type 0
-IsSomeValue changes = (over : Readings) × IsValue over changes
+-- the value of a command that a monitor was asked, over some store
+pub record IsSomeValue (changes : List Op) : Type 0 where
+  pub over : Store
+  pub command : Command
+  pub form : IsCommand command
+  pub asked : ℕ
+  pub rank : asked ≤ 14
+  pub made : value (readings_of over) command asked ≡ Ok changes
 
 abbrev pub CarriesValues : Body → Type 0
 CarriesValues (body.Last pn first last whole lowest values told) = AllByRecursion IsSomeValue values × IfSome told (λ t. IsSomeValue t.value)

@@ -6,6 +6,7 @@ use Rattle.mon_tx.specs.declared.op.Op.{Op}
 use Rattle.mon_tx.specs.declared.key.Area.TheVariants as area
 use Rattle.mon_tx.specs.declared.key.Key.TheVariants as key
 use Rattle.mon_tx.specs.Map.{Store}
+use Rattle.mon_tx.specs.Decode.{HasText}
 use Rattle.mon_tx.specs.Keys.{cell, number, shared}
 use Rattle.mon_tx.specs.Text.{text}
 use Rattle.mon_kv.specs.Readers.{is_marked}
@@ -35,6 +36,7 @@ pub record IsAsked (n : ℕ) (asked : List Asked) (log : List (List ℕ)) (v : �
   pub form : IsCommand command
   pub ops : List Op
   pub made : value (view_at log v) command by.rank ≡ Ok ops
+  pub has_text : HasText ops
   pub spells : entry log (suc v) ≡ text ops
 
 -- a monitor under a full synchronisation has no committed versions

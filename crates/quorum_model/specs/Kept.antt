@@ -42,9 +42,17 @@ pub record IsAnswered (w : World) (r : Replied) (v : ℕ) : Type 0 where
   pub session : asked.session ≡ r.session
   pub made : made_by asked.rank asked.request ≡ Some (acknowledged.service, acknowledged.incremental)
 
+-- each kind of reply is named, so that whoever adds one decides what is promised of it
 abbrev pub DoneIsAnswered : World → Replied → Reply → Type 0
 DoneIsAnswered w r (reply.Done v) = IsAnswered w r v
-DoneIsAnswered w r other = Unit {0}
+DoneIsAnswered w r (reply.Shown s paxos version map) = Unit {0}
+DoneIsAnswered w r (reply.Since s from told more) = Unit {0}
+DoneIsAnswered w r reply.NoSuch = Unit {0}
+DoneIsAnswered w r (reply.TooLong len most) = Unit {0}
+DoneIsAnswered w r (reply.MapFull would_be) = Unit {0}
+DoneIsAnswered w r reply.Unavailable = Unit {0}
+DoneIsAnswered w r (reply.NotReadable has lease) = Unit {0}
+DoneIsAnswered w r (reply.Busy waiting) = Unit {0}
 
 pub record Kept (n : ℕ) (w : World) : Type 0 where
   pub each : AllByRecursion (IsKept n w) w.acknowledged

@@ -13,12 +13,19 @@ pub record AreAfter (all : List (List ℕ)) (from : ℕ) (told : List (List ℕ)
   pub same : told ≡ take (length told) (drop from all)
   pub others : IsTrue more ↔ from + length told < length all
 
--- a map is that of the log up to the monitor's last version, and so are the incrementals
+-- A map is that of the log up to the monitor's last version, and so are the incrementals. Here and below each kind of reply is
+-- named, so that whoever adds one decides what is promised of it.
 abbrev pub ShowsLog : World → Replied → Reply → Type 0
 ShowsLog w r (reply.Shown s paxos version map) =
     (paxos ≡ r.last) × (map ≡ map_of_log s w.log r.last) × (version ≡ version_of_log s w.log r.last)
 ShowsLog w r (reply.Since s from told more) = AreAfter (incrementals s w.log r.last) from told more
-ShowsLog w r other = Unit {0}
+ShowsLog w r (reply.Done v) = Unit {0}
+ShowsLog w r reply.NoSuch = Unit {0}
+ShowsLog w r (reply.TooLong len most) = Unit {0}
+ShowsLog w r (reply.MapFull would_be) = Unit {0}
+ShowsLog w r reply.Unavailable = Unit {0}
+ShowsLog w r (reply.NotReadable has lease) = Unit {0}
+ShowsLog w r (reply.Busy waiting) = Unit {0}
 
 -- the session asked that of this monitor
 abbrev pub AskedFor : World → Replied → Request → Type 0
@@ -28,7 +35,13 @@ AskedFor w r what = Contains w.asked (record { rank = r.rank; session = r.sessio
 abbrev pub WasAskedFor : World → Replied → Reply → Type 0
 WasAskedFor w r (reply.Shown s paxos version map) = AskedFor w r (request.Show s) ⊎ ((v : ℕ) × AskedFor w r (request.Since s v))
 WasAskedFor w r (reply.Since s from told more) = AskedFor w r (request.Since s from)
-WasAskedFor w r other = Unit {0}
+WasAskedFor w r (reply.Done v) = Unit {0}
+WasAskedFor w r reply.NoSuch = Unit {0}
+WasAskedFor w r (reply.TooLong len most) = Unit {0}
+WasAskedFor w r (reply.MapFull would_be) = Unit {0}
+WasAskedFor w r reply.Unavailable = Unit {0}
+WasAskedFor w r (reply.NotReadable has lease) = Unit {0}
+WasAskedFor w r (reply.Busy waiting) = Unit {0}
 
 -- the monitor's last version isn't above the log's; what the reply shows is the log's up to it, and was asked for
 pub record IsShown (w : World) (r : Replied) : Type 0 where
@@ -44,7 +57,13 @@ Shown w = AllByRecursion (IsShown w) w.replied
 abbrev pub IsFenced : Acknowledged → Replied → Reply → Type 0
 IsFenced a r (reply.Shown s paxos version map) = a.event < r.event → a.epoch ≡ r.epoch → a.version ≤ r.last
 IsFenced a r (reply.Since s from told more) = a.event < r.event → a.epoch ≡ r.epoch → a.version ≤ r.last
-IsFenced a r other = Unit {0}
+IsFenced a r (reply.Done v) = Unit {0}
+IsFenced a r reply.NoSuch = Unit {0}
+IsFenced a r (reply.TooLong len most) = Unit {0}
+IsFenced a r (reply.MapFull would_be) = Unit {0}
+IsFenced a r reply.Unavailable = Unit {0}
+IsFenced a r (reply.NotReadable has lease) = Unit {0}
+IsFenced a r (reply.Busy waiting) = Unit {0}
 
 -- what is shown or told after an acknowledgement, in its epoch, has that version
 abbrev pub Fence : World → Type 0

@@ -36,7 +36,7 @@ use Rattle.mon_wire.specs.declared.request.Request.TheVariants as request
 use Rattle.mon_wire.specs.declared.request.Request.{Request}
 use Rattle.mon_wire.specs.declared.request.Session.{Session}
 use Rattle.quorum_walk.proofs.FineActs.{begin_fine}
-use Rattle.quorum_walk.proofs.FineCourses.{Calm, Ended, Fine, FineAt, Made, OriginFine, RequestFine, SentFine, WaitingFine, more_sent, over, state_fine, tell_fine}
+use Rattle.quorum_walk.proofs.FineCourses.{Calm, Ended, Fine, FineAt, Made, OriginFine, RequestFine, SentFine, WaitingFine, more_sent, over, state_fine, stored_now, tell_fine}
 use Rattle.quorum_walk.proofs.Lists.{all_append, all_of}
 use Rattle.quorum_walk.proofs.Walk.{Then, by_test, where_fits}
 use Rattle.std.proofs.Common.{Err, List, Ok, Result, Some, [], arith, eqb, leb, length, ltb, map, not, refl, suc, ℕ, ◌&&◌, ◌∷◌, ◌≡◌, ◌≤◌}
@@ -64,7 +64,7 @@ module _ (me : Me) (now : ℕ) (w0 : Readings) where
   propose_fine made c o x form rank A = where_fits (Ended w0) which.Version (suc (service_last x.readings (service_of c))) _ (λ short. by short (value x.readings c (asked_of me o)) refl)
     where
       by : IsShort (suc (service_last x.readings (service_of c))) → (r : Result (List Op) CommandRefused) → value x.readings c (asked_of me o) ≡ r → Then (Ended w0) (begin_made me now o r x)
-      by short (Ok y) e = begin_fine me now w0 stage.Updating y (Some o) x (made x.readings c (asked_of me o) y form (asked_fine o rank) A.readings.own.last short e) A
+      by short (Ok y) e = begin_fine me now w0 stage.Updating y (Some o) x (made x.readings (stored_now A) c (asked_of me o) y form (asked_fine o rank) A.readings.own.last short e) A
       by short (Err e) q = over w0 (answer_one_fine o (refusal e) x A)
 
   at_leader_fine : Made → (c : Command) (o : Origin) (x : Course) → IsCommand c → OriginFine o → Fine w0 x → Then (Ended w0) (at_leader me now c o x)

@@ -1,13 +1,15 @@
 -- Which values go round, that numbers fit, and that a course tells what it writes. Nothing here speaks of other monitors or of a
 -- phase.
-use Rattle.log_model.specs.LogOfValues.{IsCommand, IsValue}
+use Rattle.log_model.specs.LogOfValues.{IsCommand}
 use Rattle.mon_bytes.specs.declared.command.Command.TheVariants as command
 use Rattle.mon_bytes.specs.declared.command.Command.{Command}
 use Rattle.mon_bytes.specs.declared.entry.Entry.{Entry}
-use Rattle.mon_msg.specs.Protocol.Changes.{Boot, Change, Copy, Epoch, Last, Learn, Mark, Numbers, Promise, Record, Unmark, Vote, ops_of}
+use Rattle.mon_msg.proofs.Changed.{readings-joined}
+use Rattle.mon_msg.specs.Joined.{joined}
+use Rattle.mon_msg.specs.Protocol.Changes.{Boot, Change, Copy, Epoch, Last, Learn, Mark, Numbers, Promise, Record, Unmark, Vote, ops_of, spelled}
 use Rattle.mon_msg.specs.Protocol.Course.{Course}
 use Rattle.mon_msg.specs.Protocol.Played.{Fits, IsShort, play, played}
-use Rattle.mon_msg.specs.Protocol.Readings.{Readings, cell_after, epoch_of, epoch_or_first}
+use Rattle.mon_msg.specs.Protocol.Readings.{Readings, cell_after, epoch_of, epoch_or_first, readings_of}
 use Rattle.mon_msg.specs.Protocol.Records.{most_value, pending, transaction_in}
 use Rattle.mon_msg.specs.Protocol.Sending.{message_to}
 use Rattle.mon_msg.specs.Protocol.Services.{service_last}
@@ -23,6 +25,7 @@ use Rattle.mon_msg.specs.declared.synchronisation.SyncStage.{SyncStage}
 use Rattle.mon_msg.specs.declared.view.Me.{Me}
 use Rattle.mon_tx.specs.Decision.{Cell, decision}
 use Rattle.mon_tx.specs.Keys.{place}
+use Rattle.mon_tx.specs.Map.{Store, apply}
 use Rattle.mon_tx.specs.Text.{text}
 use Rattle.mon_tx.specs.declared.key.Area.TheVariants as area
 use Rattle.mon_tx.specs.declared.key.Key.TheVariants as key
@@ -39,10 +42,18 @@ use Rattle.quorum_walk.proofs.Walk.{Then, done}
 use Rattle.std.proofs.Common.{IfSome, List, None, Ok, Option, Some, [], ap, inl, inr, length, map, refl, subst, suc, sym, ℕ, ◌++◌, ◌∙◌, ◌∷◌, ◌≡◌, ◌≤◌, ◌⊎◌}
 use Rattle.std.specs.List.{AllByRecursion}
 
--- a value that may be proposed and learned: one of a command, over what some store tells
+-- what some store tells
+abbrev pub IsStored : Readings → Type 0
+IsStored w = (m : Store) × (w ≡ readings_of m)
+
+-- a value that may be proposed and learned: one of a command, over some store
 pub record Val (x : List Op) : Type 0 where
-  pub over : Readings
-  pub value : IsValue over x
+  pub over : Store
+  pub command : Command
+  pub form : IsCommand command
+  pub asked : ℕ
+  pub rank : asked ≤ 14
+  pub made : value (readings_of over) command asked ≡ Ok x
   pub spares : Spares x
   pub reads : transaction_in (Some (text x)) ≡ Some x
   pub short : length (text x) ≤ most_value
@@ -51,7 +62,7 @@ pub record Val (x : List Op) : Type 0 where
 
 -- every value that a command makes is such
 abbrev pub Made : Type 0
-Made = (w : Readings) (c : Command) (asked : ℕ) (x : List Op) → IsCommand c → asked ≤ 14 → IsShort w.last → IsShort (suc (service_last w (service_of c))) → value w c asked ≡ Ok x → Val x
+Made = (w : Readings) → IsStored w → (c : Command) (asked : ℕ) (x : List Op) → IsCommand c → asked ≤ 14 → IsShort w.last → IsShort (suc (service_last w (service_of c))) → value w c asked ≡ Ok x → Val x
 
 -- what it spells, if it spells a transaction, is such a value
 abbrev pub CellFine : Cell → Type 0
@@ -184,6 +195,7 @@ Shaped cs = Calm cs ⊎ (EndsInVote cs ⊎ EndsInMark cs)
 
 pub record FineAt (Shape : List Change → Type 0) (w0 w : Readings) (cs : List Change) (found : Option Found) (value : Option (List Op)) (pn : ℕ) (stage : SyncStage) (queue : List Waiting) (out : List Sent) : Type 0 where
   pub shape : Shape cs
+  pub stored : IsStored w0
   pub tells : w ≡ played cs w0
   pub fits : AllByRecursion Fit cs
   pub readings : ReadingsFine w
@@ -202,7 +214,7 @@ Ended = FineOf Shaped
 
 module _ {S : List Change → Type 0} {w0 w : Readings} {cs : List Change} {found : Option Found} {value : Option (List Op)} {pn : ℕ} {stage : SyncStage} {queue : List Waiting} {out : List Sent} where
   pub more_sent : (more : List Sent) → FineAt S w0 w cs found value pn stage queue out → AllByRecursion SentFine more → FineAt S w0 w cs found value pn stage queue (out ++ more)
-  more_sent more A k = record { shape = A.shape; tells = A.tells; fits = A.fits; readings = A.readings; state = A.state; sends = all_append SentFine out more A.sends k }
+  more_sent more A k = record { shape = A.shape; stored = A.stored; tells = A.tells; fits = A.fits; readings = A.readings; state = A.state; sends = all_append SentFine out more A.sends k }
 
   -- a message to each of some, and to one
   pub tells_fine : (me : Me) (b : Body) (tos : List ℕ) → FineAt S w0 w cs found value pn stage queue out → BodyFine b
@@ -215,19 +227,24 @@ module _ {S : List Change → Type 0} {w0 w : Readings} {cs : List Change} {foun
 
   pub state_fine : (f : Option Found) (v : Option (List Op)) (p : ℕ) (s : SyncStage) (q : List Waiting) → FineAt S w0 w cs found value pn stage queue out → StateFine f v p s q
       → FineAt S w0 w cs f v p s q out
-  state_fine f v p s q A k = record { shape = A.shape; tells = A.tells; fits = A.fits; readings = A.readings; state = k; sends = A.sends }
+  state_fine f v p s q A k = record { shape = A.shape; stored = A.stored; tells = A.tells; fits = A.fits; readings = A.readings; state = k; sends = A.sends }
 
 module _ {w0 w : Readings} {cs : List Change} {found : Option Found} {value : Option (List Op)} {pn : ℕ} {stage : SyncStage} {queue : List Waiting} {out : List Sent} where
   pub changes_fine : (more : List Change) → FineAt Calm w0 w cs found value pn stage queue out → Calm more → AllByRecursion Fit more → ReadingsFine (played more w)
       → FineAt Calm w0 (played more w) (cs ++ more) found value pn stage queue out
   changes_fine more A c f r = record {
     shape = all_append IsCalm cs more A.shape c;
+    stored = A.stored;
     tells = ap (played more) A.tells ∙ sym (played_more cs more w0);
     fits = all_append Fit cs more A.fits f;
     readings = r;
     state = A.state;
     sends = A.sends;
   }
+
+  -- what is read after the changes so far is what some store tells
+  pub stored_now : FineAt Calm w0 w cs found value pn stage queue out → IsStored w
+  stored_now A = (apply (joined (spelled cs)) A.stored.0, A.tells ∙ ap (played cs) A.stored.1 ∙ sym (readings-joined cs (fit_fits cs A.fits) A.stored.0))
 
   -- a number alone
   pub number_fine : (c : Change) → FineAt Calm w0 w cs found value pn stage queue out → IsCalm c → Fit c → (play c w).record_of ≡ w.record_of → OwnFine (own_of (play c w))
@@ -238,6 +255,7 @@ module _ {w0 w : Readings} {cs : List Change} {found : Option Found} {value : Op
       → FineAt Shaped w0 (play (Vote v p x) w) (cs ++ Vote v p x ∷ []) found value pn stage queue out
   vote_fine v p x A f r = record {
     shape = inr (inl (record { before = cs; calm = A.shape; v = v; pn = p; value = x; is = refl }));
+    stored = A.stored;
     tells = ap (play (Vote v p x)) A.tells ∙ sym (played_more cs (Vote v p x ∷ []) w0);
     fits = all_append Fit cs (Vote v p x ∷ []) A.fits (f, tt);
     readings = r;
@@ -249,6 +267,7 @@ module _ {w0 w : Readings} {cs : List Change} {found : Option Found} {value : Op
       → FineAt Shaped w0 (play (Mark floor last_pn promised) w) (cs ++ Mark floor last_pn promised ∷ []) found value pn stage queue out
   mark_fine floor last_pn promised A f r = record {
     shape = inr (inr (record { before = cs; calm = A.shape; floor = floor; last_pn = last_pn; promise = promised; is = refl }));
+    stored = A.stored;
     tells = ap (play (Mark floor last_pn promised)) A.tells ∙ sym (played_more cs (Mark floor last_pn promised ∷ []) w0);
     fits = all_append Fit cs (Mark floor last_pn promised ∷ []) A.fits (f, tt);
     readings = r;
@@ -257,7 +276,7 @@ module _ {w0 w : Readings} {cs : List Change} {found : Option Found} {value : Op
   }
 
   pub ended_at : FineAt Calm w0 w cs found value pn stage queue out → FineAt Shaped w0 w cs found value pn stage queue out
-  ended_at A = record { shape = inl A.shape; tells = A.tells; fits = A.fits; readings = A.readings; state = A.state; sends = A.sends }
+  ended_at A = record { shape = inl A.shape; stored = A.stored; tells = A.tells; fits = A.fits; readings = A.readings; state = A.state; sends = A.sends }
 
 -- nothing more is done
 pub over : (w0 : Readings) {x : Course} → Fine w0 x → Then (Ended w0) (Ok x)

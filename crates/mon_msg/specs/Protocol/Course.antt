@@ -6,7 +6,7 @@ use Rattle.mon_msg.specs.Protocol.Phases.{phase_of, same_phase}
 use Rattle.mon_msg.specs.Protocol.Played.{played}
 use Rattle.mon_msg.specs.Protocol.Readings.{Readings}
 use Rattle.mon_msg.specs.Protocol.State.{State, no_clients}
-use Rattle.mon_msg.specs.Protocol.Timers.{armed, disarmed, only_ping}
+use Rattle.mon_msg.specs.Protocol.Timers.{armed, armed_once, disarmed, only_ping}
 use Rattle.mon_msg.specs.declared.clients.Clients.{Clients}
 use Rattle.mon_msg.specs.declared.election.Elector.{Elector}
 use Rattle.mon_msg.specs.declared.election.Prober.{Prober}
@@ -104,6 +104,10 @@ arm now t x = timers_are (armed now t x.state.timers) x
 
 abbrev pub arm_if : Bool → ℕ → Timer → Course → Course
 arm_if test now t x = timers_are (if test then armed now t x.state.timers else x.state.timers) x
+
+-- a timer that is armed keeps its end
+abbrev pub arm_once_if : Bool → ℕ → Timer → Course → Course
+arm_once_if test now t x = timers_are (if test then armed_once now t x.state.timers else x.state.timers) x
 
 abbrev pub disarm : Timer → Course → Course
 disarm t x = timers_are (disarmed t x.state.timers) x

@@ -2,7 +2,7 @@
 use Rattle.std.specs.Prelude.{ℕ, suc, Bool, not, List, Option, Some, None, Result, Ok, if◌then◌else◌, [], ◌∷◌}
 use Rattle.mon_lease.specs.Lease as lease
 use Rattle.mon_msg.specs.Protocol.Changes.{Vote}
-use Rattle.mon_msg.specs.Protocol.Course.{Course, ◌▸◌, ◌>>=◌, checked, change, leader_is, arm, arm_if, disarm, leads_in}
+use Rattle.mon_msg.specs.Protocol.Course.{Course, ◌▸◌, ◌>>=◌, checked, change, leader_is, arm, arm_if, arm_once_if, disarm, leads_in}
 use Rattle.mon_msg.specs.Protocol.Learning.{learn}
 use Rattle.mon_msg.specs.Protocol.Sending.{members, send_each, answer_any}
 use Rattle.mon_msg.specs.Protocol.Sets.{is_empty, only}
@@ -31,7 +31,8 @@ begin_alone me v value o x = do
   Ok (y ▸ leads_in stage.Active ▸ answer_any me o (reply.Done v))
 
 module _ (me : Me) (now : ℕ) where
-  -- the lease is given to all members, and goes on here
+  -- The lease is given to all members, and goes on here. A leader that awaits acknowledgements of an earlier lease awaits
+  -- them no longer than before, so one that is cut off steps down.
   unfoldable pub extend : Course → Course
   extend x =
       let peons = members me x.state.leader.quorum in
@@ -39,7 +40,7 @@ module _ (me : Me) (now : ℕ) where
       ▸ leader_is (record x.state.leader { lease = lease.extended now; acks = only me.member.rank })
       ▸ send_each me peons (body.Lease x.readings.last)
       ▸ arm now timer.Renew
-      ▸ arm_if (not (is_empty peons)) now timer.LeaseAck
+      ▸ arm_once_if (not (is_empty peons)) now timer.LeaseAck
 
   unfoldable pub be_active : Course → Course
   be_active x = x ▸ leads_in stage.Active ▸ extend ▸ arm_if (has_queue x) now timer.Propose

@@ -14,7 +14,7 @@ use Rattle.mon_msg.specs.Protocol.Pings.{ping}
 use Rattle.mon_msg.specs.Protocol.Replay.{replay_step}
 use Rattle.mon_msg.specs.Protocol.Sending.{reply_to}
 use Rattle.mon_msg.specs.Protocol.State.{State}
-use Rattle.mon_msg.specs.Protocol.Timers.{end_of}
+use Rattle.mon_msg.specs.Protocol.Timers.{is_armed}
 use Rattle.mon_msg.specs.Protocol.Readings.{Readings}
 use Rattle.mon_msg.specs.declared.election.Elector.{Elector}
 use Rattle.mon_msg.specs.declared.input.Input.TheVariants as input
@@ -71,7 +71,7 @@ module _ (me : Me) (now : ℕ) where
 
   -- one that is armed is disarmed, and takes effect whether or not its moment has come
   abbrev pub take_timer : Timer → Course → Result Course Which
-  take_timer t x = if is_some (end_of t x.state.timers) then x ▸ disarm t ▸ timer_comes t else dropped x
+  take_timer t x = if is_armed t x.state.timers then x ▸ disarm t ▸ timer_comes t else dropped x
 
 -- ---- the join
 

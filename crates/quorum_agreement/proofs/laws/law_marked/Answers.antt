@@ -1,5 +1,5 @@
-use Rattle.quorum_agreement.proofs.Every.{copying, told}
+use Rattle.quorum_agreement.proofs.Every.{copying, full, told}
 use Rattle.quorum_agreement.proofs.laws.law_marked.Goals as goal
 
 pub returns : goal.returns
-returns c = record { told = told; copied = copying }
+returns c = record { told = told; copied = copying; full = full }
