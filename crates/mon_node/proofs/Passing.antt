@@ -1,5 +1,6 @@
 -- What the disks of a node go through in a turn.
-use Rattle.std.proofs.Common.{◌≡◌, ℕ, ◌≤◌, ◌+◌, ◌^◌, Bool, true, false, cond, nat_lt, inl, inr, List, [], ◌∷◌, Option, Some, None, Result, Ok, Err, refl, sym, ap, ◌∙◌, arith}
+use Rattle.std.proofs.Common.{◌≡◌, ℕ, ◌≤◌, ◌<◌, ◌+◌, ◌^◌, Bool, true, false, cond, nat_lt, inl, inr, List, [], ◌∷◌, Option, Some, None, Result, Ok, Err, refl, sym, ap, ◌∙◌, arith}
+use Rattle.std.proofs.lemmas.Bool.{le-ltb, ltb-false, ltb-true}
 use Rattle.mon_bytes.specs.Answers.{◌>>=◌}
 use Rattle.mon_disk.specs.Calls.{DiskState}
 use Rattle.mon_kv.specs.Readers.{size_of}
@@ -16,7 +17,7 @@ use Rattle.mon_types.specs.declared.names.Which.TheVariants as which
 use Rattle.mon_types.specs.declared.names.Which.{Which}
 use Rattle.mon_node.specs.Hearing.{Given, Hears, heard}
 use Rattle.mon_node.specs.Keeping.{Keeps, kept}
-use Rattle.mon_node.specs.Lasting.{BothTell, Leave, Through, Pass, IsWithin, IsWithinTurn, IsLeft, PassTurn, StaysIfFull, InTurns, recorded, stood_recorded, stood_kept}
+use Rattle.mon_node.specs.Lasting.{BothTell, Leave, Through, Pass, IsWithin, IsWithinTurn, IsLeft, PassTurn, InTurns, recorded, stood_recorded, stood_kept}
 use Rattle.mon_node.specs.Nodes.{Outside, Serving, Disks, disks}
 use Rattle.mon_node.specs.Posting.{IsSpent}
 use Rattle.mon_node.specs.Serving.{EndsAt, Has, of_input, of_came}
@@ -24,7 +25,7 @@ use Rattle.mon_node.specs.Turns.{Turn, start, turn, map_after, reaction_to, reac
 use Rattle.mon_node.specs.declared.end.NodeEnd.TheVariants as end
 use Rattle.mon_node.specs.declared.end.NodeEnd.{NodeEnd}
 use Rattle.mon_node.specs.declared.hearing.TimedInput.{TimedInput}
-use Rattle.mon_node.proofs.Standing.{leave_as, pass_as, pass_left, no_step, same_left, through_later}
+use Rattle.mon_node.proofs.Standing.{leave_as, pass_as, pass_left, no_step, through_later}
 
 -- ---- an input
 
@@ -38,6 +39,10 @@ module _ (me : Me) (s : Serving) (it : TimedInput) where
 
   abbrev InTurn : Stood → Type 0
   InTurn = IsWithinTurn me at_input
+
+  -- by a reaction whose map isn't too large
+  abbrev if_fits : (Reaction → Stood) → Reaction → Stood
+  if_fits f r = cond (nat_lt most_size (size_of (map_after s.node r))) s.node.store (f r)
 
   old_within : (x : Stood) → IsOld x → InTurn x
   old_within x e = inl e
@@ -57,62 +62,91 @@ module _ (me : Me) (s : Serving) (it : TimedInput) where
     pub stops_pass : (spent : Which) → reaction_to me s.node it ≡ Err spent → PassTurn {T = T} me at_input (Err (end.Spent spent)) s.outside.link d d
     stops_pass spent e = (
       stays,
-      leave_as d IsOld (IsLeft me at_input (end.Spent spent) s.outside.link) (λ x is. is ∙ sym (ap (of_input s.node.store (λ (r : Reaction). kept r.transaction s.node.store)) e)) still,
+      leave_as d IsOld (IsLeft me at_input (end.Spent spent) s.outside.link) (λ x is. is ∙ sym (ap (of_input s.node.store (if_fits (λ (r : Reaction). kept r.transaction s.node.store))) e)) still,
     )
 
   module _ (r : Reaction) (reacts : reaction_to me s.node it ≡ Ok r) where
-    recorded_is : stood_recorded me at_input ≡ recorded r.transaction s.node.store
-    recorded_is = ap (of_input s.node.store (λ (q : Reaction). recorded q.transaction s.node.store)) reacts
-
-    kept_is : stood_kept me at_input ≡ kept r.transaction s.node.store
-    kept_is = ap (of_input s.node.store (λ (q : Reaction). kept q.transaction s.node.store)) reacts
+    -- so it stands by this reaction, where the map isn't too large
+    by_fitting : (f : Reaction → Stood) → size_of (map_after s.node r) ≤ most_size → of_input s.node.store (if_fits f) (reaction_to me s.node it) ≡ f r
+    by_fitting f fits = ap (of_input s.node.store (if_fits f)) reacts ∙ ap (λ (large : Bool). cond large s.node.store (f r)) (le-ltb most_size (size_of (map_after s.node r)) fits)
 
     abbrev InKeeping : Stood → Type 0
     InKeeping = IsWithin r.transaction s.node.store
 
-    keeping_within : (x : Stood) → InKeeping x → InTurn x
-    keeping_within x (inl e) = inl e
-    keeping_within x (inr (inl e)) = inr (inl (e ∙ sym recorded_is))
-    keeping_within x (inr (inr e)) = inr (inr (e ∙ sym kept_is))
+    module _ (fits : size_of (map_after s.node r) ≤ most_size) where
+      recorded_is : stood_recorded me at_input ≡ recorded r.transaction s.node.store
+      recorded_is = by_fitting (λ (q : Reaction). recorded q.transaction s.node.store) fits
 
-    module _ (old new : Disks) (pass : Pass InKeeping old new) where
-      turn_pass : Pass InTurn old new
-      turn_pass = pass_as old new InKeeping InTurn keeping_within pass
+      kept_is : stood_kept me at_input ≡ kept r.transaction s.node.store
+      kept_is = by_fitting (λ (q : Reaction). kept q.transaction s.node.store) fits
 
-      -- it is taken
-      pub taken_pass : (T : Type 0) (x : T) (link : Option Told) → PassTurn me at_input (Ok x) link old new
-      taken_pass T x link = (turn_pass, tt)
+      keeping_within : (x : Stood) → InKeeping x → InTurn x
+      keeping_within x (inl e) = inl e
+      keeping_within x (inr (inl e)) = inr (inl (e ∙ sym recorded_is))
+      keeping_within x (inr (inr e)) = inr (inr (e ∙ sym kept_is))
 
-      -- its transaction is kept, and not all that it sends goes out
-      pub unsent_pass : (T : Type 0) (next : ℕ) (e : NodeEnd) (clock : Option Readings) (link : Option Told) (after : Stood) → IsSpent next e → EndsAt me at_input e clock link → after ≡ kept r.transaction s.node.store → Leave new (λ x. x ≡ after)
-          → PassTurn {T = T} me at_input (Err e) link old new
-      unsent_pass T next e clock link after why ends is left = (turn_pass, by e why ends)
-        where
-          by : (e : NodeEnd) → IsSpent next e → EndsAt me at_input e clock link → Leave new (IsLeft me at_input e link)
-          by end.OutOfMemory why ends = leave_as new (λ (x : Stood). x ≡ after) (IsLeft me at_input end.OutOfMemory link) (λ x h. inr (ends.link_is, h ∙ is ∙ sym kept_is)) left
-          by (end.Spent spent) why ends = leave_as new (λ (x : Stood). x ≡ after) (IsLeft me at_input (end.Spent spent) link) (λ x h. h ∙ is ∙ sym kept_is) left
-          by end.Closed why ends = absurd why
-          by end.TurnsUsed why ends = absurd why
-          by end.DiskFault why ends = absurd why
-          by end.LinkFault why ends = absurd why
-          by (end.Full would_be) why ends = absurd why
+      module _ (old new : Disks) (pass : Pass InKeeping old new) where
+        turn_pass : Pass InTurn old new
+        turn_pass = pass_as old new InKeeping InTurn keeping_within pass
+
+        -- it is taken
+        pub taken_pass : (T : Type 0) (x : T) (link : Option Told) → PassTurn me at_input (Ok x) link old new
+        taken_pass T x link = (turn_pass, tt)
+
+        -- its transaction is kept, and not all that it sends goes out
+        pub unsent_pass : (T : Type 0) (next : ℕ) (e : NodeEnd) (clock : Option Readings) (link : Option Told) (after : Stood) → IsSpent next e → EndsAt me at_input e clock link → after ≡ kept r.transaction s.node.store → Leave new (λ x. x ≡ after)
+            → PassTurn {T = T} me at_input (Err e) link old new
+        unsent_pass T next e clock link after why ends is left = (turn_pass, by e why ends)
+          where
+            by : (e : NodeEnd) → IsSpent next e → EndsAt me at_input e clock link → Leave new (IsLeft me at_input e link)
+            by end.OutOfMemory why ends = leave_as new (λ (x : Stood). x ≡ after) (IsLeft me at_input end.OutOfMemory link) (λ x h. inr (ends.link_is, h ∙ is ∙ sym kept_is)) left
+            by (end.Spent spent) why ends = leave_as new (λ (x : Stood). x ≡ after) (IsLeft me at_input (end.Spent spent) link) (λ x h. h ∙ is ∙ sym kept_is) left
+            by end.Closed why ends = absurd why
+            by end.TurnsUsed why ends = absurd why
+            by end.DiskFault why ends = absurd why
+            by end.LinkFault why ends = absurd why
+            by (end.Full would_be) why ends = absurd why
 
     -- its transaction isn't kept
-    pub unkept_pass : {D : Type 0} (state : D → DiskState) (T : Type 0) (a b x y : D) (n : Store) (e : NodeEnd) → Keeps {T = T} r.transaction s.node.store.kv n (Err e) → StaysIfFull e a b x y → Leave (disks state a b) IsOld
-        → Pass InKeeping (disks state a b) (disks state x y) → PassTurn {T = T} me at_input (Err e) s.outside.link (disks state a b) (disks state x y)
-    unkept_pass state T a b x y n e keeps full still pass = (turn_pass (disks state a b) (disks state x y) pass, by e keeps full)
-      where
-        left : Leave (disks state x y) InTurn
-        left = leave_as (disks state x y) InKeeping InTurn keeping_within (pass_left (disks state a b) (disks state x y) InKeeping pass)
+    module _ {D : Type 0} (state : D → DiskState) (T : Type 0) (a b x y : D) (n : Store) (both : BothTell (disks state a b)) (still : Leave (disks state a b) IsOld) (pass : Pass InKeeping (disks state a b) (disks state x y)) where
+      -- the map would be too large, and the disks are the same
+      too_large : (e : NodeEnd) → most_size < size_of (map_after s.node r) → Keeps {T = T} r.transaction s.node.store.kv n (Err e) → PassTurn {T = T} me at_input (Err e) s.outside.link (disks state a b) (disks state a b)
+      too_large e large keeps = (no_step (disks state a b) InTurn both within, by e keeps)
+        where
+          within : Leave (disks state a b) InTurn
+          within = leave_as (disks state a b) IsOld InTurn old_within still
 
-        by : (e : NodeEnd) → Keeps {T = T} r.transaction s.node.store.kv n (Err e) → StaysIfFull e a b x y → Leave (disks state x y) (IsLeft me at_input e s.outside.link)
-        by (end.Full would_be) keeps full = same_left state a b x y IsOld full.0 full.1 still
-        by end.DiskFault keeps full = left
-        by end.OutOfMemory keeps full = wanting (disks state x y) left
-        by end.Closed keeps full = absurd keeps
-        by end.TurnsUsed keeps full = absurd keeps
-        by end.LinkFault keeps full = absurd keeps
-        by (end.Spent spent) keeps full = absurd keeps
+          by : (e : NodeEnd) → Keeps {T = T} r.transaction s.node.store.kv n (Err e) → Leave (disks state a b) (IsLeft me at_input e s.outside.link)
+          by (end.Full would_be) keeps = still
+          by end.DiskFault keeps = within
+          by end.OutOfMemory keeps = wanting (disks state a b) within
+          by end.Closed keeps = absurd keeps
+          by end.TurnsUsed keeps = absurd keeps
+          by end.LinkFault keeps = absurd keeps
+          by (end.Spent spent) keeps = absurd keeps
+
+      -- it wouldn't be, and a disk or memory stopped it
+      stopped : (e : NodeEnd) → size_of (map_after s.node r) ≤ most_size → Keeps {T = T} r.transaction s.node.store.kv n (Err e) → PassTurn {T = T} me at_input (Err e) s.outside.link (disks state a b) (disks state x y)
+      stopped e fits keeps = (turn_pass fits (disks state a b) (disks state x y) pass, by e keeps)
+        where
+          left : Leave (disks state x y) InTurn
+          left = leave_as (disks state x y) InKeeping InTurn (keeping_within fits) (pass_left (disks state a b) (disks state x y) InKeeping pass)
+
+          by : (e : NodeEnd) → Keeps {T = T} r.transaction s.node.store.kv n (Err e) → Leave (disks state x y) (IsLeft me at_input e s.outside.link)
+          by (end.Full would_be) keeps = absurd (omega (arith, fits, keeps.0))
+          by end.DiskFault keeps = left
+          by end.OutOfMemory keeps = wanting (disks state x y) left
+          by end.Closed keeps = absurd keeps
+          by end.TurnsUsed keeps = absurd keeps
+          by end.LinkFault keeps = absurd keeps
+          by (end.Spent spent) keeps = absurd keeps
+
+      pub unkept_pass : (e : NodeEnd) → Keeps {T = T} r.transaction s.node.store.kv n (Err e) → (most_size < size_of (map_after s.node r) → (x ≡ a) × (y ≡ b)) → PassTurn {T = T} me at_input (Err e) s.outside.link (disks state a b) (disks state x y)
+      unkept_pass e keeps same = by (nat_lt most_size (size_of (map_after s.node r))) refl
+        where
+          by : (large : Bool) → nat_lt most_size (size_of (map_after s.node r)) ≡ large → PassTurn {T = T} me at_input (Err e) s.outside.link (disks state a b) (disks state x y)
+          by true is = let h = ltb-true most_size (size_of (map_after s.node r)) is in let disks_are = same h in rw (disks_are.0, disks_are.1) (too_large e h keeps)
+          by false is = stopped e (ltb-false most_size (size_of (map_after s.node r)) is) keeps
 
 -- ---- a turn
 
@@ -159,12 +193,12 @@ module _ (me : Me) (g : Given) (s : Serving) where
 
 module _ (me : Me) (s : Serving) where
   abbrev keeps_it : Reaction → Stood
-  keeps_it r = kept r.transaction s.node.store
+  keeps_it r = cond (nat_lt most_size (size_of (map_after s.node r))) s.node.store (kept r.transaction s.node.store)
 
   abbrev by_size : Reaction → Bool → Bool → Result Serving NodeEnd
   by_size r large past = cond large (Err (end.Full (size_of (map_after s.node r)))) (cond past (Err (end.Spent which.Seq)) (Ok (done me s r)))
 
-  size_stood : (r : Reaction) (now : Serving) (large past : Bool) → by_size r large past ≡ Ok now → now.node.store ≡ keeps_it r
+  size_stood : (r : Reaction) (now : Serving) (large past : Bool) → by_size r large past ≡ Ok now → now.node.store ≡ cond large s.node.store (kept r.transaction s.node.store)
   size_stood r now true past is = absurd cc
   size_stood r now false true is = absurd cc
   size_stood r now false false is = let same : done me s r ≡ now = cc in sym (ap (λ (n : Serving). n.node.store) same)

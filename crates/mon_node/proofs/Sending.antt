@@ -1,6 +1,7 @@
 -- Datagrams that are sent one after the other.
 use Rattle.std.proofs.Common.{◌≡◌, ℕ, zero, suc, ◌+◌, ◌^◌, ◌<◌, ◌≤◌, min, map, Bool, true, false, cond, nat_lt, List, [], ◌∷◌, ◌++◌, length, take, drop, get_or, Option, Some, None, Ok, Err, refl, sym, ap, subst, ◌∙◌, append_assoc, add-one, arith}
 use Rattle.std.specs.Prelude.{option_map}
+use Rattle.std.proofs.lemmas.Bool.{le-ltb, ltb-true}
 use Rattle.std.proofs.lemmas.List.{append-nil, take_min, take-append-le, drop_all}
 use Rattle.std.specs.List.{AllByRecursion}
 use Rattle.mon_kv.specs.Readers.{epoch}
@@ -12,7 +13,7 @@ use Rattle.mon_msg.specs.declared.plan.Sent.{Sent}
 use Rattle.mon_msg.specs.declared.view.Me.{Me}
 use Rattle.mon_tx.specs.Map.{Store}
 use Rattle.mon_types.specs.declared.names.Which.TheVariants as which
-use Rattle.mon_node.specs.Posting.{and_sent, SendsAll, SendsFront, Posts, IsSpent, to_peer, letter, letters, next_behind, next_after, datagrams_of, datagrams, boot_in}
+use Rattle.mon_node.specs.Posting.{and_sent, SendsAll, SendsFront, Posts, IsSpent, to_peer, letter, letters, next_behind, next_after, with_number, datagrams_of, datagrams, boot_in}
 use Rattle.mon_node.specs.declared.end.NodeEnd.TheVariants as end
 use Rattle.mon_node.specs.declared.end.NodeEnd.{NodeEnd}
 
@@ -77,7 +78,7 @@ module _ (whole ds left : List Outgoing) (old now new : LinkState) (so_far : IsS
         faults = h.faults ∙ so_far.faults;
       }
 
--- of which a front alone was sent before an end
+-- of which a prefix alone was sent before an end
 pub sends_none : {U F : Type 0} (whole left : List Outgoing) (old now : LinkState) (f : F) → IsSending whole left old now → Posts {T = U} {E = F} whole (Err f) old now
 sends_none whole left old now f so_far = record {
   told = subst (λ (xs : List Outgoing). SendsFront xs old.told now.told) (sym so_far.whole_is) (front_whole so_far.done left old.told now.told (length so_far.done, so_far.told ∙ ap (λ (xs : List Outgoing). option_map (and_sent xs) old.told) (sym (all_of so_far.done))));
@@ -158,21 +159,29 @@ spent_on n m end.DiskFault le why = absurd why
 spent_on n m end.LinkFault le why = absurd why
 spent_on n m (end.Full would_be) le why = absurd why
 
--- All of these are sent under numbers from the first on: what is left, and the number behind it.
+-- All of them find a number.
+pub all_numbered : (next : ℕ) (ls : List Outgoing) → next_after next ls ≤ 2 ^ 62 + 1 → with_number next ls ≡ ls
+all_numbered next [] within = refl
+all_numbered next (l ∷ ls) within =
+    let behind : ℕ = next_behind next (length l.bytes) in
+    let finds : nat_lt (2 ^ 62 + 1) behind ≡ false = le-ltb (2 ^ 62 + 1) behind (le_then behind (next_after behind ls) (2 ^ 62 + 1) (next_after-le behind ls) within) in
+    ap (λ (b : Bool). cond b [] (l ∷ with_number behind ls)) finds ∙ ap (λ (xs : List Outgoing). l ∷ xs) (all_numbered behind ls within)
+
+-- All of these are sent under numbers from the first on, up to the first that finds none: what is left, and the number behind it.
 pub record AreLeft (me : Me) (m : Store) (first : ℕ) (out : List Sent) (k next : ℕ) (old now : LinkState) : Type 0 where
-  pub sends : IsSending (datagrams (boot_in m) first (letters me m out)) (datagrams (boot_in m) next (letters me m (drop k out))) old now
+  pub sends : IsSending (datagrams (boot_in m) first (with_number first (letters me m out))) (datagrams (boot_in m) next (with_number next (letters me m (drop k out)))) old now
   pub numbers : next_after first (letters me m out) ≡ next_after next (letters me m (drop k out))
   pub most : next ≤ 2 ^ 62 + 1
 
 pub all_left : (me : Me) (m : Store) (first : ℕ) (out : List Sent) (o : LinkState) → first ≤ 2 ^ 62 + 1 → AreLeft me m first out 0 first o o
-all_left me m first out o most = record { sends = sending (datagrams (boot_in m) first (letters me m out)) o; numbers = refl; most = most }
+all_left me m first out o most = record { sends = sending (datagrams (boot_in m) first (with_number first (letters me m out))) o; numbers = refl; most = most }
 
 module _ (me : Me) (m : Store) (first : ℕ) (out : List Sent) (k next : ℕ) (old now : LinkState) (so_far : AreLeft me m first out k next old now) where
   abbrev all : List Outgoing
-  all = datagrams (boot_in m) first (letters me m out)
+  all = datagrams (boot_in m) first (with_number first (letters me m out))
 
   pub never_sent : {T : Type 0} → Posts {T = T} {E = NodeEnd} all (Err end.OutOfMemory) old now
-  never_sent = sends_none all (datagrams (boot_in m) next (letters me m (drop k out))) old now end.OutOfMemory so_far.sends
+  never_sent = sends_none all (datagrams (boot_in m) next (with_number next (letters me m (drop k out)))) old now end.OutOfMemory so_far.sends
 
   module _ (x : Sent) (l : Outgoing) (within : k < length out) (item : x ≡ get_or out k x) (is : l ≡ letter me (epoch m) x) where
     letters_are : letters me m (drop k out) ≡ l ∷ letters me m (drop (k + 1) out)
@@ -181,27 +190,42 @@ module _ (me : Me) (m : Store) (first : ℕ) (out : List Sent) (k next : ℕ) (o
     abbrev behind : ℕ
     behind = next_behind next (length l.bytes)
 
-    at_letter : IsSending all (datagrams_of (boot_in m) next l ++ datagrams (boot_in m) behind (letters me m (drop (k + 1) out))) old now
-    at_letter = subst (λ (ls : List Outgoing). IsSending all (datagrams (boot_in m) next ls) old now) letters_are so_far.sends
+    abbrev later : List Outgoing
+    later = datagrams (boot_in m) behind (with_number behind (letters me m (drop (k + 1) out)))
+
+    -- what is left, by whether it finds no number
+    abbrev left_if : Bool → List Outgoing
+    left_if spent = datagrams (boot_in m) next (cond spent [] (l ∷ with_number behind (letters me m (drop (k + 1) out))))
+
+    at_letter : (spent : Bool) → nat_lt (2 ^ 62 + 1) behind ≡ spent → IsSending all (left_if spent) old now
+    at_letter spent e = subst (λ (b : Bool). IsSending all (left_if b) old now) e
+        (subst (λ (ls : List Outgoing). IsSending all (datagrams (boot_in m) next (with_number next ls)) old now) letters_are so_far.sends)
 
     numbers_are : next_after first (letters me m out) ≡ next_after behind (letters me m (drop (k + 1) out))
     numbers_are = so_far.numbers ∙ ap (next_after next) letters_are
 
     pub letter_sent : {T E : Type 0} (new : LinkState) (u : T) (n : ℕ) → n ≡ behind → n ≤ 2 ^ 62 + 1 → Posts {T = T} {E = E} (datagrams_of (boot_in m) next l) (Ok u) now new → AreLeft me m first out (k + 1) n old new
-    letter_sent new u n n_is most h = record {
-      sends = subst (λ (v : ℕ). IsSending all (datagrams (boot_in m) v (letters me m (drop (k + 1) out))) old new) (sym n_is) (sends_on all (datagrams_of (boot_in m) next l) (datagrams (boot_in m) behind (letters me m (drop (k + 1) out))) old now new at_letter u h);
-      numbers = numbers_are ∙ ap (λ (v : ℕ). next_after v (letters me m (drop (k + 1) out))) (sym n_is);
-      most = most;
-    }
+    letter_sent new u n n_is most h =
+        let finds : nat_lt (2 ^ 62 + 1) behind ≡ false = le-ltb (2 ^ 62 + 1) behind (subst (λ (v : ℕ). v ≤ 2 ^ 62 + 1) n_is most) in
+        record {
+          sends = subst (λ (v : ℕ). IsSending all (datagrams (boot_in m) v (with_number v (letters me m (drop (k + 1) out)))) old new) (sym n_is) (sends_on all (datagrams_of (boot_in m) next l) later old now new (at_letter false finds) u h);
+          numbers = numbers_are ∙ ap (λ (v : ℕ). next_after v (letters me m (drop (k + 1) out))) (sym n_is);
+          most = most;
+        }
 
-    pub letter_stops : {T U E : Type 0} (new : LinkState) (e : E) (f : NodeEnd) → Posts {T = T} {E = E} (datagrams_of (boot_in m) next l) (Err e) now new → Posts {T = U} {E = NodeEnd} all (Err f) old new
-    letter_stops new e f h = sends_front all (datagrams_of (boot_in m) next l) (datagrams (boot_in m) behind (letters me m (drop (k + 1) out))) old now new at_letter e f h
+    -- one that finds no number isn't sent
+    pub letter_stops : {T U E : Type 0} (new : LinkState) (e : E) (f : NodeEnd) → Posts {T = T} {E = E} (datagrams_of (boot_in m) next l) (Err e) now new → (2 ^ 62 + 1 < behind → new ≡ now) → Posts {T = U} {E = NodeEnd} all (Err f) old new
+    letter_stops {T} {U} {E} new e f h unsent = by (nat_lt (2 ^ 62 + 1) behind) refl
+      where
+        by : (spent : Bool) → nat_lt (2 ^ 62 + 1) behind ≡ spent → Posts {T = U} {E = NodeEnd} all (Err f) old new
+        by true is = subst (λ (s : LinkState). Posts {T = U} {E = NodeEnd} all (Err f) old s) (sym (unsent (ltb-true (2 ^ 62 + 1) behind is))) (sends_none all (left_if true) old now f (at_letter true is))
+        by false is = sends_front all (datagrams_of (boot_in m) next l) later old now new (at_letter false is) e f h
 
     pub letter_spent : (e : NodeEnd) → IsSpent behind e → IsSpent (next_after first (letters me m out)) e
     letter_spent e why = spent_on behind (next_after first (letters me m out)) e (subst (λ (v : ℕ). behind ≤ v) (sym numbers_are) (next_after-le behind (letters me m (drop (k + 1) out)))) why
 
   pub letters_done : {T E : Type 0} (u : T) → length out ≤ k → Posts {T = T} {E = E} all (Ok u) old now
-  letters_done u past = sent_all all old now u (subst (λ (xs : List Sent). IsSending all (datagrams (boot_in m) next (letters me m xs)) old now) (none_left out k past) so_far.sends)
+  letters_done u past = sent_all all old now u (subst (λ (xs : List Sent). IsSending all (datagrams (boot_in m) next (with_number next (letters me m xs))) old now) (none_left out k past) so_far.sends)
 
   pub number_behind : length out ≤ k → next ≡ next_after first (letters me m out)
   number_behind past = sym (so_far.numbers ∙ ap (λ (xs : List Sent). next_after next (letters me m xs)) (none_left out k past))

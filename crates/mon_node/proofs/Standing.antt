@@ -8,7 +8,7 @@ use Rattle.mon_journal.specs.declared.journal.Journal.{Journal}
 use Rattle.mon_store.proofs.Applying.{each_pair, stands_now}
 use Rattle.mon_store.proofs.Moments.{none_goes, weaker}
 use Rattle.mon_store.specs.Moments.{Lasts, Meanwhile}
-use Rattle.mon_store.specs.Refusals.{LeavesDisk, Restarts}
+use Rattle.mon_store.specs.Refusals.{Restarts}
 use Rattle.mon_store.specs.Sound.{of_a, of_b, of_live, Sound, StandsOn, BeforeOrAfter, ThisOrNext, is_due, next_journal}
 use Rattle.mon_store.specs.Stood.{Stood}
 use Rattle.mon_store.specs.Whole.{IsSound, disk_a, disk_b}
@@ -21,11 +21,9 @@ use Rattle.mon_tx.specs.declared.op.Op.{Op}
 use Rattle.mon_types.specs.Sides.{other as other_side}
 use Rattle.mon_types.specs.declared.names.Side.TheVariants.{A, B}
 use Rattle.mon_types.specs.declared.names.Side.{Side}
-use Rattle.mon_node.specs.Keeping.{IsOfDisk, changed, renewed}
-use Rattle.mon_node.specs.Lasting.{BothTell, On, Leave, Between, Through, Pass, IsWithin, StaysIfFull, moments, recorded}
+use Rattle.mon_node.specs.Keeping.{changed, renewed}
+use Rattle.mon_node.specs.Lasting.{BothTell, On, Leave, Between, Through, Pass, IsWithin, moments, recorded}
 use Rattle.mon_node.specs.Nodes.{Disks, disks, disks_of, stood_of}
-use Rattle.mon_node.specs.declared.end.NodeEnd.TheVariants as end
-use Rattle.mon_node.specs.declared.end.NodeEnd.{NodeEnd}
 use Rattle.mon_node.proofs.Renewing.{by_due}
 
 -- ---- images
@@ -100,10 +98,6 @@ module _ {D : Type 0} (state : D → DiskState) where
   live_told A live other both = both.0
   live_told B live other both = both.1
 
-  -- the same disks are left with the same
-  pub same_left : (a b x y : D) (P : Stood → Type 0) → x ≡ a → y ≡ b → Leave (disks state a b) P → Leave (disks state x y) P
-  same_left a b x y P first second h = rw (first, second) h
-
 -- ---- the calls of a store
 
 module _ {D : Type 0} (state : D → DiskState) (s n : StoreOn D) where
@@ -122,9 +116,9 @@ module _ {D : Type 0} (state : D → DiskState) (s n : StoreOn D) where
   pub renews_due : true ≡ is_due s.journal s.kv → While (ThisOrNext s.side s.journal s.kv) → While (On (IsRenewing (stood_of s)))
   renews_due due call = weaker _ _ _ _ (ThisOrNext s.side s.journal s.kv) (On (IsRenewing (stood_of s))) call (renewing_on (stood_of s) due)
 
-  -- the same disks
-  pub stays_if_full : (would_be : ℕ) → n.side ≡ s.side → n.live ≡ s.live → n.other ≡ s.other → StaysIfFull (end.Full would_be) (disk_a s) (disk_b s) (disk_a n) (disk_b n)
-  stays_if_full would_be side live other = (λ i. of_a (side i) (live i) (other i), λ i. of_b (side i) (live i) (other i))
+  -- the same disks, if the live one is the same
+  pub same_disks : n.side ≡ s.side → n.other ≡ s.other → n.live ≡ s.live → (disk_a n ≡ disk_a s) × (disk_b n ≡ disk_b s)
+  same_disks side other live = (λ i. of_a (side i) (live i) (other i), λ i. of_b (side i) (live i) (other i))
 
 -- a store in use
 pub in_use_leaves : {D : Type 0} (state : D → DiskState) (s : StoreOn D) → s.broken ≡ false → IsSound state s → Leave (disks_of state s) (λ x. x ≡ stood_of s)
@@ -145,20 +139,6 @@ was_due broken due stop.OutOfMemory whole h = h.1
 was_due broken due stop.Broken whole h = let bad : true ≡ false = sym h ∙ whole in absurd cc
 was_due broken due (stop.TooLong len) whole h = absurd h
 was_due broken due (stop.Full would_be) whole h = absurd h
-
--- a map that would be too large leaves the live disk
-pub full_stays : {D : Type 0} (old new : D) (e : StoreStop) (would_be : ℕ) → e ≡ stop.Full would_be → LeavesDisk old new e → new ≡ old
-full_stays old new e would_be is h = subst (λ (x : StoreStop). LeavesDisk old new x) is h
-
--- want of memory and a disk's fault aren't the map's size
-pub of_disk_stays : {D : Type 0} (e : NodeEnd) (a b x y : D) → IsOfDisk e → StaysIfFull e a b x y
-of_disk_stays end.DiskFault a b x y h = tt
-of_disk_stays end.OutOfMemory a b x y h = tt
-of_disk_stays end.Closed a b x y h = tt
-of_disk_stays end.TurnsUsed a b x y h = tt
-of_disk_stays end.LinkFault a b x y h = tt
-of_disk_stays (end.Full would_be) a b x y h = absurd h
-of_disk_stays (end.Spent spent) a b x y h = tt
 
 -- ---- a call, and two
 

@@ -15,13 +15,13 @@ use Rattle.mon_types.specs.declared.names.Which.TheVariants as which
 use Rattle.mon_types.specs.declared.names.Which.{Which}
 use Rattle.mon_node.specs.Keeping.{Keeps, kept}
 use Rattle.mon_node.specs.Nodes.{Serving}
-use Rattle.mon_node.specs.Posting.{and_sent, datagrams, letters, next_after, boot_in, SendsFront, SendsAll, IsSpent}
+use Rattle.mon_node.specs.Posting.{and_sent, datagrams, letters, next_after, with_number, boot_in, SendsFront, SendsAll, IsSpent}
 use Rattle.mon_node.specs.Serving.{EndsAt, Has, of_input}
-use Rattle.mon_node.specs.Turns.{Turn, map_after, next_number, sent_by, done, done_within, reacted, reaction_to, ended_turn}
+use Rattle.mon_node.specs.Turns.{Turn, map_after, next_number, numbered_by, done, done_within, reacted, reaction_to, ended_turn}
 use Rattle.mon_node.specs.declared.end.NodeEnd.TheVariants as end
 use Rattle.mon_node.specs.declared.end.NodeEnd.{NodeEnd}
 use Rattle.mon_node.specs.declared.hearing.TimedInput.{TimedInput}
-use Rattle.mon_node.proofs.Sending.{none_in_front}
+use Rattle.mon_node.proofs.Sending.{all_numbered, none_in_front}
 
 -- what is sent, with the same map and the same messages
 pub sent_as : (P : Store → List Sent → Type 0) (m n : Store) (out sends : List Sent) → m ≡ n → out ≡ sends → P m out → P n sends
@@ -31,9 +31,13 @@ module _ (me : Me) (s : Serving) (it : TimedInput) where
   abbrev at_input : Turn
   at_input = record { came = Ok (Some it); serving = s }
 
+  -- what a reaction sends whose transaction can be kept
+  abbrev if_kept : Reaction → List Outgoing
+  if_kept r = cond (nat_lt most_size (size_of (map_after s.node r))) [] (numbered_by me s.node r)
+
   -- what it sends, where the core reacts
   abbrev these : List Outgoing
-  these = of_input [] (sent_by me s.node) (reaction_to me s.node it)
+  these = of_input [] if_kept (reaction_to me s.node it)
 
   none_of_these : SendsFront these s.outside.link s.outside.link
   none_of_these = none_in_front these s.outside.link
@@ -93,11 +97,16 @@ module _ (me : Me) (s : Serving) (it : TimedInput) where
       abbrev numbers : Store → ℕ
       numbers x = next_after s.node.next (letters me x r.sends)
 
-      -- and not all that it sends goes out
-      sent_front : (link : Option Told) → SendsFront (sends m) s.outside.link link → SendsFront these s.outside.link link
-      sent_front link front = subst (λ (ds : List Outgoing). SendsFront ds s.outside.link link) (ap sends is ∙ sym (ap (of_input [] (sent_by me s.node)) reacts)) front
+      abbrev numbered : Store → List Outgoing
+      numbered x = datagrams (boot_in x) s.node.next (with_number s.node.next (letters me x r.sends))
 
-      pub not_sent : (e : NodeEnd) (link : Option Told) → IsSpent (numbers m) e → SendsFront (sends m) s.outside.link link → EndsAt me at_input e s.outside.clock link
+      -- and not all that it sends goes out
+      sent_front : (link : Option Told) → SendsFront (numbered m) s.outside.link link → SendsFront these s.outside.link link
+      sent_front link front =
+          let sent : these ≡ numbered_by me s.node r = ap (of_input [] if_kept) reacts ∙ ap (λ (b : Bool). cond b [] (numbered_by me s.node r)) (le-ltb most_size (size_of (map_after s.node r)) fits) in
+          subst (λ (ds : List Outgoing). SendsFront ds s.outside.link link) (ap numbered is ∙ sym sent) front
+
+      pub not_sent : (e : NodeEnd) (link : Option Told) → IsSpent (numbers m) e → SendsFront (numbered m) s.outside.link link → EndsAt me at_input e s.outside.clock link
       not_sent end.OutOfMemory link why front = record { cause = tt; clock_is = refl; link_is = sent_front link front }
       not_sent (end.Spent which.Seq) link why front = record {
         cause = comes_to ∙ past_all fits (subst (λ (n : ℕ). 2 ^ 62 + 1 < n) (ap numbers is) why);
@@ -122,10 +131,12 @@ module _ (me : Me) (s : Serving) (it : TimedInput) where
         outside = record s.outside { link = option_map (and_sent (sends x)) s.outside.link };
       }
 
-      pub all_sent : (stood : Stood) (next : ℕ) (link : Option Told) → stood ≡ kept r.transaction s.node.store → next ≡ numbers m → next ≤ 2 ^ 62 + 1 → SendsAll (sends m) s.outside.link link
+      pub all_sent : (stood : Stood) (next : ℕ) (link : Option Told) → stood ≡ kept r.transaction s.node.store → next ≡ numbers m → next ≤ 2 ^ 62 + 1 → SendsAll (numbered m) s.outside.link link
           → ended_turn me at_input ≡ Ok (record { node = record { state = r.state; store = stood; next = next }; outside = record s.outside { link = link } })
       all_sent stood next link stands behind within sent =
+          let all : with_number s.node.next (letters me m r.sends) ≡ letters me m r.sends = all_numbered s.node.next (letters me m r.sends) (subst (λ (n : ℕ). n ≤ 2 ^ 62 + 1) behind within) in
+          let whole : SendsAll (sends m) s.outside.link link = subst (λ (ls : List Outgoing). SendsAll (datagrams (boot_in m) s.node.next ls) s.outside.link link) all sent in
           comes_to
           ∙ all_within fits (subst (λ (n : ℕ). n ≤ 2 ^ 62 + 1) (behind ∙ ap numbers is) within)
           ∙ (λ i. Ok (with_map (sym stands i) (sym is i)))
-          ∙ (λ i. Ok (record { node = record { state = r.state; store = stood; next = sym behind i }; outside = record s.outside { link = sym sent i } }))
+          ∙ (λ i. Ok (record { node = record { state = r.state; store = stood; next = sym behind i }; outside = record s.outside { link = sym whole i } }))

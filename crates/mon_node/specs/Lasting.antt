@@ -13,7 +13,7 @@ use Rattle.mon_node.specs.Hearing.{Given}
 use Rattle.mon_node.specs.Keeping.{kept}
 use Rattle.mon_node.specs.Nodes.{Serving, Disks}
 use Rattle.mon_node.specs.Posting.{SendsFront}
-use Rattle.mon_node.specs.Serving.{Has, of_turn, sends_of}
+use Rattle.mon_node.specs.Serving.{Has, of_kept, sends_of}
 use Rattle.mon_node.specs.Turns.{Turn, start, last_turn}
 use Rattle.mon_node.specs.declared.end.NodeEnd.TheVariants as end
 use Rattle.mon_node.specs.declared.end.NodeEnd.{NodeEnd}
@@ -66,20 +66,15 @@ recorded ops s = record { side = s.side; journal = appended s.journal (text ops)
 abbrev pub IsWithin : List Op → Stood → Stood → Type 0
 IsWithin ops old s = (s ≡ old) ⊎ (s ≡ recorded ops old) ⊎ (s ≡ kept ops old)
 
--- one that would make the map too large changes nothing on the disks
-abbrev pub StaysIfFull : {D : Type 0} → NodeEnd → (old_a old_b new_a new_b : D) → Type 0
-StaysIfFull (end.Full would_be) old_a old_b new_a new_b = (new_a ≡ old_a) × (new_b ≡ old_b)
-StaysIfFull other old_a old_b new_a new_b = Unit {0}
-
 -- ---- a turn
 
 -- where its store stands once the record of its input's transaction is written, and once that is kept: a turn without
--- an input leaves it
+-- an input leaves it, and so does one whose map would be too large
 abbrev pub stood_recorded : Me → Turn → Stood
-stood_recorded me t = of_turn me t t.serving.node.store (λ r. recorded r.transaction t.serving.node.store)
+stood_recorded me t = of_kept me t t.serving.node.store (λ r. recorded r.transaction t.serving.node.store)
 
 abbrev pub stood_kept : Me → Turn → Stood
-stood_kept me t = of_turn me t t.serving.node.store (λ r. kept r.transaction t.serving.node.store)
+stood_kept me t = of_kept me t t.serving.node.store (λ r. kept r.transaction t.serving.node.store)
 
 abbrev pub IsWithinTurn : Me → Turn → Stood → Type 0
 IsWithinTurn me t s = (s ≡ t.serving.node.store) ⊎ (s ≡ stood_recorded me t) ⊎ (s ≡ stood_kept me t)

@@ -45,6 +45,13 @@ datagrams boot next [] = []
 datagrams boot next (l ∷ letters) =
     datagrams_of boot next l ++ datagrams boot (next_behind next (length l.bytes)) letters
 
+-- the messages up to the first that is longer than a datagram and finds no number
+abbrev pub with_number : (next : ℕ) → List Outgoing → List Outgoing
+with_number next [] = []
+with_number next (l ∷ letters) =
+    if nat_lt (2 ^ 62 + 1) (next_behind next (length l.bytes)) then []
+    else l ∷ with_number (next_behind next (length l.bytes)) letters
+
 -- a store tells the epoch, and how often its monitor was started
 abbrev pub letters : Me → Store → List Sent → List Outgoing
 letters me m out = map (letter me (epoch m)) out
@@ -60,7 +67,7 @@ and_sent ds t = record t { sent = t.sent ++ ds }
 abbrev pub SendsAll : List Outgoing → Option Told → Option Told → Type 0
 SendsAll ds old new = new ≡ option_map (and_sent ds) old
 
--- a front of them
+-- a prefix of them
 abbrev pub SendsFront : List Outgoing → Option Told → Option Told → Type 0
 SendsFront ds old new = (n : ℕ) × SendsAll (take n ds) old new
 
@@ -68,7 +75,7 @@ abbrev pub SendsBy : {T E : Type 0} → List Outgoing → Result T E → Option 
 SendsBy ds (Ok x) old new = SendsAll ds old new
 SendsBy ds (Err e) old new = SendsFront ds old new
 
--- All of these datagrams were sent, or a front of them before an end. No fault is counted.
+-- All of these datagrams were sent, or a prefix of them before an end. No fault is counted.
 pub record Posts {T E : Type 0} (ds : List Outgoing) (result : Result T E) (old new : LinkState) : Type 0 where
   pub told : SendsBy ds result old.told new.told
   pub faults : new.faults ≡ old.faults

@@ -1,5 +1,5 @@
 -- How a node ends, and what it leaves.
-use Rattle.std.specs.Prelude.{◌≡◌, ℕ, ◌≤◌, List, [], ◌∷◌, length, Option, Some, None, Result, Ok, Err}
+use Rattle.std.specs.Prelude.{◌≡◌, ℕ, ◌≤◌, nat_lt, if◌then◌else◌, List, [], ◌∷◌, length, Option, Some, None, Result, Ok, Err}
 use Rattle.mon_kv.specs.Readers.{size_of}
 use Rattle.mon_link.specs.Clocks.{Readings}
 use Rattle.mon_link.specs.Links.{Told}
@@ -12,7 +12,7 @@ use Rattle.mon_types.specs.declared.names.Which.{Which}
 use Rattle.mon_node.specs.Hearing.{Given, IsGiven, IsReading}
 use Rattle.mon_node.specs.Nodes.{Node, Serving}
 use Rattle.mon_node.specs.Posting.{SendsFront}
-use Rattle.mon_node.specs.Turns.{Turn, map_after, sent_by, reaction_to, ended_turn, last_turn, served}
+use Rattle.mon_node.specs.Turns.{Turn, map_after, numbered_by, reaction_to, ended_turn, last_turn, served}
 use Rattle.mon_node.specs.declared.end.NodeEnd.TheVariants as end
 use Rattle.mon_node.specs.declared.end.NodeEnd.{NodeEnd}
 use Rattle.mon_node.specs.declared.hearing.TimedInput.{TimedInput}
@@ -36,9 +36,14 @@ of_came me n none some (Err e) = none
 abbrev pub of_turn : {A : Type 0} → Me → Turn → A → (Reaction → A) → A
 of_turn me t none some = of_came me t.serving.node none some t.came
 
--- what it sends
+-- the same, if its transaction can be kept: one that would make the map too large never is
+abbrev pub of_kept : {A : Type 0} → Me → Turn → A → (Reaction → A) → A
+of_kept me t none some =
+    of_turn me t none (λ r. if nat_lt most_size (size_of (map_after t.serving.node r)) then none else some r)
+
+-- what it sends once its transaction is kept, up to the first message that finds no number
 abbrev pub sends_of : Me → Turn → List Outgoing
-sends_of me t = of_turn me t [] (sent_by me t.serving.node)
+sends_of me t = of_kept me t [] (numbered_by me t.serving.node)
 
 -- it has one, and the core reacts so
 abbrev pub OfInput : Me → Node → (Reaction → Type 0) → Result (Option TimedInput) NodeEnd → Type 0
@@ -60,7 +65,7 @@ Causes me t (end.Full would_be) = ended_turn me t ≡ Err (end.Full would_be)
 Causes me t (end.Spent spent) = ended_turn me t ≡ Err (end.Spent spent)
 
 -- What the link was asked to send at the turn: nothing, unless memory ran out, or the number of one of its messages.
--- Then it is a front of what was to be sent.
+-- Then it is a prefix of what was to be sent before that message.
 abbrev pub SendsAtEnd : Me → Turn → NodeEnd → Option Told → Type 0
 SendsAtEnd me t end.OutOfMemory link = SendsFront (sends_of me t) t.serving.outside.link link
 SendsAtEnd me t (end.Spent spent) link = SendsFront (sends_of me t) t.serving.outside.link link

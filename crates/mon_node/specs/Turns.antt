@@ -14,7 +14,7 @@ use Rattle.mon_types.specs.declared.names.Which.{Which}
 use Rattle.mon_node.specs.Hearing.{Given, at_moment, clock_read, heard}
 use Rattle.mon_node.specs.Keeping.{kept}
 use Rattle.mon_node.specs.Nodes.{Node, Serving}
-use Rattle.mon_node.specs.Posting.{datagrams, letters, next_after, boot_in, and_sent}
+use Rattle.mon_node.specs.Posting.{datagrams, letters, next_after, with_number, boot_in, and_sent}
 use Rattle.mon_node.specs.declared.end.NodeEnd.TheVariants as end
 use Rattle.mon_node.specs.declared.end.NodeEnd.{NodeEnd}
 use Rattle.mon_node.specs.declared.hearing.TimedInput.{TimedInput}
@@ -28,6 +28,11 @@ map_after n r = apply r.transaction n.store.kv
 -- what goes out once that is kept
 abbrev pub sent_by : Me → Node → Reaction → List Outgoing
 sent_by me n r = datagrams (boot_in (map_after n r)) n.next (letters me (map_after n r) r.sends)
+
+-- and up to the first message that finds no number
+abbrev pub numbered_by : Me → Node → Reaction → List Outgoing
+numbered_by me n r =
+    datagrams (boot_in (map_after n r)) n.next (with_number n.next (letters me (map_after n r) r.sends))
 
 abbrev pub next_number : Me → Node → Reaction → ℕ
 next_number me n r = next_after n.next (letters me (map_after n r) r.sends)

@@ -24,9 +24,9 @@ const LONGEST_WAIT: u64 = 1000;
 
 /// An input, and the moment at which it comes.
 #[derive(Drop)]
-pub(crate) struct TimedInput {
-    pub(crate) input: Input,
-    pub(crate) at: Moment,
+pub struct TimedInput {
+    pub input: Input,
+    pub at: Moment,
 }
 
 /// The timer that is due by a moment.

@@ -1,12 +1,14 @@
 //! What the core writes is kept.
 
-ghost use Rattle.std.specs.Prelude.{◌≡◌, ◌≤◌, ◌⊎◌, false, length, OnOk, IfErr};
+ghost use Rattle.std.specs.Prelude.{◌≡◌, ◌≤◌, ◌<◌, ◌⊎◌, false, length, OnOk, IfErr};
+ghost use Rattle.mon_kv.specs.Readers.{size_of};
+ghost use Rattle.mon_store.specs.Checkpoint.{most_size};
 ghost use Rattle.mon_store.specs.Whole.{IsSound, disk_a, disk_b};
 ghost use Rattle.mon_tx.specs.Map.{apply};
 ghost use Rattle.mon_tx.specs.Text.{text, most};
 ghost use Rattle.mon_store.specs.Moments.{Meanwhile};
 ghost use Rattle.mon_node.specs.Keeping.{Keeps, changed, renewed, kept, IsOfDisk, DisksCount};
-ghost use Rattle.mon_node.specs.Lasting.{BothTell, IsWithin, On, Pass, StaysIfFull, recorded};
+ghost use Rattle.mon_node.specs.Lasting.{BothTell, IsWithin, On, Pass, recorded};
 ghost use Rattle.mon_node.specs.Nodes.{disks_of, stood_of};
 
 use crate::end::NodeEnd;
@@ -25,8 +27,8 @@ fn change<D: Disk>(store: &mut Store<D>, tx: &Transaction) -> Result<(), NodeEnd
     ensures stands { OnOk result (stood_of store.new ≡ changed tx.now (stood_of store.old)) }
     ensures counts { DisksCount result (D.state (disk_a store.old)).faults (D.state (disk_b store.old)).faults
         (D.state (disk_a store.new)).faults (D.state (disk_b store.new)).faults }
-    ensures full { IfErr result
-        (λ end. StaysIfFull end (disk_a store.old) (disk_b store.old) (disk_a store.new) (disk_b store.new)) }
+    ensures large { most_size < size_of (apply tx.now store.old.kv)
+        → (disk_a store.new ≡ disk_a store.old) × (disk_b store.new ≡ disk_b store.old) }
     ensures tells { BothTell (disks_of D.state store.old) → BothTell (disks_of D.state store.new) }
 
     // A crash at any moment leaves the store as it stood, or behind the record.
@@ -79,8 +81,8 @@ pub(crate) fn keep<D: Disk>(store: &mut Store<D>, tx: &Transaction) -> Result<()
     ensures stands { OnOk result (stood_of store.new ≡ kept tx.now (stood_of store.old)) }
     ensures counts { DisksCount result (D.state (disk_a store.old)).faults (D.state (disk_b store.old)).faults
         (D.state (disk_a store.new)).faults (D.state (disk_b store.new)).faults }
-    ensures full { IfErr result
-        (λ end. StaysIfFull end (disk_a store.old) (disk_b store.old) (disk_a store.new) (disk_b store.new)) }
+    ensures large { most_size < size_of (apply tx.now store.old.kv)
+        → (disk_a store.new ≡ disk_a store.old) × (disk_b store.new ≡ disk_b store.old) }
     ensures passes { BothTell (disks_of D.state store.old)
         → Pass (IsWithin tx.now (stood_of store.old)) (disks_of D.state store.old) (disks_of D.state store.new) }
 {

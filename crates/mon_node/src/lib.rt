@@ -11,4 +11,5 @@ mod server;
 mod serving;
 
 pub use end::{NodeEnd, Served};
+pub use hearing::TimedInput;
 pub use serving::serve;

@@ -7,7 +7,7 @@ ghost use Rattle.mon_core.specs.Reacts.{TellsNamed};
 ghost use Rattle.mon_types.specs.declared.names.Which.TheVariants as number;
 ghost use Rattle.mon_wire.specs.Message.Whole.{HasText, text};
 ghost use Rattle.mon_wire.specs.declared.body.Body.TheVariants as body;
-ghost use Rattle.mon_node.specs.Posting.{Posts, to_peer, letter, letters, next_behind, next_after, datagrams_of, datagrams, boot_in, IsSpent};
+ghost use Rattle.mon_node.specs.Posting.{Posts, to_peer, letter, letters, next_behind, next_after, with_number, datagrams_of, datagrams, boot_in, IsSpent};
 
 use crate::end::NodeEnd;
 use mon_bounds::law_message_fits;
@@ -71,6 +71,7 @@ fn send_letter<L: Link>(
     ensures behind { OnOk result (next.new ≡ next_behind next.old (length letter.now.bytes)) }
     ensures most { OnOk result (next.new ≤ 2 ^ 62 + 1) }
     ensures spent { IfErr result (IsSpent (next_behind next.old (length letter.now.bytes))) }
+    ensures unsent { 2 ^ 62 + 1 < next_behind next.old (length letter.now.bytes) → L.state link.new ≡ L.state link.old }
 {
     let bytes = letter.bytes.as_slice();
     let number = numbered(next, bytes.len())?;
@@ -144,7 +145,8 @@ fn letter(alloc: Global, me: &Me, epoch: Epoch, sent: &Sent) -> Result<Outgoing,
     }
 }
 
-/// Sends all of it, in order, as a monitor with this map.
+/// Sends all of it, in order, as a monitor with this map. It ends before the first message that is longer than a datagram
+/// and finds no number.
 pub(crate) fn send_all<L: Link>(
     alloc: Global,
     link: &mut L,
@@ -156,8 +158,8 @@ pub(crate) fn send_all<L: Link>(
     requires may { AllByRecursion (MaySend me.now) out.now }
     requires named { AllByRecursion TellsNamed out.now }
     requires next { next.old ≤ 2 ^ 62 + 1 }
-    ensures posts { Posts (datagrams (boot_in kv.now) next.old (letters me.now kv.now out.now)) result
-        (L.state link.old) (L.state link.new) }
+    ensures posts { Posts (datagrams (boot_in kv.now) next.old (with_number next.old (letters me.now kv.now out.now)))
+        result (L.state link.old) (L.state link.new) }
     ensures behind { OnOk result (next.new ≡ next_after next.old (letters me.now kv.now out.now)) }
     ensures most { OnOk result (next.new ≤ 2 ^ 62 + 1) }
     ensures spent { IfErr result (IsSpent (next_after next.old (letters me.now kv.now out.now))) }

@@ -27,7 +27,7 @@ use Rattle.quorum_laws.proofs.Events.{Does, ToldOf, ended, good_with, member_of,
 use Rattle.quorum_laws.proofs.Invariant.{InvWith}
 use Rattle.quorum_model.specs.Monitors.{Monitors}
 use Rattle.quorum_model.specs.World.{Asked, World}
-use Rattle.quorum_walk.proofs.FineCourses.{Ended, Val}
+use Rattle.quorum_walk.proofs.FineCourses.{begun, Ended, Val}
 use Rattle.quorum_walk.proofs.Lists.{Among}
 use Rattle.std.proofs.Common.{List, Ok, Some, ap, arith, false, inl, inr, length, refl, subst, sym, true, ℕ, ◌<◌, ◌∙◌, ◌≡◌, ◌≤◌, ◌⊎◌}
 use Rattle.std.proofs.lemmas.Bool.{false≢true, ltb-true}
@@ -80,7 +80,7 @@ module _ (ms : Monitors) (w : World) (asked : List Asked) (J : InvWith ms w aske
   good = good_with w.store w.state w.transactions w.messages w.active asked me J d.by.at d.by.state d.by.came d.by.on d.by.fits d.by.holds (d.by.fine (shares w.store w.state w.transactions w.messages w.active asked me J d.by.at)) d.y d.is
       Known O.made makes
 
-  pub fine_then : Ended (readings_of m) d.y
+  pub fine_then : Ended (begun me (readings_of m) d.by.state d.by.came) d.y
   fine_then = ended w.store w.state w.transactions w.messages w.active asked me J d.by.at d.by.state d.by.came d.by.on d.by.fits d.by.holds (d.by.fine (shares w.store w.state w.transactions w.messages w.active asked me J d.by.at)) d.y d.is
 
   -- it accepted what was made

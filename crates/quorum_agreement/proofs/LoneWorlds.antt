@@ -37,7 +37,7 @@ use Rattle.quorum_model.specs.Growth.{grown}
 use Rattle.quorum_model.specs.Happens.{kept_only, lost, moved, put_at, unmoved}
 use Rattle.quorum_model.specs.Monitors.{Monitors}
 use Rattle.quorum_model.specs.World.{Asked, Plain, World, first_world}
-use Rattle.quorum_walk.proofs.FineCourses.{Ended, Fit}
+use Rattle.quorum_walk.proofs.FineCourses.{begun, Ended, Fit}
 use Rattle.quorum_walk.proofs.Lists.{all_append}
 use Rattle.quorum_walk.proofs.Sparing.{Own, learned_own, own_of}
 use Rattle.quorum_walk.proofs.Walk.{Then}
@@ -183,7 +183,7 @@ module _ (ms : Monitors) (one : ms.count ≡ 1) (w : World) (asked : List Asked)
     has = subst (λ (c : ℕ). HasVersions more c after) (sym long)
         (subst (λ (cs : List Change). HasVersions more (suc (length w.log)) (behind cs m)) (sym changes) (committed w.log room O.values w0 keeps last_is C.ops (is_value ms.count ms.most asked w.log room O.values C.ops made) m H.versions))
 
-    E : Ended w0 d.y
+    E : Ended (begun me w0 d.by.state d.by.came) d.y
     E = ended w.store w.state w.transactions w.messages w.active asked me J d.by.at d.by.state d.by.came d.by.on d.by.fits d.by.holds (d.by.fine (shares w.store w.state w.transactions w.messages w.active asked me J d.by.at)) d.y d.is
 
     tells : readings_of after ≡ played (Learn (suc w0.last) C.ops ∷ Last (suc w0.last) ∷ []) w0

@@ -92,7 +92,7 @@ use Rattle.mon_msg.specs.Protocol.Played.{played}
 use Rattle.mon_msg.specs.Protocol.Proposing.{asked_of}
 use Rattle.mon_msg.specs.Protocol.Sending.{answer_to}
 use Rattle.quorum_history.proofs.RowsClients as clients
-use Rattle.quorum_walk.proofs.FineCourses.{Ended, Fit, Val}
+use Rattle.quorum_walk.proofs.FineCourses.{begun, Ended, Fit, Val}
 use Rattle.quorum_agreement.proofs.Safe.{IsSafe, safe_more, shows_told, stems_again}
 
 -- what is told since a version acknowledges nothing
@@ -148,7 +148,10 @@ pub record Moved (w next : World) (rank : ℕ) (m : Store) (y : Course) : Type 0
   pub messages : next.messages ≡ w.messages ++ messages_of y.out
   pub active : is_active y.state.phase ≡ true → Among (epoch_of (readings_of m), rank) next.active
   pub read : readings_of m ≡ y.readings
-  pub ended : Ended (readings_at w rank) y
+  pub who : Me
+  pub was : State
+  pub came : Input
+  pub ended : Ended (begun who (readings_at w rank) was came) y
 
 module _ (ms : Monitors) (w next : World) (I : InvOf ms w) (K : InvOf ms next) (O : Onward w next I.g K.g) (S : IsSafe ms w I) (asked : List Asked) (J : InvWith ms w asked) (up : Further I.g J.g) (ahead : Further J.g K.g) (asked_are : next.asked ≡ asked) (Told : Envelope → Type 0) (d : Does ms w Told asked J)
     (M : Moved w next d.by.rank (written (w.store d.by.rank) d.y) d.y) (routes : ToldOf (Routes w I.g) d.by.rank d.by.came) (L : OneLog ms w) (N : OneLog ms next)

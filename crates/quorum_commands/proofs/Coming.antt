@@ -24,7 +24,7 @@ use Rattle.quorum_model.specs.Happens.{after_meeting, happens, kept_only, lost, 
 use Rattle.quorum_model.specs.Meets.{Down, Meeting, NoMessage, Reacts, meeting, meeting_at, meets, state_at}
 use Rattle.quorum_model.specs.Monitors.{Monitors, me_if}
 use Rattle.quorum_model.specs.World.{Client, Comes, Crash, Deliver, Envelope, Event, Plain, Ring, Start, World, plain_of}
-use Rattle.quorum_walk.proofs.FineCourses.{Ended, EntryFine, Fine, RequestFine, fit_fits}
+use Rattle.quorum_walk.proofs.FineCourses.{begun, still, Ended, EntryFine, Fine, RequestFine, fit_fits}
 use Rattle.quorum_walk.proofs.FineTable.{ComesFine, react_fine}
 use Rattle.quorum_walk.proofs.Lists.{all_get}
 use Rattle.quorum_walk.proofs.Sparing.{own_of}
@@ -152,10 +152,10 @@ module _ (ms : Monitors) (w : World) (I : InvOf ms w) (p : Plain) (d : Does ms w
   fits (input.Timer t) b = tt
   fits (input.Client t r) b = request_fine r b.1
 
-  pub ended : Ended (readings_of m) d.y
+  pub ended : Ended (begun me (readings_of m) d.state d.came) d.y
   ended =
-      let F : Fine (readings_of m) (at_rest (readings_of m) d.state) = record { shape = tt; stored = (m, refl); tells = refl; fits = tt; readings = (I.mine d.rank).fine; state = state_fits; sends = tt } in
-      (subst (Then (Ended (readings_of m))) d.is (react_fine me d.at (readings_of m) made (shared_entries m) shares (readings_of m) d.state d.came (fits d.came d.brought) F)).holds
+      let F : Fine (still me (readings_of m)) (at_rest (readings_of m) d.state) = record { shape = tt; stored = (m, refl); tells = refl; boot = refl; fits = tt; readings = (I.mine d.rank).fine; state = state_fits; sends = tt } in
+      (subst (Then (Ended (begun me (readings_of m) d.state d.came))) d.is (react_fine me d.at made (shared_entries m) shares (readings_of m) d.state d.came (fits d.came d.brought) F)).holds
 
   -- what its store tells then
   pub tells : readings_of next ≡ d.y.readings

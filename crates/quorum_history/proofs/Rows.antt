@@ -35,7 +35,7 @@ use Rattle.quorum_history.proofs.RowsLeader.{hear_accept_holds, hear_last_holds,
 use Rattle.quorum_history.proofs.RowsPeon.{hear_begin_holds, hear_collect_holds, hear_commit_holds, hear_lease_holds}
 use Rattle.quorum_history.proofs.RowsSync.{anew_holds, hear_chunk_holds, hear_cookie_holds, hear_get_chunk_holds, hear_get_cookie_full_holds, hear_get_cookie_recent_holds, hear_last_chunk_holds, hear_no_cookie_holds, replay_step_holds}
 use Rattle.quorum_history.proofs.Steps.{moves, rises, tells, tells_each}
-use Rattle.quorum_walk.proofs.FineCourses.{BodyFine, EntryFine, Fine, Made, MessageFine}
+use Rattle.quorum_walk.proofs.FineCourses.{still, BodyFine, EntryFine, Fine, Made, MessageFine}
 use Rattle.quorum_walk.proofs.FineTable.{ComesFine}
 use Rattle.quorum_walk.proofs.Sparing.{Copied, own_of}
 use Rattle.quorum_walk.proofs.Walk.{Then, by_test, done, where_fits}
@@ -100,7 +100,7 @@ module _ (me : Me) (now : ℕ) (g : Ghost) (Known : ℕ → List Op → Type 0) 
 
   module _ (made : Made) (w0 : Readings) where
     module _ (shared : List Copied) where
-      hear_holds : (f e : ℕ) (b : Body) (x : Course) → f < me.member.monitors → BodyHolds g f me.member.rank e b → BodyFine b → Fine w0 x → Makes me now g Known x.readings → Good me g Known x → Then (Good me g Known) (hear me shared now f e b x)
+      hear_holds : (f e : ℕ) (b : Body) (x : Course) → f < me.member.monitors → BodyHolds g f me.member.rank e b → BodyFine b → Fine (still me w0) x → Makes me now g Known x.readings → Good me g Known x → Then (Good me g Known) (hear me shared now f e b x)
       hear_holds f e body.Probe x z k V F M A = hear_probe_holds me now g Known f x A
       hear_holds f e (body.ProbeReply q first last) x z k V F M A = hear_probe_reply_holds me now g Known f q first last x k A
       hear_holds f e (body.Propose table) x z k V F M A = hear_propose_holds me now g Known f e table x A
@@ -127,10 +127,10 @@ module _ (me : Me) (now : ℕ) (g : Ghost) (Known : ℕ → List Op → Type 0) 
       hear_holds f e (body.Request id r) x z k V F M A = done A
       hear_holds f e (body.Reply id r) x z k V F M A = done A
 
-      deliver_holds : (m : Message) (x : Course) → (m.from < me.member.monitors) × MessageHolds g me.member.rank m → MessageFine m → Fine w0 x → Makes me now g Known x.readings → Good me g Known x → Then (Good me g Known) (deliver me shared now m x)
+      deliver_holds : (m : Message) (x : Course) → (m.from < me.member.monitors) × MessageHolds g me.member.rank m → MessageFine m → Fine (still me w0) x → Makes me now g Known x.readings → Good me g Known x → Then (Good me g Known) (deliver me shared now m x)
       deliver_holds m x k V F M A = by_test (is_heard me m) (λ _. hear_holds m.from m.epoch m.body x k.0 k.1.body V.1 F M A) (λ _. done A)
 
-    timer_holds : (t : Timer) (x : Course) → Fine w0 x → Makes me now g Known x.readings → Good me g Known x → Then (Good me g Known) (timer_comes me now t x)
+    timer_holds : (t : Timer) (x : Course) → Fine (still me w0) x → Makes me now g Known x.readings → Good me g Known x → Then (Good me g Known) (timer_comes me now t x)
     timer_holds timer.Probe x F M A = anew_holds me now g Known x A
     timer_holds timer.Election x F M A = election_ends_holds me now g Known x A
     timer_holds timer.Collect x F M A = anew_holds me now g Known x A
@@ -150,12 +150,12 @@ module _ (me : Me) (now : ℕ) (g : Ghost) (Known : ℕ → List Op → Type 0) 
     before_holds (input.Client s r) x A = done (replies me now g Known _ s reply.Unavailable x A)
 
     module _ (shared : List Copied) (sharing : AllByRecursion EntryFine shared) where
-      running_holds : (came : Input) (x : Course) → InputHolds me g came → ComesFine me now w0 made shared sharing came → Fine w0 x → Makes me now g Known x.readings → Good me g Known x → Then (Good me g Known) (running me shared now came x)
+      running_holds : (came : Input) (x : Course) → InputHolds me g came → ComesFine me now w0 made shared sharing came → Fine (still me w0) x → Makes me now g Known x.readings → Good me g Known x → Then (Good me g Known) (running me shared now came x)
       running_holds input.Start x k V F M A = done A
       running_holds (input.Deliver m) x k V F M A = deliver_holds shared m x k V.1 F M A
       running_holds (input.Timer t) x k V F M A = by_test (is_some (end_of t x.state.timers)) (λ _. timer_holds t (disarm t x) F M A) (λ _. done A)
       running_holds (input.Client s r) x k V F M A = hear_client_holds me now g Known made s r x V F.readings.own.last M k A
 
-      pub react_holds : (w : Readings) (s : State) (came : Input) → InputHolds me g came → ComesFine me now w0 made shared sharing came → Fine w0 (at_rest w s) → Makes me now g Known w → Good me g Known (at_rest w s) → Then (Good me g Known) (react me shared now w s came)
+      pub react_holds : (w : Readings) (s : State) (came : Input) → InputHolds me g came → ComesFine me now w0 made shared sharing came → Fine (still me w0) (at_rest w s) → Makes me now g Known w → Good me g Known (at_rest w s) → Then (Good me g Known) (react me shared now w s came)
       unfolding react
       react_holds w s came k V F M A = by_test (same_phase s.phase phase.Booting) (λ _. before_holds came (at_rest w s) A) (λ _. running_holds came (at_rest w s) k V F M A)

@@ -45,7 +45,7 @@ use Rattle.quorum_model.specs.Meets.{Down, Meeting, NoMessage, Reacts, meeting, 
 use Rattle.quorum_model.specs.Monitors.{Monitors, me_if}
 use Rattle.quorum_model.specs.Runs.{goes_on, ran_from, run, run_from}
 use Rattle.quorum_model.specs.World.{Asked, Client, Comes, Crash, Deliver, Envelope, Event, Plain, Ring, Start, World, first_world, plain_of}
-use Rattle.quorum_walk.proofs.FineCourses.{Ended, EntryFine, Fine, RequestFine, fit_fits}
+use Rattle.quorum_walk.proofs.FineCourses.{begun, still, Ended, EntryFine, Fine, RequestFine, fit_fits}
 use Rattle.quorum_walk.proofs.FineTable.{ComesFine, react_fine}
 use Rattle.quorum_walk.proofs.Lists.{Among, all_append, all_get}
 use Rattle.quorum_walk.proofs.Sparing.{own_of}
@@ -70,8 +70,8 @@ module _ (store : ℕ → Store) (state : ℕ → Option State) (txs : ℕ → L
   abbrev pub shares : AllByRecursion EntryFine (shared_entries m)
   shares = sharing m (I.mine i).fine.records
 
-  fine_at_first : (s : State) → StateFits s → Fine (readings_of m) (at_rest (readings_of m) s)
-  fine_at_first s k = record { shape = tt; stored = (m, refl); tells = refl; fits = tt; readings = (I.mine i).fine; state = k; sends = tt }
+  fine_at_first : (s : State) → StateFits s → Fine (still me (readings_of m)) (at_rest (readings_of m) s)
+  fine_at_first s k = record { shape = tt; stored = (m, refl); tells = refl; boot = refl; fits = tt; readings = (I.mine i).fine; state = k; sends = tt }
 
   -- this is known of what was accepted, and of what a command that was asked makes
   good_at_first : (Known : ℕ → List Op → Type 0) → ((j v p : ℕ) (x : List Op) → Accepted I.g j v p x → Known v x) → (s : State) → OnState n I.g i (readings_of m) (Some s) → Good me I.g Known (at_rest (readings_of m) s)
@@ -87,8 +87,8 @@ module _ (store : ℕ → Store) (state : ℕ → Option State) (txs : ℕ → L
     good : Good me I.g (λ v y. Unit {0}) x
     good = good_with (λ v y. Unit {0}) (λ j v p y a. tt) ((m, refl), λ u a s c y k e. tt)
 
-    pub ended : Ended (readings_of m) x
-    ended = (subst (Then (Ended (readings_of m))) is (react_fine me at (readings_of m) made (shared_entries m) shares (readings_of m) s came d (fine_at_first s z))).holds
+    pub ended : Ended (begun me (readings_of m) s came) x
+    ended = (subst (Then (Ended (begun me (readings_of m) s came))) is (react_fine me at made (shared_entries m) shares (readings_of m) s came d (fine_at_first s z))).holds
 
     abbrev tx : List Op
     tx = joined (spelled x.changes)
@@ -136,7 +136,7 @@ module _ (store : ℕ → Store) (state : ℕ → Option State) (txs : ℕ → L
       held = held_after store txs i tx I.held;
       raised = raised_after store txs i tx I.held I.raised collects_new last_up;
       sent = all_append (EnvelopeHolds n good.h) messages (messages_of x.out) (envelopes_last n i I.g good.h good.ext messages I.sent) (envelopes_of n good.h i me.member.in_map x.out good.sent);
-      sizes = all_append EnvelopeFine messages (messages_of x.out) I.sizes (fine_envelopes x.out ended.sends);
+      sizes = all_append EnvelopeFine messages (messages_of x.out) I.sizes (fine_envelopes me x.out ended.sends);
       active = all_append (WasActive n good.h) pairs _ (active_last n i I.g good.h good.ext pairs I.active) now_active;
       asks = asks;
     }

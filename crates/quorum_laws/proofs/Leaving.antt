@@ -30,7 +30,7 @@ use Rattle.quorum_history.proofs.Holds.{BodyHolds, Core, Disk, Good, InPhase, St
 use Rattle.quorum_history.proofs.Phases.{collecting_is, no, peon_is_peon}
 use Rattle.quorum_history.proofs.Rows.{InputHolds, react_holds}
 use Rattle.quorum_history.proofs.Steps.{tied_refl}
-use Rattle.quorum_walk.proofs.FineCourses.{EntryFine, Fine, Made}
+use Rattle.quorum_walk.proofs.FineCourses.{still, EntryFine, Fine, Made}
 use Rattle.quorum_walk.proofs.FineTable.{ComesFine}
 use Rattle.quorum_walk.proofs.Lists.{Among}
 use Rattle.quorum_walk.proofs.Sparing.{Copied, own_of}
@@ -149,7 +149,7 @@ module _ (n i e : ℕ) (g : Ghost) where
 abbrev pub IsLater : ℕ → Course → Type 0
 IsLater e x = is_member x.state.phase ≡ true → e < epoch_of x.readings
 
-module _ (me : Me) (now : ℕ) (g : Ghost) (made : Made) (w : Readings) (shared : List Copied) (sharing : AllByRecursion EntryFine shared) (s : State) (fine : Fine w (at_rest w s))
+module _ (me : Me) (now : ℕ) (g : Ghost) (made : Made) (w : Readings) (shared : List Copied) (sharing : AllByRecursion EntryFine shared) (s : State) (fine : Fine (still me w) (at_rest w s))
     (G : Glob me.member.monitors g) (D : Disk g me.member.rank (own_of w) w.record_of) (k : InPhase me.member.monitors g me.member.rank (core_of (own_of w) s) s.phase) (outside : is_member s.phase ≡ false) where
   abbrev n : ℕ
   n = me.member.monitors

@@ -1,4 +1,5 @@
 -- Every list of events keeps what holds.
+use Rattle.mon_msg.specs.declared.view.Me.{Me}
 use Rattle.mon_msg.specs.Joined.{joined}
 use Rattle.mon_msg.specs.Protocol.Changes.{Change, Vote, spelled}
 use Rattle.mon_msg.specs.Protocol.Readings.{Readings}
@@ -23,7 +24,7 @@ use Rattle.quorum_model.specs.Clients.{messages_of}
 use Rattle.quorum_model.specs.Happens.{is_active, put_at}
 use Rattle.quorum_model.specs.Safe.{after_transactions}
 use Rattle.quorum_model.specs.World.{Envelope}
-use Rattle.quorum_walk.proofs.FineCourses.{Fit, SentFine, Shaped}
+use Rattle.quorum_walk.proofs.FineCourses.{Fit, SentOwn, Shaped}
 use Rattle.quorum_walk.proofs.Lists.{Among, all_map}
 use Rattle.quorum_walk.proofs.Ranks.{within_at}
 use Rattle.quorum_walk.proofs.Sparing.{own_of}
@@ -76,10 +77,10 @@ envelopes_of n g i lt [] k = tt
 envelopes_of n g i lt (sent.Message to m ∷ sends) k = ((let e = k.0.0 in omega arith, k.0.1), envelopes_of n g i lt sends k.1)
 envelopes_of n g i lt (sent.Reply to r ∷ sends) k = envelopes_of n g i lt sends k.1
 
-pub fine_envelopes : (sends : List Sent) → AllByRecursion SentFine sends → AllByRecursion EnvelopeFine (messages_of sends)
-fine_envelopes [] k = tt
-fine_envelopes (sent.Message to m ∷ sends) k = (k.0, fine_envelopes sends k.1)
-fine_envelopes (sent.Reply to r ∷ sends) k = fine_envelopes sends k.1
+pub fine_envelopes : (me : Me) (sends : List Sent) → AllByRecursion (SentOwn me) sends → AllByRecursion EnvelopeFine (messages_of sends)
+fine_envelopes me [] k = tt
+fine_envelopes me (sent.Message to m ∷ sends) k = (k.0.0, fine_envelopes me sends k.1)
+fine_envelopes me (sent.Reply to r ∷ sends) k = fine_envelopes me sends k.1
 
 -- ---- what was accepted
 

@@ -28,7 +28,7 @@ use Rattle.mon_types.specs.declared.names.Which.TheVariants as which
 use Rattle.mon_wire.specs.declared.body.Body.TheVariants as body
 use Rattle.mon_wire.specs.declared.phase.Phase.TheVariants as phase
 use Rattle.mon_wire.specs.declared.reply.Reply.{Reply}
-use Rattle.quorum_walk.proofs.FineCourses.{Calm, Ended, Fine, FineAt, FoundFine, ReadingsFine, SentFine, StageFine, StateFine, Val, mark_fine, more_sent, number_fine, over, state_fine, tell_fine, tells_fine, vote_fine}
+use Rattle.quorum_walk.proofs.FineCourses.{Base, SentOwn, Calm, Ended, Fine, FineAt, FoundFine, ReadingsFine, StageFine, StateFine, Val, mark_fine, more_sent, number_fine, over, state_fine, tell_fine, tells_fine, vote_fine}
 use Rattle.quorum_walk.proofs.FineReading.{learn_fine, longest_fine, missing_fine, pending_fine, put_fine, run_fine}
 use Rattle.quorum_walk.proofs.Lists.{all_flat_map}
 use Rattle.quorum_walk.proofs.Walk.{Then, and_then, by_test, done, where_fits}
@@ -38,11 +38,11 @@ use Rattle.std.specs.List.{AllByRecursion, flat_map}
 use Rattle.std.specs.Option.{option_map}
 use Rattle.std.specs.Prelude.{slice_index_or}
 
-module _ (me : Me) (now : ℕ) (w0 : Readings) where
-  pub answers_fine : (e : ℕ) (o : Option Origin) (r : Reply) → IsShort e → AllByRecursion SentFine (answers_to me e o r)
+module _ (me : Me) (now : ℕ) (w0 : Base me) where
+  pub answers_fine : (e : ℕ) (o : Option Origin) (r : Reply) → IsShort e → AllByRecursion (SentOwn me) (answers_to me e o r)
   answers_fine e None r k = tt
   answers_fine e (Some (origin.Session s)) r k = (tt, tt)
-  answers_fine e (Some (origin.Forwarded f seq)) r k = ((k, tt), tt)
+  answers_fine e (Some (origin.Forwarded f seq)) r k = (((k, tt), refl), tt)
 
   -- ---- leading
 
@@ -88,16 +88,16 @@ module _ (me : Me) (now : ℕ) (w0 : Readings) where
 
   -- ---- collecting
 
-  commits_fine : (e told : ℕ) (values : List (List Op)) (to : ℕ) → IsShort e → AllByRecursion Val values → AllByRecursion SentFine (commits_with me e told values to)
+  commits_fine : (e told : ℕ) (values : List (List Op)) (to : ℕ) → IsShort e → AllByRecursion Val values → AllByRecursion (SentOwn me) (commits_with me e told values to)
   commits_fine e told [] to k V = tt
-  commits_fine e told (x ∷ xs) to k V = ((k, V), tt)
+  commits_fine e told (x ∷ xs) to k V = (((k, V), refl), tt)
 
-  commits_to_fine : (w : Readings) (lasts : List ℕ) (to : ℕ) → ReadingsFine w → AllByRecursion SentFine (commits_to me w lasts to)
+  commits_to_fine : (w : Readings) (lasts : List ℕ) (to : ℕ) → ReadingsFine w → AllByRecursion (SentOwn me) (commits_to me w lasts to)
   unfolding missed
   commits_to_fine w lasts to R =
       let told = slice_index_or lasts to 0 in
       let values = missed me.member.monitors w.record_of w.last told in
-      cond_both (ltb told w.last) (commits_with me (epoch_of w) told values to) [] (AllByRecursion SentFine)
+      cond_both (ltb told w.last) (commits_with me (epoch_of w) told values to) [] (AllByRecursion (SentOwn me))
       (λ _. commits_fine (epoch_of w) told values to R.own.epoch (longest_fine Val (λ vs. fits me.member.monitors (body.Commit (suc told) vs)) (run_from w.record_of w.last (suc told)) (run_fine w.record_of R.records w.last (suc told))))
       (λ _. tt)
 
@@ -110,7 +110,7 @@ module _ (me : Me) (now : ℕ) (w0 : Readings) where
   settle_fine x A =
       let leader = x.state.leader in
       let ks = members me leader.quorum in
-      let B = more_sent (flat_map (commits_to me x.readings leader.lasts) ks) A (all_flat_map SentFine (commits_to me x.readings leader.lasts) (λ to. commits_to_fine x.readings leader.lasts to A.readings) ks) in
+      let B = more_sent (flat_map (commits_to me x.readings leader.lasts) ks) A (all_flat_map (SentOwn me) (commits_to me x.readings leader.lasts) (λ to. commits_to_fine x.readings leader.lasts to A.readings) ks) in
       let S : StateFine None leader.value leader.pn x.state.requester.stage x.state.clients.queue = record { found = tt; value = A.state.value; pn = A.state.pn; stage = A.state.stage; queue = A.state.queue } in
       begin_found_fine leader.found _ A.state.found (state_fine None leader.value leader.pn x.state.requester.stage x.state.clients.queue B S)
 
@@ -118,7 +118,7 @@ module _ (me : Me) (now : ℕ) (w0 : Readings) where
   unfolding collect_with
   collect_with_fine q pn x short A =
       let O = A.readings.own in
-      let B = number_fine (Numbers pn) A tt short refl (record { epoch = O.epoch; last_pn = short; promise = short; pending = O.pending; last = O.last; floor = O.floor }) in
+      let B = number_fine (Numbers pn) A tt short refl refl (record { epoch = O.epoch; last_pn = short; promise = short; pending = O.pending; last = O.last; floor = O.floor }) in
       let S : StateFine (pending x.readings) None pn x.state.requester.stage x.state.clients.queue = record { found = pending_fine x.readings.record_of A.readings.records x.readings.pending_v x.readings.pending_pn x.readings.last; value = tt; pn = short; stage = A.state.stage; queue = A.state.queue } in
       tells_fine me (body.Collect pn x.readings.first x.readings.last) (members me q) (state_fine (pending x.readings) None pn x.state.requester.stage x.state.clients.queue B S) short
 
@@ -137,7 +137,7 @@ module _ (me : Me) (now : ℕ) (w0 : Readings) where
   -- ---- elections
 
   pub epoch_fine : (e : ℕ) (x : Course) → IsShort e → Fine w0 x → Fine w0 (change (Epoch e) x)
-  epoch_fine e x short A = let O = A.readings.own in number_fine (Epoch e) A tt short refl (record { epoch = short; last_pn = O.last_pn; promise = O.promise; pending = O.pending; last = O.last; floor = O.floor })
+  epoch_fine e x short A = let O = A.readings.own in number_fine (Epoch e) A tt short refl refl (record { epoch = short; last_pn = O.last_pn; promise = O.promise; pending = O.pending; last = O.last; floor = O.floor })
 
   -- nobody waits any more
   pub forgets_fine : (x : Course) → Fine w0 x → Fine w0 (forget_clients x)
@@ -186,7 +186,7 @@ module _ (me : Me) (now : ℕ) (w0 : Readings) where
       by (Some x) = cond_both _ (Some x) None (λ (o : Option (List Op)). IsShort (pending_version (option_map (λ short. record { version = w.pending_v; pn = w.pending_pn; value = short }) o))) (λ _. V.own.pending) (λ _. none)
 
   -- of a requester
-  pub staged_fine : (s : SyncStage) (x : Course) → Fine w0 x → StageFine s → FineAt Calm w0 x.readings x.changes x.state.leader.found x.state.leader.value x.state.leader.pn s x.state.clients.queue x.out
+  pub staged_fine : (s : SyncStage) (x : Course) → Fine w0 x → StageFine s → FineAt Calm me w0 x.readings x.changes x.state.leader.found x.state.leader.value x.state.leader.pn s x.state.clients.queue x.out
   staged_fine s x A k = state_fine x.state.leader.found x.state.leader.value x.state.leader.pn s x.state.clients.queue A (record { found = A.state.found; value = A.state.value; pn = A.state.pn; stage = k; queue = A.state.queue })
 
   pub full_sync_fine : (f : ℕ) (x : Course) → Fine w0 x → Ended w0 (full_sync me now f x)

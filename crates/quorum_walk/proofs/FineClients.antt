@@ -36,14 +36,14 @@ use Rattle.mon_wire.specs.declared.request.Request.TheVariants as request
 use Rattle.mon_wire.specs.declared.request.Request.{Request}
 use Rattle.mon_wire.specs.declared.request.Session.{Session}
 use Rattle.quorum_walk.proofs.FineActs.{begin_fine}
-use Rattle.quorum_walk.proofs.FineCourses.{Calm, Ended, Fine, FineAt, Made, OriginFine, RequestFine, SentFine, WaitingFine, more_sent, over, state_fine, stored_now, tell_fine}
+use Rattle.quorum_walk.proofs.FineCourses.{Base, SentOwn, Calm, Ended, Fine, FineAt, Made, OriginFine, RequestFine, WaitingFine, more_sent, over, state_fine, stored_now, tell_fine}
 use Rattle.quorum_walk.proofs.Lists.{all_append, all_of}
 use Rattle.quorum_walk.proofs.Walk.{Then, by_test, where_fits}
 use Rattle.std.proofs.Common.{Err, List, Ok, Result, Some, [], arith, eqb, leb, length, ltb, map, not, refl, suc, ℕ, ◌&&◌, ◌∷◌, ◌≡◌, ◌≤◌}
 use Rattle.std.specs.List.{AllByRecursion, filter}
 use Rattle.std.specs.Prelude.{slice_index_or, slice_set}
 
-module _ (me : Me) (now : ℕ) (w0 : Readings) where
+module _ (me : Me) (now : ℕ) (w0 : Base me) where
   answer_one_fine : (o : Origin) (r : Reply) (x : Course) → Fine w0 x → Fine w0 (answer me o r x)
   answer_one_fine (origin.Session s) r x A = more_sent (sent.Reply s r ∷ []) A (tt, tt)
   answer_one_fine (origin.Forwarded f seq) r x A = tell_fine me (body.Route seq r) f A tt
@@ -52,7 +52,7 @@ module _ (me : Me) (now : ℕ) (w0 : Readings) where
   replies_fine s r x A = more_sent (sent.Reply s r ∷ []) A (tt, tt)
 
   -- the queue as it is then
-  queue_fine : (q : List Waiting) (x : Course) → Fine w0 x → AllByRecursion WaitingFine q → FineAt Calm w0 x.readings x.changes x.state.leader.found x.state.leader.value x.state.leader.pn x.state.requester.stage q x.out
+  queue_fine : (q : List Waiting) (x : Course) → Fine w0 x → AllByRecursion WaitingFine q → FineAt Calm me w0 x.readings x.changes x.state.leader.found x.state.leader.value x.state.leader.pn x.state.requester.stage q x.out
   queue_fine q x A k = state_fine x.state.leader.found x.state.leader.value x.state.leader.pn x.state.requester.stage q A (record { found = A.state.found; value = A.state.value; pn = A.state.pn; stage = A.state.stage; queue = k })
 
   asked_fine : (o : Origin) → OriginFine o → asked_of me o ≤ 14
@@ -95,7 +95,7 @@ module _ (me : Me) (now : ℕ) (w0 : Readings) where
   pub hear_route_fine : (f e : ℕ) (seq : ℕ) (r : Reply) (x : Course) → Fine w0 x → Then (Ended w0) (hear_route f e seq r x)
   unfolding hear_route
   hear_route_fine f e seq r x A = by_test (not (of_leader f e x)) (λ _. over w0 A)
-      (λ _. over w0 (more_sent (map (λ (a : Asked). sent.Reply a.session r) (filter (λ (a : Asked). eqb a.seq seq) x.state.clients.sessions)) A (all_of SentFine (λ (a : Asked). sent.Reply a.session r) (λ a. tt) _)))
+      (λ _. over w0 (more_sent (map (λ (a : Asked). sent.Reply a.session r) (filter (λ (a : Asked). eqb a.seq seq) x.state.clients.sessions)) A (all_of (SentOwn me) (λ (a : Asked). sent.Reply a.session r) (λ a. tt) _)))
 
   propose_first_fine : Made → (ws : List Waiting) (x : Course) → AllByRecursion WaitingFine ws → Fine w0 x → Then (Ended w0) (propose_first me now ws x)
   propose_first_fine made [] x k A = over w0 A

@@ -10,6 +10,12 @@ use Rattle.mon_msg.specs.Protocol.Changes.{Boot, Change, Copy, Epoch, Last, Lear
 use Rattle.mon_msg.specs.Protocol.Course.{Course}
 use Rattle.mon_msg.specs.Protocol.Played.{Fits, IsShort, play, played}
 use Rattle.mon_msg.specs.Protocol.Readings.{Readings, cell_after, epoch_of, epoch_or_first, readings_of}
+use Rattle.mon_msg.specs.Protocol.Phases.{same_phase}
+use Rattle.mon_msg.specs.Protocol.State.{State}
+use Rattle.mon_msg.specs.declared.input.Input.{Input}
+use Rattle.mon_msg.specs.declared.input.Input.TheVariants as input
+use Rattle.mon_wire.specs.declared.phase.Phase.TheVariants as phase
+use Rattle.std.specs.Prelude.{if◌then◌else◌}
 use Rattle.mon_msg.specs.Protocol.Records.{most_value, pending, transaction_in}
 use Rattle.mon_msg.specs.Protocol.Sending.{message_to}
 use Rattle.mon_msg.specs.Protocol.Services.{service_last}
@@ -191,51 +197,76 @@ pub record EndsInMark (cs : List Change) : Type 0 where
 abbrev pub Shaped : List Change → Type 0
 Shaped cs = Calm cs ⊎ (EndsInVote cs ⊎ EndsInMark cs)
 
+-- where an event began, and how often the monitor was started when it is over
+pub record Base (me : Me) : Type 0 where
+  pub from : Readings
+  pub boot : ℕ
+
+-- nothing more is counted
+abbrev pub still : (me : Me) → Readings → Base me
+still me w = record { from = w; boot = w.boot }
+
+-- one that starts is counted
+abbrev pub boot_after : State → Input → ℕ → ℕ
+boot_after s input.Start boot = if same_phase s.phase phase.Booting then suc boot else boot
+boot_after s other boot = boot
+
+abbrev pub begun : (me : Me) → Readings → State → Input → Base me
+begun me w s came = record { from = w; boot = boot_after s came w.boot }
+
+-- a message is fine, and names its sender
+abbrev pub SentOwn : Me → Sent → Type 0
+SentOwn me (sent.Message to m) = MessageFine m × (m.from ≡ me.member.rank)
+SentOwn me (sent.Reply to r) = Unit {0}
+
 -- ---- a course, begun where the readers told w0
 
-pub record FineAt (Shape : List Change → Type 0) (w0 w : Readings) (cs : List Change) (found : Option Found) (value : Option (List Op)) (pn : ℕ) (stage : SyncStage) (queue : List Waiting) (out : List Sent) : Type 0 where
+pub record FineAt (Shape : List Change → Type 0) (me : Me) (w0 : Base me) (w : Readings) (cs : List Change) (found : Option Found) (value : Option (List Op)) (pn : ℕ) (stage : SyncStage) (queue : List Waiting) (out : List Sent) : Type 0 where
   pub shape : Shape cs
-  pub stored : IsStored w0
-  pub tells : w ≡ played cs w0
+  pub stored : IsStored w0.from
+  pub tells : w ≡ played cs w0.from
+  pub boot : w.boot ≡ w0.boot
   pub fits : AllByRecursion Fit cs
   pub readings : ReadingsFine w
   pub state : StateFine found value pn stage queue
-  pub sends : AllByRecursion SentFine out
+  pub sends : AllByRecursion (SentOwn me) out
 
-abbrev pub FineOf : (List Change → Type 0) → Readings → Course → Type 0
-FineOf Shape w0 x = FineAt Shape w0 x.readings x.changes x.state.leader.found x.state.leader.value x.state.leader.pn x.state.requester.stage x.state.clients.queue x.out
+abbrev pub FineOf : (List Change → Type 0) → (me : Me) → Base me → Course → Type 0
+FineOf Shape me w0 x = FineAt Shape me w0 x.readings x.changes x.state.leader.found x.state.leader.value x.state.leader.pn x.state.requester.stage x.state.clients.queue x.out
 
 -- before a vote, and when it is over
-abbrev pub Fine : Readings → Course → Type 0
-Fine = FineOf Calm
+abbrev pub Fine : {me : Me} → Base me → Course → Type 0
+Fine {me = me} w0 x = FineOf Calm me w0 x
 
-abbrev pub Ended : Readings → Course → Type 0
-Ended = FineOf Shaped
+abbrev pub Ended : {me : Me} → Base me → Course → Type 0
+Ended {me = me} w0 x = FineOf Shaped me w0 x
 
-module _ {S : List Change → Type 0} {w0 w : Readings} {cs : List Change} {found : Option Found} {value : Option (List Op)} {pn : ℕ} {stage : SyncStage} {queue : List Waiting} {out : List Sent} where
-  pub more_sent : (more : List Sent) → FineAt S w0 w cs found value pn stage queue out → AllByRecursion SentFine more → FineAt S w0 w cs found value pn stage queue (out ++ more)
-  more_sent more A k = record { shape = A.shape; stored = A.stored; tells = A.tells; fits = A.fits; readings = A.readings; state = A.state; sends = all_append SentFine out more A.sends k }
+module _ {S : List Change → Type 0} {me : Me} {w0 : Base me} {w : Readings} {cs : List Change} {found : Option Found} {value : Option (List Op)} {pn : ℕ} {stage : SyncStage} {queue : List Waiting} {out : List Sent} where
+  pub more_sent : (more : List Sent) → FineAt S me w0 w cs found value pn stage queue out → AllByRecursion (SentOwn me) more → FineAt S me w0 w cs found value pn stage queue (out ++ more)
+  more_sent more A k = record { shape = A.shape; stored = A.stored; tells = A.tells; boot = A.boot; fits = A.fits; readings = A.readings; state = A.state; sends = all_append (SentOwn me) out more A.sends k }
 
+  pub state_fine : (f : Option Found) (v : Option (List Op)) (p : ℕ) (s : SyncStage) (q : List Waiting) → FineAt S me w0 w cs found value pn stage queue out → StateFine f v p s q
+      → FineAt S me w0 w cs f v p s q out
+  state_fine f v p s q A k = record { shape = A.shape; stored = A.stored; tells = A.tells; boot = A.boot; fits = A.fits; readings = A.readings; state = k; sends = A.sends }
+
+module _ {S : List Change → Type 0} (me : Me) {w0 : Base me} {w : Readings} {cs : List Change} {found : Option Found} {value : Option (List Op)} {pn : ℕ} {stage : SyncStage} {queue : List Waiting} {out : List Sent} where
   -- a message to each of some, and to one
-  pub tells_fine : (me : Me) (b : Body) (tos : List ℕ) → FineAt S w0 w cs found value pn stage queue out → BodyFine b
-      → FineAt S w0 w cs found value pn stage queue (out ++ map (message_to me (epoch_of w) b) tos)
-  tells_fine me b tos A k = more_sent (map (message_to me (epoch_of w) b) tos) A (all_of SentFine (message_to me (epoch_of w) b) (λ to. (A.readings.own.epoch, k)) tos)
+  pub tells_fine : (b : Body) (tos : List ℕ) → FineAt S me w0 w cs found value pn stage queue out → BodyFine b
+      → FineAt S me w0 w cs found value pn stage queue (out ++ map (message_to me (epoch_of w) b) tos)
+  tells_fine b tos A k = more_sent (map (message_to me (epoch_of w) b) tos) A (all_of (SentOwn me) (message_to me (epoch_of w) b) (λ to. ((A.readings.own.epoch, k), refl)) tos)
 
-  pub tell_fine : (me : Me) (b : Body) (to : ℕ) → FineAt S w0 w cs found value pn stage queue out → BodyFine b
-      → FineAt S w0 w cs found value pn stage queue (out ++ message_to me (epoch_of w) b to ∷ [])
-  tell_fine me b to A k = more_sent (message_to me (epoch_of w) b to ∷ []) A ((A.readings.own.epoch, k), tt)
+  pub tell_fine : (b : Body) (to : ℕ) → FineAt S me w0 w cs found value pn stage queue out → BodyFine b
+      → FineAt S me w0 w cs found value pn stage queue (out ++ message_to me (epoch_of w) b to ∷ [])
+  tell_fine b to A k = more_sent (message_to me (epoch_of w) b to ∷ []) A (((A.readings.own.epoch, k), refl), tt)
 
-  pub state_fine : (f : Option Found) (v : Option (List Op)) (p : ℕ) (s : SyncStage) (q : List Waiting) → FineAt S w0 w cs found value pn stage queue out → StateFine f v p s q
-      → FineAt S w0 w cs f v p s q out
-  state_fine f v p s q A k = record { shape = A.shape; stored = A.stored; tells = A.tells; fits = A.fits; readings = A.readings; state = k; sends = A.sends }
-
-module _ {w0 w : Readings} {cs : List Change} {found : Option Found} {value : Option (List Op)} {pn : ℕ} {stage : SyncStage} {queue : List Waiting} {out : List Sent} where
-  pub changes_fine : (more : List Change) → FineAt Calm w0 w cs found value pn stage queue out → Calm more → AllByRecursion Fit more → ReadingsFine (played more w)
-      → FineAt Calm w0 (played more w) (cs ++ more) found value pn stage queue out
-  changes_fine more A c f r = record {
+module _ {me : Me} {w0 : Base me} {w : Readings} {cs : List Change} {found : Option Found} {value : Option (List Op)} {pn : ℕ} {stage : SyncStage} {queue : List Waiting} {out : List Sent} where
+  pub changes_fine : (more : List Change) → FineAt Calm me w0 w cs found value pn stage queue out → Calm more → AllByRecursion Fit more → ReadingsFine (played more w) → (played more w).boot ≡ w.boot
+      → FineAt Calm me w0 (played more w) (cs ++ more) found value pn stage queue out
+  changes_fine more A c f r same = record {
+    boot = same ∙ A.boot;
     shape = all_append IsCalm cs more A.shape c;
     stored = A.stored;
-    tells = ap (played more) A.tells ∙ sym (played_more cs more w0);
+    tells = ap (played more) A.tells ∙ sym (played_more cs more w0.from);
     fits = all_append Fit cs more A.fits f;
     readings = r;
     state = A.state;
@@ -243,41 +274,43 @@ module _ {w0 w : Readings} {cs : List Change} {found : Option Found} {value : Op
   }
 
   -- what is read after the changes so far is what some store tells
-  pub stored_now : FineAt Calm w0 w cs found value pn stage queue out → IsStored w
+  pub stored_now : FineAt Calm me w0 w cs found value pn stage queue out → IsStored w
   stored_now A = (apply (joined (spelled cs)) A.stored.0, A.tells ∙ ap (played cs) A.stored.1 ∙ sym (readings-joined cs (fit_fits cs A.fits) A.stored.0))
 
   -- a number alone
-  pub number_fine : (c : Change) → FineAt Calm w0 w cs found value pn stage queue out → IsCalm c → Fit c → (play c w).record_of ≡ w.record_of → OwnFine (own_of (play c w))
-      → FineAt Calm w0 (play c w) (cs ++ c ∷ []) found value pn stage queue out
-  number_fine c A calm f same o = changes_fine (c ∷ []) A (calm, tt) (f, tt) (record { own = o; records = subst RecordsFine (sym same) A.readings.records })
+  pub number_fine : (c : Change) → FineAt Calm me w0 w cs found value pn stage queue out → IsCalm c → Fit c → (play c w).record_of ≡ w.record_of → (play c w).boot ≡ w.boot → OwnFine (own_of (play c w))
+      → FineAt Calm me w0 (play c w) (cs ++ c ∷ []) found value pn stage queue out
+  number_fine c A calm f same boots o = changes_fine (c ∷ []) A (calm, tt) (f, tt) (record { own = o; records = subst RecordsFine (sym same) A.readings.records }) boots
 
-  pub vote_fine : (v p : ℕ) (x : List Op) → FineAt Calm w0 w cs found value pn stage queue out → Fit (Vote v p x) → ReadingsFine (play (Vote v p x) w)
-      → FineAt Shaped w0 (play (Vote v p x) w) (cs ++ Vote v p x ∷ []) found value pn stage queue out
+  pub vote_fine : (v p : ℕ) (x : List Op) → FineAt Calm me w0 w cs found value pn stage queue out → Fit (Vote v p x) → ReadingsFine (play (Vote v p x) w)
+      → FineAt Shaped me w0 (play (Vote v p x) w) (cs ++ Vote v p x ∷ []) found value pn stage queue out
   vote_fine v p x A f r = record {
+    boot = A.boot;
     shape = inr (inl (record { before = cs; calm = A.shape; v = v; pn = p; value = x; is = refl }));
     stored = A.stored;
-    tells = ap (play (Vote v p x)) A.tells ∙ sym (played_more cs (Vote v p x ∷ []) w0);
+    tells = ap (play (Vote v p x)) A.tells ∙ sym (played_more cs (Vote v p x ∷ []) w0.from);
     fits = all_append Fit cs (Vote v p x ∷ []) A.fits (f, tt);
     readings = r;
     state = A.state;
     sends = A.sends;
   }
 
-  pub mark_fine : (floor : ℕ) (last_pn promised : Option ℕ) → FineAt Calm w0 w cs found value pn stage queue out → Fit (Mark floor last_pn promised) → ReadingsFine (play (Mark floor last_pn promised) w)
-      → FineAt Shaped w0 (play (Mark floor last_pn promised) w) (cs ++ Mark floor last_pn promised ∷ []) found value pn stage queue out
+  pub mark_fine : (floor : ℕ) (last_pn promised : Option ℕ) → FineAt Calm me w0 w cs found value pn stage queue out → Fit (Mark floor last_pn promised) → ReadingsFine (play (Mark floor last_pn promised) w)
+      → FineAt Shaped me w0 (play (Mark floor last_pn promised) w) (cs ++ Mark floor last_pn promised ∷ []) found value pn stage queue out
   mark_fine floor last_pn promised A f r = record {
+    boot = A.boot;
     shape = inr (inr (record { before = cs; calm = A.shape; floor = floor; last_pn = last_pn; promise = promised; is = refl }));
     stored = A.stored;
-    tells = ap (play (Mark floor last_pn promised)) A.tells ∙ sym (played_more cs (Mark floor last_pn promised ∷ []) w0);
+    tells = ap (play (Mark floor last_pn promised)) A.tells ∙ sym (played_more cs (Mark floor last_pn promised ∷ []) w0.from);
     fits = all_append Fit cs (Mark floor last_pn promised ∷ []) A.fits (f, tt);
     readings = r;
     state = A.state;
     sends = A.sends;
   }
 
-  pub ended_at : FineAt Calm w0 w cs found value pn stage queue out → FineAt Shaped w0 w cs found value pn stage queue out
-  ended_at A = record { shape = inl A.shape; stored = A.stored; tells = A.tells; fits = A.fits; readings = A.readings; state = A.state; sends = A.sends }
+  pub ended_at : FineAt Calm me w0 w cs found value pn stage queue out → FineAt Shaped me w0 w cs found value pn stage queue out
+  ended_at A = record { shape = inl A.shape; stored = A.stored; tells = A.tells; boot = A.boot; fits = A.fits; readings = A.readings; state = A.state; sends = A.sends }
 
 -- nothing more is done
-pub over : (w0 : Readings) {x : Course} → Fine w0 x → Then (Ended w0) (Ok x)
+pub over : {me : Me} (w0 : Base me) {x : Course} → Fine w0 x → Then (Ended w0) (Ok x)
 over w0 A = done (ended_at A)

@@ -7,19 +7,19 @@ use Rattle.mon_msg.specs.Protocol.Entering.{adopt, is_even}
 use Rattle.mon_msg.specs.Protocol.Phases.{same_phase, votes}
 use Rattle.mon_msg.specs.Protocol.Played.{IsShort}
 use Rattle.mon_msg.specs.Protocol.Probing.{hear_probe, hear_probe_reply, lag}
-use Rattle.mon_msg.specs.Protocol.Readings.{Readings, epoch_of}
+use Rattle.mon_msg.specs.Protocol.Readings.{epoch_of}
 use Rattle.mon_msg.specs.Protocol.State.{quorum_of}
 use Rattle.mon_msg.specs.declared.view.Me.{Me}
 use Rattle.mon_types.specs.Ranks.{count_of, has, with_rank, is_majority}
 use Rattle.mon_wire.specs.declared.body.Body.TheVariants as body
 use Rattle.mon_wire.specs.declared.phase.Phase.TheVariants as phase
 use Rattle.quorum_walk.proofs.FineActs.{adopt_fine, elect_fine, epoch_fine, full_sync_fine, recent_sync_fine, win_fine}
-use Rattle.quorum_walk.proofs.FineCourses.{Ended, Fine, over, tell_fine}
+use Rattle.quorum_walk.proofs.FineCourses.{Base, Ended, Fine, over, tell_fine}
 use Rattle.quorum_walk.proofs.Walk.{Then, by_test, done}
 use Rattle.std.proofs.Common.{Bool, List, Option, eqb, leb, ltb, not, suc, ℕ, ◌&&◌, ◌+◌, ◌||◌}
 use Rattle.std.specs.Prelude.{is_some}
 
-module _ (me : Me) (now : ℕ) (w0 : Readings) where
+module _ (me : Me) (now : ℕ) (w0 : Base me) where
   pub hear_probe_fine : (f : ℕ) (x : Course) → Fine w0 x → Then (Ended w0) (hear_probe me f x)
   unfolding hear_probe
   hear_probe_fine f x A = by_test x.readings.marked (λ _. over w0 A) (λ _. over w0 (tell_fine me (body.ProbeReply (quorum_of x.state) x.readings.first x.readings.last) f A tt))

@@ -24,7 +24,7 @@ use Rattle.mon_wire.specs.declared.body.Body.TheVariants as body
 use Rattle.mon_wire.specs.declared.parts.Told.{Told}
 use Rattle.mon_wire.specs.declared.phase.Phase.TheVariants as phase
 use Rattle.quorum_walk.proofs.FineActs.{bootstrap_fine, collect_fine, commit_fine, settle_fine, vote_readings}
-use Rattle.quorum_walk.proofs.FineCourses.{BodyFine, Ended, Fine, FoundFine, ReadingsFine, RecordsFine, ToldFine, Val, changes_fine, number_fine, over, state_fine, tell_fine, tells_fine, vote_fine}
+use Rattle.quorum_walk.proofs.FineCourses.{Base, BodyFine, Ended, Fine, FoundFine, ReadingsFine, RecordsFine, ToldFine, Val, changes_fine, number_fine, over, state_fine, tell_fine, tells_fine, vote_fine}
 use Rattle.quorum_walk.proofs.FineReading.{learn_fine, longest_fine, pending_fine, run_fine}
 use Rattle.quorum_walk.proofs.Lists.{all_drop}
 use Rattle.quorum_walk.proofs.Walk.{Then, and_then, by_test, done, where_fits}
@@ -53,7 +53,7 @@ answer_fine n promise first last records found from R F =
     cond_both (tells_all n promise first last from told (told_of found)) (body.Last promise first last true from told (told_of found)) (body.Last promise first last false from told None) BodyFine
     (λ _. (values, told_fine found F)) (λ _. (values, tt))
 
-module _ (me : Me) (now : ℕ) (w0 : Readings) where
+module _ (me : Me) (now : ℕ) (w0 : Base me) where
   last_answer_fine : (w : Readings) (from : ℕ) → ReadingsFine w → BodyFine (last_answer me.member.monitors w from)
   last_answer_fine w from R = answer_fine me.member.monitors (promise_of w) w.first w.last w.record_of (pending w) from R.records (pending_fine w.record_of R.records w.pending_v w.pending_pn w.last)
 
@@ -63,8 +63,8 @@ module _ (me : Me) (now : ℕ) (w0 : Readings) where
   promise_fine pn x short A = by (ltb (promise_of x.readings) pn)
     where
       by : (b : Bool) → Fine w0 (change_if b (Promise pn) x)
-      by true = let O = A.readings.own in number_fine (Promise pn) A tt short refl (record { epoch = O.epoch; last_pn = O.last_pn; promise = short; pending = O.pending; last = O.last; floor = O.floor })
-      by false = changes_fine [] A tt tt A.readings
+      by true = let O = A.readings.own in number_fine (Promise pn) A tt short refl refl (record { epoch = O.epoch; last_pn = O.last_pn; promise = short; pending = O.pending; last = O.last; floor = O.floor })
+      by false = changes_fine [] A tt tt A.readings refl
 
   pub hear_collect_fine : (f e : ℕ) (pn first last : ℕ) (x : Course) → IsShort pn → Fine w0 x → Then (Ended w0) (hear_collect me now f e pn first last x)
   unfolding hear_collect

@@ -11,7 +11,6 @@ use Rattle.mon_msg.specs.Protocol.Phases.{same_phase}
 use Rattle.mon_msg.specs.Protocol.Places.{is_after, is_cookie, is_done, no_cookie, same_cookie}
 use Rattle.mon_msg.specs.Protocol.Played.{IsShort, played}
 use Rattle.mon_msg.specs.Protocol.Providing.{chunk, chunk_with, given_entries, given_values, grant, hear_get_chunk, hear_get_cookie_full, hear_get_cookie_recent, is_finished, reach}
-use Rattle.mon_msg.specs.Protocol.Readings.{Readings}
 use Rattle.mon_msg.specs.Protocol.Records.{longest, run_from}
 use Rattle.mon_msg.specs.Protocol.Replay.{replay_any, replay_step, step_in, step_of}
 use Rattle.mon_msg.specs.declared.synchronisation.SyncStage.TheVariants as sync
@@ -26,12 +25,12 @@ use Rattle.mon_wire.specs.declared.parts.Cookie.{Cookie}
 use Rattle.mon_wire.specs.declared.parts.Place.{Place}
 use Rattle.mon_wire.specs.declared.phase.Phase.TheVariants as phase
 use Rattle.quorum_walk.proofs.FineActs.{bootstrap_fine, staged_fine}
-use Rattle.quorum_walk.proofs.FineCourses.{BodyFine, Ended, EntryFine, Fine, OwnFine, RecordsFine, StageFine, Val, changes_fine, number_fine, over, tell_fine}
+use Rattle.quorum_walk.proofs.FineCourses.{Base, BodyFine, Ended, EntryFine, Fine, OwnFine, RecordsFine, StageFine, Val, changes_fine, number_fine, over, tell_fine}
 use Rattle.quorum_walk.proofs.FineReading.{all_spare, copied_calm, copied_cells, copied_fits, entries_spare, learn_fine, learned_calm, learned_cells, learned_fits, longest_fine, recorded_calm, recorded_cells, recorded_fits, run_fine, step_of_fine}
 use Rattle.quorum_walk.proofs.Lists.{all_filter}
-use Rattle.quorum_walk.proofs.Sparing.{copied_own, learned_own, records_own}
+use Rattle.quorum_walk.proofs.Sparing.{Own, copied_own, learned_own, records_own}
 use Rattle.quorum_walk.proofs.Walk.{Then, and_then, by_test, done, where_fits}
-use Rattle.std.proofs.Common.{Bool, IfSome, List, None, Option, Some, [], arith, false, length, ltb, not, refl, subst, suc, sym, true, ℕ, ◌&&◌, ◌+◌, ◌-◌, ◌||◌}
+use Rattle.std.proofs.Common.{Bool, IfSome, List, None, Option, Some, [], ap, arith, false, length, ltb, not, refl, subst, suc, sym, true, ℕ, ◌&&◌, ◌+◌, ◌-◌, ◌||◌}
 use Rattle.std.proofs.lemmas.Bool.{cond_both}
 use Rattle.std.specs.List.{AllByRecursion, filter}
 use Rattle.std.specs.Prelude.{slice_index_or}
@@ -50,7 +49,7 @@ chunk_fine last c p left n records short R L =
     (λ _. longest_fine EntryFine (λ es. fits n (chunk_with last c p left values es)) left L) (λ _. tt) in
     chunk_with_fine last c p left values (given_entries last c p left n values) short V E
 
-module _ (me : Me) (now : ℕ) (w0 : Readings) where
+module _ (me : Me) (now : ℕ) (w0 : Base me) where
   pub anew_fine : (x : Course) → Fine w0 x → Then (Ended w0) (bootstrap me now x)
   anew_fine x A = bootstrap_fine me now w0 x A
 
@@ -93,8 +92,8 @@ module _ (me : Me) (now : ℕ) (w0 : Readings) where
   copy_fine : (full : Bool) (v : ℕ) (values : List (List Op)) (entries : List Entry) (x : Course) → AllByRecursion Val values → AllByRecursion EntryFine entries → Fine w0 x → Then (Fine w0) (copy full v values entries x)
   copy_fine true v values entries x V E A =
       let w = played (record_changes v values) x.readings in
-      let B = changes_fine (record_changes v values) A (recorded_calm v values) (recorded_fits v values) (record { own = subst OwnFine (sym (records_own v values x.readings)) A.readings.own; records = recorded_cells v values x.readings V A.readings.records }) in
-      done (changes_fine (copy_changes entries) B (copied_calm entries) (copied_fits entries E) (record { own = subst OwnFine (sym (copied_own entries w (entries_spare entries E))) B.readings.own; records = copied_cells entries w E B.readings.records }))
+      let B = changes_fine (record_changes v values) A (recorded_calm v values) (recorded_fits v values) (record { own = subst OwnFine (sym (records_own v values x.readings)) A.readings.own; records = recorded_cells v values x.readings V A.readings.records }) (ap (λ (o : Own). o.boot) (records_own v values x.readings)) in
+      done (changes_fine (copy_changes entries) B (copied_calm entries) (copied_fits entries E) (record { own = subst OwnFine (sym (copied_own entries w (entries_spare entries E))) B.readings.own; records = copied_cells entries w E B.readings.records }) (ap (λ (o : Own). o.boot) (copied_own entries w (entries_spare entries E))))
   copy_fine false v values entries x V E A = learn_fine w0 v values x V A
 
   take_fine : (p : Place) (values : List (List Op)) (entries : List Entry) (is_done : Bool) (x : Course) → AllByRecursion Val values → AllByRecursion EntryFine entries → Fine w0 x → Then (Fine w0) (take p values entries is_done x)
@@ -123,7 +122,7 @@ module _ (me : Me) (now : ℕ) (w0 : Readings) where
 
   replayed_fine : (next : ℕ) (values : List (List Op)) (x : Course) → AllByRecursion Val values → Fine w0 x → Fine w0 (x ▸ change_all (learn_changes next values))
   replayed_fine next values x V A = changes_fine (learn_changes next values) A (learned_calm next values) (learned_fits next values V)
-      (record { own = subst OwnFine (sym (learned_own next values x.readings (all_spare values V))) A.readings.own; records = learned_cells next values x.readings V A.readings.records })
+      (record { own = subst OwnFine (sym (learned_own next values x.readings (all_spare values V))) A.readings.own; records = learned_cells next values x.readings V A.readings.records }) (ap (λ (o : Own). o.boot) (learned_own next values x.readings (all_spare values V)))
 
   replay_any_fine : (next end : ℕ) (values : Option (List (List Op))) (x : Course) → IsShort end → IfSome values (AllByRecursion Val) → Fine w0 x → Then (Ended w0) (replay_any me now next end values x)
   replay_any_fine next end None x short V A = anew_fine x A
@@ -131,8 +130,8 @@ module _ (me : Me) (now : ℕ) (w0 : Readings) where
       let y : Course = x ▸ change_all (learn_changes next values) in
       let B : Fine w0 y = replayed_fine next values x V A in
       let O = B.readings.own in
-      let C : Fine w0 (y ▸ change (Last end)) = number_fine (Last end) B tt short refl (record { epoch = O.epoch; last_pn = O.last_pn; promise = O.promise; pending = O.pending; last = short; floor = O.floor }) in
-      let D : Fine w0 (y ▸ change (Last end) ▸ change Unmark) = number_fine Unmark C tt tt refl (record { epoch = O.epoch; last_pn = O.last_pn; promise = O.promise; pending = O.pending; last = short; floor = omega arith }) in
+      let C : Fine w0 (y ▸ change (Last end)) = number_fine (Last end) B tt short refl refl (record { epoch = O.epoch; last_pn = O.last_pn; promise = O.promise; pending = O.pending; last = short; floor = O.floor }) in
+      let D : Fine w0 (y ▸ change (Last end) ▸ change Unmark) = number_fine Unmark C tt tt refl refl (record { epoch = O.epoch; last_pn = O.last_pn; promise = O.promise; pending = O.pending; last = short; floor = omega arith }) in
       by_test (ltb end (next + length values)) (λ _. anew_fine (y ▸ change (Last end) ▸ change Unmark) D) (λ _. over w0 (staged_fine me now w0 (sync.Replay (next + length values) end) y B short))
 
   step_fine : (s : SyncStage) (x : Course) → StageFine s → Fine w0 x → Then (Ended w0) (step_in me now s x)

@@ -1,4 +1,4 @@
-use Rattle.mon_node.proofs.Standing.{tells_live, records, stays_if_full, full_stays}
+use Rattle.mon_node.proofs.Standing.{tells_live, records, same_disks}
 use Rattle.mon_node.proofs.keeping.change.Goals as goal
 
 pub returns-in-Ok-clause-stands : goal.returns-in-Ok-clause-stands
@@ -38,9 +38,22 @@ returns-in-Err-DiskFault-clause-meanwhile g c = records g.D.Disk.state c.args.st
 pub returns-in-Err-OutOfMemory-clause-meanwhile : goal.returns-in-Err-OutOfMemory-clause-meanwhile
 returns-in-Err-OutOfMemory-clause-meanwhile g c = records g.D.Disk.state c.args.store.now c.apply.new.self c.args.tx.now (c.apply.ensures.any_moment c.requires.unbroken)
 
-pub returns-in-Err-Full-clause-full : goal.returns-in-Err-Full-clause-full
-returns-in-Err-Full-clause-full g c =
-    let s = c.args.store.now in
-    let n = c.apply.new.self in
-    let arm = c.in-Err-Full in
-    stays_if_full g.D.Disk.state s n arm.would_be c.apply.ensures.side (full_stays s.live n.live arm.field-0 arm.would_be arm.field-0-is arm.ensures.disk) c.apply.ensures.other
+pub returns-in-Ok-clause-large : goal.returns-in-Ok-clause-large
+returns-in-Ok-clause-large g c = λ large.
+    let call = c.apply.ensures in
+    same_disks g.D.Disk.state c.args.store.now c.apply.new.self call.side call.other (call.large large)
+
+pub returns-in-Err-Full-clause-large : goal.returns-in-Err-Full-clause-large
+returns-in-Err-Full-clause-large g c = λ large.
+    let call = c.apply.ensures in
+    same_disks g.D.Disk.state c.args.store.now c.apply.new.self call.side call.other (call.large large)
+
+pub returns-in-Err-DiskFault-clause-large : goal.returns-in-Err-DiskFault-clause-large
+returns-in-Err-DiskFault-clause-large g c = λ large.
+    let call = c.apply.ensures in
+    same_disks g.D.Disk.state c.args.store.now c.apply.new.self call.side call.other (call.large large)
+
+pub returns-in-Err-OutOfMemory-clause-large : goal.returns-in-Err-OutOfMemory-clause-large
+returns-in-Err-OutOfMemory-clause-large g c = λ large.
+    let call = c.apply.ensures in
+    same_disks g.D.Disk.state c.args.store.now c.apply.new.self call.side call.other (call.large large)

@@ -1,7 +1,6 @@
-use Rattle.std.proofs.lemmas.Result.{err_from_is_err_and}
 use Rattle.mon_node.specs.Lasting.{IsWithin}
 use Rattle.mon_node.specs.Nodes.{disks_of, stood_of}
-use Rattle.mon_node.proofs.Standing.{IsRecording, IsRenewing, recording_within, renewing_within, one_step, two_steps, meanwhile_as, of_disk_stays}
+use Rattle.mon_node.proofs.Standing.{IsRecording, IsRenewing, recording_within, renewing_within, one_step, two_steps, meanwhile_as}
 use Rattle.mon_node.proofs.keeping.keep.Goals as goal
 
 pub returns-in_err-change-clause-passes : goal.returns-in_err-change-clause-passes
@@ -33,8 +32,3 @@ returns-clause-passes g c = λ both.
     two_steps (disks_of state s) (disks_of state m) (disks_of state c.renew.new.store) (IsRecording tx (stood_of s)) (IsRenewing (stood_of m)) (IsWithin tx (stood_of s))
     (recording_within tx (stood_of s)) (λ x. renewing_within tx (stood_of s) (stood_of m) x c.in_ok-change.ensures.stands)
     (c.change.ensures.meanwhile both) c.renew.ensures.meanwhile (c.renew.ensures.tells (c.change.ensures.tells both))
-
-pub returns-in_err-renew-clause-full : goal.returns-in_err-renew-clause-full
-returns-in_err-renew-clause-full g c =
-    let p = err_from_is_err_and c.from_residual-in_err-renew.result c.from_residual-in_err-renew.ensures.1 in
-    rw (p.1, p.2) (of_disk_stays c.in_err-renew.field-0.0 _ _ _ _ c.in_err-renew.ensures.stop)

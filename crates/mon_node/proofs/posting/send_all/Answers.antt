@@ -28,7 +28,7 @@ returns-in_err-send_letter-clause-posts g c =
     let posts = subst (λ (boot : ℕ). Posts {T = Unit {0}} {E = NodeEnd} (datagrams_of boot l.next text) (Err e) now new) c.boot_count-boot.ensures.value c.in_err-send_letter.ensures.posts in
     rw (p.1, p.2)
     (letter_stops me m c.args.next.now c.args.out.now l.sent-index l.next (g.L.Link.state c.args.link.now) now l.invariant
-    x text (omega (arith, c.loop-sent-test.true)) c.sent-item.is is new e e posts)
+    x text (omega (arith, c.loop-sent-test.true)) c.sent-item.is is new e e posts c.send_letter.ensures.unsent)
 
 pub returns-in_err-send_letter-clause-spent : goal.returns-in_err-send_letter-clause-spent
 returns-in_err-send_letter-clause-spent g c =

@@ -8,7 +8,7 @@ use Rattle.mon_store.specs.Whole.{disk_a, disk_b}
 use Rattle.mon_tx.specs.Map.{Store}
 use Rattle.mon_node.specs.Hearing.{at_moment}
 use Rattle.mon_node.specs.Nodes.{stood_of, disks_of}
-use Rattle.mon_node.specs.Posting.{datagrams, letters, next_after, boot_in, SendsFront, SendsAll, IsSpent}
+use Rattle.mon_node.specs.Posting.{datagrams, letters, next_after, with_number, boot_in, SendsFront, SendsAll, IsSpent}
 use Rattle.mon_node.specs.Servers.{serving_of}
 use Rattle.mon_node.proofs.Passing.{unkept_pass, unsent_pass, taken_pass}
 use Rattle.mon_node.proofs.Reacting.{reacts_so, may_go, core_ends, core_passes}
@@ -54,7 +54,7 @@ returns-in_err-send_all-clause-ends g c = λ clock.
     let h = subst (λ (x : Store). Reacts s.core c.react.new.self x c.args.now c.args.input.now (Ok r)) c.kv.ensures c.in_ok-reaction.ensures in
     let reacts = reacts_so s.core c.react.new.self (stood_of s.store) c.args.now c.args.input.now s.me c.requires.in_use.own r s.next h in
     let why = sent_as (λ (x : Store) (xs : List Sent). IsSpent (next_after s.next (letters s.me x xs)) e) c.kv-2.result.now m c.as_slice.result.now r.out c.kv-2.ensures c.as_slice.ensures c.in_err-send_all.ensures.spent in
-    let front = sent_as (λ (x : Store) (xs : List Sent). SendsFront (datagrams (boot_in x) s.next (letters s.me x xs)) told now) c.kv-2.result.now m c.as_slice.result.now r.out c.kv-2.ensures c.as_slice.ensures c.in_err-send_all.ensures.posts.told in
+    let front = sent_as (λ (x : Store) (xs : List Sent). SendsFront (datagrams (boot_in x) s.next (with_number s.next (letters s.me x xs))) told now) c.kv-2.result.now m c.as_slice.result.now r.out c.kv-2.ensures c.as_slice.ensures c.in_err-send_all.ensures.posts.told in
     rw (p.1, p.2)
     (not_sent s.me (serving_of s clock told) (at_moment c.args.now c.args.input.now) _ reacts m c.in_ok-keep.ensures.keeps.1 c.in_ok-keep.ensures.keeps.0 e now why front)
 
@@ -69,7 +69,7 @@ returns-clause-ends g c = λ clock.
     let h = subst (λ (x : Store). Reacts s.core c.react.new.self x c.args.now c.args.input.now (Ok r)) c.kv.ensures c.in_ok-reaction.ensures in
     let reacts = reacts_so s.core c.react.new.self (stood_of s.store) c.args.now c.args.input.now s.me c.requires.in_use.own r s.next h in
     let behind = sent_as (λ (x : Store) (xs : List Sent). next ≡ next_after s.next (letters s.me x xs)) c.kv-2.result.now m c.as_slice.result.now r.out c.kv-2.ensures c.as_slice.ensures c.in_ok-send_all.ensures.behind in
-    let sent = sent_as (λ (x : Store) (xs : List Sent). SendsAll (datagrams (boot_in x) s.next (letters s.me x xs)) told now) c.kv-2.result.now m c.as_slice.result.now r.out c.kv-2.ensures c.as_slice.ensures c.in_ok-send_all.ensures.posts.told in
+    let sent = sent_as (λ (x : Store) (xs : List Sent). SendsAll (datagrams (boot_in x) s.next (with_number s.next (letters s.me x xs))) told now) c.kv-2.result.now m c.as_slice.result.now r.out c.kv-2.ensures c.as_slice.ensures c.in_ok-send_all.ensures.posts.told in
     all_sent s.me (serving_of s clock told) (at_moment c.args.now c.args.input.now) _ reacts m c.in_ok-keep.ensures.keeps.1 c.in_ok-keep.ensures.keeps.0 (stood_of c.keep.new.store) next now c.in_ok-keep.ensures.stands behind c.in_ok-send_all.ensures.most sent
 
 pub returns-in_err-reaction-clause-passes : goal.returns-in_err-reaction-clause-passes
@@ -94,8 +94,8 @@ returns-in_err-keep-clause-passes g c = λ clock both.
     let h = subst (λ (m : Store). Reacts s.core c.react.new.self m c.args.now c.args.input.now (Ok r)) c.kv.ensures c.in_ok-reaction.ensures in
     let reacts = reacts_so s.core c.react.new.self (stood_of s.store) c.args.now c.args.input.now s.me c.requires.in_use.own r s.next h in
     rw (p.1, p.2)
-    (unkept_pass s.me (serving_of s clock told) (at_moment c.args.now c.args.input.now) _ reacts state (Unit {0}) (disk_a s.store) (disk_b s.store) (disk_a n) (disk_b n) n.kv c.in_err-keep.field-0.0
-    c.in_err-keep.ensures.keeps c.in_err-keep.ensures.full (in_use_leaves state s.store c.requires.in_use.unbroken c.requires.in_use.sound) (c.keep.ensures.passes both))
+    (unkept_pass s.me (serving_of s clock told) (at_moment c.args.now c.args.input.now) _ reacts state (Unit {0}) (disk_a s.store) (disk_b s.store) (disk_a n) (disk_b n) n.kv
+    both (in_use_leaves state s.store c.requires.in_use.unbroken c.requires.in_use.sound) (c.keep.ensures.passes both) c.in_err-keep.field-0.0 c.in_err-keep.ensures.keeps c.keep.ensures.large)
 
 pub returns-in_err-send_all-clause-passes : goal.returns-in_err-send_all-clause-passes
 returns-in_err-send_all-clause-passes g c = λ clock both.
@@ -110,9 +110,9 @@ returns-in_err-send_all-clause-passes g c = λ clock both.
     let reacts = reacts_so s.core c.react.new.self (stood_of s.store) c.args.now c.args.input.now s.me c.requires.in_use.own r s.next h in
     let now = (g.L.Link.state c.send_all.new.link).told in
     let why = sent_as (λ (x : Store) (xs : List Sent). IsSpent (next_after s.next (letters s.me x xs)) e) c.kv-2.result.now n.kv c.as_slice.result.now r.out c.kv-2.ensures c.as_slice.ensures c.in_err-send_all.ensures.spent in
-    let front = sent_as (λ (x : Store) (xs : List Sent). SendsFront (datagrams (boot_in x) s.next (letters s.me x xs)) told now) c.kv-2.result.now n.kv c.as_slice.result.now r.out c.kv-2.ensures c.as_slice.ensures c.in_err-send_all.ensures.posts.told in
+    let front = sent_as (λ (x : Store) (xs : List Sent). SendsFront (datagrams (boot_in x) s.next (with_number s.next (letters s.me x xs))) told now) c.kv-2.result.now n.kv c.as_slice.result.now r.out c.kv-2.ensures c.as_slice.ensures c.in_err-send_all.ensures.posts.told in
     rw (p.1, p.2)
-    (unsent_pass s.me (serving_of s clock told) (at_moment c.args.now c.args.input.now) _ reacts (disks_of state s.store) (disks_of state n) (c.keep.ensures.passes both)
+    (unsent_pass s.me (serving_of s clock told) (at_moment c.args.now c.args.input.now) _ reacts c.in_ok-keep.ensures.keeps.0 (disks_of state s.store) (disks_of state n) (c.keep.ensures.passes both)
     (Unit {0}) _ e clock now (stood_of n) c.in_err-send_all.ensures.spent
     (not_sent s.me (serving_of s clock told) (at_moment c.args.now c.args.input.now) _ reacts n.kv c.in_ok-keep.ensures.keeps.1 c.in_ok-keep.ensures.keeps.0 e now why front)
     c.in_ok-keep.ensures.stands (in_use_leaves state n c.in_ok-keep.ensures.unbroken c.keep.ensures.sound))
@@ -125,4 +125,4 @@ returns-clause-passes g c = λ clock both.
     let told = (g.L.Link.state c.args.link.now).told in
     let h = subst (λ (x : Store). Reacts s.core c.react.new.self x c.args.now c.args.input.now (Ok r)) c.kv.ensures c.in_ok-reaction.ensures in
     let reacts = reacts_so s.core c.react.new.self (stood_of s.store) c.args.now c.args.input.now s.me c.requires.in_use.own r s.next h in
-    taken_pass s.me (serving_of s clock told) (at_moment c.args.now c.args.input.now) _ reacts (disks_of state s.store) (disks_of state c.keep.new.store) (c.keep.ensures.passes both) (Unit {0}) tt (g.L.Link.state c.send_all.new.link).told
+    taken_pass s.me (serving_of s clock told) (at_moment c.args.now c.args.input.now) _ reacts c.in_ok-keep.ensures.keeps.0 (disks_of state s.store) (disks_of state c.keep.new.store) (c.keep.ensures.passes both) (Unit {0}) tt (g.L.Link.state c.send_all.new.link).told
