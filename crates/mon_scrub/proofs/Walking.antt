@@ -61,10 +61,11 @@ module _ (m : Store) (last : ℕ) (is : last ≡ number m area.Paxos key.LastCom
       let few = few_entries m in
       let n = len-entries m in
       let all : length a.counted + length (shared_of last (left m next)) ≡ length (entries (shared m)) = sym (length-append a.counted (shared_of last (left m next))) ∙ ap length a.splits in
-      let shared_few : length (entries (shared m)) ≤ length (entries m) = subst (λ es. length es ≤ length (entries m)) (entries-shared m) (few_filtered (λ e. not (is_local (number m area.Paxos key.LastCommitted) e.0)) (entries m)) in
-      (omega (arith, few, n, all, shared_few, small, a.are.kv.keys, few_filtered (λ e. bytes_eq e.0.0 (area_text area.Kv)) a.counted),
-      omega (arith, few, n, all, shared_few, small, a.are.logm.keys, few_filtered (λ e. bytes_eq e.0.0 (area_text area.Logm)) a.counted),
-      omega (arith, few, n, all, shared_few, small, a.are.paxos.keys, few_filtered (λ e. bytes_eq e.0.0 (area_text area.Paxos)) a.counted))
+      let shared_few : length (entries (shared m)) ≤ length (entries m) = subst (λ es. length es ≤ length (entries m)) (entries-shared m) (few_filtered (λ e. not (is_local (number m area.Paxos key.LastCommitted) e.0)) (entries m)) in (
+        omega (arith, few, n, all, shared_few, small, a.are.kv.keys, few_filtered (λ e. bytes_eq e.0.0 (area_text area.Kv)) a.counted),
+        omega (arith, few, n, all, shared_few, small, a.are.logm.keys, few_filtered (λ e. bytes_eq e.0.0 (area_text area.Logm)) a.counted),
+        omega (arith, few, n, all, shared_few, small, a.are.paxos.keys, few_filtered (λ e. bytes_eq e.0.0 (area_text area.Paxos)) a.counted),
+      )
 
   pub goes_along : (t u : Tallies) (e : EntryRef) (next : Option EntryRef) → Along m last t (Some e)
       → ((es : List Entry) → AllCounted t es → AllCounted u (es ++ shared_of last (entry_of e ∷ [])))

@@ -89,12 +89,7 @@ fn put_differing(
     put_end(out, count)
 }
 
-fn put_compared(
-    alloc: Global,
-    out: &mut String,
-    a: &Report,
-    b: &Report,
-) -> Result<(), AllocError>
+fn put_compared(alloc: Global, out: &mut String, a: &Report, b: &Report) -> Result<(), AllocError>
     ensures { OnOk result (string_bytes out.new ≡ string_bytes out.old ++ compared a.now b.now) }
 {
     let (n, m) = (a.member.monitors, b.member.monitors);

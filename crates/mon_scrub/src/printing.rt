@@ -32,12 +32,7 @@ fn put_last(out: &mut String, last: u64, marked: bool) -> Result<(), AllocError>
     write!(out, " last={last} marked={marked}\n")
 }
 
-fn put_part(
-    alloc: Global,
-    out: &mut String,
-    prefix: &str,
-    part: &Part,
-) -> Result<(), AllocError>
+fn put_part(alloc: Global, out: &mut String, prefix: &str, part: &Part) -> Result<(), AllocError>
     ensures { OnOk result (string_bytes out.new ≡ string_bytes out.old ++ part_text prefix.now part.now) }
 {
     let keys = part.keys;
