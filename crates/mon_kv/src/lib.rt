@@ -15,4 +15,5 @@ mod tree;
 pub use chunk::KeyRun;
 pub use entry_ref::EntryRef;
 pub use kv::{Kv, LEAST_LENGTH, MOST_SIZE, number_of};
+pub use local::is_local;
 pub use readers::Pending;

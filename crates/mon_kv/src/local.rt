@@ -30,7 +30,7 @@ fn is_own_of_paxos(prefix: &[u8], key: &[u8], next: &[u8]) -> bool
 }
 
 /// Whether a key is the monitor's own.
-pub(crate) fn is_local(prefix: &[u8], key: &[u8], last: u64) -> bool
+pub fn is_local(prefix: &[u8], key: &[u8], last: u64) -> bool
     requires { last < 2 ^ 64 - 1 }
     ensures { result ≡ is_local last (prefix.now, key.now) }
 {

@@ -1,5 +1,6 @@
 -- The laws of the one log, of any number of monitors.
 use Rattle.log_model.specs.LogOfValues.{AllValues}
+use Rattle.log_model.proofs.Lists.{of_all}
 use Rattle.mon_kv.specs.Readers.{is_marked}
 use Rattle.mon_msg.specs.Fold.{entry}
 use Rattle.quorum_agreement.proofs.Invariant.{EnvelopeTells}
@@ -9,7 +10,6 @@ use Rattle.quorum_agreement.specs.Copying.{IsCopying, MarkedIfFull}
 use Rattle.quorum_agreement.specs.Growing.{GrowsBy}
 use Rattle.quorum_agreement.specs.Telling.{TellsLog}
 use Rattle.quorum_laws.proofs.Events.{all_runs}
-use Rattle.quorum_laws.proofs.Reading.{of_all}
 use Rattle.quorum_laws.specs.Values.{IsChosen}
 use Rattle.quorum_model.specs.Agree.{Agree}
 use Rattle.quorum_model.specs.Events.{AllFit}

@@ -1,4 +1,5 @@
 -- What every run's history tells of its world.
+use Rattle.log_model.proofs.Lists.{of_all}
 use Rattle.mon_msg.specs.Protocol.State.{State}
 use Rattle.mon_tx.specs.Text.{text}
 use Rattle.mon_tx.specs.declared.op.Op.{Op}
@@ -10,10 +11,10 @@ use Rattle.quorum_laws.specs.Accepting.{AcceptedIn, readings_at}
 use Rattle.quorum_model.specs.Monitors.{Monitors}
 use Rattle.quorum_model.specs.World.{Envelope, World}
 use Rattle.quorum_walk.proofs.FineCourses.{MessageFine}
-use Rattle.quorum_walk.proofs.Lists.{Among, all_among}
+use Rattle.quorum_walk.proofs.Lists.{Among}
 use Rattle.quorum_walk.proofs.Sparing.{own_of}
 use Rattle.std.proofs.Common.{List, Some, [], arith, inl, inr, length, subst, suc, sym, zero, ℕ, ◌<◌, ◌∷◌, ◌≡◌, ◌≤◌}
-use Rattle.std.specs.List.{AllByRecursion, Contains}
+use Rattle.std.specs.List.{Contains}
 use Rattle.std.specs.Prelude.{slice_index_or}
 
 pub among_of : {A : Type 0} (xs : List A) (x : A) → Contains xs x → Among x xs
@@ -23,9 +24,6 @@ among_of (y ∷ ys) x c = by (among_of ys x) c.0 c.1 c.2
     by : (Contains ys x → Among x ys) → (k : ℕ) → k < length (y ∷ ys) → slice_index_or (y ∷ ys) k x ≡ x → Among x (y ∷ ys)
     by ih zero lt e = inl (sym e)
     by ih (suc k) lt e = inr (ih (k, omega arith, e))
-
-pub of_all : {A : Type 0} (P : A → Type 0) (xs : List A) → AllByRecursion P xs → (x : A) → Contains xs x → P x
-of_all P xs k x c = all_among P x xs (among_of xs x c) k
 
 module _ (ms : Monitors) (w : World) (I : InvOf ms w) where
   -- what a message's history says

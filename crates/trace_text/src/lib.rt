@@ -8,5 +8,6 @@ mod trace;
 mod words;
 
 pub use schedule_text::header_line;
+pub use shown::put_shown;
 pub use step::{Numbered, Outcome, Replied, Replies, StateLine, StepLine};
 pub use trace::{end_line, trace_line};

@@ -1,0 +1,32 @@
+use mon_bytes::OutOfMemory;
+use thiserror::Error;
+
+/// Why a client no longer follows.
+#[derive(Clone, Copy, Debug, PartialEq, Eq, Error)]
+pub enum FollowEnd {
+    /// The link reported that it is closed.
+    #[error("the link is closed")]
+    Closed,
+    /// All turns were used.
+    #[error("turns used")]
+    TurnsUsed,
+    /// The link failed to report what comes next.
+    #[error("the link failed")]
+    LinkFault,
+    /// A line couldn't be written whole. A prefix of it may be there.
+    #[error("the sink failed")]
+    WriteFault,
+    #[error("out of memory")]
+    OutOfMemory,
+}
+
+impl From<OutOfMemory> for FollowEnd {
+    ghost use Rattle.std.specs.Prelude.{◌≡◌};
+    ghost use Rattle.map_follower.specs.declared.end.FollowEnd.TheVariants.{OutOfMemory as no_memory};
+
+    ghost from_gives = { λ _ e. e ≡ no_memory };
+
+    fn from(_e: OutOfMemory) -> FollowEnd {
+        FollowEnd::OutOfMemory
+    }
+}

@@ -1,0 +1,56 @@
+ghost use Rattle.std.specs.Prelude.{◌≡◌, ℕ, ◌≤◌, ◌^◌, List, []};
+ghost use Rattle.mon_frag.specs.declared.partial.Partial.{Partial};
+ghost use Rattle.mon_types.specs.Faults.{Rose};
+ghost use Rattle.map_follower.specs.Turns.{Follows, course, faults_at};
+
+use crate::end::FollowEnd;
+use crate::follower::Follower;
+use crate::turning::{ask_on, turn};
+use mon_frag::Assembly;
+use mon_link::{Link, Sink};
+use std::alloc::Global;
+
+/// Follows a service over a link to `monitors` monitors, for at most `turns` turns. It sends a request at first and after
+/// each turn in which nothing came, to the monitors one after the other, and writes the line
+/// `SERVICE version=VERSION MAP` whenever the copy is newer. A turn waits for one second at most.
+///
+/// `Closed` comes exactly if the link reported it, and `TurnsUsed` exactly after `turns` turns. `LinkFault` and
+/// `WriteFault` come only if the link or the sink counted a fault.
+pub fn follow<L: Link, K: Sink>(
+    alloc: Global,
+    follower: &mut Follower,
+    monitors: u8,
+    link: &mut L,
+    sink: &mut K,
+    turns: u64,
+) -> FollowEnd
+    requires least { 1 ≤ monitors }
+    requires most { monitors ≤ 15 }
+    requires turns { turns ≤ 2 ^ 61 }
+    ensures follows { (asks : ℕ) × (parts : List Partial) × Follows monitors turns
+        (course follower.old [] 0 (L.state link.old).told (K.held sink.old))
+        (course follower.new parts asks (L.state link.new).told (K.held sink.new)) result }
+    ensures faults { (L.state link.new).faults ≡ faults_at result (L.state link.old).faults }
+    ensures later { K.faults sink.old ≤ K.faults sink.new }
+    ensures fault { result ≡ FollowEnd.WriteFault → Rose (K.faults sink.old) (K.faults sink.new) }
+{
+    let mut assembly = Assembly::new(alloc);
+    let mut asks: u64 = 0;
+    if let Err(end) = ask_on(alloc, monitors, &mut asks, follower, link) {
+        return end;
+    }
+    for made in 0..turns {
+        if let Err(end) = turn(
+            alloc,
+            follower,
+            monitors,
+            &mut assembly,
+            &mut asks,
+            link,
+            sink,
+        ) {
+            return end;
+        }
+    }
+    FollowEnd::TurnsUsed
+}
