@@ -1,8 +1,8 @@
 -- The first calm run.
-use Rattle.std.proofs.Common.{◌≡◌, ℕ, zero, suc, ◌+◌, ◌*◌, ◌<◌, ◌≤◌, Bool, not, eqb, List, [], ◌∷◌, ◌++◌, length, map, Option, Some, None, Result, Ok, Err, refl, sym, ap, subst, ◌∙◌, ◌⊎◌, inl, inr, arith, length-append}
+use Rattle.std.proofs.Common.{◌≡◌, ℕ, zero, suc, ◌+◌, ◌*◌, ◌<◌, ◌≤◌, Bool, not, eqb, List, [], ◌∷◌, ◌++◌, length, map, Option, Some, None, Ok, refl, sym, ap, subst, ◌∙◌, ◌⊎◌, inl, inr, arith, length-append}
 use Rattle.std.proofs.lemmas.Bool.{cases_eq, lt-ltb, le-ltb}
 use Rattle.std.proofs.lemmas.List.Elements.{filter_map-append}
-use Rattle.std.specs.List.{filter, filter_map, range_with_len}
+use Rattle.std.specs.List.{filter, range_with_len}
 use Rattle.std.specs.Prelude.{slice_index_or, replicate}
 use Rattle.mon_tx.specs.Map.{Store}
 use Rattle.mon_bytes.specs.declared.entry.Entry.{Entry}
@@ -25,7 +25,7 @@ use Rattle.mon_wire.specs.declared.body.Body.TheVariants as body
 use Rattle.mon_wire.specs.declared.phase.Phase.TheVariants as phase
 use Rattle.quorum_model.specs.CalmRun.{AreAll, ServesCalmly, HasAll, IsCalm, IsCalmAt, log_of, answers, answers_of, is_done}
 use Rattle.quorum_model.specs.CalmSchedule.{deliveries, numbers_delivered, number_delivered, starts, orders, asks_all}
-use Rattle.quorum_model.specs.Happens.{happens, put_at}
+use Rattle.quorum_model.specs.Happens.{put_at}
 use Rattle.quorum_model.specs.Meets.{Arrival}
 use Rattle.quorum_model.specs.Monitors.{Monitors, classic}
 use Rattle.quorum_model.specs.Runs.{Ran, ran_from, ran, run, goes_on}

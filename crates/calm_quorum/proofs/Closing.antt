@@ -26,11 +26,11 @@ use Rattle.mon_wire.specs.declared.request.Session.{Session}
 use Rattle.log_model.specs.LogOfValues.{AllValues}
 use Rattle.log_model.proofs.Committed.{shown_shared}
 use Rattle.quorum_model.specs.CalmRun.{Answer, ServesCalmly, HasAll, IsCalm, EndsCalmly, log_of, answers, answers_shown, shown_of}
-use Rattle.quorum_model.specs.CalmSchedule.{Order, session, asks, shows, asks_all, orders, calm_schedule}
+use Rattle.quorum_model.specs.CalmSchedule.{Order, session, asks, shows, orders, calm_schedule}
 use Rattle.quorum_model.specs.Meets.{Arrival}
 use Rattle.quorum_model.specs.Monitors.{Monitors, classic}
 use Rattle.quorum_model.specs.Runs.{Ran, ran_from, ran, run}
-use Rattle.quorum_model.specs.World.{World, Client, Event, Comes, Envelope, first_world}
+use Rattle.quorum_model.specs.World.{World, Client, Event, Envelope, first_world}
 use Rattle.calm_quorum.proofs.Rounds.{did, put_same}
 use Rattle.calm_quorum.proofs.States.{me_at, reacts, with_changes}
 use Rattle.calm_quorum.proofs.Stores.{IsSmall}

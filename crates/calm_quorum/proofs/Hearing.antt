@@ -1,5 +1,5 @@
 -- The rows as what a monitor makes of a message.
-use Rattle.std.proofs.Common.{◌≡◌, ℕ, ◌≤◌, Bool, true, false, List, [], ◌++◌, Some, Ok, refl, ap, ◌∙◌}
+use Rattle.std.proofs.Common.{◌≡◌, ℕ, ◌≤◌, true, List, [], ◌++◌, Some, Ok, refl, ap, ◌∙◌}
 use Rattle.std.specs.List.{filter_map}
 use Rattle.std.specs.Prelude.{nat_lt}
 use Rattle.mon_bytes.specs.declared.entry.Entry.{Entry}
@@ -15,7 +15,7 @@ use Rattle.mon_msg.specs.declared.plan.Sent.{Sent}
 use Rattle.quorum_model.specs.Clients.{messages_of}
 use Rattle.quorum_model.specs.Growth.{last_of}
 use Rattle.quorum_model.specs.Meets.{Arrival, state_at}
-use Rattle.quorum_model.specs.Monitors.{classic, me_of, me_if}
+use Rattle.quorum_model.specs.Monitors.{classic}
 use Rattle.quorum_model.specs.World.{Envelope}
 use Rattle.calm_quorum.proofs.Rounds.{did}
 use Rattle.calm_quorum.proofs.Handling.{Place, place, Said, tell, grew, takes, hears}

@@ -1,8 +1,6 @@
 -- The states and stores of the monitors in the first calm run.
 use Rattle.std.specs.Prelude.{ℕ, ◌≤◌, nat_lt, ◌≡◌, Bool, true, false, List, [], ◌∷◌, Option, Some, None, refl}
-use Rattle.std.proofs.lemmas.Bool.{ltb-true}
 use Rattle.std.specs.FinMap.{empty}
-use Rattle.election_rules.specs.declared.rule.Rule.TheVariants.{Classic}
 use Rattle.mon_msg.specs.Joined.{joined}
 use Rattle.mon_msg.specs.Protocol.Changes.{Change, Boot, Epoch, Numbers, Promise, spelled}
 use Rattle.mon_msg.specs.Protocol.Reaction.{Reaction}

@@ -1,6 +1,4 @@
 -- Every event keeps what holds.
-use Rattle.log_model.specs.LogOfValues.{IsCommand}
-use Rattle.mon_bytes.specs.declared.command.Command.TheVariants as command
 use Rattle.mon_bytes.specs.declared.command.Command.{Command}
 use Rattle.mon_kv.specs.Readers.{most_size, size_of}
 use Rattle.mon_msg.proofs.Changed.{readings-joined}
@@ -12,24 +10,20 @@ use Rattle.mon_msg.specs.Protocol.Phases.{is_member}
 use Rattle.mon_msg.specs.Protocol.Readings.{Readings, epoch_of, or_zero, promise_of, readings_of, shared_entries}
 use Rattle.mon_msg.specs.Protocol.State.{State, booting}
 use Rattle.mon_msg.specs.Protocol.Table.{at_rest, react}
-use Rattle.mon_msg.specs.declared.input.Input.TheVariants as input
 use Rattle.mon_msg.specs.declared.input.Input.{Input}
 use Rattle.mon_msg.specs.declared.view.Me.{Me}
 use Rattle.mon_tx.specs.Map.{Store, apply}
 use Rattle.mon_tx.specs.declared.op.Op.{Op}
 use Rattle.mon_types.specs.declared.names.Which.{Which}
-use Rattle.mon_wire.specs.declared.request.Request.TheVariants as request
-use Rattle.mon_wire.specs.declared.request.Request.{Request}
 use Rattle.mon_wire.specs.declared.request.Session.{Session}
 use Rattle.quorum_history.proofs.Frame.{accepted_lasts}
-use Rattle.quorum_history.proofs.Growing.{grows_by, grows_not}
-use Rattle.quorum_history.proofs.History.{ALevel, ANumber, APromise, Accepted, AnEpoch, Ask, Asks, Entry, Ext, Ghost, Glob, Had, asking, ext_refl, had_lasts, triple}
+use Rattle.quorum_history.proofs.History.{ALevel, ANumber, APromise, Accepted, AnEpoch, Asks, Entry, Had, asking, ext_refl, had_lasts, triple}
 use Rattle.quorum_history.proofs.Holds.{Good, core, level_in}
 use Rattle.quorum_history.proofs.Rows.{InputHolds, react_holds}
-use Rattle.quorum_history.proofs.RowsClients.{IsAsked, Makes}
+use Rattle.quorum_history.proofs.RowsClients.{Makes}
 use Rattle.quorum_history.proofs.Steps.{tied_refl}
 use Rattle.quorum_laws.proofs.Beginning.{at_first}
-use Rattle.quorum_laws.proofs.Invariant.{EnvelopeFine, EnvelopeHolds, Further, Inv, InvOf, InvWith, Mine, OnState, StateFits, TriplesKept, WasActive, further_ext, further_refl, further_trans, was_asked_more}
+use Rattle.quorum_laws.proofs.Invariant.{EnvelopeFine, EnvelopeHolds, Further, Inv, InvOf, InvWith, Mine, OnState, StateFits, TriplesKept, WasActive, further_ext, further_refl, further_trans}
 use Rattle.quorum_laws.proofs.Later.{Later, Stays, is_in, later_refl, later_trans, stays_refl}
 use Rattle.quorum_laws.proofs.Leaving.{IsLater, stays_outside}
 use Rattle.quorum_laws.proofs.Values.{made, sharing}
@@ -38,26 +32,24 @@ use Rattle.quorum_laws.proofs.Whole.{active_last, at_put, envelopes_last, envelo
 use Rattle.quorum_laws.specs.Accepting.{AcceptedIn}
 use Rattle.quorum_laws.specs.Commands.{WasAsked}
 use Rattle.quorum_laws.specs.Promises.{Collects, last_number}
-use Rattle.quorum_model.specs.Clients.{command_of, messages_of, with_asked}
-use Rattle.quorum_model.specs.Events.{AllFit, PlainFits, RequestFits}
+use Rattle.quorum_model.specs.Clients.{messages_of, with_asked}
+use Rattle.quorum_model.specs.Events.{AllFit, PlainFits}
 use Rattle.quorum_model.specs.Happens.{Full, Stop, after_meeting, happens, in_world, is_active, kept_only, lost, moved, put_at, unless_stopped, unmoved}
-use Rattle.quorum_model.specs.Meets.{Down, Meeting, NoMessage, Reacts, meeting, meeting_at, meets, state_at}
-use Rattle.quorum_model.specs.Monitors.{Monitors, me_if}
+use Rattle.quorum_model.specs.Meets.{Meeting, Reacts}
+use Rattle.quorum_model.specs.Monitors.{Monitors}
 use Rattle.quorum_model.specs.Runs.{goes_on, ran_from, run, run_from}
-use Rattle.quorum_model.specs.World.{Asked, Client, Comes, Crash, Deliver, Envelope, Event, Plain, Ring, Start, World, first_world, plain_of}
-use Rattle.quorum_walk.proofs.FineCourses.{Ended, EntryFine, Fine, RequestFine, fit_fits}
+use Rattle.quorum_model.specs.World.{Asked, Comes, Crash, Envelope, Event, Plain, World, first_world, plain_of}
+use Rattle.quorum_walk.proofs.FineCourses.{Ended, EntryFine, Fine, fit_fits}
 use Rattle.quorum_walk.proofs.FineTable.{ComesFine, react_fine}
-use Rattle.quorum_walk.proofs.Lists.{Among, all_append, all_get}
+use Rattle.quorum_walk.proofs.Lists.{Among, all_append}
 use Rattle.quorum_walk.proofs.Sparing.{own_of}
 use Rattle.quorum_walk.proofs.Walk.{Then}
 pub use Rattle.quorum_laws.proofs.Meetings.{Arrives, IsNoted, ToldOf, member_of}
 use Rattle.quorum_laws.proofs.Meetings.{OfMeeting, each_meeting}
-use Rattle.std.proofs.Common.{Bool, Err, IfSome, List, None, Ok, Option, Result, Some, [], ap, arith, cond, eqb, false, inl, inr, ltb, refl, subst, suc, sym, true, zero, ℕ, ◌%◌, ◌++◌, ◌<◌, ◌∙◌, ◌∷◌, ◌≡◌, ◌≤◌, ◌⊎◌}
-use Rattle.std.proofs.lemmas.Bool.{cond_both, eqb-true, false≢true, ltb-true}
-use Rattle.std.proofs.lemmas.List.Elements.{Contains-append_right, Contains-push}
-use Rattle.std.specs.List.{AllByRecursion, Contains}
-use Rattle.std.specs.Option.{option_map}
-use Rattle.std.specs.Prelude.{IfOk, slice_get}
+use Rattle.std.proofs.Common.{Bool, Err, IfSome, List, None, Ok, Option, Result, Some, [], ap, arith, cond, eqb, false, inl, inr, ltb, refl, subst, sym, true, ℕ, ◌%◌, ◌++◌, ◌<◌, ◌∙◌, ◌∷◌, ◌≡◌, ◌≤◌, ◌⊎◌}
+use Rattle.std.proofs.lemmas.Bool.{cond_both, eqb-true, false≢true}
+use Rattle.std.specs.List.{AllByRecursion}
+use Rattle.std.specs.Prelude.{IfOk}
 
 module _ (store : ℕ → Store) (state : ℕ → Option State) (txs : ℕ → List (List Op)) (messages : List Envelope) (pairs : List (ℕ × ℕ)) (asked : List Asked) (me : Me) (I : Inv me.member.monitors store state txs messages pairs asked) (at : ℕ) where
   abbrev n : ℕ
