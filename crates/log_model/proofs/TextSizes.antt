@@ -60,10 +60,10 @@ total-append (op ∷ a) b = omega (arith, total-append a b)
 
 -- ---- keys
 
-decimal_length : (v : ℕ) → v ≤ 2 ^ 62 → length (decimal_text v) ≤ 20
-decimal_length v h = leb-true (length (decimal_text v)) 20 (and_parts _ _ (and_parts _ _ (decimal_word v (omega arith))).0).1
+decimal_length : (v : ℕ) → v < 2 ^ 64 → length (decimal_text v) ≤ 20
+decimal_length v h = leb-true (length (decimal_text v)) 20 (and_parts _ _ (and_parts _ _ (decimal_word v h)).0).1
 
-area_length : (a : Area) → length (area_text a) ≤ 8
+pub area_length : (a : Area) → length (area_text a) ≤ 8
 area_length Paxos = omega arith
 area_length Kv = omega arith
 area_length Logm = omega arith
@@ -77,14 +77,15 @@ area_prefix Logm = refl
 area_prefix Monitor = refl
 area_prefix Sync = refl
 
+-- the number in it, if any, has at most 20 digits
 abbrev pub KeyFits : Key → Type 0
-KeyFits (Version v) = v ≤ 2 ^ 62
-KeyFits (Full v) = v ≤ 2 ^ 62
+KeyFits (Version v) = v < 2 ^ 64
+KeyFits (Full v) = v < 2 ^ 64
 KeyFits k = Unit {0}
 
 key_name : (k : Key) → KeyFits k → IsTrue (is_name (key_text k))
-key_name (Version v) h = word_name (decimal_text v) (decimal_word v (omega arith))
-key_name (Full v) h = whole_name (decimal_text v) (decimal_word v (omega arith))
+key_name (Version v) h = word_name (decimal_text v) (decimal_word v h)
+key_name (Full v) h = whole_name (decimal_text v) (decimal_word v h)
 key_name FirstCommitted h = refl
 key_name LastCommitted h = refl
 key_name LastPn h = refl
@@ -97,7 +98,7 @@ key_name BootCount h = refl
 key_name InSync h = refl
 key_name Floor h = refl
 
-key_length : (k : Key) → KeyFits k → length (key_text k) ≤ 25
+pub key_length : (k : Key) → KeyFits k → length (key_text k) ≤ 25
 key_length (Version v) h = let l = decimal_length v h in omega arith
 key_length (Full v) h = let l = decimal_length v h in omega arith
 key_length FirstCommitted h = omega arith
@@ -196,15 +197,26 @@ light_begun c = cond_both (eqb c 0) (first_set 1) [] (λ es. Light es 48) (λ e.
 
 pub light_new : (n : ℕ) (x : List ℕ) → n ≤ 2 ^ 62 → length x ≤ 65797 → Light (new n x) 65933
 light_new n x h short =
-    light-append (Set (Version n) x ∷ []) _ 65837 96 (record { fits = ((h, omega arith), tt); light = omega arith })
+    light-append (Set (Version n) x ∷ []) _ 65837 96 (record { fits = ((omega arith, omega arith), tt); light = omega arith })
     (light-append (cond (eqb n 1) (first_set 1) []) (Set LastCommitted (number_bytes n) ∷ []) 48 48
     (cond_both (eqb n 1) (first_set 1) [] (λ es. Light es 48) (λ e. light_first 1) (λ e. record { fits = tt; light = omega arith }))
     (record { fits = ((tt, omega (arith, length_number n)), tt); light = omega (arith, length_number n) }))
 
-pub light_full : (n : ℕ) (t : List ℕ) → n ≤ 2 ^ 62 → length t ≤ 393216 → Light (full n t) 393304
+-- what a full map takes, if the version has one
+abbrev pub full_cost : ℕ → ℕ
+full_cost n = cond (is_full n) 393304 0
+
+pub cost_most : (n : ℕ) → full_cost n ≤ 393304
+cost_most n = cond_both (is_full n) 393304 0 (λ (k : ℕ). k ≤ 393304) (λ e. omega arith) (λ e. omega arith)
+
+light_full : (n : ℕ) (t : List ℕ) → n ≤ 2 ^ 62 → length t ≤ 393216 → Light (full n t) (full_cost n)
 light_full n t h short =
-    cond_both (is_full n) (Set (Full n) t ∷ Set FullLatest (number_bytes n) ∷ []) [] (λ es. Light es 393304)
-    (λ e. record { fits = ((h, omega arith), ((tt, omega (arith, length_number n)), tt)); light = omega (arith, length_number n) }) (λ e. record { fits = tt; light = omega arith })
+    cond_both (is_full n) (Set (Full n) t ∷ Set FullLatest (number_bytes n) ∷ []) [] (λ es. Light es (full_cost n))
+    (λ e. rw e (record {
+      fits = ((omega arith, omega arith), ((tt, omega (arith, length_number n)), tt));
+      light = omega (arith, length_number n);
+    }))
+    (λ e. rw e (record { fits = tt; light = omega arith }))
 
 light_drops : (count from : ℕ) → from + count ≤ 2 ^ 62 → Light (map (λ v. Drop (Full v)) (filter is_full (range_with_len from count))) (36 * count)
 light_drops zero from h = record { fits = tt; light = omega arith }
@@ -236,9 +248,11 @@ light_log first last h =
     light-append (DropRange first (paxos_to first last) ∷ []) (first_set (paxos_to first last)) 15526 48 (record { fits = ((omega arith, omega arith), tt); light = omega arith }) (light_first (paxos_to first last)))
     (λ e. record { fits = tt; light = omega arith })
 
-light_service : (n first : ℕ) (x t : List ℕ) → n ≤ 2 ^ 62 → length x ≤ 65797 → length t ≤ 393216 → Light (service_edits n first x t) 460986
+light_service : (n first : ℕ) (x t : List ℕ) → n ≤ 2 ^ 62 → length x ≤ 65797 → length t ≤ 393216
+    → Light (service_edits n first x t) (65933 + (full_cost n + 1749))
 light_service n first x t h short_x short_t =
-    light-append (new n x) _ 65933 395053 (light_new n x h short_x) (light-append (full n t) _ 393304 1749 (light_full n t h short_t) (light_trimmed n first h))
+    light-append (new n x) _ 65933 (full_cost n + 1749) (light_new n x h short_x)
+    (light-append (full n t) _ (full_cost n) 1749 (light_full n t h short_t) (light_trimmed n first h))
 
 -- ---- a value
 
@@ -253,7 +267,7 @@ module _ (first last : ℕ) (a : Area) (n service_first : ℕ) (x t : List ℕ) 
   parts_are : newer ≡ parts
   parts_are = is ∙ value_is first last a n service_first x t
 
-  own : Light edits 460986
+  own : Light edits (65933 + (full_cost n + 1749))
   own = light_service n service_first x t h short_x short_t
 
   log_edits : Light (log_trimmed first last) 15574
@@ -264,7 +278,7 @@ module _ (first last : ℕ) (a : Area) (n service_first : ℕ) (x t : List ℕ) 
       all_append OpFits (spelled area.Paxos (begun last)) _ (edits_fit area.Paxos (begun last) (light_begun last).fits)
       (all_append OpFits (spelled a edits) (spelled area.Paxos (log_trimmed first last)) (edits_fit a edits own.fits) (edits_fit area.Paxos (log_trimmed first last) log_edits.fits))
 
-  parts_total : total parts ≤ 476608
+  parts_total : total parts ≤ 83304 + full_cost n
   parts_total =
       let b = (light_begun last).light in
       let o = own.light in
@@ -281,9 +295,12 @@ module _ (first last : ℕ) (a : Area) (n service_first : ℕ) (x t : List ℕ) 
   fits : AllByRecursion OpFits newer
   fits = subst (AllByRecursion OpFits) (sym parts_are) parts_fit
 
+  pub value_length : (older : List Op) → IsOlder newer older → length (text older) ≤ 83309 + full_cost n
+  value_length older o = omega (arith, text_length older, older_total o fits, ap total parts_are, parts_total)
+
   -- short enough to be proposed
   pub value_short : (older : List Op) → IsOlder newer older → length (text older) ≤ most_value
-  value_short older o = omega (arith, text_length older, older_total o fits, ap total parts_are, parts_total)
+  value_short older o = omega (arith, value_length older o, cost_most n)
 
   pub value_text : (older : List Op) → IsOlder newer older → HasText older
   value_text older o = record { each = older_fits o fits; short = (let l = value_short older o in omega arith) }

@@ -153,7 +153,7 @@ itself Kv = refl
 itself Log = refl
 
 module _ (log : List (List ℕ)) (c : ℕ) (older newer : List Op) (spelled : IsOlder newer older) (N : Next log c newer) (spells : ops_in (entry log (suc c)) ≡ older) where
-  incrementals_more : (u : Service) → incrementals u log (suc c) ≡ incrementals u log c ++ cond (same_area (area_of N.service) (area_of u)) (N.incremental ∷ []) []
+  pub incrementals_more : (u : Service) → incrementals u log (suc c) ≡ incrementals u log c ++ cond (same_area (area_of N.service) (area_of u)) (N.incremental ∷ []) []
   unfolding incrementals
   incrementals_more u =
       ap (λ (z : List (List ℕ)). incrementals u log c ++ z)

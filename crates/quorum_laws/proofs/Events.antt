@@ -1,6 +1,4 @@
 -- Every event keeps what holds.
-use Rattle.log_model.specs.LogOfValues.{IsCommand}
-use Rattle.mon_bytes.specs.declared.command.Command.TheVariants as command
 use Rattle.mon_bytes.specs.declared.command.Command.{Command}
 use Rattle.mon_kv.specs.Readers.{most_size, size_of}
 use Rattle.mon_msg.proofs.Changed.{readings-joined}
@@ -12,24 +10,20 @@ use Rattle.mon_msg.specs.Protocol.Phases.{is_member}
 use Rattle.mon_msg.specs.Protocol.Readings.{Readings, epoch_of, or_zero, promise_of, readings_of, shared_entries}
 use Rattle.mon_msg.specs.Protocol.State.{State, booting}
 use Rattle.mon_msg.specs.Protocol.Table.{at_rest, react}
-use Rattle.mon_msg.specs.declared.input.Input.TheVariants as input
 use Rattle.mon_msg.specs.declared.input.Input.{Input}
 use Rattle.mon_msg.specs.declared.view.Me.{Me}
 use Rattle.mon_tx.specs.Map.{Store, apply}
 use Rattle.mon_tx.specs.declared.op.Op.{Op}
 use Rattle.mon_types.specs.declared.names.Which.{Which}
-use Rattle.mon_wire.specs.declared.request.Request.TheVariants as request
-use Rattle.mon_wire.specs.declared.request.Request.{Request}
 use Rattle.mon_wire.specs.declared.request.Session.{Session}
 use Rattle.quorum_history.proofs.Frame.{accepted_lasts}
-use Rattle.quorum_history.proofs.Growing.{grows_by, grows_not}
-use Rattle.quorum_history.proofs.History.{ALevel, ANumber, APromise, Accepted, AnEpoch, Ask, Asks, Entry, Ext, Ghost, Glob, Had, asking, ext_refl, had_lasts, triple}
+use Rattle.quorum_history.proofs.History.{ALevel, ANumber, APromise, Accepted, AnEpoch, Asks, Entry, Had, asking, ext_refl, had_lasts, triple}
 use Rattle.quorum_history.proofs.Holds.{Good, core, level_in}
 use Rattle.quorum_history.proofs.Rows.{InputHolds, react_holds}
-use Rattle.quorum_history.proofs.RowsClients.{IsAsked, Makes}
+use Rattle.quorum_history.proofs.RowsClients.{Makes}
 use Rattle.quorum_history.proofs.Steps.{tied_refl}
 use Rattle.quorum_laws.proofs.Beginning.{at_first}
-use Rattle.quorum_laws.proofs.Invariant.{EnvelopeFine, EnvelopeHolds, Further, Inv, InvOf, InvWith, Mine, OnState, StateFits, TriplesKept, WasActive, further_ext, further_refl, further_trans, was_asked_more}
+use Rattle.quorum_laws.proofs.Invariant.{EnvelopeFine, EnvelopeHolds, Further, Inv, InvOf, InvWith, Mine, OnState, StateFits, TriplesKept, WasActive, further_ext, further_refl, further_trans}
 use Rattle.quorum_laws.proofs.Later.{Later, Stays, is_in, later_refl, later_trans, stays_refl}
 use Rattle.quorum_laws.proofs.Leaving.{IsLater, stays_outside}
 use Rattle.quorum_laws.proofs.Values.{made, sharing}
@@ -38,24 +32,24 @@ use Rattle.quorum_laws.proofs.Whole.{active_last, at_put, envelopes_last, envelo
 use Rattle.quorum_laws.specs.Accepting.{AcceptedIn}
 use Rattle.quorum_laws.specs.Commands.{WasAsked}
 use Rattle.quorum_laws.specs.Promises.{Collects, last_number}
-use Rattle.quorum_model.specs.Clients.{command_of, messages_of, with_asked}
-use Rattle.quorum_model.specs.Events.{AllFit, PlainFits, RequestFits}
+use Rattle.quorum_model.specs.Clients.{messages_of, with_asked}
+use Rattle.quorum_model.specs.Events.{AllFit, PlainFits}
 use Rattle.quorum_model.specs.Happens.{Full, Stop, after_meeting, happens, in_world, is_active, kept_only, lost, moved, put_at, unless_stopped, unmoved}
-use Rattle.quorum_model.specs.Meets.{Down, Meeting, NoMessage, Reacts, meeting, meeting_at, meets, state_at}
-use Rattle.quorum_model.specs.Monitors.{Monitors, me_if}
+use Rattle.quorum_model.specs.Meets.{Meeting, Reacts}
+use Rattle.quorum_model.specs.Monitors.{Monitors}
 use Rattle.quorum_model.specs.Runs.{goes_on, ran_from, run, run_from}
-use Rattle.quorum_model.specs.World.{Asked, Client, Comes, Crash, Deliver, Envelope, Event, Plain, Ring, Start, World, first_world, plain_of}
-use Rattle.quorum_walk.proofs.FineCourses.{begun, still, Ended, EntryFine, Fine, RequestFine, fit_fits}
+use Rattle.quorum_model.specs.World.{Asked, Comes, Crash, Envelope, Event, Plain, World, first_world, plain_of}
+use Rattle.quorum_walk.proofs.FineCourses.{begun, still, Ended, EntryFine, Fine, fit_fits}
 use Rattle.quorum_walk.proofs.FineTable.{ComesFine, react_fine}
-use Rattle.quorum_walk.proofs.Lists.{Among, all_append, all_get}
+use Rattle.quorum_walk.proofs.Lists.{Among, all_append}
 use Rattle.quorum_walk.proofs.Sparing.{own_of}
 use Rattle.quorum_walk.proofs.Walk.{Then}
-use Rattle.std.proofs.Common.{Bool, Err, IfSome, List, None, Ok, Option, Result, Some, [], ap, arith, cond, eqb, false, inl, inr, ltb, refl, subst, suc, sym, true, zero, ℕ, ◌%◌, ◌++◌, ◌<◌, ◌∙◌, ◌∷◌, ◌≡◌, ◌≤◌, ◌⊎◌}
-use Rattle.std.proofs.lemmas.Bool.{cond_both, eqb-true, false≢true, ltb-true}
-use Rattle.std.proofs.lemmas.List.Elements.{Contains-append_right, Contains-push}
-use Rattle.std.specs.List.{AllByRecursion, Contains}
-use Rattle.std.specs.Option.{option_map}
-use Rattle.std.specs.Prelude.{IfOk, slice_get}
+pub use Rattle.quorum_laws.proofs.Meetings.{Arrives, IsNoted, ToldOf, member_of}
+use Rattle.quorum_laws.proofs.Meetings.{OfMeeting, each_meeting}
+use Rattle.std.proofs.Common.{Bool, Err, IfSome, List, None, Ok, Option, Result, Some, [], ap, arith, cond, eqb, false, inl, inr, ltb, refl, subst, sym, true, ℕ, ◌%◌, ◌++◌, ◌<◌, ◌∙◌, ◌∷◌, ◌≡◌, ◌≤◌, ◌⊎◌}
+use Rattle.std.proofs.lemmas.Bool.{cond_both, eqb-true, false≢true}
+use Rattle.std.specs.List.{AllByRecursion}
+use Rattle.std.specs.Prelude.{IfOk}
 
 module _ (store : ℕ → Store) (state : ℕ → Option State) (txs : ℕ → List (List Op)) (messages : List Envelope) (pairs : List (ℕ × ℕ)) (asked : List Asked) (me : Me) (I : Inv me.member.monitors store state txs messages pairs asked) (at : ℕ) where
   abbrev n : ℕ
@@ -207,106 +201,16 @@ lost_stays store state i j = by (eqb j i)
     by true = record { epoch = omega arith; promise = omega arith; level = omega arith; inside = λ a e. absurd (false≢true a) }
     by false = stays_refl (readings_of (store j)) (state j)
 
--- ---- what a client asks
-
-abbrev with_ask : Ask → Ghost → Ghost
-with_ask a g = record g { asks = a ∷ g.asks }
-
-ask_ext : (k : ℕ) (a : Ask) (g : Ghost) → Ext k g (with_ask a g)
-ask_ext k a g = record { roles = grows_not _ g.roles; hands = grows_not _ g.hands; asks = grows_by _ a g.asks tt; signs = grows_not _ g.signs; accepts = grows_not _ g.accepts }
-
-ask_glob : (n : ℕ) (a : Ask) (g : Ghost) → Glob n g → Glob n (with_ask a g)
-ask_glob n a g G = record { roles = G.roles; hands = record { once = G.hands.once; asked = λ i e seq s c t. inr (G.hands.asked i e seq s c t) }; triples = G.triples }
-
-module _ (n : ℕ) (store : ℕ → Store) (state : ℕ → Option State) (txs : ℕ → List (List Op)) (messages : List Envelope) (pairs : List (ℕ × ℕ)) (asked : List Asked) (I : Inv n store state txs messages pairs asked) where
-  -- what holds where more was asked, with a history that goes on
-  abbrev Asking : List Asked → Type 0
-  Asking more = (J : Inv n store state txs messages pairs (asked ++ more)) × Further I.g J.g
-
-  map_asked : (more : List Asked) → Asking more
-  map_asked more = (
-    record {
-      g = I.g;
-      glob = I.glob;
-      mine = I.mine;
-      triples = I.triples;
-      held = I.held;
-      raised = I.raised;
-      sent = I.sent;
-      sizes = I.sizes;
-      active = I.active;
-      asks = λ j t d a. was_asked_more n asked more j t d (I.asks j t d a);
-    },
-    further_refl I.g,
-  )
-
-  -- a command is asked
-  command_asked : (i : ℕ) (s : Session) (r : Request) (c : Command) → i < n → command_of r ≡ Some c → IsCommand c
-      → (J : Asking (record { rank = i; session = s; request = r } ∷ [])) × Asks J.0.g i s c
-  command_asked i s r c lt is form =
-      let a = asking i s c in
-      let h = with_ask a I.g in
-      let one : Asked = record { rank = i; session = s; request = r } in
-      let now : WasAsked n (asked ++ one ∷ []) i s c = record { by = one; among = Contains-append_right asked (one ∷ []) one (0, omega arith, refl); at = refl; below = lt; session = refl; command = is; form = form } in (
-        (
-          record {
-            g = h;
-            glob = ask_glob n a I.g I.glob;
-            mine = λ j. mine_lasts n (suc j) I.g h (ask_ext (suc j) a I.g) j (readings_of (store j)) (state j) (λ e. omega arith) (I.mine j);
-            triples = record { kept = I.triples.kept; known = I.triples.known };
-            held = I.held;
-            raised = I.raised;
-            sent = envelopes_last n 0 I.g h (ask_ext 0 a I.g) messages I.sent;
-            sizes = I.sizes;
-            active = active_last n 0 I.g h (ask_ext 0 a I.g) pairs I.active;
-            asks = λ j t d b. elim b [
-              | inl e ↦ subst (λ (z : Ask). WasAsked n (asked ++ one ∷ []) z.i z.session z.command) (sym e) now
-              | inr o ↦ was_asked_more n asked (one ∷ []) j t d (I.asks j t d o)
-            ];
-          },
-          record { roles = λ r b. b; hands = λ r b. b; asks = λ r b. inr b },
-        ),
-        inl refl,
-      )
-
 -- ---- an event
 
 -- whatever becomes of a transaction, the run goes on with it or stops
 pub unless_full : (P : World → Type 0) (m : Store) (next : Reaction → World) (r : Reaction) → P (next r) → IfOk (in_world next (unless_stopped m (Ok r))) P
 unless_full P m next r p = cond_both (ltb most_size (size_of (apply r.transaction m))) (Err (Full (size_of (apply r.transaction m)))) (Ok r) (λ (x : Result Reaction Stop). IfOk (in_world next x) P) (λ _. tt) (λ _. p)
 
-abbrev pub member_of : (ms : Monitors) (rank : ℕ) → ltb rank ms.count ≡ true → Me
-member_of ms rank lt = record { member = record { rank = rank; monitors = ms.count; most = ms.most; in_map = ltb-true rank ms.count lt }; rule = ms.rule }
-
--- what is known of each envelope is known of the message that comes
-abbrev pub ToldOf : (Envelope → Type 0) → (rank : ℕ) → Input → Type 0
-ToldOf Told rank (input.Deliver m) = Told (record { to = rank; message = m })
-ToldOf Told rank other = Unit {0}
-
--- what a client asks is noted
-abbrev pub IsNoted : List Asked → (rank : ℕ) → Input → Type 0
-IsNoted asked rank (input.Client s r) = Contains asked (record { rank = rank; session = s; request = r })
-IsNoted asked rank other = Unit {0}
-
 module _ (ms : Monitors) (w : World) (Told : Envelope → Type 0) where
-  -- what comes to a monitor that is up, or that starts
-  pub record Arrives (asked : List Asked) (I : InvWith ms w asked) : Type 0 where
-    pub rank : ℕ
-    pub lt : ltb rank ms.count ≡ true
-    pub at : ℕ
-    pub state : State
-    pub remembers : (w.state rank ≡ Some state) ⊎ (state ≡ booting rank)
-    pub came : Input
-    pub on : OnState ms.count I.g rank (readings_of (w.store rank)) (Some state)
-    pub fits : StateFits state
-    pub holds : InputHolds (member_of ms rank lt) I.g came
-    pub fine : (S : AllByRecursion EntryFine (shared_entries (w.store rank))) → ComesFine (member_of ms rank lt) at (readings_of (w.store rank)) made (shared_entries (w.store rank)) S came
-    pub told : ToldOf Told rank came
-    pub noted : IsNoted asked rank came
-
   -- and what it does
   pub record Does (asked : List Asked) (I : InvWith ms w asked) : Type 0 where
-    pub by : Arrives asked I
+    pub by : Arrives ms w Told asked I
     pub y : Course
     pub is : react (member_of ms by.rank by.lt) (shared_entries (w.store by.rank)) by.at (readings_of (w.store by.rank)) by.state by.came ≡ Ok y
 
@@ -322,86 +226,40 @@ module _ (ms : Monitors) (w : World) (Told : Envelope → Type 0) where
   event_of None p = Comes p
   event_of (Some kept) p = Crash p kept
 
-  module _ (P : World → Type 0) (p : Plain) (I : InvWith ms w (with_asked p w.asked)) (K : Keeps p I P) where
-    abbrev Follows : Option Bool → Meeting → Type 0
-    Follows how met = IfOk (after_meeting w (event_of how p) met) P
+  -- what becomes of what it meets
+  abbrev Follows : (P : World → Type 0) (p : Plain) → Option Bool → Meeting → Type 0
+  Follows P p how met = IfOk (after_meeting w (event_of how p) met) P
 
-    reacts : (how : Option Bool) (A : Arrives (with_asked p w.asked) I) (r : Result Course Which) → react (member_of ms A.rank A.lt) (shared_entries (w.store A.rank)) A.at (readings_of (w.store A.rank)) A.state A.came ≡ r
-        → Follows how (Reacts A.rank A.came (any_reaction r))
-    reacts None A (Ok y) q = unless_full P (w.store A.rank) (moved w p A.rank) (reaction_of y) (K.goes_on (record { by = A; y = y; is = q }))
+  module _ (P : World → Type 0) (p : Plain) (I : InvWith ms w (with_asked p w.asked)) (K : Keeps p I P) where
+    reacts : (how : Option Bool) (A : Arrives ms w Told (with_asked p w.asked) I) (r : Result Course Which)
+        → react (member_of ms A.rank A.lt) (shared_entries (w.store A.rank)) A.at (readings_of (w.store A.rank)) A.state
+        A.came ≡ r
+        → Follows P p how (Reacts A.rank A.came (any_reaction r))
+    reacts None A (Ok y) q =
+        unless_full P (w.store A.rank) (moved w p A.rank) (reaction_of y) (K.goes_on (record { by = A; y = y; is = q }))
     reacts None A (Err which) q = tt
-    reacts (Some true) A (Ok y) q = unless_full P (w.store A.rank) (kept_only w p A.rank) (reaction_of y) (K.goes_down (record { by = A; y = y; is = q }))
+    reacts (Some true) A (Ok y) q =
+        unless_full P (w.store A.rank) (kept_only w p A.rank) (reaction_of y)
+        (K.goes_down (record { by = A; y = y; is = q }))
     reacts (Some true) A (Err which) q = tt
     reacts (Some false) A r q = K.loses A.rank A.lt
 
-    not_there : (how : Option Bool) (met : Meeting) → (met ≡ Down) ⊎ (met ≡ NoMessage) → Follows how met
-    not_there None met (inl q) = subst (Follows None) (sym q) K.nothing
-    not_there None met (inr q) = subst (Follows None) (sym q) K.nothing
-    not_there (Some true) met (inl q) = subst (Follows (Some true)) (sym q) K.nothing
-    not_there (Some true) met (inr q) = subst (Follows (Some true)) (sym q) K.nothing
-    not_there (Some false) met (inl q) = subst (Follows (Some false)) (sym q) K.nothing
-    not_there (Some false) met (inr q) = subst (Follows (Some false)) (sym q) K.nothing
-
-    module _ (how : Option Bool) (rank at : ℕ) (came : Input) (c : (lt : ltb rank ms.count ≡ true) → InputHolds (member_of ms rank lt) I.g came)
-        (d : (lt : ltb rank ms.count ≡ true) (S : AllByRecursion EntryFine (shared_entries (w.store rank))) → ComesFine (member_of ms rank lt) at (readings_of (w.store rank)) made (shared_entries (w.store rank)) S came) (t : ToldOf Told rank came) (noted : IsNoted (with_asked p w.asked) rank came) where
-      -- it comes to a monitor that is up, down or not there
-      arrives : (o : Option State) → OnState ms.count I.g rank (readings_of (w.store rank)) o → IfSome o StateFits → ((s : State) → o ≡ Some s → (w.state rank ≡ Some s) ⊎ (s ≡ booting rank))
-          → (b : Bool) (q : ltb rank ms.count ≡ b) → Follows how (meeting (record { rank = rank; at = at; input = came }) (w.store rank) (me_if ms rank b q) o)
-      arrives (Some s) k z r true q =
-          reacts how (record { rank = rank; lt = q; at = at; state = s; remembers = r s refl; came = came; on = k; fits = z; holds = c q; fine = d q; told = t; noted = noted }) _ refl
-      arrives None k z r true q = not_there how Down (inl refl)
-      arrives (Some s) k z r false q = not_there how Down (inl refl)
-      arrives None k z r false q = not_there how Down (inl refl)
-
-      comes_to : OnState ms.count I.g rank (readings_of (w.store rank)) (state_at rank (w.state rank) came) → IfSome (state_at rank (w.state rank) came) StateFits
-          → ((s : State) → state_at rank (w.state rank) came ≡ Some s → (w.state rank ≡ Some s) ⊎ (s ≡ booting rank)) → Follows how (meeting_at ms w (Some (record { rank = rank; at = at; input = came })))
-      comes_to k z r = arrives (state_at rank (w.state rank) came) k z r (ltb rank ms.count) refl
-
-    delivered : (how : Option Bool) (at : ℕ) (o : Option Envelope) → IfSome o (EnvelopeHolds ms.count I.g) → IfSome o EnvelopeFine → IfSome o Told
-        → Follows how (meeting_at ms w (option_map (λ v. record { rank = v.to; at = at; input = input.Deliver v.message }) o))
-    delivered how at None k z t = not_there how NoMessage (inr refl)
-    delivered how at (Some v) k z t = comes_to how v.to at (input.Deliver v.message) (λ lt. k) (λ lt S. (let a = k.0 in let b = ms.most in omega arith, z)) t tt (I.mine v.to).state (I.mine v.to).fits (λ s e. inl e)
+    follows : (how : Option Bool) → OfMeeting ms w Told p I (Follows P p how)
+    follows None = record { down = K.nothing; none = K.nothing; reacts = reacts None }
+    follows (Some true) = record { down = K.nothing; none = K.nothing; reacts = reacts (Some true) }
+    follows (Some false) = record { down = K.nothing; none = K.nothing; reacts = reacts (Some false) }
 
   module _ (I : InvOf ms w) (P : World → Type 0) where
-    -- where it is so whatever what is asked adds to the history
+    -- it is so whatever what is asked adds to the history
     abbrev AllKeep : Plain → Type 0
     AllKeep p = (J : InvWith ms w (with_asked p w.asked)) → Further I.g J.g → Keeps p J P
 
-    asks_command : (how : Option Bool) (rank at : ℕ) (s : Session) (r : Request) (c : Command) → rank < ms.count → command_of r ≡ Some c → IsCommand c
-        → ((g : Ghost) → Asks g rank s c → IsAsked g rank s r) → RequestFine r → AllKeep (Client rank at s r) → IfOk (after_meeting w (event_of how (Client rank at s r)) (meets ms w (Client rank at s r))) P
-    asks_command how rank at s r c lt is form known fine K =
-        let A = command_asked ms.count w.store w.state w.transactions w.messages w.active w.asked I rank s r c lt is form in
-        let J = A.0.0 in
-        comes_to P (Client rank at s r) J (K J A.0.1) how rank at (input.Client s r) (λ lt. known J.g A.1) (λ lt S. fine) tt (Contains-push w.asked (record { rank = rank; session = s; request = r })) (J.mine rank).state (J.mine rank).fits (λ s e. inl e)
-
-    asks_map : (how : Option Bool) (rank at : ℕ) (s : Session) (r : Request) → ((g : Ghost) → IsAsked g rank s r) → RequestFine r → AllKeep (Client rank at s r)
-        → IfOk (after_meeting w (event_of how (Client rank at s r)) (meets ms w (Client rank at s r))) P
-    asks_map how rank at s r known fine K =
-        let A = map_asked ms.count w.store w.state w.transactions w.messages w.active w.asked I (record { rank = rank; session = s; request = r } ∷ []) in
-        let J = A.0 in
-        comes_to P (Client rank at s r) J (K J A.1) how rank at (input.Client s r) (λ lt. known J.g) (λ lt S. fine) tt (Contains-push w.asked (record { rank = rank; session = s; request = r })) (J.mine rank).state (J.mine rank).fits (λ s e. inl e)
-
-    asks_for : (how : Option Bool) (rank at : ℕ) (s : Session) (r : Request) → rank < ms.count → RequestFits r → AllKeep (Client rank at s r)
-        → IfOk (after_meeting w (event_of how (Client rank at s r)) (meets ms w (Client rank at s r))) P
-    asks_for how rank at s (request.Set key value) lt F K = asks_command how rank at s (request.Set key value) (command.Set key value) lt refl F (λ g a. a) F K
-    asks_for how rank at s (request.Remove key) lt F K = asks_command how rank at s (request.Remove key) (command.Remove key) lt refl F (λ g a. a) F K
-    asks_for how rank at s (request.Log text) lt F K = asks_command how rank at s (request.Log text) (command.Log text) lt refl F (λ g a. a) F K
-    asks_for how rank at s (request.Show v) lt F K = asks_map how rank at s (request.Show v) (λ g. tt) tt K
-    asks_for how rank at s (request.Since v k) lt F K = asks_map how rank at s (request.Since v k) (λ g. tt) tt K
-
-    comes : AllByRecursion Told w.messages → (how : Option Bool) (p : Plain) → PlainFits ms.count p → AllKeep p → IfOk (after_meeting w (event_of how p) (meets ms w p)) P
-    comes T how (Start rank at) F K =
-        comes_to P (Start rank at) I (K I (further_refl I.g)) how rank at input.Start (λ lt. tt) (λ lt S. tt) tt tt tt (record { found = tt; value = tt; pn = omega arith; stage = tt; queue = tt }) (λ s e. let q : s ≡ booting rank = cc in inr q)
-    comes T how (Deliver zero at) F K = not_there P (Deliver zero at) I (K I (further_refl I.g)) how NoMessage (inr refl)
-    comes T how (Deliver (suc k) at) F K =
-        delivered P (Deliver (suc k) at) I (K I (further_refl I.g)) how at (slice_get w.messages k) (all_get (EnvelopeHolds ms.count I.g) w.messages k I.sent) (all_get EnvelopeFine w.messages k I.sizes) (all_get Told w.messages k T)
-    comes T how (Ring rank timer at) F K =
-        comes_to P (Ring rank timer at) I (K I (further_refl I.g)) how rank at (input.Timer timer) (λ lt. tt) (λ lt S. tt) tt tt (I.mine rank).state (I.mine rank).fits (λ s e. inl e)
-    comes T how (Client rank at s r) F K = asks_for how rank at s r F.0 F.1 K
-
-    pub each_event : AllByRecursion Told w.messages → (e : Event) → PlainFits ms.count (plain_of e) → AllKeep (plain_of e) → IfOk (happens ms w e) P
-    each_event T (Comes p) F K = comes T None p F K
-    each_event T (Crash p kept) F K = comes T (Some kept) p F K
+    pub each_event : AllByRecursion Told w.messages → (e : Event) → PlainFits ms.count (plain_of e)
+        → AllKeep (plain_of e) → IfOk (happens ms w e) P
+    each_event T (Comes p) F K =
+        each_meeting ms w Told I (Follows P p None) T p F (λ J up. follows P p J (K J up) None)
+    each_event T (Crash p kept) F K =
+        each_meeting ms w Told I (Follows P p (Some kept)) T p F (λ J up. follows P p J (K J up) (Some kept))
 
 -- every event keeps what holds, with a history that goes on
 abbrev pub After : (ms : Monitors) (w : World) (asked : List Asked) → InvWith ms w asked → World → Type 0

@@ -8,6 +8,7 @@ pub mod Invariant
 pub mod Later
 pub mod Leases
 pub mod Leaving
+pub mod Meetings
 pub mod Numbers
 pub mod Reading
 pub mod Values

@@ -1,5 +1,7 @@
+pub mod Continuing
 pub mod Examples
 pub mod Fitting
 pub mod Made
+pub mod Members
 pub mod Values
 pub mod Writing

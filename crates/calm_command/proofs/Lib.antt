@@ -1,0 +1,17 @@
+pub mod AllCommands
+pub mod CommandRounds
+pub mod CommandRows
+pub mod Deliveries
+pub mod OneCommand
+pub mod Quiet
+pub mod RestsCalm
+pub mod Resting
+pub mod Roles
+pub mod Rounds
+pub mod Sets
+pub mod States
+pub mod Stores
+pub mod ValueRounds
+pub mod ValueRows
+pub mod Values
+pub mod Worlds

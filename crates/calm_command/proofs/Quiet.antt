@@ -1,0 +1,225 @@
+-- What monitors do at messages and commands that write nothing.
+use Rattle.log_copies.specs.Versions.{HasVersions, behind}
+use Rattle.log_model.proofs.AnyValue.{value_spares}
+use Rattle.log_model.specs.LogOfValues.{AllValues, view_at}
+use Rattle.mon_bytes.specs.declared.command.Command.{Command}
+use Rattle.mon_bytes.specs.declared.command.CommandRefused.{CommandRefused}
+use Rattle.mon_bytes.specs.declared.entry.Entry.{Entry}
+use Rattle.mon_kv.specs.Readers.{most_size, size_of}
+use Rattle.mon_lease.specs.Lease.{stands}
+use Rattle.mon_msg.specs.Protocol.Changes.{Last, Learn, Vote, ops_of}
+use Rattle.mon_msg.specs.Protocol.Commands.{at_leader, is_too_long, too_long}
+use Rattle.mon_msg.specs.Protocol.Course.{Course}
+use Rattle.mon_msg.specs.Protocol.Leading.{be_active, begin_with, extend}
+use Rattle.mon_msg.specs.Protocol.Proposing.{asked_of, refusal}
+use Rattle.mon_msg.specs.Protocol.Services.{service_last}
+use Rattle.mon_msg.specs.Protocol.Readings.{Readings, after, epoch_of, epoch_or_first, readings_of, shared_entries}
+use Rattle.mon_msg.specs.Protocol.Sending.{answer_to, answers_to, members, message_to}
+use Rattle.mon_msg.specs.Protocol.Sets.{are_within, is_empty}
+use Rattle.mon_msg.specs.Protocol.State.{State}
+use Rattle.mon_msg.specs.Protocol.Table.{at_rest, react}
+use Rattle.mon_msg.specs.Protocol.Value.{service_of, value}
+use Rattle.mon_msg.specs.declared.clients.Asked.{Asked}
+use Rattle.mon_msg.specs.declared.input.Input.TheVariants as input
+use Rattle.mon_msg.specs.declared.input.Input.{Input}
+use Rattle.mon_msg.specs.declared.plan.Origin.TheVariants as origin
+use Rattle.mon_msg.specs.declared.plan.Origin.{Origin}
+use Rattle.mon_msg.specs.declared.plan.Sent.{Sent}
+use Rattle.mon_msg.specs.declared.view.Me.{Me}
+use Rattle.mon_tx.specs.Map.{Store}
+use Rattle.mon_tx.specs.Text.{text}
+use Rattle.mon_tx.specs.declared.op.Op.{Op}
+use Rattle.mon_types.specs.Ranks.{has}
+use Rattle.mon_types.specs.declared.names.Which.{Which}
+use Rattle.mon_wire.specs.declared.body.Body.TheVariants as body
+use Rattle.mon_wire.specs.declared.body.Body.{Body}
+use Rattle.mon_wire.specs.declared.message.Message.{Message}
+use Rattle.mon_wire.specs.declared.reply.Reply.TheVariants as reply
+use Rattle.mon_wire.specs.declared.reply.Reply.{Reply}
+use Rattle.mon_wire.specs.declared.request.Session.{Session}
+use Rattle.quorum_model.proofs.Members.{member_of}
+use Rattle.quorum_agreement.proofs.Grown.{grown_none}
+use Rattle.log_copies.proofs.Telling.{read_last}
+use Rattle.quorum_model.specs.CalmRun.{Answer}
+use Rattle.quorum_model.specs.CalmSchedule.{request_of}
+use Rattle.quorum_model.specs.Clients.{envelope_of, messages_of}
+use Rattle.quorum_model.specs.Growth.{grown}
+use Rattle.quorum_model.specs.Monitors.{Monitors}
+use Rattle.quorum_model.specs.World.{Envelope}
+use Rattle.quorum_walk.proofs.Sparing.{Own, learned_own}
+use Rattle.std.proofs.Common.{Bool, Err, List, Ok, Result, Some, [], ap, append_assoc, arith, eqb, false, length, ltb, map, refl, subst, suc, sym, true, zero, ℕ, ◌-◌, ◌++◌, ◌<◌, ◌^◌, ◌∙◌, ◌∷◌, ◌≡◌, ◌≤◌, ◌||◌}
+use Rattle.std.proofs.lemmas.Bool.{lt-ltb, ltb-true, or_right}
+use Rattle.std.proofs.lemmas.List.Elements.{filter_map-append}
+use Rattle.std.specs.List.{range_with_len}
+use Rattle.std.specs.Prelude.{slice_index_or, slice_set}
+use Rattle.calm_command.proofs.CommandRows as asking
+use Rattle.calm_command.proofs.Rounds.{Hears, to_rank}
+use Rattle.calm_command.proofs.ValueRows as rows
+use Rattle.calm_command.proofs.ValueRows.{said}
+use Rattle.calm_command.proofs.Sets.{covers_all, covers_not, firsts, has_firsts, one_more, only_first, others_are}
+use Rattle.calm_command.proofs.States.{Follows, Leads, Updates, active, is_active, is_following, is_updating, reads}
+use Rattle.calm_command.proofs.Stores.{Makes, Stored, adds_none, adds_one, is_read, long, more, nothing_written, service_fits, short, stored_learned, stored_voted, value_is, values}
+use Rattle.calm_command.proofs.Worlds.{Does, answer_in, answers_in}
+use Rattle.calm_sizes.specs.Sizes.{AllShort, longest}
+use Rattle.calm_sizes.proofs.Stores.{not_full}
+use Rattle.calm_command.proofs.Roles.{Following, Holds, Leading, Role, Voting, as_seen, asked_rank, one_sent, one_told, rank_of, replied, routed, sent_to_each, standing, tells_none, to_each}
+
+module _ (ms : Monitors) where
+  abbrev n : ℕ
+  n = ms.count
+
+  -- ---- nothing is written
+
+  module _ (base : List (List ℕ)) (fits : length base ≤ 2 ^ 62) (all : AllValues base) (l : List (List ℕ)) (u p : ℕ)
+      (le : u ≤ length l) where
+    abbrev pub Quietly : (i : ℕ) → Input → (from to : Role) → List Envelope → List Answer → Type 0
+    Quietly i came from to out said =
+        (lt : ltb i n ≡ true) (m : Store) (s : State) → Holds ms base from m s
+        → Does ms Role (Holds ms base) i lt m s came l to out said l
+
+    unwritten : (m : Store) → Stored base u p m → Stored base u p (behind [] m)
+    unwritten m S = subst (λ (m : Store). Stored base u p m) (sym (nothing_written m)) S
+
+    kept : (m : Store) → Stored base u p m → grown l (behind [] m) ≡ l
+    kept m S =
+        let T = unwritten m S in
+        grown_none l (behind [] m) T.unmarked
+        (let r = read_last base fits all u (behind [] m) T.versions in omega arith)
+
+    module _ (k : ℕ) (seq : ℕ) (session : Session) where
+      pub long_peon : (c : Command) → is_too_long c ≡ true
+          → Quietly k (input.Client session (request_of c)) (Following u p true [] seq) (Following u p true [] seq)
+          [] ((k, session, too_long c) ∷ [])
+      long_peon c long lt m s H = let next = unwritten m H.0 in let H1 = H.1 in record {
+        y = _;
+        is = as_seen _ _ _ _ _ _ _ _ (is_read base fits all u p m H.0) (is_following n true [] seq s H.1)
+            (asking.long_row ms k lt (shared_entries m) (readings_of m) s seq u session c long);
+        small = not_full base fits all _ _ next.versions next.short;
+        sends = refl;
+        tells = refl;
+        grows = kept m H.0;
+        leaves = (
+          next,
+          record { phase = refl; leader = refl; quorum = refl; lease = H1.lease; waits = refl; next = refl },
+        );
+      }
+
+      pub forwards : (c : Command) → is_too_long c ≡ false → seq ≤ 2 ^ 62
+          → Quietly k (input.Client session (request_of c)) (Following u p true [] seq)
+          (Following u p true (record { seq = seq; session = session } ∷ []) (suc seq))
+          (to_rank 0 (said n k (body.Forward seq c)) ∷ []) []
+      forwards c short few lt m s H = let next = unwritten m H.0 in let H1 = H.1 in record {
+        y = _;
+        is = as_seen _ _ _ _ _ _ _ _ (is_read base fits all u p m H.0) (is_following n true [] seq s H.1)
+            (asking.forward_row ms k lt (shared_entries m) (readings_of m) s seq u session c short few);
+        small = not_full base fits all _ _ next.versions next.short;
+        sends = refl;
+        tells = refl;
+        grows = kept m H.0;
+        leaves = (
+          next,
+          record { phase = refl; leader = refl; quorum = refl; lease = H1.lease; waits = refl; next = refl },
+        );
+      }
+
+      pub routes : (0 ≡ k → ⊥) → (leased : Bool) (r : Reply)
+          → Quietly k (input.Deliver (said n 0 (body.Route seq r)))
+          (Following u p leased (record { seq = seq; session = session } ∷ []) (suc seq))
+          (Following u p leased [] (suc seq)) [] ((k, session, r) ∷ [])
+      routes nz leased r lt m s H = let next = unwritten m H.0 in let H1 = H.1 in record {
+        y = _;
+        is = as_seen _ _ _ _ _ _ _ _ (is_read base fits all u p m H.0)
+            (is_following n leased (record { seq = seq; session = session } ∷ []) (suc seq) s H.1)
+            (asking.route_row ms k lt (shared_entries m) (readings_of m) s seq u session nz r);
+        small = not_full base fits all _ _ next.versions next.short;
+        sends = refl;
+        tells = refl;
+        grows = kept m H.0;
+        leaves = (
+          next,
+          record { phase = refl; leader = refl; quorum = refl; lease = H1.lease; waits = refl; next = refl },
+        );
+      }
+
+    pub long_lead : (acks : List Bool) (taken : List ℕ) (c : Command) (session : Session) → is_too_long c ≡ true
+        → suc u ≤ 2 ^ 62
+        → Quietly 0 (input.Client session (request_of c)) (Leading u p acks taken) (Leading u p acks taken) []
+        ((0, session, too_long c) ∷ [])
+    long_lead acks taken c session long room lt m s H = let next = unwritten m H.0 in let H1 = H.1 in record {
+      y = _;
+      is = as_seen _ _ _ _ _ _ _ _ (is_read base fits all u p m H.0) (is_active n acks taken s H.1)
+          (asking.long_lead ms 0 lt (shared_entries m) (readings_of m) s acks u (standing n s H1.lease) room taken c
+          session long);
+      small = not_full base fits all _ _ next.versions next.short;
+      sends = refl;
+      tells = refl;
+      grows = kept m H.0;
+      leaves = (
+        next,
+        record {
+          phase = refl;
+          quorum = refl;
+          pn = refl;
+          acked = refl;
+          lease = H1.lease;
+          queue = refl;
+          sessions = refl;
+          took = refl;
+        },
+      );
+    }
+
+    -- what a leader does at which a command came, by itself or handed on
+    abbrev pub Leads_to : (came : Input) (acks : List Bool) (taken later : List ℕ) (c : Command) (o : Origin) → Type 0
+    Leads_to came acks taken later c o = (lt : ltb 0 n ≡ true) (m : Store) (s : State) → stands s.leader.lease 0 ≡ true
+        → react (member_of ms 0 lt) (shared_entries m) 0 (reads u (readings_of m)) (active n acks taken s) came
+        ≡ at_leader (member_of ms 0 lt) 0 c o (at_rest (reads u (readings_of m)) (active n acks later s))
+
+    pub asks_lead : (acks : List Bool) (taken : List ℕ) (c : Command) (session : Session) → suc u ≤ 2 ^ 62
+        → Leads_to (input.Client session (request_of c)) acks taken taken c (origin.Session session)
+    asks_lead acks taken c session room lt m s h =
+        asking.asks_lead ms 0 lt (shared_entries m) (readings_of m) s acks u (standing n s h) room taken c session
+
+    pub forward_comes : (acks : List Bool) (taken : List ℕ) (c : Command) (f seq : ℕ) → suc u ≤ 2 ^ 62 → 0 < f
+        → f < n → slice_index_or taken f 0 < seq
+        → Leads_to (input.Deliver (said n f (body.Forward seq c))) acks taken (slice_set taken f seq) c
+        (origin.Forwarded f seq)
+    forward_comes acks taken c f seq room pos below new lt m s h =
+        asking.forwarded ms 0 lt (shared_entries m) (readings_of m) s acks u (standing n s h) room taken c f seq
+        (λ e. omega arith) (has_firsts n ms.most f ∙ lt-ltb f n below) new
+
+    pub refused : (came : Input) (acks : List Bool) (taken later : List ℕ) (c : Command) (o : Origin)
+        (e : CommandRefused) → is_too_long c ≡ false → suc u ≤ 2 ^ 62
+        → ((m : Store) → HasVersions base u m → value (readings_of m) c (rank_of o) ≡ Err e)
+        → Leads_to came acks taken later c o
+        → Quietly 0 came (Leading u p acks taken) (Leading u p acks later) (routed n o (refusal e))
+        (replied o (refusal e))
+    refused came acks taken later c o e short room made comes lt m s H =
+        let S = H.0 in let next = unwritten m S in let H1 = H.1 in record {
+          y = _;
+          is = as_seen _ _ _ _ _ _ _ _ (is_read base fits all u p m S) (is_active n acks taken s H1)
+              (comes lt m s H1.lease
+              ∙ asking.refuses ms 0 lt (shared_entries m) (readings_of m) s acks u (standing n s H1.lease) room later c
+              short (service_fits base fits all u p m S (omega arith) (service_of c)) o e
+              (ap (λ (w : Readings). value w c (asked_of (member_of ms 0 lt) o))
+              (sym (is_read base fits all u p m S))
+              ∙ ap (λ (a : ℕ). value (readings_of m) c a) (asked_rank ms lt (refusal e) o)
+              ∙ made m S.versions));
+          small = not_full base fits all _ _ next.versions next.short;
+          sends = one_sent ms lt (refusal e) o;
+          tells = one_told ms lt (refusal e) 2 o;
+          grows = kept m S;
+          leaves = (
+            next,
+            record {
+              phase = refl;
+              quorum = refl;
+              pn = refl;
+              acked = refl;
+              lease = H1.lease;
+              queue = refl;
+              sessions = refl;
+              took = refl;
+            },
+          );
+        }

@@ -1,0 +1,184 @@
+-- How each monitor stands during a command.
+use Rattle.log_copies.specs.Versions.{HasVersions, behind}
+use Rattle.log_model.proofs.AnyValue.{value_spares}
+use Rattle.log_model.specs.LogOfValues.{AllValues, view_at}
+use Rattle.mon_bytes.specs.declared.command.Command.{Command}
+use Rattle.mon_bytes.specs.declared.command.CommandRefused.{CommandRefused}
+use Rattle.mon_bytes.specs.declared.entry.Entry.{Entry}
+use Rattle.mon_kv.specs.Readers.{most_size, size_of}
+use Rattle.mon_lease.specs.Lease.{stands}
+use Rattle.mon_msg.specs.Protocol.Changes.{Last, Learn, Vote, ops_of}
+use Rattle.mon_msg.specs.Protocol.Commands.{at_leader, is_too_long, too_long}
+use Rattle.mon_msg.specs.Protocol.Course.{Course}
+use Rattle.mon_msg.specs.Protocol.Leading.{be_active, begin_with, extend}
+use Rattle.mon_msg.specs.Protocol.Proposing.{asked_of, refusal}
+use Rattle.mon_msg.specs.Protocol.Services.{service_last}
+use Rattle.mon_msg.specs.Protocol.Readings.{Readings, after, epoch_of, epoch_or_first, readings_of, shared_entries}
+use Rattle.mon_msg.specs.Protocol.Sending.{answer_to, answers_to, members, message_to}
+use Rattle.mon_msg.specs.Protocol.Sets.{are_within, is_empty}
+use Rattle.mon_msg.specs.Protocol.State.{State}
+use Rattle.mon_msg.specs.Protocol.Table.{at_rest, react}
+use Rattle.mon_msg.specs.Protocol.Value.{service_of, value}
+use Rattle.mon_msg.specs.declared.clients.Asked.{Asked}
+use Rattle.mon_msg.specs.declared.input.Input.TheVariants as input
+use Rattle.mon_msg.specs.declared.input.Input.{Input}
+use Rattle.mon_msg.specs.declared.plan.Origin.TheVariants as origin
+use Rattle.mon_msg.specs.declared.plan.Origin.{Origin}
+use Rattle.mon_msg.specs.declared.plan.Sent.{Sent}
+use Rattle.mon_msg.specs.declared.view.Me.{Me}
+use Rattle.mon_tx.specs.Map.{Store}
+use Rattle.mon_tx.specs.Text.{text}
+use Rattle.mon_tx.specs.declared.op.Op.{Op}
+use Rattle.mon_types.specs.Ranks.{has}
+use Rattle.mon_types.specs.declared.names.Which.{Which}
+use Rattle.mon_wire.specs.declared.body.Body.TheVariants as body
+use Rattle.mon_wire.specs.declared.body.Body.{Body}
+use Rattle.mon_wire.specs.declared.message.Message.{Message}
+use Rattle.mon_wire.specs.declared.reply.Reply.TheVariants as reply
+use Rattle.mon_wire.specs.declared.reply.Reply.{Reply}
+use Rattle.mon_wire.specs.declared.request.Session.{Session}
+use Rattle.quorum_model.proofs.Members.{member_of}
+use Rattle.quorum_agreement.proofs.Grown.{grown_none}
+use Rattle.log_copies.proofs.Telling.{read_last}
+use Rattle.quorum_model.specs.CalmRun.{Answer}
+use Rattle.quorum_model.specs.CalmSchedule.{request_of}
+use Rattle.quorum_model.specs.Clients.{envelope_of, messages_of}
+use Rattle.quorum_model.specs.Growth.{grown}
+use Rattle.quorum_model.specs.Monitors.{Monitors}
+use Rattle.quorum_model.specs.World.{Envelope}
+use Rattle.quorum_walk.proofs.Sparing.{Own, learned_own}
+use Rattle.std.proofs.Common.{Bool, Err, List, Ok, Result, Some, [], ap, append_assoc, arith, eqb, false, length, ltb, map, refl, subst, suc, sym, true, zero, ℕ, ◌-◌, ◌++◌, ◌<◌, ◌^◌, ◌∙◌, ◌∷◌, ◌≡◌, ◌≤◌, ◌||◌}
+use Rattle.std.proofs.lemmas.Bool.{lt-ltb, ltb-true, or_right}
+use Rattle.std.proofs.lemmas.List.Elements.{filter_map-append}
+use Rattle.std.specs.List.{range_with_len}
+use Rattle.std.specs.Prelude.{slice_index_or, slice_set}
+use Rattle.calm_command.proofs.CommandRows as asking
+use Rattle.calm_command.proofs.Rounds.{Hears, to_rank}
+use Rattle.calm_command.proofs.ValueRows as rows
+use Rattle.calm_command.proofs.ValueRows.{said}
+use Rattle.calm_command.proofs.Sets.{covers_all, covers_not, firsts, has_firsts, one_more, only_first, others_are}
+use Rattle.calm_command.proofs.States.{Follows, Leads, Updates, active, is_active, is_following, is_updating, reads}
+use Rattle.calm_command.proofs.Stores.{Makes, Stored, adds_none, adds_one, is_read, long, more, nothing_written, service_fits, short, stored_learned, stored_voted, value_is, values}
+use Rattle.calm_command.proofs.Worlds.{Does, answer_in, answers_in}
+use Rattle.calm_sizes.specs.Sizes.{AllShort, longest}
+use Rattle.calm_sizes.proofs.Stores.{not_full}
+
+pub data Role : Type 0 where
+  -- an active leader of v versions, whose lease these took
+  Leading : (v p : ℕ) → (acks : List Bool) → (taken : List ℕ) → Role
+  -- one whose value is under way, which these accepted
+  Voting : (v : ℕ) → (accepted : List Bool) → (x : List Op) → (o : Origin) → (taken : List ℕ) → Role
+  -- a peon of v versions, which accepted no value for a version above p, with its lease or without
+  Following : (v p : ℕ) → (leased : Bool) → (sessions : List Asked) → (seq : ℕ) → Role
+
+-- what a monitor does is what one does of which this is known
+pub as_seen : (me : Me) (sh : List Entry) (came : Input) (w v : Readings) (s t : State) (r : Result Course Which)
+    → w ≡ v → s ≡ t → react me sh 0 v t came ≡ r → react me sh 0 w s came ≡ r
+as_seen me sh came w v s t r e f h = (λ i. react me sh 0 (e i) (f i) came) ∙ h
+
+-- ---- what is sent
+
+-- one message to each of these ranks
+abbrev pub to_each : (n : ℕ) → Body → List ℕ → List Envelope
+to_each n b ks = map (λ k. to_rank k (said n 0 b)) ks
+
+pub sent_to_each : (me : Me) (e : ℕ) (b : Body) (ks : List ℕ) → messages_of (map (message_to me e b) ks)
+    ≡ map (λ k. to_rank k (record { from = me.member.rank; monitors = me.member.monitors; epoch = e; body = b })) ks
+sent_to_each me e b [] = refl
+sent_to_each me e b (k ∷ ks) =
+    ap (λ (l : List Envelope).
+    to_rank k (record { from = me.member.rank; monitors = me.member.monitors; epoch = e; body = b }) ∷ l)
+    (sent_to_each me e b ks)
+
+pub tells_none : (i : ℕ) (me : Me) (e : ℕ) (b : Body) (ks : List ℕ) → answers_in i (map (message_to me e b) ks) ≡ []
+tells_none i me e b [] = refl
+tells_none i me e b (k ∷ ks) = tells_none i me e b ks
+
+-- the leader's answer
+abbrev pub routed : (n : ℕ) → Origin → Reply → List Envelope
+routed n (origin.Session session) r = []
+routed n (origin.Forwarded f seq) r = to_rank f (said n 0 (body.Route seq r)) ∷ []
+
+abbrev pub replied : Origin → Reply → List Answer
+replied (origin.Session session) r = (0, session, r) ∷ []
+replied (origin.Forwarded f seq) r = []
+
+-- the monitor that was asked
+abbrev pub rank_of : Origin → ℕ
+rank_of (origin.Session session) = 0
+rank_of (origin.Forwarded f seq) = f
+
+-- a leader answers
+module _ (ms : Monitors) (lt : ltb 0 ms.count ≡ true) (r : Reply) where
+  pub asked_rank : (o : Origin) → asked_of (member_of ms 0 lt) o ≡ rank_of o
+  asked_rank (origin.Session session) = refl
+  asked_rank (origin.Forwarded f seq) = refl
+
+  pub one_sent : (o : Origin) → messages_of (answer_to (member_of ms 0 lt) 2 o r ∷ []) ≡ routed ms.count o r
+  one_sent (origin.Session session) = refl
+  one_sent (origin.Forwarded f seq) = refl
+
+  pub one_told : (e : ℕ) (o : Origin) → answers_in 0 (answer_to (member_of ms 0 lt) e o r ∷ []) ≡ replied o r
+  one_told e (origin.Session session) = refl
+  one_told e (origin.Forwarded f seq) = refl
+
+-- what a leader sends and replies once it committed a value
+module _ (ms : Monitors) (lt : ltb 0 ms.count ≡ true) (a b : Body) (o : Origin) (r : Reply) where
+  abbrev leader : Me
+  leader = member_of ms 0 lt
+
+  abbrev all_sent : (e : ℕ) → List ℕ → List Sent
+  all_sent e ks = (map (message_to leader e a) ks ++ map (message_to leader e b) ks) ++ answers_to leader e (Some o) r
+
+  answer_sent : messages_of (answers_to leader 2 (Some o) r) ≡ routed ms.count o r
+  answer_sent = by o
+    where
+      by : (o : Origin) → messages_of (answers_to leader 2 (Some o) r) ≡ routed ms.count o r
+      by (origin.Session session) = refl
+      by (origin.Forwarded f seq) = refl
+
+  answer_told : (e : ℕ) → answers_in 0 (answers_to leader e (Some o) r) ≡ replied o r
+  answer_told e = by o
+    where
+      by : (o : Origin) → answers_in 0 (answers_to leader e (Some o) r) ≡ replied o r
+      by (origin.Session session) = refl
+      by (origin.Forwarded f seq) = refl
+
+  in_order : (ks : List ℕ)
+      → messages_of (all_sent 2 ks) ≡ to_each ms.count a ks ++ (to_each ms.count b ks ++ routed ms.count o r)
+  in_order ks =
+      filter_map-append envelope_of (map (message_to leader 2 a) ks ++ map (message_to leader 2 b) ks)
+      (answers_to leader 2 (Some o) r)
+      ∙ ap (λ (l : List Envelope). l ++ messages_of (answers_to leader 2 (Some o) r))
+      (filter_map-append envelope_of (map (message_to leader 2 a) ks) (map (message_to leader 2 b) ks))
+      ∙ append_assoc (messages_of (map (message_to leader 2 a) ks)) (messages_of (map (message_to leader 2 b) ks))
+      (messages_of (answers_to leader 2 (Some o) r))
+      ∙ (λ i. sent_to_each leader 2 a ks i ++ (sent_to_each leader 2 b ks i ++ answer_sent i))
+
+  pub all_are_sent : (e : ℕ) → e ≡ 2 → messages_of (all_sent e (members leader (firsts ms.count)))
+      ≡ to_each ms.count a (range_with_len 1 (ms.count - 1))
+      ++ (to_each ms.count b (range_with_len 1 (ms.count - 1)) ++ routed ms.count o r)
+  all_are_sent e two =
+      (λ i. messages_of (all_sent (two i) (others_are ms.count ms.most (ltb-true 0 ms.count lt) i)))
+      ∙ in_order (range_with_len 1 (ms.count - 1))
+
+  pub all_are_told : (e : ℕ) (ks : List ℕ) → answers_in 0 (all_sent e ks) ≡ replied o r
+  all_are_told e ks =
+      filter_map-append (answer_in 0) (map (message_to leader e a) ks ++ map (message_to leader e b) ks)
+      (answers_to leader e (Some o) r)
+      ∙ ap (λ (l : List Answer). l ++ answers_in 0 (answers_to leader e (Some o) r))
+      (filter_map-append (answer_in 0) (map (message_to leader e a) ks) (map (message_to leader e b) ks))
+      ∙ (λ i. (tells_none 0 leader e a ks i ++ tells_none 0 leader e b ks i) ++ answer_told e i)
+
+-- a lease that stands lets a leader of n propose
+pub standing : (n : ℕ) (s : State) → stands s.leader.lease 0 ≡ true → (eqb n 1 || stands s.leader.lease 0) ≡ true
+standing n s h = or_right (eqb n 1) (stands s.leader.lease 0) h
+
+module _ (ms : Monitors) where
+  abbrev n : ℕ
+  n = ms.count
+
+  abbrev pub Holds : List (List ℕ) → Role → Store → State → Type 0
+  Holds log (Leading v p acks taken) m s = Stored log v p m × Leads n acks taken s
+  Holds log (Voting v accepted x o taken) m s = Stored log v (suc v) m × Updates n accepted x o taken s
+  Holds log (Following v p leased sessions seq) m s = Stored log v p m × Follows n leased sessions seq s

@@ -1,0 +1,79 @@
+-- What the monitors remember during a command.
+use Rattle.mon_msg.specs.Protocol.Readings.{Readings}
+use Rattle.mon_msg.specs.Protocol.State.{State}
+use Rattle.mon_msg.specs.declared.clients.Asked.{Asked}
+use Rattle.mon_msg.specs.declared.plan.Origin.{Origin}
+use Rattle.mon_tx.specs.declared.op.Op.{Op}
+use Rattle.mon_wire.specs.declared.phase.Phase.TheVariants as phase
+use Rattle.std.proofs.Common.{Bool, List, Some, [], false, ℕ, ◌≡◌}
+pub use Rattle.calm_command.specs.Resting.{Follows, Leads, firsts}
+
+-- an active leader of all n
+abbrev pub active : (n : ℕ) (acks : List Bool) (taken : List ℕ) → State → State
+active n acks taken s = record s {
+  phase = phase.Active;
+  leader = record s.leader { quorum = firsts n; pn = 100; acks = acks };
+  clients = record s.clients { queue = []; sessions = []; taken = taken };
+}
+
+pub is_active : (n : ℕ) (acks : List Bool) (taken : List ℕ) (s : State) → Leads n acks taken s
+    → s ≡ active n acks taken s
+is_active n acks taken s H = λ i. record s {
+  phase = H.phase i;
+  leader = record s.leader { quorum = H.quorum i; pn = H.pn i; acks = H.acked i };
+  clients = record s.clients { queue = H.queue i; sessions = H.sessions i; taken = H.took i };
+}
+
+-- one whose value is under way
+abbrev pub updating : (n : ℕ) (accepted : List Bool) (value : List Op) (o : Origin) (taken : List ℕ) → State → State
+updating n accepted value o taken s = record s {
+  phase = phase.Updating;
+  leader = record s.leader { quorum = firsts n; pn = 100; accepted = accepted; value = Some value; origin = Some o };
+  clients = record s.clients { queue = []; sessions = []; taken = taken };
+}
+
+pub record Updates (n : ℕ) (accepted : List Bool) (value : List Op) (o : Origin) (taken : List ℕ) (s : State) : Type
+    0 where
+  pub phase : s.phase ≡ phase.Updating
+  pub quorum : s.leader.quorum ≡ firsts n
+  pub pn : s.leader.pn ≡ 100
+  pub accepts : s.leader.accepted ≡ accepted
+  pub values : s.leader.value ≡ Some value
+  pub origin : s.leader.origin ≡ Some o
+  pub queue : s.clients.queue ≡ []
+  pub sessions : s.clients.sessions ≡ []
+  pub took : s.clients.taken ≡ taken
+
+pub is_updating : (n : ℕ) (accepted : List Bool) (value : List Op) (o : Origin) (taken : List ℕ) (s : State)
+    → Updates n accepted value o taken s → s ≡ updating n accepted value o taken s
+is_updating n accepted value o taken s H = λ i. record s {
+  phase = H.phase i;
+  leader = record s.leader {
+    quorum = H.quorum i;
+    pn = H.pn i;
+    accepted = H.accepts i;
+    value = H.values i;
+    origin = H.origin i;
+  };
+  clients = record s.clients { queue = H.queue i; sessions = H.sessions i; taken = H.took i };
+}
+
+-- a peon of monitor 0, of which these sessions wait
+abbrev pub following : (n : ℕ) (sessions : List Asked) (seq : ℕ) → State → State
+following n sessions seq s = record s {
+  phase = phase.Peon;
+  peon = record s.peon { leader = 0; quorum = firsts n };
+  clients = record s.clients { sessions = sessions; next_seq = seq };
+}
+
+pub is_following : (n : ℕ) (leased : Bool) (sessions : List Asked) (seq : ℕ) (s : State)
+    → Follows n leased sessions seq s → s ≡ following n sessions seq s
+is_following n leased sessions seq s H = λ i. record s {
+  phase = H.phase i;
+  peon = record s.peon { leader = H.leader i; quorum = H.quorum i };
+  clients = record s.clients { sessions = H.waits i; next_seq = H.next i };
+}
+
+-- what their stores tell, of which v is the last version
+abbrev pub reads : ℕ → Readings → Readings
+reads v w = record w { epoch = Some 2; promise = Some 100; last = v; marked = false }

@@ -1,0 +1,11 @@
+pub mod Beginning
+pub mod Blocks
+pub mod Closing
+pub mod Election
+pub mod Handling
+pub mod Hearing
+pub mod Rounds
+pub mod Rows
+pub mod Sets
+pub mod States
+pub mod Stores
