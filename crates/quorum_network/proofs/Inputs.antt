@@ -20,7 +20,7 @@ use Rattle.mon_node.specs.declared.hearing.TimedInput.{TimedInput}
 use Rattle.mon_types.specs.declared.names.Stop.{Stop}
 use Rattle.mon_types.specs.declared.names.Stop.TheVariants as stop
 use Rattle.mon_wire.specs.Message.Whole.{text, HasText, message_of}
-use Rattle.mon_wire.proofs.WholeLaws.{message_again, message_is_found}
+use Rattle.mon_decode.proofs.WholeLaws.{message_again, message_is_found}
 use Rattle.mon_wire.specs.declared.body.Body.{Body}
 use Rattle.mon_wire.specs.declared.body.Body.TheVariants as body
 use Rattle.mon_wire.specs.declared.message.Message.{Message}
