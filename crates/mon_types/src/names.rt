@@ -1,3 +1,5 @@
+use thiserror::Error;
+
 /// A kind of number that can run out, at 2^62.
 #[derive(Clone, Copy, Debug, PartialEq, Eq)]
 pub enum Which {
@@ -40,9 +42,11 @@ impl Side {
 }
 
 /// Why a call of the outside gave nothing.
-#[derive(Clone, Copy, Debug, PartialEq, Eq)]
+#[derive(Clone, Copy, Debug, PartialEq, Eq, Error)]
 pub enum Stop {
     /// The outside failed, and the count of faults tells so.
+    #[error("the outside failed")]
     Failed,
+    #[error("out of memory")]
     OutOfMemory,
 }
