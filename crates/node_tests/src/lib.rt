@@ -5,3 +5,5 @@
 mod alone;
 #[cfg(test)]
 mod rig;
+#[cfg(test)]
+mod stepping_down;
