@@ -4,4 +4,6 @@
 #[cfg(test)]
 mod alone;
 #[cfg(test)]
+mod maps;
+#[cfg(test)]
 mod rig;
