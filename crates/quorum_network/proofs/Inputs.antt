@@ -31,7 +31,7 @@ use Rattle.mon_wire.specs.Message.Bodies as bodies
 use Rattle.mon_wire.specs.Message.Bodies.{spelled}
 use Rattle.mon_wire.specs.declared.request.Request.TheVariants as request
 use Rattle.mon_wire.specs.declared.request.Request.{Request}
-use Rattle.quorum_laws.proofs.Reading.{of_all}
+use Rattle.log_model.proofs.Lists.{of_all}
 use Rattle.quorum_model.specs.Events.{PlainFits, RequestFits}
 use Rattle.quorum_model.specs.Meets.{arrival, state_at, message_at}
 use Rattle.quorum_model.specs.Monitors.{Monitors}

@@ -18,7 +18,7 @@ use Rattle.mon_wire.specs.declared.reply.Reply.{Reply}
 use Rattle.mon_wire.specs.declared.reply.Reply.TheVariants as reply
 use Rattle.quorum_agreement.proofs.Every.{agrees, grows}
 use Rattle.quorum_agreement.proofs.SafeWorlds.{safe}
-use Rattle.quorum_laws.proofs.Reading.{of_all}
+use Rattle.log_model.proofs.Lists.{of_all}
 use Rattle.quorum_model.specs.Agree.{Agrees, IsAsked}
 use Rattle.quorum_model.specs.Events.{AllFit}
 use Rattle.quorum_model.specs.Growth.{last_of}
