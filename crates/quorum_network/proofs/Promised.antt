@@ -250,7 +250,7 @@ module _ (ms : Monitors) (asks : List Asked) (net : Network) (es : List Event) (
   to_client i (Client c) bytes t = answer_is [] none_were i c bytes t.0 t.1 (λ a k. absurd (omega (arith, k.1))) t.2 t.3 t.4
 
   value_asked : (v : ℕ) → IsAsked ms.count w.asked w.log v → IsAsked ms.count asks w.log v
-  value_asked v A = record { by = A.by; was_asked = of_all (λ a. Contains asks a) w.asked asked A.by A.was_asked; rank = A.rank; command = A.command; is = A.is; form = A.form; ops = A.ops; made = A.made; spells = A.spells }
+  value_asked v A = record { by = A.by; was_asked = of_all (λ a. Contains asks a) w.asked asked A.by A.was_asked; rank = A.rank; command = A.command; is = A.is; form = A.form; ops = A.ops; made = A.made; has_text = A.has_text; spells = A.spells }
 
   leader_has : (a : Acknowledged) (i : ℕ) (lt : i < ms.count) (p : Process) → net.process i ≡ p → model.LeaderHas a (w.state i) (w.store i) → LeaderHas (given a) p
   leader_has a i lt (Down m) e h = tt
