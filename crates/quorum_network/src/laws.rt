@@ -28,14 +28,15 @@ pub fn law_network()
 {}
 
 /// At any two moments of a network there is one log that only goes on. All maps are of it, but those under a full
-/// synchronisation, and so is every answer that ever went to a client: what is shown is the log up to a version, and was
-/// asked for; and the command that is said to be done is in it. Each entry is the value of a command that a client asked.
+/// synchronisation, and so is every datagram that ever went to a client, a piece of a REPLY: what is shown is the log up to a
+/// version, and was asked for; and the command that is said to be done is in it. Each entry is the value of a command that a
+/// client asked.
 ///
 /// No version is acknowledged twice. Each active leader with a proposal number of at least that of an acknowledgement
 /// has its version. What is shown after an acknowledgement, in its epoch, is no older.
 ///
-/// Any two maps have the same bytes of each version that both keep, at whatever moments. No two processes ever lead in
-/// one epoch.
+/// Any two maps have the same bytes of each version that both keep, at whatever moments. No two processes that are up, at
+/// these two moments, lead in one epoch.
 pub fn law_one_log()
     ensures log { (ms : Monitors) (later earlier : List Step) → AllMay ms (later ++ earlier)
         → HaveOneLog ms earlier (later ++ earlier) }
@@ -53,8 +54,8 @@ pub fn law_one_log()
 /// Let a node serve as `Serves` and `StandsThrough` say, to whatever end, and let its disks be opened after a crash. Then
 /// its turns are the steps of a life: their map is the one that is opened, and they send what the link was asked to send.
 /// So a process may begin on that store. After a crash within a turn, at any moment, the map that is opened is that of a
-/// step in the same turn that was lost, or of each one that was kept. A step that was kept sends a prefix of what its
-/// turn sends, and one that was lost sends nothing.
+/// step in the same turn that was lost, or of each one that was kept; what such a turn sent before the crash isn't said. A
+/// step that was kept sends a prefix of what its turn sends, and one that was lost sends nothing.
 pub fn law_lives()
     ensures process { (ms : Monitors) (i : ℕ) (me : Me) → me_of ms i ≡ Some me → (steps : List Step)
         → (network ms steps).process i ≡ (alone me (own i steps)).process }
