@@ -1,5 +1,5 @@
 -- What a whole reading of a source leaves.
-use Rattle.std.proofs.Common.{◌≡◌, ℕ, ◌<◌, List, length, Option, Some, None, is_some, inl, inr, arith}
+use Rattle.std.proofs.Common.{◌≡◌, ℕ, ◌≤◌, ◌<◌, List, length, Option, Some, None, is_some, inl, inr, arith}
 use Rattle.std.specs.Io.KnownBytes.{IsAtEnd}
 use Rattle.mon_link.specs.Whole.{ConsumesFront, ReadsWhole}
 
@@ -13,8 +13,8 @@ at_end most (Some xs) (Some ys) bytes told short read = elim read.1 [
   | inr long ↦ absurd (omega (arith, long))
 ]
 
--- what was read whole is a prefix of what was left
-pub front_of : (most : ℕ) (old new : Option (List ℕ)) (bytes : List ℕ) → ReadsWhole most old new bytes → ConsumesFront old new
-front_of most None new bytes read = (bytes, tt)
-front_of most (Some xs) None bytes read = absurd read
-front_of most (Some xs) (Some ys) bytes read = (bytes, read.0)
+-- what was read whole is a prefix of what was left, and no longer than the most that is read
+pub front_of : (most : ℕ) (old new : Option (List ℕ)) (bytes : List ℕ) → length bytes ≤ most → ReadsWhole most old new bytes → ConsumesFront most old new
+front_of most None new bytes short read = (bytes, tt, short)
+front_of most (Some xs) None bytes short read = absurd read
+front_of most (Some xs) (Some ys) bytes short read = (bytes, read.0, short)

@@ -26,8 +26,8 @@ of_read most before after bytes fact read holds = (bytes, read.most_is, read.who
 pub read_all : (most : ℕ) (before after : Stream) (bytes : List ℕ) (fact : List ℕ → Type 0) → HasRead most before after bytes → length bytes < most → fact bytes → ReadAll most before after fact
 read_all most before after bytes fact read short holds = (at_end most before.bytes after.bytes bytes read.tells short read.whole, of_read most before after bytes fact read holds)
 
-pub consumed : (most : ℕ) (before after : Stream) (bytes : List ℕ) → HasRead most before after bytes → ConsumesFront before.bytes after.bytes
-consumed most before after bytes read = front_of most before.bytes after.bytes bytes read.whole
+pub consumed : (most : ℕ) (before after : Stream) (bytes : List ℕ) → HasRead most before after bytes → ConsumesFront most before.bytes after.bytes
+consumed most before after bytes read = front_of most before.bytes after.bytes bytes read.most_is read.whole
 
 -- two reports, and an export, aren't as long as the most that is read
 pub short_reports : (bytes : List ℕ) (x : Fields × Fields) → reports_at bytes ≡ Ok x → length bytes < 4097

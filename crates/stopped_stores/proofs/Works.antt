@@ -55,7 +55,7 @@ stopped_writing outside.OutOfMemory text before after part failed = part
 -- ---- comparisons
 
 -- reading stopped
-pub stopped_reading : (s : Stop) (before after old : Stream) → ConsumesFront before.bytes after.bytes → (s ≡ outside.Failed → Rose before.faults after.faults)
+pub stopped_reading : (s : Stop) (before after old : Stream) → ConsumesFront 4097 before.bytes after.bytes → (s ≡ outside.Failed → Rose before.faults after.faults)
     → Compares before after old old (end_of_reading s)
 stopped_reading outside.Failed before after old part failed = (failed refl, part, refl)
 stopped_reading outside.OutOfMemory before after old part failed = inl (part, refl)
@@ -80,7 +80,7 @@ ends_compared before after old new (end.Export at) h = absurd h.1.3.holds
 -- ---- imports
 
 -- reading stopped
-pub map_unread : (s : Stop) (member : Member) (before after : Stream) → ConsumesFront before.bytes after.bytes → (s ≡ outside.Failed → Rose before.faults after.faults)
+pub map_unread : (s : Stop) (member : Member) (before after : Stream) → ConsumesFront 268435472 before.bytes after.bytes → (s ≡ outside.Failed → Rose before.faults after.faults)
     → ReadsMap member before after (Err (end_of_reading s))
 map_unread outside.Failed member before after part failed = (failed refl, part)
 map_unread outside.OutOfMemory member before after part failed = part

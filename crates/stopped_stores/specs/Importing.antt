@@ -35,12 +35,12 @@ pub record IsExportOf (member : Member) (bytes : List ℕ) : Type 0 where
 -- What reading a member's export gives: its map; or the end that comes instead.
 abbrev pub ReadsMap : Member → Stream → Stream → Result Store ToolEnd → Type 0
 ReadsMap member before after (Ok m) = ReadAll MOST_READ before after (IsExport member m)
-ReadsMap member before after (Err end.ReadFault) = Rose before.faults after.faults × ConsumesFront before.bytes after.bytes
+ReadsMap member before after (Err end.ReadFault) = Rose before.faults after.faults × ConsumesFront MOST_READ before.bytes after.bytes
 ReadsMap member before after (Err (end.Export at)) = OfRead MOST_READ before after (λ bytes. export_of bytes ≡ Err (refused.At at))
 ReadsMap member before after (Err (end.Full would_be)) = OfRead MOST_READ before after (λ bytes. export_of bytes ≡ Err (refused.Full would_be))
 ReadsMap member before after (Err (end.Stranger kept asked)) =
     (asked ≡ member) × ¬ (owner_of kept ≡ owner_of member) × ReadAll MOST_READ before after (IsExportOf kept)
-ReadsMap member before after (Err end.OutOfMemory) = ConsumesFront before.bytes after.bytes
+ReadsMap member before after (Err end.OutOfMemory) = ConsumesFront MOST_READ before.bytes after.bytes
 ReadsMap member before after (Err other) = ⊥
 
 module _ {D : Type 0} (state : D → DiskState) (member : Member) (old new : NodeDisks D) where

@@ -41,9 +41,9 @@ ReadReports before after fact = ReadAll MOST_READ before after (HaveReports fact
 abbrev pub Compares : (source_before source_after sink_before sink_after : Stream) → ToolEnd → Type 0
 Compares before after old new end.Done = ReadReports before after (λ a b. Appends old.bytes new.bytes (compared a b))
 Compares before after old new (end.Report line) = OfRead MOST_READ before after (λ bytes. reports_at bytes ≡ Err (refused.Report line)) × (new ≡ old)
-Compares before after old new end.ReadFault = Rose before.faults after.faults × ConsumesFront before.bytes after.bytes × (new ≡ old)
+Compares before after old new end.ReadFault = Rose before.faults after.faults × ConsumesFront MOST_READ before.bytes after.bytes × (new ≡ old)
 Compares before after old new end.WriteFault =
     Rose old.faults new.faults × ReadReports before after (λ a b. AppendsFront old.bytes new.bytes (compared a b))
 Compares before after old new end.OutOfMemory =
-    (ConsumesFront before.bytes after.bytes × (new ≡ old)) ⊎ ReadReports before after (λ a b. AppendsFront old.bytes new.bytes (compared a b))
+    (ConsumesFront MOST_READ before.bytes after.bytes × (new ≡ old)) ⊎ ReadReports before after (λ a b. AppendsFront old.bytes new.bytes (compared a b))
 Compares before after old new other = ⊥
