@@ -1,12 +1,12 @@
 -- What each end of a run shows.
 use Rattle.std.proofs.Common.{◌≡◌, ℕ, ◌<◌, ◌≤◌, List, [], length, Option, Some, None, is_some, Result, Ok, Err, refl, sym, ap, subst, arith, inl, inr}
-use Rattle.std.specs.Io.KnownBytes.{Appends, IsAtEnd}
+use Rattle.std.specs.Io.KnownBytes.{Appends}
 use Rattle.std.proofs.KnownBytes.{Appends-nil}
 use Rattle.mon_types.specs.Faults.{Rose}
 use Rattle.mon_types.specs.declared.names.Stop.{Stop}
 use Rattle.mon_types.specs.declared.names.Stop.TheVariants as outside
 use Rattle.mon_link.proofs.Wholes.{at_end, front_of}
-use Rattle.mon_link.specs.Whole.{ReadsWhole, ConsumesFront, AppendsFront}
+use Rattle.mon_link.specs.Whole.{ReadsWhole, AppendsFront}
 use Rattle.quorum_model.specs.Happens as happens
 use Rattle.quorum_model.specs.Monitors.{Monitors}
 use Rattle.quorum_model.specs.Scenes.{Scene, first_scene}
