@@ -46,7 +46,9 @@ fn run_on_devices(rt: &HostRuntime, words: &[String]) -> Status {
 /// Says on standard error, before a monitor serves, that its socket may lose a part of a long message.
 fn tell_short_room(rt: &HostRuntime, link: &mut UdpLink<HostRuntime>) {
     if let Some(room) = link.short_room() {
-        let _ = eprintln!(rt; "link: room for {room} bytes, less than a long message takes: raise net.core.rmem_max");
+        let _ = eprintln!(rt;
+            "link: room for {room} bytes, less than a long message takes: raise net.core.rmem_max"
+        );
     }
 }
 
