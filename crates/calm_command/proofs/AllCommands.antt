@@ -1,9 +1,9 @@
 -- A run that rests goes on with every list of commands.
-use Rattle.std.proofs.Common.{◌≡◌, ℕ, suc, ◌+◌, ◌<◌, ◌≤◌, List, [], ◌∷◌, ◌++◌, length, sym, subst, append-nil, append_assoc, arith}
+use Rattle.std.proofs.Common.{ℕ, suc, ◌+◌, ◌<◌, ◌≤◌, List, [], ◌∷◌, ◌++◌, length, sym, subst, append-nil, append_assoc, arith}
 use Rattle.std.specs.List.{AllByRecursion}
 use Rattle.log_model.proofs.Lists.{length_push}
 use Rattle.log_model.specs.LogOfValues.{IsCommand}
-use Rattle.quorum_model.specs.CalmSchedule.{Order, asks, asks_all, orders, request_of, starts, then_delivered}
+use Rattle.quorum_model.specs.CalmSchedule.{Order, asks_all, orders, starts}
 use Rattle.quorum_model.specs.Monitors.{Monitors}
 use Rattle.quorum_model.specs.World.{Event}
 use Rattle.calm_command.specs.Resting.{IsResting}

@@ -3,7 +3,6 @@ use Rattle.log_copies.specs.Versions.{HasVersions}
 use Rattle.log_model.specs.LogOfValues.{AllValues}
 use Rattle.mon_bytes.specs.declared.command.Command.{Command}
 use Rattle.mon_bytes.specs.declared.command.CommandRefused.{CommandRefused}
-use Rattle.mon_kv.specs.Readers.{most_size, size_of}
 use Rattle.mon_msg.specs.Protocol.Commands.{is_too_long, too_long}
 use Rattle.mon_msg.specs.Protocol.Proposing.{refusal}
 use Rattle.mon_msg.specs.Protocol.Readings.{readings_of}

@@ -1,10 +1,10 @@
 -- The events that deliver what waits, and their run.
 use Rattle.quorum_model.specs.CalmSchedule.{deliveries, numbers_delivered}
-use Rattle.quorum_model.specs.Happens.{Stop, happens}
+use Rattle.quorum_model.specs.Happens.{Stop}
 use Rattle.quorum_model.specs.Monitors.{Monitors}
 use Rattle.quorum_model.specs.Runs.{Ran, goes_on, ran_from, run_from}
 use Rattle.quorum_model.specs.World.{Comes, Deliver, Event, World}
-use Rattle.std.proofs.Common.{Err, List, None, Ok, Result, [], ap, arith, cond, length, refl, suc, sym, zero, ℕ, ◌+◌, ◌-◌, ◌++◌, ◌≤◌, ◌∙◌, ◌∷◌, ◌≡◌}
+use Rattle.std.proofs.Common.{List, Result, [], ap, arith, cond, length, refl, suc, sym, zero, ℕ, ◌+◌, ◌-◌, ◌≤◌, ◌∙◌, ◌∷◌, ◌≡◌}
 use Rattle.std.proofs.lemmas.Bool.{le-leb, lt-leb}
 use Rattle.std.specs.List.{range_with_len}
 use Rattle.calm_command.proofs.Worlds.{Drains, delivered, finished}

@@ -3,11 +3,9 @@ use Rattle.log_copies.proofs.Telling.{monitor_keeps, read_last}
 use Rattle.log_copies.specs.Versions.{HasVersions}
 use Rattle.log_model.proofs.Committed.{value_told}
 use Rattle.log_model.proofs.Lists.{length_push}
-use Rattle.log_model.proofs.Older.{older_itself}
-use Rattle.log_model.specs.LogOfValues.{AllValues, IsCommand, IsValue, view_at}
+use Rattle.log_model.specs.LogOfValues.{AllValues, IsCommand}
 use Rattle.mon_bytes.specs.declared.command.Command.{Command}
 use Rattle.mon_bytes.specs.declared.command.CommandRefused.{CommandRefused}
-use Rattle.mon_kv.specs.Readers.{most_size, size_of}
 use Rattle.mon_msg.specs.Protocol.Commands.{is_too_long}
 use Rattle.mon_msg.specs.Protocol.Proposing.{refusal}
 use Rattle.mon_msg.specs.Protocol.Readings.{readings_of}
@@ -22,7 +20,7 @@ use Rattle.quorum_model.specs.CalmSchedule.{Order, asks, request_of, session, th
 use Rattle.quorum_model.specs.Monitors.{Monitors}
 use Rattle.quorum_model.specs.Runs.{run}
 use Rattle.quorum_model.specs.World.{Client, Event}
-use Rattle.std.proofs.Common.{Bool, Err, List, Ok, Result, [], ap, arith, cond, eqb, false, inl, inr, length, ltb, refl, subst, suc, sym, true, zero, ℕ, ◌+◌, ◌-◌, ◌++◌, ◌<◌, ◌^◌, ◌∙◌, ◌∷◌, ◌≡◌, ◌≤◌, ◌⊎◌}
+use Rattle.std.proofs.Common.{Bool, Err, List, Ok, Result, [], ap, arith, cond, eqb, false, inl, inr, length, refl, subst, suc, sym, true, zero, ℕ, ◌+◌, ◌-◌, ◌++◌, ◌<◌, ◌^◌, ◌∙◌, ◌∷◌, ◌≡◌, ◌≤◌, ◌⊎◌}
 use Rattle.std.proofs.Math.ListN.{length-set}
 use Rattle.std.proofs.lemmas.Bool.{cases_eq, cases_order, eq-eqb, ne_eqb}
 use Rattle.std.proofs.lemmas.Grind.{get_or-set_at}

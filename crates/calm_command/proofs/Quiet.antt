@@ -1,40 +1,21 @@
 -- What monitors do at messages and commands that write nothing.
 use Rattle.log_copies.specs.Versions.{HasVersions, behind}
-use Rattle.log_model.proofs.AnyValue.{value_spares}
-use Rattle.log_model.specs.LogOfValues.{AllValues, view_at}
+use Rattle.log_model.specs.LogOfValues.{AllValues}
 use Rattle.mon_bytes.specs.declared.command.Command.{Command}
 use Rattle.mon_bytes.specs.declared.command.CommandRefused.{CommandRefused}
-use Rattle.mon_bytes.specs.declared.entry.Entry.{Entry}
-use Rattle.mon_kv.specs.Readers.{most_size, size_of}
 use Rattle.mon_lease.specs.Lease.{stands}
-use Rattle.mon_msg.specs.Protocol.Changes.{Last, Learn, Vote, ops_of}
 use Rattle.mon_msg.specs.Protocol.Commands.{at_leader, is_too_long, too_long}
-use Rattle.mon_msg.specs.Protocol.Course.{Course}
-use Rattle.mon_msg.specs.Protocol.Leading.{be_active, begin_with, extend}
 use Rattle.mon_msg.specs.Protocol.Proposing.{asked_of, refusal}
-use Rattle.mon_msg.specs.Protocol.Services.{service_last}
-use Rattle.mon_msg.specs.Protocol.Readings.{Readings, after, epoch_of, epoch_or_first, readings_of, shared_entries}
-use Rattle.mon_msg.specs.Protocol.Sending.{answer_to, answers_to, members, message_to}
-use Rattle.mon_msg.specs.Protocol.Sets.{are_within, is_empty}
+use Rattle.mon_msg.specs.Protocol.Readings.{Readings, readings_of, shared_entries}
 use Rattle.mon_msg.specs.Protocol.State.{State}
 use Rattle.mon_msg.specs.Protocol.Table.{at_rest, react}
 use Rattle.mon_msg.specs.Protocol.Value.{service_of, value}
-use Rattle.mon_msg.specs.declared.clients.Asked.{Asked}
 use Rattle.mon_msg.specs.declared.input.Input.TheVariants as input
 use Rattle.mon_msg.specs.declared.input.Input.{Input}
 use Rattle.mon_msg.specs.declared.plan.Origin.TheVariants as origin
 use Rattle.mon_msg.specs.declared.plan.Origin.{Origin}
-use Rattle.mon_msg.specs.declared.plan.Sent.{Sent}
-use Rattle.mon_msg.specs.declared.view.Me.{Me}
 use Rattle.mon_tx.specs.Map.{Store}
-use Rattle.mon_tx.specs.Text.{text}
-use Rattle.mon_tx.specs.declared.op.Op.{Op}
-use Rattle.mon_types.specs.Ranks.{has}
-use Rattle.mon_types.specs.declared.names.Which.{Which}
 use Rattle.mon_wire.specs.declared.body.Body.TheVariants as body
-use Rattle.mon_wire.specs.declared.body.Body.{Body}
-use Rattle.mon_wire.specs.declared.message.Message.{Message}
-use Rattle.mon_wire.specs.declared.reply.Reply.TheVariants as reply
 use Rattle.mon_wire.specs.declared.reply.Reply.{Reply}
 use Rattle.mon_wire.specs.declared.request.Session.{Session}
 use Rattle.quorum_model.proofs.Members.{member_of}
@@ -42,27 +23,21 @@ use Rattle.quorum_agreement.proofs.Grown.{grown_none}
 use Rattle.log_copies.proofs.Telling.{read_last}
 use Rattle.quorum_model.specs.CalmRun.{Answer}
 use Rattle.quorum_model.specs.CalmSchedule.{request_of}
-use Rattle.quorum_model.specs.Clients.{envelope_of, messages_of}
 use Rattle.quorum_model.specs.Growth.{grown}
 use Rattle.quorum_model.specs.Monitors.{Monitors}
 use Rattle.quorum_model.specs.World.{Envelope}
-use Rattle.quorum_walk.proofs.Sparing.{Own, learned_own}
-use Rattle.std.proofs.Common.{Bool, Err, List, Ok, Result, Some, [], ap, append_assoc, arith, eqb, false, length, ltb, map, refl, subst, suc, sym, true, zero, ℕ, ◌-◌, ◌++◌, ◌<◌, ◌^◌, ◌∙◌, ◌∷◌, ◌≡◌, ◌≤◌, ◌||◌}
-use Rattle.std.proofs.lemmas.Bool.{lt-ltb, ltb-true, or_right}
-use Rattle.std.proofs.lemmas.List.Elements.{filter_map-append}
-use Rattle.std.specs.List.{range_with_len}
+use Rattle.std.proofs.Common.{Bool, Err, List, [], ap, arith, false, length, ltb, refl, subst, suc, sym, true, ℕ, ◌-◌, ◌<◌, ◌^◌, ◌∙◌, ◌∷◌, ◌≡◌, ◌≤◌}
+use Rattle.std.proofs.lemmas.Bool.{lt-ltb}
 use Rattle.std.specs.Prelude.{slice_index_or, slice_set}
 use Rattle.calm_command.proofs.CommandRows as asking
-use Rattle.calm_command.proofs.Rounds.{Hears, to_rank}
-use Rattle.calm_command.proofs.ValueRows as rows
+use Rattle.calm_command.proofs.Rounds.{to_rank}
 use Rattle.calm_command.proofs.ValueRows.{said}
-use Rattle.calm_command.proofs.Sets.{covers_all, covers_not, firsts, has_firsts, one_more, only_first, others_are}
-use Rattle.calm_command.proofs.States.{Follows, Leads, Updates, active, is_active, is_following, is_updating, reads}
-use Rattle.calm_command.proofs.Stores.{Makes, Stored, adds_none, adds_one, is_read, long, more, nothing_written, service_fits, short, stored_learned, stored_voted, value_is, values}
-use Rattle.calm_command.proofs.Worlds.{Does, answer_in, answers_in}
-use Rattle.calm_sizes.specs.Sizes.{AllShort, longest}
+use Rattle.calm_command.proofs.Sets.{has_firsts}
+use Rattle.calm_command.proofs.States.{active, is_active, is_following, reads}
+use Rattle.calm_command.proofs.Stores.{Stored, is_read, long, nothing_written, service_fits, short}
+use Rattle.calm_command.proofs.Worlds.{Does}
 use Rattle.calm_sizes.proofs.Stores.{not_full}
-use Rattle.calm_command.proofs.Roles.{Following, Holds, Leading, Role, Voting, as_seen, asked_rank, one_sent, one_told, rank_of, replied, routed, sent_to_each, standing, tells_none, to_each}
+use Rattle.calm_command.proofs.Roles.{Following, Holds, Leading, Role, as_seen, asked_rank, one_sent, one_told, rank_of, replied, routed, standing}
 
 module _ (ms : Monitors) where
   abbrev n : ℕ

@@ -23,7 +23,6 @@ use Rattle.std.proofs.Common.{Err, List, None, Option, [], ap, append-nil, arith
 use Rattle.std.proofs.lemmas.List.Elements.{filter_map-append}
 use Rattle.std.proofs.lemmas.List.FromFn.{length-range_with_len}
 use Rattle.std.specs.List.{range_with_len}
-use Rattle.std.specs.Prelude.{slice_index_or}
 use Rattle.calm_command.proofs.CommandRounds.{Goes, nobody}
 use Rattle.calm_command.proofs.Deliveries.{Ends, drains_up, ends}
 use Rattle.quorum_model.proofs.Continuing.{at, ran_on, ran_one}

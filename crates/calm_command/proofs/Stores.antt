@@ -18,7 +18,6 @@ use Rattle.log_model.proofs.Windows.{row_of}
 use Rattle.log_model.specs.LogOfValues.{AllValues, IsCommand, IsValue, view_at}
 use Rattle.log_model.specs.Windows.{Keeps, log_from}
 use Rattle.mon_bytes.specs.declared.command.Command.{Command}
-use Rattle.mon_kv.specs.Readers.{most_size, size_of}
 use Rattle.mon_msg.proofs.Changed.{readings-joined}
 use Rattle.mon_msg.specs.Fold.{entry, incrementals}
 use Rattle.mon_msg.specs.Joined.{joined}
@@ -35,7 +34,7 @@ use Rattle.mon_wire.specs.declared.request.Service.{Service}
 use Rattle.quorum_agreement.proofs.Grown.{first_is, grown_none, grown_one}
 use Rattle.quorum_model.specs.Growth.{grown}
 use Rattle.quorum_walk.proofs.Sparing.{Own, learned_own, own_of}
-use Rattle.std.proofs.Common.{List, Ok, [], ap, arith, false, length, ltb, refl, subst, suc, sym, ℕ, ◌++◌, ◌<◌, ◌^◌, ◌∙◌, ◌∷◌, ◌≡◌, ◌≤◌}
+use Rattle.std.proofs.Common.{List, Ok, [], ap, arith, length, refl, subst, suc, sym, ℕ, ◌++◌, ◌<◌, ◌^◌, ◌∙◌, ◌∷◌, ◌≡◌, ◌≤◌}
 pub use Rattle.calm_command.specs.Resting.{Stored}
 use Rattle.calm_command.proofs.States.{reads}
 use Rattle.calm_sizes.specs.Sizes.{longest}

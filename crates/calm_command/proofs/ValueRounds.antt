@@ -12,10 +12,10 @@ use Rattle.mon_wire.specs.declared.reply.Reply.{Reply}
 use Rattle.quorum_model.specs.CalmRun.{Answer}
 use Rattle.quorum_model.specs.Monitors.{Monitors}
 use Rattle.quorum_model.specs.World.{Envelope, World}
-use Rattle.std.proofs.Common.{Bool, List, [], ap, append-nil, arith, false, length, map, refl, subst, suc, sym, true, ℕ, ◌+◌, ◌-◌, ◌++◌, ◌<◌, ◌∙◌, ◌∷◌, ◌≡◌}
+use Rattle.std.proofs.Common.{Bool, List, [], ap, append-nil, arith, false, length, map, subst, suc, sym, true, ℕ, ◌+◌, ◌-◌, ◌++◌, ◌<◌, ◌∙◌, ◌∷◌, ◌≡◌}
 use Rattle.std.proofs.lemmas.List.Concat.{flat_map_single}
 use Rattle.std.proofs.lemmas.List.FromFn.{map-range_with_len_more}
-use Rattle.std.specs.List.{flat_map, range_with_len}
+use Rattle.std.specs.List.{range_with_len}
 use Rattle.calm_command.proofs.Roles.{Following, Holds, Leading, Role, Voting, replied, routed, to_each}
 use Rattle.calm_command.proofs.Values.{accepts, begins, commits, completes, counts, leases}
 use Rattle.calm_command.proofs.Rounds.{Later, Standing, crew, gather, leader_hears, nothing_sent, spread, to_rank}

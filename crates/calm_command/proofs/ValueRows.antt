@@ -1,7 +1,6 @@
 -- What each monitor does at each message of a command, as equations.
 use Rattle.mon_bytes.specs.declared.entry.Entry.{Entry}
 use Rattle.mon_lease.specs.Lease as lease
-use Rattle.mon_lease.specs.Lease.{stands}
 use Rattle.mon_msg.specs.Protocol.Changes.{Last, Learn, Vote}
 use Rattle.mon_msg.specs.Protocol.Course.{Course, arm, change, change_all, disarm, disarm_if, leader_is, peon_is, ◌▸◌}
 use Rattle.mon_msg.specs.Protocol.Leader.{hear_accept, hear_lease_ack}

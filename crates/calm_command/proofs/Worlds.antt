@@ -20,9 +20,9 @@ use Rattle.quorum_model.specs.Clients.{messages_of, replies_of}
 use Rattle.quorum_model.specs.Growth.{grown}
 use Rattle.quorum_model.specs.Happens.{Full, after_meeting, happens, in_world, moved, put_at, unless_stopped}
 use Rattle.quorum_model.specs.Meets.{Arrival, arrival, meeting, meeting_at, state_at}
-use Rattle.quorum_model.specs.Monitors.{Monitors, me_if, me_of}
+use Rattle.quorum_model.specs.Monitors.{Monitors}
 use Rattle.quorum_model.specs.World.{Comes, Deliver, Envelope, Plain, Replied, World}
-use Rattle.std.proofs.Common.{Bool, Err, List, None, Ok, Option, Result, Some, [], ap, append-nil, append_assoc, arith, cond, false, inl, inr, length, length-append, ltb, map, refl, subst, suc, sym, true, zero, ℕ, ◌+◌, ◌++◌, ◌<◌, ◌≤◌, ◌∙◌, ◌∷◌, ◌≡◌, ◌⊎◌}
+use Rattle.std.proofs.Common.{Err, List, None, Ok, Option, Result, Some, [], ap, append-nil, append_assoc, arith, cond, false, inl, inr, length, length-append, ltb, map, refl, subst, suc, sym, true, zero, ℕ, ◌+◌, ◌++◌, ◌<◌, ◌≤◌, ◌∙◌, ◌∷◌, ◌≡◌, ◌⊎◌}
 use Rattle.std.proofs.lemmas.Bool.{cases_eq, eq-eqb, lt-ltb, ne_eqb}
 use Rattle.std.proofs.lemmas.List.{map-append}
 use Rattle.std.specs.List.{filter_map, flat_map, range_with_len}

@@ -5,11 +5,11 @@ use Rattle.mon_tx.specs.Decode.{ops_in}
 use Rattle.mon_tx.specs.Keys.{same_area}
 use Rattle.mon_wire.specs.declared.request.Service.{Service}
 use Rattle.mon_wire.specs.declared.request.Service.TheVariants.{Kv, Log}
-use Rattle.mon_msg.specs.Fold.{entry, put_in, incrementals, version_of_log}
+use Rattle.mon_msg.specs.Fold.{entry, incrementals, version_of_log}
 use Rattle.mon_msg.specs.Puts.{area_of}
 use Rattle.mon_msg.specs.Protocol.Parts.{map_text}
 use Rattle.log_model.specs.LogOfValues.{view_at, AllValues, SpellsValue}
-use Rattle.log_model.specs.Windows.{service_from, log_from, is_full, first_read}
+use Rattle.log_model.specs.Windows.{service_from, log_from, first_read}
 use Rattle.log_model.proofs.Committed.{holds, spelled_text, next_at}
 use Rattle.log_model.proofs.FoldWindows.{Holds, keeps_view, view_last}
 use Rattle.log_model.proofs.MapSteps.{fine_short}

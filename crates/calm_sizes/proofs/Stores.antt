@@ -1,25 +1,15 @@
 -- A store of a log's versions without a long value stays one, and is not full.
-use Rattle.std.proofs.Common.{◌≡◌, ℕ, suc, ◌+◌, ◌≤◌, ◌^◌, List, [], ◌∷◌, length, Some, None, Ok, refl, sym, subst, ◌∙◌, arith, false, ltb}
+use Rattle.std.proofs.Common.{◌≡◌, ℕ, ◌≤◌, ◌^◌, List, [], ◌∷◌, length, sym, subst, arith, false, ltb}
 use Rattle.std.proofs.lemmas.Bool.{le-ltb}
-use Rattle.std.specs.FinMap.{empty, get-empty}
 use Rattle.std.specs.List.{AllByRecursion}
-use Rattle.mon_tx.specs.declared.op.Op.{Op}
-use Rattle.mon_tx.specs.Map.{place_cmp, Store, number_bytes, apply}
+use Rattle.mon_tx.specs.Map.{Store, number_bytes}
 use Rattle.mon_tx.specs.Text.{text}
 use Rattle.mon_kv.specs.Readers.{size_of, most_size}
 use Rattle.mon_msg.proofs.Joining.{apply-joined}
 use Rattle.mon_msg.specs.Protocol.Changes.{Change, Boot, Epoch, Numbers, Promise, Vote, Record, Learn, Last, Copy, Mark, Unmark, ops_of, spelled}
-use Rattle.mon_msg.specs.Protocol.Reaction.{Reaction}
-use Rattle.log_copies.specs.Versions.{HasVersions, IsOwnChange, behind}
-use Rattle.log_copies.proofs.Growing.{versions_stay}
-use Rattle.log_copies.proofs.Learning.{learned}
-use Rattle.log_copies.proofs.Leaving.{still_has}
-use Rattle.log_model.proofs.Holds.{holds_nothing}
+use Rattle.log_copies.specs.Versions.{HasVersions, behind}
 use Rattle.log_model.proofs.Lists.{all_append}
-use Rattle.log_model.proofs.Logs.{Fronts}
-use Rattle.log_model.proofs.Records.{IsVersion}
 use Rattle.log_model.specs.LogOfValues.{AllValues}
-use Rattle.quorum_model.specs.Happens.{unless_stopped}
 use Rattle.calm_sizes.specs.Sizes.{AllShort, longest}
 use Rattle.calm_sizes.proofs.Shorts.{PutsShort, puts_within, short_apply}
 use Rattle.calm_sizes.proofs.Weights.{never_full}

@@ -1,4 +1,4 @@
-//! How large stores get: none that holds a log's versions is ever full.
+//! How large stores get: one that holds a log's versions isn't full if what it holds of its own is short.
 #![tactic(auto)]
 
 mod laws;

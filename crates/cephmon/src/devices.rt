@@ -3,7 +3,8 @@
 use cephmon_run::Status;
 use mon_bytes::Text;
 use mon_disk::{FileDisk, NodeDisks};
-use mon_link::{Address, UdpLink};
+use mon_link::{Address, RunClock, UdpLink};
+use mon_resend::Resending;
 use mon_types::Rank;
 use std::alloc::Global;
 use task_words::{Task, WordsStop, read_words};
@@ -12,7 +13,7 @@ use task_words::{Task, WordsStop, read_words};
 #[derive(Drop)]
 pub struct Devices {
     pub disks: NodeDisks<FileDisk<HostRuntime>>,
-    pub link: UdpLink<HostRuntime>,
+    pub link: Resending<UdpLink<HostRuntime>, RunClock<HostRuntime>>,
 }
 
 /// Files and addresses, and whose link it is.
@@ -72,6 +73,10 @@ pub fn devices_of(rt: &HostRuntime, words: &[String]) -> Result<Devices, Status>
             a: FileDisk::named(rt, names.disk_a),
             b: FileDisk::named(rt, names.disk_b),
         },
-        link: UdpLink::named(rt, names.own, names.addresses),
+        link: Resending::new(
+            rt.alloc(),
+            UdpLink::named(rt, names.own, names.addresses),
+            RunClock::new(rt),
+        ),
     })
 }

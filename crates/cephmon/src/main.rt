@@ -26,6 +26,7 @@ fn run_on_devices(rt: &HostRuntime, words: &[String]) -> Status {
         Ok(devices) => devices,
         Err(status) => return status,
     };
+    tell_short_room(rt, &mut link.inner);
     let mut source = StdinSource::new(rt);
     let mut sink = StdoutSink::new(rt);
     let mut clock = RunClock::new(rt);
@@ -38,8 +39,17 @@ fn run_on_devices(rt: &HostRuntime, words: &[String]) -> Status {
         &mut link,
         &mut clock,
     );
-    tell_failures(rt, &ended.disks, &link);
+    tell_failures(rt, &ended.disks, &link.inner);
     ended.status
+}
+
+/// Says on standard error, before a monitor serves, that its socket may lose a part of a long message.
+fn tell_short_room(rt: &HostRuntime, link: &mut UdpLink<HostRuntime>) {
+    if let Some(room) = link.short_room() {
+        let _ = eprintln!(rt;
+            "link: room for {room} bytes, less than a long message takes: raise net.core.rmem_max"
+        );
+    }
 }
 
 /// Says on standard error what the system said to the first call of each disk, and of the link, that failed.

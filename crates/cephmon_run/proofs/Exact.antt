@@ -319,9 +319,9 @@ module _ {D : Type 0} (state : D → DiskState) (around left : Around D) (calm :
 
 -- ---- memory that ran out before anything was done
 
-nothing_read : (old : Option (List ℕ)) → ConsumesFront old old
-nothing_read None = ([], tt)
-nothing_read (Some xs) = ([], refl)
+nothing_read : (old : Option (List ℕ)) → ConsumesFront most_read old old
+nothing_read None = ([], tt, omega arith)
+nothing_read (Some xs) = ([], refl, omega arith)
 
 no_memory : {D : Type 0} (state : D → DiskState) (before : Outside) (around : Around D) (t : Task) → HasCause state t before before around around status.OutOfMemory
 no_memory state before around task.Replay = (inl (nothing_read before.left, (refl, refl)), refl)

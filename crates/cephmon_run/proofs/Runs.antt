@@ -1,11 +1,12 @@
 -- What each end of a run shows.
 use Rattle.std.proofs.Common.{◌≡◌, ℕ, ◌<◌, ◌≤◌, List, [], length, Option, Some, None, is_some, Result, Ok, Err, refl, sym, ap, subst, arith, inl, inr}
-use Rattle.std.specs.Io.KnownBytes.{Appends, IsAtEnd}
+use Rattle.std.specs.Io.KnownBytes.{Appends}
 use Rattle.std.proofs.KnownBytes.{Appends-nil}
 use Rattle.mon_types.specs.Faults.{Rose}
 use Rattle.mon_types.specs.declared.names.Stop.{Stop}
 use Rattle.mon_types.specs.declared.names.Stop.TheVariants as outside
-use Rattle.mon_link.specs.Whole.{ReadsWhole, ConsumesFront, AppendsFront}
+use Rattle.mon_link.proofs.Wholes.{at_end, front_of}
+use Rattle.mon_link.specs.Whole.{ReadsWhole, AppendsFront}
 use Rattle.quorum_model.specs.Happens as happens
 use Rattle.quorum_model.specs.Monitors.{Monitors}
 use Rattle.quorum_model.specs.Scenes.{Scene, first_scene}
@@ -27,10 +28,10 @@ use Rattle.cephmon_run.specs.Summary.{IsLine, Summary, counted_from, no_counts, 
 use Rattle.cephmon_run.specs.Trace.{Trace, trace}
 use Rattle.mon_world.proofs.Safety.{schedule_safe}
 use Rattle.mon_world.proofs.Tracing.{traces_run}
-use Rattle.cephmon_run.proofs.Schedules.{monitors_of}
+use Rattle.cephmon_run.proofs.Schedules.{all_fit, monitors_of}
 
 runs : (s : Schedule) (h : HasText s) → Runs s (monitors_of s h)
-runs s h = record { count = refl; rule = refl; safe = schedule_safe (monitors_of s h) s.events h.each; told = traces_run (monitors_of s h) s.events }
+runs s h = record { count = refl; rule = refl; safe = schedule_safe (monitors_of s h) s.events (all_fit s (monitors_of s h) h refl); told = traces_run (monitors_of s h) s.events }
 
 -- ---- of what was read
 
@@ -41,33 +42,18 @@ pub record HasRead (before after : Outside) (bytes : List ℕ) : Type 0 where
   pub whole : ReadsWhole most_read before.left after.left bytes
 
 -- a schedule isn't as long as the most that is read, so that it was read to the end
-at_end : (old new : Option (List ℕ)) (bytes : List ℕ) → is_some new ≡ is_some old → length bytes < most_read → ReadsWhole most_read old new bytes → IsAtEnd new
-at_end None None bytes told short read = tt
-at_end None (Some ys) bytes told short read = absurd cc
-at_end (Some xs) None bytes told short read = tt
-at_end (Some xs) (Some ys) bytes told short read = elim read.1 [
-  | inl e ↦ e
-  | inr most ↦ absurd (omega (arith, most))
-]
-
--- what was read whole is a front of what was left
-front_of : (old new : Option (List ℕ)) (bytes : List ℕ) → ReadsWhole most_read old new bytes → ConsumesFront old new
-front_of None new bytes read = (bytes, tt)
-front_of (Some xs) None bytes read = absurd read
-front_of (Some xs) (Some ys) bytes read = (bytes, read.0)
-
 replayed : (before after : Outside) (bytes : List ℕ) (s : Schedule) (h : HasText s) (fact : Trace → Type 0) → HasRead before after bytes → bytes ≡ schedule_text s
     → fact (trace (monitors_of s h) s.events) → Replayed before after fact
 replayed before after bytes s h fact read text holds =
     let short : length bytes < most_read = omega (arith, h.bytes, ap length text) in (
-      at_end before.left after.left bytes read.tells short read.whole,
+      at_end most_read before.left after.left bytes read.tells short read.whole,
       (bytes, read.most, read.whole, record { schedule = s; form = h; text = text; monitors = monitors_of s h; runs = runs s h; traced = holds }),
     )
 
 -- bytes of which no schedule was made
 pub faulty : (before after : Outside) (bytes : List ℕ) (s : Status) → HasRead before after bytes → WroteNothing before after → TellsFault bytes s → ReplayCause before after s
 faulty before after bytes (status.Schedule line kind) read silent fault = ((bytes, read.most, read.whole, fault), silent)
-faulty before after bytes status.OutOfMemory read silent fault = inl (front_of before.left after.left bytes read.whole, silent)
+faulty before after bytes status.OutOfMemory read silent fault = inl (front_of most_read before.left after.left bytes read.most read.whole, silent)
 faulty before after bytes status.Done read silent fault = absurd fault
 faulty before after bytes status.Words read silent fault = absurd fault
 faulty before after bytes status.ReadFault read silent fault = absurd fault

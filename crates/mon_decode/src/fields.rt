@@ -5,11 +5,10 @@ ghost use Rattle.mon_bytes.specs.Texts.{is_word};
 ghost use Rattle.mon_wire.specs.Message.Format.{Reads};
 ghost use Rattle.mon_wire.specs.Message.Fields.{number_at, flag_at, set_at, blob_at, text_at, word_at, value_at, service_at};
 
-use mon_wire::{MsgKind, MsgRefused};
-use mon_wire::Service;
 use mon_bytes::{Bytes, Cursor, Name, OutOfMemory, Prefix, Text, Word};
 use mon_tx::{Transaction, TxRefused};
 use mon_types::{Number, OfVersion, Rank, RankSet};
+use mon_wire::{MsgKind, MsgRefused, Service};
 use std::alloc::Global;
 
 /// A number of at most 2^62.

@@ -4,16 +4,14 @@ ghost use Rattle.std.specs.Prelude.{◌≡◌, ℕ, ◌≤◌};
 ghost use Rattle.mon_wire.specs.Message.Format.{Reads};
 ghost use Rattle.mon_wire.specs.Message.Bodies.{body_at};
 
-use mon_wire::Body;
 use crate::fields::{read_count, read_flag, read_number, read_value};
-use mon_wire::Kind;
 use crate::read_client::{read_reply, read_request, read_routed};
 use crate::read_lists::{read_entries, read_some_values, read_values};
 use crate::read_parts::{read_command, read_cookie, read_place, read_told};
 use crate::read_scores::{read_set, read_table};
-use mon_wire::MsgRefused;
 use mon_bytes::Cursor;
 use mon_types::Rank;
+use mon_wire::{Body, Kind, MsgRefused};
 use std::alloc::Global;
 
 fn read_probe_reply(n: u8, own: Rank, cursor: &mut Cursor<'_>) -> Result<Body, MsgRefused>

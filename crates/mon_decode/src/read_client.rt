@@ -8,10 +8,8 @@ ghost use Rattle.mon_wire.specs.Message.Client.{request_at, shown, since, routed
 use crate::fields::{read_count, read_flag, read_number, read_service, read_utf8, read_word};
 use crate::read_lists::read_incrementals;
 use crate::read_parts::read_shown_map;
-use mon_wire::{MsgKind, MsgRefused};
-use mon_wire::Reply;
-use mon_wire::Request;
 use mon_bytes::Cursor;
+use mon_wire::{MsgKind, MsgRefused, Reply, Request};
 use std::alloc::Global;
 
 fn read_set(alloc: Global, cursor: &mut Cursor<'_>) -> Result<Request, MsgRefused>

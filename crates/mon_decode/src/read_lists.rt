@@ -7,9 +7,9 @@ ghost use Rattle.mon_wire.specs.Message.Parts.{entry};
 
 use crate::fields::{read_blob, read_value};
 use crate::read_parts::read_entry;
-use mon_wire::{MsgKind, MsgRefused};
 use mon_bytes::{Bytes, Cursor, Entry, Items};
 use mon_tx::Transaction;
+use mon_wire::{MsgKind, MsgRefused};
 use std::alloc::Global;
 
 fn so_many_values(

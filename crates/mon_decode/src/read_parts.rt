@@ -5,13 +5,10 @@ ghost use Rattle.mon_wire.specs.Message.Format.{Reads};
 ghost use Rattle.mon_wire.specs.Message.Parts.{cookie, told, optional, key_place_at, place, entry, command_at, shown_map_at};
 
 use crate::fields::{read_blob, read_count, read_number, read_utf8, read_value, read_word};
-use mon_wire::{Cookie, Place, Told};
-use mon_wire::{MsgKind, MsgRefused};
-use mon_wire::ShownMap;
-use mon_wire::Service;
 use map_kv::KvMap;
 use map_log::LogMap;
 use mon_bytes::{Command, Cursor, Decode, Entry, KeyPlace, MapRefused};
+use mon_wire::{Cookie, MsgKind, MsgRefused, Place, Service, ShownMap, Told};
 use std::alloc::Global;
 
 /// What names a synchronisation.

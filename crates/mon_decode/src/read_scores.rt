@@ -8,11 +8,10 @@ ghost use Rattle.mon_wire.specs.Message.Parts.{optional};
 ghost use Rattle.mon_wire.specs.Message.Scores.{padded_at, score_at, row, table};
 
 use crate::fields::read_count;
-use mon_wire::{MsgKind, MsgRefused};
-use mon_wire::ScoreTable;
 use election_rules::{FULL, Row, Scores};
 use mon_bytes::Cursor;
 use mon_types::{Rank, RankSet};
+use mon_wire::{MsgKind, MsgRefused, ScoreTable};
 use std::alloc::Global;
 
 /// Whether a bit of rank `n` or above is 1.

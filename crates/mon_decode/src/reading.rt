@@ -6,12 +6,10 @@ ghost use Rattle.mon_wire.specs.Message.Format.{Reads, Gives};
 ghost use Rattle.mon_wire.specs.Message.Whole.{text, HasText, kind_of, format_at, kind_at, sender_at, epoch_at, message_at, ended, whole_at, message_of};
 
 use crate::fields::read_number;
-use mon_wire::Kind;
-use mon_wire::Message;
 use crate::read_body::read_body;
-use mon_wire::{MsgKind, MsgRefused};
 use mon_bytes::{Cursor, MOST_MESSAGE};
 use mon_types::{Epoch, Member, Rank};
+use mon_wire::{Kind, Message, MsgKind, MsgRefused};
 use std::alloc::Global;
 
 /// The byte of a client's request, which names no sender and no epoch.

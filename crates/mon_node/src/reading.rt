@@ -8,8 +8,8 @@ ghost use Rattle.mon_node.specs.Hearing.{is_request, from_client, from_monitor, 
 use mon_bounds::law_message_fits;
 use mon_bytes::OutOfMemory;
 use mon_core::Input;
-use mon_link::Peer;
 use mon_decode::{MsgRefused, decode};
+use mon_link::Peer;
 use mon_msg::{Body, Message, Session};
 use mon_types::Rank;
 use std::alloc::Global;

@@ -2,7 +2,6 @@
 
 use crate::rig::*;
 use mon_disk::{MemoryDisk, NodeDisks};
-use mon_frag::pieces;
 use mon_link::{Got, MemoryLink, Outgoing, Peer};
 use mon_node::NodeEnd;
 use mon_types::Rank;
@@ -228,76 +227,5 @@ fn a_wait_ends_with_the_timer_that_comes_next(rt: HostRuntime) -> Result<(), Fai
     assert!(rt; served.end == NodeEnd::TurnsUsed);
     assert!(rt; link.waits() == [1000, 300, 1, 1000].as_slice());
     assert!(rt; link.sent().len() == 4);
-    Ok(())
-}
-
-/// A client's request to set `a` to 65,536 letters.
-fn long_message(alloc: Global) -> Result<Vec<u8>, Fail> {
-    let mut message = b"\x01\x18\0\x01\0\0\0\0\0\0\0\0\x07\0\0\0\0\0\0\0\x01\x01a\0\0\x01\0".to_vec(
-        alloc,
-    )?;
-    let letters = vec![in alloc; b'x'; 65_536]?;
-    message.extend_from_slice(letters.as_slice())?;
-    Ok(message)
-}
-
-/// A long message in its pieces, and then twice the question what the map is.
-fn long_talk(alloc: Global, message: &[u8]) -> Result<Vec<Got>, Fail> {
-    if message.len() > 1_048_576 {
-        return Err("a shorter message".into());
-    }
-    let mut got = Vec::new(alloc);
-    for piece in pieces(alloc, message, 4, 5)?.as_slice() {
-        got.push(datagram(alloc, Peer::Client(3), piece.as_slice())?)?;
-    }
-    for _question in 0..2 {
-        got.push(datagram(alloc, Peer::Client(3), SHOW)?)?;
-    }
-    Ok(got)
-}
-
-/// A datagram's length, its first byte, and of a piece the lowest bytes of its boot count and its number.
-fn head(bytes: &[u8]) -> (usize, [u8; 3]) {
-    let at = |place: usize| bytes.get(place).copied().unwrap_or(0);
-    (bytes.len(), [at(0), at(4), at(12)])
-}
-
-fn heads(alloc: Global, link: &MemoryLink) -> Result<Vec<(usize, [u8; 3])>, Fail> {
-    let mut heads = Vec::new(alloc);
-    for one in link.sent() {
-        heads.push(head(one.bytes.as_slice()))?;
-    }
-    Ok(heads)
-}
-
-/// A node alone that is told a long command and is asked for the map twice.
-fn told_long(alloc: Global) -> Result<Ran, Fail> {
-    let member = member(0, 1)?;
-    let message = long_message(alloc)?;
-    let got = long_talk(alloc, message.as_slice())?;
-    run(
-        alloc,
-        empty_disks(alloc),
-        &member,
-        link(alloc, got),
-        &[0],
-        4,
-    )
-}
-
-#[test]
-fn long_messages_come_and_go_in_pieces(rt: HostRuntime) -> Result<(), Fail> {
-    let alloc = rt.alloc();
-    let Ran { served, link } = told_long(alloc)?;
-    assert!(rt; served.end == NodeEnd::TurnsUsed);
-    let heads = heads(alloc, &link)?;
-    let wanted = [
-        (29, [1, 2, 7]),
-        (59_028, [2, 1, 1]),
-        (6_616, [2, 1, 1]),
-        (59_028, [2, 1, 2]),
-        (6_616, [2, 1, 2]),
-    ];
-    assert!(rt; heads.as_slice() == wanted.as_slice());
     Ok(())
 }

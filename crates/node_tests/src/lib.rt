@@ -4,4 +4,8 @@
 #[cfg(test)]
 mod alone;
 #[cfg(test)]
+mod maps;
+#[cfg(test)]
 mod rig;
+#[cfg(test)]
+mod stepping_down;

@@ -194,7 +194,10 @@ module _ (ms : Monitors) (Base : World → Type 0) (one : (w : World) → Base w
                         let c : ℕ × ℕ = (epoch_of (readings_of m), d.by.rank) in
                         among_right c w.active _ (subst (λ (z : Bool). Among c (cond z (c ∷ []) [])) (sym t) (inl refl)));
                     read = same w.store w.state w.transactions w.messages w.active asked (member_of ms d.by.rank d.by.lt) J d.by.at d.by.state d.by.came d.by.on d.by.fits d.by.holds (d.by.fine fine) d.y d.is;
-                    who = member_of ms d.by.rank d.by.lt; was = d.by.state; came = d.by.came; ended = ended w.store w.state w.transactions w.messages w.active asked (member_of ms d.by.rank d.by.lt) J d.by.at d.by.state d.by.came d.by.on d.by.fits d.by.holds (d.by.fine fine) d.y d.is;
+                    who = member_of ms d.by.rank d.by.lt;
+                    was = d.by.state;
+                    came = d.by.came;
+                    ended = ended w.store w.state w.transactions w.messages w.active asked (member_of ms d.by.rank d.by.lt) J d.by.at d.by.state d.by.came d.by.on d.by.fits d.by.holds (d.by.fine fine) d.y d.is;
                   })
                   (second_told w I.g d.by.rank d.by.came d.by.told) (one w B) (one next b.0) (chosen next b.0) (alone w p J B d1),
             ),

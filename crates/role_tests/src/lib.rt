@@ -1,20 +1,12 @@
-//! Tests of the plans of the roles, and of what roles share.
+//! Tests of the plans of the roles, of what no run of a quorum reaches. The cases of examples/ show the other rules.
 #![tactic(auto)]
 
 #[cfg(test)]
-mod client;
-#[cfg(test)]
 mod comes;
-#[cfg(test)]
-mod elector;
 #[cfg(test)]
 mod given;
 #[cfg(test)]
-mod leader;
-#[cfg(test)]
 mod peon;
-#[cfg(test)]
-mod plan;
 #[cfg(test)]
 mod probe;
 #[cfg(test)]

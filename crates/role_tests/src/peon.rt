@@ -9,12 +9,11 @@ use mon_bytes::Bytes;
 use mon_kv::Kv;
 use mon_lease::Lease;
 use mon_msg::input::Input;
-use mon_msg::{Body, Peon, Phase, Plan, RoleStop, Timer};
+use mon_msg::{Body, Peon, Phase, Plan, RoleStop};
 use mon_tx::{Area, Key, Transaction};
 use mon_types::{GREATEST, Moment, Rank, RankSet};
 use paxos_peon::*;
 use std::alloc::Global;
-use std::process::Abort;
 use std::test::Fail;
 
 /// Whether it is an input of a peon.
@@ -26,7 +25,6 @@ fn is_input(input: &Input) -> bool
             &message.body,
             Body::Collect { .. } | Body::Begin { .. } | Body::Commit { .. } | Body::Lease { .. }
         ),
-        Input::Timer(Timer::Lease) => true,
         _ => false,
     }
 }
@@ -58,15 +56,15 @@ impl Role for Peon {
     }
 }
 
-/// Monitor 1 of 3 that follows monitor 0, with a lease that was given at 0, as it hears of an epoch in a phase.
-fn following(kv: Kv, phase: Phase, epoch: u64) -> Site<Peon> {
+/// Monitor 1 of 3 that follows monitor 0 in epoch 2, with a lease that was given at 0.
+fn following(kv: Kv) -> Site<Peon> {
     let leader = Rank::known(0);
     let mut lease = Lease::none();
     lease.extend(Moment::known(0));
     Site {
         me: me(Rank::known(1), 3, Rule::Classic),
-        view: view(phase, leader, 7),
-        epoch: number(epoch),
+        view: view(Phase::Peon, leader, 7),
+        epoch: number(2),
         kv,
         role: Peon {
             leader,
@@ -128,7 +126,7 @@ fn a_value_is_accepted_and_then_learned(rt: HostRuntime) -> Result<(), Fail> {
             "send 1 1>0 LEASE_ACK e=2 last=2;new lease",
         ),
     ];
-    let site = following(promised(alloc)?, Phase::Peon, 2);
+    let site = following(promised(alloc)?);
     drop(all_are(&rt, alloc, site, &rows)?);
     Ok(())
 }
@@ -151,7 +149,7 @@ fn a_leader_that_collects_is_told(rt: HostRuntime) -> Result<(), Fail> {
         (0, Comes::Collect(99, 4, 9), told),
         (0, Comes::Collect(201, 1, 1), newer),
     ];
-    let site = following(with_records(alloc)?, Phase::Peon, 2);
+    let site = following(with_records(alloc)?);
     drop(all_are(&rt, alloc, site, &rows)?);
     Ok(())
 }
@@ -185,31 +183,7 @@ fn what_is_no_transaction_is_left_out(rt: HostRuntime) -> Result<(), Fail> {
             "send 1 1>0 LEASE_ACK e=2 last=3;new lease",
         ),
     ];
-    let site = following(with_spoiled_records(alloc)?, Phase::Peon, 2);
-    drop(all_are(&rt, alloc, site, &rows)?);
-    Ok(())
-}
-
-/// A value of that monitor does nothing in a phase and an epoch.
-fn unheard(rt: &impl Abort, alloc: Global, phase: Phase, from: u8, epoch: u64) -> Result<(), Fail> {
-    let site = following(promised(alloc)?, phase, epoch);
-    let rows = [(from, Comes::Begin(100, 1), "old lease")];
-    drop(all_are(rt, alloc, site, &rows)?);
-    Ok(())
-}
-
-#[test]
-fn only_the_leader_is_heard(rt: HostRuntime) -> Result<(), Fail> {
-    unheard(&rt, rt.alloc(), Phase::Electing, 0, 2)?;
-    unheard(&rt, rt.alloc(), Phase::Peon, 2, 2)?;
-    unheard(&rt, rt.alloc(), Phase::Peon, 0, 4)
-}
-
-#[test]
-fn a_lease_that_ends_is_the_end_of_a_quorum(rt: HostRuntime) -> Result<(), Fail> {
-    let alloc = rt.alloc();
-    let rows = [(1, Comes::Rings(Timer::Lease), "bootstrap;old lease")];
-    let site = following(promised(alloc)?, Phase::Peon, 2);
+    let site = following(with_spoiled_records(alloc)?);
     drop(all_are(&rt, alloc, site, &rows)?);
     Ok(())
 }

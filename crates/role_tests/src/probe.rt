@@ -3,7 +3,7 @@ ghost use Rattle.mon_probe.specs.Rows.{is_input};
 
 use crate::comes::Comes;
 use crate::given::{me, number, store, view};
-use crate::site::{Role, Site, all_are, begun};
+use crate::site::{Role, Site, all_are};
 use election_rules::Rule;
 use mon_kv::Kv;
 use mon_msg::input::Input;
@@ -12,7 +12,6 @@ use mon_probe::*;
 use mon_tx::{Area, Key};
 use mon_types::{Moment, Rank, RankSet};
 use std::alloc::Global;
-use std::process::Abort;
 use std::test::Fail;
 
 /// Whether it is an input of a prober that a test gives.
@@ -50,13 +49,11 @@ impl Role for Prober {
     }
 }
 
-/// A store with the versions from 1 to `last`, marked where there is a floor.
-fn stored(alloc: Global, last: u64, floor: u64) -> Result<Kv, Fail> {
+/// A store with the versions from 1 to `last`.
+fn stored(alloc: Global, last: u64) -> Result<Kv, Fail> {
     let numbers = [
-        (Area::Paxos, Key::FirstCommitted, last.min(1)),
+        (Area::Paxos, Key::FirstCommitted, 1),
         (Area::Paxos, Key::LastCommitted, last),
-        (Area::Sync, Key::InSync, floor.min(1)),
-        (Area::Sync, Key::Floor, floor),
     ];
     store(alloc, &numbers)
 }
@@ -86,48 +83,8 @@ fn a_monitor_copies_what_it_lacks(rt: HostRuntime) -> Result<(), Fail> {
         (0, Comes::ProbeReply(28, 1, 15), "elect;alone"),
         (0, Comes::ProbeReply(0, 1, 15), "not alone"),
     ];
-    drop(all_are(&rt, alloc, probing(stored(alloc, 5, 0)?), &rows)?);
+    drop(all_are(&rt, alloc, probing(stored(alloc, 5)?), &rows)?);
     let rows = [(0, Comes::ProbeReply(0, 4, 12), "full;alone")];
-    drop(all_are(&rt, alloc, probing(stored(alloc, 2, 0)?), &rows)?);
-    Ok(())
-}
-
-#[test]
-fn a_marked_monitor_copies_again(rt: HostRuntime) -> Result<(), Fail> {
-    let alloc = rt.alloc();
-    let rows = [
-        (0, Comes::Probe, "alone"),
-        (0, Comes::ProbeReply(0, 1, 4), "alone"),
-        (0, Comes::ProbeReply(28, 1, 4), "alone"),
-        (0, Comes::ProbeReply(28, 1, 5), "full;alone"),
-        (0, Comes::ProbeReply(0, 6, 9), "full;alone"),
-    ];
-    drop(all_are(&rt, alloc, probing(stored(alloc, 0, 5)?), &rows)?);
-    Ok(())
-}
-
-/// Monitor 1 of 3 with an empty store, once it has begun anew.
-fn booted(rt: &impl Abort, alloc: Global, wanted: &str) -> Result<Site<Prober>, Fail> {
-    let own = Rank::known(1);
-    let me = me(own, 3, Rule::Classic);
-    let epoch = number(1);
-    let kv = Kv::empty(alloc);
-    let plan = enter(alloc, &kv, &me, epoch, Moment::known(7))?;
-    begun(
-        rt,
-        alloc,
-        &me,
-        view(Phase::Probing, own, 0),
-        epoch,
-        kv,
-        plan,
-        wanted,
-    )
-}
-
-#[test]
-fn a_monitor_that_begins_anew_asks_the_others(rt: HostRuntime) -> Result<(), Fail> {
-    let asks = "send 1 1>0 PROBE e=1;send 1 1>2 PROBE e=1;alone";
-    drop(booted(&rt, rt.alloc(), asks)?);
+    drop(all_are(&rt, alloc, probing(stored(alloc, 2)?), &rows)?);
     Ok(())
 }

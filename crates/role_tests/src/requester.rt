@@ -1,7 +1,7 @@
 ghost use Rattle.std.specs.Prelude.{IsTrue};
 ghost use Rattle.sync_requester.specs.Inputs.{is_input};
 
-use crate::comes::{Comes, behind_keys};
+use crate::comes::Comes;
 use crate::given::{may_come, me, number, put_records, store, view};
 use crate::probe::probing;
 use crate::site::{Role, Site, all_are, begun};
@@ -16,19 +16,16 @@ use std::process::Abort;
 use std::test::Fail;
 use sync_requester::*;
 
-/// Whether it is an input of a requester.
+/// Whether it is an input of a requester that a test gives.
 fn is_input(input: &Input) -> bool
     ensures { IsTrue result → IsTrue (is_input input.now) }
 {
     match input {
         Input::Deliver(message) => matches!(
             &message.body,
-            Body::Cookie { .. }
-                | Body::Chunk { .. }
-                | Body::LastChunk { .. }
-                | Body::NoCookie { .. }
+            Body::Cookie { .. } | Body::Chunk { .. } | Body::LastChunk { .. }
         ),
-        Input::Timer(Timer::Sync | Timer::Step) => true,
+        Input::Timer(Timer::Step) => true,
         _ => false,
     }
 }
@@ -57,14 +54,8 @@ impl Role for Requester {
     }
 }
 
-/// Monitor 1 of 3 in epoch 7 that begins to synchronise from monitor 0, once it has done what `wanted` tells.
-fn entered(
-    rt: &impl Abort,
-    alloc: Global,
-    kv: Kv,
-    full: bool,
-    wanted: &str,
-) -> Result<Site<Requester>, Fail> {
+/// Monitor 1 of 3 in epoch 7 that begins to take a whole copy from monitor 0, once it has asked for it.
+fn entered(rt: &impl Abort, alloc: Global, kv: Kv) -> Result<Site<Requester>, Fail> {
     let own = Rank::known(1);
     let me = me(own, 3, Rule::Classic);
     let epoch = number(7);
@@ -74,7 +65,7 @@ fn entered(
         &me,
         epoch,
         Rank::known(0),
-        full,
+        true,
         Moment::known(7),
     )?;
     begun(
@@ -85,7 +76,7 @@ fn entered(
         epoch,
         kv,
         plan,
-        wanted,
+        ASKS,
     )
 }
 
@@ -127,7 +118,7 @@ fn half(rt: &impl Abort, alloc: Global, kv: Kv) -> Result<Site<Requester>, Fail>
         (0, Comes::Cookie(true, 12), starts),
         (0, Comes::Chunk, goes_on),
     ];
-    let site = entered(rt, alloc, kv, true, ASKS)?;
+    let site = entered(rt, alloc, kv)?;
     all_are(rt, alloc, site, &rows)
 }
 
@@ -180,107 +171,5 @@ fn what_changed_before_a_chunk_is_caught_up(rt: HostRuntime) -> Result<(), Fail>
     let site = half(&rt, alloc, stopped)?;
     let found = ended(&rt, alloc, site)?;
     assert!(rt; found == ([false, false, false, true], 7, 302, 14));
-    Ok(())
-}
-
-/// A store in epoch 7 with the versions 1 to 5.
-fn five(alloc: Global) -> Result<Kv, Fail> {
-    let numbers = [
-        (Area::Monitor, Key::ElectionEpoch, 7),
-        (Area::Paxos, Key::FirstCommitted, 1),
-        (Area::Paxos, Key::LastCommitted, 5),
-    ];
-    store(alloc, &numbers)
-}
-
-/// What it does first that lacks the versions above 5.
-const ASKS_FOR_MORE: &str = "send 1 1>0 GET_COOKIE_RECENT e=7 last=5;cookie";
-
-/// What it does once it has a cookie.
-const GOES_ON: &str = "send 1 1>0 GET_CHUNK e=7 cookie=1.1 at=5 key=done;chunks";
-
-/// It doesn't synchronise any more.
-fn in_probing(mut site: Site<Requester>) -> Site<Requester> {
-    site.view.phase = Phase::Probing;
-    site
-}
-
-#[test]
-fn the_versions_that_lack_are_learned(rt: HostRuntime) -> Result<(), Fail> {
-    let alloc = rt.alloc();
-    let rows = [
-        (0, Comes::Cookie(false, 16), GOES_ON),
-        (0, Comes::Versions, "store 23;bootstrap;chunks"),
-    ];
-    let site = entered(&rt, alloc, five(alloc)?, false, ASKS_FOR_MORE)?;
-    let site = in_probing(all_are(&rt, alloc, site, &rows)?);
-    let last = site.kv.last_committed();
-    drop(all_are(&rt, alloc, site, &[(0, Comes::Versions, "chunks")])?);
-    assert_eq!(rt; last, 16);
-    Ok(())
-}
-
-#[test]
-fn a_cookie_that_is_lost_ends_a_copy(rt: HostRuntime) -> Result<(), Fail> {
-    let alloc = rt.alloc();
-    let rows = [
-        (0, Comes::NoCookie, "cookie"),
-        (0, Comes::Cookie(false, 16), GOES_ON),
-        (0, Comes::NoCookie, "bootstrap;chunks"),
-    ];
-    let site = entered(&rt, alloc, five(alloc)?, false, ASKS_FOR_MORE)?;
-    let site = all_are(&rt, alloc, site, &rows)?;
-    let last = site.kv.last_committed();
-    drop(site);
-    assert_eq!(rt; last, 5);
-    Ok(())
-}
-
-/// A marked store with the records of 130 versions.
-fn copied(alloc: Global) -> Result<Kv, Fail> {
-    let mut kv = store(
-        alloc,
-        &[(Area::Sync, Key::InSync, 1), (Area::Sync, Key::Floor, 5)],
-    )?;
-    put_records(alloc, &mut kv, 1, 130)?;
-    Ok(kv)
-}
-
-/// Monitor 1 of 3 that has a whole copy, of which it replays all.
-fn replaying(kv: Kv) -> Site<Requester> {
-    let own = Rank::known(1);
-    Site {
-        me: me(own, 3, Rule::Classic),
-        view: view(Phase::Synchronizing, own, 0),
-        epoch: number(1),
-        kv,
-        role: Requester {
-            provider: Rank::known(0),
-            full: true,
-            stage: SyncStage::Replay {
-                next: number(1),
-                end: number(130),
-            },
-            cookie: None,
-            start: number(0),
-            place: behind_keys(130),
-        },
-    }
-}
-
-#[test]
-fn few_versions_are_replayed_at_once(rt: HostRuntime) -> Result<(), Fail> {
-    let alloc = rt.alloc();
-    let steps = Comes::Rings(Timer::Step);
-    let rows = [
-        (1, steps, "store 128;replay"),
-        (1, steps, "store 128;replay"),
-        // two records and what they do, the last version, and the two keys of the mark
-        (1, steps, "store 7;bootstrap;replay"),
-    ];
-    let kv = stored_by(all_are(&rt, alloc, replaying(copied(alloc)?), &rows)?);
-    let found = (keys(&kv), kv.last_committed());
-    drop(kv);
-    assert!(rt; found == ([false, false, false, false], 130));
     Ok(())
 }

@@ -5,6 +5,7 @@ use std::alloc::{Allocator, Global};
 use std::cell::Cell;
 use std::fs::{Files, Metadata, OpenFile, OpenOptions};
 use std::io::{ErrorKind, Read, Seek, SeekFrom, Write};
+use std::os::unix::fs::FileExt;
 use std::path::PathBuf;
 use std::rc::Rc;
 use std::test::Fail;
@@ -84,8 +85,7 @@ fn what_is_no_file_fails(rt: HostRuntime) -> Result<(), Fail> {
     Ok(())
 }
 
-/// The calls so far, a letter each; the number, from 1, of the one that fails; and the bytes of the one file, and where
-/// its next read or write begins.
+/// The calls so far, a letter each; the number, from 1, of the one that fails; and the bytes of the one file.
 #[derive(Clone, Copy)]
 struct Asked {
     calls: [u8; 32],
@@ -93,7 +93,6 @@ struct Asked {
     failing: usize,
     bytes: [u8; 8],
     len: usize,
-    at: usize,
 }
 
 fn ask(cell: &Cell<Asked>, letter: u8) -> io::Result<Asked> {
@@ -122,46 +121,50 @@ struct FakeFile {
     folder: bool,
 }
 
+/// No call reads, writes or seeks but at a place.
 impl Read for FakeFile {
-    fn read(&mut self, buf: &mut [u8]) -> io::Result<usize> {
-        let mut asked = ask(&self.asked, b'r')?;
-        if buf.is_empty() || asked.at >= asked.len.min(8) {
-            return Ok(0);
-        }
-        buf[0] = asked.bytes[asked.at];
-        asked.at += 1;
-        self.asked.set(asked);
-        Ok(1)
+    fn read(&mut self, _buf: &mut [u8]) -> io::Result<usize> {
+        Err(ErrorKind::Unsupported.into())
     }
 }
 
 impl Write for FakeFile {
-    fn write(&mut self, buf: &[u8]) -> io::Result<usize> {
-        let mut asked = ask(&self.asked, b'w')?;
-        if buf.is_empty() || asked.at >= 8 {
-            return Ok(0);
-        }
-        asked.bytes[asked.at] = buf[0];
-        asked.at += 1;
-        asked.len = asked.len.max(asked.at);
-        self.asked.set(asked);
-        Ok(1)
+    fn write(&mut self, _buf: &[u8]) -> io::Result<usize> {
+        Err(ErrorKind::Unsupported.into())
     }
 
     fn flush(&mut self) -> io::Result<()> {
-        Ok(())
+        Err(ErrorKind::Unsupported.into())
     }
 }
 
 impl Seek for FakeFile {
-    fn seek(&mut self, to: SeekFrom) -> io::Result<u64> {
-        let mut asked = ask(&self.asked, b'k')?;
-        let SeekFrom::Start(at) = to else {
-            return Err(ErrorKind::Unsupported.into());
-        };
-        asked.at = at as usize;
+    fn seek(&mut self, _to: SeekFrom) -> io::Result<u64> {
+        Err(ErrorKind::Unsupported.into())
+    }
+}
+
+impl FileExt for FakeFile {
+    fn read_at(&self, buf: &mut [u8], offset: u64) -> io::Result<usize> {
+        let asked = ask(&self.asked, b'r')?;
+        let at = offset as usize;
+        if buf.is_empty() || at >= asked.len.min(8) {
+            return Ok(0);
+        }
+        buf[0] = asked.bytes[at];
+        Ok(1)
+    }
+
+    fn write_at(&self, buf: &[u8], offset: u64) -> io::Result<usize> {
+        let mut asked = ask(&self.asked, b'w')?;
+        let at = offset as usize;
+        if buf.is_empty() || at >= 8 {
+            return Ok(0);
+        }
+        asked.bytes[at] = buf[0];
+        asked.len = asked.len.max(at + 1);
         self.asked.set(asked);
-        Ok(at)
+        Ok(1)
     }
 }
 
@@ -225,7 +228,8 @@ impl Files for Fake {
     }
 
     fn metadata(&self, _path: &str) -> io::Result<Metadata> {
-        Err(ErrorKind::Unsupported.into())
+        let asked = ask(&self.asked, b'n')?;
+        Ok(Metadata::of_file(asked.len as u64))
     }
 
     fn symlink_metadata(&self, _path: &str) -> io::Result<Metadata> {
@@ -297,7 +301,6 @@ fn run_on_file(alloc: Global, failing: usize) -> Result<Went, Fail> {
         failing,
         bytes: [0; 8],
         len: 0,
-        at: 0,
     };
     let fake = Fake {
         asked: Rc::new(alloc, Cell::new(nothing))?,
@@ -315,13 +318,13 @@ fn a_file_is_synced_and_so_is_its_folder(rt: HostRuntime) -> Result<(), Fail> {
         given_up,
     } = run_on_file(rt.alloc(), 0)?;
     assert!(rt; done && !given_up);
-    assert!(rt; asked.calls.starts_with(b"ocmsfpOSmkwwdmkrr") && asked.count == 17);
+    assert!(rt; asked.calls.starts_with(b"ocmsfpOSmnmwwnmdnmmnmrr") && asked.count == 23);
     Ok(())
 }
 
 #[test]
 fn after_each_call_that_fails_the_file_is_given_up(rt: HostRuntime) -> Result<(), Fail> {
-    for failing in 1usize..=17 {
+    for failing in 1usize..=23 {
         let went = run_on_file(rt.alloc(), failing)?;
         assert!(rt; !went.done && went.given_up, "call {failing}");
     }

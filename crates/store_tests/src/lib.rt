@@ -1,6 +1,8 @@
-//! Tests of bytes that other programs spelled or spoiled, of what stores leave on disks, of files whose system fails, and of a tree that is no list.
+//! Tests of bytes that other programs spelled or spoiled, of stores and files whose disk fails, and of a tree that is no list.
 #![tactic(auto)]
 
+#[cfg(test)]
+mod broken;
 #[cfg(test)]
 mod contents;
 #[cfg(test)]
@@ -15,8 +17,6 @@ mod kv_map;
 mod log_map;
 #[cfg(test)]
 mod rows;
-#[cfg(test)]
-mod store;
 #[cfg(test)]
 mod transaction;
 #[cfg(test)]

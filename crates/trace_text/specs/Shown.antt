@@ -1,11 +1,13 @@
 -- A shown map, as compact JSON.
-use Rattle.std.specs.Prelude.{ℕ, List, [], ◌∷◌, ◌++◌, codes, decimal}
-use Rattle.std.specs.FinMap.{entries}
+use Rattle.std.specs.Prelude.{◌≡◌, ℕ, List, [], ◌∷◌, ◌++◌, length, Some, None, codes, decimal}
+use Rattle.std.specs.FinMap.{entries, len}
 use Rattle.json.specs.Print.{quoted}
-use Rattle.json.specs.Token.{Token, begin_object, end_object, begin_array, end_array, key, string, number}
 use Rattle.map_log.specs.declared.inc.LogInc.{LogInc}
 use Rattle.mon_wire.specs.declared.reply.ShownMap.{ShownMap}
 use Rattle.mon_wire.specs.declared.reply.ShownMap.TheVariants.{Kv, Log}
+use Rattle.serde.specs.Event.{Event, field_key, map_begins, map_ends, seq_begins, seq_ends, text, unsigned}
+use Rattle.serde.specs.Event as serde
+use Rattle.serde.specs.declared.name.Case.TheVariants.{AsIs}
 
 -- a member of an object
 abbrev pub member_text : List ℕ × List ℕ → List ℕ
@@ -39,21 +41,28 @@ abbrev pub shown_text : ShownMap → List ℕ
 shown_text (Kv map) = object_text (entries map)
 shown_text (Log incs) = array_text incs
 
--- the same as a writer's tokens: a member, members and the end of their object, an item, items and the end of their array
-abbrev pub member_tokens : List ℕ × List ℕ → List Token
-member_tokens member = key member.0 ∷ string member.1 ∷ []
+-- ---- what is serialized, event by event
 
-abbrev pub members_tokens : List (List ℕ × List ℕ) → List Token
-members_tokens [] = end_object ∷ []
-members_tokens (member ∷ members) = key member.0 ∷ string member.1 ∷ members_tokens members
+-- these events follow, where the earlier ones are known
+abbrev pub AllLogged : serde.Log → serde.Log → List Event → Type 0
+AllLogged None new es = Unit {0}
+AllLogged (Some before) new es = new ≡ Some (before ++ es)
 
-abbrev pub item_tokens : LogInc → List Token
-item_tokens inc = begin_array ∷ number (decimal inc.rank) ∷ string inc.text ∷ end_array ∷ []
+-- a member, members and the end of their object, an item, items and the end of their array
+abbrev pub member_events : List ℕ × List ℕ → List Event
+member_events member = field_key member.0 AsIs ∷ text member.1 ∷ []
 
-abbrev pub items_tokens : List LogInc → List Token
-items_tokens [] = end_array ∷ []
-items_tokens (inc ∷ incs) = begin_array ∷ number (decimal inc.rank) ∷ string inc.text ∷ end_array ∷ items_tokens incs
+abbrev pub members_events : List (List ℕ × List ℕ) → List Event
+members_events [] = map_ends ∷ []
+members_events (member ∷ members) = field_key member.0 AsIs ∷ text member.1 ∷ members_events members
 
-abbrev pub shown_tokens : ShownMap → List Token
-shown_tokens (Kv map) = begin_object ∷ members_tokens (entries map)
-shown_tokens (Log incs) = begin_array ∷ items_tokens incs
+abbrev pub item_events : LogInc → List Event
+item_events inc = seq_begins (Some 2) ∷ unsigned inc.rank ∷ text inc.text ∷ seq_ends ∷ []
+
+abbrev pub items_events : List LogInc → List Event
+items_events [] = seq_ends ∷ []
+items_events (inc ∷ incs) = seq_begins (Some 2) ∷ unsigned inc.rank ∷ text inc.text ∷ seq_ends ∷ items_events incs
+
+abbrev pub shown_events : ShownMap → List Event
+shown_events (Kv map) = map_begins (Some (len map)) ∷ members_events (entries map)
+shown_events (Log incs) = seq_begins (Some (length incs)) ∷ items_events incs

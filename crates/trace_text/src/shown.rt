@@ -1,106 +1,98 @@
 //! A shown map as compact JSON.
 
-ghost use Rattle.std.specs.Prelude.{◌≡◌, ◌++◌, ◌∷◌, string_bytes, OnOk};
-ghost use Rattle.std.specs.FinMap.{entries};
-ghost use Rattle.std.specs.Str.{IsUtf8};
-ghost use Rattle.json.specs.Token.{begin_object, begin_array};
+ghost use Rattle.std.specs.Prelude.{◌≡◌, ◌++◌, ◌∷◌, string_bytes, OnOk, Some, length};
+ghost use Rattle.std.specs.FinMap.{entries, len};
 ghost use Rattle.map_kv.specs.Kept.{pairs};
-ghost use Rattle.trace_text.specs.Shown.{member_tokens, members_tokens, item_tokens, items_tokens, shown_tokens, shown_text};
+ghost use Rattle.serde.specs.Event.{map_begins, seq_begins};
+ghost use Rattle.trace_text.specs.Shown.{AllLogged, member_events, members_events, item_events, items_events, shown_events, shown_text};
 
-use json::Writer;
 use map_kv::KvMap;
 use map_log::{LogInc, LogMap};
 use mon_bytes::Text;
 use mon_wire::ShownMap;
+use serde::{Described, Serialize, Serializer};
 use std::alloc::{AllocError, Global};
 use std::collections::btree_map::Iter;
-use std::mem;
 
-fn put_member(json: &mut Writer, key: &str, value: &str) -> Result<(), AllocError>
-    ensures tokens { OnOk result (json.new.tokens ≡ json.old.tokens ++ member_tokens (key.now, value.now)) }
-    ensures before { OnOk result (json.new.before ≡ json.old.before) }
+/// A shown map as it is serialized: a map of the key-value service as an object, in ascending order of key, and one of
+/// the cluster log as an array of pairs of a rank and a text.
+#[derive(Clone, Copy)]
+struct Shown<'a>(&'a ShownMap);
+
+impl Described for Shown<'_> {
+    ghost use Rattle.trace_text.specs.Shown.{AllLogged, shown_events};
+
+    ghost writes = { λ shown old new. AllLogged old new (shown_events shown.0.now) };
+}
+
+impl Serialize for Shown<'_> {
+    fn serialize<S: Serializer>(&self, out: &mut S) -> Result<(), S::Error> {
+        match self.0 {
+            ShownMap::Kv(map) => put_object(out, map),
+            ShownMap::Log(map) => put_array(out, map),
+        }
+    }
+}
+
+fn put_member<S: Serializer>(out: &mut S, key: &str, value: &str) -> Result<(), S::Error>
+    ensures { OnOk result (AllLogged (S.written out.old) (S.written out.new) (member_events (key.now, value.now))) }
 {
-    json.key(key)?;
-    json.string(value)
+    out.key(key)?;
+    out.str(value)
 }
 
 /// The members of an object, and its end.
-fn put_members(json: &mut Writer, entries: Iter<'_, String, Text>) -> Result<(), AllocError>
-    ensures tokens { OnOk result (json.new.tokens ≡ json.old.tokens ++ members_tokens (pairs entries.entry)) }
-    ensures before { OnOk result (json.new.before ≡ json.old.before) }
+fn put_members<S: Serializer>(out: &mut S, entries: Iter<'_, String, Text>) -> Result<(), S::Error>
+    ensures { OnOk result (AllLogged (S.written out.old) (S.written out.new) (members_events (pairs entries.entry))) }
 {
     for (key, value) in entries {
-        put_member(json, key.as_str(), value.as_str())?;
+        put_member(out, key.as_str(), value.as_str())?;
     }
-    json.end_object()
+    out.end_map()
 }
 
-fn put_object(json: &mut Writer, map: &KvMap) -> Result<(), AllocError>
-    ensures tokens { OnOk result (json.new.tokens ≡ json.old.tokens ++ begin_object ∷ members_tokens (entries map.now)) }
-    ensures before { OnOk result (json.new.before ≡ json.old.before) }
+fn put_object<S: Serializer>(out: &mut S, map: &KvMap) -> Result<(), S::Error>
+    ensures { OnOk result (AllLogged (S.written out.old) (S.written out.new)
+        (map_begins (Some (len map.now)) ∷ members_events (entries map.now))) }
 {
-    json.begin_object()?;
-    put_members(json, map.iter())
+    out.begin_map(Some(map.len()))?;
+    put_members(out, map.iter())
 }
 
-fn put_item(json: &mut Writer, inc: &LogInc) -> Result<(), AllocError>
-    ensures tokens { OnOk result (json.new.tokens ≡ json.old.tokens ++ item_tokens inc.now) }
-    ensures before { OnOk result (json.new.before ≡ json.old.before) }
+fn put_item<S: Serializer>(out: &mut S, inc: &LogInc) -> Result<(), S::Error>
+    ensures { OnOk result (AllLogged (S.written out.old) (S.written out.new) (item_events inc.now)) }
 {
-    json.begin_array()?;
-    json.u64(u64::from(inc.rank.get()))?;
-    json.string(inc.text.as_str())?;
-    json.end_array()
+    out.begin_seq(Some(2))?;
+    out.u64(u64::from(inc.rank.get()))?;
+    out.str(inc.text.as_str())?;
+    out.end_seq()
 }
 
 /// The items of an array, and its end.
-fn put_items(json: &mut Writer, incs: &[LogInc]) -> Result<(), AllocError>
-    ensures tokens { OnOk result (json.new.tokens ≡ json.old.tokens ++ items_tokens incs.now) }
-    ensures before { OnOk result (json.new.before ≡ json.old.before) }
+fn put_items<S: Serializer>(out: &mut S, incs: &[LogInc]) -> Result<(), S::Error>
+    ensures { OnOk result (AllLogged (S.written out.old) (S.written out.new) (items_events incs.now)) }
 {
     for inc in incs {
-        put_item(json, inc)?;
+        put_item(out, inc)?;
     }
-    json.end_array()
+    out.end_seq()
 }
 
-fn put_array(json: &mut Writer, map: &LogMap) -> Result<(), AllocError>
-    ensures tokens { OnOk result (json.new.tokens ≡ json.old.tokens ++ begin_array ∷ items_tokens map.now) }
-    ensures before { OnOk result (json.new.before ≡ json.old.before) }
+fn put_array<S: Serializer>(out: &mut S, map: &LogMap) -> Result<(), S::Error>
+    ensures { OnOk result (AllLogged (S.written out.old) (S.written out.new)
+        (seq_begins (Some (length map.now)) ∷ items_events map.now)) }
 {
-    json.begin_array()?;
-    put_items(json, map.entries())
+    let incs = map.entries();
+    out.begin_seq(Some(incs.len()))?;
+    put_items(out, incs)
 }
 
-fn put_map(json: &mut Writer, shown: &ShownMap) -> Result<(), AllocError>
-    ensures tokens { OnOk result (json.new.tokens ≡ json.old.tokens ++ shown_tokens shown.now) }
-    ensures before { OnOk result (json.new.before ≡ json.old.before) }
-{
-    match shown {
-        ShownMap::Kv(map) => put_object(json, map),
-        ShownMap::Log(map) => put_array(json, map),
-    }
-}
-
-/// The text of bytes that are one.
-fn text_of(bytes: Vec<u8>) -> String
-    requires { IsUtf8 bytes.items }
-    ensures { string_bytes result ≡ bytes.items }
-{
-    match String::from_utf8(bytes) {
-        Ok(text) => text,
-        Err(_) => unreachable!(),
-    }
-}
-
-/// The map of a service.
-#[tactic(auto, using(crate::proofs::Printed::printed))]
+/// Appends the map of a service to `out`, as compact JSON.
 pub fn put_shown(alloc: Global, out: &mut String, shown: &ShownMap) -> Result<(), AllocError>
     ensures { OnOk result (string_bytes out.new ≡ string_bytes out.old ++ shown_text shown.now) }
 {
-    let before = mem::replace(out, String::new(alloc));
-    let mut json = Writer::new(before.into_bytes());
-    put_map(&mut json, shown)?;
-    *out = text_of(json.into_inner());
-    Ok(())
+    match serde_json::to_string(alloc, &Shown(shown)) {
+        Ok(text) => out.push_str(text.as_str()),
+        Err(_) => Err(AllocError),
+    }
 }

@@ -14,8 +14,6 @@ mod rules;
 #[cfg(test)]
 mod schedule;
 #[cfg(test)]
-mod schedule_faults;
-#[cfg(test)]
 mod sources;
 #[cfg(test)]
 mod wire;

@@ -1,9 +1,7 @@
-use Rattle.std.proofs.Common.{◌≡◌, ◌++◌}
 use Rattle.map_kv.specs.Kept.{pairs}
-use Rattle.trace_text.specs.Shown.{members_tokens}
+use Rattle.trace_text.specs.Shown.{members_events}
+use Rattle.trace_text.proofs.Printed.{Still}
 use Rattle.trace_text.proofs.shown.put_members.Given as goal
 
 abbrev pub invariant-loop-key : goal.invariant-loop-key
-invariant-loop-key l =
-    (l.json.tokens ++ members_tokens (pairs l.key-iterator) ≡ l.fn.json.tokens ++ members_tokens (pairs l.fn.entries))
-    × (l.json.before ≡ l.fn.json.before)
+invariant-loop-key g l = Still (g.S.Serializer.written l.fn.out) (g.S.Serializer.written l.out) (members_events (pairs l.key-iterator)) (members_events (pairs l.fn.entries))

@@ -1,10 +1,10 @@
-use Rattle.std.proofs.Common.{Vec, sym, ap, subst, ◌∙◌}
-use Rattle.std.proofs.lemmas.Str.{IsUtf8-append, IsUtf8-had}
-use Rattle.std.specs.Str.{IsUtf8}
+use Rattle.std.proofs.Common.{OnOk, string_bytes, ◌≡◌, ◌++◌, ℕ, List, subst, ◌∙◌}
+use Rattle.trace_text.proofs.Printed.{pushed, text_is}
 use Rattle.trace_text.proofs.shown.put_shown.Goals as goal
 
-pub text_of-requires : goal.text_of-requires
-text_of-requires c =
-    let before = c.in_ok-put_map.ensures.before ∙ c.new-json.ensures.before ∙ ap (λ v. v.items) c.into_bytes.ensures.value in
-    subst IsUtf8 (sym c.into_inner.ensures.items)
-    (IsUtf8-append _ _ (subst IsUtf8 (sym before) (IsUtf8-had _ c.replace-before.result.ok)) c.into_inner.ensures.utf8)
+pub returns-in-Ok : goal.returns-in-Ok
+returns-in-Ok c =
+    let e = c.in-Ok.ensures.events in
+    let is = text_is c.args.shown.now e.0 _ e.1 e.2 in
+    subst (λ (t : List ℕ). OnOk c.push_str.result (string_bytes c.push_str.new.self ≡ string_bytes c.args.out.now ++ t)) (c.as_str.ensures.value ∙ is)
+    (pushed c.push_str.result (string_bytes c.push_str.new.self) (string_bytes c.args.out.now) c.as_str.result.now c.push_str.ensures.bytes)

@@ -1,0 +1,13 @@
+//! A link that sends again what a monitor told another one and what isn't answered.
+#![tactic(auto)]
+
+mod copies;
+mod header;
+mod measure;
+mod note;
+mod outbox;
+mod resending;
+mod shelf;
+
+pub use copies::Copies;
+pub use resending::Resending;

@@ -1,0 +1,208 @@
+//! When a copy goes, and when it is kept no longer.
+
+use crate::header::{Header, Kind};
+
+/// How often a copy goes.
+const TIMES: u8 = 14;
+
+/// The longest time between two copies, unless the first one took longer, in milliseconds.
+const LONGEST: u64 = 1_000;
+
+/// How long a LEASE is repeated, in milliseconds. The leader sends a new one each 3 seconds.
+const LEASE_TIME: u64 = 2_500;
+
+/// The least time until a request for a copy of the store goes again, and until one for a chunk does, in milliseconds. A
+/// second request for a copy ends the first one, and a chunk takes long to read and to send.
+const LEAST_OF_COOKIE: u64 = 2_000;
+
+const LEAST_OF_CHUNK: u64 = 100;
+
+/// How much longer the copies of a long message wait for each of its pieces, in milliseconds.
+const PIECE_TIME: u64 = 10;
+
+/// What happens to the copies that are kept for a peer.
+#[derive(Clone, Copy)]
+pub(crate) enum Event {
+    /// A message begins to go to the peer.
+    Sent(Header),
+    /// A message came from the peer.
+    Came(Header),
+    /// The peer asks again what was answered: this answer goes again.
+    Asked(Header),
+    /// A message of this epoch, the greatest so far, went to a monitor or came from one.
+    Rose(u64),
+    /// The monitor acknowledged another one's proposal.
+    Deferred,
+    /// The monitor left its quorum: it probes.
+    Left,
+    /// The FORWARD of this number may go: none before it waits for its ROUTE.
+    Turn(u64),
+    /// Time passed.
+    Passed,
+}
+
+/// What is noted of a copy, which is a whole message or a piece of one.
+#[derive(Clone, Copy)]
+pub(crate) struct Note {
+    pub(crate) header: Header,
+    /// How many datagrams its message is.
+    pub(crate) pieces: u64,
+    /// When it went first, when it goes again, and how long after that once more.
+    pub(crate) sent: u64,
+    pub(crate) due: u64,
+    every: u64,
+    pub(crate) times: u8,
+    /// Whether it waits to go: an answer until it is asked again, a FORWARD until the one before it is answered.
+    pub(crate) held: bool,
+}
+
+impl Note {
+    /// Of a message that goes now in so many pieces to a peer whose answers take that long; or that is held.
+    pub(crate) fn new(header: Header, pieces: u64, held: bool, wait: u64, now: u64) -> Note {
+        let least = match header.kind {
+            Kind::GetCookie => LEAST_OF_COOKIE,
+            Kind::GetChunk => LEAST_OF_CHUNK,
+            _ => 0,
+        };
+        let pace = if pieces > 1 {
+            pieces.saturating_mul(PIECE_TIME)
+        } else {
+            0
+        };
+        let every = wait.max(least).saturating_add(pace);
+        Note {
+            header,
+            pieces,
+            sent: now,
+            due: if held || header.kind.answers() {
+                u64::MAX
+            } else {
+                now.saturating_add(every)
+            },
+            every,
+            times: 0,
+            held,
+        }
+    }
+
+    /// Whether a message that begins to go to the peer ends this one.
+    fn is_ended_by(&self, sent: Kind) -> bool {
+        let kept = self.header.kind;
+        match sent {
+            Kind::Forward => false,
+            Kind::Begin => matches!(kept, Kind::Begin | Kind::Lease | Kind::Collect),
+            Kind::Commit => matches!(kept, Kind::Commit | Kind::Begin | Kind::Lease),
+            Kind::Collect => matches!(
+                kept,
+                Kind::Collect | Kind::Begin | Kind::Commit | Kind::Lease
+            ),
+            sent => kept == sent,
+        }
+    }
+
+    /// Whether a message that came from the peer answers this one.
+    pub(crate) fn is_answered_by(&self, came: Header) -> bool {
+        let kept = self.header;
+        match kept.kind {
+            Kind::Propose => came.kind.is_of_epoch() && came.epoch >= kept.epoch,
+            Kind::Victory => matches!(came.kind, Kind::Last | Kind::Accept | Kind::LeaseAck),
+            Kind::Collect => came.kind == Kind::Last && came.first >= kept.first,
+            Kind::Begin => {
+                came.kind == Kind::Accept && came.first == kept.first && came.second == kept.second
+            }
+            Kind::Commit => match came.kind {
+                Kind::LeaseAck => came.first >= kept.second,
+                Kind::Accept => came.second > kept.second,
+                _ => false,
+            },
+            Kind::Lease => came.kind == Kind::LeaseAck && came.first == kept.first,
+            Kind::Forward => came.kind == Kind::Route && came.first == kept.first,
+            Kind::GetCookie => matches!(came.kind, Kind::Cookie | Kind::NoCookie),
+            Kind::GetChunk => matches!(came.kind, Kind::Chunk | Kind::NoCookie),
+            _ => false,
+        }
+    }
+
+    /// Whether this is the answer to what came.
+    pub(crate) fn answers(&self, came: Header) -> bool {
+        let kept = self.header;
+        let is_its = match kept.kind {
+            Kind::Accept => came.kind == Kind::Begin && kept.second == came.second,
+            Kind::Route => came.kind == Kind::Forward,
+            _ => false,
+        };
+        is_its && kept.epoch == came.epoch && kept.first == came.first
+    }
+
+    /// Whether it went often enough, or long enough.
+    fn is_spent(&self, now: u64) -> bool {
+        if self.due > now {
+            return false;
+        }
+        self.times >= TIMES
+            || (self.header.kind == Kind::Lease && now.saturating_sub(self.sent) > LEASE_TIME)
+    }
+
+    /// Whether an event ends it: then it is kept no longer.
+    pub(crate) fn is_ended(&self, event: Event, now: u64) -> bool {
+        match event {
+            Event::Sent(header) => self.is_ended_by(header.kind),
+            Event::Came(header) => self.is_answered_by(header),
+            Event::Rose(epoch) => self.header.kind.is_of_epoch() && self.header.epoch < epoch,
+            Event::Deferred => self.header.kind == Kind::Propose,
+            Event::Left => self.header.kind.is_of_epoch(),
+            Event::Passed => self.is_spent(now),
+            Event::Asked(_) | Event::Turn(_) => false,
+        }
+    }
+
+    /// Whether an event makes it go.
+    pub(crate) fn is_called(&self, event: Event) -> bool {
+        match event {
+            Event::Asked(came) => self.answers(came),
+            Event::Turn(seq) => self.held && self.header.first == seq,
+            _ => false,
+        }
+    }
+
+    /// What is noted when it is to go.
+    pub(crate) fn called(self, now: u64) -> Note {
+        Note {
+            sent: now,
+            due: now,
+            times: 0,
+            held: true,
+            ..self
+        }
+    }
+
+    /// Whether it goes now. What went before goes again only where `again` allows it.
+    pub(crate) fn goes(&self, again: bool, now: u64) -> bool {
+        self.due <= now && (again || self.held) && self.times < TIMES
+    }
+
+    /// What is noted after it went.
+    pub(crate) fn gone(self, now: u64) -> Note {
+        if self.header.kind.answers() {
+            return Note {
+                due: u64::MAX,
+                held: false,
+                ..self
+            };
+        }
+        if self.held {
+            return Note {
+                due: now.saturating_add(self.every),
+                held: false,
+                ..self
+            };
+        }
+        let every = self.every.saturating_mul(2).min(self.every.max(LONGEST));
+        Note {
+            due: now.saturating_add(every),
+            every,
+            times: self.times.saturating_add(1),
+            ..self
+        }
+    }
+}

@@ -1,0 +1,306 @@
+//! What is kept for one monitor, by the messages that go to it and come from it.
+
+ghost use Rattle.std.specs.Prelude.{◌≡◌, ◌++◌, ◌∷◌, [], length, slice_get, option_map};
+ghost use Rattle.mon_resend.specs.Copied.{AreOf, datagram};
+ghost use Rattle.mon_link.specs.declared.link.Peer.TheVariants.{Monitor};
+
+use crate::header::{Header, Kind};
+use crate::measure::Measure;
+use crate::note::{Event, Note};
+use crate::shelf::Shelf;
+use mon_bytes::Bytes;
+use mon_link::{Outgoing, Peer};
+use mon_types::Rank;
+use std::alloc::Global;
+use std::marker::Model;
+
+/// The bytes of a message that one piece carries, and those of a piece before them.
+const PIECE: u32 = 59_000;
+
+const BEFORE: u32 = 28;
+
+/// The long message whose first piece, or a later one, was the last datagram.
+#[derive(Clone, Copy)]
+enum UnderWay {
+    /// There is none, or no copy of it is kept.
+    Nothing,
+    /// Copies are kept of its pieces.
+    Kept(Note),
+    /// It would have to wait, and there is no room for it.
+    Lost,
+}
+
+/// The copies for one monitor.
+#[derive(Drop)]
+pub(crate) struct Outbox {
+    alloc: Global,
+    rank: u8,
+    shelf: Shelf,
+    measure: Measure,
+    under_way: UnderWay,
+    /// No copy goes before this time.
+    due: u64,
+}
+
+impl Model for Outbox {
+    ghost use Rattle.std.specs.Prelude.{List};
+    ghost use Rattle.mon_link.specs.declared.link.Outgoing.{Outgoing};
+
+    ghost Value = { List Outgoing };
+
+    ghost view = { λ b. b.shelf };
+}
+
+impl Outbox {
+    pub(crate) fn new(alloc: Global, rank: u8) -> Outbox
+        ensures { result ≡ [] }
+    {
+        Outbox {
+            alloc,
+            rank,
+            shelf: Shelf::new(alloc),
+            measure: Measure::none(),
+            under_way: UnderWay::Nothing,
+            due: u64::MAX,
+        }
+    }
+
+    pub(crate) fn rank(&self) -> u8 {
+        self.rank
+    }
+
+    pub(crate) fn due(&self) -> u64 {
+        self.due
+    }
+
+    pub(crate) fn len(&self) -> usize
+        ensures { result ≡ length self.now }
+    {
+        self.shelf.len()
+    }
+
+    /// The datagram at a place.
+    pub(crate) fn out(&self, at: usize) -> Option<&Outgoing>
+        ensures { option_map (λ out. out.now) result ≡ slice_get self.now at }
+    {
+        self.shelf.out(at)
+    }
+
+    /// Does what an event does to the copies, and lets the next FORWARD go if none before it waits for its ROUTE.
+    #[tactic(auto, using(crate::proofs::Parts::through))]
+    pub(crate) fn apply(&mut self, event: Event, now: u64)
+        ensures { AreOf self.old self.new }
+    {
+        self.shelf.apply(event, now);
+        if let Some(seq) = self.turn() {
+            self.shelf.apply(Event::Turn(seq), now);
+        }
+        self.due = self.shelf.due();
+    }
+
+    /// The number of the first FORWARD, if it is held.
+    fn turn(&self) -> Option<u64> {
+        for at in 0..self.shelf.len() {
+            if let Some(note) = self.shelf.note(at)
+                && note.header.kind == Kind::Forward
+            {
+                return if note.held {
+                    Some(note.header.first)
+                } else {
+                    None
+                };
+            }
+        }
+        None
+    }
+
+    /// Whether a FORWARD waits for its ROUTE.
+    fn has_forward(&self) -> bool {
+        for at in 0..self.shelf.len() {
+            if let Some(note) = self.shelf.note(at)
+                && note.header.kind == Kind::Forward
+            {
+                return true;
+            }
+        }
+        false
+    }
+
+    /// Drops what a message that begins to go ends.
+    fn ends(&mut self, header: Header, now: u64)
+        ensures { AreOf self.old self.new }
+    {
+        self.under_way = UnderWay::Nothing;
+        self.apply(Event::Sent(header), now);
+    }
+
+    /// What is noted of a message of so many bytes, of which this datagram has so many.
+    fn note_of(&self, header: Header, total: u32, length: usize, now: u64) -> Note {
+        let pieces = if total as usize == length {
+            1
+        } else {
+            total.div_ceil(PIECE)
+        };
+        let held = header.kind == Kind::Forward && self.has_forward();
+        Note::new(header, u64::from(pieces), held, self.measure.wait(), now)
+    }
+
+    /// Whether there is room for the whole of a message.
+    fn fits(&self, note: &Note, total: u32) -> bool {
+        let before = note.pieces.saturating_mul(u64::from(BEFORE));
+        let bytes = u64::from(total).saturating_add(before);
+        self.shelf.has_room(note.pieces as usize, bytes as usize)
+    }
+
+    /// Notes whether later pieces of the message come.
+    fn starts(&mut self, note: Note, fits: bool)
+        ensures { self.new ≡ self.old }
+    {
+        self.under_way = if note.pieces <= 1 {
+            UnderWay::Nothing
+        } else if fits {
+            UnderWay::Kept(note)
+        } else if note.held {
+            UnderWay::Lost
+        } else {
+            UnderWay::Nothing
+        };
+    }
+
+    #[tactic(auto, using(crate::proofs::Parts::more))]
+    fn keep_if(&mut self, fits: bool, to: Rank, bytes: &[u8], note: Note)
+        ensures { AreOf (self.old ++ datagram (Monitor to) bytes.now ∷ []) self.new }
+    {
+        if fits {
+            self.keep(to, bytes, note);
+        }
+    }
+
+    /// Keeps a copy of the first datagram of a message. Whether it goes now.
+    fn keeps(&mut self, to: Rank, bytes: &[u8], note: Note, total: u32) -> bool
+        ensures { AreOf (self.old ++ datagram (Monitor to) bytes.now ∷ []) self.new }
+    {
+        let fits = self.fits(&note, total);
+        self.starts(note, fits);
+        self.keep_if(fits, to, bytes, note);
+        !note.held
+    }
+
+    /// Keeps a copy of a message that begins to go, if there is room for the whole of it. Whether its first datagram goes
+    /// now. A FORWARD waits until the one before it is answered: its leader takes none after a later one. One for which
+    /// there is no room then is lost.
+    #[tactic(auto, using(crate::proofs::Parts::wider))]
+    pub(crate) fn begins(
+        &mut self,
+        to: Rank,
+        header: Header,
+        total: u32,
+        bytes: &[u8],
+        now: u64,
+    ) -> bool
+        ensures { AreOf (self.old ++ datagram (Monitor to) bytes.now ∷ []) self.new }
+    {
+        self.ends(header, now);
+        if !header.kind.is_kept() {
+            return true;
+        }
+        let note = self.note_of(header, total, bytes.len(), now);
+        self.keeps(to, bytes, note, total)
+    }
+
+    /// Keeps a copy of a later piece, if that of the first one is kept. Whether it goes now.
+    #[tactic(auto, using(crate::proofs::Parts::more))]
+    pub(crate) fn goes_on(&mut self, to: Rank, bytes: &[u8]) -> bool
+        ensures { AreOf (self.old ++ datagram (Monitor to) bytes.now ∷ []) self.new }
+    {
+        match self.under_way {
+            UnderWay::Kept(note) => {
+                self.keep(to, bytes, note);
+                !note.held
+            }
+            UnderWay::Lost => false,
+            UnderWay::Nothing => true,
+        }
+    }
+
+    /// Keeps a copy, if there is room and memory.
+    #[tactic(auto, using(crate::proofs::Parts::longer, crate::proofs::Parts::more, crate::proofs::Parts::same))]
+    fn keep(&mut self, to: Rank, bytes: &[u8], note: Note)
+        ensures { AreOf (self.old ++ datagram (Monitor to) bytes.now ∷ []) self.new }
+    {
+        let Ok(bytes) = Vec::from_slice(self.alloc, bytes) else {
+            return;
+        };
+        let out = Outgoing {
+            to: Peer::Monitor(to),
+            bytes: Bytes::new(bytes),
+        };
+        if self.shelf.push(out, note) {
+            self.due = self.due.min(note.due);
+        }
+    }
+
+    /// Measures the peer by what it answers.
+    fn measures(&mut self, came: Header, now: u64)
+        ensures { self.new ≡ self.old }
+    {
+        let mut measured = self.measure;
+        for at in 0..self.shelf.len() {
+            if let Some(note) = self.shelf.note(at)
+                && note.pieces == 1
+                && matches!(
+                    note.header.kind,
+                    Kind::Begin | Kind::Collect | Kind::Forward
+                )
+                && note.is_answered_by(came)
+            {
+                measured = measured.after(now.saturating_sub(note.sent), note.times > 0);
+            }
+        }
+        self.measure = measured;
+    }
+
+    /// Whether what came is answered by a message that is kept.
+    fn knows(&self, came: Header) -> bool {
+        for at in 0..self.shelf.len() {
+            if let Some(note) = self.shelf.note(at)
+                && note.answers(came)
+            {
+                return true;
+            }
+        }
+        false
+    }
+
+    /// Notes that a message came: what it answers is kept no longer, and what answers it goes again. Whether it is a
+    /// BEGIN that was accepted before.
+    #[tactic(auto, using(crate::proofs::Parts::through, crate::proofs::Parts::same))]
+    pub(crate) fn comes(&mut self, came: Header, now: u64) -> bool
+        ensures { AreOf self.old self.new }
+    {
+        if matches!(came.kind, Kind::Begin | Kind::Forward) {
+            let known = self.knows(came);
+            if known {
+                self.apply(Event::Asked(came), now);
+            }
+            return known && came.kind == Kind::Begin;
+        }
+        self.measures(came, now);
+        self.apply(Event::Came(came), now);
+        false
+    }
+
+    /// Whether the datagram at a place goes now. One that went before goes only where `again` allows it.
+    pub(crate) fn goes(&mut self, at: usize, again: bool, now: u64) -> bool
+        ensures { self.new ≡ self.old }
+    {
+        let Some(note) = self.shelf.note(at).copied() else {
+            return false;
+        };
+        if !note.goes(again, now) {
+            return false;
+        }
+        self.shelf.set_note(at, note.gone(now));
+        true
+    }
+}

@@ -1,0 +1,71 @@
+-- What an event adds to the world: requests, acknowledgements, and the datagrams of its replies.
+use Rattle.std.proofs.Common.{◌≡◌, ℕ, zero, suc, ◌<◌, ◌≤◌, List, [], ◌∷◌, ◌++◌, map, Option, Some, None, refl, sym, ap, arith}
+use Rattle.std.specs.List.{AllByRecursion, Contains, cons_option}
+use Rattle.std.specs.Option.{option_map}
+use Rattle.mon_link.specs.declared.link.Peer.{Peer}
+use Rattle.mon_link.specs.declared.link.Peer.TheVariants.{Monitor, Client}
+use Rattle.mon_msg.specs.Protocol.State.{State}
+use Rattle.mon_msg.specs.declared.plan.Sent.TheVariants as sent
+use Rattle.mon_msg.specs.declared.plan.Sent.{Sent}
+use Rattle.mon_tx.specs.Map.{Store}
+use Rattle.mon_wire.specs.Message.Whole.{text}
+use Rattle.quorum_model.specs.Acknowledging.{acknowledgement, acknowledgements_of, done_by}
+use Rattle.quorum_model.specs.Clients.{replies_of}
+use Rattle.quorum_model.specs.World.{Acknowledged, Asked, Replied, World}
+use Rattle.quorum_network.specs.Network.{Posted}
+use Rattle.quorum_network.specs.Requests.{Acknowledgement, acknowledged_in, acknowledges}
+use Rattle.quorum_network.specs.Running.{IsPiece, answer_of}
+
+-- what goes to a client is a datagram of a reply that a later event than this made
+abbrev pub IsLater : (count event : ℕ) → World → (by : ℕ) → Peer → List ℕ → Type 0
+IsLater count e w i (Monitor j) bytes = Unit {0}
+IsLater count e w i (Client c) bytes =
+    (r : Replied) × Contains w.replied r × (e < r.event) × (r.rank ≡ i) × (r.session.client ≡ c) × IsPiece (text (answer_of count r)) bytes
+
+abbrev pub AllLater : (count event : ℕ) → World → List Posted → Type 0
+AllLater count e w ds = AllByRecursion (λ (d : Posted). IsLater count e w d.by d.datagram.to d.datagram.bytes) ds
+
+-- an acknowledgement without the number of its event and what it puts
+abbrev pub given : Acknowledged → Acknowledgement
+given a = record { version = a.version; pn = a.pn; epoch = a.epoch }
+
+abbrev pub IsBy : ℕ → Acknowledged → Type 0
+IsBy e a = a.event ≤ e
+
+pub record Adds (count : ℕ) (asks : List Asked) (acks : List Acknowledgement) (ds : List Posted) (w v : World) : Type 0 where
+  pub asked : v.asked ≡ w.asked ++ asks
+  pub events : v.events ≡ suc w.events
+  pub new : List Acknowledged
+  pub acknowledged : v.acknowledged ≡ w.acknowledged ++ new
+  pub given_are : map given new ≡ acks
+  pub numbered : AllByRecursion (IsBy (suc w.events)) new
+  pub replied : (r : Replied) → Contains w.replied r → Contains v.replied r
+  pub later : AllLater count w.events v ds
+
+-- ---- acknowledgements
+
+module _ (e : ℕ) (m : Store) (s : State) where
+  given_by : (o : Option ℕ) (xs : List Acknowledged) (ys : List Acknowledgement) → map given xs ≡ ys
+      → map given (cons_option (option_map (acknowledgement e m s) o) xs) ≡ cons_option (option_map (acknowledges m s) o) ys
+  given_by None xs ys h = h
+  given_by (Some v) xs ys h = ap (λ (zs : List Acknowledgement). acknowledges m s v ∷ zs) h
+
+  pub given_same : (sends : List Sent) → map given (acknowledgements_of e m s sends) ≡ acknowledged_in m s sends
+  given_same [] = refl
+  given_same (x ∷ sends) = given_by (done_by s x) (acknowledgements_of e m s sends) (acknowledged_in m s sends) (given_same sends)
+
+  numbered_by : (o : Option ℕ) (xs : List Acknowledged) → AllByRecursion (IsBy e) xs → AllByRecursion (IsBy e) (cons_option (option_map (acknowledgement e m s) o) xs)
+  numbered_by None xs h = h
+  numbered_by (Some v) xs h = (omega arith, h)
+
+  pub all_numbered : (sends : List Sent) → AllByRecursion (IsBy e) (acknowledgements_of e m s sends)
+  all_numbered [] = tt
+  all_numbered (x ∷ sends) = numbered_by (done_by s x) (acknowledgements_of e m s sends) (all_numbered sends)
+
+-- ---- replies
+
+pub replied_at : (e i : ℕ) (m : Store) (sends : List Sent) (r : Replied) → Contains (replies_of e i m sends) r → r.event ≡ e
+replied_at e i m [] r (k, lt, is) = absurd (omega (arith, lt))
+replied_at e i m (sent.Message to x ∷ sends) r c = replied_at e i m sends r c
+replied_at e i m (sent.Reply to x ∷ sends) r (zero, lt, is) = ap (λ (q : Replied). q.event) (sym is)
+replied_at e i m (sent.Reply to x ∷ sends) r (suc k, lt, is) = replied_at e i m sends r (k, omega (arith, lt), is)

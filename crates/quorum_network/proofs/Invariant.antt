@@ -1,0 +1,65 @@
+-- What holds of a network and of the world of its run.
+use Rattle.std.proofs.Common.{◌≡◌, ◌++◌, ℕ, ◌+◌, ◌^◌, ◌<◌, ◌≤◌, List, [], Option, Some, Ok}
+use Rattle.std.specs.List.{AllByRecursion, Contains}
+use Rattle.mon_bounds.specs.Remembered.{MayRemember}
+use Rattle.mon_link.specs.declared.link.Peer.{Peer}
+use Rattle.mon_link.specs.declared.link.Peer.TheVariants.{Monitor, Client}
+use Rattle.mon_msg.specs.Protocol.State.{State}
+use Rattle.mon_msg.specs.declared.view.Me.{Me}
+use Rattle.mon_node.specs.Nodes.{Serving}
+use Rattle.mon_node.specs.Posting.{boot_in}
+use Rattle.mon_tx.specs.Map.{Store}
+use Rattle.mon_wire.specs.Message.Whole.{text, HasText}
+use Rattle.mon_wire.specs.declared.message.Message.{Message}
+use Rattle.quorum_model.specs.Events.{PlainFits}
+use Rattle.quorum_model.specs.Happens.{happens}
+use Rattle.quorum_model.specs.Monitors.{Monitors, me_of}
+use Rattle.quorum_model.specs.World.{Asked, World, Plain, Comes, Envelope, Replied}
+use Rattle.quorum_network.specs.Network.{Network, Posted, Process, Up, Down, map_of}
+use Rattle.quorum_network.specs.Requests.{Acknowledgement}
+use Rattle.quorum_network.specs.Running.{answer_of}
+use Rattle.quorum_network.proofs.Adding.{Adds}
+use Rattle.quorum_network.proofs.Assembling.{Assembly}
+use Rattle.quorum_network.proofs.Letters.{Letter, IsLong, IsPosted, AreLetters}
+
+-- bytes that monitor i sent: the text of one of these messages, or of one of these replies of its
+abbrev pub Says : (count i : ℕ) → List Envelope → List Replied → Peer → List ℕ → Type 0
+Says count i es rs (Monitor j) bytes =
+    (m : Message) × Contains es (record { to = j; message = m }) × HasText m × (m.from ≡ i) × (bytes ≡ text m)
+Says count i es rs (Client c) bytes =
+    (r : Replied) × Contains rs r × (r.rank ≡ i) × (r.session.client ≡ c) × (bytes ≡ text (answer_of count r))
+
+-- a letter says it of the world
+abbrev pub IsSaid : (count : ℕ) → World → Letter → Peer → Type 0
+IsSaid count w l to = Says count l.by w.messages w.replied to l.bytes
+
+module _ (A : Assembly) (ms : Monitors) where
+  -- a process that is up
+  pub record IsUp (ls : List Letter) (i : ℕ) (st : Option State) (s : Serving) : Type 0 where
+    pub state : st ≡ Some s.node.state
+    pub parts : A.Keeps ls i s.outside.parts
+    pub next : (l : Letter) → Contains ls l → IsLong l → l.by ≡ i → l.boot ≡ boot_in s.node.store.kv → l.seq < s.node.next
+    pub most : s.node.next ≤ 2 ^ 62 + 1
+    pub remembers : (me : Me) → me_of ms i ≡ Some me → MayRemember me s.node.state
+
+  abbrev pub IfUp : List Letter → ℕ → Option State → Process → Type 0
+  IfUp ls i st (Up s) = IsUp ls i st s
+  IfUp ls i st (Down m) = Unit {0}
+
+  pub record Mine (ls : List Letter) (i : ℕ) (p : Process) (m : Store) (st : Option State) : Type 0 where
+    pub map : map_of p ≡ m
+    pub up : IfUp ls i st p
+
+  pub record Inv (net : Network) (w : World) : Type 0 where
+    pub ls : List Letter
+    pub mine : (j : ℕ) → j < ms.count → Mine ls j (net.process j) (w.store j) (w.state j)
+    pub posted : AllByRecursion (IsPosted ls) net.sent
+    pub letters : AreLetters ls
+    pub said : (l : Letter) → Contains ls l → IsSaid ms.count w l l.to
+    pub boots : (l : Letter) → Contains ls l → l.boot ≤ boot_in (map_of (net.process l.by))
+
+  -- It holds after at most one event more, which adds no more than these requests and acknowledgements, and the
+  -- datagrams behind these.
+  pub data Next (asks : List Asked) (acks : List Acknowledgement) (before : List Posted) (net : Network) (w : World) : Type 0 where
+    Still : net.sent ≡ before → acks ≡ [] → Inv net w → Next asks acks before net w
+    Moved : (p : Plain) (v : World) (ds : List Posted) → PlainFits ms.count p → happens ms w (Comes p) ≡ Ok v → net.sent ≡ before ++ ds → Adds ms.count asks acks ds w v → Inv net v → Next asks acks before net w

@@ -1,0 +1,285 @@
+-- A reaction whose transaction is kept: the network with some of its datagrams, and the world of its event.
+use Rattle.std.proofs.Common.{◌≡◌, ℕ, suc, ◌+◌, ◌^◌, ◌<◌, ◌≤◌, nat_lt, eqb, Bool, true, false, cond, List, [], ◌∷◌, ◌++◌, map, Option, Some, None, Result, Ok, refl, sym, ap, subst, ◌∙◌, arith, inl, inr}
+use Rattle.std.proofs.lemmas.Bool.{eqb-true}
+use Rattle.std.proofs.lemmas.Bool.Decides.{nat_tests}
+use Rattle.std.proofs.lemmas.List.Elements.{Contains-append_left, Contains-append_right, Contains-append_cases}
+use Rattle.std.specs.List.{AllByRecursion, Contains}
+use Rattle.std.specs.Prelude.{IfOk}
+use Rattle.mon_bounds.proofs.Table.{reaction_ok}
+use Rattle.mon_bounds.specs.Fitting.{MayCome, IsNamed, IsBounded, entries_in}
+use Rattle.mon_bounds.specs.Remembered.{IsNumber, MayRemember}
+use Rattle.mon_frag.proofs.Lists.{all_append}
+use Rattle.mon_frag.specs.Pieces.{pieces_of}
+use Rattle.mon_kv.specs.Readers.{size_of, most_size, epoch}
+use Rattle.mon_link.specs.declared.link.Outgoing.{Outgoing}
+use Rattle.mon_link.specs.declared.link.Peer.{Peer}
+use Rattle.mon_link.specs.declared.link.Peer.TheVariants.{Monitor, Client}
+use Rattle.mon_msg.specs.Protocol.Reaction.{Reaction, reaction}
+use Rattle.mon_msg.specs.Protocol.State.{State}
+use Rattle.mon_msg.specs.declared.input.Input.{Input}
+use Rattle.mon_msg.specs.declared.plan.Sent.TheVariants as sent
+use Rattle.mon_msg.specs.declared.plan.Sent.{Sent}
+use Rattle.mon_msg.specs.declared.view.Me.{Me}
+use Rattle.mon_node.specs.Nodes.{Node}
+use Rattle.mon_node.specs.Posting.{letters, datagrams, next_after, boot_in}
+use Rattle.mon_node.specs.Turns.{map_after}
+use Rattle.std.specs.Option.{option_map, unwrap_or}
+use Rattle.log_copies.proofs.UnderWay.{number_short}
+use Rattle.mon_tx.specs.Decision.{Cell}
+use Rattle.mon_tx.specs.Keys.{cell}
+use Rattle.mon_tx.specs.Map.{Store, apply, number_in}
+use Rattle.mon_tx.specs.declared.key.Area.TheVariants as area
+use Rattle.mon_tx.specs.declared.key.Key.TheVariants as key
+use Rattle.mon_types.specs.declared.names.Which.{Which}
+use Rattle.quorum_model.specs.Acknowledging.{acknowledgements_of}
+use Rattle.quorum_model.specs.Clients.{messages_of, replies_of}
+use Rattle.quorum_model.specs.Events.{PlainFits}
+use Rattle.quorum_model.specs.Happens as model
+use Rattle.quorum_model.specs.Happens.{happens, moved}
+use Rattle.quorum_model.specs.Meets.{Reacts, meets, arrival, state_at}
+use Rattle.quorum_model.specs.Monitors.{Monitors, me_of}
+use Rattle.quorum_model.specs.World.{Asked, World, Plain, Event, Comes, Envelope, Replied, first_world, plain_of}
+use Rattle.quorum_network.specs.Network.{Network, Process, Up, Down, map_of, with_left, Posted, posted}
+use Rattle.quorum_network.specs.Requests.{acknowledged_in}
+use Rattle.quorum_network.proofs.Adding.{Adds, IsLater, all_numbered, given_same, replied_at}
+use Rattle.quorum_network.proofs.Assembled.{all_through}
+use Rattle.quorum_network.proofs.Assembling.{Assembly, IsLabelled}
+use Rattle.quorum_network.proofs.Events.{ran_more, reacts_moves, meets_it, IsMe, known}
+use Rattle.quorum_network.proofs.Facts.{Facts, Reach}
+use Rattle.quorum_network.proofs.Invariant.{Says, IsSaid, IfUp, Mine, Inv}
+use Rattle.quorum_network.proofs.Letters.{Letter, IsLong, labelled, IsPosted, CanBeCut, Numbered}
+use Rattle.quorum_network.proofs.Sends.{IsOwn, says_more, says_behind, SentHasText, TellsNamed, have_texts, IsCuttable, all_cuttable, SaysOf, all_say, label_of, posted_more, posted_behind}
+
+abbrev Named : Envelope → Type 0
+Named e = AllByRecursion IsNamed (entries_in e.message.body)
+
+named_sends : (sends : List Sent) → ((e : Envelope) → Contains (messages_of sends) e → Named e) → AllByRecursion TellsNamed sends
+named_sends [] h = tt
+named_sends (sent.Message to m ∷ sends) h = (h (record { to = to; message = m }) (0, omega arith, refl), named_sends sends (λ e c. h e (suc c.0, omega (arith, c.1), c.2)))
+named_sends (sent.Reply to r ∷ sends) h = (tt, named_sends sends h)
+
+messages_moved : (w : World) (p : Plain) (i : ℕ) (r : Reaction) → (moved w p i r).messages ≡ w.messages ++ messages_of r.sends
+unfolding moved
+messages_moved w p i r = refl
+
+events_moved : (w : World) (p : Plain) (i : ℕ) (r : Reaction) → (moved w p i r).events ≡ suc w.events
+unfolding moved
+events_moved w p i r = refl
+
+acknowledged_moved : (w : World) (p : Plain) (i : ℕ) (r : Reaction) → (moved w p i r).acknowledged ≡ w.acknowledged ++ acknowledgements_of (suc w.events) (model.map_after w i r) r.state r.sends
+unfolding moved
+acknowledged_moved w p i r = refl
+
+old_replied : (w : World) (p : Plain) (i : ℕ) (r : Reaction) (q : Replied) → Contains w.replied q → Contains (moved w p i r).replied q
+unfolding moved
+old_replied w p i r q c = Contains-append_left w.replied (replies_of (suc w.events) i (model.map_after w i r) r.sends) q c
+
+new_replied : (w : World) (p : Plain) (i : ℕ) (r : Reaction) (q : Replied) → Contains (replies_of (suc w.events) i (model.map_after w i r) r.sends) q → Contains (moved w p i r).replied q
+unfolding moved
+new_replied w p i r q c = Contains-append_right w.replied (replies_of (suc w.events) i (model.map_after w i r) r.sends) q c
+
+not_eq : (j i : ℕ) → eqb j i ≡ false → j ≡ i → ⊥
+not_eq j i e is = grind (arith, nat_tests)
+
+boot_short : (m : Store) → boot_in m ≤ 2 ^ 62
+boot_short m = number_short (cell m area.Monitor key.BootCount)
+
+epoch_by : (c : Cell) → unwrap_or (option_map (λ (bytes : List ℕ). number_in (Some bytes)) c) 1 ≤ 2 ^ 62
+epoch_by None = omega arith
+epoch_by (Some bytes) = number_short (Some bytes)
+
+epoch_short : (m : Store) → epoch m ≤ 2 ^ 62
+epoch_short m = epoch_by (cell m area.Monitor key.ElectionEpoch)
+
+-- what others keep where monitor i sends letters
+module _ (A : Assembly) (ms : Monitors) (i : ℕ) (ls ks : List Letter) (by : (l : Letter) → Contains ks l → l.by ≡ i) where
+  if_up_more : (j : ℕ) (st : Option State) (p : Process) → (j ≡ i → ⊥) → IfUp A ms ls j st p → IfUp A ms (ls ++ ks) j st p
+  if_up_more j st (Up s) ne u = record {
+    state = u.state;
+    parts = A.more ls ks j s.outside.parts u.parts;
+    next = λ l c long own boot. elim (Contains-append_cases ls ks l c) [ inl old ↦ u.next l old long own boot | inr new ↦ absurd (ne (sym own ∙ by l new)) ];
+    most = u.most;
+    remembers = u.remembers;
+  }
+  if_up_more j st (Down m) ne u = tt
+
+  mine_more : (j : ℕ) (p : Process) (m : Store) (st : Option State) → (j ≡ i → ⊥) → Mine A ms ls j p m st → Mine A ms (ls ++ ks) j p m st
+  mine_more j p m st ne k = record { map = k.map; up = if_up_more j st p ne k.up }
+
+module _ (A : Assembly) (ms : Monitors) (F : Facts ms) (net : Network) (w : World) (R : Reach ms w) (I : Inv A ms net w) (i : ℕ) (me : Me) (is : me_of ms i ≡ Some me)
+    (n : Node) (at : ℕ) (came : Input) (p : Plain) (fits : PlainFits ms.count p) (there : arrival w p ≡ Some (record { rank = i; at = at; input = came }))
+    (kv : n.store.kv ≡ w.store i) (up : state_at i (w.state i) came ≡ Some n.state) (may : MayCome came) (remembers : MayRemember me n.state)
+    (r : Reaction) (reacts : reaction me at n.store.kv n.state came ≡ Ok r) (own : AllByRecursion (IsOwn me) r.sends) where
+  abbrev M : IsMe ms i me
+  M = known ms i me is
+
+  -- the event
+  pub met : meets ms w p ≡ Reacts i came (Ok r)
+  met = meets_it ms w p i at came me n.state there is up ∙ ap (λ (x : Result Reaction Which). Reacts i came x) (subst (λ (m : Store). reaction me at m n.state came ≡ Ok r) kv reacts)
+
+  same_map : map_after n r ≡ model.map_after w i r
+  same_map = ap (apply r.transaction) kv
+
+  module _ (small : nat_lt most_size (size_of (map_after n r)) ≡ false) where
+    pub happens_so : happens ms w (Comes p) ≡ Ok (moved w p i r)
+    happens_so = reacts_moves ms w p i came r met (subst (λ (m : Store). nat_lt most_size (size_of m) ≡ false) same_map small)
+
+    pub reach : Reach ms (moved w p i r)
+    reach = record {
+      events = R.events ++ Comes p ∷ [];
+      fits = all_append (λ (e : Event). PlainFits ms.count (plain_of e)) R.events (Comes p ∷ []) R.fits (fits, tt);
+      ran = ran_more ms first_world w (moved w p i r) R.events (Comes p) R.ran happens_so;
+    }
+
+    pub bounded : IsBounded me r
+    bounded = subst (λ (x : Result Reaction Which). IfOk x (IsBounded me)) reacts (reaction_ok me at n.store.kv n.state came remembers may)
+
+    named : AllByRecursion TellsNamed r.sends
+    named = named_sends r.sends (λ e c. F.named (moved w p i r) reach e (subst (λ (es : List Envelope). Contains es e) (sym (messages_moved w p i r)) (Contains-append_right w.messages (messages_of r.sends) e c)))
+
+    texts : IsNumber (epoch (map_after n r)) → AllByRecursion (SentHasText me (epoch (map_after n r))) r.sends
+    texts k = have_texts me (epoch (map_after n r)) r.sends k bounded.sends named
+
+    -- ---- with some of its datagrams sent
+
+    -- the letters, and their numbers
+    module _ (outs : List Outgoing) (among : (P : Outgoing → Type 0) → AllByRecursion P (letters me (map_after n r) r.sends) → AllByRecursion P outs)
+        (most : n.next ≤ 2 ^ 62 + 1) (last : next_after n.next outs ≤ 2 ^ 62 + 1)
+        (low : boot_in n.store.kv ≤ boot_in (map_after n r))
+        (fresh : (l : Letter) → Contains I.ls l → IsLong l → l.by ≡ i → l.boot ≡ boot_in (map_after n r) → l.seq < n.next) where
+      abbrev boot : ℕ
+      boot = boot_in (map_after n r)
+
+      abbrev pub new : List Letter
+      new = labelled i boot n.next outs
+
+      abbrev v : World
+      v = moved w p i r
+
+      labels : IsLabelled i boot n.next outs new
+      labels = A.labels i boot n.next outs
+
+      says_new : (l : Letter) → Contains new l → Says ms.count i (messages_of r.sends) (replies_of (suc w.events) i (model.map_after w i r) r.sends) l.to l.bytes
+      says_new l c = label_of (λ to bytes. Says ms.count i (messages_of r.sends) (replies_of (suc w.events) i (model.map_after w i r) r.sends) to bytes) i boot n.next outs
+          (among (SaysOf ms.count i (messages_of r.sends) (replies_of (suc w.events) i (model.map_after w i r) r.sends))
+          (subst (λ (m : Store). AllByRecursion (SaysOf ms.count i (messages_of r.sends) (replies_of (suc w.events) i m r.sends)) (letters me (map_after n r) r.sends)) same_map
+          (all_say me (map_after n r) ms.count (suc w.events) i M.rank M.count r.sends (texts (epoch_short (map_after n r))) own))) l c
+
+      said_now : (l : Letter) → Contains (I.ls ++ new) l → IsSaid ms.count v l l.to
+      unfolding moved
+      said_now l c = elim (Contains-append_cases I.ls new l c) [
+        | inl old ↦ says_more ms.count l.by w.messages (messages_of r.sends) w.replied (replies_of (suc w.events) i (model.map_after w i r) r.sends) l.to l.bytes (I.said l old)
+        | inr now ↦ says_behind ms.count l.by w.messages (messages_of r.sends) w.replied (replies_of (suc w.events) i (model.map_after w i r) r.sends) l.to l.bytes
+            (subst (λ (k : ℕ). Says ms.count k (messages_of r.sends) (replies_of (suc w.events) i (model.map_after w i r) r.sends) l.to l.bytes) (sym (labels.by l now).0) (says_new l now))
+      ]
+
+      cuttable : (l : Letter) → Contains new l → IsCuttable l.bytes
+      cuttable l c = label_of (λ to bytes. IsCuttable bytes) i boot n.next outs
+          (among (λ o. IsCuttable o.bytes) (all_cuttable me (map_after n r) r.sends (texts (epoch_short (map_after n r))))) l c
+
+      cut_now : (l : Letter) → Contains (I.ls ++ new) l → CanBeCut l
+      cut_now l c = elim (Contains-append_cases I.ls new l c) [
+        | inl old ↦ I.letters.cut l old
+        | inr now ↦
+            let k = cuttable l now in
+            let b = labels.by l now in
+            let short = boot_short (map_after n r) in
+            record { most = k.most; boot = omega (arith, b.1, short); seq = omega (arith, b.3, last); no_piece = k.no_piece }
+      ]
+
+      old_new : (l k : Letter) → Contains I.ls l → Contains new k → IsLong l → l.by ≡ k.by → l.boot ≡ k.boot → l.seq ≡ k.seq → ⊥
+      old_new l k old now long by boots seqs =
+          let b = labels.by k now in
+          let f = fresh l old long (by ∙ b.0) (boots ∙ b.1) in
+          omega (arith, f, b.2, seqs)
+
+      numbered_now : Numbered (I.ls ++ new)
+      numbered_now l k c d long longer by boots seqs = elim (Contains-append_cases I.ls new l c) [
+        | inl old ↦ elim (Contains-append_cases I.ls new k d) [
+          | inl both ↦ I.letters.numbered l k old both long longer by boots seqs
+          | inr now ↦ absurd (old_new l k old now long by boots seqs)
+        ]
+        | inr now ↦ elim (Contains-append_cases I.ls new k d) [
+          | inl old ↦ absurd (old_new k l old now longer (sym by) (sym boots) (sym seqs))
+          | inr both ↦ labels.once l k now both long longer seqs
+        ]
+      ]
+
+      -- the number that is next is above those of this life
+      pub next_now : (l : Letter) → Contains (I.ls ++ new) l → IsLong l → l.by ≡ i → l.boot ≡ boot → l.seq < next_after n.next outs
+      next_now l c long by boots = elim (Contains-append_cases I.ls new l c) [
+        | inl old ↦ let f = fresh l old long by boots in omega (arith, f, labels.up)
+        | inr now ↦ labels.long l now long
+      ]
+
+      -- ---- the network then
+      module _ (q : Process) (ds : List Outgoing) (front : (P : Posted → Type 0) → AllByRecursion P (map (posted i) (datagrams boot n.next outs)) → AllByRecursion P (map (posted i) ds))
+          (q_map : map_of q ≡ map_after n r) (q_up : IfUp A ms (I.ls ++ new) i (Some r.state) q) where
+        abbrev pub then_net : Network
+        then_net = with_left net i (record { process = q; sends = ds })
+
+        mine_now : (j : ℕ) → j < ms.count → Mine A ms (I.ls ++ new) j (then_net.process j) (v.store j) (v.state j)
+        unfolding moved
+        mine_now j lt = mine_by (eqb j i) refl
+          where
+            mine_by : (b : Bool) → eqb j i ≡ b → Mine A ms (I.ls ++ new) j (cond b q (net.process j)) (cond b (model.map_after w i r) (w.store j)) (cond b (Some r.state) (w.state j))
+            mine_by true e = subst (λ (k : ℕ). Mine A ms (I.ls ++ new) k q (model.map_after w i r) (Some r.state)) (sym (eqb-true j i e)) (record { map = q_map ∙ same_map; up = q_up })
+            mine_by false e = mine_more A ms i I.ls new (λ l c. (labels.by l c).0) j (net.process j) (w.store j) (w.state j) (not_eq j i e) (I.mine j lt)
+
+        boots_now : (l : Letter) → Contains (I.ls ++ new) l → l.boot ≤ boot_in (map_of (then_net.process l.by))
+        boots_now l c = boots_by (eqb l.by i) refl
+          where
+            old_here : l.by ≡ i → Contains I.ls l → l.boot ≤ boot_in (map_of q)
+            old_here e old =
+                let b : l.boot ≤ boot_in (map_of (net.process i)) = subst (λ (k : ℕ). l.boot ≤ boot_in (map_of (net.process k))) e (I.boots l old) in
+                let h : l.boot ≤ boot_in n.store.kv = subst (λ (m : Store). l.boot ≤ boot_in m) ((I.mine i M.below).map ∙ sym kv) b in
+                subst (λ (m : Store). l.boot ≤ boot_in m) (sym q_map) (omega (arith, h, low))
+
+            new_here : Contains new l → l.boot ≤ boot_in (map_of q)
+            new_here now = let b = labels.by l now in subst (λ (m : Store). l.boot ≤ boot_in m) (sym q_map) (omega (arith, b.1))
+
+            boots_by : (b : Bool) → eqb l.by i ≡ b → l.boot ≤ boot_in (map_of (cond b q (net.process l.by)))
+            boots_by true e = elim (Contains-append_cases I.ls new l c) [ inl old ↦ old_here (eqb-true l.by i e) old | inr now ↦ new_here now ]
+            boots_by false e = elim (Contains-append_cases I.ls new l c) [ inl old ↦ I.boots l old | inr now ↦ absurd (not_eq l.by i e (labels.by l now).0) ]
+
+        -- what it sends are datagrams of letters of its own
+        posted_new : AllByRecursion (IsPosted new) (map (posted i) ds)
+        posted_new = front (IsPosted new) (A.pieces i boot n.next outs)
+
+        is_later : (by : ℕ) (to : Peer) (bytes : List ℕ) → IsPosted new (record { by = by; datagram = record { to = to; bytes = bytes } }) → IsLater ms.count w.events v by to bytes
+        is_later by (Monitor j) bytes k = tt
+        is_later by (Client c) bytes k =
+            let l : Letter = k.0 in
+            let says = subst (λ (to : Peer). Says ms.count i (messages_of r.sends) (replies_of (suc w.events) i (model.map_after w i r) r.sends) to l.bytes) k.3 (says_new l k.1) in
+            let event = replied_at (suc w.events) i (model.map_after w i r) r.sends says.0 says.1 in (
+              says.0,
+              new_replied w p i r says.0 says.1,
+              omega (arith, event),
+              says.2 ∙ sym (labels.by l k.1).0 ∙ k.2,
+              says.3,
+              (l.boot, l.seq, subst (λ (x : List ℕ). Contains (pieces_of x l.boot l.seq) bytes) says.4 k.4),
+            )
+
+        -- and so it adds what is acknowledged and replied
+        pub adds : (asks : List Asked) → v.asked ≡ w.asked ++ asks → Adds ms.count asks (acknowledged_in (map_after n r) r.state r.sends) (map (posted i) ds) w v
+        adds asks asked = record {
+          asked = asked;
+          events = events_moved w p i r;
+          new = acknowledgements_of (suc w.events) (model.map_after w i r) r.state r.sends;
+          acknowledged = acknowledged_moved w p i r;
+          given_are = given_same (suc w.events) (model.map_after w i r) r.state r.sends ∙ ap (λ (m : Store). acknowledged_in m r.state r.sends) (sym same_map);
+          numbered = all_numbered (suc w.events) (model.map_after w i r) r.state r.sends;
+          replied = old_replied w p i r;
+          later = all_through (IsPosted new) (λ (d : Posted). IsLater ms.count w.events v d.by d.datagram.to d.datagram.bytes) (λ d k. is_later d.by d.datagram.to d.datagram.bytes k) (map (posted i) ds) posted_new;
+        }
+
+        pub kept_holds : Inv A ms then_net v
+        kept_holds = record {
+          ls = I.ls ++ new;
+          mine = mine_now;
+          posted = all_append (IsPosted (I.ls ++ new)) net.sent (map (posted i) ds) (posted_more I.ls new net.sent I.posted)
+              (front (IsPosted (I.ls ++ new)) (posted_behind I.ls new (map (posted i) (datagrams boot n.next outs)) (A.pieces i boot n.next outs)));
+          letters = record { cut = cut_now; numbered = numbered_now };
+          said = said_now;
+          boots = boots_now;
+        }

@@ -1,0 +1,205 @@
+-- A process of a network does what its own steps make it do, and these are the turns that `serve` makes.
+use Rattle.std.proofs.Common.{◌≡◌, ℕ, eqb, Bool, true, false, cond, List, [], ◌∷◌, ◌++◌, map, Option, Some, None, Result, Ok, Err, refl, sym, ap, subst, ◌∙◌, append_assoc, arith}
+use Rattle.std.proofs.lemmas.Bool.{eqb-true, eq-eqb}
+use Rattle.std.proofs.lemmas.Bool.Decides.{nat_tests}
+use Rattle.std.proofs.lemmas.List.{append-nil}
+use Rattle.std.specs.Option.{option_map}
+use Rattle.mon_bytes.specs.Answers.{◌>>=◌}
+use Rattle.mon_link.specs.Clocks.{Readings}
+use Rattle.mon_link.specs.Links.{Told, next_leaves}
+use Rattle.mon_link.specs.declared.link.Got.{Got}
+use Rattle.mon_link.specs.declared.link.Got.TheVariants.{Datagram, Idle, Closed}
+use Rattle.mon_link.specs.declared.link.Outgoing.{Outgoing}
+use Rattle.mon_msg.specs.Protocol.Timers.{due}
+use Rattle.mon_msg.specs.declared.view.Me.{Me}
+use Rattle.mon_node.specs.Hearing.{Given, answer_came, clock_read, due_by, heard_by, link_asked, wait_until}
+use Rattle.mon_node.specs.Nodes.{Outside, Serving, unstarted}
+use Rattle.mon_node.specs.Posting.{and_sent}
+use Rattle.mon_node.specs.Turns.{Turn, ended_turn, turn, start, last_turn, served}
+use Rattle.mon_node.specs.declared.end.NodeEnd.{NodeEnd}
+use Rattle.mon_store.specs.Stood.{Stood}
+use Rattle.mon_types.specs.declared.names.Stop.{Stop}
+use Rattle.mon_types.specs.declared.names.Stop.TheVariants as stop
+use Rattle.mon_wire.specs.declared.phase.Timer.{Timer}
+use Rattle.quorum_model.specs.Monitors.{Monitors, me_of}
+use Rattle.quorum_network.specs.Lives.{IsSent, alone, left_at, life, own, sent_in, sent_of}
+use Rattle.quorum_network.specs.Network.{Network, Posted, Process, Up, Turns, Until, Whole, Step, Left, turn_of, left_by, posted, if_made, made_by, after_step, network}
+use Rattle.quorum_network.proofs.Ends.{ended_link, up_is}
+
+-- ---- one of several
+
+sent_more : (i : ℕ) (xs ys : List Posted) → sent_of i (xs ++ ys) ≡ sent_of i xs ++ sent_of i ys
+sent_more i [] ys = refl
+sent_more i (x ∷ xs) ys = by (eqb x.by i) (sent_more i xs ys)
+  where
+    by : (b : Bool) → sent_of i (xs ++ ys) ≡ sent_of i xs ++ sent_of i ys
+        → cond b (x.datagram ∷ sent_of i (xs ++ ys)) (sent_of i (xs ++ ys)) ≡ cond b (x.datagram ∷ sent_of i xs) (sent_of i xs) ++ sent_of i ys
+    by true e = ap (λ (zs : List Outgoing). x.datagram ∷ zs) e
+    by false e = e
+
+own_sent : (i j : ℕ) → eqb j i ≡ true → (ds : List Outgoing) → sent_of i (map (posted j) ds) ≡ ds
+own_sent i j e [] = refl
+own_sent i j e (d ∷ ds) = ap (λ (b : Bool). sent_by b) e ∙ ap (λ (zs : List Outgoing). d ∷ zs) (own_sent i j e ds)
+  where
+    sent_by : Bool → List Outgoing
+    sent_by b = cond b (d ∷ sent_of i (map (posted j) ds)) (sent_of i (map (posted j) ds))
+
+other_sent : (i j : ℕ) → eqb j i ≡ false → (ds : List Outgoing) → sent_of i (map (posted j) ds) ≡ []
+other_sent i j e [] = refl
+other_sent i j e (d ∷ ds) = ap (λ (b : Bool). sent_by b) e ∙ other_sent i j e ds
+  where
+    sent_by : Bool → List Outgoing
+    sent_by b = cond b (d ∷ sent_of i (map (posted j) ds)) (sent_of i (map (posted j) ds))
+
+-- what there is of monitor i
+abbrev of_rank : ℕ → Network → Left
+of_rank i net = record { process = net.process i; sends = sent_of i net.sent }
+
+module _ (ms : Monitors) (i : ℕ) (me : Me) (is : me_of ms i ≡ Some me) where
+  same_rank : (net : Network) (s : Step) → s.rank ≡ i → of_rank i (after_step ms net s) ≡ left_at me s.up_to (of_rank i net) (turn_of me (net.process i) s.doing)
+  same_rank net s e =
+      ap (λ (x : Option Me). of_rank i (made_by net s x)) (ap (me_of ms) e ∙ is)
+      ∙ (ap (λ (k : ℕ). of_rank i (if_made me net s (turn_of me (net.process k) s.doing))) e ∙ by (turn_of me (net.process i) s.doing))
+    where
+      by : (t : Option Turn) → of_rank i (if_made me net s t) ≡ left_at me s.up_to (of_rank i net) t
+      by None = refl
+      by (Some t) =
+          let l : Left = left_by me t s.up_to in
+          let process : cond (eqb i s.rank) l.process (net.process i) ≡ l.process = ap (λ (b : Bool). cond b l.process (net.process i)) (eq-eqb i s.rank (sym e)) in
+          let sends : sent_of i (net.sent ++ map (posted s.rank) l.sends) ≡ sent_of i net.sent ++ l.sends =
+          sent_more i net.sent (map (posted s.rank) l.sends) ∙ ap (λ (xs : List Outgoing). sent_of i net.sent ++ xs) (own_sent i s.rank (eq-eqb s.rank i e) l.sends) in
+          λ k. record { process = process k; sends = sends k }
+
+  other_rank : (net : Network) (s : Step) → eqb s.rank i ≡ false → of_rank i (after_step ms net s) ≡ of_rank i net
+  other_rank net s e = by (me_of ms s.rank)
+    where
+      not_it : eqb i s.rank ≡ false
+      not_it = grind (arith, nat_tests)
+
+      made : (m : Me) (t : Option Turn) → of_rank i (if_made m net s t) ≡ of_rank i net
+      made m None = refl
+      made m (Some t) =
+          let l : Left = left_by m t s.up_to in
+          let process : cond (eqb i s.rank) l.process (net.process i) ≡ net.process i = ap (λ (b : Bool). cond b l.process (net.process i)) not_it in
+          let sends : sent_of i (net.sent ++ map (posted s.rank) l.sends) ≡ sent_of i net.sent =
+          sent_more i net.sent (map (posted s.rank) l.sends) ∙ ap (λ (xs : List Outgoing). sent_of i net.sent ++ xs) (other_sent i s.rank e l.sends) ∙ append-nil (sent_of i net.sent) in
+          λ k. record { process = process k; sends = sends k }
+
+      by : (x : Option Me) → of_rank i (made_by net s x) ≡ of_rank i net
+      by None = refl
+      by (Some m) = made m (turn_of m (net.process s.rank) s.doing)
+
+  pub rank_alone : (steps : List Step) → of_rank i (network ms steps) ≡ alone me (own i steps)
+  unfolding network alone
+  rank_alone [] = refl
+  rank_alone (s ∷ earlier) = by (eqb s.rank i) refl (rank_alone earlier)
+    where
+      by : (b : Bool) → eqb s.rank i ≡ b → of_rank i (network ms earlier) ≡ alone me (own i earlier) → of_rank i (after_step ms (network ms earlier) s) ≡ alone me (cond b (s ∷ own i earlier) (own i earlier))
+      by true e ih = same_rank (network ms earlier) s (eqb-true s.rank i e) ∙ ap (λ (l : Left). left_at me s.up_to l (turn_of me l.process s.doing)) ih
+      by false e ih = other_rank (network ms earlier) s e ∙ ih
+
+  pub process_alone : (steps : List Step) → (network ms steps).process i ≡ (alone me (own i steps)).process
+  process_alone steps = ap (λ (l : Left). l.process) (rank_alone steps)
+
+  pub sends_alone : (steps : List Step) → sent_of i (network ms steps).sent ≡ (alone me (own i steps)).sends
+  sends_alone steps = ap (λ (l : Left). l.sends) (rank_alone steps)
+
+-- ---- what a link was asked to send
+
+pub sent_nothing : (link : Option Told) → IsSent [] link link
+sent_nothing None = refl
+sent_nothing (Some t) = ap (λ (xs : List Outgoing). Some xs) (sym (append-nil t.sent))
+
+pub sent_now : (ds : List Outgoing) (old new : Option Told) → new ≡ option_map (and_sent ds) old → IsSent ds old new
+sent_now ds None new e = ap sent_in e
+sent_now ds (Some t) new e = ap sent_in e
+
+pub sent_both : (ds es : List Outgoing) (a b c : Option Told) → IsSent ds a b → IsSent es b c → IsSent (ds ++ es) a c
+sent_both ds es a b c first then_ = then_ ∙ ap (option_map (λ (sent : List Outgoing). sent ++ es)) first ∙ by a
+  where
+    by : (x : Option Told) → option_map (λ (sent : List Outgoing). sent ++ es) (option_map (λ (sent : List Outgoing). sent ++ ds) (sent_in x)) ≡ option_map (λ (sent : List Outgoing). sent ++ (ds ++ es)) (sent_in x)
+    by None = refl
+    by (Some t) = ap (λ (xs : List Outgoing). Some xs) (append_assoc t.sent ds es)
+
+-- hearing sends nothing
+left_sent : (wait : ℕ) (answer : Result Got Stop) (link : Option Told) → sent_in (option_map (next_leaves wait answer) link) ≡ sent_in link
+left_sent wait answer None = refl
+left_sent wait (Ok got) (Some t) = refl
+left_sent wait (Err stop.Failed) (Some t) = refl
+left_sent wait (Err stop.OutOfMemory) (Some t) = refl
+
+came_sent : (n later : ℕ) (answer : Result Got Stop) (o : Outside) → sent_in (answer_came n later answer o).outside.link ≡ sent_in o.link
+came_sent n later (Ok (Datagram from bytes)) o = refl
+came_sent n later (Ok Idle) o = refl
+came_sent n later (Ok Closed) o = refl
+came_sent n later (Err stop.Failed) o = refl
+came_sent n later (Err stop.OutOfMemory) o = refl
+
+heard_sent : (t : Option Timer) (n wait : ℕ) (g : Given) (o : Outside) → sent_in (heard_by t n wait g o).outside.link ≡ sent_in o.link
+heard_sent (Some t) n wait g o = refl
+heard_sent None n wait g o = came_sent n g.later g.answer (link_asked wait g.answer o) ∙ left_sent wait g.answer o.link
+
+turn_sent : (me : Me) (g : Given) (s : Serving) → sent_in (turn me g s).serving.outside.link ≡ sent_in s.outside.link
+unfolding turn
+turn_sent me g s =
+    let next = due s.node.state.timers in
+    heard_sent (due_by g.began next) me.member.monitors (wait_until g.began next) g (clock_read s.outside)
+
+-- ---- the turns of `serve`
+
+module _ (i : ℕ) (me : Me) (stood : Stood) (clock : Option Readings) (link : Option Told) (first : ℕ) (earlier : List Step) where
+  abbrev begun : Serving
+  begun = unstarted me.member.rank stood clock link
+
+  abbrev lives : List Given → Until → Left
+  lives given u = alone me (life i stood clock link first given u earlier)
+
+  -- a life whose last turn is this one
+  pub record LastIs (given : List Given) (u : Until) (t : Turn) : Type 0 where
+    pub process : (lives given u).process ≡ (left_by me t u).process
+    pub before : List Outgoing
+    pub sends : (lives given u).sends ≡ (alone me earlier).sends ++ (before ++ (left_by me t u).sends)
+    pub told : IsSent before link t.serving.outside.link
+
+  turn_behind : (r : Result Serving NodeEnd) (g : Given) (t : Turn) → (r >>= λ now. Ok (turn me g now)) ≡ Ok t → (now : Serving) × (r ≡ Ok now) × (turn me g now ≡ t)
+  turn_behind (Ok now) g t e = (now, refl, cc)
+  turn_behind (Err x) g t e = absurd cc
+
+  ended_behind : (r : Result Turn NodeEnd) (now : Serving) → (r >>= ended_turn me) ≡ Ok now → (t : Turn) × (r ≡ Ok t) × (ended_turn me t ≡ Ok now)
+  ended_behind (Ok t) now e = (t, refl, e)
+  ended_behind (Err x) now e = absurd cc
+
+  started : (u : Until) → LastIs [] u (start first begun)
+  unfolding alone
+  started u = record { process = refl; before = []; sends = refl; told = sent_nothing link }
+
+  -- one more turn
+  next_turn : (given : List Given) (g : Given) (u : Until) (t : Turn) (now : Serving) → ended_turn me t ≡ Ok now → LastIs given Whole t → LastIs (g ∷ given) u (turn me g now)
+  unfolding alone
+  next_turn given g u t now e L =
+      let whole = up_is me t now e in
+      let up : (lives given Whole).process ≡ Up now = L.process ∙ ap (λ (l : Left). l.process) whole in
+      let all : (lives given Whole).sends ≡ (alone me earlier).sends ++ (L.before ++ (left_by me t Whole).sends) = L.sends in
+      let last : List Outgoing = (left_by me (turn me g now) u).sends in
+      let before : List Outgoing = L.before ++ (left_by me t Whole).sends in
+      let step : lives (g ∷ given) u ≡ record { process = (left_by me (turn me g now) u).process; sends = (lives given Whole).sends ++ last } =
+      ap (λ (p : Process). left_at me u (lives given Whole) (turn_of me p (Turns g))) up in
+      record {
+        process = ap (λ (l : Left). l.process) step;
+        before = before;
+        sends = ap (λ (l : Left). l.sends) step ∙ ap (λ (xs : List Outgoing). xs ++ last) all ∙ append_assoc (alone me earlier).sends before last;
+        told = sent_both L.before (left_by me t Whole).sends link t.serving.outside.link (turn me g now).serving.outside.link L.told
+            (turn_sent me g now ∙ sent_now (left_by me t Whole).sends t.serving.outside.link now.outside.link
+            (ended_link me t now e ∙ ap (λ (l : Left). option_map (and_sent l.sends) t.serving.outside.link) (sym whole)));
+      }
+
+  pub last_is : (given : List Given) (u : Until) (t : Turn) → last_turn me first begun given ≡ Ok t → LastIs given u t
+  last_is [] u t e = let same : start first begun ≡ t = cc in subst (LastIs [] u) same (started u)
+  last_is (g ∷ given) u t e =
+      let b = turn_behind (last_turn me first begun given >>= ended_turn me) g t e in
+      let c = ended_behind (last_turn me first begun given) b.0 b.1 in
+      subst (LastIs (g ∷ given) u) b.2 (next_turn given g u c.0 b.0 c.2 (last_is given Whole c.0 c.1))
+
+  -- and after whole turns it is up
+  pub served_is : (given : List Given) (now : Serving) → served me first begun given ≡ Ok now → (lives given Whole).process ≡ Up now
+  served_is given now e = let c = ended_behind (last_turn me first begun given) now e in (last_is given Whole c.0 c.1).process ∙ ap (λ (l : Left). l.process) (up_is me c.0 now c.2)

@@ -1,0 +1,335 @@
+-- Each step of a network keeps what holds, with at most one event.
+use Rattle.std.proofs.Common.{◌∷◌, ◌≡◌, ℕ, ◌+◌, ◌^◌, ◌<◌, ◌≤◌, nat_lt, eqb, Bool, true, false, cond, List, [], ◌++◌, map, take, Option, Some, None, Result, Ok, Err, refl, sym, ap, subst, ◌∙◌, arith}
+use Rattle.std.proofs.lemmas.Bool.{eqb-true, ltb-false}
+use Rattle.std.specs.List.{AllByRecursion, Contains}
+use Rattle.mon_bounds.proofs.Table.{boot_ok}
+use Rattle.mon_bounds.specs.Fitting.{MayCome}
+use Rattle.mon_bounds.specs.Remembered.{MayRemember}
+use Rattle.mon_frag.proofs.Lists.{all_append}
+use Rattle.mon_kv.specs.Readers.{size_of, most_size}
+use Rattle.mon_link.specs.Clocks.{Readings}
+use Rattle.mon_link.specs.Links.{Told}
+use Rattle.mon_link.specs.declared.link.Outgoing.{Outgoing}
+use Rattle.mon_msg.specs.Protocol.Reaction.{Reaction, reaction}
+use Rattle.mon_msg.specs.Protocol.State.{booting}
+use Rattle.mon_msg.specs.Protocol.Timers.{due}
+use Rattle.mon_msg.specs.declared.input.Input.TheVariants as input
+use Rattle.mon_msg.specs.declared.input.Input.{Input}
+use Rattle.std.proofs.lemmas.List.{append-nil}
+use Rattle.std.specs.Option.{option_map}
+use Rattle.quorum_model.specs.Clients.{with_asked}
+use Rattle.quorum_network.specs.Requests.{Acknowledgement, acknowledged_at, acknowledged_by, acknowledged_in_turn, asked_by, asked_in_turn, asks_in, came_in, kept_by}
+use Rattle.mon_msg.specs.declared.view.Me.{Me}
+use Rattle.mon_node.specs.Hearing.{Given, due_by, wait_until, clock_read, heard, Heard}
+use Rattle.mon_node.specs.Keeping.{kept}
+use Rattle.mon_node.specs.Nodes.{Node, Serving, unstarted}
+use Rattle.mon_node.proofs.Sending.{all_numbered as numbers_found}
+use Rattle.mon_node.specs.Posting.{letters, datagrams, next_after, with_number, boot_in}
+use Rattle.mon_node.specs.Serving.{of_input, sends_of}
+use Rattle.mon_node.specs.Turns.{Turn, map_after, sent_by, numbered_by, next_number, done, reaction_to, reacted, ended_turn, turn, start}
+use Rattle.mon_node.specs.declared.end.NodeEnd.{NodeEnd}
+use Rattle.mon_node.specs.declared.end.NodeEnd.TheVariants as end
+use Rattle.mon_node.specs.declared.hearing.TimedInput.{TimedInput}
+use Rattle.mon_store.specs.Calls.{journal_after}
+use Rattle.mon_store.specs.Sound.{is_due, next_journal}
+use Rattle.mon_types.specs.Sides.{other as other_side}
+use Rattle.mon_store.specs.Stood.{Stood}
+use Rattle.mon_tx.specs.Map.{Store, apply}
+use Rattle.mon_tx.specs.declared.op.Op.{Op}
+use Rattle.mon_types.specs.declared.names.Which.{Which}
+use Rattle.mon_types.specs.declared.names.Which.TheVariants as which
+use Rattle.quorum_model.specs.Events.{PlainFits}
+use Rattle.quorum_model.specs.Happens.{moved}
+use Rattle.quorum_model.specs.Meets.{Arrival, arrival, message_at, state_at}
+use Rattle.quorum_model.specs.Monitors.{Monitors, me_of}
+use Rattle.quorum_model.specs.World.{Asked, Client, Deliver, Envelope, Plain, Ring, Start, World}
+use Rattle.quorum_network.specs.Network.{Network, Process, Up, Down, map_of, Doing, Begins, Turns, Until, Whole, Lost, Kept, Step, Left, turn_of, kept_reaction, down, at_end, left_by, with_left, posted, if_made, made_by, after_step, IsAsked, May}
+use Rattle.quorum_network.proofs.Assembling.{Assembly}
+use Rattle.quorum_network.proofs.Events.{IsMe, known}
+use Rattle.quorum_network.proofs.Facts.{Facts, Reach}
+use Rattle.quorum_network.proofs.Inputs.{CameFine, HeardFine, heard_fine}
+use Rattle.quorum_network.proofs.Invariant.{IsUp, IfUp, Mine, Inv, Next, Still, Moved}
+use Rattle.quorum_network.proofs.Kept.{adds, happens_so, kept_holds, next_now, bounded, new}
+use Rattle.quorum_network.proofs.Letters.{Letter, IsLong, IsPosted}
+use Rattle.quorum_network.proofs.Sends.{IsOwn, all_with_number, numbers_within, posted_front}
+
+pub kept_kv : (ops : List Op) (s : Stood) → (kept ops s).kv ≡ apply ops s.kv
+kept_kv ops s = by (is_due (journal_after s.journal ops) (apply ops s.kv))
+  where
+    by : (b : Bool) → (cond {A = Stood} b (record { side = other_side s.side; journal = next_journal (journal_after s.journal ops) (apply ops s.kv); kv = apply ops s.kv }) (record { side = s.side; journal = journal_after s.journal ops; kv = apply ops s.kv })).kv ≡ apply ops s.kv
+    by true = refl
+    by false = refl
+
+-- ---- what is asked
+
+moved_asked : (w : World) (p : Plain) (i : ℕ) (r : Reaction) → (moved w p i r).asked ≡ with_asked p w.asked
+unfolding moved
+moved_asked w p i r = refl
+
+same_arrival : (olds bs : List Asked) (a b : Arrival) → Some a ≡ Some b → bs ≡ olds ++ asks_in a.rank a.input → bs ≡ olds ++ asks_in b.rank b.input
+same_arrival olds bs a b e h = let same : a ≡ b = cc (e) in subst (λ (x : Arrival). bs ≡ olds ++ asks_in x.rank x.input) same h
+
+delivered_asks : (olds : List Asked) (at : ℕ) (o : Option Envelope) (b : Arrival) → option_map (λ e. record { rank = e.to; at = at; input = input.Deliver e.message }) o ≡ Some b → olds ≡ olds ++ asks_in b.rank b.input
+delivered_asks olds at None b e = absurd cc
+delivered_asks olds at (Some m) b e = same_arrival olds olds (record { rank = m.to; at = at; input = input.Deliver m.message }) b e (sym (append-nil olds))
+
+-- what an event brings is what is asked by it
+brings : (w : World) (p : Plain) (olds : List Asked) (b : Arrival) → arrival w p ≡ Some b → with_asked p olds ≡ olds ++ asks_in b.rank b.input
+brings w (Start rank at) olds b e = same_arrival olds olds (record { rank = rank; at = at; input = input.Start }) b e (sym (append-nil olds))
+brings w (Deliver k at) olds b e = delivered_asks olds at (message_at w.messages k) b e
+brings w (Ring rank t at) olds b e = same_arrival olds olds (record { rank = rank; at = at; input = input.Timer t }) b e (sym (append-nil olds))
+brings w (Client rank at session q) olds b e = same_arrival olds (olds ++ record { rank = rank; session = session; request = q } ∷ []) (record { rank = rank; at = at; input = input.Client session q }) b e refl
+
+asked_so : (w : World) (p : Plain) (i at : ℕ) (came : Input) (r : Reaction) → arrival w p ≡ Some (record { rank = i; at = at; input = came }) → (moved w p i r).asked ≡ w.asked ++ asks_in i came
+asked_so w p i at came r there = moved_asked w p i r ∙ brings w p w.asked (record { rank = i; at = at; input = came }) there
+
+module _ (A : Assembly) (ms : Monitors) (F : Facts ms) (net : Network) (w : World) (R : Reach ms w) (I : Inv A ms net w) (i : ℕ) (me : Me) (is : me_of ms i ≡ Some me) where
+  abbrev M : IsMe ms i me
+  M = known ms i me is
+
+  -- a process that sends nothing, and keeps its map
+  still_holds : (q : Process) → map_of q ≡ map_of (net.process i) → IfUp A ms I.ls i (w.state i) q → Inv A ms (with_left net i (record { process = q; sends = [] })) w
+  still_holds q e u = record {
+    ls = I.ls;
+    mine = λ j lt. mine_by j lt (eqb j i) refl;
+    posted = all_append (IsPosted I.ls) net.sent [] I.posted tt;
+    letters = I.letters;
+    said = I.said;
+    boots = λ l c. boots_by l c (eqb l.by i) refl;
+  }
+    where
+      mine_by : (j : ℕ) → j < ms.count → (b : Bool) → eqb j i ≡ b → Mine A ms I.ls j (cond b q (net.process j)) (w.store j) (w.state j)
+      mine_by j lt true k = subst (λ (x : ℕ). Mine A ms I.ls x q (w.store x) (w.state x)) (sym (eqb-true j i k)) (record { map = e ∙ (I.mine i M.below).map; up = u })
+      mine_by j lt false k = I.mine j lt
+
+      boots_by : (l : Letter) → Contains I.ls l → (b : Bool) → eqb l.by i ≡ b → l.boot ≤ boot_in (map_of (cond b q (net.process l.by)))
+      boots_by l c true k = subst (λ (m : Store). l.boot ≤ boot_in m) (sym e) (subst (λ (x : ℕ). l.boot ≤ boot_in (map_of (net.process x))) (eqb-true l.by i k) (I.boots l c))
+      boots_by l c false k = I.boots l c
+
+  -- ---- what is so of a turn
+
+  -- its input comes by an event
+  pub record EventFine (n : Node) (it : TimedInput) : Type 0 where
+    pub plain : Plain
+    pub fits : PlainFits ms.count plain
+    pub there : arrival w plain ≡ Some (record { rank = i; at = it.at; input = it.input })
+    pub up : state_at i (w.state i) it.input ≡ Some n.state
+    pub may : MayCome it.input
+    pub low : (r : Reaction) → reaction_to me n it ≡ Ok r → boot_in n.store.kv ≤ boot_in (map_after n r)
+    pub own : (r : Reaction) → reaction_to me n it ≡ Ok r → AllByRecursion (IsOwn me) r.sends
+    pub fresh : (r : Reaction) → reaction_to me n it ≡ Ok r → (l : Letter) → Contains I.ls l → IsLong l → l.by ≡ i → l.boot ≡ boot_in (map_after n r) → l.seq < n.next
+
+  abbrev pub CameSo : Serving → Result (Option TimedInput) NodeEnd → Type 0
+  CameSo s (Ok (Some it)) = EventFine s.node it
+  CameSo s (Ok None) = IsUp A ms I.ls i (w.state i) s
+  CameSo s (Err e) = Unit {0}
+
+  pub record TurnFine (came : Result (Option TimedInput) NodeEnd) (s : Serving) : Type 0 where
+    pub kv : s.node.store.kv ≡ map_of (net.process i)
+    pub parts : A.Keeps I.ls i s.outside.parts
+    pub most : s.node.next ≤ 2 ^ 62 + 1
+    pub remembers : MayRemember me s.node.state
+    pub so : CameSo s came
+
+  abbrev NextOf : List Asked → List Acknowledgement → Left → Type 0
+  NextOf olds acks l = Next A ms olds acks net.sent (with_left net i l) w
+
+  -- nothing is kept, and nothing is sent
+  unkept : (olds : List Asked) (q : Process) → map_of q ≡ map_of (net.process i) → IfUp A ms I.ls i (w.state i) q → NextOf olds [] (record { process = q; sends = [] })
+  unkept olds q e u = Still (append-nil net.sent) refl (still_holds q e u)
+
+  still_down : (olds : List Asked) (came : Result (Option TimedInput) NodeEnd) (s : Serving) → TurnFine came s → NextOf olds [] (record { process = Down s.node.store.kv; sends = [] })
+  still_down olds came s T = unkept olds (Down s.node.store.kv) T.kv tt
+
+  -- ---- a turn with an input
+  module _ (s : Serving) (it : TimedInput) (T : TurnFine (Ok (Some it)) s) where
+    abbrev t : Turn
+    t = record { came = Ok (Some it); serving = s }
+
+    abbrev n : Node
+    n = s.node
+
+    abbrev E : EventFine n it
+    E = T.so
+
+    abbrev small_of : Reaction → Option Reaction
+    small_of r = cond (nat_lt most_size (size_of (map_after n r))) None (Some r)
+
+    here : n.store.kv ≡ w.store i
+    here = T.kv ∙ (I.mine i M.below).map
+
+    -- down, with some of its datagrams sent
+    down_next : (k : ℕ) (r : Reaction) → reaction_to me n it ≡ Ok r → nat_lt most_size (size_of (map_after n r)) ≡ false → NextOf (asks_in i it.input) (acknowledged_by n (Some r)) (down me n k (Some r))
+    down_next k r e small =
+        let outs : List Outgoing = with_number n.next (letters me (map_after n r) r.sends) in
+        Moved E.plain (moved w E.plain i r) (map (posted i) (take k (numbered_by me n r))) E.fits (happens_so A ms F net w R I i me is n it.at it.input E.plain E.fits E.there here E.up E.may T.remembers r e (E.own r e) small)
+        refl
+        (adds A ms F net w R I i me is n it.at it.input E.plain E.fits E.there here E.up E.may T.remembers r e (E.own r e) small
+        outs (λ P all. all_with_number P n.next (letters me (map_after n r) r.sends) all) T.most (numbers_within n.next (letters me (map_after n r) r.sends) T.most) (E.low r e) (E.fresh r e)
+        (Down (map_after n r)) (take k (numbered_by me n r)) (λ P all. posted_front P i k (datagrams (boot_in (map_after n r)) n.next outs) all) refl tt
+        (asks_in i it.input) (asked_so w E.plain i it.at it.input r E.there))
+        (kept_holds A ms F net w R I i me is n it.at it.input E.plain E.fits E.there here E.up E.may T.remembers r e (E.own r e) small
+        outs (λ P all. all_with_number P n.next (letters me (map_after n r) r.sends) all) T.most (numbers_within n.next (letters me (map_after n r) r.sends) T.most) (E.low r e) (E.fresh r e)
+        (Down (map_after n r)) (take k (numbered_by me n r)) (λ P all. posted_front P i k (datagrams (boot_in (map_after n r)) n.next outs) all) refl tt)
+
+    -- down, by what it keeps
+    abbrev DownNext : ℕ → Option Reaction → Type 0
+    DownNext k o = NextOf (asks_in i it.input) (acknowledged_by n o) (down me n k o)
+
+    kept_next : (k : ℕ) (x : Result Reaction Which) → reaction_to me n it ≡ x → DownNext k (kept_reaction me t)
+    kept_next k (Err which) e = subst (DownNext k) (sym (ap (of_input None small_of) e)) (still_down (asks_in i it.input) (Ok (Some it)) s T)
+    kept_next k (Ok r) e = subst (DownNext k) (sym (ap (of_input None small_of) e)) (by (nat_lt most_size (size_of (map_after n r))) refl)
+      where
+        by : (b : Bool) → nat_lt most_size (size_of (map_after n r)) ≡ b → DownNext k (cond b None (Some r))
+        by true small = still_down (asks_in i it.input) (Ok (Some it)) s T
+        by false small = down_next k r e small
+
+    -- up, with all of them sent
+    up_next : (r : Reaction) → reaction_to me n it ≡ Ok r → nat_lt most_size (size_of (map_after n r)) ≡ false → nat_lt (2 ^ 62 + 1) (next_number me n r) ≡ false
+        → NextOf (asks_in i it.input) (acknowledged_by n (Some r)) (record { process = Up (done me s r); sends = sent_by me n r })
+    up_next r e small few =
+        let outs : List Outgoing = letters me (map_after n r) r.sends in
+        let last : next_after n.next outs ≤ 2 ^ 62 + 1 = ltb-false _ _ few in
+        let same : (done me s r).node.store.kv ≡ map_after n r = kept_kv r.transaction n.store in
+        let labels : List Letter = new A ms F net w R I i me is n it.at it.input E.plain E.fits E.there here E.up E.may T.remembers r e (E.own r e) small outs (λ P all. all) T.most last (E.low r e) (E.fresh r e) in
+        let u : IsUp A ms (I.ls ++ labels) i (Some r.state) (done me s r) = record {
+          state = refl;
+          parts = A.more I.ls labels i s.outside.parts T.parts;
+          next = λ l c long own boot. next_now A ms F net w R I i me is n it.at it.input E.plain E.fits E.there here E.up E.may T.remembers r e (E.own r e) small outs (λ P all. all) T.most last (E.low r e) (E.fresh r e) l c long own (boot ∙ ap boot_in same);
+          most = last;
+          remembers = λ other o. let one : Some me ≡ Some other = sym is ∙ o in let both : me ≡ other = cc in
+              subst (λ (x : Me). MayRemember x r.state) both (bounded A ms F net w R I i me is n it.at it.input E.plain E.fits E.there here E.up E.may T.remembers r e (E.own r e) small).state;
+        } in
+        Moved E.plain (moved w E.plain i r) (map (posted i) (sent_by me n r)) E.fits (happens_so A ms F net w R I i me is n it.at it.input E.plain E.fits E.there here E.up E.may T.remembers r e (E.own r e) small)
+        refl
+        (adds A ms F net w R I i me is n it.at it.input E.plain E.fits E.there here E.up E.may T.remembers r e (E.own r e) small
+        outs (λ P all. all) T.most last (E.low r e) (E.fresh r e) (Up (done me s r)) (sent_by me n r) (λ P all. all) same u
+        (asks_in i it.input) (asked_so w E.plain i it.at it.input r E.there))
+        (kept_holds A ms F net w R I i me is n it.at it.input E.plain E.fits E.there here E.up E.may T.remembers r e (E.own r e) small
+        outs (λ P all. all) T.most last (E.low r e) (E.fresh r e) (Up (done me s r)) (sent_by me n r) (λ P all. all) same u)
+
+    -- all of them find a number
+    all_of_them : (r : Reaction) → reaction_to me n it ≡ Ok r → nat_lt most_size (size_of (map_after n r)) ≡ false → nat_lt (2 ^ 62 + 1) (next_number me n r) ≡ false → sent_by me n r ≡ sends_of me t
+    all_of_them r e small few =
+        let outs : List Outgoing = letters me (map_after n r) r.sends in
+        sym (ap (of_input [] (λ (q : Reaction). cond (nat_lt most_size (size_of (map_after n q))) [] (numbered_by me n q))) e ∙ ap (λ (b : Bool). cond b [] (numbered_by me n r)) small
+        ∙ ap (datagrams (boot_in (map_after n r)) n.next) (numbers_found n.next outs (ltb-false _ _ few)))
+
+    whole_next : (x : Result Reaction Which) → reaction_to me n it ≡ x → NextOf (asks_in i it.input) (acknowledged_by n (kept_reaction me t)) (at_end me t (reacted me s x))
+    whole_next (Err which) e = kept_next 0 (Err which) e
+    whole_next (Ok r) e = by (nat_lt most_size (size_of (map_after n r))) refl (nat_lt (2 ^ 62 + 1) (next_number me n r)) refl
+      where
+        by : (b : Bool) → nat_lt most_size (size_of (map_after n r)) ≡ b → (f : Bool) → nat_lt (2 ^ 62 + 1) (next_number me n r) ≡ f
+            → NextOf (asks_in i it.input) (acknowledged_by n (kept_reaction me t)) (at_end me t (cond b (Err (end.Full (size_of (map_after n r)))) (cond f (Err (end.Spent which.Seq)) (Ok (done me s r)))))
+        by true small f few = kept_next 0 (Ok r) e
+        by false small true few = kept_next 0 (Ok r) e
+        by false small false few =
+            let kept_is : kept_reaction me t ≡ Some r = ap (of_input None small_of) e ∙ ap (λ (b : Bool). cond b None (Some r)) small in
+            subst (λ (o : Option Reaction). NextOf (asks_in i it.input) (acknowledged_by n o) (record { process = Up (done me s r); sends = sends_of me t })) (sym kept_is)
+            (subst (λ (ds : List Outgoing). NextOf (asks_in i it.input) (acknowledged_by n (Some r)) (record { process = Up (done me s r); sends = ds })) (all_of_them r e small few) (up_next r e small few))
+
+  turn_next : (came : Result (Option TimedInput) NodeEnd) (s : Serving) (u : Until) → TurnFine came s → NextOf (came_in i came) (acknowledged_by s.node (kept_by me (record { came = came; serving = s }) u)) (left_by me (record { came = came; serving = s }) u)
+  unfolding ended_turn
+  turn_next came s Lost T = still_down (came_in i came) came s T
+  turn_next (Err e) s Whole T = still_down [] (Err e) s T
+  turn_next (Err e) s (Kept k) T = still_down [] (Err e) s T
+  turn_next (Ok None) s Whole T = unkept [] (Up s) T.kv T.so
+  turn_next (Ok None) s (Kept k) T = still_down [] (Ok None) s T
+  turn_next (Ok (Some it)) s Whole T = whole_next s it T (reaction_to me s.node it) refl
+  turn_next (Ok (Some it)) s (Kept k) T = kept_next s it T k (reaction_to me s.node it) refl
+
+  -- ---- which turn it is
+
+  begins_fine : (stood : Stood) (clock : Option Readings) (link : Option Told) (first : ℕ) → stood.kv ≡ map_of (net.process i)
+      → TurnFine (start first (unstarted me.member.rank stood clock link)).came (start first (unstarted me.member.rank stood clock link)).serving
+  begins_fine stood clock link first kv = record {
+    kv = kv;
+    parts = A.nothing I.ls i;
+    most = omega arith;
+    remembers = boot_ok me;
+    so = record {
+      plain = Start i first;
+      fits = M.below;
+      there = refl;
+      up = started_up;
+      may = tt;
+      low = λ r e. let up = counts r e in omega (arith, up);
+      own = λ r e. F.started_own w i first me r R (subst (λ (m : Store). reaction me first m (booting me.member.rank) input.Start ≡ Ok r) here e);
+      fresh = λ r e l c long own boot. let up = counts r e in let old = I.boots l c in absurd (too_old r e l c own boot);
+    };
+  }
+    where
+      n : Node
+      n = record { state = booting me.member.rank; store = stood; next = 1 }
+
+      here : stood.kv ≡ w.store i
+      here = kv ∙ (I.mine i M.below).map
+
+      started_up : Some (booting i) ≡ Some (booting me.member.rank)
+      started_up = ap (λ (k : ℕ). Some (booting k)) (sym M.rank)
+
+      counts : (r : Reaction) → reaction_to me (record { state = booting me.member.rank; store = stood; next = 1 }) (record { input = input.Start; at = first }) ≡ Ok r → boot_in stood.kv < boot_in (apply r.transaction stood.kv)
+      counts r e = subst (λ (m : Store). boot_in m < boot_in (apply r.transaction m)) (sym here)
+          (F.starts w i first me r R (subst (λ (m : Store). reaction me first m (booting me.member.rank) input.Start ≡ Ok r) here e))
+
+      too_old : (r : Reaction) → reaction_to me (record { state = booting me.member.rank; store = stood; next = 1 }) (record { input = input.Start; at = first }) ≡ Ok r
+          → (l : Letter) → Contains I.ls l → l.by ≡ i → l.boot ≡ boot_in (apply r.transaction stood.kv) → ⊥
+      too_old r e l c own boot =
+          let up = counts r e in
+          let old : l.boot ≤ boot_in (map_of (net.process i)) = subst (λ (k : ℕ). l.boot ≤ boot_in (map_of (net.process k))) own (I.boots l c) in
+          let older : l.boot ≤ boot_in stood.kv = subst (λ (m : Store). l.boot ≤ boot_in m) (sym kv) old in
+          omega (arith, up, older, boot)
+
+  -- a process that is up
+  module _ (s : Serving) (here : net.process i ≡ Up s) (u : IsUp A ms I.ls i (w.state i) s) where
+    map_here : s.node.store.kv ≡ map_of (net.process i)
+    map_here = ap map_of (sym here)
+
+    store_here : s.node.store.kv ≡ w.store i
+    store_here = map_here ∙ (I.mine i M.below).map
+
+    so_heard : (h : Heard) (came : Result (Option TimedInput) NodeEnd) → CameFine A ms w i M.below I.ls I.said came → A.Keeps I.ls i h.outside.parts → CameSo (record s { outside = h.outside }) came
+    so_heard h (Err e) c keeps = tt
+    so_heard h (Ok None) c keeps = record { state = u.state; parts = keeps; next = u.next; most = u.most; remembers = u.remembers }
+    so_heard h (Ok (Some it)) c keeps = record {
+      plain = c.plain;
+      fits = c.fits;
+      there = c.there;
+      up = c.running ∙ u.state;
+      may = c.may;
+      low = λ r e. let same = still r e in omega (arith, same);
+      own = λ r e. F.own w c.plain i it.at it.input me s.node.state r R c.fits c.there u.state c.other (subst (λ (m : Store). reaction me it.at m s.node.state it.input ≡ Ok r) store_here e);
+      fresh = λ r e l k long own boot. u.next l k long own (boot ∙ still r e);
+    }
+      where
+        still : (r : Reaction) → reaction_to me s.node it ≡ Ok r → boot_in (map_after s.node r) ≡ boot_in s.node.store.kv
+        still r e = subst (λ (m : Store). boot_in (apply r.transaction m) ≡ boot_in m) (sym store_here)
+            (F.runs w c.plain i it.at it.input me s.node.state r R c.fits c.there u.state c.other (subst (λ (m : Store). reaction me it.at m s.node.state it.input ≡ Ok r) store_here e))
+
+    turns_fine : (g : Given) → IsAsked net i (due_by g.began (due s.node.state.timers)) g.answer → TurnFine (turn me g s).came (turn me g s).serving
+    unfolding turn
+    turns_fine g asked =
+        let next = due s.node.state.timers in
+        let h : Heard = heard me.member.monitors next g s.outside in
+        let f : HeardFine A ms w i M.below I.ls I.said h = heard_fine A ms w i M.below I.ls I.said net I.posted I.letters (due_by g.began next) me.member.monitors (wait_until g.began next) g (clock_read s.outside) u.parts asked in
+        record { kv = map_here; parts = f.parts; most = u.most; remembers = u.remembers me is; so = so_heard h h.came f.came f.parts }
+
+  made_next : (p : Process) (doing : Doing) (u : Until) → net.process i ≡ p → May net i p doing → IfUp A ms I.ls i (w.state i) p
+      → Next A ms (asked_in_turn i (turn_of me p doing)) (acknowledged_in_turn me u (turn_of me p doing)) net.sent (if_made me net (record { rank = i; doing = doing; up_to = u }) (turn_of me p doing)) w
+  made_next p (Begins stood clock link first) u e may up =
+      let t : Turn = start first (unstarted me.member.rank stood clock link) in
+      turn_next t.came t.serving u (begins_fine stood clock link first (may ∙ ap map_of (sym e)))
+  made_next (Up s) (Turns g) u e may up =
+      let t : Turn = turn me g s in
+      turn_next t.came t.serving u (turns_fine s e up g may)
+  made_next (Down m) (Turns g) u e may up = Still refl refl I
+
+-- ---- a step
+
+module _ (A : Assembly) (ms : Monitors) (F : Facts ms) (net : Network) (w : World) (R : Reach ms w) (I : Inv A ms net w) where
+  pub step_next : (s : Step) → May net s.rank (net.process s.rank) s.doing → Next A ms (asked_by net s (me_of ms s.rank)) (acknowledged_at net s (me_of ms s.rank)) net.sent (after_step ms net s) w
+  step_next s may = by (me_of ms s.rank) refl
+    where
+      by : (x : Option Me) → me_of ms s.rank ≡ x → Next A ms (asked_by net s x) (acknowledged_at net s x) net.sent (made_by net s x) w
+      by None e = Still refl refl I
+      by (Some me) e = made_next A ms F net w R I s.rank me e (net.process s.rank) s.doing s.up_to refl may (I.mine s.rank (known ms s.rank me e).below).up

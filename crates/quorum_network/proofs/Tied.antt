@@ -1,0 +1,162 @@
+-- What `serve` promises of a life, and `Store::open` of the disks that it left, are steps of a network.
+use Rattle.std.proofs.Common.{◌≡◌, ℕ, Bool, true, false, cond, eqb, ◌&&◌, take, List, [], ◌++◌, Option, Result, Ok, Err, refl, sym, ap, subst, ◌∙◌, inl, inr}
+use Rattle.mon_bytes.specs.Answers.{◌>>=◌}
+use Rattle.mon_disk.specs.Images.{images}
+use Rattle.mon_journal.specs.Fields.{Owner}
+use Rattle.mon_journal.specs.Written.{owner_of}
+use Rattle.mon_link.specs.Clocks.{Readings}
+use Rattle.mon_link.specs.Links.{Told}
+use Rattle.mon_link.specs.declared.link.Outgoing.{Outgoing}
+use Rattle.mon_msg.specs.declared.view.Me.{Me}
+use Rattle.mon_node.specs.Hearing.{Given}
+use Rattle.mon_node.specs.Lasting.{IsLeft, IsWithinTurn, Leave, On, StandsThrough, stood_kept}
+use Rattle.mon_node.specs.Nodes.{Disks, Serving, unstarted}
+use Rattle.mon_node.specs.Posting.{SendsFront}
+use Rattle.mon_node.specs.Serving.{EndsAfter, Has, Serves, sends_of}
+use Rattle.mon_node.specs.Turns.{Turn, ended_turn, last_turn}
+use Rattle.mon_node.specs.declared.end.NodeEnd.TheVariants as end
+use Rattle.mon_node.specs.declared.end.NodeEnd.{NodeEnd}
+use Rattle.mon_node.proofs.Passing.{stood_then}
+use Rattle.mon_store.specs.Pair.{Create, Found, Live, Refusal, found, map_found, opened, owned, stands, taken}
+use Rattle.mon_store.proofs.OnPairs.{stood_map}
+use Rattle.mon_store.specs.Stood.{Stood, opens_as, standing_of}
+use Rattle.mon_tx.specs.Map.{Store}
+use Rattle.mon_types.specs.declared.member.Member.{Member}
+use Rattle.quorum_network.specs.Lives.{IsLeftBy, IsLife, IsSent}
+use Rattle.quorum_network.specs.Network.{Kept, Left, Lost, Step, Until, Whole, left_by, map_of}
+use Rattle.quorum_network.proofs.Ends.{cut_sends, ended_link, kept_map, up_is, within_is}
+use Rattle.quorum_network.proofs.Lives.{last_is, sent_both, sent_nothing, sent_now}
+
+-- ---- an opened store
+
+kv_of : (member : Member) (f : Found) (m : Store) → (standing_of member f m).kv ≡ m
+kv_of member Create m = refl
+kv_of member (Live side held) m = refl
+
+owned_map : (owner : Owner) (f : Found) (m : Store) (it : Found × Store) → owned owner f m ≡ Ok it → it.1 ≡ m
+owned_map owner Create m it e = let same : (Create, m) ≡ it = cc (e) in ap (λ (x : Found × Store). x.1) (sym same)
+owned_map owner (Live side held) m it e = by (eqb held.header.owner.rank owner.rank && eqb held.header.owner.monitors owner.monitors) e
+  where
+    by : (b : Bool) → cond b (Ok (Live side held, m)) (Err (Rattle.mon_store.specs.Pair.Stranger held.header.owner owner)) ≡ Ok it → it.1 ≡ m
+    by true e = let same : (Live side held, m) ≡ it = cc (e) in ap (λ (x : Found × Store). x.1) (sym same)
+    by false e = absurd cc
+
+-- what is opened is the map that the two stand for
+module _ (owner : Owner) (it : Found × Store) (m : Store) where
+  of_map : (f : Found) (r : Result Store Refusal) → (r >>= owned owner f) ≡ Ok it → r ≡ Ok m → it.1 ≡ m
+  of_map f (Ok x) e is = let same : x ≡ m = cc (is) in owned_map owner f x it e ∙ same
+  of_map f (Err x) e is = absurd cc
+
+  of_found : (r : Result Found Refusal) → (r >>= taken owner) ≡ Ok it → (r >>= map_found) ≡ Ok m → it.1 ≡ m
+  of_found (Ok f) e is = of_map f (map_found f) e is
+  of_found (Err x) e is = absurd cc
+
+  pub opened_map : (a b : List ℕ) → opened owner a b ≡ Ok it → stands a b ≡ Ok m → it.1 ≡ m
+  unfolding opened stands
+  opened_map a b e is = of_found (found a b) e is
+
+opens_kv : (member : Member) (a b : List ℕ) (m : Store) (s : Stood) → stands a b ≡ Ok m → opens_as member a b ≡ Ok s → s.kv ≡ m
+opens_kv member a b m s there e = by (opened (owner_of member) a b) refl e
+  where
+    by : (r : Result (Found × Store) Refusal) → opened (owner_of member) a b ≡ r → (r >>= λ it. Ok (standing_of member it.0 it.1)) ≡ Ok s → s.kv ≡ m
+    by (Ok it) is e = let same : standing_of member it.0 it.1 ≡ s = cc (e) in ap (λ (z : Stood). z.kv) (sym same) ∙ kv_of member it.0 it.1 ∙ opened_map (owner_of member) it m a b is there
+    by (Err x) is e = absurd cc
+
+-- on images on which a store stands so that P, its map is opened
+pub on_opens : (P : Stood → Type 0) (member : Member) (x y : List ℕ) (s : Stood) → On P x y → opens_as member x y ≡ Ok s → (z : Stood) × P z × (s.kv ≡ z.kv)
+on_opens P member x y s on e = let z = on.0 in (z, on.2, opens_kv member x y z.kv s (stood_map z.journal z.kv z.side x y on.1) e)
+
+pub killed : (me : Me) (t : Turn) (member : Member) (x y : List ℕ) (s : Stood) → On (IsWithinTurn me t) x y → opens_as member x y ≡ Ok s → IsLeftBy me t s.kv
+killed me t member x y s on e =
+    let z = on_opens (IsWithinTurn me t) member x y s on e in
+    subst (IsLeftBy me t) (sym z.2) (within_is me t z.0 z.1)
+
+-- ---- an end
+
+-- what is left of the map, and what was sent, is what a step leaves and sends
+pub record EndOf (me : Me) (t : Turn) (m : Store) (link : Option Told) : Type 0 where
+  pub up_to : Until
+  pub map : m ≡ map_of (left_by me t up_to).process
+  pub sent : IsSent (left_by me t up_to).sends t.serving.outside.link link
+
+module _ (me : Me) (t : Turn) (x : Stood) (link : Option Told) where
+  abbrev IsEnd : Type 0
+  IsEnd = EndOf me t x.kv link
+
+  -- nothing was sent, and the map is the old one
+  stays : link ≡ t.serving.outside.link → x ≡ t.serving.node.store → IsEnd
+  stays same e = record { up_to = Lost; map = ap (λ (z : Stood). z.kv) e; sent = subst (IsSent [] t.serving.outside.link) (sym same) (sent_nothing t.serving.outside.link) }
+
+  -- nothing was sent, and the map is the old one or the one that is kept
+  within : link ≡ t.serving.outside.link → IsWithinTurn me t x → IsEnd
+  within same w = elim (within_is me t x w) [
+    | inl e ↦ record { up_to = Lost; map = e; sent = subst (IsSent [] t.serving.outside.link) (sym same) (sent_nothing t.serving.outside.link) }
+    | inr e ↦ record {
+      up_to = Kept 0;
+      map = e 0;
+      sent = subst (λ (ds : List Outgoing). IsSent ds t.serving.outside.link link) (sym (cut_sends me t 0)) (subst (IsSent [] t.serving.outside.link) (sym same) (sent_nothing t.serving.outside.link));
+    }
+  ]
+
+  -- some was sent, and its map is kept
+  sent_some : SendsFront (sends_of me t) t.serving.outside.link link → x ≡ stood_kept me t → IsEnd
+  sent_some front e = record {
+    up_to = Kept front.0;
+    map = ap (λ (z : Stood). z.kv) e ∙ kept_map me t front.0;
+    sent = subst (λ (ds : List Outgoing). IsSent ds t.serving.outside.link link) (sym (cut_sends me t front.0)) (sent_now (take front.0 (sends_of me t)) t.serving.outside.link link front.1);
+  }
+
+  -- the last turn of all comes to its end
+  used : (clock : Option Readings) (r : Result Serving NodeEnd) → ended_turn me t ≡ r → Has r (λ now. (clock ≡ now.outside.clock) × (link ≡ now.outside.link)) → x ≡ stood_kept me t → IsEnd
+  used clock (Ok now) is h e =
+      let whole = up_is me t now is in
+      record {
+        up_to = Whole;
+        map = ap (λ (z : Stood). z.kv) (e ∙ sym (stood_then me t now is)) ∙ ap (λ (l : Left). map_of l.process) (sym whole);
+        sent = subst (λ (ds : List Outgoing). IsSent ds t.serving.outside.link link) (ap (λ (l : Left). l.sends) (sym whole)) (sent_now (sends_of me t) t.serving.outside.link link (h.1 ∙ ended_link me t now is));
+      }
+  used clock (Err y) is h e = absurd h
+
+  pub end_is : (turns begun : ℕ) (e : NodeEnd) (clock : Option Readings) → EndsAfter me turns begun t e clock link → IsLeft me t e link x → IsEnd
+  end_is turns begun end.TurnsUsed clock h left = used clock (ended_turn me t) refl h.1 left
+  end_is turns begun end.OutOfMemory clock h (inl left) = within left.0 left.1
+  end_is turns begun end.OutOfMemory clock h (inr left) = sent_some left.0 left.1
+  end_is turns begun end.DiskFault clock h left = within h.link_is left
+  end_is turns begun (end.Spent spent) clock h left = sent_some h.link_is left
+  end_is turns begun end.Closed clock h left = stays h.link_is left
+  end_is turns begun end.LinkFault clock h left = stays h.link_is left
+  end_is turns begun (end.Full would_be) clock h left = stays h.link_is left
+
+-- ---- a life
+
+module _ (i : ℕ) (me : Me) (stood : Stood) (clock : Option Readings) (link : Option Told) (first : ℕ) (given : List Given) (earlier : List Step)
+    (turns begun : ℕ) (e : NodeEnd) (left_clock : Option Readings) (left_link : Option Told) (x y : List ℕ) where
+  abbrev start : Serving
+  start = unstarted me.member.rank stood clock link
+
+  -- the disks that the node left are two images of a crash now
+  pub left_images : (old new : Disks) → StandsThrough me first start given e left_link old new → images new.a x → images new.b y → Has (last_turn me first start given) (λ t. On (IsLeft me t e left_link) x y)
+  left_images old new T on_a on_b = by (last_turn me first start given) T.left
+    where
+      by : (r : Result Turn NodeEnd) → Has r (λ t. Leave new (IsLeft me t e left_link)) → Has r (λ t. On (IsLeft me t e left_link) x y)
+      by (Ok t) h = h x y on_a on_b
+      by (Err z) h = absurd h
+
+  pub ends_so : Serves me start turns e begun left_clock left_link first given → Has (last_turn me first start given) (λ t. On (IsLeft me t e left_link) x y)
+      → (member : Member) (s : Stood) → opens_as member x y ≡ Ok s → IsLife i me stood clock link first given earlier s.kv left_link
+  ends_so S left member s opens = by (last_turn me first start given) refl S.ends left
+    where
+      by : (r : Result Turn NodeEnd) → last_turn me first start given ≡ r → Has r (λ t. EndsAfter me turns begun t e left_clock left_link) → Has r (λ t. On (IsLeft me t e left_link) x y)
+          → IsLife i me stood clock link first given earlier s.kv left_link
+      by (Ok t) is h k =
+          let z = on_opens (IsLeft me t e left_link) member x y s k opens in
+          let E = end_is me t z.0 left_link turns begun e left_clock h z.1 in
+          let L = last_is i me stood clock link first earlier given E.up_to t is in
+          record {
+            up_to = E.up_to;
+            map_is = z.2 ∙ E.map ∙ ap map_of (sym L.process);
+            sends = L.before ++ (left_by me t E.up_to).sends;
+            sends_are = L.sends;
+            told_is = sent_both L.before (left_by me t E.up_to).sends link t.serving.outside.link left_link L.told E.sent;
+          }
+      by (Err y) is h k = absurd h

@@ -1,0 +1,170 @@
+-- Every list of steps makes a network that does what a run does.
+use Rattle.std.proofs.lemmas.List.{append-nil}
+use Rattle.std.proofs.Common.{◌≡◌, ℕ, suc, ◌≤◌, List, [], ◌∷◌, ◌++◌, map, refl, sym, ap, subst, ◌∙◌, arith}
+use Rattle.std.specs.List.{AllByRecursion, Contains}
+use Rattle.mon_frag.proofs.Lists.{all_append}
+use Rattle.mon_link.specs.declared.link.Peer.{Peer}
+use Rattle.mon_link.specs.declared.link.Peer.TheVariants.{Monitor, Client}
+use Rattle.quorum_agreement.proofs.SafeWorlds.{safe}
+use Rattle.mon_frag.specs.Pieces.{pieces_of}
+use Rattle.std.specs.Prelude.{Ok}
+use Rattle.quorum_model.specs.Happens.{happens}
+use Rattle.quorum_model.specs.Events.{PlainFits}
+use Rattle.quorum_model.specs.Monitors.{Monitors, me_of}
+use Rattle.quorum_network.specs.Requests.{Acknowledgement, acknowledged_at, acknowledgements, asked_by, requests}
+use Rattle.std.proofs.lemmas.List.Elements.{Contains-append_left, Contains-append_right}
+use Rattle.quorum_model.specs.Runs.{Ran, run, ran_from}
+use Rattle.quorum_model.specs.World.{Acknowledged, Asked, World, Plain, Event, Comes, first_world, plain_of}
+use Rattle.quorum_network.specs.Network.{Network, Step, AllMay, Posted, network, first_network, after_step}
+use Rattle.quorum_network.specs.Running.{IsOfRun, IsTold, DoesARun}
+use Rattle.quorum_network.proofs.Adding.{Adds, IsBy, given}
+use Rattle.quorum_network.proofs.Assembled.{all_self, all_through, assembly}
+use Rattle.quorum_network.proofs.Assembling.{Assembly}
+use Rattle.quorum_network.proofs.Boots.{starts, runs, started_own, running_own}
+use Rattle.quorum_network.proofs.Named.{named}
+use Rattle.quorum_network.proofs.Events.{ran_more}
+use Rattle.quorum_network.proofs.Facts.{Facts, Reach}
+use Rattle.quorum_network.proofs.Invariant.{Says, IfUp, Inv, Next, Still, Moved}
+use Rattle.quorum_network.proofs.Letters.{Letter, IsPosted}
+use Rattle.quorum_network.proofs.Steps.{step_next}
+
+pub record Stands (A : Assembly) (ms : Monitors) (asks : List Asked) (acks : List Acknowledgement) (net : Network) : Type 0 where
+  pub w : World
+  pub reach : Reach ms w
+  pub inv : Inv A ms net w
+  pub asked : AllByRecursion (λ a. Contains asks a) w.asked
+  pub given_are : map given w.acknowledged ≡ acks
+  pub numbered : AllByRecursion (IsBy w.events) w.acknowledged
+
+unfoldable pub reach_more : (ms : Monitors) (w v : World) (p : Plain) → Reach ms w → PlainFits ms.count p → happens ms w (Comes p) ≡ Ok v → Reach ms v
+reach_more ms w v p R fits next = record {
+  events = R.events ++ Comes p ∷ [];
+  fits = all_append (λ (e : Event). PlainFits ms.count (plain_of e)) R.events (Comes p ∷ []) R.fits (fits, tt);
+  ran = ran_more ms first_world w v R.events (Comes p) R.ran next;
+}
+
+all_there : {X : Type 0} (xs : List X) → AllByRecursion (λ x. Contains xs x) xs
+all_there xs = all_self (λ x. Contains xs x) xs (λ x c. c)
+
+-- what was asked before, and what is asked now
+pub asked_more : (olds more asked : List Asked) → AllByRecursion (λ a. Contains olds a) asked → AllByRecursion (λ a. Contains (olds ++ more) a) (asked ++ more)
+asked_more olds more asked h =
+    all_append (λ a. Contains (olds ++ more) a) asked more
+    (all_through (λ a. Contains olds a) (λ a. Contains (olds ++ more) a) (λ a c. Contains-append_left olds more a c) asked h)
+    (all_through (λ a. Contains more a) (λ a. Contains (olds ++ more) a) (λ a c. Contains-append_right olds more a c) more (all_there more))
+
+pub asked_still : (olds more asked : List Asked) → AllByRecursion (λ a. Contains olds a) asked → AllByRecursion (λ a. Contains (olds ++ more) a) asked
+asked_still olds more asked h = all_through (λ a. Contains olds a) (λ a. Contains (olds ++ more) a) (λ a c. Contains-append_left olds more a c) asked h
+
+pub asked_now : (olds more : List Asked) (w v : World) → v.asked ≡ w.asked ++ more → AllByRecursion (λ a. Contains olds a) w.asked → AllByRecursion (λ a. Contains (olds ++ more) a) v.asked
+asked_now olds more w v e h = subst (λ (asked : List Asked). AllByRecursion (λ a. Contains (olds ++ more) a) asked) (sym e) (asked_more olds more w.asked h)
+
+-- what was acknowledged before, and what is acknowledged now
+given_more : (xs ys : List Acknowledged) → map given (xs ++ ys) ≡ map given xs ++ map given ys
+given_more [] ys = refl
+given_more (x ∷ xs) ys = ap (λ (zs : List Acknowledgement). given x ∷ zs) (given_more xs ys)
+
+by_later : (e f : ℕ) → e ≤ f → (a : Acknowledged) → IsBy e a → IsBy f a
+by_later e f le a h = omega (arith, le, h)
+
+module _ (A : Assembly) (ms : Monitors) (olds more : List Asked) (acks added : List Acknowledgement) (before : List Posted) (old net : Network) (S : Stands A ms olds acks old) where
+  module _ (v : World) (ds : List Posted) (D : Adds ms.count more added ds S.w v) where
+    pub given_now : map given v.acknowledged ≡ acks ++ added
+    given_now =
+        ap (λ (xs : List Acknowledged). map given xs) D.acknowledged ∙ given_more S.w.acknowledged D.new
+        ∙ ap (λ (xs : List Acknowledgement). xs ++ map given D.new) S.given_are ∙ ap (λ (xs : List Acknowledgement). acks ++ xs) D.given_are
+
+    pub numbered_now : AllByRecursion (IsBy v.events) v.acknowledged
+    numbered_now =
+        subst (λ (e : ℕ). AllByRecursion (IsBy e) v.acknowledged) (sym D.events)
+        (subst (AllByRecursion (IsBy (suc S.w.events))) (sym D.acknowledged)
+        (all_append (IsBy (suc S.w.events)) S.w.acknowledged D.new (all_through (IsBy S.w.events) (IsBy (suc S.w.events)) (by_later S.w.events (suc S.w.events) (omega arith)) S.w.acknowledged S.numbered) D.numbered))
+
+  unfoldable pub stands_next : Next A ms more added before net S.w → Stands A ms (olds ++ more) (acks ++ added) net
+  stands_next (Still sent none I) = record {
+    w = S.w;
+    reach = S.reach;
+    inv = I;
+    asked = asked_still olds more S.w.asked S.asked;
+    given_are = S.given_are ∙ sym (append-nil acks) ∙ ap (λ (xs : List Acknowledgement). acks ++ xs) (sym none);
+    numbered = S.numbered;
+  }
+  stands_next (Moved p v ds fits next sent D I) = record {
+    w = v;
+    reach = reach_more ms S.w v p S.reach fits next;
+    inv = I;
+    asked = asked_now olds more S.w v D.asked S.asked;
+    given_are = given_now v ds D;
+    numbered = numbered_now v ds D;
+  }
+
+pub stands_first : (A : Assembly) (ms : Monitors) → Stands A ms [] [] first_network
+unfolding ran_from
+stands_first A ms = record {
+  w = first_world;
+  reach = record { events = []; fits = tt; ran = refl };
+  inv = record {
+    ls = [];
+    mine = λ j lt. record { map = refl; up = tt };
+    posted = tt;
+    letters = record { cut = λ l c. absurd (omega (arith, c.1)); numbered = λ l k c d. absurd (omega (arith, c.1)) };
+    said = λ l c. absurd (omega (arith, c.1));
+    boots = λ l c. absurd (omega (arith, c.1));
+  };
+  asked = tt;
+  given_are = refl;
+  numbered = tt;
+}
+
+pub stands : (A : Assembly) (ms : Monitors) → Facts ms → (steps : List Step) → AllMay ms steps → Stands A ms (requests ms steps) (acknowledgements ms steps) (network ms steps)
+unfolding network AllMay requests acknowledgements
+stands A ms F [] may = stands_first A ms
+stands A ms F (s ∷ earlier) may =
+    let old : Network = network ms earlier in
+    let S = stands A ms F earlier may.0 in
+    stands_next A ms (requests ms earlier) (asked_by old s (me_of ms s.rank)) (acknowledgements ms earlier) (acknowledged_at old s (me_of ms s.rank)) old.sent old (after_step ms old s) S (step_next A ms F old S.w S.reach S.inv s may.1)
+
+-- ---- what that says
+
+told_by : (count : ℕ) (w : World) (l : Letter) (by : ℕ) (to : Peer) (bytes : List ℕ) → Says count l.by w.messages w.replied to l.bytes → l.by ≡ by → Contains (pieces_of l.bytes l.boot l.seq) bytes
+    → IsTold count w by to bytes
+told_by count w l by (Monitor j) bytes (m, c, has, from, e) own piece = (m, c, from ∙ own, (l.boot, l.seq, subst (λ (x : List ℕ). Contains (pieces_of x l.boot l.seq) bytes) e piece))
+told_by count w l by (Client j) bytes (r, c, rank, to, e) own piece = (r, c, rank ∙ own, to, (l.boot, l.seq, subst (λ (x : List ℕ). Contains (pieces_of x l.boot l.seq) bytes) e piece))
+
+all_told : (count : ℕ) (w : World) (ls : List Letter) (ds : List Posted) → ((l : Letter) → Contains ls l → Says count l.by w.messages w.replied l.to l.bytes) → AllByRecursion (IsPosted ls) ds
+    → AllByRecursion (λ (d : Posted). IsTold count w d.by d.datagram.to d.datagram.bytes) ds
+all_told count w ls [] said h = tt
+all_told count w ls (d ∷ ds) said h =
+    let l = h.0.0 in (
+      told_by count w l d.by d.datagram.to d.datagram.bytes (subst (λ (to : Peer). Says count l.by w.messages w.replied to l.bytes) h.0.3 (said l h.0.1)) h.0.2 h.0.4,
+      all_told count w ls ds said h.1,
+    )
+
+pub of_run : (A : Assembly) (ms : Monitors) (net : Network) (w : World) → Inv A ms net w → IsOfRun ms net w
+of_run A ms net w I = record {
+  maps = λ i lt. (I.mine i lt).map;
+  states = λ i s lt e. (subst (IfUp A ms I.ls i (w.state i)) e (I.mine i lt).up).state;
+  told = all_told ms.count w I.ls net.sent I.said I.posted;
+}
+
+pub facts : (ms : Monitors) → Facts ms
+facts ms = record {
+  starts = λ w i at me r R e. starts ms w R i at me r e;
+  runs = λ w p i at came me s r R F there up other e. runs ms w R me i at came p s r F there up other e;
+  started_own = λ w i at me r R e. started_own ms w R i at me r e;
+  own = λ w p i at came me s r R F there up other e. running_own ms w R me i at came p s r F there up other e;
+  named = named ms;
+}
+
+pub network_runs : (ms : Monitors) (steps : List Step) → AllMay ms steps → DoesARun ms (requests ms steps) (network ms steps)
+network_runs ms steps may =
+    let S = stands assembly ms (facts ms) steps may in
+    let R = S.reach in
+    let is : run ms R.events ≡ S.w = ap (λ (r : Ran). r.world) R.ran in
+    record {
+      events = R.events;
+      fit = R.fits;
+      of_run = subst (IsOfRun ms (network ms steps)) (sym is) (of_run assembly ms (network ms steps) S.w S.inv);
+      asked = subst (λ (w : World). AllByRecursion (λ a. Contains (requests ms steps) a) w.asked) (sym is) S.asked;
+      safe = safe ms R.events R.fits;
+    }

@@ -1,0 +1,5 @@
+pub mod Lives
+pub mod Network
+pub mod Promises
+pub mod Requests
+pub mod Running

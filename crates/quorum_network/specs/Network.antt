@@ -1,0 +1,159 @@
+-- The processes of a map's monitors, and the datagrams that they send.
+use Rattle.std.specs.Prelude.{◌≡◌, ℕ, List, [], ◌∷◌, ◌++◌, map, take, Option, Some, None, Result, Ok, Err}
+use Rattle.std.specs.FinMap.{empty}
+use Rattle.std.specs.List.{Contains}
+use Rattle.mon_bytes.specs.Reading.{IsBytes}
+use Rattle.mon_link.specs.Clocks.{Readings}
+use Rattle.mon_link.specs.Links.{Told}
+use Rattle.mon_link.specs.declared.link.Got.{Got}
+use Rattle.mon_link.specs.declared.link.Got.TheVariants.{Datagram, Idle, Closed}
+use Rattle.mon_link.specs.declared.link.Outgoing.{Outgoing}
+use Rattle.mon_link.specs.declared.link.Peer.{Peer}
+use Rattle.mon_link.specs.declared.link.Peer.TheVariants.{Monitor, Client}
+use Rattle.mon_msg.specs.Protocol.Reaction.{Reaction}
+use Rattle.mon_msg.specs.Protocol.Timers.{due}
+use Rattle.mon_msg.specs.declared.view.Me.{Me}
+use Rattle.mon_node.specs.Hearing.{Given, due_by}
+use Rattle.mon_node.specs.Nodes.{Node, Serving, unstarted}
+use Rattle.mon_node.specs.Serving.{of_kept, sends_of}
+use Rattle.mon_node.specs.Turns.{Turn, map_after, numbered_by, start, turn, ended_turn}
+use Rattle.mon_node.specs.declared.end.NodeEnd.{NodeEnd}
+use Rattle.mon_store.specs.Stood.{Stood}
+use Rattle.mon_tx.specs.Map.{Store}
+use Rattle.mon_types.specs.declared.names.Stop.{Stop}
+use Rattle.mon_wire.specs.declared.phase.Timer.{Timer}
+use Rattle.quorum_model.specs.Happens.{put_at}
+use Rattle.quorum_model.specs.Monitors.{Monitors, me_of}
+
+-- ---- what there is
+
+-- The process of a monitor is up and serves. Or it is down: it has ended, was killed or was never begun, and its disks
+-- keep a map.
+pub data Process : Type 0 where
+  Up : (serving : Serving) → Process
+  Down : (map : Store) → Process
+
+-- a datagram that the monitor of a rank sent
+pub record Posted : Type 0 where
+  pub by : ℕ
+  pub datagram : Outgoing
+
+-- the process of each rank, and all datagrams that were ever sent, in order
+pub record Network : Type 0 where
+  pub process : ℕ → Process
+  pub sent : List Posted
+
+-- all maps are empty, and no process was begun
+abbrev pub first_network : Network
+first_network = record { process = λ _. Down empty; sent = [] }
+
+abbrev pub map_of : Process → Store
+map_of (Up s) = s.node.store.kv
+map_of (Down m) = m
+
+-- ---- what happens
+
+-- A process is begun on a store, with a clock and a link, when the clock shows a moment; a process of its rank that is
+-- still up is gone then. Or a process makes a turn.
+pub data Doing : Type 0 where
+  Begins : (stood : Stood) → (clock : Option Readings) → (link : Option Told) → (first : ℕ) → Doing
+  Turns : (given : Given) → Doing
+
+-- How far the start or the turn gets. It comes to its end. Or the process ends or is killed in it: before the
+-- transaction is kept, or after that, when some of its datagrams were sent.
+pub data Until : Type 0 where
+  Whole : Until
+  Lost : Until
+  Kept : (sent : ℕ) → Until
+
+pub record Step : Type 0 where
+  pub rank : ℕ
+  pub doing : Doing
+  pub up_to : Until
+
+-- ---- what a step makes of the network
+
+-- the turn that it is; a process that is down makes none
+abbrev pub turn_of : Me → Process → Doing → Option Turn
+turn_of me p (Begins stood clock link first) = Some (start first (unstarted me.member.rank stood clock link))
+turn_of me (Up s) (Turns g) = Some (turn me g s)
+turn_of me (Down m) (Turns g) = None
+
+-- the process after it, and what it sent
+pub record Left : Type 0 where
+  pub process : Process
+  pub sends : List Outgoing
+
+-- the reaction to its input, if its transaction can be kept
+abbrev pub kept_reaction : Me → Turn → Option Reaction
+kept_reaction me t = of_kept me t None (λ r. Some r)
+
+-- down, with that many of the reaction's datagrams sent
+abbrev pub down : Me → Node → (sent : ℕ) → Option Reaction → Left
+down me n k None = record { process = Down n.store.kv; sends = [] }
+down me n k (Some r) = record { process = Down (map_after n r); sends = take k (numbered_by me n r) }
+
+-- A turn that ends the node sends nothing here. What it sent before an end is a step `Kept`.
+abbrev pub at_end : Me → Turn → Result Serving NodeEnd → Left
+at_end me t (Ok s) = record { process = Up s; sends = sends_of me t }
+at_end me t (Err e) = down me t.serving.node 0 (kept_reaction me t)
+
+abbrev pub left_by : Me → Turn → Until → Left
+left_by me t Whole = at_end me t (ended_turn me t)
+left_by me t Lost = record { process = Down t.serving.node.store.kv; sends = [] }
+left_by me t (Kept k) = down me t.serving.node k (kept_reaction me t)
+
+abbrev pub posted : ℕ → Outgoing → Posted
+posted i d = record { by = i; datagram = d }
+
+abbrev pub with_left : Network → ℕ → Left → Network
+with_left net i l = record {
+  process = put_at net.process i l.process;
+  sent = net.sent ++ map (posted i) l.sends;
+}
+
+abbrev pub if_made : Me → Network → Step → Option Turn → Network
+if_made me net s None = net
+if_made me net s (Some t) = with_left net s.rank (left_by me t s.up_to)
+
+abbrev pub made_by : Network → Step → Option Me → Network
+made_by net s None = net
+made_by net s (Some me) = if_made me net s (turn_of me (net.process s.rank) s.doing)
+
+abbrev pub after_step : Monitors → Network → Step → Network
+after_step ms net s = made_by net s (me_of ms s.rank)
+
+-- after these steps, the newest first
+unfoldable pub network : Monitors → List Step → Network
+network ms [] = first_network
+network ms (s ∷ earlier) = after_step ms (network ms earlier) s
+
+-- ---- which steps there may be
+
+-- What comes from a monitor was sent by it to this one, at any time before. What comes from a client are any bytes.
+abbrev pub CameFrom : Network → ℕ → Peer → List ℕ → Type 0
+CameFrom net i (Monitor j) bytes =
+    Contains net.sent (record { by = j; datagram = record { to = Monitor i; bytes = bytes } })
+CameFrom net i (Client c) bytes = IsBytes bytes
+
+abbrev pub IsAnswer : Network → ℕ → Result Got Stop → Type 0
+IsAnswer net i (Ok (Datagram from bytes)) = CameFrom net i from bytes
+IsAnswer net i (Ok Idle) = Unit {0}
+IsAnswer net i (Ok Closed) = Unit {0}
+IsAnswer net i (Err e) = Unit {0}
+
+-- the link is asked only if no timer is due
+abbrev pub IsAsked : Network → ℕ → Option Timer → Result Got Stop → Type 0
+IsAsked net i (Some t) answer = Unit {0}
+IsAsked net i None answer = IsAnswer net i answer
+
+-- A process begins on the map that its disks keep. A turn of one that is up is given what came to it.
+abbrev pub May : Network → ℕ → Process → Doing → Type 0
+May net i p (Begins stood clock link first) = stood.kv ≡ map_of p
+May net i (Up s) (Turns g) = IsAsked net i (due_by g.began (due s.node.state.timers)) g.answer
+May net i (Down m) (Turns g) = Unit {0}
+
+unfoldable pub AllMay : Monitors → List Step → Type 0
+AllMay ms [] = Unit {0}
+AllMay ms (s ∷ earlier) =
+    AllMay ms earlier × May (network ms earlier) s.rank ((network ms earlier).process s.rank) s.doing

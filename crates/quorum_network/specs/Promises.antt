@@ -1,0 +1,162 @@
+-- What processes promise: there is one log that only goes on, and all maps and all answers on the wire are of it.
+use Rattle.std.specs.Prelude.{◌≡◌, ◌⊎◌, ℕ, ◌<◌, ◌≤◌, max, true, List, [], ◌∷◌, ◌++◌, length, Some}
+use Rattle.std.specs.List.{AllByRecursion, Contains}
+use Rattle.mon_kv.specs.Readers.{is_marked}
+use Rattle.mon_link.specs.declared.link.Peer.{Peer}
+use Rattle.mon_link.specs.declared.link.Peer.TheVariants.{Monitor, Client}
+use Rattle.mon_msg.specs.Fold.{entry, incrementals, map_of_log, put_in, version_of_log}
+use Rattle.mon_msg.specs.Protocol.Readings.{epoch_of, readings_of}
+use Rattle.mon_node.specs.Nodes.{Serving}
+use Rattle.mon_tx.specs.Decode.{ops_in}
+use Rattle.mon_tx.specs.Keys.{cell, number, shared}
+use Rattle.mon_tx.specs.Map.{Store}
+use Rattle.mon_tx.specs.declared.key.Area.TheVariants as area
+use Rattle.mon_tx.specs.declared.key.Key.TheVariants as key
+use Rattle.mon_wire.specs.Message.Whole.{text}
+use Rattle.mon_wire.specs.declared.body.Body.TheVariants as body
+use Rattle.mon_wire.specs.declared.reply.Reply.{Reply}
+use Rattle.mon_wire.specs.declared.reply.Reply.TheVariants as reply
+use Rattle.mon_wire.specs.declared.request.Request.{Request}
+use Rattle.mon_wire.specs.declared.request.Request.TheVariants as request
+use Rattle.mon_wire.specs.declared.request.Service.{Service}
+use Rattle.mon_wire.specs.declared.request.Session.{Session}
+use Rattle.quorum_model.specs.Agree.{Agrees, IsAsked}
+use Rattle.quorum_model.specs.Clients.{made_by}
+use Rattle.quorum_model.specs.Growth.{last_of}
+use Rattle.quorum_model.specs.Happens.{is_active}
+use Rattle.quorum_model.specs.Monitors.{Monitors}
+use Rattle.quorum_model.specs.Shown.{AreAfter}
+use Rattle.quorum_model.specs.World.{Asked}
+use Rattle.quorum_network.specs.Network.{Network, Posted, Process, Up, Down, Step, map_of, network}
+use Rattle.quorum_network.specs.Requests.{Acknowledgement, requests, acknowledgements}
+use Rattle.quorum_network.specs.Running.{IsPiece}
+
+-- ---- what a client learns
+
+-- a client asked this of monitor i in a session
+abbrev pub Requested : List Asked → ℕ → Session → Request → Type 0
+Requested requests i session r = Contains requests (record { rank = i; session = session; request = r })
+
+-- Version v was acknowledged, and it has in the log what a command of this session makes.
+pub record IsDone (requests : List Asked) (acks : List Acknowledgement) (log : List (List ℕ)) (i : ℕ) (session : Session)
+    (v : ℕ) : Type 0 where
+  pub acknowledgement : Acknowledgement
+  pub among : Contains acks acknowledgement
+  pub version : acknowledgement.version ≡ v
+  pub some : 1 ≤ v
+  pub within : v ≤ length log
+  pub request : Request
+  pub requested : Requested requests i session request
+  pub service : Service
+  pub incremental : List ℕ
+  pub made : made_by i request ≡ Some (service, incremental)
+  pub put : Contains (put_in service (ops_in (entry log v))) incremental
+
+-- a version is no older than those that were acknowledged in its epoch
+abbrev pub IsNoOlder : List Acknowledgement → (epoch : ℕ) → (v : ℕ) → Type 0
+IsNoOlder before epoch v = AllByRecursion (λ (a : Acknowledgement). a.epoch ≡ epoch → a.version ≤ v) before
+
+-- What monitor i replies in a session is the log's, and was asked for: a map up to a version, the changes after one, or
+-- that a command is in a version. A map and changes are no older than what was acknowledged before in their epoch.
+abbrev pub IsOfLog : List Asked → (acks before : List Acknowledgement) → List (List ℕ) → (i epoch : ℕ) → Session
+    → Reply → Type 0
+IsOfLog requests acks before log i epoch session (reply.Shown s paxos version map) =
+    (paxos ≤ length log) × (map ≡ map_of_log s log paxos) × (version ≡ version_of_log s log paxos)
+    × (Requested requests i session (request.Show s) ⊎ ((v : ℕ) × Requested requests i session (request.Since s v)))
+    × IsNoOlder before epoch paxos
+IsOfLog requests acks before log i epoch session (reply.Since s from told more) =
+    (v : ℕ) × (v ≤ length log) × AreAfter (incrementals s log v) from told more
+    × Requested requests i session (request.Since s from) × IsNoOlder before epoch v
+IsOfLog requests acks before log i epoch session (reply.Done v) = IsDone requests acks log i session v
+IsOfLog requests acks before log i epoch session other = Unit {0}
+
+-- Bytes that monitor i of n sent a client are a datagram of a REPLY in a session of that client, and the reply is the
+-- log's.
+pub record IsAnswer (n : ℕ) (requests : List Asked) (acks before : List Acknowledgement) (log : List (List ℕ))
+    (i c : ℕ) (bytes : List ℕ) : Type 0 where
+  pub session : Session
+  pub epoch : ℕ
+  pub reply : Reply
+  pub client : session.client ≡ c
+  pub piece : IsPiece
+      (text (record { from = i; monitors = n; epoch = epoch; body = body.Reply session.id reply })) bytes
+  pub of_log : IsOfLog requests acks before log i epoch session reply
+
+abbrev pub IfToClient : (n : ℕ) → List Asked → (acks before : List Acknowledgement) → List (List ℕ) → (i : ℕ) → Peer
+    → List ℕ → Type 0
+IfToClient n requests acks before log i (Monitor j) bytes = Unit {0}
+IfToClient n requests acks before log i (Client c) bytes = IsAnswer n requests acks before log i c bytes
+
+abbrev pub AreAnswers : (n : ℕ) → List Asked → (acks before : List Acknowledgement) → List (List ℕ) → List Posted
+    → Type 0
+AreAnswers n requests acks before log sent =
+    AllByRecursion (λ (d : Posted). IfToClient n requests acks before log d.by d.datagram.to d.datagram.bytes) sent
+
+-- ---- what is acknowledged lasts
+
+-- an active leader with a number of at least that of the acknowledgement has the version, and is under no full
+-- synchronisation
+abbrev pub LeaderHas : Acknowledgement → Process → Type 0
+LeaderHas a (Down m) = Unit {0}
+LeaderHas a (Up s) = is_active s.node.state.phase ≡ true → a.pn ≤ s.node.state.leader.pn
+    → (a.version ≤ last_of s.node.store.kv) × ¬ (is_marked s.node.store.kv ≡ true)
+
+-- the version is in the log, and every later leader has it
+pub record IsKept (n : ℕ) (net : Network) (log : List (List ℕ)) (a : Acknowledgement) : Type 0 where
+  pub some : 1 ≤ a.version
+  pub within : a.version ≤ length log
+  pub leaders : (i : ℕ) → i < n → LeaderHas a (net.process i)
+
+-- no version is acknowledged twice
+abbrev pub AcknowledgedOnce : List Acknowledgement → Type 0
+AcknowledgedOnce [] = Unit {0}
+AcknowledgedOnce (a ∷ others) =
+    AllByRecursion (λ (b : Acknowledgement). ¬ (b.version ≡ a.version)) others × AcknowledgedOnce others
+
+-- ---- the log
+
+-- Each entry of the log is the value of a command that a client asked, over the entries before it. All maps are the
+-- log's, but those under a full synchronisation. So are all answers that were ever on the wire, and all that was
+-- acknowledged is kept.
+pub record IsLogOf (ms : Monitors) (requests : List Asked) (acks : List Acknowledgement) (net : Network)
+    (log : List (List ℕ)) : Type 0 where
+  pub values : (v : ℕ) → v < length log → IsAsked ms.count requests log v
+  pub maps : (i : ℕ) → i < ms.count → ¬ (is_marked (map_of (net.process i)) ≡ true) → Agrees log (map_of (net.process i))
+  pub answers : AreAnswers ms.count requests acks [] log net.sent
+  pub kept : AllByRecursion (IsKept ms.count net log) acks
+  pub once : AcknowledgedOnce acks
+
+-- After these steps there is a log, and after later ones the same log that went on. What is answered in the later ones
+-- is no older than what was acknowledged in the earlier ones.
+pub record HaveOneLog (ms : Monitors) (earlier later : List Step) : Type 0 where
+  pub log : List (List ℕ)
+  pub more : List (List ℕ)
+  pub before : IsLogOf ms (requests ms earlier) (acknowledgements ms earlier) (network ms earlier) log
+  pub after : IsLogOf ms (requests ms later) (acknowledgements ms later) (network ms later) (log ++ more)
+  pub sent : List Posted
+  pub wire : (network ms later).sent ≡ (network ms earlier).sent ++ sent
+  pub fenced : AreAnswers ms.count (requests ms later) (acknowledgements ms later) (acknowledgements ms earlier)
+      (log ++ more) sent
+
+-- ---- two maps
+
+-- a map keeps a committed version
+pub record Keeps (m : Store) (v : ℕ) : Type 0 where
+  pub unmarked : ¬ (is_marked m ≡ true)
+  pub from : max 1 (number m area.Paxos key.FirstCommitted) ≤ v
+  pub to : v ≤ last_of m
+
+-- They have the same bytes of each version that both keep. If both end with the same version, they share all.
+pub record AgreeWith (a b : Store) : Type 0 where
+  pub versions : (v : ℕ) → Keeps a v → Keeps b v
+      → cell a area.Paxos (key.Version v) ≡ cell b area.Paxos (key.Version v)
+  pub contents : ¬ (is_marked a ≡ true) → ¬ (is_marked b ≡ true) → last_of a ≡ last_of b → shared a ≡ shared b
+
+-- ---- leaders
+
+-- the process of monitor i is up, and an active leader in epoch e
+pub record Leads (net : Network) (i e : ℕ) : Type 0 where
+  pub serving : Serving
+  pub up : net.process i ≡ Up serving
+  pub active : is_active serving.node.state.phase ≡ true
+  pub epoch : epoch_of (readings_of serving.node.store.kv) ≡ e

@@ -1,0 +1,84 @@
+-- Which requests of clients came to processes, and what processes acknowledged.
+use Rattle.std.specs.Prelude.{ℕ, List, [], ◌∷◌, ◌++◌, Option, Some, None, Result, Ok, Err}
+use Rattle.std.specs.List.{filter_map}
+use Rattle.std.specs.Option.{option_map}
+use Rattle.mon_msg.specs.Protocol.Reaction.{Reaction}
+use Rattle.mon_msg.specs.Protocol.Readings.{readings_of, epoch_of}
+use Rattle.mon_msg.specs.Protocol.State.{State}
+use Rattle.mon_msg.specs.declared.input.Input.TheVariants as input
+use Rattle.mon_msg.specs.declared.input.Input.{Input}
+use Rattle.mon_msg.specs.declared.plan.Sent.{Sent}
+use Rattle.mon_msg.specs.declared.view.Me.{Me}
+use Rattle.mon_node.specs.Nodes.{Node}
+use Rattle.mon_node.specs.Turns.{Turn, map_after}
+use Rattle.mon_node.specs.declared.end.NodeEnd.{NodeEnd}
+use Rattle.mon_node.specs.declared.hearing.TimedInput.{TimedInput}
+use Rattle.mon_tx.specs.Map.{Store}
+use Rattle.quorum_model.specs.Acknowledging.{done_by}
+use Rattle.quorum_model.specs.Monitors.{Monitors, me_of}
+use Rattle.quorum_model.specs.World.{Asked}
+use Rattle.quorum_network.specs.Network.{Network, Step, Until, Whole, Lost, Kept, kept_reaction, network, turn_of}
+
+-- ---- requests
+
+-- what an input asks of monitor i
+abbrev pub asks_in : ℕ → Input → List Asked
+asks_in i (input.Client session r) = record { rank = i; session = session; request = r } ∷ []
+asks_in i other = []
+
+abbrev pub came_in : ℕ → Result (Option TimedInput) NodeEnd → List Asked
+came_in i (Ok (Some it)) = asks_in i it.input
+came_in i (Ok None) = []
+came_in i (Err e) = []
+
+abbrev pub asked_in_turn : ℕ → Option Turn → List Asked
+asked_in_turn i (Some t) = came_in i t.came
+asked_in_turn i None = []
+
+abbrev pub asked_by : Network → Step → Option Me → List Asked
+asked_by net s (Some me) = asked_in_turn s.rank (turn_of me (net.process s.rank) s.doing)
+asked_by net s None = []
+
+-- the requests that came in these steps
+unfoldable pub requests : Monitors → List Step → List Asked
+requests ms [] = []
+requests ms (s ∷ earlier) = requests ms earlier ++ asked_by (network ms earlier) s (me_of ms s.rank)
+
+-- ---- acknowledgements
+
+-- A leader says that a version is done: the version, its proposal number and its epoch.
+pub record Acknowledgement : Type 0 where
+  pub version : ℕ
+  pub pn : ℕ
+  pub epoch : ℕ
+
+abbrev pub acknowledges : Store → State → ℕ → Acknowledgement
+acknowledges m s v = record { version = v; pn = s.leader.pn; epoch = epoch_of (readings_of m) }
+
+-- of what a monitor sends that keeps m and remembers s then
+abbrev pub acknowledged_in : Store → State → List Sent → List Acknowledgement
+acknowledged_in m s sends = filter_map (λ x. option_map (acknowledges m s) (done_by s x)) sends
+
+abbrev pub acknowledged_by : Node → Option Reaction → List Acknowledgement
+acknowledged_by n (Some r) = acknowledged_in (map_after n r) r.state r.sends
+acknowledged_by n None = []
+
+-- the reaction whose transaction a turn keeps that gets this far
+abbrev pub kept_by : Me → Turn → Until → Option Reaction
+kept_by me t Whole = kept_reaction me t
+kept_by me t Lost = None
+kept_by me t (Kept k) = kept_reaction me t
+
+abbrev pub acknowledged_in_turn : Me → Until → Option Turn → List Acknowledgement
+acknowledged_in_turn me u (Some t) = acknowledged_by t.serving.node (kept_by me t u)
+acknowledged_in_turn me u None = []
+
+abbrev pub acknowledged_at : Network → Step → Option Me → List Acknowledgement
+acknowledged_at net s (Some me) = acknowledged_in_turn me s.up_to (turn_of me (net.process s.rank) s.doing)
+acknowledged_at net s None = []
+
+-- what was acknowledged in these steps, whether or not its datagrams were all sent
+unfoldable pub acknowledgements : Monitors → List Step → List Acknowledgement
+acknowledgements ms [] = []
+acknowledgements ms (s ∷ earlier) =
+    acknowledgements ms earlier ++ acknowledged_at (network ms earlier) s (me_of ms s.rank)

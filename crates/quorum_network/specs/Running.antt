@@ -1,0 +1,47 @@
+-- That a network does what a run of the model does.
+use Rattle.std.specs.Prelude.{◌≡◌, ℕ, ◌<◌, List, Some}
+use Rattle.std.specs.List.{AllByRecursion, Contains}
+use Rattle.mon_frag.specs.Pieces.{pieces_of}
+use Rattle.mon_link.specs.declared.link.Peer.{Peer}
+use Rattle.mon_link.specs.declared.link.Peer.TheVariants.{Monitor, Client}
+use Rattle.mon_node.specs.Nodes.{Serving}
+use Rattle.mon_wire.specs.Message.Whole.{text}
+use Rattle.mon_wire.specs.declared.body.Body.TheVariants as body
+use Rattle.mon_wire.specs.declared.message.Message.{Message}
+use Rattle.quorum_model.specs.Events.{AllFit}
+use Rattle.quorum_model.specs.Monitors.{Monitors}
+use Rattle.quorum_model.specs.Runs.{run}
+use Rattle.quorum_model.specs.Safe.{Safe}
+use Rattle.quorum_model.specs.World.{Asked, World, Event, Replied}
+use Rattle.quorum_network.specs.Network.{Network, Posted, Up, map_of}
+
+-- the message that brings a client this reply
+abbrev pub answer_of : (count : ℕ) → Replied → Message
+answer_of count r = record { from = r.rank; monitors = count; epoch = r.epoch; body = body.Reply r.session.id r.reply }
+
+-- bytes are a datagram of a message with this text
+abbrev pub IsPiece : List ℕ → List ℕ → Type 0
+IsPiece whole bytes = (boot seq : ℕ) × Contains (pieces_of whole boot seq) bytes
+
+-- To a monitor goes a message of the run, by its sender. To a client goes a reply of the run, by this monitor and in a
+-- session of this client.
+abbrev pub IsTold : (count : ℕ) → World → (by : ℕ) → Peer → List ℕ → Type 0
+IsTold count w i (Monitor j) bytes =
+    (m : Message) × Contains w.messages (record { to = j; message = m }) × (m.from ≡ i) × IsPiece (text m) bytes
+IsTold count w i (Client c) bytes =
+    (r : Replied) × Contains w.replied r × (r.rank ≡ i) × (r.session.client ≡ c) × IsPiece (text (answer_of count r)) bytes
+
+-- Each monitor's map is that of the run. A process that is up remembers what its monitor remembers there. What was sent
+-- is of the run.
+pub record IsOfRun (ms : Monitors) (net : Network) (w : World) : Type 0 where
+  pub maps : (i : ℕ) → i < ms.count → map_of (net.process i) ≡ w.store i
+  pub states : (i : ℕ) (s : Serving) → i < ms.count → net.process i ≡ Up s → w.state i ≡ Some s.node.state
+  pub told : AllByRecursion (λ (d : Posted). IsTold ms.count w d.by d.datagram.to d.datagram.bytes) net.sent
+
+-- It does what some run of the model does, in which clients asked nothing but these requests. That run is safe.
+pub record DoesARun (ms : Monitors) (requests : List Asked) (net : Network) : Type 0 where
+  pub events : List Event
+  pub fit : AllFit ms.count events
+  pub of_run : IsOfRun ms net (run ms events)
+  pub asked : AllByRecursion (λ a. Contains requests a) (run ms events).asked
+  pub safe : Safe ms events
