@@ -27,10 +27,10 @@ use Rattle.cephmon_run.specs.Summary.{IsLine, Summary, counted_from, no_counts, 
 use Rattle.cephmon_run.specs.Trace.{Trace, trace}
 use Rattle.mon_world.proofs.Safety.{schedule_safe}
 use Rattle.mon_world.proofs.Tracing.{traces_run}
-use Rattle.cephmon_run.proofs.Schedules.{monitors_of}
+use Rattle.cephmon_run.proofs.Schedules.{all_fit, monitors_of}
 
 runs : (s : Schedule) (h : HasText s) → Runs s (monitors_of s h)
-runs s h = record { count = refl; rule = refl; safe = schedule_safe (monitors_of s h) s.events h.each; told = traces_run (monitors_of s h) s.events }
+runs s h = record { count = refl; rule = refl; safe = schedule_safe (monitors_of s h) s.events (all_fit s (monitors_of s h) h refl); told = traces_run (monitors_of s h) s.events }
 
 -- ---- of what was read
 

@@ -10,6 +10,7 @@ use Rattle.schedule_text.specs.declared.event.Event.{Event}
 use Rattle.schedule_text.specs.declared.schedule.Schedule.{Schedule}
 use Rattle.schedule_text.specs.Spelling.{HasText, event_fits, event_line, event_text, header, ended_line, most_bytes}
 use Rattle.mon_world.specs.Stands.{Fits}
+use Rattle.mon_world.proofs.Fitting.{line_fits}
 
 few : (n : ℕ) → IsTrue (leb n 15) → n ≤ 15
 few n h = grind (arith, nat_tests)
@@ -42,7 +43,7 @@ fits_each n (e ∷ es) each short =
     let line : length (event_line e) ≡ length (event_text e) + 1 = length-append (event_text e) (10 ∷ []) in
     let whole : length (flat_map event_line (e ∷ es)) ≡ length (event_line e) + length (flat_map event_line es) =
     length-append (event_line e) (flat_map event_line es) in
-    (record { form = parts.0; short = omega arith }, fits_each n es parts.1 (omega arith))
+    (line_fits n e parts.0 (omega arith), fits_each n es parts.1 (omega arith))
 
 pub all_fit : (s : Schedule) (ms : Monitors) → HasText s → ms.count ≡ s.monitors → AllByRecursion (Fits ms.count) s.events
 all_fit s ms h count =

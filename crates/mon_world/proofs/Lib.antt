@@ -8,6 +8,7 @@ pub mod Reacting
 pub mod Growing
 pub mod Sizes
 pub mod Coming
+pub mod Fitting
 pub mod Ranks
 pub mod Making
 pub mod Delivering
@@ -19,5 +20,6 @@ pub mod Stepping
 pub mod Falling
 pub mod Remembering
 pub mod Holding
+pub mod Passing
 pub mod Safety
 pub mod Tracing

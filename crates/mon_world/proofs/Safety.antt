@@ -1,6 +1,6 @@
 -- A world goes on with the run of its events, which is safe.
-use Rattle.std.proofs.Common.{◌≡◌, ℕ, List, [], ◌∷◌, ◌++◌, length, map, IsTrue, None, Result, Ok, Err, refl, sym, ap, subst, ◌∙◌}
-use Rattle.std.specs.List.{list_all}
+use Rattle.std.proofs.Common.{◌≡◌, ℕ, List, [], ◌∷◌, ◌++◌, length, map, None, Result, Ok, Err, refl, sym, ap, subst, ◌∙◌}
+use Rattle.std.specs.List.{AllByRecursion}
 use Rattle.log_model.proofs.Lists.{all_append, all_front}
 use Rattle.quorum_agreement.proofs.SafeWorlds.{safe}
 use Rattle.quorum_model.proofs.Fitting.{all_fit}
@@ -13,7 +13,6 @@ use Rattle.quorum_model.specs.Runs.{Ran, goes_on, ran_from, run_from}
 use Rattle.quorum_model.specs.Safe.{Safe}
 use Rattle.quorum_model.specs.Scenes.{Scene, all_files_after, event_in, events_from, events_of, first_scene, with_files}
 use Rattle.quorum_model.specs.World.{Event, World, first_world, plain_of}
-use Rattle.schedule_text.specs.Spelling.{event_fits}
 use Rattle.schedule_text.specs.declared.event.Event as schedule
 use Rattle.trace_text.specs.declared.step.StepLine.{StepLine}
 use Rattle.mon_world.specs.declared.stop.WorldStop.{WorldStop}
@@ -59,9 +58,7 @@ begins ms world stands = record { fit = tt; comes_to = refl; goes_on = refl; sta
 module _ (ms : Monitors) (old : code.World) (c : Scene) (events : List Event) (e : schedule.Event) (fits : Fits (length old.monitors.items) e) (s : StandsForRun ms events old c) where
   next_fits : PlainFits ms.count (plain_of (event_in ms c (scheduled_of e)))
   unfolding events_from
-  next_fits =
-      let form : IsTrue (event_fits ms.count e) = subst (λ (n : ℕ). IsTrue (event_fits n e)) s.stands.count fits.form in
-      (all_fit ms ms.count c (scheduled_of e ∷ []) (event_spoken ms.count e form, tt)).0
+  next_fits = (all_fit ms ms.count c (scheduled_of e ∷ []) (event_spoken ms.count e (subst (λ (n : ℕ). Fits n e) s.stands.count fits), tt)).0
 
   all_next_fit : AllFit ms.count (and_event ms events c e)
   all_next_fit = all_append (λ (x : Event). PlainFits ms.count (plain_of x)) events (event_in ms c (scheduled_of e) ∷ []) s.fit (next_fits, tt)
@@ -80,7 +77,7 @@ module _ (ms : Monitors) (old : code.World) (c : Scene) (events : List Event) (e
 
 -- ---- the schedule
 
-pub schedule_safe : (ms : Monitors) (es : List schedule.Event) → IsTrue (list_all (event_fits ms.count) es)
+pub schedule_safe : (ms : Monitors) (es : List schedule.Event) → AllByRecursion (Fits ms.count) es
     → (before after : List Event) → before ++ after ≡ events_of ms (map scheduled_of es) → Safe ms before
 schedule_safe ms es fit before after is =
     let all = subst (λ (events : List Event). AllFit ms.count events) (sym is) (all_spoken ms es fit) in

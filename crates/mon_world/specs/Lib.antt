@@ -1,6 +1,7 @@
 pub mod Events
 pub mod Stops
 pub mod Monitor
+pub mod Moments
 pub mod Falls
 pub mod Step
 pub mod Meeting

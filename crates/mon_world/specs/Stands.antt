@@ -1,5 +1,5 @@
 -- What the code's world stands for.
-use Rattle.std.specs.Prelude.{◌≡◌, ℕ, ◌<◌, ◌≤◌, List, [], ◌∷◌, ◌++◌, length, map, slice_get, IsTrue, Option, Some, None, Result, Ok, Err}
+use Rattle.std.specs.Prelude.{◌≡◌, ℕ, ◌<◌, ◌≤◌, List, [], ◌∷◌, ◌++◌, length, map, slice_get, Option, Some, None, Result, Ok, Err}
 use Rattle.std.specs.List.{AllByRecursion}
 use Rattle.mon_bounds.specs.Fitting.{MayCome}
 use Rattle.mon_msg.specs.Protocol.State.{State}
@@ -16,9 +16,10 @@ use Rattle.quorum_model.specs.Runs.{ran, run}
 use Rattle.quorum_model.specs.Scenes.{Scene, event_in, kept_at, scene_after}
 use Rattle.quorum_model.specs.Upsets.{Upset}
 use Rattle.quorum_model.specs.World as model
-use Rattle.schedule_text.specs.Spelling.{plain_fits, event_fits, plain_text, event_text, most_bytes}
 use Rattle.schedule_text.specs.declared.event.Event.{Event}
+use Rattle.schedule_text.specs.declared.event.Event.TheVariants as events
 use Rattle.schedule_text.specs.declared.event.Plain.{Plain}
+use Rattle.schedule_text.specs.declared.event.Plain.TheVariants as plain
 use Rattle.trace_text.specs.declared.step.StepLine.{StepLine}
 use Rattle.mon_world.specs.declared.monitor.Monitor.{Monitor}
 use Rattle.mon_world.specs.declared.stop.WorldStop.{WorldStop}
@@ -75,15 +76,22 @@ pub record StandsForRun (ms : Monitors) (events : List model.Event) (world : Wor
 abbrev pub and_event : Monitors → List model.Event → Scene → Event → List model.Event
 and_event ms events c e = events ++ event_in ms c (scheduled_of e) ∷ []
 
--- what happens in a schedule of so many monitors
-pub record FitsPlain (n : ℕ) (p : Plain) : Type 0 where
-  pub form : IsTrue (plain_fits n p)
-  pub short : length (plain_text p) ≤ most_bytes
+-- An event may happen to n monitors: at one of them, by an input that may come to it. Any number of a message may be
+-- delivered.
+abbrev pub FitsPlain : ℕ → Plain → Type 0
+FitsPlain n (plain.Start rank at) = rank < n
+FitsPlain n (plain.Deliver message at) = Unit {0}
+FitsPlain n (plain.Timer rank kind at) = rank < n
+FitsPlain n (plain.Client rank at session request) = (rank < n) × MayCome (input.Client session request)
 
--- and an event of it
-pub record Fits (n : ℕ) (e : Event) : Type 0 where
-  pub form : IsTrue (event_fits n e)
-  pub short : length (event_text e) ≤ most_bytes
+-- and a disk may fail in it: in one of the first thousand calls of its monitor, which leave one of four images
+abbrev pub FitsUpset : ℕ → (call image : ℕ) → Plain → Type 0
+FitsUpset n call image p = (1 ≤ call) × (call ≤ 1000) × (image ≤ 3) × FitsPlain n p
+
+abbrev pub Fits : ℕ → Event → Type 0
+Fits n (events.Plain p) = FitsPlain n p
+Fits n (events.Crash disk call image p) = FitsUpset n call image p
+Fits n (events.Fail disk call image p) = FitsUpset n call image p
 
 -- A call answered an event's lines, and this holds of the scene then; or the run stops as it should.
 abbrev pub Leads : (Scene → Type 0) → Result StepLine WorldStop → Result (Scene × StepLine) happens.Stop → Type 0

@@ -1,14 +1,16 @@
 //! What comes of an input at a monitor that may be down.
 
-ghost use Rattle.std.specs.Prelude.{◌≡◌, ◌↔◌, Option, None, Some, IsTrue};
+ghost use Rattle.std.specs.Prelude.{◌≡◌, ◌↔◌, Option, None, Some, IfOk, IsTrue};
 ghost use Rattle.mon_bounds.specs.Fitting.{MayCome};
 ghost use Rattle.mon_msg.specs.Protocol.State.{State, booting};
 ghost use Rattle.mon_msg.specs.declared.input.Input.TheVariants.{Start};
 ghost use Rattle.mon_msg.specs.declared.view.Me.{Me};
-ghost use Rattle.mon_tx.specs.Map.{Store as Map};
+ghost use Rattle.mon_site.specs.Moments.{OpensEither};
+ghost use Rattle.mon_tx.specs.Map.{Store as Map, apply};
 ghost use Rattle.quorum_model.specs.Files.{Files, after_opening};
 ghost use Rattle.mon_world.specs.Falls.{MayBe};
 ghost use Rattle.mon_world.specs.Meeting.{Meets, MeetsFall, Turns};
+ghost use Rattle.mon_world.specs.Moments.{PassesAt, PassesTurn};
 ghost use Rattle.mon_world.specs.Monitor.{Standing, StandingUp, Stands};
 
 use crate::lines::told;
@@ -56,8 +58,10 @@ fn take_turn(
 ) -> Result<Turn, WorldStop>
     requires up { StandingUp monitor.old }
     requires comes { MayCome input.now }
-    ensures { (me : Me) (m : Map) (s : State) (f : Files) → Stands me m (Some s) f monitor.old
+    ensures turns { (me : Me) (m : Map) (s : State) (f : Files) → Stands me m (Some s) f monitor.old
         → Turns me at m s f before input.now monitor.new result }
+    ensures passes { (me : Me) (m : Map) (s : State) (f : Files) → Stands me m (Some s) f monitor.old → IfOk result
+        (λ turn. PassesAt (OpensEither me.member m (apply turn.reaction.tx m)) monitor.old monitor.new) }
 {
     let reaction = monitor.react(input, at)?;
     let last = monitor.last();
@@ -77,8 +81,10 @@ fn take_turn(
 fn start(monitor: &mut Monitor, input: &Input, at: Moment) -> Result<Turn, WorldStop>
     requires stands { Standing monitor.old }
     requires start { input.now ≡ Start }
-    ensures { (me : Me) (m : Map) (s : Option State) (f : Files) → Stands me m s f monitor.old
+    ensures turns { (me : Me) (m : Map) (s : Option State) (f : Files) → Stands me m s f monitor.old
         → Turns me at m (booting me.member.rank) (after_opening f) None Start monitor.new result }
+    ensures passes { (me : Me) (m : Map) (s : Option State) (f : Files) → Stands me m s f monitor.old → IfOk result
+        (λ turn. PassesAt (OpensEither me.member m (apply turn.reaction.tx m)) monitor.old monitor.new) }
 {
     monitor.start()?;
     take_turn(monitor, None, input, at)
@@ -92,8 +98,10 @@ pub(crate) fn meet(
 ) -> Result<Option<Turn>, WorldStop>
     requires stands { Standing monitor.old }
     requires comes { MayCome input.now }
-    ensures { (me : Me) (m : Map) (s : Option State) (f : Files) → Stands me m s f monitor.old →
+    ensures meets { (me : Me) (m : Map) (s : Option State) (f : Files) → Stands me m s f monitor.old →
         Meets me at m s f input.now monitor.new result }
+    ensures passes { (me : Me) (m : Map) (s : Option State) (f : Files) → Stands me m s f monitor.old →
+        PassesTurn me.member m result monitor.old monitor.new }
 {
     if is_start(input) {
         return Ok(Some(start(monitor, input, at)?));

@@ -1,6 +1,6 @@
 //! A monitor with its two disks in memory.
 
-ghost use Rattle.std.specs.Prelude.{◌≡◌, ◌≤◌, Option, None, Some, OnOk, length};
+ghost use Rattle.std.specs.Prelude.{◌≡◌, ◌≤◌, Option, None, Some, IfOk, OnOk, length};
 ghost use Rattle.std.specs.FinMap.{empty};
 ghost use Rattle.mon_bounds.specs.Fitting.{MayCome};
 ghost use Rattle.mon_kv.specs.Readers.{is_marked};
@@ -9,8 +9,10 @@ ghost use Rattle.mon_msg.specs.Protocol.Readings.{Readings};
 ghost use Rattle.mon_msg.specs.Protocol.State.{State, booting};
 ghost use Rattle.mon_msg.specs.declared.view.Me.{Me};
 ghost use Rattle.mon_site.specs.Calm.{Runs};
-ghost use Rattle.mon_site.specs.Falls.{Rests};
-ghost use Rattle.mon_tx.specs.Map.{Store as Map};
+ghost use Rattle.mon_site.specs.Falls.{OpensMap, Rests};
+ghost use Rattle.mon_site.specs.Moments.{OpensEither};
+ghost use Rattle.mon_store.specs.Whole.{disk_a, disk_b};
+ghost use Rattle.mon_tx.specs.Map.{Store as Map, apply};
 ghost use Rattle.mon_tx.specs.Text.{text, most};
 ghost use Rattle.mon_types.specs.declared.member.Member.{Member};
 ghost use Rattle.quorum_model.specs.Files.{Files, after_opening, no_files};
@@ -19,6 +21,7 @@ ghost use Rattle.quorum_model.specs.Meets.{state_at};
 ghost use Rattle.svc_core.specs.Cache.{Follows};
 ghost use Rattle.mon_world.specs.Falls.{Falls, FallsDown, MayBe};
 ghost use Rattle.mon_world.specs.Monitor.{Holds, InUse, IsHeld, IsRunning, IsUp, Keeps, Reacts, Standing, StandingUp, Stands, StandsAfter, Takes};
+ghost use Rattle.mon_world.specs.Moments.{Passes, PassesAt, a_of, b_of};
 ghost use Rattle.mon_world.specs.Step.{state_if_up, state_of};
 
 use crate::crash::{Fallen, fall};
@@ -70,7 +73,9 @@ struct Taken {
 
 /// Takes the disks and the core. One that is down remembers nothing. Two empty disks stay behind.
 fn take(alloc: Global, me: &Me, kept: &mut Kept) -> Taken
-    ensures { (m : Map) (s : Option State) (f : Files) → Holds me.now m s f kept.old → Takes me.now m s f result }
+    ensures takes { (m : Map) (s : Option State) (f : Files) → Holds me.now m s f kept.old → Takes me.now m s f result }
+    ensures a { result.disks.a ≡ a_of kept.old }
+    ensures b { result.disks.b ≡ b_of kept.old }
 {
     match mem::replace(kept, Kept::Down(empty_disks(alloc))) {
         Kept::Down(disks) => Taken {
@@ -141,8 +146,11 @@ fn last_of(kv: &Kv) -> Version
 fn keep(store: &mut Store<MemoryDisk>, tx: &Transaction) -> Result<(), WorldStop>
     requires runs { InUse store.old }
     requires short { length (text tx.now) ≤ most }
-    ensures { (member : Member) (m : Map) (f : Files) → Runs member m f store.old →
+    ensures keeps { (member : Member) (m : Map) (f : Files) → Runs member m f store.old →
         Keeps member m f tx.now store.new result }
+    ensures passes { (member : Member) (m : Map) (f : Files) → Runs member m f store.old →
+        Passes (OpensEither member m (apply tx.now m)) (disk_a store.old) (disk_b store.old) (disk_a store.new)
+        (disk_b store.new) }
 {
     match apply(store, tx) {
         Ok(()) => Ok(()),
@@ -155,8 +163,11 @@ impl Running {
     fn react(&mut self, alloc: Global, input: &Input, now: Moment) -> Result<Reaction, WorldStop>
         requires up { IsRunning self.old }
         requires comes { MayCome input.now }
-        ensures { (me : Me) (m : Map) (s : State) (f : Files) → IsUp me m s f self.old →
+        ensures reacts { (me : Me) (m : Map) (s : State) (f : Files) → IsUp me m s f self.old →
             Reacts me now m s f input.now self.new result }
+        ensures passes { (me : Me) (m : Map) (s : State) (f : Files) → IsUp me m s f self.old → IfOk result
+            (λ r. Passes (OpensEither me.member m (apply r.tx m)) (disk_a self.old.store) (disk_b self.old.store)
+            (disk_a self.new.store) (disk_b self.new.store)) }
     {
         let reaction = self.core.react(alloc, self.store.kv(), input, now)?;
         keep(&mut self.store, &reaction.tx)?;
@@ -223,8 +234,10 @@ impl Monitor {
     /// Opens the store on the disks, and forgets all that it doesn't keep.
     pub(crate) fn start(&mut self) -> Result<(), OutOfMemory>
         requires { Standing self.old }
-        ensures { (me : Me) (m : Map) (s : Option State) (f : Files) → Stands me m s f self.old
+        ensures stands { (me : Me) (m : Map) (s : Option State) (f : Files) → Stands me m s f self.old
             → OnOk result (Stands me m (Some (booting me.member.rank)) (after_opening f) self.new) }
+        ensures passes { (me : Me) (m : Map) (s : Option State) (f : Files) → Stands me m s f self.old
+            → OnOk result (PassesAt (OpensMap me.member m) self.old self.new) }
     {
         let Taken {
             disks,
@@ -241,8 +254,10 @@ impl Monitor {
     pub(crate) fn react(&mut self, input: &Input, now: Moment) -> Result<Reaction, WorldStop>
         requires up { StandingUp self.old }
         requires comes { MayCome input.now }
-        ensures { (me : Me) (m : Map) (s : State) (f : Files) → Stands me m (Some s) f self.old →
+        ensures stands { (me : Me) (m : Map) (s : State) (f : Files) → Stands me m (Some s) f self.old →
             StandsAfter me now m s f input.now self.new result }
+        ensures passes { (me : Me) (m : Map) (s : State) (f : Files) → Stands me m (Some s) f self.old → IfOk result
+            (λ r. PassesAt (OpensEither me.member m (apply r.tx m)) self.old self.new) }
     {
         match &mut self.kept {
             Kept::Down(_) => unreachable!(),

@@ -1,6 +1,6 @@
 //! The world of a schedule.
 
-ghost use Rattle.std.specs.Prelude.{◌≡◌, ◌≢◌, ℕ, ◌<◌, ◌≤◌, Bool, List, [], Option, None, Some, IfOk, length, map, slice_get};
+ghost use Rattle.std.specs.Prelude.{◌≡◌, ◌≢◌, ℕ, ◌<◌, ◌≤◌, Bool, List, [], Option, None, Some, IfOk, OnOk, length, map, slice_get};
 ghost use Rattle.std.specs.FinMap.{empty};
 ghost use Rattle.std.specs.Option.{option_map};
 ghost use Rattle.mon_bounds.specs.Fitting.{MayCome};
@@ -22,6 +22,7 @@ ghost use Rattle.schedule_text.specs.declared.event.Plain.{Plain};
 ghost use Rattle.mon_world.specs.Events.{plain_event};
 ghost use Rattle.mon_world.specs.Falls.{MayBe, upset_of};
 ghost use Rattle.mon_world.specs.Meeting.{Meets, MeetsFall};
+ghost use Rattle.mon_world.specs.Moments.{EachPasses, PassesTurn};
 ghost use Rattle.mon_world.specs.Monitor.{Standing, Stands};
 ghost use Rattle.mon_world.specs.Stands.{Does, DoesUpset, Fits, FitsPlain, IsWorld, Leads, StandsFor, StandsForRun};
 ghost use Rattle.mon_world.specs.Stands.{and_event, arrival_of, envelope_of};
@@ -184,6 +185,10 @@ fn meet_at(
         slice_get monitors.new.items rank ≡ Some new
         → (me : Me) (m : Map) (s : Option State) (f : Files) → Stands me m s f old →
         Meets me at m s f input.now new result }
+    ensures passes { (old new : Monitor) → slice_get monitors.old.items rank ≡ Some old →
+        slice_get monitors.new.items rank ≡ Some new
+        → (me : Me) (m : Map) (s : Option State) (f : Files) → Stands me m s f old →
+        PassesTurn me.member m result old new }
 {
     meet(&mut monitors[rank.get() as usize], input, at)
 }
@@ -292,9 +297,11 @@ impl World {
         requires world { IsWorld self.old }
         requires within { arrival.now.rank < length self.old.monitors.items }
         requires comes { MayCome arrival.now.input }
-        ensures { (ms : Monitors) (c : Scene) (p : Plain) → StandsFor ms self.old c
+        ensures does { (ms : Monitors) (c : Scene) (p : Plain) → StandsFor ms self.old c
             → meets.arrival c.world (plain_event p) ≡ Some (arrival_of arrival.now)
             → Does ms result self.new (step ms c (events.Plain p)) }
+        ensures any_moment { (ms : Monitors) (c next : Scene) → StandsFor ms self.old c → StandsFor ms self.new next
+            → OnOk result (EachPasses ms c next self.old self.new) }
     {
         let Some(turn) = meet_at(&mut self.monitors, arrival.rank, &arrival.input, arrival.at)?
         else {
@@ -307,8 +314,10 @@ impl World {
     fn plain(&mut self, event: &Plain) -> Result<StepLine, WorldStop>
         requires world { IsWorld self.old }
         requires fits { FitsPlain (length self.old.monitors.items) event.now }
-        ensures { (ms : Monitors) (c : Scene) → StandsFor ms self.old c →
+        ensures does { (ms : Monitors) (c : Scene) → StandsFor ms self.old c →
             Does ms result self.new (step ms c (events.Plain event.now)) }
+        ensures any_moment { (ms : Monitors) (c next : Scene) → StandsFor ms self.old c → StandsFor ms self.new next
+            → OnOk result (EachPasses ms c next self.old self.new) }
     {
         match arriving(self.alloc, self.messages.as_slice(), event)? {
             None => Ok(still(self.alloc, Outcome::NoMessage)),
@@ -388,8 +397,11 @@ impl World {
     fn happen(&mut self, event: &Event) -> Result<StepLine, WorldStop>
         requires world { IsWorld self.old }
         requires fits { Fits (length self.old.monitors.items) event.now }
-        ensures { (ms : Monitors) (c : Scene) → StandsFor ms self.old c →
+        ensures does { (ms : Monitors) (c : Scene) → StandsFor ms self.old c →
             Does ms result self.new (step ms c event.now) }
+        ensures any_moment { (ms : Monitors) (c next : Scene) (p : Plain) → event.now ≡ events.Plain p
+            → StandsFor ms self.old c → StandsFor ms self.new next
+            → OnOk result (EachPasses ms c next self.old self.new) }
     {
         match event {
             Event::Plain(event) => self.plain(event),
@@ -408,10 +420,12 @@ impl World {
         }
     }
 
-    /// One event of a schedule of as many monitors, and its lines of the trace. Whatever events the world stood for, it
-    /// then stands for these and this one, whose run is safe. `Spent` and `Full` come exactly where the model's run
-    /// stops before the event, with the same number or size; `OutOfMemory` where an allocation was refused. After an
-    /// `Err` the world isn't used again.
+    /// One event, and its lines of the trace. It may be any event at a monitor of the map, whether or not a schedule has
+    /// a line for it: a value or text may hold any characters, and a message may have any number. A number that no sent
+    /// message has, as 0, is `NoMessage`. If the world stood for a list of events, it then stands for the list with this
+    /// one added, and the run of that is safe. `Spent` and `Full` are returned if and only if the model's run stops
+    /// before the event, with the same number or size, and `OutOfMemory` if an allocation was refused. After an `Err`
+    /// the world isn't used again.
     pub fn step(&mut self, event: &Event) -> Result<StepLine, WorldStop>
         requires world { IsWorld self.old }
         requires fits { Fits (length self.old.monitors.items) event.now }
@@ -421,6 +435,12 @@ impl World {
             → Leads (StandsForRun ms (and_event ms events c event.now) self.new) result (step ms c event.now) }
         ensures safe { (ms : Monitors) (c : Scene) (events : List model.Event) → StandsForRun ms events self.old c
             → Safe ms (and_event ms events c event.now) }
+
+        // A crash at any moment of an event in which no disk fails, inside each call on a disk too, leaves each monitor
+        // two images on which it opens the map from before the event or from after it.
+        ensures any_moment { (ms : Monitors) (c next : Scene) (p : Plain) → event.now ≡ events.Plain p
+            → StandsFor ms self.old c → StandsFor ms self.new next
+            → OnOk result (EachPasses ms c next self.old self.new) }
     {
         self.happen(event)
     }

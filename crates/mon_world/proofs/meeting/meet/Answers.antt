@@ -12,23 +12,28 @@ take_turn-requires-clause-up c =
     let up = is_up stands.1 stands.2 c.in-Some.before (sym c.in-Some.is ∙ c.state.ensures stands.0 stands.1 stands.2 stands.3 stands.4) in
     (stands.0, stands.1, up.state, stands.3, subst (λ (s : Option State). Stands stands.0 stands.1 s stands.3 c.args.monitor.now) up.up stands.4)
 
-pub returns-in_err-take_turn-in-Some : goal.returns-in_err-take_turn-in-Some
-returns-in_err-take_turn-in-Some c = λ me m s f h.
+pub returns-in_err-take_turn-in-Some-clause-meets : goal.returns-in_err-take_turn-in-Some-clause-meets
+returns-in_err-take_turn-in-Some-clause-meets c = λ me m s f h.
     let p = err_from_is_err_and c.from_residual-in_err-take_turn-in-Some.result c.from_residual-in_err-take_turn-in-Some.ensures.1 in
     let up = is_up m s c.in-Some.before (sym c.in-Some.is ∙ c.state.ensures me m s f h) in
     rw (p.1, p.2)
     (stops_turn me c.args.at m s f c.in-Some.before c.args.input.now c.take_turn.new.monitor (no_start c.args.input.now c.is_start.result c.is_start.ensures c.if-is_start.false) up _
-    (c.in_err-take_turn-in-Some.ensures me m up.state f (subst (λ (s : Option State). Stands me m s f c.args.monitor.now) up.up h)))
+    (c.in_err-take_turn-in-Some.ensures.turns me m up.state f (subst (λ (s : Option State). Stands me m s f c.args.monitor.now) up.up h)))
 
-pub returns-in_ok-take_turn-in-Some : goal.returns-in_ok-take_turn-in-Some
-returns-in_ok-take_turn-in-Some c = λ me m s f h.
+pub returns-in_ok-take_turn-in-Some-clause-meets : goal.returns-in_ok-take_turn-in-Some-clause-meets
+returns-in_ok-take_turn-in-Some-clause-meets c = λ me m s f h.
     let up = is_up m s c.in-Some.before (sym c.in-Some.is ∙ c.state.ensures me m s f h) in
     takes_turn me c.args.at m s f c.in-Some.before c.args.input.now c.take_turn.new.monitor (no_start c.args.input.now c.is_start.result c.is_start.ensures c.if-is_start.false) up _
-    (c.in_ok-take_turn-in-Some.ensures me m up.state f (subst (λ (s : Option State). Stands me m s f c.args.monitor.now) up.up h))
+    (c.in_ok-take_turn-in-Some.ensures.turns me m up.state f (subst (λ (s : Option State). Stands me m s f c.args.monitor.now) up.up h))
 
-pub returns-in-None : goal.returns-in-None
-returns-in-None c = λ me m s f h. (
+pub returns-in-None-clause-meets : goal.returns-in-None-clause-meets
+returns-in-None-clause-meets c = λ me m s f h. (
   (as_it_stands me.member.rank m s f c.args.input.now (no_start c.args.input.now c.is_start.result c.is_start.ensures c.if-is_start.false)).state
       ∙ is_down m s c.state.result (c.state.ensures me m s f h) (ap is_some c.in-None.is),
   h,
 )
+
+pub returns-in_ok-take_turn-in-Some-clause-passes : goal.returns-in_ok-take_turn-in-Some-clause-passes
+returns-in_ok-take_turn-in-Some-clause-passes c = λ me m s f h.
+    let up = is_up m s c.in-Some.before (sym c.in-Some.is ∙ c.state.ensures me m s f h) in
+    c.in_ok-take_turn-in-Some.ensures.passes me m up.state f (subst (λ (s : Option State). Stands me m s f c.args.monitor.now) up.up h)

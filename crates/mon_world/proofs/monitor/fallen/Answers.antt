@@ -4,15 +4,15 @@ use Rattle.mon_world.proofs.Remembering.{start_boots}
 use Rattle.mon_world.proofs.monitor.fallen.Goals as goal
 
 pub core_at-core-requires : goal.core_at-core-requires
-core_at-core-requires c = let x = c.requires.held in (c.take-disks.ensures x.0 x.1 x.2 x.3).me_is
+core_at-core-requires c = let x = c.requires.held in (c.take-disks.ensures.takes x.0 x.1 x.2 x.3).me_is
 
 pub fall-left-requires-clause-rests : goal.fall-left-requires-clause-rests
-fall-left-requires-clause-rests c = let x = c.requires.held in (x.0, x.2, (c.take-disks.ensures x.0 x.1 x.2 x.3).rests)
+fall-left-requires-clause-rests c = let x = c.requires.held in (x.0, x.2, (c.take-disks.ensures.takes x.0 x.1 x.2 x.3).rests)
 
 pub fall-left-requires-clause-follows : goal.fall-left-requires-clause-follows
 fall-left-requires-clause-follows c n g rests =
     let x = c.requires.held in
-    let t = c.take-disks.ensures x.0 x.1 x.2 x.3 in
+    let t = c.take-disks.ensures.takes x.0 x.1 x.2 x.3 in
     let d = c.take-disks.result.disks in
     let core = c.core_at-core in
     follows_each c.args.me.now.member x.0 n x.2 g d.a d.b core.result.cache t.rests (core.ensures.follows (readings_of x.0) t.follows) rests
@@ -26,6 +26,6 @@ returns c m s to f holds at =
     let me = c.args.me.now in
     let came = c.args.input.now in
     let core = c.core_at-core.result in
-    let t = c.take-disks.ensures m s f holds in
+    let t = c.take-disks.ensures.takes m s f holds in
     let state = remembers me s came c.take-disks.result.core.state core.state to t.state c.core_at-core.ensures.state at in
     falls_as c.args.upset m f came c.args.now c.fall-left.result core me to c.core_at-core.ensures.me state (c.fall-left.ensures m f t.rests)

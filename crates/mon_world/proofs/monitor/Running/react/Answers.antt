@@ -19,20 +19,23 @@ keep-requires-clause-runs c = let x = c.requires.up in (x.0.member, x.1, x.3, x.
 pub keep-requires-clause-short : goal.keep-requires-clause-short
 keep-requires-clause-short c = c.in_ok-reaction.ensures.bounded.transaction
 
-pub returns : goal.returns
-returns c me m s f up =
+pub returns-clause-reacts : goal.returns-clause-reacts
+returns-clause-reacts c me m s f up =
     let new : Running = record { store = c.keep.new.store; core = c.react.new.self } in
-    reacted me c.args.now m s f c.args.input.now c.args.self.now new c.kv.result.now c.in_ok-reaction.reaction up c.kv.ensures c.in_ok-reaction.ensures (c.in_ok-keep.ensures me.member m f up.runs)
+    reacted me c.args.now m s f c.args.input.now c.args.self.now new c.kv.result.now c.in_ok-reaction.reaction up c.kv.ensures c.in_ok-reaction.ensures (c.in_ok-keep.ensures.keeps me.member m f up.runs)
 
-pub returns-in_err-reaction : goal.returns-in_err-reaction
+pub returns-in_err-reaction-clause-reacts : goal.returns-in_err-reaction-clause-reacts
 unfolding does
-returns-in_err-reaction c me m s f up =
+returns-in_err-reaction-clause-reacts c me m s f up =
     let p = err_from_is_err_and c.from_residual.result c.from_residual.ensures.1 in
     let core = c.args.self.now.core in
     rw (p.1, p.2) (core_stops me c.args.now m s c.args.input.now core c.react.new.self c.kv.result.now c.in_err-reaction.field-0.0 up.me_is up.state (c.kv.ensures ∙ up.runs.map) c.in_err-reaction.ensures)
 
-pub returns-in_err-keep : goal.returns-in_err-keep
-returns-in_err-keep c me m s f up =
+pub returns-in_err-keep-clause-reacts : goal.returns-in_err-keep-clause-reacts
+returns-in_err-keep-clause-reacts c me m s f up =
     let p = err_from_is_err_and c.from_residual-in_err-keep.result c.from_residual-in_err-keep.ensures.1 in
     rw (p.1, p.2)
-    (unkept me c.args.now m s f c.args.input.now c.args.self.now c.react.new.self c.kv.result.now c.in_ok-reaction.reaction c.in_err-keep.field-0.0 up c.kv.ensures c.in_ok-reaction.ensures (c.in_err-keep.ensures me.member m f up.runs))
+    (unkept me c.args.now m s f c.args.input.now c.args.self.now c.react.new.self c.kv.result.now c.in_ok-reaction.reaction c.in_err-keep.field-0.0 up c.kv.ensures c.in_ok-reaction.ensures (c.in_err-keep.ensures.keeps me.member m f up.runs))
+
+pub returns-clause-passes : goal.returns-clause-passes
+returns-clause-passes c me m s f up = c.in_ok-keep.ensures.passes me.member m f up.runs

@@ -1,49 +1,61 @@
-use Rattle.std.proofs.Common.{length, sym, subst}
+use Rattle.std.proofs.Common.{◌≡◌, length, sym, subst, ◌∙◌}
 use Rattle.mon_site.specs.declared.upset.Upset.{Upset}
 use Rattle.schedule_text.specs.declared.event.Event.{Event}
+use Rattle.schedule_text.specs.declared.event.Event.TheVariants as events
 use Rattle.mon_world.specs.declared.world.Fault.TheVariants as fault
 use Rattle.mon_world.specs.Falls.{MayBe}
 use Rattle.mon_world.specs.Stands.{Does, Fits}
 use Rattle.mon_world.specs.Step.{step}
 use Rattle.mon_world.specs.Telling.{faulty_event}
-use Rattle.mon_world.proofs.Coming.{crash_fits, fail_fits, plain_fit}
+use Rattle.mon_world.proofs.Coming.{upset_fits}
 use Rattle.mon_world.proofs.world.World.happen.Goals as goal
 
 pub plain-requires-clause-fits : goal.plain-requires-clause-fits
 plain-requires-clause-fits c =
     let n = length c.args.self.now.monitors.items in
-    plain_fit n c.in-Plain.event (subst (λ (e : Event). Fits n e) c.in-Plain.is c.requires.fits)
+    subst (λ (e : Event). Fits n e) c.in-Plain.is c.requires.fits
 
-pub returns-in-Plain : goal.returns-in-Plain
-returns-in-Plain c = λ ms d s.
-    subst (λ (e : Event). Does ms c.plain.result c.plain.new.self (step ms d e)) (sym c.in-Plain.is) (c.plain.ensures ms d s)
+pub returns-in-Plain-clause-does : goal.returns-in-Plain-clause-does
+returns-in-Plain-clause-does c = λ ms d s.
+    subst (λ (e : Event). Does ms c.plain.result c.plain.new.self (step ms d e)) (sym c.in-Plain.is) (c.plain.ensures.does ms d s)
 
 pub faulty-requires-clause-fits : goal.faulty-requires-clause-fits
 faulty-requires-clause-fits c =
     let n = length c.args.self.now.monitors.items in
-    (crash_fits n c.in-Crash.disk c.in-Crash.call c.in-Crash.image c.in-Crash.event (subst (λ (e : Event). Fits n e) c.in-Crash.is c.requires.fits)).plain_fits_too
+    (upset_fits n c.in-Crash.disk c.in-Crash.call c.in-Crash.image c.in-Crash.event (subst (λ (e : Event). Fits n e) c.in-Crash.is c.requires.fits)).plain_fits_too
 
 pub faulty-requires-clause-may : goal.faulty-requires-clause-may
 faulty-requires-clause-may c =
     let n = length c.args.self.now.monitors.items in
-    subst MayBe (sym c.upset_at.ensures) (crash_fits n c.in-Crash.disk c.in-Crash.call c.in-Crash.image c.in-Crash.event (subst (λ (e : Event). Fits n e) c.in-Crash.is c.requires.fits)).may
+    subst MayBe (sym c.upset_at.ensures) (upset_fits n c.in-Crash.disk c.in-Crash.call c.in-Crash.image c.in-Crash.event (subst (λ (e : Event). Fits n e) c.in-Crash.is c.requires.fits)).may
 
-pub returns-in-Crash : goal.returns-in-Crash
-returns-in-Crash c = λ ms d s.
+pub returns-in-Crash-clause-does : goal.returns-in-Crash-clause-does
+returns-in-Crash-clause-does c = λ ms d s.
     subst (λ (e : Event). Does ms c.faulty.result c.faulty.new.self (step ms d e)) (sym c.in-Crash.is)
     (subst (λ (u : Upset). Does ms c.faulty.result c.faulty.new.self (step ms d (faulty_event fault.Crash u c.in-Crash.event))) c.upset_at.ensures (c.faulty.ensures ms d s))
 
 pub faulty-requires-in-Fail-clause-fits : goal.faulty-requires-in-Fail-clause-fits
 faulty-requires-in-Fail-clause-fits c =
     let n = length c.args.self.now.monitors.items in
-    (fail_fits n c.in-Fail.disk c.in-Fail.call c.in-Fail.image c.in-Fail.event (subst (λ (e : Event). Fits n e) c.in-Fail.is c.requires.fits)).plain_fits_too
+    (upset_fits n c.in-Fail.disk c.in-Fail.call c.in-Fail.image c.in-Fail.event (subst (λ (e : Event). Fits n e) c.in-Fail.is c.requires.fits)).plain_fits_too
 
 pub faulty-requires-in-Fail-clause-may : goal.faulty-requires-in-Fail-clause-may
 faulty-requires-in-Fail-clause-may c =
     let n = length c.args.self.now.monitors.items in
-    subst MayBe (sym c.upset_at-in-Fail.ensures) (fail_fits n c.in-Fail.disk c.in-Fail.call c.in-Fail.image c.in-Fail.event (subst (λ (e : Event). Fits n e) c.in-Fail.is c.requires.fits)).may
+    subst MayBe (sym c.upset_at-in-Fail.ensures) (upset_fits n c.in-Fail.disk c.in-Fail.call c.in-Fail.image c.in-Fail.event (subst (λ (e : Event). Fits n e) c.in-Fail.is c.requires.fits)).may
 
-pub returns-in-Fail : goal.returns-in-Fail
-returns-in-Fail c = λ ms d s.
+pub returns-in-Fail-clause-does : goal.returns-in-Fail-clause-does
+returns-in-Fail-clause-does c = λ ms d s.
     subst (λ (e : Event). Does ms c.faulty-in-Fail.result c.faulty-in-Fail.new.self (step ms d e)) (sym c.in-Fail.is)
     (subst (λ (u : Upset). Does ms c.faulty-in-Fail.result c.faulty-in-Fail.new.self (step ms d (faulty_event fault.Fail u c.in-Fail.event))) c.upset_at-in-Fail.ensures (c.faulty-in-Fail.ensures ms d s))
+
+pub returns-in-Plain-clause-any_moment : goal.returns-in-Plain-clause-any_moment
+returns-in-Plain-clause-any_moment c = λ ms d next p is s t. c.plain.ensures.any_moment ms d next s t
+
+pub returns-in-Crash-clause-any_moment : goal.returns-in-Crash-clause-any_moment
+returns-in-Crash-clause-any_moment c = λ ms d next p is s t.
+    let other : events.Crash c.in-Crash.disk c.in-Crash.call c.in-Crash.image c.in-Crash.event ≡ events.Plain p = sym c.in-Crash.is ∙ is in absurd cc
+
+pub returns-in-Fail-clause-any_moment : goal.returns-in-Fail-clause-any_moment
+returns-in-Fail-clause-any_moment c = λ ms d next p is s t.
+    let other : events.Fail c.in-Fail.disk c.in-Fail.call c.in-Fail.image c.in-Fail.event ≡ events.Plain p = sym c.in-Fail.is ∙ is in absurd cc
