@@ -1,12 +1,12 @@
 -- A status and its cause tell each other.
-use Rattle.std.proofs.Common.{◌≡◌, ℕ, ◌+◌, ◌<◌, ◌≤◌, String, string_bytes, List, [], ◌∷◌, ◌++◌, length, map, Option, Some, None, Result, Ok, Err, refl, sym, ap, subst, ◌∙◌, arith, inl, inr, ◌⊎◌, length-append}
+use Rattle.std.proofs.Common.{◌≡◌, ℕ, ◌+◌, ◌<◌, ◌≤◌, String, string_bytes, List, [], ◌++◌, length, map, Option, Some, None, Result, Ok, Err, refl, sym, ap, subst, ◌∙◌, arith, inl, inr, ◌⊎◌, length-append}
 use Rattle.std.proofs.lemmas.Bool.{lt-ltb}
 use Rattle.std.proofs.lemmas.List.{append-nil}
 use Rattle.std.specs.Prelude.{IfSome}
 use Rattle.std.specs.declared.alloc.Global.{Global}
 use Rattle.cephmon_run.proofs.Schedules.{same_monitors}
 use Rattle.cephmon_run.specs.Node.{Around, NodeCause, OpensTo, Served, Unopened}
-use Rattle.cephmon_run.specs.Run.{Completes, Ends, HasCause, HasStatus, Holds, IsCaused, IsServed, Made, MadeCause, NoneFailed, NothingFailed, OfRead, Outside, ReplayCause, Replayed, Replays, SummedAll, Tells, TellsLine, TellsRefusal, WroteAll, most_read}
+use Rattle.cephmon_run.specs.Run.{Completes, Ends, HasCause, HasStatus, Holds, IsCaused, IsServed, Made, MadeCause, NoneFailed, NothingFailed, OfRead, Outside, ReplayCause, Replayed, SummedAll, Tells, TellsLine, TellsRefusal, WroteAll, most_read}
 use Rattle.cephmon_run.specs.Summary.{summary}
 use Rattle.cephmon_run.specs.Trace.{Trace, trace}
 use Rattle.cephmon_run.specs.declared.status.Status.TheVariants as status
@@ -319,9 +319,9 @@ module _ {D : Type 0} (state : D → DiskState) (around left : Around D) (calm :
 
 -- ---- memory that ran out before anything was done
 
-nothing_read : (old : Option (List ℕ)) → ConsumesFront old old
-nothing_read None = ([], tt)
-nothing_read (Some xs) = ([], refl)
+nothing_read : (old : Option (List ℕ)) → ConsumesFront most_read old old
+nothing_read None = ([], tt, omega arith)
+nothing_read (Some xs) = ([], refl, omega arith)
 
 no_memory : {D : Type 0} (state : D → DiskState) (before : Outside) (around : Around D) (t : Task) → HasCause state t before before around around status.OutOfMemory
 no_memory state before around task.Replay = (inl (nothing_read before.left, (refl, refl)), refl)

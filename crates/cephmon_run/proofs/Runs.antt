@@ -51,10 +51,10 @@ at_end (Some xs) (Some ys) bytes told short read = elim read.1 [
 ]
 
 -- what was read whole is a front of what was left
-front_of : (old new : Option (List ℕ)) (bytes : List ℕ) → ReadsWhole most_read old new bytes → ConsumesFront old new
-front_of None new bytes read = (bytes, tt)
-front_of (Some xs) None bytes read = absurd read
-front_of (Some xs) (Some ys) bytes read = (bytes, read.0)
+front_of : (old new : Option (List ℕ)) (bytes : List ℕ) → length bytes ≤ most_read → ReadsWhole most_read old new bytes → ConsumesFront most_read old new
+front_of None new bytes most read = (bytes, tt, most)
+front_of (Some xs) None bytes most read = absurd read
+front_of (Some xs) (Some ys) bytes most read = (bytes, read.0, most)
 
 replayed : (before after : Outside) (bytes : List ℕ) (s : Schedule) (h : HasText s) (fact : Trace → Type 0) → HasRead before after bytes → bytes ≡ schedule_text s
     → fact (trace (monitors_of s h) s.events) → Replayed before after fact
@@ -67,7 +67,7 @@ replayed before after bytes s h fact read text holds =
 -- bytes of which no schedule was made
 pub faulty : (before after : Outside) (bytes : List ℕ) (s : Status) → HasRead before after bytes → WroteNothing before after → TellsFault bytes s → ReplayCause before after s
 faulty before after bytes (status.Schedule line kind) read silent fault = ((bytes, read.most, read.whole, fault), silent)
-faulty before after bytes status.OutOfMemory read silent fault = inl (front_of before.left after.left bytes read.whole, silent)
+faulty before after bytes status.OutOfMemory read silent fault = inl (front_of before.left after.left bytes read.most read.whole, silent)
 faulty before after bytes status.Done read silent fault = absurd fault
 faulty before after bytes status.Words read silent fault = absurd fault
 faulty before after bytes status.ReadFault read silent fault = absurd fault

@@ -101,17 +101,20 @@ SummedFront before after s = (s.stop ≡ None) × AppendsFront before.held after
 
 -- ---- the cause of each status, by what the words ask for
 
--- Of a replay. Where memory ran out, what was read is a front of what was left, and what was written a front of what is to be.
+-- Of a replay. If memory ran out, or a read failed, what was read is a prefix of what was left, of 16,777,217 bytes at
+-- most, and what was written is a prefix of what is to be written.
 abbrev pub ReplayCause : Outside → Outside → Status → Type 0
 ReplayCause before after status.Done = Replayed before after (WroteAll before after None)
 ReplayCause before after (status.Schedule line kind) = OfRead before after (λ bytes. schedule_at bytes ≡ Err (At line kind)) × WroteNothing before after
 ReplayCause before after status.ReadFault =
-    Rose before.read_faults after.read_faults × ConsumesFront before.left after.left × WroteNothing before after
+    Rose before.read_faults after.read_faults × ConsumesFront most_read before.left after.left ×
+    WroteNothing before after
 ReplayCause before after status.WriteFault = Rose before.write_faults after.write_faults × Replayed before after (WroteFront before after)
 ReplayCause before after (status.Spent which) = Replayed before after (WroteAll before after (Some (happens.Spent which)))
 ReplayCause before after (status.Full would_be) = Replayed before after (WroteAll before after (Some (happens.Full would_be)))
 ReplayCause before after status.OutOfMemory =
-    (ConsumesFront before.left after.left × WroteNothing before after) ⊎ Replayed before after (WroteFront before after)
+    (ConsumesFront most_read before.left after.left × WroteNothing before after)
+    ⊎ Replayed before after (WroteFront before after)
 ReplayCause before after other = ⊥
 
 -- of the summary of a made schedule

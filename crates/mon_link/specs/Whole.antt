@@ -1,5 +1,5 @@
 -- What a whole reading and a whole writing are.
-use Rattle.std.specs.Prelude.{◌≡◌, ℕ, ◌⊎◌, List, [], ◌++◌, length, take, Option, Some, None, ⊤}
+use Rattle.std.specs.Prelude.{◌≡◌, ℕ, ◌≤◌, ◌⊎◌, List, [], ◌++◌, length, take, Option, Some, None, ⊤}
 use Rattle.std.specs.Io.KnownBytes.{Appends, Consumes}
 
 -- Where the source tells what it has left, the bytes are all of it, or the most that is read.
@@ -8,9 +8,9 @@ ReadsWhole most None new bytes = ⊤
 ReadsWhole most (Some xs) None bytes = ⊥
 ReadsWhole most (Some xs) (Some ys) bytes = (xs ≡ bytes ++ ys) × ((ys ≡ []) ⊎ (length bytes ≡ most))
 
--- What was taken from the source is a front of what it had left.
-abbrev pub ConsumesFront : Option (List ℕ) → Option (List ℕ) → Type 0
-ConsumesFront old new = (bytes : List ℕ) × Consumes old new bytes
+-- What was taken from the source is a prefix of what it had left, and no longer than the most that is read.
+abbrev pub ConsumesFront : ℕ → Option (List ℕ) → Option (List ℕ) → Type 0
+ConsumesFront most old new = (bytes : List ℕ) × Consumes old new bytes × (length bytes ≤ most)
 
 -- What went out is a front of the bytes.
 abbrev pub AppendsFront : Option (List ℕ) → Option (List ℕ) → List ℕ → Type 0

@@ -7,11 +7,12 @@ use crate::outside::{Sink, Source};
 use mon_types::Stop;
 use std::alloc::Global;
 
-/// The bytes of a source to its end, or the first `most` of them. What was read before an `Err` is gone.
+/// The bytes of a source to its end, or the first `most` of them. What was read before an `Err` is gone, and isn't more
+/// than `most` bytes.
 pub fn read_all<S: Source>(alloc: Global, source: &mut S, most: usize) -> Result<Vec<u8>, Stop>
     ensures whole { IfOk result (λ bytes. ReadsWhole most (S.left source.old) (S.left source.new) bytes.items) }
     ensures most { IfOk result (λ bytes. length bytes.items ≤ most) }
-    ensures part { OnErr result (ConsumesFront (S.left source.old) (S.left source.new)) }
+    ensures part { OnErr result (ConsumesFront most (S.left source.old) (S.left source.new)) }
     ensures tells { is_some (S.left source.new) ≡ is_some (S.left source.old) }
     ensures cause { HasCause (S.faults source.old) (S.faults source.new) result }
 {
