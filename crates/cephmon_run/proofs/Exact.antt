@@ -1,12 +1,12 @@
 -- A status and its cause tell each other.
-use Rattle.std.proofs.Common.{◌≡◌, ℕ, ◌+◌, ◌<◌, ◌≤◌, String, string_bytes, List, [], ◌∷◌, ◌++◌, length, map, Option, Some, None, Result, Ok, Err, refl, sym, ap, subst, ◌∙◌, arith, inl, inr, ◌⊎◌, length-append}
+use Rattle.std.proofs.Common.{◌≡◌, ℕ, ◌+◌, ◌<◌, ◌≤◌, String, string_bytes, List, [], ◌++◌, length, map, Option, Some, None, Result, Ok, Err, refl, sym, ap, subst, ◌∙◌, arith, inl, inr, ◌⊎◌, length-append}
 use Rattle.std.proofs.lemmas.Bool.{lt-ltb}
 use Rattle.std.proofs.lemmas.List.{append-nil}
 use Rattle.std.specs.Prelude.{IfSome}
 use Rattle.std.specs.declared.alloc.Global.{Global}
 use Rattle.cephmon_run.proofs.Schedules.{same_monitors}
 use Rattle.cephmon_run.specs.Node.{Around, NodeCause, OpensTo, Served, Unopened}
-use Rattle.cephmon_run.specs.Run.{Completes, Ends, HasCause, HasStatus, Holds, IsCaused, IsServed, Made, MadeCause, NoneFailed, NothingFailed, OfRead, Outside, ReplayCause, Replayed, Replays, SummedAll, Tells, TellsLine, TellsRefusal, WroteAll, most_read}
+use Rattle.cephmon_run.specs.Run.{Completes, Ends, HasCause, HasStatus, Holds, IsCaused, IsServed, Made, MadeCause, NoneFailed, NothingFailed, OfRead, Outside, ReplayCause, Replayed, SummedAll, Tells, TellsLine, TellsRefusal, WroteAll, most_read}
 use Rattle.cephmon_run.specs.Summary.{summary}
 use Rattle.cephmon_run.specs.Trace.{Trace, trace}
 use Rattle.cephmon_run.specs.declared.status.Status.TheVariants as status
