@@ -3,7 +3,7 @@
 use crate::header::{Header, Kind};
 
 /// How often a copy goes.
-const TIMES: u8 = 14;
+const TIMES: u8 = 16;
 
 /// The longest time between two copies, unless the first one took longer, in milliseconds.
 const LONGEST: u64 = 1_000;
@@ -47,8 +47,9 @@ pub(crate) struct Note {
     pub(crate) header: Header,
     /// How many datagrams its message is.
     pub(crate) pieces: u64,
-    /// When it went first, when it goes again, and how long after that once more.
+    /// When it went first and last, when it goes again, and how long after that once more.
     pub(crate) sent: u64,
+    pub(crate) last: u64,
     pub(crate) due: u64,
     every: u64,
     pub(crate) times: u8,
@@ -74,6 +75,7 @@ impl Note {
             header,
             pieces,
             sent: now,
+            last: now,
             due: if held || header.kind.answers() {
                 u64::MAX
             } else {
@@ -169,6 +171,7 @@ impl Note {
     pub(crate) fn called(self, now: u64) -> Note {
         Note {
             sent: now,
+            last: now,
             due: now,
             times: 0,
             held: true,
@@ -199,6 +202,7 @@ impl Note {
         }
         let every = self.every.saturating_mul(2).min(self.every.max(LONGEST));
         Note {
+            last: now,
             due: now.saturating_add(every),
             every,
             times: self.times.saturating_add(1),

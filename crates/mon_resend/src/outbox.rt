@@ -254,7 +254,7 @@ impl Outbox {
                 )
                 && note.is_answered_by(came)
             {
-                measured = measured.after(now.saturating_sub(note.sent), note.times > 0);
+                measured = measured.after(now.saturating_sub(note.last), note.times > 0);
             }
         }
         self.measure = measured;
