@@ -1,4 +1,4 @@
-"""Reads the two files of a stopped monitor, by the bytes that docs/FORMATS.md tells."""
+"""Reads the two files of a stopped monitor, by the bytes that docs/FORMATS.md specifies."""
 from __future__ import annotations
 
 HEADER = 25

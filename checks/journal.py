@@ -2,7 +2,7 @@
 import struct
 
 NEW = b'CEPHMON2'
-# The file of a new store of the one monitor of its quorum has so many bytes.
+# How many bytes the file of a new store of a single monitor has.
 HEADER = 26
 # What a record adds to its payload: the commit byte and the length.
 HEAD = 5

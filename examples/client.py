@@ -45,21 +45,23 @@ import math
 import os
 import random
 import socket
-import struct
 import sys
 import time
-from typing import Iterator, NamedTuple
+from typing import Iterator
 
-MOST_DATAGRAM, PIECE, PIECE_HEADER = 60_000, 59_000, 28
-MOST_MESSAGE = 1_048_576
-MOST_NUMBER = 2**62
-REQUEST, REPLY = 24, 25
-SET, REMOVE, LOG, SHOW, SINCE = range(1, 6)
-SERVICES = {'kv': 1, 'log': 2}
-# Messages of which not all pieces came yet, at most.
-MOST_PARTIAL = 16
+from wire import (LOG, MOST_MESSAGE, MOST_NUMBER, REMOVE, SERVICES, SET, SHOW, SINCE, Assembly, Malformed, Reply, datagrams, key_field, number_field,
+                  reply_of, request_message, service_field, text_field)
+
 # Seconds between two tries, between two looks for changes, and for a request if nothing else is said.
 PAUSE, LOOK, TIMEOUT = 0.1, 0.25, 30.0
+# The replies that serve a request, what a monitor is said to do that is silent, and the replies that refuse for good.
+SERVED = 'Done', 'Shown', 'Since'
+NO_ANSWER = 'no answer'
+REFUSALS = {
+    'NoSuch': 'no such key',
+    'TooLong': 'too long: {len} bytes, of which there may be {most}',
+    'MapFull': 'the map is full: it would have {would_be} bytes',
+}
 
 
 class Refused(Exception):
@@ -79,225 +81,6 @@ class NotServed(Exception):
     def silent(self) -> bool:
         """Whether no monitor answered anything."""
         return set(self.outcomes.values()) == {NO_ANSWER}
-
-
-class Malformed(Exception):
-    """The bytes aren't of their form."""
-
-
-class Reader:
-    """Takes fields from the front of bytes."""
-
-    def __init__(self, octets: bytes):
-        self.octets, self.at = octets, 0
-
-    def take(self, count: int) -> bytes:
-        if len(self.octets) - self.at < count:
-            raise Malformed(f'cut at {self.at}')
-        self.at += count
-        return self.octets[self.at - count:self.at]
-
-    def unsigned(self, size: int) -> int:
-        return int.from_bytes(self.take(size), 'little')
-
-    def number(self) -> int:
-        found = self.unsigned(8)
-        if found > MOST_NUMBER:
-            raise Malformed(f'a number above 2^62 before {self.at}')
-        return found
-
-    def choice(self, choices):
-        """The meaning of a byte."""
-        code = self.unsigned(1)
-        if code not in choices:
-            raise Malformed(f'a byte {code} before {self.at}')
-        return choices[code]
-
-    def key(self) -> str:
-        return self.decoded(self.take(self.unsigned(1)), 'ascii')
-
-    def text(self) -> str:
-        return self.decoded(self.counted(), 'utf-8')
-
-    def counted(self) -> bytes:
-        return self.take(self.unsigned(4))
-
-    def decoded(self, octets: bytes, how: str) -> str:
-        try:
-            return octets.decode(how)
-        except UnicodeDecodeError:
-            raise Malformed(f'no {how} before {self.at}') from None
-
-    def end(self):
-        if self.at < len(self.octets):
-            raise Malformed(f'more after {self.at}')
-
-
-def encoded(text: str | bytes) -> bytes:
-    """The UTF-8 bytes of a text, which may be given as such."""
-    try:
-        octets = text.encode('utf-8') if isinstance(text, str) else bytes(text)
-        octets.decode('utf-8')
-    except UnicodeError:
-        raise ValueError('keys, values and texts have to be UTF-8') from None
-    return octets
-
-
-def key_field(key: str | bytes) -> bytes:
-    octets = encoded(key)
-    if not 1 <= len(octets) <= 255 or any(not 0x21 <= octet <= 0x7e for octet in octets):
-        raise ValueError('a key has 1 to 255 printable ASCII characters, and no blank')
-    return bytes([len(octets)]) + octets
-
-
-def text_field(text: str | bytes) -> bytes:
-    octets = encoded(text)
-    return struct.pack('<I', len(octets)) + octets
-
-
-def number_field(number: int) -> bytes:
-    if not 0 <= number <= MOST_NUMBER:
-        raise ValueError('a number is 0 to 2^62')
-    return struct.pack('<Q', number)
-
-
-def service_field(service: str) -> bytes:
-    if service not in SERVICES:
-        raise ValueError('a service is kv or log')
-    return bytes([SERVICES[service]])
-
-
-def request_message(monitors: int, number: int, request: bytes) -> bytes:
-    return struct.pack('<4BQ', 1, REQUEST, 0, monitors, 0) + number_field(number) + request
-
-
-def datagrams(message: bytes, boot: int, seq: int) -> list[bytes]:
-    """A message as it goes out: whole, or in pieces under two numbers that no other message of the sender has."""
-    if len(message) <= MOST_DATAGRAM:
-        return [message]
-    head = b'\2\0\0\0' + number_field(boot) + number_field(seq) + struct.pack('<I', len(message))
-    return [head + struct.pack('<I', place) + message[place:place + PIECE] for place in range(0, len(message), PIECE)]
-
-
-class Assembly:
-    """Joins pieces. They may come in any order, and some never."""
-
-    def __init__(self):
-        self.partial = {}
-
-    def take(self, peer, datagram: bytes) -> bytes | None:
-        """The message that this datagram completes, if it completes one."""
-        if datagram[:1] != b'\2':
-            return datagram
-        if not PIECE_HEADER < len(datagram) <= MOST_DATAGRAM:
-            return None
-        mark, boot, seq, total, place = struct.unpack_from('<IQQII', datagram)
-        piece = datagram[PIECE_HEADER:]
-        if mark != 2 or not MOST_DATAGRAM < total <= MOST_MESSAGE or place % PIECE or len(piece) != min(PIECE, total - place):
-            return None
-        name = peer, boot, seq, total
-        pieces = self.partial.setdefault(name, {})
-        pieces[place] = piece
-        if sum(map(len, pieces.values())) == total:
-            del self.partial[name]
-            return b''.join(pieces[place] for place in sorted(pieces))
-        if len(self.partial) > MOST_PARTIAL:
-            del self.partial[next(iter(self.partial))]
-        return None
-
-
-def log_entry(reader: Reader) -> list:
-    """The monitor that was asked, and the text."""
-    return [reader.unsigned(1), reader.text()]
-
-
-def map_of(service: str, octets: bytes) -> dict | list:
-    """The values of the keys, or the entries of the log, the oldest first."""
-    reader = Reader(octets)
-    entries = range(reader.unsigned(4))
-    if service == 'kv':
-        found = {reader.key(): reader.text() for _ in entries}
-    else:
-        found = [log_entry(reader) for _ in entries]
-    reader.end()
-    return found
-
-
-def change_of(service: str, octets: bytes) -> dict | list:
-    reader = Reader(octets)
-    if service == 'log':
-        found = log_entry(reader)
-    elif reader.choice({1: True, 2: False}):
-        found = {'set': reader.key(), 'value': reader.text()}
-    else:
-        found = {'remove': reader.key()}
-    reader.end()
-    return found
-
-
-def shown(reader: Reader) -> dict:
-    service = reader.choice({code: name for name, code in SERVICES.items()})
-    return {'service': service, 'paxos': reader.number(), 'version': reader.number(), 'map': map_of(service, reader.counted())}
-
-
-def since(reader: Reader) -> dict:
-    service = reader.choice({code: name for name, code in SERVICES.items()})
-    start, more = reader.number(), reader.choice([False, True])
-    changes = [change_of(service, reader.counted()) for _ in range(reader.unsigned(2))]
-    return {'service': service, 'from': start, 'to': start + len(changes), 'more': more, 'changes': changes}
-
-
-def numbers(*names):
-    """A reader of numbers with these names."""
-    return lambda reader: {name: reader.number() for name in names}
-
-
-def not_readable(reader: Reader) -> dict:
-    return {'has': reader.number(), 'lease': reader.choice([False, True])}
-
-
-REPLIES = {
-    1: ('Done', numbers('version')),
-    2: ('Shown', shown),
-    3: ('Since', since),
-    4: ('NoSuch', numbers()),
-    5: ('TooLong', numbers('len', 'most')),
-    6: ('MapFull', numbers('would_be')),
-    7: ('Unavailable', numbers()),
-    8: ('NotReadable', not_readable),
-    9: ('Busy', numbers('waiting')),
-}
-SERVED = 'Done', 'Shown', 'Since'
-NO_ANSWER = 'no answer'
-REFUSALS = {
-    'NoSuch': 'no such key',
-    'TooLong': 'too long: {len} bytes, of which there may be {most}',
-    'MapFull': 'the map is full: it would have {would_be} bytes',
-}
-
-
-class Reply(NamedTuple):
-    """A REPLY: the ID of the request that it answers, the name of its kind, its fields, and the rank and epoch of the monitor."""
-    number: int
-    kind: str
-    fields: dict
-    rank: int
-    epoch: int
-
-
-def reply_of(message: bytes, monitors: int) -> Reply:
-    """The REPLY that a monitor of this many sent. Raises Malformed if the message is none."""
-    reader = Reader(message)
-    if reader.take(2) != bytes([1, REPLY]):
-        raise Malformed('no REPLY')
-    rank, of = reader.unsigned(1), reader.unsigned(1)
-    if of != monitors or rank >= of:
-        raise Malformed(f'from {rank} of {of}')
-    epoch, number = reader.number(), reader.number()
-    kind, fields = reader.choice(REPLIES)
-    found = fields(reader)
-    reader.end()
-    return Reply(number, kind, found, rank, epoch)
 
 
 class Client:

@@ -560,7 +560,7 @@ def played(schedule):
     return play
 
 
-# what is told of each rank is read once an event, so that no chain of updates grows
+# the value for each rank is read once an event, so that no chain of updates grows
 def tabled(f, n):
     values = [app(f, i) for i in range(n)]
     return nat(1)(lambda i: values[i])
@@ -764,7 +764,7 @@ def compared(program, schedule, play, name):
 
 
 def all_compared(program, name, first, count, play_of):
-    """plays schedule after schedule, and tells of each as soon as it is compared"""
+    """plays schedule after schedule, and reports each as soon as it is compared"""
     good = 0
     t = time.time()
     for seed in range(first, first + count):
@@ -789,7 +789,7 @@ def all_compared(program, name, first, count, play_of):
 
 
 def parse():
-    """reads every file of definitions of the protocol and of the world, and tells what of each it doesn't compute"""
+    """reads every file of definitions of the protocol and of the world, and reports what of each it doesn't compute"""
     for folder in ('mon_msg/specs/Protocol', 'mon_msg/specs', 'quorum_model/specs', 'mon_world/specs'):
         for name in sorted(os.listdir(os.path.join(antt.ROOT, folder))):
             if name.endswith('.antt') and name != 'Lib.antt':

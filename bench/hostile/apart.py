@@ -267,7 +267,7 @@ class Judge:
             self.end(final)
 
     def order(self):
-        """Versions are told once, and in the order of time."""
+        """Each version is one reply, and they rise in the order of time."""
         versions = collections.Counter(change.version for change in self.answered)
         self.wrong += [f'version {version} was told {count} times' for version, count in versions.items() if count > 1]
         events = sorted([(c.began, 1, c.version) for c in self.answered] + [(c.ended, 0, c.version) for c in self.answered])

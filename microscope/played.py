@@ -1,0 +1,106 @@
+"""A schedule that is run by the proved definitions: what each event did, and what its monitor remembers and keeps afterwards."""
+from __future__ import annotations
+
+import os
+import sys
+from typing import Iterator, NamedTuple
+
+TOP = os.path.dirname(os.path.dirname(os.path.abspath(__file__)))
+sys.path[:0] = [os.path.join(TOP, 'bench', 'definitions'), os.path.join(TOP, 'examples')]
+import quorum_file  # noqa: E402, F401
+import run  # noqa: E402
+from antt import Con, Rec, Tup, app  # noqa: E402
+from schedules import TIMERS, faults_of  # noqa: E402
+
+# The prefixes of a store whose numbers are shown.
+PREFIXES = b'paxos', b'monitor', b'mon_sync', b'kv', b'logm'
+
+
+class Refused(Exception):
+    """The text is no schedule, or the definitions stop at one of its events."""
+
+
+class Step(NamedTuple):
+    """An event: its number, its lines in the trace, its changes as (monitor, part, before, after), and what each monitor then remembers and
+    keeps."""
+    number: int
+    lines: list[str]
+    changes: list[tuple[int, str, str, str]]
+    looks: list[dict[str, str]]
+
+    def is_idle(self) -> bool:
+        """Whether the event sent, wrote and changed nothing."""
+        return not self.changes and len(self.lines) == 1
+
+
+def shown(value) -> str:
+    """A value of the definitions as text."""
+    if isinstance(value, Rec):
+        return '{' + ', '.join(f'{name} {shown(part)}' for name, part in value.d.items()) + '}'
+    if isinstance(value, Con):
+        if value.n in ('None', 'Some'):
+            return shown(value.a[0]) if value.a else '-'
+        return value.n.lower() + ('(' + ', '.join(map(shown, value.a)) + ')' if value.a else '')
+    if isinstance(value, Tup):
+        return '(' + ', '.join(map(shown, value.a)) + ')'
+    if isinstance(value, (tuple, list)):
+        if len(value) == 15 and all(isinstance(part, bool) for part in value):
+            return '{' + ','.join(str(rank) for rank, is_in in enumerate(value) if is_in) + '}'
+        return '[' + ', '.join(map(shown, value)) + ']'
+    if isinstance(value, (bytes, bytearray)):
+        return value.decode('ascii', 'replace')
+    return {True: 'yes', False: 'no'}.get(value, str(value)) if isinstance(value, bool) else str(value)
+
+
+def remembered(state) -> dict[str, str]:
+    """The parts of a monitor's state that aren't in its store, each as text."""
+    if state.n == 'None':
+        return {'up': 'no'}
+    found = {'up': 'yes'}
+    for part, value in state.a[0].d.items():
+        if part == 'timers':
+            found |= {f'timer {name}': 'off' if timer.n == 'None' else f'at {timer.a[0]}' for name, timer in zip(TIMERS, value)}
+        elif isinstance(value, Rec):
+            found |= {f'{part}.{name}': shown(field) for name, field in value.d.items() if name != 'scores'}
+        else:
+            found[part] = shown(value)
+    return found
+
+
+def kept(store) -> dict[str, str]:
+    """The numbers of a monitor's store."""
+    return {f'store {prefix.decode()}/{key.decode()}': str(int.from_bytes(value, 'little'))
+            for (prefix, key), value in store.d.items() if prefix in PREFIXES and len(value) == 8 and not key.isdigit()}
+
+
+def looks(play) -> list[dict[str, str]]:
+    """What each monitor remembers and keeps."""
+    world = play.scene.d['world'].d
+    return [{**remembered(app(world['state'], rank)), **kept(app(world['store'], rank))} for rank in range(play.n)]
+
+
+def lines_of(octets: bytes) -> list[str]:
+    """The lines of a schedule. Raises Refused at its first fault."""
+    if fault := next(faults_of(octets), None):
+        raise Refused(f'line {fault.line}, {fault.kind}: expected {fault.allowed}. microscope/lint shows the place')
+    return octets.decode('ascii').splitlines()
+
+
+def steps(lines: list[str]) -> Iterator[Step]:
+    """The events of a schedule, run one after the other. Raises Refused if a number runs out in one, where the program stops too."""
+    play = run.Play(lines[0])
+    before = looks(play)
+    for number, line in enumerate(lines[1:], 1):
+        at = len(play.trace)
+        if not play.take(line):
+            raise Refused(f'line {number + 1}, {line}: the run stops there, {shown(play.stop)}')
+        now = looks(play)
+        changes = [(rank, part, before[rank].get(part, '-'), now[rank].get(part, '-'))
+                   for rank in range(play.n) for part in {**before[rank], **now[rank]} if before[rank].get(part) != now[rank].get(part)]
+        yield Step(number, play.trace[at:], changes, now)
+        before = now
+
+
+def trace_of(lines: list[str]) -> str:
+    """The trace of a schedule, up to the event at which the run stops."""
+    return run.played('\n'.join(lines) + '\n').ended()
