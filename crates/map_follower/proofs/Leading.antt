@@ -1,11 +1,13 @@
 -- What a turn leaves, and how turns go on.
 use Rattle.std.proofs.Common.{◌≡◌, ℕ, ◌+◌, ◌≤◌, List, [], ◌∷◌, ◌++◌, length, take, Option, Some, None, Result, Ok, Err, refl, sym, ap, subst, ◌∙◌, arith}
+use Rattle.std.proofs.Math.Nat.{le_refl}
 use Rattle.std.proofs.Math.Seq.{take-append_seam, take-append-add, take-length}
-use Rattle.std.specs.Prelude.{IfErr, OnOk}
+use Rattle.std.specs.Prelude.{IfErr, IfSome, OnOk}
 use Rattle.std.specs.Option.{option_map}
+use Rattle.mon_frag.specs.declared.partial.Partial.{Partial}
 use Rattle.mon_link.specs.Links.{Told, asked_to_send, next_leaves}
 use Rattle.mon_link.specs.declared.link.Got.{Got}
-use Rattle.mon_link.specs.declared.link.Got.TheVariants.{Datagram}
+use Rattle.mon_link.specs.declared.link.Got.TheVariants.{Datagram, Idle}
 use Rattle.mon_link.specs.declared.link.Peer.{Peer}
 use Rattle.mon_types.specs.declared.names.Stop.{Stop}
 use Rattle.mon_types.specs.declared.names.Stop.TheVariants as stop
@@ -16,70 +18,104 @@ use Rattle.map_follower.specs.declared.end.FollowEnd.{FollowEnd}
 use Rattle.map_follower.specs.declared.end.FollowEnd.TheVariants as end
 use Rattle.map_follower.specs.declared.follower.Follower.{Follower}
 
-pub same_sent : (l : Option Told) → SentPrefix l l
-same_sent None = (0, refl)
-same_sent (Some t) = (length t.sent, λ i. Some (record t { sent = sym (take-length t.sent) i }))
+pub same_sent : (l : Option Told) → SentPrefix l l l
+same_sent None = (0, tt, refl)
+same_sent (Some t) = (length t.sent, le_refl (length t.sent), λ i. Some (record t { sent = sym (take-length t.sent) i }))
 
-pub not_sent : (to : Peer) (bytes : List ℕ) (l : Option Told) → SentPrefix (option_map (asked_to_send to bytes) l) l
-not_sent to bytes None = (0, refl)
-not_sent to bytes (Some t) = (length t.sent, λ i. Some (record t { sent = sym (take-append_seam t.sent (record { to = to; bytes = bytes } ∷ [])) i }))
+pub not_sent : (to : Peer) (bytes : List ℕ) (l : Option Told) → SentPrefix l (option_map (asked_to_send to bytes) l) l
+not_sent to bytes None = (0, tt, refl)
+not_sent to bytes (Some t) = (length t.sent, le_refl (length t.sent), λ i. Some (record t { sent = sym (take-append_seam t.sent (record { to = to; bytes = bytes } ∷ [])) i }))
 
-pub same_written : (w : Option (List ℕ)) → WrittenPrefix w w
-same_written None = (0, refl)
-same_written (Some xs) = (length xs, λ i. Some (sym (take-length xs) i))
+pub same_written : (w : Option (List ℕ)) → WrittenPrefix w w w
+same_written None = (0, tt, refl)
+same_written (Some xs) = (length xs, le_refl (length xs), λ i. Some (sym (take-length xs) i))
 
-none_written : (w : Option (List ℕ)) (line : List ℕ) → WrittenPrefix (option_map (λ xs. xs ++ line) w) w
-none_written None line = (0, refl)
-none_written (Some xs) line = (length xs, λ i. Some (sym (take-append_seam xs line) i))
+none_written : (w : Option (List ℕ)) (line : List ℕ) → WrittenPrefix w (option_map (λ xs. xs ++ line) w) w
+none_written None line = (0, tt, refl)
+none_written (Some xs) line = (length xs, le_refl (length xs), λ i. Some (sym (take-append_seam xs line) i))
 
-front_written : (old new : Option (List ℕ)) (line : List ℕ) (k : ℕ) → Writes old new (take k line) → WrittenPrefix (option_map (λ xs. xs ++ line) old) new
-front_written None new line k h = (0, h)
-front_written (Some xs) new line k h = (length xs + k, h ∙ (λ i. Some (sym (take-append-add xs line k) i)))
+front_written : (old new : Option (List ℕ)) (line : List ℕ) (k : ℕ) → Writes old new (take k line) → WrittenPrefix old (option_map (λ xs. xs ++ line) old) new
+front_written None new line k h = (0, tt, h)
+front_written (Some xs) new line k h = let more : length xs ≤ length xs + k = omega arith in (length xs + k, more, h ∙ (λ i. Some (sym (take-append-add xs line k) i)))
 
 -- ---- a reply
 
-pub none_with : (c : Course) (r : Option Reply) → WrittenPrefix (with_reply c r).written c.written
+pub none_with : (c : Course) (r : Option Reply) → WrittenPrefix c.written (with_reply c r).written c.written
 none_with c None = same_written c.written
 none_with c (Some r) = none_written c.written (line_of (taken c.follower r))
 
-pub sent_with : (c : Course) (r : Option Reply) → SentPrefix (with_reply c r).link c.link
+pub sent_with : (c : Course) (r : Option Reply) → SentPrefix c.link (with_reply c r).link c.link
 sent_with c None = same_sent c.link
 sent_with c (Some r) = same_sent c.link
 
-pub does_reply : (result : Result (Unit {0}) FollowEnd) (c : Course) (r : Reply) (f : Follower) (w : Option (List ℕ)) → OnOk result (f ≡ (taken c.follower r).0)
+pub does_reply : (result : Result (Unit {0}) FollowEnd) (parts : List Partial) (c : Course) (r : Reply) (f : Follower) (w : Option (List ℕ)) → OnOk result (f ≡ (taken c.follower r).0)
     → IfErr result (λ e. CopyAt e c.follower (taken c.follower r).0 f)
     → OnOk result (Writes c.written w (line_of (taken c.follower r))) → IfErr result (λ e. WritesPrefix e c.written w (line_of (taken c.follower r)))
-    → Does result c.follower (goes_on (with_reply c (Some r))) (record c { follower = f; written = w })
-does_reply (Ok x) c r f w is copy text front = λ i. goes_on (record c { follower = sym is i; written = sym text i })
-does_reply (Err end.WriteFault) c r f w is copy text front = (copy, (refl, refl, front_written c.written w (line_of (taken c.follower r)) front.0 front.1))
-does_reply (Err end.OutOfMemory) c r f w is copy text front = (copy, (same_sent c.link, front_written c.written w (line_of (taken c.follower r)) front.0 front.1))
-does_reply (Err end.Closed) c r f w is copy text front = absurd front
-does_reply (Err end.TurnsUsed) c r f w is copy text front = absurd front
-does_reply (Err end.LinkFault) c r f w is copy text front = absurd front
+    → Does result (record c { parts = parts }) (goes_on (with_reply c (Some r))) (record c { follower = f; written = w })
+does_reply (Ok x) parts c r f w is copy text front = λ i. goes_on (record c { follower = sym is i; written = sym text i })
+does_reply (Err end.WriteFault) parts c r f w is copy text front = (copy, (refl, refl, front_written c.written w (line_of (taken c.follower r)) front.0 front.1))
+does_reply (Err end.OutOfMemory) parts c r f w is copy text front = (copy, (same_sent c.link, front_written c.written w (line_of (taken c.follower r)) front.0 front.1))
+does_reply (Err end.Closed) parts c r f w is copy text front = absurd front
+does_reply (Err end.TurnsUsed) parts c r f w is copy text front = absurd front
+does_reply (Err end.LinkFault) parts c r f w is copy text front = absurd front
 
 -- ---- turns
 
+-- a wait of the link sends nothing
+waits_alone : (g : Result Got Stop) (l : Option Told) (k : ℕ) → IfSome (option_map (next_leaves 1000 g) l) (λ t. length t.sent ≤ k) → IfSome l (λ t. length t.sent ≤ k)
+waits_alone g None k h = tt
+waits_alone (Ok got) (Some t) k h = h
+waits_alone (Err stop.Failed) (Some t) k h = h
+waits_alone (Err stop.OutOfMemory) (Some t) k h = h
+
+sent_before : (g : Result Got Stop) (l told whole new : Option Told) → told ≡ option_map (next_leaves 1000 g) l → SentPrefix told whole new → SentPrefix l whole new
+sent_before g l told whole new leaves p = (p.0, waits_alone g l p.0 (subst (λ x. IfSome x (λ t. length t.sent ≤ p.0)) leaves p.1), p.2)
+
+-- what is done after the wait is done in the turn
+asked_before : (r : Result (Unit {0}) FollowEnd) (g : Result Got Stop) (old : Course) (told : Option Told) → told ≡ option_map (next_leaves 1000 g) old.link
+    → (t : Turned) (new : Course) → Does r (record old { link = told }) t new → Does r old t new
+asked_before (Ok x) g old told leaves t new h = h
+asked_before (Err end.WriteFault) g old told leaves t new h = h
+asked_before (Err end.OutOfMemory) g old told leaves t new h = (h.0, (sent_before g old.link told t.course.link new.link leaves h.1.0, h.1.1))
+asked_before (Err end.Closed) g old told leaves t new h = h
+asked_before (Err end.LinkFault) g old told leaves t new h = h
+asked_before (Err end.TurnsUsed) g old told leaves t new h = absurd h.1
+
 pub turn_with : (n : ℕ) (r : Result (Unit {0}) FollowEnd) (g : Result Got Stop) (from : Peer) (bytes shown : List ℕ) → g ≡ Ok (Datagram from bytes) → shown ≡ bytes
     → (old : Course) (told : Option Told) → told ≡ option_map (next_leaves 1000 g) old.link → (new : Course)
-    → Does r old.follower (goes_on (with_datagram n from shown (record old { link = told }))) new → Does r old.follower (turned n g old) new
+    → Does r (record old { link = told }) (goes_on (with_datagram n from shown (record old { link = told }))) new → Does r old (turned n g old) new
 turn_with n r g from bytes shown is same old told leaves new does =
-    subst (λ l. Does r old.follower (answered n g (record old { link = l })) new) leaves
-    (subst (λ z. Does r old.follower (answered n z (record old { link = told })) new) (sym is)
-    (subst (λ b. Does r old.follower (goes_on (with_datagram n from b (record old { link = told }))) new) same does))
+    subst (λ l. Does r old (answered n g (record old { link = l })) new) leaves
+    (subst (λ z. Does r old (answered n z (record old { link = told })) new) (sym is)
+    (subst (λ b. Does r old (goes_on (with_datagram n from b (record old { link = told }))) new) same
+    (asked_before r g old told leaves (goes_on (with_datagram n from shown (record old { link = told }))) new does)))
+
+pub turn_idle : (n : ℕ) (r : Result (Unit {0}) FollowEnd) (g : Result Got Stop) → g ≡ Ok Idle
+    → (old : Course) (told : Option Told) → told ≡ option_map (next_leaves 1000 g) old.link → (new : Course)
+    → Does r (record old { link = told }) (goes_on (asked n (record old { link = told }))) new → Does r old (turned n g old) new
+turn_idle n r g is old told leaves new does =
+    subst (λ l. Does r old (answered n g (record old { link = l })) new) leaves
+    (subst (λ z. Does r old (answered n z (record old { link = told })) new) (sym is)
+    (asked_before r g old told leaves (goes_on (asked n (record old { link = told }))) new does))
+
+out_sent : (l : Option Told) → SentPrefix l (option_map (next_leaves 1000 (Err stop.OutOfMemory)) l) (option_map (next_leaves 1000 (Err stop.OutOfMemory)) l)
+out_sent None = same_sent None
+out_sent (Some t) = same_sent (Some t)
 
 pub turn_out : (n : ℕ) (g : Result Got Stop) → g ≡ Err stop.OutOfMemory → (old : Course) (told : Option Told) → told ≡ option_map (next_leaves 1000 g) old.link
-    → SentPrefix (turned n g old).course.link told × WrittenPrefix (turned n g old).course.written old.written
+    → SentPrefix old.link (turned n g old).course.link told × WrittenPrefix old.written (turned n g old).course.written old.written
 turn_out n g is old told leaves =
-    subst (λ l. SentPrefix (answered n g (record old { link = l })).course.link told × WrittenPrefix (answered n g (record old { link = l })).course.written old.written) leaves
-    (subst (λ z. SentPrefix (answered n z (record old { link = told })).course.link told × WrittenPrefix (answered n z (record old { link = told })).course.written old.written) (sym is)
-    (same_sent told, same_written old.written))
+    subst (λ z. SentPrefix old.link (turned n z old).course.link told × WrittenPrefix old.written (turned n z old).course.written old.written) (sym is) (
+      subst (SentPrefix old.link (option_map (next_leaves 1000 (Err stop.OutOfMemory)) old.link)) (sym (leaves ∙ ap (λ z. option_map (next_leaves 1000 z) old.link) is)) (out_sent old.link),
+      same_written old.written,
+    )
 
-pub ends_after : (turns made : ℕ) (e : FollowEnd) (was : Follower) (t : Turned) (new : Course) → Ends e was t new → EndsAfter turns e made was t new
-ends_after turns made end.WriteFault was t new h = h
-ends_after turns made end.OutOfMemory was t new h = h
-ends_after turns made end.Closed was t new h = h
-ends_after turns made end.LinkFault was t new h = h
-ends_after turns made end.TurnsUsed was t new h = absurd h.1
+pub ends_after : (turns made : ℕ) (e : FollowEnd) (before : Course) (t : Turned) (new : Course) → Ends e before t new → EndsAfter turns e made before t new
+ends_after turns made end.WriteFault before t new h = h
+ends_after turns made end.OutOfMemory before t new h = h
+ends_after turns made end.Closed before t new h = h
+ends_after turns made end.LinkFault before t new h = h
+ends_after turns made end.TurnsUsed before t new h = absurd h.1
 
 -- so many turns led from one course to another
 pub record Leads (n made : ℕ) (old now : Course) : Type 0 where
@@ -101,18 +137,18 @@ module _ (n made : ℕ) (old now : Course) (L : Leads n made old now) (g : Resul
   pub leads_on : (next : Course) → turned n g now ≡ goes_on next → Leads n (made + 1) old next
   leads_on next h = record { given = g ∷ L.given; are = are_more; long = omega (arith, L.long); leads = one_more ∙ h }
 
-  pub ends_at : (turns : ℕ) (e : FollowEnd) (new : Course) → made + 1 ≤ turns → Ends e now.follower (turned n g now) new → Follows n turns old new e
+  pub ends_at : (turns : ℕ) (e : FollowEnd) (new : Course) → made + 1 ≤ turns → Ends e now (turned n g now) new → Follows n turns old new e
   ends_at turns e new few h = record {
     given = g ∷ L.given;
     are = are_more;
     most = omega (arith, L.long, few);
     ends =
         ends_after turns (length (g ∷ L.given)) e _ _ new
-        (subst (λ (t : Turned). Ends e (all_turned n old L.given).course.follower t new) (sym one_more)
-        (subst (λ (f : Follower). Ends e f (turned n g now) new) (sym (ap (λ (t : Turned). t.course.follower) L.leads)) h));
+        (subst (λ (t : Turned). Ends e (all_turned n old L.given).course t new) (sym one_more)
+        (subst (λ (c : Course). Ends e c (turned n g now) new) (sym (ap (λ (t : Turned). t.course) L.leads)) h));
   }
 
-pub ends_first : (n turns : ℕ) (e : FollowEnd) (old new : Course) → Ends e old.follower (goes_on (asked n old)) new → Follows n turns old new e
+pub ends_first : (n turns : ℕ) (e : FollowEnd) (old new : Course) → Ends e old (goes_on (asked n old)) new → Follows n turns old new e
 ends_first n turns e old new h = record { given = []; are = tt; most = omega arith; ends = ends_after turns 0 e _ _ new h }
 
 pub ends_last : (n made turns : ℕ) (old now : Course) → Leads n made old now → made ≡ turns → Follows n turns old now end.TurnsUsed

@@ -116,15 +116,15 @@ all_turned n c (g ∷ earlier) = and_turned n g (all_turned n c earlier)
 
 -- ---- what was done of it
 
--- the first sends, and a prefix of the bytes
 abbrev pub first_sent : ℕ → Told → Told
 first_sent k t = record t { sent = take k t.sent }
 
-abbrev pub SentPrefix : Option Told → Option Told → Type 0
-SentPrefix whole new = (k : ℕ) × (new ≡ option_map (first_sent k) whole)
+-- Of what a turn sends and writes, a prefix was sent and written. All that was sent and written before the turn stays.
+abbrev pub SentPrefix : (before whole new : Option Told) → Type 0
+SentPrefix before whole new = (k : ℕ) × IfSome before (λ t. length t.sent ≤ k) × (new ≡ option_map (first_sent k) whole)
 
-abbrev pub WrittenPrefix : Option (List ℕ) → Option (List ℕ) → Type 0
-WrittenPrefix whole new = (k : ℕ) × (new ≡ option_map (take k) whole)
+abbrev pub WrittenPrefix : (before whole new : Option (List ℕ)) → Type 0
+WrittenPrefix before whole new = (k : ℕ) × IfSome before (λ w. length w ≤ k) × (new ≡ option_map (take k) whole)
 
 -- a line was written to the sink, or a prefix of it
 abbrev pub Writes : Option (List ℕ) → Option (List ℕ) → List ℕ → Type 0
@@ -140,19 +140,22 @@ abbrev pub CopyAt : FollowEnd → (was now new : Follower) → Type 0
 CopyAt end.OutOfMemory was now new = (new ≡ was) ⊎ (new ≡ now)
 CopyAt e was now new = new ≡ now
 
--- All of it was done; or, if writing failed or memory ran out, a prefix of it.
-abbrev pub Outputs : FollowEnd → Turned → Course → Type 0
-Outputs end.WriteFault t new = (t.stop ≡ None) × (new.link ≡ t.course.link) × WrittenPrefix t.course.written new.written
-Outputs end.OutOfMemory t new = SentPrefix t.course.link new.link × WrittenPrefix t.course.written new.written
-Outputs end.TurnsUsed t new = ⊥
-Outputs e t new = (t.stop ≡ Some e) × (new.link ≡ t.course.link) × (new.written ≡ t.course.written)
+-- What was sent and written at an end: all of the last turn; or a prefix of its line, if writing failed; or a prefix of its request and of its
+-- line, if memory ran out.
+abbrev pub Outputs : FollowEnd → (before : Course) → Turned → Course → Type 0
+Outputs end.WriteFault before t new =
+    (t.stop ≡ None) × (new.link ≡ t.course.link) × WrittenPrefix before.written t.course.written new.written
+Outputs end.OutOfMemory before t new =
+    SentPrefix before.link t.course.link new.link × WrittenPrefix before.written t.course.written new.written
+Outputs end.TurnsUsed before t new = ⊥
+Outputs e before t new = (t.stop ≡ Some e) × (new.link ≡ t.course.link) × (new.written ≡ t.course.written)
 
-abbrev pub Ends : FollowEnd → (was : Follower) → Turned → Course → Type 0
-Ends e was t new = CopyAt e was t.course.follower new.follower × Outputs e t new
+abbrev pub Ends : FollowEnd → (before : Course) → Turned → Course → Type 0
+Ends e before t new = CopyAt e before.follower t.course.follower new.follower × Outputs e before t new
 
-abbrev pub Does : Result (Unit {0}) FollowEnd → (was : Follower) → Turned → Course → Type 0
-Does (Ok x) was t new = t ≡ record { course = new; stop = None }
-Does (Err e) was t new = Ends e was t new
+abbrev pub Does : Result (Unit {0}) FollowEnd → (before : Course) → Turned → Course → Type 0
+Does (Ok x) before t new = t ≡ record { course = new; stop = None }
+Does (Err e) before t new = Ends e before t new
 
 -- an answer is the one that the link reports as its next, if it reports any
 abbrev pub IsAnswer : Option Told → Result Got Stop → Type 0
@@ -162,22 +165,22 @@ abbrev pub AreAnswers : (n : ℕ) → Course → List (Result Got Stop) → Type
 AreAnswers n c [] = Unit {0}
 AreAnswers n c (g ∷ earlier) = AreAnswers n c earlier × IsAnswer (all_turned n c earlier).course.link g
 
--- the copy before the last of these turns
-abbrev pub copy_before : (n : ℕ) → Course → List (Result Got Stop) → Follower
-copy_before n c [] = c.follower
-copy_before n c (g ∷ earlier) = (all_turned n c earlier).course.follower
+-- the course before the last of these turns
+abbrev pub course_before : (n : ℕ) → Course → List (Result Got Stop) → Course
+course_before n c [] = c
+course_before n c (g ∷ earlier) = (all_turned n c earlier).course
 
 -- How a client that follows ended: after all its turns, or at one of them, or before the first because memory ran out.
-abbrev pub EndsAfter : (turns : ℕ) → FollowEnd → (made : ℕ) → (was : Follower) → Turned → Course → Type 0
-EndsAfter turns end.TurnsUsed made was t new = (made ≡ turns) × (t ≡ record { course = new; stop = None })
-EndsAfter turns e made was t new = Ends e was t new
+abbrev pub EndsAfter : (turns : ℕ) → FollowEnd → (made : ℕ) → (before : Course) → Turned → Course → Type 0
+EndsAfter turns end.TurnsUsed made before t new = (made ≡ turns) × (t ≡ record { course = new; stop = None })
+EndsAfter turns e made before t new = Ends e before t new
 
 -- what the link returned, one answer a turn, decides what was sent, written and taken
 pub record Follows (n turns : ℕ) (old new : Course) (e : FollowEnd) : Type 0 where
   pub given : List (Result Got Stop)
   pub are : AreAnswers n old given
   pub most : length given ≤ turns
-  pub ends : EndsAfter turns e (length given) (copy_before n old given) (all_turned n old given) new
+  pub ends : EndsAfter turns e (length given) (course_before n old given) (all_turned n old given) new
 
 abbrev pub faults_at : FollowEnd → ℕ → ℕ
 faults_at end.LinkFault faults = risen faults

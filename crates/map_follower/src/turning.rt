@@ -31,8 +31,8 @@ fn take_datagram<K: Sink>(
     datagram: &[u8],
 ) -> Result<(), FollowEnd>
     ensures does { (asks : ℕ) (link : Option Told) →
-        Does result follower.old (goes_on (with_datagram monitors from.now datagram.now
-        (course follower.old assembly.old asks link (K.held sink.old))))
+        Does result (course follower.old assembly.old asks link (K.held sink.old))
+        (goes_on (with_datagram monitors from.now datagram.now (course follower.old assembly.old asks link (K.held sink.old))))
         (course follower.new assembly.new asks link (K.held sink.new)) }
     ensures later { K.faults sink.old ≤ K.faults sink.new }
     ensures fault { result ≡ Err FollowEnd.WriteFault → Rose (K.faults sink.old) (K.faults sink.new) }
@@ -60,7 +60,8 @@ pub(crate) fn ask_on<L: Link>(
     requires most { monitors ≤ 15 }
     requires asks { asks.old + 1 ≤ 2 ^ 62 }
     ensures does { (parts : List Partial) (written : Option (List ℕ)) →
-        Does result follower.now (goes_on (asked monitors (course follower.now parts asks.old (L.state link.old).told written)))
+        Does result (course follower.now parts asks.old (L.state link.old).told written)
+        (goes_on (asked monitors (course follower.now parts asks.old (L.state link.old).told written)))
         (course follower.now parts asks.new (L.state link.new).told written) }
     ensures asks { OnOk result (asks.new ≡ asks.old + 1) }
     ensures faults { (L.state link.new).faults ≡ faults_by result (L.state link.old).faults }
@@ -84,7 +85,7 @@ pub(crate) fn turn<L: Link, K: Sink>(
     requires most { monitors ≤ 15 }
     requires asks { asks.old + 1 ≤ 2 ^ 62 }
     ensures turned { let old = course follower.old assembly.old asks.old (L.state link.old).told (K.held sink.old) in
-        (g : Result gots stops) × IsAnswer old.link g × Does result follower.old (turned monitors g old)
+        (g : Result gots stops) × IsAnswer old.link g × Does result old (turned monitors g old)
         (course follower.new assembly.new asks.new (L.state link.new).told (K.held sink.new)) }
     ensures asks { OnOk result (asks.new ≤ asks.old + 1) }
     ensures faults { (L.state link.new).faults ≡ faults_by result (L.state link.old).faults }

@@ -1,2 +1,4 @@
+mod Again
+mod Digests
 mod Found
 pub mod Walking

@@ -1,7 +1,8 @@
 -- The text of a report, and the text that says where two reports differ.
-use Rattle.std.specs.Prelude.{ℕ, ◌+◌, Bool, not, ◌||◌, ◌&&◌, ◌==◌, List, [], ◌∷◌, ◌++◌, codes, decimal, if◌then◌else◌}
+use Rattle.std.specs.Prelude.{◌≡◌, ℕ, ◌+◌, ◌<◌, ◌≤◌, ◌^◌, Bool, not, ◌||◌, ◌&&◌, ◌==◌, List, [], ◌∷◌, ◌++◌, length, codes, decimal, if◌then◌else◌}
 use Rattle.std.specs.Str.{bytes_eq}
 use Rattle.hex.specs.Hex.{encode_lower}
+use Rattle.mon_bytes.specs.Reading.{IsBytes}
 use Rattle.trace_text.specs.Words.{flag_text}
 use Rattle.mon_scrub.specs.declared.report.Part.{Part}
 use Rattle.mon_scrub.specs.declared.report.Report.{Report}
@@ -42,6 +43,25 @@ fields_text f = member_text f.rank f.monitors ++ (last_text f.last f.marked ++ p
 
 abbrev pub report_text : Report → List ℕ
 report_text r = fields_text (fields_of r)
+
+-- ---- what a report says of a store
+
+-- the number of a part's entries, and a SHA-256
+pub record IsPart (p : Part) : Type 0 where
+  pub keys : p.keys < 2 ^ 32
+  pub long : length p.digest ≡ 32
+  pub bytes : IsBytes p.digest
+
+abbrev pub AreParts : List Part → Type 0
+AreParts (kv ∷ logm ∷ paxos ∷ []) = IsPart kv × IsPart logm × IsPart paxos
+AreParts other = ⊥
+
+-- a member, its last version, and three parts
+pub record IsReport (f : Fields) : Type 0 where
+  pub rank : f.rank < f.monitors
+  pub monitors : f.monitors ≤ 15
+  pub last : f.last ≤ 2 ^ 62
+  pub parts : AreParts f.parts
 
 -- ---- where two reports differ
 

@@ -12,7 +12,7 @@ mod tally;
 mod unread;
 
 pub use comparing::compare;
-pub use laws::law_scrub;
+pub use laws::{law_reports, law_scrub};
 pub use making::scrub;
 pub use printing::print;
 pub use reading::parse;

@@ -8,4 +8,4 @@ pub returns-in_err-ask-clause-does : goal.returns-in_err-ask-clause-does
 returns-in_err-ask-clause-does g c parts written =
     let told = (g.L.Link.state c.args.link.now).told in
     let p = err_from_is_err_and c.from_residual.result c.from_residual.ensures.1 in
-    rw (p.1, p.2) (inl refl, (subst (SentPrefix (asked c.args.monitors (course c.args.follower.now parts c.args.asks.now told written)).link) (sym c.in_err-ask.ensures.err) (not_sent _ _ told), same_written written))
+    rw (p.1, p.2) (inl refl, (subst (SentPrefix told (asked c.args.monitors (course c.args.follower.now parts c.args.asks.now told written)).link) (sym c.in_err-ask.ensures.err) (not_sent _ _ told), same_written written))

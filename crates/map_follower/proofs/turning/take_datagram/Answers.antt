@@ -19,7 +19,8 @@ returns-in-Some-clause-does g c asks link =
     let it = piece_taken c.args.assembly.now c.args.from.now c.args.datagram.now in
     let begun = course c.args.follower.now (kept_in c.args.assembly.now it) asks link (g.K.Sink.held c.args.sink.now) in
     let t = c.take-done in
-    let done = does_reply t.result begun c.in-Some.reply t.new.follower (g.K.Sink.held t.new.sink) t.ensures.follower t.ensures.copy t.ensures.ok t.ensures.err in
+    let old = course c.args.follower.now c.args.assembly.now asks link (g.K.Sink.held c.args.sink.now) in
+    let done = does_reply t.result c.args.assembly.now begun c.in-Some.reply t.new.follower (g.K.Sink.held t.new.sink) t.ensures.follower t.ensures.copy t.ensures.ok t.ensures.err in
     let is = sym c.in-Some.is ∙ c.in_ok-reply.ensures.reply in
-    subst (λ r. Does t.result c.args.follower.now (goes_on (with_reply begun r)) (course t.new.follower c.hear.new.assembly asks link (g.K.Sink.held t.new.sink))) is
-    (subst (λ parts. Does t.result c.args.follower.now (goes_on (with_reply begun (Some c.in-Some.reply))) (course t.new.follower parts asks link (g.K.Sink.held t.new.sink))) (sym c.in_ok-reply.ensures.kept) done)
+    subst (λ r. Does t.result old (goes_on (with_reply begun r)) (course t.new.follower c.hear.new.assembly asks link (g.K.Sink.held t.new.sink))) is
+    (subst (λ parts. Does t.result old (goes_on (with_reply begun (Some c.in-Some.reply))) (course t.new.follower parts asks link (g.K.Sink.held t.new.sink))) (sym c.in_ok-reply.ensures.kept) done)

@@ -1,6 +1,6 @@
 use Rattle.std.proofs.Common.{Ok, Err, inl, refl, ap, ◌∙◌}
 use Rattle.map_follower.specs.Turns.{course}
-use Rattle.map_follower.proofs.Leading.{turn_with, turn_out}
+use Rattle.map_follower.proofs.Leading.{turn_with, turn_idle, turn_out}
 use Rattle.map_follower.proofs.turning.turn.Goals as goal
 
 pub returns-in-Ok-Datagram-clause-turned : goal.returns-in-Ok-Datagram-clause-turned
@@ -12,6 +12,18 @@ returns-in-Ok-Datagram-clause-turned g c =
       c.next.ensures.answer,
       turn_with c.args.monitors t.result c.next.result c.in-Ok-Datagram.from c.in-Ok-Datagram.bytes c.as_slice.result.now (c.in-Ok-Datagram.is ∙ ap Ok c.in-Ok-Datagram.field-0-is) c.as_slice.ensures
           old told c.next.ensures.told (course t.new.follower t.new.assembly c.args.asks.now told (g.K.Sink.held t.new.sink)) (t.ensures.does c.args.asks.now told),
+    )
+
+pub returns-in-Ok-Idle-clause-turned : goal.returns-in-Ok-Idle-clause-turned
+returns-in-Ok-Idle-clause-turned g c =
+    let held = g.K.Sink.held c.args.sink.now in
+    let old = course c.args.follower.now c.args.assembly.now c.args.asks.now (g.L.Link.state c.args.link.now).told held in
+    let told = (g.L.Link.state c.next.new.self).told in
+    let a = c.ask_on in (
+      c.next.result,
+      c.next.ensures.answer,
+      turn_idle c.args.monitors a.result c.next.result (c.in-Ok-Idle.is ∙ ap Ok c.in-Ok-Idle.field-0-is) old told c.next.ensures.told
+          (course c.args.follower.now c.args.assembly.now a.new.asks (g.L.Link.state a.new.link).told held) (a.ensures.does c.args.assembly.now held),
     )
 
 pub returns-in-Err-OutOfMemory-clause-turned : goal.returns-in-Err-OutOfMemory-clause-turned
