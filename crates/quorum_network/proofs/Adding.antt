@@ -1,5 +1,5 @@
--- What an event adds to the world: requests, acknowledgements, and the datagrams of its replies.
-use Rattle.std.proofs.Common.{◌≡◌, ℕ, zero, suc, ◌<◌, ◌≤◌, List, [], ◌∷◌, ◌++◌, map, Option, Some, None, refl, sym, ap, arith}
+-- What an event adds to the world: requests, acknowledgements, leaders, and the letters of its replies.
+use Rattle.std.proofs.Common.{◌≡◌, ℕ, zero, suc, ◌<◌, ◌≤◌, Bool, true, false, cond, List, [], ◌∷◌, ◌++◌, map, Option, Some, None, refl, sym, ap, arith}
 use Rattle.std.specs.List.{AllByRecursion, Contains, cons_option}
 use Rattle.std.specs.Option.{option_map}
 use Rattle.mon_link.specs.declared.link.Peer.{Peer}
@@ -13,17 +13,18 @@ use Rattle.quorum_model.specs.Acknowledging.{acknowledgement, acknowledgements_o
 use Rattle.quorum_model.specs.Clients.{replies_of}
 use Rattle.quorum_model.specs.World.{Acknowledged, Asked, Replied, World}
 use Rattle.quorum_network.specs.Network.{Posted}
-use Rattle.quorum_network.specs.Requests.{Acknowledgement, acknowledged_in, acknowledges}
-use Rattle.quorum_network.specs.Running.{IsPiece, answer_of}
+use Rattle.quorum_network.specs.Requests.{Acknowledgement, Leadership, acknowledged_in, acknowledges}
+use Rattle.quorum_network.specs.Running.{answer_of}
+use Rattle.quorum_network.proofs.Letters.{Letter, IsPosted}
 
--- what goes to a client is a datagram of a reply that a later event than this made
+-- bytes that go to a client are a reply that a later event than this made
 abbrev pub IsLater : (count event : ℕ) → World → (by : ℕ) → Peer → List ℕ → Type 0
 IsLater count e w i (Monitor j) bytes = Unit {0}
 IsLater count e w i (Client c) bytes =
-    (r : Replied) × Contains w.replied r × (e < r.event) × (r.rank ≡ i) × (r.session.client ≡ c) × IsPiece (text (answer_of count r)) bytes
+    (r : Replied) × Contains w.replied r × (e < r.event) × (r.rank ≡ i) × (r.session.client ≡ c) × (bytes ≡ text (answer_of count r))
 
-abbrev pub AllLater : (count event : ℕ) → World → List Posted → Type 0
-AllLater count e w ds = AllByRecursion (λ (d : Posted). IsLater count e w d.by d.datagram.to d.datagram.bytes) ds
+abbrev pub AllLater : (count event : ℕ) → World → List Letter → Type 0
+AllLater count e w ls = (l : Letter) → Contains ls l → IsLater count e w l.by l.to l.bytes
 
 -- an acknowledgement without the number of its event and what it puts
 abbrev pub given : Acknowledged → Acknowledgement
@@ -32,7 +33,11 @@ given a = record { version = a.version; pn = a.pn; epoch = a.epoch }
 abbrev pub IsBy : ℕ → Acknowledged → Type 0
 IsBy e a = a.event ≤ e
 
-pub record Adds (count : ℕ) (asks : List Asked) (acks : List Acknowledgement) (ds : List Posted) (w v : World) : Type 0 where
+-- an active leader, as the model notes it
+abbrev pub noted_as : Leadership → ℕ × ℕ
+noted_as l = (l.epoch, l.rank)
+
+pub record Adds (count : ℕ) (asks : List Asked) (acks : List Acknowledgement) (leads : List Leadership) (ds : List Posted) (w v : World) : Type 0 where
   pub asked : v.asked ≡ w.asked ++ asks
   pub events : v.events ≡ suc w.events
   pub new : List Acknowledged
@@ -40,7 +45,11 @@ pub record Adds (count : ℕ) (asks : List Asked) (acks : List Acknowledgement) 
   pub given_are : map given new ≡ acks
   pub numbered : AllByRecursion (IsBy (suc w.events)) new
   pub replied : (r : Replied) → Contains w.replied r → Contains v.replied r
-  pub later : AllLater count w.events v ds
+  pub active : v.active ≡ w.active ++ map noted_as leads
+  -- the letters of these datagrams
+  pub letters : List Letter
+  pub posted : AllByRecursion (IsPosted letters) ds
+  pub later : AllLater count w.events v letters
 
 -- ---- acknowledgements
 
@@ -69,3 +78,9 @@ replied_at e i m [] r (k, lt, is) = absurd (omega (arith, lt))
 replied_at e i m (sent.Message to x ∷ sends) r c = replied_at e i m sends r c
 replied_at e i m (sent.Reply to x ∷ sends) r (zero, lt, is) = ap (λ (q : Replied). q.event) (sym is)
 replied_at e i m (sent.Reply to x ∷ sends) r (suc k, lt, is) = replied_at e i m sends r (k, omega (arith, lt), is)
+
+-- ---- leaders
+
+pub noted_same : (i e : ℕ) (b : Bool) → cond b ((e, i) ∷ []) [] ≡ map noted_as (cond b (record { rank = i; epoch = e } ∷ []) [])
+noted_same i e true = refl
+noted_same i e false = refl

@@ -19,7 +19,7 @@ pub record IsLabelled (i boot next : ℕ) (outs : List Outgoing) (ls : List Lett
 
 -- an assembly of monitor i, fed with datagrams of letters
 pub record Assembly : Type 1 where
-  -- what it keeps stands for letters
+  -- what it keeps are parts of letters
   pub Keeps : List Letter → ℕ → List Partial → Type 0
   pub nothing : (ls : List Letter) (i : ℕ) → Keeps ls i []
   pub more : (ls ks : List Letter) (i : ℕ) (parts : List Partial) → Keeps ls i parts → Keeps (ls ++ ks) i parts

@@ -36,5 +36,5 @@ pub record Facts (ms : Monitors) : Type 0 where
   pub own : (w : World) (p : Plain) (i at : ℕ) (came : Input) (me : Me) (s : State) (r : Reaction) → Reach ms w → PlainFits ms.count p
       → arrival w p ≡ Some (record { rank = i; at = at; input = came }) → w.state i ≡ Some s → (came ≡ input.Start → ⊥) → reaction me at (w.store i) s came ≡ Ok r
       → AllByRecursion (IsOwn me) r.sends
-  -- entries that are told are named
+  -- entries that are sent are named
   pub named : (w : World) → Reach ms w → (e : Envelope) → Contains w.messages e → AllByRecursion IsNamed (entries_in e.message.body)

@@ -16,7 +16,7 @@ use Rattle.quorum_model.specs.Happens.{happens}
 use Rattle.quorum_model.specs.Monitors.{Monitors, me_of}
 use Rattle.quorum_model.specs.World.{Asked, World, Plain, Comes, Envelope, Replied}
 use Rattle.quorum_network.specs.Network.{Network, Posted, Process, Up, Down, map_of}
-use Rattle.quorum_network.specs.Requests.{Acknowledgement}
+use Rattle.quorum_network.specs.Requests.{Acknowledgement, Leadership}
 use Rattle.quorum_network.specs.Running.{answer_of}
 use Rattle.quorum_network.proofs.Adding.{Adds}
 use Rattle.quorum_network.proofs.Assembling.{Assembly}
@@ -58,8 +58,20 @@ module _ (A : Assembly) (ms : Monitors) where
     pub said : (l : Letter) → Contains ls l → IsSaid ms.count w l l.to
     pub boots : (l : Letter) → Contains ls l → l.boot ≤ boot_in (map_of (net.process l.by))
 
-  -- It holds after at most one event more, which adds no more than these requests and acknowledgements, and the
-  -- datagrams behind these.
-  pub data Next (asks : List Asked) (acks : List Acknowledgement) (before : List Posted) (net : Network) (w : World) : Type 0 where
-    Still : net.sent ≡ before → acks ≡ [] → Inv net w → Next asks acks before net w
-    Moved : (p : Plain) (v : World) (ds : List Posted) → PlainFits ms.count p → happens ms w (Comes p) ≡ Ok v → net.sent ≡ before ++ ds → Adds ms.count asks acks ds w v → Inv net v → Next asks acks before net w
+  -- one event more, which adds no more than these requests, acknowledgements and leaders, and the datagrams after these
+  pub record Moves (asks : List Asked) (acks : List Acknowledgement) (leads : List Leadership) (before : List Posted) (ls : List Letter) (net : Network) (w : World) : Type 0 where
+    pub plain : Plain
+    pub world : World
+    pub fits : PlainFits ms.count plain
+    pub next : happens ms w (Comes plain) ≡ Ok world
+    pub sent : List Posted
+    pub wire : net.sent ≡ before ++ sent
+    pub adds : Adds ms.count asks acks leads sent w world
+    pub inv : Inv net world
+    pub old : (l : Letter) → Contains ls l → Contains inv.ls l
+    pub new : (l : Letter) → Contains adds.letters l → Contains inv.ls l
+
+  -- It holds after at most one event more.
+  pub data Next (asks : List Asked) (acks : List Acknowledgement) (leads : List Leadership) (before : List Posted) (ls : List Letter) (net : Network) (w : World) : Type 0 where
+    Still : net.sent ≡ before → acks ≡ [] → leads ≡ [] → (I : Inv net w) → I.ls ≡ ls → Next asks acks leads before ls net w
+    Moved : Moves asks acks leads before ls net w → Next asks acks leads before ls net w

@@ -9,12 +9,12 @@ use Rattle.mon_bounds.proofs.Table.{reaction_ok}
 use Rattle.mon_bounds.specs.Fitting.{MayCome, IsNamed, IsBounded, entries_in}
 use Rattle.mon_bounds.specs.Remembered.{IsNumber, MayRemember}
 use Rattle.mon_frag.proofs.Lists.{all_append}
-use Rattle.mon_frag.specs.Pieces.{pieces_of}
 use Rattle.mon_kv.specs.Readers.{size_of, most_size, epoch}
 use Rattle.mon_link.specs.declared.link.Outgoing.{Outgoing}
 use Rattle.mon_link.specs.declared.link.Peer.{Peer}
 use Rattle.mon_link.specs.declared.link.Peer.TheVariants.{Monitor, Client}
 use Rattle.mon_msg.specs.Protocol.Reaction.{Reaction, reaction}
+use Rattle.mon_msg.specs.Protocol.Readings.{epoch_of, readings_of}
 use Rattle.mon_msg.specs.Protocol.State.{State}
 use Rattle.mon_msg.specs.declared.input.Input.{Input}
 use Rattle.mon_msg.specs.declared.plan.Sent.TheVariants as sent
@@ -35,18 +35,17 @@ use Rattle.quorum_model.specs.Acknowledging.{acknowledgements_of}
 use Rattle.quorum_model.specs.Clients.{messages_of, replies_of}
 use Rattle.quorum_model.specs.Events.{PlainFits}
 use Rattle.quorum_model.specs.Happens as model
-use Rattle.quorum_model.specs.Happens.{happens, moved}
+use Rattle.quorum_model.specs.Happens.{happens, is_active, moved}
 use Rattle.quorum_model.specs.Meets.{Reacts, meets, arrival, state_at}
 use Rattle.quorum_model.specs.Monitors.{Monitors, me_of}
 use Rattle.quorum_model.specs.World.{Asked, World, Plain, Event, Comes, Envelope, Replied, first_world, plain_of}
 use Rattle.quorum_network.specs.Network.{Network, Process, Up, Down, map_of, with_left, Posted, posted}
-use Rattle.quorum_network.specs.Requests.{acknowledged_in}
-use Rattle.quorum_network.proofs.Adding.{Adds, IsLater, all_numbered, given_same, replied_at}
-use Rattle.quorum_network.proofs.Assembled.{all_through}
+use Rattle.quorum_network.specs.Requests.{acknowledged_in, led_in}
+use Rattle.quorum_network.proofs.Adding.{AllLater, IsLater, all_numbered, given_same, noted_as, noted_same, replied_at}
 use Rattle.quorum_network.proofs.Assembling.{Assembly, IsLabelled}
 use Rattle.quorum_network.proofs.Events.{ran_more, reacts_moves, meets_it, IsMe, known}
 use Rattle.quorum_network.proofs.Facts.{Facts, Reach}
-use Rattle.quorum_network.proofs.Invariant.{Says, IsSaid, IfUp, Mine, Inv}
+use Rattle.quorum_network.proofs.Invariant.{Says, IsSaid, IfUp, Mine, Moves, Inv}
 use Rattle.quorum_network.proofs.Letters.{Letter, IsLong, labelled, IsPosted, CanBeCut, Numbered}
 use Rattle.quorum_network.proofs.Sends.{IsOwn, says_more, says_behind, SentHasText, TellsNamed, have_texts, IsCuttable, all_cuttable, SaysOf, all_say, label_of, posted_more, posted_behind}
 
@@ -70,6 +69,10 @@ acknowledged_moved : (w : World) (p : Plain) (i : ℕ) (r : Reaction) → (moved
 unfolding moved
 acknowledged_moved w p i r = refl
 
+active_moved : (w : World) (p : Plain) (i : ℕ) (r : Reaction) → (moved w p i r).active ≡ w.active ++ map noted_as (led_in i (model.map_after w i r) r.state)
+unfolding moved
+active_moved w p i r = ap (λ (xs : List (ℕ × ℕ)). w.active ++ xs) (noted_same i (epoch_of (readings_of (model.map_after w i r))) (is_active r.state.phase))
+
 old_replied : (w : World) (p : Plain) (i : ℕ) (r : Reaction) (q : Replied) → Contains w.replied q → Contains (moved w p i r).replied q
 unfolding moved
 old_replied w p i r q c = Contains-append_left w.replied (replies_of (suc w.events) i (model.map_after w i r) r.sends) q c
@@ -91,7 +94,7 @@ epoch_by (Some bytes) = number_short (Some bytes)
 epoch_short : (m : Store) → epoch m ≤ 2 ^ 62
 epoch_short m = epoch_by (cell m area.Monitor key.ElectionEpoch)
 
--- what others keep where monitor i sends letters
+-- what others keep when monitor i sends letters
 module _ (A : Assembly) (ms : Monitors) (i : ℕ) (ls ks : List Letter) (by : (l : Letter) → Contains ks l → l.by ≡ i) where
   if_up_more : (j : ℕ) (st : Option State) (p : Process) → (j ≡ i → ⊥) → IfUp A ms ls j st p → IfUp A ms (ls ++ ks) j st p
   if_up_more j st (Up s) ne u = record {
@@ -246,40 +249,47 @@ module _ (A : Assembly) (ms : Monitors) (F : Facts ms) (net : Network) (w : Worl
         posted_new : AllByRecursion (IsPosted new) (map (posted i) ds)
         posted_new = front (IsPosted new) (A.pieces i boot n.next outs)
 
-        is_later : (by : ℕ) (to : Peer) (bytes : List ℕ) → IsPosted new (record { by = by; datagram = record { to = to; bytes = bytes } }) → IsLater ms.count w.events v by to bytes
-        is_later by (Monitor j) bytes k = tt
-        is_later by (Client c) bytes k =
-            let l : Letter = k.0 in
-            let says = subst (λ (to : Peer). Says ms.count i (messages_of r.sends) (replies_of (suc w.events) i (model.map_after w i r) r.sends) to l.bytes) k.3 (says_new l k.1) in
-            let event = replied_at (suc w.events) i (model.map_after w i r) r.sends says.0 says.1 in (
-              says.0,
-              new_replied w p i r says.0 says.1,
-              omega (arith, event),
-              says.2 ∙ sym (labels.by l k.1).0 ∙ k.2,
-              says.3,
-              (l.boot, l.seq, subst (λ (x : List ℕ). Contains (pieces_of x l.boot l.seq) bytes) says.4 k.4),
-            )
+        later_new : AllLater ms.count w.events v new
+        later_new l c = is_later l.to (says_new l c)
+          where
+            is_later : (to : Peer) → Says ms.count i (messages_of r.sends) (replies_of (suc w.events) i (model.map_after w i r) r.sends) to l.bytes → IsLater ms.count w.events v l.by to l.bytes
+            is_later (Monitor j) says = tt
+            is_later (Client k) says =
+                let event = replied_at (suc w.events) i (model.map_after w i r) r.sends says.0 says.1 in
+                (says.0, new_replied w p i r says.0 says.1, omega (arith, event), says.2 ∙ sym (labels.by l c).0, says.3, says.4)
 
-        -- and so it adds what is acknowledged and replied
-        pub adds : (asks : List Asked) → v.asked ≡ w.asked ++ asks → Adds ms.count asks (acknowledged_in (map_after n r) r.state r.sends) (map (posted i) ds) w v
-        adds asks asked = record {
-          asked = asked;
-          events = events_moved w p i r;
-          new = acknowledgements_of (suc w.events) (model.map_after w i r) r.state r.sends;
-          acknowledged = acknowledged_moved w p i r;
-          given_are = given_same (suc w.events) (model.map_after w i r) r.state r.sends ∙ ap (λ (m : Store). acknowledged_in m r.state r.sends) (sym same_map);
-          numbered = all_numbered (suc w.events) (model.map_after w i r) r.state r.sends;
-          replied = old_replied w p i r;
-          later = all_through (IsPosted new) (λ (d : Posted). IsLater ms.count w.events v d.by d.datagram.to d.datagram.bytes) (λ d k. is_later d.by d.datagram.to d.datagram.bytes k) (map (posted i) ds) posted_new;
-        }
-
-        pub kept_holds : Inv A ms then_net v
-        kept_holds = record {
-          ls = I.ls ++ new;
-          mine = mine_now;
-          posted = all_append (IsPosted (I.ls ++ new)) net.sent (map (posted i) ds) (posted_more I.ls new net.sent I.posted)
-              (front (IsPosted (I.ls ++ new)) (posted_behind I.ls new (map (posted i) (datagrams boot n.next outs)) (A.pieces i boot n.next outs)));
-          letters = record { cut = cut_now; numbered = numbered_now };
-          said = said_now;
-          boots = boots_now;
+        -- the world moves, and it holds then
+        pub moves : (asks : List Asked) → v.asked ≡ w.asked ++ asks
+            → Moves A ms asks (acknowledged_in (map_after n r) r.state r.sends) (led_in i (map_after n r) r.state) net.sent I.ls then_net w
+        moves asks asked = record {
+          plain = p;
+          world = v;
+          fits = fits;
+          next = happens_so;
+          sent = map (posted i) ds;
+          wire = refl;
+          adds = record {
+            asked = asked;
+            events = events_moved w p i r;
+            new = acknowledgements_of (suc w.events) (model.map_after w i r) r.state r.sends;
+            acknowledged = acknowledged_moved w p i r;
+            given_are = given_same (suc w.events) (model.map_after w i r) r.state r.sends ∙ ap (λ (m : Store). acknowledged_in m r.state r.sends) (sym same_map);
+            numbered = all_numbered (suc w.events) (model.map_after w i r) r.state r.sends;
+            replied = old_replied w p i r;
+            active = subst (λ (m : Store). v.active ≡ w.active ++ map noted_as (led_in i m r.state)) (sym same_map) (active_moved w p i r);
+            letters = new;
+            posted = posted_new;
+            later = later_new;
+          };
+          inv = record {
+            ls = I.ls ++ new;
+            mine = mine_now;
+            posted = all_append (IsPosted (I.ls ++ new)) net.sent (map (posted i) ds) (posted_more I.ls new net.sent I.posted)
+                (front (IsPosted (I.ls ++ new)) (posted_behind I.ls new (map (posted i) (datagrams boot n.next outs)) (A.pieces i boot n.next outs)));
+            letters = record { cut = cut_now; numbered = numbered_now };
+            said = said_now;
+            boots = boots_now;
+          };
+          old = λ l c. Contains-append_left I.ls new l c;
+          new = λ l c. Contains-append_right I.ls new l c;
         }

@@ -52,7 +52,7 @@ other_sent i j e (d ∷ ds) = ap (λ (b : Bool). sent_by b) e ∙ other_sent i j
     sent_by b = cond b (d ∷ sent_of i (map (posted j) ds)) (sent_of i (map (posted j) ds))
 
 -- what there is of monitor i
-abbrev of_rank : ℕ → Network → Left
+abbrev pub of_rank : ℕ → Network → Left
 of_rank i net = record { process = net.process i; sends = sent_of i net.sent }
 
 module _ (ms : Monitors) (i : ℕ) (me : Me) (is : me_of ms i ≡ Some me) where
@@ -70,7 +70,7 @@ module _ (ms : Monitors) (i : ℕ) (me : Me) (is : me_of ms i ≡ Some me) where
           sent_more i net.sent (map (posted s.rank) l.sends) ∙ ap (λ (xs : List Outgoing). sent_of i net.sent ++ xs) (own_sent i s.rank (eq-eqb s.rank i e) l.sends) in
           λ k. record { process = process k; sends = sends k }
 
-  other_rank : (net : Network) (s : Step) → eqb s.rank i ≡ false → of_rank i (after_step ms net s) ≡ of_rank i net
+  pub other_rank : (net : Network) (s : Step) → eqb s.rank i ≡ false → of_rank i (after_step ms net s) ≡ of_rank i net
   other_rank net s e = by (me_of ms s.rank)
     where
       not_it : eqb i s.rank ≡ false

@@ -25,88 +25,97 @@ use Rattle.quorum_model.specs.Growth.{last_of}
 use Rattle.quorum_model.specs.Kept as model
 use Rattle.quorum_model.specs.Kept.{DoneIsAnswered, IsAnswered}
 use Rattle.quorum_model.specs.Monitors.{Monitors, me_of}
-use Rattle.quorum_network.specs.Requests.{Acknowledgement, acknowledged_at, acknowledgements, asked_by, requests}
+use Rattle.quorum_network.specs.Requests.{Acknowledgement, Leadership, acknowledged_at, acknowledgements, asked_by, leaderships, led_at, requests}
 use Rattle.quorum_model.specs.Safe.{OneActive, Safe}
 use Rattle.mon_msg.specs.Protocol.Readings.{epoch_of, readings_of}
 use Rattle.quorum_model.specs.Runs.{Ran, run}
 use Rattle.quorum_model.specs.Shown.{AskedFor, Fence, IsFenced, IsShown, ShowsLog, WasAskedFor}
 use Rattle.quorum_model.specs.World.{Acknowledged, Asked, Comes, Event, Replied, World}
 use Rattle.quorum_network.specs.Network.{AllMay, Down, Network, Posted, Process, Step, Up, after_step, map_of, network}
-use Rattle.quorum_network.specs.Promises.{AcknowledgedOnce, AgreeWith, AreAnswers, HaveOneLog, IfToClient, IsAnswer, IsDone, IsKept, IsLogOf, IsNoOlder, IsOfLog, LeaderHas, Leads, Requested}
-use Rattle.quorum_network.specs.Running.{IsOfRun, IsPiece, IsTold, answer_of}
-use Rattle.quorum_network.proofs.Adding.{AllLater, IsBy, IsLater, given}
+use Rattle.quorum_network.specs.Promises.{AcknowledgedOnce, AgreeWith, AreAnswers, HaveOneLog, IfToClient, IsDone, IsJoined, IsKept, IsLogOf, IsNoOlder, IsOfLog, IsReply, LeaderHas, Leads, Requested}
+use Rattle.quorum_network.specs.Running.{IsOfRun, answer_of}
+use Rattle.quorum_network.proofs.Adding.{AllLater, IsBy, IsLater, given, noted_as}
 use Rattle.quorum_network.proofs.Assembled.{all_self, assembly}
+use Rattle.quorum_network.proofs.Joined.{joins}
+use Rattle.quorum_network.proofs.Letters.{AreLetters, IsPosted, Letter}
+use Rattle.quorum_network.proofs.Sends.{posted_behind, posted_more}
 use Rattle.quorum_network.proofs.Assembling.{Assembly}
 use Rattle.quorum_network.proofs.Facts.{Facts}
-use Rattle.quorum_network.proofs.Invariant.{Moved, Next, Still}
+use Rattle.quorum_network.proofs.Invariant.{IsSaid, Moved, Next, Still}
 use Rattle.quorum_network.proofs.Leading.{IsNoted, Stays, noted, stays_then}
 use Rattle.quorum_network.proofs.Steps.{step_next}
 use Rattle.quorum_network.proofs.Whole.{Stands, facts, of_run, reach_more, stands, stands_next}
 use Rattle.quorum_walk.proofs.Lists.{all_map}
 use Rattle.mon_frag.proofs.Lists.{all_append}
 use Rattle.mon_msg.specs.Protocol.State.{State}
-use Rattle.std.proofs.lemmas.List.Elements.{Contains-append_left}
+use Rattle.std.proofs.lemmas.List.Elements.{Contains-append_cases, Contains-append_left}
 
 -- ---- a run of later steps goes on from one of earlier ones
 
-record GoesOn (A : Assembly) (ms : Monitors) (before_asks after_asks : List Asked) (before_acks after_acks : List Acknowledgement) (earlier later : Network) : Type 0 where
-  before : Stands A ms before_asks before_acks earlier
-  after : Stands A ms after_asks after_acks later
+record GoesOn (A : Assembly) (ms : Monitors) (before_asks after_asks : List Asked) (before_acks after_acks : List Acknowledgement) (before_leads after_leads : List Leadership) (earlier later : Network) : Type 0 where
+  before : Stands A ms before_asks before_acks before_leads earlier
+  after : Stands A ms after_asks after_acks after_leads later
   more : List Event
   stays : Stays before.w after.w
   is : after.reach.events ≡ before.reach.events ++ more
-  -- what is sent in the later steps are datagrams of later replies
+  -- what is sent in the later steps are datagrams of letters that are later replies
   sent : List Posted
   wire : later.sent ≡ earlier.sent ++ sent
-  later_replies : AllLater ms.count before.w.events after.w sent
+  letters : List Letter
+  posted : AllByRecursion (IsPosted letters) sent
+  later_replies : AllLater ms.count before.w.events after.w letters
+  among : (l : Letter) → Contains letters l → Contains after.inv.ls l
   events : before.w.events ≤ after.w.events
   acknowledged : (a : Acknowledged) → Contains before.w.acknowledged a → Contains after.w.acknowledged a
 
 later_again : (count e f : ℕ) (w v : World) → e ≤ f → ((r : Replied) → Contains w.replied r → Contains v.replied r) → (i : ℕ) (to : Peer) (bytes : List ℕ) → IsLater count f w i to bytes → IsLater count e v i to bytes
 later_again count e f w v le stay i (Monitor j) bytes k = tt
-later_again count e f w v le stay i (Client c) bytes (r, among, event, rank, client, piece) = (r, stay r among, omega (arith, le, event), rank, client, piece)
+later_again count e f w v le stay i (Client c) bytes (r, among, event, rank, client, is) = (r, stay r among, omega (arith, le, event), rank, client, is)
 
-all_later : (count e f : ℕ) (w v : World) → e ≤ f → ((r : Replied) → Contains w.replied r → Contains v.replied r) → (ds : List Posted) → AllLater count f w ds → AllLater count e v ds
-all_later count e f w v le stay ds h =
-    all_map (λ (d : Posted). IsLater count f w d.by d.datagram.to d.datagram.bytes) (λ (d : Posted). IsLater count e v d.by d.datagram.to d.datagram.bytes)
-    (λ d k. later_again count e f w v le stay d.by d.datagram.to d.datagram.bytes k) ds h
-
-module _ (A : Assembly) (ms : Monitors) (olds bs asks : List Asked) (old_acks acks added : List Acknowledgement) (old between net : Network) (G : GoesOn A ms olds bs old_acks acks old between) where
-  abbrev T : Stands A ms bs acks between
+module _ (A : Assembly) (ms : Monitors) (olds bs asks : List Asked) (old_acks acks added : List Acknowledgement) (old_leads leads led : List Leadership) (old between net : Network)
+    (G : GoesOn A ms olds bs old_acks acks old_leads leads old between) where
+  abbrev T : Stands A ms bs acks leads between
   T = G.after
 
-  one_more : Next A ms asks added between.sent net T.w → GoesOn A ms olds (bs ++ asks) old_acks (acks ++ added) old net
+  one_more : Next A ms asks added led between.sent T.inv.ls net T.w → GoesOn A ms olds (bs ++ asks) old_acks (acks ++ added) old_leads (leads ++ led) old net
   unfolding reach_more stands_next
-  one_more (Still same none I) = record {
+  one_more (Still same none nobody I letters) = record {
     before = G.before;
-    after = stands_next A ms bs asks acks added between.sent between net T (Still same none I);
+    after = stands_next A ms bs asks acks added leads led between.sent between net T (Still same none nobody I letters);
     more = G.more;
     stays = G.stays;
     is = G.is;
     sent = G.sent;
     wire = same ∙ G.wire;
+    letters = G.letters;
+    posted = G.posted;
     later_replies = G.later_replies;
+    among = λ l c. subst (λ (ls : List Letter). Contains ls l) (sym letters) (G.among l c);
     events = G.events;
     acknowledged = G.acknowledged;
   }
-  one_more (Moved p v ds fits next more D I) = record {
+  one_more (Moved M) = record {
     before = G.before;
-    after = stands_next A ms bs asks acks added between.sent between net T (Moved p v ds fits next more D I);
-    more = G.more ++ Comes p ∷ [];
-    stays = λ x c. stays_then ms T.w (noted ms T.w T.reach) (Comes p) v next x (G.stays x c);
-    is = ap (λ (es : List Event). es ++ Comes p ∷ []) G.is ∙ append_assoc G.before.reach.events G.more (Comes p ∷ []);
-    sent = G.sent ++ ds;
-    wire = more ∙ ap (λ (xs : List Posted). xs ++ ds) G.wire ∙ append_assoc old.sent G.sent ds;
-    later_replies = all_append (λ (d : Posted). IsLater ms.count G.before.w.events v d.by d.datagram.to d.datagram.bytes) G.sent ds
-        (all_later ms.count G.before.w.events G.before.w.events T.w v (omega arith) D.replied G.sent G.later_replies)
-        (all_later ms.count G.before.w.events T.w.events v v G.events (λ r c. c) ds D.later);
-    events = let le = G.events in let now = D.events in omega (arith, le, now);
-    acknowledged = λ a c. subst (λ (xs : List Acknowledged). Contains xs a) (sym D.acknowledged) (Contains-append_left T.w.acknowledged D.new a (G.acknowledged a c));
+    after = stands_next A ms bs asks acks added leads led between.sent between net T (Moved M);
+    more = G.more ++ Comes M.plain ∷ [];
+    stays = λ x c. stays_then ms T.w (noted ms T.w T.reach) (Comes M.plain) M.world M.next x (G.stays x c);
+    is = ap (λ (es : List Event). es ++ Comes M.plain ∷ []) G.is ∙ append_assoc G.before.reach.events G.more (Comes M.plain ∷ []);
+    sent = G.sent ++ M.sent;
+    wire = M.wire ∙ ap (λ (xs : List Posted). xs ++ M.sent) G.wire ∙ append_assoc old.sent G.sent M.sent;
+    letters = G.letters ++ M.adds.letters;
+    posted = all_append (IsPosted (G.letters ++ M.adds.letters)) G.sent M.sent (posted_more G.letters M.adds.letters G.sent G.posted) (posted_behind G.letters M.adds.letters M.sent M.adds.posted);
+    later_replies = λ l c. elim (Contains-append_cases G.letters M.adds.letters l c) [
+      | inl before ↦ later_again ms.count G.before.w.events G.before.w.events T.w M.world (omega arith) M.adds.replied l.by l.to l.bytes (G.later_replies l before)
+      | inr now ↦ later_again ms.count G.before.w.events T.w.events M.world M.world G.events (λ r k. k) l.by l.to l.bytes (M.adds.later l now)
+    ];
+    among = λ l c. elim (Contains-append_cases G.letters M.adds.letters l c) [ inl before ↦ M.old l (G.among l before) | inr now ↦ M.new l now ];
+    events = let le = G.events in let now = M.adds.events in omega (arith, le, now);
+    acknowledged = λ a c. subst (λ (xs : List Acknowledged). Contains xs a) (sym M.adds.acknowledged) (Contains-append_left T.w.acknowledged M.adds.new a (G.acknowledged a c));
   }
 
 goes_on : (A : Assembly) (ms : Monitors) → Facts ms → (later earlier : List Step) → AllMay ms (later ++ earlier)
-    → GoesOn A ms (requests ms earlier) (requests ms (later ++ earlier)) (acknowledgements ms earlier) (acknowledgements ms (later ++ earlier)) (network ms earlier) (network ms (later ++ earlier))
-unfolding network AllMay requests acknowledgements
+    → GoesOn A ms (requests ms earlier) (requests ms (later ++ earlier)) (acknowledgements ms earlier) (acknowledgements ms (later ++ earlier)) (leaderships ms earlier) (leaderships ms (later ++ earlier)) (network ms earlier) (network ms (later ++ earlier))
+unfolding network AllMay requests acknowledgements leaderships
 goes_on A ms F [] earlier may =
     let S = stands A ms F earlier may in
     record {
@@ -117,7 +126,10 @@ goes_on A ms F [] earlier may =
       is = sym (append-nil S.reach.events);
       sent = [];
       wire = sym (append-nil (network ms earlier).sent);
-      later_replies = tt;
+      letters = [];
+      posted = tt;
+      later_replies = λ l c. absurd (omega (arith, c.1));
+      among = λ l c. absurd (omega (arith, c.1));
       events = omega arith;
       acknowledged = λ a c. c;
     }
@@ -125,7 +137,7 @@ goes_on A ms F (s ∷ later) earlier may =
     let now : Network = network ms (later ++ earlier) in
     let G = goes_on A ms F later earlier may.0 in
     let T = G.after in
-    one_more A ms (requests ms earlier) (requests ms (later ++ earlier)) (asked_by now s (me_of ms s.rank)) (acknowledgements ms earlier) (acknowledgements ms (later ++ earlier)) (acknowledged_at now s (me_of ms s.rank)) (network ms earlier) now (after_step ms now s) G
+    one_more A ms (requests ms earlier) (requests ms (later ++ earlier)) (asked_by now s (me_of ms s.rank)) (acknowledgements ms earlier) (acknowledgements ms (later ++ earlier)) (acknowledged_at now s (me_of ms s.rank)) (leaderships ms earlier) (leaderships ms (later ++ earlier)) (led_at now s (me_of ms s.rank)) (network ms earlier) now (after_step ms now s) G
     (step_next A ms F now T.w T.reach T.inv s may.1)
 
 -- ---- what a run says of its log
@@ -140,6 +152,16 @@ given_among [] a (k, lt, e) = absurd (omega (arith, lt))
 given_among (x ∷ xs) a (zero, lt, e) = (0, omega arith, ap given e)
 given_among (x ∷ xs) a (suc k, lt, e) = let c = given_among xs a (k, omega (arith, lt), e) in (suc c.0, omega (arith, c.1), c.2)
 
+noted_among : (xs : List Leadership) (a : Leadership) → Contains xs a → Contains (map noted_as xs) (a.epoch, a.rank)
+noted_among [] a (k, lt, e) = absurd (omega (arith, lt))
+noted_among (x ∷ xs) a (zero, lt, e) = (0, omega arith, ap noted_as e)
+noted_among (x ∷ xs) a (suc k, lt, e) = let c = noted_among xs a (k, omega (arith, lt), e) in (suc c.0, omega (arith, c.1), c.2)
+
+led_as : (xs : List Leadership) (i e : ℕ) → Contains (map noted_as xs) (e, i) → Contains xs (record { rank = i; epoch = e })
+led_as [] i e (k, lt, is) = absurd (omega (arith, lt))
+led_as (x ∷ xs) i e (zero, lt, is) = (0, omega arith, ap (λ (p : ℕ × ℕ). record { rank = p.1; epoch = p.0 }) is)
+led_as (x ∷ xs) i e (suc k, lt, is) = let c = led_as xs i e (k, omega (arith, lt), is) in (suc c.0, omega (arith, c.1), c.2)
+
 given_once : (xs : List Acknowledged) → model.AcknowledgedOnce xs → AcknowledgedOnce (map given xs)
 given_once [] h = tt
 given_once (x ∷ xs) h = (all_given (λ (b : Acknowledgement). ¬ (b.version ≡ x.version)) xs h.0, given_once xs h.1)
@@ -151,6 +173,19 @@ Were w before = (a : Acknowledged) → Contains before a → Contains w.acknowle
 -- and before a reply
 abbrev AreBelow : List Acknowledged → Replied → Type 0
 AreBelow before r = (a : Acknowledged) → Contains before a → a.event < r.event
+
+-- if it goes to a client, a letter is a reply, after all of these
+abbrev IsReplied : (count : ℕ) → World → List Acknowledged → Letter → Peer → Type 0
+IsReplied count w before l (Monitor j) = Unit {0}
+IsReplied count w before l (Client c) = (r : Replied) × Contains w.replied r × AreBelow before r × (r.rank ≡ l.by) × (r.session.client ≡ c) × (l.bytes ≡ text (answer_of count r))
+
+later_replied : (count since : ℕ) (w : World) (before : List Acknowledged) → ((a : Acknowledged) → Contains before a → a.event ≤ since) → (l : Letter) (to : Peer) → IsLater count since w l.by to l.bytes → IsReplied count w before l to
+later_replied count since w before early l (Monitor j) t = tt
+later_replied count since w before early l (Client c) t = (t.0, t.1, (λ a k. let e = early a k in let later = t.2 in omega (arith, e, later)), t.3, t.4, t.5)
+
+said_replied : (count : ℕ) (w : World) (l : Letter) (to : Peer) → IsSaid count w l to → IsReplied count w [] l to
+said_replied count w l (Monitor j) t = tt
+said_replied count w l (Client c) t = (t.0, t.1, (λ a k. absurd (omega (arith, k.1))), t.2, t.3, t.4)
 
 module _ (n : ℕ) (asks : List Asked) (w : World) (asked : AllByRecursion (λ a. Contains asks a) w.asked) (before : List Acknowledged) (were : Were w before) (r : Replied) where
   abbrev acks : List Acknowledgement
@@ -221,33 +256,31 @@ module _ (ms : Monitors) (asks : List Asked) (net : Network) (es : List Event) (
         let answered = of_all (λ r. DoneIsAnswered w r r.reply) w.replied S.kept.answered r c in
         reply_of_log ms.count asks w asked before were r S.fence c below r.reply S.kept.each shown.within shown.shows shown.asked answered (fenced_by ms.count asks w asked before were r S.fence c below)
 
-    answer_is : (i c : ℕ) (bytes : List ℕ) (r : Replied) → Contains w.replied r → AreBelow before r → r.rank ≡ i → r.session.client ≡ c → IsPiece (text (answer_of ms.count r)) bytes
-        → IsAnswer ms.count asks all_acks (map given before) w.log i c bytes
-    answer_is i c bytes r among below rank client piece = subst (λ (k : ℕ). IsAnswer ms.count asks all_acks (map given before) w.log k c bytes) rank (record {
+    reply_is : (i c : ℕ) (bytes : List ℕ) (r : Replied) → Contains w.replied r → AreBelow before r → r.rank ≡ i → r.session.client ≡ c → bytes ≡ text (answer_of ms.count r)
+        → IsReply ms.count asks all_acks (map given before) w.log i c bytes
+    reply_is i c bytes r among below rank client is = subst (λ (k : ℕ). IsReply ms.count asks all_acks (map given before) w.log k c bytes) rank (record {
       session = r.session;
       epoch = r.epoch;
       reply = r.reply;
       client = client;
-      piece = piece;
+      is_text = is;
       of_log = replied_is r among below;
     })
 
-    later_answer : (since : ℕ) → ((a : Acknowledged) → Contains before a → a.event ≤ since) → (i : ℕ) (to : Peer) (bytes : List ℕ) → IsLater ms.count since w i to bytes → IfToClient ms.count asks all_acks (map given before) w.log i to bytes
-    later_answer since early i (Monitor j) bytes t = tt
-    later_answer since early i (Client c) bytes t = answer_is i c bytes t.0 t.1 (λ a k. let e = early a k in let l = t.2 in omega (arith, e, l)) t.3 t.4 t.5
+    -- datagrams of letters that are replies are answers
+    module _ (ls : List Letter) (A : AreLetters ls) (replied : (l : Letter) → Contains ls l → IsReplied ms.count w before l l.to) (sent : List Posted) (posted : AllByRecursion (IsPosted ls) sent) where
+      letter_is : (l : Letter) → Contains ls l → (c : ℕ) → l.to ≡ Client c → IsReply ms.count asks all_acks (map given before) w.log l.by c l.bytes
+      letter_is l k c e = let t = subst (IsReplied ms.count w before l) e (replied l k) in reply_is l.by c l.bytes t.0 t.1 t.2 t.3 t.4 t.5
 
-    -- what is sent later is answered so
-    pub later_answers : (since : ℕ) → ((a : Acknowledged) → Contains before a → a.event ≤ since) → (sent : List Posted) → AllLater ms.count since w sent → AreAnswers ms.count asks all_acks (map given before) w.log sent
-    later_answers since early sent h = all_map (λ (d : Posted). IsLater ms.count since w d.by d.datagram.to d.datagram.bytes) (λ (d : Posted). IfToClient ms.count asks all_acks (map given before) w.log d.by d.datagram.to d.datagram.bytes)
-        (λ d t. later_answer since early d.by d.datagram.to d.datagram.bytes t) sent h
+      datagram_is : (d : Posted) → IsPosted ls d → (to : Peer) → d.datagram.to ≡ to → IfToClient ms.count asks all_acks (map given before) w.log d.by to d.datagram.bytes
+      datagram_is d p (Monitor j) e = tt
+      datagram_is d p (Client c) e = (p.0.bytes, subst (λ (k : ℕ). IsReply ms.count asks all_acks (map given before) w.log k c p.0.bytes) p.2 (letter_is p.0 p.1 c (p.3 ∙ e)), (p.0.boot, p.0.seq, p.4))
 
-  -- and so is all that was ever sent, of which some may be older
-  none_were : Were w []
-  none_were a c = absurd (omega (arith, c.1))
-
-  to_client : (i : ℕ) (to : Peer) (bytes : List ℕ) → IsTold ms.count w i to bytes → IfToClient ms.count asks all_acks [] w.log i to bytes
-  to_client i (Monitor j) bytes t = tt
-  to_client i (Client c) bytes t = answer_is [] none_were i c bytes t.0 t.1 (λ a k. absurd (omega (arith, k.1))) t.2 t.3 t.4
+      pub are_answers : AreAnswers ms.count asks all_acks (map given before) w.log sent
+      are_answers = record {
+        each = all_map (IsPosted ls) (λ (d : Posted). IfToClient ms.count asks all_acks (map given before) w.log d.by d.datagram.to d.datagram.bytes) (λ d p. datagram_is d p d.datagram.to refl) sent posted;
+        joined = λ c came all. joins ls A sent posted c (λ (p : Peer) (bytes : List ℕ). IsJoined ms.count asks all_acks (map given before) w.log c p bytes) (λ x bytes. tt) (λ l k e. letter_is l k c e) came all;
+      }
 
   value_asked : (v : ℕ) → IsAsked ms.count w.asked w.log v → IsAsked ms.count asks w.log v
   value_asked v A = record { by = A.by; was_asked = of_all (λ a. Contains asks a) w.asked asked A.by A.was_asked; rank = A.rank; command = A.command; is = A.is; form = A.form; ops = A.ops; made = A.made; has_text = A.has_text; spells = A.spells }
@@ -262,19 +295,21 @@ module _ (ms : Monitors) (asks : List Asked) (net : Network) (es : List Event) (
   kept_is : (a : Acknowledged) → model.IsKept ms.count w a → IsKept ms.count net w.log (given a)
   kept_is a k = record { some = k.some; within = k.within; leaders = λ i lt. leader_has a i lt (net.process i) refl (k.leaders i lt) }
 
-  pub is_log : IsLogOf ms asks all_acks net w.log
-  is_log = record {
+  none_were : Were w []
+  none_were a c = absurd (omega (arith, c.1))
+
+  pub is_log : (ls : List Letter) → AreLetters ls → ((l : Letter) → Contains ls l → IsSaid ms.count w l l.to) → AllByRecursion (IsPosted ls) net.sent → IsLogOf ms asks all_acks net w.log
+  is_log ls A said posted = record {
     values = λ v lt. value_asked v ((agrees ms es F).values v lt);
     maps = λ i lt ne. subst (Agrees w.log) (sym (I.maps i lt)) ((agrees ms es F).monitors i lt (λ t. ne (subst (λ (m : Store). is_marked m ≡ true) (sym (I.maps i lt)) t)));
-    answers = all_map (λ (d : Posted). IsTold ms.count w d.by d.datagram.to d.datagram.bytes) (λ (d : Posted). IfToClient ms.count asks all_acks [] w.log d.by d.datagram.to d.datagram.bytes)
-        (λ d t. to_client d.by d.datagram.to d.datagram.bytes t) net.sent I.told;
+    answers = are_answers [] none_were ls A (λ l c. said_replied ms.count w l l.to (said l c)) net.sent posted;
     kept = all_given (IsKept ms.count net w.log) w.acknowledged (all_map (model.IsKept ms.count w) (λ (a : Acknowledged). IsKept ms.count net w.log (given a)) kept_is w.acknowledged S.kept.each);
     once = given_once w.acknowledged S.kept.once;
   }
 
--- ---- at two moments
+-- ---- at two points of time
 
-module _ (ms : Monitors) (asks : List Asked) (acks : List Acknowledgement) (net : Network) (S : Stands assembly ms asks acks net) where
+module _ (ms : Monitors) (asks : List Asked) (acks : List Acknowledgement) (leads : List Leadership) (net : Network) (S : Stands assembly ms asks acks leads net) where
   abbrev world : World
   world = run ms S.reach.events
 
@@ -291,18 +326,28 @@ module _ (ms : Monitors) (asks : List Asked) (acks : List Acknowledgement) (net 
   asked_so = subst (λ (w : World). AllByRecursion (λ a. Contains asks a) w.asked) (sym world_is) S.asked
 
   stands_log : IsLogOf ms asks acks net world.log
-  stands_log = subst (λ (xs : List Acknowledgement). IsLogOf ms asks xs net world.log) acks_are (is_log ms asks net S.reach.events S.reach.fits runs_so asked_so)
+  stands_log = subst (λ (xs : List Acknowledgement). IsLogOf ms asks xs net world.log) acks_are
+      (is_log ms asks net S.reach.events S.reach.fits runs_so asked_so S.inv.ls S.inv.letters (λ l c. subst (λ (w : World). IsSaid ms.count w l l.to) (sym world_is) (S.inv.said l c)) S.inv.posted)
 
-  -- what is sent after an earlier moment
-  stands_fenced : (since : ℕ) (before : List Acknowledged) (sent : List Posted) → Were S.w before → ((a : Acknowledged) → Contains before a → a.event ≤ since) → AllLater ms.count since S.w sent
-      → AreAnswers ms.count asks acks (map given before) world.log sent
-  stands_fenced since before sent were early later = subst (λ (xs : List Acknowledgement). AreAnswers ms.count asks xs (map given before) world.log sent) acks_are
-      (later_answers ms asks net S.reach.events S.reach.fits runs_so asked_so before (subst (λ (w : World). Were w before) (sym world_is) were) since early sent (subst (λ (w : World). AllLater ms.count since w sent) (sym world_is) later))
+  -- some of the letters
+  some_letters : (ls : List Letter) → ((l : Letter) → Contains ls l → Contains S.inv.ls l) → AreLetters ls
+  some_letters ls among = record {
+    cut = λ l c. S.inv.letters.cut l (among l c);
+    numbered = λ l k c d long longer by boots seqs. S.inv.letters.numbered l k (among l c) (among k d) long longer by boots seqs;
+  }
+
+  -- what is sent after an earlier point of time
+  stands_fenced : (since : ℕ) (before : List Acknowledged) (sent : List Posted) (ls : List Letter) → Were S.w before → ((a : Acknowledged) → Contains before a → a.event ≤ since) → ((l : Letter) → Contains ls l → Contains S.inv.ls l)
+      → AllLater ms.count since S.w ls → AllByRecursion (IsPosted ls) sent → AreAnswers ms.count asks acks (map given before) world.log sent
+  stands_fenced since before sent ls were early among later posted = subst (λ (xs : List Acknowledgement). AreAnswers ms.count asks xs (map given before) world.log sent) acks_are
+      (are_answers ms asks net S.reach.events S.reach.fits runs_so asked_so before (subst (λ (w : World). Were w before) (sym world_is) were) ls (some_letters ls among)
+      (λ l c. later_replied ms.count since world before early l l.to (subst (λ (w : World). IsLater ms.count since w l.by l.to l.bytes) (sym world_is) (later l c))) sent posted)
 
 pub one_log : (ms : Monitors) (later earlier : List Step) → AllMay ms (later ++ earlier) → HaveOneLog ms earlier (later ++ earlier)
 one_log ms later earlier may =
     let asks : List Asked = requests ms (later ++ earlier) in
     let acks : List Acknowledgement = acknowledgements ms (later ++ earlier) in
+    let leads : List Leadership = leaderships ms (later ++ earlier) in
     let net : Network = network ms (later ++ earlier) in
     let G = goes_on assembly ms (facts ms) later earlier may in
     let B = G.before in
@@ -314,13 +359,13 @@ one_log ms later earlier may =
     record {
       log = (run ms old).log;
       more = up.more;
-      before = stands_log ms (requests ms earlier) (acknowledgements ms earlier) (network ms earlier) B;
-      after = subst (IsLogOf ms asks acks net) is (stands_log ms asks acks net T);
+      before = stands_log ms (requests ms earlier) (acknowledgements ms earlier) (leaderships ms earlier) (network ms earlier) B;
+      after = subst (IsLogOf ms asks acks net) is (stands_log ms asks acks leads net T);
       sent = G.sent;
       wire = G.wire;
       fenced = subst (λ (xs : List Acknowledgement). AreAnswers ms.count asks acks xs ((run ms old).log ++ up.more) G.sent) B.given_are
           (subst (λ (log : List (List ℕ)). AreAnswers ms.count asks acks (map given B.w.acknowledged) log G.sent) is
-          (stands_fenced ms asks acks net T B.w.events B.w.acknowledged G.sent G.acknowledged (λ a c. of_all (IsBy B.w.events) B.w.acknowledged B.numbered a c) G.later_replies));
+          (stands_fenced ms asks acks leads net T B.w.events B.w.acknowledged G.sent G.letters G.acknowledged (λ a c. of_all (IsBy B.w.events) B.w.acknowledged B.numbered a c) G.among G.later_replies G.posted));
     }
 
 -- ---- two maps
@@ -351,19 +396,46 @@ maps_agree ms later earlier may i j lt more =
 
 -- ---- leaders
 
-noted_leads : (ms : Monitors) (asks : List Asked) (told : List Acknowledgement) (net : Network) (S : Stands assembly ms asks told net) (i e : ℕ) → i < ms.count → Leads net i e → Contains S.w.active (e, i)
-noted_leads ms asks told net S i e lt L =
-    let I = of_run assembly ms net S.w S.inv in
-    let map : S.w.store i ≡ L.serving.node.store.kv = sym (I.maps i lt) ∙ ap map_of L.up in
-    let state : S.w.state i ≡ Some L.serving.node.state = I.states i L.serving lt L.up in
-    let here : Contains S.w.active (epoch_of (readings_of (S.w.store i)), i) = subst (IsNoted S.w.active i (S.w.store i)) state (noted ms S.w S.reach i) L.active in
-    subst (λ (k : ℕ). Contains S.w.active (k, i)) (ap (λ (m : Store). epoch_of (readings_of m)) map ∙ L.epoch) here
+module _ (ms : Monitors) (asks : List Asked) (acks : List Acknowledgement) (leads : List Leadership) (net : Network) (S : Stands assembly ms asks acks leads net) where
+  noted_leads : (i e : ℕ) → i < ms.count → Leads net i e → Contains S.w.active (e, i)
+  noted_leads i e lt L =
+      let I = of_run assembly ms net S.w S.inv in
+      let map : S.w.store i ≡ L.serving.node.store.kv = sym (I.maps i lt) ∙ ap map_of L.up in
+      let state : S.w.state i ≡ Some L.serving.node.state = I.states i L.serving lt L.up in
+      let here : Contains S.w.active (epoch_of (readings_of (S.w.store i)), i) = subst (IsNoted S.w.active i (S.w.store i)) state (noted ms S.w S.reach i) L.active in
+      subst (λ (k : ℕ). Contains S.w.active (k, i)) (ap (λ (m : Store). epoch_of (readings_of m)) map ∙ L.epoch) here
 
-pub one_leads : (ms : Monitors) (later earlier : List Step) → AllMay ms (later ++ earlier) → (i j e : ℕ) → i < ms.count → j < ms.count
+  leads_among : (i e : ℕ) → i < ms.count → Leads net i e → Contains leads (record { rank = i; epoch = e })
+  leads_among i e lt L = led_as leads i e (subst (λ (xs : List (ℕ × ℕ)). Contains xs (e, i)) S.active (noted_leads i e lt L))
+
+  one_active : OneActive S.w
+  one_active = subst OneActive (ap (λ (r : Ran). r.world) S.reach.ran) (safe ms S.reach.events S.reach.fits).one_active
+
+  one_leader : (a b : Leadership) → Contains leads a → Contains leads b → a.epoch ≡ b.epoch → a.rank ≡ b.rank
+  one_leader a b c d e =
+      let here : (x : Leadership) → Contains leads x → Contains S.w.active (x.epoch, x.rank) = λ x k. subst (λ (xs : List (ℕ × ℕ)). Contains xs (x.epoch, x.rank)) (sym S.active) (noted_among leads x k) in
+      one_active a.epoch a.rank b.rank (here a c) (subst (λ (k : ℕ). Contains S.w.active (k, b.rank)) (sym e) (here b d))
+
+pub leads_are : (ms : Monitors) (steps : List Step) → AllMay ms steps → (i e : ℕ) → i < ms.count → Leads (network ms steps) i e → Contains (leaderships ms steps) (record { rank = i; epoch = e })
+leads_are ms steps may i e lt L = leads_among ms (requests ms steps) (acknowledgements ms steps) (leaderships ms steps) (network ms steps) (stands assembly ms (facts ms) steps may) i e lt L
+
+pub one_leads : (ms : Monitors) (steps : List Step) → AllMay ms steps → (a b : Leadership) → Contains (leaderships ms steps) a → Contains (leaderships ms steps) b → a.epoch ≡ b.epoch → a.rank ≡ b.rank
+one_leads ms steps may a b c d e = one_leader ms (requests ms steps) (acknowledgements ms steps) (leaderships ms steps) (network ms steps) (stands assembly ms (facts ms) steps may) a b c d e
+
+-- who led stays among those who led
+leads_stay : (ms : Monitors) (later earlier : List Step) (a : Leadership) → Contains (leaderships ms earlier) a → Contains (leaderships ms (later ++ earlier)) a
+unfolding leaderships
+leads_stay ms [] earlier a c = c
+leads_stay ms (s ∷ later) earlier a c = Contains-append_left (leaderships ms (later ++ earlier)) (led_at (network ms (later ++ earlier)) s (me_of ms s.rank)) a (leads_stay ms later earlier a c)
+
+may_before : (ms : Monitors) (later earlier : List Step) → AllMay ms (later ++ earlier) → AllMay ms earlier
+unfolding AllMay
+may_before ms [] earlier may = may
+may_before ms (s ∷ later) earlier may = may_before ms later earlier may.0
+
+pub two_lead : (ms : Monitors) (later earlier : List Step) → AllMay ms (later ++ earlier) → (i j e : ℕ) → i < ms.count → j < ms.count
     → Leads (network ms earlier) i e → Leads (network ms (later ++ earlier)) j e → i ≡ j
-one_leads ms later earlier may i j e lt more L M =
-    let G = goes_on assembly ms (facts ms) later earlier may in
-    let T = G.after in
-    let one = (safe ms T.reach.events T.reach.fits).one_active in
-    let is : run ms T.reach.events ≡ T.w = ap (λ (r : Ran). r.world) T.reach.ran in
-    subst OneActive is one e i j (G.stays (e, i) (noted_leads ms (requests ms earlier) (acknowledgements ms earlier) (network ms earlier) G.before i e lt L)) (noted_leads ms (requests ms (later ++ earlier)) (acknowledgements ms (later ++ earlier)) (network ms (later ++ earlier)) T j e more M)
+two_lead ms later earlier may i j e lt more L M =
+    one_leads ms (later ++ earlier) may (record { rank = i; epoch = e }) (record { rank = j; epoch = e })
+    (leads_stay ms later earlier (record { rank = i; epoch = e }) (leads_are ms earlier (may_before ms later earlier may) i e lt L))
+    (leads_are ms (later ++ earlier) may j e more M) refl

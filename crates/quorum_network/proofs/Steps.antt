@@ -1,5 +1,5 @@
 -- Each step of a network keeps what holds, with at most one event.
-use Rattle.std.proofs.Common.{◌∷◌, ◌≡◌, ℕ, ◌+◌, ◌^◌, ◌<◌, ◌≤◌, nat_lt, eqb, Bool, true, false, cond, List, [], ◌++◌, map, take, Option, Some, None, Result, Ok, Err, refl, sym, ap, subst, ◌∙◌, arith}
+use Rattle.std.proofs.Common.{◌∷◌, ◌≡◌, ℕ, ◌+◌, ◌^◌, ◌<◌, ◌≤◌, nat_lt, eqb, Bool, true, false, cond, List, [], ◌++◌, take, Option, Some, None, Result, Ok, Err, refl, sym, ap, subst, ◌∙◌, arith}
 use Rattle.std.proofs.lemmas.Bool.{eqb-true, ltb-false}
 use Rattle.std.specs.List.{AllByRecursion, Contains}
 use Rattle.mon_bounds.proofs.Table.{boot_ok}
@@ -18,7 +18,7 @@ use Rattle.mon_msg.specs.declared.input.Input.{Input}
 use Rattle.std.proofs.lemmas.List.{append-nil}
 use Rattle.std.specs.Option.{option_map}
 use Rattle.quorum_model.specs.Clients.{with_asked}
-use Rattle.quorum_network.specs.Requests.{Acknowledgement, acknowledged_at, acknowledged_by, acknowledged_in_turn, asked_by, asked_in_turn, asks_in, came_in, kept_by}
+use Rattle.quorum_network.specs.Requests.{Acknowledgement, Leadership, acknowledged_at, acknowledged_by, acknowledged_in_turn, asked_by, asked_in_turn, asks_in, came_in, kept_by, led_at, led_by, led_in_turn}
 use Rattle.mon_msg.specs.declared.view.Me.{Me}
 use Rattle.mon_node.specs.Hearing.{Given, due_by, wait_until, clock_read, heard, Heard}
 use Rattle.mon_node.specs.Keeping.{kept}
@@ -43,13 +43,13 @@ use Rattle.quorum_model.specs.Happens.{moved}
 use Rattle.quorum_model.specs.Meets.{Arrival, arrival, message_at, state_at}
 use Rattle.quorum_model.specs.Monitors.{Monitors, me_of}
 use Rattle.quorum_model.specs.World.{Asked, Client, Deliver, Envelope, Plain, Ring, Start, World}
-use Rattle.quorum_network.specs.Network.{Network, Process, Up, Down, map_of, Doing, Begins, Turns, Until, Whole, Lost, Kept, Step, Left, turn_of, kept_reaction, down, at_end, left_by, with_left, posted, if_made, made_by, after_step, IsAsked, May}
+use Rattle.quorum_network.specs.Network.{Network, Process, Up, Down, map_of, Doing, Begins, Turns, Until, Whole, Lost, Kept, Step, Left, turn_of, kept_reaction, down, at_end, left_by, with_left, if_made, made_by, after_step, IsAsked, May}
 use Rattle.quorum_network.proofs.Assembling.{Assembly}
 use Rattle.quorum_network.proofs.Events.{IsMe, known}
 use Rattle.quorum_network.proofs.Facts.{Facts, Reach}
 use Rattle.quorum_network.proofs.Inputs.{CameFine, HeardFine, heard_fine}
 use Rattle.quorum_network.proofs.Invariant.{IsUp, IfUp, Mine, Inv, Next, Still, Moved}
-use Rattle.quorum_network.proofs.Kept.{adds, happens_so, kept_holds, next_now, bounded, new}
+use Rattle.quorum_network.proofs.Kept.{moves, next_now, bounded, new}
 use Rattle.quorum_network.proofs.Letters.{Letter, IsLong, IsPosted}
 use Rattle.quorum_network.proofs.Sends.{IsOwn, all_with_number, numbers_within, posted_front}
 
@@ -88,15 +88,18 @@ module _ (A : Assembly) (ms : Monitors) (F : Facts ms) (net : Network) (w : Worl
   M = known ms i me is
 
   -- a process that sends nothing, and keeps its map
-  still_holds : (q : Process) → map_of q ≡ map_of (net.process i) → IfUp A ms I.ls i (w.state i) q → Inv A ms (with_left net i (record { process = q; sends = [] })) w
-  still_holds q e u = record {
-    ls = I.ls;
-    mine = λ j lt. mine_by j lt (eqb j i) refl;
-    posted = all_append (IsPosted I.ls) net.sent [] I.posted tt;
-    letters = I.letters;
-    said = I.said;
-    boots = λ l c. boots_by l c (eqb l.by i) refl;
-  }
+  still_holds : (q : Process) → map_of q ≡ map_of (net.process i) → IfUp A ms I.ls i (w.state i) q → (J : Inv A ms (with_left net i (record { process = q; sends = [] })) w) × (J.ls ≡ I.ls)
+  still_holds q e u = (
+    record {
+      ls = I.ls;
+      mine = λ j lt. mine_by j lt (eqb j i) refl;
+      posted = all_append (IsPosted I.ls) net.sent [] I.posted tt;
+      letters = I.letters;
+      said = I.said;
+      boots = λ l c. boots_by l c (eqb l.by i) refl;
+    },
+    refl,
+  )
     where
       mine_by : (j : ℕ) → j < ms.count → (b : Bool) → eqb j i ≡ b → Mine A ms I.ls j (cond b q (net.process j)) (w.store j) (w.state j)
       mine_by j lt true k = subst (λ (x : ℕ). Mine A ms I.ls x q (w.store x) (w.state x)) (sym (eqb-true j i k)) (record { map = e ∙ (I.mine i M.below).map; up = u })
@@ -131,14 +134,14 @@ module _ (A : Assembly) (ms : Monitors) (F : Facts ms) (net : Network) (w : Worl
     pub remembers : MayRemember me s.node.state
     pub so : CameSo s came
 
-  abbrev NextOf : List Asked → List Acknowledgement → Left → Type 0
-  NextOf olds acks l = Next A ms olds acks net.sent (with_left net i l) w
+  abbrev NextOf : List Asked → List Acknowledgement → List Leadership → Left → Type 0
+  NextOf olds acks leads l = Next A ms olds acks leads net.sent I.ls (with_left net i l) w
 
   -- nothing is kept, and nothing is sent
-  unkept : (olds : List Asked) (q : Process) → map_of q ≡ map_of (net.process i) → IfUp A ms I.ls i (w.state i) q → NextOf olds [] (record { process = q; sends = [] })
-  unkept olds q e u = Still (append-nil net.sent) refl (still_holds q e u)
+  unkept : (olds : List Asked) (q : Process) → map_of q ≡ map_of (net.process i) → IfUp A ms I.ls i (w.state i) q → NextOf olds [] [] (record { process = q; sends = [] })
+  unkept olds q e u = let holds = still_holds q e u in Still (append-nil net.sent) refl refl holds.0 holds.1
 
-  still_down : (olds : List Asked) (came : Result (Option TimedInput) NodeEnd) (s : Serving) → TurnFine came s → NextOf olds [] (record { process = Down s.node.store.kv; sends = [] })
+  still_down : (olds : List Asked) (came : Result (Option TimedInput) NodeEnd) (s : Serving) → TurnFine came s → NextOf olds [] [] (record { process = Down s.node.store.kv; sends = [] })
   still_down olds came s T = unkept olds (Down s.node.store.kv) T.kv tt
 
   -- ---- a turn with an input
@@ -159,22 +162,18 @@ module _ (A : Assembly) (ms : Monitors) (F : Facts ms) (net : Network) (w : Worl
     here = T.kv ∙ (I.mine i M.below).map
 
     -- down, with some of its datagrams sent
-    down_next : (k : ℕ) (r : Reaction) → reaction_to me n it ≡ Ok r → nat_lt most_size (size_of (map_after n r)) ≡ false → NextOf (asks_in i it.input) (acknowledged_by n (Some r)) (down me n k (Some r))
+    down_next : (k : ℕ) (r : Reaction) → reaction_to me n it ≡ Ok r → nat_lt most_size (size_of (map_after n r)) ≡ false
+        → NextOf (asks_in i it.input) (acknowledged_by n (Some r)) (led_by i n (Some r)) (down me n k (Some r))
     down_next k r e small =
         let outs : List Outgoing = with_number n.next (letters me (map_after n r) r.sends) in
-        Moved E.plain (moved w E.plain i r) (map (posted i) (take k (numbered_by me n r))) E.fits (happens_so A ms F net w R I i me is n it.at it.input E.plain E.fits E.there here E.up E.may T.remembers r e (E.own r e) small)
-        refl
-        (adds A ms F net w R I i me is n it.at it.input E.plain E.fits E.there here E.up E.may T.remembers r e (E.own r e) small
+        Moved (moves A ms F net w R I i me is n it.at it.input E.plain E.fits E.there here E.up E.may T.remembers r e (E.own r e) small
         outs (λ P all. all_with_number P n.next (letters me (map_after n r) r.sends) all) T.most (numbers_within n.next (letters me (map_after n r) r.sends) T.most) (E.low r e) (E.fresh r e)
         (Down (map_after n r)) (take k (numbered_by me n r)) (λ P all. posted_front P i k (datagrams (boot_in (map_after n r)) n.next outs) all) refl tt
         (asks_in i it.input) (asked_so w E.plain i it.at it.input r E.there))
-        (kept_holds A ms F net w R I i me is n it.at it.input E.plain E.fits E.there here E.up E.may T.remembers r e (E.own r e) small
-        outs (λ P all. all_with_number P n.next (letters me (map_after n r) r.sends) all) T.most (numbers_within n.next (letters me (map_after n r) r.sends) T.most) (E.low r e) (E.fresh r e)
-        (Down (map_after n r)) (take k (numbered_by me n r)) (λ P all. posted_front P i k (datagrams (boot_in (map_after n r)) n.next outs) all) refl tt)
 
     -- down, by what it keeps
     abbrev DownNext : ℕ → Option Reaction → Type 0
-    DownNext k o = NextOf (asks_in i it.input) (acknowledged_by n o) (down me n k o)
+    DownNext k o = NextOf (asks_in i it.input) (acknowledged_by n o) (led_by i n o) (down me n k o)
 
     kept_next : (k : ℕ) (x : Result Reaction Which) → reaction_to me n it ≡ x → DownNext k (kept_reaction me t)
     kept_next k (Err which) e = subst (DownNext k) (sym (ap (of_input None small_of) e)) (still_down (asks_in i it.input) (Ok (Some it)) s T)
@@ -186,7 +185,7 @@ module _ (A : Assembly) (ms : Monitors) (F : Facts ms) (net : Network) (w : Worl
 
     -- up, with all of them sent
     up_next : (r : Reaction) → reaction_to me n it ≡ Ok r → nat_lt most_size (size_of (map_after n r)) ≡ false → nat_lt (2 ^ 62 + 1) (next_number me n r) ≡ false
-        → NextOf (asks_in i it.input) (acknowledged_by n (Some r)) (record { process = Up (done me s r); sends = sent_by me n r })
+        → NextOf (asks_in i it.input) (acknowledged_by n (Some r)) (led_by i n (Some r)) (record { process = Up (done me s r); sends = sent_by me n r })
     up_next r e small few =
         let outs : List Outgoing = letters me (map_after n r) r.sends in
         let last : next_after n.next outs ≤ 2 ^ 62 + 1 = ltb-false _ _ few in
@@ -200,13 +199,9 @@ module _ (A : Assembly) (ms : Monitors) (F : Facts ms) (net : Network) (w : Worl
           remembers = λ other o. let one : Some me ≡ Some other = sym is ∙ o in let both : me ≡ other = cc in
               subst (λ (x : Me). MayRemember x r.state) both (bounded A ms F net w R I i me is n it.at it.input E.plain E.fits E.there here E.up E.may T.remembers r e (E.own r e) small).state;
         } in
-        Moved E.plain (moved w E.plain i r) (map (posted i) (sent_by me n r)) E.fits (happens_so A ms F net w R I i me is n it.at it.input E.plain E.fits E.there here E.up E.may T.remembers r e (E.own r e) small)
-        refl
-        (adds A ms F net w R I i me is n it.at it.input E.plain E.fits E.there here E.up E.may T.remembers r e (E.own r e) small
+        Moved (moves A ms F net w R I i me is n it.at it.input E.plain E.fits E.there here E.up E.may T.remembers r e (E.own r e) small
         outs (λ P all. all) T.most last (E.low r e) (E.fresh r e) (Up (done me s r)) (sent_by me n r) (λ P all. all) same u
         (asks_in i it.input) (asked_so w E.plain i it.at it.input r E.there))
-        (kept_holds A ms F net w R I i me is n it.at it.input E.plain E.fits E.there here E.up E.may T.remembers r e (E.own r e) small
-        outs (λ P all. all) T.most last (E.low r e) (E.fresh r e) (Up (done me s r)) (sent_by me n r) (λ P all. all) same u)
 
     -- all of them find a number
     all_of_them : (r : Reaction) → reaction_to me n it ≡ Ok r → nat_lt most_size (size_of (map_after n r)) ≡ false → nat_lt (2 ^ 62 + 1) (next_number me n r) ≡ false → sent_by me n r ≡ sends_of me t
@@ -215,20 +210,21 @@ module _ (A : Assembly) (ms : Monitors) (F : Facts ms) (net : Network) (w : Worl
         sym (ap (of_input [] (λ (q : Reaction). cond (nat_lt most_size (size_of (map_after n q))) [] (numbered_by me n q))) e ∙ ap (λ (b : Bool). cond b [] (numbered_by me n r)) small
         ∙ ap (datagrams (boot_in (map_after n r)) n.next) (numbers_found n.next outs (ltb-false _ _ few)))
 
-    whole_next : (x : Result Reaction Which) → reaction_to me n it ≡ x → NextOf (asks_in i it.input) (acknowledged_by n (kept_reaction me t)) (at_end me t (reacted me s x))
+    whole_next : (x : Result Reaction Which) → reaction_to me n it ≡ x → NextOf (asks_in i it.input) (acknowledged_by n (kept_reaction me t)) (led_by i n (kept_reaction me t)) (at_end me t (reacted me s x))
     whole_next (Err which) e = kept_next 0 (Err which) e
     whole_next (Ok r) e = by (nat_lt most_size (size_of (map_after n r))) refl (nat_lt (2 ^ 62 + 1) (next_number me n r)) refl
       where
         by : (b : Bool) → nat_lt most_size (size_of (map_after n r)) ≡ b → (f : Bool) → nat_lt (2 ^ 62 + 1) (next_number me n r) ≡ f
-            → NextOf (asks_in i it.input) (acknowledged_by n (kept_reaction me t)) (at_end me t (cond b (Err (end.Full (size_of (map_after n r)))) (cond f (Err (end.Spent which.Seq)) (Ok (done me s r)))))
+            → NextOf (asks_in i it.input) (acknowledged_by n (kept_reaction me t)) (led_by i n (kept_reaction me t)) (at_end me t (cond b (Err (end.Full (size_of (map_after n r)))) (cond f (Err (end.Spent which.Seq)) (Ok (done me s r)))))
         by true small f few = kept_next 0 (Ok r) e
         by false small true few = kept_next 0 (Ok r) e
         by false small false few =
             let kept_is : kept_reaction me t ≡ Some r = ap (of_input None small_of) e ∙ ap (λ (b : Bool). cond b None (Some r)) small in
-            subst (λ (o : Option Reaction). NextOf (asks_in i it.input) (acknowledged_by n o) (record { process = Up (done me s r); sends = sends_of me t })) (sym kept_is)
-            (subst (λ (ds : List Outgoing). NextOf (asks_in i it.input) (acknowledged_by n (Some r)) (record { process = Up (done me s r); sends = ds })) (all_of_them r e small few) (up_next r e small few))
+            subst (λ (o : Option Reaction). NextOf (asks_in i it.input) (acknowledged_by n o) (led_by i n o) (record { process = Up (done me s r); sends = sends_of me t })) (sym kept_is)
+            (subst (λ (ds : List Outgoing). NextOf (asks_in i it.input) (acknowledged_by n (Some r)) (led_by i n (Some r)) (record { process = Up (done me s r); sends = ds })) (all_of_them r e small few) (up_next r e small few))
 
-  turn_next : (came : Result (Option TimedInput) NodeEnd) (s : Serving) (u : Until) → TurnFine came s → NextOf (came_in i came) (acknowledged_by s.node (kept_by me (record { came = came; serving = s }) u)) (left_by me (record { came = came; serving = s }) u)
+  turn_next : (came : Result (Option TimedInput) NodeEnd) (s : Serving) (u : Until) → TurnFine came s
+      → NextOf (came_in i came) (acknowledged_by s.node (kept_by me (record { came = came; serving = s }) u)) (led_by i s.node (kept_by me (record { came = came; serving = s }) u)) (left_by me (record { came = came; serving = s }) u)
   unfolding ended_turn
   turn_next came s Lost T = still_down (came_in i came) came s T
   turn_next (Err e) s Whole T = still_down [] (Err e) s T
@@ -315,21 +311,21 @@ module _ (A : Assembly) (ms : Monitors) (F : Facts ms) (net : Network) (w : Worl
         record { kv = map_here; parts = f.parts; most = u.most; remembers = u.remembers me is; so = so_heard h h.came f.came f.parts }
 
   made_next : (p : Process) (doing : Doing) (u : Until) → net.process i ≡ p → May net i p doing → IfUp A ms I.ls i (w.state i) p
-      → Next A ms (asked_in_turn i (turn_of me p doing)) (acknowledged_in_turn me u (turn_of me p doing)) net.sent (if_made me net (record { rank = i; doing = doing; up_to = u }) (turn_of me p doing)) w
+      → Next A ms (asked_in_turn i (turn_of me p doing)) (acknowledged_in_turn me u (turn_of me p doing)) (led_in_turn i me u (turn_of me p doing)) net.sent I.ls (if_made me net (record { rank = i; doing = doing; up_to = u }) (turn_of me p doing)) w
   made_next p (Begins stood clock link first) u e may up =
       let t : Turn = start first (unstarted me.member.rank stood clock link) in
       turn_next t.came t.serving u (begins_fine stood clock link first (may ∙ ap map_of (sym e)))
   made_next (Up s) (Turns g) u e may up =
       let t : Turn = turn me g s in
       turn_next t.came t.serving u (turns_fine s e up g may)
-  made_next (Down m) (Turns g) u e may up = Still refl refl I
+  made_next (Down m) (Turns g) u e may up = Still refl refl refl I refl
 
 -- ---- a step
 
 module _ (A : Assembly) (ms : Monitors) (F : Facts ms) (net : Network) (w : World) (R : Reach ms w) (I : Inv A ms net w) where
-  pub step_next : (s : Step) → May net s.rank (net.process s.rank) s.doing → Next A ms (asked_by net s (me_of ms s.rank)) (acknowledged_at net s (me_of ms s.rank)) net.sent (after_step ms net s) w
+  pub step_next : (s : Step) → May net s.rank (net.process s.rank) s.doing → Next A ms (asked_by net s (me_of ms s.rank)) (acknowledged_at net s (me_of ms s.rank)) (led_at net s (me_of ms s.rank)) net.sent I.ls (after_step ms net s) w
   step_next s may = by (me_of ms s.rank) refl
     where
-      by : (x : Option Me) → me_of ms s.rank ≡ x → Next A ms (asked_by net s x) (acknowledged_at net s x) net.sent (made_by net s x) w
-      by None e = Still refl refl I
+      by : (x : Option Me) → me_of ms s.rank ≡ x → Next A ms (asked_by net s x) (acknowledged_at net s x) (led_at net s x) net.sent I.ls (made_by net s x) w
+      by None e = Still refl refl refl I refl
       by (Some me) e = made_next A ms F net w R I s.rank me e (net.process s.rank) s.doing s.up_to refl may (I.mine s.rank (known ms s.rank me e).below).up

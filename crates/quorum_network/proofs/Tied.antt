@@ -1,7 +1,9 @@
 -- What `serve` promises of a life, and `Store::open` of the disks that it left, are steps of a network.
-use Rattle.std.proofs.Common.{◌≡◌, ℕ, Bool, true, false, cond, eqb, ◌&&◌, take, List, [], ◌++◌, Option, Result, Ok, Err, refl, sym, ap, subst, ◌∙◌, inl, inr}
+use Rattle.std.proofs.Common.{◌≡◌, ℕ, Bool, true, false, cond, eqb, ◌&&◌, take, List, [], ◌++◌, Option, Result, Ok, Err, refl, sym, ap, subst, ◌∙◌, inl, inr, arith}
+use Rattle.std.specs.FinMap.{empty}
 use Rattle.mon_bytes.specs.Answers.{◌>>=◌}
-use Rattle.mon_disk.specs.Images.{images}
+use Rattle.mon_disk.specs.Images.{Content}
+use Rattle.mon_journal.specs.Content.{content}
 use Rattle.mon_journal.specs.Fields.{Owner}
 use Rattle.mon_journal.specs.Written.{owner_of}
 use Rattle.mon_link.specs.Clocks.{Readings}
@@ -9,20 +11,22 @@ use Rattle.mon_link.specs.Links.{Told}
 use Rattle.mon_link.specs.declared.link.Outgoing.{Outgoing}
 use Rattle.mon_msg.specs.declared.view.Me.{Me}
 use Rattle.mon_node.specs.Hearing.{Given}
-use Rattle.mon_node.specs.Lasting.{IsLeft, IsWithinTurn, Leave, On, StandsThrough, stood_kept}
-use Rattle.mon_node.specs.Nodes.{Disks, Serving, unstarted}
+use Rattle.mon_node.specs.Lasting.{IsLeft, IsWithinTurn, On, stood_kept}
+use Rattle.mon_node.specs.Nodes.{Serving, unstarted}
 use Rattle.mon_node.specs.Posting.{SendsFront}
 use Rattle.mon_node.specs.Serving.{EndsAfter, Has, Serves, sends_of}
 use Rattle.mon_node.specs.Turns.{Turn, ended_turn, last_turn}
 use Rattle.mon_node.specs.declared.end.NodeEnd.TheVariants as end
 use Rattle.mon_node.specs.declared.end.NodeEnd.{NodeEnd}
 use Rattle.mon_node.proofs.Passing.{stood_then}
+use Rattle.mon_store.specs.Moments.{EachPair, WhileOpening}
+use Rattle.mon_store.specs.Opening.{Alike}
 use Rattle.mon_store.specs.Pair.{Create, Found, Live, Refusal, found, map_found, opened, owned, stands, taken}
 use Rattle.mon_store.proofs.OnPairs.{stood_map}
 use Rattle.mon_store.specs.Stood.{Stood, opens_as, standing_of}
 use Rattle.mon_tx.specs.Map.{Store}
 use Rattle.mon_types.specs.declared.member.Member.{Member}
-use Rattle.quorum_network.specs.Lives.{IsLeftBy, IsLife, IsSent}
+use Rattle.quorum_network.specs.Lives.{IsLeftBy, IsLife, IsSent, OpensWith}
 use Rattle.quorum_network.specs.Network.{Kept, Left, Lost, Step, Until, Whole, left_by, map_of}
 use Rattle.quorum_network.proofs.Ends.{cut_sends, ended_link, kept_map, up_is, within_is}
 use Rattle.quorum_network.proofs.Lives.{last_is, sent_both, sent_nothing, sent_now}
@@ -41,7 +45,7 @@ owned_map owner (Live side held) m it e = by (eqb held.header.owner.rank owner.r
     by true e = let same : (Live side held, m) ≡ it = cc (e) in ap (λ (x : Found × Store). x.1) (sym same)
     by false e = absurd cc
 
--- what is opened is the map that the two stand for
+-- what is opened is the map that the two files represent
 module _ (owner : Owner) (it : Found × Store) (m : Store) where
   of_map : (f : Found) (r : Result Store Refusal) → (r >>= owned owner f) ≡ Ok it → r ≡ Ok m → it.1 ≡ m
   of_map f (Ok x) e is = let same : x ≡ m = cc (is) in owned_map owner f x it e ∙ same
@@ -66,10 +70,35 @@ opens_kv member a b m s there e = by (opened (owner_of member) a b) refl e
 pub on_opens : (P : Stood → Type 0) (member : Member) (x y : List ℕ) (s : Stood) → On P x y → opens_as member x y ≡ Ok s → (z : Stood) × P z × (s.kv ≡ z.kv)
 on_opens P member x y s on e = let z = on.0 in (z, on.2, opens_kv member x y z.kv s (stood_map z.journal z.kv z.side x y on.1) e)
 
-pub killed : (me : Me) (t : Turn) (member : Member) (x y : List ℕ) (s : Stood) → On (IsWithinTurn me t) x y → opens_as member x y ≡ Ok s → IsLeftBy me t s.kv
-killed me t member x y s on e =
+pub within_opens : (me : Me) (t : Turn) (member : Member) (x y : List ℕ) (s : Stood) → On (IsWithinTurn me t) x y → opens_as member x y ≡ Ok s → IsLeftBy me t s.kv
+within_opens me t member x y s on e =
     let z = on_opens (IsWithinTurn me t) member x y s on e in
     subst (IsLeftBy me t) (sym z.2) (within_is me t z.0 z.1)
+
+-- ---- a crash while a store is opened
+
+module _ (member : Member) (maps : List Store) (a b new_a new_b : Content) (before : EachPair a b (OpensWith member maps)) (W : WhileOpening a b new_a new_b (Alike member a b)) where
+  as_before : (x y : List ℕ) → Alike member a b x y → OpensWith member maps x y
+  as_before x y alike s e = let p = alike.1 in before p.on_a p.on_b p.left_a p.left_b s (sym p.opens ∙ e)
+
+  pub opens_through : WhileOpening a b new_a new_b (OpensWith member maps) × EachPair new_a new_b (OpensWith member maps)
+  opens_through = (
+    record {
+      a = W.a;
+      b = W.b;
+      turn = W.turn;
+      from = W.from;
+      to = W.to;
+      each = λ s t c d p q r u on_a on_b. as_before c d (W.each s t c d p q r u on_a on_b);
+      alone = λ s c d p q on_a on_b. as_before c d (W.alone s c d p q on_a on_b);
+    },
+    λ c d on_a on_b. as_before c d (W.alone new_a.moment c d W.to (omega arith) on_a on_b),
+  )
+
+-- on two empty disks an empty map is opened
+pub opens_empty : (member : Member) → (s : Stood) × (opens_as member [] [] ≡ Ok s) × (s.kv ≡ empty)
+unfolding opened found content
+opens_empty member = (standing_of member Create empty, refl, refl)
 
 -- ---- an end
 
@@ -117,10 +146,14 @@ module _ (me : Me) (t : Turn) (x : Stood) (link : Option Told) where
       }
   used clock (Err y) is h e = absurd h
 
+  -- it ran out of memory, or was killed
+  pub stopped : IsLeft me t end.OutOfMemory link x → IsEnd
+  stopped (inl left) = within left.0 left.1
+  stopped (inr left) = sent_some left.0 left.1
+
   pub end_is : (turns begun : ℕ) (e : NodeEnd) (clock : Option Readings) → EndsAfter me turns begun t e clock link → IsLeft me t e link x → IsEnd
   end_is turns begun end.TurnsUsed clock h left = used clock (ended_turn me t) refl h.1 left
-  end_is turns begun end.OutOfMemory clock h (inl left) = within left.0 left.1
-  end_is turns begun end.OutOfMemory clock h (inr left) = sent_some left.0 left.1
+  end_is turns begun end.OutOfMemory clock h left = stopped left
   end_is turns begun end.DiskFault clock h left = within h.link_is left
   end_is turns begun (end.Spent spent) clock h left = sent_some h.link_is left
   end_is turns begun end.Closed clock h left = stays h.link_is left
@@ -129,34 +162,37 @@ module _ (me : Me) (t : Turn) (x : Stood) (link : Option Told) where
 
 -- ---- a life
 
-module _ (i : ℕ) (me : Me) (stood : Stood) (clock : Option Readings) (link : Option Told) (first : ℕ) (given : List Given) (earlier : List Step)
-    (turns begun : ℕ) (e : NodeEnd) (left_clock : Option Readings) (left_link : Option Told) (x y : List ℕ) where
+module _ (i : ℕ) (me : Me) (stood : Stood) (clock : Option Readings) (link : Option Told) (first : ℕ) (given : List Given) (earlier : List Step) (left_link : Option Told) (x y : List ℕ) where
   abbrev start : Serving
   start = unstarted me.member.rank stood clock link
 
-  -- the disks that the node left are two images of a crash now
-  pub left_images : (old new : Disks) → StandsThrough me first start given e left_link old new → images new.a x → images new.b y → Has (last_turn me first start given) (λ t. On (IsLeft me t e left_link) x y)
-  left_images old new T on_a on_b = by (last_turn me first start given) T.left
-    where
-      by : (r : Result Turn NodeEnd) → Has r (λ t. Leave new (IsLeft me t e left_link)) → Has r (λ t. On (IsLeft me t e left_link) x y)
-      by (Ok t) h = h x y on_a on_b
-      by (Err z) h = absurd h
+  -- a life whose last turn leaves this
+  life_is : (t : Turn) (m : Store) → last_turn me first start given ≡ Ok t → EndOf me t m left_link → IsLife i me stood clock link first given earlier m left_link
+  life_is t m is E =
+      let L = last_is i me stood clock link first earlier given E.up_to t is in
+      record {
+        up_to = E.up_to;
+        map_is = E.map ∙ ap map_of (sym L.process);
+        sends = L.before ++ (left_by me t E.up_to).sends;
+        sends_are = L.sends;
+        told_is = sent_both L.before (left_by me t E.up_to).sends link t.serving.outside.link left_link L.told E.sent;
+      }
 
-  pub ends_so : Serves me start turns e begun left_clock left_link first given → Has (last_turn me first start given) (λ t. On (IsLeft me t e left_link) x y)
-      → (member : Member) (s : Stood) → opens_as member x y ≡ Ok s → IsLife i me stood clock link first given earlier s.kv left_link
-  ends_so S left member s opens = by (last_turn me first start given) refl S.ends left
-    where
-      by : (r : Result Turn NodeEnd) → last_turn me first start given ≡ r → Has r (λ t. EndsAfter me turns begun t e left_clock left_link) → Has r (λ t. On (IsLeft me t e left_link) x y)
-          → IsLife i me stood clock link first given earlier s.kv left_link
-      by (Ok t) is h k =
-          let z = on_opens (IsLeft me t e left_link) member x y s k opens in
-          let E = end_is me t z.0 left_link turns begun e left_clock h z.1 in
-          let L = last_is i me stood clock link first earlier given E.up_to t is in
-          record {
-            up_to = E.up_to;
-            map_is = z.2 ∙ E.map ∙ ap map_of (sym L.process);
-            sends = L.before ++ (left_by me t E.up_to).sends;
-            sends_are = L.sends;
-            told_is = sent_both L.before (left_by me t E.up_to).sends link t.serving.outside.link left_link L.told E.sent;
-          }
-      by (Err y) is h k = absurd h
+  module _ (member : Member) (s : Stood) (opens : opens_as member x y ≡ Ok s) where
+    abbrev Lived : Type 0
+    Lived = IsLife i me stood clock link first given earlier s.kv left_link
+
+    pub killed : (t : Turn) → last_turn me first start given ≡ Ok t → On (IsLeft me t end.OutOfMemory left_link) x y → Lived
+    killed t is on =
+        let z = on_opens (IsLeft me t end.OutOfMemory left_link) member x y s on opens in
+        subst (λ (m : Store). IsLife i me stood clock link first given earlier m left_link) (sym z.2) (life_is t z.0.kv is (stopped me t z.0 left_link z.1))
+
+    pub ends_so : (turns begun : ℕ) (e : NodeEnd) (left_clock : Option Readings) → Serves me start turns e begun left_clock left_link first given
+        → Has (last_turn me first start given) (λ t. On (IsLeft me t e left_link) x y) → Lived
+    ends_so turns begun e left_clock S left = by (last_turn me first start given) refl S.ends left
+      where
+        by : (r : Result Turn NodeEnd) → last_turn me first start given ≡ r → Has r (λ t. EndsAfter me turns begun t e left_clock left_link) → Has r (λ t. On (IsLeft me t e left_link) x y) → Lived
+        by (Ok t) is h on =
+            let z = on_opens (IsLeft me t e left_link) member x y s on opens in
+            subst (λ (m : Store). IsLife i me stood clock link first given earlier m left_link) (sym z.2) (life_is t z.0.kv is (end_is me t z.0 left_link turns begun e left_clock h z.1))
+        by (Err r) is h on = absurd h

@@ -11,13 +11,13 @@ use Rattle.std.specs.Prelude.{Ok}
 use Rattle.quorum_model.specs.Happens.{happens}
 use Rattle.quorum_model.specs.Events.{PlainFits}
 use Rattle.quorum_model.specs.Monitors.{Monitors, me_of}
-use Rattle.quorum_network.specs.Requests.{Acknowledgement, acknowledged_at, acknowledgements, asked_by, requests}
+use Rattle.quorum_network.specs.Requests.{Acknowledgement, Leadership, acknowledged_at, acknowledgements, asked_by, leaderships, led_at, requests}
 use Rattle.std.proofs.lemmas.List.Elements.{Contains-append_left, Contains-append_right}
 use Rattle.quorum_model.specs.Runs.{Ran, run, ran_from}
 use Rattle.quorum_model.specs.World.{Acknowledged, Asked, World, Plain, Event, Comes, first_world, plain_of}
 use Rattle.quorum_network.specs.Network.{Network, Step, AllMay, Posted, network, first_network, after_step}
 use Rattle.quorum_network.specs.Running.{IsOfRun, IsTold, DoesARun}
-use Rattle.quorum_network.proofs.Adding.{Adds, IsBy, given}
+use Rattle.quorum_network.proofs.Adding.{Adds, IsBy, given, noted_as}
 use Rattle.quorum_network.proofs.Assembled.{all_self, all_through, assembly}
 use Rattle.quorum_network.proofs.Assembling.{Assembly}
 use Rattle.quorum_network.proofs.Boots.{starts, runs, started_own, running_own}
@@ -28,13 +28,14 @@ use Rattle.quorum_network.proofs.Invariant.{Says, IfUp, Inv, Next, Still, Moved}
 use Rattle.quorum_network.proofs.Letters.{Letter, IsPosted}
 use Rattle.quorum_network.proofs.Steps.{step_next}
 
-pub record Stands (A : Assembly) (ms : Monitors) (asks : List Asked) (acks : List Acknowledgement) (net : Network) : Type 0 where
+pub record Stands (A : Assembly) (ms : Monitors) (asks : List Asked) (acks : List Acknowledgement) (leads : List Leadership) (net : Network) : Type 0 where
   pub w : World
   pub reach : Reach ms w
   pub inv : Inv A ms net w
   pub asked : AllByRecursion (λ a. Contains asks a) w.asked
   pub given_are : map given w.acknowledged ≡ acks
   pub numbered : AllByRecursion (IsBy w.events) w.acknowledged
+  pub active : w.active ≡ map noted_as leads
 
 unfoldable pub reach_more : (ms : Monitors) (w v : World) (p : Plain) → Reach ms w → PlainFits ms.count p → happens ms w (Comes p) ≡ Ok v → Reach ms v
 reach_more ms w v p R fits next = record {
@@ -64,11 +65,15 @@ given_more : (xs ys : List Acknowledged) → map given (xs ++ ys) ≡ map given 
 given_more [] ys = refl
 given_more (x ∷ xs) ys = ap (λ (zs : List Acknowledgement). given x ∷ zs) (given_more xs ys)
 
+noted_more : (xs ys : List Leadership) → map noted_as (xs ++ ys) ≡ map noted_as xs ++ map noted_as ys
+noted_more [] ys = refl
+noted_more (x ∷ xs) ys = ap (λ (zs : List (ℕ × ℕ)). noted_as x ∷ zs) (noted_more xs ys)
+
 by_later : (e f : ℕ) → e ≤ f → (a : Acknowledged) → IsBy e a → IsBy f a
 by_later e f le a h = omega (arith, le, h)
 
-module _ (A : Assembly) (ms : Monitors) (olds more : List Asked) (acks added : List Acknowledgement) (before : List Posted) (old net : Network) (S : Stands A ms olds acks old) where
-  module _ (v : World) (ds : List Posted) (D : Adds ms.count more added ds S.w v) where
+module _ (A : Assembly) (ms : Monitors) (olds more : List Asked) (acks added : List Acknowledgement) (leads led : List Leadership) (before : List Posted) (old net : Network) (S : Stands A ms olds acks leads old) where
+  module _ (v : World) (ds : List Posted) (D : Adds ms.count more added led ds S.w v) where
     pub given_now : map given v.acknowledged ≡ acks ++ added
     given_now =
         ap (λ (xs : List Acknowledged). map given xs) D.acknowledged ∙ given_more S.w.acknowledged D.new
@@ -80,25 +85,30 @@ module _ (A : Assembly) (ms : Monitors) (olds more : List Asked) (acks added : L
         (subst (AllByRecursion (IsBy (suc S.w.events))) (sym D.acknowledged)
         (all_append (IsBy (suc S.w.events)) S.w.acknowledged D.new (all_through (IsBy S.w.events) (IsBy (suc S.w.events)) (by_later S.w.events (suc S.w.events) (omega arith)) S.w.acknowledged S.numbered) D.numbered))
 
-  unfoldable pub stands_next : Next A ms more added before net S.w → Stands A ms (olds ++ more) (acks ++ added) net
-  stands_next (Still sent none I) = record {
+    pub active_now : v.active ≡ map noted_as (leads ++ led)
+    active_now = D.active ∙ ap (λ (xs : List (ℕ × ℕ)). xs ++ map noted_as led) S.active ∙ sym (noted_more leads led)
+
+  unfoldable pub stands_next : Next A ms more added led before S.inv.ls net S.w → Stands A ms (olds ++ more) (acks ++ added) (leads ++ led) net
+  stands_next (Still sent none nobody I same) = record {
     w = S.w;
     reach = S.reach;
     inv = I;
     asked = asked_still olds more S.w.asked S.asked;
     given_are = S.given_are ∙ sym (append-nil acks) ∙ ap (λ (xs : List Acknowledgement). acks ++ xs) (sym none);
     numbered = S.numbered;
+    active = S.active ∙ ap (map noted_as) (sym (append-nil leads) ∙ ap (λ (xs : List Leadership). leads ++ xs) (sym nobody));
   }
-  stands_next (Moved p v ds fits next sent D I) = record {
-    w = v;
-    reach = reach_more ms S.w v p S.reach fits next;
-    inv = I;
-    asked = asked_now olds more S.w v D.asked S.asked;
-    given_are = given_now v ds D;
-    numbered = numbered_now v ds D;
+  stands_next (Moved M) = record {
+    w = M.world;
+    reach = reach_more ms S.w M.world M.plain S.reach M.fits M.next;
+    inv = M.inv;
+    asked = asked_now olds more S.w M.world M.adds.asked S.asked;
+    given_are = given_now M.world M.sent M.adds;
+    numbered = numbered_now M.world M.sent M.adds;
+    active = active_now M.world M.sent M.adds;
   }
 
-pub stands_first : (A : Assembly) (ms : Monitors) → Stands A ms [] [] first_network
+pub stands_first : (A : Assembly) (ms : Monitors) → Stands A ms [] [] [] first_network
 unfolding ran_from
 stands_first A ms = record {
   w = first_world;
@@ -114,15 +124,16 @@ stands_first A ms = record {
   asked = tt;
   given_are = refl;
   numbered = tt;
+  active = refl;
 }
 
-pub stands : (A : Assembly) (ms : Monitors) → Facts ms → (steps : List Step) → AllMay ms steps → Stands A ms (requests ms steps) (acknowledgements ms steps) (network ms steps)
-unfolding network AllMay requests acknowledgements
+pub stands : (A : Assembly) (ms : Monitors) → Facts ms → (steps : List Step) → AllMay ms steps → Stands A ms (requests ms steps) (acknowledgements ms steps) (leaderships ms steps) (network ms steps)
+unfolding network AllMay requests acknowledgements leaderships
 stands A ms F [] may = stands_first A ms
 stands A ms F (s ∷ earlier) may =
     let old : Network = network ms earlier in
     let S = stands A ms F earlier may.0 in
-    stands_next A ms (requests ms earlier) (asked_by old s (me_of ms s.rank)) (acknowledgements ms earlier) (acknowledged_at old s (me_of ms s.rank)) old.sent old (after_step ms old s) S (step_next A ms F old S.w S.reach S.inv s may.1)
+    stands_next A ms (requests ms earlier) (asked_by old s (me_of ms s.rank)) (acknowledgements ms earlier) (acknowledged_at old s (me_of ms s.rank)) (leaderships ms earlier) (led_at old s (me_of ms s.rank)) old.sent old (after_step ms old s) S (step_next A ms F old S.w S.reach S.inv s may.1)
 
 -- ---- what that says
 

@@ -1,3 +1,4 @@
+pub mod EachTurn
 pub mod Lives
 pub mod Network
 pub mod Promises

@@ -1,6 +1,7 @@
 -- One process alone: its own steps, and how they follow from what `serve` and `Store::open` promise.
-use Rattle.std.specs.Prelude.{◌≡◌, ◌⊎◌, ℕ, ◌==◌, List, [], ◌∷◌, ◌++◌, Option, Some, None, if◌then◌else◌}
+use Rattle.std.specs.Prelude.{◌≡◌, ◌⊎◌, ℕ, ◌==◌, List, [], ◌∷◌, ◌++◌, Option, Some, None, Ok, if◌then◌else◌}
 use Rattle.std.specs.FinMap.{empty}
+use Rattle.std.specs.List.{Contains}
 use Rattle.std.specs.Option.{option_map}
 use Rattle.mon_link.specs.Clocks.{Readings}
 use Rattle.mon_link.specs.Links.{Told}
@@ -8,8 +9,9 @@ use Rattle.mon_link.specs.declared.link.Outgoing.{Outgoing}
 use Rattle.mon_msg.specs.declared.view.Me.{Me}
 use Rattle.mon_node.specs.Hearing.{Given}
 use Rattle.mon_node.specs.Turns.{Turn}
-use Rattle.mon_store.specs.Stood.{Stood}
+use Rattle.mon_store.specs.Stood.{Stood, opens_as}
 use Rattle.mon_tx.specs.Map.{Store}
+use Rattle.mon_types.specs.declared.member.Member.{Member}
 use Rattle.quorum_network.specs.Network.{Down, Begins, Turns, Until, Whole, Lost, Kept, Posted, Step, Left, map_of, turn_of, left_by}
 
 -- the steps of monitor i
@@ -37,8 +39,8 @@ unfoldable pub alone : Me → List Step → Left
 alone me [] = record { process = Down empty; sends = [] }
 alone me (s ∷ earlier) = left_at me s.up_to (alone me earlier) (turn_of me (alone me earlier).process s.doing)
 
--- The steps of a life: the process is begun and makes these turns, the newest first. The last of them, or the start, gets
--- so far.
+-- The steps of a life: the process is started and makes these turns, the newest first. `u` is how far the last of them
+-- gets, or the start if there is none.
 abbrev pub life : ℕ → Stood → Option Readings → Option Told → (first : ℕ) → List Given → Until → List Step → List Step
 life i stood clock link first [] u earlier =
     record { rank = i; doing = Begins stood clock link first; up_to = u } ∷ earlier
@@ -50,6 +52,10 @@ life i stood clock link first (g ∷ given) u earlier =
 -- A map is what a step leaves in this turn that is lost, or what each step leaves that is kept.
 abbrev pub IsLeftBy : Me → Turn → Store → Type 0
 IsLeftBy me t m = (m ≡ map_of (left_by me t Lost).process) ⊎ ((k : ℕ) → m ≡ map_of (left_by me t (Kept k)).process)
+
+-- what is opened on two images, if a store is, has one of these maps
+abbrev pub OpensWith : Member → List Store → List ℕ → List ℕ → Type 0
+OpensWith member maps x y = (s : Stood) → opens_as member x y ≡ Ok s → Contains maps s.kv
 
 -- a link was asked to send these
 abbrev pub sent_in : Option Told → Option (List Outgoing)

@@ -53,8 +53,8 @@ map_of (Down m) = m
 
 -- ---- what happens
 
--- A process is begun on a store, with a clock and a link, when the clock shows a moment; a process of its rank that is
--- still up is gone then. Or a process makes a turn.
+-- A process is started on a store, with a clock and a link, at a reading of the clock. A process of its rank that is
+-- still up ends then. Or a process makes a turn.
 pub data Doing : Type 0 where
   Begins : (stood : Stood) → (clock : Option Readings) → (link : Option Told) → (first : ℕ) → Doing
   Turns : (given : Given) → Doing

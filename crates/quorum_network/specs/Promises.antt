@@ -1,6 +1,7 @@
 -- What processes promise: there is one log that only goes on, and all maps and all answers on the wire are of it.
 use Rattle.std.specs.Prelude.{◌≡◌, ◌⊎◌, ℕ, ◌<◌, ◌≤◌, max, true, List, [], ◌∷◌, ◌++◌, length, Some}
 use Rattle.std.specs.List.{AllByRecursion, Contains}
+use Rattle.mon_frag.specs.Whole.{FromPeer, answered}
 use Rattle.mon_kv.specs.Readers.{is_marked}
 use Rattle.mon_link.specs.declared.link.Peer.{Peer}
 use Rattle.mon_link.specs.declared.link.Peer.TheVariants.{Monitor, Client}
@@ -70,27 +71,44 @@ IsOfLog requests acks before log i epoch session (reply.Since s from told more) 
 IsOfLog requests acks before log i epoch session (reply.Done v) = IsDone requests acks log i session v
 IsOfLog requests acks before log i epoch session other = Unit {0}
 
--- Bytes that monitor i of n sent a client are a datagram of a REPLY in a session of that client, and the reply is the
--- log's.
-pub record IsAnswer (n : ℕ) (requests : List Asked) (acks before : List Acknowledgement) (log : List (List ℕ))
+-- Bytes are a REPLY of monitor i of n, in a session of client c, and the reply is the log's.
+pub record IsReply (n : ℕ) (requests : List Asked) (acks before : List Acknowledgement) (log : List (List ℕ))
     (i c : ℕ) (bytes : List ℕ) : Type 0 where
   pub session : Session
   pub epoch : ℕ
   pub reply : Reply
   pub client : session.client ≡ c
-  pub piece : IsPiece
-      (text (record { from = i; monitors = n; epoch = epoch; body = body.Reply session.id reply })) bytes
+  pub is_text : bytes ≡ text (record { from = i; monitors = n; epoch = epoch; body = body.Reply session.id reply })
   pub of_log : IsOfLog requests acks before log i epoch session reply
 
+-- Bytes that were sent to a client are a datagram of such a REPLY.
 abbrev pub IfToClient : (n : ℕ) → List Asked → (acks before : List Acknowledgement) → List (List ℕ) → (i : ℕ) → Peer
     → List ℕ → Type 0
 IfToClient n requests acks before log i (Monitor j) bytes = Unit {0}
-IfToClient n requests acks before log i (Client c) bytes = IsAnswer n requests acks before log i c bytes
+IfToClient n requests acks before log i (Client c) bytes =
+    (whole : List ℕ) × IsReply n requests acks before log i c whole × IsPiece whole bytes
 
-abbrev pub AreAnswers : (n : ℕ) → List Asked → (acks before : List Acknowledgement) → List (List ℕ) → List Posted
-    → Type 0
-AreAnswers n requests acks before log sent =
-    AllByRecursion (λ (d : Posted). IfToClient n requests acks before log d.by d.datagram.to d.datagram.bytes) sent
+-- ---- what a client joins
+
+-- What client c takes as a datagram of monitor i was sent by it to this client. What comes from others are any bytes.
+abbrev pub ReachesClient : List Posted → (c : ℕ) → Peer → List ℕ → Type 0
+ReachesClient sent c (Monitor i) bytes =
+    Contains sent (record { by = i; datagram = record { to = Client c; bytes = bytes } })
+ReachesClient sent c (Client other) bytes = Unit {0}
+
+-- a message that it joined, if it is a monitor's, is a whole REPLY of that monitor
+abbrev pub IsJoined : (n : ℕ) → List Asked → (acks before : List Acknowledgement) → List (List ℕ) → (c : ℕ) → Peer
+    → List ℕ → Type 0
+IsJoined n requests acks before log c (Monitor i) bytes = IsReply n requests acks before log i c bytes
+IsJoined n requests acks before log c (Client other) bytes = Unit {0}
+
+-- Each of these datagrams that went to a client is one of a REPLY that is the log's. A client that joins them, however
+-- often and in whatever order they come, joins whole REPLYs.
+pub record AreAnswers (n : ℕ) (requests : List Asked) (acks before : List Acknowledgement) (log : List (List ℕ))
+    (sent : List Posted) : Type 0 where
+  pub each : AllByRecursion (λ (d : Posted). IfToClient n requests acks before log d.by d.datagram.to d.datagram.bytes) sent
+  pub joined : (c : ℕ) (came : List FromPeer) → AllByRecursion (λ (d : FromPeer). ReachesClient sent c d.from d.bytes) came
+      → AllByRecursion (λ (d : FromPeer). IsJoined n requests acks before log c d.from d.bytes) (answered [] came)
 
 -- ---- what is acknowledged lasts
 

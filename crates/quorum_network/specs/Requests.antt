@@ -1,5 +1,5 @@
--- Which requests of clients came to processes, and what processes acknowledged.
-use Rattle.std.specs.Prelude.{ℕ, List, [], ◌∷◌, ◌++◌, Option, Some, None, Result, Ok, Err}
+-- Which requests of clients came to processes, what processes acknowledged, and who led.
+use Rattle.std.specs.Prelude.{ℕ, List, [], ◌∷◌, ◌++◌, Option, Some, None, Result, Ok, Err, if◌then◌else◌}
 use Rattle.std.specs.List.{filter_map}
 use Rattle.std.specs.Option.{option_map}
 use Rattle.mon_msg.specs.Protocol.Reaction.{Reaction}
@@ -15,6 +15,7 @@ use Rattle.mon_node.specs.declared.end.NodeEnd.{NodeEnd}
 use Rattle.mon_node.specs.declared.hearing.TimedInput.{TimedInput}
 use Rattle.mon_tx.specs.Map.{Store}
 use Rattle.quorum_model.specs.Acknowledging.{done_by}
+use Rattle.quorum_model.specs.Happens.{is_active}
 use Rattle.quorum_model.specs.Monitors.{Monitors, me_of}
 use Rattle.quorum_model.specs.World.{Asked}
 use Rattle.quorum_network.specs.Network.{Network, Step, Until, Whole, Lost, Kept, kept_reaction, network, turn_of}
@@ -82,3 +83,31 @@ unfoldable pub acknowledgements : Monitors → List Step → List Acknowledgemen
 acknowledgements ms [] = []
 acknowledgements ms (s ∷ earlier) =
     acknowledgements ms earlier ++ acknowledged_at (network ms earlier) s (me_of ms s.rank)
+
+-- ---- leaders
+
+-- a process is an active leader, in an epoch
+pub record Leadership : Type 0 where
+  pub rank : ℕ
+  pub epoch : ℕ
+
+-- of monitor i that keeps m and remembers s then
+abbrev pub led_in : ℕ → Store → State → List Leadership
+led_in i m s = if is_active s.phase then record { rank = i; epoch = epoch_of (readings_of m) } ∷ [] else []
+
+abbrev pub led_by : ℕ → Node → Option Reaction → List Leadership
+led_by i n (Some r) = led_in i (map_after n r) r.state
+led_by i n None = []
+
+abbrev pub led_in_turn : ℕ → Me → Until → Option Turn → List Leadership
+led_in_turn i me u (Some t) = led_by i t.serving.node (kept_by me t u)
+led_in_turn i me u None = []
+
+abbrev pub led_at : Network → Step → Option Me → List Leadership
+led_at net s (Some me) = led_in_turn s.rank me s.up_to (turn_of me (net.process s.rank) s.doing)
+led_at net s None = []
+
+-- Who led in these steps. A process that is killed in a turn leads if the transaction of that turn was kept.
+unfoldable pub leaderships : Monitors → List Step → List Leadership
+leaderships ms [] = []
+leaderships ms (s ∷ earlier) = leaderships ms earlier ++ led_at (network ms earlier) s (me_of ms s.rank)

@@ -1,25 +1,36 @@
-ghost use Rattle.std.specs.Prelude.{◌≡◌, ℕ, ◌<◌, List, ◌++◌, take, Option, Some, Ok};
+ghost use Rattle.std.specs.FinMap.{empty};
+ghost use Rattle.std.specs.List.{AllByRecursion, Contains};
+ghost use Rattle.std.specs.Prelude.{◌≡◌, ℕ, ◌<◌, ◌≤◌, List, [], ◌++◌, take, Option, Some, Ok};
 ghost use Rattle.mon_link.specs.Clocks.{Readings};
 ghost use Rattle.mon_link.specs.Links.{Told};
+ghost use Rattle.mon_msg.specs.Protocol.Timers.{due};
 ghost use Rattle.mon_msg.specs.declared.view.Me.{Me};
 ghost use Rattle.mon_node.specs.Hearing.{Given};
-ghost use Rattle.mon_node.specs.Lasting.{IsLeft, IsWithinTurn, On};
-ghost use Rattle.mon_node.specs.Nodes.{unstarted};
-ghost use Rattle.mon_node.specs.Serving.{Has, Serves, sends_of};
-ghost use Rattle.mon_node.specs.Turns.{Turn, last_turn};
+ghost use Rattle.mon_node.specs.Lasting.{IsLeft, IsWithinTurn, On, stood_kept};
+ghost use Rattle.mon_node.specs.Nodes.{Serving, unstarted};
+ghost use Rattle.mon_node.specs.Serving.{EndsAfter, Has, OfInput, Serves, sends_of};
+ghost use Rattle.mon_node.specs.Turns.{Turn, ended_turn, last_turn, turn};
+ghost use Rattle.mon_node.specs.declared.end.NodeEnd.TheVariants as end;
 ghost use Rattle.mon_node.specs.declared.end.NodeEnd.{NodeEnd};
+ghost use Rattle.mon_store.specs.Moments.{EachPair, WhileOpening};
+ghost use Rattle.mon_store.specs.Opening.{Alike};
 ghost use Rattle.mon_store.specs.Stood.{Stood, opens_as};
+ghost use Rattle.mon_tx.specs.Map.{Store};
 ghost use Rattle.mon_types.specs.declared.member.Member.{Member};
+ghost use Rattle.mon_wire.specs.declared.phase.Timer.{Timer};
 ghost use Rattle.quorum_model.specs.Monitors.{Monitors, me_of};
-ghost use Rattle.quorum_network.specs.Lives.{alone, life, own, sent_of, IsLeftBy, IsLife};
+ghost use Rattle.quorum_network.specs.EachTurn.{IsAskedInTime, IsKeptFirst, IsOfReaction, Takes};
+ghost use Rattle.quorum_network.specs.Lives.{alone, life, own, sent_of, IsLeftBy, IsLife, OpensWith};
 ghost use Rattle.quorum_network.specs.Network.{AllMay, Begins, Kept, May, Step, Until, left_by, map_of, network};
 ghost use Rattle.quorum_network.specs.Promises.{AgreeWith, HaveOneLog, Leads};
-ghost use Rattle.quorum_network.specs.Requests.{requests};
+ghost use Rattle.quorum_network.specs.Requests.{Leadership, leaderships, requests};
 ghost use Rattle.quorum_network.specs.Running.{DoesARun};
 
+use mon_disk::{Disk, NodeDisks};
+
 /// What processes do is what a run of the model does. The monitors of a map are processes that all began with empty
-/// stores. Their network loses, repeats and delays datagrams. Each process may end, be killed and be begun again at any
-/// moment. Whatever happens, there is a run of the model that has the map of each store, what each process remembers
+/// stores. Their network loses, repeats and delays datagrams. Each process may end, be killed and be started again at any
+/// point. Whatever happens, there is a run of the model that has the map of each store, what each process remembers
 /// that is up, and each message and reply of which a datagram was sent. In it clients ask nothing but the requests that
 /// came to processes, and it is safe.
 pub fn law_network()
@@ -27,22 +38,30 @@ pub fn law_network()
         → DoesARun ms (requests ms steps) (network ms steps) }
 {}
 
-/// At any two moments of a network there is one log that only goes on. All maps are of it, but those under a full
-/// synchronisation, and so is every datagram that ever went to a client, a piece of a REPLY: what is shown is the log up to a
-/// version, and was asked for; and the command that is said to be done is in it. Each entry is the value of a command that a
-/// client asked.
+/// At any two points of time of a network there is one log, which only grows. All maps are of it, except those under a
+/// full synchronization, and so is every datagram that ever went to a client, a piece of a REPLY: what is shown is the log
+/// up to a version, and was asked for; and the command that is said to be done is in it. Each entry is the value of a
+/// command that a client asked. A client that joins the pieces of long REPLYs, whatever of them is lost, repeated or late,
+/// joins whole REPLYs, of which all this holds.
 ///
 /// No version is acknowledged twice. Each active leader with a proposal number of at least that of an acknowledgement
 /// has its version. What is shown after an acknowledgement, in its epoch, is no older.
 ///
-/// Any two maps have the same bytes of each version that both keep, at whatever moments. No two processes that are up, at
-/// these two moments, lead in one epoch.
+/// Any two maps have the same bytes of each version that both keep, at any two points of time. No two processes ever lead
+/// in one epoch: those that are up and lead are among the leaders of all steps, and so are those that were killed in the
+/// turn in which they began to lead.
 pub fn law_one_log()
     ensures log { (ms : Monitors) (later earlier : List Step) → AllMay ms (later ++ earlier)
         → HaveOneLog ms earlier (later ++ earlier) }
     ensures maps { (ms : Monitors) (later earlier : List Step) → AllMay ms (later ++ earlier)
         → (i j : ℕ) → i < ms.count → j < ms.count
         → AgreeWith (map_of ((network ms earlier).process i)) (map_of ((network ms (later ++ earlier)).process j)) }
+    ensures one_leads { (ms : Monitors) (steps : List Step) → AllMay ms steps
+        → (a b : Leadership) → Contains (leaderships ms steps) a → Contains (leaderships ms steps) b
+        → a.epoch ≡ b.epoch → a.rank ≡ b.rank }
+    ensures leads { (ms : Monitors) (steps : List Step) → AllMay ms steps
+        → (i e : ℕ) → i < ms.count → Leads (network ms steps) i e
+        → Contains (leaderships ms steps) (record { rank = i; epoch = e }) }
     ensures leaders { (ms : Monitors) (later earlier : List Step) → AllMay ms (later ++ earlier)
         → (i j e : ℕ) → i < ms.count → j < ms.count
         → Leads (network ms earlier) i e → Leads (network ms (later ++ earlier)) j e → i ≡ j }
@@ -53,9 +72,13 @@ pub fn law_one_log()
 ///
 /// Let a node serve as `Serves` and `StandsThrough` say, to whatever end, and let its disks be opened after a crash. Then
 /// its turns are the steps of a life: their map is the one that is opened, and they send what the link was asked to send.
-/// So a process may begin on that store. After a crash within a turn, at any moment, the map that is opened is that of a
-/// step in the same turn that was lost, or of each one that was kept; what such a turn sent before the crash isn't said. A
-/// step that was kept sends a prefix of what its turn sends, and one that was lost sends nothing.
+/// So a process may begin on that store. A step that was kept sends a prefix of what its turn sends, and one that was
+/// lost sends nothing.
+///
+/// Let a node be killed in a turn, and leave what `serve` says of one that runs out of memory there: it sent nothing yet, or
+/// it kept the turn's transaction and sent a prefix of the turn's datagrams. Then its turns are the steps of a life too. After
+/// a crash within a call to a disk, the map that is opened is that of a step in the same turn that was lost, or of each one
+/// that was kept.
 pub fn law_lives()
     ensures process { (ms : Monitors) (i : ℕ) (me : Me) → me_of ms i ≡ Some me → (steps : List Step)
         → (network ms steps).process i ≡ (alone me (own i steps)).process }
@@ -71,10 +94,6 @@ pub fn law_lives()
         → (alone me (life i stood clock link first given u earlier)).process ≡ (left_by me t u).process }
     ensures cut { (me : Me) (t : Turn) (k : ℕ) → (left_by me t (Kept k)).sends ≡ take k (sends_of me t) }
 
-    // A crash within a turn. `StandsThrough` says for each moment of which images its disks may have then.
-    ensures killed { (me : Me) (t : Turn) (member : Member) (x y : List ℕ) (s : Stood) → On (IsWithinTurn me t) x y
-        → opens_as member x y ≡ Ok s → IsLeftBy me t s.kv }
-
     // An end, and a crash after it. `StandsThrough` says it of the two images that a crash leaves then.
     ensures ends { (i : ℕ) (me : Me) (stood : Stood) (clock : Option Readings) (link : Option Told) (first : ℕ)
         (given : List Given) (earlier : List Step) (turns begun : ℕ) (e : NodeEnd) (left_clock : Option Readings)
@@ -84,4 +103,57 @@ pub fn law_lives()
         (λ t. On (IsLeft me t e left_link) x y)
         → (member : Member) (s : Stood) → opens_as member x y ≡ Ok s
         → IsLife i me stood clock link first given earlier s.kv left_link }
+
+    // A kill in a turn, between two calls to the disks and the link.
+    ensures killed { (i : ℕ) (me : Me) (stood : Stood) (clock : Option Readings) (link : Option Told) (first : ℕ)
+        (given : List Given) (earlier : List Step) (t : Turn) (left_link : Option Told) (x y : List ℕ)
+        → last_turn me first (unstarted me.member.rank stood clock link) given ≡ Ok t
+        → On (IsLeft me t end.OutOfMemory left_link) x y
+        → (member : Member) (s : Stood) → opens_as member x y ≡ Ok s
+        → IsLife i me stood clock link first given earlier s.kv left_link }
+
+    // A crash within a call to a disk. `StandsThrough` says for each point of which images its disks may have then.
+    ensures within { (me : Me) (t : Turn) (member : Member) (x y : List ℕ) (s : Stood) → On (IsWithinTurn me t) x y
+        → opens_as member x y ≡ Ok s → IsLeftBy me t s.kv }
+{}
+
+/// A crash at any point while a store is opened leaves two disks that open, if they do, with a map with which they might
+/// have opened before: `Store::open` says `Alike` of each point. So however often the opening of a process' disks is cut
+/// short, they open with a map that `law_lives` allows. On two empty disks an empty map is opened, as the first network
+/// has it.
+pub fn law_opening<D: Disk>(before: &NodeDisks<D>, after: &NodeDisks<D>)
+    ensures opens { (member : Member) (maps : List Store)
+        → EachPair (D.state before.now.a).content (D.state before.now.b).content (OpensWith member maps)
+        → WhileOpening (D.state before.now.a).content (D.state before.now.b).content (D.state after.now.a).content
+        (D.state after.now.b).content (Alike member (D.state before.now.a).content (D.state before.now.b).content)
+        → WhileOpening (D.state before.now.a).content (D.state before.now.b).content (D.state after.now.a).content
+        (D.state after.now.b).content (OpensWith member maps)
+        × EachPair (D.state after.now.a).content (D.state after.now.b).content (OpensWith member maps) }
+    ensures new_store { (member : Member) → (s : Stood) × (opens_as member [] [] ≡ Ok s) × (s.kv ≡ empty) }
+{
+    let _before = before;
+    let _after = after;
+}
+
+/// What each turn that `serve` makes does with its link.
+///
+/// It never waits past a timer that is due. A timer that is due when the turn begins is its input, and the link isn't asked.
+/// Else the link is asked at most once, for at most a second, and that wait is over when the next timer is due.
+///
+/// It sends nothing before what that rests on is kept. A turn that comes to its end leaves the store with its transaction
+/// kept. If the node ends at a turn, nothing was sent at it, or its transaction is kept.
+///
+/// Each datagram that a turn sends is a message of the core's reaction to its input, or a piece of one, and goes to whom
+/// that message goes.
+pub fn law_turns()
+    ensures timers { (me : Me) (g : Given) (s : Serving) (timer : Timer) (at : ℕ)
+        → due s.node.state.timers ≡ Some (timer, at) → at ≤ g.began → Takes g s timer (turn me g s) }
+    ensures waits { (me : Me) (g : Given) (s : Serving)
+        → IsAskedInTime g.began (due s.node.state.timers) s.outside.link (turn me g s).serving.outside.link }
+    ensures keeps { (me : Me) (t : Turn) (now : Serving) → ended_turn me t ≡ Ok now
+        → now.node.store ≡ stood_kept me t }
+    ensures ends { (me : Me) (turns begun : ℕ) (t : Turn) (e : NodeEnd) (clock : Option Readings) (link : Option Told)
+        (s : Stood) → EndsAfter me turns begun t e clock link → IsLeft me t e link s → IsKeptFirst me t link s }
+    ensures messages { (me : Me) (t : Turn) → AllByRecursion
+        (λ d. OfInput me t.serving.node (IsOfReaction me t.serving.node d) t.came) (sends_of me t) }
 {}

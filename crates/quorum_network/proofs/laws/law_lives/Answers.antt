@@ -2,7 +2,7 @@ use Rattle.std.proofs.Common.{sym, ap, ◌∙◌}
 use Rattle.quorum_network.specs.Network.{map_of}
 use Rattle.quorum_network.proofs.Ends.{cut_sends}
 use Rattle.quorum_network.proofs.Lives.{last_is, process_alone, sends_alone}
-use Rattle.quorum_network.proofs.Tied.{ends_so, killed}
+use Rattle.quorum_network.proofs.Tied.{ends_so, killed, within_opens}
 use Rattle.quorum_network.proofs.laws.law_lives.Goals as goal
 
 pub returns : goal.returns
@@ -12,7 +12,9 @@ returns c = record {
   begins = λ ms i me is steps stood clock link first kv. kv ∙ sym (ap map_of (process_alone ms i me is steps));
   last = λ i me stood clock link first earlier given u t e. (last_is i me stood clock link first earlier given u t e).process;
   cut = cut_sends;
-  killed = killed;
   ends = λ i me stood clock link first given earlier turns begun e left_clock left_link x y S left member s opens.
-      ends_so i me stood clock link first given earlier turns begun e left_clock left_link x y S left member s opens;
+      ends_so i me stood clock link first given earlier left_link x y member s opens turns begun e left_clock S left;
+  killed = λ i me stood clock link first given earlier t left_link x y is on member s opens.
+      killed i me stood clock link first given earlier left_link x y member s opens t is on;
+  within = within_opens;
 }

@@ -1,0 +1,57 @@
+-- What a turn of a serving node does with its link: it asks the link in time, sends once the turn's transaction is kept,
+-- and sends the messages of its reaction.
+use Rattle.std.specs.Prelude.{◌≡◌, ◌⊎◌, ℕ, ◌+◌, ◌≤◌, List, [], ◌∷◌, ◌++◌, Option, Some, None, Ok}
+use Rattle.std.specs.List.{Contains}
+use Rattle.std.specs.Option.{option_map}
+use Rattle.mon_frag.specs.Pieces.{pieces_of}
+use Rattle.mon_kv.specs.Readers.{epoch}
+use Rattle.mon_link.specs.Links.{Told}
+use Rattle.mon_link.specs.declared.link.Outgoing.{Outgoing}
+use Rattle.mon_msg.specs.Protocol.Reaction.{Reaction}
+use Rattle.mon_msg.specs.declared.input.Input.TheVariants as input
+use Rattle.mon_msg.specs.declared.plan.Sent.{Sent}
+use Rattle.mon_msg.specs.declared.view.Me.{Me}
+use Rattle.mon_node.specs.Hearing.{Given, at_moment}
+use Rattle.mon_node.specs.Lasting.{stood_kept}
+use Rattle.mon_node.specs.Nodes.{Node, Serving}
+use Rattle.mon_node.specs.Posting.{boot_in, letter}
+use Rattle.mon_node.specs.Turns.{Turn, map_after}
+use Rattle.mon_store.specs.Stood.{Stood}
+use Rattle.mon_wire.specs.declared.phase.Timer.{Timer}
+
+-- ---- it never waits past a timer that is due
+
+-- the turn takes this timer, and doesn't ask the link
+pub record Takes (g : Given) (old : Serving) (timer : Timer) (t : Turn) : Type 0 where
+  pub came : t.came ≡ Ok (Some (at_moment g.began (input.Timer timer)))
+  pub link : t.serving.outside.link ≡ old.outside.link
+
+-- a wait of at most a second, which is over when the next timer is due
+abbrev pub IsInTime : (began : ℕ) → Option (Timer × ℕ) → (wait : ℕ) → Type 0
+IsInTime began None wait = wait ≤ 1000
+IsInTime began (Some next) wait = (wait ≤ 1000) × (began + wait ≤ next.1)
+
+abbrev pub waits_in : Option Told → Option (List ℕ)
+waits_in link = option_map (λ t. t.waits) link
+
+-- the link was asked at most once more, for such a wait
+abbrev pub IsAskedInTime : (began : ℕ) → Option (Timer × ℕ) → (old new : Option Told) → Type 0
+IsAskedInTime began next old new =
+    (waits_in new ≡ waits_in old)
+    ⊎ ((wait : ℕ) × IsInTime began next wait × (waits_in new ≡ option_map (λ waits. waits ++ wait ∷ []) (waits_in old)))
+
+-- ---- it sends nothing before what that rests on is kept
+
+-- nothing was sent at this turn, or its transaction is kept
+abbrev pub IsKeptFirst : Me → Turn → Option Told → Stood → Type 0
+IsKeptFirst me t link s = (link ≡ t.serving.outside.link) ⊎ (s ≡ stood_kept me t)
+
+-- ---- each datagram is a message of its reaction, or a piece of one
+
+-- of a whole message to a peer, in this life of its monitor
+abbrev pub IsDatagramOf : (whole : Outgoing) → (boot : ℕ) → Outgoing → Type 0
+IsDatagramOf whole boot d = (d.to ≡ whole.to) × ((seq : ℕ) × Contains (pieces_of whole.bytes boot seq) d.bytes)
+
+abbrev pub IsOfReaction : Me → Node → Outgoing → Reaction → Type 0
+IsOfReaction me n d r =
+    (x : Sent) × Contains r.sends x × IsDatagramOf (letter me (epoch (map_after n r)) x) (boot_in (map_after n r)) d
