@@ -17,6 +17,8 @@ from schedules import TIMERS, faults_of  # noqa: E402
 
 # The prefixes of a store whose numbers are shown.
 PREFIXES = b'paxos', b'monitor', b'mon_sync', b'kv', b'logm'
+# How a row says that it does nothing with an input, or nothing more.
+ENDS = {'dropped': 'drops it', 'nothing_more': 'does no more'}
 # How many characters of bytes are shown.
 LONGEST = 60
 
@@ -105,7 +107,7 @@ def steps(lines: list[str]) -> Iterator[Step]:
         now = looks(play)
         changes = [(rank, part, before[rank].get(part, '-'), now[rank].get(part, '-'))
                    for rank in range(play.n) for part in {**before[rank], **now[rank]} if before[rank].get(part) != now[rank].get(part)]
-        reasons = [f'{row} drops it, since {test} {"holds" if holds else "fails"}' for row, test, holds in dict.fromkeys(antt.DROPS)]
+        reasons = [f'{row} {ENDS[how]}, since {test} {"holds" if holds else "fails"}' for row, how, test, holds in dict.fromkeys(antt.DROPS)]
         yield Step(number, play.trace[at:], changes, reasons, now)
         before = now
 
