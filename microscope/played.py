@@ -7,6 +7,9 @@ from typing import Iterator, NamedTuple
 
 TOP = os.path.dirname(os.path.dirname(os.path.abspath(__file__)))
 sys.path[:0] = [os.path.join(TOP, 'bench', 'definitions'), os.path.join(TOP, 'examples')]
+import antt  # noqa: E402
+
+antt.DROPS = []  # Rows say why they drop an input; this is set before `run` looks up the first definition.
 import quorum_file  # noqa: E402, F401
 import run  # noqa: E402
 from antt import Con, Rec, Tup, app  # noqa: E402
@@ -14,6 +17,10 @@ from schedules import TIMERS, faults_of  # noqa: E402
 
 # The prefixes of a store whose numbers are shown.
 PREFIXES = b'paxos', b'monitor', b'mon_sync', b'kv', b'logm'
+# How a row says that it does nothing with an input, or nothing more.
+ENDS = {'dropped': 'drops it', 'nothing_more': 'does no more'}
+# How many characters of bytes are shown.
+LONGEST = 60
 
 
 class Refused(Exception):
@@ -21,11 +28,12 @@ class Refused(Exception):
 
 
 class Step(NamedTuple):
-    """An event: its number, its lines in the trace, its changes as (monitor, part, before, after), and what each monitor then remembers and
-    keeps."""
+    """An event: its number, its lines in the trace, its changes as (monitor, part, before, after), the reasons for which rows dropped its
+    input, and what each monitor then remembers and keeps."""
     number: int
     lines: list[str]
     changes: list[tuple[int, str, str, str]]
+    reasons: list[str]
     looks: list[dict[str, str]]
 
     def is_idle(self) -> bool:
@@ -48,7 +56,8 @@ def shown(value) -> str:
             return '{' + ','.join(str(rank) for rank, is_in in enumerate(value) if is_in) + '}'
         return '[' + ', '.join(map(shown, value)) + ']'
     if isinstance(value, (bytes, bytearray)):
-        return value.decode('ascii', 'replace')
+        text = repr(bytes(value))[2:-1]
+        return text if len(text) <= LONGEST else f'{text[:LONGEST]}.. ({len(value)} bytes)'
     return {True: 'yes', False: 'no'}.get(value, str(value)) if isinstance(value, bool) else str(value)
 
 
@@ -92,12 +101,14 @@ def steps(lines: list[str]) -> Iterator[Step]:
     before = looks(play)
     for number, line in enumerate(lines[1:], 1):
         at = len(play.trace)
+        antt.DROPS.clear()
         if not play.take(line):
             raise Refused(f'line {number + 1}, {line}: the run stops there, {shown(play.stop)}')
         now = looks(play)
         changes = [(rank, part, before[rank].get(part, '-'), now[rank].get(part, '-'))
                    for rank in range(play.n) for part in {**before[rank], **now[rank]} if before[rank].get(part) != now[rank].get(part)]
-        yield Step(number, play.trace[at:], changes, now)
+        reasons = [f'{row} {ENDS[how]}, since {test} {"holds" if holds else "fails"}' for row, how, test, holds in dict.fromkeys(antt.DROPS)]
+        yield Step(number, play.trace[at:], changes, reasons, now)
         before = now
 
 
