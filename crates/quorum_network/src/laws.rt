@@ -130,10 +130,7 @@ pub fn law_opening<D: Disk>(before: &NodeDisks<D>, after: &NodeDisks<D>)
         (D.state after.now.b).content (OpensWith member maps)
         × EachPair (D.state after.now.a).content (D.state after.now.b).content (OpensWith member maps) }
     ensures new_store { (member : Member) → (s : Stood) × (opens_as member [] [] ≡ Ok s) × (s.kv ≡ empty) }
-{
-    let _before = before;
-    let _after = after;
-}
+{}
 
 /// What each turn that `serve` makes does with its link.
 ///
