@@ -1,0 +1,193 @@
+"""What the tools for a stopped store write and read: reports and their comparison, exports, and the two dumps, by the bytes that docs/FORMATS.md
+describes. A map is a dictionary from pairs of a prefix and a key to values, all of them bytes, as store.py reads it."""
+from __future__ import annotations
+
+import hashlib
+import re
+import struct
+
+MOST = 2**62
+MOST_SIZE, MOST_EXPORT, MOST_REPORTS, MOST_TRANSACTION = 268_435_456, 268_435_471, 4_096, 4_194_304
+PARTS = b'kv', b'logm', b'paxos'
+
+
+class At(Exception):
+    """An export, or a transaction, is refused at this byte."""
+
+    def __init__(self, at: int):
+        super().__init__(at)
+        self.at = at
+
+
+class Full(Exception):
+    """The map of an export would have this size."""
+
+    def __init__(self, would_be: int):
+        super().__init__(would_be)
+        self.would_be = would_be
+
+
+class Cut:
+    """Takes fields from bytes. One that doesn't fit, or isn't of its form, is at fault at its first byte."""
+
+    def __init__(self, octets: bytes, at: int = 0):
+        self.octets, self.at = octets, at
+
+    def take(self, count: int, is_so=lambda field: True) -> bytes:
+        field = self.octets[self.at:self.at + count]
+        if len(field) < count or not is_so(field):
+            raise At(self.at)
+        self.at += count
+        return field
+
+    def unsigned(self, size: int, least: int = 0, most: int = 2**64) -> int:
+        return int.from_bytes(self.take(size, lambda field: least <= int.from_bytes(field, 'little') <= most), 'little')
+
+    def word(self, most: int) -> bytes:
+        return self.take(self.unsigned(1, 1, most), lambda field: all(0x21 <= octet <= 0x7E for octet in field))
+
+    def counted(self) -> bytes:
+        return self.take(self.unsigned(4))
+
+    def end(self):
+        if self.at < len(self.octets):
+            raise At(self.at)
+
+
+# ---- exports
+
+def entry(place: tuple[bytes, bytes], value: bytes) -> bytes:
+    prefix, key = place
+    return bytes([len(prefix)]) + prefix + bytes([len(key)]) + key + struct.pack('<I', len(value)) + value
+
+
+def export_of(rank: int, monitors: int, kv: dict) -> bytes:
+    entries = b''.join(entry(place, kv[place]) for place in sorted(kv))
+    return b'CEPHEXP1' + bytes([rank, monitors, 0x80]) + struct.pack('<I', len(kv)) + entries
+
+
+def read_export(octets: bytes) -> tuple[int, int, dict]:
+    """The member and its map."""
+    if len(octets) > MOST_EXPORT:
+        raise At(MOST_EXPORT)
+    fields = Cut(octets)
+    fields.take(8, lambda field: field == b'CEPHEXP1')
+    rank, monitors = fields.unsigned(1), fields.unsigned(1)
+    if rank >= monitors:
+        raise At(8)
+    if monitors > 15:
+        raise At(9)
+    fields.take(1, lambda field: field == b'\x80')
+    kv, before = {}, (b'', b'')
+    for _ in range(fields.unsigned(4)):
+        at = fields.at
+        place = fields.word(32), fields.word(255)
+        if place <= before:
+            raise At(at + 1 if place[0] < before[0] else at + 2 + len(place[0]))
+        kv[place], before = fields.counted(), place
+    fields.end()
+    size = sum(len(prefix) + len(key) + len(value) + 16 for (prefix, key), value in kv.items())
+    if size > MOST_SIZE:
+        raise Full(size)
+    return rank, monitors, kv
+
+
+# ---- reports
+
+def number_at(kv: dict, prefix: bytes, key: bytes) -> int:
+    """The number that is kept at a key, and 0 if none is."""
+    value = kv.get((prefix, key), b'')
+    number = int.from_bytes(value, 'little')
+    return number if len(value) == 8 and number <= MOST else 0
+
+
+def report_of(rank: int, monitors: int, kv: dict) -> bytes:
+    last = number_at(kv, b'paxos', b'last_committed')
+    own = {(b'paxos', key) for key in (b'last_committed', b'last_pn', b'accepted_pn', b'pending_v', b'pending_pn', b'%d' % (last + 1))}
+    lines = [b'scrub rank=%d monitors=%d last=%d marked=%d\n' % (rank, monitors, last, (b'mon_sync', b'in_sync') in kv)]
+    for part in PARTS:
+        texts = [entry(place, kv[place]) for place in sorted(kv) if place[0] == part and place not in own]
+        lines.append(b'%s keys=%d sha256=%s\n' % (part, len(texts), hashlib.sha256(b''.join(texts)).hexdigest().encode()))
+    return b''.join(lines)
+
+
+DECIMAL = rb'(0|[1-9][0-9]*)'
+FIRST = re.compile(rb'scrub rank=' + DECIMAL + rb' monitors=' + DECIMAL + rb' last=' + DECIMAL + rb' marked=([01])')
+PART = {part: re.compile(part + rb' keys=' + DECIMAL + rb' sha256=([0-9a-f]{64})') for part in PARTS}
+
+
+def line_of(number: int, line: bytes):
+    """The fields of a report's line, or None. Lines 0 and 4 begin the two reports."""
+    if number % 4 == 0:
+        found = FIRST.fullmatch(line)
+        fields = found and [int(field) for field in found.groups()]
+        return fields if fields and fields[0] < fields[1] <= 15 and fields[2] <= MOST else None
+    found = PART[PARTS[number % 4 - 1]].fullmatch(line)
+    return found.groups() if found and int(found[1]) < 2**32 else None
+
+
+def compared(octets: bytes) -> tuple[int | None, bytes]:
+    """The line at which the bytes are refused as two reports; or None, and where the two differ."""
+    if len(octets) > MOST_REPORTS:
+        return 0, b''
+    *lines, rest = octets.split(b'\n')
+    fields = []
+    for number in range(8):
+        fields.append(line_of(number, lines[number]) if number < len(lines) else None)
+        if fields[-1] is None:
+            return number + 1, b''
+    if lines[8:] or rest:
+        return 9, b''
+    (_, monitors, last, marked), (_, others, other_last, other_marked) = fields[0], fields[4]
+    if monitors != others:
+        return None, b'monitors differ %d %d\n' % (monitors, others)
+    if marked or other_marked:
+        return None, b'marked %d %d\n' % (marked, other_marked)
+    if last != other_last:
+        return None, b'last differ %d %d\n' % (last, other_last)
+    differing = [b'mismatch %s keys=%s,%s sha256=%s,%s\n' % (part, a[0], b[0], a[1], b[1])
+                 for part, a, b in zip(PARTS, fields[1:4], fields[5:8]) if a != b]
+    return None, b''.join(differing) + b'end mismatches=%d\n' % len(differing)
+
+
+# ---- dumps
+
+def keys_of(kv: dict) -> bytes:
+    return b''.join(b'%s / %s\n' % place for place in sorted(kv))
+
+
+def changes_of(octets: bytes) -> list[bytes] | None:
+    """A line for each change of a transaction, or None if the bytes are none."""
+    try:
+        return [*read_changes(Cut(octets))] if len(octets) <= MOST_TRANSACTION else None
+    except At:
+        return None
+
+
+def read_changes(fields: Cut):
+    form, has_range = fields.unsigned(1, 1, 2), False
+    for _ in range(fields.unsigned(4)):
+        kind, prefix = fields.unsigned(1, 1, 2 + form), fields.word(32)
+        if kind == 1:
+            yield b'  put %s %s %d\n' % (prefix, fields.word(255), len(fields.counted()))
+        elif kind == 2:
+            yield b'  erase %s %s\n' % (prefix, fields.word(255))
+        elif kind == 3:
+            yield b'  erase-prefix %s\n' % prefix
+        else:
+            first, has_range = fields.unsigned(8, 0, MOST), True
+            yield b'  erase-range %s %d %d\n' % (prefix, first, fields.unsigned(8, first + 1, MOST))
+    fields.end()
+    if form == 2 and not has_range:
+        raise At(0)
+
+
+def versions_of(kv: dict, first: int, end: int) -> bytes:
+    """The versions from `first` to `end`, and what each changes."""
+    last = min(end, number_at(kv, b'paxos', b'last_committed'))
+    kept = sorted(int(key) for prefix, key in kv if prefix == b'paxos' and re.fullmatch(DECIMAL, key) and first <= int(key) <= last)
+    return b''.join(lines_of(version, changes_of(kv[b'paxos', b'%d' % version])) for version in kept)
+
+
+def lines_of(version: int, changes: list[bytes] | None) -> bytes:
+    return b'%d none\n' % version if changes is None else b'%d %d\n' % (version, len(changes)) + b''.join(changes)
