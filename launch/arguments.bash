@@ -6,8 +6,16 @@ declare -A FORMS=(
     [replay]=''
     [made]='NUMBER EVENTS'
     [node]='RANK MONITORS RULE ADDRESSES DISK_A DISK_B TURNS'
+    [follow]='SERVICE ADDRESSES TURNS'
+    [scrub]='RANK MONITORS DISK_A DISK_B'
+    [scrub-compare]=''
+    [dump-keys]='RANK MONITORS DISK_A DISK_B'
+    [dump-paxos]='RANK MONITORS DISK_A DISK_B FROM TO'
+    [store-export]='RANK MONITORS DISK_A DISK_B'
+    [store-import]='RANK MONITORS DISK_A DISK_B'
 )
-readonly GREATEST=4611686018427387904 # 2^62
+readonly GREATEST=4611686018427387904      # 2^62
+readonly MOST_FOLLOWED=2305843009213693952 # 2^61
 
 # is_within LEAST ARGUMENT MOST: the argument is a decimal number without a leading zero, within these bounds
 is_within() {
@@ -44,34 +52,42 @@ is_address() {
     for number in "${numbers[@]}"; do is_within 0 "$number" 255 || return; done
 }
 
-# fault_of_addresses LIST MONITORS: what is wrong with the addresses, or nothing
+# fault_of_addresses COMMAND LIST MONITORS: what is wrong with the addresses, or nothing. A client's number of monitors is that of its addresses.
 fault_of_addresses() {
     local address addresses
-    IFS=, read -ra addresses <<<"$1,"
+    IFS=, read -ra addresses <<<"$2,"
     for address in "${addresses[@]}"; do
         is_address "$address" && continue
         printf "'%s' is no address: each is four numbers up to 255, a colon and a port from 1 to 65535, such as 127.0.0.1:6789" "$address"
         return
     done
-    [ "${#addresses[@]}" = "$2" ] || printf 'there are %d, but there must be one for each of the %d monitors, joined by commas' "${#addresses[@]}" "$2"
+    if [ "$1" = follow ]; then
+        [ "${#addresses[@]}" -le 15 ] || printf 'there are %d, but there must be one for each of 1 to 15 monitors' "${#addresses[@]}"
+    elif [ "${#addresses[@]}" != "$3" ]; then
+        printf 'there are %d, but there must be one for each of the %d monitors, joined by commas' "${#addresses[@]}" "$3"
+    fi
 }
 
-# fault_of NAME ARGUMENT MONITORS: what is wrong with the argument of this name, or nothing
+# fault_of COMMAND NAME ARGUMENT MONITORS TO: what is wrong with the argument of this name, or nothing
 fault_of() {
-    case $1 in
-    NUMBER) is_within 0 "$2" "$GREATEST" || printf 'it must be a number from 0 to %s' "$GREATEST" ;;
-    EVENTS) is_within 1 "$2" 100000 || printf 'it must be a number from 1 to 100000' ;;
-    TURNS) is_within 1 "$2" "$GREATEST" || printf 'it must be a number from 1 to %s, which never ends' "$GREATEST" ;;
-    MONITORS) is_within 1 "$2" 15 || printf 'it must be a number from 1 to 15' ;;
-    RANK) is_within 0 "$2" $(($3 - 1)) || printf 'it must be a number from 0 to %d, below MONITORS' $(($3 - 1)) ;;
-    RULE) is_rule "$2" "$3" || printf 'it must be classic, disallow=RANKS, connectivity or connectivity=RANKS, with ascending ranks below %d joined by commas' "$3" ;;
-    ADDRESSES) fault_of_addresses "$2" "$3" ;;
+    case $1:$2 in
+    *:NUMBER) is_within 0 "$3" "$GREATEST" || printf 'it must be a number from 0 to %s' "$GREATEST" ;;
+    *:EVENTS) is_within 1 "$3" 100000 || printf 'it must be a number from 1 to 100000' ;;
+    follow:TURNS) is_within 1 "$3" "$MOST_FOLLOWED" || printf 'it must be a number from 1 to %s, which never ends' "$MOST_FOLLOWED" ;;
+    *:TURNS) is_within 1 "$3" "$GREATEST" || printf 'it must be a number from 1 to %s, which never ends' "$GREATEST" ;;
+    *:MONITORS) is_within 1 "$3" 15 || printf 'it must be a number from 1 to 15' ;;
+    *:RANK) is_within 0 "$3" $(($4 - 1)) || printf 'it must be a number from 0 to %d, below MONITORS' $(($4 - 1)) ;;
+    *:RULE) is_rule "$3" "$4" || printf 'it must be classic, disallow=RANKS, connectivity or connectivity=RANKS, with ascending ranks below %d joined by commas' "$4" ;;
+    *:SERVICE) [ "$3" = kv ] || [ "$3" = log ] || printf 'it must be kv or log' ;;
+    *:ADDRESSES) fault_of_addresses "$1" "$3" "$4" ;;
+    *:FROM) is_within 0 "$3" "$5" || printf 'it must be a number from 0 to %s, and not above TO' "$5" ;;
+    *:TO) is_within 0 "$3" "$GREATEST" || printf 'it must be a number from 0 to %s' "$GREATEST" ;;
     esac
 }
 
 # explained ARGUMENT..: what is wrong with the arguments, in a sentence, or nothing
 explained() {
-    local LC_ALL=C argument names name fault monitors=15 at=0
+    local LC_ALL=C argument command=${1-} names name fault monitors=15 to=$GREATEST at=0
     [ $# != 0 ] || { printf 'a command is missing'; return; }
     for argument; do
         [ -n "$argument" ] || { printf 'an argument is empty'; return; }
@@ -88,9 +104,10 @@ explained() {
     for name in "${names[@]}"; do
         at=$((at + 1))
         if [ "$name" = MONITORS ] && is_within 1 "${!at}" 15; then monitors=${!at}; fi
+        if [ "$name" = TO ] && is_within 0 "${!at}" "$GREATEST"; then to=${!at}; fi
     done
     for name in "${names[@]}"; do
-        fault=$(fault_of "$name" "$1" "$monitors")
+        fault=$(fault_of "$command" "$name" "$1" "$monitors" "$to")
         [ -z "$fault" ] || { printf "%s is '%s': %s" "$name" "$1" "$fault"; return; }
         shift
     done

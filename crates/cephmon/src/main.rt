@@ -1,14 +1,14 @@
-//! A quorum of monitors: replays its schedules, and serves as one of its monitors.
+//! A quorum of monitors: replays its schedules, serves as one of its monitors, follows its maps, and works on the stores of stopped monitors.
 #![tactic(auto)]
 
 mod devices;
 mod words;
 
-use crate::devices::{Devices, devices_of};
+use crate::devices::{Channel, Devices, devices_of};
 use crate::words::words_of;
-use cephmon_run::{Status, run};
+use cephmon_run::{Ended, Status, run};
 use mon_disk::{FileDisk, NodeDisks};
-use mon_link::{RunClock, StdinSource, StdoutSink, UdpLink};
+use mon_link::{Link, RunClock, StdinSource, StdoutSink, UdpLink};
 use std::process::ExitCode;
 
 fn main(rt: HostRuntime) -> ExitCode {
@@ -22,28 +22,53 @@ fn main(rt: HostRuntime) -> ExitCode {
 
 /// Does what the words say, on the streams, files, sockets and the clock of the system.
 fn run_on_devices(rt: &HostRuntime, words: &[String]) -> Status {
-    let Devices { disks, mut link } = match devices_of(rt, words) {
+    let Devices { disks, channel } = match devices_of(rt, words) {
         Ok(devices) => devices,
         Err(status) => return status,
     };
-    tell_short_room(rt, &mut link.inner);
+    match channel {
+        Channel::Monitor(mut link) => {
+            tell_short_room(rt, &mut link.inner);
+            let ended = run_over(rt, words, disks, &mut link);
+            tell_failures(rt, &ended.disks, &link.inner);
+            ended.status
+        }
+        Channel::Client(mut link) => {
+            tell_short_room(rt, &mut link);
+            let ended = run_over(rt, words, disks, &mut link);
+            tell_failures(rt, &ended.disks, &link);
+            ended.status
+        }
+        Channel::Unused(mut link) => {
+            let ended = run_over(rt, words, disks, &mut link);
+            tell_failures(rt, &ended.disks, &link);
+            ended.status
+        }
+    }
+}
+
+/// Does what the words say over this link.
+fn run_over<L: Link>(
+    rt: &HostRuntime,
+    words: &[String],
+    disks: NodeDisks<FileDisk<HostRuntime>>,
+    link: &mut L,
+) -> Ended<FileDisk<HostRuntime>> {
     let mut source = StdinSource::new(rt);
     let mut sink = StdoutSink::new(rt);
     let mut clock = RunClock::new(rt);
-    let ended = run(
+    run(
         rt.alloc(),
         words,
         &mut source,
         &mut sink,
         disks,
-        &mut link,
+        link,
         &mut clock,
-    );
-    tell_failures(rt, &ended.disks, &link.inner);
-    ended.status
+    )
 }
 
-/// Says on standard error, before a monitor serves, that its socket may lose a part of a long message.
+/// Says on standard error, before a monitor serves or a client follows, that its socket may lose a part of a long message.
 fn tell_short_room(rt: &HostRuntime, link: &mut UdpLink<HostRuntime>) {
     if let Some(room) = link.short_room() {
         let _ = eprintln!(rt;

@@ -4,9 +4,13 @@ use Rattle.std.proofs.lemmas.Bool.{lt-ltb}
 use Rattle.std.proofs.lemmas.List.{append-nil}
 use Rattle.std.specs.Prelude.{IfSome}
 use Rattle.std.specs.declared.alloc.Global.{Global}
+use Rattle.cephmon_run.proofs.Caused.{compare_faulty, compared_so, follow_faulty, followed_so, import_faulty, imported_so, text_faulty, written_so}
 use Rattle.cephmon_run.proofs.Schedules.{same_monitors}
+use Rattle.stopped_stores.proofs.Completing.{none_rose, read_of}
+use Rattle.stopped_stores.specs.declared.writing.StoreText.TheVariants as text
 use Rattle.cephmon_run.specs.Node.{Around, NodeCause, OpensTo, Served, Unopened}
-use Rattle.cephmon_run.specs.Run.{Completes, Ends, HasCause, HasStatus, Holds, IsCaused, IsServed, Made, MadeCause, NoneFailed, NothingFailed, OfRead, Outside, ReplayCause, Replayed, SummedAll, Tells, TellsLine, TellsRefusal, WroteAll, most_read}
+use Rattle.cephmon_run.specs.Run.{Completes, Ends, HasCause, HasStatus, Holds, IsCaused, IsServed, Made, MadeCause, NoneFailed, NothingFailed, OfRead, ReplayCause, Replayed, SummedAll, Tells, TellsLine, TellsRefusal, WroteAll, most_read, text_task}
+use Rattle.cephmon_run.specs.Outside.{Outside}
 use Rattle.cephmon_run.specs.Summary.{summary}
 use Rattle.cephmon_run.specs.Trace.{Trace, trace}
 use Rattle.cephmon_run.specs.declared.status.Status.TheVariants as status
@@ -53,12 +57,22 @@ module _ {D : Type 0} (state : D → DiskState) (words : List (String Global)) (
   no_words task.Replay cause = cause.0
   no_words (task.Made number events) cause = cause.0
   no_words (task.Node member rule addresses disk_a disk_b turns) cause = cause.0
+  no_words (task.Follow service addresses turns) cause = follow_faulty state before after around left service (length addresses) turns cause
+  no_words (task.Scrub member disk_a disk_b) cause = text_faulty state before after around left text.Report member cause
+  no_words task.ScrubCompare cause = compare_faulty state before after around left cause
+  no_words (task.DumpKeys member disk_a disk_b) cause = text_faulty state before after around left text.Keys member cause
+  no_words (task.DumpPaxos member disk_a disk_b from to) cause = text_faulty state before after around left (text.Versions from to) member cause
+  no_words (task.StoreExport member disk_a disk_b) cause = text_faulty state before after around left text.Export member cause
+  no_words (task.StoreImport member disk_a disk_b) cause = import_faulty state before after around left member cause
 
   asked : (t : Task) (s : Status) → AsksFor t words → HasCause state t before after around left s → HasStatus state words before after around left s
   asked t status.Done asks cause = (t, asks, cause)
   asked t status.Words asks cause = absurd (no_words t cause)
   asked t (status.Schedule line kind) asks cause = (t, asks, cause)
   asked t status.ReadFault asks cause = (t, asks, cause)
+  asked t (status.Report line) asks cause = (t, asks, cause)
+  asked t (status.NotEmpty disk) asks cause = (t, asks, cause)
+  asked t (status.Export at) asks cause = (t, asks, cause)
   asked t status.WriteFault asks cause = (t, asks, cause)
   asked t status.DiskFault asks cause = (t, asks, cause)
   asked t status.LinkFault asks cause = (t, asks, cause)
@@ -78,6 +92,9 @@ module _ {D : Type 0} (state : D → DiskState) (words : List (String Global)) (
   split status.Words has = inl (refl, has.0)
   split (status.Schedule line kind) has = inr has
   split status.ReadFault has = inr has
+  split (status.Report line) has = inr has
+  split (status.NotEmpty disk) has = inr has
+  split (status.Export at) has = inr has
   split status.WriteFault has = inr has
   split status.DiskFault has = inr has
   split status.LinkFault has = inr has
@@ -102,27 +119,13 @@ module _ {D : Type 0} (state : D → DiskState) (words : List (String Global)) (
 
 -- ---- what was read
 
--- all that was there, or the most that is read of more
-read_of : (old new : Option (List ℕ)) (bytes whole : List ℕ) → old ≡ Some whole → ReadsWhole most_read old new bytes
-    → (bytes ≡ whole) ⊎ ((length bytes ≡ most_read) × (most_read ≤ length whole))
-read_of None new bytes whole is read = absurd cc
-read_of (Some xs) None bytes whole is read = absurd read
-read_of (Some xs) (Some ys) bytes whole is read =
-    let same : xs ≡ whole = cc in
-    elim read.1 [
-      | inl none ↦ inl (sym (append-nil bytes) ∙ ap (λ (l : List ℕ). bytes ++ l) (sym none) ∙ sym read.0 ∙ same)
-      | inr most ↦
-          let there : length whole ≡ length bytes + length ys = ap length (sym same ∙ read.0) ∙ length-append bytes ys in
-          inr (most, omega arith)
-    ]
-
 short_text : (s : Schedule) → HasText s → length (schedule_text s) < most_read
 short_text s h = omega (arith, h.bytes)
 
 -- a schedule's text was read whole
 text_read : (before after : Outside) (bytes : List ℕ) (s : Schedule) → HasText s → before.left ≡ Some (schedule_text s) → ReadsWhole most_read before.left after.left bytes → bytes ≡ schedule_text s
 text_read before after bytes s h left read =
-    elim (read_of before.left after.left bytes (schedule_text s) left read) [
+    elim (read_of most_read before.left after.left bytes (schedule_text s) left read) [
       | inl same ↦ same
       | inr more ↦ absurd (omega (arith, more.1, short_text s h))
     ]
@@ -134,7 +137,7 @@ too_long bytes long = rw (lt-ltb most_bytes (length bytes) (omega arith)) refl
 -- what was read is refused as all that was there
 same_refusal : (before after : Outside) (bytes whole : List ℕ) → before.left ≡ Some whole → ReadsWhole most_read before.left after.left bytes → schedule_at bytes ≡ schedule_at whole
 same_refusal before after bytes whole left read =
-    elim (read_of before.left after.left bytes whole left read) [
+    elim (read_of most_read before.left after.left bytes whole left read) [
       | inl same ↦ ap schedule_at same
       | inr more ↦ too_long bytes (omega (arith, more.0)) ∙ sym (too_long whole more.1)
     ]
@@ -191,6 +194,9 @@ replayed_so status.Done before after schedule ms calm h left count rule did = te
 replayed_so status.Words before after schedule ms calm h left count rule did = absurd did
 replayed_so (status.Schedule line kind) before after schedule ms calm h left count rule did = absurd (not_refused before after schedule line kind h left did.0)
 replayed_so status.ReadFault before after schedule ms calm h left count rule did = absurd (calm.reads did.0)
+replayed_so (status.Report line) before after schedule ms calm h left count rule did = absurd did
+replayed_so (status.NotEmpty disk) before after schedule ms calm h left count rule did = absurd did
+replayed_so (status.Export at) before after schedule ms calm h left count rule did = absurd did
 replayed_so status.WriteFault before after schedule ms calm h left count rule did = absurd (calm.writes did.0)
 replayed_so status.DiskFault before after schedule ms calm h left count rule did = absurd did
 replayed_so status.LinkFault before after schedule ms calm h left count rule did = absurd did
@@ -210,6 +216,9 @@ refused_so status.Words before after bytes line kind calm left refused did = abs
 refused_so (status.Schedule l k) before after bytes line kind calm left refused did =
     one_fault (schedule_at did.0.0) l line k kind did.0.3 (same_refusal before after did.0.0 bytes left did.0.2 ∙ refused)
 refused_so status.ReadFault before after bytes line kind calm left refused did = absurd (calm.reads did.0)
+refused_so (status.Report other) before after bytes line kind calm left refused did = absurd did
+refused_so (status.NotEmpty disk) before after bytes line kind calm left refused did = absurd did
+refused_so (status.Export at) before after bytes line kind calm left refused did = absurd did
 refused_so status.WriteFault before after bytes line kind calm left refused did = absurd (calm.writes did.0)
 refused_so status.DiskFault before after bytes line kind calm left refused did = absurd did
 refused_so status.LinkFault before after bytes line kind calm left refused did = absurd did
@@ -233,6 +242,9 @@ made_so status.Done number events before after ms calm count rule did = tells_no
 made_so status.Words number events before after ms calm count rule did = absurd did
 made_so (status.Schedule line kind) number events before after ms calm count rule did = absurd did
 made_so status.ReadFault number events before after ms calm count rule did = absurd did
+made_so (status.Report line) number events before after ms calm count rule did = absurd did
+made_so (status.NotEmpty disk) number events before after ms calm count rule did = absurd did
+made_so (status.Export at) number events before after ms calm count rule did = absurd did
 made_so status.WriteFault number events before after ms calm count rule did = absurd (calm.writes did.0)
 made_so status.DiskFault number events before after ms calm count rule did = absurd did
 made_so status.LinkFault number events before after ms calm count rule did = absurd did
@@ -255,9 +267,6 @@ module _ {D : Type 0} (state : D → DiskState) (around left : Around D) (calm :
       let at_b = subst (λ (seen : Option (List ℕ)). IfSome seen (λ b. fact (opens_as member holds.0 b))) holds.3 at_a in
       subst fact holds.4 at_b
 
-  none_rose : (old new : ℕ) → ¬ (Rose old new) → new ≡ risen old → ⊥
-  none_rose old new none is = none (omega arith)
-
   -- no disk failed, while a store was opened or later
   no_failure : (member : Member) → Unopened state member around left open_stop.DiskFault → ⊥
   no_failure member un = elim un.counts [
@@ -277,6 +286,9 @@ module _ {D : Type 0} (state : D → DiskState) (around left : Around D) (calm :
   served_so me turns stood holds status.Words did = absurd did
   served_so me turns stood holds (status.Schedule line kind) did = absurd did
   served_so me turns stood holds status.ReadFault did = absurd did
+  served_so me turns stood holds (status.Report line) did = absurd did
+  served_so me turns stood holds (status.NotEmpty disk) did = absurd did
+  served_so me turns stood holds (status.Export at) did = absurd did
   served_so me turns stood holds status.WriteFault did = absurd did
   served_so me turns stood holds status.DiskFault did = elim did [
     | inl un ↦ absurd (no_failure me.member un)
@@ -302,6 +314,9 @@ module _ {D : Type 0} (state : D → DiskState) (around left : Around D) (calm :
   unopened_so me turns refusal holds status.Words did = absurd did
   unopened_so me turns refusal holds (status.Schedule line kind) did = absurd did
   unopened_so me turns refusal holds status.ReadFault did = absurd did
+  unopened_so me turns refusal holds (status.Report line) did = absurd did
+  unopened_so me turns refusal holds (status.NotEmpty disk) did = absurd did
+  unopened_so me turns refusal holds (status.Export at) did = absurd did
   unopened_so me turns refusal holds status.WriteFault did = absurd did
   unopened_so me turns refusal holds status.DiskFault did = elim did [
     | inl un ↦ absurd (no_failure me.member un)
@@ -327,6 +342,13 @@ no_memory : {D : Type 0} (state : D → DiskState) (before : Outside) (around : 
 no_memory state before around task.Replay = (inl (nothing_read before.left, (refl, refl)), refl)
 no_memory state before around (task.Made number events) = (((refl, refl), inl (refl, refl)), refl)
 no_memory state before around (task.Node member rule addresses disk_a disk_b turns) = (inl refl, refl)
+no_memory state before around (task.Follow service addresses turns) = inl (record { is = refl; streams = refl; devices = refl })
+no_memory state before around (task.Scrub member disk_a disk_b) = inl (record { is = refl; streams = refl; devices = refl })
+no_memory state before around task.ScrubCompare = inl (record { is = refl; streams = refl; devices = refl })
+no_memory state before around (task.DumpKeys member disk_a disk_b) = inl (record { is = refl; streams = refl; devices = refl })
+no_memory state before around (task.DumpPaxos member disk_a disk_b from to) = inl (record { is = refl; streams = refl; devices = refl })
+no_memory state before around (task.StoreExport member disk_a disk_b) = inl (record { is = refl; streams = refl; devices = refl })
+no_memory state before around (task.StoreImport member disk_a disk_b) = inl (record { is = refl; streams = refl; devices = refl })
 
 completes : {D : Type 0} (state : D → DiskState) (words : List (String Global)) (before after : Outside) (around left : Around D) (s : Status)
     → HasStatus state words before after around left s → Completes state words before after around left s
@@ -342,6 +364,13 @@ completes state words before after around left s has = record {
       served_so state around left calm (record { member = member; rule = rule }) turns stood holds s (cause_of state words before after around left (task.Node member rule addresses disk_a disk_b turns) s asks has).0;
   unopened = λ member rule addresses disk_a disk_b turns asks calm refusal holds.
       unopened_so state around left calm (record { member = member; rule = rule }) turns refusal holds s (cause_of state words before after around left (task.Node member rule addresses disk_a disk_b turns) s asks has).0;
+  followed = λ service addresses turns asks calm quiet.
+      followed_so state before after around left calm quiet service addresses turns s (cause_of state words before after around left (task.Follow service addresses turns) s asks has);
+  written = λ what member disk_a disk_b asks calm quiet.
+      written_so state before after around left calm quiet what member disk_a disk_b s (cause_of state words before after around left (text_task what member disk_a disk_b) s asks has);
+  compared = λ asks calm. compared_so state before after around left s calm (cause_of state words before after around left task.ScrubCompare s asks has);
+  imported = λ member disk_a disk_b asks calm quiet.
+      imported_so state before after around left calm quiet member disk_a disk_b s (cause_of state words before after around left (task.StoreImport member disk_a disk_b) s asks has);
 }
 
 -- ---- how a run ends, that was asked for and that wasn't

@@ -1,3 +1,4 @@
+pub mod Caused
 pub mod Counting
 pub mod Exact
 pub mod Nodes

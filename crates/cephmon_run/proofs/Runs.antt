@@ -23,7 +23,8 @@ use Rattle.cephmon_run.specs.declared.status.Status.{Status}
 use Rattle.cephmon_run.specs.declared.status.Status.TheVariants as status
 use Rattle.cephmon_run.specs.declared.summary.Counts.{Counts}
 use Rattle.cephmon_run.specs.Replay.{StopsAs, Writes, fault_of, status_of, stop_of}
-use Rattle.cephmon_run.specs.Run.{Made, MadeCause, Outside, ReplayCause, Replayed, Runs, SummedAll, TellsFault, WroteNothing, most_read}
+use Rattle.cephmon_run.specs.Run.{Made, MadeCause, ReplayCause, Replayed, Runs, SummedAll, TellsFault, most_read}
+use Rattle.cephmon_run.specs.Outside.{Outside, WroteNothing}
 use Rattle.cephmon_run.specs.Summary.{IsLine, Summary, counted_from, no_counts, summary, summed}
 use Rattle.cephmon_run.specs.Trace.{Trace, trace}
 use Rattle.mon_world.proofs.Safety.{schedule_safe}
@@ -57,6 +58,9 @@ faulty before after bytes status.OutOfMemory read silent fault = inl (front_of m
 faulty before after bytes status.Done read silent fault = absurd fault
 faulty before after bytes status.Words read silent fault = absurd fault
 faulty before after bytes status.ReadFault read silent fault = absurd fault
+faulty before after bytes (status.Report line) read silent fault = absurd fault
+faulty before after bytes (status.NotEmpty disk) read silent fault = absurd fault
+faulty before after bytes (status.Export at) read silent fault = absurd fault
 faulty before after bytes status.WriteFault read silent fault = absurd fault
 faulty before after bytes status.DiskFault read silent fault = absurd fault
 faulty before after bytes status.LinkFault read silent fault = absurd fault

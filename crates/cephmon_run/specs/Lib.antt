@@ -1,4 +1,6 @@
+pub mod Further
 pub mod Node
+pub mod Outside
 pub mod Replay
 pub mod Run
 pub mod Status

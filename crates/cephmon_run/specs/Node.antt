@@ -95,3 +95,6 @@ module _ {D : Type 0} (state : D → DiskState) where
   NodeCause me turns before after (status.Schedule line kind) = ⊥
   NodeCause me turns before after status.ReadFault = ⊥
   NodeCause me turns before after status.WriteFault = ⊥
+  NodeCause me turns before after (status.Report line) = ⊥
+  NodeCause me turns before after (status.NotEmpty disk) = ⊥
+  NodeCause me turns before after (status.Export at) = ⊥

@@ -31,16 +31,15 @@ use Rattle.task_words.specs.declared.task.Task.{Task}
 use Rattle.task_words.specs.declared.task.Task.TheVariants as task
 use Rattle.cephmon_run.specs.Summary.{Summary, summary}
 use Rattle.task_words.specs.Task.{AsksFor, AsksForNone}
+use Rattle.cephmon_run.specs.Further.{CompareCause, FollowCause, ImportCause, RanOut, TextCause}
 use Rattle.cephmon_run.specs.Node.{Around, NodeCause}
+use Rattle.cephmon_run.specs.Outside.{Outside, ReadNothing, WroteNothing}
+use Rattle.cephmon_run.specs.Status.{StatusOf, status_of_tool}
 use Rattle.cephmon_run.specs.Trace.{Trace, trace}
-
--- What stands before a run and after it: what the source has left and what the sink holds, where they tell it, and their counts of
--- faults. Of a source or a sink that tells nothing, as the standard streams, no bytes are known.
-pub record Outside : Type 0 where
-  pub left : Option (List ℕ)
-  pub held : Option (List ℕ)
-  pub read_faults : ℕ
-  pub write_faults : ℕ
+use Rattle.mon_wire.specs.declared.request.Service.{Service}
+use Rattle.stopped_stores.specs.Completing.{ComparisonCompletes, Hold, ImportCompletes, TextCompletes}
+use Rattle.stopped_stores.specs.declared.writing.StoreText.{StoreText}
+use Rattle.stopped_stores.specs.declared.writing.StoreText.TheVariants as text
 
 -- one more byte is read than a schedule may have
 abbrev pub most_read : ℕ
@@ -77,14 +76,6 @@ WroteFront before after t = AppendsFront before.held after.held t.text
 -- the source was read to its end, where it tells what it has left, and had a schedule whose trace has this fact
 abbrev pub Replayed : Outside → Outside → (Trace → Type 0) → Type 0
 Replayed before after fact = IsAtEnd after.left × OfRead before after (λ bytes. Replays bytes fact)
-
--- nothing was written, or tried to be
-abbrev pub WroteNothing : Outside → Outside → Type 0
-WroteNothing before after = (after.held ≡ before.held) × (after.write_faults ≡ before.write_faults)
-
--- nothing was read, or tried to be
-abbrev pub ReadNothing : Outside → Outside → Type 0
-ReadNothing before after = (after.left ≡ before.left) × (after.read_faults ≡ before.read_faults)
 
 -- the schedule of a number was run, which is safe, nothing was read, and its summary has this fact
 pub record Made (number events : ℕ) (before after : Outside) (fact : Summary → Type 0) : Type 0 where
@@ -134,6 +125,17 @@ HasCause state task.Replay before after around left s = ReplayCause before after
 HasCause state (task.Made number events) before after around left s = MadeCause number events before after s × (left ≡ around)
 HasCause state (task.Node member rule addresses disk_a disk_b turns) before after around left s =
     NodeCause state (record { member = member; rule = rule }) turns around left s × (after ≡ before)
+HasCause state (task.Follow service addresses turns) before after around left s =
+    RanOut before after around left s ⊎ FollowCause service (length addresses) turns before after around left s
+HasCause state (task.Scrub member disk_a disk_b) before after around left s = RanOut before after around left s ⊎ TextCause state text.Report member before after around left s
+HasCause state task.ScrubCompare before after around left s = RanOut before after around left s ⊎ CompareCause before after around left s
+HasCause state (task.DumpKeys member disk_a disk_b) before after around left s = RanOut before after around left s ⊎ TextCause state text.Keys member before after around left s
+HasCause state (task.DumpPaxos member disk_a disk_b from to) before after around left s =
+    RanOut before after around left s ⊎ TextCause state (text.Versions from to) member before after around left s
+HasCause state (task.StoreExport member disk_a disk_b) before after around left s =
+    RanOut before after around left s ⊎ TextCause state text.Export member before after around left s
+HasCause state (task.StoreImport member disk_a disk_b) before after around left s =
+    RanOut before after around left s ⊎ ImportCause state member before after around left s
 
 -- it has a cause in what the words ask for
 abbrev pub IsCaused : {D : Type 0} → (D → DiskState) → List (String Global) → Outside → Outside → Around D → Around D → Status → Type 0
@@ -196,9 +198,24 @@ abbrev pub Holds : {D : Type 0} → (D → DiskState) → Member → Around D �
 Holds state member around read =
     (a : List ℕ) × (b : List ℕ) × ((state around.disks.a).content.seen ≡ Some a) × ((state around.disks.b).content.seen ≡ Some b) × (opens_as member a b ≡ read)
 
+-- a client followed, unless memory ran out
+abbrev pub IsFollowed : Status → Type 0
+IsFollowed status.Done = Unit {0}
+IsFollowed status.TurnsUsed = Unit {0}
+IsFollowed status.OutOfMemory = Unit {0}
+IsFollowed other = ⊥
+
+-- the command that writes a text of a member's store
+abbrev pub text_task : StoreText → Member → (disk_a disk_b : List ℕ) → Task
+text_task text.Report member disk_a disk_b = task.Scrub member disk_a disk_b
+text_task text.Keys member disk_a disk_b = task.DumpKeys member disk_a disk_b
+text_task (text.Versions from to) member disk_a disk_b = task.DumpPaxos member disk_a disk_b from to
+text_task text.Export member disk_a disk_b = task.StoreExport member disk_a disk_b
+
 -- Faulty words are told. Where nothing fails, the status tells how the run of the schedule ends that the source has, or that is made; of
 -- bytes that are no schedule's text, however many, which line is at fault; and of disks that stand for no store of the member, why they
--- don't, while on a store of its own, or where it is to be created, the monitor serves.
+-- don't, while on a store of its own, or where it is to be created, the monitor serves. A client follows. The status of a command on a stopped
+-- store is that of the end that comes by what the disks and the source have, and so is that of a comparison.
 pub record Completes {D : Type 0} (state : D → DiskState) (words : List (String Global)) (before after : Outside) (around left : Around D) (s : Status) : Type 0 where
   pub faulty : AsksForNone words → s ≡ status.Words
   pub replayed : (schedule : Schedule) (ms : Monitors) → AsksFor task.Replay words → NothingFailed before after
@@ -215,6 +232,15 @@ pub record Completes {D : Type 0} (state : D → DiskState) (words : List (Strin
   pub unopened : (member : Member) (rule : Rule) (addresses : List Address) (disk_a disk_b : List ℕ) (turns : ℕ)
       → AsksFor (task.Node member rule addresses disk_a disk_b turns) words → NoneFailed state around left
       → (refusal : Refusal) → Holds state member around (Err refusal) → TellsRefusal refusal s
+  pub followed : (service : Service) (addresses : List Address) (turns : ℕ) → AsksFor (task.Follow service addresses turns) words → NothingFailed before after
+      → NoneFailed state around left → IsFollowed s
+  pub written : (what : StoreText) (member : Member) (disk_a disk_b : List ℕ) → AsksFor (text_task what member disk_a disk_b) words → NothingFailed before after
+      → NoneFailed state around left → (a b : List ℕ) → Hold state around.disks a b → StatusOf status_of_tool (TextCompletes member a b) s
+  pub compared : AsksFor task.ScrubCompare words → NothingFailed before after → (bytes : List ℕ) → before.left ≡ Some bytes
+      → StatusOf status_of_tool (ComparisonCompletes bytes) s
+  pub imported : (member : Member) (disk_a disk_b : List ℕ) → AsksFor (task.StoreImport member disk_a disk_b) words → NothingFailed before after
+      → NoneFailed state around left → (bytes a b : List ℕ) → before.left ≡ Some bytes → Hold state around.disks a b
+      → StatusOf status_of_tool (ImportCompletes member bytes a b) s
 
 -- ---- what is promised of a run
 

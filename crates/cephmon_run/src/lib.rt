@@ -1,6 +1,8 @@
-//! Does what the words of a command line ask for: replays a schedule, runs one that is made, or serves as a monitor.
+//! Does what the words of a command line ask for: replays a schedule, runs one that is made, serves as a monitor, follows a map as a client, or
+//! reads, compares and restores the stores of stopped monitors.
 #![tactic(auto)]
 
+mod further;
 mod node;
 mod replay;
 mod running;

@@ -10,6 +10,7 @@ ghost use Rattle.cephmon_run.specs.Run.{Ends, HasCause, MadeCause, ReplayCause, 
 ghost use Rattle.cephmon_run.specs.Replay.{StopsAs, status_of};
 ghost use Rattle.cephmon_run.specs.Summary.{IsLine, summary};
 
+use crate::further::{run_compare, run_follow, run_import, run_text};
 use crate::node::{Ended, run_node};
 use crate::replay::{ReplayStop, replay};
 use crate::status::Status;
@@ -22,6 +23,7 @@ use mon_world::WorldStop;
 use schedule_made::made;
 use schedule_text::{Schedule, ScheduleRefused, parse};
 use std::alloc::Global;
+use stopped_stores::StoreText;
 use task_words::{Task, WordsStop, read_words};
 
 /// One more byte than a schedule may have.
@@ -146,12 +148,46 @@ fn run_task<S: Source, K: Sink, D: Disk, L: Link, C: Clock>(
             };
             run_node(alloc, disks, &me, link, clock, *turns)
         }
+        Task::Follow {
+            service,
+            addresses,
+            turns,
+        } => {
+            let monitors = addresses.as_slice().len() as u8;
+            Ended {
+                status: run_follow(alloc, *service, monitors, *turns, link, sink),
+                disks,
+            }
+        }
+        Task::Scrub { member, .. } => run_text(alloc, StoreText::Report, member, disks, sink),
+        Task::ScrubCompare => Ended {
+            status: run_compare(alloc, source, sink),
+            disks,
+        },
+        Task::DumpKeys { member, .. } => run_text(alloc, StoreText::Keys, member, disks, sink),
+        Task::DumpPaxos {
+            member,
+            from,
+            to,
+            ..
+        } => {
+            let what = StoreText::Versions {
+                from: *from,
+                to: *to,
+            };
+            run_text(alloc, what, member, disks, sink)
+        }
+        Task::StoreExport { member, .. } => run_text(alloc, StoreText::Export, member, disks, sink),
+        Task::StoreImport { member, .. } => run_import(alloc, member, disks, source),
     }
 }
 
 /// Does what the words say: `replay` runs the schedule that the source has and writes its trace to the sink; `made`
-/// runs the schedule of a number and writes its summary; and `node` serves as a monitor from the two disks, over the
-/// link, and writes nothing. What a command has no use for is left as it was.
+/// runs the schedule of a number and writes its summary; `node` serves as a monitor from the two disks, over the
+/// link, and writes nothing; `follow` follows a service over the link and writes a line for each newer version;
+/// `scrub`, `dump-keys`, `dump-paxos` and `store-export` write a text of the store on the two disks; `scrub-compare`
+/// writes where the two reports differ that the source has; and `store-import` makes a store on the two disks of the
+/// export that the source has. What a command has no use for is left as it was.
 pub fn run<S: Source, K: Sink, D: Disk, L: Link, C: Clock>(
     alloc: Global,
     words: &[String],

@@ -1,13 +1,15 @@
+use map_follower::FollowEnd;
 use mon_node::NodeEnd;
 use mon_store::OpenStop;
 use mon_types::{Member, Side, Which};
 use schedule_text::ScheduleKind;
 use std::fmt;
+use stopped_stores::ToolEnd;
 
 /// How a command ends.
 #[derive(Clone, Copy, Debug, PartialEq, Eq)]
 pub enum Status {
-    /// All was done and written, or the link of a node was closed.
+    /// All was done and written, or the link of a node or a client was closed.
     Done,
     /// The command line is faulty.
     Words,
@@ -15,31 +17,38 @@ pub enum Status {
     Schedule { line: u32, kind: ScheduleKind },
     /// The input couldn't be read. Nothing was run or written.
     ReadFault,
-    /// The output couldn't be written. What went out is a front of it.
+    /// The output couldn't be written. What went out is a prefix of it.
     WriteFault,
-    /// A disk of the node failed.
+    /// A disk failed.
     DiskFault,
-    /// The node's link failed to tell what comes.
+    /// The link failed to report what comes.
     LinkFault,
     /// That disk holds no store, or none that goes with the other one, from this byte on. What the disks stand for is
     /// unchanged.
     NotAStore { disk: Side, at: u64 },
-    /// The store is another monitor's, or of another number of monitors. What the disks stand for is unchanged.
+    /// The store, or the export, is another monitor's, or of another number of monitors. What the disks stand for is unchanged.
     Stranger { kept: Member, asked: Member },
     /// A number of this kind would pass 2^62. Of a trace the lines of the events before were written, and of a summary
     /// nothing.
     Spent { which: Which },
-    /// The node made as many turns as were asked.
+    /// The node, or the client, made as many turns as were asked.
     TurnsUsed,
-    /// A monitor's map would have the size `would_be`, above 268,435,456. What was written is as with `Spent`.
+    /// A map would have the size `would_be`, above 268,435,456: of a run, in which case what was written is as with `Spent`, of a node, or of an
+    /// export, in which case nothing was done.
     Full { would_be: u64 },
-    /// An allocation was refused. What went out is a front of the output.
+    /// An allocation was refused. What went out is a prefix of the output.
     OutOfMemory,
+    /// The input isn't two reports. This line is the first at fault, or 0 if the input is too long. Nothing was written.
+    Report { line: u32 },
+    /// That disk isn't empty. Nothing was written to the disks.
+    NotEmpty { disk: Side },
+    /// The input isn't an export. The field that begins at this byte is the first at fault. Nothing was done.
+    Export { at: u64 },
 }
 
 impl Status {
     ghost use Rattle.std.specs.Prelude.{◌≡◌};
-    ghost use Rattle.cephmon_run.specs.Status.{status_number, status_of_opening, status_of_end};
+    ghost use Rattle.cephmon_run.specs.Status.{status_number, status_of_opening, status_of_end, status_of_follow, status_of_tool};
 
     /// The number that the program ends with.
     pub fn number(self) -> u8
@@ -59,6 +68,9 @@ impl Status {
             Status::TurnsUsed => 11,
             Status::OutOfMemory => 12,
             Status::Full { .. } => 13,
+            Status::Report { .. } => 14,
+            Status::NotEmpty { .. } => 15,
+            Status::Export { .. } => 16,
         }
     }
 
@@ -86,6 +98,38 @@ impl Status {
             NodeEnd::Full { would_be } => Status::Full { would_be },
             NodeEnd::Spent { which } => Status::Spent { which },
             NodeEnd::OutOfMemory => Status::OutOfMemory,
+        }
+    }
+
+    /// Why a client no longer follows.
+    pub fn of_follow(end: FollowEnd) -> Status
+        ensures { result ≡ status_of_follow end }
+    {
+        match end {
+            FollowEnd::Closed => Status::Done,
+            FollowEnd::TurnsUsed => Status::TurnsUsed,
+            FollowEnd::LinkFault => Status::LinkFault,
+            FollowEnd::WriteFault => Status::WriteFault,
+            FollowEnd::OutOfMemory => Status::OutOfMemory,
+        }
+    }
+
+    /// How a command on a stopped store, or a comparison, ended.
+    pub fn of_tool(end: ToolEnd) -> Status
+        ensures { result ≡ status_of_tool end }
+    {
+        match end {
+            ToolEnd::Done => Status::Done,
+            ToolEnd::ReadFault => Status::ReadFault,
+            ToolEnd::WriteFault => Status::WriteFault,
+            ToolEnd::DiskFault => Status::DiskFault,
+            ToolEnd::NotAStore { disk, at } => Status::NotAStore { disk, at },
+            ToolEnd::Stranger { kept, asked } => Status::Stranger { kept, asked },
+            ToolEnd::Full { would_be } => Status::Full { would_be },
+            ToolEnd::Report { line } => Status::Report { line },
+            ToolEnd::NotEmpty { disk } => Status::NotEmpty { disk },
+            ToolEnd::Export { at } => Status::Export { at },
+            ToolEnd::OutOfMemory => Status::OutOfMemory,
         }
     }
 }
@@ -126,6 +170,12 @@ impl fmt::Display for Status {
             Status::TurnsUsed => write!(f, "turns used"),
             Status::Full { would_be } => write!(f, "store full: {would_be}"),
             Status::OutOfMemory => write!(f, "out of memory"),
+            Status::Report { line } => write!(f, "report refused: line {line}"),
+            Status::NotEmpty { disk } => {
+                let disk = disk_name(*disk);
+                write!(f, "not empty: disk {disk}")
+            }
+            Status::Export { at } => write!(f, "export refused: {at}"),
         }
     }
 }

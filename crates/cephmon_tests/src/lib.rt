@@ -1,8 +1,10 @@
 //! Tests of the top call, as its users see it: over disks, links, clocks and streams in memory. Want of memory is the one status that a
 //! contract can't refuse, so that a `run` which always gave up would be proved. These tests refuse one: each names the status with which a
-//! replay or a node ends, and it is never want of memory.
+//! command ends, and it is never that one.
 #![tactic(auto)]
 
+#[cfg(test)]
+mod clients;
 #[cfg(test)]
 mod nodes;
 #[cfg(test)]
@@ -11,3 +13,5 @@ mod replays;
 mod rig;
 #[cfg(test)]
 mod statuses;
+#[cfg(test)]
+mod stopped;

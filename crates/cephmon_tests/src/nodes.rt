@@ -12,7 +12,7 @@ use std::test::Fail;
 const ALONE: &str = "node 0 1 classic 127.0.0.1:6789 a b 9";
 
 /// A client asks it to set `a` to `x`.
-const SET: &[u8] = b"\x01\x18\0\x01\0\0\0\0\0\0\0\0\x07\0\0\0\0\0\0\0\x01\x01a\x01\0\0\0x";
+pub const SET: &[u8] = b"\x01\x18\0\x01\0\0\0\0\0\0\0\0\x07\0\0\0\0\0\0\0\x01\x01a\x01\0\0\0x";
 
 /// It is done, as version 1.
 const DONE: &[u8] = b"\x01\x19\0\x01\x02\0\0\0\0\0\0\0\x07\0\0\0\0\0\0\0\x01\x01\0\0\0\0\0\0\0";
@@ -25,7 +25,7 @@ const SHOWN: &[u8] =
     b"\x01\x19\0\x01\x04\0\0\0\0\0\0\0\x08\0\0\0\0\0\0\0\x02\x01\x01\0\0\0\0\0\0\0\x01\0\0\0\0\0\0\0\x0b\0\0\0\x01\0\0\0\x01a\x01\0\0\0x";
 
 /// Datagrams of a client.
-fn asked(alloc: Global, datagrams: &[&[u8]]) -> Result<Vec<Got>, Fail> {
+pub fn asked(alloc: Global, datagrams: &[&[u8]]) -> Result<Vec<Got>, Fail> {
     let mut got = Vec::new(alloc);
     for bytes in datagrams {
         let bytes = Bytes::new(bytes.to_vec(alloc)?);
@@ -36,7 +36,7 @@ fn asked(alloc: Global, datagrams: &[&[u8]]) -> Result<Vec<Got>, Fail> {
 }
 
 /// Serves over a link that gives these, and then is closed.
-fn serve(alloc: Global, words: &[String], disks: NodeDisks<MemoryDisk>, got: Vec<Got>) -> Left {
+pub fn serve(alloc: Global, words: &[String], disks: NodeDisks<MemoryDisk>, got: Vec<Got>) -> Left {
     run_over(
         alloc,
         words,
@@ -56,7 +56,7 @@ fn told(left: &Left, answer: &[u8]) -> (Status, bool, usize) {
     (left.status, is_answer, left.link.waits().len())
 }
 
-fn disks_of(left: Left) -> NodeDisks<MemoryDisk> {
+pub fn disks_of(left: Left) -> NodeDisks<MemoryDisk> {
     let Left {
         sink,
         disks,

@@ -39,6 +39,9 @@ fn each_status_has_its_text(rt: HostRuntime) -> Result<(), Fail> {
             },
             "store full: 268435457",
         ),
+        (Status::Report { line: 3 }, "report refused: line 3"),
+        (Status::NotEmpty { disk }, "not empty: disk a"),
+        (Status::Export { at: 8 }, "export refused: 8"),
     ] {
         let said = format!(in alloc; "{status}")?;
         assert_eq!(rt; said.as_str(), text);

@@ -42,7 +42,7 @@ use Rattle.stopped_stores.specs.declared.writing.StoreText.{StoreText}
 
 -- ---- disks
 
-none_rose : (old new : ℕ) → ¬ (Rose old new) → new ≡ risen old → ⊥
+pub none_rose : (old new : ℕ) → ¬ (Rose old new) → new ≡ risen old → ⊥
 none_rose old new none is = none (omega arith)
 
 none_counted : {D : Type 0} (state : D → DiskState) (old new : NodeDisks D) → NoneFailed state old new → BothCount (Some outside.Failed) (state old.a) (state old.b) (state new.a) (state new.b) → ⊥
@@ -111,7 +111,7 @@ text_completes state what member old new before after e did calm quiet a b h = r
 -- ---- what was read
 
 -- all that was there, or the most that is read of more
-read_of : (most : ℕ) (old new : Option (List ℕ)) (bytes whole : List ℕ) → old ≡ Some whole → ReadsWhole most old new bytes
+pub read_of : (most : ℕ) (old new : Option (List ℕ)) (bytes whole : List ℕ) → old ≡ Some whole → ReadsWhole most old new bytes
     → (bytes ≡ whole) ⊎ ((length bytes ≡ most) × (most ≤ length whole))
 read_of most None new bytes whole is read = absurd cc
 read_of most (Some xs) None bytes whole is read = absurd read

@@ -1,3 +1,3 @@
-mod Completing
+pub mod Completing
 mod WasRead
 mod Works

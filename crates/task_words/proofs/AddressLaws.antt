@@ -1,10 +1,12 @@
 -- What is read of addresses is spelled so, and what is spelled so is read.
-use Rattle.std.proofs.Common.{◌≡◌, ℕ, ◌-◌, ◌<◌, ◌≤◌, ◌^◌, Bool, true, false, List, [], ◌∷◌, ◌++◌, length, map, Option, Some, None, Result, Ok, Err, IsTrue, decimal, refl, sym, ap, subst, ◌∙◌, arith, lit<}
+use Rattle.std.proofs.Common.{◌≡◌, ◌==◌, cond, ℕ, ◌+◌, ◌-◌, ◌<◌, ◌≤◌, ◌^◌, Bool, true, false, List, [], ◌∷◌, ◌++◌, length, map, Option, Some, None, Result, Ok, Err, IsTrue, decimal, refl, sym, ap, subst, ◌∙◌, arith, lit<}
 use Rattle.std.specs.Prelude.{is_ok}
-use Rattle.std.specs.List.{AllByRecursion, list_all}
+use Rattle.std.specs.List.{AllByRecursion, count_by, list_all}
 use Rattle.std.proofs.lemmas.Bool.Decides.{nat_tests}
 use Rattle.std.proofs.lemmas.Fmt.{digits_decimal}
-use Rattle.std.proofs.lemmas.List.{length-map}
+use Rattle.std.proofs.lemmas.List.{append-nil, length-map}
+use Rattle.std.proofs.lemmas.List.Sums.{sum_by-cons}
+use Rattle.mon_bytes.proofs.Ascii.{both}
 use Rattle.mon_bytes.proofs.Fields.{ok_is}
 use Rattle.mon_bytes.proofs.Formats.{bind_ok}
 use Rattle.mon_link.specs.declared.udp.Address.{Address}
@@ -12,7 +14,7 @@ use Rattle.schedule_text.specs.Fields.{cut, digit, number_of}
 use Rattle.schedule_text.proofs.FieldLaws.{apart, cut_again, cut_joined, list_all-append, list_all-weaker, number_form}
 use Rattle.schedule_text.proofs.FieldLaws as fields
 use Rattle.schedule_text.proofs.Numerals.{own}
-use Rattle.task_words.specs.Addresses.{IsAddress, address_of, address_text, addresses_of, addresses_text, host_of, port_of}
+use Rattle.task_words.specs.Addresses.{IsAddress, address_of, address_text, addresses_of, addresses_text, commas, host_of, port_of}
 use Rattle.task_words.specs.Parts.{joined, parts_of}
 use Rattle.task_words.proofs.NumberLaws.{is_within, within_is}
 use Rattle.task_words.proofs.PartsLoop.{left}
@@ -166,3 +168,27 @@ unfolding addresses_of
 starts n text rest is =
     let whole : n - 0 ≡ n = omega arith in
     ap (left Address 44 address_of n 0) is ∙ ap (λ (k : ℕ). parts_of 44 address_of k (Some text)) whole
+
+-- ---- how many there are, as the commas show
+
+one_more : (b : ℕ) (bs : List ℕ) → commas (b ∷ bs) ≡ cond (b == 44) 1 0 + commas bs
+one_more b bs = sum_by-cons (λ (x : ℕ). cond (x == 44) 1 0) b bs
+
+no_comma_in : (b : ℕ) → IsTrue (apart 44 b) → cond {A = ℕ} (b == 44) 1 0 ≡ 0
+no_comma_in b h = grind (arith, nat_tests)
+
+-- text without a comma adds none
+commas_after : (text rest : List ℕ) → IsTrue (list_all (apart 44) text) → commas (text ++ rest) ≡ commas rest
+commas_after [] rest h = refl
+commas_after (b ∷ bs) rest h =
+    let parts = both (apart 44 b) (list_all (apart 44) bs) h in
+    one_more b (bs ++ rest) ∙ omega (arith, no_comma_in b parts.0, commas_after bs rest parts.1)
+
+pub commas_between : (addresses : List Address) → 1 ≤ length addresses → AllByRecursion IsAddress addresses → commas (addresses_text addresses) + 1 ≡ length addresses
+commas_between [] some each = absurd (omega arith)
+commas_between (a ∷ []) some each =
+    ap (λ (t : List ℕ). commas t + 1) (sym (append-nil (address_text a))) ∙ ap (λ (n : ℕ). n + 1) (commas_after (address_text a) [] (address_apart a each.0))
+commas_between (a ∷ b ∷ more) some each =
+    let rest = commas_between (b ∷ more) (omega arith) each.1 in
+    let first : commas (address_text a ++ 44 ∷ addresses_text (b ∷ more)) ≡ commas (44 ∷ addresses_text (b ∷ more)) = commas_after (address_text a) _ (address_apart a each.0) in
+    omega (arith, first, one_more 44 (addresses_text (b ∷ more)), rest)

@@ -1,22 +1,26 @@
 -- Which words are those of a task.
-use Rattle.std.proofs.Common.{◌≡◌, ◌≢◌, ℕ, Bool, true, false, List, [], ◌∷◌, length, map, String, string_bytes, codes, decimal, refl, sym, ap, ◌∙◌, arith}
+use Rattle.std.proofs.Common.{◌≡◌, ◌==◌, ℕ, suc, ◌≤◌, ◌+◌, ◌^◌, Bool, true, false, List, [], ◌∷◌, length, map, Option, Some, None, IsTrue, is_some, String, string_bytes, codes, decimal, refl, sym, ap, subst, ◌∙◌, arith}
+use Rattle.std.specs.Prelude.{IfSome, is_ok}
 use Rattle.std.specs.declared.alloc.Global.{Global}
-use Rattle.std.specs.List.{list_all}
-use Rattle.std.specs.Str.{bytes_eq}
+use Rattle.std.specs.List.{AllByRecursion, list_all}
+use Rattle.std.proofs.lemmas.Bool.Decides.{nat_tests}
 use Rattle.std.proofs.lemmas.Fmt.{decimal_injective}
-use Rattle.std.proofs.lemmas.List.{length-map}
 use Rattle.std.proofs.lemmas.List.Folds.{list_all-map}
 use Rattle.election_rules.specs.declared.rule.Rule.{Rule}
 use Rattle.mon_link.specs.declared.udp.Address.{Address}
 use Rattle.mon_types.specs.declared.member.Member.{Member}
-use Rattle.schedule_text.specs.Spelling.{rule_text}
+use Rattle.mon_wire.specs.declared.request.Service.{Service}
+use Rattle.schedule_text.specs.Spelling.{RuleFits, rule_text}
+use Rattle.schedule_text.specs.Words.{service_text}
 use Rattle.task_words.specs.declared.task.Task.{Task}
-use Rattle.task_words.specs.declared.task.Task.TheVariants as task
-use Rattle.task_words.specs.Addresses.{addresses_text}
-use Rattle.task_words.specs.Task.{HasWords, IsAsked, SpellsTask, is_word, words_of}
-use Rattle.task_words.specs.Words.{Tells}
-use Rattle.task_words.proofs.Spelled.{passes, same_text}
-use Rattle.task_words.proofs.Unique.{word_by_word}
+use Rattle.task_words.specs.Addresses.{IsAddress, addresses_of, addresses_text, commas}
+use Rattle.task_words.specs.Task.{AreStore, HasWords, IsAsked, SpellsTask, is_word, most_made}
+use Rattle.task_words.specs.Words.{Spells, Tells}
+use Rattle.task_words.proofs.AddressLaws.{addresses_there, commas_between, no_addresses}
+use Rattle.task_words.proofs.TaskKinds.{Kind, Spelled, Replays, Compares, Makes, Serves, Follows, Scrubs, DumpsKeys, DumpsPaxos, Exports, Imports, name_by, named, spelled, spells}
+use Rattle.task_words.proofs.NumberLaws.{last_tells, spelled_none}
+use Rattle.task_words.proofs.Spelled.{WithFiles}
+use Rattle.task_words.proofs.Unique.{node_by_text, store_by_text, versions_by_text}
 
 -- ---- all of them
 
@@ -37,86 +41,174 @@ tells_asked words others each true is holds same spells =
     (spells.0, record { has = spells.1.0; are = same ∙ spells.1.1; each = list_all-map is_word string_bytes words ∙ sym is ∙ holds })
 tells_asked words others each false is holds same none = λ asked. none (asked.0, (asked.1.has, sym same ∙ asked.1.are))
 
--- a task has one word, three or eight
-so_many : (t : Task) (words : List (List ℕ)) → words ≡ words_of t → length words ≢ 1 → length words ≢ 3 → length words ≢ 8 → ⊥
-so_many task.Replay words are one three eight = one (ap length are)
-so_many (task.Made number events) words are one three eight = three (ap length are)
-so_many (task.Node member rule addresses disk_a disk_b turns) words are one three eight = eight (ap length are)
+-- ---- those of one kind
 
-pub no_task : (words : List (String Global)) → length words ≢ 1 → length words ≢ 3 → length words ≢ 8 → ¬ (IsAsked words)
-no_task words one three eight asked =
-    let so_long = length-map words string_bytes in
-    so_many asked.0 (map string_bytes words) asked.1.are (λ e. one (sym so_long ∙ e)) (λ e. three (sym so_long ∙ e)) (λ e. eight (sym so_long ∙ e))
+pub tells_both : (test : Bool) (A B : Type 0) → (A → B) → (B → A) → Tells test A → Tells test B
+tells_both true A B to from tells = to tells
+tells_both false A B to from none = λ b. none (from b)
 
--- ---- `replay`
+spelled_by : (k : Kind) (texts : List (List ℕ)) → SpellsTask (name_by k ∷ texts) → Spelled k texts
+spelled_by k texts s = subst (λ (j : Kind). Spelled j texts) (named k) (spelled (name_by k) texts s)
 
-no_replay : (word : List ℕ) → bytes_eq word (codes "replay") ≡ false → (t : Task) → word ∷ [] ≡ words_of t → ⊥
-no_replay word other task.Replay are = let same = passes word (codes "replay") cc in cc
-no_replay word other (task.Made number events) are = omega (arith, ap length are)
-no_replay word other (task.Node member rule addresses disk_a disk_b turns) are = omega (arith, ap length are)
+pub no_kind : (k : Kind) (texts : List (List ℕ)) → ¬ (Spelled k texts) → ¬ (SpellsTask (name_by k ∷ texts))
+no_kind k texts none s = none (spelled_by k texts s)
 
-pub tells_replay : (word : List ℕ) (test : Bool) → test ≡ bytes_eq word (codes "replay") → Tells test (SpellsTask (word ∷ []))
-tells_replay word true is = (task.Replay, (tt, ap (λ (w : List ℕ). w ∷ []) (same_text word (codes "replay") true is refl)))
-tells_replay word false is = λ spells. no_replay word (sym is) spells.0 spells.1.1
+tells_kind : (k : Kind) (texts : List (List ℕ)) (test : Bool) → Tells test (Spelled k texts) → Tells test (SpellsTask (name_by k ∷ texts))
+tells_kind k texts test tells = tells_both test (Spelled k texts) (SpellsTask (name_by k ∷ texts)) (spells k texts) (spelled_by k texts) tells
+
+-- ---- commands with no texts
+
+not_zero : (n : ℕ) → (suc n == 0) ≡ false
+not_zero n = grind (arith, nat_tests)
+
+nothing_more : (text : List ℕ) (others : List (List ℕ)) → text ∷ others ≡ [] → ⊥
+nothing_more text others is = absurd cc
+
+pub tells_replay : (texts : List (String Global)) (test : Bool) → test ≡ (length texts == 0) → Tells test (SpellsTask (codes "replay" ∷ map string_bytes texts))
+tells_replay [] test is = subst (λ (b : Bool). Tells b (SpellsTask (codes "replay" ∷ []))) (sym is) (spells Replays [] (record { fields = tt; has = tt; are = refl }))
+tells_replay (t ∷ ts) test is =
+    subst (λ (b : Bool). Tells b (SpellsTask (codes "replay" ∷ map string_bytes (t ∷ ts)))) (sym (is ∙ not_zero (length ts))) (no_kind Replays (map string_bytes (t ∷ ts)) (λ s. nothing_more _ _ s.are))
+
+pub tells_compare : (texts : List (String Global)) (test : Bool) → test ≡ (length texts == 0) → Tells test (SpellsTask (codes "scrub-compare" ∷ map string_bytes texts))
+tells_compare [] test is = subst (λ (b : Bool). Tells b (SpellsTask (codes "scrub-compare" ∷ []))) (sym is) (spells Compares [] (record { fields = tt; has = tt; are = refl }))
+tells_compare (t ∷ ts) test is =
+    subst (λ (b : Bool). Tells b (SpellsTask (codes "scrub-compare" ∷ map string_bytes (t ∷ ts)))) (sym (is ∙ not_zero (length ts))) (no_kind Compares (map string_bytes (t ∷ ts)) (λ s. nothing_more _ _ s.are))
 
 -- ---- `made`
 
-module _ (word number events : List ℕ) where
-  pub spells_made : (n e : ℕ) → HasWords (task.Made n e) → word ≡ codes "made" → number ≡ decimal n → events ≡ decimal e → SpellsTask (word ∷ number ∷ events ∷ [])
-  spells_made n e has first second third = (task.Made n e, (has, (λ i. first i ∷ second i ∷ third i ∷ [])))
+two_by_text : (a b c d : List ℕ) → ◌≡◌ {A = List (List ℕ)} (a ∷ b ∷ []) (c ∷ d ∷ []) → (a ≡ c) × (b ≡ d)
+two_by_text a b c d same = (cc, cc)
 
-  made_by : ((n e : ℕ) → HasWords (task.Made n e) → word ≡ codes "made" → number ≡ decimal n → events ≡ decimal e → ⊥)
-      → (t : Task) → HasWords t → word ∷ number ∷ events ∷ [] ≡ words_of t → ⊥
-  made_by none task.Replay has are = omega (arith, ap length are)
-  made_by none (task.Made n e) has are = none n e has (cc) (cc) (cc)
-  made_by none (task.Node member rule addresses disk_a disk_b turns) has are = omega (arith, ap length are)
-
-  pub no_made : ((n e : ℕ) → HasWords (task.Made n e) → word ≡ codes "made" → number ≡ decimal n → events ≡ decimal e → ⊥)
-      → ¬ (SpellsTask (word ∷ number ∷ events ∷ []))
-  no_made none spells = made_by none spells.0 spells.1.0 spells.1.1
+pub tells_made : (texts : List (List ℕ)) (x y : List ℕ) (n : ℕ) (o : Option ℕ) (test : Bool) → texts ≡ x ∷ y ∷ [] → x ≡ decimal n → n ≤ 2 ^ 62
+    → Spells decimal (λ e. (1 ≤ e) × (e ≤ most_made)) o y → test ≡ is_some o → Tells test (SpellsTask (codes "made" ∷ texts))
+tells_made texts x y n o test are first low second is =
+    tells_kind Makes texts test (last_tells ℕ decimal (λ e. (1 ≤ e) × (e ≤ most_made)) y o test (Spelled Makes texts) second is
+    (λ e fits y_is. record { fields = (n, e); has = (low, fits.0, fits.1); are = are ∙ (λ i. first i ∷ y_is i ∷ []) })
+    (λ other s. other s.fields.1 (s.has.1, s.has.2) (two_by_text _ _ _ _ (sym are ∙ s.are)).1))
 
 -- ---- `node`
 
--- the words of a node, those of its files aside
-pub record SpellsNode (word rank monitors rule addresses turns : List ℕ) (m : Member) (r : Rule) (places : List Address) (n : ℕ) : Type 0 where
-  pub first : word ≡ codes "node"
-  pub ranks : rank ≡ decimal m.rank
-  pub counts : monitors ≡ decimal m.monitors
-  pub rules : rule ≡ rule_text r
-  pub all_addresses : addresses ≡ addresses_text places
-  pub all_turns : turns ≡ decimal n
-
-module _ (word rank monitors rule addresses disk_a disk_b turns : List ℕ) where
-  pub spells_node : (m : Member) (r : Rule) (places : List Address) (n : ℕ) → HasWords (task.Node m r places disk_a disk_b n)
-      → SpellsNode word rank monitors rule addresses turns m r places n
-      → SpellsTask (word ∷ rank ∷ monitors ∷ rule ∷ addresses ∷ disk_a ∷ disk_b ∷ turns ∷ [])
-  spells_node m r places n has s = (
-    task.Node m r places disk_a disk_b n,
-    (has, (λ i. s.first i ∷ s.ranks i ∷ s.counts i ∷ s.rules i ∷ s.all_addresses i ∷ disk_a ∷ disk_b ∷ s.all_turns i ∷ [])),
-  )
-
-  node_by : ((m : Member) (r : Rule) (places : List Address) (n : ℕ) → HasWords (task.Node m r places disk_a disk_b n)
-      → SpellsNode word rank monitors rule addresses turns m r places n → ⊥)
-      → (t : Task) → HasWords t → word ∷ rank ∷ monitors ∷ rule ∷ addresses ∷ disk_a ∷ disk_b ∷ turns ∷ [] ≡ words_of t → ⊥
-  node_by none task.Replay has are = omega (arith, ap length are)
-  node_by none (task.Made number events) has are = omega (arith, ap length are)
-  node_by none (task.Node m r places a b n) has are =
-      let w = word_by_word _ _ _ _ _ _ _ _ _ _ _ _ _ _ _ _ are in
-      none m r places n has (record {
-        first = w.firsts;
-        ranks = w.ranks;
-        counts = w.counts;
-        rules = w.rules;
-        all_addresses = w.all_addresses;
-        all_turns = w.all_turns;
-      })
-
-  pub no_node : ((m : Member) (r : Rule) (places : List Address) (n : ℕ) → HasWords (task.Node m r places disk_a disk_b n)
-      → SpellsNode word rank monitors rule addresses turns m r places n → ⊥)
-      → ¬ (SpellsTask (word ∷ rank ∷ monitors ∷ rule ∷ addresses ∷ disk_a ∷ disk_b ∷ turns ∷ []))
-  no_node none spells = node_by none spells.0 spells.1.0 spells.1.1
-
 -- there is one number of monitors
-pub same_count : (monitors bytes : List ℕ) (m k : Member) → bytes ≡ monitors → bytes ≡ decimal k.monitors → monitors ≡ decimal m.monitors → m.monitors ≡ k.monitors
-same_count monitors bytes m k same read spelled =
-    decimal_injective m.monitors k.monitors (omega (arith, m.most)) (omega (arith, k.most)) (sym spelled ∙ sym same ∙ read)
+same_count : (y : List ℕ) (m k : Member) → y ≡ decimal k.monitors → y ≡ decimal m.monitors → m.monitors ≡ k.monitors
+same_count y m k read spelled =
+    decimal_injective m.monitors k.monitors (omega (arith, m.most)) (omega (arith, k.most)) (sym spelled ∙ read)
+
+module _ (texts : List (List ℕ)) (v w x y z : List ℕ) (files : WithFiles (v ∷ w ∷ x ∷ y ∷ []) (z ∷ []) texts) where
+  pub node_without : ((m : Member) (r : Rule) (places : List Address) (n : ℕ) → RuleFits m.monitors r → length places ≡ m.monitors → AllByRecursion IsAddress places
+      → (1 ≤ n) × (n ≤ 2 ^ 62) → v ≡ decimal m.rank → w ≡ decimal m.monitors → x ≡ rule_text r → y ≡ addresses_text places → z ≡ decimal n → ⊥)
+      → ¬ (Spelled Serves texts)
+  node_without none s =
+      let t = node_by_text _ _ _ _ _ _ _ _ _ _ _ _ _ _ (sym files.are ∙ s.are) in
+      none s.fields.0 s.fields.1 s.fields.2 s.fields.5 s.has.0 s.has.1 s.has.2 (s.has.3, s.has.4) t.ranks t.counts t.rules t.all_addresses t.all_turns
+
+  module _ (k : Member) (ranks : v ≡ decimal k.rank) (counts : w ≡ decimal k.monitors) where
+    pub node_without_rule : ((r : Rule) → RuleFits k.monitors r → ¬ (x ≡ rule_text r)) → ¬ (SpellsTask (codes "node" ∷ texts))
+    node_without_rule none = no_kind Serves texts (node_without (λ m r places n fits count each turns rank_is count_is rule_is addresses_are turns_are.
+        none r (subst (λ (c : ℕ). RuleFits c r) (same_count w m k counts count_is) fits) rule_is))
+
+    pub node_without_addresses : is_ok (addresses_of k.monitors y) ≡ false → ¬ (SpellsTask (codes "node" ∷ texts))
+    node_without_addresses none = no_kind Serves texts (node_without (λ m r places n fits count each turns rank_is count_is rule_is addresses_are turns_are.
+        no_addresses k.monitors y none places (omega (arith, k.in_map)) (count ∙ same_count w m k counts count_is) each addresses_are))
+
+    pub tells_node : (r : Rule) (o : Option ℕ) (test : Bool) → RuleFits k.monitors r → x ≡ rule_text r → is_ok (addresses_of k.monitors y) ≡ true
+        → Spells decimal (λ n. (1 ≤ n) × (n ≤ 2 ^ 62)) o z → test ≡ is_some o → Tells test (SpellsTask (codes "node" ∷ texts))
+    tells_node r o test fits rule_is read last is =
+        let places = addresses_there k.monitors y read in
+        tells_kind Serves texts test (last_tells ℕ decimal (λ n. (1 ≤ n) × (n ≤ 2 ^ 62)) z o test (Spelled Serves texts) last is
+        (λ n within z_is. record {
+          fields = (k, r, places.0, files.disk_a, files.disk_b, n);
+          has = (fits, places.1.count, places.1.each, within.0, within.1);
+          are = files.are ∙ (λ i. ranks i ∷ counts i ∷ rule_is i ∷ places.1.spelled i ∷ files.disk_a ∷ files.disk_b ∷ z_is i ∷ []);
+        })
+        (λ other. node_without (λ m r places n fits count each turns rank_is count_is rule_is addresses_are turns_are. other n turns turns_are)))
+
+-- ---- `follow`
+
+three_by_text : (a b c d e f : List ℕ) → ◌≡◌ {A = List (List ℕ)} (a ∷ b ∷ c ∷ []) (d ∷ e ∷ f ∷ []) → (a ≡ d) × (b ≡ e) × (c ≡ f)
+three_by_text a b c d e f same = (cc, cc, cc)
+
+module _ (texts : List (List ℕ)) (x y z : List ℕ) (are : texts ≡ x ∷ y ∷ z ∷ []) where
+  pub follow_without : ((s : Service) (places : List Address) (n : ℕ) → 1 ≤ length places → length places ≤ 15 → AllByRecursion IsAddress places → (1 ≤ n) × (n ≤ 2 ^ 61)
+      → x ≡ service_text s → y ≡ addresses_text places → z ≡ decimal n → ⊥) → ¬ (Spelled Follows texts)
+  follow_without none s =
+      let t = three_by_text _ _ _ _ _ _ (sym are ∙ s.are) in
+      none s.fields.0 s.fields.1 s.fields.2 s.has.0 s.has.1 s.has.2 (s.has.3, s.has.4) t.0 t.1 t.2
+
+  pub follow_without_service : ((s : Service) → Unit {0} → ¬ (x ≡ service_text s)) → ¬ (SpellsTask (codes "follow" ∷ texts))
+  follow_without_service none = no_kind Follows texts (follow_without (λ s places n some few each turns service_is addresses_are turns_are. none s tt service_is))
+
+  pub follow_of_many : 15 ≤ commas y → ¬ (SpellsTask (codes "follow" ∷ texts))
+  follow_of_many many = no_kind Follows texts (follow_without (λ s places n some few each turns service_is addresses_are turns_are.
+      omega (arith, many, few, commas_between places some each, ap commas addresses_are)))
+
+  pub follow_without_addresses : (n : ℕ) → n ≡ commas y + 1 → is_ok (addresses_of n y) ≡ false → ¬ (SpellsTask (codes "follow" ∷ texts))
+  follow_without_addresses n count none = no_kind Follows texts (follow_without (λ s places turns some few each within service_is addresses_are turns_are.
+      no_addresses n y none places (omega (arith, count)) (omega (arith, count, commas_between places some each, ap commas addresses_are)) each addresses_are))
+
+  pub tells_follow : (s : Service) (n : ℕ) (o : Option ℕ) (test : Bool) → x ≡ service_text s → n ≡ commas y + 1 → n ≤ 15 → is_ok (addresses_of n y) ≡ true
+      → Spells decimal (λ k. (1 ≤ k) × (k ≤ 2 ^ 61)) o z → test ≡ is_some o → Tells test (SpellsTask (codes "follow" ∷ texts))
+  tells_follow s n o test service_is count few read last is =
+      let places = addresses_there n y read in
+      tells_kind Follows texts test (last_tells ℕ decimal (λ k. (1 ≤ k) × (k ≤ 2 ^ 61)) z o test (Spelled Follows texts) last is
+      (λ k within z_is. record {
+        fields = (s, places.0, k);
+        has = (omega (arith, count, places.1.count), omega (arith, few, places.1.count), places.1.each, within.0, within.1);
+        are = are ∙ (λ i. service_is i ∷ places.1.spelled i ∷ z_is i ∷ []);
+      })
+      (λ other. follow_without (λ s places k some few each turns service_is addresses_are turns_are. other k turns turns_are)))
+
+-- ---- commands on a store
+
+module _ (texts : List (List ℕ)) (x y : List ℕ) (files : WithFiles (x ∷ y ∷ []) [] texts) where
+  pub tells_store : (o : Option Member) (test : Bool) → IfSome o (λ m. (x ≡ decimal m.rank) × (y ≡ decimal m.monitors))
+      → (o ≡ None → (m : Member) → x ≡ decimal m.rank → y ≡ decimal m.monitors → ⊥) → test ≡ is_some o → Tells test (AreStore texts)
+  tells_store (Some m) test some none is = subst (λ (b : Bool). Tells b (AreStore texts)) (sym is) (record {
+    member = m;
+    disk_a = files.disk_a;
+    disk_b = files.disk_b;
+    are = files.are ∙ (λ i. some.0 i ∷ some.1 i ∷ files.disk_a ∷ files.disk_b ∷ []);
+  })
+  tells_store None test some none is = subst (λ (b : Bool). Tells b (AreStore texts)) (sym is) (λ s.
+      let t = store_by_text _ _ _ _ _ _ _ _ (sym files.are ∙ s.are) in none refl s.member t.ranks t.counts)
+
+module _ (texts : List (List ℕ)) (test : Bool) (tells : Tells test (AreStore texts)) where
+  pub tells_scrub : Tells test (SpellsTask (codes "scrub" ∷ texts))
+  tells_scrub = tells_kind Scrubs texts test (tells_both test (AreStore texts) (Spelled Scrubs texts)
+      (λ s. record { fields = (s.member, s.disk_a, s.disk_b); has = tt; are = s.are }) (λ s. record { member = s.fields.0; disk_a = s.fields.1; disk_b = s.fields.2; are = s.are }) tells)
+
+  pub tells_keys : Tells test (SpellsTask (codes "dump-keys" ∷ texts))
+  tells_keys = tells_kind DumpsKeys texts test (tells_both test (AreStore texts) (Spelled DumpsKeys texts)
+      (λ s. record { fields = (s.member, s.disk_a, s.disk_b); has = tt; are = s.are }) (λ s. record { member = s.fields.0; disk_a = s.fields.1; disk_b = s.fields.2; are = s.are }) tells)
+
+  pub tells_export : Tells test (SpellsTask (codes "store-export" ∷ texts))
+  tells_export = tells_kind Exports texts test (tells_both test (AreStore texts) (Spelled Exports texts)
+      (λ s. record { fields = (s.member, s.disk_a, s.disk_b); has = tt; are = s.are }) (λ s. record { member = s.fields.0; disk_a = s.fields.1; disk_b = s.fields.2; are = s.are }) tells)
+
+  pub tells_import : Tells test (SpellsTask (codes "store-import" ∷ texts))
+  tells_import = tells_kind Imports texts test (tells_both test (AreStore texts) (Spelled Imports texts)
+      (λ s. record { fields = (s.member, s.disk_a, s.disk_b); has = tt; are = s.are }) (λ s. record { member = s.fields.0; disk_a = s.fields.1; disk_b = s.fields.2; are = s.are }) tells)
+
+-- ---- `dump-paxos`
+
+module _ (texts : List (List ℕ)) (x y z w : List ℕ) (files : WithFiles (x ∷ y ∷ []) (z ∷ w ∷ []) texts) where
+  versions_without : ((m : Member) (from to : ℕ) → from ≤ to → to ≤ 2 ^ 62 → x ≡ decimal m.rank → y ≡ decimal m.monitors → z ≡ decimal from → w ≡ decimal to → ⊥)
+      → ¬ (Spelled DumpsPaxos texts)
+  versions_without none s =
+      let t = versions_by_text _ _ _ _ _ _ _ _ _ _ _ _ (sym files.are ∙ s.are) in
+      none s.fields.0 s.fields.3 s.fields.4 s.has.0 s.has.1 t.ranks t.counts t.firsts t.lasts
+
+  pub versions_without_member : ((m : Member) → x ≡ decimal m.rank → y ≡ decimal m.monitors → ⊥) → ¬ (SpellsTask (codes "dump-paxos" ∷ texts))
+  versions_without_member none = no_kind DumpsPaxos texts (versions_without (λ m from to low most ranks counts firsts lasts. none m ranks counts))
+
+  pub tells_versions : (m : Member) (to : ℕ) (o : Option ℕ) (test : Bool) → x ≡ decimal m.rank → y ≡ decimal m.monitors → w ≡ decimal to → to ≤ 2 ^ 62
+      → Spells decimal (λ n. (0 ≤ n) × (n ≤ to)) o z → test ≡ is_some o → Tells test (SpellsTask (codes "dump-paxos" ∷ texts))
+  tells_versions m to o test ranks counts last most first is =
+      tells_kind DumpsPaxos texts test (last_tells ℕ decimal (λ n. (0 ≤ n) × (n ≤ to)) z o test (Spelled DumpsPaxos texts) first is
+      (λ n within z_is. record {
+        fields = (m, files.disk_a, files.disk_b, n, to);
+        has = (within.1, most);
+        are = files.are ∙ (λ i. ranks i ∷ counts i ∷ files.disk_a ∷ files.disk_b ∷ z_is i ∷ last i ∷ []);
+      })
+      (λ other. versions_without (λ k from until low few rank_is count_is first_is last_is.
+      let same : until ≡ to = decimal_injective until to (omega (arith, few)) (omega (arith, most)) (sym last_is ∙ last) in
+      other from (omega arith, omega (arith, low, same)) first_is)))

@@ -1,5 +1,5 @@
 -- What is read of a text that spells a value is that value.
-use Rattle.std.proofs.Common.{◌≡◌, ℕ, ◌<◌, ◌≤◌, ◌^◌, true, false, List, length, Option, Some, None, Result, Ok, Err, decimal, refl, sym, ap, subst, ◌∙◌, arith}
+use Rattle.std.proofs.Common.{◌≡◌, ℕ, ◌+◌, ◌<◌, ◌≤◌, ◌^◌, true, false, List, length, Option, Some, None, Result, Ok, Err, decimal, refl, sym, ap, subst, ◌∙◌, arith}
 use Rattle.std.specs.Prelude.{IfOk, IfSome, is_ok, is_some, ok_or, option_map}
 use Rattle.std.specs.Borrow.{Bor}
 use Rattle.std.specs.List.{AllByRecursion}
@@ -12,15 +12,17 @@ use Rattle.clap.proofs.WalkLemmas.{first_value-rows}
 use Rattle.election_rules.specs.declared.rule.Rule.{Rule}
 use Rattle.mon_link.specs.declared.udp.Address.{Address}
 use Rattle.mon_types.specs.declared.member.Member.{Member}
+use Rattle.mon_wire.specs.declared.request.Service.{Service}
 use Rattle.schedule_text.specs.Spelling.{RuleFits, rule_text}
+use Rattle.schedule_text.specs.Words.{service_text}
 use Rattle.task_words.specs.declared.task.WordsStop.{WordsStop}
 use Rattle.task_words.specs.declared.task.WordsStop.TheVariants.{Refused, OutOfMemory}
-use Rattle.task_words.specs.Addresses.{IsAddress, addresses_of, addresses_text}
+use Rattle.task_words.specs.Addresses.{IsAddress, addresses_of, addresses_text, commas}
 use Rattle.task_words.specs.Matches.{IsFound, IsGiven, IsText}
 use Rattle.task_words.specs.Words.{Spells}
-use Rattle.task_words.proofs.AddressLaws.{addresses_read}
+use Rattle.task_words.proofs.AddressLaws.{addresses_read, commas_between}
 use Rattle.mon_types.proofs.Members.{same_member}
-use Rattle.task_words.proofs.Unique.{same_rule}
+use Rattle.task_words.proofs.Unique.{same_rule, same_service}
 
 text_given : (o : Option (Bor (List ℕ))) (r : Result (Bor (List ℕ)) WordsStop) (text : List ℕ) → option_map (λ s. s.now) o ≡ Some text → r ≡ ok_or o Refused → IsText text r
 text_given None r text e is = absurd cc
@@ -66,6 +68,21 @@ addresses_given n text (Err Refused) addresses found refused some count each tex
     let lost = refused refl in
     absurd cc
 addresses_given n text (Err OutOfMemory) addresses found refused some count each text_is = tt
+
+pub service_given : (word : List ℕ) (o : Option Service) (r : Result Service WordsStop) (service : Service) → Spells service_text (λ _. Unit {0}) o word → r ≡ ok_or o Refused
+    → word ≡ service_text service → IsGiven service r
+service_given word o r service spells is word_is =
+    value_given Service service_text (λ _. Unit {0}) word o r service (λ other _ same. same_service other service same) spells is tt word_is
+
+-- how many addresses there are
+pub count_is : (text : List ℕ) (n : ℕ) (addresses : List Address) → n ≡ commas text + 1 → 1 ≤ length addresses → AllByRecursion IsAddress addresses
+    → text ≡ addresses_text addresses → length addresses ≡ n
+count_is text n addresses count least each text_is = omega (arith, count, commas_between addresses least each, ap commas text_is)
+
+-- there aren't more than fifteen
+pub not_many : (text : List ℕ) (addresses : List Address) → 15 ≤ commas text → 1 ≤ length addresses → length addresses ≤ 15 → AllByRecursion IsAddress addresses
+    → text ≡ addresses_text addresses → ⊥
+not_many text addresses many least most each text_is = omega (arith, many, most, commas_between addresses least each, ap commas text_is)
 
 pub path_given : (path text bytes : List ℕ) (o : Option (List ℕ)) (r : Result (List ℕ) WordsStop) → text ≡ path → IsUtf8 text → bytes ≡ text → is_some o ≡ is_utf8 bytes
     → IfSome o (λ x. x ≡ bytes) → r ≡ ok_or o Refused → IsGiven path r

@@ -9,4 +9,5 @@ pub mod PartLaws
 pub mod PartsLoop
 pub mod Reading
 pub mod Spelled
+pub mod TaskKinds
 pub mod Unique

@@ -8,12 +8,14 @@ use Rattle.clap.specs.Takes.{built_takes, default_passes, is_valid, level_passes
 use Rattle.clap.specs.Walk.{Row, answers_to, Text, Walk, finished, nothing_held, rows_after, stop_after, walk, walk_from, walked}
 use Rattle.clap.proofs.OnLiterals.{clap_on_literals}
 use Rattle.schedule_text.specs.Spelling.{rule_text}
+use Rattle.schedule_text.specs.Words.{service_text}
 use Rattle.task_words.specs.declared.task.Task.{Task}
 use Rattle.task_words.specs.declared.task.Task.TheVariants as task
 use Rattle.task_words.specs.Addresses.{addresses_text}
-use Rattle.task_words.specs.Commands.{command, made_texts, node_texts, replay_texts, subcommand}
+use Rattle.task_words.specs.Commands.{command, follow_texts, made_texts, no_texts, node_texts, store_texts, subcommand, versions_texts}
 use Rattle.task_words.specs.Matches.{AreTexts}
 use Rattle.task_words.specs.Task.{is_word, words_of}
+use Rattle.task_words.proofs.TaskKinds.{Kind, Replays, Makes, Serves, Follows, Scrubs, Compares, DumpsKeys, DumpsPaxos, Exports, Imports, ids_by, kind_of, name_by, name_of, texts_of, words_are}
 use Rattle.task_words.proofs.Parsing.{Goes, placed, stopped_at, stopped_passes, stopped_walk, walk_goes, walk_placed}
 
 -- ---- one level
@@ -73,30 +75,34 @@ module _ (name : Text) (s : Shape) (words : List Text) (meets : Meets name s) (e
       ∙ ap (λ (o : Option Shape). option_map (λ s. rows_at s words) o) meets.found
       ∙ ap (λ (rows : List Row). Some (s.name, rows)) (leaf_rows s words each well)
 
--- ---- the three subcommands, as they are built
+-- ---- the subcommands, as they are built
 
 abbrev pub leaf : Text → List Text → Shape
 leaf name ids = built_leaf (inherited (on_top with_leaf_noted (on_top marked_built command)).top (subcommand name ids))
 
-meets_replay : Meets (codes "replay") (leaf (codes "replay") replay_texts)
+abbrev pub leaf_by : Kind → Shape
+leaf_by k = leaf (name_by k) (ids_by k)
+
+meets_by : (k : Kind) → Meets (name_by k) (leaf_by k)
 unfolding clap_on_literals
-meets_replay = record { stops = refl; passes = refl; found = refl }
+meets_by Replays = record { stops = refl; passes = refl; found = refl }
+meets_by Makes = record { stops = refl; passes = refl; found = refl }
+meets_by Serves = record { stops = refl; passes = refl; found = refl }
+meets_by Follows = record { stops = refl; passes = refl; found = refl }
+meets_by Scrubs = record { stops = refl; passes = refl; found = refl }
+meets_by Compares = record { stops = refl; passes = refl; found = refl }
+meets_by DumpsKeys = record { stops = refl; passes = refl; found = refl }
+meets_by DumpsPaxos = record { stops = refl; passes = refl; found = refl }
+meets_by Exports = record { stops = refl; passes = refl; found = refl }
+meets_by Imports = record { stops = refl; passes = refl; found = refl }
 
-meets_made : Meets (codes "made") (leaf (codes "made") made_texts)
-unfolding clap_on_literals
-meets_made = record { stops = refl; passes = refl; found = refl }
+well_none : (name : Text) → EndsWell (leaf name no_texts) []
+well_none name = record { goes = tt; settles = refl; defaults = refl; valid = refl }
 
-meets_node : Meets (codes "node") (leaf (codes "node") node_texts)
-unfolding clap_on_literals
-meets_node = record { stops = refl; passes = refl; found = refl }
-
-well_replay : EndsWell (leaf (codes "replay") replay_texts) []
-well_replay = record { goes = tt; settles = refl; defaults = refl; valid = refl }
-
-well_made : (a b : Text) → EndsWell (leaf (codes "made") made_texts) (a ∷ b ∷ [])
+well_made : (a b : Text) → EndsWell (leaf_by Makes) (a ∷ b ∷ [])
 well_made a b = record { goes = (refl, refl, (refl, refl, tt)); settles = refl; defaults = refl; valid = refl }
 
-well_node : (a b c d e f g : Text) → EndsWell (leaf (codes "node") node_texts) (a ∷ b ∷ c ∷ d ∷ e ∷ f ∷ g ∷ [])
+well_node : (a b c d e f g : Text) → EndsWell (leaf_by Serves) (a ∷ b ∷ c ∷ d ∷ e ∷ f ∷ g ∷ [])
 well_node a b c d e f g = record {
   goes = (refl, refl, (refl, refl, (refl, refl, (refl, refl, (refl, refl, (refl, refl, (refl, refl, tt)))))));
   settles = refl;
@@ -104,60 +110,62 @@ well_node a b c d e f g = record {
   valid = refl;
 }
 
+well_follow : (a b c : Text) → EndsWell (leaf_by Follows) (a ∷ b ∷ c ∷ [])
+well_follow a b c = record { goes = (refl, refl, (refl, refl, (refl, refl, tt))); settles = refl; defaults = refl; valid = refl }
+
+well_store : (name a b c d : Text) → EndsWell (leaf name store_texts) (a ∷ b ∷ c ∷ d ∷ [])
+well_store name a b c d = record { goes = (refl, refl, (refl, refl, (refl, refl, (refl, refl, tt)))); settles = refl; defaults = refl; valid = refl }
+
+well_versions : (a b c d e f : Text) → EndsWell (leaf_by DumpsPaxos) (a ∷ b ∷ c ∷ d ∷ e ∷ f ∷ [])
+well_versions a b c d e f = record {
+  goes = (refl, refl, (refl, refl, (refl, refl, (refl, refl, (refl, refl, (refl, refl, tt))))));
+  settles = refl;
+  defaults = refl;
+  valid = refl;
+}
+
 -- ---- the words of a task
 
-abbrev pub ids_of : Task → List Text
-ids_of task.Replay = replay_texts
-ids_of (task.Made number events) = made_texts
-ids_of (task.Node member rule addresses disk_a disk_b turns) = node_texts
-
-abbrev pub name_of : Task → Text
-name_of task.Replay = codes "replay"
-name_of (task.Made number events) = codes "made"
-name_of (task.Node member rule addresses disk_a disk_b turns) = codes "node"
-
--- the texts behind the name
-abbrev pub texts_of : Task → List Text
-texts_of t = drop 1 (words_of t)
-
 abbrev pub leaf_of : Task → Shape
-leaf_of t = leaf (name_of t) (ids_of t)
-
-meets_of : (t : Task) → Meets (name_of t) (leaf_of t)
-meets_of task.Replay = meets_replay
-meets_of (task.Made number events) = meets_made
-meets_of (task.Node member rule addresses disk_a disk_b turns) = meets_node
+leaf_of t = leaf_by (kind_of t)
 
 well_of : (t : Task) → EndsWell (leaf_of t) (texts_of t)
-well_of task.Replay = well_replay
+well_of task.Replay = well_none (codes "replay")
 well_of (task.Made number events) = well_made (decimal number) (decimal events)
 well_of (task.Node member rule addresses disk_a disk_b turns) =
     well_node (decimal member.rank) (decimal member.monitors) (rule_text rule) (addresses_text addresses) disk_a disk_b (decimal turns)
-
-words_are : (t : Task) → words_of t ≡ name_of t ∷ texts_of t
-words_are task.Replay = refl
-words_are (task.Made number events) = refl
-words_are (task.Node member rule addresses disk_a disk_b turns) = refl
+well_of (task.Follow service addresses turns) = well_follow (service_text service) (addresses_text addresses) (decimal turns)
+well_of (task.Scrub member disk_a disk_b) = well_store (codes "scrub") (decimal member.rank) (decimal member.monitors) disk_a disk_b
+well_of task.ScrubCompare = well_none (codes "scrub-compare")
+well_of (task.DumpKeys member disk_a disk_b) = well_store (codes "dump-keys") (decimal member.rank) (decimal member.monitors) disk_a disk_b
+well_of (task.DumpPaxos member disk_a disk_b from to) = well_versions (decimal member.rank) (decimal member.monitors) disk_a disk_b (decimal from) (decimal to)
+well_of (task.StoreExport member disk_a disk_b) = well_store (codes "store-export") (decimal member.rank) (decimal member.monitors) disk_a disk_b
+well_of (task.StoreImport member disk_a disk_b) = well_store (codes "store-import") (decimal member.rank) (decimal member.monitors) disk_a disk_b
 
 -- the rows that are found
 abbrev pub rows_of_task : Task → List Row
 rows_of_task t = finished (leaf_of t).rules (placed (leaf_of t).rules (walk_from nothing_held) (texts_of t)).held
 
+each_text : (t : Task) → IsTrue (list_all is_word (words_of t)) → IsTrue (list_all is_word (texts_of t))
+each_text t each = (both (is_word (name_of t)) (list_all is_word (texts_of t)) (subst (λ (ws : List Text). IsTrue (list_all is_word ws)) (words_are t) each)).1
+
 pub takes_task : (t : Task) → IsTrue (list_all is_word (words_of t)) → takes command (words_of t) ≡ true
 takes_task t each =
-    let behind : IsTrue (list_all is_word (texts_of t)) = (both (is_word (name_of t)) (list_all is_word (texts_of t)) (subst (λ (ws : List Text). IsTrue (list_all is_word ws)) (words_are t) each)).1 in
-    ap (takes command) (words_are t) ∙ rw (simple, takes_words (name_of t) (leaf_of t) (texts_of t) (meets_of t) behind (well_of t)) refl
+    ap (takes command) (words_are t) ∙ rw (simple, takes_words (name_of t) (leaf_of t) (texts_of t) (meets_by (kind_of t)) (each_text t each) (well_of t)) refl
 
 pub finds_task : (t : Task) → IsTrue (list_all is_word (words_of t)) → subcommand_of command (words_of t) ≡ Some ((leaf_of t).name, rows_of_task t)
 finds_task t each =
-    let behind : IsTrue (list_all is_word (texts_of t)) = (both (is_word (name_of t)) (list_all is_word (texts_of t)) (subst (λ (ws : List Text). IsTrue (list_all is_word ws)) (words_are t) each)).1 in
-    ap (subcommand_of command) (words_are t) ∙ finds_rows (name_of t) (leaf_of t) (texts_of t) (meets_of t) behind (well_of t)
+    ap (subcommand_of command) (words_are t) ∙ finds_rows (name_of t) (leaf_of t) (texts_of t) (meets_by (kind_of t)) (each_text t each) (well_of t)
 
 -- each text stands under its name
-pub finds_made : (number events : ℕ) → AreTexts (rows_of_task (task.Made number events)) made_texts (decimal number ∷ decimal events ∷ [])
-finds_made number events = (refl, (refl, tt))
-
-pub finds_node : (a b c d e f g : Text)
-    → AreTexts (finished (leaf (codes "node") node_texts).rules (placed (leaf (codes "node") node_texts).rules (walk_from nothing_held) (a ∷ b ∷ c ∷ d ∷ e ∷ f ∷ g ∷ [])).held)
-    node_texts (a ∷ b ∷ c ∷ d ∷ e ∷ f ∷ g ∷ [])
-finds_node a b c d e f g = (refl, (refl, (refl, (refl, (refl, (refl, (refl, tt)))))))
+pub finds_texts : (t : Task) → AreTexts (rows_of_task t) (ids_by (kind_of t)) (texts_of t)
+finds_texts task.Replay = tt
+finds_texts (task.Made number events) = (refl, (refl, tt))
+finds_texts (task.Node member rule addresses disk_a disk_b turns) = (refl, (refl, (refl, (refl, (refl, (refl, (refl, tt)))))))
+finds_texts (task.Follow service addresses turns) = (refl, (refl, (refl, tt)))
+finds_texts (task.Scrub member disk_a disk_b) = (refl, (refl, (refl, (refl, tt))))
+finds_texts task.ScrubCompare = tt
+finds_texts (task.DumpKeys member disk_a disk_b) = (refl, (refl, (refl, (refl, tt))))
+finds_texts (task.DumpPaxos member disk_a disk_b from to) = (refl, (refl, (refl, (refl, (refl, (refl, tt))))))
+finds_texts (task.StoreExport member disk_a disk_b) = (refl, (refl, (refl, (refl, tt))))
+finds_texts (task.StoreImport member disk_a disk_b) = (refl, (refl, (refl, (refl, tt))))

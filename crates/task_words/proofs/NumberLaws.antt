@@ -1,6 +1,6 @@
 -- The numbers and the rules that words spell.
-use Rattle.std.proofs.Common.{◌≡◌, ◌↔◌, ℕ, ◌<◌, ◌≤◌, ◌^◌, Bool, true, false, not, List, Option, Some, None, Ok, Err, IsTrue, decimal, sym, ap, subst, ◌∙◌, arith}
-use Rattle.std.specs.Prelude.{is_some}
+use Rattle.std.proofs.Common.{◌≡◌, ◌↔◌, ℕ, ◌<◌, ◌≤◌, ◌^◌, Bool, true, false, not, List, Option, Some, None, Ok, Err, IsTrue, decimal, refl, sym, ap, subst, ◌∙◌, arith}
+use Rattle.std.specs.Prelude.{IfSome, is_some}
 use Rattle.std.proofs.lemmas.Bool.Decides.{nat_tests}
 use Rattle.std.proofs.lemmas.Fmt.{decimal_injective}
 use Rattle.election_rules.specs.declared.rule.Rule.{Rule}
@@ -50,6 +50,16 @@ no_member rank monitors r n k o rank_is low monitors_is most same valid none m r
     let some : is_some o ≡ true = valid.1 (in_map, most) in
     let lost : is_some o ≡ false = ap (λ (x : Option Member). is_some x) none in
     absurd cc
+
+-- a member that was found, and one that wasn't
+pub member_there : (rank monitors : List ℕ) (o : Option Member) (none : Bool) → IfSome o (λ m. (rank ≡ decimal m.rank) × (monitors ≡ decimal m.monitors)) → is_some o ≡ not none → none ≡ false
+    → (m : Member) × ((rank ≡ decimal m.rank) × (monitors ≡ decimal m.monitors))
+member_there rank monitors (Some m) none some is fails = (m, some)
+member_there rank monitors None none some is fails = let lost : false ≡ true = is ∙ ap not fails in absurd cc
+
+pub no_member_there : (o : Option Member) (none : Bool) → is_some o ≡ not none → none ≡ true → o ≡ None
+no_member_there (Some m) none is holds = let lost : true ≡ false = is ∙ ap not holds in absurd cc
+no_member_there None none is holds = refl
 
 -- ---- a value that was found, and one that wasn't
 

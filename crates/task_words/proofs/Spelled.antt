@@ -1,5 +1,5 @@
 -- What the words of a command line are, and the numbers that they spell.
-use Rattle.std.proofs.Common.{◌≡◌, ℕ, ◌<◌, ◌≤◌, Bool, true, false, not, String, string_bytes, List, [], ◌∷◌, map, length, slice_index_or, refl, sym, ap, ◌∙◌, arith}
+use Rattle.std.proofs.Common.{◌≡◌, ℕ, ◌<◌, ◌≤◌, Bool, true, String, string_bytes, List, [], ◌∷◌, ◌++◌, map, length, slice_index_or, refl, sym, ap, ◌∙◌, arith}
 use Rattle.std.specs.declared.alloc.Global.{Global}
 use Rattle.std.specs.Str.{bytes_eq}
 use Rattle.std.proofs.lemmas.Slice.Eq.{bytes_eq-Decides}
@@ -11,47 +11,75 @@ same_text a b test is holds = (bytes_eq-Decides a b).0 (sym is ∙ holds)
 pub passes : (a b : List ℕ) → a ≡ b → bytes_eq a b ≡ true
 passes a b same = (bytes_eq-Decides a b).1 same
 
-not_false : (b : Bool) → not b ≡ false → b ≡ true
-not_false true is = refl
-not_false false is = absurd cc
+-- ---- the texts after a command's name
 
-pub not_other : (a b : List ℕ) (test : Bool) → test ≡ not (bytes_eq a b) → test ≡ false → a ≡ b
-not_other a b test is fails = (bytes_eq-Decides a b).0 (not_false (bytes_eq a b) (sym is ∙ fails))
+-- The words are these strings, of which as many are there as the length says. Each is what its bytes are.
+pub two_texts : (texts : List (String Global)) (a b : String Global) (x y : List ℕ) → 2 ≤ length texts → length texts < 3 → a ≡ slice_index_or texts 0 a → b ≡ slice_index_or texts 1 b
+    → x ≡ string_bytes a → y ≡ string_bytes b → map string_bytes texts ≡ x ∷ y ∷ []
+two_texts [] a b x y some few first second is same = absurd (omega arith)
+two_texts (s ∷ []) a b x y some few first second is same = absurd (omega arith)
+two_texts (s ∷ t ∷ []) a b x y some few first second is same =
+    (λ i. sym (is ∙ ap string_bytes first) i ∷ sym (same ∙ ap string_bytes second) i ∷ [])
+two_texts (s ∷ t ∷ u ∷ more) a b x y some few first second is same = absurd (omega arith)
 
-pub one_word : (words : List (String Global)) (word : String Global) → 1 ≤ length words → length words < 2 → word ≡ slice_index_or words 0 word
-    → map string_bytes words ≡ string_bytes word ∷ []
-one_word [] word some few first = absurd (omega arith)
-one_word (w ∷ []) word some few first = ap (λ (s : String Global). string_bytes s ∷ []) (sym first)
-one_word (w ∷ v ∷ more) word some few first = absurd (omega arith)
+pub three_texts : (texts : List (String Global)) (a b c : String Global) (x y z : List ℕ) → 3 ≤ length texts → length texts < 4 → a ≡ slice_index_or texts 0 a
+    → b ≡ slice_index_or texts 1 b → c ≡ slice_index_or texts 2 c → x ≡ string_bytes a → y ≡ string_bytes b → z ≡ string_bytes c → map string_bytes texts ≡ x ∷ y ∷ z ∷ []
+three_texts [] a b c x y z some few first second third is same alike = absurd (omega arith)
+three_texts (s ∷ []) a b c x y z some few first second third is same alike = absurd (omega arith)
+three_texts (s ∷ t ∷ []) a b c x y z some few first second third is same alike = absurd (omega arith)
+three_texts (s ∷ t ∷ u ∷ []) a b c x y z some few first second third is same alike =
+    (λ i. sym (is ∙ ap string_bytes first) i ∷ sym (same ∙ ap string_bytes second) i ∷ sym (alike ∙ ap string_bytes third) i ∷ [])
+three_texts (s ∷ t ∷ u ∷ v ∷ more) a b c x y z some few first second third is same alike = absurd (omega arith)
 
-pub three_words : (words : List (String Global)) (a b c : String Global) → 3 ≤ length words → length words < 4 → a ≡ slice_index_or words 0 a → b ≡ slice_index_or words 1 b
-    → c ≡ slice_index_or words 2 c → map string_bytes words ≡ string_bytes a ∷ string_bytes b ∷ string_bytes c ∷ []
-three_words [] a b c some few first second third = absurd (omega arith)
-three_words (x ∷ []) a b c some few first second third = absurd (omega arith)
-three_words (x ∷ y ∷ []) a b c some few first second third = absurd (omega arith)
-three_words (x ∷ y ∷ z ∷ []) a b c some few first second third =
-    (λ i. string_bytes (sym first i) ∷ string_bytes (sym second i) ∷ string_bytes (sym third i) ∷ [])
-three_words (x ∷ y ∷ z ∷ v ∷ more) a b c some few first second third = absurd (omega arith)
+-- texts with the names of two files among them, which may be any
+pub record WithFiles (before behind texts : List (List ℕ)) : Type 0 where
+  pub disk_a : List ℕ
+  pub disk_b : List ℕ
+  pub are : texts ≡ before ++ disk_a ∷ disk_b ∷ behind
 
--- eight words, of which two may be any
-pub record EightWords (words : List (String Global)) (a b c d e h : String Global) : Type 0 where
-  pub sixth : List ℕ
-  pub seventh : List ℕ
-  pub are : map string_bytes words ≡ string_bytes a ∷ string_bytes b ∷ string_bytes c ∷ string_bytes d ∷ string_bytes e ∷ sixth ∷ seventh ∷ string_bytes h ∷ []
-
-pub eight_words : (words : List (String Global)) (a b c d e h : String Global) → 8 ≤ length words → length words < 9 → a ≡ slice_index_or words 0 a → b ≡ slice_index_or words 1 b
-    → c ≡ slice_index_or words 2 c → d ≡ slice_index_or words 3 d → e ≡ slice_index_or words 4 e → h ≡ slice_index_or words 7 h → EightWords words a b c d e h
-eight_words [] a b c d e h some few i j k l m n = absurd (omega arith)
-eight_words (s ∷ []) a b c d e h some few i j k l m n = absurd (omega arith)
-eight_words (s ∷ t ∷ []) a b c d e h some few i j k l m n = absurd (omega arith)
-eight_words (s ∷ t ∷ u ∷ []) a b c d e h some few i j k l m n = absurd (omega arith)
-eight_words (s ∷ t ∷ u ∷ v ∷ []) a b c d e h some few i j k l m n = absurd (omega arith)
-eight_words (s ∷ t ∷ u ∷ v ∷ w ∷ []) a b c d e h some few i j k l m n = absurd (omega arith)
-eight_words (s ∷ t ∷ u ∷ v ∷ w ∷ x ∷ []) a b c d e h some few i j k l m n = absurd (omega arith)
-eight_words (s ∷ t ∷ u ∷ v ∷ w ∷ x ∷ y ∷ []) a b c d e h some few i j k l m n = absurd (omega arith)
-eight_words (s ∷ t ∷ u ∷ v ∷ w ∷ x ∷ y ∷ z ∷ []) a b c d e h some few i j k l m n = record {
-  sixth = string_bytes x;
-  seventh = string_bytes y;
-  are = (λ p. string_bytes (sym i p) ∷ string_bytes (sym j p) ∷ string_bytes (sym k p) ∷ string_bytes (sym l p) ∷ string_bytes (sym m p) ∷ string_bytes x ∷ string_bytes y ∷ string_bytes (sym n p) ∷ []);
+pub four_texts : (texts : List (String Global)) (a b : String Global) (x y : List ℕ) → 4 ≤ length texts → length texts < 5 → a ≡ slice_index_or texts 0 a → b ≡ slice_index_or texts 1 b
+    → x ≡ string_bytes a → y ≡ string_bytes b → WithFiles (x ∷ y ∷ []) [] (map string_bytes texts)
+four_texts [] a b x y some few first second is same = absurd (omega arith)
+four_texts (s ∷ []) a b x y some few first second is same = absurd (omega arith)
+four_texts (s ∷ t ∷ []) a b x y some few first second is same = absurd (omega arith)
+four_texts (s ∷ t ∷ u ∷ []) a b x y some few first second is same = absurd (omega arith)
+four_texts (s ∷ t ∷ u ∷ v ∷ []) a b x y some few first second is same = record {
+  disk_a = string_bytes u;
+  disk_b = string_bytes v;
+  are = (λ i. sym (is ∙ ap string_bytes first) i ∷ sym (same ∙ ap string_bytes second) i ∷ string_bytes u ∷ string_bytes v ∷ []);
 }
-eight_words (s ∷ t ∷ u ∷ v ∷ w ∷ x ∷ y ∷ z ∷ q ∷ more) a b c d e h some few i j k l m n = absurd (omega arith)
+four_texts (s ∷ t ∷ u ∷ v ∷ w ∷ more) a b x y some few first second is same = absurd (omega arith)
+
+pub six_texts : (texts : List (String Global)) (a b e f : String Global) (x y z w : List ℕ) → 6 ≤ length texts → length texts < 7 → a ≡ slice_index_or texts 0 a
+    → b ≡ slice_index_or texts 1 b → e ≡ slice_index_or texts 4 e → f ≡ slice_index_or texts 5 f → x ≡ string_bytes a → y ≡ string_bytes b → z ≡ string_bytes e → w ≡ string_bytes f
+    → WithFiles (x ∷ y ∷ []) (z ∷ w ∷ []) (map string_bytes texts)
+six_texts [] a b e f x y z w some few i j k l m n o p = absurd (omega arith)
+six_texts (q ∷ []) a b e f x y z w some few i j k l m n o p = absurd (omega arith)
+six_texts (q ∷ r ∷ []) a b e f x y z w some few i j k l m n o p = absurd (omega arith)
+six_texts (q ∷ r ∷ s ∷ []) a b e f x y z w some few i j k l m n o p = absurd (omega arith)
+six_texts (q ∷ r ∷ s ∷ t ∷ []) a b e f x y z w some few i j k l m n o p = absurd (omega arith)
+six_texts (q ∷ r ∷ s ∷ t ∷ u ∷ []) a b e f x y z w some few i j k l m n o p = absurd (omega arith)
+six_texts (q ∷ r ∷ s ∷ t ∷ u ∷ v ∷ []) a b e f x y z w some few i j k l m n o p = record {
+  disk_a = string_bytes s;
+  disk_b = string_bytes t;
+  are = (λ h. sym (m ∙ ap string_bytes i) h ∷ sym (n ∙ ap string_bytes j) h ∷ string_bytes s ∷ string_bytes t ∷ sym (o ∙ ap string_bytes k) h ∷ sym (p ∙ ap string_bytes l) h ∷ []);
+}
+six_texts (q ∷ r ∷ s ∷ t ∷ u ∷ v ∷ c ∷ more) a b e f x y z w some few i j k l m n o p = absurd (omega arith)
+
+pub seven_texts : (texts : List (String Global)) (a b c d g : String Global) (v w x y z : List ℕ) → 7 ≤ length texts → length texts < 8 → a ≡ slice_index_or texts 0 a
+    → b ≡ slice_index_or texts 1 b → c ≡ slice_index_or texts 2 c → d ≡ slice_index_or texts 3 d → g ≡ slice_index_or texts 6 g → v ≡ string_bytes a → w ≡ string_bytes b
+    → x ≡ string_bytes c → y ≡ string_bytes d → z ≡ string_bytes g → WithFiles (v ∷ w ∷ x ∷ y ∷ []) (z ∷ []) (map string_bytes texts)
+seven_texts [] a b c d g v w x y z some few h i j k l m n o p q = absurd (omega arith)
+seven_texts (r ∷ []) a b c d g v w x y z some few h i j k l m n o p q = absurd (omega arith)
+seven_texts (r ∷ s ∷ []) a b c d g v w x y z some few h i j k l m n o p q = absurd (omega arith)
+seven_texts (r ∷ s ∷ t ∷ []) a b c d g v w x y z some few h i j k l m n o p q = absurd (omega arith)
+seven_texts (r ∷ s ∷ t ∷ u ∷ []) a b c d g v w x y z some few h i j k l m n o p q = absurd (omega arith)
+seven_texts (r ∷ s ∷ t ∷ u ∷ e ∷ []) a b c d g v w x y z some few h i j k l m n o p q = absurd (omega arith)
+seven_texts (r ∷ s ∷ t ∷ u ∷ e ∷ f ∷ []) a b c d g v w x y z some few h i j k l m n o p q = absurd (omega arith)
+seven_texts (r ∷ s ∷ t ∷ u ∷ e ∷ f ∷ last ∷ []) a b c d g v w x y z some few h i j k l m n o p q = record {
+  disk_a = string_bytes e;
+  disk_b = string_bytes f;
+  are = (λ step. sym (m ∙ ap string_bytes h) step ∷ sym (n ∙ ap string_bytes i) step ∷ sym (o ∙ ap string_bytes j) step ∷ sym (p ∙ ap string_bytes k) step
+      ∷ string_bytes e ∷ string_bytes f ∷ sym (q ∙ ap string_bytes l) step ∷ []);
+}
+seven_texts (r ∷ s ∷ t ∷ u ∷ e ∷ f ∷ last ∷ other ∷ more) a b c d g v w x y z some few h i j k l m n o p q = absurd (omega arith)

@@ -1,6 +1,6 @@
 -- Addresses of monitors, as text.
-use Rattle.std.specs.Prelude.{◌≡◌, ℕ, ◌≤◌, List, ◌∷◌, ◌++◌, length, map, Option, Some, None, Result, Ok, Err, decimal}
-use Rattle.std.specs.List.{AllByRecursion}
+use Rattle.std.specs.Prelude.{◌≡◌, ℕ, ◌≤◌, List, ◌∷◌, ◌++◌, length, map, Option, Some, None, Result, Ok, Err, decimal, ◌==◌}
+use Rattle.std.specs.List.{AllByRecursion, count_by}
 use Rattle.mon_link.specs.declared.udp.Address.{Address}
 use Rattle.schedule_text.specs.declared.refusal.ScheduleKind.{ScheduleKind}
 use Rattle.schedule_text.specs.declared.refusal.ScheduleKind.TheVariants as kind
@@ -40,3 +40,6 @@ address_of field = do
 
 unfoldable pub addresses_of : ℕ → List ℕ → Result (List Address) ScheduleKind
 addresses_of n text = parts_of 44 address_of n (Some text)
+
+abbrev pub commas : List ℕ → ℕ
+commas text = count_by (λ b. b == 44) text

@@ -1,10 +1,10 @@
 //! Addresses of monitors, as text.
 
-ghost use Rattle.std.specs.Prelude.{◌≡◌, false, Ok, Err, IfOk, is_ok};
+ghost use Rattle.std.specs.Prelude.{◌≡◌, ◌≤◌, ◌+◌, false, None, Ok, Err, IfOk, IfSome, is_ok};
 ghost use Rattle.std.specs.Option.{option_copied};
 ghost use Rattle.schedule_text.specs.Fields.{Is, Steps, number_of};
 ghost use Rattle.task_words.specs.Parts.{part_of};
-ghost use Rattle.task_words.specs.Addresses.{host_of, port_of, address_of, addresses_of};
+ghost use Rattle.task_words.specs.Addresses.{host_of, port_of, address_of, addresses_of, commas};
 
 use crate::parts::Parts;
 use crate::task::WordsStop;
@@ -72,6 +72,19 @@ fn next_address(parts: &mut Parts<'_>) -> Result<Address, ScheduleKind>
 {
     let part = parts.next(b',')?;
     address_of(part)
+}
+
+/// How many addresses stand between the commas of a text, of 15 at most.
+pub(crate) fn count_of(text: &[u8]) -> Option<u8>
+    ensures some { IfSome result (λ n. (n ≤ 15) × (n ≡ commas text.now + 1)) }
+    ensures none { result ≡ None → 15 ≤ commas text.now }
+{
+    let commas = text.iter().filter(|byte| **byte == b',').count();
+    if commas < 15 {
+        Some(commas as u8 + 1)
+    } else {
+        None
+    }
 }
 
 /// Whether a text is so many addresses with commas between them: `addresses_of` without memory.

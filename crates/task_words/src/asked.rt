@@ -1,12 +1,12 @@
 //! The rule for the words of a command line. It takes no memory.
 
-ghost use Rattle.std.specs.Prelude.{◌≡◌, ◌∷◌, [], ℕ, List, string_bytes};
+ghost use Rattle.std.specs.Prelude.{◌≡◌, ◌∷◌, codes, map, string_bytes};
 ghost use Rattle.std.specs.List.{list_all};
-ghost use Rattle.task_words.specs.Task.{IsAsked, SpellsTask, is_word};
+ghost use Rattle.task_words.specs.Task.{AreStore, IsAsked, SpellsTask, is_word};
 ghost use Rattle.task_words.specs.Words.{Tells};
 
-use crate::addresses::are_addresses;
-use crate::numbers::{member_of, number_of, rule_in};
+use crate::addresses::{are_addresses, count_of};
+use crate::numbers::{member_of, number_of, rule_in, service_in};
 use mon_types::GREATEST;
 
 /// The longest word that is taken, in bytes.
@@ -14,6 +14,9 @@ pub const LONGEST_WORD: usize = 4_096;
 
 /// The most events of a made schedule.
 pub const MOST_MADE: u64 = 100_000;
+
+/// The most turns of a client that follows, 2^61.
+pub const MOST_FOLLOWED: u64 = 2_305_843_009_213_693_952;
 
 /// Whether a word may stand among the words at all.
 fn is_word(word: &[u8]) -> bool
@@ -31,44 +34,100 @@ fn are_words(words: &[String]) -> bool
     words.iter().all(|word| is_word(word.as_str().as_bytes()))
 }
 
-/// Whether three words are those of a made schedule.
-fn asks_made(word: &str, number: &str, events: &str) -> bool
-    ensures { Tells result (SpellsTask (word.now ∷ number.now ∷ events.now ∷ [])) }
+/// Whether these are the texts of a made schedule.
+fn asks_made(texts: &[String]) -> bool
+    ensures { Tells result (SpellsTask (codes "made" ∷ map string_bytes texts.now)) }
 {
-    if word != "made" {
-        return false;
-    }
-    if number_of(number.as_bytes(), 0, GREATEST).is_none() {
-        return false;
-    }
-    number_of(events.as_bytes(), 1, MOST_MADE).is_some()
-}
-
-/// Whether eight words, of which two name files, are those of a node.
-fn asks_node(
-    word: &str,
-    rank: &str,
-    monitors: &str,
-    rule: &str,
-    addresses: &str,
-    turns: &str,
-) -> bool
-    ensures { (disk_a disk_b : List ℕ)
-        → Tells result (SpellsTask (word.now ∷ rank.now ∷ monitors.now ∷ rule.now ∷ addresses.now ∷ disk_a ∷ disk_b ∷ turns.now ∷ [])) }
-{
-    if word != "node" {
-        return false;
-    }
-    let Some(member) = member_of(rank.as_bytes(), monitors.as_bytes()) else {
+    let [number, events] = texts else {
         return false;
     };
-    if rule_in(member.monitors, rule.as_bytes()).is_none() {
+    if number_of(number.as_str().as_bytes(), 0, GREATEST).is_none() {
         return false;
     }
-    if !are_addresses(member.monitors, addresses.as_bytes()) {
+    number_of(events.as_str().as_bytes(), 1, MOST_MADE).is_some()
+}
+
+/// Whether these are the texts of a node.
+fn asks_node(texts: &[String]) -> bool
+    ensures { Tells result (SpellsTask (codes "node" ∷ map string_bytes texts.now)) }
+{
+    let [rank, monitors, rule, addresses, _, _, turns] = texts else {
+        return false;
+    };
+    let Some(member) = member_of(rank.as_str().as_bytes(), monitors.as_str().as_bytes()) else {
+        return false;
+    };
+    if rule_in(member.monitors, rule.as_str().as_bytes()).is_none() {
         return false;
     }
-    number_of(turns.as_bytes(), 1, GREATEST).is_some()
+    if !are_addresses(member.monitors, addresses.as_str().as_bytes()) {
+        return false;
+    }
+    number_of(turns.as_str().as_bytes(), 1, GREATEST).is_some()
+}
+
+/// Whether these are the texts of a client that follows.
+fn asks_follow(texts: &[String]) -> bool
+    ensures { Tells result (SpellsTask (codes "follow" ∷ map string_bytes texts.now)) }
+{
+    let [service, addresses, turns] = texts else {
+        return false;
+    };
+    if service_in(service.as_str()).is_none() {
+        return false;
+    }
+    let Some(monitors) = count_of(addresses.as_str().as_bytes()) else {
+        return false;
+    };
+    if !are_addresses(monitors, addresses.as_str().as_bytes()) {
+        return false;
+    }
+    number_of(turns.as_str().as_bytes(), 1, MOST_FOLLOWED).is_some()
+}
+
+/// Whether these are the texts of a command on a store that takes no others.
+fn are_store(texts: &[String]) -> bool
+    ensures { Tells result (AreStore (map string_bytes texts.now)) }
+{
+    let [rank, monitors, _, _] = texts else {
+        return false;
+    };
+    member_of(rank.as_str().as_bytes(), monitors.as_str().as_bytes()).is_some()
+}
+
+/// Whether these are the texts of a dump of versions.
+fn asks_versions(texts: &[String]) -> bool
+    ensures { Tells result (SpellsTask (codes "dump-paxos" ∷ map string_bytes texts.now)) }
+{
+    let [rank, monitors, _, _, from, to] = texts else {
+        return false;
+    };
+    if member_of(rank.as_str().as_bytes(), monitors.as_str().as_bytes()).is_none() {
+        return false;
+    }
+    let Some(to) = number_of(to.as_str().as_bytes(), 0, GREATEST) else {
+        return false;
+    };
+    number_of(from.as_str().as_bytes(), 0, to).is_some()
+}
+
+/// Whether a command's name and the texts after it ask for something that the program does.
+fn asks(name: &str, texts: &[String]) -> bool
+    ensures { Tells result (SpellsTask (name.now ∷ map string_bytes texts.now)) }
+{
+    match name {
+        "replay" => texts.is_empty(),
+        "made" => asks_made(texts),
+        "node" => asks_node(texts),
+        "follow" => asks_follow(texts),
+        "scrub" => are_store(texts),
+        "scrub-compare" => texts.is_empty(),
+        "dump-keys" => are_store(texts),
+        "dump-paxos" => asks_versions(texts),
+        "store-export" => are_store(texts),
+        "store-import" => are_store(texts),
+        _ => false,
+    }
 }
 
 /// Whether the words ask for something that the program does.
@@ -78,17 +137,8 @@ pub(crate) fn is_asked(words: &[String]) -> bool
     if !are_words(words) {
         return false;
     }
-    match words {
-        [replay] => replay.as_str() == "replay",
-        [made, number, events] => asks_made(made.as_str(), number.as_str(), events.as_str()),
-        [node, rank, monitors, rule, addresses, _, _, turns] => asks_node(
-            node.as_str(),
-            rank.as_str(),
-            monitors.as_str(),
-            rule.as_str(),
-            addresses.as_str(),
-            turns.as_str(),
-        ),
-        _ => false,
-    }
+    let Some((name, texts)) = words.split_first() else {
+        return false;
+    };
+    asks(name.as_str(), texts)
 }

@@ -6,23 +6,26 @@ ghost use Rattle.clap.specs.Words.{found_of, first_of, rows_of, subcommand_of, s
 ghost use Rattle.election_rules.specs.declared.rule.Rule.{Rule as rules};
 ghost use Rattle.mon_link.specs.declared.udp.Address.{Address as places};
 ghost use Rattle.mon_types.specs.declared.member.Member.{Member as members};
+ghost use Rattle.mon_wire.specs.declared.request.Service.{Service as services};
 ghost use Rattle.schedule_text.specs.Spelling.{RuleFits, rule_text};
+ghost use Rattle.schedule_text.specs.Words.{service_text};
 ghost use Rattle.task_words.specs.Addresses.{IsAddress, addresses_text};
-ghost use Rattle.task_words.specs.Commands.{command, made_texts, node_texts};
+ghost use Rattle.task_words.specs.Commands.{command, follow_texts, made_texts, node_texts, store_texts, versions_texts};
 ghost use Rattle.task_words.specs.Matches.{AreTexts, IsFound, IsGiven, IsText};
 ghost use Rattle.task_words.specs.Task.{Asks, HasWords, words_of};
 ghost use Rattle.task_words.specs.declared.task.Task.{Task as tasks};
 ghost use Rattle.task_words.specs.declared.task.Task.TheVariants as task;
 
-use crate::addresses::addresses_of;
-use crate::asked::MOST_MADE;
-use crate::numbers::{member_of, number_of, rule_in};
+use crate::addresses::{addresses_of, count_of};
+use crate::asked::{MOST_FOLLOWED, MOST_MADE};
+use crate::numbers::{member_of, number_of, rule_in, service_in};
 use crate::task::{Task, WordsStop};
 use clap::ArgMatches;
 use election_rules::Rule;
 use mon_bytes::{Items, Text};
 use mon_link::Address;
 use mon_types::{GREATEST, Member};
+use mon_wire::Service;
 use std::alloc::Global;
 
 /// The text that was found under this id. It is there, since it is required.
@@ -56,6 +59,13 @@ fn rule_found(found: &ArgMatches<'_>, monitors: u8) -> Result<Rule, WordsStop>
     rule_in(monitors, text.as_bytes()).ok_or(WordsStop::Refused)
 }
 
+fn service_found(found: &ArgMatches<'_>) -> Result<Service, WordsStop>
+    ensures { (service : services) → IsFound (rows_of (found_of found.now)) (codes "SERVICE") (service_text service) → IsGiven service result }
+{
+    let text = text_in(found, "SERVICE")?;
+    service_in(text).ok_or(WordsStop::Refused)
+}
+
 /// The addresses of so many monitors.
 fn addresses_in(
     alloc: Global,
@@ -67,6 +77,18 @@ fn addresses_in(
 {
     let text = text_in(found, "ADDRESSES")?;
     addresses_of(alloc, monitors, text.as_bytes())
+}
+
+/// The addresses of 1 to 15 monitors.
+fn all_addresses_in(alloc: Global, found: &ArgMatches<'_>) -> Result<Items<Address>, WordsStop>
+    ensures { (addresses : List places) → 1 ≤ length addresses → length addresses ≤ 15 → AllByRecursion IsAddress addresses
+        → IsFound (rows_of (found_of found.now)) (codes "ADDRESSES") (addresses_text addresses) → IsGiven addresses result }
+{
+    let text = text_in(found, "ADDRESSES")?;
+    match count_of(text.as_bytes()) {
+        Some(monitors) => addresses_in(alloc, found, monitors),
+        None => Err(WordsStop::Refused),
+    }
 }
 
 /// A file's name.
@@ -118,6 +140,107 @@ fn node_in(alloc: Global, found: &ArgMatches<'_>) -> Result<Task, WordsStop>
     })
 }
 
+/// The task of the texts behind `follow`.
+fn follow_in(alloc: Global, found: &ArgMatches<'_>) -> Result<Task, WordsStop>
+    ensures { (service : services) (addresses : List places) (turns : ℕ) → HasWords (task.Follow service addresses turns)
+        → AreTexts (rows_of (found_of found.now)) follow_texts (service_text service ∷ addresses_text addresses ∷ decimal turns ∷ [])
+        → IsGiven (task.Follow service addresses turns) result }
+{
+    let service = service_found(found)?;
+    let addresses = all_addresses_in(alloc, found)?;
+    let turns = number_in(found, "TURNS", 1, MOST_FOLLOWED)?;
+    Ok(Task::Follow {
+        service,
+        addresses,
+        turns,
+    })
+}
+
+/// The task of the texts behind `scrub`.
+fn scrub_in(alloc: Global, found: &ArgMatches<'_>) -> Result<Task, WordsStop>
+    ensures { (member : members) (disk_a disk_b : List ℕ)
+        → AreTexts (rows_of (found_of found.now)) store_texts (decimal member.rank ∷ decimal member.monitors ∷ disk_a ∷ disk_b ∷ [])
+        → IsGiven (task.Scrub member disk_a disk_b) result }
+{
+    let member = member_in(found)?;
+    let disk_a = path_in(alloc, found, "DISK_A")?;
+    let disk_b = path_in(alloc, found, "DISK_B")?;
+    Ok(Task::Scrub {
+        member,
+        disk_a,
+        disk_b,
+    })
+}
+
+/// The task of the texts behind `dump-keys`.
+fn dump_keys_in(alloc: Global, found: &ArgMatches<'_>) -> Result<Task, WordsStop>
+    ensures { (member : members) (disk_a disk_b : List ℕ)
+        → AreTexts (rows_of (found_of found.now)) store_texts (decimal member.rank ∷ decimal member.monitors ∷ disk_a ∷ disk_b ∷ [])
+        → IsGiven (task.DumpKeys member disk_a disk_b) result }
+{
+    let member = member_in(found)?;
+    let disk_a = path_in(alloc, found, "DISK_A")?;
+    let disk_b = path_in(alloc, found, "DISK_B")?;
+    Ok(Task::DumpKeys {
+        member,
+        disk_a,
+        disk_b,
+    })
+}
+
+/// The task of the texts behind `dump-paxos`.
+fn dump_paxos_in(alloc: Global, found: &ArgMatches<'_>) -> Result<Task, WordsStop>
+    ensures { (member : members) (disk_a disk_b : List ℕ) (from to : ℕ) → HasWords (task.DumpPaxos member disk_a disk_b from to)
+        → AreTexts (rows_of (found_of found.now)) versions_texts
+        (decimal member.rank ∷ decimal member.monitors ∷ disk_a ∷ disk_b ∷ decimal from ∷ decimal to ∷ [])
+        → IsGiven (task.DumpPaxos member disk_a disk_b from to) result }
+{
+    let member = member_in(found)?;
+    let disk_a = path_in(alloc, found, "DISK_A")?;
+    let disk_b = path_in(alloc, found, "DISK_B")?;
+    let to = number_in(found, "TO", 0, GREATEST)?;
+    let from = number_in(found, "FROM", 0, to)?;
+    Ok(Task::DumpPaxos {
+        member,
+        disk_a,
+        disk_b,
+        from,
+        to,
+    })
+}
+
+/// The task of the texts behind `store-export`.
+fn export_in(alloc: Global, found: &ArgMatches<'_>) -> Result<Task, WordsStop>
+    ensures { (member : members) (disk_a disk_b : List ℕ)
+        → AreTexts (rows_of (found_of found.now)) store_texts (decimal member.rank ∷ decimal member.monitors ∷ disk_a ∷ disk_b ∷ [])
+        → IsGiven (task.StoreExport member disk_a disk_b) result }
+{
+    let member = member_in(found)?;
+    let disk_a = path_in(alloc, found, "DISK_A")?;
+    let disk_b = path_in(alloc, found, "DISK_B")?;
+    Ok(Task::StoreExport {
+        member,
+        disk_a,
+        disk_b,
+    })
+}
+
+/// The task of the texts behind `store-import`.
+fn import_in(alloc: Global, found: &ArgMatches<'_>) -> Result<Task, WordsStop>
+    ensures { (member : members) (disk_a disk_b : List ℕ)
+        → AreTexts (rows_of (found_of found.now)) store_texts (decimal member.rank ∷ decimal member.monitors ∷ disk_a ∷ disk_b ∷ [])
+        → IsGiven (task.StoreImport member disk_a disk_b) result }
+{
+    let member = member_in(found)?;
+    let disk_a = path_in(alloc, found, "DISK_A")?;
+    let disk_b = path_in(alloc, found, "DISK_B")?;
+    Ok(Task::StoreImport {
+        member,
+        disk_a,
+        disk_b,
+    })
+}
+
 /// The task of the subcommand that was met.
 pub(crate) fn task_in(alloc: Global, matches: &ArgMatches<'_>) -> Result<Task, WordsStop>
     ensures { (t : tasks) → Asks t (words_of t) → subcommand_rows_of matches.now ≡ subcommand_of command (words_of t) → IsGiven t result }
@@ -129,6 +252,13 @@ pub(crate) fn task_in(alloc: Global, matches: &ArgMatches<'_>) -> Result<Task, W
         "replay" => Ok(Task::Replay),
         "made" => made_in(found),
         "node" => node_in(alloc, found),
+        "follow" => follow_in(alloc, found),
+        "scrub" => scrub_in(alloc, found),
+        "scrub-compare" => Ok(Task::ScrubCompare),
+        "dump-keys" => dump_keys_in(alloc, found),
+        "dump-paxos" => dump_paxos_in(alloc, found),
+        "store-export" => export_in(alloc, found),
+        "store-import" => import_in(alloc, found),
         _ => Err(WordsStop::Refused),
     }
 }

@@ -1,13 +1,15 @@
-//! The numbers and the rule among the words.
+//! The numbers, the rule and the service among the words.
 
 ghost use Rattle.std.specs.Prelude.{◌≡◌, ◌≤◌, ℕ, None, IfSome, decimal};
 ghost use Rattle.mon_types.specs.declared.member.Member.{Member as members};
 ghost use Rattle.schedule_text.specs.Spelling.{RuleFits, rule_text};
+ghost use Rattle.schedule_text.specs.Words.{service_text};
 ghost use Rattle.task_words.specs.Words.{Spells};
 
 use election_rules::Rule;
 use mon_types::{Member, Rank};
-use schedule_text::rule_of;
+use mon_wire::Service;
+use schedule_text::{rule_of, service_word};
 
 /// The number that a word spells in decimal, where it is within these bounds.
 pub(crate) fn number_of(word: &[u8], least: u64, most: u64) -> Option<u64>
@@ -37,4 +39,17 @@ pub(crate) fn rule_in(monitors: u8, word: &[u8]) -> Option<Rule>
         Ok(rule) => Some(rule),
         Err(_) => None,
     }
+}
+
+/// The service that a word names.
+pub(crate) fn service_in(word: &str) -> Option<Service>
+    ensures { Spells service_text (λ _. Unit {0}) result word.now }
+{
+    if word == service_word(Service::Kv) {
+        return Some(Service::Kv);
+    }
+    if word == service_word(Service::Log) {
+        return Some(Service::Log);
+    }
+    None
 }

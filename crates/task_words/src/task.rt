@@ -2,6 +2,7 @@ use election_rules::Rule;
 use mon_bytes::{Items, OutOfMemory, Text};
 use mon_link::Address;
 use mon_types::Member;
+use mon_wire::Service;
 use thiserror::Error;
 
 /// What the program is to do.
@@ -22,6 +23,47 @@ pub enum Task {
         disk_a: Text,
         disk_b: Text,
         turns: u64,
+    },
+    /// Keeps a client's copy of a service's map, for so many turns at most, 1 to 2^61. The addresses are those of all monitors, by rank, of
+    /// which there are 1 to 15.
+    Follow {
+        service: Service,
+        addresses: Items<Address>,
+        turns: u64,
+    },
+    /// Writes the report of the store on two files.
+    Scrub {
+        member: Member,
+        disk_a: Text,
+        disk_b: Text,
+    },
+    /// Writes where the two reports differ that the source has.
+    ScrubCompare,
+    /// Writes a line for each key of the store on two files.
+    DumpKeys {
+        member: Member,
+        disk_a: Text,
+        disk_b: Text,
+    },
+    /// Writes the versions of Paxos that the store on two files keeps, from one to another, which isn't below it and at most 2^62.
+    DumpPaxos {
+        member: Member,
+        disk_a: Text,
+        disk_b: Text,
+        from: u64,
+        to: u64,
+    },
+    /// Writes the export of the store on two files.
+    StoreExport {
+        member: Member,
+        disk_a: Text,
+        disk_b: Text,
+    },
+    /// Makes a store on two files of the export that the source has.
+    StoreImport {
+        member: Member,
+        disk_a: Text,
+        disk_b: Text,
     },
 }
 

@@ -2,7 +2,7 @@ use Rattle.std.proofs.Common.{Err, subst}
 use Rattle.task_words.specs.Task.{AsksForNone, IsAsked, Reads}
 use Rattle.task_words.specs.declared.task.WordsStop.{WordsStop}
 use Rattle.cephmon_run.specs.Node.{Around}
-use Rattle.cephmon_run.specs.Run.{Outside}
+use Rattle.cephmon_run.specs.Outside.{Outside}
 use Rattle.cephmon_run.proofs.Exact.{ends_asked, ends_early, ends_refused}
 use Rattle.cephmon_run.proofs.running.run.Goals as goal
 

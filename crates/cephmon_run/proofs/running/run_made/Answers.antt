@@ -1,7 +1,8 @@
 use Rattle.std.proofs.Common.{◌≡◌, Err, ap, refl, subst, sym, ◌∙◌}
 use Rattle.std.specs.Io.KnownBytes.{Appends}
 use Rattle.mon_link.specs.Whole.{AppendsFront}
-use Rattle.cephmon_run.specs.Run.{MadeCause, Outside}
+use Rattle.cephmon_run.specs.Run.{MadeCause}
+use Rattle.cephmon_run.specs.Outside.{Outside}
 use Rattle.cephmon_run.specs.Replay.{fault_of, status_of, stop_of}
 use Rattle.cephmon_run.proofs.Runs.{made_done, made_fault, made_stopped}
 use Rattle.cephmon_run.proofs.running.run_made.Goals as goal

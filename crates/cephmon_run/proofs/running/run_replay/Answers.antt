@@ -1,5 +1,5 @@
 use Rattle.std.proofs.Common.{Err, ap, sym, ◌∙◌}
-use Rattle.cephmon_run.specs.Run.{Outside}
+use Rattle.cephmon_run.specs.Outside.{Outside}
 use Rattle.cephmon_run.proofs.Runs.{replay_done, replay_stopped}
 use Rattle.cephmon_run.proofs.running.run_replay.Goals as goal
 

@@ -1,0 +1,52 @@
+//! A client that follows a map.
+
+use crate::rig::*;
+use cephmon_run::Status;
+use mon_link::{Got, MemoryLink, MemorySink, MemorySource};
+use std::alloc::Global;
+use std::test::Fail;
+
+/// How a client with one turn ends, and how many requests it sent, over a link that gives this, or whose first call fails. It writes nothing.
+fn followed(
+    alloc: Global,
+    got: Vec<Got>,
+    failing: Vec<u64>,
+) -> Result<(Status, usize, usize), Fail> {
+    let words = words_of(alloc, "follow kv 127.0.0.1:6789 1")?;
+    let left = run_over(
+        alloc,
+        &words,
+        MemorySource::new(Vec::new(alloc), Vec::new(alloc)),
+        MemorySink::new(alloc, Vec::new(alloc)),
+        empty_disks(alloc),
+        MemoryLink::new(alloc, got, failing, Vec::new(alloc)),
+    );
+    let told = (
+        left.status,
+        left.link.sent().len(),
+        left.sink.written().len(),
+    );
+    drop(left);
+    Ok(told)
+}
+
+#[test]
+fn a_client_ends_as_its_link_does(rt: HostRuntime) -> Result<(), Fail> {
+    let alloc = rt.alloc();
+    let none = Vec::new(alloc);
+    assert_eq!(rt;
+        followed(alloc, Vec::new(alloc), none)?,
+        (Status::Done, 1, 0)
+    );
+    let idle = vec![in alloc; Got::Idle]?;
+    assert_eq!(rt;
+        followed(alloc, idle, Vec::new(alloc))?,
+        (Status::TurnsUsed, 2, 0)
+    );
+    let failing = vec![in alloc; 1]?;
+    assert_eq!(rt;
+        followed(alloc, Vec::new(alloc), failing)?,
+        (Status::LinkFault, 1, 0)
+    );
+    Ok(())
+}
