@@ -1,4 +1,4 @@
-//! The devices of the system that words name.
+//! The devices of the system that arguments name.
 
 use cephmon_run::Status;
 use mon_bytes::Text;
@@ -9,7 +9,7 @@ use mon_types::Rank;
 use std::alloc::Global;
 use task_words::{Task, WordsStop, read_words};
 
-/// The disks and the link that words name.
+/// The disks and the link that the arguments name.
 #[derive(Drop)]
 pub struct Devices {
     pub disks: NodeDisks<FileDisk<HostRuntime>>,
@@ -26,7 +26,7 @@ struct Names {
 }
 
 impl Names {
-    /// Where the words name none, nothing is called by them.
+    /// If the arguments name none, no call uses them.
     fn none(alloc: Global) -> Names {
         Names {
             own: Rank::known(0),
@@ -65,7 +65,7 @@ fn names_of(alloc: Global, words: &[String]) -> Result<Names, Status> {
     }
 }
 
-/// The devices that the words name, each of which opens at its first call; or want of memory.
+/// The devices that the arguments name, each of which opens at its first call; or lack of memory.
 pub fn devices_of(rt: &HostRuntime, words: &[String]) -> Result<Devices, Status> {
     let names = names_of(rt.alloc(), words)?;
     Ok(Devices {
