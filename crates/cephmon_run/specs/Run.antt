@@ -34,8 +34,8 @@ use Rattle.task_words.specs.Task.{AsksFor, AsksForNone}
 use Rattle.cephmon_run.specs.Node.{Around, NodeCause}
 use Rattle.cephmon_run.specs.Trace.{Trace, trace}
 
--- What stands before a run and after it: what the source has left and what the sink holds, where they tell it, and their counts of
--- faults. Of a source or a sink that tells nothing, as the standard streams, no bytes are known.
+-- The devices before a run and after it: what the source has left and what the sink holds, if that can be seen, and their
+-- counts of faults. Of a source or a sink whose contents can't be seen, such as the standard streams, no bytes are known.
 pub record Outside : Type 0 where
   pub left : Option (List ℕ)
   pub held : Option (List ℕ)
@@ -50,8 +50,8 @@ most_read = 16777217
 abbrev pub OfRead : Outside → Outside → (List ℕ → Type 0) → Type 0
 OfRead before after fact = (bytes : List ℕ) × (length bytes ≤ most_read) × ReadsWhole most_read before.left after.left bytes × fact bytes
 
--- the monitors of a schedule, whose run is safe at each moment: after each beginning of its events, none and all of them among these; and
--- its trace tells that run
+-- the monitors of a schedule, whose run is safe after each prefix of its events, the empty one and all of them included; and
+-- its trace is that of the run
 pub record Runs (schedule : Schedule) (ms : Monitors) : Type 0 where
   pub count : ms.count ≡ schedule.monitors
   pub rule : ms.rule ≡ schedule.rule
@@ -67,14 +67,14 @@ pub record Replays (bytes : List ℕ) (fact : Trace → Type 0) : Type 0 where
   pub runs : Runs schedule monitors
   pub traced : fact (trace monitors schedule.events)
 
--- the whole trace went out, and its run came to the end, or this stopped it
+-- the whole trace was written, and its run came to the end, or this stopped it
 abbrev pub WroteAll : Outside → Outside → Option Stop → Trace → Type 0
 WroteAll before after stop t = (t.stop ≡ stop) × Appends before.held after.held t.text
 
 abbrev pub WroteFront : Outside → Outside → Trace → Type 0
 WroteFront before after t = AppendsFront before.held after.held t.text
 
--- the source was read to its end, where it tells what it has left, and had a schedule whose trace has this fact
+-- the source was read to its end, if it is known what it has left, and had a schedule whose trace has this property
 abbrev pub Replayed : Outside → Outside → (Trace → Type 0) → Type 0
 Replayed before after fact = IsAtEnd after.left × OfRead before after (λ bytes. Replays bytes fact)
 
@@ -99,7 +99,7 @@ SummedAll before after stop s = (s.stop ≡ stop) × Appends before.held after.h
 abbrev pub SummedFront : Outside → Outside → Summary → Type 0
 SummedFront before after s = (s.stop ≡ None) × AppendsFront before.held after.held s.text
 
--- ---- the cause of each status, by what the words ask for
+-- ---- the cause of each status, by what the arguments ask for
 
 -- Of a replay. If memory ran out, or a read failed, what was read is a prefix of what was left, of 16,777,217 bytes at
 -- most, and what was written is a prefix of what is to be written.
@@ -135,7 +135,7 @@ HasCause state (task.Made number events) before after around left s = MadeCause 
 HasCause state (task.Node member rule addresses disk_a disk_b turns) before after around left s =
     NodeCause state (record { member = member; rule = rule }) turns around left s × (after ≡ before)
 
--- it has a cause in what the words ask for
+-- it has a cause in the arguments
 abbrev pub IsCaused : {D : Type 0} → (D → DiskState) → List (String Global) → Outside → Outside → Around D → Around D → Status → Type 0
 IsCaused state words before after around left s = (t : Task) × AsksFor t words × HasCause state t before after around left s
 
@@ -144,7 +144,7 @@ abbrev pub HasStatus : {D : Type 0} → (D → DiskState) → List (String Globa
 HasStatus state words before after around left status.Words = AsksForNone words × (after ≡ before) × (left ≡ around)
 HasStatus state words before after around left other = IsCaused state words before after around left other
 
--- what the status tells of bytes that no schedule was made of
+-- what the status says of bytes that are no schedule
 abbrev pub TellsFault : List ℕ → Status → Type 0
 TellsFault bytes (status.Schedule line kind) = schedule_at bytes ≡ Err (At line kind)
 TellsFault bytes status.OutOfMemory = Unit {0}
@@ -157,14 +157,14 @@ pub record NothingFailed (before after : Outside) : Type 0 where
   pub reads : ¬ (Rose before.read_faults after.read_faults)
   pub writes : ¬ (Rose before.write_faults after.write_faults)
 
--- the status tells what stopped a run, or that nothing did, unless memory ran out
+-- the status says what stopped a run, or that nothing did, unless memory ran out
 abbrev pub Tells : Option Stop → Status → Type 0
 Tells stop status.OutOfMemory = Unit {0}
 Tells None s = s ≡ status.Done
 Tells (Some (happens.Spent which)) s = s ≡ status.Spent which
 Tells (Some (happens.Full would_be)) s = s ≡ status.Full would_be
 
--- it tells which line is at fault, unless memory ran out
+-- it says which line is faulty, unless memory ran out
 abbrev pub TellsLine : ℕ → ScheduleKind → Status → Type 0
 TellsLine line kind status.OutOfMemory = Unit {0}
 TellsLine line kind s = s ≡ status.Schedule line kind
@@ -184,21 +184,21 @@ IsServed status.OutOfMemory = Unit {0}
 IsServed (status.Full would_be) = Unit {0}
 IsServed other = ⊥
 
--- the status tells why the disks stand for no store of the member, unless memory ran out
+-- the status says why the disks represent no store of the member, unless memory ran out
 abbrev pub TellsRefusal : Refusal → Status → Type 0
 TellsRefusal refusal status.OutOfMemory = Unit {0}
 TellsRefusal refusal (status.NotAStore disk at) = refusal ≡ NotAStore disk at
 TellsRefusal refusal (status.Stranger kept asked) = refusal ≡ Stranger (owner_of kept) (owner_of asked)
 TellsRefusal refusal other = ⊥
 
--- The two disks, which tell what they hold, open so.
+-- The two disks, whose contents can be seen, open so.
 abbrev pub Holds : {D : Type 0} → (D → DiskState) → Member → Around D → Result Stood Refusal → Type 0
 Holds state member around read =
     (a : List ℕ) × (b : List ℕ) × ((state around.disks.a).content.seen ≡ Some a) × ((state around.disks.b).content.seen ≡ Some b) × (opens_as member a b ≡ read)
 
--- Faulty words are told. Where nothing fails, the status tells how the run of the schedule ends that the source has, or that is made; of
--- bytes that are no schedule's text, however many, which line is at fault; and of disks that stand for no store of the member, why they
--- don't, while on a store of its own, or where it is to be created, the monitor serves.
+-- Faulty arguments are reported. If nothing fails, the status says how the run of the schedule ends that the source has, or
+-- that is made; which line is faulty in bytes that are no schedule, however many; and why disks represent no store of the
+-- member. On a store of its own, or if one is to be created, the monitor serves.
 pub record Completes {D : Type 0} (state : D → DiskState) (words : List (String Global)) (before after : Outside) (around left : Around D) (s : Status) : Type 0 where
   pub faulty : AsksForNone words → s ≡ status.Words
   pub replayed : (schedule : Schedule) (ms : Monitors) → AsksFor task.Replay words → NothingFailed before after

@@ -1,4 +1,4 @@
--- The numbers that the program ends with, and what ends of its parts they tell.
+-- The statuses with which the program ends, and the ends of its parts that they report.
 use Rattle.std.specs.Prelude.{ℕ}
 use Rattle.mon_node.specs.declared.end.NodeEnd.{NodeEnd}
 use Rattle.mon_node.specs.declared.end.NodeEnd.TheVariants as end

@@ -1,4 +1,5 @@
-//! Does what the words of a command line ask for: replays a schedule, runs one that is made, or serves as a monitor.
+//! Does what the arguments of a command line ask for: replays a schedule, runs one that is made, or serves as a
+//! monitor.
 #![tactic(auto)]
 
 mod node;

@@ -27,7 +27,7 @@ use task_words::{Task, WordsStop, read_words};
 /// One more byte than a schedule may have.
 const MOST_READ: usize = 16_777_217;
 
-/// The schedule that the bytes spell, or the status that says why there is none.
+/// The schedule that the bytes encode, or the status that says why there is none.
 fn schedule_of(alloc: Global, bytes: &[u8]) -> Result<Schedule, Status>
     ensures found { IfOk result (λ s. HasText s × (bytes.now ≡ schedule_text s)) }
     ensures fault { IfErr result (TellsFault bytes.now) }
@@ -149,9 +149,9 @@ fn run_task<S: Source, K: Sink, D: Disk, L: Link, C: Clock>(
     }
 }
 
-/// Does what the words say: `replay` runs the schedule that the source has and writes its trace to the sink; `made`
-/// runs the schedule of a number and writes its summary; and `node` serves as a monitor from the two disks, over the
-/// link, and writes nothing. What a command has no use for is left as it was.
+/// Does what the arguments say: `replay` runs the schedule that the source has and writes its trace to the sink;
+/// `made` runs the schedule of a number and writes its summary; and `node` serves as a monitor from the two disks,
+/// over the link, and writes nothing. Devices that a command doesn't use are left as they were.
 pub fn run<S: Source, K: Sink, D: Disk, L: Link, C: Clock>(
     alloc: Global,
     words: &[String],
@@ -161,8 +161,8 @@ pub fn run<S: Source, K: Sink, D: Disk, L: Link, C: Clock>(
     link: &mut L,
     clock: &mut C,
 ) -> Ended<D>
-    // What the status tells of what was asked, read, written and served, and which status comes where nothing fails.
-    // Each run that it speaks of is safe at each moment.
+    // What the status says of what was asked, read, written and served, and which status comes if no device fails.
+    // Each run that it describes is safe after each event.
     ensures { Ends D.state words.now
         (record { left = S.left source.old; held = K.held sink.old; read_faults = S.faults source.old; write_faults = K.faults sink.old })
         (record { left = S.left source.new; held = K.held sink.new; read_faults = S.faults source.new; write_faults = K.faults sink.new })

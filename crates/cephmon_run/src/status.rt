@@ -15,25 +15,25 @@ pub enum Status {
     Schedule { line: u32, kind: ScheduleKind },
     /// The input couldn't be read. Nothing was run or written.
     ReadFault,
-    /// The output couldn't be written. What went out is a front of it.
+    /// The output couldn't be written. What went out is a prefix of it.
     WriteFault,
     /// A disk of the node failed.
     DiskFault,
-    /// The node's link failed to tell what comes.
+    /// The node's link failed to receive.
     LinkFault,
-    /// That disk holds no store, or none that goes with the other one, from this byte on. What the disks stand for is
-    /// unchanged.
+    /// That disk holds no store, or none that belongs with the other disk, from this byte on. What the disks
+    /// represent is unchanged.
     NotAStore { disk: Side, at: u64 },
-    /// The store is another monitor's, or of another number of monitors. What the disks stand for is unchanged.
+    /// The store is another monitor's, or of another number of monitors. What the disks represent is unchanged.
     Stranger { kept: Member, asked: Member },
     /// A number of this kind would pass 2^62. Of a trace the lines of the events before were written, and of a summary
     /// nothing.
     Spent { which: Which },
-    /// The node made as many turns as were asked.
+    /// The node made as many iterations as were asked.
     TurnsUsed,
     /// A monitor's map would have the size `would_be`, above 268,435,456. What was written is as with `Spent`.
     Full { would_be: u64 },
-    /// An allocation was refused. What went out is a front of the output.
+    /// An allocation was refused. What went out is a prefix of the output.
     OutOfMemory,
 }
 
