@@ -1,4 +1,4 @@
--- Which words are those of a task.
+-- Which arguments are those of a task.
 use Rattle.std.proofs.Common.{◌≡◌, ◌≢◌, ℕ, Bool, true, false, List, [], ◌∷◌, length, map, String, string_bytes, codes, decimal, refl, sym, ap, ◌∙◌, arith}
 use Rattle.std.specs.declared.alloc.Global.{Global}
 use Rattle.std.specs.List.{list_all}
@@ -20,7 +20,7 @@ use Rattle.task_words.proofs.Unique.{word_by_word}
 
 -- ---- all of them
 
--- each of some words is one
+-- each of some arguments is one
 abbrev pub all_words : List (String Global) → Bool
 all_words words = list_all (λ w. is_word (string_bytes w)) words
 
@@ -30,14 +30,14 @@ no_words words test is fails asked =
     let same = list_all-map is_word string_bytes words in
     cc
 
--- a test of words, each of which is one
+-- a test of arguments, each of which is one
 pub tells_asked : (words : List (String Global)) (others : List (List ℕ)) (each test : Bool) → each ≡ all_words words → each ≡ true → map string_bytes words ≡ others
     → Tells test (SpellsTask others) → Tells test (IsAsked words)
 tells_asked words others each true is holds same spells =
     (spells.0, record { has = spells.1.0; are = same ∙ spells.1.1; each = list_all-map is_word string_bytes words ∙ sym is ∙ holds })
 tells_asked words others each false is holds same none = λ asked. none (asked.0, (asked.1.has, sym same ∙ asked.1.are))
 
--- a task has one word, three or eight
+-- a task has one argument, three or eight
 so_many : (t : Task) (words : List (List ℕ)) → words ≡ words_of t → length words ≢ 1 → length words ≢ 3 → length words ≢ 8 → ⊥
 so_many task.Replay words are one three eight = one (ap length are)
 so_many (task.Made number events) words are one three eight = three (ap length are)
@@ -77,7 +77,7 @@ module _ (word number events : List ℕ) where
 
 -- ---- `node`
 
--- the words of a node, those of its files aside
+-- the arguments of a node, those of its files aside
 pub record SpellsNode (word rank monitors rule addresses turns : List ℕ) (m : Member) (r : Rule) (places : List Address) (n : ℕ) : Type 0 where
   pub first : word ≡ codes "node"
   pub ranks : rank ≡ decimal m.rank

@@ -1,4 +1,4 @@
--- The command takes the words of each task, and finds each text under its name.
+-- The command takes the arguments of each task, and finds each text under its name.
 use Rattle.std.proofs.Common.{◌≡◌, ℕ, true, false, List, [], ◌∷◌, Option, Some, IsTrue, codes, decimal, refl, ap, subst, ◌∙◌, drop}
 use Rattle.std.specs.Prelude.{fold, find, option_map}
 use Rattle.std.specs.List.{list_all}
@@ -18,7 +18,7 @@ use Rattle.task_words.proofs.Parsing.{Goes, placed, stopped_at, stopped_passes, 
 
 -- ---- one level
 
--- what a subcommand asks for beside its words
+-- what a subcommand asks for beside its arguments
 pub record EndsWell (s : Shape) (words : List Text) : Type 0 where
   pub goes : Goes s (walk_from nothing_held) words
   pub settles : settle_passes s.rules s.args_override_self (placed s.rules (walk_from nothing_held) words).held ≡ true
@@ -104,7 +104,7 @@ well_node a b c d e f g = record {
   valid = refl;
 }
 
--- ---- the words of a task
+-- ---- the arguments of a task
 
 abbrev pub ids_of : Task → List Text
 ids_of task.Replay = replay_texts
@@ -116,7 +116,7 @@ name_of task.Replay = codes "replay"
 name_of (task.Made number events) = codes "made"
 name_of (task.Node member rule addresses disk_a disk_b turns) = codes "node"
 
--- the texts behind the name
+-- the texts after the name
 abbrev pub texts_of : Task → List Text
 texts_of t = drop 1 (words_of t)
 
@@ -153,7 +153,7 @@ finds_task t each =
     let behind : IsTrue (list_all is_word (texts_of t)) = (both (is_word (name_of t)) (list_all is_word (texts_of t)) (subst (λ (ws : List Text). IsTrue (list_all is_word ws)) (words_are t) each)).1 in
     ap (subcommand_of command) (words_are t) ∙ finds_rows (name_of t) (leaf_of t) (texts_of t) (meets_of t) behind (well_of t)
 
--- each text stands under its name
+-- each text is under its name
 pub finds_made : (number events : ℕ) → AreTexts (rows_of_task (task.Made number events)) made_texts (decimal number ∷ decimal events ∷ [])
 finds_made number events = (refl, (refl, tt))
 

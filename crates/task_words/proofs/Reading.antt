@@ -1,4 +1,4 @@
--- What is read of accepted words is the task that they ask for.
+-- What is parsed from accepted arguments is the task that they ask for.
 use Rattle.std.proofs.Common.{◌≡◌, ℕ, Bool, true, false, List, [], ◌∷◌, Option, Some, None, Result, codes, decimal, refl, sym, ap, ap₂, subst, ◌∙◌}
 use Rattle.std.specs.Prelude.{option_map}
 use Rattle.std.proofs.lemmas.Bool.{false≢true}
@@ -19,7 +19,7 @@ use Rattle.task_words.specs.Words.{Tells}
 use Rattle.task_words.proofs.Matching.{finds_made, finds_node, finds_task, leaf_of, name_of, rows_of_task, takes_task}
 use Rattle.task_words.proofs.Spelled.{passes}
 
--- ---- what a test tells
+-- ---- what a test returns
 
 pub told : (test : Bool) (fact : Type 0) → Tells test fact → test ≡ true → fact
 told true fact tells is = tells

@@ -1,4 +1,4 @@
--- What the words of a command line are, and the numbers that they spell.
+-- What the arguments of a command line are, and the numbers that they represent.
 use Rattle.std.proofs.Common.{◌≡◌, ℕ, ◌<◌, ◌≤◌, Bool, true, false, not, String, string_bytes, List, [], ◌∷◌, map, length, slice_index_or, refl, sym, ap, ◌∙◌, arith}
 use Rattle.std.specs.declared.alloc.Global.{Global}
 use Rattle.std.specs.Str.{bytes_eq}
@@ -33,7 +33,7 @@ three_words (x ∷ y ∷ z ∷ []) a b c some few first second third =
     (λ i. string_bytes (sym first i) ∷ string_bytes (sym second i) ∷ string_bytes (sym third i) ∷ [])
 three_words (x ∷ y ∷ z ∷ v ∷ more) a b c some few first second third = absurd (omega arith)
 
--- eight words, of which two may be any
+-- eight arguments, of which two may be any
 pub record EightWords (words : List (String Global)) (a b c d e h : String Global) : Type 0 where
   pub sixth : List ℕ
   pub seventh : List ℕ

@@ -26,7 +26,7 @@ same_addresses n xs ys some a b each_a each_b e =
     let read_b = addresses_read n (addresses_text xs) ys some b each_b e in
     cc
 
--- the words of two nodes, part by part
+-- the arguments of two nodes, part by part
 pub record SameWords (first rank monitors rule addresses disk_a disk_b turns first' rank' monitors' rule' addresses' disk_a' disk_b' turns' : List ℕ) : Type 0 where
   pub firsts : first ≡ first'
   pub ranks : rank ≡ rank'

@@ -1,4 +1,4 @@
--- What the words of a command line ask for.
+-- What the arguments of a command line ask for.
 use Rattle.std.specs.Prelude.{◌≡◌, ℕ, ◌≤◌, ◌^◌, ◌==◌, ◌&&◌, not, nat_le, Bool, false, IsTrue, List, [], ◌∷◌, length, map, Result, Ok, Err, String, string_bytes, codes, decimal}
 use Rattle.std.specs.declared.alloc.Global.{Global}
 use Rattle.std.specs.List.{AllByRecursion, list_all}
@@ -10,7 +10,7 @@ use Rattle.task_words.specs.declared.task.WordsStop.{WordsStop}
 use Rattle.task_words.specs.declared.task.WordsStop.TheVariants.{Refused, OutOfMemory}
 use Rattle.task_words.specs.Addresses.{IsAddress, addresses_text}
 
--- a word isn't empty, isn't too long and doesn't begin with a hyphen
+-- an argument isn't empty, isn't too long and doesn't begin with a hyphen
 abbrev pub is_word : List ℕ → Bool
 is_word [] = false
 is_word (b ∷ bytes) = not (b == 45) && nat_le (length (b ∷ bytes)) LONGEST_WORD
@@ -26,18 +26,19 @@ words_of (Node member rule addresses disk_a disk_b turns) =
 abbrev pub most_made : ℕ
 most_made = MOST_MADE
 
--- Which tasks have words. A member's rank is below the number of its monitors, of which there are 1 to 15: each member is so.
+-- Which tasks have arguments. A member's rank is below the number of its monitors, of which there are 1 to 15: each member is
+-- so.
 abbrev pub HasWords : Task → Type 0
 HasWords Replay = Unit {0}
 HasWords (Made number events) = (number ≤ 2 ^ 62) × (1 ≤ events) × (events ≤ most_made)
 HasWords (Node member rule addresses disk_a disk_b turns) =
     RuleFits member.monitors rule × (length addresses ≡ member.monitors) × AllByRecursion IsAddress addresses × (1 ≤ turns) × (turns ≤ 2 ^ 62)
 
--- words of a task, whatever their first bytes and their lengths
+-- arguments of a task, whatever their first bytes and their lengths
 abbrev pub SpellsTask : List (List ℕ) → Type 0
 SpellsTask words = (t : Task) × (HasWords t × (words ≡ words_of t))
 
--- The words are the task's, and each of them is one.
+-- The arguments are the task's, and each of them is one.
 pub record Asks (t : Task) (words : List (List ℕ)) : Type 0 where
   pub has : HasWords t
   pub are : words ≡ words_of t
@@ -54,7 +55,7 @@ AsksForNone words = (t : Task) → ¬ (AsksFor t words)
 abbrev pub IsAsked : List (String Global) → Type 0
 IsAsked words = (t : Task) × AsksFor t words
 
--- What reading the words answers: the task that they ask for. Where memory ran out they ask for one too.
+-- The result of reading the arguments: the task that they ask for. If memory ran out, they ask for one too.
 abbrev pub Reads : Result Task WordsStop → List (String Global) → Type 0
 Reads (Ok t) words = AsksFor t words
 Reads (Err Refused) words = AsksForNone words

@@ -74,7 +74,7 @@ fn next_address(parts: &mut Parts<'_>) -> Result<Address, ScheduleKind>
     address_of(part)
 }
 
-/// Whether a text is so many addresses with commas between them: `addresses_of` without memory.
+/// Whether a text is this many addresses with commas between them: `addresses_of`, without memory.
 pub(crate) fn are_addresses(monitors: u8, text: &[u8]) -> bool
     ensures { result ≡ is_ok (addresses_of monitors text.now) }
 {
@@ -87,7 +87,7 @@ pub(crate) fn are_addresses(monitors: u8, text: &[u8]) -> bool
     parts.is_done()
 }
 
-/// So many addresses, from a text with commas between them.
+/// This many addresses, from a text with commas between them.
 pub(crate) fn addresses_of(
     alloc: Global,
     monitors: u8,

@@ -1,4 +1,4 @@
-//! The rule for the words of a command line. It takes no memory.
+//! The rules for the arguments of a command line. They take no memory.
 
 ghost use Rattle.std.specs.Prelude.{◌≡◌, ◌∷◌, [], ℕ, List, string_bytes};
 ghost use Rattle.std.specs.List.{list_all};
@@ -9,13 +9,13 @@ use crate::addresses::are_addresses;
 use crate::numbers::{member_of, number_of, rule_in};
 use mon_types::GREATEST;
 
-/// The longest word that is taken, in bytes.
+/// The longest argument that is taken, in bytes.
 pub const LONGEST_WORD: usize = 4_096;
 
 /// The most events of a made schedule.
 pub const MOST_MADE: u64 = 100_000;
 
-/// Whether a word may stand among the words at all.
+/// Whether an argument may occur among the arguments at all.
 fn is_word(word: &[u8]) -> bool
     ensures { result ≡ is_word word.now }
 {
@@ -31,7 +31,7 @@ fn are_words(words: &[String]) -> bool
     words.iter().all(|word| is_word(word.as_str().as_bytes()))
 }
 
-/// Whether three words are those of a made schedule.
+/// Whether three arguments are those of a made schedule.
 fn asks_made(word: &str, number: &str, events: &str) -> bool
     ensures { Tells result (SpellsTask (word.now ∷ number.now ∷ events.now ∷ [])) }
 {
@@ -44,7 +44,8 @@ fn asks_made(word: &str, number: &str, events: &str) -> bool
     number_of(events.as_bytes(), 1, MOST_MADE).is_some()
 }
 
-/// Whether eight words, of which two name files, are those of a node.
+/// Whether eight arguments, of which two name files, are those of a node. An argument in the place of a file's name
+/// is one, even if it is also the name of a subcommand.
 fn asks_node(
     word: &str,
     rank: &str,
@@ -71,7 +72,7 @@ fn asks_node(
     number_of(turns.as_bytes(), 1, GREATEST).is_some()
 }
 
-/// Whether the words ask for something that the program does.
+/// Whether the arguments ask for something that the program does.
 pub(crate) fn is_asked(words: &[String]) -> bool
     ensures { Tells result (IsAsked words.now) }
 {

@@ -1,4 +1,4 @@
-//! The command that takes accepted words apart.
+//! The command that parses accepted arguments.
 
 ghost use Rattle.std.specs.Prelude.{◌≡◌, false, map, IfOk};
 ghost use Rattle.clap.specs.Words.{app_of, shape_of};
@@ -36,7 +36,7 @@ fn subcommand<'a>(
     Ok(command)
 }
 
-/// One level of subcommands, and no form of help or version. The words are those behind the program's name.
+/// One level of subcommands, and no form of help or version. The arguments are those after the program's name.
 pub(crate) fn command<'a>(alloc: Global) -> Result<Command<'a>, AllocError>
     ensures { IfOk result (λ c. app_of c ≡ command) }
 {
