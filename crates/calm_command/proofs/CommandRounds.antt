@@ -66,7 +66,7 @@ module _ (v p : ℕ) (b : Bool) (seq : ℕ → ℕ) (r : ℕ) (a : Asked) where
   off_r_then j ne = rw (ne_eqb j r ne) refl
 
 module _ (ms : Monitors) (H : Role → Store → State → Type 0) where
-  -- the command comes, and so all stand once all is delivered
+  -- the command comes, and so all are once all is delivered
   pub record Goes (T : ℕ → Role) (more : List (List ℕ)) (told : List Answer) (c k : ℕ) (p : Plain)
       (w : World) : Type 0 where
     pub next : World
@@ -98,7 +98,7 @@ module _ (ms : Monitors) (H : Role → Store → State → Type 0) where
             moves ms Role H S T i (input.Client session q) log out said more O (Client i 0 session q) w k [] told St
             refl refl
 
-  -- the leader does, and the others stand as they do
+  -- the leader does, and the others stay as they are
   one_leads : (l a : Role) (P : ℕ → Role) (came : Input) (log : List (List ℕ)) (out : List Envelope)
       (said : List Answer) (more : List (List ℕ)) → 0 < ms.count
       → ((lt : ltb 0 ms.count ≡ true) (m : Store) (s : State) → H l m s

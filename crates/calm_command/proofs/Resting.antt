@@ -108,7 +108,7 @@ module _ (ms : Monitors) where
   rests_at log taken seq zero m o I = record { state = I.state; up = I.up; keeps = I.holds.0; remembers = I.holds.1 }
   rests_at log taken seq (suc i) m o I = record { state = I.state; up = I.up; keeps = I.holds.0; remembers = I.holds.1 }
 
-  -- each stands so
+  -- each has this state
   pub all_stand : (cs : List Order) (events : List Event) (H : IsResting ms cs events)
       → Standing ms Role (Holds ms (log_of [] cs)) (At (length (log_of [] cs)) H.taken H.seq)
       (length (run ms events).messages) [] (log_of [] cs) (answers_of 1 [] cs) (run ms events)

@@ -143,7 +143,7 @@ module _ (ms : Monitors) (lt : ltb 0 ms.count ≡ true) (a b : Body) (o : Origin
       (filter_map-append (answer_in 0) (map (message_to leader e a) ks) (map (message_to leader e b) ks))
       ∙ (λ i. (tells_none 0 leader e a ks i ++ tells_none 0 leader e b ks i) ++ answer_told e i)
 
--- a lease that stands lets a leader of n propose
+-- with a valid lease a leader of n may propose
 pub standing : (n : ℕ) (s : State) → stands s.leader.lease 0 ≡ true → (eqb n 1 || stands s.leader.lease 0) ≡ true
 standing n s h = or_right (eqb n 1) (stands s.leader.lease 0) h
 

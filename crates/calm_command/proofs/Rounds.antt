@@ -20,7 +20,7 @@ crew l P (suc j) = P (suc j)
 abbrev pub to_rank : ℕ → Message → Envelope
 to_rank k m = record { to = k; message = m }
 
--- the others below rank k stand in a new way
+-- the others below rank k are in a new way
 abbrev mixed : {D : Type 0} → D → (P Q : ℕ → D) → ℕ → ℕ → D
 mixed l P Q k = crew l (λ j. cond (ltb j k) (Q j) (P j))
 

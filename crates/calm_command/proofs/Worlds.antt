@@ -1,4 +1,4 @@
--- Monitors of which each stands in a known way, and messages that are delivered one after the other, in order.
+-- Monitors of which each is in a known way, and messages that are delivered one after the other, in order.
 use Rattle.mon_kv.specs.Readers.{most_size, size_of}
 use Rattle.mon_msg.specs.Joined.{joined}
 use Rattle.mon_msg.specs.Protocol.Changes.{spelled}
@@ -80,13 +80,13 @@ happens_is ms w p i lt came s y a c d e =
     (cond b (Err (Full (size_of (apply (joined (spelled y.changes)) (w.store i))))) (Ok (reaction_of y)))) e
 
 module _ (ms : Monitors) (D : Type 0) (Holds : D → Store → State → Type 0) where
-  -- it is up, and stands so
+  -- it is up, and has this state
   pub record Is (d : D) (m : Store) (o : Option State) : Type 0 where
     pub state : State
     pub up : o ≡ Some state
     pub holds : Holds d m state
 
-  -- so the monitors stand, k messages were delivered, and these wait
+  -- the monitors' states, after k messages were delivered and while these wait
   pub record Stands (S : ℕ → D) (k : ℕ) (waits : List Envelope) (log : List (List ℕ)) (told : List Answer)
       (w : World) : Type 0 where
     pub each : (i : ℕ) → i < ms.count → Is (S i) (w.store i) (w.state i)
@@ -96,7 +96,7 @@ module _ (ms : Monitors) (D : Type 0) (Holds : D → Store → State → Type 0)
     pub logged : w.log ≡ log
     pub answered : answers w ≡ told
 
-  -- what monitor i does as it stands: what it sends, what it replies, and what the log is then
+  -- what monitor i does as it is: what it sends, what it replies, and what the log is then
   pub record Does (i : ℕ) (lt : ltb i ms.count ≡ true) (m : Store) (s : State) (came : Input) (log : List (List ℕ))
       (d : D) (out : List Envelope) (said : List Answer) (more : List (List ℕ)) : Type 0 where
     pub y : Course
@@ -107,7 +107,7 @@ module _ (ms : Monitors) (D : Type 0) (Holds : D → Store → State → Type 0)
     pub grows : grown log (apply (joined (spelled y.changes)) m) ≡ more
     pub leaves : Holds d (apply (joined (spelled y.changes)) m) y.state
 
-  -- one event at monitor i, after which the monitors stand otherwise
+  -- one event at monitor i, after which the monitors have these states
   pub record One (S T : ℕ → D) (i : ℕ) (came : Input) (log : List (List ℕ)) (out : List Envelope)
       (said : List Answer) (more : List (List ℕ)) : Type 0 where
     pub below : i < ms.count
@@ -237,7 +237,7 @@ module _ (ms : Monitors) (D : Type 0) (Holds : D → Store → State → Type 0)
           option_map (λ (e : Envelope). record { rank = e.to; at = 0; input = input.Deliver e.message }) o)
           there) refl
 
-  -- a round: message k waits after message k - 1, and leads from how the monitors stand at k to how they stand at k + 1
+  -- a round: message k waits after message k - 1, and leads from how the monitors are at k to how they are at k + 1
   pub round : (f : ℕ → Envelope) (g : ℕ → List Envelope) (T : ℕ → ℕ → D) (log : List (List ℕ)) (told : List Answer)
       (c a b : ℕ) → a + c ≡ b
       → ((k : ℕ) → a ≤ k → k < b → One (T k) (T (suc k)) (f k).to (input.Deliver (f k).message) log (g k) [] log)

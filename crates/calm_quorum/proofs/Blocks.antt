@@ -64,7 +64,7 @@ pub sent_each : (me : Me) (e : ℕ) (b : Body) (p : ℕ → Bool) (n : ℕ) → 
     ≡ flat n (λ k. cond (p k) (env me.member.monitors me.member.rank k e b ∷ []) [])
 sent_each me e b p n = sent_front me e b p 0 n ∙ flat_front n _
 
--- messages tell no session anything
+-- messages carry no session's reply
 pub none_told : (i : ℕ) (me : Me) (e : ℕ) (b : Body) (ks : List ℕ)
     → filter_map (tell i) (map (message_to me e b) ks) ≡ []
 none_told i me e b [] = refl

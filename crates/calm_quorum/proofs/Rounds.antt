@@ -129,7 +129,7 @@ pub gather : {L M R : Type 0} (to : M → ℕ) (r : ℕ → L → M → Took L M
     → all_of (turn to r) ms S ≡ did (put_at S i a) o d
 gather to r i ms S a o d e h = own to r i ms S e ∙ rw h refl
 
--- a list that stands at the one step at which p becomes true
+-- the item of a list at the one step at which p becomes true
 abbrev pub when_first : {A : Type 0} → (ℕ → Bool) → List A → ℕ → List A
 when_first p x k = cond (not (p k) && p (suc k)) x []
 

@@ -56,7 +56,7 @@ probing i outside = record (booting i) {
   timers = armed 0 timer.Probe unarmed;
 }
 
--- it stands itself, or deferred
+-- it stands for election itself, or deferred
 abbrev pub electing : ℕ → List Bool → Bool → List Bool → Option ℕ → State
 electing i outside candidate acked deferred = record (booting i) {
   phase = phase.Electing;

@@ -1,4 +1,4 @@
--- The stores of the first calm run: what they tell, how large they are, and that they share nothing yet.
+-- The stores of the first calm run: what their readers return, how large they are, and that they share nothing yet.
 use Rattle.std.proofs.Common.{◌≡◌, ℕ, ◌≤◌, ◌^◌, Bool, true, false, cond, lit≤, List, [], ◌∷◌, length, Option, Some, None, refl, sym, ap, ◌∙◌, arith}
 use Rattle.std.specs.Prelude.{nat_lt}
 use Rattle.std.specs.List.{AllByRecursion}

@@ -1,4 +1,4 @@
-//! The devices of the system that words name.
+//! The devices of the system that arguments name.
 
 use cephmon_run::Status;
 use mon_bytes::{Items, Text};

@@ -20,7 +20,7 @@ fn main(rt: HostRuntime) -> ExitCode {
     ExitCode::from(status.number())
 }
 
-/// Does what the words say, on the streams, files, sockets and the clock of the system.
+/// Does what the arguments ask for, on the streams, files, sockets and the clock of the system.
 fn run_on_devices(rt: &HostRuntime, words: &[String]) -> Status {
     let Devices { disks, channel } = match devices_of(rt, words) {
         Ok(devices) => devices,
@@ -94,7 +94,7 @@ fn tell_failures(
     }
 }
 
-/// Says on standard error how the program ends. Where that can't be written the number alone says it.
+/// Says on standard error how the program ends. If that can't be written, the status alone says it.
 fn tell(rt: &impl Eprint, status: &Status) {
     match status {
         Status::Done => {}

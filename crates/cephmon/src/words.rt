@@ -1,4 +1,4 @@
-//! The words that the program was called with.
+//! The arguments that the program was called with.
 
 ghost use Rattle.std.specs.Prelude.{◌≡◌, ◌⊎◌, IfErr};
 ghost use Rattle.cephmon_run.specs.declared.status.Status.TheVariants.{Words, OutOfMemory};
@@ -8,7 +8,7 @@ use std::env::{Env, FillError};
 use std::str;
 use task_words::LONGEST_WORD;
 
-/// The word at this place, or nothing behind the last one. A word that is too long or isn't UTF-8 is refused.
+/// The argument at this place, or nothing after the last one. An argument that is too long or isn't UTF-8 is refused.
 fn word_at(rt: &(impl Env + AllocGlobal), place: usize) -> Result<Option<String>, Status>
     ensures { IfErr result (λ s. (s ≡ Words) ⊎ (s ≡ OutOfMemory)) }
 {
@@ -27,7 +27,8 @@ fn word_at(rt: &(impl Env + AllocGlobal), place: usize) -> Result<Option<String>
     }
 }
 
-/// The words after the program's name, which itself isn't read, or how the program ends where one of them is refused.
+/// The arguments after the program's name, which itself isn't read, or how the program ends if one of them is
+/// refused.
 pub fn words_of(rt: &(impl Env + AllocGlobal)) -> Result<Vec<String>, Status>
     ensures { IfErr result (λ s. (s ≡ Words) ⊎ (s ≡ OutOfMemory)) }
 {

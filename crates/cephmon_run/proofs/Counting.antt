@@ -1,4 +1,4 @@
--- What is counted in a run, one event after the other, and how it is told.
+-- What is counted in a run, one event after the other, and how it is reported.
 use Rattle.std.proofs.Common.{◌≡◌, ℕ, ◌+◌, false, List, [], ◌∷◌, ◌++◌, drop, length, map, Result, Ok, Err, codes, decimal, refl, sym, ap, subst, ◌∙◌, append_assoc}
 use Rattle.std.specs.List.{AllByRecursion}
 use Rattle.std.proofs.lemmas.List.{map-append}
@@ -24,7 +24,7 @@ use Rattle.cephmon_run.specs.Summary.{AreNumbers, IsLine, and_step, counted_from
 
 -- ---- the events
 
--- So many of the events were counted; the others are run too.
+-- This many of the events were counted; the others are run too.
 pub record Counted (ms : Monitors) (world : World) (k : Counts) (es : List Event) (n : ℕ) : Type 0 where
   next : Scene
   pub stands : StandsFor ms world next
@@ -162,7 +162,7 @@ line_is events ns log k =
 pub no_float : (events : ℕ) (ns : List ℕ) (log : ℕ) (k : Counts) → has_float (object_of events (numbers_of ns) log k) ≡ false
 no_float events ns log k = rw (none_float ns) refl
 
--- as the values are told
+-- as the values are reported
 pub numbers_view : (values : List Value) (ns : List ℕ) → AreNumbers values ns → items_view values ≡ numbers_of ns
 numbers_view values ns are = ap items_of are
 

@@ -1,4 +1,4 @@
--- A status and its cause tell each other.
+-- A status and its cause determine each other.
 use Rattle.std.proofs.Common.{◌≡◌, ℕ, ◌+◌, ◌<◌, ◌≤◌, String, string_bytes, List, [], ◌++◌, length, map, Option, Some, None, Result, Ok, Err, refl, sym, ap, subst, ◌∙◌, arith, inl, inr, ◌⊎◌, length-append}
 use Rattle.std.proofs.lemmas.Bool.{lt-ltb}
 use Rattle.std.proofs.lemmas.List.{append-nil}
@@ -49,10 +49,10 @@ pub made_caused : {D : Type 0} (state : D → DiskState) (before after : Outside
 made_caused state before after around number events t s is cause =
     subst (λ (u : Task). HasCause state u before after around around s) (sym is) (cause, refl)
 
--- ---- a status, and its cause in what the words ask for
+-- ---- a status, and its cause in what the arguments ask for
 
 module _ {D : Type 0} (state : D → DiskState) (words : List (String Global)) (before after : Outside) (around left : Around D) where
-  -- faulty words have no task
+  -- faulty arguments have no task
   no_words : (t : Task) → HasCause state t before after around left status.Words → ⊥
   no_words task.Replay cause = cause.0
   no_words (task.Made number events) cause = cause.0
@@ -83,7 +83,7 @@ module _ {D : Type 0} (state : D → DiskState) (words : List (String Global)) (
   asked t (status.Full would_be) asks cause = (t, asks, cause)
   asked t status.OutOfMemory asks cause = (t, asks, cause)
 
-  -- the words are faulty, or ask for what has the cause
+  -- the arguments are faulty, or ask for what has the cause
   abbrev Splits : Status → Type 0
   Splits s = ((s ≡ status.Words) × AsksForNone words) ⊎ IsCaused state words before after around left s
 
@@ -260,7 +260,7 @@ made_so status.OutOfMemory number events before after ms calm count rule did = t
 -- ---- and of a node
 
 module _ {D : Type 0} (state : D → DiskState) (around left : Around D) (calm : NoneFailed state around left) where
-  -- what two disks hold that tell it opens in one way
+  -- two disks whose contents can be seen are opened in one way
   opens_so : (member : Member) (read : Result Stood Refusal) (fact : Result Stood Refusal → Type 0) → Holds state member around read → OpensTo state member around.disks fact → fact read
   opens_so member read fact holds opens =
       let at_a = subst (λ (seen : Option (List ℕ)). IfSome seen (λ a. IfSome (state around.disks.b).content.seen (λ b. fact (opens_as member a b)))) holds.2 opens in
@@ -280,7 +280,7 @@ module _ {D : Type 0} (state : D → DiskState) (around left : Around D) (calm :
     | inr c ↦ none_rose _ _ calm.disk_b c.1
   ]
 
-  -- what stands for a store is served from
+  -- a store that two disks represent is served
   served_so : (me : Me) (turns : ℕ) (stood : Stood) → Holds state me.member around (Ok stood) → (s : Status) → NodeCause state me turns around left s → IsServed s
   served_so me turns stood holds status.Done did = tt
   served_so me turns stood holds status.Words did = absurd did
@@ -304,7 +304,7 @@ module _ {D : Type 0} (state : D → DiskState) (around left : Around D) (calm :
   served_so me turns stood holds (status.Full would_be) did = tt
   served_so me turns stood holds status.OutOfMemory did = tt
 
-  -- what stands for none isn't
+  -- if they represent none, nothing is served
   not_served : (me : Me) (turns : ℕ) (refusal : Refusal) (e : NodeEnd) → Holds state me.member around (Err refusal) → Served state me turns around left e → ⊥
   not_served me turns refusal e holds it =
       let read = opens_so me.member (Err refusal) (λ read. read ≡ Ok it.stood) holds it.opened in absurd cc

@@ -38,7 +38,7 @@ module _ {D : Type 0} (state : D → DiskState) (me : Me) (turns : ℕ) (before 
 
 -- ---- what an opening leaves for the serving
 
--- an opening that came to its end counted nothing
+-- an opening that was carried out counted nothing
 pub counted_none : (a b new_a new_b : DiskState) → BothCount None a b new_a new_b → (new_a.faults ≡ a.faults) × (new_b.faults ≡ b.faults)
 counted_none a b new_a new_b counts = elim counts [
   | inl c ↦ (c.0.0, c.1.0)
@@ -50,6 +50,6 @@ pub count_since : (e : NodeEnd) (old_a old_b mid_a mid_b new_a new_b : ℕ) → 
 count_since e old_a old_b mid_a mid_b new_a new_b same_a same_b counts =
     subst (λ (a : ℕ). DisksCountAt e a old_b new_a new_b) same_a (subst (λ (b : ℕ). DisksCountAt e mid_a b new_a new_b) same_b counts)
 
--- a disk goes on telling what it holds
+-- a disk's contents stay visible
 pub tells_still : (old new : Option (List ℕ)) → is_some new ≡ is_some old → IsTrue (is_some old) → IsTrue (is_some new)
 tells_still old new same tells = subst IsTrue (sym same) tells

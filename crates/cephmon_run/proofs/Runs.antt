@@ -129,7 +129,7 @@ made_fault outside.OutOfMemory number events before after line most unread is wr
     let l = is (monitors_of (made_schedule number events) h) refl refl in
     ((unread.left, unread.faults), inr (made number events before after _ h unread (l.goes, subst (AppendsFront before.held after.held) (sym l.text) written)))
 
--- of a run that stops nothing is told
+-- of a run that stops nothing is reported
 nothing_told : (events n : ℕ) (r : Result (Scene × Counts) happens.Stop) (stop : happens.Stop) → (summed events n r).stop ≡ Some stop → (summed events n r).text ≡ []
 nothing_told events n (Ok done) stop is = absurd cc
 nothing_told events n (Err other) stop is = refl

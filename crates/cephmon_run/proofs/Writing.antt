@@ -100,7 +100,7 @@ event_of es items n e same below is =
 pub none_of : (es items : List Event) (n : ℕ) → items ≡ es → length items ≤ n → drop n es ≡ []
 none_of es items n same above = subst (λ (l : List Event). drop n l ≡ []) same (drop_all n items above)
 
--- So many of the events were done, and written; the others are run too.
+-- This many of the events were done, and written; the others are run too.
 pub record ComesTo (ms : Monitors) (world : World) (old now : Option (List ℕ)) (es : List Event) (n : ℕ) : Type 0 where
   next : Scene
   lines : List ℕ
@@ -130,7 +130,7 @@ next_fits ms world a b es n e rest so_far =
 pub is_world : (ms : Monitors) (world : World) (a b : Option (List ℕ)) (es : List Event) (n : ℕ) → ComesTo ms world a b es n → IsWorld world
 is_world ms world a b es n so_far = (ms, so_far.next, so_far.stands)
 
--- the events behind the next one are run too
+-- the events after the next one are run too
 others_fit : (n : ℕ) (e : Event) (rest es : List Event) → rest ≡ e ∷ es → AllByRecursion (Fits n) rest → AllByRecursion (Fits n) es
 others_fit n e rest es is fits = (subst (λ (es : List Event). AllByRecursion (Fits n) es) is fits).1
 

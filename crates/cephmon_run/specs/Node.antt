@@ -22,27 +22,26 @@ use Rattle.mon_node.specs.declared.end.NodeEnd.TheVariants as end
 use Rattle.cephmon_run.specs.declared.status.Status.{Status}
 use Rattle.cephmon_run.specs.declared.status.Status.TheVariants as status
 
--- What stands around a node: its two disks; its link; and what its clock shows, where it tells it.
+-- The devices around a node: its two disks; its link; and what its clock shows, if that is known.
 pub record Around (D : Type 0) : Type 0 where
   pub disks : NodeDisks D
   pub link : LinkState
   pub clock : Option Readings
 
 module _ {D : Type 0} (state : D → DiskState) where
-  -- What a member opens on two disks has this fact, where both tell what they hold.
+  -- What a member opens on two disks has this property, if the contents of both can be seen.
   abbrev pub OpensTo : Member → NodeDisks D → (Result Stood Refusal → Type 0) → Type 0
   OpensTo member disks fact =
       IfSome (state disks.a).content.seen (λ a. IfSome (state disks.b).content.seen (λ b. fact (opens_as member a b)))
 
-  -- A crash while the store was opened left disks that stand for what they might have stood for before.
+  -- A crash while the store was opened left disks that represent what they might have represented before.
   abbrev pub LeavesAlike : Member → NodeDisks D → NodeDisks D → Type 0
   LeavesAlike member old new =
       IsTrue (is_some (state old.a).content.seen) → IsTrue (is_some (state old.b).content.seen)
       → WhileOpening (state old.a).content (state old.b).content (state new.a).content (state new.b).content
       (Alike member (state old.a).content (state old.b).content)
 
-  -- No store was opened, for this reason. What the disks stand for is unchanged, and the link and the clock were left
-  -- alone.
+  -- No store was opened, for this reason. What the disks represent is unchanged, and the link and the clock were left alone.
   pub record Unopened (member : Member) (before after : Around D) (why : OpenStop) : Type 0 where
     pub tells : OpensTo member before.disks (Tells why)
     pub counts : BothCount (stop_in {T = Stood} (Err why)) (state before.disks.a) (state before.disks.b)
@@ -55,10 +54,10 @@ module _ {D : Type 0} (state : D → DiskState) where
   abbrev pub contents : NodeDisks D → Disks
   contents disks = disks_held state disks.a disks.b
 
-  -- A store was opened, and the monitor served from it and ended so. What clock and link told at each turn decides what
-  -- was kept, what was sent and how long was waited. Where the disks tell what they hold: a crash while the store was
-  -- opened left what they might have stood for before, and from then on, turn after turn and at the end, it left what
-  -- the store stood for within that turn.
+  -- A store was opened, and the monitor served from it and ended so. What clock and link gave at each iteration decides what
+  -- was kept, what was sent and how long was waited. If the contents of the disks can be seen: a crash while the store was
+  -- opened left what they might have represented before, and from then on, at each iteration and at the end, it left what the
+  -- store represented within that iteration.
   pub record Served (me : Me) (turns : ℕ) (before after : Around D) (e : NodeEnd) : Type 0 where
     pub stood : Stood
     pub opened : OpensTo me.member before.disks (λ read. read ≡ Ok stood)

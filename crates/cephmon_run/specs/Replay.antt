@@ -20,7 +20,7 @@ use Rattle.cephmon_run.specs.declared.status.Status.{Status}
 use Rattle.cephmon_run.specs.declared.status.Status.TheVariants as status
 use Rattle.cephmon_run.specs.Trace.{Trace, goes_on}
 
--- What a replay wrote to the sink, by how it ended: all of the trace, up to what stopped its run; or a front of it.
+-- What a replay wrote to the sink, by how it ended: all of the trace, up to what stopped its run; or a prefix of it.
 abbrev pub Writes : Result Unit ReplayStop → Option (List ℕ) → Option (List ℕ) → Trace → Type 0
 Writes (Ok done) old new trace = (trace.stop ≡ None) × Appends old new trace.text
 Writes (Err (stop.Spent which)) old new trace = (trace.stop ≡ Some (happens.Spent which)) × Appends old new trace.text

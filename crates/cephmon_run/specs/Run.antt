@@ -49,8 +49,8 @@ most_read = 16777217
 abbrev pub OfRead : Outside → Outside → (List ℕ → Type 0) → Type 0
 OfRead before after fact = (bytes : List ℕ) × (length bytes ≤ most_read) × ReadsWhole most_read before.left after.left bytes × fact bytes
 
--- the monitors of a schedule, whose run is safe at each moment: after each beginning of its events, none and all of them among these; and
--- its trace tells that run
+-- the monitors of a schedule, whose run is safe after each prefix of its events, the empty one and all of them included; and
+-- its trace is that of the run
 pub record Runs (schedule : Schedule) (ms : Monitors) : Type 0 where
   pub count : ms.count ≡ schedule.monitors
   pub rule : ms.rule ≡ schedule.rule
@@ -66,14 +66,14 @@ pub record Replays (bytes : List ℕ) (fact : Trace → Type 0) : Type 0 where
   pub runs : Runs schedule monitors
   pub traced : fact (trace monitors schedule.events)
 
--- the whole trace went out, and its run came to the end, or this stopped it
+-- the whole trace was written, and its run came to the end, or this stopped it
 abbrev pub WroteAll : Outside → Outside → Option Stop → Trace → Type 0
 WroteAll before after stop t = (t.stop ≡ stop) × Appends before.held after.held t.text
 
 abbrev pub WroteFront : Outside → Outside → Trace → Type 0
 WroteFront before after t = AppendsFront before.held after.held t.text
 
--- the source was read to its end, where it tells what it has left, and had a schedule whose trace has this fact
+-- the source was read to its end, if it is known what it has left, and had a schedule whose trace has this property
 abbrev pub Replayed : Outside → Outside → (Trace → Type 0) → Type 0
 Replayed before after fact = IsAtEnd after.left × OfRead before after (λ bytes. Replays bytes fact)
 
@@ -90,7 +90,7 @@ SummedAll before after stop s = (s.stop ≡ stop) × Appends before.held after.h
 abbrev pub SummedFront : Outside → Outside → Summary → Type 0
 SummedFront before after s = (s.stop ≡ None) × AppendsFront before.held after.held s.text
 
--- ---- the cause of each status, by what the words ask for
+-- ---- the cause of each status, by what the arguments ask for
 
 -- Of a replay. If memory ran out, or a read failed, what was read is a prefix of what was left, of 16,777,217 bytes at
 -- most, and what was written is a prefix of what is to be written.
@@ -137,7 +137,7 @@ HasCause state (task.StoreExport member disk_a disk_b) before after around left 
 HasCause state (task.StoreImport member disk_a disk_b) before after around left s =
     RanOut before after around left s ⊎ ImportCause state member before after around left s
 
--- it has a cause in what the words ask for
+-- it has a cause in the arguments
 abbrev pub IsCaused : {D : Type 0} → (D → DiskState) → List (String Global) → Outside → Outside → Around D → Around D → Status → Type 0
 IsCaused state words before after around left s = (t : Task) × AsksFor t words × HasCause state t before after around left s
 
@@ -146,7 +146,7 @@ abbrev pub HasStatus : {D : Type 0} → (D → DiskState) → List (String Globa
 HasStatus state words before after around left status.Words = AsksForNone words × (after ≡ before) × (left ≡ around)
 HasStatus state words before after around left other = IsCaused state words before after around left other
 
--- what the status tells of bytes that no schedule was made of
+-- what the status says of bytes that are no schedule
 abbrev pub TellsFault : List ℕ → Status → Type 0
 TellsFault bytes (status.Schedule line kind) = schedule_at bytes ≡ Err (At line kind)
 TellsFault bytes status.OutOfMemory = Unit {0}
@@ -159,14 +159,14 @@ pub record NothingFailed (before after : Outside) : Type 0 where
   pub reads : ¬ (Rose before.read_faults after.read_faults)
   pub writes : ¬ (Rose before.write_faults after.write_faults)
 
--- the status tells what stopped a run, or that nothing did, unless memory ran out
+-- the status says what stopped a run, or that nothing did, unless memory ran out
 abbrev pub Tells : Option Stop → Status → Type 0
 Tells stop status.OutOfMemory = Unit {0}
 Tells None s = s ≡ status.Done
 Tells (Some (happens.Spent which)) s = s ≡ status.Spent which
 Tells (Some (happens.Full would_be)) s = s ≡ status.Full would_be
 
--- it tells which line is at fault, unless memory ran out
+-- it says which line is faulty, unless memory ran out
 abbrev pub TellsLine : ℕ → ScheduleKind → Status → Type 0
 TellsLine line kind status.OutOfMemory = Unit {0}
 TellsLine line kind s = s ≡ status.Schedule line kind
@@ -186,14 +186,14 @@ IsServed status.OutOfMemory = Unit {0}
 IsServed (status.Full would_be) = Unit {0}
 IsServed other = ⊥
 
--- the status tells why the disks stand for no store of the member, unless memory ran out
+-- the status says why the disks represent no store of the member, unless memory ran out
 abbrev pub TellsRefusal : Refusal → Status → Type 0
 TellsRefusal refusal status.OutOfMemory = Unit {0}
 TellsRefusal refusal (status.NotAStore disk at) = refusal ≡ NotAStore disk at
 TellsRefusal refusal (status.Stranger kept asked) = refusal ≡ Stranger (owner_of kept) (owner_of asked)
 TellsRefusal refusal other = ⊥
 
--- The two disks, which tell what they hold, open so.
+-- The two disks, whose contents can be seen, open so.
 abbrev pub Holds : {D : Type 0} → (D → DiskState) → Member → Around D → Result Stood Refusal → Type 0
 Holds state member around read =
     (a : List ℕ) × (b : List ℕ) × ((state around.disks.a).content.seen ≡ Some a) × ((state around.disks.b).content.seen ≡ Some b) × (opens_as member a b ≡ read)

@@ -57,11 +57,11 @@ line_text events last log k =
     ++ 44 ∷ named (codes "sent") (decimal k.sent
     ++ 44 ∷ named (codes "stores") (decimal k.stores ++ 125 ∷ 10 ∷ [])))))))
 
--- the last version of each of so many monitors
+-- the last version of each of this many monitors
 abbrev pub last_versions : Scene → ℕ → List ℕ
 last_versions c n = map (λ i. last_of (c.world.store i)) (range_with_len 0 n)
 
--- the line of so many events of so many monitors
+-- the line of this many events of this many monitors
 abbrev pub summary_line : (events n : ℕ) → Scene → Counts → List ℕ
 summary_line events n c k = line_text events (last_versions c n) (length c.world.log) k
 

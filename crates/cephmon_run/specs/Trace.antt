@@ -22,7 +22,7 @@ abbrev pub goes_on : ℕ → schedule.Event → (Scene → Trace) → Result (Sc
 goes_on number e follow (Ok done) = behind (step_lines number e done.1) (follow done.0)
 goes_on number e follow (Err stop) = record { text = []; stop = Some stop }
 
--- the trace of events from a scene on, where so many came before, with the last line
+-- the trace of events from a scene on, after this many earlier ones, with the last line
 unfoldable pub trace_from : Monitors → ℕ → Scene → List schedule.Event → Trace
 trace_from ms n c [] = record { text = end_text n (length c.world.log); stop = None }
 trace_from ms n c (e ∷ events) = goes_on (suc n) e (λ next. trace_from ms (suc n) next events) (step ms c e)

@@ -18,7 +18,7 @@ use schedule_text::{Event, Schedule};
 use std::alloc::Global;
 use trace_text::{end_line, header_line, trace_line};
 
-/// Why a replay didn't come to its end.
+/// Why a replay stopped before its end.
 #[derive(Clone, Copy, Debug, PartialEq, Eq)]
 pub enum ReplayStop {
     WriteFault,

@@ -29,7 +29,7 @@ use task_words::{Task, WordsStop, read_words};
 /// One more byte than a schedule may have.
 const MOST_READ: usize = 16_777_217;
 
-/// The schedule that the bytes spell, or the status that says why there is none.
+/// The schedule that the bytes encode, or the status that says why there is none.
 fn schedule_of(alloc: Global, bytes: &[u8]) -> Result<Schedule, Status>
     ensures found { IfOk result (λ s. HasText s × (bytes.now ≡ schedule_text s)) }
     ensures fault { IfErr result (TellsFault bytes.now) }
@@ -197,8 +197,8 @@ pub fn run<S: Source, K: Sink, D: Disk, L: Link, C: Clock>(
     link: &mut L,
     clock: &mut C,
 ) -> Ended<D>
-    // What the status tells of what was asked, read, written and served, and which status comes where nothing fails.
-    // Each run that it speaks of is safe at each moment.
+    // What the status says of what was asked, read, written and served, and which status comes if no device fails.
+    // Each run that it describes is safe after each event.
     ensures { Ends D.state words.now
         (record { left = S.left source.old; held = K.held sink.old; read_faults = S.faults source.old; write_faults = K.faults sink.old })
         (record { left = S.left source.new; held = K.held sink.new; read_faults = S.faults source.new; write_faults = K.faults sink.new })

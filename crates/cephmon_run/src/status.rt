@@ -23,8 +23,8 @@ pub enum Status {
     DiskFault,
     /// The link failed to report what comes.
     LinkFault,
-    /// That disk holds no store, or none that goes with the other one, from this byte on. What the disks stand for is
-    /// unchanged.
+    /// That disk holds no store, or none that belongs with the other disk, from this byte on. What the disks
+    /// represent is unchanged.
     NotAStore { disk: Side, at: u64 },
     /// The store, or the export, is another monitor's, or of another number of monitors. What the disks stand for is unchanged.
     Stranger { kept: Member, asked: Member },

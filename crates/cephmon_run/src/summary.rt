@@ -40,7 +40,8 @@ impl Counts {
         }
     }
 
-    /// These, and what a step adds. A count that would pass 2^64 - 1 is want of memory: no run is so long.
+    /// These counts plus those of a step. A count that would pass 2^64 - 1 is reported as out of memory: no run is
+    /// that long.
     fn and(self, step: &StepLine) -> Result<Counts, OutOfMemory>
         ensures { IfOk result (λ k. k ≡ and_step step.now self) }
     {
@@ -52,7 +53,7 @@ impl Counts {
     }
 }
 
-/// The sum of two counts. One that would pass 2^64 - 1 is want of memory.
+/// The sum of two counts. One that would pass 2^64 - 1 is reported as out of memory.
 fn sum(a: u64, b: u64) -> Result<u64, OutOfMemory>
     ensures { IfOk result (λ c. c ≡ a + b) }
 {

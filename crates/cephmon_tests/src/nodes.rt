@@ -8,7 +8,7 @@ use mon_link::{Got, MemoryLink, MemorySink, MemorySource, Peer};
 use std::alloc::Global;
 use std::test::Fail;
 
-/// The one monitor of its map serves, for at most nine turns.
+/// The only monitor serves for at most nine iterations.
 const ALONE: &str = "node 0 1 classic 127.0.0.1:6789 a b 9";
 
 /// A client asks it to set `a` to `x`.

@@ -16,7 +16,7 @@ pub struct Left {
     pub link: MemoryLink,
 }
 
-/// Does what the words say. The clock shows 0.
+/// Does what the arguments ask for. The clock shows 0.
 pub fn run_over(
     alloc: Global,
     words: &[String],

@@ -39,7 +39,7 @@ merged-kept table told y p q h n e = merged-other table told y p q h n ∙ rw e
 
 -- ---- the loop
 
--- the table where the ranks below y are merged
+-- the table if the ranks below y are merged
 pub record IsMergedBelow (y : ℕ) (table told now : Scores) : Type 0 where
   pub same_own : now.own ≡ table.own
   pub ranks : length now.rows ≡ 15

@@ -13,7 +13,7 @@ ranking_total : (rule : Rule) (n : ℕ) (table : Scores) → IsTotalOrder (ranki
 ranking_total rule n table =
     then_total (then_total (on_total (allows rule) (back_total bool_cmp_total)) (on_total (score rule table n) (back_total nat_cmp_total))) nat_cmp_total
 
--- where the rank decides last, no two tie
+-- if the rank decides last, no two tie
 untied : (o : Ordering) (a b : ℕ) → a ≢ b → ordering_then o (nat_cmp a b) ≢ Equal
 untied Less a b n e = cc
 untied Equal a b n e = n (rw e at (ranks a b))

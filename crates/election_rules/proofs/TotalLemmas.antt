@@ -6,7 +6,7 @@ use Rattle.std.specs.List.{enumerate_from}
 use Rattle.election_rules.specs.declared.row.Row.{Row}
 use Rattle.election_rules.specs.Table.{sum_for}
 
--- the same where the first row is that of rank k
+-- the same if the first row is that of rank k
 abbrev pub sum_from : ℕ → ℕ → List Row → ℕ
 sum_from x k rows = sum_by (λ p. slice_index p.1.scores x) (filter (λ p. not (p.0 == x)) (enumerate_from k rows))
 

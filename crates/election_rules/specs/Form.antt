@@ -1,4 +1,4 @@
--- What every table is that is kept or told among n monitors.
+-- What holds of every table that is kept or sent among n monitors.
 use Rattle.std.specs.Prelude.{◌≡◌, ℕ, ◌<◌, ◌≤◌, ◌^◌, length, slice_index}
 use Rattle.election_rules.specs.declared.row.Row.{Row}
 use Rattle.election_rules.specs.declared.scores.Scores.{Scores}
@@ -12,7 +12,7 @@ pub record IsRow (n : ℕ) (row : Row) : Type 0 where
   pub scores : (x : ℕ) → x < 15 → slice_index row.scores x ≤ full
   pub rest : (x : ℕ) → x < 15 → n ≤ x → slice_index row.scores x ≡ full
 
--- the table of the monitor of rank own among n monitors: past n no row was ever told
+-- the table of the monitor of rank own among n monitors: past n no row was ever reported
 pub record IsTable (n own : ℕ) (table : Scores) : Type 0 where
   pub of_own : table.own ≡ own
   pub member : own < n

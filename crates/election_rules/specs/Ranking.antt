@@ -28,7 +28,7 @@ ranking rule n table =
 abbrev pub outranks : Rule → ℕ → Scores → ℕ → ℕ → Bool
 outranks rule n table a b = is_lt (ranking rule n table a b)
 
--- of any two, exactly one stands before the other, and no chain leads back
+-- of any two, exactly one is before the other, and there is no cycle
 pub record IsStrictTotalOrder (before : ℕ → ℕ → Bool) : Type 0 where
   pub irreflexive : (a : ℕ) → ¬ IsTrue (before a a)
   pub transitive : (a b c : ℕ) → IsTrue (before a b) → IsTrue (before b c) → IsTrue (before a c)

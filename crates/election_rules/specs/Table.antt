@@ -1,4 +1,4 @@
--- Scores of connections, in parts per million, and the tables of them that monitors keep and tell.
+-- Scores of connections, in parts per million, and the tables of them that monitors keep and send.
 use Rattle.std.specs.Prelude.{ℕ, ◌+◌, ◌-◌, ◌*◌, ◌/◌, ◌^◌, min, Bool, not, ◌==◌, nat_lt, if◌then◌else◌, List, [], map, filter, sum_by, take, replicate, slice_index, slice_index_or, slice_set}
 use Rattle.std.specs.List.{enumerate_from, zip}
 use Rattle.std.specs.Ordering.{is_lt, on, then_cmp, nat_cmp}
@@ -13,11 +13,11 @@ full = 1000000
 abbrev pub half_life : ℕ
 half_life = 43200
 
--- the part of an amount that so many seconds change; two half-lives or more change all of it
+-- the part of an amount by which this many seconds change it; two half-lives or more change all of it
 abbrev pub share : ℕ → ℕ → ℕ
 share amount seconds = amount * min seconds (2 * half_life) / (2 * half_life)
 
--- a score after so many seconds of connection, and after as many without
+-- a score after this many seconds of connection, and after as many without
 abbrev pub raised : ℕ → ℕ → ℕ
 raised seconds score = score + share (full - score) seconds
 
@@ -41,13 +41,13 @@ updated change x row = counted (record row { scores = slice_set row.scores x (ch
 abbrev pub is_older : Row → Row → Bool
 is_older a b = is_lt (then_cmp (on (λ r. r.boot) nat_cmp) (on (λ r. r.count) nat_cmp) a b)
 
--- the newer of two copies of a row, and the first where they are equally new
+-- the newer of two copies of a row, and the first if they are equally new
 abbrev pub newer : Row × Row → Row
 newer p = if is_older p.0 p.1 then p.1 else p.0
 
 -- ---- tables
 
--- what stands past the rows
+-- the values past the rows
 abbrev pub no_row : Row
 no_row = record { boot = 0; count = 0; scores = [] }
 
@@ -64,7 +64,7 @@ start_scores own boot = with_row (record { own = own; rows = replicate 15 (start
 abbrev pub scored : (ℕ → ℕ) → ℕ → Scores → Scores
 scored change x table = with_row table table.own (updated change x (row_of table table.own))
 
--- of each monitor's row the newer copy, and the own one where neither is; the own row stays
+-- of each monitor's row the newer copy, and the own one if neither is; the own row stays
 abbrev pub merged : Scores → Scores → Scores
 merged table told = with_row (record table { rows = map newer (zip table.rows told.rows) }) table.own (row_of table table.own)
 

@@ -9,7 +9,7 @@ pub const FULL: u32 = 1_000_000;
 /// The seconds of unbroken connection that halve what a score lacks.
 pub const HALF_LIFE: u64 = 43_200;
 
-/// What one monitor tells of its connections to the others. Of two copies of a monitor's row the newer one has the
+/// What one monitor says of its connections to the others. Of two copies of a monitor's row the newer one has the
 /// greater pair of boot count and count of updates.
 #[derive(Clone, Copy, Debug, PartialEq, Eq)]
 pub struct Row {
@@ -52,7 +52,7 @@ impl Row {
     }
 }
 
-/// The score after so many seconds of connection.
+/// The score after this many seconds of connection.
 pub(crate) fn raised_score(score: u32, seconds: u64) -> u32
     ensures { result ≡ raised seconds score }
 {
@@ -60,7 +60,7 @@ pub(crate) fn raised_score(score: u32, seconds: u64) -> u32
     score + share_of(lacking, seconds) as u32
 }
 
-/// The score after so many seconds without connection.
+/// The score after this many seconds without connection.
 pub(crate) fn lowered_score(score: u32, seconds: u64) -> u32
     ensures { result ≡ lowered seconds score }
 {
@@ -68,7 +68,7 @@ pub(crate) fn lowered_score(score: u32, seconds: u64) -> u32
     u64::from(score).saturating_sub(lost) as u32
 }
 
-/// The part of an amount that so many seconds change.
+/// The part of an amount by which this many seconds change it.
 fn share_of(amount: u64, seconds: u64) -> u64
     requires { amount < 2 ^ 33 }
     ensures value { result ≡ share amount seconds }

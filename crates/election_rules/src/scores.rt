@@ -5,7 +5,7 @@ use crate::row::{Row, lowered_score, raised_score};
 use mon_types::Rank;
 
 /// What a monitor knows of the connections among all monitors: its own row, and of each other monitor the newest row
-/// that it was told.
+/// that it received.
 #[derive(Clone, Copy, Debug, PartialEq, Eq)]
 pub struct Scores {
     /// The monitor's own rank.
@@ -39,8 +39,8 @@ impl Scores {
         sum
     }
 
-    /// The monitor was connected to `x` for so many more seconds: half of what its score for `x` lacks is made up in
-    /// [`HALF_LIFE`](crate::HALF_LIFE), and all of it in twice that time.
+    /// The monitor was connected to `x` for this many more seconds: half of what its score for `x` lacks is made up
+    /// in [`HALF_LIFE`](crate::HALF_LIFE), and all of it in twice that time.
     pub fn alive(&mut self, x: Rank, seconds: u64)
         ensures { self.new ≡ scored (raised seconds) x self.old }
     {
@@ -50,8 +50,8 @@ impl Scores {
         row.count_one();
     }
 
-    /// The monitor was not connected to `x` for so many more seconds: its score for `x` falls, a full one to nothing in
-    /// [`HALF_LIFE`](crate::HALF_LIFE).
+    /// The monitor was not connected to `x` for this many more seconds: its score for `x` falls, a full one to
+    /// nothing in [`HALF_LIFE`](crate::HALF_LIFE).
     pub fn dead(&mut self, x: Rank, seconds: u64)
         ensures { self.new ≡ scored (lowered seconds) x self.old }
     {
@@ -61,7 +61,7 @@ impl Scores {
         row.count_one();
     }
 
-    /// Takes over each row of which the other table has a newer copy, but for the own row. Where two copies are equally
+    /// Takes over each row of which the other table has a newer copy, but for the own row. If two copies are equally
     /// new, the one here stays.
     pub fn merge(&mut self, other: &Scores)
         ensures { self.new ≡ merged self.old other.now }

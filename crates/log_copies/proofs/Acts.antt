@@ -77,7 +77,7 @@ behind_append a b m =
     ∙ ap (apply (spelled b)) (sym (apply-joined (spelled a) m)) ∙ sym (apply-joined (spelled b) (behind a m))
 
 module _ (log : List (List ℕ)) (fits : length log ≤ 2 ^ 62) (all : AllValues log) (m : Store) where
-  -- the monitor has the log up to its last version, once these changes are written; and so it tells
+  -- the monitor has the log up to its last version, once these changes are written; and so it reports
   pub record HasAt (w : Readings) (cs : List Change) (out : List Sent) : Type 0 where
     pub has : HasVersions log w.last (behind cs m)
     pub keeps : Keeps log w.last w

@@ -162,7 +162,7 @@ module _ (log : List (List ℕ)) (fits : length log ≤ 2 ^ 62) (all : AllValues
     copies true v values entries e is W = absurd cc
     copies false v values entries e is W = learns log fits all m v values x is W H
 
-    -- a chunk of its provider begins behind its last version
+    -- a chunk of its provider begins after its last version
     record Ours (p : ChunkPlace) : Type 0 where
       full : x.state.requester.full ≡ false
       next : suc p.version ≡ suc x.readings.last

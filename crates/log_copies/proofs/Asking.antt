@@ -1,4 +1,4 @@
--- A marked monitor tells others nothing of the log: it asks, and refuses clients.
+-- A marked monitor sends others nothing of the log: it asks, and refuses clients.
 use Rattle.std.proofs.Common.{◌≡◌, ℕ, suc, ◌+◌, ◌-◌, ◌<◌, Bool, true, false, not, ◌&&◌, ◌||◌, cond, leb, ltb, is_some, List, [], ◌∷◌, ◌++◌, length, map, Option, Some, None, ◌⊎◌, inl, inr, Result, Ok, sym, subst, ◌∙◌}
 use Rattle.std.proofs.lemmas.Bool.{lt-ltb}
 use Rattle.election_rules.specs.declared.scores.Scores.{Scores}

@@ -1,5 +1,5 @@
--- What a chunk holds of a log: the values of the versions after its place, and of the fold behind them what lies between its place
--- and the one where the next chunk goes on.
+-- What a chunk holds of a log: the values of the versions after its place, and of the fold after them what lies between its
+-- place and the one from which the next chunk goes on.
 use Rattle.std.proofs.Common.{◌≡◌, ℕ, suc, ◌+◌, ◌≤◌, Bool, true, false, not, ◌&&◌, List, length}
 use Rattle.std.specs.FinMap.{empty, retain_keys}
 use Rattle.mon_bytes.specs.declared.entry.Entry.{Entry}
@@ -35,8 +35,8 @@ pub record Continues (log : List (List ℕ)) (p : ChunkPlace) (y : KeyPlace) (va
 abbrev pub IsOpen : KeyPlace → Type 0
 IsOpen x = is_past x (place area.Paxos key.FirstCommitted) ≡ true
 
--- A chunk carries a copy on up to its last entry, and one that isn't the last leaves something behind it. The last one carries it to
--- the end.
+-- A chunk carries a copy on up to its last entry, and one that isn't the last leaves something after it. The last one carries
+-- it to the end.
 abbrev pub ChunkOf : List (List ℕ) → Body → Type 0
 ChunkOf log (body.Chunk cookie p values entries done) =
     Continues log p (after_entries entries p.key) values entries × (IsOpen p.key → (done ≡ false) × IsOpen (after_entries entries p.key))

@@ -217,7 +217,7 @@ module _ (log : List (List ℕ)) (fits : length log ≤ 2 ^ 62) (all : AllValues
       in_stage n sync.Chunks q e h = h
       in_stage n (sync.Replay from to) q e h = absurd cc
 
-      -- the next chunk goes on behind this one
+      -- the next chunk goes on after this one
       pub goes_on : next ≡ record { version = version; key = y } → IsOpen y → UnderWay log before floor (written m moved) ((moved).state)
       goes_on is open_there =
           let U = O.under_way in

@@ -61,7 +61,7 @@ all_past x (e ∷ es) = by (is_past x e.0) refl (all_past x es)
     by true t h = (t, h)
     by false t h = h
 
--- a list of pairs, cut where its list of entries is
+-- a list of pairs, cut if its list of entries is
 record Cut (found rest : List Entry) (ps : List Pair) : Type 0 where
   front : List Pair
   back : List Pair
@@ -195,7 +195,7 @@ module _ (log : List (List ℕ)) (short : length log ≤ 2 ^ 62) (all : AllValue
       by (Some x) e = (x, e)
       by None e = absurd (let none = ap number_in e ∙ none_read in let h = positive c some in omega (arith, K, none, h))
 
-  -- it is among those that are left behind an open place
+  -- it is among those that are left after an open place
   some_left : 1 ≤ c → IsOpen p.key → length left ≤ 0 → ⊥
   some_left some unclosed few = by pairs (found_in first_place) (omega (arith, ap length left_is))
     where
@@ -206,7 +206,7 @@ module _ (log : List (List ℕ)) (short : length log ≤ 2 ^ 62) (all : AllValue
       by [] e h = let g : None ≡ Some (there).0 = e ∙ ap (λ b. cond b (get (fold log c) first_place) None) unclosed ∙ (there).1 in cc
       by (q ∷ ps) e h = omega arith
 
-  -- where entries are left behind others, the place behind these is open
+  -- if entries are left after others, the place after these is open
   open_front : (fs : List Pair) (r : Pair) (rs : List Pair) → fs ++ r ∷ rs ≡ pairs → IsOpen (after_entries (map entry_of fs) p.key)
   open_front fs r rs whole =
       let behind = (rest_past (r ∷ rs) fs p.key (sorted_all fs (r ∷ rs) whole) (past_all fs (r ∷ rs) whole)).0 in
@@ -255,7 +255,7 @@ module _ (log : List (List ℕ)) (short : length log ≤ 2 ^ 62) (all : AllValue
     at_end : reach c p values ≡ true → p.version + length values ≡ c
     at_end r = let l = leb-true c (p.version + length values) r in let h = values_low in omega arith
 
-    -- with the first entries of those that are left, of which there are some only where the records reach the last version
+    -- with the first entries of those that are left, of which there are some only if the records reach the last version
     module _ (found rest : List Entry) (begins : found ++ rest ≡ left) (when : (found ≡ []) ⊎ (reach c p values ≡ true)) (none : is_done p.key ≡ true → found ≡ []) where
       parts : Cut found rest pairs
       parts = cut_at found rest pairs (begins ∙ left_is)
@@ -295,7 +295,7 @@ module _ (log : List (List ℕ)) (short : length log ≤ 2 ^ 62) (all : AllValue
           by (key_place.After prefix k) o = refl
           by key_place.Done o = absurd cc
 
-      -- where something is left behind them
+      -- if something is left after them
       still_open : IsOpen p.key → is_finished p left found ≡ false → IsOpen (after_entries found p.key)
       still_open unclosed f = by parts
         where
@@ -309,7 +309,7 @@ module _ (log : List (List ℕ)) (short : length log ≤ 2 ^ 62) (all : AllValue
               in_back [] w l = absurd (omega (arith, more, l, ap length begins, length-append found rest))
               in_back (q ∷ back) w l = subst (λ (es : List Entry). IsOpen (after_entries es p.key)) (sym C.found_is) (open_front C.front q back w)
 
-      -- something is left where the records don't reach the last version
+      -- something is left if the records don't reach the last version
       unfinished : IsOpen p.key → reach c p values ≡ false → is_finished p left found ≡ true → ⊥
       unfinished unclosed r f = by when
         where

@@ -103,7 +103,7 @@ module _ {log more : List (List ℕ)} (F : Fronts log more) where
     marked_stays m s (inl U) = inl (record { in_phase = U.in_phase; full = U.full; noted = noted_stays m U.noted; stage = in_stage_stays m s.requester.stage s.requester.start s.requester.place U.stage })
     marked_stays m s (inr W) = inr (record { in_phase = W.in_phase; noted = noted_stays m W.noted; shaped = W.shaped })
 
--- ---- a monitor that has the whole log commits one more value, over what any store tells that keeps the log
+-- ---- a monitor that has the whole log commits one more value, over any store that keeps the log
 
 module _ (log : List (List ℕ)) (room : length log < 2 ^ 62) (all : AllValues log) (w : Readings) (K : Keeps log (length log) w) (at : w.last ≡ length log) (x : List Op) (value : IsValue w x) where
   abbrev pub more : List (List ℕ)

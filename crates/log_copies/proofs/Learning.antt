@@ -32,7 +32,7 @@ use Rattle.log_model.proofs.Places.{get_kept, is_shared, shared_is}
 use Rattle.log_model.proofs.Records.{AreVersions}
 use Rattle.log_model.proofs.Sharing.{of_own}
 
--- a key that is a monitor's own because of its last version alone is the record behind it
+-- a key that is a monitor's own because of its last version alone is the record after it
 next_record : (last : ℕ) (at : Place) → is_local last at ≡ true → is_own at ≡ false → at ≡ place area.Paxos (key.Version (last + 1))
 next_record last = of_own (λ q. is_own q ≡ false → q ≡ place area.Paxos (key.Version (last + 1))) last (record {
   last_committed = λ h. let g : true ≡ false = sym (own_number area.Paxos key.LastCommitted refl) ∙ h in absurd cc;
@@ -77,7 +77,7 @@ module _ (log : List (List ℕ)) where
         by true t = absurd (record_decided log (suc c) at (next_record c at t not_own ∙ ap (λ (v : ℕ). place area.Paxos (key.Version v)) (sym same)) none)
         by false t = sym (ap (λ (n : Store). get n at) (shared_is m c V.last) ∙ get_kept m (is_shared c) at ∙ ap (λ b. cond (not b) (get m at) None) t) ∙ ap (λ (n : Store). get n at) V.folded
 
-    -- behind it, the store is a copy at that version
+    -- after it, the store is a copy at that version
     pub exact : IsFuzzyCopy log (suc c) (suc c) key_place.Done (with_version log (suc c) m)
     exact = record { made = λ at not_own here. inl (record { version = suc c; from = omega arith; to = omega arith; is = by at not_own (decision (version log (suc c)) at) refl }); not_yet = λ at not_own past. absurd cc }
       where

@@ -54,7 +54,7 @@ pub all_at : {A : Type 0} (P : A → Type 0) (xs : List A) (y : A) (ys : List A)
 all_at P [] y ys h = h.0
 all_at P (x ∷ xs) y ys h = all_at P xs y ys h.1
 
--- those behind the first of a list in order come after it
+-- those after the first of a list in order come after it
 past_first : (f : Pair) (es : List Pair) → T (is_sorted place_cmp (f ∷ es)) → AllPast (key_place.After f.0.0 f.0.1) es
 past_first f es h = all_map (λ (e : Pair). place_cmp f.0 e.0 ≡ Less) (λ (e : Pair). is_past (key_place.After f.0.0 f.0.1) e.0 ≡ true) (λ e lt. ap is_lt lt) es (below_each f.0 es (first _ _ h))
 

@@ -44,7 +44,7 @@ module _ (log : List (List ℕ)) (fits : length log ≤ 2 ^ 62) (all : AllValues
   abbrev x0 : Course
   x0 = at_rest (readings_of m) s
 
-  -- ---- it begins anew
+  -- ---- it begins again
 
   -- the monitor probes, and writes nothing more
   record Probes (y x : Course) : Type 0 where

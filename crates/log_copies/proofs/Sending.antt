@@ -1,4 +1,4 @@
--- What monitors tell each other of the log.
+-- What monitors send each other of the log.
 use Rattle.std.proofs.Common.{◌≡◌, ℕ, suc, ◌+◌, ◌-◌, ◌≤◌, ◌<◌, ◌^◌, Bool, true, false, ◌&&◌, ◌||◌, cond, ltb, List, [], ◌∷◌, ◌++◌, length, map, Option, Some, None, ◌⊎◌, inl, inr, sym, ap, subst, ◌∙◌, arith}
 use Rattle.std.proofs.lemmas.Bool.{cases_lt, cond_both, ne_eqb}
 use Rattle.std.specs.List.{AllByRecursion, flat_map}
@@ -57,7 +57,7 @@ reply_tells log (reply.Shown s paxos version map) h = h
 reply_tells log (reply.Since s from told more) h = h
 reply_tells log other h = tt
 
--- told values are the log's, in order; so are chunks, and last versions
+-- sent values are the log's, in order; so are chunks, and last versions
 abbrev pub BodyTells : List (List ℕ) → Body → Type 0
 BodyTells log (body.Last pn first last whole from values pending) = (last ≤ length log) × AreVersions log from values
 BodyTells log (body.Commit from values) = AreVersions log from values
@@ -97,7 +97,7 @@ each_tells log me e b [] h = tt
 each_tells log me e b (k ∷ ks) h = (h, each_tells log me e b ks h)
 
 module _ (log : List (List ℕ)) (short : length log ≤ 2 ^ 62) (all : AllValues log) where
-  -- ---- what is told where the readers keep the log
+  -- ---- what is sent if the readers keep the log
 
   pub run_keeps : (c : ℕ) → c ≤ length log → (w : Readings) → Keeps log c w → (v : ℕ) → AreVersions log (suc v) (run_from w.record_of c (suc v))
   unfolding run_of

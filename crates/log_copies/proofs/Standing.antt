@@ -52,7 +52,7 @@ Agrees log m s = OnLog log m ⊎ TakesCopy log m s
 
 -- ---- what comes
 
--- it tells of the log as what monitors send does
+-- what it sends of the log has the form of what monitors send
 abbrev pub InputTells : List (List ℕ) → Input → Type 0
 InputTells log (input.Deliver d) = BodyTells log d.body
 InputTells log other = Unit {0}

@@ -104,7 +104,7 @@ module _ (log : List (List ℕ)) (p : ChunkPlace) (y : KeyPlace) (values : List 
       sym (get-apply copies empty at ∙ ap (or_before (decision copies at)) (get-empty place_cmp at)) ∙ ap (λ (n : Store). get n at) C.made
       ∙ get_kept (fold log e) (between p.key y) at
 
-  -- nothing is put where the entries leave nothing of an empty map
+  -- nothing is put if the entries leave nothing of an empty map
   nothing_put : (at : Place) → or_before (decision copies at) None ≡ None → decision copies at ≡ None
   nothing_put at = by (decision copies at) (copies_put entries at)
     where
@@ -194,7 +194,7 @@ module _ (log : List (List ℕ)) (p : ChunkPlace) (y : KeyPlace) (values : List 
       by at shared in_time true past = here at shared past in_time
       by at shared in_time false earlier = before at shared earlier
 
-  -- a monitor's own key is as it was, where the fold has none
+  -- a monitor's own key is as it was, if the fold has none
   pub own_kept : (at : Place) → is_own at ≡ true → get (fold log e) at ≡ None → get taken at ≡ get m at
   own_kept at own none = unput at (nothing_put at (entries_are at ∙ absent (between p.key y at))) ∙ by (records_decide log values p.version e at refl C.versions)
     where

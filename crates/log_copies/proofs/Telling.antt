@@ -1,4 +1,4 @@
--- What a monitor of the log tells of it: its records, the runs of them that it sends, and what it shows.
+-- What a monitor of the log sends of it: its records, the runs of them, and what it shows.
 use Rattle.std.proofs.Common.{◌≡◌, ℕ, zero, suc, ◌+◌, ◌-◌, ◌≤◌, ◌<◌, ◌^◌, max, Bool, true, false, cond, leb, List, [], ◌∷◌, ◌++◌, map, length, take, drop, Some, None, ◌⊎◌, inl, inr, IsTrue, refl, sym, ap, subst, ◌∙◌, arith}
 use Rattle.std.specs.Prelude.{◌↔◌}
 use Rattle.std.proofs.lemmas.Bool.{cases_lt, le-leb, lt-ltb}
@@ -44,7 +44,7 @@ news_versions log last from values le h = subst (λ (u : ℕ). AreVersions log u
 pub news_begin : (last from : ℕ) → from ≤ suc last → news_from last from ≡ suc last
 news_begin last from le = omega arith
 
--- ---- what is told of the log up to its version c
+-- ---- what is sent of the log up to its version c
 
 abbrev pub IsTold : List (List ℕ) → ℕ → Reply → Type 0
 IsTold log c (reply.Shown s paxos version map) = (paxos ≡ c) × (map ≡ map_of_log s log c) × (version ≡ version_of_log s log c)
@@ -116,7 +116,7 @@ module _ (log : List (List ℕ)) (fits : length log ≤ 2 ^ 62) (all : AllValues
 
 -- ---- values of versions
 
--- a version that is spelled is within the log
+-- a version that is encoded is within the log
 pub one_within : (log : List (List ℕ)) (v : ℕ) (x : List Op) → IsVersion log (suc v) x → v < length log
 one_within log v x V = by (cases_lt v (length log))
   where
@@ -128,7 +128,7 @@ pub versions_within : (log : List (List ℕ)) (xs : List (List Op)) (v : ℕ) (x
 versions_within log [] v x h = let lt = one_within log v x h.0 in omega arith
 versions_within log (y ∷ xs) v x h = let rest = versions_within log xs (suc v) y h.1 in omega arith
 
--- they are those that the entries spell
+-- they are those that the entries encode
 pub versions_are : (log : List (List ℕ)) (xs : List (List Op)) (v : ℕ) → AreVersions log v xs → xs ≡ values_from log v (length xs)
 versions_are log [] v h = refl
 versions_are log (x ∷ xs) v h =

@@ -94,13 +94,13 @@ place_same a b e =
 
 -- ---- under way
 
--- a store tells the same of its own numbers
+-- a store's own numbers are the same
 abbrev pub SameCells : Store → Store → Type 0
 SameCells m n = (a : Area) (k : Key) → is_number a k ≡ true → cell n a k ≡ cell m a k
 
--- `before` is what the store told at first, and `floor` what is to be reached
+-- `before` is what the store's readers returned at first, and `floor` what is to be reached
 module _ (log : List (List ℕ)) (before : Readings) (floor : ℕ) where
-  -- what a marked store tells of itself
+  -- what the readers of a marked store return
   pub record Noted (m : Store) : Type 0 where
     pub numbers : SameNumbers before (readings_of m)
     pub kept_floor : floor ≤ (readings_of m).floor

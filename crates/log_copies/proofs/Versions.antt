@@ -1,4 +1,4 @@
--- A copy that is behind one more version of the log, and one that is behind all of them.
+-- A copy that is after one more version of the log, and one that is after all of them.
 use Rattle.std.proofs.Common.{◌≡◌, ℕ, zero, suc, ◌+◌, ◌-◌, ◌≤◌, ◌<◌, ◌^◌, Bool, true, false, not, cond, List, ◌∷◌, length, Some, None, ◌⊎◌, inl, inr, refl, sym, ap, subst, ◌∙◌, arith}
 use Rattle.std.proofs.lemmas.Bool.{cases_eq, eq-eqb}
 use Rattle.std.specs.FinMap.{get, same_map}
@@ -88,7 +88,7 @@ module _ (log : List (List ℕ)) where
           })
         ]
 
-    -- a copy from u is one from u + 1 behind version u + 1
+    -- a copy from u is one from u + 1 after version u + 1
     pub next_version : IsFuzzyCopy log u e key_place.Done m → IsFuzzyCopy log (suc u) e key_place.Done (with_version log (suc u) m)
     unfolding after
     next_version copy = record {

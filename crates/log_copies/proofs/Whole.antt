@@ -65,7 +65,7 @@ module _ (log : List (List ℕ)) (fits : length log ≤ 2 ^ 62) (all : AllValues
       by (inl M) = marked_shaped log fits all me several (readings_of before) floor 0 m s M
       by (inr S) = let V = S.versions in monitor_shaped log fits all S.last V.within m V.folded
 
-  -- where the mark is gone it is finished
+  -- once the mark is gone, it is finished
   pub law : (m : Store) (s : State) → Synchronizes log me before m s → (readings_of m).marked ≡ false → IsSynchronized log (readings_of before) (floor_of (readings_of before)) m
   law m s run unmarked = by (stands run)
     where

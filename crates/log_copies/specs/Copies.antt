@@ -49,11 +49,11 @@ pub record IsFuzzyCopy (log : List (List ℕ)) (s e : ℕ) (x : KeyPlace) (m : S
 
 -- ---- how it catches up
 
--- a store behind version v of a log: its record is put, and then its changes are made
+-- a store after version v of a log: its record is put, and then its changes are applied
 abbrev pub with_version : List (List ℕ) → ℕ → Store → Store
 with_version log v m = apply (put area.Paxos (key.Version v) (entry log v) ∷ ops_in (entry log v)) m
 
--- a copy of a log from s, behind all versions up to e
+-- a copy of a log from s, after all versions up to e
 abbrev pub catch_up : List (List ℕ) → (s e : ℕ) → Store → Store
 catch_up log s e m = list.fold (λ m v. with_version log v m) m (range_with_len (suc s) (e - s))
 

@@ -17,7 +17,7 @@ pub record HasVersions (log : List (List ℕ)) (c : ℕ) (m : Store) : Type 0 wh
   pub last : number m area.Paxos key.LastCommitted ≡ c
   pub folded : shared m ≡ fold log c
 
--- the values of so many versions of a log from version v on
+-- the values of this many versions of a log from version v on
 abbrev pub values_from : List (List ℕ) → (v count : ℕ) → List (List Op)
 values_from log v count = map (λ u. ops_in (entry log u)) (range_with_len v count)
 

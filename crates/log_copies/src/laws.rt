@@ -43,11 +43,12 @@ pub fn law_learned()
         → run_from (readings_of m).record_of c (suc v) ≡ values_from log (suc v) (length (run_from (readings_of m).record_of c (suc v))) }
 {}
 
-/// A full synchronisation of one monitor among several, from monitors of one log of values: however it is begun anew, from whom it
-/// takes cookies and chunks, what else comes meanwhile and wherever the monitor crashes and starts, where the mark is gone it is
-/// finished. The monitor then shares what the log's versions up to its last one make, it has reached what it had to reach when it
-/// began, and it has the promise, the last proposal number and the epoch from before. It begins at a store with no other keys than
-/// the monitor's own and those of the log and of the services: as every monitor of the log is, and as it leaves the store itself.
+/// A full synchronisation of one monitor among several, from monitors of one log of values: however it is begun
+/// again, from whom it takes cookies and chunks, what else comes meanwhile and wherever the monitor crashes and
+/// starts: once the mark is gone, it is finished. The monitor then shares what the log's versions up to its last one
+/// make, it has reached what it had to reach when it began, and it has the promise, the last proposal number and the
+/// epoch from before. It begins at a store with no other keys than the monitor's own and those of the log and of the
+/// services: as every monitor of the log does, and as the synchronisation itself leaves it.
 pub fn law_synchronized()
     ensures finished { (log : List (List ℕ)) → length log ≤ 2 ^ 62 → AllValues log → (me : Me) → 1 < me.member.monitors → (before : Store)
         → IsShaped before → (after : Store) (s : State) → Synchronizes log me before after s → (readings_of after).marked ≡ false

@@ -1,5 +1,5 @@
--- What a value is, whatever a store tells that it is made over: it leaves a monitor's own numbers, puts no record, and is read
--- back from its text.
+-- What a value is, whatever store it is made over: it leaves a monitor's own numbers, puts no record, and is decoded from its
+-- encoding.
 use Rattle.std.proofs.Common.{◌≡◌, ℕ, suc, ◌-◌, ◌≤◌, ◌^◌, Bool, true, false, cond, ltb, List, [], ◌++◌, length, Some, None, Result, Ok, Err, ◌⊎◌, inl, inr, refl, ap, subst, ◌∙◌, arith}
 use Rattle.std.proofs.lemmas.Bool.{cond_both, le-leb}
 use Rattle.mon_bytes.specs.declared.command.Command.{Command}

@@ -1,4 +1,4 @@
--- Changes of one area by key: spelled, and played on what stands under one key.
+-- Changes of one area by key: encoded, and played on what is under one key.
 use Rattle.std.proofs.Common.{◌≡◌, ℕ, Bool, true, false, ◌&&◌, cond, List, [], ◌∷◌, ◌++◌, map, Some, None, refl, ap, ◌∙◌}
 use Rattle.mon_tx.specs.declared.op.Op.{Op}
 use Rattle.mon_tx.specs.declared.op.Op.TheVariants.{EraseRange}

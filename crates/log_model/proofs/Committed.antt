@@ -171,7 +171,7 @@ grown log fits all w K at older V c h = by (cases_lt c (length log))
 
 -- ---- what is shared
 
--- a store that shares what the fold is tells what the fold keeps
+-- a store that shares what the fold is has what the fold keeps
 module _ (log : List (List ℕ)) (c : ℕ) (m : Store) (same : shared m ≡ fold log c) where
   abbrev last : ℕ
   last = number m area.Paxos key.LastCommitted

@@ -93,7 +93,7 @@ module _ (log : List (List ℕ)) (c : ℕ) (next : Holds log (suc c)) (low : suc
         floor = own_stays area.Sync key.Floor refl;
       }) q e f
 
-  -- the version's own record is put, whatever stood there
+  -- the version's own record is put, whatever was there
   put_decides : (d : Decision) (q : Place) (x y : Cell) → q ≡ newest → or_before (later d (decided (put area.Paxos (key.Version (suc c)) (entry log (suc c))) q)) x ≡ or_before (later d (decided (put area.Paxos (key.Version (suc c)) (entry log (suc c))) q)) y
   put_decides (Some z) q x y e = refl
   put_decides None q x y e =

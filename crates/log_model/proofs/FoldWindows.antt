@@ -73,7 +73,7 @@ chains_none : (log : List (List ℕ)) → Chains log 0
 unfolding incrementals
 chains_none log = record { chain = chain_none; few = λ s. omega arith }
 
--- ---- what is told where the versions up to c are committed
+-- ---- what is read if the versions up to c are committed
 
 view_is : (log : List (List ℕ)) (c : ℕ) → c ≤ 2 ^ 62 → view_at log c ≡ record (readings_of (fold log c)) { last = c }
 unfolding joined

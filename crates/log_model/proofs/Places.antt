@@ -58,7 +58,7 @@ module _ (m : Store) (stays : Place → Bool) where
 
 -- ---- what a monitor shares
 
--- the places that are shared, where `last` is the last version
+-- the places that are shared, if `last` is the last version
 abbrev pub is_shared : ℕ → Place → Bool
 is_shared last at = not (is_local last at)
 
@@ -81,7 +81,7 @@ local_named last b k = λ i.
     || (place_tie area.Monitor b key.ElectionEpoch k i || (place_tie area.Monitor b key.BootCount k i || (place_tie area.Sync b key.InSync k i
     || (place_tie area.Sync b key.Floor k i || false)))))))))
 
--- the same, where the test of the record behind the last version is given
+-- the same, if the test of the record after the last version is given
 abbrev local_with : Bool → Place → Bool
 local_with behind q =
     eq_by_cmp place_cmp (place area.Paxos key.LastCommitted) q || (eq_by_cmp place_cmp (place area.Paxos key.LastPn) q || (eq_by_cmp place_cmp (place area.Paxos key.AcceptedPn) q
@@ -95,7 +95,7 @@ nothing true false c e = e
 nothing false true c e = sym e
 nothing false false c e = refl
 
--- where no record stands behind a version nor behind the next, what is shared is the same for both
+-- if no record follows a version nor after the next, what is shared is the same for both
 pub shared_on : (m : Store) (c : ℕ) → cell m area.Paxos (key.Version (c + 1)) ≡ None → cell m area.Paxos (key.Version (suc c + 1)) ≡ None → retain_keys m (is_shared c) ≡ retain_keys m (is_shared (suc c))
 shared_on m c e f = same_kept m (is_shared c) (is_shared (suc c)) (λ q. by q (cases_Bool (behind c q)) (cases_Bool (behind (suc c) q)))
   where

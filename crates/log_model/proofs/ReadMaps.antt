@@ -1,4 +1,4 @@
--- The map of a service that is read is no longer than a map may be, whatever the store tells.
+-- The map of a service that is read is no longer than a map may be, whatever the store holds.
 use Rattle.std.proofs.Common.{◌≡◌, ℕ, zero, suc, ◌-◌, ◌≤◌, Bool, true, false, cond, leb, List, length, Option, Some, None, Result, Ok, Err, refl, arith}
 use Rattle.std.proofs.lemmas.Bool.{leb-true}
 use Rattle.std.specs.Option.{option_map, option_and_then}
@@ -21,7 +21,7 @@ use Rattle.log_model.proofs.KvSteps as kv_steps
 use Rattle.log_model.proofs.LogSteps as log_steps
 use Rattle.log_model.proofs.TextsWithin.{kv_within, log_within}
 
--- where there is a map, its text is no longer than so many bytes
+-- if there is a map, its encoding is no longer than this many bytes
 abbrev AtMost : ℕ → Option ShownMap → Type 0
 AtMost most None = Unit {0}
 AtMost most (Some m) = length (map_text m) ≤ most

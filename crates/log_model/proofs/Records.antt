@@ -1,4 +1,4 @@
--- The record of a version, where it is read, is the value that the log's entry spells.
+-- The record of a version, if it is read, is the value that the log's entry encodes.
 use Rattle.std.proofs.Common.{◌≡◌, ℕ, zero, suc, ◌+◌, ◌-◌, ◌≤◌, ◌<◌, ◌^◌, Bool, true, false, cond, leb, List, [], ◌∷◌, ◌++◌, length, min, Option, Some, None, ◌⊎◌, inl, inr, refl, sym, ap, subst, ◌∙◌, arith}
 use Rattle.std.specs.Option.{option_map}
 use Rattle.mon_tx.specs.declared.op.Op.{Op}
@@ -98,7 +98,7 @@ run_from_length records last v = let l = run_length records (suc last - suc v) (
 -- ---- the versions of a step of a replay
 
 module _ (log : List (List ℕ)) (fits : length log ≤ 2 ^ 62) (all : AllValues log) (records : ℕ → Cell) where
-  -- so many versions at most, from v + 1 on
+  -- this many versions at most, from v + 1 on
   pub record IsStep (count v : ℕ) (values : List (List Op)) : Type 0 where
     pub versions : AreVersions log (suc v) values
     pub few : length values ≤ count

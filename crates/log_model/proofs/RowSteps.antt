@@ -125,7 +125,7 @@ log_version_step c v f g x G was h le =
         a ∙ sym b ∙ whole
     by (inr ne) = ap (new_cell (eqb v (suc c))) (h (omega arith)) ∙ whole
 
--- a key that the log's own edits don't name, and a record behind the new one
+-- a key that the log's own edits don't name, and a record after the new one
 pub log_stays : (c : ℕ) (x : List ℕ) (k : Key) (was : Cell) → ((a b : ℕ) → covers a b k ≡ false) → same_key k FirstCommitted ≡ false → same_key k (Version (suc c)) ≡ false → log_after c x k was ≡ was
 log_stays c x k was h f v = log_trim_other c k _ h f ∙ log_begun_other c k _ f ∙ ap (λ b. cond b (Some x) was) v
 

@@ -94,7 +94,7 @@ nothing_within a v c = grind (arith, nat_tests)
 no_full_within : (a v : ℕ) (c : Cell) → c ≡ cond (within a a v && is_full v) None c
 no_full_within a v c = grind (arith, nat_tests)
 
--- version n + 1 comes where n are there
+-- version n + 1 comes if n are there
 module _ (n : ℕ) where
   abbrev trim : List Edit
   trim = trimmed (suc n) (first_read service_from n)

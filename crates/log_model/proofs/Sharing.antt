@@ -12,7 +12,7 @@ use Rattle.mon_tx.proofs.After.{get-apply}
 use Rattle.mon_tx.proofs.Places.{places_total, exact_places}
 use Rattle.log_model.proofs.Places.{same_place, get_kept, is_shared}
 
--- what holds of each key that is a monitor's own, where `last` is its last version
+-- what holds of each key that is a monitor's own, if `last` is its last version
 pub record OfOwn (P : Place → Type 0) (last : ℕ) : Type 0 where
   pub last_committed : P (place area.Paxos key.LastCommitted)
   pub last_pn : P (place area.Paxos key.LastPn)

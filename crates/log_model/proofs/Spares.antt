@@ -90,9 +90,9 @@ spares_record v bytes = by_name (put area.Paxos (key.Version v) bytes ∷ []) by
 pub spares_learned : (v : ℕ) (value : List Op) → Spares value → Spares (ops_of (Learn v value))
 spares_learned v value s = spares_append (put area.Paxos (key.Version v) (text value) ∷ []) value (spares_record v (text value)) s
 
--- ---- what is told after them
+-- ---- what is read after them
 
--- what one store tells of itself, and another of what is shared
+-- what one store's readers return of its own, and another's of what is shared
 abbrev pub with_shared : Readings → Readings → Readings
 with_shared own other = record own { first = other.first; record_of = other.record_of; row = other.row }
 

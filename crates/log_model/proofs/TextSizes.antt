@@ -29,7 +29,7 @@ use Rattle.log_model.proofs.RuleEdits.{first_set, begun, new, full, full_drops, 
 use Rattle.log_model.proofs.MapSteps.{fine_short}
 use Rattle.log_model.proofs.Windows.{Next}
 
--- ---- how long changes are at most, with their ranges spelled out
+-- ---- how long changes are at most, with their ranges written out
 
 abbrev pub weight : Op → ℕ
 weight (Put prefix k v) = 7 + length prefix + length k + length v

@@ -24,7 +24,7 @@ use Rattle.map_log.specs.Decode as log_decode
 use Rattle.map_log.specs.Text as log_text
 use Rattle.map_log.proofs.Lengths as log_lengths
 
--- so many bytes were read
+-- this many bytes were read
 abbrev Drawn : Reading → ℕ → Reading → Type 0
 Drawn c n after = length c.rest ≡ n + length after.rest
 

@@ -1,4 +1,4 @@
--- A value has a text that is short enough to be proposed, whatever the store tells that it is made over.
+-- A value has an encoding that is short enough to be proposed, whatever store it is made over.
 use Rattle.std.proofs.Common.{◌≡◌, ℕ, suc, ◌≤◌, ◌^◌, Bool, true, false, ltb, List, [], ◌∷◌, ◌++◌, length, Result, Ok, Err, refl, subst, arith}
 use Rattle.std.proofs.lemmas.Bool.{ltb-false}
 use Rattle.std.specs.FinMap.{insert, contains_key}

@@ -25,8 +25,8 @@ IsCommand (command.Set key value) = IsTrue (is_name key) × IsTrue (is_utf8 valu
 IsCommand (command.Remove key) = IsTrue (is_name key)
 IsCommand (command.Log text) = IsTrue (is_utf8 text)
 
--- Values that were made before there were ranges take the versions away one by one, in order. A log may have been begun with
--- such values, so each range of a value may be spelled so.
+-- Values that were made before there were ranges remove the versions one by one, in order. A log may have begun with such
+-- values, so each range of a value may be encoded so.
 abbrev pub one_by_one : Area → ℕ → ℕ → List Op
 one_by_one a from to = map (λ v. erase a (key.Version v)) (range_with_len from (to - from))
 
@@ -35,11 +35,11 @@ pub data IsOlder : List Op → List Op → Type 0 where
   same : (op : Op) {ops older : List Op} → IsOlder ops older → IsOlder (op ∷ ops) (op ∷ older)
   range : (a : Area) (from to : ℕ) {ops older : List Op} → IsOlder ops older → IsOlder (EraseRange (area_text a) from to ∷ ops) (one_by_one a from to ++ older)
 
--- what a store tells where the versions of a log up to v are committed
+-- what a store's readers return if the versions of a log up to v are committed
 abbrev pub view_at : List (List ℕ) → ℕ → Readings
 view_at log v = readings_of (apply_op (put_number area.Paxos key.LastCommitted v) (fold log v))
 
--- the changes are a value of a command that a monitor was asked, over what a store tells
+-- the changes are a value of a command that a monitor was asked, over what a store's readers return
 pub record IsValue (w : Readings) (older : List Op) : Type 0 where
   pub command : Command
   pub form : IsCommand command
@@ -49,7 +49,7 @@ pub record IsValue (w : Readings) (older : List Op) : Type 0 where
   pub made : value w command asked ≡ Ok newer
   pub spelled : IsOlder newer older
 
--- version v + 1 of a log spells a value over what the versions before it leave
+-- version v + 1 of a log encodes a value over the result of the versions before it
 pub record SpellsValue (log : List (List ℕ)) (v : ℕ) : Type 0 where
   pub changes : List Op
   pub value : IsValue (view_at log v) changes

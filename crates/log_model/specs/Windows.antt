@@ -19,17 +19,17 @@ use Rattle.mon_msg.specs.Protocol.Readings.{Readings}
 
 -- ---- which versions
 
--- The first version of a service that is kept, where it has n. Where as many lie after it as are due,
--- `service_goes` go, and `service_keeps` lie after the first one then.
+-- The first version of a service that is kept, if it has n versions. Once as many lie after it as make a trim due,
+-- `service_goes` are erased, and `service_keeps` lie after the new first one.
 abbrev pub service_from : ℕ → ℕ
 service_from n = service_goes * ((n - suc service_keeps) / service_goes) + 1
 
--- How many versions of the log go at a time. It is trimmed where more than `paxos_due` lie after the first one, and then
+-- How many versions of the log are erased at a time. It is trimmed if more than `paxos_due` lie after the first one, and then
 -- `paxos_keeps` do.
 abbrev pub log_goes : ℕ
 log_goes = suc paxos_due - paxos_keeps
 
--- The first version of the log that is kept, where it has c. A trim comes with a version, and counts those before it.
+-- The first version of the log that is kept, if it has c versions. A trim comes with a version, and counts those before it.
 abbrev pub log_from : ℕ → ℕ
 log_from c = log_goes * ((c - suc (suc paxos_keeps)) / log_goes) + 1
 
@@ -42,7 +42,7 @@ is_full v = v % full_every == 0
 
 -- ---- what is kept
 
--- the bytes, where there are versions
+-- the bytes, if there is a version
 abbrev pub where_any : ℕ → List ℕ → Cell
 where_any zero bytes = None
 where_any (suc n) bytes = Some bytes
@@ -59,7 +59,7 @@ service_row n incremental full other = None
 abbrev pub row_after : Service → List (List ℕ) → Key → Cell
 row_after s is = service_row (length is) (entry is) (λ v. map_text (map_after s (take v is)))
 
--- the record of a version, where the log has c
+-- the record of a version, if the log has c
 abbrev pub record_after : List (List ℕ) → ℕ → ℕ → Cell
 record_after log c v = if within (log_from c) (suc c) v then Some (entry log v) else None
 
@@ -77,12 +77,12 @@ pub record IsKeptKey (at : Place) : Type 0 where
   pub is : at ≡ place area key
   pub kept : is_kept_key area key ≡ true
 
--- the first version's number, as it is read: 0 where there is no version
+-- the first version's number, as it is read: 0 if there is no version
 abbrev pub first_read : (ℕ → ℕ) → ℕ → ℕ
 first_read from zero = 0
 first_read from (suc n) = from (suc n)
 
--- A store tells what the first c versions of a log leave. What it tells of later versions is left open.
+-- A store's readers return what the first c versions of a log leave. What they return of later versions is left open.
 pub record Keeps (log : List (List ℕ)) (c : ℕ) (w : Readings) : Type 0 where
   pub first : w.first ≡ first_read log_from c
   pub records : (v : ℕ) → v ≤ c → w.record_of v ≡ record_after log c v

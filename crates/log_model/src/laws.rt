@@ -33,8 +33,8 @@ pub fn law_windows()
         → (value : List Op) → IsValue w value → HasText value × (length (text value) ≤ most_value) × AllValues (take c log ++ text value ∷ []) }
 {}
 
-/// A value has a text that is short enough to be proposed, whatever the store tells that it is made over, where the store can
-/// hold the next numbers.
+/// A value has an encoding that is short enough to be proposed, whatever the store returns that it is made over, if
+/// the store can hold the next numbers.
 pub fn law_proposed()
     ensures { (w : Readings) (value : List Op) (made : IsValue w value) → w.last ≤ 2 ^ 62 → suc (service_last w (service_of made.command)) ≤ 2 ^ 62
         → HasText value × (length (text value) ≤ most_value) }
@@ -59,8 +59,8 @@ pub fn law_shared()
         ∷ (ops_in (entry log (suc c)) ++ put_number area.Paxos key.LastCommitted (suc c) ∷ [])) m) ≡ fold log (suc c) }
 {}
 
-/// What is shown of a service is what the log makes of it, however much was trimmed: its map, its version and its incrementals.
-/// As many of these as a reply may tell are the first ones, and it tells whether there are more.
+/// What is shown of a service is what the log makes of it, however much was trimmed: its map, its version and its
+/// incrementals. A reply has the first of these, as many as fit, and says whether there are more.
 pub fn law_shown()
     ensures kept { (log : List (List ℕ)) → length log ≤ 2 ^ 62 → AllValues log → (c : ℕ) → c ≤ length log → (w : Readings)
         → Keeps log c w → Shows log c w }

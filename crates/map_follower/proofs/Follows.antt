@@ -96,7 +96,7 @@ same_service service.Log service.Log xs h = refl
 same_service service.Kv service.Log xs h = absurd cc
 same_service service.Log service.Kv xs h = absurd cc
 
--- ---- told incrementals, of which some are known
+-- ---- incrementals that were sent, of which some are known
 
 take_front : (all front rest : Bytes) (n : ℕ) → all ≡ front ++ rest → n ≡ length front → take n all ≡ front
 take_front all front rest n is long = (λ i. take (long i) (is i)) ∙ take-append_seam front rest

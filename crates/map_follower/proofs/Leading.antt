@@ -1,4 +1,4 @@
--- What a turn leaves, and how turns go on.
+-- What an iteration leaves, and how iterations go on.
 use Rattle.std.proofs.Common.{◌≡◌, ℕ, ◌+◌, ◌≤◌, List, [], ◌∷◌, ◌++◌, length, take, Option, Some, None, Result, Ok, Err, refl, sym, ap, subst, ◌∙◌, arith}
 use Rattle.std.proofs.Math.Nat.{le_refl}
 use Rattle.std.proofs.Math.Seq.{take-append_seam, take-append-add, take-length}
@@ -71,7 +71,7 @@ waits_alone (Err stop.OutOfMemory) (Some t) k h = h
 sent_before : (g : Result Got Stop) (l told whole new : Option Told) → told ≡ option_map (next_leaves 1000 g) l → SentPrefix told whole new → SentPrefix l whole new
 sent_before g l told whole new leaves p = (p.0, waits_alone g l p.0 (subst (λ x. IfSome x (λ t. length t.sent ≤ p.0)) leaves p.1), p.2)
 
--- what is done after the wait is done in the turn
+-- what is done after the wait is done in the iteration
 asked_before : (r : Result (Unit {0}) FollowEnd) (g : Result Got Stop) (old : Course) (told : Option Told) → told ≡ option_map (next_leaves 1000 g) old.link
     → (t : Turned) (new : Course) → Does r (record old { link = told }) t new → Does r old t new
 asked_before (Ok x) g old told leaves t new h = h
@@ -117,7 +117,7 @@ ends_after turns made end.Closed before t new h = h
 ends_after turns made end.LinkFault before t new h = h
 ends_after turns made end.TurnsUsed before t new h = absurd h.1
 
--- so many turns led from one course to another
+-- this many iterations led from one course to another
 pub record Leads (n made : ℕ) (old now : Course) : Type 0 where
   pub given : List (Result Got Stop)
   pub are : AreAnswers n old given

@@ -1,4 +1,4 @@
--- How a run of told incrementals goes on.
+-- How a run of incrementals goes on.
 use Rattle.std.proofs.Common.{◌≡◌, ℕ, suc, ◌+◌, ◌<◌, List, ◌∷◌, length, drop, get_or, Some, None, Result, Err, sym, ap, ◌∙◌, arith}
 use Rattle.std.proofs.lemmas.List.{drop_more}
 use Rattle.mon_msg.specs.Protocol.Maps.{with_incremental}

@@ -1,4 +1,4 @@
--- The turns of a client that follows, as a function of what its link gives it.
+-- The iterations of a client that follows, as a function of what its link gives it.
 use Rattle.std.specs.Prelude.{◌≡◌, ◌⊎◌, ℕ, ◌+◌, ◌%◌, ◌==◌, ◌≤◌, List, [], ◌∷◌, ◌++◌, length, take, Option, Some, None, IfSome, Result, Ok, Err, codes, decimal, option_map, if◌then◌else◌}
 use Rattle.mon_frag.specs.Keeping.{taken as piece_taken}
 use Rattle.mon_frag.specs.Whole.{answer_in, kept_in}
@@ -89,7 +89,7 @@ abbrev pub with_datagram : (n : ℕ) → Peer → List ℕ → Course → Course
 with_datagram n from bytes c =
     with_reply (record c { parts = kept_in c.parts (piece_taken c.parts from bytes) }) (reply_in n from (answer_in (piece_taken c.parts from bytes)))
 
--- ---- a turn, by what the link returns
+-- ---- an iteration, by what the link returns
 
 pub record Turned : Type 0 where
   pub course : Course
@@ -109,7 +109,7 @@ turned n g c = answered n g (record c { link = option_map (next_leaves 1000 g) c
 abbrev pub and_turned : (n : ℕ) → Result Got Stop → Turned → Turned
 and_turned n g t = elim t.stop [ None ↦ turned n g t.course | Some e ↦ t ]
 
--- The turns with these answers, the newest first. The first request is sent before all of them.
+-- The iterations with these results, newest first. The first request is sent before all of them.
 abbrev pub all_turned : (n : ℕ) → Course → List (Result Got Stop) → Turned
 all_turned n c [] = record { course = asked n c; stop = None }
 all_turned n c (g ∷ earlier) = and_turned n g (all_turned n c earlier)
@@ -119,7 +119,8 @@ all_turned n c (g ∷ earlier) = and_turned n g (all_turned n c earlier)
 abbrev pub first_sent : ℕ → Told → Told
 first_sent k t = record t { sent = take k t.sent }
 
--- Of what a turn sends and writes, a prefix was sent and written. All that was sent and written before the turn stays.
+-- Of what an iteration sends and writes, a prefix was sent and written. All that was sent and written before the iteration
+-- stays.
 abbrev pub SentPrefix : (before whole new : Option Told) → Type 0
 SentPrefix before whole new = (k : ℕ) × IfSome before (λ t. length t.sent ≤ k) × (new ≡ option_map (first_sent k) whole)
 
@@ -135,13 +136,13 @@ WritesPrefix end.WriteFault old new line = (k : ℕ) × Writes old new (take k l
 WritesPrefix end.OutOfMemory old new line = (k : ℕ) × Writes old new (take k line)
 WritesPrefix other old new line = ⊥
 
--- The copy at an end. If memory ran out, it is the copy before the last turn or the copy after it.
+-- The copy at an end. If memory ran out, it is the copy before the last iteration or the copy after it.
 abbrev pub CopyAt : FollowEnd → (was now new : Follower) → Type 0
 CopyAt end.OutOfMemory was now new = (new ≡ was) ⊎ (new ≡ now)
 CopyAt e was now new = new ≡ now
 
--- What was sent and written at an end: all of the last turn; or a prefix of its line, if writing failed; or a prefix of its request and of its
--- line, if memory ran out.
+-- What was sent and written at an end: all of the last iteration; or a prefix of its line, if writing failed; or a prefix of
+-- its request and of its line, if memory ran out.
 abbrev pub Outputs : FollowEnd → (before : Course) → Turned → Course → Type 0
 Outputs end.WriteFault before t new =
     (t.stop ≡ None) × (new.link ≡ t.course.link) × WrittenPrefix before.written t.course.written new.written
@@ -165,17 +166,17 @@ abbrev pub AreAnswers : (n : ℕ) → Course → List (Result Got Stop) → Type
 AreAnswers n c [] = Unit {0}
 AreAnswers n c (g ∷ earlier) = AreAnswers n c earlier × IsAnswer (all_turned n c earlier).course.link g
 
--- the course before the last of these turns
+-- the course before the last of these iterations
 abbrev pub course_before : (n : ℕ) → Course → List (Result Got Stop) → Course
 course_before n c [] = c
 course_before n c (g ∷ earlier) = (all_turned n c earlier).course
 
--- How a client that follows ended: after all its turns, or at one of them, or before the first because memory ran out.
+-- How a client that follows ended: after all its iterations, or at one of them, or before the first because memory ran out.
 abbrev pub EndsAfter : (turns : ℕ) → FollowEnd → (made : ℕ) → (before : Course) → Turned → Course → Type 0
 EndsAfter turns end.TurnsUsed made before t new = (made ≡ turns) × (t ≡ record { course = new; stop = None })
 EndsAfter turns e made before t new = Ends e before t new
 
--- what the link returned, one answer a turn, decides what was sent, written and taken
+-- what the link returned at each iteration decides what was sent, written and taken
 pub record Follows (n turns : ℕ) (old new : Course) (e : FollowEnd) : Type 0 where
   pub given : List (Result Got Stop)
   pub are : AreAnswers n old given

@@ -7,7 +7,7 @@ pub enum FollowEnd {
     /// The link reported that it is closed.
     #[error("the link is closed")]
     Closed,
-    /// All turns were used.
+    /// All iterations were made.
     #[error("turns used")]
     TurnsUsed,
     /// The link failed to report what comes next.

@@ -10,12 +10,12 @@ use mon_frag::Assembly;
 use mon_link::{Link, Sink};
 use std::alloc::Global;
 
-/// Follows a service over a link to `monitors` monitors, for at most `turns` turns. It sends a request at first and after
-/// each turn in which nothing came, to the monitors one after the other, and writes the line
-/// `SERVICE version=VERSION MAP` whenever the copy is newer. A turn waits for one second at most.
+/// Follows a service over a link to `monitors` monitors, for at most `turns` iterations. It sends a request at first
+/// and after each iteration in which nothing came, to the monitors one after the other, and writes the line `SERVICE
+/// version=VERSION MAP` whenever the copy is newer. An iteration waits for one second at most.
 ///
-/// `Closed` comes exactly if the link reported it, and `TurnsUsed` exactly after `turns` turns. `LinkFault` and
-/// `WriteFault` come only if the link or the sink counted a fault.
+/// `Closed` comes if and only if the link reported it, and `TurnsUsed` if and only if `turns` iterations were made.
+/// `LinkFault` and `WriteFault` come only if the link or the sink counted a fault.
 pub fn follow<L: Link, K: Sink>(
     alloc: Global,
     follower: &mut Follower,

@@ -1,4 +1,4 @@
-//! The turns of a client that follows.
+//! The iterations of a client that follows.
 
 ghost use Rattle.std.specs.Prelude.{◌≡◌, ℕ, ◌+◌, ◌≤◌, ◌^◌, Err, List, OnOk, Option, Result};
 ghost use Rattle.mon_frag.specs.declared.partial.Partial.{Partial};
@@ -48,7 +48,7 @@ fn take_datagram<K: Sink>(
     }
 }
 
-/// Sends a request, as part of a turn.
+/// Sends a request, as part of an iteration.
 pub(crate) fn ask_on<L: Link>(
     alloc: Global,
     monitors: u8,
@@ -71,7 +71,7 @@ pub(crate) fn ask_on<L: Link>(
     Ok(())
 }
 
-/// Makes one turn.
+/// Makes one iteration.
 pub(crate) fn turn<L: Link, K: Sink>(
     alloc: Global,
     follower: &mut Follower,

@@ -1,4 +1,4 @@
--- What is spelled so is read.
+-- Decoding accepts the encodings.
 use Rattle.std.proofs.Common.{◌≡◌, Ok, ◌∙◌}
 use Rattle.mon_bytes.proofs.Forms.{whole_again}
 use Rattle.map_kv.specs.Map.{Kv}

@@ -1,4 +1,4 @@
--- Readers find what is spelled.
+-- Readers find what is encoded.
 use Rattle.std.proofs.Common.{◌≡◌, ℕ, suc, ◌≤◌, false, ◌&&◌, leb, eqb, List, [], ◌∷◌, ◌++◌, length, Result, Ok, Err, Less, nat_cmp, IsTrue, T, refl, sym, ap, subst, ◌∙◌, append_assoc, arith}
 use Rattle.std.specs.Cmp.Lexicographic.{slice_cmp, nat_list_cmp_total}
 use Rattle.std.specs.List.{list_all, flat_map, AllByRecursion}

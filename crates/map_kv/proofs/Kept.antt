@@ -1,4 +1,4 @@
--- The map that a tree of texts stands for.
+-- The map that a tree of texts represents.
 use Rattle.std.proofs.Common.{◌≡◌, ℕ, ◌+◌, ◌<◌, ◌≤◌, ◌^◌, List, [], ◌∷◌, ◌++◌, length, map, slice_get, option_map, cond, leb, ◌&&◌, Option, Some, None, Less, Equal, Greater, String, Global, BTreeMap, string_bytes, string_cmp, nat_cmp, is_eq, bytes_eq, T, IsTrue, append_assoc, refl, sym, ap, subst, ◌∙◌, arith}
 use Rattle.std.specs.Cmp.Lexicographic.{slice_cmp, nat_list_cmp_total}
 use Rattle.std.specs.Cmp.{eq_by_cmp_equiv}

@@ -1,4 +1,4 @@
--- What is read is spelled so, and the formats are lawful.
+-- Decoding accepts exactly the encodings, and the formats are lawful.
 use Rattle.std.proofs.Common.{◌≡◌, ℕ, ◌+◌, ◌<◌, ◌^◌, cond, eqb, List, [], ◌∷◌, ◌++◌, length, Result, Ok, Err, nat_cmp, IsTrue, T, refl, sym, ap, subst, ◌∙◌, arith, inl, inr}
 use Rattle.std.specs.Prelude.{IfOk}
 use Rattle.std.specs.Cmp.Lexicographic.{slice_cmp}
@@ -45,7 +45,7 @@ key_takes before c x fits e =
     let g = chosen_ok (is_lt (slice_cmp nat_cmp before a.0.0)) (refused.Form (c.at + 1)) (Ok a.0) x a.2 in
     subst (λ (p : List ℕ × Reading). Takes c (key_text p.0) p.1 × IsTrue (is_name p.0)) (ok_is a.0 x g.1) (name_takes c a.0 fits a.1)
 
--- what follows a kind, where the kind was taken before
+-- what follows a kind, if the kind was taken before
 abbrev TakesInc : Reading → List ℕ → KvInc × Reading → Type 0
 TakesInc c kind x = (first : Reading) → Takes first kind c → Takes first (inc_text x.0) x.1 × IncFits x.0
 

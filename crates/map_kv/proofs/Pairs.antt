@@ -84,7 +84,7 @@ put_above (x ∷ front) k v h =
     let above : slice_cmp nat_cmp k x.0 ≡ Greater = nat_list_cmp_total.antisymm k x.0 ∙ ap ordering_reverse h.0 in
     rw above (ap (λ (es : List Entry). x ∷ es) (put_above front k v h.1))
 
--- in a list in order each key is above those in front of it
+-- in a list in order each key is above those before it
 pub front_below : (front : List Entry) (e : Entry) (rest : List Entry) → T (is_sorted (slice_cmp nat_cmp) (front ++ e ∷ rest)) → AllByRecursion (λ d. slice_cmp nat_cmp d.0 e.0 ≡ Less) front
 front_below [] e rest h = tt
 front_below (x ∷ front) e rest h = (middle x.0 front e rest (first _ _ h), front_below front e rest (second _ _ h))

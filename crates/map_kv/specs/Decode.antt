@@ -14,7 +14,7 @@ use Rattle.map_kv.specs.Text.{inc_text, map_text, IncFits, MapFits}
 use Rattle.map_kv.specs.declared.inc.KvInc.{KvInc}
 use Rattle.map_kv.specs.declared.inc.KvInc.TheVariants.{Set, Remove}
 
--- a length that isn't 0, and so many bytes that are a name
+-- a length that isn't 0, and a name of this many bytes
 unfoldable pub name_at : Reading → Result (List ℕ × Reading) MapRefused
 name_at c = do
   n ← fitted (number 1 c)
@@ -39,13 +39,13 @@ inc_at c = do
   kind ← fitted (number 1 c)
   if kind.0 == 1 then set_at kind.1 else (if kind.0 == 2 then remove_at kind.1 else Err (Form c.at))
 
--- the incremental that the bytes spell, all of them
+-- the incremental that all of the bytes encode
 unfoldable pub inc_of : List ℕ → Result KvInc MapRefused
 inc_of bytes = do
   inc ← inc_at (record { at = 0; rest = bytes })
   ended inc
 
--- a name above the key before it; a name that isn't is at fault where its bytes begin
+-- a name above the key before it; a name that isn't has its fault where its bytes begin
 unfoldable pub key_at : List ℕ → Reading → Result (List ℕ × Reading) MapRefused
 key_at before c = do
   key ← name_at c
@@ -57,7 +57,7 @@ entry_at before c = do
   value ← text_at key.1
   Ok ((key.0, value.0), value.1)
 
--- so many entries, each above the key before it
+-- this many entries, each above the key before it
 unfoldable pub entries_at : ℕ → List ℕ → Reading → Result (List (List ℕ × List ℕ) × Reading) MapRefused
 entries_at zero before c = Ok ([], c)
 entries_at (suc n) before c = do
@@ -65,14 +65,14 @@ entries_at (suc n) before c = do
   others ← entries_at n first.0.0 first.1
   Ok (first.0 ∷ others.0, others.1)
 
--- the map that the bytes spell, all of them. Before the first key there is nothing, which is below each name.
+-- the map that all of the bytes encode. Before the first key there is nothing, which is below each name.
 unfoldable pub map_of : List ℕ → Result Kv MapRefused
 map_of bytes = do
   count ← fitted (number 4 (record { at = 0; rest = bytes }))
   entries ← entries_at count.0 [] count.1
   ended (from_sorted entries.0, entries.1)
 
--- ---- how both are spelled and read
+-- ---- how both are encoded and read
 
 abbrev pub inc_format : Format MapRefused KvInc
 inc_format = record { text = inc_text; read = inc_at; Form = IncFits }

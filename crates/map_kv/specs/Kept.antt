@@ -1,4 +1,4 @@
--- How a tree of texts stands for a map.
+-- How a tree of texts represents a map.
 use Rattle.std.specs.Prelude.{◌≡◌, ℕ, ◌+◌, ◌≤◌, ◌^◌, List, [], ◌∷◌, length, map, Option, Some, None, T, IsTrue, String, string_bytes}
 use Rattle.std.specs.Global.{Global}
 use Rattle.std.specs.List.{AllByRecursion}
@@ -24,7 +24,7 @@ abbrev pub size_of : List (List ℕ × List ℕ) → ℕ
 size_of [] = 0
 size_of (e ∷ es) = entry_size e + size_of es
 
--- how many bytes the entry of a key takes, where the key has that value
+-- how many bytes the entry of a key takes, given that the key has that value
 abbrev pub held : List ℕ → Option (List ℕ) → ℕ
 held key None = 0
 held key (Some value) = entry_size (key, value)

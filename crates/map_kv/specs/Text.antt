@@ -1,4 +1,4 @@
--- How incrementals and maps are spelled, and which of them have a text.
+-- How incrementals and maps are encoded, and which of them have an encoding.
 use Rattle.std.specs.Prelude.{ℕ, ◌<◌, ◌^◌, List, ◌∷◌, ◌++◌, length, IsTrue}
 use Rattle.std.specs.List.{flat_map, AllByRecursion}
 use Rattle.std.specs.Str.{is_utf8}
@@ -9,7 +9,7 @@ use Rattle.map_kv.specs.Map.{Kv}
 use Rattle.map_kv.specs.declared.inc.KvInc.{KvInc}
 use Rattle.map_kv.specs.declared.inc.KvInc.TheVariants.{Set, Remove}
 
--- a key with its length in front
+-- a key after its length
 abbrev pub key_text : List ℕ → List ℕ
 key_text key = length key ∷ key
 

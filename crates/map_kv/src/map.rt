@@ -65,7 +65,7 @@ impl KvMap {
         }
     }
 
-    /// The value of the key, `None` exactly where the key isn't there.
+    /// The value of the key, `None` if and only if the key isn't there.
     pub fn get(&self, key: &[u8]) -> Option<&[u8]>
         ensures { option_copied result ≡ get self.now key.now }
     {
@@ -86,7 +86,7 @@ impl KvMap {
         self.entries.len()
     }
 
-    /// The key at this place in ascending order, from 0. `None` exactly where `at` is at least `len`.
+    /// The key at this place in ascending order, from 0. `None` if and only if `at` is at least `len`.
     pub fn key(&self, at: usize) -> Option<&[u8]>
         ensures { option_copied result ≡ slice_get (keys self.now) at }
     {
@@ -128,7 +128,7 @@ impl KvMap {
         self.size
     }
 
-    /// How many bytes the entry of the key takes, 0 where it isn't there.
+    /// How many bytes the entry of the key takes, 0 if it isn't there.
     fn held(&self, key: &str) -> u64
         requires { IsTrue (is_name key.now) }
         ensures { result ≡ held key.now (get self.now key.now) }

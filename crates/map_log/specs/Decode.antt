@@ -20,13 +20,13 @@ inc_at c = do
   text ← text_at rank.1
   Ok (record { rank = rank.0; text = text.0 }, text.1)
 
--- the entry that the bytes spell, all of them
+-- the entry that all of the bytes encode
 unfoldable pub inc_of : List ℕ → Result LogInc MapRefused
 inc_of bytes = do
   inc ← inc_at (record { at = 0; rest = bytes })
   ended inc
 
--- so many entries
+-- this many entries
 unfoldable pub entries_at : ℕ → Reading → Result (List LogInc × Reading) MapRefused
 entries_at zero c = Ok ([], c)
 entries_at (suc n) c = do
@@ -34,14 +34,14 @@ entries_at (suc n) c = do
   others ← entries_at n first.1
   Ok (first.0 ∷ others.0, others.1)
 
--- the map that the bytes spell, all of them
+-- the map that all of the bytes encode
 unfoldable pub map_of : List ℕ → Result (List LogInc) MapRefused
 map_of bytes = do
   count ← fitted (number 4 (record { at = 0; rest = bytes }))
   entries ← entries_at count.0 count.1
   ended entries
 
--- ---- how both are spelled and read
+-- ---- how both are encoded and read
 
 abbrev pub inc_format : Format MapRefused LogInc
 inc_format = record { text = inc_text; read = inc_at; Form = IncFits }

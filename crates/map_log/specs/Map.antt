@@ -8,7 +8,7 @@ use Rattle.map_log.specs.declared.inc.LogInc.{LogInc}
 abbrev pub is_above : List LogInc → Bool
 is_above es = nat_lt MOST_ENTRIES (length es) || nat_lt MOST_MAP (length (map_text es))
 
--- the entries without those that go from the front
+-- the entries without those dropped from the front
 abbrev pub trimmed : List LogInc → List LogInc
 trimmed [] = []
 trimmed (inc ∷ es) = if is_above (inc ∷ es) then trimmed es else inc ∷ es

@@ -1,11 +1,11 @@
--- How entries and maps are spelled, and which of them have a text.
+-- How entries and maps are encoded, and which of them have an encoding.
 use Rattle.std.specs.Prelude.{◌≡◌, ℕ, ◌+◌, ◌<◌, ◌≤◌, ◌^◌, List, [], ◌∷◌, ◌++◌, length, IsTrue}
 use Rattle.std.specs.List.{flat_map, AllByRecursion}
 use Rattle.std.specs.Str.{is_utf8}
 use Rattle.mon_bytes.specs.Forms.{u32_bytes, text_bytes}
 use Rattle.map_log.specs.declared.inc.LogInc.{LogInc}
 
--- the rank, and the text with its length in front
+-- the rank, and the text after its length
 abbrev pub inc_text : LogInc → List ℕ
 inc_text inc = inc.rank ∷ text_bytes inc.text
 

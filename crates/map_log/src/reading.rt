@@ -45,7 +45,7 @@ fn entries_at(alloc: Global, count: u32, cursor: &mut Cursor<'_>) -> Result<LogM
     Ok(map)
 }
 
-/// A map above the limits of `apply` is read as it stands.
+/// A map above the limits of `apply` is read as it is.
 impl Decode for LogMap {
     ghost use Rattle.map_log.specs.Decode.{map_format, map_of};
 

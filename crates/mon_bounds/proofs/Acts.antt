@@ -1,4 +1,4 @@
--- Each act leaves an event under way that may go on, where what was written before has left it room.
+-- Each act leaves an event under way that may go on, if the earlier changes left it room.
 use Rattle.std.proofs.Common.{◌≡◌, ℕ, suc, ◌+◌, ◌*◌, ◌<◌, ◌≤◌, ◌^◌, ◌⊎◌, Bool, true, false, not, ◌&&◌, eqb, ltb, max, List, [], ◌∷◌, length, Option, Some, None, IfSome, Ok, refl, ap, subst, inl, inr, arith}
 use Rattle.std.proofs.lemmas.Bool.{cond_both, ltb-true}
 use Rattle.std.specs.List.{AllByRecursion, flat_map}
@@ -277,7 +277,7 @@ module _ (me : Me) (now : ℕ) where
   forgets : (x : Course) → OthersIn me x → OthersIn me (forget_clients x)
   forgets x O = record { elector = O.elector; peon = O.peon; clients = record { queue = tt; sessions = tt }; requester = O.requester }
 
-  -- what an act may have written before it begins anew: little, or so much as is allowed if the monitor isn't alone
+  -- what an act may have written before it begins again: little, or as much as is allowed if the monitor isn't alone
   abbrev pub Anew : ℕ → Type 0
   Anew b = (b ≤ 2800000) ⊎ ((ltb 1 n ≡ true) × (b ≤ 4194299))
 

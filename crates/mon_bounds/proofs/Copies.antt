@@ -54,7 +54,7 @@ entries_form : (es : List Entry) → sum_by entry_length es ≤ 1048576 → AllB
 entries_form [] h k = tt
 entries_form (e ∷ es) h k = let s = sum_by-cons entry_length e es in ((k.0.0, (k.0.1, omega arith)), entries_form es (omega arith) k.1)
 
--- the place behind entries
+-- the place after entries
 after_form : (es : List Entry) (k : KeyPlace) → AllByRecursion parts.entry.Form es → parts.key_place.Form k → parts.key_place.Form (after_entries es k)
 after_form [] k h p = p
 after_form (e ∷ es) k h p = after_form es (key_place.After e.prefix e.key) h.1 (h.0.0, h.0.1.0)
@@ -171,7 +171,7 @@ module _ (me : Me) (now : ℕ) where
       by_test (of_provider f x && (is_cookie c x.state.requester.cookie || (awaits_cookie x.state.requester.stage && not x.state.requester.full && same_cookie c no_cookie))) (λ _. bootstrap_ok me now 0 x (inl (omega arith)) A)
       (λ _. over me 0 x (omega arith) A)
 
-  -- what a chunk holds, where the chunk fits
+  -- what a chunk holds, if the chunk fits
   record Holds (values : List (List Op)) (es : List Entry) : Type 0 where
     few : length values ≤ 65535
     some : length es ≤ 65535

@@ -1,5 +1,5 @@
--- An event under way: what it has written so far takes at most so many bytes, what it has said may be sent, and what is remembered
--- may be.
+-- An event under way: what it has written so far takes at most this many bytes, what it has said may be sent, and what is
+-- remembered may be.
 use Rattle.std.proofs.Common.{ℕ, ◌+◌, ◌<◌, ◌≤◌, ◌^◌, ◌&&◌, eqb, leb, List, [], ◌∷◌, ◌++◌, length, map, Some, None, Ok, IfSome, arith}
 use Rattle.std.proofs.lemmas.Bool.{cond_both, and_parts, leb-true}
 use Rattle.std.specs.List.{AllByRecursion}
@@ -32,9 +32,9 @@ use Rattle.quorum_walk.proofs.Walk.{Then, done}
 use Rattle.mon_bounds.specs.Fitting.{MaySend}
 use Rattle.mon_bounds.specs.Remembered.{AreClients, IsElector, IsLeader, IsNumber, IsPeon, IsPlaced, IsRequester}
 
--- ---- what a store's readers tell
+-- ---- what a store's readers return
 
--- numbers that a message can tell
+-- numbers that a message can carry
 pub record AreNumbers (w : Readings) : Type 0 where
   pub epoch : IsNumber (epoch_of w)
   pub boot : IsNumber w.boot
@@ -83,7 +83,7 @@ after_numbers ops w R = record {
   last = told IsNumber number_in (decision ops (place area.Paxos key.LastCommitted)) w.last number_short R.last;
 }
 
--- what a change tells the readers that a message can tell
+-- what readers return after a change, which a message can carry
 abbrev pub Tells : Change → Type 0
 Tells (Boot b) = IsNumber b
 Tells (Epoch e) = IsNumber e
@@ -140,7 +140,7 @@ module _ (me : Me) where
   abbrev pub KeepsIn : Course → Type 0
   KeepsIn x = Keeps x.state.phase x.state.leader x.state.elector x.state.peon x.state.clients x.state.requester
 
-  -- before so many bytes are passed; and when the event is over
+  -- as long as this many bytes aren't passed, and when the event is over
   abbrev pub Under : ℕ → Course → Type 0
   Under b x = WrittenIn b x × KeepsIn x
 
@@ -194,6 +194,6 @@ module _ (me : Me) where
     pub copying : (more : Requester) → Keeps p l e q c s → IsRequester me.member.monitors more → Keeps p l e q c more
     copying more K h = let O = K.others in record { placed = K.placed; leader = K.leader; others = record { elector = O.elector; peon = O.peon; clients = O.clients; requester = h } }
 
-  -- it is over, where so much was written
+  -- it is over, if so much was written
   pub over : (b : ℕ) (x : Course) → b ≤ most_written → Under b x → Then Over (Ok x)
   over b x h A = done (raise b most_written x.readings x.changes x.out h A.0, A.1)

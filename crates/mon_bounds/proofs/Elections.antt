@@ -72,7 +72,7 @@ module _ (me : Me) (now : ℕ) where
       by_test (ltb (w.last + lag) last) (λ _. done (recent_sync_ok me now f 0 x lt many (omega arith) A)) (λ _.
       by_test (ltb 0 (count_of q)) (λ _. elect_ok me now 0 x (omega arith) A) (λ _. join_ok f x A)))))
 
-  -- ---- tables that are told
+  -- ---- tables that are sent
 
   kept : (f : ℕ) (t : Scores) → f < n → (told_table n f).Form (Some t) → IsTable n f t
   kept f t lt form = table_kept n f t lt me.member.most form

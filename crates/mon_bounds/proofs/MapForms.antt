@@ -1,4 +1,4 @@
--- What bytes spell that a service keeps, whatever they are, is made of names and texts.
+-- What the bytes encode that a service keeps, whatever they are, has names and texts of the right form.
 use Rattle.std.proofs.Common.{◌≡◌, ℕ, zero, suc, ◌+◌, ◌≤◌, cond, eqb, ltb, List, [], ◌∷◌, Ok, Err, IsTrue, Less, Equal, Greater, nat_cmp, T, sym, subst, inl, inr}
 use Rattle.std.proofs.lemmas.Bool.{ltb-false}
 use Rattle.std.specs.Cmp.Lexicographic.{slice_cmp, nat_list_cmp_total}

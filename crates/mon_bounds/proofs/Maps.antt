@@ -1,4 +1,4 @@
--- The map of a service that is read has its form, whatever the store tells, and so has what refuses a command.
+-- The map of a service that is read has its form, whatever the store holds, and so has what refuses a command.
 use Rattle.std.proofs.Common.{◌≡◌, ℕ, zero, suc, ◌+◌, ◌-◌, ◌≤◌, ◌<◌, ◌^◌, Bool, true, false, cond, leb, ltb, List, [], ◌∷◌, ◌++◌, length, Option, Some, None, Result, Ok, Err, refl, ap, subst, arith}
 use Rattle.std.proofs.lemmas.Bool.{cond_both, leb-true}
 use Rattle.std.specs.Cmp.Lexicographic.{nat_list_cmp_total}
@@ -170,7 +170,7 @@ grown m k v =
     let p = size_of-put k v (entries m) (entries_sorted m) in
     omega (arith, p, length-map_text m, length-map_text (insert m k v), ap size_of (entries-insert nat_list_cmp_total m k v))
 
--- a refusal that may be told
+-- a refusal that may be sent
 abbrev pub MayRefuse : CommandRefused → Type 0
 MayRefuse refused.NoSuch = Unit {0}
 MayRefuse (refused.TooLong len most) = (len ≤ 2 ^ 62) × (most ≤ 2 ^ 62)

@@ -33,7 +33,7 @@ use Rattle.mon_bounds.specs.Remembered.{IsSet, MayPropose}
 pub within : (n : ℕ) (b : Body) → message_length n b ≤ 1048576 → short_lists b ≡ true → fits n b ≡ true
 within n b h s = and_from (leb (message_length n b) 1048576) (short_lists b) (le-leb _ _ h) s
 
--- what a message that fits tells
+-- what a message that fits carries
 pub fits_length : (n : ℕ) (b : Body) → fits n b ≡ true → message_length n b ≤ 1048576
 fits_length n b h = leb-true (message_length n b) 1048576 (and_parts (leb (message_length n b) 1048576) (short_lists b) h).0
 

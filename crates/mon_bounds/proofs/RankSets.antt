@@ -1,4 +1,4 @@
--- Sets of ranks below n stay such, and so do the ranks that are told apart in them.
+-- Sets of ranks below n stay such, and so do the ranks that are distinguished in them.
 use Rattle.std.proofs.Common.{◌≡◌, ℕ, zero, suc, ◌+◌, ◌<◌, ◌≤◌, ◌^◌, ◌⊎◌, Bool, true, false, not, ◌&&◌, eqb, List, [], ◌∷◌, inl, inr, refl, sym, ap, ◌∙◌, arith}
 use Rattle.std.proofs.Math.Nat.{pow-suc}
 use Rattle.std.proofs.lemmas.Bool.{false≢true, cases_eq}

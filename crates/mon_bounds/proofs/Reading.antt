@@ -18,7 +18,7 @@ use Rattle.mon_bounds.proofs.Sizes.{load, load-cons}
 use Rattle.mon_bounds.proofs.Values.{spelled_value}
 use Rattle.mon_bounds.specs.Remembered.{MayPropose}
 
--- a value that a record spells
+-- a value that a record encodes
 pub record IsRecord (value : List Op) : Type 0 where
   pub form : HasText value
   pub short : length (text value) ≤ 1048544
@@ -45,7 +45,7 @@ longest_onto_passes test front (x ∷ xs) h = cond_both (test (front ++ x ∷ []
 pub longest_passes : {A : Type 0} (test : List A → Bool) (xs : List A) → test [] ≡ true → test (longest test xs) ≡ true
 longest_passes test xs h = longest_onto_passes test [] xs h
 
--- so many values at most, that take so many bytes at most
+-- this many values at most, that take this many bytes at most
 pub record AreFew (c b : ℕ) (values : List (List Op)) : Type 0 where
   pub count : length values ≤ c
   pub bytes : load values ≤ 4 * length values + b

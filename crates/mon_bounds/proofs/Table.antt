@@ -48,7 +48,7 @@ module _ (me : Me) (now : ℕ) (shared : List Entry) where
   abbrev n : ℕ
   n = me.member.monitors
 
-  -- two ranks are told apart
+  -- two ranks are distinguished
   many : (f : ℕ) → f < n → eqb f me.member.rank ≡ false → 1 < n
   many f lt ne = let apart : f ≢ me.member.rank = eqb-false f me.member.rank ne in let own = me.member.in_map in omega arith
 

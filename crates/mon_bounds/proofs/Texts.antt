@@ -1,4 +1,4 @@
--- A message has a text exactly where it is one of the grammar and fits.
+-- A message has an encoding if and only if it has the form of messages and fits.
 use Rattle.std.proofs.Common.{◌≡◌, ℕ, ◌<◌, ◌^◌, true, ◌↔◌, List, length, IsTrue, refl, arith}
 use Rattle.std.proofs.lemmas.Bool.{and_from, le-leb}
 use Rattle.mon_msg.specs.Protocol.Length.{fits, short_list, short_lists}

@@ -1,4 +1,4 @@
--- What bytes spell that a store keeps for a version: whatever they are, a value that has a text, of their own length.
+-- What bytes encode that a store keeps for a version: whatever they are, a value that has an encoding, of their own length.
 use Rattle.std.proofs.Common.{◌≡◌, ℕ, zero, suc, ◌+◌, ◌^◌, ◌≤◌, not, ◌&&◌, cond, ltb, eqb, List, [], ◌∷◌, length, take, Result, Ok, Err, IsTrue, subst, arith, inl, inr, length-append, length-take, length-drop}
 use Rattle.std.proofs.lemmas.Bool.{ltb-true, ltb-false}
 use Rattle.std.specs.List.{list_any, AllByRecursion}
@@ -19,7 +19,7 @@ use Rattle.mon_bounds.proofs.Joins.{span, span-cons, text_span}
 cut_ok : {A : Type 0} (r : Result A Short) (x : A) → cut r ≡ Ok x → r ≡ Ok x
 cut_ok r x e = at_fault_ok (λ at. refused.Cut at) r x e
 
--- so many bytes were read
+-- this many bytes were read
 abbrev Drawn : Reading → ℕ → Reading → Type 0
 Drawn c n after = length c.rest ≡ n + length after.rest
 
@@ -74,7 +74,7 @@ version_drawn c x e =
     let g = guard_ok (ltb (2 ^ 62) a.0.0) (refused.Range c.at) (Ok a.0) x a.2 in
     subst (λ (p : ℕ × Reading). Drawn c 8 p.1 × (p.0 ≤ 2 ^ 62)) (ok_is a.0 x g.1) (number_drawn 8 c a.0 (cut_ok (number 8 c) a.0 a.1), ltb-false _ _ g.0)
 
--- an op behind its kind
+-- an op after its kind
 record DrawnOp (c : Reading) (x : Op × Reading) : Type 0 where
   all : suc (length c.rest) ≡ length (op_text x.0) + length x.1.rest
   fits : OpFits x.0

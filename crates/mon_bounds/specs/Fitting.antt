@@ -1,4 +1,4 @@
--- What may come to a monitor, and what may go from it: messages and transactions that aren't too long.
+-- What a monitor may receive, and what it may send: messages and transactions that aren't too long.
 use Rattle.std.specs.List.{AllByRecursion}
 use Rattle.std.specs.Prelude.{ℕ, ◌<◌, ◌≤◌, IsTrue, List, [], length}
 use Rattle.log_model.specs.LogOfValues.{IsCommand}
@@ -51,13 +51,13 @@ MayCome (input.Client session r) = IsNumber session.id × IsRequest r
 abbrev pub IsNamed : Entry → Type 0
 IsNamed e = IsTrue (is_prefix e.prefix) × IsTrue (is_name e.key)
 
--- the entries of its store that a monitor tells in a message
+-- the entries of its store that a monitor sends in a message
 abbrev pub entries_in : Body → List Entry
 entries_in (body.Chunk cookie place values entries done) = entries
 entries_in (body.LastChunk cookie place values entries last) = entries
 entries_in other = []
 
--- it is a message, where the entries of a store that it tells are named as they must be, and it isn't too long
+-- it is a message, if the entries of a store in it are named as they must be, and it isn't too long
 pub record MayGo (m : Message) : Type 0 where
   pub form : AllByRecursion IsNamed (entries_in m.body) → IsMessage m
   pub fits : IsTrue (fits m.monitors m.body)

@@ -30,7 +30,7 @@ pub record MayPropose (value : List Op) : Type 0 where
   pub form : HasText value
   pub short : length (text value) ≤ most_value
 
--- a number that a message can tell and a store can hold
+-- a number that a message can carry and a store can hold
 abbrev pub IsNumber : ℕ → Type 0
 IsNumber n = n ≤ 2 ^ 62
 

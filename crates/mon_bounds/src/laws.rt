@@ -12,10 +12,10 @@ ghost use Rattle.mon_tx.specs.declared.op.Op.{Op};
 ghost use Rattle.mon_wire.specs.Message.Whole.{HasText, IsMessage};
 ghost use Rattle.mon_wire.specs.declared.message.Message.{Message};
 
-/// What a monitor writes and sends is never too long. At boot it remembers what it may. Whatever its store holds,
-/// however broken, and whatever comes that may come at whatever moment: a store takes the transaction, each message
-/// may be sent, the one that brings a client its answer too, and what is remembered from then on may be again. A BEGIN
-/// with a value of those that it remembers may be sent.
+/// What a monitor writes and sends is never too long. At boot its state is one that a monitor may have. Whatever its
+/// store holds, however broken, and whatever input comes at whatever time: a store takes the transaction; each
+/// message may be sent, with the one that carries a reply to a client's monitor; and the new state is again one that
+/// a monitor may have. A BEGIN with a value of those that it remembers may be sent.
 pub fn law_reaction_fits()
     ensures boot { (me : Me) → MayRemember me (booting me.member.rank) }
     ensures begins { (value : List Op) → MayPropose value → IsTrue (may_begin value) }
@@ -23,8 +23,8 @@ pub fn law_reaction_fits()
         → IfOk (reaction me now m s came) (IsBounded me) }
 {}
 
-/// A message has a text exactly where it is one of the grammar and fits: what was decoded may come, and what may be sent
-/// can be encoded.
+/// A message has an encoding if and only if it has the form of messages and fits: what was decoded may come, and what
+/// may be sent can be encoded.
 pub fn law_message_fits()
     ensures { (m : Message) → HasText m ↔ (IsMessage m × IsTrue (fits m.monitors m.body)) }
 {}

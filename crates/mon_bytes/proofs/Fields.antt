@@ -31,7 +31,7 @@ ok_is x y e = cc
 pub Takes-then : (a b c : Reading) (x y : List ℕ) → Takes a x b → Takes b y c → Takes a (x ++ y) c
 Takes-then a b c x y p q = record { parts = p.parts ∙ ap (λ (t : List ℕ). x ++ t) q.parts ∙ sym (append_assoc x y c.rest); bytes = q.bytes }
 
--- where nothing is left, all was taken
+-- if nothing is left, all was taken
 pub Takes-whole : (c after : Reading) (text : List ℕ) → Takes c text after → after.rest ≡ [] → c.rest ≡ text
 Takes-whole c after text t none = t.parts ∙ ap (λ (r : List ℕ). text ++ r) none ∙ append-nil text
 

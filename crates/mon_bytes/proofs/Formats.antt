@@ -1,4 +1,4 @@
--- What is read in a format is spelled so, and what is spelled so is read.
+-- Decoding in a format accepts exactly the encodings.
 use Rattle.std.proofs.Common.{◌≡◌, ℕ, zero, suc, ◌^◌, ◌≤◌, ◌<◌, ◌⊎◌, Bool, true, false, cond, eqb, List, [], ◌∷◌, ◌++◌, length, Result, Ok, Err, refl, sym, ap, subst, ◌∙◌, append_assoc, arith, inl, inr}
 use Rattle.std.specs.List.{flat_map, AllByRecursion}
 use Rattle.std.proofs.lemmas.Bool.{cases_eq}
@@ -24,7 +24,7 @@ pub at_fault_ok : {A E : Type 0} (fault : ℕ → E) (r : Result A Short) (x : A
 at_fault_ok fault (Ok y) x e = let same : y ≡ x = cc in ap (λ z. Ok z) same
 at_fault_ok fault (Err s) x e = absurd cc
 
--- where a part fails, the whole does
+-- if a part fails, the whole does
 pub fails_on : {A B E : Type 0} (no_memory : E → Bool) (e : E) (part : Result A E) (more : A → Result B E) → Fails no_memory e part → Fails no_memory e (part >>= more)
 fails_on {A} {B} {E} no_memory e part more = by (no_memory e)
   where
@@ -147,7 +147,7 @@ some-lawful {E} {A} faults f lf = record {
 
 -- ---- values of several kinds
 
--- what a reader of a kind reads is spelled with that kind in front
+-- what a reader of a kind reads is encoded after that kind
 pub record IsTaken {E B : Type 0} (spelled : B → Spelling) (v : ℕ × Reader E B) (c : Reading) (x : B × Reading) : Type 0 where
   pub tag : (spelled x.0).tag ≡ v.0
   pub all : Takes c ((spelled x.0).text) x.1

@@ -1,4 +1,4 @@
--- What the readers of forms take, and that they read what is spelled.
+-- What the readers of forms take, and that they read what is encoded.
 use Rattle.std.proofs.Common.{◌≡◌, ℕ, ◌^◌, ◌<◌, cond, eqb, List, [], ◌++◌, length, Result, Ok, Err, IsTrue, refl, sym, ap, subst, ◌∙◌, arith}
 use Rattle.std.proofs.lemmas.Bool.{eqb-true}
 use Rattle.std.proofs.lemmas.List.{append-nil, nil_from_length}
@@ -31,7 +31,7 @@ pub u32_found : (c : Reading) (n : ℕ) (rest : List ℕ) → c.rest ≡ u32_byt
 unfolding u32_bytes
 u32_found c n rest e lt = number_found 4 c (little_bytes 4 n) rest n e refl (little_number-reads_back 4 n [] (omega arith))
 
--- a count, and so many entries
+-- a count, and this many entries
 pub counted : (c : Reading) (n : ℕ × Reading) (after : Reading) (k : ℕ) (bytes : List ℕ) → Takes c (u32_bytes n.0) n.1 × (n.0 < 2 ^ 32) → k ≡ n.0 → Takes n.1 bytes after → Takes c (u32_bytes k ++ bytes) after × (k < 2 ^ 32)
 counted c n after k bytes t is more =
     (subst (λ (m : ℕ). Takes c (u32_bytes m ++ bytes) after) (sym is) (Takes-then c n.1 after (u32_bytes n.0) bytes t.0 more), omega (arith, is, t.1))

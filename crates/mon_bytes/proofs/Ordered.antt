@@ -1,4 +1,4 @@
--- Entries that are read in ascending order of key are spelled so.
+-- Entries that are read in ascending order of key are their encoding.
 use Rattle.std.proofs.Common.{◌≡◌, ℕ, zero, suc, ◌<◌, ◌^◌, Bool, true, false, ◌&&◌, List, [], ◌∷◌, ◌++◌, length, Result, Ok, Less, Equal, Greater, Ordering, T, refl, sym, subst, ◌∙◌, append_assoc, arith}
 use Rattle.std.specs.Cmp.{IsTotalOrder}
 use Rattle.std.specs.List.{flat_map, AllByRecursion}
@@ -35,7 +35,7 @@ below_less {K} {V} {cmp} total x y (e ∷ es) p h =
     let below : cmp x e.0 ≡ Less = total.trans x y e.0 p (less _ (first _ _ h)) in
     rw below (below_less total x y es p (second _ _ h))
 
--- entries in ascending order of key: how one is spelled and read behind the key before it, and so many of them
+-- entries in ascending order of key: how one is encoded and read after the key before it, and this many of them
 pub record Entries (E K V : Type 0) : Type 1 where
   pub cmp : K → K → Ordering
   pub total : IsTotalOrder cmp

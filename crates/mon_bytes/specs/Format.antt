@@ -1,11 +1,11 @@
--- Formats: how values are spelled in bytes, how they are read, and which values have a spelling.
+-- Formats: how values are encoded in bytes, how they are read, and which values have an encoding.
 use Rattle.std.specs.Prelude.{◌≡◌, ℕ, zero, suc, ◌≤◌, ◌<◌, ◌^◌, List, [], ◌∷◌, ◌++◌, length, Result, Ok, Err, ◌==◌, if◌then◌else◌}
 use Rattle.std.specs.List.{flat_map, AllByRecursion}
 use Rattle.byteorder.specs.Endian.{little_bytes}
 use Rattle.mon_bytes.specs.Reading.{IsBytes, Reading, Takes, Found, number}
 use Rattle.mon_bytes.specs.Answers.{◌>>=◌, at_fault}
 
--- what is said of a field that is cut, and of one that is outside its set, by the place where it begins
+-- the faults of a field that is cut and of one that is outside its set, by the offset at which the field begins
 pub record Faults (E : Type 0) : Type 0 where
   pub cut : ℕ → E
   pub value : ℕ → E
@@ -18,7 +18,7 @@ pub record Format (E A : Type 0) : Type 1 where
   pub read : Reader E A
   pub Form : A → Type 0
 
--- What is read in a format is spelled so, and what is spelled so is read.
+-- Decoding in a format accepts exactly the encodings.
 pub record IsLawful {E A : Type 0} (f : Format E A) : Type 0 where
   pub takes : (c : Reading) (x : A × Reading) → IsBytes c.rest → f.read c ≡ Ok x → Takes c (f.text x.0) x.1 × f.Form x.0
   pub found : (c : Reading) (x : A) (rest : List ℕ) → c.rest ≡ f.text x ++ rest → f.Form x → Found (f.read c) x rest
@@ -27,7 +27,7 @@ pub record IsLawful {E A : Type 0} (f : Format E A) : Type 0 where
 abbrev pub nothing : {E : Type 0} → Format E (Unit {0})
 nothing = record { text = λ x. []; read = λ c. Ok (tt, c); Form = λ x. Unit {0} }
 
--- one behind the other, where the first says how the second is spelled
+-- one after the other; the first says how the second is encoded
 abbrev pub dependent : {E A B : Type 0} → Format E A → (A → Format E B) → Format E (A × B)
 dependent f g = record {
   text = λ p. f.text p.0 ++ (g p.0).text p.1;
@@ -35,7 +35,7 @@ dependent f g = record {
   Form = λ p. f.Form p.0 × (g p.0).Form p.1;
 }
 
--- one behind the other
+-- one after the other
 infixr 20 ◌⊗◌
 abbrev pub ◌⊗◌ : {E A B : Type 0} → Format E A → Format E B → Format E (A × B)
 f ⊗ g = dependent f (λ x. g)
@@ -51,7 +51,7 @@ seen_as f whole parts Form = record {
 abbrev pub as_parts : {E A B : Type 0} → Format E A → (A → B) → (B → A) → Format E B
 as_parts f whole parts = seen_as f whole parts (λ b. f.Form (parts b))
 
--- so many values
+-- this many values
 unfoldable pub items : {E A : Type 0} → Reader E A → ℕ → Reader E (List A)
 items read zero c = Ok ([], c)
 items read (suc n) c = do

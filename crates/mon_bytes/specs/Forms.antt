@@ -1,4 +1,4 @@
--- Reading what the services keep, where each field at fault is named by its first place.
+-- Reading what the services keep. Each faulty field is named by its first byte.
 use Rattle.std.specs.Prelude.{ℕ, ◌++◌, Bool, true, false, List, length, Result, Ok, Err, ◌==◌, if◌then◌else◌}
 use Rattle.std.specs.Str.{is_utf8}
 use Rattle.byteorder.specs.Endian.{little_bytes}
@@ -34,21 +34,21 @@ Gives view result read = answers.Gives no_memory view result read
 unfoldable pub u32_bytes : ℕ → List ℕ
 u32_bytes n = little_bytes 4 n
 
--- a text with its length in front
+-- a text after its length
 abbrev pub text_bytes : List ℕ → List ℕ
 text_bytes text = u32_bytes (length text) ++ text
 
--- a length, and so many bytes of UTF-8
+-- a length, and UTF-8 of this many bytes
 unfoldable pub text_at : Reading → Result (List ℕ × Reading) MapRefused
 text_at c = do
   n ← fitted (number 4 c)
   bytes ← fitted (front n.0 n.1)
   if is_utf8 bytes.0 then Ok bytes else Err (refused.Form n.1.at)
 
--- what was read, where nothing is left; the first byte too many is at fault
+-- what was read, if nothing is left; the first byte too many is at fault
 unfoldable pub ended : {A : Type 0} → A × Reading → Result A MapRefused
 ended x = if length x.1.rest == 0 then Ok x.0 else Err (refused.Form x.1.at)
 
--- what all of the bytes spell
+-- what all of the bytes encode
 unfoldable pub whole : {A : Type 0} → Format MapRefused A → List ℕ → Result A MapRefused
 whole f bytes = f.read (record { at = 0; rest = bytes }) >>= λ x. ended x

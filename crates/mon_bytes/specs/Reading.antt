@@ -23,7 +23,7 @@ front n c = if nat_lt (length c.rest) n then Err (record { at = c.at }) else Ok 
 abbrev pub number : ℕ → Reading → Result (ℕ × Reading) Short
 number n c = if nat_lt (length c.rest) n then Err (record { at = c.at }) else Ok (little_number n (take n c.rest), moved n c)
 
--- What a cursor's call answered and left, where it should have read `wanted`. A refusal leaves the cursor.
+-- What a cursor's call returned and left, if it should have read `wanted`. A refusal leaves the cursor as it was.
 abbrev pub Steps : {X Y : Type 0} → (X → Y) → Result X Short → Reading → Reading → Result (Y × Reading) Short → Type 0
 Steps view (Ok x) old new wanted = wanted ≡ Ok (view x, new)
 Steps view (Err e) old new wanted = (wanted ≡ Err e) × (new ≡ old)
@@ -33,6 +33,6 @@ pub record Takes (c : Reading) (taken : List ℕ) (after : Reading) : Type 0 whe
   pub parts : c.rest ≡ taken ++ after.rest
   pub bytes : IsBytes after.rest
 
--- a reader finds this in front of the rest
+-- a reader finds this before the rest
 abbrev pub Found : {A E : Type 0} → Result (A × Reading) E → A → List ℕ → Type 0
 Found read x rest = (after : Reading) × (after.rest ≡ rest) × (read ≡ Ok (x, after))

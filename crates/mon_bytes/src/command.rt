@@ -47,7 +47,7 @@ pub enum CommandRefused {
     /// The value or text has `len` bytes, above the `most` that are taken.
     #[error("{len} bytes, above {most}")]
     TooLong { len: u64, most: u64 },
-    /// The service's map would take so many bytes.
+    /// The service's map would take this many bytes.
     #[error("the map would have {would_be} bytes")]
     MapFull { would_be: u64 },
     #[error("out of memory")]

@@ -54,7 +54,7 @@ impl<'a> Cursor<'a> {
         self.bytes.len() - self.at
     }
 
-    /// The next `n` bytes. `Short` exactly where fewer are left.
+    /// The next `n` bytes. `Short` if and only if fewer are left.
     pub fn take_bytes(&mut self, n: usize) -> Result<&'a [u8], Short>
         ensures step { Steps (λ x. x.now) result self.old self.new (front n self.old) }
         ensures len { IfOk result (λ x. length x.now ≡ n) }

@@ -12,25 +12,25 @@ pub trait Decode: Drop + Sized {
     ghost use Rattle.mon_bytes.specs.declared.command.MapRefused.{MapRefused};
     ghost use Rattle.mon_bytes.specs.Format.{Format};
 
-    /// How a value is spelled, how one is read, and which values have a text.
+    /// How a value is encoded and decoded, and which values have an encoding.
     ghost format: { Format MapRefused Self };
 
-    /// What all of the bytes spell.
+    /// The value that all of the bytes encode.
     ghost spelled: { List ℕ → Result Self MapRefused };
 
-    /// Reads a value from the front. A refusal leaves the cursor anywhere.
+    /// Reads a value from the front of the cursor. After a refusal the cursor may be anywhere.
     fn read(alloc: Global, cursor: &mut Cursor<'_>) -> Result<Self, MapRefused>
         ensures value { Reads (λ x. x) result cursor.new (format.read cursor.old) }
-        // What is read is spelled so, and what is spelled so is read.
+        // Decoding accepts exactly the encodings.
         ensures lawful { IsLawful format }
-        // `spelled` reads one value, and nothing may be left behind it.
+        // `spelled` reads one value, and nothing may follow it.
         ensures whole { (bytes : List ℕ) → spelled bytes ≡ whole format bytes };
 
-    /// The value that the bytes spell, all of the bytes. `Form` names the first place of the first field at fault.
+    /// Decodes a value from all of the bytes. `Form` names the first byte of the first faulty field.
     final fn decode(alloc: Global, bytes: &[u8]) -> Result<Self, MapRefused>
-        // What is read is spelled so.
+        // What is read is the value whose encoding the bytes are.
         ensures found { IfOk result (λ x. format.Form x × (bytes.now ≡ format.text x)) }
-        // What is spelled so is read, unless memory runs out.
+        // An encoding is read, unless memory runs out.
         ensures only { (x : Self) → format.Form x → bytes.now ≡ format.text x → Gives (λ x. x) result (Ok x) }
         // Which field is at fault.
         ensures exact { Gives (λ x. x) result (spelled bytes.now) }
@@ -39,7 +39,7 @@ pub trait Decode: Drop + Sized {
     }
 }
 
-/// What was read, where nothing is left.
+/// What was read, if nothing is left.
 #[tactic(auto, unfolding(crate::specs::Forms::ended))]
 fn ended<T: Drop>(value: T, cursor: &Cursor<'_>) -> Result<T, MapRefused>
     ensures { Gives (λ x. x) result (ended (value, cursor.now)) }

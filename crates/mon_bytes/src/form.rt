@@ -10,8 +10,8 @@ use crate::texts::Text;
 use byteorder::{ByteOrder, LittleEndian};
 use std::alloc::Global;
 
-/// Reads a length in four bytes and a text of so many bytes. A field that doesn't fit, and bytes that aren't UTF-8, are
-/// at fault at their first place. A refusal leaves the cursor anywhere.
+/// Reads a length in four bytes, and then a text of that length. The fault of a field that doesn't fit, or whose
+/// bytes aren't UTF-8, is at its first byte. After a refusal the cursor may be anywhere.
 #[tactic(auto, unfolding(crate::specs::Forms::text_at))]
 pub fn read_text(alloc: Global, cursor: &mut Cursor<'_>) -> Result<Text, MapRefused>
     ensures { Reads (λ text. text) result cursor.new (text_at cursor.old) }

@@ -6,7 +6,7 @@ use crate::texts::Bytes;
 use std::alloc::Global;
 use std::marker::Model;
 
-/// What can be copied where there is memory for it.
+/// What can be copied, if there is memory for it.
 pub trait TryCopy: Drop + Sized {
     /// An equal value.
     fn try_copy(&self, alloc: Global) -> Result<Self, OutOfMemory>

@@ -55,7 +55,7 @@ impl Model for Text {
 }
 
 impl Text {
-    /// `None` exactly where the bytes aren't UTF-8. It takes no memory.
+    /// `None` if and only if the bytes aren't UTF-8. It takes no memory.
     pub fn new(bytes: Vec<u8>) -> Option<Text>
         ensures valid { is_some result ≡ is_utf8 bytes.items }
         ensures value { IfSome result (λ x. x ≡ bytes.items) }

@@ -46,7 +46,7 @@ impl<const MOST: usize> Model for Word<MOST> {
 }
 
 impl<const MOST: usize> Word<MOST> {
-    /// `None` exactly where the bytes aren't 1 to `MOST` graphic ones. It takes no memory.
+    /// `None` if and only if the bytes aren't 1 to `MOST` graphic ones. It takes no memory.
     pub fn new(bytes: Vec<u8>) -> Option<Word<MOST>>
         ensures valid { is_some result ≡ is_word MOST bytes.items }
         ensures value { IfSome result (λ x. x ≡ bytes.items) }

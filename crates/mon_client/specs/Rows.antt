@@ -1,4 +1,4 @@
--- The inputs that clients' commands and reads are made of, and what is known where their rows are answered.
+-- The inputs of clients' commands and reads, and what is known when their rows are proved.
 use Rattle.std.specs.Prelude.{◌≡◌, ℕ, Bool, true, false}
 use Rattle.mon_msg.specs.Protocol.Course.{Course}
 use Rattle.mon_msg.specs.Protocol.Readings.{Readings}
@@ -35,7 +35,7 @@ is_input (input.Deliver m) = is_told m.body
 is_input (input.Timer t) = is_rung t
 is_input (input.Client session r) = is_asked r
 
--- An event under way, whatever is remembered of clients: the store tells this, and the other roles are seen so.
+-- An event under way, whatever is remembered of clients: the store's readers return this, and the other roles are seen so.
 pub record IsUnderWay (me : Me) (now : ℕ) (w : Readings) (view : View) (x : Course) : Type 0 where
   pub readings : x.readings ≡ w
   pub seen : IsSeen me now x.readings x.state view

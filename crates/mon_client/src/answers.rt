@@ -1,4 +1,4 @@
-//! What clients are told at once.
+//! What one reply to a client may have.
 
 ghost use Rattle.std.specs.Prelude.{◌≡◌, ◌<◌, [], ◌∷◌, IfOk};
 ghost use Rattle.mon_msg.specs.Protocol.Commands.{most_text, text_length, is_too_long, too_long};

@@ -24,7 +24,7 @@ use mon_plan::{answer, message, stay};
 use mon_types::{GREATEST, Moment, Which};
 use std::alloc::Global;
 
-/// As many commands wait at a leader, and as many clients at a peon.
+/// At most this many commands queue at a leader, and at most this many sessions wait at a peon.
 const MOST_WAITING: u64 = 64;
 
 fn busy() -> Reply
@@ -87,7 +87,7 @@ fn are_sessions_full(clients: &Clients) -> bool
     clients.sessions.len() as u64 >= MOST_WAITING
 }
 
-/// A command waits behind the others.
+/// A command queues after the others.
 fn queue_up(mut clients: Clients, command: Command, origin: Origin) -> Result<Clients, OutOfMemory>
     ensures { IfOk result (λ after. after ≡ record clients {
       queue = clients.queue ++ record { command = command; origin = origin } ∷ [];
@@ -260,7 +260,7 @@ fn take_first(mut clients: Clients) -> (Waiting, Clients)
     (first, clients)
 }
 
-/// The first command that waits is proposed, where one may be.
+/// The first command that waits is proposed, if one may be.
 pub fn propose_due(
     alloc: Global,
     kv: &Kv,

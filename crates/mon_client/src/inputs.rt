@@ -91,12 +91,11 @@ fn client(
     }
 }
 
-/// What a monitor does where a client asks for a change or for what changed, at a FORWARD or ROUTE that is heard, and
-/// when the timer that proposes, which was armed, comes and is disarmed: its row of the protocol's table. A FORWARD
-/// counts where it is of a member of the quorum that the monitor leads, in its epoch, with a greater number than those
-/// before; a ROUTE where it is of the leader that it follows, in its epoch. Else nothing is done. `Spent` names the
-/// version of the command's service after its last one, or the number of a command that is handed on, where that would
-/// pass 2^62.
+/// What a monitor does if a client asks for a change or for what changed, at a FORWARD or ROUTE that is taken, and
+/// when the timer that proposes fires: its row of the protocol's table. A FORWARD counts if it is of a member of the
+/// quorum that the monitor leads, in its epoch, with a greater number than those before; a ROUTE if it is of the
+/// leader that it follows, in its epoch. Otherwise nothing is done. `Spent` names the version of the command's
+/// service after its last one, or the number of a forwarded command, if that would pass 2^62.
 pub fn step(
     alloc: Global,
     kv: &Kv,

@@ -27,7 +27,7 @@ fn is_member(phase: Phase) -> bool
     is_leading(phase) || is_peon(phase)
 }
 
-/// What a client is told that asks what changed after a version.
+/// The reply to a client that asks what changed after a version.
 fn told(
     alloc: Global,
     kv: &Kv,

@@ -1,4 +1,4 @@
--- How an event comes to what a row or an act wants, once a role has planned it.
+-- How an event gets the result of a row or an act, after a role has planned it.
 use Rattle.std.proofs.Common.{◌≡◌, ℕ, List, Result, Ok, Err, refl, sym, ap, subst, ◌∙◌}
 use Rattle.mon_msg.specs.Protocol.Course.{Course}
 use Rattle.mon_msg.specs.Protocol.Readings.{Readings, epoch_of, readings_of, shared_entries}
@@ -25,9 +25,9 @@ use Rattle.mon_event.specs.Events.{Goes, IsCarried, IsUnderWay, Reaches}
 use Rattle.mon_event.specs.State.{state_of}
 use Rattle.mon_event.specs.declared.event.Event.{Event}
 
--- ---- what the store tells
+-- ---- what the store's readers return
 
--- the store tells what the event's transaction leaves
+-- the store's readers return what the event's transaction leaves
 pub tells : (m : Store) (e : Event) (x : Course) → IsUnderWay (readings_of m) e x → x.readings ≡ readings_of (apply e.tx m)
 tells m e x h =
     h.readings ∙ sym (readings-after x.changes h.fit m) ∙ ap (λ (ops : List Op). readings_of (apply ops m)) (sym h.spelled)
@@ -36,7 +36,7 @@ pub tells_epoch : (m : Store) (e : Event) (x : Course) → IsUnderWay (readings_
     → (epoch : ℕ) → epoch ≡ epoch_of (readings_of (apply e.tx m)) → epoch_of x.readings ≡ epoch
 tells_epoch m e x h epoch is = ap epoch_of (tells m e x h) ∙ sym is
 
--- but for the epoch and the count of starts it tells what it told
+-- except for the epoch and the count of starts, they return the same
 pub kept : (m : Store) (e : Event) (x : Course) → IsUnderWay (readings_of m) e x → KeepsAll m e.tx
     → x.readings ≡ record (readings_of m) { epoch = x.readings.epoch; boot = x.readings.boot }
 kept m e x h k = subst (λ (w : Readings). w ≡ record (readings_of m) { epoch = w.epoch; boot = w.boot }) (sym (tells m e x h)) k
@@ -50,7 +50,7 @@ module _ {S : Type 0} (me : Me) (now : ℕ) (is : S → Course → Course) (B : 
   fails e stop.OutOfMemory h = tt
   fails e (stop.Spent which) h = h x b
 
-  -- one was made and carried out in an event that stands where it starts
+  -- one was made and carried out in an event whose state is its start
   module _ (p : Plan S) (d : Does me now is B start wanted p) (e : Event) (h : IsUnderWay w e (start x))
       (c : Event) (n : Next) (k : IsCarried is e p c n) where
     abbrev after : Course

@@ -29,14 +29,14 @@ use Rattle.mon_core.specs.Rows.{IsReady}
 use Rattle.mon_core.proofs.Acting.{rests}
 use Rattle.mon_core.proofs.Taking.{unheard}
 
--- an event that has just begun is where nothing is done
+-- an event that has just begun has done nothing
 pub drops : (me : Me) (m : Store) (e : Event) → IsReady me e
     → (wanted : Result Course Which) → wanted ≡ Ok (at_rest (readings_of m) (state_of e.state)) → Reaches (readings_of m) wanted e (Ok tt)
 drops me m e r wanted is = record { course = at_rest (readings_of m) (state_of e.state); wanted_is = is; under_way = rests me m e r }
 
 -- ---- messages
 
--- a message that is heard isn't longer than one among so many monitors
+-- a message that is taken isn't longer than one among this many monitors
 pub heard_fits : (me : Me) (m : Message) → is_heard me m ≡ true → MayCome (input.Deliver m) → may_come me.member.monitors (input.Deliver m) ≡ true
 heard_fits me m heard may =
     let here : m.monitors ≡ me.member.monitors = grind (arith, nat_tests, heard) in

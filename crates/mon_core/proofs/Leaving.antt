@@ -30,7 +30,7 @@ use Rattle.mon_event.specs.Events.{IsCarried, IsUnderWay, remembering}
 use Rattle.mon_event.specs.State.{state_of}
 use Rattle.mon_event.specs.declared.event.Event.{Event}
 
--- ---- what the store tells, but for the epoch and the count of starts
+-- ---- what the store's readers return, except for the epoch and the count of starts
 
 abbrev Kept : Readings → Readings → Type 0
 Kept w v = v ≡ record w { epoch = v.epoch; boot = v.boot }
@@ -49,7 +49,7 @@ keeps_boot m tx boot short is = keeps m tx (Boot boot ∷ []) (short, tt) is ref
 pub keeps_first : (m : Store) (tx : List Op) (boot : ℕ) → boot ≤ 2 ^ 62 → tx ≡ spelled (Boot boot ∷ Epoch 1 ∷ []) → KeepsAll m tx
 keeps_first m tx boot short is = keeps m tx (Boot boot ∷ Epoch 1 ∷ []) (short, (omega arith, tt)) is refl
 
--- so it does where the epoch is written behind
+-- so it does if the epoch is written after
 pub keeps_more : (m : Store) (before tx all : List Op) → all ≡ before ++ tx → KeepsAll m before → TellsEpoch tx → KeepsAll m all
 keeps_more m before tx all is k t =
     let m' : Store = apply before m in
@@ -76,7 +76,7 @@ module _ {S : Type 0} (put : S → State → State) (on : LeadsOn put) (me : Me)
   after : IsUnderWay (readings_of m) c (done (remembering put) cs p begins)
   after = k.done cs fit spells (readings_of m) begins (rests me m e r)
 
-  -- as the plan's role remembers anew
+  -- as the plan's role gets its new state
   abbrev by_then : Course
   by_then = changed cs (stands p.next begins)
 
@@ -84,7 +84,7 @@ module _ {S : Type 0} (put : S → State → State) (on : LeadsOn put) (me : Me)
   writes : c.tx ≡ p.tx
   writes = k.written ∙ ap (λ (ops : List Op). ops ++ p.tx) r.unwritten
 
-  -- where no other phase begins with the plan
+  -- if no other phase begins with the plan
   leads : stands p.next begins ≡ begins → e.state.phase ≡ phase.Active → Leads (state_of c.state)
   leads stays active =
       let state : by_then.state ≡ state_of e.state = changed-state cs (stands p.next begins) ∙ ap (λ (x : Course). x.state) stays in
@@ -111,7 +111,7 @@ module _ {S : Type 0} (put : S → State → State) (on : LeadsOn put) (me : Me)
       by (next.RecentSync from) e l = keeps_none m c.tx (writes ∙ l)
       by (next.Begin value o) e l = (writes ∙ l.0, leads (ap (λ n. stands n begins) e) (sym is_at ∙ l.1), l.2)
 
--- ---- what follows where a monitor begins anew
+-- ---- what follows if a monitor begins again
 
 pub ends_last : (me : Me) (tx : List Op) (n : Next) → Ends me n tx → IsLast n
 ends_last me tx next.Stay h = tt
@@ -124,7 +124,7 @@ ends_last me tx (next.FullSync from) h = h
 ends_last me tx (next.RecentSync from) h = h
 ends_last me tx (next.Begin value o) h = h
 
--- one that wins alone kept what its store told
+-- one that wins alone kept what its store's readers return
 module _ (me : Me) (m : Store) (e begun : Event) (same : begun.tx ≡ e.tx) (may : MayAct me m e next.Bootstrap)
     (tx : List Op) (c : Event) (written : c.tx ≡ begun.tx ++ tx) where
   pub may_end : (n : Next) → Ends me n tx → MayAct me m c n

@@ -1,4 +1,4 @@
--- An event that comes to what the protocol says is its reaction.
+-- An event that does what the protocol says is its reaction.
 use Rattle.std.proofs.Common.{◌≡◌, ℕ, List, [], Ok, Err, refl, sym, ap, subst, ◌∙◌}
 use Rattle.mon_bounds.specs.Remembered.{MayRemember}
 use Rattle.mon_bounds.proofs.Table.{boot_ok}

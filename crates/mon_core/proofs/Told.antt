@@ -1,4 +1,4 @@
--- What a client is told that asks for a map.
+-- The reply to a client that asks for a map.
 use Rattle.std.proofs.Common.{◌≡◌, ℕ, Bool, true, false, not, ◌&&◌, ◌||◌, List, Option, Result, Ok, refl, ap, ◌∙◌}
 use Rattle.std.specs.Prelude.{if◌then◌else◌}
 use Rattle.mon_bytes.specs.declared.entry.Entry.{Entry}
@@ -28,7 +28,7 @@ use Rattle.mon_core.specs.Known.{asks_any_map, asks_for}
 use Rattle.mon_wire.specs.declared.request.Session.{Session}
 use Rattle.svc_core.specs.declared.cache.Known.{Known}
 
--- what is told, by where the monitor stands
+-- the reply, by the monitor's phase
 abbrev pub told : (is_member may_read : Bool) → (not_readable shown : Reply) → Reply
 told member may_read not_readable shown = if not member then reply.Unavailable else (if not may_read then not_readable else shown)
 
@@ -39,7 +39,7 @@ module _ (session : Session) (x : Course) where
   abbrev says : Reply → Answer
   says r = Ok (reply_to session r x)
 
-  -- one that isn't started stands in no quorum
+  -- one that isn't started is in no quorum
   by_phase : (p : Phase) (other : Answer)
       → (if same_phase p phase.Booting then says reply.Unavailable else (if not (is_member p) then says reply.Unavailable else other))
       ≡ (if not (is_member p) then says reply.Unavailable else other)
@@ -85,7 +85,7 @@ pub asks_none : (came : Input) → asks_any_map came ≡ false → (s : Service)
 asks_none came h service.Kv = (neither (asks_for service.Kv came) (asks_for service.Log came) h).0
 asks_none came h service.Log = (neither (asks_for service.Kv came) (asks_for service.Log came) h).1
 
--- where no map is asked for none becomes known
+-- if no map is asked for, none becomes known
 pub unasked : (shown asked : Bool) (read k : Option Known) → asked ≡ false → (if shown && asked then read else k) ≡ k
 unasked true asked read k h = ap (λ b. if b then read else k) h
 unasked false asked read k h = refl

@@ -16,7 +16,8 @@ use Rattle.mon_wire.specs.declared.phase.Phase.TheVariants as phase
 use Rattle.mon_event.specs.Events.{IsUnderWay, Reaches}
 use Rattle.mon_event.specs.declared.event.Event.{Event}
 
--- what the store tells after these changes is what it told, but for the epoch and the count of starts
+-- what the store's readers return after these changes is what they returned before, except for the epoch and the count of
+-- starts
 abbrev pub KeepsAll : Store → List Op → Type 0
 KeepsAll m tx = let after = readings_of (apply tx m) in
     after ≡ record (readings_of m) { epoch = after.epoch; boot = after.boot }
@@ -38,7 +39,7 @@ MayAct me m e (next.Begin value o) =
 abbrev pub Leads : State → Type 0
 Leads s = s.phase ≡ phase_of s.leader.stage
 
--- so it stays with an active leader, whatever a role remembers anew
+-- so it stays with an active leader, whichever role's state is replaced
 abbrev pub LeadsOn : {S : Type 0} → (put : S → State → State) → Type 0
 LeadsOn {S} put = (x : S) (s : State) → s.phase ≡ phase.Active → Leads s → Leads (put x s)
 

@@ -5,7 +5,7 @@ use Rattle.mon_msg.specs.Joined.{puts}
 use Rattle.mon_tx.specs.declared.op.Op.{Op}
 use Rattle.mon_tx.specs.declared.op.Op.TheVariants.{Put, Erase, ErasePrefix, EraseRange}
 
--- whether one of the changes behind a put puts its key again
+-- whether one of the changes after a put puts its key again
 abbrev pub is_put_again : Op → List Op → Bool
 is_put_again (Put prefix key value) ops = list_any (puts (prefix, key)) ops
 is_put_again (Erase prefix key) ops = false

@@ -25,13 +25,13 @@ abbrev pub core_stop : RoleStop → CoreStop
 core_stop role_stop.OutOfMemory = stop.OutOfMemory
 core_stop (role_stop.Spent which) = stop.Spent which
 
--- an event comes to what the protocol says of an input, or its role stops
+-- an event has the result that the protocol states for an input, or its role stops
 abbrev pub Comes : Me → Store → (now : ℕ) → (old : Event) → Input → (new : Event) → Result Unit CoreStop → Type 0
 Comes me m now old came new (Ok done) = AnswersInput me m now old came new (Ok done)
 Comes me m now old came new (Err stop.OutOfMemory) = Unit {0}
 Comes me m now old came new (Err (stop.Spent which)) = AnswersInput me m now old came new (Err (role_stop.Spent which))
 
--- the entries of a store that a message tells are named as they must be
+-- the entries of a store in a message are named as they must be
 abbrev pub TellsNamed : Sent → Type 0
 TellsNamed (sent.Message to m) = AllByRecursion IsNamed (entries_in m.body)
 TellsNamed (sent.Reply to r) = Unit {0}
@@ -49,7 +49,7 @@ pub record IsReaction (old new : Monitor) (m : Store) (now : ℕ) (came : Input)
       (known old.cache s))
   pub follows : Follows new.cache (readings_of (apply r.tx m))
 
--- or it tells which number runs out; or memory ran out
+-- or it names the number that runs out; or memory ran out
 abbrev pub Reacts : (old new : Monitor) → Store → (now : ℕ) → Input → Result Reaction CoreStop → Type 0
 Reacts old new m now came (Ok r) = IsReaction old new m now came r
 Reacts old new m now came (Err stop.OutOfMemory) = Unit {0}

@@ -1,4 +1,4 @@
--- What an input comes to.
+-- The result of an input.
 use Rattle.std.specs.Prelude.{◌≡◌, ℕ, Bool, true, false, List, Some, Result, [], ◌∷◌}
 use Rattle.mon_bounds.specs.Remembered.{MayRemember}
 use Rattle.mon_msg.specs.Protocol.Changes.{Change, Boot, Epoch}
@@ -27,12 +27,12 @@ pub record IsReady (me : Me) (e : Event) : Type 0 where
   pub unsent : e.out ≡ []
   pub remembers : MayRemember me (state_of e.state)
 
--- An input of a role, which isn't too long where it is a message.
+-- An input of a role, which isn't too long if it is a message.
 pub record IsFor (me : Me) (r : Role) (came : Input) : Type 0 where
   pub role : role_of came ≡ Some r
   pub comes : may_come me.member.monitors came ≡ true
 
--- such an event comes to what is wanted of it
+-- such an event has the wanted result
 abbrev pub ReachesFrom : Store → (old : Event) → (Course → Result Course Which) → (new : Event) →
     Result Unit RoleStop → Type 0
 ReachesFrom m old wanted new result =
@@ -52,8 +52,8 @@ abbrev pub first_changes : (boot : ℕ) → (has_epoch : Bool) → List Change
 first_changes boot true = Boot boot ∷ []
 first_changes boot false = Boot boot ∷ Epoch 1 ∷ []
 
--- A start up to where the monitor bootstraps: it is counted, and under connectivity the monitor begins to measure and
--- to ping.
+-- A start up to the point at which the monitor bootstraps: it is counted, and under connectivity the monitor begins to
+-- measure and to ping.
 abbrev pub started : Me → (now : ℕ) → (boot : ℕ) → (has_epoch : Bool) → Elector → Course → Course
 started me now boot has_epoch elector x =
     x

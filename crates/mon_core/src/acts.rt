@@ -11,7 +11,7 @@ use mon_tx::Transaction;
 use mon_types::{Moment, Rank, RankSet};
 use std::alloc::Global;
 
-/// A monitor that is alone in its map may have won as it began anew, and leads.
+/// A monitor alone in its quorum map may have won as it began again, and leads.
 fn lead_alone(
     alloc: Global,
     kv: &Kv,
@@ -30,7 +30,7 @@ fn lead_alone(
     }
 }
 
-/// The monitor begins anew, and probes.
+/// The monitor begins again, and probes.
 pub(crate) fn bootstrap(
     alloc: Global,
     kv: &Kv,
@@ -48,7 +48,7 @@ pub(crate) fn bootstrap(
     lead_alone(alloc, kv, me, event, next, now)
 }
 
-/// The monitor calls an election, and stands in it.
+/// The monitor calls an election, and takes part in it.
 fn elect(alloc: Global, kv: &Kv, me: &Me, event: &mut Event, now: Moment) -> Result<(), RoleStop>
     ensures { Acts me.now kv.now now event.old next.Elect event.new result }
 {

@@ -1,4 +1,4 @@
-//! What a monitor does at each input, but where a map is to be shown.
+//! What a monitor does at each input, except to show a map.
 
 ghost use Rattle.std.specs.Prelude.{◌≡◌, ◌≤◌, ◌^◌, ◌++◌, false, is_some, IfOk, OnOk};
 ghost use Rattle.std.specs.List.{AllByRecursion};
@@ -132,7 +132,7 @@ fn before_start(
 
 // ---- and then
 
-/// A message, which is dropped where it isn't of another monitor of the same map.
+/// A message, which is dropped if it isn't of another monitor of the same quorum map.
 fn deliver(
     alloc: Global,
     kv: &Kv,
@@ -157,7 +157,7 @@ fn deliver(
     }
 }
 
-/// A timer, which is dropped where it isn't armed, and disarmed where it is.
+/// A timer, which is dropped if it isn't set, and disarmed if it is.
 fn ring(
     alloc: Global,
     kv: &Kv,

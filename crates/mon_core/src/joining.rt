@@ -44,7 +44,7 @@ fn any_puts(prefix: &[u8], key: &[u8], ops: &[Op]) -> bool
     ops.iter().any(|op| puts(prefix, key, op))
 }
 
-/// Whether one of the changes behind a put puts its key again.
+/// Whether one of the changes after a put puts its key again.
 fn is_put_again(op: &Op, behind: &[Op]) -> bool
     ensures { result ≡ is_put_again op.now behind.now }
 {

@@ -142,32 +142,32 @@ impl Core {
         }
     }
 
-    /// Where the monitor stands.
+    /// The phase of the monitor.
     pub fn phase(&self) -> Phase
         ensures { result ≡ self.now.state.phase }
     {
         self.event.state.phase
     }
 
-    /// The timer that comes next, and its moment: the one armed for the least moment, and of several the first kind.
-    /// `None` exactly where no timer is armed.
+    /// The timer that comes next, and its time: the one set for the least time, and of several the first kind. `None`
+    /// if and only if no timer is set.
     pub fn due(&self) -> Option<(Timer, Moment)>
         ensures { result ≡ due self.now.state.timers }
     {
         self.event.state.timers.due()
     }
 
-    /// The map of a service that the core keeps, and `None` exactly where it isn't known. It takes no memory.
+    /// The map of a service that the core keeps, and `None` if and only if it isn't known. It takes no memory.
     pub fn cached(&self, service: Service) -> Option<&ShownMap>
         ensures { option_copied result ≡ option_map (λ k. k.map) (known self.now.cache service) }
     {
         self.cache.cached(service)
     }
 
-    /// What the monitor does at an input at a moment: the protocol's reaction. What it keeps of the services' maps has
-    /// to follow its store, and does so from then on once the transaction is made. `Spent` comes exactly where that
-    /// number would pass 2^62. A message, a session's number and a value have to be no longer than they may be; then
-    /// nothing that is written or sent is. After a `CoreStop` the core isn't used again.
+    /// What the monitor does at an input at a time: the protocol's reaction. The maps of the services that it keeps
+    /// have to be those of its store; once the transaction is applied, they are again. `Spent` comes if and only if
+    /// that number would pass 2^62. A message, a session's number and a value must be within their limits; then so is
+    /// all that is written or sent. After a `CoreStop` the core isn't used again.
     pub fn react(
         &mut self,
         alloc: Global,

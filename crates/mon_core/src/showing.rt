@@ -28,7 +28,7 @@ fn is_member(phase: Phase) -> bool
     is_leading(phase) || is_peon(phase)
 }
 
-/// The map that is kept, which is read first where it isn't known.
+/// The map that is kept, which is read first if it isn't known.
 fn shown(alloc: Global, kv: &Kv, cache: &mut Cache, service: Service) -> Result<Reply, OutOfMemory>
     requires { Follows cache.old (readings_of kv.now) }
     ensures reply { IfOk result (λ reply. reply ≡ shown (readings_of kv.now) service) }
@@ -46,7 +46,7 @@ fn shown(alloc: Global, kv: &Kv, cache: &mut Cache, service: Service) -> Result<
     })
 }
 
-/// What a client is told that asks for a map.
+/// The reply to a client that asks for a map.
 fn told(
     alloc: Global,
     kv: &Kv,

@@ -1,4 +1,4 @@
--- The formats of bodies read what they spell.
+-- The formats of bodies read what they encode.
 use Rattle.std.proofs.Common.{◌≡◌, ℕ, ◌≤◌, List, ◌++◌, refl}
 use Rattle.mon_bytes.specs.Reading.{Reading}
 use Rattle.mon_bytes.proofs.Fields.{Found}

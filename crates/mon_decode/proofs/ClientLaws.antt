@@ -1,4 +1,4 @@
--- The formats of requests and replies read what they spell.
+-- The formats of requests and replies read what they encode.
 use Rattle.std.proofs.Common.{◌≡◌, ℕ, false, List, [], ◌∷◌, ◌++◌, Ok, IsTrue, refl, subst, inl, inr}
 use Rattle.std.specs.List.{AllByRecursion}
 use Rattle.mon_bytes.specs.Reading.{IsBytes, Reading, number}

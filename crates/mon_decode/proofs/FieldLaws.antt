@@ -1,4 +1,4 @@
--- The formats of single fields read what they spell.
+-- The formats of single fields read what they encode.
 use Rattle.std.proofs.Common.{◌≡◌, ℕ, zero, suc, ◌^◌, ◌≤◌, ◌<◌, Bool, true, false, cond, eqb, ltb, List, [], ◌∷◌, ◌++◌, length, Result, Ok, Err, IsTrue, refl, sym, ap, subst, ◌∙◌, append_assoc, arith, inl, inr}
 use Rattle.std.specs.Str.{is_utf8}
 use Rattle.std.proofs.lemmas.Bool.{ltb-false, le-ltb, eqb-true}
@@ -66,7 +66,7 @@ flag-lawful = record { takes = flag_is_taken; found = flag_is_found }
 
 -- ---- bytes with their length
 
--- a length in four bytes, and so many bytes
+-- a length in four bytes, and this many bytes
 pub length_takes : (c : Reading) (n : ℕ × Reading) (bytes : List ℕ × Reading) → IsBytes c.rest → cut (number 4 c) ≡ Ok n → cut (front n.0 n.1) ≡ Ok bytes → Takes c (text_bytes bytes.0) bytes.1 × (length bytes.0 < 2 ^ 32)
 length_takes c n bytes fits first others =
     let t0 = u32_takes c n fits (at_fault_ok faults.cut (number 4 c) n first) in
@@ -152,7 +152,7 @@ IsBytes-front [] ys h i = omega arith
 IsBytes-front (x ∷ xs) ys h zero = h 0
 IsBytes-front (x ∷ xs) ys h (suc i) = IsBytes-front xs ys (λ j. h (suc j)) i
 
--- the bytes behind a length are bytes
+-- the bytes after a length are bytes
 pub counted_bytes : (c after : Reading) (bytes : List ℕ) → IsBytes c.rest → Takes c (text_bytes bytes) after → IsBytes bytes
 counted_bytes c after bytes fits t =
     let whole : IsBytes (text_bytes bytes ++ after.rest) = subst IsBytes t.parts fits in

@@ -1,4 +1,4 @@
--- The formats of the parts of messages read what they spell.
+-- The formats of the parts of messages read what they encode.
 use Rattle.std.proofs.Common.{◌≡◌, ℕ, ◌^◌, ◌<◌, List, ◌++◌, length, Option, Some, None, Result, Ok, Err, refl, subst}
 use Rattle.mon_bytes.specs.declared.command.Command.{Command}
 use Rattle.mon_bytes.specs.declared.command.Command.TheVariants as command

@@ -1,4 +1,4 @@
--- What is read as a message is spelled so, and what is spelled so is read.
+-- What is read as a message is encoded so, and what is encoded so is read.
 use Rattle.std.proofs.Common.{◌≡◌, ℕ, ◌^◌, ◌≤◌, ◌<◌, true, false, not, ◌&&◌, cond, eqb, ltb, leb, List, [], ◌∷◌, ◌++◌, length, Result, Ok, Err, refl, sym, ap, subst, ◌∙◌, arith, inl, inr}
 use Rattle.std.specs.Prelude.{IfOk}
 use Rattle.std.proofs.lemmas.Bool.{ltb-false, le-ltb, eqb-true, cases_eq}
@@ -148,7 +148,7 @@ pub message_is_found : (bytes : List ℕ) (r : Result Message MsgRefused) → Is
 message_is_found bytes (Ok m) fits h = message_of_takes bytes m fits h
 message_is_found bytes (Err e) fits h = tt
 
--- ---- the whole, spelled
+-- ---- the whole, encoded
 
 format_found : (c : Reading) (rest : List ℕ) → c.rest ≡ 1 ∷ rest → Found (format_at c) 1 rest
 unfolding format_at

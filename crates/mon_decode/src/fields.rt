@@ -54,7 +54,7 @@ pub(crate) fn read_flag(cursor: &mut Cursor<'_>) -> Result<bool, MsgRefused>
     Ok(flag == 1)
 }
 
-/// Bytes with their length in front.
+/// Bytes after their length.
 #[tactic(auto, unfolding(mon_wire::specs::Message::Fields::blob_at))]
 pub(crate) fn read_slice<'a>(cursor: &mut Cursor<'a>) -> Result<&'a [u8], MsgRefused>
     ensures { Reads (λ x. x.now) result cursor.new (blob_at cursor.old) }
@@ -63,7 +63,7 @@ pub(crate) fn read_slice<'a>(cursor: &mut Cursor<'a>) -> Result<&'a [u8], MsgRef
     Ok(cursor.take_bytes(length as usize)?)
 }
 
-/// Bytes with their length in front, copied.
+/// Bytes after their length, copied.
 pub(crate) fn read_blob(alloc: Global, cursor: &mut Cursor<'_>) -> Result<Bytes, MsgRefused>
     ensures { Reads (λ x. x) result cursor.new (blob_at cursor.old) }
 {
@@ -72,7 +72,7 @@ pub(crate) fn read_blob(alloc: Global, cursor: &mut Cursor<'_>) -> Result<Bytes,
     Ok(Bytes::new(bytes))
 }
 
-/// UTF-8 with its length in front.
+/// UTF-8 after its length.
 #[tactic(auto, unfolding(mon_wire::specs::Message::Fields::text_at))]
 pub(crate) fn read_utf8(alloc: Global, cursor: &mut Cursor<'_>) -> Result<Text, MsgRefused>
     ensures { Reads (λ x. x) result cursor.new (text_at cursor.old) }
@@ -117,7 +117,7 @@ pub(crate) fn read_word<const MOST: usize>(
     Ok(Word::from_slice(alloc, bytes)?)
 }
 
-/// A transaction's text with its length in front.
+/// A transaction's encoding after its length.
 #[tactic(auto, unfolding(mon_wire::specs::Message::Fields::value_at))]
 pub(crate) fn read_value(alloc: Global, cursor: &mut Cursor<'_>) -> Result<Transaction, MsgRefused>
     ensures { Reads (λ x. x) result cursor.new (value_at cursor.old) }

@@ -1,4 +1,5 @@
-//! Messages from their bytes. No crate of the protocol stands on this one: only what hears datagrams reads them.
+//! Messages from their bytes. No crate of the protocol depends on this one: only what receives datagrams decodes
+//! them.
 #![tactic(auto)]
 
 mod fields;

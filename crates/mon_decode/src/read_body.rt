@@ -256,7 +256,7 @@ fn read_ping_reply(
     Ok(Body::PingReply { table })
 }
 
-/// What a message of the monitor `own` of `n` says behind its header, by its kind.
+/// What follows the header of a message of the monitor `own` of `n`, by its kind.
 pub(crate) fn read_body(
     alloc: Global,
     n: u8,

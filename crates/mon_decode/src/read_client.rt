@@ -91,7 +91,7 @@ fn read_readable(cursor: &mut Cursor<'_>) -> Result<Reply, MsgRefused>
     Ok(Reply::NotReadable { has, lease })
 }
 
-/// What a leader answers to a command that was handed on, behind the kind that was read at that place.
+/// What a leader replies to a forwarded command, after the kind that was read at that place.
 fn read_answer(at: usize, kind: u8, cursor: &mut Cursor<'_>) -> Result<Reply, MsgRefused>
     ensures { Reads (λ x. x) result cursor.new (chosen routed_kinds at kind cursor.old) }
 {

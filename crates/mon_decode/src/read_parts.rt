@@ -107,7 +107,7 @@ pub(crate) fn read_command(alloc: Global, cursor: &mut Cursor<'_>) -> Result<Com
     }
 }
 
-/// A service's map, with the length of its text in front.
+/// A service's map, after the length of its encoding.
 #[tactic(auto, unfolding(mon_wire::specs::Message::Parts::shown_map_at))]
 pub(crate) fn read_shown_map(
     alloc: Global,

@@ -142,7 +142,7 @@ fn read_message(alloc: Global, cursor: &mut Cursor<'_>) -> Result<Message, MsgRe
     })
 }
 
-/// The message, where nothing is left.
+/// The message, if nothing is left.
 #[tactic(auto, unfolding(mon_wire::specs::Message::Whole::ended))]
 fn ended(message: Message, cursor: &Cursor<'_>) -> Result<Message, MsgRefused>
     ensures { Gives (λ x. x) result (ended (message, cursor.now)) }
@@ -178,12 +178,12 @@ fn read(alloc: Global, bytes: &[u8]) -> Result<Message, MsgRefused>
     read_whole(alloc, &mut Cursor::new(bytes))
 }
 
-/// The message that the bytes spell, all of the bytes; a refusal names the first field at fault and what is wrong with it.
-/// It takes memory as it reads, and none for items that a text only claims to have.
+/// Decodes a message from all of the bytes. A refusal names the first faulty field and its fault. Memory is taken as
+/// the bytes are read, and none for items that a message only claims to have.
 pub fn decode(alloc: Global, bytes: &[u8]) -> Result<Message, MsgRefused>
-    // What is read is spelled so.
+    // What is read is the message whose encoding the bytes are.
     ensures found { IfOk result (λ m. HasText m × (bytes.now ≡ text m)) }
-    // What is spelled so is read, unless memory runs out.
+    // An encoding is read, unless memory runs out.
     ensures only { (m : Said) → HasText m → bytes.now ≡ text m → Gives (λ x. x) result (Ok m) }
     // Which field is at fault.
     ensures exact { Gives (λ x. x) result (message_of bytes.now) }

@@ -1,4 +1,4 @@
--- What a call on a disk in memory tells, by its answer.
+-- What can be seen of a disk in memory after a call, by its result.
 use Rattle.std.proofs.Common.{◌≡◌, inl, inr, ℕ, List, [], ◌∷◌, Option, Some, None, refl, ap, ◌∙◌, sym}
 use Rattle.mon_types.specs.declared.names.Stop.{Stop}
 use Rattle.mon_types.specs.declared.names.Stop.TheVariants.{Failed, OutOfMemory}
@@ -12,7 +12,7 @@ use Rattle.mon_disk.proofs.Lives.{seen_synced, sync_only}
 use Rattle.mon_disk.proofs.Contents.{leaves_now, write_goes, sync_goes}
 use Rattle.mon_disk.proofs.Following.{still}
 
--- want of memory
+-- out of memory
 pub unmade : (d : MemoryState) → Unmade (state_of d) (state_of (after_call Sync (Some OutOfMemory) d))
 unmade d = record { seen = refl; any_moment = still (content_of d.past d.life) (images (content_of d.past d.life)) (λ c left. left); known = refl; told = refl; wants = refl }
 

@@ -1,4 +1,4 @@
--- What a disk in memory tells of its moments.
+-- The points of a disk in memory.
 use Rattle.std.proofs.Common.{inr, zero, ◌≡◌, ◌⊎◌, ⊎_elim, ℕ, suc, ◌≤◌, List, [], ◌∷◌, ◌++◌, map, length, get_or, refl, sym, ap, ◌∙◌, subst, arith, append_assoc, Some}
 use Rattle.std.proofs.lemmas.List.{append-nil, map-append, length-append}
 use Rattle.std.specs.List.{flat_map}
@@ -44,7 +44,7 @@ leaves_now past life c left = as_cut life c (subst (λ (l : Lived). Leaves l c) 
 pub left_now : (past : List Lived) (life : Lived) (c : List ℕ) → Cut life c → images (content_of past life) c
 left_now past life c left = subst (λ (l : Lived). Leaves l c) (sym (as_now (earlier past life) life)) (inr (inr left))
 
--- one moment more
+-- one point more
 one_more : (old new : Content) (P : List ℕ → Type 0) → new.moment ≡ suc old.moment
     → ((t : ℕ) (c : List ℕ) → t ≤ old.moment → new.images_at t c → old.images_at t c)
     → ((t : ℕ) (c : List ℕ) → t ≤ old.moment → old.images_at t c → new.images_at t c)

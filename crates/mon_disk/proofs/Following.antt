@@ -8,9 +8,9 @@ use Rattle.mon_disk.specs.Images.{Content, images, TornFrom, LeavesOnly}
 use Rattle.mon_disk.specs.Calls.{Told, DiskState, and_made, faults_after, MayWant, Makes, Called}
 use Rattle.mon_disk.proofs.Writes.{torn_not}
 
--- ---- what a crash may leave at each moment
+-- ---- what a crash may leave at each point
 
--- time that stands still
+-- time that stays
 pub still : (x : Content) (P : List ℕ → Type 0) → ((c : List ℕ) → images x c → P c) → LeavesOnly x x P
 still x P here = record {
   later = omega arith;
@@ -24,7 +24,7 @@ still x P here = record {
 pub weaker : (old new : Content) (P R : List ℕ → Type 0) → LeavesOnly old new P → ((c : List ℕ) → P c → R c) → LeavesOnly old new R
 weaker old new P R so_far p = record { later = so_far.later; past = so_far.past; kept = so_far.kept; each = λ t c from to left. p c (so_far.each t c from to left) }
 
--- moments, and moments after them
+-- points, and points after them
 pub then_more : (old mid new : Content) (P Q R : List ℕ → Type 0) → LeavesOnly old mid P → LeavesOnly mid new Q → ((c : List ℕ) → P c → R c) → ((c : List ℕ) → Q c → R c) → LeavesOnly old new R
 then_more old mid new P Q R first second p q = record {
   later = omega (arith, first.later, second.later);
@@ -40,11 +40,11 @@ then_more old mid new P Q R first second p q = record {
     le_or_ge : (m n : ℕ) → (m ≤ n) ⊎ (n ≤ m)
     le_or_ge m n = grind arith
 
--- what may be left now is what may be left at some moment
+-- what may be left now is what may be left at some point
 pub now : (old new : Content) (P : List ℕ → Type 0) → LeavesOnly old new P → (c : List ℕ) → images new c → P c
 now old new P so_far c left = so_far.each new.moment c so_far.later (omega arith) left
 
--- what stands may be left of any write
+-- what is there may be left of any write
 pub torn_none : (x : Content) (at : ℕ) (bytes c : List ℕ) → images x c → TornFrom x at bytes c
 torn_none x at bytes c left = (c, left, torn_not at bytes c)
 

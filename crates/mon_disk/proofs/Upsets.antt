@@ -1,4 +1,4 @@
--- An upset that begins changes nothing of what a disk in memory tells of its moments so far.
+-- An injected fault that begins changes nothing at a disk's earlier points.
 use Rattle.std.proofs.Common.{inr, ◌≡◌, ℕ, zero, suc, pred, ◌+◌, ◌<◌, ◌≤◌, List, [], ◌∷◌, ◌++◌, map, length, get_or, reverse, Option, Some, None, refl, sym, ap, ◌∙◌, subst, arith}
 use Rattle.std.specs.List.{flat_map}
 use Rattle.std.proofs.lemmas.List.{take_all, drop_all, length-append, length-map}
@@ -8,7 +8,7 @@ use Rattle.mon_disk.specs.Memory.{Upset, Lived, first_write, done, lost_of, begu
 use Rattle.mon_disk.specs.MemoryDisk.{upset_life, with_calls, Leaves, beginnings, before_calls, content_of}
 use Rattle.mon_disk.proofs.Lives.{as_cut}
 
--- the life with an upset that no call has reached, and without one
+-- the life with an injected fault that no call has reached, and without one
 abbrev pub upset_after : List ℕ → Upset → List DiskCall → Lived
 upset_after first u calls = record { first = first; calls = calls; upset = Some u }
 
@@ -35,7 +35,7 @@ map_twice : {X Y Z : Type 0} (f : Y → Z) (g : X → Y) (xs : List X) → map f
 map_twice f g [] = refl
 map_twice f g (x ∷ xs) = ap (λ l. f (g x) ∷ l) (map_twice f g xs)
 
--- what holds of two lives at each beginning of their calls holds of them at each moment
+-- what holds of two lives at each beginning of their calls holds of them at each point
 along : (P : Lived → Lived → Type 0) (f g : List DiskCall → Lived) (calls : List DiskCall) (t : ℕ) → ((cs : List DiskCall) → length cs ≤ length calls → P (f cs) (g cs))
     → P (get_or (map f (beginnings calls)) t (f calls)) (get_or (map g (beginnings calls)) t (g calls))
 along P f g [] t here = here [] (omega arith)
@@ -97,7 +97,7 @@ module _ (past : List Lived) (first : List ℕ) (calls : List DiskCall) (u : Ups
         subst (λ (m : ℕ). (content_of past (sound_life first calls)).images_at m c) now (at_back t c left);
   }
 
--- the same of a life without an upset, and with the one that begins
+-- the same of a life without an injected fault, and with the one that begins
 module _ (past lives : List Lived) (kept : lives ≡ past) (life next : Lived) (call image : ℕ) (none : life.upset ≡ None) (some : 1 ≤ call) (is : next ≡ upset_life call image life) where
   abbrev u : Upset
   u = record { from = length life.calls + call; image = image }

@@ -59,7 +59,7 @@ drop-padded n at file le =
     (λ (past : length file ≤ at). drop_all n (Padded at file) (omega (arith, length-padded at file, le, past)) ∙ sym (drop_all n file (omega (arith, le, past))))
     (le_or_ge at (length file))
 
--- whether a byte that stands for a write of one byte is what a crash may leave of it
+-- whether a byte is what a crash may leave of a write of one byte
 abbrev OneByte : List ℕ → List ℕ → Type 0
 OneByte bytes kept = (byte : ℕ) → bytes ≡ byte ∷ [] → (kept ≡ []) ⊎ (kept ≡ byte ∷ []) ⊎ ((other : ℕ) × (other ≢ 1) × (kept ≡ other ∷ []))
 

@@ -1,4 +1,4 @@
--- What a disk tells of itself, and what holds of the calls that are made on it.
+-- What can be seen of a disk, and what holds of the calls on it.
 use Rattle.std.specs.Prelude.{◌≡◌, ◌⊎◌, ℕ, suc, Bool, true, false, nat_le, List, [], ◌∷◌, ◌++◌, length, Option, Some, None, IfSome, is_some}
 use Rattle.mon_types.specs.Faults.{risen}
 use Rattle.mon_types.specs.declared.names.Stop.{Stop}
@@ -13,9 +13,9 @@ pub record Told : Type 0 where
   pub fails_from : Option ℕ
   pub settles : List DiskCall → List ℕ
 
--- A disk at one moment: what it holds, and what a crash may leave of it; its known length; the calls that were made on
--- it, where it tells them; how many calls failed so far; and how many found it without memory of its own. Both counts
--- stand still at the last number of 64 bits.
+-- A disk at one point: what it holds, and what a crash may leave of it; its known length; the calls that were made on it, if
+-- they can be seen; how many calls failed so far; and how many of its own allocations failed. Both counts saturate at the
+-- greatest 64-bit number.
 pub record DiskState : Type 1 where
   pub content : Content
   pub known : ℕ
@@ -37,9 +37,9 @@ is_past (Some from) n = nat_le from n
 abbrev pub fails_next : Told → Bool
 fails_next t = is_past t.fails_from (suc (length t.made))
 
--- Which of these writes and syncs were made, in this order: each of them, where none failed; or those up to the first
--- that failed, which is where Failed comes; or those before memory ran out. A disk that tells its calls fails in none
--- but these.
+-- Which of these writes and syncs were made, in this order: each of them, if none failed; or those up to the first that
+-- failed, after which Failed is returned; or those before memory ran out. A disk whose calls can be seen fails in no other
+-- call.
 abbrev pub Makes : List DiskCall → Option Stop → Option Told → Option Told → Type 0
 Makes [] stop old new = (new ≡ old) × IfSome old (λ t. stop ≡ Some Failed → ⊥)
 Makes (call ∷ calls) stop old new =
@@ -47,28 +47,28 @@ Makes (call ∷ calls) stop old new =
     ⊎ ((stop ≡ Some Failed) × (new ≡ and_made call old) × IfSome old (λ t. fails_next t ≡ true))
     ⊎ (IfSome old (λ t. fails_next t ≡ false) × Makes calls stop (and_made call old) new)
 
--- A fault is counted where a call answers so, and nowhere else.
+-- A fault is counted if and only if a call returns Failed.
 abbrev pub faults_after : Option Stop → ℕ → ℕ
 faults_after None faults = faults
 faults_after (Some Failed) faults = risen faults
 faults_after (Some OutOfMemory) faults = faults
 
--- The disk's own want of memory is counted too. What is built on a disk may want memory of its own, which isn't.
+-- The disk's own failed allocations are counted too. Those of what is built on a disk aren't.
 abbrev pub MayWant : Option Stop → ℕ → ℕ → Type 0
 MayWant None old new = new ≡ old
 MayWant (Some Failed) old new = new ≡ old
 MayWant (Some OutOfMemory) old new = (new ≡ old) ⊎ (new ≡ risen old)
 
--- What holds of every row of calls on a disk, from its state before them to that after them, whether they came to their
--- end or to a stop: of one call, and of all that is built of them.
+-- What holds of every sequence of calls on a disk, from its state before them to that after them, whether they were all made
+-- or stopped: of one call, and of all that is built of them.
 pub record Called (calls : List DiskCall) (P : List ℕ → Type 0) (stop : Option Stop) (old new : DiskState) : Type 0 where
-  -- whether the disk tells what it holds stays
+  -- whether the disk's contents can be seen stays the same
   pub tells : is_some new.content.seen ≡ is_some old.content.seen
-  -- a crash at any moment of the calls leaves a file that has P
+  -- a crash at any point of the calls leaves a file that has P
   pub any_moment : LeavesOnly old.content new.content P
   -- these writes and syncs were made, up to the stop
   pub made : Makes calls stop old.told new.told
-  -- what the counts tell of the stop
+  -- what the counts say of the stop
   pub faults : new.faults ≡ faults_after stop old.faults
   pub wants : MayWant stop old.wants new.wants
 

@@ -83,7 +83,7 @@ settled_from c = settled_with c.upset c
 
 -- ---- of which life it is
 
--- the writes since the last sync among these calls, newest first, and what stood at that sync
+-- the writes since the last sync among these calls, newest first, and what was at that sync
 abbrev pub since_sync : List DiskCall → List DiskCall
 since_sync [] = []
 since_sync (Write at bytes ∷ older) = Write at bytes ∷ since_sync older

@@ -1,14 +1,14 @@
 -- What a disk holds, and what a crash may leave of it.
 use Rattle.std.specs.Prelude.{◌≡◌, ◌≢◌, ◌<◌, ◌≤◌, ◌⊎◌, ◌+◌, ℕ, min, max, List, [], ◌∷◌, ◌++◌, length, take, drop, Option, Some, None, ⊤}
 
--- A disk at one moment of its life: the bytes that a read gives, where the disk tells them; the number of the moment;
--- and what a crash at each moment so far may leave. A disk that tells nothing has no such image.
+-- A disk at one point of its life: the bytes that a read gives, if its contents can be seen; the number of the point; and
+-- what a crash at each point so far may leave. A disk whose contents can't be seen has no such image.
 pub record Content : Type 1 where
   pub seen : Option (List ℕ)
   pub moment : ℕ
   pub images_at : ℕ → List ℕ → Type 0
 
--- a disk that tells nothing
+-- a disk whose contents can't be seen
 abbrev pub untold : Content
 untold = record { seen = None; moment = 0; images_at = λ t c. ⊥ }
 
@@ -20,12 +20,12 @@ images x = x.images_at x.moment
 abbrev pub overwritten : ℕ → List ℕ → List ℕ → List ℕ
 overwritten at bytes file = take at file ++ bytes ++ drop (at + length bytes) file
 
--- what a read gives after such a write, where the disk tells it
+-- what a read gives after such a write, if its contents can be seen
 abbrev pub written : ℕ → List ℕ → Option (List ℕ) → Option (List ℕ)
 written at bytes None = None
 written at bytes (Some file) = Some (overwritten at bytes file)
 
--- the bytes at a place are these, where the disk tells them
+-- the bytes from an offset on are these, if the disk's contents can be seen
 abbrev pub Reads : Option (List ℕ) → ℕ → List ℕ → Type 0
 Reads None at bytes = ⊤
 Reads (Some file) at bytes = bytes ≡ take (length bytes) (drop at file)
@@ -52,8 +52,8 @@ TornFrom x at bytes c = (d : List ℕ) × images x d × Torn at bytes d c
 abbrev pub Only : Content → Type 0
 Only x = (c : List ℕ) → images x c → x.seen ≡ Some c
 
--- Time goes on from old to new: what a crash might have left at an earlier moment stands, and at each moment from old
--- to new it leaves a file that has P.
+-- Time goes on from old to new: what a crash might have left at an earlier point stays so, and at each point from old to new
+-- it leaves a file that has P.
 pub record LeavesOnly (old new : Content) (P : List ℕ → Type 0) : Type 0 where
   pub later : old.moment ≤ new.moment
   pub past : (t : ℕ) (c : List ℕ) → t ≤ old.moment → new.images_at t c → old.images_at t c

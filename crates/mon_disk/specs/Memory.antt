@@ -9,8 +9,8 @@ pub record Upset : Type 0 where
   pub from : ℕ
   pub image : ℕ
 
--- A disk's life since it was made or last settled: what it held then, the writes and syncs since, failed ones too, and
--- the upset, if one stands.
+-- A disk's life since it was made or last settled: what it held then, the writes and syncs since, failed ones too, and the
+-- injected fault, if there is one.
 pub record Lived : Type 0 where
   pub first : List ℕ
   pub calls : List DiskCall
@@ -75,7 +75,7 @@ abbrev pub placed : ℕ → List ℕ → List ℕ → List ℕ
 placed at [] file = file
 placed at (byte ∷ bytes) file = overwritten at (byte ∷ bytes) (file ++ replicate (at - length file) 0)
 
--- the image of these calls, newest first: of each unsynced write in turn
+-- the image after these calls, newest first: of each unsynced write in order
 abbrev pub imaged : ℕ → List ℕ → List DiskCall → List ℕ
 imaged image first [] = first
 imaged image first (Write at bytes ∷ older) = placed at (part image bytes) (imaged image first older)
@@ -84,7 +84,7 @@ imaged image first (Sync ∷ older) = seen_after first older
 abbrev pub seen_of : Lived → List ℕ
 seen_of life = seen_after life.first (done life)
 
--- what the disk settles to: without an upset, what a read gives
+-- what the disk settles to: without an injected fault, what a read gives
 abbrev pub settled_as : Option Upset → Lived → List ℕ
 settled_as None life = seen_of life
 settled_as (Some u) life = imaged u.image life.first (begun life)

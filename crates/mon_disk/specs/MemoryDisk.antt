@@ -1,4 +1,4 @@
--- A disk in memory: its lives, and what it tells of them.
+-- A disk in memory: its lives, and what can be seen of them.
 use Rattle.std.specs.Prelude.{◌≡◌, ◌⊎◌, ◌++◌, ◌+◌, ℕ, suc, max, Bool, true, false, List, [], ◌∷◌, map, length, get_or, Option, Some, None}
 use Rattle.std.specs.List.{flat_map}
 use Rattle.mon_types.specs.Faults.{risen}
@@ -12,8 +12,8 @@ use Rattle.mon_disk.specs.Images.{Content}
 use Rattle.mon_disk.specs.Calls.{Told, DiskState, is_past}
 use Rattle.mon_disk.specs.Memory.{Lived, Lives, begins_with, LeftAfter, begun, seen_of, settled, from_of}
 
--- the lives that ended with a settling, oldest first, and the one that goes on; the known length; the faults, and the
--- wants of memory
+-- the lives that ended with a settling, oldest first, and the one that goes on; the known length; the faults, and the failed
+-- allocations
 pub record MemoryState : Type 0 where
   pub past : List Lived
   pub life : Lived
@@ -42,7 +42,7 @@ beginnings (call ∷ calls) = [] ∷ map (λ cs. call ∷ cs) (beginnings calls)
 abbrev pub before_calls : Lived → List Lived
 before_calls life = map (with_calls life) (beginnings life.calls)
 
--- the lives as they were at each moment before now
+-- the lives as they were at each point before now
 abbrev pub earlier : List Lived → Lived → List Lived
 earlier past life = flat_map (λ l. before_calls l ++ l ∷ []) past ++ before_calls life
 
@@ -56,7 +56,7 @@ content_of past life = record {
 abbrev pub tells : Lived → Told
 tells life = record { made = life.calls; fails_from = from_of life.upset; settles = λ calls. settled (with_calls life calls) }
 
--- what the disk tells
+-- what can be seen of the disk
 abbrev pub state_of : MemoryState → DiskState
 state_of d = record { content = content_of d.past d.life; known = d.known; told = Some (tells d.life); faults = d.faults; wants = d.wants }
 
@@ -69,13 +69,13 @@ abbrev pub known_after : DiskCall → ℕ → ℕ
 known_after (Write at bytes) known = max known (at + length bytes)
 known_after Sync known = known
 
--- The disk after a call that answered so: the call is noted where it was made, and else the want of memory is counted.
+-- The disk after a call that returned so: the call is noted if it was made, and otherwise a failed allocation is counted.
 abbrev pub after_call : DiskCall → Option Stop → MemoryState → MemoryState
 after_call call None d = record { past = d.past; life = and_call call d.life; known = known_after call d.known; faults = d.faults; wants = d.wants }
 after_call call (Some Failed) d = record { past = d.past; life = and_call call d.life; known = d.known; faults = risen d.faults; wants = d.wants }
 after_call call (Some OutOfMemory) d = record { past = d.past; life = d.life; known = d.known; faults = d.faults; wants = risen d.wants }
 
--- A call is made or fails as the upset has it, where memory is left.
+-- A call is made, or fails as the injected fault has it, if there is memory left.
 abbrev pub IsFor : Option Stop → Lived → Type 0
 IsFor None life = fails life ≡ false
 IsFor (Some Failed) life = fails life ≡ true
@@ -89,7 +89,7 @@ upset_life call image life = record {
   upset = Some (record { from = length life.calls + call; image = image });
 }
 
--- the disk after an upset
+-- the disk after an injected fault
 abbrev pub upset_by : ℕ → ℕ → MemoryState → MemoryState
 upset_by call image d = record { past = d.past; life = upset_life call image d.life; known = d.known; faults = d.faults; wants = d.wants }
 

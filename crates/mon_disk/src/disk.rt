@@ -18,15 +18,15 @@ pub enum DiskCall {
 
 /// A file of bytes that lasts over a crash, but for what was written since the last sync that answered `Ok`.
 ///
-/// Of each call `call` says what goes unchanged through all that is built of such calls: whether the disk tells what it
-/// holds stays; what a crash leaves at each moment of the call; which writes and syncs were made; and what the disk
-/// counted, a fault where it answered `Failed`, its want of memory where it answered `OutOfMemory`, and nothing where
-/// it answered `Ok`. After want of memory the call wasn't made.
+/// For each method, `call` is the part that composed operations reuse: whether the disk's contents can be seen stays
+/// the same; what a crash leaves at each point of the call; which writes and syncs were made; and what the disk
+/// counted: a fault if it returned `Failed`, a failed allocation if it returned `OutOfMemory`, and nothing if it
+/// returned `Ok`. After `OutOfMemory` the call wasn't made.
 pub trait Disk {
-    /// What a read gives and what a crash may leave, now and at each earlier moment, where the disk tells it; a real
-    /// file doesn't. The known length: the greatest of what `len` last told, 0 before the first, and the ends of the
-    /// writes that were answered `Ok` since. The writes and syncs that were made, where the disk tells them. The faults
-    /// so far, and the disk's own wants of memory.
+    /// What a read returns and what a crash may leave, now and at each earlier point, if the disk's contents can be
+    /// seen; those of a real file can't. The known length: the greatest of what `len` last returned, 0 before the
+    /// first call, and the ends of the writes that returned `Ok` since. The writes and syncs that were made, if they
+    /// can be seen. The faults so far, and the disk's own failed allocations.
     ghost state: { Self → DiskState };
 
     /// The length in bytes. It is the known length then.
@@ -39,7 +39,7 @@ pub trait Disk {
         ensures seen { (state self.new).content.seen ≡ (state self.old).content.seen }
         ensures no_memory { result ≡ Err OutOfMemory → Unmade (state self.old) (state self.new) };
 
-    /// Reads the bytes from a place on, as many as there is room for. After an `Err` the room may hold any bytes.
+    /// Reads the bytes from an offset on, as many as `into` has room for. After an `Err` the room may hold any bytes.
     fn read(&mut self, at: u64, into: &mut [u8]) -> Result<(), Stop>
         requires { at + length into.old ≤ (state self.old).known }
         ensures call { Called [] (images (state self.old).content) (result_err result) (state self.old)

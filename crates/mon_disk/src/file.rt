@@ -1,4 +1,4 @@
-//! A disk that is a file. It tells nothing of what it holds, only whether a call failed.
+//! A disk that is a file. Contracts see nothing of its contents, only whether a call failed.
 
 ghost use Rattle.std.specs.Prelude.{◌≡◌, None, length, is_some, IsErr, IsTrue, option_map};
 ghost use Rattle.mon_types.specs.Faults.{risen};
@@ -35,8 +35,8 @@ impl<R: Files + Copy> FileDisk<R>
 where
     R::File: DeviceFile,
 {
-    /// The file of that name, which the first call opens. Where it isn't there it is made, for its owner alone to read.
-    /// What isn't a regular file, and one that is locked, fails.
+    /// The file of that name, which the first call opens. If it doesn't exist it is created, readable by its owner
+    /// alone. If it isn't a regular file, or is locked, the call fails.
     pub fn named(rt: &R, path: String) -> FileDisk<R>
         ensures { result ≡ record { rt = rt.now; path = path; file = None; failure = None; known = 0; faults = 0 } }
     {
@@ -159,8 +159,8 @@ where
     Ok(file)
 }
 
-/// Whether a name is that of an open file still. What is written to a file that was removed, or that another one stands
-/// for, is gone when the file is closed.
+/// Whether the name still names this open file. What is written to a file that was removed or replaced is lost when
+/// the file is closed.
 fn has_name<R: Files>(rt: &R, file: &R::File, path: &str) -> io::Result<()> {
     let named = metadata(rt, path)?;
     let open = file.metadata()?;
@@ -170,8 +170,8 @@ fn has_name<R: Files>(rt: &R, file: &R::File, path: &str) -> io::Result<()> {
     Err(Error::new(ErrorKind::NotFound, "the file was replaced"))
 }
 
-/// Syncs the folder that a file's name stands in, that of its target where the name is a link, so that the name of a
-/// file that was just made lasts over a crash.
+/// Syncs the folder of a file's name, or that of its target if the name is a link, so that the name of a new file
+/// survives a crash.
 fn keep_name<R: Files>(rt: &R, alloc: Global, path: &str) -> io::Result<()> {
     let path = rt.canonicalize(alloc, path)?;
     let folder = path.parent().unwrap_or(Path::new("/"));

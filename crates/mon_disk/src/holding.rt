@@ -83,7 +83,7 @@ impl Holding {
         }
     }
 
-    /// A write that is done. It answers where the write ends; after an `Err` nothing changed.
+    /// A write that is done. It returns the end of the write; after an `Err` nothing changed.
     pub(crate) fn write(&mut self, alloc: Global, at: u64, bytes: &[u8]) -> Result<u64, OutOfMemory>
         requires { at ≤ length self.old.bytes }
         ensures end { IfOk result (λ end. end ≡ at + length bytes.now) }

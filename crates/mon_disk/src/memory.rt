@@ -14,9 +14,10 @@ use mon_types::Stop;
 use std::alloc::Global;
 use std::marker::Model;
 
-/// A disk in memory, empty at first. It tells what it holds, what a crash may leave and what calls were made, and can
-/// be upset: then it fails from a call on, until it settles to an image that a crash may leave. Beside what a read
-/// gives it takes memory for the writes since the last sync alone; what else it went through is known to proofs only.
+/// A disk in memory, empty at first. Contracts see what it holds, what a crash may leave and what calls were made. A
+/// fault can be injected: then it fails from a call on, until it settles to an image that a crash may leave. Beside
+/// what a read gives it takes memory for the writes since the last sync alone; what else it went through is known to
+/// proofs only.
 #[derive(Drop)]
 pub struct MemoryDisk {
     alloc: Global,
@@ -75,8 +76,8 @@ impl MemoryDisk {
         self.history = self.history.then(&Step::Upset { call, image });
     }
 
-    /// Turns the disk into what a crash leaves: the image of its upset, which ends, or what a read gives where none
-    /// stands. After an `Err` nothing changed.
+    /// Turns the disk into what a crash leaves: the image of its injected fault, which ends, or what a read gives if
+    /// there is none. After an `Err` nothing changed.
     pub fn settle(&mut self) -> Result<(), OutOfMemory>
         ensures ok { OnOk result (self.new ≡ settle_of self.old) }
         ensures err { OnErr result (self.new ≡ self.old) }
@@ -91,7 +92,7 @@ impl MemoryDisk {
         Ok(())
     }
 
-    /// Counts a want of memory.
+    /// Counts a failed allocation.
     fn lack(&mut self) -> Stop
         ensures stop { result ≡ Stop.OutOfMemory }
         ensures state { self.new ≡ after_call DiskCall.Sync (Some Stop.OutOfMemory) self.old }

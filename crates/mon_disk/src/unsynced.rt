@@ -7,7 +7,7 @@ ghost use Rattle.mon_disk.specs.Memory.{part, placed, imaged};
 use mon_bytes::{Bytes, OutOfMemory};
 use std::alloc::Global;
 
-/// A write that isn't on the disk, and the bytes that stood at its place.
+/// A write that isn't on the disk, and the bytes that were at its place.
 #[derive(Drop)]
 pub(crate) struct Unsynced {
     pub(crate) at: u64,
@@ -15,8 +15,8 @@ pub(crate) struct Unsynced {
     pub(crate) under: Bytes,
 }
 
-/// Writes the bytes at a place, or at the end where that comes first: over what is there and past the end. After an
-/// `Err` nothing changed.
+/// Writes the bytes at an offset, or at the end if the offset is past it, over what is there and past the end. After
+/// an `Err` nothing changed.
 pub(crate) fn overwrite(file: &mut Vec<u8>, at: usize, bytes: &[u8]) -> Result<(), OutOfMemory>
     ensures ok { OnOk result (file.new.items ≡ overwritten at bytes.now file.old.items) }
     ensures err { OnErr result (file.new.items ≡ file.old.items) }
@@ -28,7 +28,7 @@ pub(crate) fn overwrite(file: &mut Vec<u8>, at: usize, bytes: &[u8]) -> Result<(
     Ok(())
 }
 
-/// The bytes from a place on, at most so many.
+/// The bytes from an offset on, at most this many.
 pub(crate) fn bytes_at(file: &[u8], at: usize, most: usize) -> &[u8]
     requires { at ≤ length file.now }
     ensures { result.now ≡ take most (drop at file.now) }

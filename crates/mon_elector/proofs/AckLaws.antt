@@ -1,4 +1,4 @@
--- What a monitor does where another one defers to it, and at the end of an election.
+-- What a monitor does if another one defers to it, and at the end of an election.
 use Rattle.std.proofs.Common.{◌≡◌, ℕ, suc, ◌≤◌, ◌<◌, ◌^◌, Bool, true, false, not, ◌&&◌, ◌||◌, leb, ltb, List, [], ◌∷◌, Result, Ok, Err, refl, sym, ap, ◌∙◌, arith}
 use Rattle.std.proofs.lemmas.Bool.{le-leb, lt-leb, or_parts}
 use Rattle.mon_msg.specs.Protocol.Changes.{Epoch}
@@ -40,7 +40,7 @@ module _ (me : Me) (now : ℕ) (acked : List Bool) (x : Course) where
   unfolding win
   wins-spent t above = let spent = lt-leb (suc (epoch_of x.readings)) (2 ^ 62) above in rw spent refl
 
--- where a row wins, a call that wins does it
+-- if a row wins, a call that wins does the same
 pub won : (me : Me) (now : ℕ) (w : Readings) (v : View) (s t : Elector) (acked : List Bool) (row : Course → Result Course Which) (r : Result (Plan Elector) RoleStop)
     → Wins (epoch_of w) t acked r → ((x : Course) → Met me now w v s x → row x ≡ win me now acked (elector_is t x)) → PlansElection me now w v s row r
 won me now w v s t acked row (Ok p) h is =

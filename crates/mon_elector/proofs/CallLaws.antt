@@ -71,7 +71,7 @@ module _ (me : Me) (now : ℕ) where
     pub call-spent : is_even e ≡ true → 2 ^ 62 < suc e → elect me now x ≡ Err which.Epoch
     call-spent h above = even-spends x (ap is_even b.epoch ∙ h) (omega (arith, above, b.epoch))
 
-  -- what it does to join an election is done again where it calls one
+  -- what it does to join an election is done again if it calls one
   pub adopts-elects : (e : ℕ) (s : Elector) (x : Course) → is_even e ≡ false → elect me now (elector_is s (adopt now e x)) ≡ elect me now (elector_is s (change (Epoch e) x))
   unfolding elect in_odd_epoch adopt
   adopts-elects e s x odd =

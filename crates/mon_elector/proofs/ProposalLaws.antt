@@ -1,4 +1,4 @@
--- What a monitor does where another one stands for election.
+-- What a monitor does if another one stands for election.
 use Rattle.std.proofs.Common.{◌≡◌, ℕ, ◌+◌, ◌^◌, Bool, true, false, not, ◌&&◌, ◌||◌, ltb, List, [], ◌∷◌, min, Option, Some, None, is_some, Result, Ok, refl, sym, ◌∙◌}
 use Rattle.std.proofs.lemmas.Bool.{or_parts}
 use Rattle.election_rules.specs.declared.scores.Scores.{Scores}

@@ -1,4 +1,4 @@
--- What a monitor does where another one has won.
+-- What a monitor does if another one has won.
 use Rattle.std.proofs.Common.{◌≡◌, ℕ, suc, ◌+◌, ◌^◌, Bool, true, false, not, ◌&&◌, ◌||◌, eqb, leb, List, [], ◌∷◌, min, Result, Ok, refl}
 use Rattle.mon_msg.specs.Protocol.Changes.{Epoch}
 use Rattle.mon_msg.specs.Protocol.Course.{Course}

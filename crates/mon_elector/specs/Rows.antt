@@ -1,4 +1,4 @@
--- The inputs of an elector, and what is known where its rows and its act are answered.
+-- The inputs of an elector, and what is known when its rows and its act are proved.
 use Rattle.std.specs.Prelude.{◌≡◌, ℕ, suc, ◌≤◌, ◌<◌, ◌^◌, Bool, true, false, List, Option, Some, None, Result, Ok, Err, if◌then◌else◌, [], ◌∷◌}
 use Rattle.election_rules.specs.declared.rule.Rule.{Rule}
 use Rattle.election_rules.specs.declared.scores.Scores.{Scores}
@@ -45,18 +45,18 @@ is_input (input.Deliver m) = is_told m.body
 is_input (input.Timer t) = is_rung t
 is_input (input.Client session r) = false
 
--- a row, where the store tells this, the other roles are seen so, and the elector remembers that
+-- a row, where the store's readers return this, the other roles are seen so, and the elector remembers that
 abbrev pub PlansElection : Me → (now : ℕ) → Readings → View → Elector → (Course → Result Course Which) →
     Result (Plan Elector) RoleStop → Type 0
 PlansElection me now w view s row result =
     PlansRow me now elector_is (IsMet me now w view (λ state. state.elector) s) row result
 
--- An event under way where an election is called: the epoch is this, and the elector remembers that.
+-- An event under way in which an election is called: the epoch is this, and the elector remembers that.
 pub record IsCalled (e : ℕ) (s : Elector) (x : Course) : Type 0 where
   pub epoch : epoch_of x.readings ≡ e
   pub role : x.state.elector ≡ s
 
--- the own table, where scores count
+-- the own table, if scores count
 abbrev pub table_told : Rule → Scores → Option Scores
 table_told rule scores = if scores_count rule then Some scores else None
 

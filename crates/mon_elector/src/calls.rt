@@ -56,9 +56,9 @@ fn call(
     tell_until(alloc, tx, out, standing(me, state), arming)
 }
 
-/// What an elector does where its monitor calls an election, after what came before it in the event: the epoch is the
-/// one that the store tells then. An even epoch ends: the election is in the next one. `Spent` names the epoch exactly
-/// where that would pass 2^62.
+/// What an elector does if its monitor calls an election, after the earlier acts of the event: the epoch is the one
+/// that the store then has. An even epoch ends, and the election is in the next one. `Spent` names the epoch if and
+/// only if that would pass 2^62.
 pub fn enter(
     alloc: Global,
     me: &Me,

@@ -75,9 +75,9 @@ fn ring(
     }
 }
 
-/// What an elector does at a PROPOSE, ACK, VICTORY, PING or PING_REPLY that is heard, and when the timer of an election
-/// or the one to ping, which was armed, comes and is disarmed: its row of the protocol's table. What is dropped takes
-/// no memory. `Spent` names the epoch that the monitor would lead in, where that would pass 2^62.
+/// What an elector does at a PROPOSE, ACK, VICTORY, PING or PING_REPLY that is taken, and when the timer of an
+/// election or the one to ping fires: its row of the protocol's table. What is dropped takes no memory. `Spent` names
+/// the epoch that the monitor would lead in, if that would pass 2^62.
 pub fn step(
     alloc: Global,
     kv: &Kv,

@@ -17,7 +17,7 @@ use mon_tx::Transaction;
 use mon_types::{Moment, Rank, RankSet};
 use std::alloc::Global;
 
-/// The elector that heard of a monitor, and what it tells of connections.
+/// The elector that heard of a monitor, and what it now knows of connections.
 fn with_heard(state: &Elector, from: Rank, table: &Scores) -> Elector
     ensures { result ≡ with_heard from table.now state.now }
 {
@@ -80,7 +80,7 @@ pub fn hear_ping_reply(
     }
 }
 
-/// So many seconds count for the connection to a monitor, which was heard or wasn't.
+/// This many seconds count for the connection to a monitor, which was heard of or wasn't.
 fn count_time(scores: &mut Scores, is_heard: bool, rank: Rank, seconds: u64)
     ensures { scores.new ≡ scored (if is_heard then raised seconds else lowered seconds) rank scores.old }
 {

@@ -15,7 +15,7 @@ use mon_plan::{Stored, armed, planned, stay};
 use mon_types::{Epoch, Moment, Rank};
 use std::alloc::Global;
 
-/// A monitor stands for election in an epoch, and perhaps tells its table.
+/// A monitor stands for election in an epoch, and sends its table if scores count.
 pub fn hear_propose(
     alloc: Global,
     stored: &Stored<'_>,

@@ -46,7 +46,8 @@ pub fn is_even(epoch: Epoch) -> bool
     epoch.get() % 2 == 0
 }
 
-/// Whether what a candidate says in an epoch is dropped: the monitor takes no part in elections, or nobody stands then.
+/// Whether what a candidate says in an epoch is dropped: the monitor takes no part in elections, or nobody stands for
+/// election then.
 pub fn is_deaf(view: &View, epoch: Epoch) -> bool
     ensures { result ≡ (not (votes view.now.phase) || is_even epoch) }
 {
@@ -95,7 +96,7 @@ pub fn is_left_out(stored: &Stored<'_>, view: &View, from: Rank) -> bool
     is_even(stored.epoch()) && !view.quorum.has(from)
 }
 
-/// The table that a message tells, or else the own one.
+/// The table that a message has, or otherwise the own one.
 pub fn table_or<'a>(table: &'a Option<ScoreTable>, own: &'a Scores) -> &'a Scores
     ensures { result.now ≡ table_or table.now own.now }
 {
@@ -105,15 +106,15 @@ pub fn table_or<'a>(table: &'a Option<ScoreTable>, own: &'a Scores) -> &'a Score
     }
 }
 
-/// Whether a candidate may lead, and stands before this monitor.
+/// Whether a candidate may lead, and ranks before this monitor.
 pub fn is_better(me: &Me, table: &Scores, from: Rank) -> bool
     ensures { result ≡ (is_allowed me.now from && stands_before me.now table.now from me.now.member.rank) }
 {
     me.rule.allows(from) && outranks(&me.rule, me.member.monitors, table, from, me.member.rank)
 }
 
-/// Whether the monitor may defer to a candidate: it deferred to nobody yet, or to this one, or to one that stands
-/// behind it.
+/// Whether the monitor may defer to a candidate: it deferred to nobody yet, or to this one, or to one that it
+/// outranks.
 pub fn may_defer(me: &Me, table: &Scores, from: Rank, deferred: Option<Rank>) -> bool
     ensures { result ≡ may_defer me.now table.now from deferred }
 {
@@ -155,7 +156,7 @@ pub fn may_follow(me: &Me, quorum: RankSet, leader: Rank) -> bool
     quorum.has(me.member.rank) && quorum.has(leader) && quorum.is_majority(me.member.monitors)
 }
 
-/// The table that a monitor tells: its own, where scores count.
+/// The table that a monitor sends: its own, if scores count.
 pub fn table_told(
     alloc: Global,
     rule: &Rule,

@@ -22,7 +22,7 @@ use mon_tx::Transaction;
 use mon_types::{Epoch, Rank, RankSet, Which};
 use std::alloc::Global;
 
-/// The elector with what a message tells of connections.
+/// The elector with what a message says of connections.
 pub fn merged(table: &Option<ScoreTable>, state: &Elector) -> Elector
     ensures { result ≡ record state.now { scores = merged_if_told table.now state.now.scores } }
 {
@@ -132,7 +132,7 @@ fn tell_copies(
     Ok(out)
 }
 
-/// The messages that tell all others the same.
+/// The same message to all others.
 pub fn tell_others(
     alloc: Global,
     me: &Me,
@@ -146,7 +146,7 @@ pub fn tell_others(
     out
 }
 
-/// It tells the others, and arms a timer.
+/// It sends to the others, and sets a timer.
 pub fn tell_until(
     alloc: Global,
     tx: Transaction,

@@ -41,7 +41,7 @@ writes_all old new tx cs fit is e = λ w x h. record {
   state = ap (λ (n : Event). state_of n.state) e ∙ h.state;
 }
 
--- an event that stands for a course stands for an equal one
+-- an event that matches a course matches an equal one
 pub along : (w : Readings) (e : Event) (x y : Course) → x ≡ y → IsUnderWay w e x → IsUnderWay w e y
 along w e x y same h = subst (IsUnderWay w e) same h
 
@@ -62,7 +62,7 @@ says_all old new ms e = λ w x h. record {
 pub sends : (old new : Event) (ms : List Sent) → new ≡ record old { out = old.out ++ ms } → Goes old new (sending ms)
 sends old new ms e = λ w x h. along w new (say ms x) (sending ms x) (sym (sending-is ms x)) (says_all old new ms e w x h)
 
--- what is done before and after a role remembers anew carries its plan out
+-- what is done before and after a role gets its new state carries its plan out
 pub carries : {S : Type 0} (is : S → Course → Course) (e begun set ended : Event) (p : Plan S)
     → ((cs : List Change) → AllByRecursion Fits cs → p.tx ≡ spelled cs → Goes e begun (λ x. changed cs (stands p.next x)))
     → Goes begun set (is p.state) → Goes set ended (λ x. sending p.out (arm_all p.timers x)) → ended.tx ≡ e.tx ++ p.tx

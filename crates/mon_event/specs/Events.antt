@@ -1,4 +1,4 @@
--- An event under way in a core, and the course of the protocol that it stands for.
+-- An event under way in a core, and the course of the protocol that it represents.
 use Rattle.std.specs.List.{AllByRecursion}
 use Rattle.std.specs.Prelude.{◌≡◌, ◌++◌, List, Result, Ok, Err}
 use Rattle.mon_bytes.specs.declared.memory.OutOfMemory.{OutOfMemory}
@@ -16,7 +16,7 @@ use Rattle.mon_plan.specs.Plans.{done}
 use Rattle.mon_event.specs.State.{state_of}
 use Rattle.mon_event.specs.declared.event.Event.{Event}
 
--- The event writes, sends and remembers what the course does, and the store tells what the changes so far leave.
+-- The event writes, sends and remembers what the course does, and the store's readers return what the changes so far leave.
 pub record IsUnderWay (w : Readings) (e : Event) (x : Course) : Type 0 where
   pub readings : x.readings ≡ played x.changes w
   pub fit : AllByRecursion Fits x.changes
@@ -28,13 +28,13 @@ pub record IsUnderWay (w : Readings) (e : Event) (x : Course) : Type 0 where
 abbrev pub Goes : (old new : Event) → (Course → Course) → Type 0
 Goes old new step = (w : Readings) (x : Course) → IsUnderWay w old x → IsUnderWay w new (step x)
 
--- The event stands where the protocol has come.
+-- The event matches the course if the protocol has come this far.
 pub record IsReached (w : Readings) (wanted : Result Course Which) (e : Event) : Type 0 where
   pub course : Course
   pub wanted_is : wanted ≡ Ok course
   pub under_way : IsUnderWay w e course
 
--- it does, or it tells which number runs out; or memory ran out
+-- it does, or it names the number that runs out; or memory ran out
 abbrev pub Reaches : Readings → Result Course Which → Event → Result Unit RoleStop → Type 0
 Reaches w wanted e (Ok done) = IsReached w wanted e
 Reaches w wanted e (Err stop.OutOfMemory) = Unit {0}
@@ -42,12 +42,12 @@ Reaches w wanted e (Err (stop.Spent which)) = wanted ≡ Err which
 
 -- ---- plans
 
--- a role remembers anew, where `put` is what the monitor remembers then
+-- a role's state is replaced, where `put` sets what the monitor remembers
 abbrev pub remembering : {S : Type 0} → (S → State → State) → S → Course → Course
 remembering put s x = record x { state = put s x.state }
 
--- A plan was carried out: its transaction is written behind what was, and is done whichever changes it spells. The act
--- that it names comes next.
+-- A plan was carried out: its transaction is written after the earlier ones, and applied whichever changes it encodes. The
+-- act that it names comes next.
 pub record IsCarried {S : Type 0} (is : S → Course → Course) (old : Event) (p : Plan S) (new : Event)
     (n : Next) : Type 0 where
   pub next : n ≡ p.next

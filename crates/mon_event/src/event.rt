@@ -55,7 +55,7 @@ impl Event {
         Ok(stored.epoch())
     }
 
-    /// Writes a transaction behind what is written so far. After an `Err` a front of it may be there.
+    /// Writes a transaction after what is written so far. After an `Err` a prefix of it may be there.
     pub fn write(&mut self, tx: Transaction) -> Result<(), OutOfMemory>
         ensures { OnOk result (self.new ≡ record self.old { tx = self.old.tx ++ tx }) }
     {
@@ -67,7 +67,7 @@ impl Event {
         Ok(())
     }
 
-    /// Sends messages and replies behind what is sent so far. After an `Err` the event isn't used again.
+    /// Sends messages and replies after what is sent so far. After an `Err` the event isn't used again.
     pub fn send(&mut self, alloc: Global, out: Items<Sent>) -> Result<(), OutOfMemory>
         ensures { OnOk result (self.new ≡ record self.old { out = self.old.out ++ out }) }
     {
@@ -90,7 +90,7 @@ impl Event {
         Ok(())
     }
 
-    /// From now on the monitor stands in this phase.
+    /// From now on the monitor is in this phase.
     pub fn enter_phase(&mut self, phase: Phase)
         ensures goes { Goes self.old self.new (in_phase phase) }
         ensures written { self.new.tx ≡ self.old.tx }
@@ -98,7 +98,7 @@ impl Event {
         self.state.enter_phase(phase);
     }
 
-    /// From now on the monitor stands in this phase, and forgets who waits.
+    /// From now on the monitor is in this phase, and forgets who waits.
     pub fn start_over(&mut self, alloc: Global, phase: Phase)
         ensures goes { Goes self.old self.new (λ x. forget_clients (in_phase phase x)) }
         ensures written { self.new.tx ≡ self.old.tx }
@@ -117,7 +117,7 @@ impl Event {
         self.state.follow(leader, quorum);
     }
 
-    /// The monitor stands as the act that a plan names says, before the plan's timers are set.
+    /// Puts the monitor in the state that the act of a plan names, before the plan's timers are set.
     fn stand(&mut self, alloc: Global, next: &Next)
         ensures goes { Goes self.old self.new (stands next.now) }
         ensures written { self.new.tx ≡ self.old.tx }
@@ -135,7 +135,7 @@ impl Event {
         }
     }
 
-    /// What a plan does before its role remembers anew.
+    /// The part of a plan that precedes the role's new state.
     fn begin(&mut self, alloc: Global, next: &Next, tx: Transaction) -> Result<(), OutOfMemory>
         ensures goes { OnOk result ((cs : List Change) → AllByRecursion Fits cs → tx ≡ spelled cs
             → Goes self.old self.new (λ x. changed cs (stands next.now x))) }
@@ -146,7 +146,7 @@ impl Event {
         Ok(())
     }
 
-    /// What a plan does after its role remembers anew.
+    /// The part of a plan that follows the role's new state.
     fn end(
         &mut self,
         alloc: Global,

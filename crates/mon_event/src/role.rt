@@ -20,7 +20,7 @@ pub enum Role {
     Clients,
     /// Gives its store to a monitor that fell behind.
     Provider,
-    /// Takes another's store where it fell behind itself.
+    /// Takes another monitor's store, if it fell behind itself.
     Requester,
 }
 

@@ -35,7 +35,7 @@ impl RoleState for Prober {
     }
 }
 
-/// Where the monitor leads, its phase is the leader's stage.
+/// If the monitor leads, its phase is the leader's stage.
 impl RoleState for Leader {
     ghost put = { λ leader s. let p = phase_as leader.stage s.phase in
         record s { phase = p; timers = timers_in p s; leader = leader } };

@@ -77,7 +77,7 @@ fn lease_of(state: &State) -> Lease
     Lease::none()
 }
 
-/// Whether its lease stands, or nobody else is there.
+/// Whether its lease is valid, or it is alone.
 fn is_standing(me: &Me, state: &State, now: Moment) -> bool
     ensures { result ≡ is_standing me.now now (state_of state.now) }
 {
@@ -112,7 +112,7 @@ pub fn scores_count(rule: &Rule) -> bool
     }
 }
 
-/// Whether a table is told exactly where scores count.
+/// Whether a table is sent if and only if scores count.
 fn fits_rule(me: &Me, table: &Option<ScoreTable>) -> bool
     ensures { result ≡ fits_rule me.now table.now }
 {
@@ -122,7 +122,7 @@ fn fits_rule(me: &Me, table: &Option<ScoreTable>) -> bool
     }
 }
 
-/// Whether what a message tells has a table exactly where scores count, if it may have one at all.
+/// Whether the body of a message has a table if and only if scores count, for a body that may have one.
 fn has_fitting_table(me: &Me, body: &Body) -> bool
     ensures { result ≡ has_fitting_table me.now body.now }
 {
@@ -155,8 +155,8 @@ fn has_fitting_table(me: &Me, body: &Body) -> bool
     }
 }
 
-/// Whether a message is heard: it is of another monitor of the same map, and tells a table of scores exactly where the
-/// rule counts them.
+/// Whether a message is taken: it is of another monitor of the same quorum map, and has a table of scores if and only
+/// if the rule counts them.
 pub fn is_heard(me: &Me, message: &Message) -> bool
     ensures { result ≡ is_heard me.now message.now }
 {

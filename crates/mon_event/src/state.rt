@@ -23,7 +23,7 @@ use std::alloc::Global;
 /// What a running monitor remembers and its store doesn't keep.
 #[derive(Drop)]
 pub struct State {
-    /// Where the monitor stands.
+    /// The phase of the monitor.
     pub phase: Phase,
     /// Its election, and its scores.
     pub elector: Elector,
@@ -168,7 +168,7 @@ impl State {
         }
     }
 
-    /// From now on the monitor stands in this phase. Where that is another one than before, all timers but the one that
+    /// From now on the monitor is in this phase. If that is another one than before, all timers but the one that
     /// pings are disarmed.
     pub fn enter_phase(&mut self, phase: Phase)
         ensures { state_of self.new ≡ record (state_of self.old) {

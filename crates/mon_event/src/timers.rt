@@ -8,7 +8,7 @@ use mon_msg::{Arming, Timer};
 use mon_types::Moment;
 use std::marker::Model;
 
-/// For each kind of timer, in their order, the moment for which it is armed.
+/// For each kind of timer, in their order, the time for which it is armed.
 #[derive(Clone, Copy, Debug, PartialEq, Eq)]
 pub struct Timers {
     ends: [Option<Moment>; 11],
@@ -43,7 +43,7 @@ fn index_of(kind: Timer) -> usize
     }
 }
 
-/// The sooner of a timer and of the soonest of the kinds behind it, which it goes before where both come at once.
+/// The sooner of a timer and of the soonest of the kinds after it. At the same time the timer comes first.
 fn sooner(
     kind: Timer,
     end: Option<Moment>,
@@ -72,7 +72,7 @@ impl Timers {
         Timers { ends: [None; 11] }
     }
 
-    /// The moment for which a timer is armed.
+    /// The time for which a timer is armed.
     fn end_of(&self, kind: Timer) -> Option<Moment>
         ensures { result ≡ end_of kind self.now }
     {
@@ -146,7 +146,7 @@ impl Timers {
         }
     }
 
-    /// The timer that comes next, and its moment: the one armed for the least moment, and of several the first kind.
+    /// The timer that comes next, and its time: the one armed for the least time, and of several the first kind.
     pub fn due(&self) -> Option<(Timer, Moment)>
         ensures { result ≡ due self.now }
     {

@@ -50,7 +50,7 @@ contains_made f from (suc n) y (suc k, lt, e) =
     let later = contains_made f (from + 1) n y (k, omega arith, e) in
     (later.0, omega (arith, later.1), omega (arith, later.2), later.3)
 
--- what stands in a list that was written at one place
+-- what is in a list that was written at one place
 pub get_written : {X : Type 0} (xs : List X) (i j : ℕ) (y z : X) → slice_get (slice_set xs i y) j ≡ Some z → ((i ≡ j) × (y ≡ z)) ⊎ (slice_get xs j ≡ Some z)
 get_written [] i j y z e = inr e
 get_written (x ∷ xs) zero zero y z e = inl (refl, cc)
@@ -100,7 +100,7 @@ bytes_written parts i bytes within =
     rw add-one (ap (flat_map f) (written_parts parts i (Some bytes) within) ∙ flat_map-append f (take i parts) (Some bytes ∷ drop (suc i) parts)
     ∙ sym (append_assoc (flat_map f (take i parts)) bytes (flat_map f (drop (suc i) parts))))
 
--- the parts with one more, where another is missing
+-- the parts with one more, if another is missing
 pub grown_more : (parts : List (Option (List ℕ))) (i : ℕ) (bytes : List ℕ) → i < length parts
     → (list_all is_some (take i parts) && list_all is_some (drop (i + 1) parts)) ≡ false → More ≡ grown (slice_set parts i (Some bytes))
 grown_more parts i bytes within missing =

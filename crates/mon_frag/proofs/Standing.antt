@@ -1,4 +1,4 @@
--- What an assembly keeps stands for messages that were sent, over every datagram of one.
+-- What an assembly keeps represents messages that were sent, over every datagram of one.
 use Rattle.std.proofs.Common.{◌≡◌, ◌⊎◌, ℕ, zero, suc, ◌*◌, ◌/◌, ◌^◌, ◌≤◌, ◌<◌, ◌-◌, ◌%◌, ◌==◌, ◌||◌, Bool, true, false, not, cond, ◌&&◌, eqb, ltb, leb, List, [], ◌∷◌, length, map, drop, replicate, Option, Some, None, is_some, unwrap_or, Result, Ok, Err, refl, sym, ap, subst, ◌∙◌, inl, inr, length-set, arith, nat_lt, nat_le, min}
 use Rattle.std.specs.List.{AllByRecursion, Contains, slice_get, slice_set, range_with_len, list_all, flat_map, position}
 use Rattle.std.specs.Str.{bytes_eq}
@@ -135,7 +135,7 @@ module _ (q : Peer) (Sent : Message → Type 0) where
   total_right m more true j right = right
   total_right m more false j right = tt
 
-  -- ---- the peer and the numbers tell which message it is
+  -- ---- the peer and the numbers identify the message
 
   -- what is kept under the numbers of a message is of that message
   is_part : (m : Message) (p : Partial) → AreNumbered Sent → Sent m → Stands p → is_of q m.boot m.seq p ≡ true → IsPartOf q m p

@@ -35,7 +35,7 @@ fields_at c = do
 abbrev pub fields_of : List ℕ → Result Header FragRefused
 fields_of datagram = fields_at (record { at = 0; rest = datagram })
 
--- the fields, where each of them, from left to right, is in its form and so many bytes follow as are to
+-- the fields, if each of them, from left to right, has its form and as many bytes follow as have to
 abbrev pub formed : ℕ → Header → Result Header FragRefused
 formed count h =
     if not (h.zero_1 == 0) then Err (Form 1)

@@ -54,7 +54,7 @@ is_client (Client a) = true
 abbrev pub is_of : Peer → ℕ → ℕ → Partial → Bool
 is_of from boot seq p = same_peer from p.from && (boot == p.boot) && (seq == p.seq)
 
--- the first one, where there are as many of them as there may be
+-- the first one, if there are as many as allowed
 abbrev pub first_of : ℕ → (Partial → Bool) → List Partial → Option ℕ
 first_of most test kept = if nat_lt (count_by test kept) most then None else position test kept
 
@@ -62,7 +62,7 @@ abbrev pub or_else : Option ℕ → Option ℕ → Option ℕ
 or_else (Some i) other = Some i
 or_else None other = other
 
--- The oldest one that stands against a new one, where as many are kept as may be of a monitor, a client or all clients.
+-- The oldest one that has to go for a new one, if as many are kept as allowed of a monitor, of a client or of all clients.
 abbrev pub oldest_against : Peer → List Partial → Option ℕ
 oldest_against (Monitor r) kept = first_of MOST_OF_MONITOR (λ p. same_peer (Monitor r) p.from) kept
 oldest_against (Client c) kept =
@@ -114,8 +114,8 @@ taken kept from datagram =
     else if is_piece datagram then header_of datagram >>= piece_taken from (drop HEADER datagram) kept
     else Ok (record { answer = Some datagram; kept = kept })
 
--- What a call answered and kept, where it should have taken `wanted`. A refusal changes nothing, and memory is wanted only
--- where nothing else is at fault.
+-- What a call returned and kept, if it should have taken `wanted`. A refusal changes nothing, and memory runs out only if
+-- there is no other fault.
 abbrev pub Takes : Result (Option (List ℕ)) FragRefused → List Partial → List Partial → Outcome → Type 0
 Takes (Ok answer) old new wanted = wanted ≡ Ok (record { answer = answer; kept = new })
 Takes (Err e) old new wanted = (new ≡ old) × ((wanted ≡ Err e) ⊎ ((e ≡ OutOfMemory) × IsOk wanted))

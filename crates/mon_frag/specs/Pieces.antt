@@ -11,15 +11,15 @@ use Rattle.mon_frag.specs.declared.header.TheConstants.{PART, PIECE}
 unfoldable pub u64_bytes : ℕ → List ℕ
 u64_bytes n = little_bytes 8 n
 
--- how many pieces there are of so many bytes
+-- how many pieces a message of this many bytes has
 abbrev pub piece_count : ℕ → ℕ
 piece_count total = div_ceil total PART
 
--- the bytes of a message from a place on, as many as a piece has or the rest
+-- the bytes of a message from an offset on: as many as a piece has, or the rest
 abbrev pub part_at : List ℕ → ℕ → List ℕ
 part_at message place = take PART (drop place message)
 
--- what stands in front of them
+-- the header before them
 abbrev pub header : ℕ → ℕ → ℕ → ℕ → List ℕ
 header boot seq total place = PIECE ∷ 0 ∷ 0 ∷ 0 ∷ u64_bytes boot ++ u64_bytes seq ++ u32_bytes total ++ u32_bytes place
 

@@ -45,7 +45,7 @@ fn place_from(kept: &[Partial], from: &Peer) -> Option<usize>
     kept.iter().position(|p| is_same(from, &p.from))
 }
 
-/// The place of the first one from a peer, where there are `most` of them.
+/// The place of the first one from a peer, if there are `most` of them.
 fn first_from(kept: &[Partial], from: &Peer, most: usize) -> Option<usize>
     ensures { result ≡ first_of most (λ p. same_peer from.now p.from) kept.now }
 {
@@ -72,7 +72,7 @@ fn place_from_clients(kept: &[Partial]) -> Option<usize>
     kept.iter().position(|p| is_from_client(&p.from))
 }
 
-/// The place of the first one from a client, where there are as many of them as are kept.
+/// The place of the first one from a client, if there are as many of them as are kept.
 fn first_from_clients(kept: &[Partial]) -> Option<usize>
     ensures { result ≡ first_of MOST_OF_CLIENTS (λ p. is_client p.from) kept.now }
 {
@@ -190,9 +190,10 @@ impl Assembly {
         }
     }
 
-    /// Takes a datagram from a peer, and answers a message where one is whole then: the datagram itself, where it
-    /// doesn't begin with the byte 02, or that of which it is the last piece to come. A piece of a new message drops the oldest
-    /// message of which there is no room for both: one of the same peer, or else, of a client, of any client.
+    /// Takes a datagram from a peer, and returns a message if one is then complete: the datagram itself, if it
+    /// doesn't begin with the byte 02, or the message whose last missing piece it is. A piece of a new message evicts
+    /// the oldest message if there is no room for both: one of the same peer or, at the limit for all clients, of any
+    /// client.
     pub fn take(&mut self, from: Peer, datagram: &[u8]) -> Result<Option<Bytes>, FragRefused>
         ensures { Takes result self.old self.new (taken self.old from datagram.now) }
     {

@@ -9,7 +9,7 @@ use std::alloc::Global;
 /// The most bytes of a datagram.
 pub const DATAGRAM: usize = 60_000;
 
-/// How many pieces there are of so many bytes.
+/// How many pieces a message of this many bytes has.
 pub fn count_of(total: usize) -> usize
     ensures { result ≡ piece_count total }
 {
@@ -24,7 +24,7 @@ fn put_u64(out: &mut Out, n: u64) -> Result<(), OutOfMemory>
     out.put_u64(n)
 }
 
-/// Appends what stands in front of the bytes of a piece.
+/// Appends the header of a piece.
 fn put_header(out: &mut Out, boot: u64, seq: u64, total: u32, place: u32) -> Result<(), OutOfMemory>
     ensures { OnOk result (out.new ≡ out.old ++ header boot seq total place) }
 {
@@ -64,8 +64,8 @@ fn cut(
     Ok(Bytes::new(out.into_bytes()))
 }
 
-/// The datagrams of a message: itself, where it has at most 60,000 bytes, and else its pieces, in order. The two numbers
-/// tell it from the other messages of its sender.
+/// The datagrams of a message: itself, if it has at most 60,000 bytes, and else its pieces, in order. The two numbers
+/// distinguish it from the other messages of its sender.
 #[tactic(auto, using(crate::proofs::Lists::made_next))]
 pub fn pieces(
     alloc: Global,

@@ -10,7 +10,7 @@ use mon_types::GREATEST;
 /// The byte with which a piece begins. No message begins with it.
 pub const PIECE: u8 = 2;
 
-/// The bytes of a piece in front of those of its message.
+/// The bytes of a piece's header.
 pub const HEADER: usize = 28;
 
 /// The most bytes of a message that a piece has.
@@ -19,7 +19,7 @@ pub const PART: u32 = 59_000;
 /// The least bytes of a message that is cut.
 const LEAST: u32 = DATAGRAM as u32 + 1;
 
-/// What stands in front of the bytes of a piece.
+/// The header of a piece.
 #[derive(Clone, Copy)]
 pub struct Header {
     pub zero_1: u8,
@@ -56,7 +56,8 @@ fn read_fields(datagram: &[u8]) -> Result<Header, FragRefused>
     })
 }
 
-/// Whether the fields are in their form, where so many bytes follow them. The first that isn't is `Form`.
+/// Whether the fields have their form, given that this many bytes follow them. The first that hasn't is named by
+/// `Form`.
 fn check(count: usize, header: Header) -> Result<Header, FragRefused>
     ensures form { result ≡ formed count header }
     ensures within { IfOk result (λ h. h.place < h.total) }
@@ -95,7 +96,7 @@ fn check(count: usize, header: Header) -> Result<Header, FragRefused>
     Ok(header)
 }
 
-/// The bytes of a piece behind its header.
+/// The bytes of a piece after its header.
 #[tactic(auto, using(std::proofs::lemmas::List::drop_min))]
 pub fn behind_header(datagram: &[u8]) -> &[u8]
     ensures { result.now ≡ drop HEADER datagram.now }

@@ -10,7 +10,7 @@ use mon_link::Peer;
 use std::alloc::Global;
 use std::marker::Model;
 
-/// The parts of a message, each where it is there.
+/// The parts of a message that have come.
 #[derive(Drop)]
 pub struct Parts {
     parts: Vec<Option<Bytes>>,
@@ -83,7 +83,7 @@ fn are_there(parts: &[Option<Bytes>]) -> bool
 }
 
 impl Parts {
-    /// So many parts, of which none is there but one.
+    /// A message of this many parts, of which one has come.
     fn begin(alloc: Global, count: usize, at: usize, bytes: &[u8]) -> Result<Parts, OutOfMemory>
         requires { at < count }
         ensures { IfOk result (λ parts. parts ≡ slice_set (replicate count None) at (Some bytes.now)) }
@@ -120,7 +120,7 @@ impl Parts {
         Ok(whole)
     }
 
-    /// What comes of a part at a place where none is yet: the message, where no other part is missing.
+    /// The result of a part at a place that is still empty: the message, if no other part is missing.
     #[tactic(auto, using(crate::proofs::Lists::grown_more, crate::proofs::Lists::grown_whole))]
     fn grow(&self, alloc: Global, at: usize, bytes: &[u8]) -> Result<Joined, OutOfMemory>
         requires { at < length self.now }

@@ -13,7 +13,8 @@ pub enum FragRefused {
     /// What begins here isn't as it is in a piece.
     #[error("out of form at {at}")]
     Form { at: usize },
-    /// It is of a message of another length than a piece before it told, or other bytes came for its place.
+    /// The piece is of a message whose length an earlier piece gave differently, or different bytes came for its
+    /// place.
     #[error("the piece contradicts an earlier one")]
     Clash,
     #[error("out of memory")]

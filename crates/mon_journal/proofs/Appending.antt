@@ -1,4 +1,4 @@
--- What a crash leaves in each step of an append, and what stands behind the last one.
+-- What a crash leaves in each step of an append, and what follows the last one.
 use Rattle.std.proofs.Common.{◌≡◌, ◌≢◌, ℕ, ◌+◌, ◌<◌, ◌^◌, true, false, eqb, List, [], ◌∷◌, ◌++◌, length, drop, get_or, max, Option, Some, None, inl, inr, sym, ap, subst, ◌∙◌, append_assoc, length-append, arith}
 use Rattle.std.specs.Prelude.{IfSome}
 use Rattle.std.proofs.lemmas.Bool.{cases_eq}
@@ -14,7 +14,7 @@ use Rattle.mon_journal.proofs.Keeping.{keeps_by, seen_holds}
 use Rattle.mon_journal.proofs.Files.{FileParts, parts_of_file, same_shut, one_opened}
 use Rattle.mon_journal.proofs.Gates.{torn_behind, written_behind, torn_gate, written_gate, gate_is}
 
--- the record and the closed gate behind it
+-- the record and the closed gate after it
 abbrev pub body : List ℕ → List ℕ
 body payload = payload_bytes payload ++ 0 ∷ []
 
@@ -59,7 +59,7 @@ module _ (journal : Journal) (payload : List ℕ) (short : length payload < 2 ^ 
         subst (λ (f : List ℕ). Torn (length q.before + 1) (body payload) f c) q.parts (subst (λ (n : ℕ). Torn (n + 1) (body payload) file c) (sym q.place) torn) in
         shut_there q.gate (drop (length q.before + 1) c) c q.shut (torn_behind q.before q.gate q.behind (body payload) c torn1)
 
-    -- the file with the record behind the closed gate
+    -- the file with the record after the closed gate
     abbrev rest : List ℕ
     rest = drop (length q.before + 1 + length (body payload)) (q.before ++ q.gate ∷ q.behind)
 
@@ -94,7 +94,7 @@ module _ (journal : Journal) (payload : List ℕ) (short : length payload < 2 ^ 
         ∙ ap content (written_gate q.before q.gate (body payload ++ rest) 1)
         ∙ opened_there rest
 
-  -- ---- the same over what a disk tells
+  -- ---- the same over what can be seen of a disk
 
   first : (s : Option (List ℕ)) (c : List ℕ) → IfSome s (Holds journal (payloads_told s)) → s ≡ Some c → P (payloads_told s) c
   first s c holds e = subst (λ (t : Option (List ℕ)). P (payloads_told t) c) (sym e) (at_first c (subst (λ (t : Option (List ℕ)). IfSome t (Holds journal (payloads_told t))) e holds))
@@ -122,7 +122,7 @@ module _ (journal : Journal) (payload : List ℕ) (short : length payload < 2 ^ 
     pub behind_it : (c : List ℕ) → TornFrom old (journal.next_gate + 1) (body payload) c → P (payloads_seen old) c
     behind_it c (d, left, torn) = second old.seen d c (seen_holds journal known old stands) (stands.only d left) torn
 
-    -- the second write, behind the first
+    -- the second write, after the first
     pub in_second : (mid : Content) → mid.seen ≡ written (journal.next_gate + 1) (body payload) old.seen → Only mid → (c : List ℕ) → TornFrom mid journal.next_gate (1 ∷ []) c → P (payloads_seen old) c
     in_second mid seen only c (d, left, torn) = third old.seen mid.seen d c (seen_holds journal known old stands) seen (only d left) torn
 

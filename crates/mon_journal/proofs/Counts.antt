@@ -66,7 +66,7 @@ done_before P call next stop (Some s) mid now first second = λ same.
     let more = at_least (next ∷ []) mid now stop m.1 second in
     absurd (omega (arith, m.0, more, ap count same))
 
--- what a disk settles to, where few calls were made
+-- what a disk settles to, if few calls were made
 pub few : (n : ℕ) (old now : Option Told) (new : Content) (P : Bool → List ℕ → Type 0) → count now ≤ count old + n → ((c : List ℕ) → images new c → P false c) → IfSome now (λ t. images new (t.settles t.made))
     → IfSome old (λ s. IfSome now (λ t. P (made_more n s t) (t.settles t.made)))
 few n None now new P most h settled = tt

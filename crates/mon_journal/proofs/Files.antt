@@ -42,7 +42,7 @@ content_open : (byte : ℕ) (bytes : List ℕ) → content (1 ∷ byte ∷ bytes
 unfolding content
 content_open byte bytes = ap (λ (r : Result Held JournalStop). Some r) (held_open (byte ∷ bytes))
 
--- where the header isn't empty, it decides what is read behind it
+-- if the header isn't empty, it decides what is read after it
 pub content_behind : (taken : List ℕ) (header : Header) (at : ℕ) (others : List ℕ) → header_at (from 1 (taken ++ others)) ≡ Ok (header, from at others) → 0 < length taken
     → content (1 ∷ (taken ++ others)) ≡ Some (held_with header (records_at (from at others)))
 content_behind [] header at others e some = absurd (omega arith)
@@ -99,14 +99,14 @@ module _ (file : List ℕ) (held : Held) (holds : content file ≡ Some (Ok held
   abbrev parts : FileParts file held
   parts = parts_of_file file held holds
 
-  -- the same payloads, whatever stands behind a closed gate
+  -- the same payloads, whatever follows a closed gate
   pub same_shut : (gate : ℕ) (behind : List ℕ) → gate ≢ 1 → content (parts.before ++ gate ∷ behind) ≡ Some (Ok held)
   same_shut gate behind shut =
       parts.again (gate ∷ behind)
       ∙ ap (λ (found : Found). Some (held_with held.header (with_front held.payloads found))) (at_shut held.next_gate gate behind shut)
       ∙ ap (λ (payloads : List (List ℕ)). Some (Ok (record held { payloads = payloads }))) (append-nil held.payloads)
 
-  -- and one more behind an open gate
+  -- and one more after an open gate
   pub one_opened : (payload : List ℕ) (gate : ℕ) (behind : List ℕ) → length payload < 2 ^ 32 → gate ≢ 1
       → content (parts.before ++ (record_bytes payload ++ gate ∷ behind)) ≡ Some (Ok (record { header = held.header; payloads = held.payloads ++ payload ∷ []; next_gate = held.next_gate + 5 + length payload }))
   one_opened payload gate behind lt shut =

@@ -30,7 +30,7 @@ pub closed_found : (s : Option (List ℕ)) (bytes : List ℕ) (len : ℕ) → If
 closed_found None bytes len whole closed is = tt
 closed_found (Some file) bytes len whole closed is = (ap content whole ∙ is_none bytes closed, is ∙ ap length (sym whole))
 
--- the calls behind the first sync, of a file that is seen
+-- the calls after the first sync, of a file that is seen
 abbrev rest_calls : Option (Result Held JournalStop) → List DiskCall
 rest_calls (Some (Ok held)) = Write held.next_gate (0 ∷ []) ∷ Sync ∷ []
 rest_calls (Some (Err e)) = []
@@ -52,7 +52,7 @@ each_seen (Some file) = all_calls (content file)
 itself : (x : Content) (c : List ℕ) → images x c → AlikeFrom x c
 itself x c left = (c, left, refl, refl)
 
--- a stop at the sync, or behind it for want of memory
+-- a stop at the sync, or after it for lack of memory
 pub stopped_first : (old new : DiskState) (stop : Stop) → Called (Sync ∷ []) (images old.content) (Some stop) old new → OpensBy (Some stop) old new
 stopped_first old new stop c = (Sync ∷ rest_seen old.content.seen, stopped_at (rest_seen old.content.seen) (images old.content) (AlikeFrom old.content) c (itself old.content), each_seen old.content.seen)
 

@@ -1,4 +1,4 @@
--- What a write at a gate and behind one leaves of a file: what stands before the gate, the gate, and what stands behind it.
+-- What a write at a gate and after one leaves of a file: what is before the gate, the gate, and what follows it.
 use Rattle.std.proofs.Common.{◌≡◌, ◌≢◌, ◌⊎◌, ℕ, ◌+◌, min, List, [], ◌∷◌, ◌++◌, length, take, drop, get_or, inl, inr, refl, sym, ap, subst, ◌∙◌, append_assoc, length-append, arith}
 use Rattle.std.proofs.lemmas.List.{take_at, drop_at, take-append-drop}
 use Rattle.std.proofs.Math.Seq.{get_or-append_seam}
@@ -26,7 +26,7 @@ module _ (before : List ℕ) (gate : ℕ) (behind : List ℕ) where
   size : length file ≡ at + 1 + length behind
   size = omega (arith, length-append before (gate ∷ behind))
 
-  -- a write behind the gate that a crash cuts short
+  -- a write after the gate that a crash cuts short
   pub torn_behind : (bytes c : List ℕ) → Torn (at + 1) bytes file c → c ≡ before ++ gate ∷ drop (at + 1) c
   torn_behind bytes c torn =
       let least : min (at + 1) (length file) ≡ at + 1 = omega (arith, size) in

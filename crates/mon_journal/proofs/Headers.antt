@@ -84,7 +84,7 @@ first_header_again owner generation others below most from_one most_generation =
     let tail = generation_bytes generation ++ others in
     rw (first_again 1 (owner.rank ∷ owner.monitors ∷ (replicate 6 0 ++ tail)), owner_again 9 owner (replicate 6 0 ++ tail) below most, zeros_again 11 tail, generation_again 17 generation others from_one most_generation) refl
 
--- a header and others behind it
+-- a header and others after it
 behind_header : (header : Header) (others : List ℕ) → IsHeader header → content (1 ∷ (header_text header ++ others)) ≡ Some (held_with header (records_at (from 25 others)))
 behind_header header others is = each header.form is
   where

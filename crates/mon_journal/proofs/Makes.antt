@@ -1,4 +1,4 @@
--- What a crash leaves while a file is made, and what stands there then.
+-- What a crash leaves while a file is made, and what is there then.
 use Rattle.std.proofs.Common.{◌≡◌, ◌≢◌, ◌⊎◌, ℕ, ◌+◌, ◌≤◌, max, Bool, true, false, ◌&&◌, eqb, List, [], ◌∷◌, ◌++◌, length, drop, get_or, Option, Some, None, inl, inr, refl, sym, ap, subst, ◌∙◌, length-append, length-drop, arith}
 use Rattle.std.specs.Prelude.{IfSome}
 use Rattle.std.proofs.lemmas.Bool.{cases_eq}
@@ -28,7 +28,7 @@ module _ (head : List ℕ) (Q : List ℕ → Type 0) (is_made : (tail : List ℕ
   abbrev R : List ℕ → Type 0
   R c = images old c ⊎ ClosedFrom old most c ⊎ Q c
 
-  -- the new file where the gate is open and it was begun to be opened
+  -- the new file if the gate is open and it was begun to be opened
   abbrev pub Opens : Bool → List ℕ → Type 0
   Opens opening c = ByTest (eqb (get_or c 0 0) 1 && opening) (Q c) (Shut c)
 
@@ -56,11 +56,11 @@ module _ (head : List ℕ) (Q : List ℕ → Type 0) (is_made : (tail : List ℕ
       each (g, is, inr (inl zeroed)) = shut_at (gate ∷ behind) c g behind left (λ (one : g ≡ 1). omega (arith, one, zeroed)) is (omega (arith, ap length is))
       each (g, is, inr (inr shut)) = shut_at (gate ∷ behind) c g behind left shut is (omega (arith, ap length is))
 
-  -- while the header is written behind it
+  -- while the header is written after it
   in_head : (f c : List ℕ) → images old f → Torn 1 head (0 ∷ drop 1 f) c → Shut c
   in_head f c left torn = shut_at f c 0 (drop 1 c) left (omega arith) (torn_behind [] 0 (drop 1 f) head c torn) (omega (arith, torn.no_longer, length-drop 1 f, long))
 
-  -- the file behind the closed gate
+  -- the file after the closed gate
   abbrev tail : List ℕ → List ℕ
   tail f = drop (1 + length head) (0 ∷ drop 1 f)
 
@@ -91,7 +91,7 @@ module _ (head : List ℕ) (Q : List ℕ → Type 0) (is_made : (tail : List ℕ
       by true made = inr (inr made)
       by false shut = wider c shut
 
-  -- ---- the same over what a disk tells
+  -- ---- the same over what can be seen of a disk
 
   second : (s s1 : Option (List ℕ)) (d c : List ℕ) → ((f : List ℕ) → s ≡ Some f → images old f) → s1 ≡ written 0 (0 ∷ []) s → s1 ≡ Some d → Torn 1 head d c → Shut c
   second None s1 d c reads e1 e torn = absurd cc
@@ -132,7 +132,7 @@ module _ (head : List ℕ) (Q : List ℕ → Type 0) (is_made : (tail : List ℕ
     pub three_writes : LeavesOnly old c3 R
     three_writes = then_more old c2 c3 Shut (TornFrom c2 0 (1 ∷ [])) R (two_writes c1 c2 one seen1 only1 two) three wider (λ c torn. opened_or c (in_third c torn))
 
-    -- once it was begun to be opened, and where it wasn't
+    -- after its last write was begun, and before
     pub at_third : (opening : Bool) → (opening ≡ false → LeavesOnly c2 c3 (images c2)) → (c : List ℕ) → images c3 c → Opens opening c
     at_third true none c left = in_third c (now c2 c3 (TornFrom c2 0 (1 ∷ [])) three c left)
     at_third false none c left = not_opening false refl c (now old c2 Shut (two_writes c1 c2 one seen1 only1 two) c (now c2 c3 (images c2) (none refl) c left))

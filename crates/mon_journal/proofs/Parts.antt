@@ -1,4 +1,4 @@
--- The readers of a store's file look at nothing behind what they take.
+-- The readers of a store's file look at nothing after what they take.
 use Rattle.std.proofs.Common.{ℕ, ◌^◌, cond, eqb, ltb, leb, Ok, Err}
 use Rattle.std.specs.List.{list_all}
 use Rattle.std.specs.Str.{bytes_eq}

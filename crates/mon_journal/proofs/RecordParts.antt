@@ -74,7 +74,7 @@ pub at_shut : (at gate : ℕ) (rest : List ℕ) → gate ≢ 1 → records_at (f
 unfolding records_at
 at_shut at gate rest shut = records_shut (length rest) at gate rest shut
 
--- behind an open gate stand a payload and the others
+-- after an open gate stand a payload and the others
 pub at_open : (at : ℕ) (rest : List ℕ) (x : List ℕ × Reading) → payload_at (from (at + 1) rest) ≡ Ok x → records_at (from at (1 ∷ rest)) ≡ with_front (x.0 ∷ []) (records_at x.1)
 unfolding records_at
 at_open at rest x e =
@@ -83,8 +83,8 @@ at_open at rest x e =
     ∙ ap (λ (r : Result (List ℕ × Reading) JournalStop). r >>= λ p. with_front (p.0 ∷ []) (records (length rest) p.1)) e
     ∙ ap (λ (r : Found). with_front (x.0 ∷ []) r) (enough (length rest) (length x.1.rest) x.1.at x.1.rest less (omega arith))
 
--- The records before the first closed gate, that gate, and what stands behind it. Behind the same records others are read as
--- they stand.
+-- The records before the first closed gate, that gate, and what follows it. Behind the same records others are read as they
+-- are.
 pub record Parts (c : Reading) (x : List (List ℕ) × ℕ) : Type 0 where
   pub before : List ℕ
   pub gate : ℕ
@@ -170,7 +170,7 @@ payload_again at payload others lt =
     ap (λ (r : Result (ℕ × Reading) JournalStop). r >>= λ n. whole (front n.0 n.1)) (ap (λ (bytes : List ℕ). whole (number 4 (from at bytes))) (append_assoc (u32_bytes (length payload)) payload others) ∙ u32_again at (length payload) (payload ++ others) lt)
     ∙ front_again (length payload) (at + 4) payload others refl
 
--- an open record in front of a closed gate
+-- an open record before a closed gate
 pub one_record : (at : ℕ) (payload : List ℕ) (gate : ℕ) (behind : List ℕ) → length payload < 2 ^ 32 → gate ≢ 1
     → records_at (from at (record_bytes payload ++ gate ∷ behind)) ≡ Ok (payload ∷ [], at + 5 + length payload)
 one_record at payload gate behind lt shut =

@@ -102,7 +102,7 @@ header_takes c x fits e =
     subst (λ (y : Header × Reading). Takes c (header_text y.0) y.1 × IsHeader y.0) (ok_is (header_by a.0.0 b.0.0 f.0.0, f.0.1) x f.2)
     (all, record { below = t1.1; most_monitors = t1.2; from_one = t3.1; most = t3.2 })
 
--- records whose gates are open, one gate more, and what stands behind it
+-- records whose gates are open, one gate more, and what follows it
 record Spelled (rest : List ℕ) (payloads : List (List ℕ)) : Type 0 where
   gate : ℕ
   behind : List ℕ

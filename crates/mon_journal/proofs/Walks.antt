@@ -18,7 +18,7 @@ was_read : {X Y : Type 0} (view : X → Y) (r : Result X JournalStop) (new : Rea
 was_read view (Ok x) new read y reads is = ap (λ p. p.1) (ok_is (view x, new) y (sym reads ∙ is))
 was_read view (Err e) new read y reads is = absurd (cc (reads, is))
 
--- behind the gate and the header of a store's file all its payloads are left
+-- after the gate and the header of a store's file all its payloads are left
 pub all_left : {X Y : Type 0} (as_number : X → ℕ) (as_header : Y → Header) (file : List ℕ) (first : Reading) (gate : Result X Short) (mid : Reading) (header : Result Y JournalStop) (last : Reading)
     → IsStore file → first ≡ from 0 file → Steps as_number gate first mid (number 1 first) → Reads as_header header last (header_at mid) → IsLeft (payloads_of file) last
 all_left as_number as_header file first gate mid header last (held, is) start step reads =

@@ -20,7 +20,7 @@ header_at c = do
   generation ← generation_at zeros.1
   Ok (record { form = form.0; owner = owner.0; generation = generation.0 }, generation.1)
 
--- the payloads of at most so many records whose gates are open, and the place of the first closed gate
+-- the payloads of at most this many records whose gates are open, and the place of the first closed gate
 unfoldable pub records : ℕ → Reading → Result (List (List ℕ) × ℕ) JournalStop
 records zero c = Err (NotAStore c.at)
 records (suc n) c = do
@@ -53,7 +53,7 @@ is_closed [] = true
 is_closed (gate ∷ []) = true
 is_closed (gate ∷ byte ∷ bytes) = not (gate == 1)
 
--- What a file holds: nothing where it is closed, and else a store, or the first fault.
+-- What a file holds: nothing if it is closed, and otherwise a store, or the first fault.
 unfoldable pub content : List ℕ → Option (Result Held JournalStop)
 content file = if is_closed file then None else Some (held_at (record { at = 0; rest = file }))
 
@@ -62,7 +62,7 @@ payloads_in (Some (Ok held)) = held.payloads
 payloads_in (Some (Err e)) = []
 payloads_in None = []
 
--- the payloads that a file stands for
+-- the payloads that a file represents
 abbrev pub payloads_of : List ℕ → List (List ℕ)
 payloads_of file = payloads_in (content file)
 
@@ -76,11 +76,11 @@ held_by journal payloads = record { header = header_of journal; payloads = paylo
 abbrev pub Holds : Journal → List (List ℕ) → List ℕ → Type 0
 Holds journal payloads file = content file ≡ Some (Ok (held_by journal payloads))
 
--- the journal behind one more record
+-- the journal after one more record
 abbrev pub appended : Journal → List ℕ → Journal
 appended journal payload = record journal { next_gate = journal.next_gate + 5 + length payload }
 
--- A file with or without one more payload: with it exactly where the gate of its record is open.
+-- A file with or without one more payload: with it if and only if the gate of its record is open.
 abbrev pub WithOrWithout : Journal → List (List ℕ) → List ℕ → List ℕ → Type 0
 WithOrWithout journal payloads payload file =
     content file ≡ Some (Ok (if slice_index_or file journal.next_gate 0 == 1 then held_by (appended journal payload) (payloads ++ payload ∷ []) else held_by journal payloads))
@@ -90,7 +90,7 @@ abbrev pub Fails : {Y : Type 0} → JournalStop → Result Y JournalStop → Typ
 Fails OutOfMemory read = Unit {0}
 Fails e read = read ≡ Err e
 
--- a fault of the file's form, or want of memory
+-- a fault of the file's form, or out of memory
 abbrev pub IsOfForm : JournalStop → Type 0
 IsOfForm DiskFault = ⊥
 IsOfForm (NotAStore at) = Unit {0}

@@ -1,4 +1,4 @@
--- The fields of a store's file, from left to right, where the first one at fault is named by its first place.
+-- The fields of a store's file, from left to right. The first faulty one is named by its first byte.
 use Rattle.std.specs.Prelude.{ℕ, ◌^◌, false, List, Result, Ok, Err, nat_lt, nat_le, ◌==◌, if◌then◌else◌, codes}
 use Rattle.std.specs.List.{list_all}
 use Rattle.std.specs.Str.{bytes_eq}
@@ -39,7 +39,7 @@ owner_at c = do
   monitors ← whole (number 1 rank.1)
   if nat_lt rank.0 monitors.0 then (if nat_le monitors.0 15 then Ok (record { rank = rank.0; monitors = monitors.0 }, monitors.1) else Err (NotAStore rank.1.at)) else Err (NotAStore c.at)
 
--- so many zero bytes
+-- this many zero bytes
 unfoldable pub zeros_at : ℕ → Reading → Result (List ℕ × Reading) JournalStop
 zeros_at n c = do
   zeros ← whole (front n c)
@@ -51,7 +51,7 @@ generation_at c = do
   generation ← whole (number 8 c)
   if nat_le 1 generation.0 then (if nat_le generation.0 (2 ^ 62) then Ok generation else Err (NotAStore c.at)) else Err (NotAStore c.at)
 
--- a length, and a payload of so many bytes
+-- a length, and a payload of this many bytes
 unfoldable pub payload_at : Reading → Result (List ℕ × Reading) JournalStop
 payload_at c = do
   length ← whole (number 4 c)

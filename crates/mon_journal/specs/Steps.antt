@@ -21,33 +21,33 @@ abbrev pub stopped : Stop → JournalStop
 stopped stop.Failed = DiskFault
 stopped stop.OutOfMemory = OutOfMemory
 
--- what stopped a journal's calls on its disk: nothing, where the file's form is at fault
+-- what stopped a journal's calls on its disk: nothing, if the file's form is at fault
 abbrev pub stop_in : {T : Type 0} → Result T JournalStop → Option Stop
 stop_in (Ok x) = None
 stop_in (Err DiskFault) = Some stop.Failed
 stop_in (Err OutOfMemory) = Some stop.OutOfMemory
 stop_in (Err (NotAStore at)) = None
 
--- the disk's fault, or want of memory
+-- the disk's fault, or out of memory
 abbrev pub IsOutside : JournalStop → Type 0
 IsOutside DiskFault = Unit {0}
 IsOutside OutOfMemory = Unit {0}
 IsOutside (NotAStore at) = ⊥
 
--- What is built on a disk, and the disk, may both want memory. Here its own want of memory came before its first call on the
--- disk, or else it is the disk's.
+-- What is built on a disk, and the disk, may both run out of memory. Here its own failed allocation came before its first
+-- call on the disk, or otherwise the disk's failed.
 abbrev pub WantsFirst : {D E T : Type 0} → (D → DiskState) → E → Result T E → D → D → Type 0
 WantsFirst state no_memory result old new = result ≡ Err no_memory → (new ≡ old) ⊎ ((state new).wants ≡ risen (state old).wants)
 
--- any file, where what a crash leaves is told apart from the calls
+-- any file; what a crash leaves is said apart from the calls
 abbrev pub Any : List ℕ → Type 0
 Any file = Unit {0}
 
--- a record behind a closed gate, with a closed gate behind it; and then that gate is opened
+-- a record after a closed gate, with a closed gate after it; and then that gate is opened
 abbrev pub append_calls : ℕ → List ℕ → List DiskCall
 append_calls gate payload = Write (gate + 1) (payload_bytes payload ++ 0 ∷ []) ∷ Sync ∷ Write gate (1 ∷ []) ∷ Sync ∷ []
 
--- a new file behind a closed gate, which stands closed on the disk before it; and then that gate is opened
+-- a new file after a closed gate, which is closed on the disk before it; and then that gate is opened
 abbrev pub create_calls : Owner → ℕ → Option (List ℕ) → List DiskCall
 create_calls owner generation first = Write 0 (0 ∷ []) ∷ Sync ∷ Write 1 (head_bytes owner generation first) ∷ Sync ∷ Write 0 (1 ∷ []) ∷ Sync ∷ []
 
@@ -59,22 +59,22 @@ ClosedFrom x most file = (content file ≡ None) × ((d : List ℕ) × images x 
 abbrev pub CreatedFrom : Content → Journal → List (List ℕ) → List ℕ → Type 0
 CreatedFrom x journal payloads file = images x file ⊎ ClosedFrom x (journal.next_gate + 1) file ⊎ Holds journal payloads file
 
--- whether more than so many calls were made from one to the other
+-- whether more than this many calls were made from one to the other
 abbrev pub made_more : ℕ → Told → Told → Bool
 made_more n before now = nat_lt (length before.made + n) (length now.made)
 
--- the first where a test is passed, and else the second
+-- the first if a test is passed, and otherwise the second
 abbrev pub ByTest : Bool → Type 0 → Type 0 → Type 0
 ByTest true P Q = P
 ByTest false P Q = Q
 
--- What is left of a file that is made: the new one where its gate is open and it was begun to be opened, and else what a
+-- What is left of a file that is made: the new one if its gate is open and its last write was begun, and otherwise what a
 -- crash might have left before, or a closed file.
 abbrev pub Made : Content → Journal → List (List ℕ) → Bool → List ℕ → Type 0
 Made x journal payloads opening file =
     ByTest (slice_index_or file 0 0 == 1 && opening) (Holds journal payloads file) (images x file ⊎ ClosedFrom x (journal.next_gate + 1) file)
 
--- the payloads that the disk tells
+-- the payloads that can be seen on the disk
 abbrev pub payloads_told : Option (List ℕ) → List (List ℕ)
 payloads_told None = []
 payloads_told (Some file) = payloads_of file
@@ -82,7 +82,7 @@ payloads_told (Some file) = payloads_of file
 abbrev pub payloads_seen : Content → List (List ℕ)
 payloads_seen x = payloads_told x.seen
 
--- The journal's store stands on the disk, where the disk tells it, and a crash leaves nothing else. Its first closed gate is
+-- The journal's store is on the disk, if its contents can be seen, and a crash leaves nothing else. Its first closed gate is
 -- closed there, and within the known length.
 pub record Stands (journal : Journal) (known : ℕ) (x : Content) : Type 0 where
   pub only : Only x
@@ -103,7 +103,7 @@ open_calls (Some (Ok held)) = Sync ∷ Write held.next_gate (0 ∷ []) ∷ Sync 
 open_calls (Some (Err e)) = Sync ∷ []
 open_calls None = Sync ∷ []
 
--- a file that stands for the same as one that a crash might have left before, and is as long
+-- a file that represents the same as one that a crash might have left before, and is as long
 abbrev pub AlikeFrom : Content → List ℕ → Type 0
 AlikeFrom x file = (d : List ℕ) × images x d × (content file ≡ content d) × (length file ≡ length d)
 
@@ -112,7 +112,7 @@ abbrev pub OpensBy : Option Stop → DiskState → DiskState → Type 0
 OpensBy stop old new =
     (calls : List DiskCall) × Called calls (AlikeFrom old.content) stop old new × IfSome old.content.seen (λ file. calls ≡ open_calls (content file))
 
--- What opening answered is what the disk held, where the disk tells it, and stands on it safe from a crash.
+-- What opening returned is what the disk held, if its contents can be seen, and survives a crash.
 abbrev pub Opens : Option (List ℕ) → ℕ → Content → Result Opened JournalStop → Type 0
 Opens seen known new (Ok (Closed len)) = Only new × (new.seen ≡ seen) × (known ≡ len) × IfSome seen (λ file. (content file ≡ None) × (len ≡ length file))
 Opens seen known new (Ok (Live journal payloads)) = Keeps journal payloads known new × IfSome seen (Holds journal payloads)

@@ -25,7 +25,7 @@ header_text header = word_of header.form ++ header.owner.rank ∷ header.owner.m
 abbrev pub header_bytes : Owner → ℕ → List ℕ
 header_bytes owner generation = header_text (record { form = Second; owner = owner; generation = generation })
 
--- what stands behind a record's gate
+-- what follows a record's gate
 abbrev pub payload_bytes : List ℕ → List ℕ
 payload_bytes payload = u32_bytes (length payload) ++ payload
 
@@ -42,7 +42,7 @@ abbrev pub first_payloads : Option (List ℕ) → List (List ℕ)
 first_payloads None = []
 first_payloads (Some payload) = payload ∷ []
 
--- what stands behind the gate of a new file's header: the header, no record or one, and a closed gate
+-- what follows the gate of a new file's header: the header, no record or one, and a closed gate
 abbrev pub head_bytes : Owner → ℕ → Option (List ℕ) → List ℕ
 head_bytes owner generation first = header_bytes owner generation ++ first_record first ++ 0 ∷ []
 
@@ -64,6 +64,6 @@ pub record IsHeader (header : Header) : Type 0 where
 abbrev pub AreShort : List (List ℕ) → Type 0
 AreShort payloads = AllByRecursion (λ payload. length payload < 2 ^ 32) payloads
 
--- an open gate and a header, records whose gates are open, one gate more, and whatever stands behind it
+-- an open gate and a header, records whose gates are open, another gate, and whatever follows it
 abbrev pub file_bytes : Header → List (List ℕ) → ℕ → List ℕ → List ℕ
 file_bytes header payloads gate behind = 1 ∷ (header_text header ++ (flat_map record_bytes payloads ++ gate ∷ behind))

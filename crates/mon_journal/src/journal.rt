@@ -18,8 +18,8 @@ pub enum Form {
     Second,
 }
 
-/// What is kept of a store's file: whose it is, which of the store's two files is the newer, and where the first closed
-/// gate stands. Its payloads are on the disk alone.
+/// What is kept of a store's file: whose it is, which of the store's two files is the newer, and where its first
+/// closed gate is. Its payloads are on the disk alone.
 #[derive(Clone, Copy, Debug, PartialEq, Eq)]
 pub struct Journal {
     /// Whose store it is.

@@ -6,8 +6,8 @@ ghost use Rattle.mon_bytes.specs.Reading.{IsBytes};
 ghost use Rattle.mon_journal.specs.Content.{Header, Held, content};
 ghost use Rattle.mon_journal.specs.Written.{record_bytes, IsHeader, AreShort, file_bytes};
 
-/// A file as it is written holds its header and its payloads, up to its first closed gate and whatever stands behind
-/// that; and a file that holds a header and payloads is so written.
+/// A file as it is written holds its header and its payloads, up to its first closed gate and whatever follows that;
+/// and a file that holds a header and payloads is so written.
 pub fn law_written()
     ensures read { (header : Header) (payloads : List (List ℕ)) (gate : ℕ) (behind : List ℕ) → IsHeader header
         → AreShort payloads → gate ≢ 1 → content (file_bytes header payloads gate behind)

@@ -1,4 +1,4 @@
-//! The records of a store, each on the disk behind a closed gate before its gate is opened.
+//! The records of a store. Each is on the disk behind a closed gate before that gate is opened.
 #![tactic(auto)]
 
 mod append;

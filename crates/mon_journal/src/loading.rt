@@ -35,7 +35,8 @@ fn zeros(alloc: Global, len: usize) -> Result<Vec<u8>, OutOfMemory>
     Ok(vec![in alloc; 0; len]?)
 }
 
-/// Room for so many bytes. It is a power of two, so that what one opening gives back serves the next, of a longer file.
+/// Room for this many bytes. Its size is a power of two, so that the memory which one opening releases serves the
+/// next one, of a longer file.
 fn room(alloc: Global, len: usize) -> Result<Vec<u8>, OutOfMemory>
     ensures { IfOk result (λ bytes. bytes.items ≡ []) }
 {
@@ -49,7 +50,7 @@ fn append(bytes: &mut Vec<u8>, piece: &[u8]) -> Result<(), OutOfMemory>
     Ok(bytes.extend_from_slice(piece)?)
 }
 
-/// Reads as many bytes as a piece has, behind those that were read, and appends them.
+/// Reads as many bytes as a piece has, after those that were read, and appends them.
 fn read_on<D: Disk>(disk: &mut D, piece: &mut [u8], bytes: &mut Vec<u8>) -> Result<(), JournalStop>
     requires { length bytes.old.items + length piece.old ≤ (D.state disk.old).known }
     ensures call { Called [] (images (D.state disk.old).content) (stop_in result) (D.state disk.old)

@@ -29,8 +29,8 @@ pub enum Opened {
 pub fn open<D: Disk>(alloc: Global, disk: &mut D) -> Result<Opened, JournalStop>
     ensures found { Opens (D.state disk.old).content.seen (D.state disk.new).known (D.state disk.new).content result }
 
-    // Which writes and syncs were made. A crash at any moment of the call leaves a file that stands for what one did
-    // that it might have left before.
+    // Which writes and syncs were made. A crash at any point of the call leaves a file that represents the same as
+    // one that it might have left before.
     ensures call { OpensBy (stop_in result) (D.state disk.old) (D.state disk.new) }
 {
     let file = load(alloc, disk)?;

@@ -1,4 +1,4 @@
-//! The payloads of a file, where they stand in it.
+//! The payloads of a file, as they are in it.
 
 ghost use Rattle.std.specs.Prelude.{◌≡◌, ◌<◌, List, ℕ, length, IfSome, option_map};
 ghost use Rattle.mon_journal.specs.Content.{payloads_of, IsStore, IsLeft, IsNext};
@@ -51,7 +51,7 @@ pub struct Unread<'a> {
 }
 
 impl<'a> Unread<'a> {
-    /// The next payload, where one is left.
+    /// The next payload, if one is left.
     pub fn next_payload(&mut self) -> Option<&'a [u8]>
         ensures next { (payloads : List (List ℕ)) → IsLeft payloads self.old.cursor
             → IsNext (option_map (λ payload. payload.now) result) payloads self.new.cursor }

@@ -94,7 +94,7 @@ fn generation_at(cursor: &mut Cursor<'_>) -> Result<u64, JournalStop>
     Ok(generation)
 }
 
-/// The header, as a journal whose first closed gate is the one behind it.
+/// The header, as a journal whose first closed gate is the one after it.
 #[tactic(auto, unfolding(crate::specs::Content::header_at))]
 pub fn header_at(cursor: &mut Cursor<'_>) -> Result<Journal, JournalStop>
     ensures header { Reads (λ journal. header_of journal) result cursor.new (header_at cursor.old) }

@@ -8,7 +8,7 @@ use crate::reading::{header_at, payload_at};
 use crate::stop::JournalStop;
 use mon_bytes::Cursor;
 
-/// The place of the first closed gate, behind records that are there whole.
+/// The place of the first closed gate, after records that are there whole.
 fn gate_behind(cursor: &mut Cursor<'_>) -> Result<u64, JournalStop>
     ensures records { Finds (λ gate payloads. (payloads, gate)) result (records_at cursor.old) }
     ensures form { IfErr result IsOfForm }

@@ -22,7 +22,7 @@ pub fn write_synced<D: Disk>(disk: &mut D, at: u64, bytes: &[u8]) -> Result<(), 
     ensures known { OnOk result ((D.state disk.new).known ≡ max (D.state disk.old).known (at + length bytes.now)) }
     ensures no_memory { result ≡ Err OutOfMemory → (D.state disk.new).wants ≡ risen (D.state disk.old).wants }
 
-    // Where no call was made a crash leaves nothing new.
+    // If no call was made, a crash leaves nothing new.
     ensures not_begun { let old = D.state disk.old in
         IfSome old.told (λ s. (D.state disk.new).told ≡ Some s
         → LeavesOnly old.content (D.state disk.new).content (images old.content)) }

@@ -6,8 +6,8 @@ use mon_bytes::{OutOfMemory, Short};
 use mon_types::Stop;
 use thiserror::Error;
 
-/// Why a call on a journal's disk came to no end. After `DiskFault` and `OutOfMemory` the disk is one of the images
-/// that the call allows, and the journal is not to be used.
+/// Why a call on a journal's disk failed. After `DiskFault` and `OutOfMemory` the disk is one of the images that the
+/// call allows, and the journal must not be used again.
 #[derive(Clone, Copy, Debug, PartialEq, Eq, Error)]
 pub enum JournalStop {
     /// The disk failed.

@@ -122,7 +122,7 @@ changes_without old new prefix w is = record {
       ∙ sum_by-without (λ area. area_size area.0 (entries area.1)) prefix (entries old) w.in_order ∙ sym (add-zero (areas_size (entries old)));
 }
 
--- where the prefix stays as it was
+-- if the prefix stays as it was
 pub changes_none : (old new : Tree Records) (prefix : List ℕ) → IsWhole old → entries new ≡ entries old → Changes old new prefix (under (find bytes_cmp prefix (entries old)))
 changes_none old new prefix w is = record {
   whole = record { in_order = ap (is_sorted bytes_cmp) is ∙ w.in_order; areas = ap (list_all is_area) is ∙ w.areas };

@@ -25,7 +25,7 @@ use Rattle.mon_kv.proofs.PlaceLaws.{entries-store, below_places}
 abbrev Entries : Type 0
 Entries = List (Place × List ℕ)
 
--- ---- the entries above an entry are those behind it
+-- ---- the entries above an entry are those after it
 less : (r : Ordering) → is_lt r ≡ true → r ≡ Less
 less Less e = refl
 less Equal e = absurd cc
@@ -115,7 +115,7 @@ module _ (all : Entries) (room most : ℕ) where
   pub runs_more : (taken : Entries) (left : ℕ) (e : Place × List ℕ) (rest : Entries) → RunsOn all room most taken left (e ∷ rest) → eqb (length taken) (length all) ≡ false
   runs_more taken left e rest r = ne_eqb _ _ (λ same. let c = r.count in omega (arith, c, same))
 
--- nothing stands at or before the empty pair
+-- nothing is at or before the empty pair
 prefix_above : (p : List ℕ) → is_prefix p ≡ true → bytes_cmp [] p ≡ Less
 prefix_above [] h = absurd cc
 prefix_above (x ∷ p) h = refl

@@ -1,4 +1,4 @@
--- What `parse` says of digits, where it fails.
+-- What `parse` says of digits, when it fails.
 use Rattle.std.proofs.Common.{◌≡◌, ◌≢◌, ℕ, ◌^◌, ◌≤◌, List, length, Result, Err, IsTrue, inl, inr, arith, rules}
 use Rattle.std.specs.List.{list_all}
 use Rattle.std.specs.Str.Parse.{digits_value, ParsesUnsigned}

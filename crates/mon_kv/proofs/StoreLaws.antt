@@ -95,7 +95,7 @@ module _ (old new : Tree Records) (prefix : List ℕ) (es : List (List ℕ × Li
       by true = refl
       by false = refl
 
-  -- at the prefix that changes, the old map is what stood there
+  -- at the prefix that changes, the old map is what was there
   at_prefix : (q : Place) → bytes_cmp q.0 prefix ≡ Equal → get (store old) q ≡ find bytes_cmp q.1 (under (find bytes_cmp prefix (entries old)))
   at_prefix q e = get-store old q w.in_order ∙ ap (λ o. find bytes_cmp q.1 (under o)) (sym (find_tied bytes_cmp total q.0 prefix e (entries old)))
 

@@ -39,12 +39,12 @@ pub record IsWhole (trees : Tree Records) : Type 0 where
   pub in_order : IsInOrder trees
   pub areas : IsTrue (list_all is_area (entries trees))
 
--- what stands under the prefix that was looked up
+-- what is under the prefix that was looked up
 abbrev pub under : Option Records → List (List ℕ × List ℕ)
 under None = []
 under (Some records) = entries records
 
--- the areas with this one set, or without it where it is empty
+-- the areas with this one set, or without it if it is empty
 abbrev pub with_area : List ℕ → Records → List (List ℕ × Records) → List (List ℕ × Records)
 with_area prefix records areas =
     if is_empty (entries records) then where_key bytes_cmp (λ x. not (eq_by_cmp bytes_cmp prefix x)) areas else put bytes_cmp prefix records areas
@@ -68,7 +68,7 @@ area_size prefix es = sum_by (λ e. record_size prefix e.0 e.1) es
 abbrev pub areas_size : List (List ℕ × Records) → ℕ
 areas_size areas = sum_by (λ area. area_size area.0 (entries area.1)) areas
 
--- The tree of the prefix was taken out, and an empty one stands in its place.
+-- The tree of the prefix was taken out, and an empty one is in its place.
 pub record IsTaken (old new : Tree Records) (prefix : List ℕ) (records : Records) : Type 0 where
   pub form : IsTrue (is_prefix prefix)
   pub stands_in : entries new ≡ put bytes_cmp prefix Leaf (entries old)

@@ -13,13 +13,14 @@ use Rattle.mon_tx.specs.Keys.{area_text, place, number, is_local}
 use Rattle.mon_kv.specs.Readers.{entries_after}
 use Rattle.mon_kv.specs.declared.chunk.KeyRun.{KeyRun}
 
--- whether a place is one of a monitor's own keys of Paxos, where `next` is the key of the version that isn't committed yet
+-- whether a place is one of a monitor's own keys of Paxos, given that `next` is the key of the version that isn't committed
+-- yet
 abbrev pub own_of_paxos : List ℕ → Place → Bool
 own_of_paxos next at =
     list_any (λ own. eq_by_cmp place_cmp own at)
     (place Paxos LastCommitted ∷ place Paxos LastPn ∷ place Paxos AcceptedPn ∷ place Paxos PendingV ∷ place Paxos PendingPn ∷ (area_text Paxos, next) ∷ [])
 
--- those of the entries that aren't the monitor's own, where `last` is its last version
+-- those of the entries that aren't the monitor's own, given that `last` is its last version
 abbrev pub shared_of : ℕ → List (Place × List ℕ) → List (Place × List ℕ)
 shared_of last es = filter (λ e. not (is_local last e.0)) es
 
@@ -42,12 +43,12 @@ run_of room (suc most) (e ∷ es) = if nat_le (entry_len e) room then e ∷ run_
 abbrev pub plain : Entry → Place × List ℕ
 plain e = ((e.prefix, e.key), e.value)
 
--- what a run tells of the entries that it begins: the longest run of them, and whether none of them follows it
+-- the run that the entries begin with: the longest run of them, and whether it is all of them
 pub record IsLongestRun (all : List (Place × List ℕ)) (room most : ℕ) (run : KeyRun) : Type 0 where
   pub entries : map plain run.entries.items ≡ run_of room most all
   pub done : run.done ≡ (length run.entries.items == length all)
 
--- Where `taken` was taken of `all` and `rest` is left, with this much room: the run goes on with the run of the rest.
+-- If `taken` was taken of `all` and `rest` is left, with this much room: the run goes on with the run of the rest.
 pub record RunsOn (all : List (Place × List ℕ)) (room most : ℕ) (taken : List (Place × List ℕ)) (left : ℕ) (rest : List (Place × List ℕ)) : Type 0 where
   pub run : taken ++ run_of left (most - length taken) rest ≡ run_of room most all
   pub within : length taken ≤ most

@@ -1,4 +1,4 @@
--- What the map of a monitor tells its readers.
+-- What the readers of a monitor's map return.
 use Rattle.std.specs.Prelude.{ℕ, ◌+◌, ◌==◌, if◌then◌else◌, Bool, List, length, Option, Some, None}
 use Rattle.std.specs.FinMap.{entries}
 use Rattle.std.specs.List.{filter, sum_by}
@@ -13,7 +13,7 @@ use Rattle.mon_kv.specs.declared.entry_ref.EntryRef.{EntryRef}
 use Rattle.mon_kv.specs.declared.kv.TheConstants.{LEAST_LENGTH, MOST_SIZE}
 use Rattle.mon_kv.specs.declared.next.Found.{Found}
 
--- the election epoch, which counts as 1 where there is none
+-- the election epoch, which counts as 1 if there is none
 abbrev pub epoch : Store → ℕ
 epoch m = unwrap_or (option_map (λ bytes. number_in (Some bytes)) (cell m area.Monitor key.ElectionEpoch)) 1
 
@@ -32,7 +32,7 @@ size_of m = sum_by entry_size (entries m)
 abbrev pub most_size : ℕ
 most_size = MOST_SIZE
 
--- a store's file is begun anew only where it is longer than this, up to and with its first closed gate
+-- a store's file is replaced by a new one only if it is longer than this, up to and with its first closed gate
 abbrev pub least_length : ℕ
 least_length = LEAST_LENGTH
 
@@ -54,12 +54,12 @@ entries_after m place = after place (entries m)
 abbrev pub Waiting : Type 0
 Waiting = ℕ × ℕ × List ℕ
 
--- the bytes that spell a transaction
+-- the bytes that encode a transaction
 abbrev pub if_text : Option (List ℕ) → Option (List ℕ)
 if_text None = None
 if_text (Some bytes) = if is_text bytes then Some bytes else None
 
--- It is there exactly where its version is the one after the last and the record of that version is a transaction.
+-- It is there if and only if its version is the one after the last and the record of that version is a transaction.
 abbrev pub waiting : ℕ → ℕ → ℕ → Option (List ℕ) → Option Waiting
 waiting v pn last record_there = if v == last + 1 then option_map (λ bytes. (last + 1, pn, bytes)) (if_text record_there) else None
 

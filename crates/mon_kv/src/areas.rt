@@ -27,7 +27,7 @@ pub(crate) fn record_size(prefix: &[u8], key: &[u8], value: &[u8]) -> u64
     prefix.len() as u64 + key.len() as u64 + value.len() as u64 + 16
 }
 
-/// What a key counted with whose value was there, and 0 where none was.
+/// What a key and its value counted, or 0 if the key wasn't there.
 fn freed_size(prefix: &[u8], key: &[u8], value: &Option<Bytes>) -> u64
     requires prefix { IsTrue (is_prefix prefix.now) }
     requires key { IsTrue (is_name key.now) }
@@ -39,7 +39,7 @@ fn freed_size(prefix: &[u8], key: &[u8], value: &Option<Bytes>) -> u64
     }
 }
 
-/// What all keys count with under a prefix of this length, or the greatest u64 where it is more.
+/// What all keys count under a prefix of this length, or the greatest u64 if that is more.
 fn weight(records: &Tree<Bytes>, prefix_len: u64) -> u64
     ensures { result ≡ min (weight_of prefix_len (entries records.now)) (2 ^ 64 - 1) }
 {
@@ -54,7 +54,7 @@ fn weight(records: &Tree<Bytes>, prefix_len: u64) -> u64
     }
 }
 
-/// Takes the tree of a prefix out, where there is one, and leaves an empty one in its place.
+/// Takes the tree of a prefix out, if there is one, and leaves an empty one in its place.
 fn take(areas: &mut Areas, prefix: &[u8]) -> Option<Tree<Bytes>>
     requires whole { IsWhole areas.old }
     requires prefix { IsTrue (is_prefix prefix.now) }
@@ -70,7 +70,7 @@ fn take(areas: &mut Areas, prefix: &[u8]) -> Option<Tree<Bytes>>
     }
 }
 
-/// Sets the tree of a prefix that has one, or takes the prefix away where that tree is empty.
+/// Sets the tree of a prefix that has one, or takes the prefix away if that tree is empty.
 fn set(areas: &mut Areas, prefix: &[u8], mut records: Tree<Bytes>)
     requires in_order { IsInOrder areas.old }
     requires there { IsSome (find bytes_cmp prefix.now (entries areas.old)) }
@@ -104,7 +104,7 @@ fn begin(
     Ok(())
 }
 
-/// Puts the value of a key, and tells what the old one counted with. After an `Err` every key has the value of before.
+/// Sets the value of a key, and returns what the old one counted. After an `Err` every key has its earlier value.
 pub(crate) fn put(
     areas: &mut Areas,
     alloc: Global,
@@ -134,7 +134,7 @@ pub(crate) fn put(
     }
 }
 
-/// Takes a key away, and tells what it counted with.
+/// Removes a key, and returns what it counted.
 pub(crate) fn erase(areas: &mut Areas, prefix: &[u8], key: &[u8]) -> u64
     requires whole { IsWhole areas.old }
     requires prefix { IsTrue (is_prefix prefix.now) }
@@ -154,7 +154,7 @@ pub(crate) fn erase(areas: &mut Areas, prefix: &[u8], key: &[u8]) -> u64
     }
 }
 
-/// Takes every key of a prefix away, and tells what they counted with.
+/// Removes every key of a prefix, and returns what they counted.
 pub(crate) fn erase_prefix(areas: &mut Areas, prefix: &[u8]) -> u64
     requires whole { IsWhole areas.old }
     requires fits { areas_size (entries areas.old) < 2 ^ 64 }
@@ -167,7 +167,7 @@ pub(crate) fn erase_prefix(areas: &mut Areas, prefix: &[u8]) -> u64
     }
 }
 
-/// Takes the decimal key of a version away, and tells what it counted with under a prefix of this length.
+/// Removes the decimal key of a version, and returns what it counted under a prefix of this length.
 #[tactic(auto, using(mon_tx::proofs::Decimals::decimal_is))]
 fn erase_version(records: &mut Tree<Bytes>, prefix_len: u64, version: u64) -> u64
     requires in_order { IsInOrder records.old }
@@ -187,8 +187,8 @@ fn erase_version(records: &mut Tree<Bytes>, prefix_len: u64, version: u64) -> u6
     }
 }
 
-/// Takes the decimal keys from `from` up to but not including `to` away, one after the other, and tells what they
-/// counted with under a prefix of this length.
+/// Removes the decimal keys from `from` up to but not including `to`, one after the other, and returns what they
+/// counted under a prefix of this length.
 fn erase_each(records: &mut Tree<Bytes>, prefix_len: u64, from: u64, to: u64) -> u64
     requires in_order { IsInOrder records.old }
     requires fits { weight_of prefix_len (entries records.old) < 2 ^ 64 }
@@ -202,8 +202,8 @@ fn erase_each(records: &mut Tree<Bytes>, prefix_len: u64, from: u64, to: u64) ->
     freed
 }
 
-/// Takes the decimal keys from `from` up to but not including `to` away in one pass over all keys, and tells what they
-/// counted with under a prefix of this length.
+/// Removes the decimal keys from `from` up to but not including `to` in one pass over all keys, and returns what they
+/// counted under a prefix of this length.
 fn erase_passing(records: &mut Tree<Bytes>, prefix_len: u64, from: u64, to: u64) -> u64
     requires fits { weight_of prefix_len (entries records.old) < 2 ^ 64 }
     ensures freed { weight_of prefix_len (entries records.new) + result ≡ weight_of prefix_len (entries records.old) }
@@ -216,8 +216,8 @@ fn erase_passing(records: &mut Tree<Bytes>, prefix_len: u64, from: u64, to: u64)
     before.saturating_sub(after)
 }
 
-/// Takes the decimal keys from `from` up to but not including `to` away, and tells what they counted with under a
-/// prefix of this length. It looks each number up, or passes over all keys where they are fewer than the numbers.
+/// Removes the decimal keys from `from` up to but not including `to`, and returns what they counted under a prefix of
+/// this length. It looks each number up, or passes over all keys if they are fewer than the numbers.
 fn erase_versions(records: &mut Tree<Bytes>, prefix_len: u64, from: u64, to: u64) -> u64
     requires in_order { IsInOrder records.old }
     requires fits { weight_of prefix_len (entries records.old) < 2 ^ 64 }
@@ -231,9 +231,9 @@ fn erase_versions(records: &mut Tree<Bytes>, prefix_len: u64, from: u64, to: u64
     erase_each(records, prefix_len, from, to)
 }
 
-/// Takes away every key of a prefix that is the decimal number of a version from `from` up to but not including `to`,
-/// and tells what they counted with. It takes a look-up for each number of the range, or one pass over the keys of that
-/// prefix where they are fewer.
+/// Removes every key of a prefix that is the decimal number of a version from `from` up to but not including `to`,
+/// and returns what they counted. It takes a look-up for each number of the range, or one pass over the keys of that
+/// prefix if they are fewer.
 pub(crate) fn erase_range(areas: &mut Areas, prefix: &[u8], from: u64, to: u64) -> u64
     requires whole { IsWhole areas.old }
     requires prefix { IsTrue (is_prefix prefix.now) }

@@ -1,5 +1,5 @@
-//! Trees made of trees. Each call keeps the entries in their order, and the heights of two sides within one of each
-//! other where they were so in its parts.
+//! Trees made of trees. Each call keeps the entries in their order. If the heights of the two sides of its parts were
+//! within one of each other, so are those of the result.
 
 ghost use Rattle.std.specs.Prelude.{◌≡◌, [], ◌∷◌, ◌++◌};
 ghost use Rattle.mon_kv.specs.Tree.{entries, node_entries, TakesRoot};
@@ -96,7 +96,7 @@ pub(crate) fn joined<V: Drop>(left: Tree<V>, node: Box<Node<V>>, right: Tree<V>)
     }
 }
 
-/// Sets the height of a tree's root from those of its sides. It tells whether the sides are in balance.
+/// Sets the height of a tree's root from those of its sides. It returns whether the sides are in balance.
 fn set_height<V>(tree: &mut Tree<V>) -> bool
     ensures { entries tree.new ≡ entries tree.old }
 {
@@ -110,7 +110,7 @@ fn set_height<V>(tree: &mut Tree<V>) -> bool
     }
 }
 
-/// Brings the two sides of a tree into balance. Where they are so already, nothing is moved.
+/// Brings the two sides of a tree into balance. If they are balanced already, nothing is moved.
 pub(crate) fn settle<V: Drop>(tree: &mut Tree<V>)
     ensures { entries tree.new ≡ entries tree.old }
 {

@@ -23,7 +23,7 @@ fn is_decimal(key: &[u8]) -> bool
     }
 }
 
-/// The number that the digits spell, where it fits.
+/// The number that the digits represent, if it fits.
 fn value_of(digits: &str) -> Option<u64>
     requires { IsTrue (list_all is_digit digits.now) }
     ensures some { IfSome result (λ n. n ≡ digits_value 10 digits.now) }

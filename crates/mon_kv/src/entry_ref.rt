@@ -1,4 +1,4 @@
-/// An entry of a map, as it stands there.
+/// An entry of a map, borrowed.
 #[derive(Clone, Copy, Debug)]
 pub struct EntryRef<'a> {
     pub prefix: &'a [u8],

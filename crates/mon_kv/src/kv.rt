@@ -53,7 +53,7 @@ impl Model for Kv {
 /// The most that the map of a store may count with, as `size` counts.
 pub const MOST_SIZE: u64 = 268435456;
 
-/// A store's file is begun anew only where it is longer than this, up to and with its first closed gate.
+/// A store's file is replaced by a new one only if it is longer than this, up to and with its first closed gate.
 pub const LEAST_LENGTH: u64 = 1048576;
 
 /// The number that the bytes hold: eight bytes, the lowest first, and at most 2^62. It is 0 otherwise.
@@ -85,7 +85,7 @@ impl Kv {
         }
     }
 
-    /// The bytes at a key, or `None` exactly where the key isn't there.
+    /// The bytes at a key, or `None` if and only if the key isn't there.
     pub fn get(&self, prefix: &[u8], key: &[u8]) -> Option<&[u8]>
         ensures { option_copied result ≡ get self.now (prefix.now, key.now) }
     {
@@ -98,7 +98,7 @@ impl Kv {
         }
     }
 
-    /// The number at a key: that of its eight bytes, the lowest first, where it is at most 2^62, and 0 otherwise.
+    /// The number at a key: that of its eight bytes, the lowest first, if it is at most 2^62, and 0 otherwise.
     pub fn number(&self, prefix: &[u8], key: &[u8]) -> u64
         ensures value { result ≡ number_at self.now prefix.now key.now }
         ensures most { result ≤ 2 ^ 62 }
@@ -113,8 +113,8 @@ impl Kv {
         self.size
     }
 
-    /// The first entry above the pair of prefix and key, in the order by prefix and then key. It is `None` exactly
-    /// where there is none. Two empty slices stand before every entry.
+    /// The first entry above the pair of prefix and key, in the order by prefix and then key. It is `None` if and
+    /// only if there is none. Two empty slices are before every entry.
     pub fn next_entry(&self, prefix: &[u8], key: &[u8]) -> Option<EntryRef<'_>>
         ensures value { option_map entry_of result ≡ first (entries_after self.now (prefix.now, key.now)) }
         ensures form { IfSome result (λ e. IsTrue (is_prefix e.prefix.now) × IsTrue (is_name e.key.now)) }
@@ -130,7 +130,7 @@ impl Kv {
         }
     }
 
-    /// The first entry above the pair of prefix and key, where it stands in the trees.
+    /// The first entry above the pair of prefix and key, borrowed from the trees.
     pub(crate) fn next_found(&self, prefix: &[u8], key: &[u8]) -> Option<Found<'_>>
         ensures value { option_map found_of result ≡ first (entries_after self.now (prefix.now, key.now)) }
         ensures form { IfSome result (λ e. IsTrue (is_prefix e.prefix.now)) }
@@ -139,7 +139,7 @@ impl Kv {
         next(&self.areas, prefix, key)
     }
 
-    /// The allocator. No entry stands before the pair of two empty texts.
+    /// The allocator. No entry comes before the pair of two empty texts.
     pub(crate) fn allocator(&self) -> Global
         ensures start { entries_after self.now ([], []) ≡ entries self.now }
     {
@@ -231,8 +231,9 @@ impl Kv {
         }
     }
 
-    /// Makes the changes that a text spells, in order, as they are read. It takes no memory but for what the map keeps.
-    /// An `Err` is what the text is refused with, or `OutOfMemory`; after it the map is spoiled and is not to be used.
+    /// Makes the changes that a text encodes, in order, as they are read. It takes no memory but for what the map
+    /// keeps. An `Err` is what the text is refused with, or `OutOfMemory`; after it the map is broken and must not be
+    /// used.
     pub fn apply_text(&mut self, text: &[u8]) -> Result<(), TxRefused>
         ensures { Gives (λ _. self.new) result (applied self.old (transaction_of text.now)) }
     {

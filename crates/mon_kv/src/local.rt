@@ -8,7 +8,7 @@ ghost use Rattle.mon_kv.specs.Chunks.{own_of_paxos};
 
 use itoa::Buffer;
 
-/// Whether an entry stands at this prefix and key.
+/// Whether an entry is at this prefix and key.
 fn is_at(prefix: &[u8], key: &[u8], own_prefix: &[u8], own_key: &[u8]) -> bool
     ensures { result ≡ eq_by_cmp place_cmp (own_prefix.now, own_key.now) (prefix.now, key.now) }
 {
@@ -17,7 +17,8 @@ fn is_at(prefix: &[u8], key: &[u8], own_prefix: &[u8], own_key: &[u8]) -> bool
     same_prefix & same_key
 }
 
-/// Whether a key of Paxos is the monitor's own, where `next` is the decimal number of the version after its last.
+/// Whether a key of Paxos is the monitor's own, given that `next` is the decimal number of the version after its
+/// last.
 fn is_own_of_paxos(prefix: &[u8], key: &[u8], next: &[u8]) -> bool
     ensures { result ≡ own_of_paxos next.now (prefix.now, key.now) }
 {

@@ -11,7 +11,7 @@ use crate::tree::{Tree, compare};
 use mon_bytes::{Bytes, Name};
 use std::cmp::Ordering;
 
-/// An entry, where it stands in the trees.
+/// An entry, borrowed from the trees.
 #[derive(Clone, Copy)]
 pub(crate) struct Found<'a> {
     pub(crate) prefix: &'a Name,

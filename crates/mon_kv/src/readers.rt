@@ -1,4 +1,4 @@
-//! What a map tells by name.
+//! The values that a map has under known names.
 
 ghost use Rattle.std.specs.Prelude.{◌≡◌, ◌≤◌, ◌^◌, IfSome};
 ghost use Rattle.std.specs.Option.{option_copied, option_map};
@@ -52,7 +52,7 @@ impl Kv {
         self.number(b"paxos", b"accepted_pn")
     }
 
-    /// The election epoch. It counts as 1 where there is none.
+    /// The election epoch. It counts as 1 if there is none.
     pub fn epoch(&self) -> u64
         ensures value { result ≡ epoch self.now }
         ensures most { result ≤ 2 ^ 62 }
@@ -86,7 +86,7 @@ impl Kv {
         self.number(b"mon_sync", b"in_sync") == 1
     }
 
-    /// The record of a version: the bytes at its decimal key, or `None` exactly where there are none.
+    /// The record of a version: the bytes at its decimal key, or `None` if and only if there are none.
     #[tactic(auto, using(mon_tx::proofs::Decimals::decimal_is))]
     pub fn stored(&self, v: u64) -> Option<&[u8]>
         ensures { option_copied result ≡ cell self.now area.Paxos (key.Version v) }
@@ -95,7 +95,7 @@ impl Kv {
         self.get(b"paxos", digits.format(v).as_bytes())
     }
 
-    /// The value that was accepted for the version after the last one. It is there exactly where `pending_v` is that
+    /// The value that was accepted for the version after the last one. It is there if and only if `pending_v` is that
     /// version and its record is a transaction.
     #[tactic(auto, unfolding(crate::specs::Readers::pending))]
     pub fn pending(&self) -> Option<Pending<'_>>

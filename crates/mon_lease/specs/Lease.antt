@@ -1,7 +1,7 @@
--- A lease is the moment of its end, or none.
+-- A lease is the time of its end, or none.
 use Rattle.std.specs.Prelude.{ℕ, ◌+◌, ◌^◌, min, Bool, false, ◌&&◌, ◌||◌, ◌==◌, nat_lt, Option, None, Some}
 
--- the milliseconds for which a lease stands
+-- the milliseconds for which a lease is valid
 abbrev pub length : ℕ
 length = 5000
 
@@ -9,7 +9,7 @@ length = 5000
 abbrev pub extended : ℕ → Option ℕ
 extended now = Some (min (now + length) (2 ^ 62))
 
--- whether it stands now
+-- whether it is valid now
 abbrev pub stands : Option ℕ → ℕ → Bool
 stands None now = false
 stands (Some end) now = nat_lt now end

@@ -4,10 +4,11 @@ ghost use Rattle.mon_lease.specs.Lease.{extended, stands};
 use mon_types::{GREATEST, Moment};
 use std::marker::Model;
 
-/// The milliseconds for which a lease stands from when it is given.
+/// The milliseconds for which a lease is valid after it was given.
 pub const LENGTH: u64 = 5_000;
 
-/// A lease to read: either none, or one that stands until its end. It ends by the clock of the monitor that holds it.
+/// A lease to read: either none, or one that is valid until its end. It ends by the clock of the monitor that holds
+/// it.
 #[derive(Clone, Copy, Debug, PartialEq, Eq)]
 pub struct Lease {
     end: Option<Moment>,
@@ -31,7 +32,7 @@ impl Lease {
         Lease { end: None }
     }
 
-    /// From now on the lease stands for [`LENGTH`] milliseconds. An end that would pass 2^62 is 2^62.
+    /// From now on the lease is valid for [`LENGTH`] milliseconds. An end that would pass 2^62 is 2^62.
     pub fn extend(&mut self, now: Moment)
         ensures { self.new ≡ extended now }
     {

@@ -1,12 +1,12 @@
 -- What a clock shows.
 use Rattle.std.specs.Prelude.{ℕ, List, [], ◌∷◌}
 
--- the moments that a clock shows next, one at each reading, and the one that it showed last
+-- the times that a clock shows next, one at each reading, and the one that it showed last
 pub record Readings : Type 0 where
   pub next : List ℕ
   pub last : ℕ
 
--- after the last moment it is shown again
+-- after the last time, that one is shown again
 abbrev pub reading_of : List ℕ → ℕ → ℕ
 reading_of [] last = last
 reading_of (m ∷ ms) last = m

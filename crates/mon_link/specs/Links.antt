@@ -1,4 +1,4 @@
--- What a link tells of itself, and what each call makes of it.
+-- What can be seen of a link, and what each call does to it.
 use Rattle.std.specs.Prelude.{◌≡◌, ℕ, List, [], ◌∷◌, ◌++◌, length, Option, IfSome, option_map, Result, Ok, Err, if◌then◌else◌}
 use Rattle.mon_types.specs.Faults.{risen}
 use Rattle.mon_types.specs.declared.names.Stop.{Stop}
@@ -18,14 +18,14 @@ pub record Told : Type 0 where
   pub failing_next : List ℕ
   pub failing_send : List ℕ
 
--- A link at one moment: what it tells, where it does, how often nothing could be had of it, and how many datagrams it
--- couldn't send. Both counts stand still at the last number of 64 bits.
+-- A link at one time: what can be seen of it, if anything; how often a receive failed; and how many datagrams it couldn't
+-- send. Both counts saturate at the greatest 64-bit number.
 pub record LinkState : Type 0 where
   pub told : Option Told
   pub faults : ℕ
   pub losses : ℕ
 
--- a count that rises where a call fails, and nowhere else
+-- a count that rises if and only if a call fails
 abbrev pub count_after : {T : Type 0} → Result T Stop → ℕ → ℕ
 count_after (Ok x) count = count
 count_after (Err Failed) count = risen count

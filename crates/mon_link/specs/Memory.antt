@@ -44,7 +44,7 @@ read_puts s into =
     then into
     else take (given s into) s.left ++ drop (given s into) into
 
--- What a write to a sink in memory left, by its answer. It fails exactly where its number is one of those that fail.
+-- What a write to a sink in memory left, by its result. It fails if and only if its number is one of those that fail.
 abbrev pub WritesMemory : MemoryOut → MemoryOut → List ℕ → Result ℕ Stop → Type 0
 WritesMemory old new bytes (Ok n) =
     (fails_next old.failing old.calls ≡ false) × (n ≡ length bytes)

@@ -2,7 +2,7 @@
 use Rattle.std.specs.Prelude.{ℕ}
 use Rattle.mon_link.specs.Links.{Told}
 
--- what it tells, and its faults and losses so far
+-- what can be seen, and its faults and losses so far
 pub record MemoryTalk : Type 0 where
   pub told : Told
   pub faults : ℕ

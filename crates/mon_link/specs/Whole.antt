@@ -2,7 +2,7 @@
 use Rattle.std.specs.Prelude.{◌≡◌, ℕ, ◌≤◌, ◌⊎◌, List, [], ◌++◌, length, take, Option, Some, None, ⊤}
 use Rattle.std.specs.Io.KnownBytes.{Appends, Consumes}
 
--- Where the source tells what it has left, the bytes are all of it, or the most that is read.
+-- If it is known what the source has left, the bytes are all of it, or the most that is read.
 abbrev pub ReadsWhole : ℕ → Option (List ℕ) → Option (List ℕ) → List ℕ → Type 0
 ReadsWhole most None new bytes = ⊤
 ReadsWhole most (Some xs) None bytes = ⊥
@@ -12,6 +12,6 @@ ReadsWhole most (Some xs) (Some ys) bytes = (xs ≡ bytes ++ ys) × ((ys ≡ [])
 abbrev pub ConsumesFront : ℕ → Option (List ℕ) → Option (List ℕ) → Type 0
 ConsumesFront most old new = (bytes : List ℕ) × Consumes old new bytes × (length bytes ≤ most)
 
--- What went out is a front of the bytes.
+-- What went out is a prefix of the bytes.
 abbrev pub AppendsFront : Option (List ℕ) → Option (List ℕ) → List ℕ → Type 0
 AppendsFront old new bytes = (n : ℕ) × Appends old new (take n bytes)

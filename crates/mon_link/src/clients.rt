@@ -63,7 +63,7 @@ impl Clients {
         }
     }
 
-    /// The address of the client of a number, where it is known.
+    /// The address of the client of a number, if it is known.
     pub(crate) fn address_of(&self, number: u32) -> Option<SocketAddr>
         ensures { result ≡ slice_get self.now.addresses.items number }
     {

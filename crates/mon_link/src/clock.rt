@@ -8,7 +8,7 @@ use std::vec::IntoIter;
 
 /// A clock. It can't fail.
 pub trait Clock {
-    /// The readings to come, where the clock tells them.
+    /// The readings to come, if they are known.
     ghost left: { Self → Option Readings };
 
     /// What the clock shows.
@@ -17,7 +17,7 @@ pub trait Clock {
         ensures left { left self.new ≡ option_map after (left self.old) };
 }
 
-/// A clock that shows a list of moments, one at each reading, and then the last of them for ever: 0 where there is none.
+/// A clock that shows a list of times, one at each reading, and then the last of them for ever: 0 if there is none.
 #[derive(Drop)]
 pub struct ListClock {
     moments: IntoIter<Moment>,
@@ -34,7 +34,7 @@ impl Model for ListClock {
 }
 
 impl ListClock {
-    /// A clock that shows these moments. It takes no memory.
+    /// A clock that shows these times. It takes no memory.
     pub fn new(moments: Vec<Moment>) -> ListClock
         ensures { result ≡ record { next = moments.items; last = 0 } }
     {

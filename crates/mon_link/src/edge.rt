@@ -1,4 +1,4 @@
-//! The standard streams. They tell nothing of what they give or take, only whether a call failed.
+//! The standard streams. Contracts see nothing of what they read or write, only whether a call failed.
 
 ghost use Rattle.std.specs.Prelude.{◌≡◌, ◌≤◌, ◌<◌, None, Ok, Err, IfOk, OnOk, OnErr, length, is_some};
 ghost use Rattle.std.specs.Io.{ReadsAtMost};

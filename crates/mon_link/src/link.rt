@@ -29,10 +29,11 @@ pub struct Outgoing {
 
 /// Datagrams that come and go. Any of them may be lost on its way, come twice, or come late.
 pub trait Link {
-    /// What the link tells, where it does: what is still to come, and what it was asked. The faults and losses so far.
+    /// What is still to come on the link, and what it was asked to send, if they can be seen. The faults and failed
+    /// allocations so far.
     ghost state: { Self → LinkState };
 
-    /// What comes next, after at most `wait` milliseconds. Only where it fails is a fault counted.
+    /// What comes next, after at most `wait` milliseconds. A fault is counted only if it fails.
     fn next(&mut self, wait: u64) -> Result<Got, Stop>
         ensures { CallsNext wait result (state self.old) (state self.new) };
 

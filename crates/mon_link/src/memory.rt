@@ -10,7 +10,7 @@ use mon_types::Stop;
 use std::alloc::Global;
 use std::marker::Model;
 
-/// Copies what stands from a place on, as much as there is room for.
+/// Copies what is there from an offset on, as much as there is room for.
 fn copy_front(bytes: &[u8], at: usize, into: &mut [u8]) -> usize
     requires { at ≤ length bytes.now }
     ensures count { result ≡ min (length (drop at bytes.now)) (length into.old) }

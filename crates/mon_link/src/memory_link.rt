@@ -8,7 +8,8 @@ use std::alloc::Global;
 use std::marker::Model;
 use std::vec::IntoIter;
 
-/// A link that gives a list, and then `Closed`, and keeps what it was asked.
+/// A link that gives a list, and then `Closed`, and keeps what it was asked. It numbers its calls by what it has
+/// noted of them, so a call that ran out of memory isn't counted.
 #[derive(Drop)]
 pub struct MemoryLink {
     alloc: Global,

@@ -5,7 +5,7 @@ ghost use Rattle.mon_types.specs.Faults.{HasCause, risen};
 
 use mon_types::Stop;
 
-/// A count after one more call or fault. It stands still at the last number of 64 bits.
+/// A count after one more call or fault. It saturates at `u64::MAX`.
 pub(crate) fn raised(count: u64) -> u64
     ensures { result ≡ risen count }
 {
@@ -14,14 +14,14 @@ pub(crate) fn raised(count: u64) -> u64
 
 /// Bytes that come in.
 pub trait Source {
-    /// The bytes that are left to read, where the source tells them.
+    /// The bytes that are left to read, if they are known.
     ghost left: { Self → Option (List ℕ) };
 
     /// The faults so far. The count never falls.
     ghost faults: { Self → ℕ };
 
-    /// Reads some of the bytes that are left into the front of `into`, and answers how many. 0 is the end of the input,
-    /// or no room. A call that isn't Ok has given nothing.
+    /// Reads some of the bytes that are left into the front of `into`, and returns how many. 0 is the end of the
+    /// input, or no room. A call that isn't Ok has given nothing.
     fn read(&mut self, into: &mut [u8]) -> Result<usize, Stop>
         ensures bound { ReadsAtMost result into.new }
         ensures bytes { ReadConsumes (left self.old) (left self.new) result into.new }
@@ -31,14 +31,14 @@ pub trait Source {
 
 /// Bytes that go out.
 pub trait Sink {
-    /// The bytes that were written, where the sink tells them.
+    /// The bytes that were written, if they can be seen.
     ghost held: { Self → Option (List ℕ) };
 
     /// The faults so far. The count never falls.
     ghost faults: { Self → ℕ };
 
-    /// Writes a front of the bytes, and answers how many: at least one, unless there are none. A call that isn't Ok has
-    /// taken nothing.
+    /// Writes a prefix of the bytes, and returns how many: at least one, unless there are none. A call that isn't Ok
+    /// has taken nothing.
     fn write(&mut self, bytes: &[u8]) -> Result<usize, Stop>
         ensures bound { IfOk result (λ n. n ≤ length bytes.now) }
         ensures some { IfOk result (λ n. 0 < length bytes.now → 0 < n) }

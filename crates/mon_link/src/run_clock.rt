@@ -1,4 +1,4 @@
-//! The clock of the system. It tells nothing of what it will show.
+//! The clock of the system. Contracts know nothing of what it will show.
 
 ghost use Rattle.std.specs.Prelude.{◌≡◌, None};
 
@@ -27,7 +27,7 @@ impl<R: time::Clock + Copy> RunClock<R> {
         }
     }
 
-    /// The time since the start, where it can be read.
+    /// The time since the start, if it can be read.
     fn read(&mut self) -> Option<Moment>
         ensures { self.new.last ≡ self.old.last }
     {
@@ -42,7 +42,7 @@ impl<R: time::Clock + Copy> RunClock<R> {
 impl<R: time::Clock + Copy> Clock for RunClock<R> {
     ghost left = { λ _. None };
 
-    /// Where the system's clock can't be read this is the last answer again, at first 0.
+    /// If the system's clock can't be read, this is the last reading again, at first 0.
     fn now(&mut self) -> Moment
         ensures last { self.new.last ≡ result }
     {

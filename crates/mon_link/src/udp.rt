@@ -1,4 +1,4 @@
-//! Datagrams of the system. They tell nothing of what they give or take, only whether a call failed.
+//! Datagrams of the system. Contracts see nothing of what is received or sent, only whether a call failed.
 
 ghost use Rattle.std.specs.Prelude.{◌≡◌, None, Some, ◌≤◌, IfOk, option_map, vec_len};
 
@@ -36,7 +36,7 @@ const PASSING_PAUSE: u64 = 10;
 /// The system's number for a lack of buffers. It has no `ErrorKind`.
 const ENOBUFS: i32 = 105;
 
-/// Where a monitor hears.
+/// The address at which a monitor listens.
 #[derive(Clone, Copy, Debug, PartialEq, Eq)]
 pub struct Address {
     pub host: [u8; 4],
@@ -66,7 +66,7 @@ pub struct UdpLink<R: Net + Copy> {
 }
 
 impl<R: Net + Copy> UdpLink<R> {
-    /// The link of a monitor, where the addresses are those of the ranks in order. Its first call binds its own one.
+    /// The link of a monitor, given the addresses in order of rank. Its first call binds its own address.
     pub fn named(rt: &R, own: Rank, addresses: Vec<Address>) -> UdpLink<R>
         ensures own { result.own ≡ Some own }
         ensures addresses { result.addresses ≡ addresses }
@@ -117,13 +117,13 @@ impl<R: Net + Copy> UdpLink<R> {
         self.failure.as_ref()
     }
 
-    /// The address of a monitor, where there is one.
+    /// The address of a monitor, if there is one.
     fn monitor(&self, rank: Rank) -> Option<SocketAddr> {
         let address = self.addresses.get(usize::from(rank.get()))?;
         Some(address.of_system())
     }
 
-    /// Where the link is to hear.
+    /// The address at which the link listens.
     fn here(&self) -> io::Result<SocketAddr> {
         match self.own {
             Some(rank) => Ok(self.monitor(rank).ok_or(ErrorKind::AddrNotAvailable)?),
@@ -131,9 +131,9 @@ impl<R: Net + Copy> UdpLink<R> {
         }
     }
 
-    /// Binds the socket, unless it is bound, as the first call does. Returns how many bytes of datagrams the system keeps
-    /// for it, if that is less than one message of the greatest length takes. A socket that can't be bound has no room to
-    /// tell; the next call says why.
+    /// Binds the socket, unless it is bound, as the first call does. Returns how many bytes of datagrams the system
+    /// keeps for it, if that is less than one message of the greatest length takes. If the socket can't be bound,
+    /// nothing is returned, and the next call reports why.
     pub fn short_room(&mut self) -> Option<u32>
         ensures failure { self.new.failure ≡ self.old.failure }
         ensures faults { self.new.faults ≡ self.old.faults }
@@ -177,7 +177,7 @@ impl<R: Net + Copy> UdpLink<R> {
         Ok(())
     }
 
-    /// Receives into the buffer. Only where nothing is there is the system asked to wait.
+    /// Receives into the buffer. The system is asked to wait only if nothing is there.
     fn receive(&mut self, wait: u64) -> io::Result<(usize, SocketAddr)>
         ensures faults { self.new.faults ≡ self.old.faults }
         ensures losses { self.new.losses ≡ self.old.losses }
@@ -262,7 +262,7 @@ fn widen(socket: &UdpSocket) {
     let _ = unsafe { setsockopt(socket.as_raw_fd(), SOL_SOCKET, SO_RCVBUF, &value, 4) };
 }
 
-/// How many bytes of datagrams the system keeps, as it charges them; none where it doesn't say.
+/// How many bytes of datagrams the system keeps, as it charges them; `None` if it doesn't say.
 fn given_room(socket: &UdpSocket) -> Option<u32> {
     let mut value = [0; 16];
     let mut length = 4;

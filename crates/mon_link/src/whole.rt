@@ -32,7 +32,7 @@ pub fn read_all<S: Source>(alloc: Global, source: &mut S, most: usize) -> Result
     Ok(bytes)
 }
 
-/// Writes the bytes in order. What went out before an `Err` is a front of them.
+/// Writes the bytes in order. What went out before an `Err` is a prefix of them.
 pub fn write_all<K: Sink>(sink: &mut K, bytes: &[u8]) -> Result<(), Stop>
     ensures whole { OnOk result (Appends (K.held sink.old) (K.held sink.new) bytes.now) }
     ensures part { OnErr result (AppendsFront (K.held sink.old) (K.held sink.new) bytes.now) }

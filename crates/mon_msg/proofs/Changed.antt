@@ -1,4 +1,5 @@
--- What the readers tell after the protocol's changes are spelled and made is what they tell once the changes are played.
+-- What the readers return after the protocol's changes are encoded and applied is what they return after the changes are
+-- played.
 use Rattle.std.proofs.Common.{◌≡◌, ℕ, ◌≤◌, ◌^◌, Bool, true, false, cond, eqb, lit≤, List, [], ◌∷◌, ◌++◌, map, Option, Some, None, IfSome, refl, ap, ◌∙◌}
 use Rattle.std.specs.List.{AllByRecursion}
 use Rattle.std.specs.Option.{option_map_or}

@@ -1,4 +1,4 @@
--- The timer that comes next is the first of those that are armed for the least moment.
+-- The timer that comes next is the first of those that are set for the least time.
 use Rattle.std.proofs.Common.{◌≡◌, ◌≢◌, ℕ, suc, ◌≤◌, ◌<◌, Bool, true, false, cond, leb, List, Option, Some, None, refl, ap, ◌∙◌, ◌⊎◌, inl, inr, arith, [], ◌∷◌, drop}
 use Rattle.std.proofs.lemmas.Bool.{leb-true, leb-false}
 use Rattle.std.specs.Prelude.{slice_index_or}
@@ -52,7 +52,7 @@ unarmed_some timers t next e h = record {
     by_first other below is (inl same) = cc
     by_first other below is (inr later) = h.first other later below is
 
--- it is armed, and no later one for an earlier moment
+-- it is set, and no later one for an earlier time
 this_is_due : (timers : List (Option ℕ)) (t : Timer) (end : ℕ) → end_of t timers ≡ Some end
     → ((other : Timer) (e : ℕ) → suc (index_of t) ≤ index_of other → end_of other timers ≡ Some e → end ≤ e) → IsDueFrom timers (index_of t) (t, end)
 this_is_due timers t end is later_ones = record {
@@ -67,7 +67,7 @@ this_is_due timers t end is later_ones = record {
     by other e h (inl same) = let one : end ≡ e = cc in omega arith
     by other e h (inr later) = later_ones other e later h
 
--- it is armed, and a later one for an earlier moment
+-- it is set, and a later one for an earlier time
 later_is_due : (timers : List (Option ℕ)) (t : Timer) (end : ℕ) (next : Timer × ℕ) → end_of t timers ≡ Some end → next.1 < end
     → IsDueFrom timers (suc (index_of t)) next → IsDueFrom timers (index_of t) next
 later_is_due timers t end next is sooner h = record {
@@ -111,7 +111,7 @@ eleven timer.Step = omega arith
 eleven timer.Propose = omega arith
 eleven timer.Ping = omega arith
 
--- one kind in front of the others
+-- one kind before the others
 with_kind : (timers : List (Option ℕ)) (t : Timer) (ts : List Timer) → IsNextFrom timers (suc (index_of t)) (soonest ts timers)
     → IsNextFrom timers (index_of t) (soonest (t ∷ ts) timers)
 with_kind timers t ts h = one_more timers t (end_of t timers) (soonest ts timers) refl h

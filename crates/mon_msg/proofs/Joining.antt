@@ -39,7 +39,7 @@ pub without_last : (a b : Bool) → (a && not b) ≡ false → b ≡ false → a
 without_last false b h g = refl
 without_last true b h g = let e : not b ≡ true = rw g refl in cc
 
--- where no put may be replaced, and nothing takes the key away, nothing is decided of it
+-- if no put may be replaced, and nothing takes the key away, nothing is decided about it
 undecided : (at : Place) (new : Op) (ops : List Op) → replaced at new ops ≡ None → list_any (takes_away at) ops ≡ false → decision ops at ≡ None
 undecided at new [] h g = refl
 undecided at new (op ∷ ops) h g =
@@ -56,7 +56,7 @@ apart_alike p at (Erase q l) h ne = cc
 apart_alike p at (ErasePrefix q) h ne = cc
 apart_alike p at (EraseRange q from to) h ne = cc
 
--- a put decides in an earlier one's place as it does behind all, where nothing behind that place speaks of it
+-- a put decides in an earlier one's place as it does after all, if nothing after that place concerns it
 in_place : (p k v : List ℕ) (at : Place) (op : Op) (ops : List Op) → puts (p, k) op ≡ true → decision ops (p, k) ≡ None
     → later (decision ops at) (decided (Put p k v) at) ≡ later (decided (Put p k v) at) (later (decision ops at) (decided op at))
 in_place p k v at op ops h none = by (cases_Bool (eq_by_cmp place_cmp at (p, k)))
@@ -72,7 +72,7 @@ in_place p k v at op ops h none = by (cases_Bool (eq_by_cmp place_cmp at (p, k))
         let was : decided op at ≡ None = apart_alike (p, k) at op h e in
         (λ i. later (decision ops at) (now i)) ∙ (λ i. later (decision ops at) (sym was i)) ∙ sym (ap (λ x. later x (later (decision ops at) (decided op at))) now)
 
--- the list with a put in an earlier one's place decides as the list with the put behind it does
+-- the list with a put in an earlier one's place decides as the list with the put after it does
 replacing : (p k v : List ℕ) (at : Place) (ops found : List Op) → replaced (p, k) (Put p k v) ops ≡ Some found
     → decision found at ≡ later (decided (Put p k v) at) (decision ops at)
 replacing p k v at [] found h = cc
@@ -96,7 +96,7 @@ replacing p k v at (op ∷ ops) found h = by (replaced (p, k) (Put p k v) ops) r
         sym (ap (λ l. decision l at) is) ∙ ap (λ d. later d (decided op at)) (ih f e) ∙ later-assoc (decided (Put p k v) at) (decision ops at) (decided op at)
     by None e ih h = by_test (puts (p, k) op && not (list_any (takes_away (p, k)) ops)) refl e h
 
--- joining one more change decides as that change behind the others does
+-- joining one more change decides as that change after the others does
 decision-joined_with : (done : List Op) (op : Op) (at : Place) → decision (joined_with done op) at ≡ later (decided op at) (decision done at)
 decision-joined_with done (Put p k v) at = by (replaced (p, k) (Put p k v) done) refl
   where

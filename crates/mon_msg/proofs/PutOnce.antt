@@ -14,7 +14,7 @@ use Rattle.mon_msg.proofs.Joining.{same_place, neither, not_here, without_last}
 one_more : (at : Place) (op : Op) (ops : List Op) → count_by (puts at) (op ∷ ops) ≡ cond (puts at op) 1 0 + count_by (puts at) ops
 one_more at op ops = sum_by-cons (λ x. cond (puts at x) 1 0) op ops
 
--- where no put may be replaced, and nothing takes the key away, there is none
+-- if no put may be replaced, and nothing takes the key away, there is none
 never_put : (at : Place) (new : Op) (ops : List Op) → replaced at new ops ≡ None → list_any (takes_away at) ops ≡ false → count_by (puts at) ops ≡ 0
 never_put at new [] h g = refl
 never_put at new (op ∷ ops) h g =

@@ -43,11 +43,11 @@ longest_is test whole = longest_from test whole [] whole refl (λ k below. absur
 
 -- ---- item by item
 
--- whether so many bytes and those of the items are no more than there is room for, and the items no more than a list has
+-- whether this many bytes and those of the items are no more than there is room for, and the items no more than a list has
 abbrev pub have_room : {A : Type 0} → (size : A → ℕ) → (besides : List A → ℕ) → (room : ℕ) → List A → Bool
 have_room size besides room items = leb (besides items + sum_by size items) room && leb (length items) 65535
 
--- These items were taken so far, of so many bytes, and the run goes on with the rest.
+-- These items were taken so far, of this many bytes, and the run goes on with the rest.
 pub record RunsOn {A : Type 0} (size : A → ℕ) (besides : List A → ℕ) (room : ℕ) (whole : List A) (bytes : ℕ) (done rest : List A) : Type 0 where
   pub run : longest_onto (have_room size besides room) done rest ≡ longest (have_room size besides room) whole
   pub sum : bytes ≡ sum_by size done
@@ -121,7 +121,7 @@ module _ (records : ℕ → Cell) where
       let count : suc last - v ≡ suc (suc last - suc v) = omega arith in
       ap (λ n. run_of records n v) count ∙ ap (λ o. run_with o (suc last - suc v) v) e
 
-  -- where it has none the run is at its end
+  -- if it has none the run is at its end
   pub run_from-none : (last v : ℕ) → record_at records v ≡ None → run_from records last v ≡ []
   unfolding run_of
   run_from-none last v e = by (suc last - v)

@@ -27,7 +27,7 @@ abbrev pub entry : List (List ℕ) → ℕ → List ℕ
 entry log zero = []
 entry log (suc v) = get_or log v []
 
--- the map that the first versions of a log leave: each puts its record, and then does the changes that its entry spells
+-- the map that the first versions of a log leave: each puts its record, and then makes the changes that its entry encodes
 unfoldable pub fold : List (List ℕ) → ℕ → Store
 fold log zero = empty
 fold log (suc c) = apply (put area.Paxos (key.Version (suc c)) (entry log (suc c)) ∷ ops_in (entry log (suc c))) (fold log c)

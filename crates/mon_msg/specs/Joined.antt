@@ -1,5 +1,5 @@
--- A transaction names each key once. A put takes the place of the latest earlier put of its key behind which nothing takes
--- the key away, and gives it the later value; where there is none it stands at the end.
+-- A transaction names each key once. A put replaces the latest earlier put of its key after which nothing removes the key,
+-- and gives it the later value; if there is none, it is added at the end.
 use Rattle.std.specs.Prelude.{Bool, false, not, ◌&&◌, List, [], ◌∷◌, ◌++◌, Option, Some, None, is_some, if◌then◌else◌}
 use Rattle.std.specs.List.{list_any}
 use Rattle.std.specs.Ordering.{eq_by_cmp}
@@ -20,7 +20,7 @@ takes_away at (Erase prefix key) = is_some (decided (Erase prefix key) at)
 takes_away at (ErasePrefix prefix) = is_some (decided (ErasePrefix prefix) at)
 takes_away at (EraseRange prefix from to) = is_some (decided (EraseRange prefix from to) at)
 
--- `op` in front of what was found further on; and if nothing was, in its place if it may stand there
+-- `op` before what was found further on; if nothing was found, in its place if it may be there
 abbrev pub or_here : Op → Op → List Op → Bool → Option (List Op) → Option (List Op)
 or_here new op ops here (Some found) = Some (op ∷ found)
 or_here new op ops here None = if here then Some (new ∷ ops) else None

@@ -1,6 +1,6 @@
 -- The protocol of a monitor among others.
 
--- ---- what a monitor's store tells, and what the monitor remembers
+-- ---- what the readers of a monitor's store return, and what the monitor remembers
 pub mod Readings
 pub mod Records
 pub mod Services

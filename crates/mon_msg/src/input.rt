@@ -1,6 +1,6 @@
 use mon_wire::{Message, Request, Session, Timer};
 
-/// What comes to a monitor.
+/// What a monitor takes.
 #[derive(Drop)]
 pub enum Input {
     /// It starts, and has forgotten all that its store doesn't keep.

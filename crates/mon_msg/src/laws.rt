@@ -1,5 +1,5 @@
-//! The laws that join what an event does to the store with what the store's readers tell, and those of what is picked out of
-//! timers and lists.
+//! The laws that join what an event does to the store with what the store's readers return, and laws of what is
+//! picked out of timers and lists.
 
 ghost use Rattle.std.specs.Prelude.{◌≡◌, ◌≤◌, ℕ, Bool, false, List, Option};
 ghost use Rattle.std.specs.List.{AllByRecursion, count_by, list_any};
@@ -20,20 +20,21 @@ pub fn law_joined()
     ensures once { (ops : List Op) (at : Place) → list_any (takes_away at) ops ≡ false → count_by (puts at) (joined ops) ≤ 1 }
 {}
 
-/// What a monitor's readers tell after changes is found from those changes and from what they told before.
+/// What a monitor's readers return after changes follows from those changes and from what they returned before.
 pub fn law_readings()
     ensures { (ops : List Op) (m : Store) → readings_of (apply ops m) ≡ after ops (readings_of m) }
 {}
 
-/// What an event does to a store may be thought of without keys and bytes: the readers tell after its transaction what comes
-/// of playing its changes on what they told before. Every number in the changes has to be one that the store can hold.
+/// The effect of an event on a store can be described without keys and bytes: after its transaction, the readers
+/// return the result of playing its changes on what they returned before. Every number in the changes has to be one
+/// that the store can hold.
 pub fn law_changes()
     ensures { (cs : List Change) → AllByRecursion Fits cs → (m : Store)
         → readings_of (apply (joined (spelled cs)) m) ≡ played cs (readings_of m) }
 {}
 
-/// The timer that comes next is armed, none is armed for an earlier moment, and no earlier kind for the same; there is none
-/// only where no timer is armed.
+/// The timer that comes next is set, none is set for an earlier time, and no earlier kind for the same; there is none
+/// only if no timer is armed.
 pub fn law_due()
     ensures { (timers : List (Option ℕ)) → IsNext timers (due timers) }
 {}

@@ -58,7 +58,7 @@ pub struct Leader {
     pub stage: LeaderStage,
     /// Who answered its collect with all that it has, itself among them.
     pub answered: RankSet,
-    /// The last version that each of them told, 0 before.
+    /// The last version that each of them reported, or 0.
     pub lasts: [Version; 15],
     pub found: Option<Found>,
     /// Who accepted its value, itself among them.

@@ -16,8 +16,8 @@ pub enum Sent {
 /// What is done with a timer.
 #[derive(Clone, Copy, Debug, PartialEq, Eq)]
 pub enum Arming {
-    /// It comes at the moment `end`, whenever it was to come before. `Propose` doesn't if no command waits, and
-    /// `LeaseAck` keeps the end that it has.
+    /// It is set for the time `end`, whenever it was to fire before. `Propose` isn't set if no command waits, and
+    /// `LeaseAck` keeps the time that it has.
     Arm { kind: Timer, end: Moment },
     /// It doesn't come.
     Disarm { kind: Timer },
@@ -37,7 +37,7 @@ pub enum Origin {
 pub enum Next {
     /// Nothing.
     Stay,
-    /// It begins anew and probes.
+    /// It begins again and probes.
     Bootstrap,
     /// It calls an election.
     Elect,

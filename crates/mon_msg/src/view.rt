@@ -12,13 +12,13 @@ pub struct Me {
 /// What the other roles of a monitor know.
 #[derive(Clone, Copy, Debug, PartialEq, Eq)]
 pub struct View {
-    /// Where the monitor stands.
+    /// The phase of the monitor.
     pub phase: Phase,
-    /// The leader of its quorum; its own rank where it is in none.
+    /// The leader of its quorum; its own rank if it is in none.
     pub leader: Rank,
-    /// Its quorum; the empty set where it is in none.
+    /// Its quorum; the empty set if it is in none.
     pub quorum: RankSet,
-    /// Whether its lease stands, or it is alone in its map.
+    /// Whether its lease is valid, or it is alone in its quorum map.
     pub standing: bool,
     /// Whether its last version may be read.
     pub readable: bool,

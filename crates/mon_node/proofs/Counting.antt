@@ -74,6 +74,6 @@ module _ (next : ℕ) where
   unsent_is end.LinkFault why = absurd why
   unsent_is (end.Full would_be) why = absurd why
 
--- a front of two calls, of which the first counted nothing
+-- a prefix of two calls, of which the first counted nothing
 pub counts_on : (e : NodeEnd) (a b mid_a mid_b new_a new_b : ℕ) → mid_a ≡ a → mid_b ≡ b → DisksCountAt e mid_a mid_b new_a new_b → DisksCountAt e a b new_a new_b
 counts_on e a b mid_a mid_b new_a new_b x y h = subst (λ (n : ℕ). DisksCountAt e n b new_a new_b) x (subst (λ (n : ℕ). DisksCountAt e mid_a n new_a new_b) y h)

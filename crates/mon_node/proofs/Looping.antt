@@ -1,4 +1,4 @@
--- Turn after turn.
+-- Iteration after iteration.
 use Rattle.std.proofs.Common.{◌≡◌, ℕ, ◌+◌, ◌<◌, ◌≤◌, List, [], ◌∷◌, length, Option, Some, Result, Ok, Err, refl, sym, ap, subst, ◌∙◌, suc, add-one, arith}
 use Rattle.std.specs.Prelude.{option_map}
 use Rattle.mon_bytes.specs.Answers.{◌>>=◌}
@@ -20,7 +20,7 @@ use Rattle.mon_node.specs.declared.end.NodeEnd.{NodeEnd}
 use Rattle.mon_node.proofs.Standing.{lasts_on, leave_as}
 use Rattle.mon_node.proofs.Passing.{stood_then, turns_later}
 
--- The start, once the clock told its moment.
+-- The start, after the clock was read.
 abbrev at_start : (first : ℕ) → Serving → Turn
 at_start first now = record { came = Ok (Some (at_moment first input.Start)); serving = now }
 
@@ -29,7 +29,7 @@ pub start_as : (rank : ℕ) (m : Stood) (clock read : Option Readings) (link : O
 start_as rank m clock read link first now read_is now_is =
     ap (at_start first) now_is ∙ ap (λ (c : Option Readings). at_start first (unstarted rank m c link)) read_is
 
--- A turn comes to the same, by its own name and by its monitor's.
+-- An iteration has the same result, by its own name and by its monitor's.
 pub turn_as : {T : Type 0} (me mine : Me) (t u : Turn) (result : Result T NodeEnd) (after : Serving) → mine ≡ me → t ≡ u → EndsTurn mine t result after → EndsTurn me u result after
 turn_as me mine t u result after own same h = subst (λ (x : Me). EndsTurn x u result after) own (subst (λ (x : Turn). EndsTurn mine x result after) same h)
 
@@ -40,7 +40,7 @@ pass_turn_as {T} {D} state me mine t u result link s n new own same stores h =
     subst (λ (x : StoreOn D). BothTell (disks_of state x) → PassTurn me u result link (disks_of state x) new) stores
     (subst (λ (x : Me). BothTell (disks_of state s) → PassTurn x u result link (disks_of state s) new) own (subst (λ (x : Turn). BothTell (disks_of state s) → PassTurn mine x result link (disks_of state s) new) same h))
 
--- After so many turns a node stands so, and so do its disks.
+-- The state of a node after this many iterations, and that of its disks.
 pub record HasServed (me : Me) (s : Serving) (old : Disks) (done : ℕ) (now : Serving) (disks : Disks) : Type 0 where
   pub first : ℕ
   pub given : List Given
@@ -49,7 +49,7 @@ pub record HasServed (me : Me) (s : Serving) (old : Disks) (done : ℕ) (now : S
   pub served_is : served me first s given ≡ Ok now
   pub passes : BothTell old → PassTurns me first s given old disks
 
--- the turns that a node made, whatever they are
+-- the iterations that a node made, whatever they are
 abbrev pub SomeServe : Me → Serving → (old : Disks) → (turns : ℕ) → NodeEnd → (begun : ℕ) → Option Readings → Option Told → (new : Disks) → Type 0
 SomeServe me s old turns e begun clock link new =
     (first : ℕ) × (given : List Given) × Serves me s turns e begun clock link first given × (BothTell old → StandsThrough me first s given e link old new)
@@ -92,7 +92,7 @@ module _ (me : Me) (s : Serving) (old : Disks) where
     λ both. let p = pass both in record { turns = start_passes first new p.0; left = p.1 },
   )
 
-  -- one more turn
+  -- one more iteration
   module _ (done : ℕ) (now : Serving) (disks : Disks) (so_far : HasServed me s old done now disks) where
     module _ (g : Given) (given : IsGiven (due now.node.state.timers) g now.outside) where
       last_is : last_turn me so_far.first s (g ∷ so_far.given) ≡ Ok (turn me g now)

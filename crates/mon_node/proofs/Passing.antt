@@ -1,4 +1,4 @@
--- What the disks of a node go through in a turn.
+-- What the disks of a node go through in an iteration.
 use Rattle.std.proofs.Common.{◌≡◌, ℕ, ◌≤◌, ◌<◌, ◌+◌, ◌^◌, Bool, true, false, cond, nat_lt, inl, inr, List, [], ◌∷◌, Option, Some, None, Result, Ok, Err, refl, sym, ap, ◌∙◌, arith}
 use Rattle.std.proofs.lemmas.Bool.{le-ltb, ltb-false, ltb-true}
 use Rattle.mon_bytes.specs.Answers.{◌>>=◌}
@@ -33,7 +33,7 @@ module _ (me : Me) (s : Serving) (it : TimedInput) where
   abbrev at_input : Turn
   at_input = record { came = Ok (Some it); serving = s }
 
-  -- it stands where the turn began
+  -- where it is when the iteration began
   abbrev IsOld : Stood → Type 0
   IsOld x = x ≡ s.node.store
 
@@ -66,7 +66,7 @@ module _ (me : Me) (s : Serving) (it : TimedInput) where
     )
 
   module _ (r : Reaction) (reacts : reaction_to me s.node it ≡ Ok r) where
-    -- so it stands by this reaction, where the map isn't too large
+    -- so it is after this reaction, if the map isn't too large
     by_fitting : (f : Reaction → Stood) → size_of (map_after s.node r) ≤ most_size → of_input s.node.store (if_fits f) (reaction_to me s.node it) ≡ f r
     by_fitting f fits = ap (of_input s.node.store (if_fits f)) reacts ∙ ap (λ (large : Bool). cond large s.node.store (f r)) (le-ltb most_size (size_of (map_after s.node r)) fits)
 
@@ -148,7 +148,7 @@ module _ (me : Me) (s : Serving) (it : TimedInput) where
           by true is = let h = ltb-true most_size (size_of (map_after s.node r)) is in let disks_are = same h in rw (disks_are.0, disks_are.1) (too_large e h keeps)
           by false is = stopped e (ltb-false most_size (size_of (map_after s.node r)) is) keeps
 
--- ---- a turn
+-- ---- an iteration
 
 module _ (me : Me) (g : Given) (s : Serving) where
   abbrev IsBefore : Stood → Type 0
@@ -189,7 +189,7 @@ module _ (me : Me) (g : Given) (s : Serving) where
         by (end.Full would_be) h = absurd h
         by (end.Spent spent) h = absurd h
 
--- ---- where a store stands after a turn
+-- ---- where a store is after an iteration
 
 module _ (me : Me) (s : Serving) where
   abbrev keeps_it : Reaction → Stood

@@ -1,4 +1,4 @@
--- What a core answers, and what the turn of its input comes to.
+-- What a core returns, and the result of the iteration of its input.
 use Rattle.std.proofs.Common.{◌≡◌, ℕ, List, Option, Some, Ok, Err, subst}
 use Rattle.std.specs.List.{AllByRecursion}
 use Rattle.mon_bounds.specs.Fitting.{MaySend}

@@ -1,4 +1,4 @@
--- A store stands as it must, once the checkpoint that is due was made.
+-- A store is as it must be, after the checkpoint that is due was made.
 use Rattle.std.proofs.Common.{◌≡◌, Bool, true, false, cond, refl, ap, ◌∙◌}
 use Rattle.mon_store.specs.Sound.{is_due, next_journal}
 use Rattle.mon_store.specs.Stood.{Stood}

@@ -17,7 +17,7 @@ use Rattle.mon_node.specs.Posting.{and_sent, SendsAll, SendsFront, Posts, IsSpen
 use Rattle.mon_node.specs.declared.end.NodeEnd.TheVariants as end
 use Rattle.mon_node.specs.declared.end.NodeEnd.{NodeEnd}
 
--- ---- one behind the other
+-- ---- one after the other
 
 and_none : (t : Told) → t ≡ and_sent [] t
 and_none t = ap (λ (ds : List Outgoing). record t { sent = ds }) (sym (append-nil t.sent))
@@ -167,7 +167,8 @@ all_numbered next (l ∷ ls) within =
     let finds : nat_lt (2 ^ 62 + 1) behind ≡ false = le-ltb (2 ^ 62 + 1) behind (le_then behind (next_after behind ls) (2 ^ 62 + 1) (next_after-le behind ls) within) in
     ap (λ (b : Bool). cond b [] (l ∷ with_number behind ls)) finds ∙ ap (λ (xs : List Outgoing). l ∷ xs) (all_numbered behind ls within)
 
--- All of these are sent under numbers from the first on, up to the first that finds none: what is left, and the number behind it.
+-- All of these are sent under numbers from the first on, up to the first that finds none: what is left, and the number after
+-- it.
 pub record AreLeft (me : Me) (m : Store) (first : ℕ) (out : List Sent) (k next : ℕ) (old now : LinkState) : Type 0 where
   pub sends : IsSending (datagrams (boot_in m) first (with_number first (letters me m out))) (datagrams (boot_in m) next (with_number next (letters me m (drop k out)))) old now
   pub numbers : next_after first (letters me m out) ≡ next_after next (letters me m (drop k out))

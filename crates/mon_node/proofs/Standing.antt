@@ -1,4 +1,4 @@
--- What two disks stand for, through a call of their store, and through two.
+-- What two disks represent, during a call of their store, and during two.
 use Rattle.std.proofs.Common.{◌≡◌, ℕ, ◌≤◌, ◌⊎◌, Bool, true, false, cond, eqb, is_some, inl, inr, List, [], ◌∷◌, Err, refl, sym, ap, subst, ◌∙◌, arith}
 use Rattle.std.specs.Prelude.{slice_index_or}
 use Rattle.mon_disk.specs.Calls.{DiskState}
@@ -34,7 +34,7 @@ on_as P Q h x y s = (s.0, s.1, h s.0 s.2)
 pub leave_as : (d : Disks) (P Q : Stood → Type 0) → ((s : Stood) → P s → Q s) → Leave d P → Leave d Q
 leave_as d P Q h k = λ x y left there. on_as P Q h x y (k x y left there)
 
--- where a store stands while a record is written
+-- where a store is while a record is written
 abbrev pub IsRecording : List Op → Stood → Stood → Type 0
 IsRecording ops old s = (s ≡ old) ⊎ (s ≡ recorded ops old)
 
@@ -55,7 +55,7 @@ renewing_on old due x y (inr s) = (record { side = other_side old.side; journal 
 
 -- ---- a transaction
 
--- where it stands between the two is where it stood, or behind the record
+-- between the two it is where it was, or after the record
 changed_within : (ops : List Op) (old s : Stood) → s ≡ changed ops old → IsWithin ops old s
 changed_within [] old s e = inl e
 changed_within (op ∷ ops) old s e = inr (inl e)
@@ -71,14 +71,14 @@ renewing_within ops old mid s is (inr e) = inr (inr (e ∙ ap renewed is))
 -- ---- the disks of a store
 
 module _ {D : Type 0} (state : D → DiskState) where
-  -- on those of one in use it stands
+  -- on the disks of a store in use, it is there
   leaves_it : (side : Side) (live other : D) (j : Journal) (m : Store) → Sound j m (state live).known (state live).content (state other).content
       → Leave (disks state (of_a side live other) (of_b side live other)) (λ s. s ≡ record { side = side; journal = j; kv = m })
   leaves_it side live other j m sound = λ x y left there.
       let s : StandsOn side j m x y = each_pair state side live other (StandsOn side j m) (stands_now j m (state live).known (state live).content (state other).content sound side) x y left there in
       (record { side = side; journal = j; kv = m }, s, refl)
 
-  -- both tell, where the live one still does and the other is the same
+  -- both can be seen, if the live one still can and the other is the same
   pub live_tells : (side now : Side) (live new other left : D) → now ≡ side → left ≡ other → is_some (state new).content.seen ≡ is_some (state live).content.seen
       → BothTell (disks state (of_a side live other) (of_b side live other)) → BothTell (disks state (of_a now new left) (of_b now new left))
   live_tells side now live new other left same kept tells both = rw (same, kept) (by side both)

@@ -1,4 +1,4 @@
--- What a turn with an input comes to.
+-- The result of an iteration with an input.
 use Rattle.std.proofs.Common.{◌≡◌, ℕ, ◌+◌, ◌^◌, ◌<◌, ◌≤◌, Bool, false, cond, List, [], Option, Some, Result, Ok, Err, refl, sym, ap, subst, ◌∙◌, nat_lt}
 use Rattle.std.specs.Prelude.{option_map}
 use Rattle.std.proofs.lemmas.Bool.{lt-ltb, le-ltb}
@@ -35,7 +35,7 @@ module _ (me : Me) (s : Serving) (it : TimedInput) where
   abbrev if_kept : Reaction → List Outgoing
   if_kept r = cond (nat_lt most_size (size_of (map_after s.node r))) [] (numbered_by me s.node r)
 
-  -- what it sends, where the core reacts
+  -- what it sends, if the core reacts
   abbrev these : List Outgoing
   these = of_input [] if_kept (reaction_to me s.node it)
 
@@ -55,7 +55,7 @@ module _ (me : Me) (s : Serving) (it : TimedInput) where
     unfolding ended_turn
     comes_to = ap (reacted me s) reacts
 
-    -- what follows of the map's size, and of the number behind what it sends
+    -- what follows of the map's size, and of the number after what it sends
     abbrev by : Bool → Bool → Result Serving NodeEnd
     by large past = cond large (Err (end.Full (size_of (map_after s.node r)))) (cond past (Err (end.Spent which.Seq)) (Ok (done me s r)))
 

@@ -1,4 +1,4 @@
--- What a turn comes to, by what is heard in it.
+-- The result of an iteration, by what is heard in it.
 use Rattle.std.proofs.Common.{◌≡◌, Option, None, Result, Ok, Err, refl, sym, ap, subst, ◌∙◌}
 use Rattle.mon_link.specs.Links.{Told}
 use Rattle.mon_msg.specs.Protocol.Timers.{due}

@@ -26,12 +26,12 @@ use Rattle.mon_node.specs.declared.hearing.TimedInput.{TimedInput}
 
 -- ---- timers
 
--- of the timer that comes next and its moment: the timer, where it is due by now
+-- the timer that comes next, by its time, if it is due by now
 abbrev pub due_by : (now : ℕ) → Option (Timer × ℕ) → Option Timer
 due_by now None = None
 due_by now (Some next) = if nat_le next.1 now then Some next.0 else None
 
--- how many milliseconds the link is asked to wait: up to that moment, and at most a second
+-- how many milliseconds the link is asked to wait: up to that time, and at most a second
 abbrev pub wait_until : (now : ℕ) → Option (Timer × ℕ) → ℕ
 wait_until now None = 1000
 wait_until now (Some next) = min 1000 (next.1 - now)
@@ -47,7 +47,7 @@ abbrev pub from_client : ℕ → Body → Option Input
 from_client client (body.Request id r) = Some (input.Client (record { client = client; id = id }) r)
 from_client client other = None
 
--- a monitor asks nothing, and what it tells counts where it names itself
+-- a monitor asks for nothing, and its message counts if it names that monitor as its sender
 abbrev pub from_monitor : ℕ → Message → Option Input
 from_monitor rank m = if (m.from == rank) && not (is_request m.body) then Some (input.Deliver m) else None
 
@@ -55,7 +55,7 @@ abbrev pub from_peer : Peer → Message → Option Input
 from_peer (Monitor rank) m = from_monitor rank m
 from_peer (Client client) m = from_client client m.body
 
--- the input that a message from a peer is in a map of n monitors, where it is one
+-- the input that a message from a peer is in a quorum map of n monitors, if it is one
 abbrev pub input_of : (n : ℕ) → Peer → Message → Option Input
 input_of n from m = if m.monitors == n then from_peer from m else None
 
@@ -63,21 +63,21 @@ abbrev pub input_read : (n : ℕ) → Peer → Result Message MsgRefused → Opt
 input_read n from (Ok m) = input_of n from m
 input_read n from (Err e) = None
 
--- the input that a peer's bytes are, where these are there and are one
+-- the input that a peer's bytes encode, if there are any and they encode one
 abbrev pub input_in : (n : ℕ) → Peer → Option (List ℕ) → Option Input
 input_in n from None = None
 input_in n from (Some bytes) = input_read n from (message_of bytes)
 
--- ---- a turn
+-- ---- an iteration
 
--- What a turn is given: what the clock shows as it begins; what the link answers, where it is asked; and what the clock
--- shows once a datagram came.
+-- What an iteration is given: what the clock shows as it begins; what the link returns, if it is asked; and what the clock
+-- shows after a datagram came.
 pub record Given : Type 0 where
   pub began : ℕ
   pub answer : Result Got Stop
   pub later : ℕ
 
--- an input, nothing, or the end; and how the outside stands then
+-- an input, nothing, or the end; and the state of the outside then
 pub record Heard : Type 0 where
   pub came : Result (Option TimedInput) NodeEnd
   pub outside : Outside
@@ -114,11 +114,11 @@ abbrev pub heard_by : Option Timer → (n wait : ℕ) → Given → Outside → 
 heard_by (Some t) n wait g o = record { came = Ok (Some (at_moment g.began (input.Timer t))); outside = o }
 heard_by None n wait g o = answer_came n g.later g.answer (link_asked wait g.answer o)
 
--- by the timer that comes next, and its moment
+-- by the timer that comes next, and its time
 abbrev pub heard : (n : ℕ) → Option (Timer × ℕ) → Given → Outside → Heard
 heard n next g o = heard_by (due_by g.began next) n (wait_until g.began next) g (clock_read o)
 
--- ---- what it is given is what clock and link tell, where they do
+-- ---- what it is given is what clock and link give, if that can be seen
 
 abbrev pub IsAnswer : Option Told → Result Got Stop → Type 0
 IsAnswer link answer = IfSome link (λ t. Answers answer (next_answer t))
@@ -137,7 +137,7 @@ pub record AreAnswers (o : Outside) (answer : Result Got Stop) (later : ℕ) : T
   pub answer_is : IsAnswer o.link answer
   pub later_is : IsLater o.clock answer later
 
--- the link is asked only where no timer is due
+-- the link is asked only if no timer is due
 abbrev pub AreAsked : Option Timer → Given → Outside → Type 0
 AreAsked (Some t) g o = Unit {0}
 AreAsked None g o = AreAnswers o g.answer g.later
@@ -155,7 +155,7 @@ Hears h (Err end.LinkFault) o = h ≡ record { came = Err end.LinkFault; outside
 Hears h (Err end.OutOfMemory) o = (o.clock ≡ h.outside.clock) × (o.link ≡ h.outside.link)
 Hears h (Err other) o = ⊥
 
--- a link counts a fault where it couldn't tell what comes, and nowhere else
+-- a link counts a fault if and only if it couldn't receive
 abbrev pub faults_at : NodeEnd → ℕ → ℕ
 faults_at end.LinkFault faults = risen faults
 faults_at other faults = faults

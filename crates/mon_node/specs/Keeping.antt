@@ -1,4 +1,4 @@
--- What a store comes to by a transaction, and what is left of it and of the disks.
+-- The result of a transaction on a store, and what is left of it and of the disks.
 use Rattle.std.specs.Prelude.{◌≡◌, ℕ, ◌≤◌, ◌<◌, ◌⊎◌, List, Result, Ok, Err, if◌then◌else◌}
 use Rattle.mon_kv.specs.Readers.{size_of}
 use Rattle.mon_store.specs.Calls.{journal_after}
@@ -12,7 +12,7 @@ use Rattle.mon_types.specs.Sides.{other as other_side}
 use Rattle.mon_node.specs.declared.end.NodeEnd.TheVariants as end
 use Rattle.mon_node.specs.declared.end.NodeEnd.{NodeEnd}
 
--- where a store stands once a transaction's changes are made: an empty one has no record
+-- where a store is once a transaction was applied: an empty one has no record
 abbrev pub changed : List Op → Stood → Stood
 changed ops s = record { side = s.side; journal = journal_after s.journal ops; kv = apply ops s.kv }
 
@@ -34,13 +34,13 @@ Keeps ops old new (Err end.DiskFault) = size_of (apply ops old) ≤ most_size
 Keeps ops old new (Err end.OutOfMemory) = Unit {0}
 Keeps ops old new (Err other) = ⊥
 
--- a disk's fault, or want of memory
+-- a disk's fault, or out of memory
 abbrev pub IsOfDisk : NodeEnd → Type 0
 IsOfDisk end.DiskFault = Unit {0}
 IsOfDisk end.OutOfMemory = Unit {0}
 IsOfDisk other = ⊥
 
--- a fault of one of two disks is counted where that is the end, and else nothing
+-- a fault of one of two disks is counted if that is the end, and otherwise nothing
 abbrev pub DisksCountAt : NodeEnd → (old_a old_b new_a new_b : ℕ) → Type 0
 DisksCountAt end.DiskFault old_a old_b new_a new_b =
     ((new_a ≡ risen old_a) × (new_b ≡ old_b)) ⊎ ((new_a ≡ old_a) × (new_b ≡ risen old_b))

@@ -1,4 +1,4 @@
--- Where a store stands on the two disks of a node: at every moment while it serves, and once it ended.
+-- Where a store is on the two disks of a node: at every time while it serves, and after it ended.
 use Rattle.std.specs.Prelude.{◌≡◌, ℕ, ◌≤◌, ◌⊎◌, IsTrue, is_some, List, [], ◌∷◌, Option, Result, IfErr}
 use Rattle.mon_journal.specs.Content.{appended}
 use Rattle.mon_link.specs.Links.{Told}
@@ -18,11 +18,11 @@ use Rattle.mon_node.specs.Turns.{Turn, start, last_turn}
 use Rattle.mon_node.specs.declared.end.NodeEnd.TheVariants as end
 use Rattle.mon_node.specs.declared.end.NodeEnd.{NodeEnd}
 
--- both tell what they hold
+-- the contents of both can be seen
 abbrev pub BothTell : Disks → Type 0
 BothTell d = IsTrue (is_some d.a.seen) × IsTrue (is_some d.b.seen)
 
--- on two images a store stands so that P
+-- two images hold a store that has P
 abbrev pub On : (Stood → Type 0) → List ℕ → List ℕ → Type 0
 On P a b = (s : Stood) × StandsOn s.side s.journal s.kv a b × P s
 
@@ -30,26 +30,26 @@ On P a b = (s : Stood) × StandsOn s.side s.journal s.kv a b × P s
 abbrev pub Leave : Disks → (Stood → Type 0) → Type 0
 Leave d P = EachPair d.a d.b (On P)
 
--- the moments, of disk A and of disk B, at which they are
+-- the times, of disk A and of disk B, at which they are
 abbrev pub moments : Disks → ℕ × ℕ
 moments d = (d.a.moment, d.b.moment)
 
--- From two moments of the disks to two others, a crash leaves two images on which a store stands so that P.
+-- From two times of the disks to two others, a crash leaves two images that hold a store that has P.
 pub record Between (d : Disks) (P : Stood → Type 0) (from to : ℕ × ℕ) : Type 0 where
   pub a_later : from.0 ≤ to.0
   pub b_later : from.1 ≤ to.1
   pub each : (s t : ℕ) (x y : List ℕ) → from.0 ≤ s → s ≤ to.0 → from.1 ≤ t → t ≤ to.1 → d.a.images_at s x →
       d.b.images_at t y → On P x y
 
--- The same by way of two moments in between: up to them a record is written on the live disk, and then a checkpoint on
+-- The same by way of two times in between: up to them a record is written on the live disk, and after them a checkpoint on
 -- the other one.
 pub record Through (d : Disks) (P : Stood → Type 0) (from to : ℕ × ℕ) : Type 0 where
   pub mid : ℕ × ℕ
   pub written : Between d P from mid
   pub renewed : Between d P mid to
 
--- What two disks go through: what a crash might have left before stands, and at every moment since then a crash leaves
--- two images on which a store stands so that P.
+-- What two disks go through: what a crash might have left before stays so, and at every time since then a crash leaves two
+-- images that hold a store that has P.
 pub record Pass (P : Stood → Type 0) (old new : Disks) : Type 0 where
   pub a : Lasts old.a new.a
   pub b : Lasts old.b new.b
@@ -58,18 +58,18 @@ pub record Pass (P : Stood → Type 0) (old new : Disks) : Type 0 where
 
 -- ---- a transaction
 
--- where a store stands once its record is written
+-- where a store is once its record is written
 abbrev pub recorded : List Op → Stood → Stood
 recorded ops s = record { side = s.side; journal = appended s.journal (text ops); kv = apply ops s.kv }
 
--- before it, behind its record, or behind the checkpoint that is due then
+-- before it, after its record, or after the checkpoint that is due then
 abbrev pub IsWithin : List Op → Stood → Stood → Type 0
 IsWithin ops old s = (s ≡ old) ⊎ (s ≡ recorded ops old) ⊎ (s ≡ kept ops old)
 
--- ---- a turn
+-- ---- an iteration
 
--- where its store stands once the record of its input's transaction is written, and once that is kept: a turn without
--- an input leaves it, and so does one whose map would be too large
+-- where its store is after the record of its input's transaction was written, and after that was applied: an iteration
+-- without an input leaves it, and so does one whose map would be too large
 abbrev pub stood_recorded : Me → Turn → Stood
 stood_recorded me t = of_kept me t t.serving.node.store (λ r. recorded r.transaction t.serving.node.store)
 
@@ -79,7 +79,7 @@ stood_kept me t = of_kept me t t.serving.node.store (λ r. kept r.transaction t.
 abbrev pub IsWithinTurn : Me → Turn → Stood → Type 0
 IsWithinTurn me t s = (s ≡ t.serving.node.store) ⊎ (s ≡ stood_recorded me t) ⊎ (s ≡ stood_kept me t)
 
--- Where it stands once the node ended there, by what the link was asked to send. What is sent is kept.
+-- Where its store is after the node ended there, by what the link was asked to send. What is sent is kept.
 abbrev pub IsLeft : Me → Turn → NodeEnd → Option Told → Stood → Type 0
 IsLeft me t end.OutOfMemory link s =
     ((link ≡ t.serving.outside.link) × IsWithinTurn me t s) ⊎ (SendsFront (sends_of me t) t.serving.outside.link link ×
@@ -91,32 +91,32 @@ IsLeft me t end.Closed link s = s ≡ t.serving.node.store
 IsLeft me t end.LinkFault link s = s ≡ t.serving.node.store
 IsLeft me t (end.Full would_be) link s = s ≡ t.serving.node.store
 
--- what the disks go through in it, and what they are left with where the node ends at it
+-- what the disks go through in it, and what they are left with if the node ends at it
 abbrev pub PassTurn : {T : Type 0} → Me → Turn → Result T NodeEnd → Option Told → (old new : Disks) → Type 0
 PassTurn me t result link old new = Pass (IsWithinTurn me t) old new ×
     IfErr result (λ e. Leave new (IsLeft me t e link))
 
--- ---- all turns
+-- ---- all iterations
 
--- Turn after turn, of which the newest is told first, from two moments of the disks to two others.
+-- Iteration after iteration, newest first, from two times of the disks to two others.
 abbrev pub InTurns : Me → (first : ℕ) → Serving → Disks → List Given → (from to : ℕ × ℕ) → Type 0
 InTurns me first s d [] from to = Through d (IsWithinTurn me (start first s)) from to
 InTurns me first s d (g ∷ earlier) from to =
     (mid : ℕ × ℕ) × InTurns me first s d earlier from mid × Has (last_turn me first s (g ∷ earlier))
     (λ t. Through d (IsWithinTurn me t) mid to)
 
--- What the disks go through in these turns.
+-- What the disks go through in these iterations.
 pub record PassTurns (me : Me) (first : ℕ) (s : Serving) (given : List Given) (old new : Disks) : Type 0 where
   pub a : Lasts old.a new.a
   pub b : Lasts old.b new.b
   pub tell : BothTell new
   pub turns : InTurns me first s new given (moments old) (moments new)
 
--- what they are left with, where the node ended at the last one
+-- what is left of them, if the node ended at the last one
 abbrev pub AreLeft : Me → (first : ℕ) → Serving → List Given → NodeEnd → Option Told → Disks → Type 0
 AreLeft me first s given e link d = Has (last_turn me first s given) (λ t. Leave d (IsLeft me t e link))
 
--- What two disks go through in these turns, and what they are left with where the node ended so at the last one.
+-- What two disks go through in these iterations, and what is left of them if the node ended so at the last one.
 pub record StandsThrough (me : Me) (first : ℕ) (s : Serving) (given : List Given) (e : NodeEnd) (link : Option Told)
     (old new : Disks) : Type 0 where
   pub turns : PassTurns me first s given old new

@@ -13,13 +13,12 @@ use Rattle.mon_store.specs.declared.store.Store.{Store}
 pub record Node : Type 0 where
   -- what its core remembers
   pub state : State
-  -- where its store stands, with the map
+  -- where its store is, with the map
   pub store : Stood
   -- the number of its next message that is longer than a datagram
   pub next : ℕ
 
--- Where the outside stands: the messages of which not all pieces came yet; and what the clock and the link tell of
--- themselves, where they do.
+-- The state of the outside: the incomplete messages; and what can be seen of the clock and the link, if anything.
 pub record Outside : Type 0 where
   pub parts : List Partial
   pub clock : Option Readings
@@ -29,7 +28,7 @@ pub record Serving : Type 0 where
   pub node : Node
   pub outside : Outside
 
--- where a store stands, with its map
+-- where a store is, with its map
 abbrev pub stood_of : {D : Type 0} → Store D → Stood
 stood_of s = record { side = s.side; journal = s.journal; kv = s.kv }
 

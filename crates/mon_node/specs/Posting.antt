@@ -52,7 +52,7 @@ with_number next (l ∷ letters) =
     if nat_lt (2 ^ 62 + 1) (next_behind next (length l.bytes)) then []
     else l ∷ with_number (next_behind next (length l.bytes)) letters
 
--- a store tells the epoch, and how often its monitor was started
+-- a store's epoch, and how often its monitor was started
 abbrev pub letters : Me → Store → List Sent → List Outgoing
 letters me m out = map (letter me (epoch m)) out
 
@@ -80,7 +80,7 @@ pub record Posts {T E : Type 0} (ds : List Outgoing) (result : Result T E) (old 
   pub told : SendsBy ds result old.told new.told
   pub faults : new.faults ≡ old.faults
 
--- why not all of them were: the number behind them passes the greatest, or memory ran out
+-- why not all of them were: the number of the next one passes the greatest, or memory ran out
 abbrev pub IsSpent : (next : ℕ) → NodeEnd → Type 0
 IsSpent next (end.Spent which.Seq) = 2 ^ 62 + 1 < next
 IsSpent next (end.Spent other) = ⊥

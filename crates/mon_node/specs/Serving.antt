@@ -21,7 +21,7 @@ abbrev pub Has : {A E : Type 0} → Result A E → (A → Type 0) → Type 0
 Has (Ok x) P = P x
 Has (Err e) P = ⊥
 
--- ---- the input of a turn, where it has one
+-- ---- the input of an iteration, if it has one
 
 -- the core reacts to it
 abbrev pub of_input : {A : Type 0} → A → (Reaction → A) → Result Reaction Which → A
@@ -53,8 +53,8 @@ OfInput me n P (Err e) = ⊥
 
 -- ---- ends
 
--- Why a node ends at a turn, for all ends that don't lie in the number of turns. A disk may fail once the transaction
--- of an input was given to the store.
+-- Why a node ends at an iteration, for all ends but that by the number of iterations. A disk may fail once the transaction of
+-- an input was given to the store.
 abbrev pub Causes : Me → Turn → NodeEnd → Type 0
 Causes me t end.TurnsUsed = ⊥
 Causes me t end.OutOfMemory = Unit {0}
@@ -64,7 +64,7 @@ Causes me t end.LinkFault = ended_turn me t ≡ Err end.LinkFault
 Causes me t (end.Full would_be) = ended_turn me t ≡ Err (end.Full would_be)
 Causes me t (end.Spent spent) = ended_turn me t ≡ Err (end.Spent spent)
 
--- What the link was asked to send at the turn: nothing, unless memory ran out, or the number of one of its messages.
+-- What the link was asked to send at the iteration: nothing, unless memory ran out, or the number of one of its messages.
 -- Then it is a prefix of what was to be sent before that message.
 abbrev pub SendsAtEnd : Me → Turn → NodeEnd → Option Told → Type 0
 SendsAtEnd me t end.OutOfMemory link = SendsFront (sends_of me t) t.serving.outside.link link
@@ -86,27 +86,27 @@ IsOfInput (end.Full would_be) = Unit {0}
 IsOfInput (end.Spent spent) = Unit {0}
 IsOfInput end.OutOfMemory = Unit {0}
 
--- a turn comes to its end, or the node ends at it
+-- an iteration comes to its end, or the node ends at it
 abbrev pub EndsTurn : {T : Type 0} → Me → Turn → Result T NodeEnd → Serving → Type 0
 EndsTurn me t (Ok x) now = ended_turn me t ≡ Ok now
 EndsTurn me t (Err e) now = EndsAt me t e now.outside.clock now.outside.link
 
--- ---- all turns
+-- ---- all iterations
 
--- what each turn was given is what clock and link told then
+-- what each iteration was given is what clock and link reported then
 abbrev pub AreGiven : Me → (first : ℕ) → Serving → List Given → Type 0
 AreGiven me first s [] = IsReading s.outside.clock first
 AreGiven me first s (g ∷ earlier) = AreGiven me first s earlier × Has (served me first s earlier)
     (λ now. IsGiven (due now.node.state.timers) g now.outside)
 
--- A node ends after these turns, of which it was to make so many at most: once all of them were made, or at the last of
--- them.
+-- A node ends after these iterations, of which it was to make this many at most: after all of them were made, or at the last
+-- of them.
 abbrev pub EndsAfter : Me → (turns : ℕ) → (begun : ℕ) → Turn → NodeEnd → Option Readings → Option Told → Type 0
 EndsAfter me turns begun t end.TurnsUsed clock link =
     (begun ≡ turns) × Has (ended_turn me t) (λ now. (clock ≡ now.outside.clock) × (link ≡ now.outside.link))
 EndsAfter me turns begun t other clock link = EndsAt me t other clock link
 
--- Which turns a node made: what they were given, what they come to, and how the node ended.
+-- The iterations that a node made: what they were given, their results, and how the node ended.
 pub record Serves (me : Me) (s : Serving) (turns : ℕ) (e : NodeEnd) (begun : ℕ) (clock : Option Readings)
     (link : Option Told) (first : ℕ) (given : List Given) : Type 0 where
   pub given_are : AreGiven me first s given

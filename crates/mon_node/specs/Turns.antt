@@ -1,4 +1,4 @@
--- The turns of a node, as a function of what its clock shows and its link gives.
+-- The iterations of a node, as a function of what its clock shows and its link gives.
 use Rattle.std.specs.Prelude.{ℕ, ◌+◌, ◌^◌, nat_lt, List, [], ◌∷◌, Option, Some, None, Result, Ok, Err, option_map, if◌then◌else◌}
 use Rattle.mon_bytes.specs.Answers.{◌>>=◌}
 use Rattle.mon_kv.specs.Readers.{size_of}
@@ -62,9 +62,9 @@ abbrev pub input_taken : Me → Serving → Option TimedInput → Result Serving
 input_taken me s None = Ok s
 input_taken me s (Some it) = reacted me s (reaction_to me s.node it)
 
--- ---- the turns
+-- ---- the iterations
 
--- a turn once it is known what it comes to
+-- an iteration, after its result is known
 pub record Turn : Type 0 where
   pub came : Result (Option TimedInput) NodeEnd
   pub serving : Serving
@@ -78,19 +78,19 @@ turn me g s =
     let h = heard me.member.monitors (due s.node.state.timers) g s.outside in
     record { came = h.came; serving = record s { outside = h.outside } }
 
--- the start, of which the clock tells the moment first
+-- the start, before which the clock is read
 abbrev pub start : (first : ℕ) → Serving → Turn
 start first s = record {
   came = Ok (Some (at_moment first input.Start));
   serving = record s { outside = clock_read s.outside };
 }
 
--- The last of these turns, once it is known what it comes to. What each is given is told the newest first, and the
--- start comes before all of them.
+-- The last of these iterations, after its result is known. What each was given is listed newest first, and the start comes
+-- before all of them.
 abbrev pub last_turn : Me → (first : ℕ) → Serving → List Given → Result Turn NodeEnd
 last_turn me first s [] = Ok (start first s)
 last_turn me first s (g ∷ earlier) = (last_turn me first s earlier >>= ended_turn me) >>= λ now. Ok (turn me g now)
 
--- what they come to
+-- their results
 abbrev pub served : Me → (first : ℕ) → Serving → List Given → Result Serving NodeEnd
 served me first s given = last_turn me first s given >>= ended_turn me

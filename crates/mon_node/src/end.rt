@@ -10,13 +10,13 @@ pub enum NodeEnd {
     /// The link said so.
     #[error("the link is closed")]
     Closed,
-    /// As many turns were made as were asked.
+    /// All iterations that were asked for were made.
     #[error("turns used")]
     TurnsUsed,
     /// A disk failed.
     #[error("a disk failed")]
     DiskFault,
-    /// The link couldn't tell what comes next.
+    /// The link couldn't receive.
     #[error("the link failed")]
     LinkFault,
     /// The store's map would count with `would_be`, above 268,435,456.
@@ -58,7 +58,7 @@ impl From<CoreStop> for NodeEnd {
 #[derive(Drop)]
 pub struct Served<D> {
     pub end: NodeEnd,
-    /// How many turns were begun. The start is none.
+    /// How many iterations were begun. The start isn't one.
     pub turns: u64,
     /// Those of the store.
     pub disks: NodeDisks<D>,

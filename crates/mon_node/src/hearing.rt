@@ -1,4 +1,4 @@
-//! What a turn comes to.
+//! The result of an iteration.
 
 ghost use Rattle.std.specs.Prelude.{◌≡◌, ℕ, Result, IfOk, IfSome, OnOk};
 ghost use Rattle.mon_bounds.specs.Fitting.{MayCome};
@@ -22,14 +22,14 @@ use std::alloc::Global;
 /// The longest wait for what comes over the link, in milliseconds.
 const LONGEST_WAIT: u64 = 1000;
 
-/// An input, and the moment at which it comes.
+/// An input, and the time at which it comes.
 #[derive(Drop)]
 pub struct TimedInput {
     pub input: Input,
     pub at: Moment,
 }
 
-/// The timer that is due by a moment.
+/// The timer that is due by a time.
 fn due_by(now: Moment, next: &Option<(Timer, Moment)>) -> Option<Timer>
     ensures { result ≡ due_by now next.now }
 {
@@ -55,7 +55,7 @@ fn wait_until(now: Moment, next: &Option<(Timer, Moment)>) -> u64
     }
 }
 
-/// The message that is whole with this datagram, where one is.
+/// The message that this datagram completes, if it completes one.
 fn assembled(
     assembly: &mut Assembly,
     from: &Peer,
@@ -71,7 +71,7 @@ fn assembled(
     }
 }
 
-/// The input that a datagram brings, where it brings one.
+/// The input that a datagram brings, if it brings one.
 fn brought(
     alloc: Global,
     monitors: u8,
@@ -121,7 +121,7 @@ fn ask<L: Link, C: Clock>(
     }
 }
 
-/// What comes: the timer that comes next, where it is due, and else what the link gives.
+/// What comes: the timer that comes next, if it is due, and otherwise what the link gives.
 pub(crate) fn hear<L: Link, C: Clock>(
     alloc: Global,
     monitors: u8,

@@ -31,7 +31,7 @@ fn change<D: Disk>(store: &mut Store<D>, tx: &Transaction) -> Result<(), NodeEnd
         → (disk_a store.new ≡ disk_a store.old) × (disk_b store.new ≡ disk_b store.old) }
     ensures tells { BothTell (disks_of D.state store.old) → BothTell (disks_of D.state store.new) }
 
-    // A crash at any moment leaves the store as it stood, or behind the record.
+    // A crash at any time leaves the store as it was, or after the record.
     ensures meanwhile { let old = disks_of D.state store.old in let new = disks_of D.state store.new in
         BothTell old → Meanwhile old.a old.b new.a new.b (On
         (λ s. (s ≡ stood_of store.old) ⊎ (s ≡ recorded tx.now (stood_of store.old)))) }
@@ -58,7 +58,7 @@ fn renew<D: Disk>(store: &mut Store<D>) -> Result<(), NodeEnd>
         (D.state (disk_a store.new)).faults (D.state (disk_b store.new)).faults }
     ensures tells { BothTell (disks_of D.state store.old) → BothTell (disks_of D.state store.new) }
 
-    // A crash at any moment leaves the store as it stood, or behind the checkpoint that is due.
+    // A crash at any time leaves the store as it was, or after the checkpoint that is due.
     ensures meanwhile { let old = disks_of D.state store.old in let new = disks_of D.state store.new in
         Meanwhile old.a old.b new.a new.b (On (λ s. (s ≡ stood_of store.old) ⊎ (s ≡ renewed (stood_of store.old)))) }
 {

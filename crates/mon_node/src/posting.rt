@@ -39,7 +39,7 @@ fn send_each<L: Link>(link: &mut L, to: &Peer, datagrams: &[Bytes]) -> Result<()
     Ok(())
 }
 
-/// The number under which a message of `len` bytes goes out, where it is longer than a datagram. It is the next one.
+/// The number under which a message of `len` bytes goes out, if it is longer than a datagram. It is the next one.
 fn numbered(next: &mut u64, len: usize) -> Result<u64, NodeEnd>
     requires { next.old ≤ 2 ^ 62 + 1 }
     ensures number { IfOk result (λ number. number ≡ next.old) }

@@ -35,7 +35,7 @@ fn from_client(client: u32, message: Message) -> Option<Input>
     }
 }
 
-/// A monitor tells what it names itself the sender of. It asks nothing.
+/// A monitor sends only in its own name, and asks for nothing.
 fn from_monitor(rank: Rank, message: Message) -> Option<Input>
     requires { HasText message }
     ensures input { result ≡ from_monitor rank message }
@@ -50,7 +50,7 @@ fn from_monitor(rank: Rank, message: Message) -> Option<Input>
     }
 }
 
-/// The input that a message from a peer is in a map of `monitors` monitors, where it is one.
+/// The input that a message from a peer is, in a quorum map of `monitors` monitors, if it is one.
 fn input_of(monitors: u8, from: &Peer, message: Message) -> Option<Input>
     requires { HasText message }
     ensures input { result ≡ input_of monitors from.now message }
@@ -66,7 +66,7 @@ fn input_of(monitors: u8, from: &Peer, message: Message) -> Option<Input>
     }
 }
 
-/// The input that a peer's bytes are, where they are one.
+/// The input that a peer's bytes encode, if they encode one.
 pub(crate) fn read(
     alloc: Global,
     monitors: u8,

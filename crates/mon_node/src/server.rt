@@ -97,7 +97,7 @@ impl<D: Disk> Server<D> {
         Ok(())
     }
 
-    /// Makes one turn.
+    /// Makes one iteration.
     pub(crate) fn turn<L: Link, C: Clock>(
         &mut self,
         link: &mut L,

@@ -17,16 +17,18 @@ use mon_store::Store;
 use mon_types::Member;
 use std::alloc::Global;
 
-/// Serves as a monitor over a link, a clock and a store, for at most `turns` turns. It starts; then each turn takes the
-/// timer that is due, or else asks the link once, and waits at most a second and at most up to the timer that comes
-/// next. Of an input the transaction is kept, and a checkpoint made where one is due, before anything is sent.
+/// Serves as a monitor over a link, a clock and a store, for at most `turns` iterations. It starts, which isn't an
+/// iteration; then each iteration takes the timer that is due, or else asks the link once, and waits at most a second
+/// and never past the next timer. The transaction of an input is kept, and a checkpoint made if one is due, before
+/// anything is sent.
 ///
-/// `Closed` comes exactly where the link said so, `TurnsUsed` exactly after that many turns, `Spent` and `Full` exactly
-/// where that number or the map would pass its bound. `LinkFault` and `DiskFault` come only where a fault was counted.
+/// `Closed` comes if and only if the link said so, `TurnsUsed` if and only if that many iterations were made, `Spent`
+/// and `Full` if and only if that number or the map would pass its bound. `LinkFault` and `DiskFault` come only if a
+/// fault was counted.
 ///
-/// The disks are handed back. A crash at any moment of a turn leaves the store on them as the turn began with it,
-/// behind the record of its transaction, or behind the checkpoint. A disk's fault and want of memory end it so too, and
-/// each other end leaves the store just as the turns do. What was sent is kept.
+/// The disks are returned. A crash at any time of an iteration leaves the store on them as the iteration began with
+/// it, after the record of its transaction, or after the checkpoint. A disk's fault and lack of memory leave the
+/// same, and each other end leaves the store as the iterations did. What was sent is kept.
 pub fn serve<D: Disk, L: Link, C: Clock>(
     alloc: Global,
     store: Store<D>,
@@ -39,8 +41,8 @@ pub fn serve<D: Disk, L: Link, C: Clock>(
     requires unbroken { store.broken ≡ false }
     requires sound { IsSound D.state store }
 
-    // What each turn was given by clock and link decides what comes of all of them, and what a crash leaves of two
-    // disks that tell what they hold.
+    // What clock and link gave to each iteration determines all results, and what a crash leaves of two disks whose
+    // contents can be seen.
     ensures serves { let start = unstarted member.rank (stood_of store) (C.left clock.old) (L.state link.old).told in
         let old = disks_of D.state store in let new = disks D.state result.disks.a result.disks.b in
         (first : ℕ) × (given : List Given)

@@ -51,7 +51,7 @@ missed-run n records last told =
     missed-is n records last told
     ∙ with_room records last (suc told) 22 22 (λ _. 22) (λ values. same_choice (ltb last (suc told + length values)) 22)
 
--- CHUNK has 33 and the place, and LAST_CHUNK, which is sent where nothing is left, seven more
+-- CHUNK has 33 and the place, and LAST_CHUNK, which is sent if nothing is left, seven more
 module _ (last : ℕ) (c : Cookie) (p : Place) (left : List Entry) where
   abbrev pub at_end : ℕ
   at_end = cond (is_finished p left []) 40 33 + place_length p

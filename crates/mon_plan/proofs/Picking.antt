@@ -1,4 +1,4 @@
--- Changes are joined by an index of where the put of each key stands.
+-- Changes are joined by an index of the place of each key's put.
 use Rattle.std.proofs.Common.{◌≡◌, ℕ, zero, suc, ◌+◌, ◌-◌, ◌≤◌, ◌<◌, ◌^◌, Bool, true, false, not, ◌&&◌, ◌||◌, cond, List, [], ◌∷◌, ◌++◌, length, take, drop, drop-cons, get_or, set, Option, Some, None, is_some, refl, sym, ap, subst, ◌∙◌, add-one, arith, length-append, length-set}
 use Rattle.std.specs.FinMap.{get, empty, get-empty}
 use Rattle.std.specs.List.{AllByRecursion, list_any}
@@ -50,7 +50,7 @@ or_false false = refl
 any-last : (at : Place) (ops : List Op) (op : Op) → list_any (takes_away at) (ops ++ op ∷ []) ≡ (list_any (takes_away at) ops || takes_away at op)
 any-last at ops op = list_any-append (takes_away at) ops (op ∷ []) ∙ ap (λ b. list_any (takes_away at) ops || b) (or_false (takes_away at op))
 
--- behind one more change
+-- after one more change
 abbrev slot_after : (p t : Bool) → ℕ → Option ℕ → Option ℕ
 slot_after p t n s = cond p (Some n) (cond t None s)
 
@@ -135,7 +135,7 @@ taking-joins done (Erase p k) h = refl
 taking-joins done (ErasePrefix p) h = refl
 taking-joins done (EraseRange p from to) h = refl
 
--- what the index tells under a key behind one more change
+-- what the index has under a key after one more change
 noted-taken : (at : Place) (op : Op) (done : List Op) (m : Store) → is_taking op ≡ true → get m at ≡ noted (slot at done) → get (apply_op op m) at ≡ noted (slot at (done ++ op ∷ []))
 noted-taken at op done m h e =
     let t = taking at op h in

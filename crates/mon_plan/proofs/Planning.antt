@@ -30,7 +30,7 @@ module _ {S : Type 0} (me : Me) (now : ℕ) (is : S → Course → Course) (Befo
     row = λ x b. row x b ∙ sym (λ i. act me now (next i) (done is cs (record { tx = p.tx; out = out i; timers = timers i; state = state i; next = next i }) (start x)));
   }
 
-  -- a plan that only changes the store and names an act, where what is remembered stays
+  -- a plan that only changes the store and names an act, if what is remembered stays
   pub only_acts : (cs : List Change) → AllByRecursion Fits cs → (s : S) → ((x : Course) → Before x → is s (changed cs (start x)) ≡ changed cs (start x)) → (n : Next) → ((x : Course) → stands n x ≡ x)
       → ((x : Course) → Before x → wanted x ≡ act me now n (changed cs (start x)))
       → (p : Plan S) → p ≡ record { tx = spelled cs; out = []; timers = []; state = s; next = n } → Does me now is Before start wanted p
@@ -56,7 +56,7 @@ pub changed-append : (a b : List Change) (x : Course) → changed (a ++ b) x ≡
 changed-append a b x =
     changed-is (a ++ b) x ∙ changes-append a b x ∙ ap (change_all b) (sym (changed-is a x)) ∙ sym (changed-is b (changed a x))
 
--- what the store tells afterwards
+-- what the store's readers return afterwards
 pub changed-readings : (cs : List Change) (x : Course) → (changed cs x).readings ≡ played cs x.readings
 changed-readings [] x = refl
 changed-readings (c ∷ cs) x = refl

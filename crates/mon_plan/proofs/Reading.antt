@@ -1,4 +1,4 @@
--- What the records of a store spell, and which of them counts as pending.
+-- What the records of a store encode, and which of them counts as pending.
 use Rattle.std.proofs.Common.{◌≡◌, ◌≢◌, ℕ, suc, ◌+◌, ◌≤◌, ◌<◌, Bool, true, false, cond, eqb, leb, is_some, is_ok, List, length, Option, Some, None, Result, Ok, Err, refl, sym, ap, ◌∙◌, arith, inl, inr, IfSome, IfOk}
 use Rattle.std.proofs.lemmas.Bool.{cases_Bool, le-leb, lt-leb, eq-eqb, ne_eqb}
 use Rattle.mon_bytes.specs.Reading.{IsBytes}
@@ -14,7 +14,7 @@ use Rattle.mon_plan.specs.Runs.{where_room}
 
 -- ---- values
 
--- bytes that are too long spell no value that may be begun
+-- bytes that are too long encode no value that may be begun
 pub value-long : (bytes : List ℕ) → IsBytes bytes → 1048544 < length bytes → transaction_in (Some bytes) ≡ None
 value-long bytes all long = by (transaction_of bytes) refl
   where
@@ -47,7 +47,7 @@ counts-long bytes all long v pn = by (transaction_of bytes) refl
     by (Ok ops) e = by_begin ops (lt-leb _ _ (omega (arith, long, ap length (takes_all bytes ops all e).1))) (may_begin ops)
     by (Err e) h = refl
 
--- another counts where it is a transaction
+-- another counts if it is a transaction
 pub counts-short : (bytes : List ℕ) → IsBytes bytes → length bytes ≤ 524288 → (v pn : ℕ) → is_text bytes ≡ is_some (found_as v pn (transaction_in (Some bytes)))
 counts-short bytes all short v pn = by (transaction_of bytes) refl
   where

@@ -29,7 +29,7 @@ module _ (records : ℕ → Cell) (last from plain at_end : ℕ) where
   abbrev pub taking : List (List Op) → ℕ
   taking = besides last from plain at_end
 
-  -- So many values were taken, and the run goes on at version v.
+  -- This many values were taken, and the run goes on at version v.
   pub record RunsTo (v bytes : ℕ) (done : List (List Op)) : Type 0 where
     pub runs : RunsOn value_length taking 1048576 (run_from records last from) bytes done (run_from records last v)
     pub at : v ≡ from + length done
@@ -61,7 +61,7 @@ module _ (records : ℕ → Cell) (last from plain at_end : ℕ) where
       by (inr le) (inl e) = let same = eqb-true v last e in let more = length-append done (value ∷ []) in absurd (omega arith)
       by (inr le) (inr e) = le-ltb _ _ le ∙ sym e
 
-  -- the run is at its end where the next record is none
+  -- the run is at its end if the next record is invalid
   ends : (v bytes : ℕ) (done : List (List Op)) → RunsTo v bytes done → run_from records last v ≡ [] → done ≡ longest_run
   ends v bytes done r none =
       runs-last value_length taking 1048576 (run_from records last from) bytes done

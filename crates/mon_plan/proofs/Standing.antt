@@ -1,5 +1,5 @@
--- What stands at a place after changes, by what they leave where nothing stood before, and by whether one of them takes the
--- place away.
+-- What is at a place after changes, by what they leave if nothing was before, and by whether one of them takes the place
+-- away.
 use Rattle.std.proofs.Common.{◌≡◌, ℕ, Bool, true, false, ◌&&◌, ◌||◌, cond, List, [], ◌∷◌, Some, None, is_some, refl, sym, ap, ◌∙◌}
 use Rattle.std.specs.FinMap.{get, empty, get-empty}
 use Rattle.std.specs.List.{AllByRecursion, filter, list_any}
@@ -138,6 +138,6 @@ module _ (ops : List Op) (kv put now : Store) (prefix text : List ℕ) (a : Area
         by true e = gone ops kv (place a k) (h ∙ there) (sym any ∙ e)
         by false e = (λ i. get kv (p i, t i)) ∙ still ops kv (place a k) (h ∙ there) (sym any ∙ e)
 
--- what a store tells after changes that are spelled
+-- what a store's readers return after changes that are encoded
 pub readings-after : (cs : List Change) → AllByRecursion Fits cs → (m : Store) → readings_of (apply (spelled cs) m) ≡ played cs (readings_of m)
 readings-after cs fit m = ap readings_of (sym (apply-joined (spelled cs) m)) ∙ readings-joined cs fit m

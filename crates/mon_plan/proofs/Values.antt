@@ -24,7 +24,7 @@ all_short (value ∷ values) h =
 pub rest_is : {A : Type 0} (k : ℕ) (xs : List A) → take (length xs - k) (drop k xs) ≡ drop k xs
 rest_is k xs = take_all (length xs - k) (drop k xs) (omega (arith, length-drop k xs))
 
--- those behind the known ones, which are no more than there are
+-- those after the known ones, which are no more than there are
 pub same_news : {A : Type 0} (k n : ℕ) (xs : List A) → k ≡ min n (length xs) → drop k xs ≡ drop n xs
 same_news k n xs h = elim (cases_lt n (length xs)) [
   | inl lt ↦ let e : k ≡ n = omega arith in ap (λ j. drop j xs) e

@@ -12,7 +12,7 @@ abbrev pub slot_before : Bool → Option ℕ → Option ℕ
 slot_before here (Some k) = Some (suc k)
 slot_before here None = if here then Some 0 else None
 
--- where in a list the latest put of a key stands behind which nothing takes the key away
+-- the index in a list of the latest put of a key after which nothing removes the key
 abbrev pub slot : Place → List Op → Option ℕ
 slot at [] = None
 slot at (op ∷ ops) = slot_before (puts at op && not (list_any (takes_away at) ops)) (slot at ops)
@@ -23,8 +23,8 @@ op_at ops i = slice_index_or ops i (ErasePrefix [])
 abbrev pub picked : List Op → List ℕ → List Op
 picked ops order = map (op_at ops) order
 
--- The first i changes are joined: these are picked, and the map tells under each key where its put stands that the next put
--- of the key replaces, counted from 1.
+-- The first i changes are joined: these are picked, and for each key whose put stays, the map has the index, counted from 1,
+-- which the next put of the key replaces.
 pub record IsJoined (ops : List Op) (i : ℕ) (order : List ℕ) (index : Store) : Type 0 where
   pub picks : joined_onto (picked ops order) (drop i ops) ≡ joined ops
   pub indexed : (at : Place) → get index at ≡ option_map (λ k. number_bytes (suc k)) (slot at (picked ops order))

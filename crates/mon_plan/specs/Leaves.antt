@@ -21,7 +21,7 @@ Leaves at next.Stay tx = Unit {0}
 Leaves at next.Elect tx = Unit {0}
 Leaves at next.Electing tx = Unit {0}
 Leaves at (next.Follow leader quorum) tx = Unit {0}
--- a monitor that begins anew has written something only where it was taking a copy
+-- a monitor that begins again has written something only if it was taking a copy
 Leaves at next.Bootstrap tx = (tx ≡ []) ⊎ (at ≡ phase.Synchronizing)
 Leaves at (next.Win quorum) tx = TellsEpoch tx
 Leaves at (next.FullSync from) tx = tx ≡ []
@@ -29,7 +29,7 @@ Leaves at (next.RecentSync from) tx = tx ≡ []
 -- an active leader begins a value that a message can carry
 Leaves at (next.Begin value o) tx = (tx ≡ []) × (at ≡ phase.Active) × (may_begin value ≡ true)
 
--- An act is the last one of its event, but for a monitor that begins anew and wins alone.
+-- An act is the last one of its event, except that of a monitor that begins again and wins alone.
 abbrev pub Ends : Me → Next → (tx : List Op) → Type 0
 Ends me next.Stay tx = Unit {0}
 Ends me (next.Win quorum) tx = (nat_lt 1 me.member.monitors ≡ false) × TellsEpoch tx

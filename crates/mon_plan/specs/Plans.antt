@@ -30,7 +30,7 @@ use Rattle.mon_wire.specs.declared.phase.Timer.{Timer}
 
 -- ---- the parts of a plan
 
--- where there are none, nothing is done
+-- if there are none, nothing is done
 abbrev pub changed : List Change → Course → Course
 changed [] x = x
 changed (c ∷ cs) x = change_all (c ∷ cs) x
@@ -64,7 +64,7 @@ phase_as s p = if is_leading p then phase_of s else p
 abbrev pub leads : Leader → Course → Course
 leads l x = x ▸ in_phase (phase_as l.stage x.state.phase) ▸ leader_is l
 
--- two of the acts only tell where the monitor stands already when the plan's timers are armed
+-- for two of the acts it matters whether the monitor has already entered them when the plan's timers are set
 abbrev pub stands : Next → Course → Course
 stands next.Electing x = x ▸ in_phase phase.Electing ▸ forget_clients
 stands (next.Follow leader quorum) x = x ▸ in_phase phase.Peon ▸ peon_is (record { leader = leader; quorum = quorum; lease = None })
@@ -76,7 +76,7 @@ stands (next.FullSync from) x = x
 stands (next.RecentSync from) x = x
 stands (next.Begin value o) x = x
 
--- What a role's plan does, where `is` replaces what the role remembers and the plan's transaction spells these changes.
+-- The effect of a role's plan, where `is` replaces what the role remembers and the plan's transaction encodes these changes.
 abbrev pub done : {S : Type 0} → (S → Course → Course) → List Change → Plan S → Course → Course
 done is cs p x = x ▸ stands p.next ▸ changed cs ▸ is p.state ▸ arm_all p.timers ▸ sending p.out
 
@@ -110,15 +110,15 @@ entered (next.Begin value o) x = x
 
 module _ {S : Type 0} (me : Me) (now : ℕ) (is : S → Course → Course) (Before : Course → Type 0)
     (start : Course → Course) (wanted : Course → Result Course Which) where
-  -- A plan is what is wanted of every event under way that is as it should be: its transaction spells changes whose
-  -- numbers fit, and what the plan does and the act that it names are together what is wanted.
+  -- A plan is what is wanted of every valid event under way: its transaction encodes changes whose numbers fit, and the
+  -- plan's effect together with the act that it names is what is wanted.
   pub record Does (p : Plan S) : Type 0 where
     pub changes : List Change
     pub fit : AllByRecursion Fits changes
     pub spelled : p.tx ≡ spelled changes
     pub row : (x : Course) → Before x → wanted x ≡ act me now p.next (done is changes p (start x))
 
-  -- so does a call's answer, or it tells which number runs out; or memory ran out
+  -- and so is a call's result, or it names the number that runs out; or memory ran out
   abbrev pub Plans : Result (Plan S) RoleStop → Type 0
   Plans (Ok p) = Does p
   Plans (Err stop.OutOfMemory) = Unit {0}
@@ -129,6 +129,6 @@ module _ {S : Type 0} (me : Me) (now : ℕ) (is : S → Course → Course) (Befo
   abbrev pub PlansRow : (row : Course → Result Course Which) → Result (Plan S) RoleStop → Type 0
   PlansRow row result = Plans me now is Before (λ x. x) row result
 
-  -- an act, in which the monitor stands already as the act begins
+  -- an act, which the monitor has entered as the act begins
   abbrev pub PlansAct : Next → Result (Plan S) RoleStop → Type 0
   PlansAct a result = Plans me now is Before (entered a) (act me now a) result

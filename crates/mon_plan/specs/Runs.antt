@@ -5,7 +5,7 @@ use Rattle.mon_msg.specs.Protocol.Records.{run_from, longest}
 use Rattle.mon_tx.specs.Decision.{Cell}
 use Rattle.mon_tx.specs.declared.op.Op.{Op}
 
--- how much a message takes besides values of the versions from `from` on: another number where they reach the last version
+-- how much a message takes besides values of the versions from `from` on: a different number if they reach the last version
 abbrev pub besides : (last from plain at_end : ℕ) → List (List Op) → ℕ
 besides last from plain at_end values = if nat_lt last (from + length values) then at_end else plain
 

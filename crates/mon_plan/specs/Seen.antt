@@ -22,7 +22,8 @@ pub record IsSeen (me : Me) (now : ℕ) (w : Readings) (s : State) (view : View)
   -- a leader's stage is its phase
   pub stage : is_leading s.phase ≡ true → phase_of s.leader.stage ≡ s.phase
 
--- An event under way before a role's call: the store tells this, the role remembers that, and the other roles are seen so.
+-- An event under way before a role's call: the store's readers return this, the role remembers that, and the other roles are
+-- seen so.
 pub record IsMet {S : Type 0} (me : Me) (now : ℕ) (w : Readings) (view : View) (role_in : State → S) (remembered : S)
     (x : Course) : Type 0 where
   pub readings : x.readings ≡ w

@@ -66,7 +66,7 @@ fn length_of(kind: Timer) -> u64
     }
 }
 
-/// A timer is armed for the moment at which its time is over, or for the greatest moment where that is later.
+/// A timer is set for the time at which its length is over, or for the greatest time if that is later.
 pub fn armed(now: Moment, kind: Timer) -> Arming
     ensures { result ≡ Arming.Arm kind (min (now + length_of kind) (2 ^ 62)) }
 {

@@ -1,4 +1,4 @@
-//! The values that a store's records spell, the pending one among them, and runs of them.
+//! The values that a store's records encode, with the pending one, and runs of them.
 
 ghost use Rattle.std.specs.Prelude.{◌≡◌, ℕ, ◌+◌, ◌-◌, ◌≤◌, ◌^◌, sum_by, length, min, Some, IfOk, IfSome, is_some, if◌then◌else◌};
 ghost use Rattle.mon_tx.specs.Text.{text};
@@ -18,7 +18,7 @@ use std::alloc::Global;
 /// The longest text of a value of which a BEGIN may be sent, in bytes: that of a message without what it takes besides.
 const MOST_BEGUN: usize = 1_048_544;
 
-/// The value that bytes spell of which a BEGIN may be sent. What is longer isn't decoded.
+/// The value that the bytes encode, if a BEGIN may carry it. Longer ones aren't decoded.
 fn value_in(alloc: Global, bytes: &[u8]) -> Result<Option<Transaction>, OutOfMemory>
     ensures value { IfOk result (λ value. value ≡ transaction_in (Some bytes.now)) }
     ensures bytes { IfOk result (λ value. IfSome value (λ ops. bytes.now ≡ text ops)) }
@@ -40,7 +40,7 @@ fn value_len(value: &Transaction) -> usize
     (value.text_len() as usize).saturating_add(4)
 }
 
-/// The value that bytes spell, where it takes at most so many bytes. What is longer isn't decoded.
+/// The value that bytes encode, if it takes at most this many bytes. What is longer isn't decoded.
 fn value_fitting(
     alloc: Global,
     bytes: &[u8],
@@ -74,7 +74,8 @@ pub struct Run {
     pub bytes: usize,
 }
 
-/// How many bytes a message has room for with so many of values already, and as many besides as at the last version or before.
+/// How much room a message has that already has this many bytes of values, and this many others: at the last version,
+/// or before it.
 fn room_at(is_last: bool, plain: usize, at_end: usize, bytes: usize) -> usize
     ensures { result ≡ 1048576 - (if is_last then at_end else plain) - bytes }
 {
@@ -83,8 +84,8 @@ fn room_at(is_last: bool, plain: usize, at_end: usize, bytes: usize) -> usize
 }
 
 impl<'a> Stored<'a> {
-    /// The value that the record of a version spells. A record that is no transaction counts as none, and so does one of
-    /// which no BEGIN may be sent.
+    /// The value that the record of a version encodes. A record that is no transaction counts as none, and so does
+    /// one that no BEGIN may carry.
     #[tactic(auto, unfolding(mon_msg::specs::Protocol::Records::record_at))]
     pub fn record_at(&self, alloc: Global, v: u64) -> Result<Option<Transaction>, OutOfMemory>
         ensures { IfOk result (λ value. value ≡ record_at (readings_of self.now).record_of v) }
@@ -95,7 +96,8 @@ impl<'a> Stored<'a> {
         }
     }
 
-    /// The same, where the value takes at most so many bytes in a list of a message. A longer one isn't decoded.
+    /// The same, given that the value takes at most this many bytes in a list of a message. A longer one isn't
+    /// decoded.
     #[tactic(auto, unfolding(mon_msg::specs::Protocol::Records::record_at))]
     fn value_within(
         &self,
@@ -127,7 +129,7 @@ impl<'a> Stored<'a> {
         }
     }
 
-    /// The value that was accepted for the version after the last one, with its number, where it counts.
+    /// The value that was accepted for the version after the last one, with its number, if it counts.
     #[tactic(auto, unfolding(mon_msg::specs::Protocol::Records::pending_of, mon_msg::specs::Protocol::Records::record_at))]
     pub fn pending(&self, alloc: Global) -> Result<Option<Found>, OutOfMemory>
         ensures { IfOk result (λ found. found ≡ pending (readings_of self.now)) }
@@ -144,9 +146,9 @@ impl<'a> Stored<'a> {
         Ok(Some(Found { version, pn, value }))
     }
 
-    /// The longest run of records from version `from` on, up to the last version or the first that has none, which a
-    /// message takes that has `plain` bytes besides, or `at_end` where the run reaches the last version. Each record is
-    /// decoded once, and none that has no room.
+    /// The longest run of records from version `from` on, up to the last version or the first without a record, that
+    /// fits in a message with `plain` other bytes, or `at_end` if the run reaches the last version. Each record is
+    /// decoded once, and none for which there is no room.
     pub fn run(
         &self,
         alloc: Global,

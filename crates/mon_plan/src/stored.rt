@@ -148,7 +148,7 @@ fn still_there<'k>(kv: &'k Kv, taken: &[Op], at: &At<'_>) -> Option<&'k [u8]>
 }
 
 impl<'a> Stored<'a> {
-    /// A store as it stands. It takes no memory.
+    /// A borrowed store. It takes no memory.
     pub fn of(alloc: Global, kv: &'a Kv) -> Stored<'a>
         ensures { result ≡ kv.now }
     {
@@ -176,8 +176,8 @@ impl<'a> Stored<'a> {
         })
     }
 
-    /// What stands at a named key, whose text is known. A look-up takes as many steps as the trees are high, and one for
-    /// each change that takes keys away.
+    /// The value at a named key, whose text is known. A look-up takes as many steps as the trees are high, and one
+    /// for each change that takes keys away.
     fn named(&self, area: Area, key: Key, text: &[u8]) -> Option<&[u8]>
         requires { text.now ≡ key_text key }
         ensures { option_copied result ≡ cell self.now area key }
@@ -197,7 +197,7 @@ impl<'a> Stored<'a> {
         number_of(self.named(area, key, text))
     }
 
-    /// A number, where there is one.
+    /// A number, if there is one.
     fn if_there(&self, area: Area, key: Key, text: &[u8]) -> Option<u64>
         requires { text.now ≡ key_text key }
         ensures value { result ≡ number_if_there (cell self.now area key) }
@@ -209,7 +209,7 @@ impl<'a> Stored<'a> {
         }
     }
 
-    /// The epoch. It counts as 1 where there is none.
+    /// The epoch. It counts as 1 if there is none.
     #[tactic(auto, unfolding(mon_msg::specs::Protocol::Readings::readings_of))]
     pub fn epoch(&self) -> Epoch
         ensures { result ≡ epoch_of (readings_of self.now) }
@@ -238,7 +238,7 @@ impl<'a> Stored<'a> {
         self.number(Area::Monitor, Key::BootCount, b"boot_count")
     }
 
-    /// The last proposal number that the monitor made, where there is one.
+    /// The last proposal number that the monitor made, if there is one.
     #[tactic(auto, unfolding(mon_msg::specs::Protocol::Readings::readings_of))]
     pub fn last_pn(&self) -> Option<Pn>
         ensures { result ≡ (readings_of self.now).last_pn }
@@ -249,7 +249,7 @@ impl<'a> Stored<'a> {
         }
     }
 
-    /// The proposal number that it promised, where there is one.
+    /// The proposal number that it promised, if there is one.
     #[tactic(auto, unfolding(mon_msg::specs::Protocol::Readings::readings_of))]
     pub fn promised(&self) -> Option<Pn>
         ensures { result ≡ (readings_of self.now).promise }
@@ -320,7 +320,7 @@ impl<'a> Stored<'a> {
         Version::known(self.number(Area::Sync, Key::Floor, b"last_committed_floor"))
     }
 
-    /// The record of a version: the bytes at its decimal key, or `None` exactly where there are none.
+    /// The record of a version: the bytes at its decimal key, or `None` if and only if there are none.
     #[tactic(auto, using(mon_tx::proofs::Decimals::decimal_is), unfolding(mon_msg::specs::Protocol::Readings::readings_of))]
     pub fn stored(&self, v: u64) -> Option<&[u8]>
         ensures { option_copied result ≡ (readings_of self.now).record_of v }

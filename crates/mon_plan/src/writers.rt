@@ -1,4 +1,4 @@
-//! What a role writes, change by change. Each call appends exactly the ops that spell its change.
+//! What a role writes, change by change. Each call appends exactly the ops that encode its change.
 
 ghost use Rattle.std.specs.Prelude.{◌≡◌, [], ◌∷◌, ◌++◌, ◌+◌, ◌≤◌, ◌^◌, length, IfOk, OnOk};
 ghost use Rattle.std.specs.List.{AllByRecursion};
@@ -165,8 +165,8 @@ pub fn put_last(tx: &mut Transaction, version: Version) -> Result<(), OutOfMemor
     tx.put_number(Area::Paxos, Key::LastCommitted, version.get())
 }
 
-/// The values of the versions from `from` on are learned, and the last of these versions is the last one from then on. It
-/// tells `Version` where that would pass 2^62. Where there are none nothing is written.
+/// The values of the versions from `from` on are learned, and the last of these versions is the last one from then
+/// on. It returns `Version` if that would pass 2^62. If there are none, nothing is written.
 pub fn learn(tx: &mut Transaction, from: u64, values: &[Transaction]) -> Result<(), RoleStop>
     requires short { AllByRecursion (λ ops. length (text ops) ≤ most) values.now }
     requires from { 1 ≤ from }
@@ -196,7 +196,7 @@ fn erase_all(tx: &mut Transaction, area: Area) -> Result<(), OutOfMemory>
     tx.push(Op::ErasePrefix { prefix })
 }
 
-/// A number of Paxos stays where there was one.
+/// A number of Paxos stays, if there was one.
 fn put_back(tx: &mut Transaction, key: Key, pn: Option<Pn>) -> Result<(), OutOfMemory>
     ensures { OnOk result (tx.new ≡ tx.old ++ put_back key pn) }
 {

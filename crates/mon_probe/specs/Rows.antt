@@ -1,4 +1,4 @@
--- The inputs of a prober, and what is known where its rows and its act are answered.
+-- The inputs of a prober, and what is known when its rows and its act are proved.
 use Rattle.std.specs.Prelude.{◌≡◌, ℕ, Bool, true, false, nat_lt, Result}
 use Rattle.mon_msg.specs.Protocol.Course.{Course, prober_is}
 use Rattle.mon_msg.specs.Protocol.Readings.{Readings, epoch_of}
@@ -34,14 +34,14 @@ is_input (input.Deliver m) = is_told m.body
 is_input (input.Timer t) = is_rung t
 is_input (input.Client session r) = false
 
--- a row, where the store tells this, the other roles are seen so, and the prober remembers that
+-- a row, where the store's readers return this, the other roles are seen so, and the prober remembers that
 abbrev pub PlansProbe : Me → (now : ℕ) → Readings → View → Prober → (Course → Result Course Which) →
     Result (Plan Prober) RoleStop → Type 0
 PlansProbe me now w view s row result =
     PlansRow me now prober_is (IsMet me now w view (λ state. state.prober) s) row result
 
--- An event under way where a monitor begins anew: the epoch is this, and where it is alone in its map the store tells
--- of a mark what it told before the event.
+-- An event under way in which a monitor begins again: the epoch is this, and if it is alone in its quorum map the mark is
+-- that from before the event.
 pub record IsBegun (me : Me) (w : Readings) (e : ℕ) (x : Course) : Type 0 where
   pub epoch : epoch_of x.readings ≡ e
   pub marked : nat_lt 1 me.member.monitors ≡ false → x.readings.marked ≡ w.marked

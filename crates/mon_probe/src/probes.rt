@@ -1,4 +1,4 @@
-//! What is asked of a monitor and what it is told while one probes.
+//! What a monitor that probes asks the others, and what they answer.
 
 ghost use Rattle.std.specs.Prelude.{◌≡◌, ℕ, Ok, IfOk};
 ghost use Rattle.mon_msg.specs.Protocol.Probing.{hear_probe, hear_probe_reply};
@@ -46,7 +46,7 @@ pub fn hear_probe(
     })
 }
 
-/// Another monitor tells how far it is, and in which quorum.
+/// Another monitor says how far it is, and in which quorum.
 pub fn hear_probe_reply(
     alloc: Global,
     stored: &Stored<'_>,

@@ -120,7 +120,7 @@ sent_found now_of kept now got r bytes result old new same_list found_one is sam
     (subst (λ b. IsOneOf kept (datagram (now_of r).to b)) (sym same_bytes)
     (subst (λ l. IsOneOf l (now_of r)) same_list (subst (λ g. IfSome g (λ o. IsOneOf now (now_of o))) is found_one)))
 
--- where nothing was kept
+-- if nothing was kept
 pub kept_all : (old new : List Outgoing) (x : Outgoing) → new ≡ old → AreOf (old ++ x ∷ []) new
 kept_all old new x e = subst (λ v. AreOf (old ++ x ∷ []) v) (sym e) (more old (x ∷ []))
 

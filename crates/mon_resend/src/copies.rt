@@ -86,7 +86,7 @@ impl Copies {
         None
     }
 
-    /// The place of a monitor's copies, which is made where there is none yet.
+    /// The index of a monitor's copies, which are made if there are none yet.
     fn made_place_of(&mut self, rank: u8) -> Option<usize>
         ensures { self.new ≡ self.old }
     {
@@ -239,7 +239,7 @@ impl Copies {
         }
     }
 
-    /// Whether a datagram at a place goes now. One that went before goes only where `again` allows it.
+    /// Whether a datagram at a place goes now. One that went before goes only if `again` allows it.
     pub(crate) fn goes(&mut self, place: usize, at: usize, again: bool, now: u64) -> bool
         ensures { self.new ≡ self.old }
     {

@@ -7,7 +7,7 @@ const MESSAGE: u8 = 1;
 
 const PIECE: u8 = 2;
 
-/// The least bytes of a message in which its first fields stand.
+/// The fewest bytes of a message that hold its first fields.
 const FIELDS: usize = 28;
 
 /// The kinds of messages that are looked at. The two requests for a copy count as one kind, and so do its chunks.
@@ -109,9 +109,9 @@ pub(crate) struct Header {
 pub(crate) enum Part {
     /// It is the message.
     Whole(Header),
-    /// It is the first piece of a message of so many bytes.
+    /// The first piece of a message of this many bytes.
     First(Header, u32),
-    /// It is another piece, in which no field stands.
+    /// Another piece, which holds none of these fields.
     Later,
 }
 

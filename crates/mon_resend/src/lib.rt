@@ -1,4 +1,4 @@
-//! A link that sends again what a monitor told another one and what isn't answered.
+//! A link that sends again what a monitor sent to another one and what wasn't answered.
 #![tactic(auto)]
 
 mod copies;

@@ -27,7 +27,7 @@ impl Measure {
         }
     }
 
-    /// After an answer that came so many milliseconds after its message went last. If the message went more than once it
+    /// After an answer that came this many milliseconds after its message went last. If the message went more than once it
     /// may answer an earlier copy, which makes the time too short: such an answer counts only if it is later than usual.
     pub(crate) fn after(self, time: u64, went_again: bool) -> Measure {
         let time = time.min(MOST).saturating_mul(PARTS);

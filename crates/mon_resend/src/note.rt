@@ -58,7 +58,8 @@ pub(crate) struct Note {
 }
 
 impl Note {
-    /// Of a message that goes now in so many pieces to a peer whose answers take that long; or that is held.
+    /// The note of a message that goes now in this many pieces, to a peer whose answers take that long; or that is
+    /// held.
     pub(crate) fn new(header: Header, pieces: u64, held: bool, wait: u64, now: u64) -> Note {
         let least = match header.kind {
             Kind::GetCookie => LEAST_OF_COOKIE,
@@ -179,7 +180,7 @@ impl Note {
         }
     }
 
-    /// Whether it goes now. What went before goes again only where `again` allows it.
+    /// Whether it goes now. What went before goes again only if `again` allows it.
     pub(crate) fn goes(&self, again: bool, now: u64) -> bool {
         self.due <= now && (again || self.held) && self.times < TIMES
     }

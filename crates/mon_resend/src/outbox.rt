@@ -134,7 +134,7 @@ impl Outbox {
         self.apply(Event::Sent(header), now);
     }
 
-    /// What is noted of a message of so many bytes, of which this datagram has so many.
+    /// What is noted of a message of this many bytes, given that this datagram has this many of them.
     fn note_of(&self, header: Header, total: u32, length: usize, now: u64) -> Note {
         let pieces = if total as usize == length {
             1
@@ -290,7 +290,7 @@ impl Outbox {
         false
     }
 
-    /// Whether the datagram at a place goes now. One that went before goes only where `again` allows it.
+    /// Whether the datagram at a place goes now. One that went before goes only if `again` allows it.
     pub(crate) fn goes(&mut self, at: usize, again: bool, now: u64) -> bool
         ensures { self.new ≡ self.old }
     {

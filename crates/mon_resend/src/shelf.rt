@@ -69,7 +69,7 @@ impl Shelf {
         Some(&kept.note)
     }
 
-    /// Whether there is room for so many datagrams more, of so many bytes in all.
+    /// Whether there is room for this many datagrams more, of this many bytes in all.
     pub(crate) fn has_room(&self, datagrams: usize, bytes: usize) -> bool {
         self.kept.len().saturating_add(datagrams) <= MOST
             && self.bytes.saturating_add(bytes) <= MOST_BYTES

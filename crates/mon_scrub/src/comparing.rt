@@ -107,9 +107,9 @@ fn put_compared(alloc: Global, out: &mut String, a: &Report, b: &Report) -> Resu
     put_differing(alloc, out, &a.parts, &b.parts)
 }
 
-/// The text that says where two reports differ: one line if they have different numbers of monitors, if one of them is
-/// marked, or if their last versions differ, the first of these that holds; else a line for each part that differs, and
-/// a line with the number of such parts.
+/// The text that says where two reports differ: one line if they have different numbers of monitors, if one of them
+/// is marked, or if their last versions differ, the first of these that holds; otherwise a line for each part that
+/// differs, and a line with the number of such parts.
 pub fn compare(alloc: Global, a: &Report, b: &Report) -> Result<Vec<u8>, OutOfMemory>
     ensures { IfOk result (λ bytes. bytes.items ≡ compared a.now b.now) }
 {

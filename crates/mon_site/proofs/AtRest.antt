@@ -1,4 +1,4 @@
--- Two disks at rest, before and behind a read; and which of them are open.
+-- Two disks at rest, before and after a read; and which of them are open.
 use Rattle.std.proofs.Common.{◌≡◌, ℕ, ◌≤◌, ◌<◌, Bool, true, false, List, [], ◌∷◌, length, take, Option, Some, None, is_some, Ok, refl, sym, ap, ◌∙◌, subst, arith}
 use Rattle.std.specs.Prelude.{◌==◌, not}
 use Rattle.std.specs.FinMap.{empty}

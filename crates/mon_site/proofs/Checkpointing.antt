@@ -89,7 +89,7 @@ module _ (side : Side) (live other : MemoryState) (j : Journal) (m : Store) (kno
   pub live_on : live_side (files_with side (file_by j) (file_in (seen_of other.life))) ≡ side
   live_on = ap live_side (sym files_seen) ∙ live_stands side j m (seen_of a.life) (seen_of b.life) stands_seen
 
--- ---- the files behind a checkpoint
+-- ---- the files after a checkpoint
 
 replaced : (side : Side) (live : File) (other new : Option File) → with_file (other_side side) new (files_with side live other) ≡ record { a = of_a side (Some live) new; b = of_b side (Some live) new }
 replaced A live other new = refl
@@ -189,7 +189,7 @@ opens_is call done image number within = ap (λ n. opens_gate 5 n image) number 
 more_is : (n done len : ℕ) → len ≡ n + suc done → nat_lt (n + 4) len ≡ nat_le 4 done
 more_is n done len is = grind (arith, nat_tests)
 
--- a store of this member's stands on what two disks settle to
+-- a store of this member's is on what two disks settle to
 pub record Ends (j : Journal) (m : Store) (f : Files) (a b : MemoryState) : Type 0 where
   pub side : Side
   pub journal : Journal

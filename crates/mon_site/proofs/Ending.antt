@@ -44,7 +44,7 @@ settles_so member side j m f a b l own second = record {
   files = l.files;
 }
 
--- the live disk is the one that is upset, or the other one is
+-- the live disk is the failing one, or the other one is
 pub data Either (call image : ℕ) (disk side : Side) (live other : MemoryState) : Type 0 where
   OnLive : (same_side disk side ≡ true) → IsUpset call image live → (other.life.upset ≡ None) → Either call image disk side live other
   OnOther : (same_side disk side ≡ false) → IsUpset call image other → (live.life.upset ≡ None) → Either call image disk side live other

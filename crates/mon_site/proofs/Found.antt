@@ -75,7 +75,7 @@ newer_is x y place e = by (x.header.generation == y.header.generation) (nat_lt y
     by false true e = record { side = A; held = x; is = refl }
     by false false e = record { side = B; held = y; is = refl }
 
--- What opening finds: a new store, where both disks are closed, or one that is there.
+-- What opening finds: a new store, if both disks are closed, or one that is there.
 pub data Finds (x y : Content) (place : Result Found Refusal) : Type 0 where
   IsNew : (x ≡ None) → (y ≡ None) → (place ≡ Ok Create) → Finds x y place
   WasThere : (is_created (files_with x y) ≡ true) → IsThere place → Finds x y place
@@ -181,7 +181,7 @@ module _ (owner : Owner) (a b : List ℕ) (place : Found) (e : found a b ≡ Ok 
   pub has_b : is_some (file_in b) ≡ is_some y
   has_b = there_b owner (length a) (length b) x y place so
 
--- what is found where a member opens
+-- what is found if a member opens
 pub found_by : (owner : Owner) (a b : List ℕ) (it : Found × Store) → pair.opened owner a b ≡ Ok it → (place : Found) × (found a b ≡ Ok place)
 unfolding pair.opened
 found_by owner a b it e = by (found a b) e

@@ -167,7 +167,7 @@ closing image file most = closed_by (image == 0) (image == 1) (image == 2) (imag
 headed_by : (image : ℕ) (head file : List ℕ) → file_in (placed 1 (part image head) (begun_file file)) ≡ None
 headed_by image head file = closed (placed 1 (part image head) (begun_file file)) (ap (λ (b : ℕ). b == 1) (before_placed 1 (part image head) (begun_file file) 0 (omega arith)) ∙ begun_shut file)
 
--- where its gate wasn't opened: the file from before, or none
+-- if its gate wasn't opened: the file from before, or none
 pub create_left : (image done : ℕ) (owner : Owner) (generation : ℕ) (first : Option (List ℕ)) (file : List ℕ) → done < 6 → image ≤ 3 → (nat_le 4 done && image == 1) ≡ false
     → file_in (cut_short image done (create_writes owner generation first) file) ≡ (if closes_gate 1 (suc done) image then None else file_in file)
 create_left image zero owner generation first file le most shut = closing image file most

@@ -1,4 +1,4 @@
--- Writes of a disk in memory that are each synced, where its calls fail from some number on: what it settles to.
+-- Writes of a disk in memory that are each synced, if its calls fail from some number on: what it settles to.
 use Rattle.std.proofs.Common.{inl, inr, ◌≡◌, ℕ, zero, suc, pred, ◌+◌, ◌<◌, true, false, nat_le, List, [], ◌∷◌, ◌++◌, length, take, drop, reverse, Option, Some, None, refl, sym, ap, ◌∙◌, subst, arith}
 use Rattle.std.proofs.lemmas.Bool.Decides.{nat_tests}
 use Rattle.std.proofs.lemmas.List.{append-nil, append_assoc}
@@ -15,13 +15,13 @@ use Rattle.mon_disk.specs.MemoryDisk.{tells}
 use Rattle.mon_disk.proofs.Lives.{length_more}
 use Rattle.mon_disk.proofs.Upsets.{upset_after}
 
--- writes, each with a sync behind it
+-- writes, each with a sync after it
 abbrev pub guarded : List (ℕ × List ℕ) → List DiskCall
 guarded [] = []
 guarded ((at, bytes) ∷ writes) = Write at bytes ∷ Sync ∷ guarded writes
 
--- What a file is where so many of these calls are done and the next one fails: the writes before that are there, and of the one
--- that fails, or that isn't synced, an image.
+-- What a file is after this many of these calls, if the next one fails: the earlier writes are there, and an image of the one
+-- that fails or isn't synced.
 abbrev pub cut_short : (image done : ℕ) → List (ℕ × List ℕ) → List ℕ → List ℕ
 cut_short image done [] file = file
 cut_short image zero ((at, bytes) ∷ writes) file = placed at (part image bytes) file
@@ -45,7 +45,7 @@ module _ (first : List ℕ) (u : Upset) where
   abbrev pub IsClean : List DiskCall → Type 0
   IsClean calls = imaged u.image first (reverse calls) ≡ seen_by calls
 
-  -- the first call that fails comes behind these
+  -- the first call that fails follows these
   cut : (calls : List DiskCall) (call : DiskCall) → u.from ≡ suc (length calls) → begun (life (calls ++ call ∷ [])) ≡ first_write (call ∷ []) ++ reverse calls
   cut calls call e =
       let behind : drop (pred u.from) (calls ++ call ∷ []) ≡ call ∷ [] = ap (λ n. drop (pred n) (calls ++ call ∷ [])) e ∙ drop-append_seam calls (call ∷ []) in
@@ -64,7 +64,7 @@ module _ (first : List ℕ) (u : Upset) where
       ap (λ (cs : List DiskCall). imaged u.image first cs) (cut (calls ++ Write at bytes ∷ []) Sync e ∙ newest calls (Write at bytes))
       ∙ ap (λ (file : List ℕ). placed at (part u.image bytes) file) clean
 
-  -- one of the calls fails: so many were done before it
+  -- one of the calls fails: this many were done before it
   pub record Fails (calls : List DiskCall) (writes : List (ℕ × List ℕ)) (t : Told) : Type 0 where
     pub done : ℕ
     pub within : done < length (guarded writes)
@@ -89,7 +89,7 @@ module _ (first : List ℕ) (u : Upset) where
   beyond : (n : ℕ) → nat_le u.from (suc n) ≡ false → suc n < u.from
   beyond n test = grind (arith, nat_tests)
 
-  -- the file behind a write that is synced
+  -- the file after a write that is synced
   pair_seen : (calls : List DiskCall) (at : ℕ) (bytes : List ℕ) → seen_by ((calls ++ Write at bytes ∷ []) ++ Sync ∷ []) ≡ overwritten at bytes (seen_by calls)
   pair_seen calls at bytes =
       ap (λ (cs : List DiskCall). seen_after first cs) (newest (calls ++ Write at bytes ∷ []) Sync ∙ ap (λ (cs : List DiskCall). Sync ∷ cs) (newest calls (Write at bytes)))

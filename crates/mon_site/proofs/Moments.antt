@@ -1,4 +1,4 @@
--- A crash at any moment of a call leaves two images on which a member opens the map from before or from after it.
+-- A crash at any point of a call leaves two images on which a member opens the map from before or from after it.
 use Rattle.std.proofs.Common.{◌≡◌, ℕ, suc, ◌+◌, ◌<◌, ◌≤◌, Bool, true, false, inl, inr, List, [], ◌∷◌, Option, Some, Ok, Result, refl, sym, ap, ◌∙◌, subst, arith}
 use Rattle.std.specs.Prelude.{◌⊎◌, ◌==◌, if◌then◌else◌, slice_index_or, OnOk}
 use Rattle.mon_types.specs.declared.member.Member.{Member}

@@ -55,7 +55,7 @@ pub new_opens : (member : Member) (a b : List ℕ) → found a b ≡ Ok Create �
 unfolding pair.opened
 new_opens member a b e = rw e refl
 
--- disk A holds what it held, where a store was there
+-- disk A holds what it held, if a store was there
 first_there : (member : Member) (b : Bool) (file : List ℕ) (place : Result Found Refusal) → IsThere place → first_content member b file place ≡ journal.content file
 first_there member b file place t = ap (first_content member b file) t.is ∙ by b
   where
@@ -109,13 +109,13 @@ module _ (member : Member) (m : Store) (a b na nb : MemoryState) (only_a : Only 
       map = opens.map;
     }
 
-    -- the files, where a store was there
+    -- the files, if a store was there
     pub files_there : IsThere (found sa sb) → files_in c d ≡ files_in sa sb
     files_there t =
         ap (λ (x : Content). files_with x (journal.content d)) (first_is ∙ first_there member test sa (found sa sb) t)
         ∙ ap (λ (y : Content). files_with (journal.content sa) y) second_is
 
-    -- and where none was
+    -- and if there was none
     pub files_new : found sa sb ≡ Ok Create → journal.content sa ≡ None → journal.content sb ≡ None
         → files_in c d ≡ record { a = if test then Some (record { generation = 1; gate = 25 }) else None; b = None }
     files_new e none_a none_b =

@@ -58,7 +58,7 @@ no_memory_a [] s new out same = (same, λ h. let other : Some disk.OutOfMemory �
 no_memory_a (call ∷ calls) s new out same = inl (out, same)
 
 module _ {T : Type 0} (result : Result T OpenStop) where
-  -- disk A's, where disk B fails in none
+  -- disk A's, if disk B fails in none
   pub on_a : (calls : List (Side × DiskCall)) (s t new_s new_t : Told) → t.fails_from ≡ None → MakesBoth calls (Some s) (Some t) (Some new_s) (Some new_t) result → Makes (on A calls) (stop_in result) (Some s) (Some new_s) × (new_t.fails_from ≡ None)
   on_a [] s t new_s new_t calm m = ((m.0, not_failed result m.2), let same : Some new_t ≡ Some t = m.1 in let is : new_t ≡ t = cc in ap (λ (x : Told). x.fails_from) is ∙ calm)
   on_a ((A, call) ∷ calls) s t new_s new_t calm (inl m) = (inl (ap (λ (r : Result T OpenStop). stop_in r) m.0, m.1), let same : Some new_t ≡ Some t = m.2 in let is : new_t ≡ t = cc in ap (λ (x : Told). x.fails_from) is ∙ calm)
@@ -68,7 +68,7 @@ module _ {T : Type 0} (result : Result T OpenStop) where
   on_a ((B, call) ∷ calls) s t new_s new_t calm (inr (inl m)) = let fails : fails_next t ≡ true = m.3 in let not : fails_next t ≡ false = never t calm in absurd cc
   on_a ((B, call) ∷ calls) s t new_s new_t calm (inr (inr m)) = on_a calls s (one_more call t) new_s new_t calm m.1
 
-  -- disk B's, where disk A fails in none
+  -- disk B's, if disk A fails in none
   pub on_b : (calls : List (Side × DiskCall)) (s t new_s new_t : Told) → s.fails_from ≡ None → MakesBoth calls (Some s) (Some t) (Some new_s) (Some new_t) result → Makes (on B calls) (stop_in result) (Some t) (Some new_t) × (new_s.fails_from ≡ None)
   on_b [] s t new_s new_t calm m = ((m.1, not_failed result m.2), let same : Some new_s ≡ Some s = m.0 in let is : new_s ≡ s = cc in ap (λ (x : Told). x.fails_from) is ∙ calm)
   on_b ((B, call) ∷ calls) s t new_s new_t calm (inl m) = (inl (ap (λ (r : Result T OpenStop). stop_in r) m.0, m.2), let same : Some new_s ≡ Some s = m.1 in let is : new_s ≡ s = cc in ap (λ (x : Told). x.fails_from) is ∙ calm)
@@ -93,13 +93,13 @@ module _ (call image : ℕ) (d : MemoryState) (up : IsUpset call image d) (only 
   still_clean : IsClean up.like.first v (calls ++ Sync ∷ [])
   still_clean = subst (λ (cs : List DiskCall). imaged image up.like.first cs ≡ seen_after up.like.first cs) (sym newest) refl
 
-  -- what is left where one of them fails
+  -- what is left if one of them fails
   pub data Broken (writes : List (ℕ × List ℕ)) (t : Told) : Type 0 where
     AtSync : (number : call ≡ 1) → (made : length t.made ≡ length d.life.calls + 1) → Broken writes t
     Behind : (done : ℕ) → (number : call ≡ 2 + done) → (within : done < length (guarded writes)) → (made : length t.made ≡ length d.life.calls + call)
         → (leaves : t.settles t.made ≡ cut_short image done writes (seen_of d.life)) → Broken writes t
 
-  -- and where none does
+  -- and if none does
   pub record Opened (writes : List (ℕ × List ℕ)) (t : Told) : Type 0 where
     pub beyond : 1 + length (guarded writes) < call
     pub clean : IsClean up.like.first v (calls ++ Sync ∷ guarded writes)
@@ -148,7 +148,7 @@ module _ (call image : ℕ) (d : MemoryState) (up : IsUpset call image d) (only 
   pub walks : (writes : List (ℕ × List ℕ)) (t : Told) (stop : Option Stop) → Makes (Sync ∷ guarded writes) stop (Some (tells d.life)) (Some t) → Walks writes t stop
   walks writes t stop m = walks_like writes t stop (subst (λ (s : Told). Makes (Sync ∷ guarded writes) stop (Some s) (Some t)) up.told m)
 
-  -- the upset that is left of a disk whose calls were made
+  -- the injected fault that is left of a disk whose calls were made
   pub upset_left : (writes : List (ℕ × List ℕ)) (n : MemoryState) → Only (content n) → Opened writes (tells n.life) → IsUpset (call - (1 + length (guarded writes))) image n
   upset_left writes n calm o =
       let more : List DiskCall = calls ++ Sync ∷ guarded writes in

@@ -1,4 +1,4 @@
--- One of two disks at rest is upset.
+-- One of two disks at rest has an injected fault.
 use Rattle.std.proofs.Common.{◌≡◌, ℕ, ◌≤◌, List, Some, sym, ap, ◌∙◌, subst}
 use Rattle.mon_types.specs.declared.member.Member.{Member}
 use Rattle.mon_types.specs.declared.names.Side.TheVariants.{A, B}

@@ -1,4 +1,4 @@
--- Which files two disks have on which a store stands, and which of them is live.
+-- Which files two disks have that hold a store, and which of them is live.
 use Rattle.std.proofs.Common.{◌≡◌, ℕ, ◌<◌, true, false, nat_lt, List, [], ◌∷◌, Option, Some, None, Result, Ok, Err, refl, ap, ◌∙◌, arith}
 use Rattle.std.proofs.lemmas.Bool.Decides.{nat_tests}
 use Rattle.mon_types.specs.declared.names.Side.{Side}
@@ -65,7 +65,7 @@ append_is side j m ops a b s =
     ∙ appends side (file_by j) (file_in (of_live (other_side side) a b)) ops (live_by side (file_by j) (journal.content (of_live (other_side side) a b)) s.below)
     ∙ ap (λ (f : File). files_with side f (file_in (of_live (other_side side) a b))) (file_goes j ops)
 
--- ---- what a store in use stands on
+-- ---- what a store in use is on
 
 module _ (side : Side) (live other : MemoryState) (j : Journal) (m : Store) (known : ℕ) (sound : Sound j m known (content live) (content other)) where
   pub as_it_reads : StandsOn side j m (of_a side (seen_of live.life) (seen_of other.life)) (of_b side (seen_of live.life) (seen_of other.life))

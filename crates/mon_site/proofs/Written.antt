@@ -56,7 +56,7 @@ module _ (u : Upset) (member : Member) (m : Store) (f : Files) (ops : List Op) (
         subst (λ (g : Files). Settles member (if kept then apply ops m else m) g a b) (sym files) settles,
       )
 
--- want of memory stops a transaction too
+-- running out of memory stops a transaction too
 pub memory_stops : (m : Store) (ops : List Op) (e : StoreStop) → IsMemory e → StopsAt m ops e
 memory_stops m ops stop.Broken h = absurd h
 memory_stops m ops (stop.TooLong len) h = absurd h

@@ -18,8 +18,8 @@ use Rattle.mon_site.specs.Falls.{IsFalling, Settles}
 abbrev pub Opens : Member → MemoryState → MemoryState → Type 0
 Opens member a b = (s : Stood) × (opens_as member (seen_of a.life) (seen_of b.life) ≡ Ok s)
 
--- The store is open where the first call that fails comes behind opening; and else the disks settle to what was there,
--- or to what a creation had come to.
+-- The store is open if the first call that fails follows opening; otherwise the disks settle to what was there, or to what a
+-- creation had reached.
 abbrev pub Begins : Upset → Member → Store → Files → Result Begun OutOfMemory → Type 0
 Begins u member m f (Ok (Open store)) =
     (opening_count u.disk f < u.call) ×

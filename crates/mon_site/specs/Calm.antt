@@ -29,7 +29,7 @@ pub record IsRead (old new : MemoryState) : Type 0 where
   pub seen : seen_of new.life ≡ seen_of old.life
   pub calm : IsCalm old → IsCalm new
 
--- A store that is open on two disks of which neither is upset, with this map and these files.
+-- A store that is open on two disks without injected faults, with this map and these files.
 pub record Runs (member : Member) (m : Store) (f : Files) (store : kept.Store MemoryState) : Type 0 where
   pub unbroken : store.broken ≡ false
   pub sound : Sound store.journal store.kv store.live.known (content store.live) (content store.other)

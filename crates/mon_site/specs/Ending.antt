@@ -37,7 +37,7 @@ pub record IsKept (on_live : Bool) (call image : ℕ) (member : Member) (m : Sto
   pub other : ((on_live ≡ true) × (store.other.life.upset ≡ None)) ⊎
       ((on_live ≡ false) × IsUpset call image store.other)
 
--- whether the upset disk is the live one
+-- whether the failing disk is the live one
 abbrev pub on_live : Upset → Files → Bool
 on_live u f = same_side u.disk (live_side f)
 
@@ -60,7 +60,7 @@ IsMemory (stop.Full would_be) = ⊥
 IsMemory stop.DiskFault = ⊥
 IsMemory stop.OutOfMemory = Unit {0}
 
--- What a transaction comes to: it is kept whole, or a call of the live disk fails in it.
+-- The result of a transaction: it is kept whole, or a call of the live disk fails in it.
 abbrev pub Keeps : Upset → Member → Store → Files → List Op → kept.Store MemoryState → Result Kept StoreStop → Type 0
 Keeps u member m f ops store (Ok Whole) =
     ((on_live u f && not (is_beyond u ops)) ≡ false) × (size_of (apply ops m) ≤ most_size)

@@ -25,7 +25,7 @@ pub record OpensMap (member : Member) (m : Store) (a b : List ℕ) : Type 0 wher
   pub form : stood.journal.form ≡ Second
   pub map : stood.kv ≡ m
 
--- Before they are opened: one of them is upset.
+-- Before they are opened: one of them has an injected fault.
 pub record IsReady (disk : Side) (call image : ℕ) (member : Member) (m : Store) (f : Files)
     (a b : MemoryState) : Type 0 where
   pub upset : IsUpset call image (of_live disk a b)
@@ -35,7 +35,7 @@ pub record IsReady (disk : Side) (call image : ℕ) (member : Member) (m : Store
   pub opens : OpensMap member m (seen_of a.life) (seen_of b.life)
   pub files : files_on a b ≡ f
 
--- The store that stands on them.
+-- The store that is on them.
 pub record IsFalling (disk : Side) (call image : ℕ) (member : Member) (m : Store) (f : Files)
     (store : kept.Store MemoryState) : Type 0 where
   pub unbroken : store.broken ≡ false

@@ -1,4 +1,4 @@
--- What a crash leaves of a member's two disks, at each moment of a call.
+-- What a crash leaves of a member's two disks, at each point of a call.
 use Rattle.std.specs.Prelude.{◌⊎◌, List, ℕ}
 use Rattle.mon_types.specs.declared.member.Member.{Member}
 use Rattle.mon_disk.specs.MemoryDisk.{MemoryState}
@@ -11,11 +11,11 @@ use Rattle.mon_site.specs.Falls.{OpensMap}
 abbrev pub OpensEither : Member → (before after : Store) → List ℕ → List ℕ → Type 0
 OpensEither member before after a b = OpensMap member before a b ⊎ OpensMap member after a b
 
--- A crash at any moment of a call leaves of the two disks a pair that has P, whichever moments of the call they stood at.
+-- A crash at any point of a call leaves of the two disks a pair that has P, whichever points of the call they were at.
 abbrev pub Meanwhile : (old_a old_b new_a new_b : MemoryState) → (List ℕ → List ℕ → Type 0) → Type 0
 Meanwhile old_a old_b new_a new_b P = store.Meanwhile (content old_a) (content old_b) (content new_a) (content new_b) P
 
--- The same of the opening, which may end on disk A alone: then disk B stood at its last moment.
+-- The same of the opening, which may end on disk A alone: then disk B was at its last point.
 abbrev pub WhileOpening : (old_a old_b new_a new_b : MemoryState) → (List ℕ → List ℕ → Type 0) → Type 0
 WhileOpening old_a old_b new_a new_b P =
     store.WhileOpening (content old_a) (content old_b) (content new_a) (content new_b) P

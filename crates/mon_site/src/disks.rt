@@ -1,4 +1,4 @@
-//! Two disks at rest, before an event in which one fails and behind it.
+//! Two disks at rest, before an event in which one fails and after it.
 
 ghost use Rattle.std.specs.Prelude.{◌≡◌, ◌≤◌, None, IfOk};
 ghost use Rattle.mon_tx.specs.Map.{Store as Map};

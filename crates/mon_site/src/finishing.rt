@@ -91,8 +91,8 @@ fn write(store: &mut Store<MemoryDisk>, tx: &Transaction, upset: Upset) -> Resul
 }
 
 /// Makes a transaction's changes, and then the checkpoint that is due, if one is, as far as the disks let it, and
-/// closes the store. The upset disk fails at its call of that number behind the opening. Full comes where the map would
-/// be too large, and TooLong where the transaction's text is too long.
+/// closes the store. The disk with the injected fault fails at its call of that number, counted after the opening.
+/// Full comes if the map would be too large, and TooLong if the transaction's encoding is too long.
 pub fn finish(
     mut store: Store<MemoryDisk>,
     tx: &Transaction,

@@ -21,8 +21,8 @@ pub enum Begun {
     Failed(NodeDisks<MemoryDisk>),
 }
 
-/// Opens the store that stands on two disks of which one is upset; the contract alone speaks of that. Where they are
-/// empty a store is created on disk A.
+/// Opens the store on two disks, one of which has an injected fault; only the contract mentions that. If they are
+/// empty, a store is created on disk A.
 pub fn open(
     alloc: Global,
     disks: NodeDisks<MemoryDisk>,

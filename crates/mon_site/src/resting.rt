@@ -65,7 +65,7 @@ fn is_open(disk: &mut MemoryDisk) -> Result<bool, OutOfMemory>
 }
 
 /// How many writes and syncs opening makes on a disk, by which of the two are open. It syncs the disk, and of an open
-/// file it writes the first closed gate, which it syncs. Where no store is there yet, disk A gets one by six calls.
+/// file it writes the first closed gate, which it syncs. If no store is there yet, disk A gets one by six calls.
 fn count(side: Side, a: bool, b: bool) -> u64
     ensures { (f : Files) → is_some f.a ≡ a → is_some f.b ≡ b → result ≡ opening_count side f }
 {

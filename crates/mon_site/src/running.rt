@@ -19,7 +19,7 @@ use mon_tx::Transaction;
 use mon_types::Member;
 use std::alloc::Global;
 
-/// Opens the store that stands on two disks at rest. If they are empty, one is created on disk A.
+/// Opens the store that is on two disks at rest. If they are empty, one is created on disk A.
 pub fn start(
     alloc: Global,
     disks: NodeDisks<MemoryDisk>,
@@ -28,7 +28,7 @@ pub fn start(
     requires { Rest member disks.a disks.b }
     ensures starts { (m : Map) (f : Files) → Rests member m f disks.a disks.b → Starts member m f result }
 
-    // A crash at any moment leaves two images on which the member opens the map that stood.
+    // A crash at any point leaves two images on which the member opens the map from before.
     ensures any_moment { (m : Map) (f : Files) → Rests member m f disks.a disks.b → IfOk result
         (λ store. WhileOpening disks.a disks.b (disk_a store) (disk_b store) (OpensMap member m)) }
 {
@@ -85,7 +85,7 @@ pub fn apply(store: &mut Store<MemoryDisk>, tx: &Transaction) -> Result<(), Stor
     ensures applies { (member : Member) (m : Map) (f : Files) → Runs member m f store.old →
         Applies member m f tx.now store.new result }
 
-    // A crash at any moment leaves two images on which the member opens the map from before the transaction or from
+    // A crash at any point leaves two images on which the member opens the map from before the transaction or from
     // after it.
     ensures any_moment { (member : Member) (m : Map) (f : Files) → Runs member m f store.old →
         Meanwhile (disk_a store.old) (disk_b store.old) (disk_a store.new) (disk_b store.new)

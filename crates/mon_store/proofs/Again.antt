@@ -1,4 +1,4 @@
--- What is spelled so is read.
+-- Decoding accepts the encodings.
 use Rattle.std.proofs.Common.{◌≡◌, ℕ, suc, ◌≤◌, ◌<◌, ◌^◌, false, ◌&&◌, leb, ltb, eqb, List, [], ◌∷◌, ◌++◌, length, Ok, Less, Equal, Greater, Ordering, Result, Err, nat_cmp, IsTrue, T, refl, sym, ap, subst, ◌∙◌, append_assoc, arith}
 use Rattle.std.specs.Cmp.Lexicographic.{slice_cmp, nat_list_cmp_total}
 use Rattle.std.specs.List.{list_all, flat_map, AllByRecursion}

@@ -1,4 +1,4 @@
--- What two disks stand for while they are opened.
+-- What two disks represent while they are opened.
 use Rattle.std.proofs.Common.{◌≡◌, ℕ, ◌+◌, ◌≤◌, Bool, true, false, ◌&&◌, eqb, is_some, List, [], ◌∷◌, length, Option, Some, None, Result, Ok, Err, refl, ap, subst, arith}
 use Rattle.std.specs.Prelude.{IfSome, slice_index_or}
 use Rattle.std.proofs.lemmas.Bool.{le-ltb}
@@ -29,7 +29,7 @@ pub alike_found : (c d e f : List ℕ) → content c ≡ content e → length c 
 unfolding found
 alike_found c d e f same_a long_a same_b long_b = rw (same_a, same_b, long_a, long_b) refl
 
--- what two images stand for goes by what they hold and how long they are
+-- what two images represent goes by what they hold and how long they are
 pub alike_stands : (c d e f : List ℕ) → content c ≡ content e → length c ≡ length e → content d ≡ content f → length d ≡ length f → stands c d ≡ stands e f
 unfolding stands found
 alike_stands c d e f same_a long_a same_b long_b = rw (same_a, same_b, long_a, long_b) refl
@@ -75,7 +75,7 @@ both_settle member a b x y (Some s) (Some t) (Some u) each few left there = rw f
     by true = each (t.settles t.made) (u.settles u.made) left there
     by false = each (t.settles t.made) (u.settles u.made) left there
 
--- the calls of opening a disk that tells what it holds
+-- the calls of opening a disk whose contents can be seen
 pub made_by : (stop : Option Stop) (old new : DiskState) → OpensBy stop old new → IfSome old.content.seen (λ file. Makes (open_calls (content file)) stop old.told new.told)
 made_by stop old new (calls, called, are) = by old.content.seen are
   where
@@ -113,7 +113,7 @@ each_told (Some x) (Some y) P h = h x y refl refl
 pub at_some : {X : Type 0} (s : Option X) (x : X) (P : X → Type 0) → s ≡ Some x → IfSome s P → P x
 at_some s x P is h = subst (λ t. IfSome t P) is h
 
--- what opening a disk told of its bytes
+-- what opening a disk found out about its bytes
 pub holds : (on : Opened) (s : Option (List ℕ)) (known : ℕ) (new : Content) (x : List ℕ) → s ≡ Some x → Opens s known new (Ok on) → (side : Side) → held_on side (content x) ≡ Ok (held_in on)
 holds (disk.Closed len) s known new x is h side = ap (held_on side) (at_some s x (λ file. (content file ≡ None) × (len ≡ length file)) is h.3).0
 holds (disk.Live journal payloads) s known new x is h side = ap (held_on side) (at_some s x (λ file. content file ≡ Some (Ok (held_by journal payloads))) is h.1)
@@ -125,7 +125,7 @@ refused_a journal.DiskFault s t known new h = each_told s t (λ x y. Tells DiskF
 refused_a journal.OutOfMemory s t known new h = each_told s t (λ x y. Tells OutOfMemory (found x y)) (λ x y p q. tt)
 refused_a (journal.NotAStore at) s t known new h = each_told s t (λ x y. found x y ≡ Err (NotAStore A at)) (λ x y p q. rw (at_some s x (λ file. content file ≡ Some (Err (journal.NotAStore at))) p h.2) refl)
 
--- and so is disk B's, where disk A has none
+-- and so is disk B's, if disk A has none
 pub refused_b : (e : JournalStop) (on : Opened) (s t : Option (List ℕ)) (known_a known : ℕ) (new_a new : Content) → Opens s known_a new_a (Ok on) → Opens t known new (Err e) → IfSome s (λ x. IfSome t (λ y. Tells (named B e) (found x y)))
 unfolding found
 refused_b journal.DiskFault on s t known_a known new_a new h k = each_told s t (λ x y. Tells DiskFault (found x y)) (λ x y p q. tt)

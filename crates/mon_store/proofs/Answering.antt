@@ -52,7 +52,7 @@ answers_err member e s t result is h = subst (λ (r : Result Standing OpenStop).
     by (Some x) None h = tt
     by (Some x) (Some y) h = unopened member e x y h
 
--- a standing is told by its fields
+-- where a store is, is determined by its fields
 made : (r : Standing) (side : Side) (journal : Journal) (m : Store) → r.side ≡ side → r.journal ≡ journal → r.kv ≡ m → record { side = side; journal = journal; kv = m } ≡ r
 made r side journal m is_side is_journal is_map =
     ap (λ (x : Side). record { side = x; journal = journal; kv = m }) (sym is_side)

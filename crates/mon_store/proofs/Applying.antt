@@ -1,4 +1,4 @@
--- What two disks stand for while a transaction is applied, and then.
+-- What two disks represent while a transaction is applied, and then.
 use Rattle.std.proofs.Common.{◌≡◌, ℕ, ◌≤◌, Bool, true, false, cond, eqb, is_some, List, [], ◌∷◌, ◌++◌, Option, Some, None, Result, Ok, Err, refl, sym, ap, subst, ◌∙◌}
 use Rattle.std.specs.Prelude.{IfSome, IfErr, OnOk, OnErr, slice_index_or}
 use Rattle.std.proofs.lemmas.Bool.{eqb-true}
@@ -27,7 +27,7 @@ use Rattle.mon_store.proofs.OnPairs.{on_held, live_is}
 use Rattle.mon_store.proofs.Moments.{first_goes, second_goes}
 use Rattle.mon_store.proofs.Keeping.{holds_now, shut}
 
--- ---- what a disk tells
+-- ---- what can be seen of a disk
 
 pub told_map : (m : Store) (s : Option (List ℕ)) → is_some s ≡ true → IfSome s (λ file. map_of (payloads_of file) ≡ Ok m) → map_of (payloads_told s) ≡ Ok m
 told_map m None some h = absurd cc
@@ -73,7 +73,7 @@ module _ (journal : Journal) (m : Store) (known : ℕ) (live other : Content) (s
       subst (λ (l : List ℕ). Either ops (eqb (slice_index_or l journal.next_gate 0) 1) (of_a side c d) (of_b side c d)) (sym (live_is side c d))
       (subst (λ (b : Bool). Either ops b (of_a side c d) (of_b side c d)) (sym (shut journal known live sound.stands_live c left)) (stands_now c d left there))
 
-  -- behind the record
+  -- after the record
   pub sound_after : (ops : List Op) (next : Journal) (reach : ℕ) (new : Content) → next ≡ appended journal (text ops) → HasText ops → size_of (apply ops m) ≤ most_size → is_some new.seen ≡ is_some live.seen
       → Keeps next (payloads_seen live ++ text ops ∷ []) reach new → Sound next (apply ops m) reach new other
   sound_after ops next reach new is form small tells keeps = record {

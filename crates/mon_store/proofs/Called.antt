@@ -23,7 +23,7 @@ at_told : (s : Option Told) (P : Type 0) → is_some s ≡ true → IfSome s (λ
 at_told None P some h = absurd cc
 at_told (Some t) P some h = h
 
--- the outside refused a journal's call where it refused the store
+-- the outside refused a journal's call if it refused the store
 pub stop_named : (T U : Type 0) (side : Side) (e : JournalStop) → stop_in {T = U} (Err (named side e)) ≡ of_journal {T = T} (Err e)
 stop_named T U side journal.DiskFault = refl
 stop_named T U side (journal.NotAStore at) = refl
@@ -76,7 +76,7 @@ both_then T U ((side, call) ∷ calls) more a b mid_a mid_b new_a new_b x result
 both_then T U ((side, call) ∷ calls) more a b mid_a mid_b new_a new_b x result (inr (inr m)) n =
     inr (inr (m.0, both_then T U calls more _ _ mid_a mid_b new_a new_b x result m.1 n))
 
--- a disk that tells its calls goes on telling them
+-- a disk whose calls can be seen stays so
 pub still_a : (T : Type 0) (calls : List (Side × DiskCall)) (a b new_a new_b : Option Told) (result : Result T OpenStop) → is_some a ≡ true → MakesBoth calls a b new_a new_b result → is_some new_a ≡ true
 still_a T [] a b new_a new_b result some m = ap is_some m.0 ∙ some
 still_a T ((A, call) ∷ calls) a b new_a new_b result some (inl m) = ap is_some m.1 ∙ some
@@ -86,12 +86,12 @@ still_a T ((B, call) ∷ calls) a b new_a new_b result some (inl m) = ap is_some
 still_a T ((B, call) ∷ calls) a b new_a new_b result some (inr (inl m)) = ap is_some m.1 ∙ some
 still_a T ((B, call) ∷ calls) a b new_a new_b result some (inr (inr m)) = still_a T calls a (and_made call b) new_a new_b result some m.1
 
--- want of memory comes at any point
+-- running out of memory comes at any point
 no_memory : (U : Type 0) (calls : List (Side × DiskCall)) (a b : Option Told) → MakesBoth {T = U} calls a b a b (Err OutOfMemory)
 no_memory U [] a b = (refl, refl, λ h. absurd cc)
 no_memory U ((side, call) ∷ calls) a b = inl (refl, refl, refl)
 
--- some calls that end with a refusal, behind which none comes
+-- some calls that end with a refusal, after which none comes
 pub both_stop : (T U : Type 0) (e : OpenStop) (calls more : List (Side × DiskCall)) (a b new_a new_b : Option Told) → ((e ≡ OutOfMemory → ⊥) → (e ≡ DiskFault → ⊥) → more ≡ []) → MakesBoth {T = T} calls a b new_a new_b (Err e)
     → MakesBoth {T = U} (calls ++ more) a b new_a new_b (Err e)
 both_stop T U e [] more a b new_a new_b none m = by e none m.2

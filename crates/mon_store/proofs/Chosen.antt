@@ -1,4 +1,4 @@
--- The disk that is live where two were opened.
+-- The disk that is live if two were opened.
 use Rattle.std.proofs.Common.{◌≡◌, ◌≢◌, ◌⊎◌, inl, inr, ℕ, ◌≤◌, ◌<◌, Bool, true, false, cond, eqb, ltb, List, [], length, Option, Some, None, Result, Ok, Err, refl, sym, ap, subst, ◌∙◌, arith}
 use Rattle.std.specs.Prelude.{IfOk, IfSome, slice_index_or}
 use Rattle.std.proofs.lemmas.Bool.{ltb-true, ltb-false, eqb-false}
@@ -64,7 +64,7 @@ chosen_live (disk.Live j p) (disk.Live k q) side held h = elim (newer_is j k p q
   | inr x ↦ subst (λ s. Chosen s held (disk.Live j p) (disk.Live k q)) (sym x.0) (record { live = ap (λ y. Some y) x.1; other = subst (λ (y : Held). j.generation < y.header.generation) x.1 x.2 })
 ]
 
--- a store is to be created where both are closed, and hold no more than a creation that a crash cut short
+-- a store is to be created if both are closed, and hold no more than a creation that a crash cut short
 pub record New (a b : Opened) : Type 0 where
   pub none_a : held_in a ≡ None
   pub none_b : held_in b ≡ None

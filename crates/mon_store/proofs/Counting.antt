@@ -26,7 +26,7 @@ then_a stop a b mid_a new_a new_b both next = by both
     by (inl c) = inl (joined c.0, c.1)
     by (inr c) = inl (joined c.0, c.1)
 
--- whatever is answered behind them without a disk's fault
+-- whatever is answered after them without a disk's fault
 pub whatever : (U : Type 0) (result : Result U OpenStop) (a b new_a new_b : DiskState) → IfErr result IsNoFault → BothCount None a b new_a new_b → BothCount (stop_in result) a b new_a new_b
 whatever U (Ok x) a b new_a new_b other both = both
 whatever U (Err DiskFault) a b new_a new_b other both = absurd other

@@ -1,4 +1,4 @@
--- What two disks stand for while a store is created on them.
+-- What two disks represent while a store is created on them.
 use Rattle.std.proofs.Common.{◌≡◌, ◌⊎◌, ℕ, ◌+◌, ◌≤◌, max, Bool, false, true, ◌&&◌, eqb, ltb, is_some, List, [], length, inl, inr, Option, Some, None, Result, Ok, Err, refl, sym, ap, subst, ◌∙◌, arith}
 use Rattle.std.specs.Prelude.{IfSome, IfOk, slice_index_or}
 use Rattle.std.specs.FinMap.{empty}
@@ -41,7 +41,7 @@ empty_found c d none_c short none_d nothing =
     let no_bytes : ltb 0 (length d) ≡ false = le-ltb _ _ (omega (arith, nothing)) in
     rw (none_c, none_d, few, no_bytes) refl
 
--- and so they stand for the empty map
+-- and so they represent the empty map
 empty_pair : (c d : List ℕ) → found c d ≡ Ok Create → stands c d ≡ Ok empty
 unfolding stands
 empty_pair c d nothing = ap (λ f. f >>= map_found) nothing
@@ -157,7 +157,7 @@ module _ (member : Member) (a a1 a2 b b1 : Content) (la : LeavesOnly a a1 (Alike
       let left : Made a1 (created member 1 None) [] (made_more 5 s t) (t.settles t.made) = subst (λ (b : Bool). Made a1 (created member 1 None) [] b (t.settles t.made)) same made in
       during x.0 x.1 (eqb (slice_index_or (t.settles t.made) 0 0) 1 && made_more 5 s t) (t.settles t.made) (u.settles u.made) left there
 
-  -- and how it stands
+  -- and where it is
   pub sound_c : (known : ℕ) (m : Rattle.mon_tx.specs.Map.Store) → m ≡ empty → Keeps (created member 1 None) [] known a2 → Sound (created member 1 None) m known a2 b1
   sound_c known m is keeps = record {
     stands_live = keeps.stands;

@@ -1,4 +1,4 @@
--- What stands on the live disk while a transaction is appended.
+-- What is on the live disk while a transaction is appended.
 use Rattle.std.proofs.Common.{◌≡◌, ◌≢◌, ℕ, true, false, cond, eqb, List, [], ◌∷◌, ◌++◌, Option, Some, Ok, sym, ap, subst, ◌∙◌, arith}
 use Rattle.std.specs.Prelude.{IfSome, slice_index_or}
 use Rattle.std.proofs.lemmas.Bool.Decides.{nat_tests}

@@ -11,7 +11,7 @@ still x = record { later = omega arith; past = λ t c le h. h; kept = λ t c le 
 lasts : (old new : Content) (P : List ℕ → Type 0) → LeavesOnly old new P → Lasts old new
 lasts old new P l = record { later = l.later; past = l.past; kept = l.kept }
 
--- what a disk that stands still may leave at each moment of the call it may leave now
+-- what a disk that stays may leave at each point of the call it may leave now
 stays : (x : Content) (t : ℕ) (c : List ℕ) → x.moment ≤ t → t ≤ x.moment → x.images_at t c → images x c
 stays x t c low high left = let same : t ≡ x.moment = omega (arith, low, high) in subst (λ (k : ℕ). x.images_at k c) same left
 

@@ -1,4 +1,4 @@
--- A store that stands on two images.
+-- A store that is on two images.
 use Rattle.std.proofs.Common.{◌≡◌, ℕ, List, Result, Ok, Option, refl, sym, ap, subst, ◌∙◌}
 use Rattle.mon_types.specs.declared.names.Side.{Side}
 use Rattle.mon_types.specs.declared.names.Side.TheVariants.{A, B}
@@ -45,7 +45,7 @@ other_is A live other = refl
 other_is B live other = refl
 
 module _ (journal : Journal) (m : Store) where
-  -- it stands for its map
+  -- it represents its map
   pub stood_map : (side : Side) (a b : List ℕ) → StandsOn side journal m a b → stands a b ≡ Ok m
   stood_map A a b s = stands_for A a b (held_by journal (payloads_of a)) m s.holds s.below s.map
   stood_map B a b s = stands_for B b a (held_by journal (payloads_of b)) m s.holds s.below s.map

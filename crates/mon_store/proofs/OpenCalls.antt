@@ -24,7 +24,7 @@ use Rattle.mon_store.proofs.Alike.{at_some, holds}
 use Rattle.mon_store.proofs.Answering.{found_is}
 use Rattle.mon_store.proofs.Called.{stop_named, on_a, on_b, both_then, both_stop, still_a}
 
--- what is told of both disks
+-- what can be seen of both disks
 pub each_known : (s t : Option (List ℕ)) (p q : Option Told) (P : List ℕ → List ℕ → Type 0) → ((x y : List ℕ) → s ≡ Some x → t ≡ Some y → is_some p ≡ true → is_some q ≡ true → P x y)
     → IfSome s (λ x. IfSome t (λ y. IfSome p (λ u. IfSome q (λ v. P x y))))
 each_known None t p q P h = tt
@@ -120,7 +120,7 @@ pub none_faults : {U : Type 0} (result : Result U OpenStop) → IfErr result IsN
 none_faults (Ok x) other is = cc
 none_faults (Err e) other is = no_fault e other is
 
--- what was chosen of the two, and the calls behind that
+-- what was chosen of the two, and the calls after that
 module _ (a b : Opened) (s t : Option (List ℕ)) (known_a known_b : ℕ) (content_a content_b : Content) (h : Opens s known_a content_a (Ok a)) (k : Opens t known_b content_b (Ok b)) (owner : Owner)
     (told_a told_b mid_a mid_b : Option Told) (T U : Type 0) (both : T) (makes : OpensWith {T = T} both_calls s t told_a told_b mid_a mid_b (Ok both)) where
   found_as : (place : Result Found Refusal) → chosen (held_in a) (held_in b) (len_of a) (len_of b) ≡ place → (x y : List ℕ) → s ≡ Some x → t ≡ Some y → found x y ≡ place

@@ -1,4 +1,4 @@
--- What two images stand for, where one of them is live and the other doesn't count.
+-- What two images represent, if one of them is live and the other doesn't count.
 use Rattle.std.proofs.Common.{◌≡◌, ℕ, ◌<◌, true, false, eqb, ltb, List, length, Option, Some, None, Result, Ok, Err, refl, sym, ap, ◌∙◌, arith}
 use Rattle.std.proofs.lemmas.Bool.Decides.{nat_tests}
 use Rattle.mon_types.specs.declared.names.Side.{Side}
@@ -44,7 +44,7 @@ unfolding found
 found_live A live other held is below = rw is (found_a held (content other) (length live) (length other) below)
 found_live B live other held is below = rw is (found_b held (content other) (length other) (length live) below)
 
--- they stand for what the payloads of the live one make
+-- they represent what the payloads of the live one make
 pub stands_live : (side : Side) (live other : List ℕ) (held : Held) → content live ≡ Some (Ok held) → IsBelow held.header.generation (content other) → stands (of_a side live other) (of_b side live other) ≡ on side (map_of held.payloads)
 unfolding stands
 stands_live side live other held is below = ap (λ f. f >>= map_found) (found_live side live other held is below)
@@ -71,7 +71,7 @@ pub opens_live : (member : Member) (side : Side) (live other : List ℕ) (held :
     → opens_as member (of_a side live other) (of_b side live other) ≡ Ok (standing_of member (Live side held) m)
 opens_live member side live other held m is below map own = ap (λ r. r >>= (λ it. Ok (standing_of member it.0 it.1))) (opened_live (owner_of member) side live other held m is below map own)
 
--- a member is told by its file's owner
+-- a member is determined by its file's owner
 owned_by : (member : Member) (other : Member) → owner_of member ≡ owner_of other → member ≡ other
 owned_by member other same = same_member member other (ap (λ (o : Owner). o.rank) same) (ap (λ (o : Owner). o.monitors) same)
 

@@ -45,7 +45,7 @@ folded_more (payload ∷ payloads) at m n ops so_far form small = by (after payl
     by None more h = absurd cc
     by (Some next) more h = more next h
 
--- a file with one more record stands for what its transaction makes of the map
+-- a file with one more record represents what its transaction makes of the map
 pub map_more : (payloads : List (List ℕ)) (m : Store) (ops : List Op) → map_of payloads ≡ Ok m → HasText ops → size_of (apply ops m) ≤ most_size → map_of (payloads ++ text ops ∷ []) ≡ Ok (apply ops m)
 unfolding map_of folded
 map_more [] m ops so_far form small =
@@ -58,7 +58,7 @@ map_more (payload ∷ payloads) m ops so_far form small = by (begun payload) so_
     by None h = absurd cc
     by (Some first) h = folded_more payloads (35 + length payload) first m ops h form small
 
--- a file that begins with a checkpoint of a map, and has no other record, stands for that map
+-- a file that begins with a checkpoint of a map, and has no other record, represents that map
 pub map_checkpoint : (m : Store) → HasCheckpoint m → size_of m ≤ most_size → map_of (checkpoint_text m ∷ []) ≡ Ok m
 unfolding map_of begun folded
 map_checkpoint m form small = rw (checkpoint_again m (record { at = 0; rest = checkpoint_text m }) refl form, within_is m small) refl

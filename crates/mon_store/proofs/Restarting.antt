@@ -1,4 +1,4 @@
--- What two disks stand for while a checkpoint begins a journal on the other one, and then.
+-- What two disks represent while a checkpoint begins a journal on the other one, and then.
 use Rattle.std.proofs.Common.{◌≡◌, ℕ, ◌+◌, ◌<◌, Bool, true, false, ◌&&◌, eqb, List, [], ◌∷◌, ◌⊎◌, inl, inr, Option, Some, None, Ok, refl, sym, ap, subst, ◌∙◌, arith}
 use Rattle.std.specs.Prelude.{IfSome, slice_index_or}
 use Rattle.mon_types.specs.declared.names.Side.{Side}
@@ -82,7 +82,7 @@ module _ (j : Journal) (m : Store) (known : ℕ) (live other : Content) (sound :
       by false (inl there) = (stands_now j m known live other sound side c d left there, inl there)
       by false (inr closed) = (shut_aside c d left closed.0, inr closed.0)
 
-  -- over what both tell
+  -- if both can be seen
   pub settled : (l s t : Option Told) → IfSome l (λ u. images live (u.settles u.made)) → IfSome s (λ u. IfSome t (λ v. BegunAs other next m (made_more 4 u v) (v.settles v.made)))
       → IfSome l (λ u. IfSome s (λ v. IfSome t (λ w. Restarted side j m other (made_more 4 v w) (of_a side (u.settles u.made) (w.settles w.made)) (of_b side (u.settles u.made) (w.settles w.made)))))
   settled None s t left begun = tt
@@ -90,7 +90,7 @@ module _ (j : Journal) (m : Store) (known : ℕ) (live other : Content) (sound :
   settled (Some u) (Some v) None left begun = tt
   settled (Some u) (Some v) (Some w) left begun = settles_as (made_more 4 v w) (u.settles u.made) (w.settles w.made) left begun
 
-  -- and when it stands
+  -- and when it is there
   pub sound_next : (made : Journal) (reach : ℕ) (new : Content) → made ≡ next → HasCheckpoint m → Keeps made (checkpoint_text m ∷ []) reach new → Sound made m reach new live
   sound_next made reach new is form keeps = record {
     stands_live = keeps.stands;

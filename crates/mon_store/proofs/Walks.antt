@@ -13,7 +13,7 @@ use Rattle.mon_kv.specs.declared.entry_ref.EntryRef.{EntryRef}
 use Rattle.mon_kv.proofs.ChunkLaws.{entries_after-tail}
 use Rattle.mon_store.specs.Checkpoint.{Entry, entry_text, EntryFits}
 
--- an entry and those behind it
+-- an entry and those after it
 abbrev pub from : Store → Option Entry → List Entry
 from m None = []
 from m (Some e) = e ∷ entries_after m e.0

@@ -22,7 +22,7 @@ stop_of journal.DiskFault = DiskFault
 stop_of (journal.NotAStore at) = DiskFault
 stop_of journal.OutOfMemory = OutOfMemory
 
--- what stopped a store's calls on a disk: nothing, where it refused before them
+-- what stopped a store's calls on a disk: nothing, if it refused before them
 abbrev pub stop_in : {T : Type 0} → Result T StoreStop → Option Stop
 stop_in (Ok x) = None
 stop_in (Err DiskFault) = Some stop.Failed
@@ -31,7 +31,7 @@ stop_in (Err Broken) = None
 stop_in (Err (TooLong len)) = None
 stop_in (Err (Full would_be)) = None
 
--- the calls on a disk: none, where the store refused before them
+-- the calls on a disk: none, if the store refused before them
 abbrev pub unless_early : {T : Type 0} → Result T StoreStop → List DiskCall → List DiskCall
 unless_early (Ok x) calls = calls
 unless_early (Err DiskFault) calls = calls
@@ -45,7 +45,7 @@ abbrev pub apply_calls : ℕ → List Op → List DiskCall
 apply_calls gate [] = []
 apply_calls gate (op ∷ ops) = append_calls gate (text (op ∷ ops))
 
--- the journal behind a transaction: an empty one leaves it
+-- the journal after a transaction: an empty one leaves it
 abbrev pub journal_after : Journal → List Op → Journal
 journal_after journal [] = journal
 journal_after journal (op ∷ ops) = appended journal (text (op ∷ ops))
@@ -55,6 +55,6 @@ abbrev pub unspelled : Rattle.mon_tx.specs.declared.encode.EncodeRefused.EncodeR
 unspelled (Rattle.mon_tx.specs.declared.encode.EncodeRefused.TheVariants.TooLong len) = TooLong len
 unspelled Rattle.mon_tx.specs.declared.encode.EncodeRefused.TheVariants.OutOfMemory = OutOfMemory
 
--- a checkpoint on the other disk, where one is due
+-- a checkpoint on the other disk, if one is due
 abbrev pub restart_calls : Journal → Store → List DiskCall
 restart_calls journal m = if is_due journal m then create_calls (owner_of journal.member) (journal.generation + 1) (Some (checkpoint_text m)) else []

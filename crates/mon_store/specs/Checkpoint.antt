@@ -12,7 +12,7 @@ use Rattle.mon_store.specs.declared.checkpoint.TheConstants.{CHECKPOINT}
 abbrev pub Entry : Type 0
 Entry = Place × List ℕ
 
--- a value with its length in front
+-- a value after its length
 abbrev pub value_text : List ℕ → List ℕ
 value_text value = u32_bytes (length value) ++ value
 

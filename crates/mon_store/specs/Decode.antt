@@ -12,7 +12,7 @@ use Rattle.mon_tx.specs.Map.{Place, place_cmp, Store}
 use Rattle.mon_store.specs.declared.checkpoint.TheConstants.{CHECKPOINT}
 use Rattle.mon_store.specs.Checkpoint.{Entry}
 
--- a length from 1 to `most`, and so many bytes that are a word
+-- a length from 1 to `most`, and this many graphic bytes
 unfoldable pub word_at : ℕ → Reading → Result (List ℕ × Reading) MapRefused
 word_at most c = do
   n ← fitted (number 1 c)
@@ -20,19 +20,19 @@ word_at most c = do
     bytes ← fitted (front n.0 n.1)
     if is_word most bytes.0 then Ok bytes else Err (Form n.1.at))
 
--- a length, and so many bytes
+-- a length, and this many bytes
 unfoldable pub value_at : Reading → Result (List ℕ × Reading) MapRefused
 value_at c = do
   n ← fitted (number 4 c)
   fitted (front n.0 n.1)
 
--- a prefix that isn't below the one before it; one that is is at fault where its bytes begin
+-- a prefix that isn't below the one before it; one that is has its fault where its bytes begin
 unfoldable pub prefix_at : List ℕ → Reading → Result (List ℕ × Reading) MapRefused
 prefix_at before c = do
   prefix ← word_at 32 c
   if is_lt (slice_cmp nat_cmp prefix.0 before) then Err (Form (c.at + 1)) else Ok prefix
 
--- a key that with its prefix is above the place before it; one that isn't is at fault where its bytes begin
+-- a key that with its prefix is above the place before it; one that isn't has its fault where its bytes begin
 unfoldable pub key_at : Place → List ℕ → Reading → Result (List ℕ × Reading) MapRefused
 key_at before prefix c = do
   key ← word_at 255 c
@@ -45,7 +45,7 @@ entry_at before c = do
   value ← value_at key.1
   Ok (((prefix.0, key.0), value.0), value.1)
 
--- so many entries, each above the place before it
+-- this many entries, each above the place before it
 unfoldable pub entries_at : ℕ → Place → Reading → Result (List Entry × Reading) MapRefused
 entries_at zero before c = Ok ([], c)
 entries_at (suc n) before c = do
@@ -62,7 +62,7 @@ map_at c = do
     entries ← entries_at count.0 ([], []) count.1
     Ok (from_sorted entries.0, entries.1)) else Err (Form c.at)
 
--- the same, where nothing is left
+-- the same, if nothing is left
 unfoldable pub checkpoint_of : Reading → Result Store MapRefused
 checkpoint_of c = do
   map ← map_at c

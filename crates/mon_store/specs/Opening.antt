@@ -1,4 +1,4 @@
--- What opening two disks finds, and what they stand for meanwhile.
+-- What opening two disks finds, and what they represent meanwhile.
 use Rattle.std.specs.Prelude.{◌≡◌, ℕ, ◌⊎◌, Bool, true, ◌&&◌, ◌==◌, List, [], slice_index_or, Option, Some, None, Result, Ok, Err}
 use Rattle.mon_types.specs.declared.names.Stop.{Stop}
 use Rattle.mon_types.specs.declared.names.Stop.TheVariants as disk_stop
@@ -22,7 +22,7 @@ use Rattle.mon_store.specs.declared.choice.Choice.TheVariants as choice
 use Rattle.mon_store.specs.Stood.{opens_as}
 use Rattle.mon_store.specs.Pair.{Refusal, NotAStore, Stranger, Found, Create, Live, found, stands}
 
--- what a disk was found to hold, and how long it is where that is nothing
+-- what a disk was found to hold, and how long it is if it holds nothing
 abbrev pub held_in : Opened → Option Held
 held_in (disk.Closed len) = None
 held_in (disk.Live journal payloads) = Some (held_by journal payloads)
@@ -52,7 +52,7 @@ abbrev pub Gives : {X Y : Type 0} → (X → Y) → Result X OpenStop → Result
 Gives view (Ok x) read = read ≡ Ok (view x)
 Gives view (Err e) read = Tells e read
 
--- what stopped opening: nothing, where what the disks hold is refused
+-- what stopped opening: nothing, if what the disks hold is refused
 abbrev pub stop_in : {T : Type 0} → Result T OpenStop → Option Stop
 stop_in (Ok x) = None
 stop_in (Err DiskFault) = Some disk_stop.Failed
@@ -60,7 +60,7 @@ stop_in (Err OutOfMemory) = Some disk_stop.OutOfMemory
 stop_in (Err (stop.NotAStore disk at)) = None
 stop_in (Err (stop.Stranger kept asked)) = None
 
--- what a disk counted: a fault where that was the stop, its want of memory maybe where that was, and else nothing
+-- what a disk counted: a fault if that was the stop, perhaps a failed allocation if that was, and otherwise nothing
 abbrev pub Counts : Option Stop → DiskState → DiskState → Type 0
 Counts stop old new = (new.faults ≡ faults_after stop old.faults) × MayWant stop old.wants new.wants
 
@@ -72,13 +72,13 @@ BothCount stop a b new_a new_b = (Counts stop a new_a × Counts None b new_b) �
 abbrev pub Answers : Member → List ℕ → List ℕ → Result Standing OpenStop → Type 0
 Answers member a b result = Gives (λ s. s) result (opens_as member a b)
 
--- what disk A holds where it held that and the two stood so: the first file of a new store, once that is opened
+-- what disk A holds if it held that and the two were found so: the first file of a new store, once that is opened
 abbrev pub first_content : Member → Bool → List ℕ → Result Found Refusal → Option (Result Held JournalStop)
 first_content member true file (Ok Create) = Some (Ok (held_by (created member 1 None) []))
 first_content member opening file place = content file
 
--- Two images that stand for what two stood for that a crash might have left before, and that a member opens as it would have
--- opened those. Each holds what that one held, but for the first file of a new store.
+-- Two images that represent what they might have represented after a crash before the call, and that a member opens with the
+-- same result. Each holds what it held then, except the first file of a new store.
 pub record AlikePair (member : Member) (a b : Content) (opening : Bool) (c d : List ℕ) : Type 0 where
   pub on_a : List ℕ
   pub on_b : List ℕ
@@ -92,13 +92,13 @@ pub record AlikePair (member : Member) (a b : Content) (opening : Bool) (c d : L
 abbrev pub Alike : Member → Content → Content → List ℕ → List ℕ → Type 0
 Alike member a b c d = (opening : Bool) × AlikePair member a b opening c d
 
--- What they settle to: the first file is there where its gate is open and more than five calls were made on disk A, the sync
+-- What they settle to: the first file is there if its gate is open and more than five calls were made on disk A, the sync
 -- with which opening begins, and more than four of its own.
 abbrev pub Settled : Member → Content → Content → Told → Told → Told → Type 0
 Settled member a b before now_a now_b =
     AlikePair member a b (slice_index_or (now_a.settles now_a.made) 0 0 == 1 && made_more 5 before now_a) (now_a.settles now_a.made) (now_b.settles now_b.made)
 
--- a disk's fault, or want of memory
+-- a disk's fault, or out of memory
 abbrev pub IsOutside : OpenStop → Type 0
 IsOutside DiskFault = Unit {0}
 IsOutside OutOfMemory = Unit {0}

@@ -16,7 +16,7 @@ abbrev pub calls_on : Side → List DiskCall → List (Side × DiskCall)
 calls_on side [] = []
 calls_on side (call ∷ calls) = (side, call) ∷ calls_on side calls
 
--- behind a refusal none comes
+-- after a refusal there is none
 abbrev pub unless_refused : {X Y : Type 0} → Result X Refusal → List Y → List Y
 unless_refused (Ok x) calls = calls
 unless_refused (Err e) calls = []
@@ -34,7 +34,7 @@ creation owner (Err e) = []
 unfoldable pub opening_calls : Owner → List ℕ → List ℕ → List (Side × DiskCall)
 opening_calls owner a b = both_calls a b ++ creation owner (found a b)
 
--- what the disks tell once one of them was called
+-- what can be seen of the disks once one of them was called
 abbrev pub called_a : Side → DiskCall → Option Told → Option Told
 called_a A call a = and_made call a
 called_a B call a = a
@@ -43,8 +43,8 @@ abbrev pub called_b : Side → DiskCall → Option Told → Option Told
 called_b A call b = b
 called_b B call b = and_made call b
 
--- Which of these calls were made, in this order, on two disks that tell theirs: each of them, where none failed; or those up
--- to the first that failed, which is where DiskFault comes; or those before memory ran out.
+-- Which of these calls were made, in this order, on two disks whose calls can be seen: each of them, if none failed; or those
+-- up to the first that failed, after which DiskFault is returned; or those before memory ran out.
 abbrev pub MakesBoth : {T : Type 0} → List (Side × DiskCall) → Option Told → Option Told → Option Told → Option Told → Result T OpenStop → Type 0
 MakesBoth [] a b new_a new_b result = (new_a ≡ a) × (new_b ≡ b) × (result ≡ Err DiskFault → ⊥)
 MakesBoth ((side, call) ∷ calls) a b new_a new_b result =
@@ -52,7 +52,7 @@ MakesBoth ((side, call) ∷ calls) a b new_a new_b result =
     ⊎ ((result ≡ Err DiskFault) × (new_a ≡ called_a side call a) × (new_b ≡ called_b side call b) × IfSome (of_live side a b) (λ t. fails_next t ≡ true))
     ⊎ (IfSome (of_live side a b) (λ t. fails_next t ≡ false) × MakesBoth calls (called_a side call a) (called_b side call b) new_a new_b result)
 
--- the same, where both disks tell their calls and what they hold
+-- the same, if calls and contents of both disks can be seen
 abbrev pub OpensWith : {T : Type 0} → (List ℕ → List ℕ → List (Side × DiskCall)) → Option (List ℕ) → Option (List ℕ) → Option Told → Option Told → Option Told → Option Told → Result T OpenStop → Type 0
 OpensWith calls a b told_a told_b new_a new_b result =
     IfSome a (λ x. IfSome b (λ y. IfSome told_a (λ s. IfSome told_b (λ t. MakesBoth (calls x y) told_a told_b new_a new_b result))))

@@ -1,4 +1,4 @@
--- The map that the images of two disks stand for.
+-- The map that the images of two disks represent.
 use Rattle.std.specs.Prelude.{ℕ, nat_lt, ◌==◌, ◌&&◌, if◌then◌else◌, List, length, Option, Some, None, Result, Ok, Err}
 use Rattle.std.specs.FinMap.{empty}
 pub use Rattle.mon_bytes.specs.Answers.{◌>>=◌}
@@ -11,7 +11,7 @@ use Rattle.mon_journal.specs.Content.{Held, content}
 use Rattle.mon_journal.specs.Fields.{Owner}
 use Rattle.mon_store.specs.Payloads.{map_of}
 
--- why two images stand for no map, or not for one of this monitor's
+-- why two images represent no map, or not for one of this monitor's
 pub data Refusal : Type 0 where
   NotAStore : (disk : Side) (at : ℕ) → Refusal
   Stranger : (kept asked : Owner) → Refusal
@@ -23,18 +23,18 @@ on side (Err (journal.NotAStore at)) = Err (NotAStore side at)
 on side (Err journal.DiskFault) = Err (NotAStore side 0)
 on side (Err journal.OutOfMemory) = Err (NotAStore side 0)
 
--- what a disk holds: nothing where it is closed, and else a store's file
+-- what a disk holds: nothing if it is closed, and otherwise a store's file
 abbrev pub held_on : Side → Option (Result Held JournalStop) → Result (Option Held) Refusal
 held_on side None = Ok None
 held_on side (Some (Ok held)) = Ok (Some held)
 held_on side (Some (Err e)) = on side (Err e)
 
--- where the map is: in a file that is live, or in none, where the store is to be created
+-- where the map is: in a file that is live, or in none, if the store is to be created
 pub data Found : Type 0 where
   Create : Found
   Live : (side : Side) (held : Held) → Found
 
--- two closed disks are a new store only where they hold no more than a creation that a crash cut short
+-- two closed disks are a new store only if they hold no more than a creation that a crash cut short
 abbrev pub new_store : ℕ → ℕ → Result Found Refusal
 new_store a b = if nat_lt 26 a then Err (NotAStore A 0) else (if nat_lt 0 b then Err (NotAStore B 0) else Ok Create)
 
@@ -59,7 +59,7 @@ abbrev pub map_found : Found → Result Store Refusal
 map_found Create = Ok empty
 map_found (Live side held) = on side (map_of held.payloads)
 
--- the map that two images stand for, or why they stand for none
+-- the map that two images represent, or why they represent none
 unfoldable pub stands : List ℕ → List ℕ → Result Store Refusal
 stands a b = do
   place ← found a b
@@ -71,7 +71,7 @@ owned owner Create m = Ok (Create, m)
 owned owner (Live side held) m =
     if held.header.owner.rank == owner.rank && held.header.owner.monitors == owner.monitors then Ok (Live side held, m) else Err (Stranger held.header.owner owner)
 
--- the map of what was found, where it is this owner's
+-- the map of what was found, if it is this owner's
 abbrev pub taken : Owner → Found → Result (Found × Store) Refusal
 taken owner place = do
   m ← map_found place

@@ -23,7 +23,7 @@ abbrev pub changed : Store → Result (List Op) TxRefused → Option Store
 changed m (Ok ops) = within (apply ops m)
 changed m (Err e) = None
 
--- what a transaction's text makes of a map, where it is one
+-- the result of a transaction's encoding on a map, if it is one
 unfoldable pub after : List ℕ → Store → Option Store
 after payload m = changed m (transaction_of payload)
 
@@ -36,7 +36,7 @@ abbrev pub is_checkpoint : List ℕ → Bool
 is_checkpoint [] = false
 is_checkpoint (kind ∷ bytes) = kind == CHECKPOINT
 
--- The map behind the first payload of a file: that of a checkpoint, or what a transaction makes of nothing.
+-- The map after the first payload of a file: that of a checkpoint, or the result of a transaction on nothing.
 unfoldable pub begun : List ℕ → Option Store
 begun payload = if is_checkpoint payload then restored (checkpoint_of (record { at = 0; rest = payload })) else after payload empty
 
@@ -45,14 +45,14 @@ abbrev pub at_fault : ℕ → Option Store → Result Store JournalStop
 at_fault at None = Err (NotAStore at)
 at_fault at (Some m) = Ok m
 
--- what transactions' texts make of a map, where the first of them begins at a place
+-- the result of transactions' encodings on a map; the first of them begins at an offset
 unfoldable pub folded : List (List ℕ) → ℕ → Store → Result Store JournalStop
 folded [] at m = Ok m
 folded (payload ∷ payloads) at m = do
   next ← at_fault at (after payload m)
   folded payloads (at + 5 + length payload) next
 
--- The map that the payloads of a file stand for. The first of them begins behind the header, a gate and a length.
+-- The map that the payloads of a file represent. The first of them begins after the header, a gate and a length.
 unfoldable pub map_of : List (List ℕ) → Result Store JournalStop
 map_of [] = Ok empty
 map_of (payload ∷ payloads) = do

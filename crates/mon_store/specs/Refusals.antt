@@ -16,7 +16,7 @@ Refuses ops old new OutOfMemory = length (text ops) ≤ most
 Refuses ops old new (Full would_be) = (length (text ops) ≤ most) × (most_size < size_of (apply ops old)) × (would_be ≡ size_of (apply ops old))
 Refuses ops old new DiskFault = (length (text ops) ≤ most) × (size_of (apply ops old) ≤ most_size)
 
--- What a store answers to a transaction. It is Broken exactly where it was before.
+-- What a store returns for a transaction. It is Broken if and only if the store was broken before.
 abbrev pub Answers : {T : Type 0} → List Op → Store → Store → Bool → Result T StoreStop → Type 0
 Answers ops old new broken (Ok x) = (broken ≡ false) × (length (text ops) ≤ most) × (size_of (apply ops old) ≤ most_size) × (new ≡ apply ops old)
 Answers ops old new broken (Err Broken) = broken ≡ true
@@ -47,8 +47,8 @@ LeavesDisk old new Broken = new ≡ old
 LeavesDisk old new DiskFault = Unit {0}
 LeavesDisk old new OutOfMemory = Unit {0}
 
--- What a store answers that is asked to begin a new journal where one is due: true where it was due, and false where it
--- wasn't. It is Broken exactly where it was before.
+-- What a store returns that is asked to begin a new journal if one is due: true if it was due, and false if it wasn't. It is
+-- Broken if and only if the store was broken before.
 abbrev pub Restarts : Bool → Bool → Result Bool StoreStop → Type 0
 Restarts broken due (Ok done) = (broken ≡ false) × (done ≡ due)
 Restarts broken due (Err Broken) = broken ≡ true
@@ -57,7 +57,7 @@ Restarts broken due (Err (Full would_be)) = ⊥
 Restarts broken due (Err DiskFault) = (broken ≡ false) × (due ≡ true)
 Restarts broken due (Err OutOfMemory) = (broken ≡ false) × (due ≡ true)
 
--- a disk's fault, or want of memory
+-- a disk's fault, or out of memory
 abbrev pub IsOutside : StoreStop → Type 0
 IsOutside Broken = ⊥
 IsOutside (TooLong len) = ⊥

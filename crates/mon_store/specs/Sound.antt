@@ -1,4 +1,4 @@
--- How a store stands on its disks.
+-- How a store is on its disks.
 use Rattle.std.specs.Prelude.{◌≡◌, ℕ, ◌≤◌, ◌<◌, ◌+◌, ◌*◌, ◌^◌, Bool, true, false, ◌⊎◌, ◌||◌, ◌&&◌, ◌==◌, nat_lt, if◌then◌else◌, List, [], ◌∷◌, slice_index_or, Option, Some, None, Result, Ok, Err, IfSome}
 use Rattle.mon_types.specs.declared.names.Side.{Side}
 use Rattle.mon_types.specs.declared.names.Side.TheVariants.{A, B}
@@ -39,8 +39,8 @@ IsBelow generation None = Unit {0}
 IsBelow generation (Some (Ok held)) = held.header.generation < generation
 IsBelow generation (Some (Err e)) = ⊥
 
--- The journal stands on the live disk with payloads that make the map, and the other disk doesn't count. A crash leaves
--- nothing else of either.
+-- The journal is on the live disk with payloads that make the map, and the other disk doesn't count. A crash leaves the same
+-- of both.
 pub record Sound (journal : Journal) (m : Store) (known : ℕ) (live other : Content) : Type 0 where
   pub stands_live : Stands journal known live
   pub only_other : Only other
@@ -48,20 +48,20 @@ pub record Sound (journal : Journal) (m : Store) (known : ℕ) (live other : Con
   pub map : IfSome live.seen (λ file. map_of (payloads_of file) ≡ Ok m)
   pub size : size_of m ≤ most_size
 
--- a file with a transaction's record or without it, and with it only where the transaction has a text and its map isn't too
+-- a file with a transaction's record or without it, and with it only if the transaction has an encoding and its map isn't too
 -- large
 abbrev pub WithChange : Journal → List (List ℕ) → Store → List Op → List ℕ → Type 0
 WithChange journal payloads m ops file =
     WithOrWithout journal payloads (text ops) file × (slice_index_or file journal.next_gate 0 ≡ 1 → HasText ops × (size_of (apply ops m) ≤ most_size))
 
--- A store stands on two images: the file of a journal is the live one and its payloads make the map, and the other file
--- doesn't count.
+-- A store is on two images: the file of a journal is the live one and its payloads make the map, and the other file doesn't
+-- count.
 pub record StandsOn (side : Side) (journal : Journal) (m : Store) (a b : List ℕ) : Type 0 where
   pub holds : Holds journal (payloads_of (of_live side a b)) (of_live side a b)
   pub map : map_of (payloads_of (of_live side a b)) ≡ Ok m
   pub below : IsBelow journal.generation (content (of_live (other_side side) a b))
 
--- Two images on which a store stands before a change or after it: after it exactly where the gate of its record is open in the
+-- Two images on which a store is before a change or after it: after it if and only if the gate of its record is open in the
 -- image of the live disk.
 abbrev pub BeforeOrAfter : Side → Journal → Store → List Op → List ℕ → List ℕ → Type 0
 BeforeOrAfter side journal m ops a b =
@@ -72,8 +72,8 @@ abbrev pub is_first : Form → Bool
 is_first First = true
 is_first Second = false
 
--- A checkpoint is due where the live file has the first header, or is longer than 1,048,576 bytes up to and with its first
--- closed gate and than four times what the map counts with. No generation passes 2^62.
+-- A checkpoint is due if the live file has the first header, or is longer than 1,048,576 bytes up to and with its first
+-- closed gate and than four times the map's size. No generation passes 2^62.
 abbrev pub is_due : Journal → Store → Bool
 is_due journal m =
     nat_lt journal.generation (2 ^ 62) && (is_first journal.form || (nat_lt least_length (journal.next_gate + 1) && nat_lt (4 * size_of m) (journal.next_gate + 1)))
@@ -91,12 +91,12 @@ BegunAs x journal m opening file =
 abbrev pub next_journal : Journal → Store → Journal
 next_journal journal m = created journal.member (journal.generation + 1) (Some (checkpoint_text m))
 
--- A store stands on two images, or its next one does, which a checkpoint begins on the other disk.
+-- A store is on two images, or its next one is, which a checkpoint begins on the other disk.
 abbrev pub ThisOrNext : Side → Journal → Store → List ℕ → List ℕ → Type 0
 ThisOrNext side journal m a b = StandsOn side journal m a b ⊎ StandsOn (other_side side) (next_journal journal m) m a b
 
--- The next one does where its gate is open and it was begun to be opened. Else the other disk holds what a crash might have left
--- before, or is closed.
+-- The next one is if its gate is open and its last write was begun. Otherwise the other disk holds what a crash might have
+-- left before, or is closed.
 abbrev pub Restarted : Side → Journal → Store → Content → Bool → List ℕ → List ℕ → Type 0
 Restarted side journal m x opening a b =
     let file = of_live (other_side side) a b in

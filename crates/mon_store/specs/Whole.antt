@@ -11,7 +11,7 @@ use Rattle.mon_store.specs.declared.stop.OpenRefused.{OpenRefused}
 use Rattle.mon_types.specs.declared.names.Side.{Side}
 use Rattle.mon_store.specs.Sound.{Sound, of_a, of_b, of_live}
 
--- a store that isn't broken stands on its disks, and has their map
+-- a store that isn't broken is on its disks, and has their map
 abbrev pub IsSound : {D : Type 0} → (D → DiskState) → Store D → Type 0
 IsSound state store = store.broken ≡ false → Sound store.journal store.kv (state store.live).known (state store.live).content (state store.other).content
 
@@ -47,7 +47,7 @@ abbrev pub b_after : {D : Type 0} → Result (Store D) (OpenRefused D) → D
 b_after (Ok store) = disk_b store
 b_after (Err refused) = refused.disks.b
 
--- what stands on them, or why nothing does
+-- what is on them, or why there is nothing
 abbrev pub answered : {D : Type 0} → Result (Store D) (OpenRefused D) → Result Standing OpenStop
 answered (Ok store) = Ok (record { side = store.side; journal = store.journal; kv = store.kv })
 answered (Err refused) = Err refused.why

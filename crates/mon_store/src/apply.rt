@@ -19,7 +19,7 @@ use mon_kv::{Kv, MOST_SIZE};
 use mon_tx::Transaction;
 use std::alloc::Global;
 
-/// Makes a transaction's changes in the map, and spells it.
+/// Makes a transaction's changes in the map, and returns its encoding.
 fn prepare(kv: &mut Kv, tx: &Transaction) -> Result<Vec<u8>, StoreStop>
     ensures text { IfOk result (λ bytes. bytes.items ≡ text tx.now) }
     ensures form { IfOk result (λ _. HasText tx.now) }
@@ -57,8 +57,8 @@ pub(crate) fn keep<D: Disk>(
     ensures disk { IfErr result (LeavesDisk disk.old disk.new) }
     ensures large { most_size < size_of (apply tx.now kv.old) → disk.new ≡ disk.old }
 
-    // Its writes and syncs are made. A crash at any moment leaves the payloads from before, and the transaction where
-    // its gate is open.
+    // Its writes and syncs are made. A crash at any point leaves the payloads from before, and the transaction if its
+    // gate is open.
     ensures call { let old = D.state disk.old in
         Called (unless_early result (append_calls journal.old.next_gate (text tx.now)))
         (WithChange journal.old (payloads_seen old.content) kv.old tx.now) (stop_in result) old (D.state disk.new) }
@@ -86,10 +86,9 @@ impl<D: Disk> Store<D> {
     ghost use Rattle.mon_store.specs.Whole.{IsSound, disk_a, disk_b, Stays};
 
     /// Makes a transaction's changes: in the map, and with a record on the live disk. An empty one makes no call on a
-    /// disk. Broken is answered where an earlier call broke the store, and then TooLong, where the text passes
-    /// 4,194,304 bytes; then nothing changed. Each later refusal breaks the store: OutOfMemory; Full, where the map
-    /// would be too large; DiskFault. After DiskFault, and after OutOfMemory, the disks stand for the old map or for
-    /// the new one.
+    /// disk. Broken is returned if an earlier call broke the store, and then TooLong, if the text passes 4,194,304
+    /// bytes; then nothing changed. Each later refusal breaks the store: OutOfMemory; Full, if the map would be too
+    /// large; DiskFault. After DiskFault, and after OutOfMemory, the disks represent the old map or the new one.
     pub fn apply(&mut self, tx: &Transaction) -> Result<(), StoreStop>
         requires { IsSound D.state self.old }
         ensures sound { IsSound D.state self.new }
@@ -97,21 +96,21 @@ impl<D: Disk> Store<D> {
         ensures broken { self.new.broken ≡ (self.old.broken || breaks result) }
         ensures same { Stays tx.now self.old self.new result }
 
-        // A crash at any moment leaves the store as it stood, or with the change exactly where the gate of its record
+        // A crash at any point leaves the store as it was, or with the change if and only if the gate of its record
         // is open.
         ensures any_moment { self.old.broken ≡ false → IsTrue (is_some (D.state self.old.live).content.seen)
             → Meanwhile (D.state (disk_a self.old)).content (D.state (disk_b self.old)).content
             (D.state (disk_a self.new)).content (D.state (disk_b self.new)).content
             (BeforeOrAfter self.old.side self.old.journal self.old.kv tx.now) }
 
-        // What the disks settle to, too, where they tell it.
+        // What the disks settle to as well, if their contents can be seen.
         ensures settles { self.old.broken ≡ false → IsTrue (is_some (D.state self.old.live).content.seen)
             → IfSome (D.state (disk_a self.new)).told
             (λ s. IfSome (D.state (disk_b self.new)).told
             (λ t. BeforeOrAfter self.old.side self.old.journal self.old.kv tx.now (s.settles s.made)
             (t.settles t.made))) }
 
-        // After Ok it leaves the store as it stands alone.
+        // After Ok it leaves only the store as it is now.
         ensures safe { OnOk result (EachPair (D.state (disk_a self.new)).content (D.state (disk_b self.new)).content
             (StandsOn self.new.side self.new.journal self.new.kv)) }
 

@@ -35,8 +35,8 @@ fn count(kv: &Kv) -> u32
     count
 }
 
-/// Appends a checkpoint of the map. Its time is that of two look-ups for each entry, and it takes memory for the bytes
-/// alone. After an `Err` a front of it may be there.
+/// Appends a checkpoint of the map. Its time is that of two look-ups for each entry, and it takes memory for the
+/// bytes alone. After an `Err` a prefix of it may be there.
 pub fn write_checkpoint(out: &mut Out, kv: &Kv) -> Result<(), OutOfMemory>
     requires { size_of kv.now ≤ most_size }
     ensures text { OnOk result (out.new ≡ out.old ++ checkpoint_text kv.now) }

@@ -25,7 +25,7 @@ pub(crate) enum Choice {
     },
 }
 
-/// Two closed disks are a new store only where they hold no more than a creation that a crash cut short.
+/// Two closed disks are a new store only if they hold no more than a creation that a crash cut short.
 fn new_store(a: u64, b: u64) -> Result<Choice, OpenStop>
     ensures found { Gives found_of result (new_store a b) }
     ensures refused { IfErr result IsRefusal }

@@ -1,4 +1,4 @@
-//! The map that the payloads of a file stand for.
+//! The map that the payloads of a file represent.
 
 ghost use Rattle.std.specs.Prelude.{◌≡◌, ◌≤◌, ◌+◌, length, Ok, IfOk, IfErr};
 ghost use Rattle.mon_kv.specs.Readers.{size_of};
@@ -15,7 +15,7 @@ use mon_kv::{Kv, MOST_SIZE};
 use mon_tx::TxRefused;
 use std::alloc::Global;
 
-/// The map, where it isn't larger than a store may be.
+/// The map, if it isn't larger than a store may be.
 fn within(kv: Kv, at: u64) -> Result<Kv, JournalStop>
     ensures map { Gives (λ kv. kv) result (at_fault at (within kv)) }
     ensures size { IfOk result (λ kv. size_of kv ≤ most_size) }
@@ -75,7 +75,7 @@ fn begun(alloc: Global, payload: &[u8], at: u64) -> Result<Kv, JournalStop>
     after(Kv::empty(alloc), payload, at)
 }
 
-/// The place of what follows a payload: behind a gate and a length.
+/// The place of what follows a payload: after a gate and a length.
 fn behind(at: u64, payload: &[u8]) -> Result<u64, JournalStop>
     ensures place { Gives (λ n. n) result (Ok (at + 5 + length payload.now)) }
     ensures form { IfErr result IsOfForm }
@@ -85,7 +85,7 @@ fn behind(at: u64, payload: &[u8]) -> Result<u64, JournalStop>
         .ok_or(JournalStop::OutOfMemory)
 }
 
-/// The map that the payloads of a file stand for. `NotAStore` names the first byte of the first payload at fault.
+/// The map that the payloads of a file represent. `NotAStore` names the first byte of the first payload at fault.
 pub fn fold(alloc: Global, payloads: &Payloads) -> Result<Kv, JournalStop>
     ensures map { Gives (λ kv. kv) result (map_of payloads.now) }
     ensures size { IfOk result (λ kv. size_of kv ≤ most_size) }

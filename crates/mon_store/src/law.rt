@@ -1,4 +1,4 @@
-//! Laws of checkpoints, and of what a store stands on.
+//! Laws of checkpoints, and of the files of a store.
 
 ghost use Rattle.std.specs.Prelude.{◌≡◌, ℕ, List, Ok};
 ghost use Rattle.mon_bytes.specs.Reading.{IsBytes, Reading};
@@ -13,14 +13,14 @@ ghost use Rattle.mon_store.specs.Pair.{stands};
 ghost use Rattle.mon_store.specs.Sound.{StandsOn};
 ghost use Rattle.mon_store.specs.Stood.{opens_as};
 
-/// The reader takes exactly the checkpoints, and gives the maps that they spell. So each map has one.
+/// Decoding accepts exactly the checkpoints, and returns the maps that they encode. So each map has one checkpoint.
 pub fn law_checkpoints()
     ensures found { (c : Reading) (m : Store) → IsBytes c.rest → checkpoint_of c ≡ Ok m
         → HasCheckpoint m × (c.rest ≡ checkpoint_text m) }
     ensures only { (c : Reading) (m : Store) → c.rest ≡ checkpoint_text m → HasCheckpoint m → checkpoint_of c ≡ Ok m }
 {}
 
-/// Two files on which a store stands stand for its map, and its member opens it on them.
+/// Two files of a store represent its map, and its member opens it from them.
 pub fn law_stands()
     ensures map { (side : Side) (journal : Journal) (m : Store) (a b : List ℕ) → StandsOn side journal m a b
         → stands a b ≡ Ok m }

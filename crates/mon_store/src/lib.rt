@@ -1,4 +1,4 @@
-//! A monitor's map on two disks, which a crash at any moment leaves whole.
+//! A monitor's map on two disks. A crash at any point leaves it whole.
 #![tactic(auto)]
 
 mod apply;

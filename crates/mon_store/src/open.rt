@@ -8,7 +8,7 @@ use mon_disk::{Disk, NodeDisks};
 use mon_types::{Member, Side};
 use std::alloc::Global;
 
-/// The store that stands on two disks.
+/// The store that two disks hold.
 fn on<D>(alloc: Global, a: D, b: D, found: Standing) -> Store<D>
     ensures a { disk_a result ≡ a }
     ensures b { disk_b result ≡ b }
@@ -42,9 +42,10 @@ impl<D: Disk> Store<D> {
     ghost use Rattle.mon_store.specs.OpeningCalls.{opening_calls, OpensWith};
     ghost use Rattle.mon_store.specs.Whole.{IsSound, a_after, b_after, answered};
 
-    /// Opens the store on two disks, or creates it on them where both are new. NotAStore, and then Stranger, tell what
-    /// is wrong with what they hold; a refusal hands the disks back, and changes nothing that they stand for. Each file
-    /// is read once.
+    /// Opens the store on two disks, or creates it on them if both are new. NotAStore, and then Stranger, say what is
+    /// wrong with their contents; a refusal returns the disks, and what they represent is unchanged. Each file is
+    /// read once. Memory holds both maps while the files are judged; the bytes of the older one are released before
+    /// the store is made.
     pub fn open(
         alloc: Global,
         disks: NodeDisks<D>,
@@ -54,20 +55,20 @@ impl<D: Disk> Store<D> {
         ensures broken { IfOk result (λ store. store.broken ≡ false) }
         ensures owner { IfOk result (λ store. owner_of store.journal.member ≡ owner_of member) }
 
-        // What stands on the two disks is what they held, and each refusal goes back to it.
+        // The store is what the disks held, and after a refusal they represent the same as before.
         ensures answer { IfSome (D.state disks.a).content.seen
             (λ x. IfSome (D.state disks.b).content.seen (λ y. Answers member x y (answered result))) }
 
-        // A crash at any moment leaves two files that stand for what two stood for that a crash might have left before,
-        // and that the member opens as it would have opened those. Each holds what it held then, but for the first file
-        // of a new store.
+        // A crash at any point leaves two files that represent what they might have represented after a crash before
+        // the call, and that the member opens with the same result. Each holds what it held then, except the first
+        // file of a new store.
         ensures any_moment { IsTrue (is_some (D.state disks.a).content.seen)
             → IsTrue (is_some (D.state disks.b).content.seen)
             → WhileOpening (D.state disks.a).content (D.state disks.b).content (D.state (a_after result)).content
             (D.state (b_after result)).content (Alike member (D.state disks.a).content (D.state disks.b).content) }
 
-        // What the disks settle to, too, where they tell it: the first file is there where its gate is open and its
-        // last write was begun.
+        // What the disks settle to as well, if their contents can be seen: the first file is there if its gate is
+        // open and its last write was begun.
         ensures settles { IsTrue (is_some (D.state disks.a).content.seen)
             → IsTrue (is_some (D.state disks.b).content.seen)
             → IfSome (D.state disks.a).told
@@ -75,7 +76,7 @@ impl<D: Disk> Store<D> {
             (λ t. IfSome (D.state (b_after result)).told
             (λ u. Settled member (D.state disks.a).content (D.state disks.b).content s t u))) }
 
-        // After Ok a crash leaves the store as it stands alone.
+        // After Ok a crash leaves only the store as it is now.
         ensures safe { IfOk result (λ store. EachPair (D.state (disk_a store)).content (D.state (disk_b store)).content
             (StandsOn store.side store.journal store.kv)) }
 

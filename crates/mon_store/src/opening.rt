@@ -37,7 +37,7 @@ fn named(side: Side, stop: JournalStop) -> OpenStop
     }
 }
 
-/// What stands on the disks of a store that was opened.
+/// What the disks of an opened store hold.
 #[derive(Drop)]
 pub(crate) struct Standing {
     pub(crate) side: Side,
@@ -45,7 +45,7 @@ pub(crate) struct Standing {
     pub(crate) kv: Kv,
 }
 
-/// The map of a live file, where it is this member's.
+/// The map of a live file, if it is this member's.
 fn restore(
     alloc: Global,
     side: Side,

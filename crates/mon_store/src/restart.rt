@@ -68,13 +68,13 @@ pub(crate) fn begin<D: Disk>(
     ensures outside { IfErr result IsOutside }
     ensures no_memory { WantsFirst D.state StoreStop.OutOfMemory result disk.old disk.new }
 
-    // Its writes and syncs are made. A crash at any moment leaves what it might have left before, a closed file, or the
-    // new journal.
+    // Its writes and syncs are made. A crash at any point leaves what it might have left before, a closed file, or
+    // the new journal.
     ensures call { let old = D.state disk.old in
         Called (create_calls (owner_of journal.now.member) (journal.now.generation + 1) (Some (checkpoint_text kv.now)))
         (Begins old.content (next_journal journal.now kv.now) kv.now) (stop_in result) old (D.state disk.new) }
 
-    // The disk settles to the new one where its gate is open then and more than four of the calls were made.
+    // The disk settles to the new one if its gate is open then and more than four of the calls were made.
     ensures settles { IfSome (D.state disk.old).told
         (λ s. IfSome (D.state disk.new).told
         (λ t. BegunAs (D.state disk.old).content (next_journal journal.now kv.now) kv.now (made_more 4 s t)
@@ -91,10 +91,10 @@ impl<D: Disk> Store<D> {
     ghost use Rattle.mon_store.specs.Calls.{restart_calls};
     ghost use Rattle.mon_store.specs.Whole.{IsSound, disk_a, disk_b, disk_of};
 
-    /// Begins a new journal on the other disk, where a checkpoint is due, and then that disk is live. The answer is
-    /// whether one was due. A checkpoint is due where the live generation is below 2^62, and the live file has the
-    /// first header, or is longer than 1,048,576 bytes and than four times the map's size, up to and with its first
-    /// closed gate. Broken is answered where an earlier call broke the store. DiskFault and OutOfMemory break it.
+    /// Begins a new journal on the other disk, if a checkpoint is due, and then that disk is live. It returns whether
+    /// one was due. A checkpoint is due if the live generation is below 2^62, and the live file has the first header,
+    /// or is longer than 1,048,576 bytes and than four times the map's size, up to and with its first closed gate.
+    /// Broken is returned if an earlier call broke the store. DiskFault and OutOfMemory break it.
     pub fn restart_if_due(&mut self) -> Result<bool, StoreStop>
         requires { IsSound D.state self.old }
         ensures sound { IsSound D.state self.new }
@@ -103,13 +103,13 @@ impl<D: Disk> Store<D> {
         ensures map { self.new.kv ≡ self.old.kv }
         ensures refused { result ≡ Err StoreStop.Broken → self.new ≡ self.old }
 
-        // A crash at any moment leaves the store as it stood, or on the other disk with the next journal.
+        // A crash at any point leaves the store as it was, or on the other disk with the next journal.
         ensures any_moment { self.old.broken ≡ false
             → Meanwhile (D.state (disk_a self.old)).content (D.state (disk_b self.old)).content
             (D.state (disk_a self.new)).content (D.state (disk_b self.new)).content
             (ThisOrNext self.old.side self.old.journal self.old.kv) }
 
-        // The disks settle to the next one where its gate is open then and more than four of the calls were made.
+        // The disks settle to the next one if its gate is open then and more than four of the calls were made.
         ensures settles { self.old.broken ≡ false
             → IfSome (D.state (disk_of self.old.side self.new)).told
             (λ l. IfSome (D.state self.old.other).told
@@ -121,7 +121,7 @@ impl<D: Disk> Store<D> {
         ensures safe { OnOk result (EachPair (D.state (disk_a self.new)).content (D.state (disk_b self.new)).content
             (StandsOn self.new.side self.new.journal self.new.kv)) }
 
-        // Where one was due the other disk is live.
+        // If one was due, the other disk is live.
         ensures live { result ≡ Ok true → self.new.side ≡ other_side self.old.side }
         ensures journal { result ≡ Ok true → self.new.journal ≡ next_journal self.old.journal self.old.kv }
         ensures same { result ≡ Ok false → self.new ≡ self.old }

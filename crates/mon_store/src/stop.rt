@@ -71,9 +71,9 @@ pub enum OpenStop {
     /// A disk failed.
     #[error("a disk failed")]
     DiskFault,
-    /// What begins at this place of that disk isn't what a store has there. Two open files with one generation are
-    /// named as disk B at 0. Two closed files on which no store may be created are named as disk A at 0 where it has
-    /// more than 26 bytes, and else as disk B at 0.
+    /// What begins at this offset of that disk isn't what a store has there. Two open files with the same generation
+    /// are named as disk B at 0. Two closed files on which no store may be created are named as disk A at 0 if it has
+    /// more than 26 bytes, and otherwise as disk B at 0.
     #[error("disk {disk:?} is no store, at {at}")]
     NotAStore { disk: Side, at: u64 },
     /// The store is another member's.

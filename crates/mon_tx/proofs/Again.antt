@@ -1,4 +1,4 @@
--- What is spelled so is read.
+-- Decoding accepts the encodings.
 use Rattle.std.proofs.Common.{◌≡◌, ℕ, ◌^◌, ◌≤◌, ◌<◌, Bool, true, false, not, ◌&&◌, ◌||◌, cond, ltb, eqb, List, [], ◌∷◌, ◌++◌, length, take, drop, Result, Ok, Err, IsTrue, refl, sym, ap, subst, ◌∙◌, append_assoc, arith}
 use Rattle.std.specs.List.{list_any, flat_map, AllByRecursion}
 use Rattle.std.proofs.lemmas.Bool.{eqb-true, le-ltb, lt-ltb}
@@ -38,7 +38,7 @@ front_again k c bytes rest e len =
 byte_again : (c : Reading) (n : ℕ) (rest : List ℕ) → c.rest ≡ n ∷ rest → Again (cut (number 1 c)) n rest
 byte_again c n rest e = number_again 1 c (n ∷ []) rest n e refl (omega arith)
 
--- the bytes of a number in so many bytes
+-- the bytes of a number in this many bytes
 bytes_again : (k : ℕ) (c : Reading) (n : ℕ) (rest : List ℕ) → c.rest ≡ little_bytes k n ++ rest → n < 256 ^ k → Again (cut (number k c)) n rest
 bytes_again k c n rest e lt =
     number_again k c (little_bytes k n) rest n e (length-bytes_low_first 0 k n) (ap (little_number k) (sym (append-nil (little_bytes k n))) ∙ little_number-reads_back k n [] lt)
@@ -147,7 +147,7 @@ called_for false = refl
 text_parts : (f : ℕ) (count flat rest : List ℕ) → (f ∷ count ++ flat) ++ rest ≡ f ∷ (count ++ (flat ++ rest))
 text_parts f count flat rest = simp append_assoc
 
--- a text with more behind it is read up to its end
+-- a text with more after it is read up to its end
 text_again : (ops : List Op) (c : Reading) (rest : List ℕ) → c.rest ≡ text ops ++ rest → HasText ops → (at : ℕ) × (ops_of c ≡ cond (not (eqb (length rest) 0)) (Err (refused.Rest at)) (Ok ops))
 unfolding ops_of
 text_again ops c rest e h =

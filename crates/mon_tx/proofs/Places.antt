@@ -54,7 +54,7 @@ number-put_same m prefix key n le = ap number_in (get-put_same m (prefix, key) (
 pub number-put_other : (m : Store) (p : Place) (prefix key v : List ℕ) → (prefix, key) ≢ p → number_at (insert m p v) prefix key ≡ number_at m prefix key
 number-put_other m p prefix key v ne = ap number_in (get-put_other m p (prefix, key) v ne)
 
--- the same for places that are written out, where the test computes
+-- the same for places that are written out, if the test computes
 pub number-put_apart : (m : Store) (p : Place) (prefix key v : List ℕ) → eq_by_cmp place_cmp (prefix, key) p ≡ false → number_at (insert m p v) prefix key ≡ number_at m prefix key
 number-put_apart m p prefix key v apart =
     ap number_in (get-insert places_total m p v (prefix, key) ∙ ap (λ b. cond b (Some v) (get m (prefix, key))) apart)

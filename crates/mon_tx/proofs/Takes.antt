@@ -1,4 +1,4 @@
--- What is read is spelled so.
+-- What is decoded is encoded so.
 use Rattle.std.proofs.Common.{◌≡◌, ℕ, zero, suc, ◌+◌, ◌^◌, ◌≤◌, ◌<◌, ◌⊎◌, Bool, true, false, not, ◌&&◌, ◌||◌, cond, ltb, eqb, List, [], ◌∷◌, ◌++◌, length, Result, Ok, Err, IsTrue, refl, sym, ap, subst, ◌∙◌, append_assoc, arith, inl, inr}
 use Rattle.std.specs.Prelude.{IfOk}
 use Rattle.std.specs.List.{list_any, flat_map, AllByRecursion}
@@ -68,7 +68,7 @@ version_takes c x fits e =
     let t = number_takes 8 c a.0 fits (cut_ok (number 8 c) a.0 a.1) in
     subst (λ (p : ℕ × Reading). Takes c (little_bytes 8 p.0) p.1 × (p.0 ≤ 2 ^ 62)) (ok_is a.0 x g.1) (t.0, ltb-false _ _ g.0)
 
--- an op behind its kind, which says whether it is a range
+-- an op after its kind, which says whether it is a range
 abbrev TakesOp : Reading → List ℕ → Bool → Op × Reading → Type 0
 TakesOp c kind range x = (after : Reading) → Takes after kind c → Takes after (op_text x.0) x.1 × OpFits x.0 × (is_range x.0 ≡ range)
 

@@ -1,4 +1,4 @@
--- Two named keys tie exactly where their names are the same.
+-- Two named keys tie if and only if their names are the same.
 use Rattle.std.proofs.Common.{◌≡◌, ℕ, ◌+◌, ◌<◌, ◌≤◌, Bool, true, false, cond, ◌&&◌, List, [], ◌∷◌, ◌++◌, map, get_or, eqb, refl, sym, ap, ◌∙◌, ◌⊎◌, inl, inr, arith, lit≤}
 use Rattle.std.proofs.lemmas.Bool.{cases_eq, eq-eqb, ne_eqb, false_from_ne_true}
 use Rattle.std.proofs.lemmas.Int.Digits.{same_from_digits_of, all_below_base_digits_of, first_digits_of}

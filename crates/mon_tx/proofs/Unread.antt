@@ -38,7 +38,7 @@ pub stops : (format left n : ℕ) (ranged : Bool) (c : Reading) (e : TxRefused) 
 unfolding unread ops_at
 stops format left n ranged c e is h = rw (is, h) refl
 
--- behind the last change
+-- after the last change
 module _ (format left : ℕ) (ranged : Bool) (c : Reading) (last : left ≡ 0) where
   at_end : unread format left ranged c ≡ cond (not (eqb (length c.rest) 0)) (Err (refused.Rest c.at)) (cond (eqb format 2 && not ranged) (Err (refused.Kind 0)) (Ok []))
   unfolding unread ops_at

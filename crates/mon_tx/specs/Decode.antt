@@ -50,7 +50,7 @@ ops_at format (suc n) c = do
   others ← ops_at format n first.1
   Ok (first.0 ∷ others.0, others.1)
 
--- all of the bytes: nothing is left, and the second format only where there is a range
+-- all of the bytes: nothing is left, and the second format is used only if there is a range
 unfoldable pub ops_of : Reading → Result (List Op) TxRefused
 ops_of c = do
   format ← format_at c
@@ -78,12 +78,12 @@ pub record HasText (ops : List Op) : Type 0 where
   pub each : AllByRecursion OpFits ops
   pub short : length (text ops) ≤ most
 
--- ---- what bytes spell
+-- ---- what bytes encode
 
 abbrev pub ops_or_none : Result (List Op) TxRefused → List Op
 ops_or_none (Ok ops) = ops
 ops_or_none (Err e) = []
 
--- the changes of the transaction that the bytes spell, and none where they spell none
+-- the changes of the transaction that the bytes encode, and none if they encode none
 unfoldable pub ops_in : List ℕ → List Op
 ops_in bytes = ops_or_none (transaction_of bytes)

@@ -30,7 +30,7 @@ Reads view result new read = answers.Reads no_memory view result new read
 abbrev pub Gives : {X Y : Type 0} → (X → Y) → Result X TxRefused → Result Y TxRefused → Type 0
 Gives view result read = answers.Gives no_memory view result read
 
--- how many bytes stand before the first that isn't graphic
+-- how many bytes are before the first that isn't graphic
 abbrev pub graphic_front : List ℕ → ℕ
 graphic_front bytes = prefix_len graphic bytes
 

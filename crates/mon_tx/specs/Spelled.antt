@@ -1,4 +1,4 @@
--- A change as it stands in a text, and reading over changes.
+-- A change as an encoding has it, and reading over changes.
 use Rattle.std.specs.Prelude.{◌≡◌, ℕ, Bool, not, ◌&&◌, ◌||◌, ◌==◌, if◌then◌else◌, List, [], ◌∷◌, length, Option, Some, None, Result, Ok, Err}
 use Rattle.std.specs.List.{list_any}
 use Rattle.mon_bytes.specs.Reading.{Reading}
@@ -13,14 +13,14 @@ use Rattle.mon_tx.specs.Text.{is_range}
 use Rattle.mon_tx.specs.Fields.{◌>>=◌}
 use Rattle.mon_tx.specs.Decode.{op_at, ops_at}
 
--- the change that it spells
+-- the change that it encodes
 abbrev pub change : Spelled → Op
 change (spelled.Put prefix key value) = Put prefix.now key.now value.now
 change (spelled.Erase prefix key) = Erase prefix.now key.now
 change (spelled.ErasePrefix prefix) = ErasePrefix prefix.now
 change (spelled.EraseRange prefix from to) = EraseRange prefix.now from to
 
--- whether the next change is a range, and where the one behind it begins
+-- whether the next change is a range, and where the one after it begins
 abbrev pub range_at : ℕ → Reading → Result (Bool × Reading) TxRefused
 range_at format c = do
   op ← op_at format c
@@ -32,13 +32,13 @@ with_range before read = do
   ops ← read
   Ok (before || list_any is_range ops.0, ops.1)
 
--- whether there is a range among so many changes
+-- whether there is a range among this many changes
 abbrev pub ranges_at : ℕ → ℕ → Reading → Result (Bool × Reading) TxRefused
 ranges_at format count c = do
   ops ← ops_at format count c
   Ok (list_any is_range ops.0, ops.1)
 
--- the changes that are left of a text of this format: so many, and nothing behind them; `ranged` tells whether a range was
+-- the changes that are left of a text of this format: this many, and nothing after them; `ranged` says whether a range was
 -- read before
 unfoldable pub unread : ℕ → ℕ → Bool → Reading → Result (List Op) TxRefused
 unread format left ranged c = do
@@ -50,7 +50,7 @@ unread format left ranged c = do
 abbrev pub rest_of : SpelledOps → Result (List Op) TxRefused
 rest_of s = unread s.format s.left s.ranged s.cursor
 
--- What a call answers that reads the next change, where `before` was to be read and `after` still is.
+-- What a call returns that reads the next change, if `before` was left to read and `after` still is.
 abbrev pub GoesOn : Result (Option Spelled) TxRefused → Result (List Op) TxRefused → Result (List Op) TxRefused → Type 0
 GoesOn (Ok (Some op)) before after = before ≡ (after >>= λ ops. Ok (change op ∷ ops))
 GoesOn (Ok None) before after = before ≡ Ok []

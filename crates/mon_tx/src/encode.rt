@@ -157,14 +157,14 @@ fn text_of(alloc: Global, len: usize, ops: &[Op]) -> Result<Vec<u8>, OutOfMemory
 }
 
 impl Transaction {
-    /// How many bytes the one text of the transaction has, 2^64 - 1 where that is more. It takes no memory.
+    /// How many bytes the transaction's encoding has, or 2^64 - 1 if it has more. No memory is allocated.
     pub fn text_len(&self) -> u64
         ensures { result ≡ min (length (text self.now)) (2 ^ 64 - 1) }
     {
         text_len(self.ops())
     }
 
-    /// The one text of the transaction. `TooLong` exactly where it has more than 4,194,304 bytes.
+    /// The transaction's encoding. `TooLong` if and only if it has more than 4,194,304 bytes.
     pub fn encode(&self) -> Result<Vec<u8>, EncodeRefused>
         ensures text { IfOk result (λ bytes. bytes.items ≡ text self.now) }
         ensures fits { IfOk result (λ bytes. length bytes.items ≤ most) }

@@ -9,7 +9,7 @@ use crate::refusal::TxRefused;
 use mon_bytes::Cursor;
 use mon_types::Version;
 
-/// How many bytes stand before the first that isn't graphic.
+/// How many bytes are before the first that isn't graphic.
 fn graphic_front(bytes: &[u8]) -> usize
     ensures value { result ≡ graphic_front bytes.now }
     ensures most { result ≤ length bytes.now }

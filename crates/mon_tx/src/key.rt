@@ -92,7 +92,7 @@ impl Key {
         }
     }
 
-    /// The key as it stands in a map.
+    /// The key as a map has it.
     pub fn name(self, alloc: Global) -> Result<Name, OutOfMemory>
         ensures { IfOk result (λ name. name ≡ key_text self) }
     {

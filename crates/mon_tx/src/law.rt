@@ -12,14 +12,14 @@ ghost use Rattle.mon_tx.specs.Map.{Place, Store, apply_op, apply, is_within};
 ghost use Rattle.mon_tx.specs.Keys.{decimal_text, key_text, covers};
 ghost use Rattle.mon_tx.specs.Decision.{decision, or_before};
 
-/// The reader takes exactly the texts, and gives the transactions that they spell.
+/// Decoding accepts exactly the encodings, and returns the transactions that they encode.
 pub fn law_reading()
     ensures found { (bytes : List ℕ) (ops : List Op) → IsBytes bytes → transaction_of bytes ≡ Ok ops
         → HasText ops × (bytes ≡ text ops) }
     ensures only { (ops : List Op) → HasText ops → transaction_of (text ops) ≡ Ok ops }
 {}
 
-/// Two transactions that have texts are one where their texts are.
+/// Two transactions with the same encoding are equal.
 pub fn law_one_spelling()
     ensures { (a b : List Op) → HasText a → HasText b → text a ≡ text b → a ≡ b }
 {}
@@ -29,7 +29,7 @@ pub fn law_no_prefix()
     ensures { (a b : List Op) (more : List ℕ) → HasText a → HasText b → text b ≡ text a ++ more → more ≡ [] }
 {}
 
-/// After changes there stands at a place what the last of them decided that speaks of it, and else what stood there.
+/// After changes, a key's value is what the last change of that key set, and otherwise what it was before.
 pub fn law_last_decides()
     ensures { (ops : List Op) (m : Store) (at : Place) → get (apply ops m) at ≡ or_before (decision ops at) (get m at) }
 {}

@@ -22,8 +22,8 @@ pub enum Op {
     ErasePrefix {
         prefix: Prefix,
     },
-    /// Takes every key of the prefix away that is the decimal number, without padding, of a version from `from` up to
-    /// but not including `to`, which is above it. The range goes by number, since such keys don't stand in its order.
+    /// Takes away every key of the prefix that is the decimal number, without padding, of a version from `from` up to
+    /// but not including `to`, which is above it. The range is by number, since such keys aren't in that order.
     EraseRange {
         prefix: Prefix,
         from: Version,

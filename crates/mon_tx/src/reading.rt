@@ -70,16 +70,16 @@ fn read(alloc: Global, bytes: &[u8]) -> Result<Transaction, TxRefused>
     ops_of(alloc, &mut cursor)
 }
 
-/// The transaction that the bytes spell, all of the bytes. It takes memory as it reads, and none for changes that a
-/// text only claims to have.
+/// Decodes a transaction from all of the bytes. Memory is taken as the bytes are read, and none for changes that an
+/// encoding only claims to have.
 pub fn decode(alloc: Global, bytes: &[u8]) -> Result<Transaction, TxRefused>
-    // What is read is spelled so.
+    // What is read is the transaction whose encoding the bytes are.
     ensures found { IfOk result (λ tx. HasText tx × (bytes.now ≡ text tx)) }
 
-    // What is spelled so is read, unless memory runs out.
+    // An encoding is read, unless memory runs out.
     ensures only { (ops : List Op) → HasText ops → bytes.now ≡ text ops → Gives (λ tx. tx) result (Ok ops) }
 
-    // Which fault it is, and where.
+    // Which fault it is, and where it is.
     ensures exact { Gives (λ tx. tx) result (transaction_of bytes.now) }
 {
     read(alloc, bytes)

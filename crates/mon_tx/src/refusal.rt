@@ -19,7 +19,7 @@ pub enum TxRefused {
     /// More bytes than a transaction may have.
     #[error("{len} bytes")]
     TooLong { len: usize },
-    /// The first byte behind the end.
+    /// The first byte after the end.
     #[error("a byte too many at {at}")]
     Rest { at: usize },
     #[error("out of memory")]

@@ -1,4 +1,4 @@
-//! Whether bytes spell a transaction, without memory.
+//! Whether bytes encode a transaction, without memory.
 
 ghost use Rattle.std.specs.Prelude.{◌≡◌, is_ok};
 ghost use Rattle.mon_tx.specs.Fields.{Scans};
@@ -51,7 +51,7 @@ fn is_whole(cursor: &mut Cursor<'_>) -> bool
     format != 2 || range
 }
 
-/// Whether the bytes are at most 4,194,304 and spell a transaction. It takes no memory.
+/// Whether the bytes are at most 4,194,304 and encode a transaction. It takes no memory.
 #[tactic(auto, unfolding(crate::specs::Decode::transaction_of))]
 pub fn is_text(bytes: &[u8]) -> bool
     ensures { result ≡ is_text bytes.now }

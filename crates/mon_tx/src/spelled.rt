@@ -15,7 +15,7 @@ use mon_bytes::{Bytes, Cursor, Name, OutOfMemory, Prefix};
 use mon_types::Version;
 use std::alloc::Global;
 
-/// A change as it stands in a text.
+/// A change as an encoding has it.
 #[derive(Clone, Copy)]
 pub enum Spelled<'a> {
     /// Sets the value of a key.

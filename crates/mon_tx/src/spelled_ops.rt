@@ -1,4 +1,4 @@
-//! The changes that a text spells, read one after the other without memory.
+//! The changes that a text encodes, read one after the other without memory.
 
 ghost use Rattle.std.specs.Prelude.{◌≡◌, ◌<◌, false, [], Err, IfOk, IfErr, IfSome};
 ghost use Rattle.mon_bytes.specs.Answers.{Gives};
@@ -43,7 +43,7 @@ impl<'a> SpelledOps<'a> {
         })
     }
 
-    /// Whether the text may end behind its last change.
+    /// Whether the text may end after its last change.
     fn end(&self) -> Result<(), TxRefused>
         requires { self.now.left ≡ 0 }
         ensures { Gives (λ e. false) (λ _. []) result (rest_of self.now) }
@@ -59,8 +59,8 @@ impl<'a> SpelledOps<'a> {
         Ok(())
     }
 
-    /// The next change, and `None` behind the last one, where the text ends well. An `Err` is what the text is refused
-    /// with; after it the changes are not to be read on.
+    /// The next change, and `None` after the last one, if the text ends well. An `Err` is what the text is refused
+    /// with; after it no more changes may be read.
     pub fn next_op(&mut self) -> Result<Option<Spelled<'a>>, TxRefused>
         ensures op { GoesOn result (rest_of self.old) (rest_of self.new) }
         ensures fits { IfOk result (λ next. IfSome next (λ op. OpFits (change op))) }

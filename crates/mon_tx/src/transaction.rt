@@ -8,7 +8,8 @@ use mon_bytes::{OutOfMemory, TryCopy};
 use std::alloc::Global;
 use std::marker::Model;
 
-/// A list of changes that are made together, in order. Each range in it goes upward.
+/// A list of changes that are made together, in order. Each range in it goes upward. Calls that append changes take
+/// no allocator: a transaction has its own.
 #[derive(Debug, Drop)]
 pub struct Transaction {
     ops: Vec<Op>,

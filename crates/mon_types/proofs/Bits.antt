@@ -44,7 +44,7 @@ filled_one {A} i d x front xs lt count whole =
     ap (λ (ys : List A). set ys i x) cells ∙ ap (λ (n : ℕ). set (front ++ d ∷ replicate (15 - (i + 1)) d) n x) (sym count) ∙ set-seam front d x (replicate (15 - (i + 1)) d)
     ∙ sym (append_assoc front (x ∷ []) (replicate (15 - (i + 1)) d))
 
--- the first r ranks are as the bits tell, and those of the rest are still to come
+-- the first r ranks are as the bits say, and those of the rest are still to come
 pub record Filled (r rest : ℕ) (ranks total : List Bool) : Type 0 where
   pub front : List Bool
   pub count : length front ≡ r

@@ -35,7 +35,7 @@ ranks_from from s = filter (has s) (range_with_len from (15 - from))
 abbrev pub ranks_in : List Bool → List ℕ
 ranks_in s = ranks_from 0 s
 
--- ---- the number whose bit r is 1 exactly where rank r is in the set
+-- ---- the number whose bit r is 1 if and only if rank r is in the set
 
 abbrev pub bit : Bool → ℕ
 bit b = if b then 1 else 0

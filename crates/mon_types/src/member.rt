@@ -12,7 +12,7 @@ pub struct Member {
 }
 
 impl Member {
-    /// `None` exactly where `monitors` isn't 1 to 15 or the rank isn't below it.
+    /// `None` if and only if `monitors` isn't 1 to 15 or the rank isn't below it.
     pub fn new(rank: Rank, monitors: u8) -> Option<Member>
         ensures valid { IsSome result ↔ (rank < monitors) × (monitors ≤ 15) }
         ensures value { IfSome result (λ m. (m.rank ≡ rank) × (m.monitors ≡ monitors)) }

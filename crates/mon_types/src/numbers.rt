@@ -24,7 +24,7 @@ impl<K: Copy> Model for Number<K> {
 }
 
 impl<K: Copy> Number<K> {
-    /// The number `n`, or `None` exactly where it is above 2^62.
+    /// The number `n`, or `None` if and only if it is above 2^62.
     pub fn new(n: u64) -> Option<Number<K>>
         ensures valid { IsSome result ↔ (n ≤ 2 ^ 62) }
         ensures value { IfSome result (λ x. x ≡ n) }
@@ -86,7 +86,7 @@ pub struct OfPn;
 #[derive(Clone, Copy, Debug, PartialEq, Eq, PartialOrd, Ord)]
 pub struct OfEpoch;
 
-/// Marks a moment.
+/// Marks a point in time.
 #[derive(Clone, Copy, Debug, PartialEq, Eq, PartialOrd, Ord)]
 pub struct OfMoment;
 
@@ -99,5 +99,5 @@ pub type Pn = Number<OfPn>;
 /// An election epoch: odd while an election runs, even in a quorum.
 pub type Epoch = Number<OfEpoch>;
 
-/// A moment, in milliseconds.
+/// A point in time, in milliseconds.
 pub type Moment = Number<OfMoment>;

@@ -5,7 +5,7 @@ use crate::numbers::Pn;
 use crate::rank::Rank;
 
 /// The proposal number that `rank` takes above both `last` and `gt`: the next hundred, plus the rank, so that no two
-/// ranks take the same one. `None` exactly where that is above 2^62.
+/// ranks take the same one. `None` if and only if that is above 2^62.
 pub fn next_pn(last: Pn, gt: Pn, rank: Rank) -> Option<Pn>
     ensures fits { IsSome result ↔ (next_number last gt rank ≤ 2 ^ 62) }
     ensures value { IfSome result (λ pn. pn ≡ next_number last gt rank) }

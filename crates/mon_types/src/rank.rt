@@ -19,7 +19,7 @@ impl Model for Rank {
 }
 
 impl Rank {
-    /// The rank `r`, or `None` exactly where it is above 14.
+    /// The rank `r`, or `None` if and only if it is above 14.
     pub fn new(r: u8) -> Option<Rank>
         ensures valid { IsSome result ↔ (r ≤ 14) }
         ensures value { IfSome result (λ rank. rank ≡ r) }

@@ -86,7 +86,7 @@ impl RankSet {
         Ranks { set: self, next: 0 }
     }
 
-    /// The number whose bit r is 1 exactly where rank r is in the set.
+    /// The number whose bit r is 1 if and only if rank r is in the set.
     pub fn to_bits(self) -> u16
         ensures value { result ≡ to_bits self }
         ensures most { result < 2 ^ 15 }

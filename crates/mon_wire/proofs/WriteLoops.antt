@@ -1,4 +1,4 @@
--- What loops that spell need: each item has what all have, and a map that is shown is short.
+-- What loops that encode need: each item has what all have, and a map that is shown is short.
 use Rattle.std.proofs.Common.{◌≡◌, ℕ, zero, suc, ◌^◌, ◌<◌, List, [], ◌∷◌, length, get_or, sym, subst, arith}
 use Rattle.std.specs.List.{AllByRecursion}
 use Rattle.mon_wire.specs.declared.reply.ShownMap.{ShownMap}

@@ -19,7 +19,7 @@ pub enum Body {
         first: Version,
         last: Version,
     },
-    /// The sender stands for election. Where scores count it tells its table.
+    /// The sender stands for election. If scores count, it sends its table.
     Propose {
         table: Option<ScoreTable>,
     },
@@ -29,14 +29,15 @@ pub enum Body {
     Victory {
         quorum: RankSet,
     },
-    /// The leader asks under its number what the peon accepted, and tells the versions that it keeps itself.
+    /// The leader asks, under its proposal number, what the peon accepted, and sends the range of versions that it
+    /// keeps itself.
     Collect {
         pn: Pn,
         first: Version,
         last: Version,
     },
-    /// The answer to a collect: the promise, the versions that are kept, committed values from the version `from` on, and
-    /// the pending value. `whole` tells that nothing which the leader lacks was left out.
+    /// The answer to a collect: the promise, the versions that are kept, committed values from the version `from` on,
+    /// and the pending value. `whole` says that nothing which the leader lacks was left out.
     Last {
         pn: Pn,
         first: Version,
@@ -117,7 +118,7 @@ pub enum Body {
     NoCookie {
         cookie: Cookie,
     },
-    /// Are you there? Where scores count the sender tells its table.
+    /// Are you there? If scores count, the sender sends its table.
     Ping {
         table: Option<ScoreTable>,
     },

@@ -1,4 +1,4 @@
-//! Messages, spelled.
+//! Messages, encoded.
 
 ghost use Rattle.std.specs.Prelude.{◌≡◌, ℕ, ◌≤◌, ◌∷◌, ◌++◌, IfOk, OnOk};
 ghost use Rattle.mon_wire.specs.Message.Fields.{number_bytes};
@@ -52,7 +52,7 @@ fn kind_byte(n: u8, own: Rank, body: &Body) -> u8
     }
 }
 
-/// Appends what a message of the monitor `own` of `n` says behind its header.
+/// Appends what follows the header of a message of the monitor `own` of `n`.
 fn write_body(out: &mut Out, n: u8, own: Rank, body: &Body) -> Result<(), OutOfMemory>
     requires few { n ≤ 15 }
     requires form { (spelled n own body.now).Form }

@@ -1,4 +1,4 @@
-//! How many bytes messages take, told without spelling them. A count that would pass 2^64 - 1 is 2^64 - 1.
+//! How many bytes messages take, found without encoding them. Counts saturate at 2^64 - 1.
 
 ghost use Rattle.std.specs.Prelude.{◌≡◌, ℕ, ◌+◌, ◌-◌, ◌^◌, ◌<◌, min, length};
 ghost use Rattle.mon_bytes.specs.declared.command.Command.TheVariants as command;
@@ -167,7 +167,7 @@ fn chunk_len(place: &Place, values: &[Transaction], entries: &[Entry]) -> usize
         .saturating_add(entries_len(entries))
 }
 
-/// The length of what a message among `n` monitors says behind its header.
+/// The length of what follows the header of a message among `n` monitors.
 fn body_len(n: u8, body: &Body) -> usize
     ensures { result ≡ min (body_length n body.now) (2 ^ 64 - 1) }
 {
@@ -217,10 +217,11 @@ fn body_len(n: u8, body: &Body) -> usize
 }
 
 impl Message {
-    /// How many bytes the message takes, told by its parts and so without its text. A count that would pass 2^64 - 1 is
-    /// 2^64 - 1. It takes no memory.
+    /// How many bytes the message takes, found from its parts, without its encoding. The count saturates at 2^64 - 1.
+    /// No memory is taken.
     pub fn len(&self) -> usize
-        // For every message of the form of messages, which has a text where that is short enough, it is the text's length.
+        // For every message of the form of messages, which has an encoding if that is short enough, it is the
+        // encoding's length.
         ensures text { IsMessage self.now → result ≡ min (length (text self.now)) (2 ^ 64 - 1) }
         // The number by the parts, for every message.
         ensures parts { result ≡ min (message_length self.now.monitors self.now.body) (2 ^ 64 - 1) }

@@ -5,7 +5,7 @@ use mon_bytes::OutOfMemory;
 use mon_types::{Epoch, Rank};
 use std::alloc::Global;
 
-/// What one monitor tells another, or a client and a monitor tell each other.
+/// What one monitor sends another, or a client and a monitor send each other.
 #[derive(Drop)]
 pub struct Message {
     /// The sender. It is 0 in a client's request.

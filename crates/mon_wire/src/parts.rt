@@ -5,7 +5,8 @@ use mon_tx::Transaction;
 use mon_types::{Pn, Version};
 use std::alloc::Global;
 
-/// A pending value that a peon tells its leader of: one that it accepted under this number and doesn't know as committed.
+/// A pending value that a peon sends its leader: one that it accepted under this number and doesn't know as
+/// committed.
 #[derive(Debug, Drop)]
 pub struct Told {
     pub pn: Pn,

@@ -1,4 +1,4 @@
-/// Where a monitor stands.
+/// The phase of a monitor.
 #[derive(Clone, Copy, Debug, PartialEq, Eq)]
 pub enum Phase {
     /// Not started yet.

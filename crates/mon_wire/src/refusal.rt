@@ -14,7 +14,7 @@ pub enum MsgKind {
     Format,
     /// No message has this kind.
     Kind,
-    /// There are no so many monitors, or the sender isn't one of them.
+    /// There can't be this many monitors, or the sender isn't one of them.
     From,
     /// A number is above 2^62.
     Number,
@@ -22,7 +22,7 @@ pub enum MsgKind {
     Value,
     /// The message has more than 1,048,576 bytes.
     TooLong,
-    /// A byte stands behind the end.
+    /// A byte follows the end.
     Rest,
 }
 

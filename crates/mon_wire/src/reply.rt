@@ -56,18 +56,18 @@ pub enum Reply {
         len: u64,
         most: u64,
     },
-    /// The service's map would take so many bytes, more than it may.
+    /// The service's map would take this many bytes, more than it may.
     MapFull {
         would_be: u64,
     },
     /// The monitor is in no quorum.
     Unavailable,
-    /// The version `has` can't be read now. `lease` tells whether the lease stands.
+    /// The version `has` can't be read now. `lease` says whether the lease is valid.
     NotReadable {
         has: Version,
         lease: bool,
     },
-    /// So many commands wait already.
+    /// This many commands wait already.
     Busy {
         waiting: u64,
     },

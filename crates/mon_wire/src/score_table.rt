@@ -5,8 +5,8 @@ use mon_bytes::OutOfMemory;
 use std::alloc::Global;
 use std::marker::Model;
 
-/// A table of scores that a message tells. Few messages tell one, and it is far larger than all else that a body holds: so
-/// it stands on the heap, and a body takes little room. Contracts see the scores.
+/// A table of scores in a message. Few messages have one, and it is far larger than all else in a body. So it is on
+/// the heap, and a body takes little room. Contracts see the scores.
 #[derive(Drop)]
 pub struct ScoreTable {
     scores: Box<Scores>,
@@ -21,7 +21,7 @@ impl Model for ScoreTable {
 }
 
 impl ScoreTable {
-    /// The table that tells these scores.
+    /// The table of these scores.
     pub fn of(alloc: Global, scores: &Scores) -> Result<ScoreTable, OutOfMemory>
         ensures { IfOk result (λ table. table ≡ scores.now) }
     {
@@ -30,7 +30,7 @@ impl ScoreTable {
         })
     }
 
-    /// The scores that it tells.
+    /// The scores of the table.
     pub fn scores(&self) -> &Scores
         ensures { result.now ≡ self.now }
     {

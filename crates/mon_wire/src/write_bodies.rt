@@ -1,4 +1,4 @@
-//! The bodies of messages that have several fields, spelled.
+//! The bodies of messages that have several fields, encoded.
 
 ghost use Rattle.std.specs.Prelude.{◌≡◌, ℕ, ◌++◌, OnOk};
 ghost use Rattle.mon_wire.specs.Message.Format.{◌⊗◌, list};

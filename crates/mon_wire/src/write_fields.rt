@@ -1,4 +1,4 @@
-//! The fields of messages, spelled.
+//! The fields of messages, encoded.
 
 ghost use Rattle.std.specs.Prelude.{◌≡◌, ℕ, ◌<◌, ◌^◌, ◌∷◌, [], ◌++◌, length, OnOk};
 ghost use Rattle.mon_bytes.specs.Forms.{text_bytes};

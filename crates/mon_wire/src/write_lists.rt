@@ -1,4 +1,4 @@
-//! The lists and tables of messages, spelled.
+//! The lists and tables of messages, encoded.
 
 ghost use Rattle.std.specs.Prelude.{◌≡◌, ℕ, ◌≤◌, ◌<◌, ◌^◌, ◌++◌, length, take, OnOk};
 ghost use Rattle.std.specs.List.{flat_map, AllByRecursion};

@@ -1,4 +1,4 @@
-//! The parts of messages that are made of fields, spelled.
+//! The parts of messages that are made of fields, encoded.
 
 ghost use Rattle.std.specs.Prelude.{◌≡◌, ℕ, ◌≤◌, ◌<◌, ◌^◌, ◌++◌, length, OnOk};
 ghost use Rattle.mon_bytes.specs.Forms.{text_bytes};
@@ -95,7 +95,7 @@ fn request_byte(request: &Request) -> u8
     }
 }
 
-/// What stands behind the kind.
+/// What follows the kind.
 fn write_fields(out: &mut Out, request: &Request) -> Result<(), OutOfMemory>
     requires { a_request.Form request.now }
     ensures { OnOk result (out.new ≡ out.old ++ (request_spelled request.now).text) }

@@ -1,4 +1,4 @@
-//! Replies, spelled.
+//! Replies, encoded.
 
 ghost use Rattle.std.specs.Prelude.{◌≡◌, ℕ, ◌<◌, ◌^◌, ◌++◌, OnOk};
 ghost use Rattle.mon_wire.specs.Message.Parts.{shown_text, shown_length};
@@ -79,7 +79,7 @@ fn write_since(
     write_blobs(out, incrementals)
 }
 
-/// What stands behind the kind.
+/// What follows the kind.
 fn write_fields(out: &mut Out, reply: &Reply) -> Result<(), OutOfMemory>
     requires { a_reply.Form reply.now }
     ensures { OnOk result (out.new ≡ out.old ++ (reply_spelled reply.now).text) }

@@ -31,7 +31,7 @@ found_at {A = A} xs i below = elim ((slice_get_cases xs i).1) as (λ _. (x : A) 
   | inr past ↦ absurd (omega arith)
 ]
 
--- it is one of the map, and it stands as the scene says
+-- it is one of the map, and its state is as the scene says
 pub record Reaches (ms : Monitors) (old : List Monitor) (c : Scene) (a : Arrival) : Type 0 where
   pub me : Me
   pub itself : me_of ms a.rank ≡ Some me
@@ -91,7 +91,7 @@ module _ (ms : Monitors) (w : Model) (p : Plain) (a : Arrival) (me : Me) (comes 
 
 -- ---- how the monitors stand then
 
--- what holds of each one, where one of them comes to another store, state and files
+-- what holds of each one, if one of them comes to another store, state and files
 pub put_each : (P : ℕ → Store → Option State → Files → Type 0) (c : Scene) (i : ℕ) (m : Store) (s : Option State) (f : Files) → P i m s f
     → ((j : ℕ) → j ≢ i → P j (c.world.store j) (c.world.state j) (c.files j))
     → (j : ℕ) → P j (put_at c.world.store i m j) (put_at c.world.state i s j) (put_at c.files i f j)

@@ -56,7 +56,7 @@ slice_all P [] k h = tt
 slice_all P (x ∷ xs) zero h = h.0
 slice_all P (x ∷ xs) (suc k) h = slice_all P xs k h.1
 
--- it comes to one of the monitors, and may
+-- it comes to one of the monitors, and may come
 pub record MayMeet (n : ℕ) (a : Arrival) : Type 0 where
   pub rank : a.rank < n
   pub comes : MayCome a.input

@@ -1,4 +1,4 @@
--- Where the calls are counted from that an upset disk makes, and what is left where it fails.
+-- From where the calls of a failing disk are counted, and what is left if it fails.
 use Rattle.std.proofs.Common.{◌≡◌, ℕ, ◌-◌, ◌≤◌, ◌<◌, false, Option, Some, None, Result, Ok, refl, sym, ap, subst, ◌∙◌, arith}
 use Rattle.mon_disk.specs.MemoryDisk.{MemoryState}
 use Rattle.mon_msg.specs.Protocol.Reaction.{Reaction}
@@ -71,7 +71,7 @@ module _ (u : Upset) (member : Member) (m : Store) (f : Files) (came : Input) (n
   pub opens_first : opening_count from.disk f < from.call → n ≤ from.call
   opens_first late = let e : n ≡ opening_count from.disk f = is ∙ sym same_count in omega arith
 
-  -- a store that is open falls behind them
+  -- a store that is open stops after them
   pub opens_falling : (store : kept.Store MemoryState) → Begins from member m f (Ok (Open store)) → IsFalling from.disk (from.call - n) from.image member m (after_opening f) store
   opens_falling store h = subst (λ (k : ℕ). IsFalling from.disk (from.call - k) from.image member m (after_opening f) store) (sym (is ∙ sym same_count)) h.1
 

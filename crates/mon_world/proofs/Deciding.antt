@@ -32,7 +32,7 @@ live_opened None (Some b) = refl
 live_opened (Some a) None = refl
 live_opened (Some a) (Some b) = refl
 
--- an upset that is counted behind so many calls
+-- a fault that is counted after this many calls
 abbrev pub behind : Upset → ℕ → Upset
 behind u opening = record { disk = u.disk; call = u.call - opening; image = u.image }
 

@@ -46,7 +46,7 @@ follows_each member m n f g a b cache x follows y =
 
 -- ---- what was taken
 
--- what the core remembers that an input comes to
+-- what the core remembers that takes an input
 pub remembers : (me : Me) (s : Option State) (came : Input) (before now to : State) → before ≡ remembered me s → state_at me.member.rank (Some before) came ≡ Some now → state_at me.member.rank s came ≡ Some to → now ≡ to
 remembers me s came before now to is forgets at =
     same_state now to (sym forgets ∙ (ap (λ (x : State). state_at me.member.rank (Some x) came) is ∙ remembered_so me s came to at))

@@ -52,7 +52,7 @@ upset_at c u p met = with_files (all_files_after c (Some u) met) (after_meeting 
 upset_met : (ms : Monitors) (c : Scene) (u : Upset) (p : Plain) (met : Meeting) → meets ms c.world p ≡ met → upset_step ms c u p ≡ upset_at c u p met
 upset_met ms c u p met is = ap (upset_at c u p) is
 
--- where its monitor doesn't react
+-- if its monitor doesn't react
 pub none_fell : (ms : Monitors) (world : World) (c : Scene) (u : Upset) (p : Plain) → StandsFor ms world c → arrival c.world p ≡ None → DoesUpset ms (Ok upshot.NoMessage) world c u p
 none_fell ms world c u p s none =
     let met = meets_none ms c.world p none in
@@ -126,7 +126,7 @@ module _ (c : Scene) (u : Upset) (p : Plain) (i : ℕ) (came : Input) (r : Resul
 
 -- ---- what is left of what a monitor does
 
--- what meets an arrival at the monitor of its rank, where a disk fails
+-- what meets an arrival at the monitor of its rank, if a disk fails
 abbrev pub FallsAt : site.Upset → List Monitor → List Monitor → Arrival → Result (Option Fall) WorldStop → Type 0
 FallsAt u old new a r =
     (before after : Monitor) → slice_get old a.rank ≡ Some before → slice_get new a.rank ≡ Some after
@@ -248,7 +248,7 @@ fell_so ms old mid new c u p a fall told s r comes count others messages log h l
         (fell_kept ms old new c u p a s r comes new_count new_others (leaves.messages ∙ messages) fall marked e falls
         (λ m last mark. grows m last mark ∙ ap (λ (n : ℕ). log_after n m) log))
 
--- ---- what is told of it
+-- ---- what is reported of it
 
 module _ (c : Scene) (u : Upset) (how : Bool → Outcome) where
   line_at : (met : Meeting) → upset_line c u how met ≡ still_line (outcome_of how (upshot_at c u met))

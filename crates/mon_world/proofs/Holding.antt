@@ -1,4 +1,4 @@
--- What stands behind a monitor that is up, or that starts.
+-- What follows a monitor that is up, or that starts.
 use Rattle.std.proofs.Common.{◌≡◌, ℕ, Option, Some, None, Ok, refl, sym, ap, subst, ◌∙◌}
 use Rattle.mon_core.specs.Core.{Monitor as Core}
 use Rattle.mon_core.specs.declared.reaction.Reaction as core

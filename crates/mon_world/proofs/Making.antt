@@ -20,11 +20,11 @@ same_me a b ranks counts rules =
     ap (λ (m : Member). record { member = m; rule = a.rule }) (same_member a.member b.member ranks counts)
     ∙ ap (λ (r : Rule). record { member = b.member; rule = r }) rules
 
--- a monitor stands for who has that rank
+-- a monitor represents who has that rank
 abbrev pub IsNew : (monitors : ℕ) → Rule → (rank : ℕ) → Monitor → Type 0
 IsNew monitors rule rank monitor = (me : Me) → me.member.rank ≡ rank → me.member.monitors ≡ monitors → me.rule ≡ rule → Stands me empty None no_files monitor
 
--- so many were made
+-- this many were made
 pub record Made (monitors : ℕ) (rule : Rule) (list : List Monitor) (so_many : ℕ) : Type 0 where
   pub count : length list ≡ so_many
   pub each : (i : ℕ) (monitor : Monitor) → slice_get list i ≡ Some monitor → IsNew monitors rule i monitor

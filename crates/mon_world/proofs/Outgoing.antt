@@ -1,4 +1,4 @@
--- What goes out behind what went out before.
+-- What goes out after what went out before.
 use Rattle.std.proofs.Common.{◌≡◌, ℕ, suc, ◌+◌, ◌-◌, List, [], ◌∷◌, ◌++◌, length, map, get_or, slice_get, Some, sym, ap, ◌∙◌, refl, arith, append_assoc, length-append}
 use Rattle.std.proofs.lemmas.List.{append-nil, length-map, map-append}
 use Rattle.std.proofs.lemmas.Option.{same_Some, slice_get_read}
@@ -30,7 +30,7 @@ replied-append rank (sent.Message to m ∷ xs) ys = replied-append rank xs ys
 replied-append rank (sent.Reply to r ∷ xs) ys =
     ap (λ (rest : List Replied). record { rank = rank; session = to; reply = r } ∷ rest) (replied-append rank xs ys)
 
--- what went out so far, where so many messages stood before
+-- what went out so far, if this many messages were sent before
 pub record SoFar (rank : ℕ) (before : List Envelope) (sends : List Sent) (messages : List Envelope) (gone : Gone) : Type 0 where
   pub messages_are : map envelope_of messages ≡ map envelope_of before ++ messages_of sends
   pub gone_is : GoesOut rank (suc (length before)) sends gone
@@ -58,7 +58,7 @@ last_there : (xs : List Envelope) (x : Envelope) → slice_get (xs ++ x ∷ []) 
 last_there [] x = refl
 last_there (y ∷ xs) x = last_there xs x
 
--- what stands at the last place
+-- what is at the last place
 pub last_is : (all before : List Envelope) (last found : Envelope) (place : ℕ) → all ≡ before ++ last ∷ [] → place ≡ length all - 1 → found ≡ get_or all place found → found ≡ last
 last_is all before last found place ends at read =
     let many : length all ≡ length before + 1 = omega (arith, ap length ends, length-append before (last ∷ [])) in

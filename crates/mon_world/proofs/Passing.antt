@@ -34,7 +34,7 @@ use Rattle.mon_world.specs.Stands.{StandsFor}
 abbrev Pairs : Type 1
 Pairs = List ℕ → List ℕ → Type 0
 
--- ---- one way behind another
+-- ---- one way after another
 
 module _ (P : Pairs) where
   through_later : (a b : Content) (from to : ℕ × ℕ) (way : List (ℕ × ℕ)) → Through P a b from way to → (from.0 ≤ to.0) × (from.1 ≤ to.1)
@@ -176,7 +176,7 @@ same_stood member m n c d first second =
     let stood : first.stood ≡ second.stood = cc in
     sym first.map ∙ ap (λ (s : Stood). s.kv) stood ∙ second.map
 
--- it stands for one map
+-- it represents one map
 pub same_map : (me : Me) (m n : Store) (s t : Option State) (f g : Files) (monitor : Monitor) → Stands me m s f monitor → Stands me n t g monitor → m ≡ n
 same_map me m n s t f g monitor first second =
     same_stood me.member m n _ _ (kept_rests me m s f monitor.kept first.holds).opens (kept_rests me n t g monitor.kept second.holds).opens

@@ -25,7 +25,7 @@ use Rattle.mon_world.proofs.Coming.{all_spoken, event_spoken}
 -- ---- the run
 
 module _ (ms : Monitors) (there : World) (e : Event) where
-  -- what happens behind events that stop nothing
+  -- what happens after events that stop nothing
   ran_on : (w : World) (events : List Event) → run_from ms w events ≡ there → (ran_from ms w events).stop ≡ None → ran_from ms w (events ++ e ∷ []) ≡ ran_from ms there (e ∷ [])
   unfolding ran_from
   ran_on w [] is none = ap (λ (w : World). ran_from ms w (e ∷ [])) is

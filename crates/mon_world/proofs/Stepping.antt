@@ -174,7 +174,7 @@ module _ (ms : Monitors) (old mid : World) (c : Scene) (p : Plain) (a : Arrival)
           unmoved_stands ms old mid c (plain_event p) s count (still_each ms old.monitors.items mid.monitors.items c a r s.each count others here) messages log,
         )
 
-    -- it does something, and that is told
+    -- it does something, and that is reported
     pub met_turn : (new : World) (t : Turn) (line : StepLine) → MeetsAt old.monitors.items mid.monitors.items a (Ok (Some t)) → Tells a.rank t mid new line
         → Does ms (Ok line) new (step ms c (events.Plain p))
     unfolding does files_kept

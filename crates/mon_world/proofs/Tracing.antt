@@ -1,4 +1,4 @@
--- The trace of a schedule's events tells their run.
+-- The trace of a schedule's events reports their run.
 use Rattle.std.proofs.Common.{◌≡◌, ℕ, suc, ◌+◌, Bool, true, false, List, [], ◌∷◌, ◌++◌, length, map, Result, Ok, Err, arith, refl, sym, ap, ◌∙◌, append_assoc}
 use Rattle.std.proofs.lemmas.Bool.{cond_both}
 use Rattle.std.proofs.lemmas.List.{append-nil, map-append}
@@ -55,14 +55,14 @@ traces_from ms c (e ∷ es) =
     let met = meets ms c.world s.plain in
     by ms c es (line_of c e met) (all_files_after c s.upset met) (happens ms c.world (event_in ms c s)) (λ next. traces_from ms next es)
 
--- ---- what is told of one event
+-- ---- what is reported of one event
 
--- the line tells what went out between two worlds
+-- the line has what was sent between two worlds
 record Tells (old new : World) (line : StepLine) : Type 0 where
   pub replies : map as_told new.replied ≡ map as_told old.replied ++ line.replies
   pub messages : numbered 1 new.messages ≡ numbered 1 old.messages ++ line.sent
 
--- where the event has a world
+-- if the event has a world
 abbrev TellsIn : World → StepLine → Result World Stop → Type 0
 TellsIn w line (Ok next) = Tells w next line
 TellsIn w line (Err stop) = Unit {0}
@@ -73,7 +73,7 @@ replies_told event rank m (sent.Message to x ∷ sends) = replies_told event ran
 replies_told event rank m (sent.Reply to r ∷ sends) =
     ap (λ (others : List Replied). record { rank = rank; session = to; reply = r } ∷ others) (replies_told event rank m sends)
 
--- nothing went out, and nothing is told
+-- nothing went out, and nothing is reported
 still : (old new : World) (how : Outcome) → new.replied ≡ old.replied → new.messages ≡ old.messages → Tells old new (still_line how)
 still old new how replies messages = record {
   replies = ap (map as_told) replies ∙ sym (append-nil (map as_told old.replied));
@@ -130,7 +130,7 @@ tells_event ms c (events.Plain p) = comes c.world (plain_event p) (meets ms c.wo
 tells_event ms c (events.Crash disk call image p) = falls c (plain_event p) (record { disk = disk; call = call; image = image }) outcome.Crashed (meets ms c.world (plain_event p))
 tells_event ms c (events.Fail disk call image p) = falls c (plain_event p) (record { disk = disk; call = call; image = image }) outcome.Failed (meets ms c.world (plain_event p))
 
--- ---- what is told of a run
+-- ---- what is reported of a run
 
 record AllTold (c : Scene) (t : Traced) : Type 0 where
   pub replies : map as_told t.scene.world.replied ≡ map as_told c.world.replied ++ flat_map (λ (l : StepLine). l.replies) t.lines

@@ -39,7 +39,7 @@ pub record MayBe (u : Upset) : Type 0 where
   pub most : u.call ≤ 65535
   pub image : u.image ≤ 3
 
--- A start's calls are counted from its opening on, and those of another input from behind an opening of so many calls.
+-- A start's failing call is counted from its opening on, and that of another input after an opening of this many calls.
 abbrev pub counted : Upset → Input → ℕ → Upset
 counted u input.Start opening = u
 counted u other opening = record { disk = u.disk; call = u.call + opening; image = u.image }
@@ -72,7 +72,7 @@ abbrev pub Ends : Upset → Member → Store → Files → Result Reaction Which
 Ends u member m f r (Ok fallen) = (x : Reaction) × (r ≡ Ok x) × Settled u member m f x.transaction fallen
 Ends u member m f r (Err e) = Stops e (unless_stopped m r)
 
--- ---- as the model says, where the monitor's reaction to an input is this
+-- ---- as the model says, if the monitor's reaction to an input is this
 
 -- whether it is kept
 unfoldable pub keeps : Upset → Store → Files → Input → Result Reaction Which → Bool
@@ -106,7 +106,7 @@ abbrev pub Falls : Upset → Member → Store → Files → Input → Result Rea
 Falls u member m f came r (Ok fallen) = IsLeft u member m f came r fallen
 Falls u member m f came r (Err e) = StopsKept e (keeps u m f came r) (unless_stopped m r)
 
--- whether the map is marked then, where it is kept
+-- whether the map is marked then, if the transaction is kept
 abbrev pub marked_if : Bool → Store → Option Bool
 marked_if kept m = if kept then Some (is_marked m) else None
 

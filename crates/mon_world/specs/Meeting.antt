@@ -23,7 +23,7 @@ use Rattle.mon_world.specs.Monitor.{IsDone, Stands, does, files_kept}
 use Rattle.mon_world.specs.Step.{state_before, state_of, told}
 use Rattle.mon_world.specs.Stops.{Stops}
 
--- The monitor, which stood so before, does what the protocol says, and that is kept.
+-- The monitor, whose state was this, does what the protocol says, and that is kept.
 pub record IsTurn (me : Me) (now : ℕ) (m : Store) (s : State) (f : Files) (before : Option StateLine) (came : Input)
     (t : Turn) (new : Monitor) : Type 0 where
   pub state : State
@@ -38,7 +38,7 @@ abbrev pub Turns : Me → (now : ℕ) → Store → State → Files → Option S
 Turns me now m s f before came new (Ok t) = IsTurn me now m s f before came t new
 Turns me now m s f before came new (Err e) = Stops e (does me now m s came)
 
--- nothing, where the monitor is down and doesn't start
+-- nothing, if the monitor is down and doesn't start
 abbrev pub Meets : Me → (now : ℕ) → Store → Option State → Files → Input → Monitor →
     Result (Option Turn) WorldStop → Type 0
 Meets me now m s f came new (Ok None) = (state_at me.member.rank s came ≡ None) × Stands me m s f new

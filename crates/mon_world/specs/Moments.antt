@@ -1,4 +1,4 @@
--- What a crash leaves of a monitor's two disks, at each moment of an event.
+-- What a crash leaves of a monitor's two disks, at each time of an event.
 use Rattle.std.specs.Prelude.{◌≡◌, ℕ, ◌≤◌, List, [], ◌∷◌, Option, Some, None, Result, Ok, Err, slice_get}
 use Rattle.mon_disk.specs.Images.{Content}
 use Rattle.mon_disk.specs.MemoryDisk.{MemoryState}
@@ -18,22 +18,21 @@ use Rattle.mon_world.specs.declared.monitor.Monitor.{Monitor}
 use Rattle.mon_world.specs.declared.stop.WorldStop.{WorldStop}
 use Rattle.mon_world.specs.declared.world.World.{World}
 
--- From two moments of the disks to two others, a crash leaves two images that have P, whichever of these moments they
--- stood at.
+-- From two times of the disks to two others, a crash leaves two images that have P, whichever of these times they were at.
 pub record Between (P : List ℕ → List ℕ → Type 0) (a b : Content) (from to : ℕ × ℕ) : Type 0 where
   pub a_later : from.0 ≤ to.0
   pub b_later : from.1 ≤ to.1
   pub each : (s t : ℕ) (c d : List ℕ) → from.0 ≤ s → s ≤ to.0 → from.1 ≤ t → t ≤ to.1 → a.images_at s c →
       b.images_at t d → P c d
 
--- The same by way of other moments, in order.
+-- The same by way of other times, in order.
 abbrev pub Through : (List ℕ → List ℕ → Type 0) → Content → Content → (from : ℕ × ℕ) → List (ℕ × ℕ) →
     (to : ℕ × ℕ) → Type 0
 Through P a b from [] to = Between P a b from to
 Through P a b from (mid ∷ mids) to = Between P a b from mid × Through P a b mid mids to
 
--- What two disks go through: what a crash might have left before stands, and at each moment since then a crash leaves
--- two images that have P.
+-- What two disks go through: what a crash might have left before stays so, and at each time since then a crash leaves two
+-- images that have P.
 pub record Passes (P : List ℕ → List ℕ → Type 0) (old_a old_b new_a new_b : MemoryState) : Type 0 where
   pub a : Lasts (content old_a) (content new_a)
   pub b : Lasts (content old_b) (content new_b)
@@ -60,7 +59,7 @@ PassesTurn member m (Ok None) old new = new ≡ old
 PassesTurn member m (Ok (Some t)) old new = PassesAt (OpensEither member m (apply t.reaction.tx m)) old new
 PassesTurn member m (Err e) old new = Unit {0}
 
--- From one scene to the next each monitor opens, after a crash at any moment, the map from before or from after it.
+-- From one scene to the next each monitor opens, after a crash at any time, the map from before or from after it.
 abbrev pub EachPasses : Monitors → (before after : Scene) → (old new : World) → Type 0
 EachPasses ms before after old new = (i : ℕ) (me : Me) (x y : Monitor) → me_of ms i ≡ Some me →
     slice_get old.monitors.items i ≡ Some x → slice_get new.monitors.items i ≡ Some y →

@@ -1,4 +1,4 @@
--- What a monitor with its two disks stands for, and what an input makes of it.
+-- What a monitor with its two disks represents, and the effect of an input on it.
 use Rattle.std.specs.Prelude.{◌≡◌, ℕ, ◌≤◌, List, length, Option, Some, None, Result, Ok, Err}
 use Rattle.std.specs.List.{AllByRecursion}
 use Rattle.mon_bounds.specs.Fitting.{MaySend}
@@ -50,7 +50,7 @@ Holds me m s f kept = ⊥
 abbrev pub IsHeld : Me → Kept → Type 0
 IsHeld me kept = (m : Store) × (s : Option State) × (f : Files) × Holds me m s f kept
 
--- A monitor stands for a store, for what it remembers while it is up, and for its files.
+-- A monitor represents a store, for what it remembers while it is up, and for its files.
 pub record Stands (me : Me) (m : Store) (s : Option State) (f : Files) (monitor : Monitor) : Type 0 where
   pub me_is : monitor.me ≡ me
   pub last : monitor.last ≡ last_of m
@@ -85,7 +85,7 @@ pub record Takes (me : Me) (m : Store) (s : Option State) (f : Files) (taken : T
   pub state : taken.core.state ≡ remembered me s
   pub follows : Follows taken.core.cache (readings_of m)
 
--- what a transaction over a map leaves of the files, with the checkpoint behind it that is due, if one is
+-- what a transaction over a map leaves of the files, with the checkpoint after it, if one is due
 unfoldable pub files_kept : Store → Files → List Op → Files
 files_kept m f ops = after_checkpoint (apply ops m) (after_append ops f)
 

@@ -1,4 +1,4 @@
--- What the code's world stands for.
+-- What the code's world represents.
 use Rattle.std.specs.Prelude.{◌≡◌, ℕ, ◌<◌, ◌≤◌, List, [], ◌∷◌, ◌++◌, length, map, slice_get, Option, Some, None, Result, Ok, Err}
 use Rattle.std.specs.List.{AllByRecursion}
 use Rattle.mon_bounds.specs.Fitting.{MayCome}
@@ -39,17 +39,17 @@ envelope_of e = record { to = e.to; message = e.message }
 abbrev pub arrival_of : Arrival → meeting.Arrival
 arrival_of a = record { rank = a.rank; at = a.at; input = a.input }
 
--- a message to one of so many monitors, which may come
+-- a message to one of this many monitors, which may be delivered
 pub record MayArrive (n : ℕ) (e : model.Envelope) : Type 0 where
   pub to : e.to < n
   pub comes : MayCome (input.Deliver e.message)
 
--- the monitor of a rank stands for a store, a state and files
+-- the monitor of a rank represents a store, a state and files
 abbrev pub StandsAt : Monitors → List Monitor → ℕ → Store → Option State → Files → Type 0
 StandsAt ms monitors i m s f = (me : Me) (monitor : Monitor) → me_of ms i ≡ Some me →
     slice_get monitors i ≡ Some monitor → Stands me m s f monitor
 
--- each stands for the scene's
+-- each represents that of the scene
 abbrev pub EachStands : Monitors → List Monitor → Scene → Type 0
 EachStands ms monitors c = (i : ℕ) → StandsAt ms monitors i (c.world.store i) (c.world.state i) (c.files i)
 
@@ -65,14 +65,14 @@ pub record StandsFor (ms : Monitors) (world : World) (c : Scene) : Type 0 where
 abbrev pub IsWorld : World → Type 0
 IsWorld world = (ms : Monitors) × (c : Scene) × StandsFor ms world c
 
--- It stands for a list of events: their run comes to the scene's world, and nothing stops it.
+-- It represents a list of events: their run ends in the scene's world, and nothing stops it.
 pub record StandsForRun (ms : Monitors) (events : List model.Event) (world : World) (c : Scene) : Type 0 where
   pub fit : AllFit ms.count events
   pub comes_to : run ms events ≡ c.world
   pub goes_on : (ran ms events).stop ≡ None
   pub stands : StandsFor ms world c
 
--- such a list with an event of a schedule behind it, in the scene to which it leads
+-- such a list with an event of a schedule after it, in the scene to which it leads
 abbrev pub and_event : Monitors → List model.Event → Scene → Event → List model.Event
 and_event ms events c e = events ++ event_in ms c (scheduled_of e) ∷ []
 
@@ -101,13 +101,13 @@ Leads there (Err e) wanted = Stops e wanted
 abbrev pub Does : Monitors → Result StepLine WorldStop → World → Result (Scene × StepLine) happens.Stop → Type 0
 Does ms result new wanted = Leads (StandsFor ms new) result wanted
 
--- what comes of what was met, where a disk is to fail
+-- the result of what was met, if a disk is to fail
 abbrev pub upshot_at : Scene → Upset → Meeting → Upshot
 upshot_at c u (Reacts i came result) = upshot.Stopped (kept_at c u (Reacts i came result))
 upshot_at c u NoMessage = upshot.NoMessage
 upshot_at c u Down = upshot.Down
 
--- the scene after what comes, where a disk fails
+-- the scene after an input, if a disk fails
 abbrev pub upset_step : Monitors → Scene → Upset → model.Plain → Result Scene happens.Stop
 upset_step ms c u p = scene_after ms c (record { plain = p; upset = Some u })
 

@@ -1,4 +1,4 @@
--- What an event's lines tell.
+-- What an event's lines say.
 use Rattle.std.specs.Prelude.{ℕ, suc, ◌&&◌, Bool, List, [], ◌∷◌, max, length, Option, Some, None, Result, Ok, Err, ◌==◌, if◌then◌else◌}
 use Rattle.mon_kv.specs.Readers.{is_marked}
 use Rattle.mon_tx.specs.Map.{Store}
@@ -34,7 +34,7 @@ state_of m s = record { phase = s.phase; epoch = epoch_of (readings_of m); last 
 abbrev pub same_state : StateLine → StateLine → Bool
 same_state a b = same_phase a.phase b.phase && (a.epoch == b.epoch && a.last == b.last)
 
--- the state is told after a start, and where it changed
+-- the state is reported after a start, and if it changed
 abbrev pub told : Option StateLine → StateLine → Option StateLine
 told None now = Some now
 told (Some before) now = if same_state before now then None else Some now
@@ -43,7 +43,7 @@ abbrev pub state_if_up : Store → Option State → Option StateLine
 state_if_up m None = None
 state_if_up m (Some s) = Some (state_of m s)
 
--- what stood before an event; a start forgets it
+-- what was before an event; a start forgets it
 abbrev pub state_before : Store → Option State → Input → Option StateLine
 state_before m s input.Start = None
 state_before m s other = state_if_up m s
@@ -72,7 +72,7 @@ ran_line w rank came r = record {
   replies = replied rank r.sends;
 }
 
--- one line, behind which nothing follows
+-- one line, after which nothing follows
 abbrev pub still_line : Outcome → StepLine
 still_line what = record { outcome = what; ops = 0; state = None; sent = []; replies = [] }
 

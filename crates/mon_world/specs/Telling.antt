@@ -1,4 +1,4 @@
--- What is told of an event, and what the world keeps of it.
+-- What the trace says of an event, and what the world keeps of it.
 use Rattle.std.specs.Prelude.{◌≡◌, ℕ, suc, Bool, ◌++◌, length, map, Option, Some, None, is_some}
 use Rattle.mon_kv.specs.Readers.{is_marked}
 use Rattle.mon_site.specs.declared.upset.Upset.{Upset}
@@ -21,7 +21,7 @@ use Rattle.mon_world.specs.declared.world.World.{World}
 use Rattle.mon_world.specs.Stands.{envelope_of}
 use Rattle.mon_world.specs.Step.{log_after, numbered, replied}
 
--- the lines of what the monitor of a rank did, where so many messages were sent before
+-- the lines of what the monitor of a rank did, if this many messages were sent before
 abbrev pub turn_line : (rank sent : ℕ) → Turn → StepLine
 turn_line rank n t = record {
   outcome = outcome.Ran;
@@ -40,13 +40,13 @@ pub record Tells (rank : ℕ) (t : Turn) (old new : World) (line : StepLine) : T
 
 -- ---- where a disk fails
 
--- the outcome, where that of a monitor that stopped is this one
+-- the outcome, if that of a monitor that stopped is this one
 abbrev pub outcome_of : (Bool → Outcome) → Upshot → Outcome
 outcome_of how upshot.NoMessage = outcome.NoMessage
 outcome_of how upshot.Down = outcome.Down
 outcome_of how (upshot.Stopped kept) = how kept
 
--- what is to become of a monitor: what is told of it where it stopped, and the event that says so
+-- how a monitor is to end: what is reported if it stopped, and the event that says so
 abbrev pub stopped_as : Fault → Bool → Outcome
 stopped_as fault.Crash = outcome.Crashed
 stopped_as fault.Fail = outcome.Failed
@@ -55,7 +55,7 @@ abbrev pub faulty_event : Fault → Upset → Plain → Event
 faulty_event fault.Crash u p = events.Crash u.disk u.call u.image p
 faulty_event fault.Fail u p = events.Fail u.disk u.call u.image p
 
--- the log grows by what a monitor wrote that fell, where that is kept
+-- the log grows by what a stopped monitor wrote, if that is kept
 abbrev pub GrowsIf : Option Bool → (last old new : ℕ) → Type 0
 GrowsIf None last old new = new ≡ old
 GrowsIf (Some marked) last old new = (m : Store) → last ≡ last_of m → marked ≡ is_marked m → new ≡ log_after old m

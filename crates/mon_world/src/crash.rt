@@ -26,21 +26,21 @@ use mon_tx::Transaction;
 use mon_types::{Member, Moment, Version};
 use std::alloc::Global;
 
-/// What a transaction leaves where it is kept: the last version, and whether the store is marked then.
+/// What a transaction leaves if it is kept: the last version, and whether the store is marked then.
 #[derive(Clone, Copy)]
 pub(crate) struct Written {
     pub(crate) last: Version,
     pub(crate) marked: bool,
 }
 
-/// What is left of a monitor that stopped in an event: its disks, and what its transaction left, where that was kept.
+/// What is left of a monitor that stopped in an event: its disks, and what its transaction left, if that was kept.
 #[derive(Drop)]
 pub(crate) struct Fallen {
     pub(crate) disks: NodeDisks<MemoryDisk>,
     pub(crate) kept: Option<Written>,
 }
 
-/// What a transaction leaves where it is kept.
+/// What a transaction leaves if it is kept.
 fn written_by(
     alloc: Global,
     store: &Store<MemoryDisk>,
@@ -79,8 +79,8 @@ fn end_with(
     }
 }
 
-/// The core reacts over an open store, and its transaction is made as far as the disks let it. The upset's call is
-/// counted behind the opening.
+/// The core reacts over an open store, and its transaction is made as far as the disks let it. The failing call is
+/// counted after the opening.
 fn end(
     alloc: Global,
     store: Store<MemoryDisk>,
@@ -99,8 +99,8 @@ fn end(
     end_with(alloc, store, &reaction.tx, upset)
 }
 
-/// The upset of a start is counted from its opening on, and that of any other input from behind an opening of `opening`
-/// calls.
+/// The failing call of a start is counted from its opening on, and that of any other input after an opening of
+/// `opening` calls.
 fn counted_from(upset: Upset, input: &Input, opening: u64) -> Upset
     requires may { MayBe upset }
     requires opening { opening ≤ 7 }

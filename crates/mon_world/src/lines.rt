@@ -1,4 +1,4 @@
-//! What is told of an event.
+//! What is reported of an event.
 
 ghost use Rattle.std.specs.Prelude.{◌≡◌};
 ghost use Rattle.mon_world.specs.Step.{still_line, told};
@@ -8,7 +8,7 @@ use mon_msg::Items;
 use std::alloc::Global;
 use trace_text::{Outcome, Replies, StateLine, StepLine};
 
-/// The state, after a start and where it isn't what it was before.
+/// The state, after a start and if it isn't what it was before.
 pub(crate) fn told(before: Option<StateLine>, now: StateLine) -> Option<StateLine>
     ensures { result ≡ told before now }
 {
@@ -25,7 +25,7 @@ pub(crate) fn told(before: Option<StateLine>, now: StateLine) -> Option<StateLin
     }
 }
 
-/// The lines of an event with one outcome, behind which nothing follows.
+/// The lines of an event with one outcome, after which nothing follows.
 pub(crate) fn still(alloc: Global, outcome: Outcome) -> StepLine
     ensures { result ≡ still_line outcome }
 {

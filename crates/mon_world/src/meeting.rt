@@ -21,11 +21,11 @@ use mon_site::Upset;
 use mon_types::{Moment, Version};
 use trace_text::StateLine;
 
-/// What a monitor did, and what is told of it.
+/// What a monitor did, and what the trace reports of it.
 #[derive(Drop)]
 pub(crate) struct Turn {
     pub(crate) reaction: Reaction,
-    /// Where it stands then, after a start and where that changed.
+    /// Its state, after a start and if it changed.
     pub(crate) told: Option<StateLine>,
     /// The last committed version of its map then.
     pub(crate) last: Version,
@@ -36,7 +36,7 @@ pub(crate) struct Turn {
 /// What is left of a monitor that fell: one in whose event a disk failed.
 #[derive(Clone, Copy)]
 pub(crate) struct Fall {
-    /// Whether its map is marked then, where its transaction is kept.
+    /// Whether its map is marked then, if its transaction is kept.
     pub(crate) kept: Option<bool>,
     /// The last committed version of its map then.
     pub(crate) last: Version,
@@ -49,7 +49,7 @@ fn is_start(input: &Input) -> bool
     matches!(input, Input::Start)
 }
 
-/// What a monitor that is up does at an input. `before` is where it stood.
+/// What a monitor that is up does at an input. `before` is its earlier state.
 fn take_turn(
     monitor: &mut Monitor,
     before: Option<StateLine>,
@@ -90,7 +90,7 @@ fn start(monitor: &mut Monitor, input: &Input, at: Moment) -> Result<Turn, World
     take_turn(monitor, None, input, at)
 }
 
-/// What a monitor does at an input: nothing, where it is down and doesn't start.
+/// What a monitor does at an input: nothing, if it is down and doesn't start.
 pub(crate) fn meet(
     monitor: &mut Monitor,
     input: &Input,
@@ -112,7 +112,7 @@ pub(crate) fn meet(
     }
 }
 
-/// A disk fails in the event of an input at a monitor: nothing comes of it where the monitor is down and doesn't start.
+/// A disk fails in the event of an input at a monitor. Nothing happens if the monitor is down and doesn't start.
 pub(crate) fn meet_upset(
     monitor: &mut Monitor,
     upset: Upset,

@@ -47,7 +47,7 @@ pub(crate) struct Running {
     core: Core,
 }
 
-/// What a monitor keeps: its disks where it is down, and else its open store and its core.
+/// What a monitor keeps: its disks if it is down, and otherwise its open store and its core.
 #[derive(Drop)]
 pub(crate) enum Kept {
     Down(NodeDisks<MemoryDisk>),
@@ -71,7 +71,7 @@ struct Taken {
     core: Core,
 }
 
-/// Takes the disks and the core. One that is down remembers nothing. Two empty disks stay behind.
+/// Takes the disks and the core. One that is down remembers nothing. Two empty disks are left in its place.
 fn take(alloc: Global, me: &Me, kept: &mut Kept) -> Taken
     ensures takes { (m : Map) (s : Option State) (f : Files) → Holds me.now m s f kept.old → Takes me.now m s f result }
     ensures a { result.disks.a ≡ a_of kept.old }
@@ -105,7 +105,7 @@ fn core_at(alloc: Global, me: &Me, core: Core, input: &Input) -> Core
     }
 }
 
-/// What is left of a monitor in whose event of an input a disk fails. Two empty disks stay behind.
+/// What is left of a monitor in whose event of an input a disk fails. Two empty disks are left in its place.
 fn fallen(
     alloc: Global,
     me: &Me,
@@ -174,7 +174,7 @@ impl Running {
         Ok(reaction)
     }
 
-    /// Where the monitor stands.
+    /// The monitor's phase, epoch and last version.
     fn state(&self, alloc: Global) -> StateLine
         requires { IsRunning self.now }
         ensures { (me : Me) (m : Map) (s : State) (f : Files) → IsUp me m s f self.now → result ≡ state_of m s }
@@ -201,7 +201,7 @@ impl Monitor {
         }
     }
 
-    /// Where the monitor stands, where it is up.
+    /// The state of the monitor, if it is up.
     pub(crate) fn state(&self) -> Option<StateLine>
         requires { Standing self.now }
         ensures { (me : Me) (m : Map) (s : Option State) (f : Files) → Stands me m s f self.now →
@@ -269,8 +269,8 @@ impl Monitor {
         }
     }
 
-    /// A disk fails in the event of this input, and the monitor is down. The answer is whether its map is marked, where
-    /// its transaction is kept.
+    /// A disk fails in the event of this input, and the monitor is down. It returns whether its map is marked, if its
+    /// transaction is kept.
     pub(crate) fn fall(
         &mut self,
         upset: Upset,

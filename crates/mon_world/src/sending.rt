@@ -38,7 +38,7 @@ fn last_copy(alloc: Global, messages: &[Envelope]) -> Result<Message, OutOfMemor
     last.message.copy(alloc)
 }
 
-/// A message goes out. It is kept first, and then told by a copy.
+/// A message is sent. It is kept first, and then reported as a copy.
 fn send_message(
     alloc: Global,
     messages: &mut Vec<Envelope>,

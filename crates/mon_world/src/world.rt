@@ -59,7 +59,7 @@ enum Fault {
     Fail,
 }
 
-/// What an event comes to in which a disk is to fail.
+/// The outcome of an event with an injected disk failure.
 #[derive(Clone, Copy)]
 enum Upshot {
     NoMessage,
@@ -72,7 +72,7 @@ impl Upshot {
     ghost use Rattle.std.specs.Prelude.{◌≡◌};
     ghost use Rattle.mon_world.specs.Telling.{outcome_of, stopped_as};
 
-    /// What is told of it.
+    /// What the trace reports of it.
     fn told(self, fault: Fault) -> Outcome
         ensures { result ≡ outcome_of (stopped_as fault) self }
     {
@@ -87,7 +87,7 @@ impl Upshot {
     }
 }
 
-/// An upset, as an event says it.
+/// An injected fault, as an event gives it.
 fn upset_at(disk: Side, call: u16, image: u8) -> Upset
     ensures { result ≡ record { disk = disk; call = call; image = image } }
 {
@@ -107,7 +107,7 @@ pub struct World {
     log: u64,
 }
 
-/// What comes by the sent message of this number, counted from 1, where as many were sent.
+/// The input of the sent message of this number, counted from 1, if there are that many.
 fn delivered(
     alloc: Global,
     messages: &[Envelope],
@@ -261,7 +261,7 @@ impl World {
         self.log
     }
 
-    /// The last committed version of a monitor's map, and 0 where there is none.
+    /// The last committed version of a monitor's map, and 0 if there is none.
     pub fn last_of(&self, rank: Rank) -> Version
         requires { rank < length self.now.monitors.items }
         ensures { (ms : Monitors) (c : Scene) → StandsFor ms self.now c → result ≡ last_of (c.world.store rank) }
@@ -269,7 +269,7 @@ impl World {
         self.monitors[rank.get() as usize].last()
     }
 
-    /// What the monitor of a rank did is kept and goes out, and is told.
+    /// What the monitor of a rank did is kept and sent, and reported.
     fn tell(&mut self, rank: Rank, turn: Turn) -> Result<StepLine, OutOfMemory>
         requires { length (text turn.reaction.tx) ≤ most }
         ensures { IfOk result (λ line. Tells rank turn self.old self.new line) }
@@ -292,7 +292,7 @@ impl World {
         })
     }
 
-    /// What comes to a monitor of the map, and its lines of the trace.
+    /// What comes to a monitor of the quorum map, and its lines of the trace.
     fn come(&mut self, arrival: &Arrival) -> Result<StepLine, WorldStop>
         requires world { IsWorld self.old }
         requires within { arrival.now.rank < length self.old.monitors.items }
@@ -340,7 +340,7 @@ impl World {
         Upshot::Stopped { kept: true }
     }
 
-    /// What comes to a monitor of the map, of which a disk fails.
+    /// What comes to a monitor of the quorum map, one of whose disks fails.
     fn fall(&mut self, arrival: &Arrival, upset: Upset) -> Result<Upshot, WorldStop>
         requires world { IsWorld self.old }
         requires within { arrival.now.rank < length self.old.monitors.items }
@@ -420,12 +420,12 @@ impl World {
         }
     }
 
-    /// One event, and its lines of the trace. It may be any event at a monitor of the map, whether or not a schedule has
-    /// a line for it: a value or text may hold any characters, and a message may have any number. A number that no sent
-    /// message has, as 0, is `NoMessage`. If the world stood for a list of events, it then stands for the list with this
-    /// one added, and the run of that is safe. `Spent` and `Full` are returned if and only if the model's run stops
-    /// before the event, with the same number or size, and `OutOfMemory` if an allocation was refused. After an `Err`
-    /// the world isn't used again.
+    /// One event, and its lines of the trace. It may be any event at a monitor of the quorum map, whether or not a
+    /// schedule has a line for it: a value or text may hold any characters, and a message may have any number. A
+    /// number that no sent message has, as 0, is `NoMessage`. If the world represented a list of events, it then
+    /// represents the list with this one added, and the run of that is safe. `Spent` and `Full` are returned if and
+    /// only if the model's run stops before the event, with the same number or size, and `OutOfMemory` if an
+    /// allocation was refused. After an `Err` the world isn't used again.
     pub fn step(&mut self, event: &Event) -> Result<StepLine, WorldStop>
         requires world { IsWorld self.old }
         requires fits { Fits (length self.old.monitors.items) event.now }
@@ -436,8 +436,8 @@ impl World {
         ensures safe { (ms : Monitors) (c : Scene) (events : List model.Event) → StandsForRun ms events self.old c
             → Safe ms (and_event ms events c event.now) }
 
-        // A crash at any moment of an event in which no disk fails, inside each call on a disk too, leaves each monitor
-        // two images on which it opens the map from before the event or from after it.
+        // A crash at any time of an event in which no disk fails, also inside each call on a disk, leaves each
+        // monitor two images on which it opens the map from before the event or from after it.
         ensures any_moment { (ms : Monitors) (c next : Scene) (p : Plain) → event.now ≡ events.Plain p
             → StandsFor ms self.old c → StandsFor ms self.new next
             → OnOk result (EachPasses ms c next self.old self.new) }

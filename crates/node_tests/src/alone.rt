@@ -29,7 +29,7 @@ const OWN_PROBE: &[u8] = b"\x01\x01\0\x03\x01\0\0\0\0\0\0\0";
 /// Monitor 1 of 3 answers a client.
 const REPLY: &[u8] = b"\x01\x19\x01\x03\x01\0\0\0\0\0\0\0\x08\0\0\0\0\0\0\0\x07";
 
-/// The file of a new store of monitor 0 of 3 with the first header, which is begun anew at once.
+/// The file of a new store of monitor 0 of 3 with the first header, which is begun again at once.
 const FIRST_HEADER: &[u8] = b"\x01CEPHMON1\0\x03\0\0\0\0\0\0\x01\0\0\0\0\0\0\0\0";
 
 /// Whether this is sent to the client: its command is done.
@@ -37,7 +37,7 @@ fn is_answer(sent: &Outgoing) -> bool {
     sent.to == Peer::Client(3) && sent.bytes.as_slice() == DONE
 }
 
-/// How many answers the client was sent, where that is all that was sent.
+/// How many replies the client was sent, if nothing else was sent.
 fn answers(link: &MemoryLink) -> Option<usize> {
     match link.sent() {
         [] => Some(0),
@@ -96,15 +96,15 @@ fn a_due_checkpoint_is_made_before_anything_is_sent(rt: HostRuntime) -> Result<(
     Ok(())
 }
 
-/// Whether a node used so many turns, in each of which it asked its link once.
+/// Whether a node used this many iterations, each of which asked its link once.
 fn used_turns(ended: &Ran, turns: u64) -> bool {
     ended.served.end == NodeEnd::TurnsUsed
         && ended.served.turns == turns
         && ended.link.waits().len() as u64 == turns
 }
 
-/// Whether a monitor of three uses a turn for each datagram that comes, how many it sends, its two probes among them, and how long
-/// its disk is then.
+/// Whether a monitor of three uses an iteration for each datagram that comes, how many it sends, its two probes among
+/// them, and how long its disk is then.
 fn heard(alloc: Global, got: Vec<Got>) -> Result<(bool, usize, u64), Fail> {
     let turns = got.len() as u64;
     let member = member(0, 3)?;
@@ -185,7 +185,7 @@ fn idle_link(alloc: Global, idle: usize, failing: u64) -> Result<MemoryLink, Fai
     Ok(MemoryLink::new(alloc, got, failing, lost))
 }
 
-/// How a monitor of three ends whose link is so, in which turn, and how many messages it sent.
+/// How a monitor of three ends whose link does this, in which iteration, and how many messages it sent.
 fn end_of(
     alloc: Global,
     idle: usize,
@@ -213,7 +213,8 @@ fn a_node_ends_as_its_link_does(rt: HostRuntime) -> Result<(), Fail> {
     Ok(())
 }
 
-/// A monitor of three whose link is idle four times, once it made its five turns while its clock shows these moments.
+/// A monitor of three whose link is idle four times, once it made its five iterations while its clock shows these
+/// times.
 fn waiting(alloc: Global, moments: &[u64]) -> Result<Ran, Fail> {
     let member = member(1, 3)?;
     let link = idle_link(alloc, 4, 9)?;

@@ -108,7 +108,8 @@ fn applied(alloc: Global, kv: &Kv, tx: &Transaction) -> Option<u32> {
     if known { applied.ok() } else { None }
 }
 
-/// Makes the changes of a transaction, and tells how many incrementals of it are applied to the key-value map that was known.
+/// Makes the changes of a transaction, and returns how many incrementals of it are applied to the key-value map that
+/// was known.
 fn keep(alloc: Global, kv: &mut Kv, tx: Transaction) -> Option<u32>
     ensures { IfSome result (λ n. kv.new ≡ apply tx kv.old) }
 {

@@ -92,7 +92,7 @@ pub struct Ran {
     pub link: MemoryLink,
 }
 
-/// Serves a node while its clock shows these moments.
+/// Serves a node while its clock shows these times.
 pub fn run(
     alloc: Global,
     disks: NodeDisks<MemoryDisk>,

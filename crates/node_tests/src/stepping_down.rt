@@ -21,7 +21,7 @@ const LAST: &[u8] =
 /// It acknowledges a lease.
 const LEASE_ACK: &[u8] = b"\x01\x0c\x01\x02\x02\0\0\0\0\0\0\0\0\0\0\0\0\0\0\0";
 
-/// What monitor 0 of 2 hears: it is elected, and so many of its leases are acknowledged.
+/// What monitor 0 of 2 hears: it is elected, and this many of its leases are acknowledged.
 fn talk(alloc: Global, acknowledged: usize) -> Result<Vec<Got>, Fail> {
     let other = Peer::Monitor(Rank::known(1));
     let mut got = Vec::new(alloc);
@@ -44,7 +44,8 @@ fn kinds(alloc: Global, link: &MemoryLink) -> Result<Vec<u8>, Fail> {
     Ok(kinds)
 }
 
-/// The kinds of what monitor 0 of 2 sends while so many of its leases are acknowledged and its clock shows these moments.
+/// The kinds of what monitor 0 of 2 sends while this many of its leases are acknowledged and its clock shows these
+/// times.
 fn sent(alloc: Global, acknowledged: usize, moments: &[u64], turns: u64) -> Result<Vec<u8>, Fail> {
     let member = member(0, 2)?;
     let link = link(alloc, talk(alloc, acknowledged)?);
@@ -55,7 +56,7 @@ fn sent(alloc: Global, acknowledged: usize, moments: &[u64], turns: u64) -> Resu
     kinds(alloc, &link)
 }
 
-/// It is elected at 0 in three turns, and renews its lease at 3000, 6000 and 9000. Nothing comes at 9999.
+/// It is elected at 0 in three iterations, and renews its lease at 3000, 6000 and 9000. Nothing comes at 9999.
 const UNHEARD: &[u64] = &[0, 0, 0, 0, 0, 0, 0, 3000, 6000, 9000, 9999, 10_000];
 
 // PROBE, PROPOSE, VICTORY, COLLECT, four LEASEs, and PROBE.

@@ -131,7 +131,7 @@ collects-in stage.Previous h = cc
 collects-in stage.Active h = cc
 collects-in stage.Updating h = cc
 
--- what a store tells but for its epoch and its starts
+-- what a store's readers return except for its epoch and its starts
 pub as_read : (w : Readings) (x : Course) → x.readings ≡ w → x.readings ≡ record w { epoch = x.readings.epoch; boot = x.readings.boot }
 as_read w x h = λ i. record (h i) { epoch = x.readings.epoch; boot = x.readings.boot }
 

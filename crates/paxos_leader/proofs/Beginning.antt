@@ -73,7 +73,7 @@ led-leads w l x b = ap is_leading b.phase ∙ leads-of l.stage
 pub led-here : (w : Readings) (l : Leader) (x : Course) → IsLed w l x → IsHere (epoch_of w) w.last x
 led-here w l x b = record { epoch = ap epoch_of b.readings; last = ap (λ (r : Readings). r.last) b.readings; leads = led-leads w l x b }
 
--- what the store tells once a value is learned
+-- what the store's readers return once a value is learned
 pub learned-epoch : (v : ℕ) (value : List Op) → AllByRecursion Fits (learned v (value ∷ [])) → (kv : Store) (tx : List Op) → tx ≡ spelled (learned v (value ∷ []))
     → (y : Course) → y.readings ≡ readings_of kv → epoch_of (played (learned v (value ∷ [])) y.readings) ≡ epoch_of (readings_of (apply tx kv))
 learned-epoch v value fit kv tx spells y h =

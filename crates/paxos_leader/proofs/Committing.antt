@@ -152,7 +152,7 @@ module _ (me : Me) (now : ℕ) (value : List Op) where
   commit-fails w d v is (stop.Spent which) h cs fit spells = λ x b.
       by_version v (under_way cs d.out d.state x) (is ∙ sym (ap (λ (r : Readings). suc r.last) b.readings)) ∙ ap (λ r. r >>= rest v) (h (under_way cs d.out d.state x))
 
--- ---- what the store tells then
+-- ---- what the store's readers then return
 
 module _ (v : ℕ) (value : List Op) (fit : AllByRecursion Fits (learned v (value ∷ []))) (kv : Store) (tx : List Op) (spells : tx ≡ spelled (learned v (value ∷ []))) where
   then_reads : (y : Course) → y.readings ≡ readings_of kv → (changed (learned v (value ∷ [])) y).readings ≡ readings_of (apply tx kv)

@@ -127,7 +127,7 @@ module _ (me : Me) (now : ℕ) (At : Course → Type 0) (d : Draft) (wanted : Co
       (λ x b. subst Bt (sym (new x)) (there (under_way cs d.out d.state x) b refl))
       (h (cs ++ ds) (fit-append cs ds fits fit) (tx ∙ ap (λ ops. ops ++ spelled ds) is ∙ sym (spelled-append cs ds))))
 
--- a call that goes on where nothing is written yet, as a row or as an act
+-- a call that goes on if nothing is written yet, as a row or as an act
 pub from_start : (me : Me) (now : ℕ) (Bt : Course → Type 0) (e : Draft) (other : Course → Result Course Which) (r : Result (Plan Leader) RoleStop)
     → e.tx ≡ [] → GoesOn me now Bt e other r
     → (A : Course → Type 0) (start : Course → Course) (wanted : Course → Result Course Which)

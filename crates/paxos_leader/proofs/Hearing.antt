@@ -74,7 +74,7 @@ module _ (me : Me) (now f e : ℕ) (x : Course) (pn first last : ℕ) (whole : B
           let u : ltb x.state.leader.pn pn ≡ false = le-ltb x.state.leader.pn pn (omega arith) in
           rw (mine, u, t, h) refl
 
-  -- by the last version that the store tells
+  -- by the last version that the store has
   module _ (own : ℕ) (h : x.readings.last ≡ own) where
     pub answer-is : hear_answer me now f last whole from values told x ≡ (learn (news_from own from) (news own from values) x >>= goes_on me now f last whole told)
     answer-is = ap (λ n. learn (news_from n from) (news n from values) x >>= goes_on me now f last whole told) h
@@ -173,7 +173,7 @@ module _ (me : Me) (now : ℕ) (w : Readings) (v : View) (l : Leader) (f e : ℕ
   pub others : seems_ours ≡ false → (x : Course) → Met x → of_member (phases_for b) f e x ≡ false
   others h x m = heard x m ∙ h
 
-  -- a row of what a member tells is the row of what is heard
+  -- a row for what a member sends is the row for what is heard
   pub member-row : seems_ours ≡ true → (row : Course → Result Course Which) (r : Result (Plan Leader) RoleStop)
       → PlansRow me now leads (IsHeard (phases_for b) f e w l) row r → PlansRow me now leads Met row r
   member-row h row r p =

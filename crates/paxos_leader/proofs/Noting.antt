@@ -53,6 +53,6 @@ pub stays_leaves : (at : Phase) (r : Result (Plan Leader) RoleStop) → IfOk r (
 stays_leaves at (Ok p) h = stay_leaves at p h
 stays_leaves at (Err e) h = tt
 
--- one that begins anew has written nothing
+-- one that begins again has written nothing
 pub bootstrap_leaves : (at : Phase) (p : Plan Leader) → p.next ≡ next.Bootstrap → p.tx ≡ [] → Leaves at p.next p.tx
 bootstrap_leaves at p h none = subst (λ n. Leaves at n p.tx) (sym h) (inl none)

@@ -24,7 +24,7 @@ not-all p a (suc n) j low high h = elim (cases_lt a j) [
   | inr le ↦ let same : a ≡ j = omega arith in ap (λ b. b && list_all p (range_with_len (a + 1) n)) (ap p same ∙ h)
 ]
 
--- all pass one test exactly where none is left by another
+-- all pass one test if and only if none is left by another
 none-left : (p q : ℕ → Bool) (a n : ℕ) → ((k : ℕ) → k < a + n → p k ≡ not (q k)) → list_all p (range_with_len a n) ≡ is_empty (filter q (range_with_len a n))
 none-left p q a zero same = refl
 none-left p q a (suc n) same =

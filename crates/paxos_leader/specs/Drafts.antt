@@ -27,8 +27,8 @@ use Rattle.paxos_leader.specs.declared.draft.Draft.{Draft}
 abbrev pub under_way : List Change → List Sent → Leader → Course → Course
 under_way cs sends l x = x ▸ changed cs ▸ sending sends ▸ leader_is l
 
--- A call goes on with a draft: where its transaction spells the changes so far, the plan that is answered does what was
--- done so far and then what is wanted.
+-- A call goes on with a draft: if its transaction encodes the changes so far, the plan that is returned does what was done so
+-- far and then what is wanted.
 abbrev pub GoesOn : Me → (now : ℕ) → (At : Course → Type 0) → Draft → (wanted : Course → Result Course Which)
     → Result (Plan Leader) RoleStop → Type 0
 GoesOn me now At d wanted result =
@@ -36,27 +36,27 @@ GoesOn me now At d wanted result =
     → Plans me now leads (λ x. At (under_way cs d.out d.state x)) (λ x. x)
     (λ x. wanted (under_way cs d.out d.state x)) result
 
--- An event under way at a leader whose store tells this epoch and this last version.
+-- An event under way at a leader whose store has this epoch and this last version.
 pub record IsHere (e v : ℕ) (y : Course) : Type 0 where
   pub epoch : epoch_of y.readings ≡ e
   pub last : y.readings.last ≡ v
   pub leads : is_leading y.state.phase ≡ true
 
--- One that collects, whose store tells these records besides.
+-- One that collects, whose store has these records besides.
 pub record IsCollecting (e : ℕ) (w : Readings) (y : Course) : Type 0 where
   pub epoch : epoch_of y.readings ≡ e
   pub last : y.readings.last ≡ w.last
   pub records : y.readings.record_of ≡ w.record_of
   pub phase : y.state.phase ≡ phase.Collecting
 
--- One that collects and remembers so, whose store tells all of this but the epoch and the count of its starts.
+-- One that collects and remembers so; its store's readers return all of this except the epoch and the count of starts.
 pub record IsAsking (e : ℕ) (w : Readings) (y : Course) : Type 0 where
   pub epoch : epoch_of y.readings ≡ e
   pub kept : y.readings ≡ record w { epoch = y.readings.epoch; boot = y.readings.boot }
   pub phase : y.state.phase ≡ phase.Collecting
   pub stage : y.state.leader.stage ≡ stage.Collecting
 
--- One at a leader whose value is waiting for its quorum, and whose store tells this.
+-- One at a leader whose value is waiting for its quorum, and whose store's readers return this.
 pub record IsVoted (w : Readings) (y : Course) : Type 0 where
   pub readings : y.readings ≡ w
   pub stage : phase_of y.state.leader.stage ≡ y.state.phase
@@ -64,7 +64,7 @@ pub record IsVoted (w : Readings) (y : Course) : Type 0 where
 
 -- ---- events under way as an act is entered
 
--- one whose store tells all of this but the epoch and the count of its starts
+-- one whose store's readers return all of this except the epoch and the count of starts
 pub record IsWon (e : ℕ) (w : Readings) (x : Course) : Type 0 where
   pub epoch : epoch_of x.readings ≡ e
   pub kept : x.readings ≡ record w { epoch = x.readings.epoch; boot = x.readings.boot }
@@ -91,6 +91,6 @@ lease_timers alone now =
 abbrev pub value_timers : (now : ℕ) → List Arming
 value_timers now = arming.Disarm timer.Renew ∷ arming.Disarm timer.LeaseAck ∷ armed_now now timer.Accept ∷ []
 
--- what a store tells in that epoch
+-- what a store's readers return in that epoch
 abbrev pub at_epoch : (epoch : ℕ) → Readings → Readings
 at_epoch epoch w = record w { epoch = Some epoch }

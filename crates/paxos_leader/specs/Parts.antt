@@ -34,7 +34,7 @@ commits me epoch w l = flat_map (commits_to me (at_epoch epoch w) l.lasts) (memb
 abbrev pub without_found : Leader → Leader
 without_found l = record l { found = None }
 
--- a member answered with all that it has, told its last version, and this is found then
+-- a member answered with all that it has, gave its last version, and this is found then
 abbrev pub with_answer : (f last : ℕ) → Option Found → Leader → Leader
 with_answer f last found l =
     record l { answered = with_rank l.answered f; lasts = slice_set l.lasts f last; found = found }

@@ -26,7 +26,7 @@ abbrev pub may_begin_told : Option Told → Bool
 may_begin_told None = true
 may_begin_told (Some told) = may_begin told.value
 
--- what is found once a member told a pending value for the version after its last one, or which number runs out
+-- what is found after a member gave a pending value for the version after its last one, or the number that runs out
 abbrev pub NotesFound : (found : Option Found) → (last : ℕ) → Option Told → Result (Option Found) RoleStop → Type 0
 NotesFound found last told (Ok new) =
     (f : ℕ) (x : Course) → x.state.leader.found ≡ found → note f last told x ≡ Ok (note_answer f last new x)

@@ -65,8 +65,8 @@ fn is_newer(version: Version, pn: Pn, found: &Option<Found>) -> bool
     }
 }
 
-/// What is found once a member told this pending value, which is for the version after its last one. A value that is
-/// too long to be proposed counts as none.
+/// What is found after a member reported this pending value, which is for the version after its last one. A value
+/// that is too long to be proposed counts as none.
 fn found_with(found: Option<Found>, last: Version, told: &Told) -> Result<Option<Found>, RoleStop>
     requires found { may_begin_found found ≡ true }
     requires told { may_begin told.now.value ≡ true }
@@ -92,7 +92,7 @@ fn found_with(found: Option<Found>, last: Version, told: &Told) -> Result<Option
     }))
 }
 
-/// What is found once a member answered, whether or not it told a pending value.
+/// What is found once a member answered, whether or not it reported a pending value.
 fn found_with_any(
     found: Option<Found>,
     last: Version,
@@ -109,7 +109,7 @@ fn found_with_any(
     }
 }
 
-/// What a leader remembers once a member answered with all that it has, and told its last version.
+/// What a leader remembers once a member answered with all that it has, and reported its last version.
 fn answered(mut state: Leader, from: Rank, last: Version, found: Option<Found>) -> Leader
     ensures { result ≡ with_answer from last found state }
 {
@@ -119,7 +119,7 @@ fn answered(mut state: Leader, from: Rank, last: Version, found: Option<Found>) 
     state
 }
 
-/// What a leader remembers once a member answered with all that it has, by what the member told.
+/// What a leader remembers once a member answered with all that it has, by what the member reported.
 fn note(state: &Leader, answer: &Answer<'_>) -> Result<Leader, RoleStop>
     requires found { may_begin_found state.now.found ≡ true }
     requires told { may_begin_told answer.now.pending.now ≡ true }

@@ -16,7 +16,7 @@ use std::alloc::Global;
 /// How many bytes a COMMIT takes besides its values.
 const BESIDES: usize = 22;
 
-/// What follows the version that a member told, as much as one message takes, where there is something.
+/// What follows the version that a member reported, as much as one message takes, if there is anything.
 fn commit_to(
     alloc: Global,
     stored: &Stored<'_>,
@@ -62,7 +62,7 @@ fn catch_up(
     Ok(())
 }
 
-/// Besides what was sent so far, each other member of the quorum is sent what follows the version that it told.
+/// Besides what was sent so far, each other member of the quorum is sent what follows the version that it reported.
 pub(crate) fn send_missed(
     alloc: Global,
     stored: &Stored<'_>,

@@ -24,7 +24,7 @@ use mon_tx::Transaction;
 use mon_types::{Epoch, Moment, Pn, RankSet, Version, Which, next_pn};
 use std::alloc::Global;
 
-/// A value was found: it is begun where it is for the next version.
+/// A value was found: it is begun if it is for the next version.
 fn begin_if_next(
     alloc: Global,
     me: &Me,
@@ -46,7 +46,7 @@ fn begin_if_next(
     begin_value(alloc, me, epoch, last, draft, stage, value, now)
 }
 
-/// A value that was found for the next version is begun. Where there is none the leader is active.
+/// A value that was found for the next version is begun. If there is none, the leader is active.
 fn begin_found(
     alloc: Global,
     me: &Me,
@@ -119,14 +119,14 @@ fn collector(me: &Me, quorum: RankSet, pn: Pn, found: Option<Found>) -> Leader
     }
 }
 
-/// The number itself, or 0 where there is none.
+/// The number itself, or 0 if there is none.
 fn or_zero(pn: Option<Pn>) -> Pn
     ensures { result ≡ or_zero pn }
 {
     pn.unwrap_or(Pn::known(0))
 }
 
-/// A number above all that are known, or `None` exactly where that is above 2^62.
+/// A number above all that are known, or `None` if and only if that is above 2^62.
 fn made(stored: &Stored<'_>, me: &Me, above: Pn) -> Option<Pn>
     ensures fits { IsSome result ↔ (made me.now above (readings_of stored.now) ≤ 2 ^ 62) }
     ensures value { IfSome result (λ pn. pn ≡ made me.now above (readings_of stored.now)) }

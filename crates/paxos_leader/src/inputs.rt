@@ -111,7 +111,7 @@ fn is_ours(epoch: Epoch, view: &View, state: &Leader, message: &Message) -> bool
         && state.quorum.has(message.from)
 }
 
-/// A message, which is dropped where it isn't of a member in this epoch, or the leader isn't in a phase for it.
+/// A message, which is dropped if it isn't of a member in this epoch, or the leader isn't in a phase for it.
 fn hear(
     alloc: Global,
     kv: &Kv,
@@ -250,8 +250,8 @@ fn tell_victory(
     tell(alloc, Items::new(alloc), me, epoch, quorum, victory)
 }
 
-/// It has won, and begins to lead this quorum: it asks it under a new number what was accepted. `epoch` is the epoch
-/// that it has now. `Spent` names that number where it would pass 2^62, or the version after the last one.
+/// It has won, and begins to lead this quorum: it asks that quorum, under a new number, what was accepted. `epoch` is
+/// the epoch that it has now. `Spent` names that number if it would pass 2^62, or the version after the last one.
 pub fn enter(
     alloc: Global,
     kv: &Kv,
@@ -321,8 +321,8 @@ fn begin_answered(
     })
 }
 
-/// The value of a command is begun for the version after the last one. A quorum of the leader alone commits it at once.
-/// `Spent` names the version where it would pass 2^62.
+/// The value of a command is begun for the version after the last one. A quorum of the leader alone commits it at
+/// once. `Spent` names the version if it would pass 2^62.
 pub fn begin(
     alloc: Global,
     kv: &Kv,

@@ -15,7 +15,7 @@ pub(crate) fn only(me: &Me) -> RankSet
     RankSet::empty().with(me.member.rank)
 }
 
-/// Whether a rank is in the second set where it is in the first.
+/// Whether a rank is in the second set if it is in the first.
 fn is_kept(these: RankSet, those: RankSet, rank: Rank) -> bool
     ensures { result ≡ (not (has these rank) || has those rank) }
 {

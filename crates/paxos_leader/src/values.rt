@@ -102,7 +102,7 @@ fn announce(
     Ok(answered(me, epoch, origin, version, plan)?)
 }
 
-/// The members hear of committed values, by what the store tells after the changes so far.
+/// The members get committed values, as the store has them after the changes so far.
 fn announce_after(
     alloc: Global,
     kv: &Kv,
@@ -140,7 +140,8 @@ fn one_value(alloc: Global, value: Transaction) -> Result<Items<Transaction>, Ou
     Ok(values)
 }
 
-/// All of the quorum accepted the value, which is committed.
+/// All of the quorum accepted the value, which is committed. The leader then has no value; who accepted it stays
+/// noted until the next one.
 fn commit(
     alloc: Global,
     kv: &Kv,

@@ -18,7 +18,7 @@ use Rattle.mon_wire.specs.declared.body.Body.{Body}
 use Rattle.paxos_peon.specs.Rows.{IsOurs}
 use Rattle.paxos_peon.proofs.Ours.{along, plan_of}
 
--- the answer to a leader with that last version, where this number is promised
+-- the answer to a leader with that last version, if this number is promised
 abbrev pub told_with : Me → (last p : ℕ) → Readings → Body
 told_with me last p w = answer_of me.member.monitors p w.first w.last w.record_of (pending w) (suc last)
 
@@ -40,7 +40,7 @@ module _ (w : Readings) (s : Peon) (f e : ℕ) (x : Course) (b : IsOurs w s f e 
   pub collect-spent : first ≤ suc w.last → 2 ^ 62 < suc last → hear_collect me now f e pn first last x ≡ Err which.Version
   collect-spent h above = answers h ∙ (let t = lt-leb (suc last) (2 ^ 62) above in rw t refl)
 
-  -- the changes and the answer, where the number is above the own one or not
+  -- the changes and the answer, if the number is above the own one or not
   abbrev changes_by : Bool → List Change
   changes_by above = cond above (Promise pn ∷ []) []
 

@@ -45,7 +45,7 @@ module _ (me : Me) (now : ℕ) (w : Readings) (v : View) (s : Peon) (f e : ℕ) 
   pub others : seems_ours ≡ false → (x : Course) → Met x → of_leader f e x ≡ false
   others h x b = heard x b ∙ h
 
-  -- a row of what the leader tells is the row of what is heard
+  -- a row for what the leader sends is the row for what is heard
   pub of_leader-row : seems_ours ≡ true → (row : ℕ → Course → Result Course Which) (r : Result (Plan Peon) RoleStop)
       → PlansRow me now peon_is (IsOurs w s s.leader e) (row s.leader) r → PlansRow me now peon_is Met (row f) r
   of_leader-row h row r p =

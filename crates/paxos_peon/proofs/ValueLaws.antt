@@ -1,4 +1,4 @@
--- What a peon does with values that its leader tells.
+-- What a peon does with values that its leader sends.
 use Rattle.std.proofs.Common.{◌≡◌, ℕ, suc, ◌-◌, ◌≤◌, ◌&&◌, true, false, List, [], ◌∷◌, length, take, drop, min, None, Ok, refl, sym, ap, ◌∙◌, arith}
 use Rattle.std.specs.Bool.{◌==◌}
 use Rattle.std.specs.Prelude.{nat_lt}
@@ -61,7 +61,7 @@ module _ (w : Readings) (s : Peon) (f e : ℕ) (x : Course) (b : IsOurs w s f e 
         let t = le-ltb (suc x.readings.last) from h in
         rw (ours, t) refl
 
-    -- those of them that are new, behind k that are known, are learned from version v on
+    -- those of them that are new, after k that are known, are learned from version v on
     pub commit-learns : (v k : ℕ) → v ≡ suc w.last → from ≤ v → k ≡ min (v - from) (length values)
         → hear_commit f e from values x ≡ learn v (take (length values - k) (drop k values)) x
     commit-learns v k n low h =

@@ -1,4 +1,4 @@
--- The inputs of a peon, and what is known where its rows are answered.
+-- The inputs of a peon, and what is known when its rows are proved.
 use Rattle.std.specs.Prelude.{◌≡◌, ℕ, Bool, true, false, List, [], ◌∷◌, nat_lt, if◌then◌else◌}
 use Rattle.mon_msg.specs.Protocol.Changes.{Change, Promise}
 use Rattle.mon_msg.specs.Protocol.Course.{Course}
@@ -12,7 +12,7 @@ use Rattle.mon_wire.specs.declared.body.Body.{Body}
 use Rattle.mon_wire.specs.declared.phase.Timer.TheVariants as timer
 use Rattle.mon_wire.specs.declared.phase.Timer.{Timer}
 
--- what a leader tells its peons
+-- what a leader sends its peons
 abbrev pub is_told : Body → Bool
 is_told (body.Collect pn first last) = true
 is_told (body.Begin pn v value) = true
@@ -31,8 +31,8 @@ is_input (input.Deliver m) = is_told m.body
 is_input (input.Timer t) = is_rung t
 is_input (input.Client session r) = false
 
--- An event under way at a peon that hears of its leader f, in its epoch e: the store tells this, and the role remembers
--- that.
+-- An event under way at a peon that hears of its leader f, in its epoch e: the store's readers return this, and the role
+-- remembers that.
 pub record IsOurs (w : Readings) (state : Peon) (f e : ℕ) (x : Course) : Type 0 where
   pub readings : x.readings ≡ w
   pub role : x.state.peon ≡ state

@@ -1,4 +1,4 @@
-//! What a peon tells a leader that collects.
+//! The answer of a peon to a leader that collects.
 
 ghost use Rattle.std.specs.Prelude.{◌≡◌, ℕ, ◌+◌, ◌-◌, ◌≤◌, ◌^◌, ◌||◌, nat_le, nat_lt, false, None, length, min, sum_by, IfOk};
 ghost use Rattle.mon_msg.specs.Protocol.Answers.{answer_of, told_of, told_values};
@@ -17,10 +17,10 @@ use std::alloc::Global;
 /// How many bytes an answer takes besides its values and the pending value.
 const BESIDES: usize = 47;
 
-/// How many it takes where it tells no pending value, which is a byte.
+/// How much room it takes without a pending value, which is a byte.
 const WITHOUT_PENDING: usize = 48;
 
-/// Whether no values are told from a version on: the leader has them all, or they aren't kept any more.
+/// Whether no values are sent from a version on: the leader has them all, or they aren't kept any more.
 fn tells_none(stored: &Stored<'_>, from: Version) -> bool
     ensures { result ≡ (nat_lt (readings_of stored.now).last from || nat_lt from (readings_of stored.now).first) }
 {
@@ -43,7 +43,7 @@ fn told_values(alloc: Global, stored: &Stored<'_>, from: Version) -> Result<Run,
     stored.run(alloc, from.get(), WITHOUT_PENDING, WITHOUT_PENDING)
 }
 
-/// The pending value, as it is told.
+/// The pending value, as it is sent.
 fn told(alloc: Global, stored: &Stored<'_>) -> Result<Option<Told>, OutOfMemory>
     ensures { IfOk result (λ told. told ≡ told_of (pending (readings_of stored.now))) }
 {
@@ -77,7 +77,7 @@ fn has_room(bytes: usize, told: &Option<Told>) -> bool
     told_len(told).saturating_add(bytes).saturating_add(BESIDES) <= MOST_BYTES
 }
 
-/// The answer that tells these values, and perhaps not all that the leader lacks.
+/// The answer that has these values, and perhaps not all that the leader lacks.
 fn answer_in_part(
     stored: &Stored<'_>,
     promise: Pn,
@@ -97,7 +97,7 @@ fn answer_in_part(
     }
 }
 
-/// The answer to a leader that has the versions before `from`, where this number is promised.
+/// The answer to a leader that has the versions before `from`, if this number is promised.
 pub fn answer(
     alloc: Global,
     stored: &Stored<'_>,

@@ -33,7 +33,7 @@ fn is_ours(stored: &Stored<'_>, view: &View, state: &Peon, message: &Message) ->
         && message.from == state.leader
 }
 
-/// A message, which is dropped where it isn't of the leader in this epoch.
+/// A message, which is dropped if it isn't of the leader in this epoch.
 fn hear(
     alloc: Global,
     stored: &Stored<'_>,
@@ -66,10 +66,10 @@ fn hear(
     }
 }
 
-/// What a peon does at a COLLECT, BEGIN, COMMIT or LEASE that is heard, and when its lease's timer, which was armed,
-/// comes and is disarmed: its row of the protocol's table. A message that isn't of its leader in its epoch is dropped,
-/// and what is dropped takes no memory. `Spent` names the version after the leader's last one, or the last one of those
-/// that are learned, where that would pass 2^62.
+/// What a peon does at a COLLECT, BEGIN, COMMIT or LEASE that is taken, and when its lease's timer fires: its row of
+/// the protocol's table. A message that isn't of its leader in its epoch is dropped, and what is dropped takes no
+/// memory. `Spent` names the version after the leader's last one, or the last one of those that are learned, if that
+/// would pass 2^62.
 pub fn step(
     alloc: Global,
     kv: &Kv,

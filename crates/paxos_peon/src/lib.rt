@@ -1,5 +1,5 @@
-//! A monitor that follows a leader: it tells what it accepted, accepts values, learns what is committed, and holds a
-//! lease.
+//! A monitor that follows a leader: it reports what it accepted, accepts values, learns what is committed, and holds
+//! a lease.
 #![tactic(auto)]
 
 mod answer;

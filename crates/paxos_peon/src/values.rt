@@ -1,4 +1,4 @@
-//! The leader asks to accept a value, or tells values that are committed.
+//! The leader asks to accept a value, or sends values that are committed.
 
 ghost use Rattle.std.specs.Prelude.{◌≡◌, ℕ, suc, ◌≤◌, ◌==◌, ◌&&◌, nat_lt, length, IfOk};
 ghost use Rattle.std.specs.List.{AllByRecursion};
@@ -67,7 +67,7 @@ fn is_ahead(stored: &Stored<'_>, from: Version) -> bool
     from.get() > stored.last().get() + 1
 }
 
-/// The leader tells the values of the versions from `from` on, which are committed.
+/// The leader sends the values of the versions from `from` on, which are committed.
 pub fn commit(
     alloc: Global,
     stored: &Stored<'_>,

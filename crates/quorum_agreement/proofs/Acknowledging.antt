@@ -94,7 +94,7 @@ module _ (event : ℕ) (m : Store) (s : State) where
   answered me e (origin.Session t) v lead = ap (λ (b : Bool). cons_option (option_map (acknowledgement event m s) (cond b (Some v) None)) []) lead
   answered me e (origin.Forwarded f seq) v lead = refl
 
-  -- one version, behind what is plain
+  -- one version, after what is plain
   pub one_ack : (me : Me) (plain : List Sent) (e : ℕ) (o : Origin) (v : ℕ) → AllPlain plain → is_leading s.phase ≡ true → acknowledgements_of event m s (plain ++ answer_to me e o (reply.Done v) ∷ []) ≡ acknowledgement event m s v ∷ []
   one_ack me plain e o v k lead =
       filter_map-append (λ x. option_map (acknowledgement event m s) (done_by s x)) plain (answer_to me e o (reply.Done v) ∷ [])

@@ -44,7 +44,7 @@ pub asker_is : (me : Me) (o : Origin) → asked_of me o ≡ asker me.member.rank
 asker_is me (origin.Session t) = refl
 asker_is me (origin.Forwarded f seq) = refl
 
--- the service that a command changes, and the incremental that it makes where this rank was asked
+-- the service that a command changes, and the incremental that it makes if this rank was asked
 abbrev pub changed : ℕ → Command → Service × List ℕ
 changed i c = (service_of c, incremental_of i c)
 

@@ -1,5 +1,5 @@
--- What a monitor answers in an event, and what a leader holds in hand after it. Nothing is acknowledged but where a leader commits a
--- value, and nothing is shown but what the store tells.
+-- What a monitor replies in an event, and what a leader has under way after it. Nothing is acknowledged unless a leader
+-- commits a value, and nothing is shown but what the store holds.
 use Rattle.election_rules.specs.Ranking.{allows}
 use Rattle.election_rules.specs.declared.scores.Scores.{Scores}
 use Rattle.mon_bytes.specs.declared.command.Command.TheVariants as command
@@ -139,7 +139,7 @@ sync_leads_not phase.Active t = no t
 sync_leads_not phase.Updating t = no t
 sync_leads_not phase.Peon t = refl
 
--- ---- an event, from what the store told and what was remembered before it
+-- ---- an event, from what the store's readers returned and what was remembered before it
 
 module _ (me : Me) (now : ℕ) (w : Readings) (s : State) (From : ℕ → Command → Origin → Type 0) (Routed : (f e seq : ℕ) → Reply → Type 0) (Voted : (f pn v : ℕ) → Type 0) (Looked : Session → Request → Type 0) where
   -- a value that is begun: a command's of which so much is known
@@ -328,7 +328,7 @@ module _ (me : Me) (now : ℕ) (w : Readings) (s : State) (From : ℕ → Comman
   unfolding reign
   reigns q x O = collects q 0 _ (more x.out _ O (to_each (epoch_of x.readings) (body.Victory q) tt (members me q)))
 
-  -- ---- beginning anew, and elections
+  -- ---- beginning again, and elections
 
   bootstraps : (x : Course) → AllPlain x.out → Then Outcome (bootstrap me now x)
   unfolding bootstrap
@@ -534,7 +534,7 @@ module _ (me : Me) (now : ℕ) (w : Readings) (s : State) (From : ℕ → Comman
     answer_one_plain e (origin.Session t) r k = (k, tt)
     answer_one_plain e (origin.Forwarded f seq) r k = (k, tt)
 
-    -- where it leads as it did
+    -- if it leads as it did
     module _ (c : Command) (o : Origin) (F : From (epoch_of w) c o) (z : State) (same : z.leader ≡ s.leader) (still : z.phase ≡ s.phase) (Z : Lead z.phase z.leader (epoch_of w)) where
       proposes : same_phase z.phase phase.Active ≡ true → Then Outcome (propose me now c o (at_rest w z))
       unfolding propose begin begin_alone begin_with

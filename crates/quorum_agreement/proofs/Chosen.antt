@@ -65,7 +65,7 @@ chosen_lasts n i g h E v x a = record { pn = a.pn; by = a.by; major = a.major; b
 
 -- ---- the log
 
--- each entry of the log spells a value that was chosen for its version
+-- each entry of the log encodes a value that was chosen for its version
 pub record IsEntry (n : ℕ) (g : Ghost) (log : List (List ℕ)) (v : ℕ) : Type 0 where
   pub x : List Op
   pub chosen : Chosen n g v x

@@ -46,7 +46,7 @@ module _ (ms : Monitors) (w : World) (asked : List Asked) (J : InvWith ms w aske
   abbrev m : Store
   m = w.store d.by.rank
 
-  -- it stands in the log
+  -- it is in the log
   pub standing : Agrees w.log m d.by.state
   standing = by d.by.remembers
     where
@@ -87,7 +87,7 @@ module _ (ms : Monitors) (w : World) (asked : List Asked) (J : InvWith ms w aske
   pub votes : (v p : ℕ) (x : List Op) → Among (Vote v p x) d.y.changes → Val x × MadeOver ms.count asked w.log v x
   votes v p x k = let t = good.tied.votes v p x k in (good.glob.triples.fine rank v p x t, good.known rank v p x t)
 
-  -- ---- what it tells then
+  -- ---- what it then sends
 
   read : readings_of (written m d.y) ≡ d.y.readings
   read = same w.store w.state w.transactions w.messages w.active asked me J d.by.at d.by.state d.by.came d.by.on d.by.fits d.by.holds (d.by.fine (shares w.store w.state w.transactions w.messages w.active asked me J d.by.at)) d.y d.is

@@ -1,4 +1,4 @@
--- The world's log is the one that grows where a chosen value is committed.
+-- The world's log is the one that grows if a chosen value is committed.
 use Rattle.mon_msg.specs.Protocol.Readings.{readings_of}
 use Rattle.mon_tx.specs.Keys.{cell, number}
 use Rattle.mon_tx.specs.Map.{Store}

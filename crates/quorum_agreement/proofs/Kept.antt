@@ -22,7 +22,7 @@ use Rattle.std.specs.List.{AllByRecursion}
 
 -- Two histories, of which the later has the same transactions but for those that were added.
 module _ (n : ℕ) (g h : Ghost) (before after : ℕ → List (List Op)) (T : TriplesHold n g.signs g.accepts) (U : TriplesHold n h.signs h.accepts) (K : TriplesKept g before) (L : TriplesKept h after) where
-  -- values that are spelled alike are the same
+  -- values that are encoded alike are the same
   spelled_alike : (i j v w p q : ℕ) (x y : List Op) → Accepted g i v p x → Accepted h j w q y → text x ≡ text y → x ≡ y
   spelled_alike i j v w p q x y a b e =
       let z : Some x ≡ Some y = sym (T.fine i v p x a).reads ∙ ap (λ (t : List ℕ). transaction_in (Some t)) e ∙ (U.fine j w q y b).reads in cc

@@ -94,7 +94,7 @@ active_is phase.Previous t = no t
 active_is phase.Updating t = no t
 active_is phase.Peon t = no t
 
--- what is said tells nothing of any log
+-- what is said says nothing of any log
 abbrev pub SaysNothing : Sent → Type 0
 SaysNothing (sent.Message to m) = (log : List (List ℕ)) → BodyTells log m.body
 SaysNothing (sent.Reply s r) = Unit {0}
@@ -197,7 +197,7 @@ module _ (me : Me) (one : me.member.monitors ≡ 1) (now : ℕ) (g : Ghost) (G :
   unfolding reign
   reigns q x Q = collects q 0 _ (says_quiet _ (map (message_to me (epoch_of x.readings) (body.Victory q)) (members me q)) x (to_none q (epoch_of x.readings) (body.Victory q)) Q)
 
-  -- ---- beginning anew, and elections
+  -- ---- beginning again, and elections
 
   bootstraps : (x : Course) → Quiet x → Then Outcome (bootstrap me now x)
   unfolding bootstrap

@@ -235,7 +235,7 @@ module _ (ms : Monitors) (one : ms.count ≡ 1) (w : World) (asked : List Asked)
   value_learned (Learn v ops ∷ cs) = ops
   value_learned other = []
 
-  -- where it learns a value, the log's new entry reads as that
+  -- if it learns a value, the log's new entry reads as that
   pub lone_reads : (ops : List Op) → d.y.changes ≡ Learn (suc w0.last) ops ∷ Last (suc w0.last) ∷ [] → d.y.readings.last ≡ suc w0.last → ops_in (entry (grown w.log after) (suc w0.last)) ≡ ops
   unfolding commits_next
   lone_reads ops e l = by outcome

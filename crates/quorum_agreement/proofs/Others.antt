@@ -24,7 +24,7 @@ one_counts (true ∷ A) r h = let z = h 0 refl in let s = nobody_counts A (λ m 
 one_counts (false ∷ A) zero h = let s = nobody_counts A (λ m k. let t = h (suc m) k in absurd (omega arith)) in omega (arith, count_cons false A)
 one_counts (false ∷ A) (suc r) h = let s = one_counts A r (λ m k. let t = h (suc m) k in omega arith) in omega (arith, count_cons false A)
 
--- where there is nobody else, it is alone
+-- if there is nobody else, it is alone
 pub others : (me : Me) (q : List Bool) → 1 < me.member.monitors → is_majority me.member.monitors q ≡ true → Below me.member.monitors q → HasOthers me q
 others me q several major below = by (is_empty (members me q)) refl
   where

@@ -1,4 +1,4 @@
--- What a monitor's history says of where it stands and of what comes to it, as one event's step over the log asks for it.
+-- What a monitor's history says of its state and of its input, as the step of one event over the log needs it.
 use Rattle.log_copies.proofs.Agreeing.{IsRecent, RecentStage}
 use Rattle.log_copies.proofs.Rows.{HasOthers}
 use Rattle.mon_msg.specs.Protocol.Entering.{is_even}
@@ -35,7 +35,7 @@ module _ (me : Me) (g : Ghost) (w : Readings) (s : State) (G : Glob me.member.mo
   abbrev c : Core
   c = core_of (own_of w) s
 
-  -- ---- what it has in a phase that a test tells
+  -- ---- what it has in a phase that a test names
 
   role_in : (p : Phase) → is_leading p ≡ true → InPhase n g i c p → Entered g i (epoch_in c.own) i c.quorum
   role_in phase.Collecting t k = k.0.reigns.role

@@ -1,4 +1,4 @@
--- What follows of one log: no two monitors disagree, and what is told and copied is the log's.
+-- What follows of one log: no two monitors disagree, and what is sent and copied is the log's.
 use Rattle.log_copies.proofs.Sending.{BodyTells}
 use Rattle.log_copies.proofs.Standing.{Agrees, TakesCopy}
 use Rattle.log_copies.proofs.Telling.{one_within, record_there}
@@ -108,7 +108,7 @@ module _ (ms : Monitors) (w : World) (L : OneLog ms w) where
       by i unmarked (inl V) = on_log (w.store i) V
       by i unmarked (inr T) = absurd (unmarked (marked_there (w.store i) (copy_marked w.log (w.store i) (remembers i (w.state i)) T)))
 
-  -- the floor that its store tells is what it reaches
+  -- the floor that its store has is what it reaches
   has_copied : (g : Ghost) (last reached provider : ℕ) (before : Readings) (floor : ℕ) (m : Store) (z : SyncStage) (start : ℕ) (p : ChunkPlace)
       → StageHolds g last reached provider true start p.version z → InStage w.log before floor m z start p → HasCopied w.log m reached z start p
   has_copied g last reached provider before floor m sync.Cookie start p R h = h
@@ -141,7 +141,7 @@ module _ (ms : Monitors) (w : World) (L : OneLog ms w) where
         by (Some s) is (inl V) = let g : true ≡ false = sym (there_marked (w.store i) t) ∙ V.unmarked in absurd cc
         by (Some s) is (inr T) = up s is T T.marked
 
--- ---- what they tell
+-- ---- what they send
 
 its_values : (log : List (List ℕ)) (xs : List (List Op)) (v : ℕ) → AreVersions log v xs → AreItsValues log v xs
 its_values log [] v h = tt

@@ -95,12 +95,12 @@ use Rattle.quorum_history.proofs.RowsClients as clients
 use Rattle.quorum_walk.proofs.FineCourses.{begun, Ended, Fit, Val}
 use Rattle.quorum_agreement.proofs.Safe.{IsSafe, safe_more, shows_told, stems_again}
 
--- what is told since a version acknowledges nothing
+-- a list of changes since a version acknowledges nothing
 since_done : (r : Readings) (v : Service) (k : ℕ) → done_in (since r v k) ≡ None
 unfolding since
 since_done r v k = cond_both (leb (service_first r v) (suc k)) (changes_after r v k (kept_from r v (service_last r v - k) (suc k))) (shown r v) (λ y. done_in y ≡ None) (λ t. refl) (λ t. refl)
 
--- what is told since a version was asked for
+-- a list of changes since a version was asked for
 since_asked : (w : World) (x : Replied) (r : Readings) (v : Service) (k : ℕ) → AskedFor w x (request.Since v k) → WasAskedFor w x (since r v k)
 unfolding since
 since_asked w x r v k a = cond_both (leb (service_first r v) (suc k)) (changes_after r v k (kept_from r v (service_last r v - k) (suc k))) (shown r v) (WasAskedFor w x) (λ t. a) (λ t. inr (k, a))
@@ -304,7 +304,7 @@ module _ (ms : Monitors) (w next : World) (I : InvOf ms w) (K : InvOf ms next) (
       (all_both _ _ _ (quiet_replies next rank m last_then d.y.out k) (replies_event next.events rank m d.y.out)) (founded_replies next K.g next.events rank m d.y.out f) (λ a h. quiet_fenced a next.events rank m d.y.out k)
       (founded_routes next K.g next.events rank m d.y.out f)
 
-  -- a session is shown what the store tells
+  -- a session is shown what the store holds
   module _ (R : Reads me d.by.at w0 s From Routed Voted Looked d.y) where
     there_before : w.state rank ≡ Some s
     there_before = by d.by.remembers

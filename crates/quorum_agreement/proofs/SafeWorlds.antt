@@ -82,7 +82,7 @@ second_told : (w : World) (g : Ghost) (rank : ℕ) (came : Input) → ToldOf (To
 second_told w g rank (input.Deliver m) t = t.1
 second_told w g rank other t = tt
 
--- where a monitor that is alone learns a value, the log's new entry reads as that
+-- if a monitor that is alone learns a value, the log's new entry reads as that
 abbrev AloneReads : (ms : Monitors) (w : World) (asked : List Asked) (J : InvWith ms w asked) (Said : Envelope → Type 0) → Does ms w Said asked J → Type 0
 AloneReads ms w asked J Said d =
     ms.count ≡ 1 → (ops : List Op) → d.y.changes ≡ Learn (suc (readings_at w d.by.rank).last) ops ∷ Last (suc (readings_at w d.by.rank).last) ∷ [] → d.y.readings.last ≡ suc (readings_at w d.by.rank).last

@@ -1,5 +1,5 @@
--- What one event makes of the log and of its monitor's store, where all that was accepted is made over the log and all of the log was
--- chosen.
+-- What one event makes of the log and of its monitor's store, if all that was accepted is made over the log and all of the
+-- log was chosen.
 use Rattle.log_copies.proofs.Sending.{AllTell, BodyTells}
 use Rattle.log_copies.proofs.Standing.{Agrees, Allowed, BodyStands, InputStands, InputTells, TakesCopy, agrees_stays, event}
 use Rattle.log_copies.proofs.Telling.{monitor_keeps, read_last, record_there}

@@ -60,7 +60,7 @@ asking ms w p I O J = record {
 
 -- ---- what is left of the world
 
--- where its log is this one
+-- if its log is this one
 of_log : (ms : Monitors) (w : World) (asked : List Asked) (J : InvWith ms w asked) (log : List (List ℕ)) → w.log ≡ log → length log ≤ 2 ^ 62 → AllValues log → AllChosen ms.count J.g log → AllMade ms.count J.g asked log → AllAsked ms.count asked log
     → ((i : ℕ) → i < ms.count → Agrees log (w.store i) (remembers i (w.state i))) → AllByRecursion (EnvelopeTells log) w.messages → OfLog ms w asked J
 of_log ms w asked J log e short values chosen made asks stores sent = record {
@@ -164,7 +164,7 @@ module _ (ms : Monitors) (w : World) (p : Plain) (J : InvWith ms w (with_asked p
             subst (GrowsByOne w.log) (sym N.is) N.grows,
           )
 
--- whatever the event, where a monitor is one of several
+-- whatever the event, if a monitor is one of several
 pub all_follow : (ms : Monitors) → ((i : ℕ) → i < ms.count → 1 < ms.count) → (w : World) (p : Plain) (J : InvWith ms w (with_asked p w.asked)) → OfLog ms w (with_asked p w.asked) J → Keeps ms w (EnvelopeTells w.log) p J (Follows ms w)
 all_follow ms several w p J O = record {
   nothing = nothing_follows ms w p J O;

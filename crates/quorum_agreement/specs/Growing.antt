@@ -1,7 +1,7 @@
 -- How the one log grows.
 use Rattle.std.specs.Prelude.{◌≡◌, ℕ, ◌≤◌, List, ◌++◌, length}
 
--- it goes on, by so many entries at most
+-- it goes on, by this many entries at most
 pub record GrowsBy (most : ℕ) (old new : List (List ℕ)) : Type 0 where
   pub more : List (List ℕ)
   pub is : new ≡ old ++ more

@@ -1,4 +1,4 @@
--- What a message tells of the one log.
+-- What a message says of the one log.
 use Rattle.std.specs.FinMap.{empty, retain_keys}
 use Rattle.std.specs.Prelude.{◌≡◌, ℕ, suc, ◌+◌, ◌≤◌, Bool, not, ◌&&◌, List, [], ◌∷◌, length}
 use Rattle.log_copies.specs.Copies.{is_past}

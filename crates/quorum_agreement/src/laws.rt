@@ -15,9 +15,10 @@ ghost use Rattle.quorum_agreement.specs.Growing.{GrowsBy};
 ghost use Rattle.quorum_agreement.specs.Serving.{Fenced, KeptAndShown};
 ghost use Rattle.quorum_agreement.specs.Telling.{TellsLog};
 
-/// No two monitors disagree on what is committed, in no run of any monitors under any rule, wherever monitors crash. The committed
-/// versions of each are entries of one log. The log only goes on, by one entry an event at most. Each entry is the value of a command
-/// that a client asked, over the entries before it, and where there are several monitors a majority of them accepted it under one number.
+/// No two monitors disagree on what is committed, in any run of any monitors under any rule, wherever monitors crash.
+/// The committed versions of each are entries of one log. The log only goes on, by one entry an event at most. Each
+/// entry is the value of a command that a client asked, over the entries before it, and if there are several
+/// monitors, a majority of them accepted it under one number.
 pub fn law_agree()
     ensures agree { (ms : Monitors) (events : List Event) → AllFit ms.count events → Agree ms.count (run ms events) }
     ensures grows { (ms : Monitors) (before after : List Event) → AllFit ms.count (before ++ after)
@@ -28,9 +29,10 @@ pub fn law_agree()
         → IsChosen ms.count (run ms events) (suc v) (entry (run ms events).log (suc v)) }
 {}
 
-/// All that monitors tell each other of what is committed is the one log's, and so is what a monitor under a full synchronisation holds:
-/// told values are those of its versions, told entries are what its versions leave, and the copy is one of the log, from the floor on. A
-/// monitor that takes a copy is marked if and only if the copy is a full one, so a full requester is marked.
+/// All that monitors send each other of what is committed is the one log's, and so is what a monitor under a full
+/// synchronisation holds: the sent values are those of its versions, the sent entries are what its versions leave,
+/// and the copy is one of the log, from the floor on. A monitor that takes a copy is marked if and only if the copy
+/// is a full one, so a full requester is marked.
 pub fn law_marked()
     ensures told { (ms : Monitors) (events : List Event) → AllFit ms.count events → (e : Envelope) → Contains (run ms events).messages e
         → TellsLog (run ms events).log e.message.body }
@@ -47,9 +49,9 @@ pub fn law_kept()
     ensures { (ms : Monitors) (events : List Event) → AllFit ms.count events → KeptAndShown ms.count (run ms events) }
 {}
 
-/// What fences a read, in every run of any monitors. No epoch has two active leaders. A lease is given by a leader that has its whole quorum in
-/// its epoch, and a peon that has one has committed all that it ever accepted. So what is shown or told after an acknowledgement, in its
-/// epoch, has that version.
+/// What fences a read, in every run of any monitors. No epoch has two active leaders. A lease is given by a leader
+/// that has its whole quorum in its epoch, and a peon that has one has committed all that it ever accepted. So every
+/// read after an acknowledgement, in its epoch, includes that version.
 pub fn law_fence()
     ensures { (ms : Monitors) (events : List Event) → AllFit ms.count events → Fenced ms.count (run ms events) }
 {}

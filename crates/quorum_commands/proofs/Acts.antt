@@ -148,7 +148,7 @@ module _ (me : Me) where
     unfolding reign
     reigns q x O = then_map _ (Goes x (Unpending x)) (collect me now q 0 _) (λ y G. record { out = G.out; clients = G.clients; last = G.last }) (collects q 0 _ (more x.out _ O (to_each (epoch_of x.readings) (body.Victory q) tt (members me q))))
 
-    -- ---- beginning anew, and elections
+    -- ---- beginning again, and elections
 
     -- it forgets its clients
     pub record Anew (x y : Course) : Type 0 where

@@ -157,6 +157,6 @@ module _ (ms : Monitors) (w : World) (I : InvOf ms w) (p : Plain) (d : Does ms w
       let F : Fine (still me (readings_of m)) (at_rest (readings_of m) d.state) = record { shape = tt; stored = (m, refl); tells = refl; boot = refl; fits = tt; readings = (I.mine d.rank).fine; state = state_fits; sends = tt } in
       (subst (Then (Ended (begun me (readings_of m) d.state d.came))) d.is (react_fine me d.at made (shared_entries m) shares (readings_of m) d.state d.came (fits d.came d.brought) F)).holds
 
-  -- what its store tells then
+  -- what its store's readers return then
   pub tells : readings_of next ≡ d.y.readings
   tells = readings-joined d.y.changes (fit_fits d.y.changes ended.fits) m ∙ sym ended.tells

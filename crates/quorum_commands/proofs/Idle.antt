@@ -83,7 +83,7 @@ SameClients a b = (a.queue ≡ b.queue) × (a.taken ≡ b.taken)
 pub same_clients : (a b : Clients) → a ≡ b → SameClients a b
 same_clients a b e = (ap (λ (c : Clients). c.queue) e, ap (λ (c : Clients). c.taken) e)
 
--- ---- an event, from what the store told and what was remembered before it
+-- ---- an event, from what the store's readers returned and what was remembered before it
 
 module _ (me : Me) (now : ℕ) (w : Readings) (s : State) where
   -- it is alone in its map, with no value pending and nothing to replay

@@ -24,11 +24,11 @@ use Rattle.std.specs.List.{AllByRecursion}
 
 -- where the command of a request is
 pub data Place : Type 0 where
-  -- it isn't asked yet, or comes to nothing
+  -- it isn't asked yet, or is refused
   Nowhere : Place
   -- monitor i handed it on to its leader in this epoch under this number
   Handed : (i to e seq : ℕ) → Place
-  -- it waits at monitor i, behind those of lower tickets
+  -- it waits at monitor i, after those of lower tickets
   Queued : (i ticket : ℕ) → Place
   -- these bytes were proposed for a version
   Begun : (v : ℕ) → (bytes : List ℕ) → Place

@@ -40,7 +40,7 @@ use Rattle.std.specs.Prelude.{IfOk}
 
 -- ---- what is put at one place
 
--- where nothing is put, nothing is
+-- if nothing is put, nothing is
 none_put : (f g : ℕ → Option State) (i : ℕ) → ((j : ℕ) → (j ≡ i → ⊥) → g j ≡ f j) → (j : ℕ) (s : State) → put_at f i None j ≡ Some s → g j ≡ Some s
 none_put f g i same j s = by (eqb j i) refl
   where
@@ -224,7 +224,7 @@ module _ (ms : Monitors) (before events : List Event) (F : AllFit ms.count (befo
   abbrev places : Places
   places = runs.2.after
 
-  -- the request of a version, which is that of the run before where it has the version
+  -- the request of a version, which is that of the run before if it has the version
   record Picked (v : ℕ) : Type 0 where
     k : ℕ
     place : places k ≡ Begun (suc v) (entry now.log (suc v))

@@ -37,7 +37,7 @@ use Rattle.quorum_walk.proofs.Walk.{Then}
 use Rattle.std.proofs.Common.{IfSome, List, Option, Some, [], ap, arith, get_or-set_other, get_or-set_same, inl, inr, length, length-append, length-set, ltb, refl, slice_get, slice_index_or, slice_set, subst, suc, sym, true, ℕ, ◌<◌, ◌∙◌, ◌∷◌, ◌≡◌, ◌≤◌, ◌⊎◌}
 use Rattle.std.proofs.lemmas.Bool.{cases_eq, ltb-true}
 
--- ---- what places are told apart by
+-- ---- how places are distinguished
 
 abbrev ticket_of : Place → ℕ
 ticket_of (Queued j t) = t

@@ -66,7 +66,7 @@ wait_push n asked places i t [] x h k = (subst (λ (u : ℕ). HasOwn n asked pla
 wait_push n asked places i t (z ∷ xs) x h k =
     (h.0, wait_push n asked places i (suc t) xs x h.1 (subst (λ (u : ℕ). HasOwn n asked places (Queued i u) (asker i x.origin) x.command) (let e : t + suc (length xs) ≡ suc t + length xs = omega arith in e) k))
 
--- where a change puts what it votes for
+-- if a change puts what it votes for
 abbrev vote_place : Change → Place
 vote_place (Vote v q x) = Begun v (text x)
 vote_place other = Nowhere
@@ -116,16 +116,16 @@ module _ (ms : Monitors) (w : World) (p : Plain) (I : InvOf ms w) (L : OneLog ms
   SendsOwn after (sent.Message to m) = BodySends after m.from to m.epoch m.body
   SendsOwn after (sent.Reply t r) = Unit {0}
 
-  -- its epoch doesn't fall, and it is in a quorum of it only where it was
+  -- its epoch doesn't fall, and it is in a quorum of it only if it was
   abbrev pub Here : Type 0
   Here = Stays w0 (w.state i) (readings_of after_store) (Some d.y.state)
 
-  -- where it still leads in an epoch, a command that was handed on in it and isn't taken has its request
+  -- if it still leads in an epoch, a command that was handed on in it and isn't taken has its request
   abbrev pub Opens : Places → Type 0
   Opens after = Here → (f e seq : ℕ) (c : Command) → is_leading d.y.state.phase ≡ true → epoch_of (readings_of after_store) ≡ e → slice_index_or d.y.state.clients.taken f 0 < seq → (f ≡ i → ⊥) → f < n
       → IsForwarded n w.asked places (w.store i) (w.state i) f i e seq c → HasOwn n asked after (Handed f i e seq) f c
 
-  -- where it commits a value at once
+  -- if it commits a value at once
   pub record CommitsOwn (after : Places) : Type 0 where
     pub ops : List Op
     pub k : ℕ
@@ -236,7 +236,7 @@ module _ (ms : Monitors) (w : World) (p : Plain) (I : InvOf ms w) (L : OneLog ms
       none : Among (Vote v q x) [] → ⊥
       none a = a
 
-  -- those that wait still do, where nothing moves
+  -- those that wait still do, if nothing moves
   still_waits : Waits n asked places i d.state.clients.queue d.state.clients.taken
   still_waits = let q = waited in (q.0, q.1, wait_last n w.asked asked still Nowhere places places stays i q.1 d.state.clients.queue (λ u le e. absurd cc) q.2)
 

@@ -1,5 +1,5 @@
--- What a monitor does with a command that comes to it, or that waits there: it is refused, waits, becomes the next version's value, or is
--- handed on. Each is done once.
+-- What a monitor does with a command that comes to it, or that waits there: it is refused, waits, becomes the next version's
+-- value, or is forwarded. Each is done once.
 use Rattle.mon_bytes.specs.declared.command.Command.TheVariants as command
 use Rattle.mon_bytes.specs.declared.command.Command.{Command}
 use Rattle.mon_bytes.specs.declared.command.CommandRefused.{CommandRefused}
@@ -60,8 +60,8 @@ use Rattle.std.specs.Prelude.{is_some, slice_index_or, slice_set}
 
 -- ---- what becomes of it
 
--- Source says of a command and its origin where it comes from, where these are those that wait besides and those that were taken of peons; and
--- Asks that a session asked it just now.
+-- Source says where a command and its origin come from, where these are those that wait besides and those that were taken of
+-- peons; and Asks that a session asked it just now.
 module _ (me : Me) (now : ℕ) (w : Readings) (s : State) (Source : Command → Origin → List Waiting → List ℕ → Type 0) (Asks : Session → Command → Type 0) where
   pub record WritesNone (y : Course) : Type 0 where
     pub changes : y.changes ≡ []
@@ -79,7 +79,7 @@ module _ (me : Me) (now : ℕ) (w : Readings) (s : State) (Source : Command → 
     pub made : value w c (asked_of me o) ≡ Ok ops
     pub how : Proposes ops y ⊎ Commits ops y
 
-  -- it is refused, it waits behind the others, or it begins
+  -- it is refused, it waits after the others, or it begins
   abbrev pub Becomes : Command → Origin → List Waiting → Course → Type 0
   Becomes c o others y = ((y.state.clients.queue ≡ others) × WritesNone y) ⊎ (((y.state.clients.queue ≡ others ++ record { command = c; origin = o } ∷ []) × WritesNone y) ⊎ ((y.state.clients.queue ≡ others) × Begins c o y))
 

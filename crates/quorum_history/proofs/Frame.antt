@@ -94,7 +94,7 @@ module _ (i : ℕ) (g h : Ghost) (E : Ext i g h) where
   sent_lasts j (sent.Message to m) k = (k.0, message_lasts to m k.1)
   sent_lasts j (sent.Reply to r) k = tt
 
-  -- ---- a monitor, i itself among them where its own part is unchanged
+  -- ---- a monitor, i itself among them if its own part is unchanged
 
   pub source_lasts : (j e : ℕ) (c : Command) (o : Origin) → HasSource g j e c o → HasSource h j e c o
   source_lasts j e c (origin.Session s) k = E.asks.keeps (asking j s c) k
@@ -126,7 +126,7 @@ module _ (i : ℕ) (g h : Ghost) (E : Ext i g h) where
   found_lasts q pn last None k = tt
   found_lasts q pn last (Some f) k = record { next = k.next; low = k.low; by = k.by; member = k.member; was = accepted_lasts k.by f.version f.pn f.value k.was }
 
-  -- where it accepted nothing itself
+  -- if it accepted nothing itself
   abbrev pub Accepts : ℕ → Type 0
   Accepts j = (v p : ℕ) (x : List Op) → Accepted h j v p x → Accepted g j v p x
 
@@ -142,7 +142,7 @@ module _ (i : ℕ) (g h : Ghost) (E : Ext i g h) where
     counted = λ f a. accepted_lasts f (suc last) pn k.x (k.counted f a);
   }
 
-  -- a peon's own part, where it handed nothing on, and with a lease accepted nothing
+  -- a peon's own part, if it handed nothing on, and with a lease accepted nothing
   abbrev pub HandsOn : ℕ → Type 0
   HandsOn j = (e seq : ℕ) (s : Session) (c : Command) → Handed h j e seq s c → Handed g j e seq s c
 
@@ -161,7 +161,7 @@ module _ (i : ℕ) (g h : Ghost) (E : Ext i g h) where
   stage_lasts last floor provider full start version sync.Chunks k = (had_lasts E ALevel provider version k.0, k.1, k.2)
   stage_lasts last floor provider full start version (sync.Replay next end) k = k
 
-  -- what it has in its phase lasts where it accepted nothing and handed nothing on
+  -- what it has in its phase lasts if it accepted nothing and handed nothing on
   pub phase_lasts : (n j : ℕ) (c : Core) (p : Phase) → Accepts j → HandsOn j → InPhase n g j c p → InPhase n h j c p
   phase_lasts n j c phase.Booting same hands k = tt
   phase_lasts n j c phase.Probing same hands k = tt

@@ -36,7 +36,7 @@ use Rattle.std.proofs.Common.{Bool, IfSome, List, None, Option, Some, [], false,
 use Rattle.std.specs.List.{AllByRecursion}
 use Rattle.std.specs.Prelude.{if◌then◌else◌, is_some}
 
--- ---- what its store tells
+-- ---- what its store's readers return
 
 abbrev pub epoch_in : Own → ℕ
 epoch_in o = epoch_or_first o.epoch
@@ -293,13 +293,13 @@ pub record Answers (g : Ghost) (i to e pn last : ℕ) (whole : Bool) (first : �
   pub joined : Joined g i e to
   pub promised : Had g APromise i pn
   pub level : Had g ALevel i last
-  -- its values follow a version that the leader told, and go up to its last one at most
+  -- its values follow a version that the leader sent, and go up to its last one at most
   pub base : ℕ
   pub from : first ≡ suc base
   pub behind : Had g ALevel to base
   pub short : (values ≡ []) ⊎ (base + length values ≤ last)
   pub reaches : whole ≡ true → last ≤ base + length values
-  -- with them and the value that it tells, all is covered that it accepted under a lower number
+  -- with them and the value that it sends, all is covered that it accepted under a lower number
   pub told : IfSome pending (λ t. (whole ≡ true) × (t.pn ≤ pn) × Accepted g i (suc last) t.pn t.value)
   pub covers : whole ≡ true → (v r : ℕ) (x : List Op) → Accepted g i v r x → r < pn → (v ≤ last) ⊎ ((v ≡ suc last) × (t : Told) × (pending ≡ Some t) × (r ≤ t.pn))
 

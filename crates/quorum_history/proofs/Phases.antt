@@ -1,4 +1,4 @@
--- What holds in a phase that a test tells.
+-- What holds in a phase that a test names.
 use Rattle.mon_msg.specs.Protocol.Course.{Course}
 use Rattle.mon_msg.specs.Protocol.Entering.{is_even}
 use Rattle.mon_msg.specs.Protocol.Phases.{is_leading, is_peon, same_phase, votes}
@@ -128,7 +128,7 @@ votes_unmarked n h i c phase.Synchronizing v k = no v
 -- ---- of a monitor
 
 module _ (me : Me) (g : Ghost) (Known : ℕ → List Op → Type 0) (x : Course) where
-  -- what it has where its phase is known
+  -- what it has if its phase is known
   pub in_known : (p : Phase) → x.state.phase ≡ p → Good me g Known x → At me g Known (λ h. InPhase me.member.monitors h me.member.rank (core x) p) x
   in_known p e A = weaken _ _ A (λ h E G D k. subst (InPhase me.member.monitors h me.member.rank (core x)) e k)
 

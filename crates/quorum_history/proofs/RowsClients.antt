@@ -77,7 +77,7 @@ module _ (me : Me) (now : ℕ) (g : Ghost) (Known : ℕ → List Op → Type 0) 
   asked_below (origin.Session s) k = let a = me.member.in_map in let b = me.member.most in omega arith
   asked_below (origin.Forwarded f seq) k = k
 
-  -- a store tells this, and the value that a command makes over it, if it was asked, is known for the next version
+  -- a store's readers return this, and the value that a command makes over it, if it was asked, is known for the next version
   abbrev pub Makes : Readings → Type 0
   Makes w = IsStored w × (w.marked ≡ false → (a : ℕ) (s : Session) (c : Command) (y : List Op) → Asks g a s c → value w c a ≡ Ok y → Known (suc w.last) y)
 

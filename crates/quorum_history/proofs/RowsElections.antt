@@ -41,7 +41,7 @@ module _ (me : Me) (now : ℕ) (g : Ghost) (Known : ℕ → List Op → Type 0) 
 
   -- ---- probing
 
-  -- what it tells of its last version
+  -- what it says of its last version
   pub own_level : (h : Ghost) (w : Readings) → w.marked ≡ false → Numbered h.signs me.member.rank (own_of w) → Had h ALevel me.member.rank w.last
   own_level h w u N = had_down h ALevel me.member.rank (level_in (own_of w)) w.last (N.now ALevel) (let e = level_is (own_of w) u in omega arith)
 

@@ -139,7 +139,7 @@ module _ (me : Me) (now : ℕ) (g : Ghost) (Known : ℕ → List Op → Type 0) 
         omega (arith, long),
       ))
 
-  -- f answered under this number, and told its last version
+  -- f answered under this number, and gave its last version
   abbrev HeardNow : Ghost → Course → (f last : ℕ) → Option Told → Type 0
   HeardNow h x f last told = Joined h f (epoch_of x.readings) i × Had h APromise f x.state.leader.pn
       × ((v r : ℕ) (y : List Op) → Accepted h f v r y → r < x.state.leader.pn → (v ≤ last) ⊎ ((v ≡ suc last) × (t : Told) × (told ≡ Some t) × (r ≤ t.pn)))

@@ -101,7 +101,7 @@ module _ (me : Me) (now : ℕ) (g : Ghost) (Known : ℕ → List Op → Type 0) 
   cancelled : (x : Course) → At me g Known (λ h. FollowsIn h i (core x)) x → At me g Known (λ h. FollowsIn h i (core (cancel x))) (cancel x)
   cancelled x A = weaken _ _ A (λ h E G D p. let_go h (core x) p)
 
-  -- where nothing is pending
+  -- if nothing is pending
   committed : (h : Ghost) (w : Readings) → Glob n h → Disk h i (own_of w) w.record_of → w.marked ≡ false → is_some (pending w) ≡ false → (v p : ℕ) (y : List Op) → Accepted h i v p y → v ≤ w.last
   committed h w G D u none v p y a = elim (pending_cases n h i (own_of w) w.record_of G D u) [ inl k ↦ k.covers v p y a | inr k ↦ absurd (false≢true (sym none ∙ ap is_some k.some)) ]
 

@@ -243,7 +243,7 @@ module _ (me : Me) (now : ℕ) (g : Ghost) (Known : ℕ → List Op → Type 0) 
       by true t = done (copies_whole p values entries next x refl from K e s t W A)
       by false t = and_then (λ y. Took (p.version + length values) (placed next y)) (Took (p.version + length values)) (learn (suc p.version) values x) _ (learns_recent p values next x refl from K e s t V A) (λ y B. done B)
 
-  -- what a chunk for its place tells
+  -- what a chunk for its place holds
   record Ours (f : ℕ) (p : Place) (x : Course) : Type 0 where
     pub phase : x.state.phase ≡ phase.Synchronizing
     pub stage : x.state.requester.stage ≡ sync.Chunks

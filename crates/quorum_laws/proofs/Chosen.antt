@@ -53,7 +53,7 @@ module _ (ms : Monitors) (w : World) (I : InvOf ms w) where
 
   -- ---- no room for another
 
-  -- a rank that refuses some changes refuses bytes that spell no other ones
+  -- a rank that refuses some changes refuses bytes that encode no other ones
   refusing : (q : List Bool) (v lower : ℕ) (bytes : List ℕ) (y : List Op) → ((i : ℕ) (z : List Op) → history.Accepted I.g i v lower z → bytes ≡ text z → z ≡ y) → history.Refuses I.g.signs I.g.accepts q v lower y → Refuses w q v lower bytes
   refusing q v lower bytes y same R = record {
     rank = R.m;
@@ -62,7 +62,7 @@ module _ (ms : Monitors) (w : World) (I : InvOf ms w) where
     never = λ a. let k = accepted_as ms w I R.m v lower bytes a in R.never (subst (history.Accepted I.g R.m v lower) (same R.m k.0 k.2 k.1) k.2);
   }
 
-  -- what was accepted and is spelled so is what the bytes spell
+  -- what was accepted and is encoded so is what the bytes encode
   spelled_by : (i v p : ℕ) (bytes : List ℕ) (z : List Op) → history.Accepted I.g i v p z → bytes ≡ text z → transaction_in (Some bytes) ≡ Some z
   spelled_by i v p bytes z a e = ap (λ (b : List ℕ). transaction_in (Some b)) e ∙ (I.glob.triples.fine i v p z a).reads
 

@@ -150,7 +150,7 @@ module _ (store : ℕ → Store) (state : ℕ → Option State) (txs : ℕ → L
       asks = asks;
     }
 
-    -- what it makes of what was; where it was in a quorum, it remembered that
+    -- what it makes of what was; if it was in a quorum, it remembered that
     module _ (t : Option State) (still : is_in t ≡ true → is_member x.state.phase ≡ true) (from : is_member s.phase ≡ true → is_in (state i) ≡ true) where
       inside : is_in t ≡ true → epoch_of (readings_of next) ≡ epoch_of (readings_of m) → is_in (state i) ≡ true
       inside a e = by (is_member s.phase) refl

@@ -13,7 +13,7 @@ abbrev pub is_in : Option State → Bool
 is_in None = false
 is_in (Some s) = is_member s.phase
 
--- its numbers don't fall, and it is in the quorum of its epoch only where it was
+-- its numbers don't fall, and it is in the quorum of its epoch only if it was
 pub record Stays (w : Readings) (s : Option State) (next : Readings) (t : Option State) : Type 0 where
   pub epoch : epoch_of w ≤ epoch_of next
   pub promise : promise_of w ≤ promise_of next

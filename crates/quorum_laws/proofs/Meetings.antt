@@ -64,7 +64,7 @@ ask_glob n a g G =
 module _ (n : ℕ) (store : ℕ → Store) (state : ℕ → Option State) (txs : ℕ → List (List Op))
     (messages : List Envelope) (pairs : List (ℕ × ℕ)) (asked : List Asked)
     (I : Inv n store state txs messages pairs asked) where
-  -- what holds where more was asked, with a history that goes on
+  -- what holds if more was asked, with a history that goes on
   abbrev Asking : List Asked → Type 0
   Asking more = (J : Inv n store state txs messages pairs (asked ++ more)) × Further I.g J.g
 
@@ -170,7 +170,7 @@ module _ (ms : Monitors) (w : World) (Told : Envelope → Type 0) where
         (d : (lt : ltb rank ms.count ≡ true) (S : AllByRecursion EntryFine (shared_entries (w.store rank)))
         → ComesFine (member_of ms rank lt) at (readings_of (w.store rank)) made (shared_entries (w.store rank))
         S came) (t : ToldOf Told rank came) (noted : IsNoted (with_asked p w.asked) rank came) where
-      -- it comes to a monitor that is up, down or not there
+      -- it comes to a monitor that is up, down or unknown
       arrives : (o : Option State) → OnState ms.count I.g rank (readings_of (w.store rank)) o → IfSome o StateFits
           → ((s : State) → o ≡ Some s → (w.state rank ≡ Some s) ⊎ (s ≡ booting rank))
           → (b : Bool) (q : ltb rank ms.count ≡ b)

@@ -1,4 +1,4 @@
--- What every run's history tells of its world.
+-- What every run's history says of its world.
 use Rattle.log_model.proofs.Lists.{of_all}
 use Rattle.mon_msg.specs.Protocol.State.{State}
 use Rattle.mon_tx.specs.Text.{text}

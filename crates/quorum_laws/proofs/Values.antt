@@ -1,4 +1,4 @@
--- What the log's laws tell of values: each that a command makes goes round, and so does what a store shares.
+-- What the log's laws say of values: each that a command makes is passed on, and so is what a store shares.
 use Rattle.log_model.proofs.AnyValue.{value_reads, value_records, value_spares}
 use Rattle.log_model.proofs.SharedEntries.{shared_records, shared_spares}
 use Rattle.mon_msg.specs.Protocol.Changes.{Copy, ops_of}
@@ -33,7 +33,7 @@ made w S c asked x form rank last next e =
 entry_fine : (e : Copied) → Spares (ops_of (Copy e)) × ((u : ℕ) (c : Cell) → CellFine c → CellFine (cell_after (ops_of (Copy e)) area.Paxos (key.Version u) c)) → EntryFine e
 entry_fine e h = record { spares = h.0; cells = h.1 }
 
--- the entries that a store shares, where its records go round
+-- the entries that a store shares, if its records are passed on
 pub sharing : (m : Store) → RecordsFine (readings_of m).record_of → AllByRecursion EntryFine (shared_entries m)
 unfolding readings_of
 sharing m R = all_map _ EntryFine entry_fine (shared_entries m) (all_both _ _ (shared_entries m) (shared_spares m) (shared_records m CellFine R))

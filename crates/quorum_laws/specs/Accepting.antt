@@ -29,7 +29,7 @@ pub record AcceptedIn (transactions : List (List Op)) (v pn : ℕ) (bytes : List
 abbrev pub HasAccepted : World → ℕ → (v pn : ℕ) → List ℕ → Type 0
 HasAccepted w i v pn bytes = AcceptedIn (w.transactions i) v pn bytes
 
--- what a monitor's store tells
+-- what the readers of a monitor's store return
 abbrev pub readings_at : World → ℕ → Readings
 readings_at w i = readings_of (w.store i)
 

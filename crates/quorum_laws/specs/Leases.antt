@@ -1,4 +1,4 @@
--- What a lease says, as long as it is not cancelled, whatever its moment.
+-- What a lease implies, as long as it isn't cancelled, whatever its time.
 use Rattle.mon_msg.specs.Protocol.Phases.{is_peon}
 use Rattle.mon_msg.specs.Protocol.Readings.{epoch_of}
 use Rattle.mon_msg.specs.Protocol.State.{State}

@@ -101,7 +101,7 @@ pub record IsTold (told : Option Told) (last v pn : ℕ) : Type 0 where
   pub number : pn ≤ value.pn
 
 -- A whole answer covers all that its monitor accepted under lower numbers, then and ever after: by the last version that it
--- tells, or by the pending value.
+-- gives, or by the pending value.
 abbrev pub AnswerCovers : World → ℕ → Body → Type 0
 AnswerCovers w from (body.Last pn first last true lowest values told) =
     (v lower : ℕ) (bytes : List ℕ) → HasAccepted w from v lower bytes → lower < pn → (v ≤ last) ⊎ IsTold told last v lower
@@ -129,7 +129,7 @@ CarriesValues (body.Chunk cookie p values entries is_done) = AllByRecursion IsSo
 CarriesValues (body.LastChunk cookie p values entries last) = AllByRecursion IsSomeValue values
 CarriesValues other = Unit {0}
 
--- what messages carry as values, and what records spell, are values of commands
+-- what messages carry as values, and what records encode, are values of commands
 pub record ValuesAlone (w : World) : Type 0 where
   pub messages : (e : Envelope) → Contains w.messages e → CarriesValues e.message.body
   pub records : (i v : ℕ) (changes : List Op) → record_at (readings_at w i).record_of v ≡ Some changes → IsSomeValue changes

@@ -63,8 +63,8 @@ pub fn law_values()
         → ProposesNew ms.count (run ms before) (run ms (before ++ after)) }
 {}
 
-/// What a lease says that is not cancelled, whatever its moment. Whoever gives one has its whole quorum in its epoch; and of a peon that has
-/// one each version for which it ever accepted a value is committed.
+/// What a lease that isn't cancelled implies, whatever its time. Whoever gives one has its whole quorum in its epoch;
+/// and each version for which a peon with a lease ever accepted a value is committed.
 pub fn law_leases()
     ensures { (ms : Monitors) (events : List Event) → AllFit ms.count events → LeasesHold ms.count (run ms events) }
 {}

@@ -1,4 +1,4 @@
--- The events of a schedule may be met where what comes by it may.
+-- The events of a schedule may be met if what comes by it may.
 use Rattle.std.proofs.Common.{ℕ, List, [], ◌∷◌, Option, Some, None, Result, Ok, Err}
 use Rattle.std.specs.List.{AllByRecursion}
 use Rattle.quorum_model.specs.Events.{PlainFits, AllFit}

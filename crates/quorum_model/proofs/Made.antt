@@ -67,7 +67,7 @@ pub puts_command : (w : Readings) (c : Command) (asked : ℕ) (ops : List Op) �
 puts_command w c asked ops h =
     puts_in w c asked ops (service_of c) h ∙ ap (λ b. cond b (incremental_of asked c ∷ []) []) (same_area_itself (area_of (service_of c)))
 
--- so that is what it tells of the value
+-- so that is what it says of the value
 pub first_put : (w : Readings) (c : Command) (asked : ℕ) (ops : List Op) → value w c asked ≡ Ok ops → incremental_in ops ≡ (service_of c, incremental_of asked c)
 first_put w (command.Set k v) asked ops h = λ i. kv_or_log (puts_in w (command.Set k v) asked ops service.Kv h i) (puts_in w (command.Set k v) asked ops service.Log h i)
 first_put w (command.Remove k) asked ops h = λ i. kv_or_log (puts_in w (command.Remove k) asked ops service.Kv h i) (puts_in w (command.Remove k) asked ops service.Log h i)

@@ -25,8 +25,8 @@ pub record Agrees (log : List (List ℕ)) (m : Store) : Type 0 where
       → cell m area.Paxos (key.Version v) ≡ Some (entry log v)
   pub folded : shared m ≡ fold log (last_of m)
 
--- Version v + 1 of the log spells the value of a command that a client asked one of n monitors, over the versions before it.
--- In a text for the cluster log stands the rank that was asked.
+-- Version v + 1 of the log encodes the value of a command that a client asked one of n monitors, over the versions before it.
+-- A text for the cluster log has the rank that was asked.
 pub record IsAsked (n : ℕ) (asked : List Asked) (log : List (List ℕ)) (v : ℕ) : Type 0 where
   pub by : Asked
   pub was_asked : Contains asked by

@@ -37,7 +37,7 @@ abbrev pub with_value : List (List ℕ) → Result (List Op) CommandRefused → 
 with_value log (Ok ops) = log ++ text ops ∷ []
 with_value log (Err e) = log
 
--- the log behind commands: the values of those that aren't refused, in order
+-- the log after commands: the values of those that aren't refused, in order
 unfoldable pub log_of : List (List ℕ) → List Order → List (List ℕ)
 log_of log [] = log
 log_of log (c ∷ cs) = log_of (with_value log (value_over log c)) cs
@@ -97,7 +97,7 @@ Answer = ℕ × Session × Reply
 abbrev pub answers : World → List Answer
 answers w = map (λ r. (r.rank, r.session, r.reply)) w.replied
 
--- a command behind a log: the version that it makes, or why there is none
+-- the result of a command after a log: the version that it makes, or why there is none
 abbrev pub reply_over : List (List ℕ) → Result (List Op) CommandRefused → Reply
 reply_over log (Ok ops) = reply.Done (suc (length log))
 reply_over log (Err e) = refusal e
@@ -132,7 +132,7 @@ pub record IsCalm (ms : Monitors) (cs : List Order) (events : List Event) : Type
   pub done : length (filter (λ r. is_done r.reply) (run ms events).replied) ≡ length (run ms events).log
   pub answered : answers (run ms events) ≡ answers_of 1 [] cs
 
--- the calm schedule of n monitors comes to its end, is calm before the maps are shown, and shows those of the log
+-- the calm schedule of n monitors reaches its end, is calm before the maps are shown, and shows those of the log
 pub record EndsCalmly (n : ℕ) (most : n ≤ 15) (cs : List Order) : Type 0 where
   pub goes_on : (ran (classic n most) (calm_schedule n most cs)).stop ≡ None
   pub calm : IsCalm (classic n most) cs (orders (classic n most) cs)

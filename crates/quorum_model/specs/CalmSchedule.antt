@@ -48,7 +48,7 @@ numbers_delivered events = filter_map number_delivered events
 -- ---- deliveries
 
 -- Each message from number k on, in order, until none is left: those that were sent by then, and those that these events
--- send. At most so many.
+-- send. There are at most this many.
 unfoldable pub deliveries : Monitors → (most k : ℕ) → World → List Event
 deliveries ms zero k w = []
 deliveries ms (suc most) k w =

@@ -18,7 +18,7 @@ use Rattle.mon_wire.specs.declared.request.Service.{Service}
 use Rattle.quorum_model.specs.Growth.{last_of}
 use Rattle.quorum_model.specs.World.{Plain, Client, Envelope, Asked, Replied}
 
--- the command that is asked, where it is one
+-- the command that is asked, if it is one
 abbrev pub command_of : Request → Option Command
 command_of (request.Set key value) = Some (command.Set key value)
 command_of (request.Remove key) = Some (command.Remove key)

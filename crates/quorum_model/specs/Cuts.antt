@@ -1,4 +1,4 @@
--- What is left on a monitor's disks where one of them fails within an event.
+-- What is left on a monitor's disks if one of them fails within an event.
 use Rattle.std.specs.Prelude.{ℕ, ◌-◌, nat_le, nat_lt, ◌||◌, List, Option, Some, None, if◌then◌else◌}
 use Rattle.mon_types.specs.declared.names.Side.{Side}
 use Rattle.mon_types.specs.declared.names.Side.TheVariants.{A, B}
@@ -9,14 +9,14 @@ use Rattle.mon_msg.specs.Protocol.Sets.{is_empty}
 use Rattle.quorum_model.specs.Files.{File, Files, file_on, with_file, live_side, is_created, after_opening, after_append, is_due, checkpoint}
 use Rattle.quorum_model.specs.Upsets.{Upset, same_side, opens_gate, closes_gate}
 
--- Six calls begin a file: its header's gate is closed, what stands behind it is written, and the gate is opened, each with a
--- sync. Where they fail from that call on, the disk has the new file once the gate was opened; none once it was closed; and
--- else what it had.
+-- Six calls begin a file: its header's gate is closed, what follows it is written, and the gate is opened, each with a sync.
+-- If they fail from that call on, the disk has the new file once the gate was opened; none once it was closed; and otherwise
+-- what it had.
 abbrev pub file_left : (call image : ℕ) → (old : Option File) → File → Option File
 file_left call image old new =
     if opens_gate 5 call image then Some new else (if closes_gate 1 call image then None else old)
 
--- the checkpoint on the other disk, where the live file wants one, up to that call
+-- the checkpoint on the other disk, if one is due, up to that call
 abbrev pub checkpoint_cut : (call image : ℕ) → Store → Side → Option File → Files → Files
 checkpoint_cut call image m side None f = f
 checkpoint_cut call image m side (Some live) f =
@@ -29,7 +29,7 @@ checkpoint_begun call image m f = checkpoint_cut call image m (other (live_side 
 abbrev pub after_checkpoint : Store → Files → Files
 after_checkpoint m f = checkpoint_begun 7 0 m f
 
--- a transaction over a map, and the checkpoint behind it, where the calls of a disk fail from that call on
+-- a transaction over a map, and the checkpoint after it, where the calls of a disk fail from that call on
 abbrev pub append_cut : Files → Store → Side → (call image : ℕ) → List Op → Files
 append_cut f m disk call image ops =
     if same_side disk (live_side f)
@@ -37,7 +37,8 @@ append_cut f m disk call image ops =
     else (if opens_gate 3 call image then after_append ops f else f))
     else checkpoint_begun call image (apply ops m) (after_append ops f)
 
--- Opening, where it fails at that call: a creation may be cut, and else the files stay. The first call is the sync before it.
+-- Opening that fails at that call: a creation may be cut short; otherwise the files stay. The first call is the sync before
+-- it.
 abbrev pub opening_cut : Files → Side → (call image : ℕ) → Files
 opening_cut f B call image = f
 opening_cut f A call image =

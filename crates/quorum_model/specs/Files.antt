@@ -1,4 +1,4 @@
--- What a monitor's two disks hold, and what is left on them where a call fails.
+-- What a monitor's two disks hold, and what is left on them if a call fails.
 use Rattle.std.specs.Prelude.{ℕ, ◌+◌, ◌*◌, ◌^◌, nat_lt, Bool, ◌&&◌, ◌||◌, List, [], ◌∷◌, length, Option, Some, None, is_some, if◌then◌else◌}
 use Rattle.std.specs.FinMap.{entries}
 use Rattle.std.specs.List.{sum_by}
@@ -11,12 +11,12 @@ use Rattle.mon_tx.specs.declared.op.Op.{Op}
 use Rattle.mon_tx.specs.Map.{Store}
 use Rattle.mon_tx.specs.Text.{text}
 
--- an open file: its generation, and the place of its first closed gate, behind which the next record is written
+-- an open file: its generation, and the place of its first closed gate, after which the next record is written
 pub record File : Type 0 where
   pub generation : ℕ
   pub gate : ℕ
 
--- of each disk the file where it is open; a disk that is empty, or of which the header's gate isn't open, is closed
+-- of each disk the file if it is open; a disk that is empty, or of which the header's gate isn't open, is closed
 pub record Files : Type 0 where
   pub a : Option File
   pub b : Option File
@@ -49,7 +49,7 @@ is_created f = is_some f.a || is_some f.b
 
 -- ---- what a store's calls leave
 
--- the place of the gate behind a record
+-- the place of the gate after a record
 abbrev pub gate_after : (gate payload : ℕ) → ℕ
 gate_after gate payload = gate + 5 + payload
 
@@ -57,7 +57,7 @@ gate_after gate payload = gate + 5 + payload
 abbrev pub after_opening : Files → Files
 after_opening f = if is_created f then f else with_file A (Some (record { generation = 1; gate = 25 })) f
 
--- the file behind a transaction; an empty one leaves it
+-- the file after a transaction; an empty one leaves it
 abbrev pub file_after : List Op → File → File
 file_after [] f = f
 file_after (op ∷ ops) f = record { generation = f.generation; gate = gate_after f.gate (length (text (op ∷ ops))) }
@@ -69,8 +69,8 @@ after_append ops f = with_file (live_side f) (option_map (file_after ops) (file_
 abbrev pub checkpoint_length : Store → ℕ
 checkpoint_length m = 5 + sum_by entry_len (entries m)
 
--- A checkpoint of a map is due where the live file is longer than 1,048,576 bytes up to and with its first closed gate, and
--- than four times what the map counts with. No generation passes 2^62. In a run from empty disks no file has the first header.
+-- A checkpoint of a map is due if the live file is longer than 1,048,576 bytes up to and with its first closed gate, and than
+-- four times the map's size. No generation passes 2^62. In a run from empty disks no file has the first header.
 abbrev pub is_due : File → Store → Bool
 is_due f m = nat_lt f.generation (2 ^ 62) && (nat_lt least_length (f.gate + 1) && nat_lt (4 * size_of m) (f.gate + 1))
 

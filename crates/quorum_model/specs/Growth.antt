@@ -14,7 +14,7 @@ last_of m = number m area.Paxos key.LastCommitted
 abbrev pub record_in : Store → ℕ → List ℕ
 record_in m v = unwrap_or (cell m area.Paxos (key.Version v)) []
 
--- so many records of a map behind version v
+-- this many records of a map after version v
 abbrev pub records_behind : Store → (v count : ℕ) → List (List ℕ)
 records_behind m v count = map (record_in m) (range_with_len (suc v) count)
 

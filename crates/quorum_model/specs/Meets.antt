@@ -18,7 +18,7 @@ pub record Arrival : Type 0 where
   pub at : ℕ
   pub input : Input
 
--- the message of that number, counted from 1, where so many were sent
+-- the message of that number, counted from 1, if this many were sent
 abbrev pub message_at : List Envelope → ℕ → Option Envelope
 message_at es zero = None
 message_at es (suc k) = slice_get es k

@@ -12,7 +12,7 @@ pub record Monitors : Type 0 where
   pub most : count ≤ 15
   pub rule : Rule
 
--- the monitor of a rank, where there is one
+-- the monitor of a rank, if there is one
 abbrev pub me_if : (ms : Monitors) (rank : ℕ) (is_below : Bool) → nat_lt rank ms.count ≡ is_below → Option Me
 me_if ms rank true e = Some (record {
   member = record { rank = rank; monitors = ms.count; most = ms.most; in_map = ltb-true rank ms.count e };

@@ -22,7 +22,7 @@ pub record Scene : Type 0 where
 abbrev pub first_scene : Scene
 first_scene = record { world = first_world; files = λ _. no_files }
 
--- what a schedule says: what comes, and where a disk of its monitor fails in it, after which that monitor is down
+-- what a schedule says: what comes, and where in it a disk of its monitor fails, after which that monitor is down
 pub record Scheduled : Type 0 where
   pub plain : Plain
   pub upset : Option Upset

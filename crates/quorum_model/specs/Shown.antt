@@ -8,7 +8,7 @@ use Rattle.mon_wire.specs.declared.request.Request.{Request}
 use Rattle.mon_wire.specs.declared.request.Request.TheVariants as request
 use Rattle.quorum_model.specs.World.{World, Acknowledged, Replied}
 
--- these are the incrementals after the first `from` ones, and `more` tells whether others follow
+-- these are the incrementals after the first `from` ones, and `more` says whether others follow
 pub record AreAfter (all : List (List ℕ)) (from : ℕ) (told : List (List ℕ)) (more : Bool) : Type 0 where
   pub same : told ≡ take (length told) (drop from all)
   pub others : IsTrue more ↔ from + length told < length all
@@ -31,7 +31,7 @@ ShowsLog w r (reply.Busy waiting) = Unit {0}
 abbrev pub AskedFor : World → Replied → Request → Type 0
 AskedFor w r what = Contains w.asked (record { rank = r.rank; session = r.session; request = what })
 
--- what is shown or told was asked for; who asks for changes that aren't kept any more is shown the map
+-- what is shown or listed was asked for; who asks for changes that aren't kept any more is shown the map
 abbrev pub WasAskedFor : World → Replied → Reply → Type 0
 WasAskedFor w r (reply.Shown s paxos version map) = AskedFor w r (request.Show s) ⊎ ((v : ℕ) × AskedFor w r (request.Since s v))
 WasAskedFor w r (reply.Since s from told more) = AskedFor w r (request.Since s from)
@@ -65,6 +65,6 @@ IsFenced a r reply.Unavailable = Unit {0}
 IsFenced a r (reply.NotReadable has lease) = Unit {0}
 IsFenced a r (reply.Busy waiting) = Unit {0}
 
--- what is shown or told after an acknowledgement, in its epoch, has that version
+-- what is read after an acknowledgement, in its epoch, includes that version
 abbrev pub Fence : World → Type 0
 Fence w = AllByRecursion (λ a. AllByRecursion (λ r. IsFenced a r r.reply) w.replied) w.acknowledged

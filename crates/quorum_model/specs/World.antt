@@ -11,7 +11,7 @@ use Rattle.mon_wire.specs.declared.request.Request.{Request}
 use Rattle.mon_wire.specs.declared.request.Service.{Service}
 use Rattle.mon_wire.specs.declared.request.Session.{Session}
 
--- ---- what happens, and at which moment
+-- ---- what happens, and when
 
 -- what comes to a monitor
 pub data Plain : Type 0 where
@@ -20,7 +20,7 @@ pub data Plain : Type 0 where
   -- the message of that number, counted from 1, comes to its receiver: at any time after it was sent, and any number of
   -- times
   Deliver : (message : ℕ) → (at : ℕ) → Plain
-  -- that timer rings, whether or not its moment has come
+  -- that timer rings, whether or not its time has come
   Ring : (rank : ℕ) → (timer : Timer) → (at : ℕ) → Plain
   -- a client asks
   Client : (rank : ℕ) → (at : ℕ) → (session : Session) → (request : Request) → Plain

@@ -1,4 +1,4 @@
--- What a turn leaves of the map and sends, whole or not, by what `serve` promises of it.
+-- What an iteration leaves of the map and sends, whole or not, by what `serve` promises of it.
 use Rattle.std.proofs.Common.{◌≡◌, ℕ, ◌+◌, ◌^◌, zero, suc, nat_lt, Bool, true, false, cond, List, [], take, Option, Some, None, Result, Ok, Err, refl, sym, ap, subst, ◌∙◌, inl, inr}
 use Rattle.std.proofs.lemmas.Bool.{ltb-false}
 use Rattle.std.specs.Option.{option_map}
@@ -24,7 +24,7 @@ use Rattle.quorum_network.specs.Lives.{IsLeftBy}
 use Rattle.quorum_network.specs.Network.{Up, Whole, Kept, at_end, down, left_by, map_of}
 use Rattle.quorum_network.proofs.Steps.{kept_kv}
 
--- ---- a turn that comes to its end
+-- ---- an iteration that comes to its end
 
 pub up_is : (me : Me) (t : Turn) (now : Serving) → ended_turn me t ≡ Ok now → left_by me t Whole ≡ record { process = Up now; sends = sends_of me t }
 up_is me t now e = ap (λ (r : Result Serving NodeEnd). at_end me t r) e
@@ -60,7 +60,7 @@ pub ended_link : (me : Me) (t : Turn) (now : Serving) → ended_turn me t ≡ Ok
 unfolding ended_turn
 ended_link me t now e = by_came me t.serving t.came now e
 
--- ---- a turn that doesn't
+-- ---- an iteration that doesn't
 
 take_none : (k : ℕ) → ◌≡◌ {A = List Outgoing} (take k []) []
 take_none zero = refl
@@ -115,7 +115,7 @@ kept_map me t k = map_came me t.serving (λ r. kept r.transaction t.serving.node
 recorded_map : (me : Me) (t : Turn) (k : ℕ) → (stood_recorded me t).kv ≡ map_of (left_by me t (Kept k)).process
 recorded_map me t k = map_came me t.serving (λ r. recorded r.transaction t.serving.node.store) (λ r. refl) k t.came
 
--- what a crash in a turn leaves
+-- what a crash in an iteration leaves
 pub within_is : (me : Me) (t : Turn) (x : Stood) → IsWithinTurn me t x → IsLeftBy me t x.kv
 within_is me t x (inl e) = inl (ap (λ (z : Stood). z.kv) e)
 within_is me t x (inr (inl e)) = inr (λ k. ap (λ (z : Stood). z.kv) e ∙ recorded_map me t k)

@@ -1,4 +1,4 @@
--- A process of a network does what its own steps make it do, and these are the turns that `serve` makes.
+-- A process of a network does what its own steps make it do, and these are the iterations that `serve` makes.
 use Rattle.std.proofs.Common.{◌≡◌, ℕ, eqb, Bool, true, false, cond, List, [], ◌∷◌, ◌++◌, map, Option, Some, None, Result, Ok, Err, refl, sym, ap, subst, ◌∙◌, append_assoc, arith}
 use Rattle.std.proofs.lemmas.Bool.{eqb-true, eq-eqb}
 use Rattle.std.proofs.lemmas.Bool.Decides.{nat_tests}
@@ -145,7 +145,7 @@ turn_sent me g s =
     let next = due s.node.state.timers in
     heard_sent (due_by g.began next) me.member.monitors (wait_until g.began next) g (clock_read s.outside)
 
--- ---- the turns of `serve`
+-- ---- the iterations of `serve`
 
 module _ (i : ℕ) (me : Me) (stood : Stood) (clock : Option Readings) (link : Option Told) (first : ℕ) (earlier : List Step) where
   abbrev begun : Serving
@@ -154,7 +154,7 @@ module _ (i : ℕ) (me : Me) (stood : Stood) (clock : Option Readings) (link : O
   abbrev lives : List Given → Until → Left
   lives given u = alone me (life i stood clock link first given u earlier)
 
-  -- a life whose last turn is this one
+  -- a life whose last iteration is this one
   pub record LastIs (given : List Given) (u : Until) (t : Turn) : Type 0 where
     pub process : (lives given u).process ≡ (left_by me t u).process
     pub before : List Outgoing
@@ -173,7 +173,7 @@ module _ (i : ℕ) (me : Me) (stood : Stood) (clock : Option Readings) (link : O
   unfolding alone
   started u = record { process = refl; before = []; sends = refl; told = sent_nothing link }
 
-  -- one more turn
+  -- one more iteration
   next_turn : (given : List Given) (g : Given) (u : Until) (t : Turn) (now : Serving) → ended_turn me t ≡ Ok now → LastIs given Whole t → LastIs (g ∷ given) u (turn me g now)
   unfolding alone
   next_turn given g u t now e L =
@@ -200,6 +200,6 @@ module _ (i : ℕ) (me : Me) (stood : Stood) (clock : Option Readings) (link : O
       let c = ended_behind (last_turn me first begun given) b.0 b.1 in
       subst (LastIs (g ∷ given) u) b.2 (next_turn given g u c.0 b.0 c.2 (last_is given Whole c.0 c.1))
 
-  -- and after whole turns it is up
+  -- and after whole iterations it is up
   pub served_is : (given : List Given) (now : Serving) → served me first begun given ≡ Ok now → (lives given Whole).process ≡ Up now
   served_is given now e = let c = ended_behind (last_turn me first begun given) now e in (last_is given Whole c.0 c.1).process ∙ ap (λ (l : Left). l.process) (up_is me c.0 now c.2)

@@ -109,7 +109,7 @@ module _ (A : Assembly) (ms : Monitors) (F : Facts ms) (net : Network) (w : Worl
       boots_by l c true k = subst (λ (m : Store). l.boot ≤ boot_in m) (sym e) (subst (λ (x : ℕ). l.boot ≤ boot_in (map_of (net.process x))) (eqb-true l.by i k) (I.boots l c))
       boots_by l c false k = I.boots l c
 
-  -- ---- what is so of a turn
+  -- ---- what is so of an iteration
 
   -- its input comes by an event
   pub record EventFine (n : Node) (it : TimedInput) : Type 0 where
@@ -144,7 +144,7 @@ module _ (A : Assembly) (ms : Monitors) (F : Facts ms) (net : Network) (w : Worl
   still_down : (olds : List Asked) (came : Result (Option TimedInput) NodeEnd) (s : Serving) → TurnFine came s → NextOf olds [] [] (record { process = Down s.node.store.kv; sends = [] })
   still_down olds came s T = unkept olds (Down s.node.store.kv) T.kv tt
 
-  -- ---- a turn with an input
+  -- ---- an iteration with an input
   module _ (s : Serving) (it : TimedInput) (T : TurnFine (Ok (Some it)) s) where
     abbrev t : Turn
     t = record { came = Ok (Some it); serving = s }

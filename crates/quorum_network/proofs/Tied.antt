@@ -66,7 +66,7 @@ opens_kv member a b m s there e = by (opened (owner_of member) a b) refl e
     by (Ok it) is e = let same : standing_of member it.0 it.1 ≡ s = cc (e) in ap (λ (z : Stood). z.kv) (sym same) ∙ kv_of member it.0 it.1 ∙ opened_map (owner_of member) it m a b is there
     by (Err x) is e = absurd cc
 
--- on images on which a store stands so that P, its map is opened
+-- on images that hold a store that has P, its map is opened
 pub on_opens : (P : Stood → Type 0) (member : Member) (x y : List ℕ) (s : Stood) → On P x y → opens_as member x y ≡ Ok s → (z : Stood) × P z × (s.kv ≡ z.kv)
 on_opens P member x y s on e = let z = on.0 in (z, on.2, opens_kv member x y z.kv s (stood_map z.journal z.kv z.side x y on.1) e)
 
@@ -135,7 +135,7 @@ module _ (me : Me) (t : Turn) (x : Stood) (link : Option Told) where
     sent = subst (λ (ds : List Outgoing). IsSent ds t.serving.outside.link link) (sym (cut_sends me t front.0)) (sent_now (take front.0 (sends_of me t)) t.serving.outside.link link front.1);
   }
 
-  -- the last turn of all comes to its end
+  -- the last iteration of all is carried out whole
   used : (clock : Option Readings) (r : Result Serving NodeEnd) → ended_turn me t ≡ r → Has r (λ now. (clock ≡ now.outside.clock) × (link ≡ now.outside.link)) → x ≡ stood_kept me t → IsEnd
   used clock (Ok now) is h e =
       let whole = up_is me t now is in

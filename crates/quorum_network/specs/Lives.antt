@@ -49,7 +49,7 @@ life i stood clock link first (g ∷ given) u earlier =
 
 -- ---- what a process leaves
 
--- A map is what a step leaves in this turn that is lost, or what each step leaves that is kept.
+-- A map is what a step leaves in this iteration that is lost, or what each step leaves that is kept.
 abbrev pub IsLeftBy : Me → Turn → Store → Type 0
 IsLeftBy me t m = (m ≡ map_of (left_by me t Lost).process) ⊎ ((k : ℕ) → m ≡ map_of (left_by me t (Kept k)).process)
 

@@ -59,7 +59,7 @@ pub data Doing : Type 0 where
   Begins : (stood : Stood) → (clock : Option Readings) → (link : Option Told) → (first : ℕ) → Doing
   Turns : (given : Given) → Doing
 
--- How far the start or the turn gets. It comes to its end. Or the process ends or is killed in it: before the
+-- How far the start or the iteration gets. It comes to its end. Or the process ends or is killed in it: before the
 -- transaction is kept, or after that, when some of its datagrams were sent.
 pub data Until : Type 0 where
   Whole : Until
@@ -73,7 +73,7 @@ pub record Step : Type 0 where
 
 -- ---- what a step makes of the network
 
--- the turn that it is; a process that is down makes none
+-- the iteration that it is; a process that is down makes none
 abbrev pub turn_of : Me → Process → Doing → Option Turn
 turn_of me p (Begins stood clock link first) = Some (start first (unstarted me.member.rank stood clock link))
 turn_of me (Up s) (Turns g) = Some (turn me g s)
@@ -93,7 +93,7 @@ abbrev pub down : Me → Node → (sent : ℕ) → Option Reaction → Left
 down me n k None = record { process = Down n.store.kv; sends = [] }
 down me n k (Some r) = record { process = Down (map_after n r); sends = take k (numbered_by me n r) }
 
--- A turn that ends the node sends nothing here. What it sent before an end is a step `Kept`.
+-- An iteration that ends the node sends nothing here. What it sent before an end is a step `Kept`.
 abbrev pub at_end : Me → Turn → Result Serving NodeEnd → Left
 at_end me t (Ok s) = record { process = Up s; sends = sends_of me t }
 at_end me t (Err e) = down me t.serving.node 0 (kept_reaction me t)
@@ -147,7 +147,7 @@ abbrev pub IsAsked : Network → ℕ → Option Timer → Result Got Stop → Ty
 IsAsked net i (Some t) answer = Unit {0}
 IsAsked net i None answer = IsAnswer net i answer
 
--- A process begins on the map that its disks keep. A turn of one that is up is given what came to it.
+-- A process begins on the map that its disks keep. An iteration of one that is up is given what came to it.
 abbrev pub May : Network → ℕ → Process → Doing → Type 0
 May net i p (Begins stood clock link first) = stood.kv ≡ map_of p
 May net i (Up s) (Turns g) = IsAsked net i (due_by g.began (due s.node.state.timers)) g.answer

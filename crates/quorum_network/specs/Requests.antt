@@ -64,7 +64,7 @@ abbrev pub acknowledged_by : Node → Option Reaction → List Acknowledgement
 acknowledged_by n (Some r) = acknowledged_in (map_after n r) r.state r.sends
 acknowledged_by n None = []
 
--- the reaction whose transaction a turn keeps that gets this far
+-- the reaction whose transaction an iteration keeps that gets this far
 abbrev pub kept_by : Me → Turn → Until → Option Reaction
 kept_by me t Whole = kept_reaction me t
 kept_by me t Lost = None

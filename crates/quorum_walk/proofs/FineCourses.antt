@@ -1,5 +1,5 @@
--- Which values go round, that numbers fit, and that a course tells what it writes. Nothing here speaks of other monitors or of a
--- phase.
+-- Which values are passed on, that numbers fit, and that a course says what it writes. Nothing here concerns other monitors
+-- or a phase.
 use Rattle.log_model.specs.LogOfValues.{IsCommand}
 use Rattle.mon_bytes.specs.declared.command.Command.TheVariants as command
 use Rattle.mon_bytes.specs.declared.command.Command.{Command}
@@ -48,7 +48,7 @@ use Rattle.quorum_walk.proofs.Walk.{Then, done}
 use Rattle.std.proofs.Common.{IfSome, List, None, Ok, Option, Some, [], ap, inl, inr, length, map, refl, subst, suc, sym, ℕ, ◌++◌, ◌∙◌, ◌∷◌, ◌≡◌, ◌≤◌, ◌⊎◌}
 use Rattle.std.specs.List.{AllByRecursion}
 
--- what some store tells
+-- what some store's readers return
 abbrev pub IsStored : Readings → Type 0
 IsStored w = (m : Store) × (w ≡ readings_of m)
 
@@ -70,7 +70,7 @@ pub record Val (x : List Op) : Type 0 where
 abbrev pub Made : Type 0
 Made = (w : Readings) → IsStored w → (c : Command) (asked : ℕ) (x : List Op) → IsCommand c → asked ≤ 14 → IsShort w.last → IsShort (suc (service_last w (service_of c))) → value w c asked ≡ Ok x → Val x
 
--- what it spells, if it spells a transaction, is such a value
+-- what it encodes, if it encodes a transaction, is such a value
 abbrev pub CellFine : Cell → Type 0
 CellFine c = (x : List Op) → transaction_in c ≡ Some x → Val x
 
@@ -219,7 +219,7 @@ abbrev pub SentOwn : Me → Sent → Type 0
 SentOwn me (sent.Message to m) = MessageFine m × (m.from ≡ me.member.rank)
 SentOwn me (sent.Reply to r) = Unit {0}
 
--- ---- a course, begun where the readers told w0
+-- ---- a course, begun where the readers returned w0
 
 pub record FineAt (Shape : List Change → Type 0) (me : Me) (w0 : Base me) (w : Readings) (cs : List Change) (found : Option Found) (value : Option (List Op)) (pn : ℕ) (stage : SyncStage) (queue : List Waiting) (out : List Sent) : Type 0 where
   pub shape : Shape cs
@@ -273,7 +273,7 @@ module _ {me : Me} {w0 : Base me} {w : Readings} {cs : List Change} {found : Opt
     sends = A.sends;
   }
 
-  -- what is read after the changes so far is what some store tells
+  -- what is read after the changes so far is what some store's readers return
   pub stored_now : FineAt Calm me w0 w cs found value pn stage queue out → IsStored w
   stored_now A = (apply (joined (spelled cs)) A.stored.0, A.tells ∙ ap (played cs) A.stored.1 ∙ sym (readings-joined cs (fit_fits cs A.fits) A.stored.0))
 

@@ -1,4 +1,4 @@
--- What is a monitor's own of what its store tells, which no value and no copied entry changes.
+-- A monitor's own part of what its store's readers return, which no value and no copied entry changes.
 pub use Rattle.log_model.proofs.Spares.{Spares}
 use Rattle.log_model.proofs.Spares.{SparesNumbers, played_spared, spares_learned}
 use Rattle.mon_bytes.specs.declared.entry.Entry.{Entry}

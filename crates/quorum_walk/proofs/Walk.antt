@@ -9,7 +9,7 @@ abbrev pub Holds : {A : Type 0} → (A → Type 0) → Result A Which → Type 0
 Holds P (Ok x) = P x
 Holds P (Err e) = Unit {0}
 
--- what holds of what comes out, where no number runs out
+-- what holds of what comes out, if no number runs out
 pub record Then {A : Type 0} (P : A → Type 0) (r : Result A Which) : Type 0 where
   pub holds : Holds P r
 
@@ -32,7 +32,7 @@ where_fits Q w n f q = cond_both (leb n (2 ^ 62)) (Ok n) (Err w) (λ r. Then Q (
 pub by_test : {A : Type 0} {Q : A → Type 0} (b : Bool) {x y : Result A Which} → (b ≡ true → Then Q x) → (b ≡ false → Then Q y) → Then Q (if b then x else y)
 by_test {Q = Q} b {x = x} {y = y} f k = cond_both b x y (λ r. Then Q r) f k
 
--- what tests of three parts tell
+-- what tests of three parts say
 pub or_three : (a b c : Bool) → (a || b || c) ≡ false → (a ≡ false) × (b ≡ false) × (c ≡ false)
 or_three a b c e = let t = or_parts (a || b) c e in let u = or_parts a b t.0 in (u.0, u.1, t.1)
 

@@ -1,3 +1,3 @@
-//! How each row of the protocol is walked, and what holds of it whatever happened before: which values go round, that numbers
-//! fit, and that what a course tells is what its transaction writes.
+//! How each row of the protocol is walked, and what holds of it whatever happened before: which values are passed on,
+//! that numbers fit, and that what a course says is what its transaction writes.
 #![tactic(auto)]

@@ -1,4 +1,4 @@
-//! What comes to a monitor.
+//! What a monitor takes.
 
 use crate::given::{number, value, values};
 use mon_bytes::{Bytes, Entry, Items, KeyPlace};
@@ -9,7 +9,7 @@ use mon_types::{Epoch, Rank, RankSet};
 use std::alloc::Global;
 use std::test::Fail;
 
-/// What comes to a monitor: what another one says, with its numbers as a trace tells them, or a timer.
+/// What comes to a monitor: a message of another one, with its numbers as a trace has them, or a timer.
 #[derive(Clone, Copy)]
 pub(crate) enum Comes {
     Probe,
@@ -155,7 +155,7 @@ fn body(alloc: Global, comes: Comes) -> Result<Body, Fail> {
     }
 }
 
-/// What comes to a monitor, of another one where it is a message.
+/// What comes to a monitor, from another one if it is a message.
 pub(crate) fn input(
     alloc: Global,
     me: &Me,

@@ -19,7 +19,7 @@ pub(crate) fn number<K: Copy>(n: u64) -> Number<K> {
     Number::known(n.min(GREATEST))
 }
 
-/// A monitor of so many.
+/// A monitor of a quorum of this many.
 pub(crate) fn me(rank: Rank, monitors: u8, rule: Rule) -> Me
     requires in_map { rank < monitors }
     requires most { monitors ≤ 15 }
@@ -28,7 +28,8 @@ pub(crate) fn me(rank: Rank, monitors: u8, rule: Rule) -> Me
     Me { member, rule }
 }
 
-/// What the roles of a monitor know of it in a phase, with this leader and the bits of this quorum, and a lease that stands.
+/// What the roles of a monitor know of it in a phase, with this leader and the bits of this quorum, and a valid
+/// lease.
 pub(crate) fn view(phase: Phase, leader: Rank, quorum: u16) -> View {
     View {
         phase,

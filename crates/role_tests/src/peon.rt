@@ -44,7 +44,7 @@ impl Role for Peon {
         ))
     }
 
-    /// Which lease stands: one that was given at 7, or one that was given at 0.
+    /// Which lease is valid: one that was given at 7, or one that was given at 0.
     fn remembers(&self) -> &'static str {
         if self.lease.standing(Moment::known(5_006)) {
             return "new lease";

@@ -138,14 +138,14 @@ fn a_copy_that_was_stopped_begins_again(rt: HostRuntime) -> Result<(), Fail> {
     Ok(())
 }
 
-/// The store that it leaves where it stops.
+/// The store that it leaves if it stops.
 fn stored_by(site: Site<Requester>) -> Kv {
     let Site { kv, role, .. } = site;
     drop(role);
     kv
 }
 
-/// A copy that goes on to its end, and what its store tells then.
+/// A copy that goes on to its end, and what its store then holds.
 fn ended(
     rt: &impl Abort,
     alloc: Global,

@@ -1,4 +1,4 @@
-//! Plans in the words of a trace.
+//! Plans in the language of a trace.
 
 use mon_bytes::{Items, OutOfMemory};
 use mon_kv::Kv;
@@ -33,7 +33,7 @@ fn put(
     }
 }
 
-/// So many changes, with what the monitor of this rank sends and answers.
+/// This many changes, with what the monitor of this rank sends and answers.
 fn step_of(alloc: Global, own: Rank, ops: u32, out: Items<Sent>) -> Result<StepLine, Fail> {
     let mut sent = Items::new(alloc);
     let mut replies = Replies::new(alloc);
@@ -54,7 +54,7 @@ fn event() -> Event {
     Event::Plain(Plain::Deliver { message: 1, at })
 }
 
-/// The lines of a trace that tell this, behind that of an event.
+/// The lines of a trace that report this, after the line of an event.
 fn traced(alloc: Global, own: Rank, ops: u32, out: Items<Sent>) -> Result<Vec<u8>, Fail> {
     let step = step_of(alloc, own, ops, out)?;
     let event = event();
@@ -81,7 +81,7 @@ fn act(next: Next) -> &'static str {
     act
 }
 
-/// The lines behind the first one, with a semicolon behind each, and these words.
+/// The lines after the first one, with a semicolon after each, and this text.
 fn joined(alloc: Global, lines: &[u8], act: &str, remembers: &str) -> Result<String, Fail> {
     let lines = str::from_utf8(lines)?;
     let mut text = String::new(alloc);
@@ -98,8 +98,8 @@ fn made(kv: &mut Kv, tx: &Transaction) -> Result<u32, Fail> {
     Ok(u32::try_from(tx.ops().len())?)
 }
 
-/// What a plan of the monitor of this rank does to its store, as a trace tells it, the act that follows, and what is remembered
-/// then: a semicolon stands behind each of a trace's lines.
+/// What a plan of the monitor of this rank does to its store, as a trace reports it, the act that follows, and what
+/// is remembered then: a semicolon follows each of a trace's lines.
 pub(crate) fn shown(
     alloc: Global,
     own: Rank,

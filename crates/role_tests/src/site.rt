@@ -1,6 +1,6 @@
 //! A monitor in one of its roles, and what it does at one input after the other.
 //!
-//! What holds much is handed on by value, or let go by a call: a check is far longer where it is let go in place.
+//! A large value is moved, or dropped by a call: a check is far longer if it is dropped in place.
 
 use crate::comes::{Comes, input};
 use crate::shown::shown;
@@ -14,14 +14,14 @@ use std::test::Fail;
 
 /// A role, as its tests drive it.
 pub(crate) trait Role: Sized + Drop {
-    /// What it does at an input, at the moment 7; `None` where the input isn't one of its own.
+    /// What it does at an input, at the time 7; `None` if the input isn't one of its own.
     fn plan(
         alloc: Global,
         site: &Site<Self>,
         input: &Input,
     ) -> Option<Result<Plan<Self>, RoleStop>>;
 
-    /// What a test is told of what it remembers.
+    /// What a test is given of what it remembers.
     fn remembers(&self) -> &'static str;
 }
 
@@ -36,7 +36,7 @@ pub(crate) struct Site<R: Drop> {
     pub(crate) role: R,
 }
 
-/// What it does, where it has a plan, or else why not.
+/// What it does, if it has a plan, or else why not.
 type Planned<R> = Option<Result<Plan<R>, RoleStop>>;
 
 fn planned<R: Role>(
@@ -51,7 +51,8 @@ fn planned<R: Role>(
     Ok(planned)
 }
 
-/// A plan of the monitor of this rank is done over its store: what it remembers then, and that, told with what was done.
+/// A plan of the monitor of this rank is carried out over its store: what it then remembers, reported with what was
+/// done.
 fn carried<R: Role>(
     alloc: Global,
     own: Rank,
@@ -70,7 +71,7 @@ fn carried<R: Role>(
     Ok((state, text))
 }
 
-/// A monitor in a role that begins with a plan, once it is done; `wanted` tells of it.
+/// A monitor in a role that begins with a plan, after it was carried out; `wanted` is what is expected of it.
 pub(crate) fn begun<R: Role>(
     rt: &impl Abort,
     alloc: Global,
@@ -92,7 +93,7 @@ pub(crate) fn begun<R: Role>(
     })
 }
 
-/// A plan of a monitor that was in this role before is done, and told.
+/// A plan of a monitor that was in this role before is carried out, and reported.
 fn carried_on<R: Role>(alloc: Global, site: &mut Site<R>, plan: Plan<R>) -> Result<String, Fail> {
     let (role, text) = carried(alloc, site.me.member.rank, &mut site.kv, plan)?;
     site.role = role;
@@ -113,10 +114,10 @@ fn heard<R: Role>(
     }
 }
 
-/// What comes to a monitor of this one, or else of itself, and what it does then.
+/// What comes to a monitor of this one, or otherwise from itself, and what it does then.
 pub(crate) type Row<'a> = (u8, Comes, &'a str);
 
-/// A monitor that does what is told, at one input after the other.
+/// A monitor that does what is listed, one input after the other.
 pub(crate) fn all_are<R: Role>(
     rt: &impl Abort,
     alloc: Global,

@@ -1,4 +1,4 @@
--- A number's schedule has so many events, and a text.
+-- A number's schedule has this many events, and a text.
 use Rattle.std.proofs.Common.{◌≡◌, ℕ, zero, suc, ◌+◌, ◌-◌, ◌*◌, ◌%◌, ◌^◌, ◌<◌, ◌≤◌, eqb, ltb, [], ◌∷◌, ◌++◌, map, length, IsTrue, Ok, refl, arith, inl, inr, length-append, length-take}
 use Rattle.std.specs.List.{list_all, range_with_len}
 use Rattle.std.proofs.Math.Nat.{mod-lt}
@@ -102,7 +102,7 @@ rounds_short zero j g small = refl
 rounds_short (suc n) j g small =
     list_all-append is_short (round j g) (rounds n (suc j) (passed 5 g)) (round_short j g (omega arith)) (rounds_short n (suc j) (passed 5 g) (omega arith))
 
--- ---- what is true of each kind of turn is true of a turn
+-- ---- what is true of each kind of iteration is true of an iteration
 
 turn_is : (P : Turn → Type 0) (i next : ℕ) (g : Lcg)
     → P (record { event = deliver next (10 * i); draws = 1; next = next + 1 })

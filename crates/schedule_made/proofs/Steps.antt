@@ -44,7 +44,7 @@ pub turns_none : (n i next : ℕ) (g : Lcg) → n ≤ i → turns (n - i) i next
 unfolding turns
 turns_none n i next g le = let none : n - i ≡ 0 = omega arith in ap (λ k. turns k i next g) none
 
--- ---- loops over what is to come, of which so many events count
+-- ---- loops over what is to come, of which this many events count
 
 module _ (most : ℕ) (whole before : List Event) where
   pub rounds_step : (j : ℕ) (after : List Event) (g h : Lcg) → j < most

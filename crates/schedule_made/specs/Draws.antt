@@ -12,7 +12,7 @@ generator_of number = pcg32_of_seed (pcg32_seed 16 number)
 unfoldable pub drawn : Lcg → ℕ × Lcg
 drawn g = pcg32 g
 
--- the generator after so many draws
+-- the generator after this many draws
 abbrev pub passed : ℕ → Lcg → Lcg
 passed zero g = g
 passed (suc k) g = passed k (drawn g).1

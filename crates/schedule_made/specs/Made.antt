@@ -1,4 +1,4 @@
--- The schedule of a number. A generator stands for the draws that are to come.
+-- The schedule of a number. A generator represents the draws to come.
 use Rattle.std.specs.Prelude.{ℕ, zero, suc, ◌+◌, ◌-◌, ◌*◌, ◌%◌, ◌==◌, List, [], ◌∷◌, ◌++◌, map, take, codes, decimal, nat_lt, if◌then◌else◌}
 use Rattle.std.specs.List.{range_with_len, slice_index_or}
 use Rattle.rand_pcg.specs.Lcg.{Lcg}
@@ -35,7 +35,7 @@ set key value = request.Set (codes "k" ++ decimal key) (codes "v" ++ decimal val
 abbrev pub log : ℕ → Request
 log text = request.Log (codes "t" ++ decimal text)
 
--- so many messages, from this one on, at this moment
+-- this many messages, from this one on, at this time
 unfoldable pub deliveries : ℕ → ℕ → ℕ → List Event
 deliveries first count at = map (λ message. deliver message at) (range_with_len first count)
 
@@ -58,7 +58,7 @@ round j g =
     ++ ask (draw 3 g % 3) at 2 (j + 1) (request.Show Kv)
     ∷ deliver (first + 4 + draw 4 g % 2) at ∷ [])
 
--- so many rounds, from round j on
+-- this many rounds, from round j on
 unfoldable pub rounds : ℕ → ℕ → Lcg → List Event
 rounds zero j g = []
 rounds (suc n) j g = round j g ++ rounds n (suc j) (passed 5 g)
@@ -71,7 +71,7 @@ pub record Turn : Type 0 where
   pub draws : ℕ
   pub next : ℕ
 
--- event i, where this message is the next in order: what it is, by the first draw modulo 16
+-- event i, where this message is the next in order: its kind, by the first draw modulo 16
 unfoldable pub turn : ℕ → ℕ → Lcg → Turn
 turn i next g =
     let at = 10 * i in
@@ -83,7 +83,7 @@ turn i next g =
     else (if kind == 14 then record { event = timer (y % 3) (draw 2 g % 11) at; draws = 3; next = next }
     else record { event = start (y % 3) at; draws = 2; next = next })))
 
--- so many events, from event i on
+-- this many events, from event i on
 unfoldable pub turns : ℕ → ℕ → ℕ → Lcg → List Event
 turns zero i next g = []
 turns (suc n) i next g =
@@ -92,7 +92,7 @@ turns (suc n) i next g =
 
 -- ---- the schedule
 
--- what follows the opening: at least so many events
+-- what follows the opening: at least this many events
 unfoldable pub later : ℕ → ℕ → List Event
 later number events =
     if number % 2 == 0 then rounds events 0 (generator_of number) else turns events 34 31 (generator_of number)

@@ -105,7 +105,7 @@ pub fn log(alloc: Global, n: u32) -> Result<Request, OutOfMemory>
     Ok(Request::Log { text })
 }
 
-/// Appends so many messages, from this one on.
+/// Appends this many messages, from this one on.
 pub fn put_deliveries(
     events: &mut Vec<Event>,
     first: u64,

@@ -5,7 +5,7 @@ ghost use Rattle.schedule_text.specs.Spelling.{schedule_text, HasText};
 ghost use Rattle.schedule_text.specs.Schedule.{schedule_at};
 ghost use Rattle.schedule_made.specs.Made.{made_schedule};
 
-/// A number's schedule of up to 100,000 events has so many of them, and a text, which is read as that schedule.
+/// A number's schedule of up to 100,000 events has this many of them, and a text, which is parsed as that schedule.
 pub fn law_made()
     ensures count { (number events : ℕ) → events ≤ 100000 → length (made_schedule number events).events ≡ events }
     ensures text { (number events : ℕ) → events ≤ 100000 → HasText (made_schedule number events) }

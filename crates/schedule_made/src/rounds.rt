@@ -1,4 +1,4 @@
-//! What follows the opening where the number is even.
+//! What follows the opening if the number is even.
 
 ghost use Rattle.std.specs.Prelude.{◌≡◌, ◌+◌, ◌<◌, ◌≤◌, ◌++◌, take, IfOk, OnOk};
 ghost use Rattle.schedule_made.specs.Draws.{passed};
@@ -55,7 +55,7 @@ fn put_round(
     Ok(())
 }
 
-/// Appends rounds until there are so many events.
+/// Appends rounds until there are this many events.
 pub fn put_rounds(
     alloc: Global,
     events: &mut Vec<Event>,

@@ -1,4 +1,4 @@
-//! What follows the opening where the number is odd.
+//! What follows the opening if the number is odd.
 
 ghost use Rattle.std.specs.Prelude.{◌≡◌, ◌+◌, ◌%◌, ◌^◌, ◌<◌, ◌≤◌, ◌++◌, take, IfOk, OnOk};
 ghost use Rattle.schedule_made.specs.Draws.{passed};
@@ -19,7 +19,7 @@ fn rank_of(draw: u32) -> u8
     (draw % 3) as u8
 }
 
-/// Event i, where this message is the next in order.
+/// Event i, if this message is the next in order.
 #[tactic(auto, unfolding(crate::specs::Made::turn))]
 fn turn(
     alloc: Global,
@@ -58,7 +58,7 @@ fn turn(
     Ok(start(rank_of(y), at))
 }
 
-/// Appends events until there are so many.
+/// Appends events until there are this many.
 pub fn put_turns(
     alloc: Global,
     events: &mut Vec<Event>,

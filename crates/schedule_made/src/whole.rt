@@ -31,9 +31,9 @@ fn events_of(alloc: Global, number: u64, events: u32) -> Result<Items<Event>, Ou
     Ok(Items::from_vec(list))
 }
 
-/// The schedule of a number, with so many events, 1 to 100,000: three monitors form a quorum. Then, where the number is
-/// even, it takes commands of clients in rounds. Where it is odd, messages arrive late, twice or never, and commands, timers
-/// and starts come between them. It is the same at each call.
+/// The schedule of a number, with this many events, 1 to 100,000: three monitors form a quorum. Then, if the number
+/// is even, it takes commands of clients in rounds. If it is odd, messages arrive late, twice or never, and commands,
+/// timers and starts come between them. It is the same at each call.
 #[tactic(auto, unfolding(crate::specs::Made::made_schedule))]
 pub fn made(alloc: Global, number: u64, events: u32) -> Result<Schedule, OutOfMemory>
     requires least { 1 ≤ events }

@@ -1,4 +1,4 @@
--- What a search for the separator tells of the bytes before it and after it.
+-- What a search for the separator finds of the bytes before it and after it.
 use Rattle.std.proofs.Common.{◌≡◌, ℕ, zero, suc, ◌<◌, Bool, true, false, List, [], ◌∷◌, Some, None, eqb, length, take, drop, get_or, refl, arith}
 use Rattle.memchr.specs.Find.{Nowhere, NoneBefore, Passes, is_byte}
 use Rattle.schedule_text.specs.Fields.{cut}
@@ -22,7 +22,7 @@ parted c (b ∷ bs) (suc k) low none here =
     let others = parted c bs k (omega arith) (λ j lower. none (suc j) (omega arith)) here in
     rw (first, others) refl
 
--- where there is no separator
+-- if there is no separator
 pub cut_nowhere : (c : ℕ) (bs : List ℕ) → Nowhere (Passes (is_byte c) bs) 0 (length bs) → cut c bs ≡ (bs, None)
 cut_nowhere c bs none = whole c bs (λ j low. none j (omega arith) low)
 

@@ -1,4 +1,4 @@
--- What is read from a field is spelled so, and what is spelled so is read.
+-- Parsing a field accepts exactly its texts.
 use Rattle.std.proofs.Common.{◌≡◌, ℕ, ◌^◌, ◌<◌, Bool, true, false, cond, not, eqb, leb, ltb, List, [], ◌∷◌, ◌++◌, length, Option, Some, None, Result, Ok, Err, IsTrue, codes, refl, sym, ap, subst, ◌∙◌, arith, inl, inr, ◌⊎◌}
 use Rattle.std.specs.Fmt.{decimal}
 use Rattle.std.specs.List.{list_all}
@@ -63,7 +63,7 @@ graphic_printable b h = grind (arith, nat_tests)
 
 -- ---- one field
 
--- what stands before the separator, and what stands behind it where it is there
+-- what is before the separator, and what follows it if it is there
 abbrev pub joined : ℕ → List ℕ → Option (List ℕ) → List ℕ
 joined separator f None = f
 joined separator f (Some rest) = f ++ separator ∷ rest
@@ -130,7 +130,7 @@ IsWord-decimal n small = record { long = decimal_nonempty n small; graphics = li
 
 -- ---- the forms of fields
 
--- A form: how it is read, how a value is spelled, and which values have a spelling.
+-- A form: how it is read, how a value is encoded, and which values have an encoding.
 pub record IsForm (A : Type 0) (read : List ℕ → Result A ScheduleKind) (text : A → List ℕ) (fits : A → Bool) : Type 0 where
   pub takes : (f : List ℕ) (x : A) → read f ≡ Ok x → (f ≡ text x) × IsTrue (fits x)
   pub again : (x : A) → IsTrue (fits x) → read (text x) ≡ Ok x
@@ -194,7 +194,7 @@ name_form = record { takes = name_takes; again = name_again; word = name_word }
 abbrev always : {A : Type 0} → A → Bool
 always x = true
 
--- one of the words, or else another
+-- one of the words, or otherwise another
 pub chosen_word : {A : Type 0} (f w : List ℕ) (r s : Result A ScheduleKind) (x : A) → cond (bytes_eq f w) r s ≡ Ok x → ((f ≡ w) × (r ≡ Ok x)) ⊎ (s ≡ Ok x)
 chosen_word f w r s x e =
     let by_word : (b : Bool) → bytes_eq f w ≡ b → cond b r s ≡ Ok x → ((f ≡ w) × (r ≡ Ok x)) ⊎ (s ≡ Ok x) =

@@ -1,4 +1,4 @@
--- What is read of a first line is spelled so, and what is spelled so is read.
+-- Parsing a first line accepts exactly its texts.
 use Rattle.std.proofs.Common.{◌≡◌, ℕ, zero, suc, ◌+◌, ◌^◌, ◌<◌, ◌≤◌, Bool, cond, not, eqb, List, ◌∷◌, ◌++◌, Option, Some, None, Result, Ok, Err, IsTrue, codes, refl, sym, ap, subst, ◌∙◌, arith, inl, inr, lit<}
 use Rattle.std.specs.Prelude.{is_some}
 use Rattle.std.specs.Fmt.{decimal}
@@ -22,9 +22,9 @@ use Rattle.schedule_text.proofs.Numerals.{own}
 use Rattle.schedule_text.proofs.FieldLaws.{list_all-weaker, list_all-append, digit_graphic, cut_joined, cut_again, Reads-then, Reads-last, next_reads, IsWord, IsWord-printable, next_again, number_form, chosen_word, last_word, field_step, field_again, ended_takes}
 use Rattle.schedule_text.proofs.RankLaws.{cases_true, joined-behind, set_takes, set_again}
 
--- ---- read, and then spelled
+-- ---- parsed, and then printed
 
--- a word and what stands behind its equals sign
+-- a word and what follows its equals sign
 with_ranks : (field : List ℕ) (word : List ℕ) → (cut 61 field).0 ≡ word → field ≡ word ++ behind 61 (cut 61 field).1
 with_ranks field word same =
     sym (cut_joined 61 field) ∙ joined-behind 61 (cut 61 field).0 (cut 61 field).1 ∙ ap (λ (w : List ℕ). w ++ behind 61 (cut 61 field).1) same
@@ -82,7 +82,7 @@ pub record IsHeader (line : List ℕ) (h : ℕ × Rule) : Type 0 where
 same_some : (x y : List ℕ) → Some x ≡ Some y → x ≡ y
 same_some x y e = cc
 
--- what is read of a first line is spelled so
+-- what is read of a first line is encoded so
 pub header_takes : (line : List ℕ) (h : ℕ × Rule) → header_at line ≡ Ok h → IsHeader line h
 unfolding header_at monitors_at field_at
 header_takes line h e =
@@ -107,7 +107,7 @@ header_takes line h e =
     let header_is : (n.x, c.0) ≡ h = ap (λ (p : Rule × Option (List ℕ)). (n.x, p.0)) same ∙ end.1 in
     subst (IsHeader line) header_is (record { text = is; monitors = n.fitting; rule = t.1 })
 
--- ---- spelled, and then read
+-- ---- printed, and then parsed
 
 -- a text of graphic bytes
 abbrev AllGraphic : List ℕ → Type 0
@@ -168,7 +168,7 @@ rule_field : (n : ℕ) (rule : Rule) → RuleFits n rule → field_at (rule_of n
 unfolding field_at
 rule_field n rule fits = rw (next_again (rule_text rule) None (rule_word rule), rule_again n rule fits) refl
 
--- what is spelled so is read
+-- what is encoded so is read
 pub header_again : (n : ℕ) (rule : Rule) → IsTrue (within 1 15 n) → RuleFits n rule → header_at (header n rule) ≡ Ok (n, rule)
 unfolding header_at monitors_at
 header_again n rule monitors fits =

@@ -1,4 +1,4 @@
--- What is read from a line is spelled so, and what is spelled so is read.
+-- Parsing a line accepts exactly its texts.
 use Rattle.std.proofs.Common.{◌≡◌, ℕ, ◌-◌, ◌^◌, ◌<◌, Bool, false, leb, ltb, List, ◌∷◌, length, Option, Some, Result, Ok, IsTrue, codes, refl, sym, ap, subst, ◌∙◌, inl, inr, lit<, arith}
 use Rattle.std.specs.Fmt.{decimal}
 use Rattle.std.specs.List.{list_all}
@@ -23,7 +23,7 @@ use Rattle.mon_bytes.proofs.Fields.{chosen_ok, ok_is}
 use Rattle.mon_bytes.proofs.Formats.{bind_ok}
 use Rattle.schedule_text.proofs.FieldLaws.{list_all-append, joined, Reads, Reads-then, Reads-last, next_reads, IsWord, IsWord-printable, next_again, IsForm, number_form, upto_form, rank_form, name_form, service_form, side_form, timer_form, chosen_word, last_word, field_step, field_last, field_again, ended_takes, text_takes, text_again}
 
--- the rest of the line behind its first word
+-- the rest of the line after its first word
 pub record Body (rest : Option (List ℕ)) (word text : List ℕ) : Type 0 where
   pub body : List ℕ
   pub rest-is : rest ≡ Some body
@@ -34,7 +34,7 @@ with_word : (rest after : Option (List ℕ)) (word w text : List ℕ) → Reads 
 with_word rest after word w text r same b =
     Reads-then rest word after b.body r b.rest-is ∙ ap (λ (f : List ℕ). Some (spaced f b.body)) same ∙ ap (λ (t : List ℕ). Some t) b.text-is
 
--- ---- what a client asks, read and then spelled
+-- ---- what a client asks, parsed and then printed
 
 abbrev Asks : Option (List ℕ) → List ℕ → Request → Type 0
 Asks rest word q = Body rest word (request_text q) × IsTrue (request_fits q)
@@ -104,7 +104,7 @@ request_takes rest q e =
       ]
     ]
 
--- ---- what happens, read and then spelled
+-- ---- what happens, parsed and then printed
 
 abbrev Happens : ℕ → Option (List ℕ) → List ℕ → Plain → Type 0
 Happens n rest word p = Body rest word (plain_text p) × IsTrue (plain_fits n p)
@@ -179,7 +179,7 @@ plain_takes n rest p small e =
 abbrev Upset : Type 0
 Upset = Side → ℕ → ℕ → Plain → Event
 
--- it is spelled behind this word
+-- it is encoded after this word
 record IsUpset (upset : Upset) (word : List ℕ) : Type 0 where
   spelled : (disk : Side) (call image : ℕ) (p : Plain) → event_text (upset disk call image p) ≡ spaced word (upset_text disk call image p)
   fits : (n : ℕ) (disk : Side) (call image : ℕ) (p : Plain) → event_fits n (upset disk call image p) ≡ upset_fits n call image p
@@ -225,7 +225,7 @@ event_by_takes n line word after v small r e =
       ]
     ]
 
--- what the fields of a line say is spelled so, and is printable
+-- what the fields of a line say is encoded so, and is printable
 fields_take : (n : ℕ) (line : List ℕ) (v : Event) → n < 2 ^ 64 → fields_event n line ≡ Ok v → (line ≡ event_text v) × IsTrue (event_fits n v)
 fields_take n line v small e =
     let a = bind_ok (next (Some line)) (λ word. event_by n word.0 word.1) v e in
@@ -237,7 +237,7 @@ unfolding event_at
 event_takes n line v small e =
     fields_take n line v small (chosen_ok (list_all printable line) kind.Word (fields_event n line) v e).1
 
--- ---- what is spelled so is read
+-- ---- what is printed so is parsed
 
 request_again : (q : Request) → IsTrue (request_fits q) → request_at (Some (request_text q)) ≡ Ok q
 unfolding request_at set_at remove_at log_at show_at since_at
@@ -266,7 +266,7 @@ client_parts n rank at client id q fits =
     let d = both (leb id (2 ^ 62)) (request_fits q) c.1 in
     record { rank_fits = a.0; at_fits = b.0; client_fits = c.0; id_fits = d.0; asked_fits = d.1 }
 
--- the rest of a line behind its first word, read again
+-- the rest of a line after its first word, read again
 record Again (n : ℕ) (p : Plain) : Type 0 where
   word : List ℕ
   body : List ℕ
@@ -412,7 +412,7 @@ plain_event n p small fits =
     let a = plain_parts n p small fits in
     rw (printable_plain n p small fits, a.text-is, next_again a.word (Some a.body) a.is-word, a.not_crash, a.not_fail, a.read) refl
 
--- what is spelled so is read
+-- what is encoded so is read
 pub event_again : (n : ℕ) (v : Event) → n < 2 ^ 64 → IsTrue (event_fits n v) → event_at n (event_text v) ≡ Ok v
 unfolding event_at event_by
 event_again n (event.Plain p) small fits = plain_event n p small fits
@@ -421,7 +421,7 @@ event_again n (event.Crash disk call image p) small fits =
 event_again n (event.Fail disk call image p) small fits =
     rw (printable_upset n disk call image p small fits, upset_again event.Fail n disk call image p small fits) refl
 
--- where the fields of a line say an event, each of its bytes is printable
+-- if the fields of a line say an event, each of its bytes is printable
 pub read_by_fields : (n : ℕ) (line : List ℕ) (v : Event) → n < 2 ^ 64 → fields_event n line ≡ Ok v → event_at n line ≡ Ok v
 read_by_fields n line v small e =
     let taken = fields_take n line v small e in

@@ -50,7 +50,7 @@ is_numeral-by (c ∷ d ∷ cs) all long start =
       | inr ne ↦ rw (no_zero c ne, all) refl
     ]
 
--- what `parse` says of a numeral, where it fails
+-- what `parse` says of a numeral, if it fails
 pub too_great : {E : Type 0} (bs : List ℕ) (r : Result ℕ E) (e : E) → IsTrue (is_numeral bs) → ParsesUnsigned 64 10 bs r → r ≡ Err e → 2 ^ 64 ≤ digits_value 10 bs
 too_great bs r e h p is =
     elim (cases_lt (digits_value 10 bs) (2 ^ 64)) [

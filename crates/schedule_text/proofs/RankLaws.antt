@@ -1,4 +1,4 @@
--- What is read of a set of ranks is spelled so, and what is spelled so is read.
+-- Parsing a set of ranks accepts exactly its texts.
 use Rattle.std.proofs.Common.{◌≡◌, ℕ, zero, suc, ◌+◌, ◌*◌, ◌-◌, ◌^◌, ◌<◌, ◌≤◌, Bool, true, false, ◌&&◌, cond, ltb, List, [], ◌∷◌, ◌++◌, length, replicate, Option, Some, None, Ok, IsTrue, refl, sym, ap, subst, ◌∙◌, append_assoc, append-nil, length-append, arith, inl, inr, ◌⊎◌}
 use Rattle.std.specs.Prelude.{filter}
 use Rattle.std.specs.Bool.{Decides}
@@ -40,7 +40,7 @@ seam (x ∷ front) b others = seam front b others
 flag_at : (front : List Bool) (b : Bool) (others : List Bool) (r : ℕ) → length front ≡ r → has (front ++ b ∷ others) r ≡ b
 flag_at front b others r is = ap (has (front ++ b ∷ others)) (sym is) ∙ seam front b others
 
--- ---- read, and then spelled
+-- ---- parsed, and then printed
 
 pub cases_true : (b : Bool) → (b ≡ true) ⊎ (b ≡ false)
 cases_true true = inl refl
@@ -52,7 +52,7 @@ next_is r (Some bytes) h =
     let same : (cut 44 bytes).0 ≡ decimal r = (bytes_eq-Decides (cut 44 bytes).0 (decimal r)).0 h in
     ap (λ (xs : List ℕ). Some xs) (sym (cut_joined 44 bytes) ∙ joined-behind 44 (cut 44 bytes).0 (cut 44 bytes).1 ∙ ap (λ (f : List ℕ). f ++ behind 44 (cut 44 bytes).1) same)
 
--- what is left is spelled by the flags that are still read
+-- what is left is encoded by the flags that are still read
 record IsSpelled (n count r : ℕ) (front flags : List Bool) (rest : Option (List ℕ)) : Type 0 where
   text : rest ≡ ranks_from count r (front ++ flags)
   kept : flags_below n count r (front ++ flags) ≡ flags
@@ -98,7 +98,7 @@ flags_take n (suc count) r front rest is end =
     no_flag true xs flags e = ap (λ (fs : List Bool). false ∷ fs) e
     no_flag false xs flags e = ap (λ (fs : List Bool). false ∷ fs) e
 
--- what is read of a set is spelled so
+-- what is read of a set is encoded so
 pub set_takes : (n : ℕ) (rest : Option (List ℕ)) (set : List Bool) → set_of n rest ≡ Ok set → (rest ≡ ranks_text set) × (set ≡ below n set)
 unfolding set_of ranks_text below
 set_takes n rest set e =
@@ -106,7 +106,7 @@ set_takes n rest set e =
     let t = flags_take n 15 0 [] rest refl end.0 in
     subst (λ (s : List Bool). (rest ≡ ranks_text s) × (s ≡ below n s)) end.1 (t.text, sym t.kept)
 
--- ---- spelled, and then read
+-- ---- printed, and then parsed
 
 -- a set's flags among those below n
 flag_below : (n count r i : ℕ) (set : List Bool) → i < count → has (flags_below n count r set) i ≡ (ltb (r + i) n && has set (r + i))
@@ -134,7 +134,7 @@ others_differ r q lt small =
 cut_rank : (q : ℕ) (rest : Option (List ℕ)) → q < 2 ^ 64 → cut 44 (decimal q ++ behind 44 rest) ≡ (decimal q, rest)
 cut_rank q rest small = ap (cut 44) (sym (joined-behind 44 (decimal q) rest)) ∙ cut_again 44 (decimal q) rest (no_comma q small)
 
--- a rank doesn't come where only greater ones are spelled
+-- a rank doesn't come if only greater ones are encoded
 not_next : (count r q : ℕ) (set : List Bool) → r < q → q + count ≤ 15 → comes_next r (ranks_from count q set) ≡ false
 not_next zero r q set lt le = refl
 not_next (suc count) r q set lt le =
@@ -174,7 +174,7 @@ flags_again n (suc count) r set is le =
     by true read flags e = ap (λ (p : List Bool × Option (List ℕ)). (false ∷ p.0, p.1)) e
     by false read flags e = ap (λ (p : List Bool × Option (List ℕ)). (false ∷ p.0, p.1)) e
 
--- what is spelled so is read
+-- what is encoded so is read
 pub set_again : (n : ℕ) (set : List Bool) → set ≡ below n set → set_of n (ranks_text set) ≡ Ok set
 unfolding set_of ranks_text below
 set_again n set is =
@@ -290,7 +290,7 @@ pub keeping_left : (n r : ℕ) (kept set : List Bool) → r < 15 → (ltb r n &&
 keeping_left n r kept set lt f h =
     to_next (λ k c. Keeping n k c kept set) r (keeping_leaves n r (15 - suc r) kept set f (from_here (λ k c. Keeping n k c kept set) r lt h))
 
--- the text of these ranks, where there is one
+-- the text of these ranks, if there is one
 abbrev pub named : List ℕ → Option (List ℕ)
 named [] = None
 named (r ∷ rs) = Some (decimal r ++ behind 44 (named rs))
@@ -343,6 +343,6 @@ pub short_ranks : (set : List Bool) → length (behind 61 (ranks_text set)) ≤ 
 unfolding ranks_text
 short_ranks set = omega (arith, short_from 15 0 set (omega arith), same_length (ranks_from 15 0 set))
 
--- two sets are equal exactly where their flags are, one by one
+-- two sets are equal if and only if their flags are, one by one
 pub sets_decided : (xs ys : List Bool) → Decides (pointwise beq xs ys) (xs ≡ ys)
 sets_decided = pointwise_decides booleans_Decides

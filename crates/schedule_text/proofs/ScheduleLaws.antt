@@ -1,4 +1,4 @@
--- What is read of a schedule is spelled so, and what is spelled so is read.
+-- Parsing a schedule accepts exactly its texts.
 use Rattle.std.proofs.Common.{◌≡◌, ℕ, ◌+◌, ◌≤◌, ◌<◌, ◌^◌, Bool, false, not, eqb, leb, ltb, List, [], ◌∷◌, ◌++◌, length, Result, Ok, Err, IfOk, IsTrue, refl, sym, ap, subst, ◌∙◌, append_assoc, arith, inl, inr}
 use Rattle.std.specs.List.{flat_map, list_all}
 use Rattle.std.proofs.lemmas.Bool.{cases_eq, leb-false, ltb-false, le-ltb}
@@ -140,7 +140,7 @@ whole_takes (first ∷ lines) tail s e =
       form = λ short. record { monitors = h.monitors; rule = h.rule; each = t.each; count = omega (arith, t.total (omega arith)); bytes = short };
     })
 
--- what is read from bytes is spelled so
+-- what is read from bytes is encoded so
 pub schedule_takes : (bytes : List ℕ) (s : Schedule) → schedule_at bytes ≡ Ok s → HasText s × (bytes ≡ schedule_text s)
 unfolding schedule_at
 schedule_takes bytes s e =
@@ -150,7 +150,7 @@ schedule_takes bytes s e =
     let text : bytes ≡ schedule_text s = sym (lines_of-joined bytes) ∙ t.text-is in
     (t.form (subst (λ (xs : List ℕ). length xs ≤ most_bytes) text short), text)
 
--- what is spelled so is read
+-- what is encoded so is read
 pub schedule_again : (s : Schedule) → HasText s → schedule_at (schedule_text s) ≡ Ok s
 unfolding schedule_at whole_at
 schedule_again s h =
@@ -164,7 +164,7 @@ schedule_again s h =
 abbrev answered : Schedule → Result Schedule ScheduleRefused
 answered s = Ok s
 
--- what a refusal says of bytes that are spelled so
+-- what a refusal says of bytes that are encoded so
 pub answers : (e : ScheduleRefused) (s : Schedule) → HasText s → (bytes : List ℕ) → bytes ≡ schedule_text s → Fails e (schedule_at bytes) → Fails e (answered s)
 answers OutOfMemory s h bytes is fails = tt
 answers (At line kind) s h bytes is fails = sym (schedule_again s h) ∙ ap schedule_at (sym is) ∙ fails

@@ -54,7 +54,7 @@ field_at read rest = do
   x ← read field.0
   Ok (x, field.1)
 
--- ---- what a field spells
+-- ---- what a field encodes
 
 abbrev pub digit : ℕ → Bool
 digit b = nat_le 48 b && nat_le b 57
@@ -89,7 +89,7 @@ unfoldable pub side_of : List ℕ → Result Side ScheduleKind
 side_of field =
     if bytes_eq field (codes "a") then Ok side.A else (if bytes_eq field (codes "b") then Ok side.B else Err kind.Word)
 
--- the one of these timers that has this word
+-- the one of these timers that has this name
 abbrev pub timer_among : List Timer → List ℕ → Result Timer ScheduleKind
 timer_among [] field = Err kind.Word
 timer_among (timer ∷ others) field = if bytes_eq field (timer_text timer) then Ok timer else timer_among others field

@@ -1,4 +1,4 @@
--- How the line of an event is read, where there are n monitors.
+-- How the line of an event is read, for n monitors.
 use Rattle.std.specs.Prelude.{◌≡◌, ℕ, ◌-◌, ◌^◌, List, Option, Some, Result, Ok, Err, codes, if◌then◌else◌}
 use Rattle.std.specs.List.{list_all}
 use Rattle.std.specs.Str.{bytes_eq}
@@ -55,7 +55,7 @@ plain_at n rest = do
   word ← next rest
   plain_by n word.0 word.1
 
--- an event with the call of a disk that is upset, and the image that is left of it
+-- an event with the call of a disk that fails, and the image that is left of it
 unfoldable pub upset_at : (Side → ℕ → ℕ → Plain → Event) → ℕ → Option (List ℕ) → Result Event ScheduleKind
 upset_at upset n rest = do
   disk ← field_at side_of rest
@@ -71,13 +71,13 @@ event_by n word rest =
       plain ← plain_by n word rest
       Ok (event.Plain plain)))
 
--- the event that the fields of a line spell
+-- the event that the fields of a line represent
 abbrev pub fields_event : ℕ → List ℕ → Result Event ScheduleKind
 fields_event n line = do
   word ← next (Some line)
   event_by n word.0 word.1
 
--- the event that a line spells; a byte that isn't printable is at fault before any field
+-- the event that a line represents; a byte that isn't printable is faulty before any field
 unfoldable pub event_at : ℕ → List ℕ → Result Event ScheduleKind
 event_at n line = if list_all printable line then fields_event n line else Err kind.Word
 

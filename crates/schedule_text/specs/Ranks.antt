@@ -5,7 +5,7 @@ use Rattle.mon_types.specs.Ranks.{has}
 use Rattle.schedule_text.specs.declared.refusal.ScheduleKind.{ScheduleKind}
 use Rattle.schedule_text.specs.Fields.{cut, ended}
 
--- what is there, behind a separator
+-- what follows a separator
 abbrev pub behind : ℕ → Option (List ℕ) → List ℕ
 behind separator None = []
 behind separator (Some rest) = separator ∷ rest
@@ -15,7 +15,7 @@ abbrev pub separator : Bool → ℕ
 separator true = 61
 separator false = 44
 
--- the ranks of the set among `count` ranks from `rank` on, where there is one
+-- the ranks of the set among `count` ranks from `rank` on, if there is one
 abbrev pub ranks_from : ℕ → ℕ → List Bool → Option (List ℕ)
 ranks_from zero rank set = None
 ranks_from (suc count) rank set =

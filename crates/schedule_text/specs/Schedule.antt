@@ -28,7 +28,7 @@ connectivity_of n ranks = do
   set ← set_of n ranks
   Ok (Connectivity set)
 
--- a rule, and the ranks behind its equals sign, where there is one
+-- a rule, and the ranks after its equals sign, if there is one
 unfoldable pub rule_of : ℕ → List ℕ → Result Rule ScheduleKind
 rule_of n field =
     if bytes_eq (cut 61 field).0 (codes "classic") then ended (cut 61 field).1 Classic
@@ -54,12 +54,12 @@ on_first_line (Err other) = Err (At 1 kind.Header)
 
 -- ---- the lines
 
--- the first byte goes to the first line, or where there is none to what follows the lines
+-- the first byte goes to the first line, or if there is none to what follows the lines
 abbrev pub onto : ℕ → List (List ℕ) × List ℕ → List (List ℕ) × List ℕ
 onto b ([], tail) = ([], b ∷ tail)
 onto b (line ∷ lines, tail) = ((b ∷ line) ∷ lines, tail)
 
--- the lines, and what stands after the last line feed
+-- the lines, and what is after the last line feed
 abbrev pub lines_of : List ℕ → List (List ℕ) × List ℕ
 lines_of [] = ([], [])
 lines_of (b ∷ bs) = if b == 10 then ([] ∷ (lines_of bs).0, (lines_of bs).1) else onto b (lines_of bs)
@@ -92,7 +92,7 @@ whole_at (first ∷ lines) tail = do
   events ← events_at header.0 0 lines tail
   Ok (record { monitors = header.0; rule = header.1; events = events })
 
--- the schedule that all of the bytes spell, or the first line at fault
+-- the schedule that all of the bytes represent, or the first faulty line
 unfoldable pub schedule_at : List ℕ → Result Schedule ScheduleRefused
 schedule_at bytes =
     if nat_lt most_bytes (length bytes) then Err (At 0 kind.TooLong) else whole_at (lines_of bytes).0 (lines_of bytes).1

@@ -1,4 +1,4 @@
--- How events and schedules are spelled, and which of them have a text that is read.
+-- How events and schedules are printed, and which of them have a text that is read.
 use Rattle.std.specs.Prelude.{◌≡◌, ℕ, ◌-◌, ◌^◌, ◌≤◌, Bool, true, ◌&&◌, List, [], ◌∷◌, ◌++◌, length, IsTrue, codes, decimal, nat_le, nat_lt, is_some}
 use Rattle.std.specs.List.{flat_map, list_all}
 use Rattle.election_rules.specs.declared.rule.Rule.{Rule}
@@ -19,7 +19,7 @@ use Rattle.schedule_text.specs.Ranks.{behind, ranks_text, below}
 
 -- ---- the text of an event
 
--- a field, and the rest of the line behind a space
+-- a field, and the rest of the line after a space
 abbrev pub spaced : List ℕ → List ℕ → List ℕ
 spaced field rest = field ++ 32 ∷ rest
 
@@ -46,7 +46,7 @@ event_text (event.Plain plain) = plain_text plain
 event_text (event.Crash disk call image plain) = spaced (codes "crash") (upset_text disk call image plain)
 event_text (event.Fail disk call image plain) = spaced (codes "fail") (upset_text disk call image plain)
 
--- ---- what has a line, where there are n monitors
+-- ---- what has a line, if there are n monitors
 
 abbrev pub request_fits : Request → Bool
 request_fits (request.Set key value) = is_name key && list_all printable value

@@ -4,7 +4,7 @@ use mon_wire::{Request, Session};
 /// What happens to a monitor from outside.
 #[derive(Debug, Drop)]
 pub enum Plain {
-    /// The monitor is stopped, where it is up, and starts.
+    /// The monitor is stopped, if it is up, and starts.
     Start {
         rank: Rank,
         at: Moment,
@@ -33,8 +33,8 @@ pub enum Plain {
 #[derive(Debug, Drop)]
 pub enum Event {
     Plain(Plain),
-    /// The event happens, and the monitor stops at this call of this disk, counted from 1. The image tells what the disk keeps
-    /// of the writes that weren't synced.
+    /// The event happens, and the monitor stops at this call of this disk, counted from 1. The image says what the
+    /// disk keeps of the writes that weren't synced.
     Crash {
         disk: Side,
         call: u16,

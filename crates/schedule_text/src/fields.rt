@@ -45,7 +45,7 @@ fn is_numeral(field: &[u8]) -> bool
     }
 }
 
-/// The digits' value, where it fits.
+/// The digits' value, if it fits.
 fn value_of(field: &[u8]) -> Option<u64>
     requires { IsTrue (is_numeral field.now) }
     ensures some { IfSome result (λ n. n ≡ digits_value 10 field.now) }
@@ -60,7 +60,7 @@ fn value_of(field: &[u8]) -> Option<u64>
     }
 }
 
-/// The number that the field spells, where it is within these bounds.
+/// The number that the field represents, if it is within these bounds.
 #[tactic(auto, unfolding(crate::specs::Fields::number_of))]
 pub fn number_of(field: &[u8], least: u64, most: u64) -> Result<u64, ScheduleKind>
     ensures value { Is (λ n. n) result (number_of least most field.now) }
@@ -76,7 +76,7 @@ pub fn number_of(field: &[u8], least: u64, most: u64) -> Result<u64, ScheduleKin
     }
 }
 
-/// The rank that the field spells, where it is one of so many monitors.
+/// The rank that the field represents, if it is below this number of monitors.
 #[tactic(auto, unfolding(crate::specs::Fields::rank_of))]
 fn rank_of(field: &[u8], monitors: u8) -> Result<Rank, ScheduleKind>
     requires { monitors ≤ 15 }
@@ -250,7 +250,7 @@ impl<'a> Fields<'a> {
         }
     }
 
-    /// `x`, where nothing is left.
+    /// `x`, if nothing is left.
     pub fn end<T: Drop>(&mut self, x: T) -> Result<T, ScheduleKind>
         ensures { Is (λ y. y) result (ended self.old x) }
     {

@@ -29,7 +29,7 @@ fn connectivity_of(monitors: u8, ranks: Option<&[u8]>) -> Result<Rule, ScheduleK
     Ok(Rule::Connectivity(set))
 }
 
-/// The rule that the field spells, where there are so many monitors.
+/// The rule that the field names, for this many monitors.
 #[tactic(auto, unfolding(crate::specs::Schedule::rule_of))]
 pub fn rule_of(monitors: u8, field: &[u8]) -> Result<Rule, ScheduleKind>
     ensures { Is (λ rule. rule) result (rule_of monitors field.now) }

@@ -1,4 +1,4 @@
-//! How long texts are, told without memory.
+//! How long texts are, found without allocating.
 
 ghost use Rattle.std.specs.Prelude.{◌≡◌, ◌+◌, ◌-◌, ◌^◌, ◌<◌, ◌≤◌, min, length, decimal};
 ghost use Rattle.schedule_text.specs.Ranks.{behind, ranks_text};
@@ -91,7 +91,7 @@ fn event_len(event: &Event) -> u64
     }
 }
 
-/// The length of the set's ranks, each behind its separator.
+/// The length of the set's ranks, each after its separator.
 fn ranks_len(set: RankSet) -> u64
     ensures value { result ≡ length (behind 61 (ranks_text set)) }
     ensures most { result ≤ 400 }

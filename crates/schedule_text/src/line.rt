@@ -155,7 +155,7 @@ fn event_by(
     Ok(Event::Plain(plain))
 }
 
-/// The event that the fields of the line spell.
+/// The event that the fields of the line represent.
 fn fields_event(alloc: Global, monitors: u8, line: &[u8]) -> Result<Event, LineRefused>
     requires { monitors ≤ 15 }
     ensures { Gives (λ y. y) result (fields_event monitors line.now) }
@@ -165,7 +165,7 @@ fn fields_event(alloc: Global, monitors: u8, line: &[u8]) -> Result<Event, LineR
     event_by(alloc, monitors, word, &mut fields)
 }
 
-/// The event that the line spells, where there are so many monitors.
+/// The event that the line represents, for this many monitors.
 #[tactic(auto, unfolding(crate::specs::Lines::event_at))]
 pub fn event_at(alloc: Global, monitors: u8, line: &[u8]) -> Result<Event, LineRefused>
     requires { monitors ≤ 15 }

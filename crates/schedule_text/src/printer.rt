@@ -54,12 +54,12 @@ fn spelled(alloc: Global, schedule: &Schedule) -> Result<Vec<u8>, OutOfMemory>
     Ok(out.into_bytes())
 }
 
-/// The one text of a schedule that has one, which `has_text` tells.
+/// The text of a schedule that has one, which `has_text` decides.
 pub fn print(alloc: Global, schedule: &Schedule) -> Result<Vec<u8>, OutOfMemory>
     requires { HasText schedule.now }
     ensures text { IfOk result (λ bytes. bytes.items ≡ schedule_text schedule.now) }
 
-    // What is spelled so is read as that schedule.
+    // The text that is printed is parsed as that schedule.
     ensures again { IfOk result (λ bytes. schedule_at bytes.items ≡ Ok schedule.now) }
 {
     spelled(alloc, schedule)

@@ -95,7 +95,7 @@ pub fn has_ranks(set: RankSet) -> bool
     set.iter().next().is_some()
 }
 
-/// A rank of the set behind its separator: the equals sign before the first, and a comma before each other.
+/// A rank of the set after its separator: the equals sign before the first, and a comma before each further one.
 fn put_rank(out: &mut String, first: bool, rank: Rank) -> Result<(), AllocError>
     ensures { OnOk result (string_bytes out.new ≡ string_bytes out.old ++ separator first ∷ decimal rank) }
 {
@@ -104,7 +104,7 @@ fn put_rank(out: &mut String, first: bool, rank: Rank) -> Result<(), AllocError>
     write!(out, "{rank}")
 }
 
-/// The ranks of the set in ascending order behind an equals sign, with commas between them; nothing where there is none.
+/// The ranks of the set in ascending order after an equals sign, with commas between them; nothing if there is none.
 pub fn put_ranks(out: &mut String, set: RankSet) -> Result<(), AllocError>
     ensures { OnOk result (string_bytes out.new ≡ string_bytes out.old ++ behind 61 (ranks_text set)) }
 {

@@ -20,7 +20,7 @@ fn at(line: u32, kind: ScheduleKind) -> ScheduleRefused
     ScheduleRefused::At { line, kind }
 }
 
-/// One more event, after so many.
+/// One more event, after this many.
 #[tactic(auto, unfolding(crate::specs::Schedule::event_line_at))]
 fn event_line_at(
     alloc: Global,
@@ -50,7 +50,7 @@ fn room_of(body: &[u8]) -> usize
     memchr_iter(b'\n', body).count().min(MOST_EVENTS as usize)
 }
 
-/// The events of the lines behind the first.
+/// The events of the lines after the first.
 fn events_of(alloc: Global, monitors: u8, body: &[u8]) -> Result<Items<Event>, ScheduleRefused>
     requires { monitors ≤ 15 }
     ensures { Gives (λ es. es) result (events_at monitors 0 (lines_of body.now).0 (lines_of body.now).1) }
@@ -87,7 +87,7 @@ fn first_line(line: &[u8]) -> Result<(u8, Rule), ScheduleRefused>
     }
 }
 
-/// The schedule that the lines spell.
+/// The schedule that the lines represent.
 fn whole(alloc: Global, bytes: &[u8]) -> Result<Schedule, ScheduleRefused>
     ensures { Gives (λ s. s) result (whole_at (lines_of bytes.now).0 (lines_of bytes.now).1) }
 {
@@ -117,13 +117,13 @@ fn read(alloc: Global, bytes: &[u8]) -> Result<Schedule, ScheduleRefused>
     whole(alloc, bytes)
 }
 
-/// The schedule that the bytes spell, all of them. The first line at fault is refused, with what is wrong; line 0 stands for
-/// more than 16,777,216 bytes, which is tested first.
+/// Parses a schedule from all of the bytes. The first faulty line is refused, with its fault; line 0 stands for more
+/// than 16,777,216 bytes, which is tested first.
 pub fn parse(alloc: Global, bytes: &[u8]) -> Result<Schedule, ScheduleRefused>
-    // What is read is spelled so.
+    // What is read is the schedule whose text the bytes are.
     ensures found { IfOk result (λ s. HasText s × (bytes.now ≡ schedule_text s)) }
 
-    // What is spelled so is read, unless memory runs out.
+    // A schedule's text is read, unless memory runs out.
     ensures only { (s : Schedule) → HasText s → bytes.now ≡ schedule_text s → Gives (λ s. s) result (Ok s) }
 
     // Which line is refused, and as what.

@@ -31,7 +31,7 @@ pub enum ScheduleKind {
     Rank = 7,
 }
 
-/// Why a line spells no event.
+/// Why a line is no event.
 #[derive(Clone, Copy, Debug, PartialEq, Eq, Error)]
 pub enum LineRefused {
     #[error("{0}")]
@@ -56,10 +56,10 @@ impl From<OutOfMemory> for LineRefused {
     }
 }
 
-/// Why bytes spell no schedule.
+/// Why the bytes are no schedule.
 #[derive(Clone, Copy, Debug, PartialEq, Eq, Error)]
 pub enum ScheduleRefused {
-    /// The first line at fault, counted from 1; 0 stands for the whole text.
+    /// The first faulty line, counted from 1; 0 stands for the whole text.
     #[error("line {line}, {kind}")]
     At { line: u32, kind: ScheduleKind },
     #[error("out of memory")]

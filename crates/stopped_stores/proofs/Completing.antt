@@ -1,4 +1,4 @@
--- If nothing fails, what stands on the disks and in the source decides the end.
+-- If nothing fails, what is on the disks and in the source decides the end.
 use Rattle.std.proofs.Common.{◌≡◌, ◌⊎◌, ℕ, ◌+◌, ◌≤◌, List, ◌++◌, length, Option, Some, None, Result, Ok, Err, refl, sym, ap, subst, ◌∙◌, arith, inl, inr, length-append}
 use Rattle.std.proofs.lemmas.Bool.{lt-ltb}
 use Rattle.std.proofs.lemmas.List.{append-nil}
@@ -124,7 +124,7 @@ read_of most (Some xs) (Some ys) bytes whole is read =
           inr (long, omega arith)
     ]
 
--- what was read is judged as all that was there, where more than the most is
+-- what was read is judged as all that was there, if more than the most is
 same_judged : {X : Type 0} (judge : List ℕ → X) (most : ℕ) (far : X) → ((bytes : List ℕ) → most ≤ length bytes → judge bytes ≡ far) → (before after : Stream) (bytes whole : List ℕ)
     → before.bytes ≡ Some whole → ReadsWhole most before.bytes after.bytes bytes → judge bytes ≡ judge whole
 same_judged judge most far long before after bytes whole is read =

@@ -53,7 +53,7 @@ NamesOther kept asked end.OutOfMemory = Unit {0}
 NamesOther kept asked (end.Stranger other member) = (owner_of other ≡ owner_of kept) × (member ≡ asked)
 NamesOther kept asked other = ⊥
 
--- A text is written of disks that stand for the member's store, or on which it is created; of others the end says why not.
+-- A text is written of disks that represent the member's store, or on which one is created; otherwise the end says why not.
 pub record TextCompletes (member : Member) (a b : List ℕ) (e : ToolEnd) : Type 0 where
   pub stands : (stood : Stood) → opens_as member a b ≡ Ok stood → IsEnd end.Done e
   pub refused : (refusal : Refusal) → opens_as member a b ≡ Err refusal → IsRefusal refusal e

@@ -13,9 +13,9 @@ use Rattle.mon_tx.specs.Map.{Store}
 use Rattle.mon_types.specs.declared.member.Member.{Member}
 
 module _ {D : Type 0} (state : D → DiskState) where
-  -- A member opened its store on two disks, or this is why it opened none. What stands on them is what they held, and a refusal has its
-  -- cause there. A crash leaves what they held, and after Ok it leaves the store. Opening's own writes and syncs were made, and no others: a
-  -- store of an earlier format stays as it is.
+  -- A member opened its store on two disks, or this is why it opened none. What is on them is what they held, and a refusal
+  -- has its cause there. A crash leaves what they held, and after Ok it leaves the store. Opening's own writes and syncs were
+  -- made, and no others: a store of an earlier format stays as it is.
   pub record Opens (member : Member) (old new : NodeDisks D) (result : Result Stood OpenStop) : Type 0 where
     pub answer : IfSome (state old.a).content.seen (λ a. IfSome (state old.b).content.seen (λ b. Answers member a b result))
     pub alike : IsTrue (is_some (state old.a).content.seen) → IsTrue (is_some (state old.b).content.seen)

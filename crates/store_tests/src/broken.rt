@@ -23,7 +23,7 @@ fn applied<D: Disk>(alloc: Global, store: &mut Store<D>) -> Result<String, Fail>
     Ok(format!(in alloc; "{answer:?}")?)
 }
 
-/// What it answers to it twice, and then whether its file was begun anew, and whether it is broken.
+/// What it returns to it twice, and then whether its file was begun again, and whether it is broken.
 fn answers<D: Disk>(alloc: Global, store: &mut Store<D>) -> Result<String, Fail>
     requires { IsSound D.state store.old }
 {

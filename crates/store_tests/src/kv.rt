@@ -38,7 +38,7 @@ fn made(alloc: Global, digits: &str) -> Result<Kv, Fail> {
     }
 }
 
-/// Puts the name of a key, with a space behind it.
+/// Puts the name of a key, with a space after it.
 fn push_name(names: &mut String, prefix: &[u8], key: &[u8]) -> Result<(), Fail> {
     let (prefix, key) = (str::from_utf8(prefix)?, str::from_utf8(key)?);
     Ok(write!(names, "{prefix}/{key} ")?)
@@ -58,14 +58,15 @@ fn keys(alloc: Global, kv: &Kv) -> Result<String, Fail> {
     Ok(keys)
 }
 
-/// What a map of at most five keys tells: the keys, the size, the value that waits and the version that a copy must reach.
+/// What a map of at most five keys holds: the keys, the size, the value that waits and the version that a copy must
+/// reach.
 fn summary(alloc: Global, kv: &Kv) -> Result<String, Fail> {
     let keys = keys(alloc, kv)?;
     let (size, pending, floor) = (kv.size(), kv.pending(), kv.floor());
     Ok(format!(in alloc; "{keys}{size} {pending:?} {floor}")?)
 }
 
-/// What is told of what a transaction leaves.
+/// What is left by a transaction.
 fn left(alloc: Global, digits: &str) -> Result<String, Fail> {
     let kv = made(alloc, digits)?;
     let told = summary(alloc, &kv);

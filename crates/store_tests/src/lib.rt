@@ -1,4 +1,5 @@
-//! Tests of bytes that other programs spelled or spoiled, of stores and files whose disk fails, and of a tree that is no list.
+//! Tests of bytes that other programs encoded or spoiled, of stores and files whose disk fails, and of a tree that
+//! stays balanced.
 #![tactic(auto)]
 
 #[cfg(test)]

@@ -1,4 +1,4 @@
-//! Bytes that other programs spelled or spoiled, and what they are.
+//! Bytes that other programs encoded or spoiled, and what they are.
 
 use map_kv::{KvInc, KvMap};
 use map_log::LogMap;
@@ -6,7 +6,8 @@ use mon_bytes::Decode;
 use std::alloc::Global;
 use std::test::Fail;
 
-/// What is read, its bytes in hexadecimal digits, and why they are refused, or `read` where what they are is spelled so again.
+/// What is read, its bytes in hexadecimal digits, and why they are refused, or `read` if encoding what they are gives
+/// them again.
 const ROWS: &str = "\
 transaction 010200000001026b760161010000007803036c6f67 read\n\
 transaction 010200 Cut { at: 1 }\n\
@@ -95,14 +96,14 @@ fn of_log(alloc: Global, bytes: &[u8]) -> Result<String, Fail> {
     }
 }
 
-/// What a row tells of bytes that are read, and then spelled again.
+/// The row of bytes that are decoded, and then encoded again.
 fn told(alloc: Global, again: Vec<u8>, bytes: &[u8]) -> Result<String, Fail> {
     let alike = again.as_slice() == bytes;
     drop(again);
     Ok(String::from_str(alloc, if alike { "read" } else { "spelled otherwise" })?)
 }
 
-/// What the bytes that the digits spell are.
+/// What the bytes, given in hexadecimal digits, encode.
 fn outcome(alloc: Global, what: &str, digits: &str) -> Result<String, Fail> {
     let bytes = hex::decode(alloc, digits)?;
     let outcome = match what {

@@ -1,4 +1,4 @@
--- What two disks stand for while an import makes a store on them.
+-- What two disks represent while an import makes a store on them.
 use Rattle.std.proofs.Common.{◌≡◌, ◌⊎◌, ⊎_elim, inl, inr, ℕ, ◌≤◌, ◌+◌, false, ltb, length, List, [], ◌∷◌, Option, Some, None, Result, Ok, Err, refl, sym, ap, subst, ◌∙◌, arith}
 use Rattle.std.specs.Prelude.{IfSome, OnOk}
 use Rattle.mon_types.specs.declared.names.Side.TheVariants.{A}
@@ -121,7 +121,7 @@ then_written old mid new P Q same h w = by old new (subst (λ (t : Option Told).
     by (Some s) None w = tt
     by (Some s) (Some t) w = λ more. h (w more)
 
--- what holds where the calls came to their end
+-- what holds if the calls came to their end
 pub when_ok : (r : Result (Unit {0}) Stop) (K F P : Type 0) → (K → F → P) → OnOk r K → OnOk r F → OnOk r P
 when_ok (Ok x) K F P h k f = h k f
 when_ok (Err e) K F P h k f = tt

@@ -60,8 +60,8 @@ pub record BothKeep (old_a old_b new_a new_b : Content) : Type 0 where
   pub a : LeavesOnly old_a new_a (images old_a)
   pub b : LeavesOnly old_b new_b (images old_b)
 
--- Both disks were synced at the moment `synced` of disk A. Up to then each disk keeps its images, and disk B goes on doing so. From then
--- on both are closed, or they stand for the whole map.
+-- Both disks were synced at the time `synced` of disk A. Up to then each disk keeps its images, and disk B goes on doing so.
+-- From then on both are closed, or they represent the whole map.
 pub record KeepThenMake (member : Member) (m : Store) (old_a old_b new_a new_b : Content) : Type 0 where
   pub a : Lasts old_a new_a
   pub b : LeavesOnly old_b new_b (images old_b)

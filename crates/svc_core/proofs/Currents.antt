@@ -22,7 +22,7 @@ use Rattle.svc_core.proofs.Starts.{read-full, reaches-full, read-empty, reaches-
 
 -- ---- readings up to a version
 
--- the full map that a reading begins with, where there is one
+-- the full map that a reading begins with, if there is one
 abbrev pub base : Readings → Service → Option ShownMap
 base w s = option_and_then (spelled_map s) (w.row s (key.Full (full_latest w s)))
 
@@ -137,7 +137,7 @@ module _ (w : Readings) (s : Service) where
           let c = one_more (n - full_latest w s) (suc (full_latest w s)) m so_far next (record { read = r; goes = g }) (rw at e) in
           (rw count c.read, rw count c.goes)
 
--- ---- a turn stands for a store
+-- ---- what store an iteration represents
 
 pub record StandsFor (w : Readings) (s : Service) (t : Turn) : Type 0 where
   pub read : read_from w s t.version (base w s) ≡ t.map

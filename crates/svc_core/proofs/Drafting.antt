@@ -65,13 +65,13 @@ log_refused (map.Log es) due asked text (refused.TooLong len most) k h = rw h re
 log_refused (map.Log es) due asked text (refused.MapFull would_be) k h = rw h refl
 log_refused (map.Log es) due asked text refused.OutOfMemory k h = tt
 
--- where no full map is due, the entry is made whatever the cluster log is
+-- if no full map is due, the entry is made whatever the cluster log is
 pub log_entry : (m : ShownMap) (asked : ℕ) (text : List ℕ) (inc : LogInc) → kind m ≡ service.Log → log_made.made asked text ≡ Ok inc
     → drafted false (made m asked (command.Log text)) ≡ Ok (record { incremental = log_text.inc_text inc; text = [] })
 log_entry (map.Kv m) asked text inc k h = absurd cc
 log_entry (map.Log es) asked text inc k h = rw h refl
 
--- a map's text matters only where a full map is due
+-- a map's text matters only if a full map is due
 text_matters : (first last : ℕ) (a : Area) (n service_first : ℕ) (incremental text : List ℕ) (due : Bool) → eqb (n % full_every) 0 ≡ due
     → value_ops first last a n service_first incremental text ≡ value_ops first last a n service_first incremental (cond due text [])
 unfolding value_ops

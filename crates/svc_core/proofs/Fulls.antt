@@ -7,7 +7,7 @@ use Rattle.mon_tx.specs.declared.op.Op.{Op}
 use Rattle.mon_msg.specs.Protocol.Changes.{erase}
 use Rattle.mon_msg.specs.Protocol.Rules.{full_every}
 
--- the erasures of the full maps at so many versions
+-- the erasures of the full maps at this many versions
 abbrev pub erasures : Area → ℕ → ℕ → List Op
 erasures a from count = map (λ v. erase a (key.Full v)) (filter (λ v. eqb (v % full_every) 0) (range_with_len from count))
 

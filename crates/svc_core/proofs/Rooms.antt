@@ -51,7 +51,7 @@ next_grows bytes n (map.Kv y) x fits e h = by (kv_decode.inc_of bytes) refl e
     by (Err r) f e = absurd cc
 next_grows bytes n (map.Log es) x fits e h = absurd h
 
--- a map is no longer than the bytes that spell it
+-- a map is no longer than the bytes that encode it
 pub spelled_within : (n : ℕ) (bytes : List ℕ) → IsBytes bytes → length bytes ≤ n → IfSome (spelled_map service.Kv bytes) (IsWithin n)
 spelled_within n bytes fits le = by (leb (length bytes) 393216) (kv_decode.map_of bytes) refl
   where
@@ -67,7 +67,7 @@ module _ (w : Readings) where
   unfolding read_on
   room_after_all most v = record { less = omega arith; within = λ m h. h }
 
-  -- where there is no incremental, a reading ends
+  -- if there is no incremental, a reading ends
   pub room_without : (room v : ℕ) → w.row service.Kv (key.Version v) ≡ None → IsRoom w room 1 v room
   room_without room v none = record { less = omega arith; within = λ m h. rw (read-none w service.Kv 0 v m (ap (option_and_then (next_map service.Kv m)) none)) h }
 

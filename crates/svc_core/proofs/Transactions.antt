@@ -25,7 +25,7 @@ the_same : (t x : Turn) → ◌≡◌ {A = Option Turn} (Some t) (Some x) → t 
 the_same t x e = cc
 
 module _ (s : Service) where
-  -- where the store stands for the turn after a change
+  -- if the store represents the iteration after a change
   abbrev Stands : Op → Store → Turn → Type 0
   Stands op m x = StandsFor (readings_of (apply_op op m)) s x
 

@@ -55,7 +55,7 @@ Follows c w = (s : Service) → IfSome (known c s) (IsCurrent w s)
 
 -- ---- reading
 
--- a service that wasn't known is known where its reading reaches the last version and no full map is newer
+-- a service that wasn't known is known if its reading reaches the last version and no full map is newer
 abbrev pub known_once_read : Readings → Service → Option Known → Option Known
 known_once_read w s (Some k) = Some k
 known_once_read w s None =
@@ -64,8 +64,8 @@ known_once_read w s None =
 
 -- ---- a transaction
 
--- In the course of a transaction a turn has the version and the map so far, and whether its last version was told since
--- it rose.
+-- During a transaction the cache has, for each service, the version and the map so far, and whether its last version was
+-- written since it rose.
 
 -- a put is of the next version's incremental, of the first version, or of the version so far as the last one
 abbrev pub after_put : Service → List ℕ → List ℕ → Turn → Option Turn
@@ -113,14 +113,14 @@ abbrev pub applied : Cache → Cache → ℕ
 applied before now =
     risen (known before service.Kv) (known now service.Kv) + risen (known before service.Log) (known now service.Log)
 
--- What a cache knows once a service was read, where it follows the store. It keeps the map that was read.
+-- What a cache knows once a service was read, given that it follows the store. It keeps the map that was read.
 pub record IsAnswered (old new : Cache) (w : Readings) (s : Service) : Type 0 where
   pub known_is : known new s ≡ known_once_read w s (known old s)
   pub others : (t : Service) → (t ≡ s → ⊥) → known new t ≡ known old t
   pub map_is : map_in (kept_of new s) ≡ Some (read_map w s)
   pub follows : Follows new w
 
--- after want of memory it knows nothing
+-- after `OutOfMemory` it knows nothing
 abbrev pub Answers : {A E : Type 0} → Cache → Readings → Service → Result A E → Cache → Type 0
 Answers old w s (Ok x) new = IsAnswered old new w s
 Answers old w s (Err e) new = (t : Service) → known new t ≡ None

@@ -1,4 +1,4 @@
--- What a value is made of: the incremental, and the map's text where a full map is due.
+-- The parts of a value: the incremental, and the map's encoding if a full map is due.
 use Rattle.std.specs.Prelude.{◌≡◌, ℕ, suc, ◌+◌, ◌≤◌, Bool, List, [], length, Result, Ok, Err, if◌then◌else◌}
 use Rattle.mon_bytes.specs.declared.command.Command.{Command}
 use Rattle.mon_bytes.specs.declared.command.CommandRefused.{CommandRefused}

@@ -8,11 +8,11 @@ use Rattle.mon_wire.specs.declared.reply.ShownMap.{ShownMap}
 use Rattle.mon_wire.specs.declared.request.Service.{Service}
 use Rattle.mon_tx.specs.declared.key.Key.TheVariants as key
 
--- the map after the incremental that made version v, where there is one that gives a map that isn't too long
+-- the map after the incremental that made version v, if there is one that gives a map of a valid length
 abbrev pub step_at : Readings → Service → ℕ → ShownMap → Option ShownMap
 step_at w s v m = option_and_then (next_map s m) (w.row s (key.Version v))
 
--- so many incrementals from version v on are there, are such and give maps that aren't too long
+-- this many incrementals from version v on are there, are valid, and give maps of valid lengths
 unfoldable pub goes_on : Readings → Service → ℕ → ℕ → ShownMap → Bool
 goes_on w s zero v m = true
 goes_on w s (suc count) v m = elim (step_at w s v m) as (λ _. Bool) [

@@ -12,7 +12,7 @@ abbrev pub IsWithin : ℕ → ShownMap → Type 0
 IsWithin n (map.Kv m) = length (kv_text.map_text m) ≤ n
 IsWithin n (map.Log es) = ⊥
 
--- a map of at most `room` bytes has at most `most` after so many incrementals from version v on
+-- a map of at most `room` bytes has at most `most` after this many incrementals from version v on
 pub record IsRoom (w : Readings) (most count v room : ℕ) : Type 0 where
   pub less : room ≤ most
   pub within : (m : ShownMap) → IsWithin room m → IsWithin most (read_on w service.Kv count v m)

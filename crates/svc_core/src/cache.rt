@@ -77,7 +77,7 @@ impl Kept {
         }
     }
 
-    /// Follows a transaction, and tells how many incrementals were applied to what is still known.
+    /// Follows a transaction, and returns how many incrementals were applied to what is still known.
     fn follow(&mut self, alloc: Global, service: Service, ops: &[Op]) -> Result<u64, OutOfMemory>
         ensures known { OnOk result (known_in self.new ≡ known_after service ops.now (known_in self.old)) }
         ensures applied { IfOk result (λ n. n ≡ risen (known_in self.old) (known_in self.new)) }
@@ -90,8 +90,8 @@ impl Kept {
     }
 }
 
-/// What is kept of a service once it was read: it is known where its reading reaches the last version and no full map
-/// is newer.
+/// What is kept of a service once it was read: it is known if its reading reaches the last version and no full map is
+/// newer.
 fn read_kept(alloc: Global, kv: &Kv, service: Service) -> Result<Kept, OutOfMemory>
     ensures known { IfOk result (λ kept. known_in kept ≡ known_once_read (readings_of kv.now) service None) }
     ensures map { IfOk result (λ kept. map_in kept ≡ Some (read_map (readings_of kv.now) service)) }
@@ -186,7 +186,7 @@ impl Cache {
         }
     }
 
-    /// The map of a service that is known, and `None` exactly where it isn't known. It takes no memory.
+    /// The map of a service that is known, and `None` if and only if it isn't known. It takes no memory.
     pub fn cached(&self, service: Service) -> Option<&ShownMap>
         ensures { option_copied result ≡ option_map (λ k. k.map) (known self.now service) }
     {
@@ -200,7 +200,7 @@ impl Cache {
         drop(mem::replace(self, Cache::empty()));
     }
 
-    /// Follows the changes of a transaction, and tells how many incrementals were applied.
+    /// Follows the changes of a transaction, and returns how many incrementals were applied.
     fn follow_ops(&mut self, alloc: Global, ops: &[Op]) -> Result<u64, OutOfMemory>
         ensures known { OnOk result ((s : services.Service) →
             known self.new s ≡ known_after s ops.now (known self.old s)) }
@@ -211,8 +211,9 @@ impl Cache {
         Ok(kv + log)
     }
 
-    /// Makes a cache that follows a store into one that follows the store after a transaction, and tells how many
-    /// incrementals were applied to the maps that are still known. After `OutOfMemory` the cache is empty.
+    /// Makes a cache that follows a store into one that follows the store after a transaction, and returns how many
+    /// incrementals were applied to the maps that were known before and are known afterwards. After `OutOfMemory` the
+    /// cache is empty.
     pub fn follow(&mut self, alloc: Global, tx: &Transaction) -> Result<u32, OutOfMemory>
         ensures known { OnOk result ((s : services.Service) →
             known self.new s ≡ known_after s tx.now (known self.old s)) }
@@ -264,9 +265,9 @@ impl Cache {
         }
     }
 
-    /// What `read` answers, of a store that the cache follows. A service that wasn't known is known afterwards exactly
-    /// where its reading reaches its last version and no full map is newer than that. After `OutOfMemory` the cache is
-    /// empty.
+    /// What `read` returns of a store that the cache follows. A service that wasn't known is known afterwards if and
+    /// only if its reading reaches its last version and no full map is newer than that. After `OutOfMemory` the cache
+    /// is empty.
     pub fn get(
         &mut self,
         alloc: Global,

@@ -28,7 +28,7 @@ fn push_copy(alloc: Global, told: &mut Items<Bytes>, bytes: &[u8]) -> Result<(),
     told.push(Bytes::new(Vec::from_slice(alloc, bytes)?))
 }
 
-/// The incrementals after version `v` up to the first that isn't there, as many as are told.
+/// The incrementals after version `v` up to the first that isn't there, as many as one reply takes.
 fn told_after(alloc: Global, kv: &Kv, service: Service, v: u64) -> Result<Changes, OutOfMemory>
     requires { v ≤ 2 ^ 62 }
     ensures told { IfOk result
@@ -68,7 +68,7 @@ pub fn shown(alloc: Global, kv: &Kv, service: Service) -> Result<Reply, OutOfMem
 }
 
 /// What changed a service's map after version `v`: the incrementals from the next version on, as many as one reply
-/// takes, where that version is kept or would be the next one; and the whole map where it isn't kept any more.
+/// takes, if that version is kept or would be the next one; and the whole map if it isn't kept any more.
 #[tactic(auto, unfolding(mon_msg::specs::Protocol::Reads::since))]
 pub fn since(alloc: Global, kv: &Kv, service: Service, v: u64) -> Result<Reply, OutOfMemory>
     requires { v ≤ 2 ^ 62 }

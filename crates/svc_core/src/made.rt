@@ -24,7 +24,7 @@ use mon_msg::Service;
 use mon_types::Rank;
 use std::alloc::Global;
 
-/// An incremental, and the text of the map with it, which is empty where no full map is due.
+/// An incremental, and the text of the map with it, which is empty if no full map is due.
 #[derive(Drop)]
 pub(crate) struct Draft {
     pub(crate) incremental: Bytes,
@@ -32,7 +32,7 @@ pub(crate) struct Draft {
 }
 
 impl Draft {
-    /// An incremental where no full map is due.
+    /// An incremental if no full map is due.
     fn bare(alloc: Global, incremental: Bytes) -> Draft
         ensures incremental { result.incremental ≡ incremental }
         ensures text { result.text ≡ [] }
@@ -44,7 +44,7 @@ impl Draft {
     }
 }
 
-/// The incremental of a set that surely fits, and `None` where that isn't sure without the map.
+/// The incremental of a set that surely fits, or `None` if that can't be known without the map.
 fn sure_set(alloc: Global, kv: &Kv, command: &Command) -> Result<Option<KvInc>, OutOfMemory>
     ensures made { IfOk result
         (λ made. IfSome made (λ inc. kv_incremental (read_map (readings_of kv.now) Service.Kv) command.now ≡
@@ -121,7 +121,7 @@ fn kv_draft(alloc: Global, map: KvMap, inc: KvInc) -> Result<Draft, OutOfMemory>
     })
 }
 
-/// What a command makes where a full map is due.
+/// What a command makes if a full map is due.
 fn kv_full(alloc: Global, kv: &Kv, command: &Command) -> Result<Draft, CommandRefused>
     requires { IsOfKv command.now }
     ensures made { (asked : ℕ) →
@@ -133,8 +133,7 @@ fn kv_full(alloc: Global, kv: &Kv, command: &Command) -> Result<Draft, CommandRe
     Ok(kv_draft(alloc, map, inc)?)
 }
 
-/// What a command makes of the key-value map. The map is read where a full map is due, and where a set doesn't surely
-/// fit.
+/// What a command makes of the key-value map. The map is read if a full map is due, and if a set doesn't surely fit.
 fn kv_made(alloc: Global, kv: &Kv, command: &Command, due: bool) -> Result<Draft, CommandRefused>
     requires { IsOfKv command.now }
     ensures made { (asked : ℕ) →
@@ -164,7 +163,7 @@ fn log_draft(alloc: Global, map: LogMap, inc: LogInc) -> Result<Draft, OutOfMemo
     })
 }
 
-/// What a text makes of the cluster log. The map is read only where a full map is due.
+/// What a text makes of the cluster log. The map is read only if a full map is due.
 fn log_made(
     alloc: Global,
     kv: &Kv,
@@ -186,7 +185,7 @@ fn log_made(
     Ok(Draft::bare(alloc, Bytes::new(incremental?)))
 }
 
-/// The incremental of a command, and the map's text with it where a full map is due.
+/// The incremental of a command, and the map's text with it if a full map is due.
 pub(crate) fn made(
     alloc: Global,
     kv: &Kv,

@@ -7,12 +7,13 @@ use mon_bytes::OutOfMemory;
 use mon_tx::{Area, Key, Op, Transaction};
 use std::alloc::Global;
 
-/// The log is trimmed where more than so many versions lie after its first one.
+/// The log is trimmed if more than this many versions lie after its first one.
 const DUE: u64 = 750;
 
-/// So many versions stay after the first one that is kept, and so many go at most.
+/// Versions that stay after the first one that is kept.
 const KEEPS: u64 = 500;
 
+/// The most versions that are erased at a time.
 const GOES: u64 = 500;
 
 /// Appends what trims the log: the versions from the first one on that go, and the first one that is kept.
@@ -29,7 +30,7 @@ pub(crate) fn push_trim(tx: &mut Transaction, first: u64, last: u64) -> Result<(
     tx.put_number(Area::Paxos, Key::FirstCommitted, to)
 }
 
-/// What trims a log that keeps the versions from `first` to `last`: nothing where 750 of them or fewer lie after the
+/// What trims a log that keeps the versions from `first` to `last`: nothing if 750 of them or fewer lie after the
 /// first one, and otherwise an erasure from `first` on of 500 of them, or of as many as leave 500 after the first one
 /// that is kept, and that number.
 pub fn trim_ops(alloc: Global, first: u64, last: u64) -> Result<Vec<Op>, OutOfMemory>

@@ -52,7 +52,7 @@ fn log_map(alloc: Global, bytes: &[u8]) -> Result<Option<ShownMap>, OutOfMemory>
     }
 }
 
-/// The map that the bytes spell, where they are no longer than a map may be.
+/// The map that the bytes encode, if they are no longer than a map's encoding may be.
 fn spelled_map(
     alloc: Global,
     service: Service,
@@ -120,7 +120,7 @@ fn start(alloc: Global, kv: &Kv, service: Service) -> Result<Base, OutOfMemory>
     }
 }
 
-/// Takes the step of the incremental that made version `v`, and tells whether there was one.
+/// Applies the incremental that made version `v`, and returns whether there was one.
 fn step_at(
     alloc: Global,
     kv: &Kv,
@@ -137,8 +137,8 @@ fn step_at(
     }
 }
 
-/// Takes the steps of so many incrementals, from version `v` on. It ends before the first that isn't there, is none or
-/// gives too long a map, and tells whether there was no such.
+/// Applies this many incrementals, from version `v` on. It stops before the first that is missing, is invalid or
+/// makes the map too long, and returns whether there was no such incremental.
 fn read_on(
     alloc: Global,
     kv: &Kv,

@@ -1,7 +1,7 @@
-//! Whether the key-value map surely has room, told without reading it.
+//! Whether the key-value map surely has room, found without reading it.
 //!
-//! An incremental makes the map at most as much longer as it is long itself. So the lengths of the newest full map and
-//! of the incrementals after it tell how long the map is at most.
+//! An incremental makes the map at most as much longer as it is long itself. So the lengths of the newest full map
+//! and of the incrementals after it bound the map's length.
 
 ghost use Rattle.std.specs.Prelude.{◌≡◌, ◌-◌, ◌≤◌, length, true, IfOk, IfSome};
 ghost use Rattle.mon_bytes.specs.Reading.{IsBytes};
@@ -62,8 +62,8 @@ fn most_full(alloc: Global, kv: &Kv, latest: u64) -> Result<u64, OutOfMemory>
     }
 }
 
-/// Whether the map that is read surely has at most so many bytes. That isn't sure where version 1 is kept, since all
-/// incrementals are then read in place of a full map that is none.
+/// Whether the map that is read surely has at most this many bytes. That isn't sure if version 1 is kept, since all
+/// incrementals are then read in place of an invalid full map.
 pub(crate) fn is_within(alloc: Global, kv: &Kv, most: u64) -> Result<bool, OutOfMemory>
     ensures { IfOk result (λ sure. sure ≡ true → IsWithin most (read_map (readings_of kv.now) Service.Kv)) }
 {

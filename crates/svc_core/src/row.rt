@@ -1,4 +1,4 @@
-//! What a store tells of a service.
+//! What a store holds of a service.
 
 ghost use Rattle.std.specs.Prelude.{◌≡◌, ◌≤◌, ◌^◌, IfOk};
 ghost use Rattle.std.specs.Option.{option_copied};
@@ -16,7 +16,7 @@ use mon_msg::Service;
 use mon_tx::{Area, Key};
 use std::alloc::Global;
 
-/// Where a service keeps its map.
+/// The prefix under which a service keeps its map.
 pub(crate) fn area_of(service: Service) -> Area
     ensures { result ≡ area_of service }
 {
@@ -43,7 +43,7 @@ pub(crate) fn first_version(kv: &Kv, service: Service) -> u64
     number(kv, service, b"first_committed")
 }
 
-/// A service's last version, which is 0 where it has none.
+/// A service's last version, which is 0 if it has none.
 #[tactic(auto, unfolding(mon_msg::specs::Protocol::Readings::readings_of))]
 pub fn last_version(kv: &Kv, service: Service) -> u64
     ensures value { result ≡ service_last (readings_of kv.now) service }
@@ -61,7 +61,7 @@ pub(crate) fn full_latest(kv: &Kv, service: Service) -> u64
     number(kv, service, b"full_latest")
 }
 
-/// The bytes of the incremental that made a version, or `None` exactly where there are none.
+/// The bytes of the incremental that made a version, or `None` if and only if there are none.
 #[tactic(auto, using(mon_tx::proofs::Decimals::decimal_is), unfolding(mon_msg::specs::Protocol::Readings::readings_of))]
 pub(crate) fn incremental(kv: &Kv, service: Service, v: u64) -> Option<&[u8]>
     ensures { option_copied result ≡ (readings_of kv.now).row service (keys.Version v) }
@@ -73,7 +73,7 @@ pub(crate) fn incremental(kv: &Kv, service: Service, v: u64) -> Option<&[u8]>
     )
 }
 
-/// The bytes of the full map at a version, or `None` exactly where there are none.
+/// The bytes of the full map at a version, or `None` if and only if there are none.
 #[tactic(auto, unfolding(mon_msg::specs::Protocol::Readings::readings_of))]
 pub(crate) fn full(
     alloc: Global,

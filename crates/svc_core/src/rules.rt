@@ -11,11 +11,13 @@ use mon_tx::{Area, Key, Transaction};
 /// A full map is kept at each multiple of this.
 pub(crate) const FULL_EVERY: u64 = 25;
 
-/// A service is trimmed where so many versions lie after its first one. It keeps so many, and so many go at most.
+/// A service is trimmed once this many versions lie after its first one.
 const DUE: u64 = 75;
 
+/// Versions that stay after the first one that is kept.
 const KEEPS: u64 = 50;
 
+/// The versions that are erased at a time.
 const GOES: u64 = 25;
 
 /// Whether a full map is kept at a version.
@@ -31,7 +33,7 @@ fn push_begins(tx: &mut Transaction, area: Area) -> Result<(), OutOfMemory>
     tx.put_number(area, Key::FirstCommitted, 1)
 }
 
-/// Appends the first version of the log, where it has none.
+/// Appends the first version of the log, if it has none.
 pub(crate) fn push_paxos_begins(tx: &mut Transaction, last: u64) -> Result<(), OutOfMemory>
     ensures { OnOk result (tx.new ≡ tx.old ++ paxos_begins last) }
 {
@@ -57,7 +59,7 @@ pub(crate) fn push_new_version(
     tx.put_number(area, Key::LastCommitted, n)
 }
 
-/// Appends the full map at version `n`, where one is kept there.
+/// Appends the full map at version `n`, if one is kept there.
 pub(crate) fn push_full_version(
     tx: &mut Transaction,
     area: Area,
@@ -85,7 +87,7 @@ fn push_full_erased(tx: &mut Transaction, area: Area, from: u64, to: u64) -> Res
     Ok(())
 }
 
-/// Appends what trims the service at version `n`, where `first` is its first one.
+/// Appends what trims the service at version `n`, if `first` is its first one.
 pub(crate) fn push_service_trim(
     tx: &mut Transaction,
     area: Area,

@@ -21,7 +21,7 @@ pub(crate) fn most_map(service: Service) -> u64
     }
 }
 
-/// The map or the incremental that the bytes are, where they are one.
+/// The map or the incremental that the bytes are, if they are one.
 pub(crate) fn decoded<T: Decode>(alloc: Global, bytes: &[u8]) -> Result<Option<T>, OutOfMemory>
     ensures value { IfOk result (λ value. value ≡ if_ok (T.spelled bytes.now)) }
     ensures text { IfOk result (λ value. IfSome value (λ x. bytes.now ≡ T.format.text x)) }
@@ -33,7 +33,7 @@ pub(crate) fn decoded<T: Decode>(alloc: Global, bytes: &[u8]) -> Result<Option<T
     }
 }
 
-/// Applies an incremental, unless the map would have more bytes than it may have. It tells whether it did.
+/// Applies an incremental, unless the map would have more bytes than it may have. It returns whether it did.
 fn kv_apply(service: Service, map: &mut KvMap, inc: &KvInc) -> Result<bool, OutOfMemory>
     ensures { IfOk result (Stepped (ShownMap.Kv map.old) (ShownMap.Kv map.new)
         (short_map service (ShownMap.Kv (kv_map.with_inc map.old inc.now)))) }
@@ -45,8 +45,8 @@ fn kv_apply(service: Service, map: &mut KvMap, inc: &KvInc) -> Result<bool, OutO
     Ok(true)
 }
 
-/// Takes the step of the incremental that the bytes are. There is none where they are none or the map would be too
-/// long, and the map stays then.
+/// Applies the incremental that the bytes encode. If they encode none, or the map would be too long, there is no
+/// result, and the map stays.
 fn kv_step(
     alloc: Global,
     service: Service,
@@ -64,7 +64,7 @@ fn kv_step(
     stepped
 }
 
-/// Takes the step of the entry that the bytes are, where they are one. The cluster log is never too long.
+/// Appends the entry that the bytes encode, if they encode one. The cluster log is never too long.
 fn log_step(
     alloc: Global,
     service: Service,
@@ -81,8 +81,8 @@ fn log_step(
     Ok(true)
 }
 
-/// Takes the step of the incremental that the bytes are. There is none where they are none or the map would be too
-/// long, and the map stays then.
+/// Applies the incremental that the bytes encode. If they encode none, or the map would be too long, there is no
+/// result, and the map stays.
 pub(crate) fn step(
     alloc: Global,
     service: Service,

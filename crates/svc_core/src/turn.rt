@@ -21,7 +21,7 @@ pub(crate) struct Turn {
     /// Its version so far.
     pub(crate) version: u64,
     pub(crate) map: ShownMap,
-    /// Whether the last version was told since it rose.
+    /// Whether the last version was written since it rose.
     pub(crate) told: bool,
 }
 
@@ -34,7 +34,7 @@ fn is_version(key: &[u8], v: u64) -> bool
     key == digits.format(v).as_bytes()
 }
 
-/// Follows a put of a service's key, and tells whether it could.
+/// Follows a put of a service's key, and returns whether it could.
 fn put(
     alloc: Global,
     service: Service,
@@ -63,7 +63,7 @@ fn put(
     Ok(true)
 }
 
-/// Follows a change, and tells whether it could.
+/// Follows a change, and returns whether it could.
 fn change(alloc: Global, service: Service, op: &Op, turn: &mut Turn) -> Result<bool, OutOfMemory>
     requires version { turn.old.version + 1 < 2 ^ 64 }
     requires fits { turn.old.told ≡ true → turn.old.version ≤ 2 ^ 62 }
@@ -85,7 +85,7 @@ fn change(alloc: Global, service: Service, op: &Op, turn: &mut Turn) -> Result<b
     }
 }
 
-/// Follows changes, and tells whether it could.
+/// Follows changes, and returns whether it could.
 pub(crate) fn changes(
     alloc: Global,
     service: Service,

@@ -47,7 +47,7 @@ module _ (m : Store) (p : Place) (run : KeyRun) (l : IsLongestRun (shared_after 
       by [] = refl
       by (e ∷ all) = ne_eqb 0 (length (e ∷ all)) (λ h. omega (arith, h)) ∙ sym (lt-leb (length (map entry_of (e ∷ all))) 0 (omega arith))
 
-  -- whether no entry is left behind the place
+  -- whether no entry is left after the place
   pub none-done : run.done ≡ is_finished p (left_after m p.key) []
   none-done = by p.key refl
     where
@@ -70,7 +70,7 @@ module _ (last n : ℕ) (c : Cookie) (m : Store) (p : Place) (values : List (Lis
     done = none-done m p run l ∙ ap (is_finished p left) (sym (none-items m p run l));
   }
 
-  -- where the values reach the last version, and the place isn't behind all entries
+  -- if the values reach the last version, and the place isn't after all entries
   same_room : (bytes : ℕ) → bytes ≡ place_length p + sum_by value_length values → reach last p values ≡ true → is_done p.key ≡ false → (entries : List Entry)
       → have_room entry_length (besides_entries last c p left values) 1048576 entries ≡ takes left bytes entries
   same_room bytes size h k entries =

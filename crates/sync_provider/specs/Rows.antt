@@ -1,4 +1,4 @@
--- The inputs of a provider, and what is known where its rows are answered.
+-- The inputs of a provider, and what is known when its rows are proved.
 use Rattle.std.specs.Prelude.{◌≡◌, Bool, true, false, List, filter}
 use Rattle.mon_bytes.specs.declared.entry.Entry.{Entry}
 use Rattle.mon_bytes.specs.declared.entry.KeyPlace.{KeyPlace}
@@ -26,11 +26,11 @@ is_input (input.Deliver m) = is_asked m.body
 is_input (input.Timer t) = false
 is_input (input.Client session r) = false
 
--- An event under way at a provider: the store tells this, and the role remembers that.
+-- An event under way at a provider: the store's readers return this, and the role remembers that.
 pub record Holds (w : Readings) (state : Provider) (x : Course) : Type 0 where
   pub readings : x.readings ≡ w
   pub role : x.state.provider ≡ state
 
--- the shared entries that are left behind a place, in order
+-- the shared entries that are left after a place, in order
 abbrev pub left_after : Store → KeyPlace → List Entry
 left_after m at = filter (is_after at) (shared_entries m)

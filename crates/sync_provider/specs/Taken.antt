@@ -9,8 +9,8 @@ use Rattle.mon_tx.specs.declared.op.Op.{Op}
 use Rattle.mon_wire.specs.declared.parts.Cookie.{Cookie}
 use Rattle.mon_wire.specs.declared.parts.Place.{Place}
 
--- whether a chunk takes these of the entries that are left, where its place and its values take so many bytes: a few
--- bytes more where these are all that are left
+-- whether a chunk takes these of the entries that are left, where its place and its values take this many bytes: a few bytes
+-- more if these are all that are left
 abbrev pub takes : (left : List Entry) → (bytes : ℕ) → List Entry → Bool
 takes left bytes entries =
     nat_le ((if nat_le (length left) (length entries) then 40 else 33) + bytes + sum_by entry_length entries) 1048576
@@ -21,8 +21,7 @@ pub record IsTaken (left : List Entry) (bytes : ℕ) (run : KeyRun) : Type 0 whe
   pub entries : run.entries.items ≡ longest (takes left bytes) left
   pub done : run.done ≡ nat_le (length left) (length run.entries.items)
 
--- what a chunk with these values tells of the shared entries: those that it is given, and whether none is left behind
--- them
+-- the shared entries in a chunk with these values: those that it is given, and whether none is left after them
 pub record IsGiven (last : ℕ) (c : Cookie) (p : Place) (left : List Entry) (n : ℕ) (values : List (List Op))
     (run : KeyRun) : Type 0 where
   pub entries : run.entries.items ≡ given_entries last c p left n values

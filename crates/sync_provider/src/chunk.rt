@@ -1,4 +1,4 @@
-//! A monitor asks for what follows the place that it has come to.
+//! A monitor asks for what follows the place that it has reached.
 
 ghost use Rattle.std.specs.Prelude.{◌≡◌, ℕ, suc, ◌+◌, ◌||◌, not, nat_lt, ◌≤◌, nat_le, false, None, if◌then◌else◌, length, slice_index_or, sum_by, IfOk};
 ghost use Rattle.mon_msg.specs.Protocol.Course.{provider_is};
@@ -20,14 +20,14 @@ use mon_plan::{Run, Stored};
 use mon_types::{Rank, Version};
 use std::alloc::Global;
 
-/// How many bytes a chunk takes besides its place, its values and its entries, where it would be the last one or not.
+/// How many bytes a chunk takes besides its place, its values and its entries, if it would be the last one or not.
 fn besides(is_last: bool) -> usize
     ensures { result ≡ if is_last then 40 else 33 }
 {
     if is_last { BESIDES_LAST } else { BESIDES }
 }
 
-/// As many of the records behind a place as a chunk takes.
+/// As many of the records after a place as a chunk takes.
 fn given_values(
     alloc: Global,
     kv: &Kv,
@@ -46,7 +46,7 @@ fn given_values(
     stored.run(alloc, next, BESIDES + len, besides(end) + len)
 }
 
-/// Whether the records behind a place reach the last version.
+/// Whether the records after a place reach the last version.
 fn reaches(last: Version, place: &Place, count: usize) -> bool
     requires { count ≤ 65535 }
     ensures { result ≡ nat_le last (place.now.version + count) }
@@ -54,7 +54,7 @@ fn reaches(last: Version, place: &Place, count: usize) -> bool
     last.get() <= place.version.get() + count as u64
 }
 
-/// What follows a place, under this cookie: the last chunk where nothing is left behind it.
+/// What follows a place, under this cookie: the last chunk if nothing is left after it.
 fn chunk(alloc: Global, kv: &Kv, cookie: Cookie, place: &Place) -> Result<Body, OutOfMemory>
     ensures { (n : ℕ) → let w = readings_of kv.now in
         IfOk result (λ body. body ≡ chunk w.last cookie place.now (left_after kv.now place.now.key) n w.record_of) }
@@ -96,7 +96,7 @@ fn is_known(state: &Provider, of: Rank, cookie: Cookie) -> bool
     }
 }
 
-/// Whether nothing is given: the cookie isn't the monitor's, or some of the versions behind the place aren't kept any
+/// Whether nothing is given: the cookie isn't the monitor's, or some of the versions after the place aren't kept any
 /// more.
 fn is_refused(
     stored: &Stored<'_>,

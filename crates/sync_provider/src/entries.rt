@@ -54,7 +54,7 @@ fn entries_len(entries: &[Entry]) -> usize
     len
 }
 
-/// Whether no shared entry is left behind a place.
+/// Whether no shared entry is left after a place.
 pub fn is_end(kv: &Kv, place: &Place) -> Result<bool, OutOfMemory>
     ensures { IfOk result (λ end. end ≡ is_finished place.now (left_after kv.now place.now.key) []) }
 {
@@ -72,7 +72,7 @@ fn are_last(entries: &[Entry], bytes: usize) -> bool
         <= MOST_BYTES
 }
 
-/// A run without its last entry, so that this one is left behind it.
+/// A run without its last entry, so that this one is left after it.
 fn without_last(run: KeyRun) -> KeyRun
     ensures entries { result.entries.items ≡ take (length run.entries.items - 1) run.entries.items }
     ensures done { result.done ≡ false }
@@ -85,8 +85,8 @@ fn without_last(run: KeyRun) -> KeyRun
     }
 }
 
-/// As many of the shared entries behind a place as a chunk takes whose place and values take `bytes` bytes, and whether
-/// none is left behind them. Each entry is copied once.
+/// As many of the shared entries after a place as a chunk takes whose place and values take `bytes` bytes, and
+/// whether none is left after them. Each entry is copied once.
 fn longest_entries(kv: &Kv, place: &Place, bytes: usize) -> Result<KeyRun, OutOfMemory>
     ensures { IfOk result (IsTaken (left_after kv.now place.now.key) bytes) }
 {
@@ -104,8 +104,8 @@ fn longest_entries(kv: &Kv, place: &Place, bytes: usize) -> Result<KeyRun, OutOf
     Ok(without_last(found))
 }
 
-/// The entries of a chunk whose place and values take `bytes` bytes, and whether none is left behind them. There are
-/// none where the values don't reach the last version.
+/// The entries of a chunk whose place and values take `bytes` bytes, and whether none is left after them. There are
+/// none if the values don't reach the last version.
 pub fn given_entries(
     kv: &Kv,
     place: &Place,

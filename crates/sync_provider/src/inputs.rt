@@ -50,8 +50,8 @@ fn hear(
     }
 }
 
-/// What a provider does at a GET_COOKIE_FULL, GET_COOKIE_RECENT or GET_CHUNK that is heard: its row of the protocol's
-/// table. A monitor that is marked drops them without taking memory. `Spent` names the cookie's number where that would
+/// What a provider does at a GET_COOKIE_FULL, GET_COOKIE_RECENT or GET_CHUNK that is taken: its row of the protocol's
+/// table. A monitor that is marked drops them without taking memory. `Spent` names the cookie's number if that would
 /// pass 2^62.
 pub fn step(
     alloc: Global,

@@ -1,4 +1,5 @@
-//! A monitor from which others synchronise: it gives them cookies, and what follows the places that they have come to.
+//! A monitor from which others synchronise: it gives them cookies, and what follows the places that they have
+//! reached.
 #![tactic(auto)]
 
 mod chunk;

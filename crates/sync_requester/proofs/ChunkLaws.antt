@@ -36,7 +36,7 @@ use Rattle.sync_requester.specs.Rows.{IsHeard}
 use Rattle.sync_requester.specs.declared.chunks.Taken.{Taken}
 use Rattle.sync_requester.proofs.Planned.{asks_chunk, then_acts}
 
--- ---- the place behind some entries
+-- ---- the place after some entries
 
 pub after-at : (entries : List Entry) (k : KeyPlace) (i : ℕ) (e : Entry) → suc i ≡ length entries → slice_get entries i ≡ Some e → after_entries entries k ≡ After e.prefix e.key
 after-at [] k i e n h = absurd (omega arith)
@@ -87,7 +87,7 @@ module _ (s : Requester) (p : Place) (values : List (List Op)) (entries : List E
   pub take-fails : (x : Course) (e : Which) → x.state.requester ≡ s → p.version + length values ≤ 2 ^ 62 → copy s.full (suc p.version) values entries x ≡ Err e → take p values entries last x ≡ Err e
   take-fails x e role short h = counted x role short ∙ ap (λ (r : Result Course Which). r >>= (λ y. Ok (moved y))) h
 
--- by what was written for the versions behind the place
+-- by what was written for the versions after the place
 module _ (s : Requester) (p : Place) (values : List (List Op)) (entries : List Entry) (last : Bool) (from : ℕ) (behind : from ≡ suc p.version) (short : p.version + length values ≤ 2 ^ 62) where
   pub taken-is : ((x : Course) → copy s.full from values entries x ≡ Ok (changed (copied s.full from values entries) x)) → AllByRecursion Fits (copied s.full from values entries)
       → (tx : List Op) → tx ≡ spelled (copied s.full from values entries) → (place : Place) → place ≡ next_place p (p.version + length values) entries last

@@ -1,4 +1,4 @@
--- What a requester does at a cookie, and where there is none.
+-- What a requester does at a cookie, and if there is none.
 use Rattle.std.proofs.Common.{◌≡◌, ℕ, Bool, true, false, not, ◌&&◌, ◌||◌, cond, ltb, [], Some, Result, Ok, refl, ◌∙◌}
 use Rattle.mon_msg.specs.Protocol.Copying.{awaits_cookie, first_place, hear_cookie, hear_no_cookie, same_flag, start_chunks}
 use Rattle.mon_msg.specs.Protocol.Course.{Course, requester_is}

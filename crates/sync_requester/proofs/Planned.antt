@@ -1,4 +1,4 @@
--- Plans as a whole, and what is so of what an event under way tells.
+-- Plans as a whole, and what holds of the readings of an event under way.
 use Rattle.std.proofs.Common.{◌≡◌, ℕ, ◌+◌, ◌^◌, List, [], ◌∷◌, Result, min, sym, ap, subst, ◌∙◌}
 use Rattle.std.specs.List.{AllByRecursion}
 use Rattle.mon_msg.specs.Protocol.Changes.{Change, spelled}
@@ -38,7 +38,7 @@ does_as {S} me now is Before start wanted cs fit q tx row p e = record {
   row = λ x b. row x b ∙ sym (ap (λ (p : Plan S). act me now p.next (done is cs p (start x))) e);
 }
 
--- a plan that only names an act, where what is remembered is copied
+-- a plan that only names an act, if what is remembered is copied
 pub remains : (me : Me) (now : ℕ) (Before : Course → Type 0) (wanted : Course → Result Course Which) (s : Requester) → ((x : Course) → Before x → x.state.requester ≡ s)
     → (n : Next) → ((x : Course) → stands n x ≡ x) → ((x : Course) → Before x → wanted x ≡ act me now n x)
     → (p : Plan Requester) (kept : Requester) → kept ≡ s → p ≡ then_acts [] kept n → Does me now requester_is Before (λ x. x) wanted p

@@ -97,7 +97,7 @@ module _ (records : ℕ → Cell) where
   unfolding more_of
   more_end room v = refl
 
-  -- so many values were taken, and this is what all will be
+  -- this many values were taken, and this is what all will be
   module _ (all : Option (List (List Op))) (values : List (List Op)) (to room v : ℕ) (so_far : onto values (more_of records (to - v) room v) ≡ all) where
     pub goes-none : v < to → record_at records v ≡ None → None ≡ all
     goes-none lt h =

@@ -20,15 +20,14 @@ abbrev pub copied : (full : Bool) → (v : ℕ) → List (List Op) → List Entr
 copied true v values entries = record_changes v values ++ copy_changes entries
 copied false v values entries = learned v values
 
--- a call that appends these changes does what the protocol's step does, or tells which number runs out; or memory ran
--- out
+-- a call that appends these changes does what the protocol's step does, or names the number that runs out; or memory ran out
 abbrev pub Copies : (full : Bool) → (v : ℕ) → List (List Op) → List Entry → Result Unit RoleStop → Type 0
 Copies full v values entries (Ok done) =
     (x : Course) → copy full v values entries x ≡ Ok (changed (copied full v values entries) x)
 Copies full v values entries (Err stop.OutOfMemory) = Unit {0}
 Copies full v values entries (Err (stop.Spent which)) = (x : Course) → copy full v values entries x ≡ Err which
 
--- A chunk that was taken is written, and the requester remembers the place behind it.
+-- A chunk that was taken is written, and the requester remembers the place after it.
 pub record IsTaken (s : Requester) (p : Place) (values : List (List Op)) (entries : List Entry) (done : Bool)
     (taken : Taken) : Type 0 where
   pub spelled : taken.tx ≡ spelled (copied s.full (suc p.version) values entries)
@@ -36,7 +35,7 @@ pub record IsTaken (s : Requester) (p : Place) (values : List (List Op)) (entrie
   pub row : (x : Course) → x.state.requester ≡ s → take p values entries done x
       ≡ Ok (requester_is (record s { place = taken.place }) (changed (copied s.full (suc p.version) values entries) x))
 
--- a call that takes a chunk answers it, or tells which number runs out; or memory ran out
+-- a call that takes a chunk returns it, or names the number that runs out; or memory ran out
 abbrev pub Takes : Requester → Place → List (List Op) → List Entry → (done : Bool) → Result Taken RoleStop → Type 0
 Takes s p values entries done (Ok taken) = IsTaken s p values entries done taken
 Takes s p values entries done (Err stop.OutOfMemory) = Unit {0}

@@ -7,7 +7,7 @@ use Rattle.mon_wire.specs.declared.body.Body.{Body}
 use Rattle.mon_wire.specs.declared.phase.Timer.TheVariants as timer
 use Rattle.mon_wire.specs.declared.phase.Timer.{Timer}
 
--- what a provider tells
+-- what a provider sends
 abbrev pub is_told : Body → Bool
 is_told (body.Cookie full cookie last) = true
 is_told (body.Chunk cookie place values entries done) = true

@@ -75,7 +75,7 @@ struct Taken {
     place: Place,
 }
 
-/// What a chunk holds is taken, and the place moves on behind it.
+/// What a chunk holds is taken, and the place moves on after it.
 fn take(
     alloc: Global,
     state: &Requester,
@@ -107,7 +107,7 @@ fn take(
     })
 }
 
-/// What a requester remembers once it has come to a place.
+/// What a requester remembers after it has reached a place.
 fn at_place(state: &Requester, place: Place) -> Requester
     ensures { result ≡ record state.now { place = place } }
 {
@@ -121,7 +121,7 @@ fn at_place(state: &Requester, place: Place) -> Requester
     }
 }
 
-/// The provider gives a chunk, behind which there is another one.
+/// The provider gives a chunk, after which there is another one.
 pub fn hear_chunk(
     alloc: Global,
     kv: &Kv,
@@ -166,7 +166,7 @@ fn replaying(state: &Requester, place: Place, next: Version, end: Version) -> Re
     }
 }
 
-/// The last chunk of a whole copy: the versions behind its beginning are replayed up to the provider's last one.
+/// The last chunk of a whole copy: the versions after its beginning are replayed up to the provider's last one.
 fn end_copy(
     alloc: Global,
     state: &Requester,
@@ -206,7 +206,7 @@ fn end_copy(
     }
 }
 
-/// The last chunk of the versions that were lacking: the monitor begins anew with them.
+/// The last chunk of the missing versions: the monitor begins again with them.
 fn end_recent(
     alloc: Global,
     state: &Requester,
@@ -234,7 +234,7 @@ fn end_recent(
     }
 }
 
-/// The provider gives the last chunk, and tells its last version.
+/// The provider gives the last chunk, with its last version.
 pub fn hear_last_chunk(
     alloc: Global,
     state: &Requester,

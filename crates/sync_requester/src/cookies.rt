@@ -25,7 +25,7 @@ use mon_tx::Transaction;
 use mon_types::{Epoch, Moment, Rank, Version};
 use std::alloc::Global;
 
-/// No cookie at all: a provider that can't serve a recent synchronisation tells it.
+/// There is no cookie: a provider that can't serve a recent synchronisation says so.
 const NO_COOKIE: Cookie = Cookie { boot: 0, seq: 0 };
 
 fn awaits_cookie(stage: SyncStage) -> bool
@@ -152,14 +152,14 @@ pub fn is_own_cookie(state: &Requester, cookie: Cookie) -> bool
     }
 }
 
-/// Whether the provider tells that it can't give the versions that are lacking.
+/// Whether the provider says that it can't give the missing versions.
 fn is_no_grant(state: &Requester, cookie: Cookie) -> bool
     ensures { result ≡ (awaits_cookie state.now.stage && not state.now.full && same_cookie cookie no_cookie) }
 {
     awaits_cookie(state.stage) && !state.full && cookie == NO_COOKIE
 }
 
-/// Whether the provider tells that there is no cookie with which it could go on.
+/// Whether the provider says that there is no cookie with which it could go on.
 fn is_lost(state: &Requester, cookie: Cookie) -> bool
     ensures { result ≡ (is_cookie cookie state.now.cookie ||
         (awaits_cookie state.now.stage && not state.now.full && same_cookie cookie no_cookie)) }

@@ -81,8 +81,8 @@ fn ask_cookie(
 }
 
 /// A monitor begins to take a whole copy from another one, and gives up all that is shared but what it must reach and
-/// its own numbers; or, where it isn't `full`, to take the versions that it lacks. `epoch` is the epoch that it has
-/// now. No number runs out.
+/// its own numbers; or, if it isn't `full`, to take the versions that it lacks. `epoch` is the epoch that it has now.
+/// No number runs out.
 pub fn enter(
     alloc: Global,
     kv: &Kv,

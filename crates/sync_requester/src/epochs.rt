@@ -32,7 +32,7 @@ fn speak_of_monitor(ops: &[Op]) -> bool
     ops.iter().any(|op| speaks_of_monitor(op))
 }
 
-/// The epoch that a store tells after changes. Changes that don't speak of it, as those of a provider, take no memory.
+/// The epoch that a store has after changes. Changes that don't set it, such as those of a provider, take no memory.
 pub fn epoch_after(alloc: Global, kv: &Kv, tx: &Transaction) -> Result<Epoch, OutOfMemory>
     ensures { IfOk result (λ epoch. epoch ≡ epoch_of (readings_of (apply tx.now kv.now))) }
 {

@@ -48,7 +48,7 @@ fn is_of_provider(view: &View, state: &Requester, from: Rank) -> bool
     synchronizes(view.phase) && from == state.provider
 }
 
-/// A message, which is dropped where it isn't of the provider.
+/// A message, which is dropped if it isn't of the provider.
 fn hear(
     alloc: Global,
     kv: &Kv,
@@ -159,11 +159,10 @@ fn ring(
     }
 }
 
-/// What a requester does at a COOKIE, CHUNK, LAST_CHUNK or NO_COOKIE that is heard, and when one of its timers, which
-/// was armed, comes and is disarmed: its row of the protocol's table. Whatever isn't of its provider, isn't what it
-/// waits for, or comes while it doesn't synchronise does nothing, and takes no memory but for a copy of the place that
-/// is remembered. `Spent` names the version of the place behind a chunk, or the first one that is replayed, where that
-/// would pass 2^62.
+/// What a requester does at a COOKIE, CHUNK, LAST_CHUNK or NO_COOKIE that is taken, and when one of its timers fires:
+/// its row of the protocol's table. Whatever isn't of its provider, isn't what it waits for, or comes while it
+/// doesn't synchronise does nothing, and takes no memory but for a copy of the place that is remembered. `Spent`
+/// names the version of the place after a chunk, or the first one that is replayed, if that would pass 2^62.
 pub fn step(
     alloc: Global,
     kv: &Kv,

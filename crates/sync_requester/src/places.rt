@@ -33,8 +33,8 @@ pub fn is_same_place(a: &Place, b: &Place) -> bool
     a.version == b.version && is_same_key_place(&a.key, &b.key)
 }
 
-/// Where a synchronisation begins: a whole copy behind the provider's last version and before every key, another one
-/// behind the own last version.
+/// Where a synchronisation begins: a whole copy after the provider's last version and before every key, a recent one
+/// after the own last version.
 pub fn first_place(full: bool, last: Version, own: Version) -> Place
     ensures { result ≡ first_place full last own }
 {
@@ -50,7 +50,7 @@ pub fn first_place(full: bool, last: Version, own: Version) -> Place
     }
 }
 
-/// The place after the last of some entries, or the same place where there are none.
+/// The place after the last of some entries, or the same place if there are none.
 fn after_entries(alloc: Global, entries: &[Entry], key: &KeyPlace) -> Result<KeyPlace, OutOfMemory>
     ensures { IfOk result (λ place. place ≡ after_entries entries.now key.now) }
 {
@@ -63,7 +63,7 @@ fn after_entries(alloc: Global, entries: &[Entry], key: &KeyPlace) -> Result<Key
     }
 }
 
-/// The place among the keys after a chunk with these entries, which may tell that none is left.
+/// The place among the keys after a chunk with these entries, which may say that none is left.
 pub fn next_key_place(
     alloc: Global,
     entries: &[Entry],

@@ -1,4 +1,4 @@
-//! The versions behind the beginning of a whole copy are learned once more.
+//! The versions after the beginning of a whole copy are learned again.
 
 ghost use Rattle.std.specs.Prelude.{◌≡◌, suc, ◌+◌, ◌-◌, ◌≤◌, ◌^◌, [], ◌∷◌, ◌++◌, length, min, IfOk};
 ghost use Rattle.std.specs.List.{AllByRecursion};
@@ -27,8 +27,8 @@ use mon_tx::Transaction;
 use mon_types::{Moment, Version};
 use std::alloc::Global;
 
-/// These values, and behind them those of the versions from `from` up to but not including `to` for which there is
-/// room; or `None` where a record is missing among them or right behind them.
+/// These values, and after them those of the versions from `from` up to but not including `to` for which there is
+/// room; or `None` if a record is missing among them or right after them.
 fn with_more(
     alloc: Global,
     stored: &Stored<'_>,
@@ -56,7 +56,7 @@ fn with_more(
     Ok(Some(all))
 }
 
-/// The values of the next step, of the versions from `next` to `end`; or `None` where a record is missing.
+/// The values of the next step, of the versions from `next` to `end`; or `None` if a record is missing.
 fn step_values(
     alloc: Global,
     stored: &Stored<'_>,
@@ -94,7 +94,7 @@ fn to_learn(
     Ok(tx)
 }
 
-/// The last step, after these changes: the copy is over, and the monitor begins anew with it.
+/// The last step, after these changes: the copy is over, and the monitor begins again with it.
 fn end_with(
     alloc: Global,
     kept: Requester,
@@ -121,7 +121,7 @@ fn end_with(
     })
 }
 
-/// A step with these changes, behind which there is another one.
+/// A step with these changes, after which there is another one.
 fn go_on(
     alloc: Global,
     kept: Requester,
@@ -147,8 +147,8 @@ fn go_on(
     })
 }
 
-/// A step of the replay of the versions from `next` to `end`. After the last of them the copy is over; where a record
-/// is missing the monitor begins anew, and nothing of the step is written.
+/// A step of the replay of the versions from `next` to `end`. After the last of them the copy is over; if a record is
+/// missing the monitor begins again, and nothing of the step is written.
 pub fn replay(
     alloc: Global,
     stored: &Stored<'_>,

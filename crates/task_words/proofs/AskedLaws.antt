@@ -24,7 +24,7 @@ use Rattle.task_words.proofs.Unique.{node_by_text, store_by_text, versions_by_te
 
 -- ---- all of them
 
--- each of some words is one
+-- each of some arguments is one
 abbrev pub all_words : List (String Global) → Bool
 all_words words = list_all (λ w. is_word (string_bytes w)) words
 
@@ -34,7 +34,7 @@ no_words words test is fails asked =
     let same = list_all-map is_word string_bytes words in
     cc
 
--- a test of words, each of which is one
+-- a test of arguments, each of which is one
 pub tells_asked : (words : List (String Global)) (others : List (List ℕ)) (each test : Bool) → each ≡ all_words words → each ≡ true → map string_bytes words ≡ others
     → Tells test (SpellsTask others) → Tells test (IsAsked words)
 tells_asked words others each true is holds same spells =

@@ -16,7 +16,7 @@ one_more : (a : App) (ids : List Text) (id : Text) → with_required a (ids ++ i
 one_more a [] id = refl
 one_more a (x ∷ ids) id = one_more (with_rule a (required x)) ids id
 
--- the texts of the first so many
+-- the texts of the first this many
 abbrev pub first_texts : ℕ → List (Bor Text) → List Text
 first_texts i texts = map (λ t. t.now) (take i texts)
 

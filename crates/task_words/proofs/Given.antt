@@ -32,7 +32,7 @@ pub text_found : (m : ArgMatches) (id : Text) (o : Option (Bor (List ℕ))) (r :
     → (text : List ℕ) → IsFound (rows_of (found_of m)) id text → IsText text r
 text_found m id o r first is text found = text_given o r text (first ∙ first_value-rows (found_of m) id ∙ found) is
 
--- a word that spells a value was read
+-- an argument that encodes a value was read
 value_given : (A : Type 0) (text : A → List ℕ) (Fits : A → Type 0) (word : List ℕ) (o : Option A) (r : Result A WordsStop) (x : A)
     → ((y : A) → Fits y → text y ≡ text x → y ≡ x) → Spells text Fits o word → r ≡ ok_or o Refused → Fits x → word ≡ text x → IsGiven x r
 value_given A text Fits word (Some y) r x unique spells is fits word_is = subst (IsGiven x) (sym is) (unique y spells.1 (sym spells.0 ∙ word_is))
@@ -48,7 +48,7 @@ pub rule_given : (n : ℕ) (word : List ℕ) (o : Option Rule) (r : Result Rule 
 rule_given n word o r rule spells is fits word_is =
     value_given Rule rule_text (RuleFits n) word o r rule (λ other other_fits same. same_rule n other rule other_fits fits same) spells is fits word_is
 
--- the member that two words spell, or that they spell none
+-- the member that two arguments encode, or that they encode none
 pub member_given : (rank monitors : List ℕ) (o : Option Member) (r : Result Member WordsStop) (m : Member)
     → IfSome o (λ k. (rank ≡ decimal k.rank) × (monitors ≡ decimal k.monitors)) → (o ≡ None → (k : Member) → rank ≡ decimal k.rank → monitors ≡ decimal k.monitors → ⊥)
     → r ≡ ok_or o Refused → rank ≡ decimal m.rank → monitors ≡ decimal m.monitors → IsGiven m r

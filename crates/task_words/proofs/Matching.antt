@@ -1,4 +1,4 @@
--- The command takes the words of each task, and finds each text under its name.
+-- The command takes the arguments of each task, and finds each text under its name.
 use Rattle.std.proofs.Common.{◌≡◌, ℕ, true, false, List, [], ◌∷◌, Option, Some, IsTrue, codes, decimal, refl, ap, subst, ◌∙◌, drop}
 use Rattle.std.specs.Prelude.{fold, find, option_map}
 use Rattle.std.specs.List.{list_all}
@@ -20,7 +20,7 @@ use Rattle.task_words.proofs.Parsing.{Goes, placed, stopped_at, stopped_passes, 
 
 -- ---- one level
 
--- what a subcommand asks for beside its words
+-- what a subcommand asks for beside its arguments
 pub record EndsWell (s : Shape) (words : List Text) : Type 0 where
   pub goes : Goes s (walk_from nothing_held) words
   pub settles : settle_passes s.rules s.args_override_self (placed s.rules (walk_from nothing_held) words).held ≡ true

@@ -1,4 +1,4 @@
--- How a command with required texts alone takes words, none of which begins with a hyphen.
+-- How a command with required texts alone takes arguments, none of which begins with a hyphen.
 use Rattle.std.proofs.Common.{◌≡◌, ℕ, Bool, true, false, not, ◌&&◌, ◌==◌, List, [], ◌∷◌, ◌++◌, Some, None, IsTrue, refl, sym, ap, ◌∙◌, arith, append_assoc}
 use Rattle.std.specs.Prelude.{fold}
 use Rattle.std.specs.List.{list_all}
@@ -16,7 +16,7 @@ at h p = record { held = h; waiting = idle; position = p; is_trailing = false; s
 no_hyphen : (b : ℕ) (long : Bool) → IsTrue (not (b == 45) && long) → (b == 45) ≡ false
 no_hyphen b long h = let p = both (not (b == 45)) long h in grind (arith, nat_tests)
 
--- a word that is no flag and names no subcommand goes to the next place
+-- an argument that is no flag and names no subcommand goes to the next place
 goes : (c : List Rule) (h : Held) (p : ℕ) (word : Text) → IsTrue (is_word word) → walked c [] (at h p) word ≡ to_positional c (arg_by_index c p) word (at h p) h
 unfolding walked
 goes c h p [] is = absurd cc
@@ -26,12 +26,12 @@ goes_on : (s : Shape) (h : Held) (p : ℕ) (word : Text) → IsTrue (is_word wor
 goes_on s h p [] is = absurd cc
 goes_on s h p (b ∷ bytes) is = simp (no_hyphen b _ is)
 
--- where the walk stands after these words
+-- where the walk is after these arguments
 abbrev pub placed : List Rule → Walk → List Text → Walk
 placed c w [] = w
 placed c w (x ∷ xs) = placed c (to_positional c (arg_by_index c w.position) x w w.held) xs
 
--- between two words it waits for nothing, and each word has its place
+-- between two arguments it waits for nothing, and each argument has its place
 abbrev pub Goes : Shape → Walk → List Text → Type 0
 Goes s w [] = Unit {0}
 Goes s w (x ∷ xs) =
@@ -63,7 +63,7 @@ walk_goes s w (x ∷ xs) go each =
     ap (λ (v : Walk). walk_passes s [] v xs) (one_step s.rules w x go.0 parts.0) ∙ walk_goes s after xs go.2 parts.1 in
     rw turn rest
 
--- ---- behind the name of a subcommand
+-- ---- after the name of a subcommand
 
 abbrev pub stopped_at : Walk → Text → List Text → Walk
 stopped_at w name words = record w { stopped = Some (name, words) }

@@ -1,4 +1,4 @@
--- What is read of texts with a separator between them is spelled so, and what is spelled so is read.
+-- Parsing texts with a separator between them accepts exactly their joined text.
 use Rattle.std.proofs.Common.{◌≡◌, ℕ, zero, suc, List, [], ◌∷◌, length, map, Option, Some, None, Result, Ok, IsTrue, refl, sym, ap, subst, ◌∙◌}
 use Rattle.std.specs.List.{AllByRecursion, list_all}
 use Rattle.schedule_text.specs.declared.refusal.ScheduleKind.{ScheduleKind}
@@ -9,7 +9,7 @@ use Rattle.schedule_text.proofs.FieldLaws.{apart, cut_again, cut_joined, ended_t
 use Rattle.schedule_text.proofs.FieldLaws as fields
 use Rattle.task_words.specs.Parts.{joined, part_of, parts_of}
 
--- A part: how it is read, how a value is spelled, and which values have a spelling, in which there is no separator.
+-- A part: how it is read, how a value is encoded, and which values have an encoding, in which there is no separator.
 pub record IsPart (A : Type 0) (separator : ℕ) (read : List ℕ → Result A ScheduleKind) (text : A → List ℕ) (Fits : A → Type 0) : Type 0 where
   pub takes : (f : List ℕ) (x : A) → read f ≡ Ok x → (f ≡ text x) × Fits x
   pub again : (x : A) → Fits x → read (text x) ≡ Ok x

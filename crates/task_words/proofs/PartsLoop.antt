@@ -23,7 +23,7 @@ same_ok x (Ok others) = refl
 same_ok x (Err kind) = refl
 
 module _ (A : Type 0) (separator : ℕ) (read : List ℕ → Result A ScheduleKind) where
-  -- what is left of n parts behind so many
+  -- what is left of n parts after this many
   abbrev pub left : ℕ → ℕ → Option (List ℕ) → Result (List A) ScheduleKind
   left n done rest = parts_of separator read (n - done) rest
 

@@ -21,7 +21,7 @@ use Rattle.task_words.specs.Words.{Tells}
 use Rattle.task_words.proofs.TaskKinds.{Fields, Kind, Replays, Makes, Serves, Follows, Scrubs, Compares, DumpsKeys, DumpsPaxos, Exports, Imports, ids_by, kind_named, kind_of, name_by, name_of, of_name, task_by, texts_of}
 use Rattle.task_words.proofs.Matching.{finds_task, finds_texts, leaf_by, leaf_of, rows_of_task, simple, takes_task}
 
--- ---- what a test tells
+-- ---- what a test returns
 
 pub told : (test : Bool) (fact : Type 0) → Tells test fact → test ≡ true → fact
 told true fact tells is = tells

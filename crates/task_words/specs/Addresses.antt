@@ -7,9 +7,9 @@ use Rattle.schedule_text.specs.declared.refusal.ScheduleKind.TheVariants as kind
 use Rattle.schedule_text.specs.Fields.{◌>>=◌, cut, number_of}
 use Rattle.task_words.specs.Parts.{joined, parts_of}
 
--- ---- how they are spelled
+-- ---- their texts
 
--- four numbers with dots between them, and a port behind a colon
+-- four numbers with dots between them, and a port after a colon
 abbrev pub address_text : Address → List ℕ
 address_text a = joined 46 (map decimal a.host) ++ 58 ∷ decimal a.port
 

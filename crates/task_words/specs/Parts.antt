@@ -4,14 +4,14 @@ use Rattle.schedule_text.specs.declared.refusal.ScheduleKind.{ScheduleKind}
 use Rattle.schedule_text.specs.declared.refusal.ScheduleKind.TheVariants as kind
 use Rattle.schedule_text.specs.Fields.{◌>>=◌, cut, ended}
 
--- ---- how they are spelled
+-- ---- their texts
 
 abbrev pub joined : ℕ → List (List ℕ) → List ℕ
 joined separator [] = []
 joined separator (text ∷ []) = text
 joined separator (text ∷ other ∷ texts) = text ++ separator ∷ joined separator (other ∷ texts)
 
--- ---- how so many of them are read, each in the same way
+-- ---- how this many of them are read, each in the same way
 
 -- the next part, which is there
 abbrev pub part : ℕ → Option (List ℕ) → Result (List ℕ × Option (List ℕ)) ScheduleKind
@@ -25,7 +25,7 @@ part_of separator read rest = do
   x ← read next.0
   Ok (x, next.1)
 
--- so many parts, and nothing behind them
+-- this many parts, and nothing after them
 unfoldable pub parts_of : {A : Type 0} → ℕ → (List ℕ → Result A ScheduleKind) → ℕ → Option (List ℕ) → Result (List A) ScheduleKind
 parts_of separator read zero rest = ended rest []
 parts_of separator read (suc n) rest = do

@@ -1,4 +1,4 @@
--- What the words of a command line ask for.
+-- What the arguments of a command line ask for.
 use Rattle.std.specs.Prelude.{◌≡◌, ℕ, ◌≤◌, ◌^◌, ◌==◌, ◌&&◌, not, nat_le, Bool, false, IsTrue, List, [], ◌∷◌, length, map, Result, Ok, Err, String, string_bytes, codes, decimal}
 use Rattle.std.specs.declared.alloc.Global.{Global}
 use Rattle.std.specs.List.{AllByRecursion, list_all}
@@ -12,7 +12,7 @@ use Rattle.task_words.specs.declared.task.WordsStop.{WordsStop}
 use Rattle.task_words.specs.declared.task.WordsStop.TheVariants.{Refused, OutOfMemory}
 use Rattle.task_words.specs.Addresses.{IsAddress, addresses_text}
 
--- a word isn't empty, isn't too long and doesn't begin with a hyphen
+-- an argument isn't empty, isn't too long and doesn't begin with a hyphen
 abbrev pub is_word : List ℕ → Bool
 is_word [] = false
 is_word (b ∷ bytes) = not (b == 45) && nat_le (length (b ∷ bytes)) LONGEST_WORD
@@ -40,7 +40,8 @@ words_of (StoreImport member disk_a disk_b) = store_words (codes "store-import")
 abbrev pub most_made : ℕ
 most_made = MOST_MADE
 
--- Which tasks have words. A member's rank is below the number of its monitors, of which there are 1 to 15: each member is so.
+-- Which tasks have arguments. A member's rank is below the number of its monitors, of which there are 1 to 15: each member is
+-- so.
 abbrev pub HasWords : Task → Type 0
 HasWords (Made number events) = (number ≤ 2 ^ 62) × (1 ≤ events) × (events ≤ most_made)
 HasWords (Node member rule addresses disk_a disk_b turns) =
@@ -50,7 +51,7 @@ HasWords (Follow service addresses turns) =
 HasWords (DumpPaxos member disk_a disk_b from to) = (from ≤ to) × (to ≤ 2 ^ 62)
 HasWords other = Unit {0}
 
--- words of a task, whatever their first bytes and their lengths
+-- arguments of a task, whatever their first bytes and their lengths
 abbrev pub SpellsTask : List (List ℕ) → Type 0
 SpellsTask words = (t : Task) × (HasWords t × (words ≡ words_of t))
 
@@ -78,7 +79,7 @@ AsksForNone words = (t : Task) → ¬ (AsksFor t words)
 abbrev pub IsAsked : List (String Global) → Type 0
 IsAsked words = (t : Task) × AsksFor t words
 
--- What reading the words answers: the task that they ask for. Where memory ran out they ask for one too.
+-- The result of reading the arguments: the task that they ask for. If memory ran out, they ask for one too.
 abbrev pub Reads : Result Task WordsStop → List (String Global) → Type 0
 Reads (Ok t) words = AsksFor t words
 Reads (Err Refused) words = AsksForNone words

@@ -1,7 +1,7 @@
--- What a test of words, or of a word, tells.
+-- What a test of arguments, or of an argument, returns.
 use Rattle.std.specs.Prelude.{◌≡◌, ℕ, Bool, true, false, List, Option, Some, None}
 
--- A word is the text of a value that fits, or of none.
+-- An argument is the text of a value that fits, or of none.
 abbrev pub Spells : {A : Type 0} → (A → List ℕ) → (A → Type 0) → Option A → List ℕ → Type 0
 Spells text Fits (Some x) word = (word ≡ text x) × Fits x
 Spells {A} text Fits None word = (x : A) → Fits x → ¬ (word ≡ text x)

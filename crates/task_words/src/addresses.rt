@@ -100,7 +100,7 @@ pub(crate) fn are_addresses(monitors: u8, text: &[u8]) -> bool
     parts.is_done()
 }
 
-/// So many addresses, from a text with commas between them.
+/// This many addresses, from a text with commas between them.
 pub(crate) fn addresses_of(
     alloc: Global,
     monitors: u8,

@@ -1,4 +1,4 @@
-//! The rule for the words of a command line. It takes no memory.
+//! The rules for the arguments of a command line. They take no memory.
 
 ghost use Rattle.std.specs.Prelude.{◌≡◌, ◌∷◌, codes, map, string_bytes};
 ghost use Rattle.std.specs.List.{list_all};
@@ -9,7 +9,7 @@ use crate::addresses::{are_addresses, count_of};
 use crate::numbers::{member_of, number_of, rule_in, service_in};
 use mon_types::GREATEST;
 
-/// The longest word that is taken, in bytes.
+/// The longest argument that is taken, in bytes.
 pub const LONGEST_WORD: usize = 4_096;
 
 /// The most events of a made schedule.
@@ -130,7 +130,7 @@ fn asks(name: &str, texts: &[String]) -> bool
     }
 }
 
-/// Whether the words ask for something that the program does.
+/// Whether the arguments ask for something that the program does.
 pub(crate) fn is_asked(words: &[String]) -> bool
     ensures { Tells result (IsAsked words.now) }
 {

@@ -1,4 +1,4 @@
-//! The command that takes accepted words apart.
+//! The command that parses accepted arguments.
 
 ghost use Rattle.std.specs.Prelude.{◌≡◌, false, map, codes, IfOk};
 ghost use Rattle.clap.specs.Words.{app_of, shape_of};

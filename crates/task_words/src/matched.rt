@@ -1,4 +1,4 @@
-//! The task that matched words are.
+//! The task that parsed arguments ask for.
 
 ghost use Rattle.std.specs.Prelude.{◌≡◌, ◌≤◌, Some, ◌∷◌, [], ℕ, List, IfOk, codes, decimal, length};
 ghost use Rattle.std.specs.List.{AllByRecursion};
@@ -102,7 +102,7 @@ fn path_in(alloc: Global, found: &ArgMatches<'_>, id: &str) -> Result<Text, Word
     Text::new(bytes).ok_or(WordsStop::Refused)
 }
 
-/// The task of the texts behind `made`.
+/// The task of the arguments after `made`.
 fn made_in(found: &ArgMatches<'_>) -> Result<Task, WordsStop>
     ensures { (number events : ℕ) → HasWords (task.Made number events)
         → AreTexts (rows_of (found_of found.now)) made_texts (decimal number ∷ decimal events ∷ [])
@@ -116,7 +116,7 @@ fn made_in(found: &ArgMatches<'_>) -> Result<Task, WordsStop>
     })
 }
 
-/// The task of the texts behind `node`.
+/// The task of the arguments after `node`.
 fn node_in(alloc: Global, found: &ArgMatches<'_>) -> Result<Task, WordsStop>
     ensures { (member : members) (rule : rules) (addresses : List places) (disk_a disk_b : List ℕ) (turns : ℕ)
         → HasWords (task.Node member rule addresses disk_a disk_b turns)

@@ -11,7 +11,7 @@ use mon_types::{Member, Rank};
 use mon_wire::Service;
 use schedule_text::{rule_of, service_word};
 
-/// The number that a word spells in decimal, where it is within these bounds.
+/// The number that an argument represents in decimal, if it is within these bounds.
 pub(crate) fn number_of(word: &[u8], least: u64, most: u64) -> Option<u64>
     ensures { Spells decimal (λ n. (least ≤ n) × (n ≤ most)) result word.now }
 {
@@ -21,7 +21,7 @@ pub(crate) fn number_of(word: &[u8], least: u64, most: u64) -> Option<u64>
     }
 }
 
-/// The rank and the number of monitors that two words spell.
+/// The rank and the number of monitors that two arguments represent.
 pub(crate) fn member_of(rank: &[u8], monitors: &[u8]) -> Option<Member>
     ensures spelled { IfSome result (λ m. (rank.now ≡ decimal m.rank) × (monitors.now ≡ decimal m.monitors)) }
     ensures none { result ≡ None → (m : members) → rank.now ≡ decimal m.rank → monitors.now ≡ decimal m.monitors → ⊥ }
@@ -31,7 +31,7 @@ pub(crate) fn member_of(rank: &[u8], monitors: &[u8]) -> Option<Member>
     Member::new(Rank::known(rank as u8), monitors as u8)
 }
 
-/// The rule that a word spells, where there are so many monitors.
+/// The rule that an argument names, for this many monitors.
 pub(crate) fn rule_in(monitors: u8, word: &[u8]) -> Option<Rule>
     ensures { Spells rule_text (RuleFits monitors) result word.now }
 {

@@ -1,4 +1,4 @@
-//! The parts of a text that stand between separators.
+//! The parts of a text that are between separators.
 
 use schedule_text::{ScheduleKind, cut};
 use std::marker::Model;

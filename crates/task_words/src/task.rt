@@ -10,12 +10,13 @@ use thiserror::Error;
 pub enum Task {
     /// Runs the schedule that the source has.
     Replay,
-    /// Runs the schedule that is made of a number, at most 2^62, with so many events, 1 to 100,000.
+    /// Runs the schedule that is made of a number, at most 2^62, with this many events, 1 to 100,000.
     Made {
         number: u64,
         events: u32,
     },
-    /// Serves as a monitor, from two files, for so many turns at most, 1 to 2^62. The addresses are those of all monitors, by rank.
+    /// Serves as a monitor, from two files, for this many iterations at most, 1 to 2^62. The addresses are those of
+    /// all monitors, by rank.
     Node {
         member: Member,
         rule: Rule,
@@ -67,7 +68,7 @@ pub enum Task {
     },
 }
 
-/// Why words gave no task.
+/// Why arguments gave no task.
 #[derive(Clone, Copy, Debug, PartialEq, Eq, Error)]
 pub enum WordsStop {
     /// They ask for nothing that the program does.

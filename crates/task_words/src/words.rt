@@ -23,7 +23,7 @@ pub fn read_words(alloc: Global, words: &[String]) -> Result<Task, WordsStop>
     };
     match command.try_get_matches_from(words) {
         Ok(matches) => task_in(alloc, &matches),
-        // The words were accepted above, so a parse fails for want of memory alone.
+        // The arguments were accepted above, so parsing fails only if memory runs out.
         Err(e) => match e.kind() {
             ErrorKind::OutOfMemory => Err(WordsStop::OutOfMemory),
             _ => unreachable!(),

@@ -181,7 +181,7 @@ pushed (Err e) new old more h = tt
 
 -- ---- what is left of a loop
 
--- an item, and those behind it
+-- an item, and those after it
 pub next_item : (incs : List LogInc) (n : ℕ) (inc : LogInc) → n < length incs → inc ≡ get_or incs n inc → items_events (drop n incs) ≡ item_events inc ++ items_events (drop (n + 1) incs)
 next_item incs n inc below is = ap items_events (drop_more incs n inc below ∙ ap (λ (i : LogInc). i ∷ drop (n + 1) incs) (sym is))
 

@@ -11,7 +11,7 @@ use Rattle.schedule_text.specs.Ranks.{ranks_text}
 use Rattle.trace_text.specs.declared.step.Numbered.{Numbered}
 use Rattle.trace_text.specs.Words.{flag_text, kind_text}
 
--- ---- the fields of a message, each behind a space
+-- ---- the fields of a message, each after a space
 
 abbrev pub or_dash : Option (List ℕ) → List ℕ
 or_dash None = codes "-"
@@ -30,19 +30,19 @@ kept_text first last = codes " first=" ++ (decimal first ++ last_text last)
 abbrev pub collect_text : ℕ → ℕ → ℕ → List ℕ
 collect_text pn first last = codes " pn=" ++ (decimal pn ++ kept_text first last)
 
--- the number of a pending value; where there is none, 0
+-- the number of a pending value; if there is none, 0
 abbrev pub pending_number : Option Told → ℕ
 pending_number None = 0
 pending_number (Some told) = told.pn
 
--- so many committed values, and the pending one
+-- this many committed values, and the pending one
 abbrev pub told_text : Bool → ℕ → Option Told → List ℕ
 told_text whole count pending = codes " whole=" ++ (flag_text whole ++ (codes " values=" ++ (decimal count ++ (codes " pending=" ++ decimal (pending_number pending)))))
 
 abbrev pub vote_text : ℕ → ℕ → List ℕ
 vote_text pn version = codes " pn=" ++ (decimal pn ++ (codes " v=" ++ decimal version))
 
--- the first and the last of so many versions
+-- the first and the last of this many versions
 abbrev pub versions_text : ℕ → ℕ → List ℕ
 versions_text from count = codes " v=" ++ (decimal from ++ (codes ".." ++ decimal (from + count - 1)))
 
@@ -57,7 +57,7 @@ key_text Done = codes "done"
 abbrev pub asked_text : Cookie → Place → List ℕ
 asked_text cookie place = cookie_text cookie ++ (codes " at=" ++ (decimal place.version ++ (codes " key=" ++ key_text place.key)))
 
--- so many values and entries
+-- this many values and entries
 abbrev pub chunk_text : Cookie → Place → ℕ → ℕ → List ℕ
 chunk_text cookie place values entries = asked_text cookie place ++ (codes " values=" ++ (decimal values ++ (codes " keys=" ++ decimal entries)))
 

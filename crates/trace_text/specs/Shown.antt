@@ -13,7 +13,7 @@ use Rattle.serde.specs.declared.name.Case.TheVariants.{AsIs}
 abbrev pub member_text : List ℕ × List ℕ → List ℕ
 member_text member = quoted member.0 ++ 58 ∷ quoted member.1
 
--- the members behind the first, and the end of the object
+-- the members after the first, and the end of the object
 abbrev pub members_text : List (List ℕ × List ℕ) → List ℕ
 members_text [] = 125 ∷ []
 members_text (member ∷ members) = 44 ∷ (member_text member ++ members_text members)
@@ -27,7 +27,7 @@ object_text (member ∷ members) = 123 ∷ (member_text member ++ members_text m
 abbrev pub item_text : LogInc → List ℕ
 item_text inc = 91 ∷ (decimal inc.rank ++ 44 ∷ (quoted inc.text ++ 93 ∷ []))
 
--- the items behind the first, and the end of the array
+-- the items after the first, and the end of the array
 abbrev pub items_text : List LogInc → List ℕ
 items_text [] = 93 ∷ []
 items_text (inc ∷ incs) = 44 ∷ (item_text inc ++ items_text incs)
@@ -43,7 +43,7 @@ shown_text (Log incs) = array_text incs
 
 -- ---- what is serialized, event by event
 
--- these events follow, where the earlier ones are known
+-- these events follow, after the earlier ones
 abbrev pub AllLogged : serde.Log → serde.Log → List Event → Type 0
 AllLogged None new es = Unit {0}
 AllLogged (Some before) new es = new ≡ Some (before ++ es)

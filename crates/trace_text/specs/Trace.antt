@@ -18,7 +18,7 @@ use Rattle.trace_text.specs.Sent.{sent_line}
 
 -- ---- what an event did
 
--- so many incrementals of a service after a version, and whether there are more
+-- this many incrementals of a service after a version, and whether there are more
 abbrev pub since_text : Service → ℕ → ℕ → Bool → List ℕ
 since_text service from count more =
     codes "since "

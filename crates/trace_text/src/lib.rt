@@ -1,4 +1,4 @@
-//! The lines of a trace, which tell what the events of a schedule did.
+//! The lines of a trace, which say what the events of a schedule did.
 #![tactic(auto)]
 
 mod sent;

@@ -50,7 +50,7 @@ fn put_collect(out: &mut String, pn: Pn, first: Version, last: Version) -> Resul
     put_kept(out, first, last)
 }
 
-/// The number of a pending value; where there is none, 0.
+/// The number of a pending value; if there is none, 0.
 fn pending_number(pending: &Option<Told>) -> u64
     ensures { result ≡ pending_number pending.now }
 {
@@ -60,7 +60,7 @@ fn pending_number(pending: &Option<Told>) -> u64
     }
 }
 
-/// So many committed values, and the pending one.
+/// This many committed values, and the pending one.
 fn put_told(
     out: &mut String,
     whole: bool,
@@ -82,7 +82,7 @@ fn put_vote(out: &mut String, pn: Pn, version: Version) -> Result<(), AllocError
     write!(out, " pn={pn} v={version}")
 }
 
-/// The first and the last of so many versions.
+/// The first and the last of this many versions.
 fn put_versions(out: &mut String, from: Version, count: usize) -> Result<(), AllocError>
     requires { count < 2 ^ 63 }
     ensures { OnOk result (string_bytes out.new ≡ string_bytes out.old ++ versions_text from count) }
@@ -129,7 +129,7 @@ fn put_asked(out: &mut String, cookie: Cookie, place: &Place) -> Result<(), Allo
     put_key(out, &place.key)
 }
 
-/// So many values and entries.
+/// This many values and entries.
 fn put_chunk(
     out: &mut String,
     cookie: Cookie,
@@ -158,7 +158,7 @@ fn put_granted(
     put_last(out, last)
 }
 
-/// The fields of a message of an election or of Paxos, each behind a space.
+/// The fields of a message of an election or of Paxos, each after a space.
 fn put_agreeing(out: &mut String, body: &Body) -> Result<(), AllocError>
     ensures { OnOk result (string_bytes out.new ≡ string_bytes out.old ++ agreeing_text body.now) }
 {
@@ -196,7 +196,7 @@ fn put_agreeing(out: &mut String, body: &Body) -> Result<(), AllocError>
     }
 }
 
-/// The fields of a message of a synchronisation, each behind a space.
+/// The fields of a message of a synchronisation, each after a space.
 fn put_copying(out: &mut String, body: &Body) -> Result<(), AllocError>
     ensures { OnOk result (string_bytes out.new ≡ string_bytes out.old ++ copying_text body.now) }
 {
@@ -232,7 +232,7 @@ fn put_copying(out: &mut String, body: &Body) -> Result<(), AllocError>
     }
 }
 
-/// The fields of a message, each behind a space.
+/// The fields of a message, each after a space.
 fn put_fields(out: &mut String, body: &Body) -> Result<(), AllocError>
     ensures { OnOk result (string_bytes out.new ≡ string_bytes out.old ++ fields_text body.now) }
 {

@@ -68,7 +68,7 @@ impl Replies {
     }
 }
 
-/// Where a monitor stands after an event.
+/// The state of a monitor after an event.
 #[derive(Clone, Copy, Debug, PartialEq, Eq)]
 pub struct StateLine {
     pub phase: Phase,
@@ -98,7 +98,7 @@ pub struct StepLine {
     pub outcome: Outcome,
     /// How many changes its transaction has.
     pub ops: u32,
-    /// Where the monitor stands now, where the event changed that or is a start.
+    /// The monitor's state, if the event changed it or is a start.
     pub state: Option<StateLine>,
     /// The messages that it sent to other monitors, in order.
     pub sent: Items<Numbered>,

@@ -16,7 +16,7 @@ use std::fmt::Write;
 /// The lines of most events are no longer than this.
 const ROOM: usize = 512;
 
-/// The text of an answer with so many incrementals.
+/// The text of a reply with this many incrementals.
 fn put_since(
     out: &mut String,
     service: Service,
@@ -157,7 +157,7 @@ pub fn trace_line(
     Ok(out.into_bytes())
 }
 
-/// The last line of a trace of so many events, which left so many versions in the log.
+/// The last line of a trace of this many events, after which the log has this many versions.
 pub fn end_line(alloc: Global, events: u32, log: u64) -> Result<Vec<u8>, OutOfMemory>
     ensures { IfOk result (λ bytes. bytes.items ≡ end_text events log) }
 {

@@ -112,7 +112,7 @@ fn pieces_make_the_message_whole(rt: HostRuntime) -> Result<(), Fail> {
     Ok(())
 }
 
-/// How long the one piece of a message of so many bytes is.
+/// How long the one piece of a message of this many bytes is.
 fn only_piece(alloc: Global, length: usize) -> Result<usize, Fail> {
     let message = filled(alloc, 7, length)?;
     let piece = piece(alloc, &message, 5, 0, 1);
@@ -137,7 +137,7 @@ fn refused(assembly: &mut Assembly, bytes: &[u8]) -> Option<FragRefused> {
     }
 }
 
-/// Where a piece gets two other bytes, to which length it is cut then, and why it is refused.
+/// The length to which a piece is cut whose two bytes are replaced, and why it is refused.
 const FAULTS: [(usize, [u8; 2], usize, FragRefused); 10] = [
     (0, [2, 0], 1, FragRefused::Cut { at: 1 }),
     (0, [2, 0], 27, FragRefused::Cut { at: 24 }),

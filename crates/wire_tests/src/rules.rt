@@ -13,7 +13,7 @@ fn knowing(score: u32) -> Result<Scores, Fail> {
     Ok(scores)
 }
 
-/// A score, whether its monitor is alive for so many seconds, and the score then.
+/// A score, whether its monitor is alive for this many seconds, and the score then.
 const CHANGES: [(u32, bool, u64, u32); 13] = [
     (1_000_000u32, false, 0u64, 1_000_000u32),
     (1_000_000, false, 1, 999_977),
@@ -30,7 +30,7 @@ const CHANGES: [(u32, bool, u64, u32); 13] = [
     (1_000_000, true, u64::MAX, 1_000_000),
 ];
 
-/// Whether a score becomes another one as so many seconds go by, and nothing else but the count changes.
+/// Whether a score becomes another one as this many seconds go by, and nothing but the count changes.
 fn becomes(before: u32, is_alive: bool, seconds: u64, after: u32) -> Result<bool, Fail> {
     let mut scores = knowing(before)?;
     if is_alive {
@@ -60,7 +60,7 @@ fn table(score: u32) -> Result<Scores, Fail> {
     Ok(scores)
 }
 
-/// The total of a rank where rank 0 is given half a score.
+/// The total of a rank after rank 0 is given half a score.
 fn total(of: u8) -> Result<u64, Fail> {
     let of = rank(of)?;
     Ok(table(500_000)?.total(3, of))
@@ -74,7 +74,7 @@ fn a_total_is_what_the_others_give(rt: HostRuntime) -> Result<(), Fail> {
     Ok(())
 }
 
-/// Whether one rank is before another one, and not the other way round, where rank 0 is given this score.
+/// Whether one rank is before another one, and not the other way round, if rank 0 is given this score.
 fn is_before(rule: &Rule, score: u32, first: u8, then: u8) -> Result<bool, Fail> {
     let (first, then) = (rank(first)?, rank(then)?);
     let scores = table(score)?;

@@ -45,7 +45,7 @@ impl Input for Given {
     }
 }
 
-/// A system whose output takes at most so many bytes at once, and prints nothing else.
+/// A system whose output takes at most this many bytes at once, and prints nothing else.
 #[derive(Clone, Copy)]
 struct Narrow {
     width: usize,
@@ -72,7 +72,7 @@ impl Print for Narrow {
     }
 }
 
-/// How a writing of three bytes goes where so many are taken at once, and then one of none.
+/// How writing three bytes goes if this many are taken at once, and then none.
 fn wrote(width: usize) -> (Result<(), Stop>, Result<usize, Stop>) {
     let mut sink = StdoutSink::new(&Narrow { width });
     (write_all(&mut sink, b"abc"), sink.write(b""))

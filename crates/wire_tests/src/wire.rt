@@ -125,7 +125,7 @@ const FAULTS: &str = "\
 24 21 2 Value 42
 ";
 
-/// The fault that decoding names, or nothing where there is none.
+/// The fault that decoding names, or nothing if there is none.
 fn fault(alloc: Global, bytes: &[u8]) -> Result<Option<(MsgKind, usize)>, Fail> {
     match decode(alloc, bytes) {
         Ok(message) => {
@@ -137,7 +137,7 @@ fn fault(alloc: Global, bytes: &[u8]) -> Result<Option<(MsgKind, usize)>, Fail> 
     }
 }
 
-/// The same of the bytes that the digits spell.
+/// The same of the bytes that the digits encode.
 fn fault_of(alloc: Global, digits: &str) -> Result<Option<(MsgKind, usize)>, Fail> {
     let bytes = hex::decode(alloc, digits)?;
     let found = fault(alloc, &bytes);
@@ -145,7 +145,7 @@ fn fault_of(alloc: Global, digits: &str) -> Result<Option<(MsgKind, usize)>, Fai
     found
 }
 
-/// Whether each front of a message is cut.
+/// Whether each prefix of a message is refused as too short.
 fn fronts_are_cut(alloc: Global, message: &[u8]) -> Result<bool, Fail> {
     for n in 0..message.len() {
         let (kind, _) = fault(alloc, &message[..n])?.ok_or("a fault")?;

@@ -47,7 +47,7 @@ me_2 = record { member = record { rank = 2; monitors = 3; most = lit≤ tt; in_m
 abbrev pub three : List Me
 three = me_0 ∷ me_1 ∷ me_2 ∷ []
 
--- where a monitor stands, its epoch and its last version
+-- the state of a monitor, its epoch and its last version
 abbrev pub Stand : Type 0
 Stand = Phase × ℕ × ℕ
 
@@ -57,17 +57,17 @@ stand w r = ((state_of w r).phase, epoch_of (readings_at w r), (readings_at w r)
 abbrev pub stands : World → List Stand
 stands w = stand w 0 ∷ stand w 1 ∷ stand w 2 ∷ []
 
--- the number of a client's request, and the version that it was told: that of its own command, or that of the map it was shown
+-- the number of a client's request, and the version in its reply: that of its own command, or that of the map it was shown
 abbrev pub told : Session × Reply → ℕ × Option ℕ
 told (s, reply.Done v) = (s.id, Some v)
 told (s, reply.Shown service paxos version m) = (s.id, Some version)
 told (s, r) = (s.id, None)
 
--- where all stand, how many messages were sent, and what clients were told
+-- the states of all, how many messages were sent, and the replies to clients
 abbrev pub outcome : World → List Stand × ℕ × List (ℕ × Option ℕ)
 outcome w = (stands w, length w.envelopes, map told w.replies)
 
--- the deliveries of so many messages from number k on
+-- the deliveries of this many messages from number k on
 abbrev pub deliveries : ℕ → ℕ → List Event
 deliveries zero k = []
 deliveries (suc count) k = Deliver k 0 ∷ deliveries count (suc k)

@@ -31,7 +31,7 @@ use Rattle.mon_msg.specs.Protocol.Readings.{Readings, after}
 use Rattle.mon_msg.proofs.Examples.World.{Event, Start, Deliver, TimerComes, World, first_world, run, readings_at}
 use Rattle.mon_msg.proofs.Examples.Calm.{me_0, three, Stand, stand}
 
--- the value of a version, where all that the log's service keeps is its last version
+-- the value of a version, if all that the log's service keeps is its last version
 abbrev value_of_version : ℕ → List Op
 value_of_version v = put_number area.Logm key.LastCommitted v ∷ []
 
@@ -70,7 +70,7 @@ between a b = record (first_world three me_0) { readings = a ∷ b ∷ keeps 0 0
 abbrev probed : List Event
 probed = Start 0 0 ∷ Start 1 0 ∷ Deliver 2 0 ∷ Deliver 4 0 ∷ []
 
--- where monitor 1 stands, its first version, whether it is marked, its floor, and its promise
+-- the state of monitor 1, its first version, whether it is marked, its floor, and its promise
 abbrev copy_of : World → Stand × ℕ × Bool × ℕ × Option ℕ
 copy_of w = let v = readings_at w 1 in (stand w 1, v.first, v.marked, v.floor, v.promise)
 

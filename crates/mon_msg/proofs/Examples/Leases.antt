@@ -10,7 +10,7 @@ use Rattle.mon_msg.specs.declared.view.Me.{Me}
 use Rattle.mon_wire.specs.declared.phase.Timer.TheVariants as timer
 
 module _ (me : Me) (now : ℕ) (course : Course) (a b c d e g h i j k : Option ℕ) where
-  -- where this timer has that end, and the others have any
+  -- if this timer has that end, and the others have any
   abbrev awaiting : Option ℕ → Course
   awaiting end = timers_are (a ∷ b ∷ c ∷ d ∷ e ∷ end ∷ g ∷ h ∷ i ∷ j ∷ k ∷ []) course
 

@@ -1,4 +1,4 @@
--- The values of some versions, where each version of the log is one of the key-value service.
+-- The values of some versions, if each version of the log is one of the key-value service.
 use Rattle.std.proofs.Common.{◌≡◌, ℕ, List, [], ◌∷◌, refl}
 use Rattle.mon_tx.specs.declared.op.Op.TheVariants.{EraseRange}
 use Rattle.mon_tx.specs.declared.key.Area.TheVariants.{Paxos, Kv}

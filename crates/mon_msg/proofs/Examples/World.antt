@@ -41,7 +41,7 @@ pub record Envelope : Type 0 where
   pub message : Message
 
 pub record World : Type 0 where
-  -- what each monitor's store tells, and what it remembers
+  -- what each monitor's store holds, and what it remembers
   pub readings : List Readings
   pub states : List State
   pub envelopes : List Envelope
@@ -81,7 +81,7 @@ replies_in [] = []
 replies_in (sent.Message to m ∷ out) = replies_in out
 replies_in (sent.Reply session r ∷ out) = (session, r) ∷ replies_in out
 
--- the decimal numbers up to 29 as keys stand in order
+-- the decimal numbers up to 29 as keys are in order
 abbrev pub in_key_order : List ℕ
 in_key_order = 1 ∷ 10 ∷ 11 ∷ 12 ∷ 13 ∷ 14 ∷ 15 ∷ 16 ∷ 17 ∷ 18 ∷ 19 ∷ 2 ∷ 20 ∷ 21 ∷ 22 ∷ 23 ∷ 24 ∷ 25 ∷ 26 ∷ 27 ∷ 28 ∷ 29 ∷ 3 ∷ 4 ∷ 5 ∷ 6 ∷ 7 ∷ 8 ∷ 9 ∷ []
 

@@ -1,4 +1,4 @@
--- What a peon tells a leader that collects.
+-- The answer of a peon to a leader that collects.
 use Rattle.std.specs.Prelude.{ℕ, ◌+◌, Bool, true, false, ◌&&◌, ◌||◌, nat_lt, List, Option, Some, None, if◌then◌else◌, [], length}
 use Rattle.mon_msg.specs.Protocol.Length.{fits}
 use Rattle.mon_msg.specs.Protocol.Readings.{Readings, promise_of}
@@ -16,7 +16,7 @@ told_of (Some found) = Some (record { pn = found.pn; value = found.value })
 
 -- `n` are the monitors of the map; `promise`, `first` and `last` are the peon's
 module _ (n promise first last : ℕ) where
-  -- as many values from one version on as the answer takes; none where the leader has them, or they aren't kept
+  -- as many values from one version on as the answer takes; none if the leader has them or they aren't kept
   abbrev pub told_values : (records : ℕ → Cell) → (from : ℕ) → List (List Op)
   told_values records from =
       if nat_lt last from || nat_lt from first then [] else
@@ -27,7 +27,7 @@ module _ (n promise first last : ℕ) where
   tells_all from values told =
       nat_lt last (from + length values) && fits n (body.Last promise first last true from values told)
 
-  -- the answer with these values of the versions from `from` on, and with the pending value where nothing is left out
+  -- the answer with these values of the versions from `from` on, and with the pending value if nothing is left out
   abbrev pub answer_with : (from : ℕ) → List (List Op) → Option Told → Body
   answer_with from values told =
       if tells_all from values told then body.Last promise first last true from values told else

@@ -1,4 +1,4 @@
--- What an event does to the store, said once: as changes, which are spelled as a transaction.
+-- The effect of an event on the store, said once: as changes, which are encoded as a transaction.
 use Rattle.std.specs.Prelude.{ℕ, List, Option, Some, None, [], ◌∷◌, ◌++◌}
 use Rattle.mon_bytes.specs.declared.entry.Entry.{Entry}
 use Rattle.mon_msg.specs.Puts.{put, put_number}

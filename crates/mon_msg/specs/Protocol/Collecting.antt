@@ -25,7 +25,7 @@ use Rattle.mon_types.specs.declared.names.Which.{Which}
 
 -- ---- members that lack versions
 
--- the committed versions after one that a member told, as many as one message among n monitors takes
+-- the committed versions after one that a member reported, as many as one message among n monitors takes
 unfoldable pub missed : (n : ℕ) → (records : ℕ → Cell) → (last told : ℕ) → List (List Op)
 missed n records last told =
     longest (λ values. fits n (body.Commit (suc told) values)) (run_from records last (suc told))
@@ -35,7 +35,7 @@ module _ (me : Me) where
   commits_with epoch told [] to = []
   commits_with epoch told (value ∷ values) to = message_to me epoch (body.Commit (suc told) (value ∷ values)) to ∷ []
 
-  -- what follows goes to a member that told less than the last version
+  -- what follows goes to a member whose last version is lower
   abbrev pub commits_to : Readings → (lasts : List ℕ) → (to : ℕ) → List Sent
   commits_to w lasts to =
       let told = slice_index_or lasts to 0 in

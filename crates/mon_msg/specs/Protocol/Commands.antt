@@ -25,7 +25,7 @@ use Rattle.mon_msg.specs.declared.view.Me.{Me}
 use Rattle.mon_types.specs.declared.names.Which.TheVariants as which
 use Rattle.mon_types.specs.declared.names.Which.{Which}
 
--- as many commands wait at a leader, and as many sessions at a peon
+-- how many commands may wait at a leader, and how many sessions at a peon
 abbrev pub most_waiting : ℕ
 most_waiting = 64
 

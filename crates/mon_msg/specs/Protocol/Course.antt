@@ -1,5 +1,5 @@
--- An event under way, and the small steps of which acts and rows are made. A step writes only the field that it changes,
--- and where it depends on a test the test stands inside that field.
+-- An event under way, and the small steps of which acts and rows are made. A step changes only its own field, and a test on
+-- which it depends is inside that field.
 use Rattle.std.specs.Prelude.{ℕ, Bool, nat_le, List, Option, Result, Ok, if◌then◌else◌, ◌^◌, [], ◌∷◌, ◌++◌, Err}
 use Rattle.mon_msg.specs.Protocol.Changes.{Change}
 use Rattle.mon_msg.specs.Protocol.Phases.{phase_of, same_phase}
@@ -20,8 +20,8 @@ use Rattle.mon_msg.specs.declared.synchronisation.Provider.{Provider}
 use Rattle.mon_msg.specs.declared.synchronisation.Requester.{Requester}
 use Rattle.mon_types.specs.declared.names.Which.{Which}
 
--- What the store's readers tell after the changes so far, these changes in order, what the monitor remembers, and what
--- it sends. Each act reads what the acts before it left.
+-- What the store's readers return after the changes so far, these changes in order, what the monitor remembers, and what it
+-- sends. Each act reads what the acts before it left.
 pub record Course : Type 0 where
   pub readings : Readings
   pub changes : List Change
@@ -33,7 +33,7 @@ infixl 6 ◌▸◌
 abbrev pub ◌▸◌ : {A B : Type 0} → A → (A → B) → B
 x ▸ f = f x
 
--- one step after another, where a number may run out
+-- one step after another; a number may run out
 infixl 5 ◌>>=◌
 abbrev pub ◌>>=◌ : {A B : Type 0} → Result A Which → (A → Result B Which) → Result B Which
 (Ok x) >>= f = f x
@@ -115,7 +115,7 @@ disarm t x = timers_are (disarmed t x.state.timers) x
 abbrev pub disarm_if : Bool → Timer → Course → Course
 disarm_if test t x = timers_are (if test then disarmed t x.state.timers else x.state.timers) x
 
--- the timers in a phase: where it is another one than before they are disarmed
+-- the timers in a phase: if it is a new one, they are disarmed
 abbrev pub timers_in : Phase → State → List (Option ℕ)
 timers_in p s = if same_phase s.phase p then s.timers else only_ping s.timers
 

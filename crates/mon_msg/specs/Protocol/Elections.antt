@@ -19,7 +19,7 @@ use Rattle.mon_types.specs.declared.names.Which.{Which}
 
 -- ---- tables of scores
 
--- the table that a message tells, or else the own one
+-- the table that a message has, or otherwise the own one
 abbrev pub table_or : Option Scores → Scores → Scores
 table_or None own = own
 table_or (Some table) own = table
@@ -37,7 +37,7 @@ module _ (me : Me) where
   abbrev pub is_allowed : ℕ → Bool
   is_allowed k = allows me.rule k
 
-  -- whether a stands before b, by the table that a message tells
+  -- whether a is before b, by the table that a message has
   abbrev pub stands_before : Scores → (a b : ℕ) → Bool
   stands_before table a b = outranks me.rule me.member.monitors table a b
 

@@ -1,4 +1,4 @@
--- The acts by which a monitor begins anew, and calls, joins and wins elections.
+-- The acts by which a monitor begins again, and calls, joins and wins elections.
 use Rattle.std.specs.Prelude.{ℕ, suc, ◌+◌, ◌*◌, Bool, true, false, not, ◌&&◌, ◌==◌, nat_lt, List, Option, Some, None, Result, Ok, if◌then◌else◌, ◌/◌, ◌%◌}
 use Rattle.election_rules.specs.Ranking.{allows}
 use Rattle.election_rules.specs.declared.rule.Rule.TheVariants.{Classic, Disallow, Connectivity}
@@ -31,7 +31,7 @@ scores_count Classic = false
 scores_count (Disallow ranks) = false
 scores_count (Connectivity ranks) = true
 
--- the own table, where scores count
+-- the own table, if scores count
 abbrev pub own_table : Me → Course → Option Scores
 own_table me x = if scores_count me.rule then Some x.state.elector.scores else None
 
@@ -57,7 +57,7 @@ module _ (me : Me) (now : ℕ) where
       if nat_lt 1 me.member.monitors then Ok (y ▸ send_each me (others me) body.Probe ▸ arm now timer.Probe) else (
       if allows me.rule me.member.rank && not x.readings.marked then win_alone y else Ok y)
 
-  -- it calls an election, and stands in it
+  -- it calls an election, and takes part in it
   unfoldable pub elect : Course → Result Course Which
   elect x = do
     y ← in_odd_epoch x
@@ -74,7 +74,7 @@ module _ (me : Me) (now : ℕ) where
     y ← in_next_epoch x
     reign me now acked y
 
--- it joins the election of a later epoch, for which it doesn't stand
+-- it joins the election of a later epoch, without standing in it
 unfoldable pub adopt : (now e : ℕ) → Course → Course
 adopt now e x =
     x

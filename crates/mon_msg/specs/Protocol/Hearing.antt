@@ -27,7 +27,7 @@ use Rattle.mon_types.specs.declared.names.Which.{Which}
 -- ---- which messages are heard
 
 module _ (me : Me) where
-  -- a table is told exactly where scores count
+  -- a table is sent if and only if scores count
   abbrev pub fits_rule : Option Scores → Bool
   fits_rule None = not (scores_count me.rule)
   fits_rule (Some table) = scores_count me.rule

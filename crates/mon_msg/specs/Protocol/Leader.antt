@@ -30,14 +30,14 @@ of_member phases f e x = is_one_of phases x.state.phase && e == epoch_of x.readi
 
 -- ---- what members accepted
 
--- f answered, and told its last version
+-- f answered, and gave its last version
 abbrev pub note_answer : (f last : ℕ) → Option Found → Course → Course
 note_answer f last found x =
     let leader = x.state.leader in
     let answered = with_rank leader.answered f in
     leader_is (record leader { answered = answered; lasts = slice_set leader.lasts f last; found = found }) x
 
--- a value that it told is found for the version after its last one
+-- a value that it gave is found for the version after its last one
 abbrev pub note_told : (f last : ℕ) → Option Told → Course → Result Course Which
 note_told f last None x = Ok (note_answer f last x.state.leader.found x)
 note_told f last (Some told) x = do

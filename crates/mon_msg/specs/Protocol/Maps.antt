@@ -34,15 +34,15 @@ abbrev pub map_of : Service → List ℕ → Option ShownMap
 map_of Kv bytes = option_map map.Kv (if_ok (kv_decode.map_of bytes))
 map_of Log bytes = option_map map.Log (if_ok (log_decode.map_of bytes))
 
--- the map that bytes spell, where they are no longer than a map may be
+-- the map that bytes encode, if they are no longer than a map's encoding may be
 abbrev pub spelled_map : Service → List ℕ → Option ShownMap
 spelled_map s bytes = if nat_le (length bytes) (most_map s) then map_of s bytes else None
 
--- the map after the incremental that bytes spell, where they spell one
+-- the map after the incremental that bytes encode, if they encode one
 abbrev pub with_incremental : ShownMap → List ℕ → Option ShownMap
 with_incremental (map.Kv m) bytes = option_map (λ inc. map.Kv (kv.with_inc m inc)) (if_ok (kv_decode.inc_of bytes))
 with_incremental (map.Log es) bytes = option_map (λ inc. map.Log (log.with_inc es inc)) (if_ok (log_decode.inc_of bytes))
 
--- the same, where the map isn't longer than a map may be
+-- the same, if the map isn't longer than a map may be
 abbrev pub next_map : Service → ShownMap → List ℕ → Option ShownMap
 next_map s m bytes = option_and_then (short_map s) (with_incremental m bytes)

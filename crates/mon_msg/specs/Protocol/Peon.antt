@@ -23,7 +23,7 @@ of_leader f e x = is_peon x.state.phase && e == epoch_of x.readings && f == x.st
 
 -- ---- promises
 
--- the peon's lease doesn't stand any more
+-- the peon has no lease any more
 abbrev pub cancel : Course → Course
 cancel x = peon_is (record x.state.peon { lease = None }) x
 

@@ -12,13 +12,13 @@ use Rattle.mon_msg.specs.declared.view.Me.{Me}
 use Rattle.mon_types.specs.Ranks.{no_ranks, has, with_rank}
 use Rattle.mon_types.specs.declared.names.Which.{Which}
 
--- the own scores of some ranks after so many seconds in which some were heard
+-- the own scores of some ranks after this many seconds, in which some were heard of
 abbrev pub scores_after : (seconds : ℕ) → (heard : List Bool) → List ℕ → Scores → Scores
 scores_after seconds heard [] table = table
 scores_after seconds heard (k ∷ ks) table =
     scores_after seconds heard ks (scored (if has heard k then raised seconds else lowered seconds) k table)
 
--- f was heard, and told its table
+-- f was heard of, and sent its table
 abbrev pub with_heard : (f : ℕ) → Scores → Elector → Elector
 with_heard f table elector = record elector { scores = merged elector.scores table; heard = with_rank elector.heard f }
 

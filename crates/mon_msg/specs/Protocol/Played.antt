@@ -1,4 +1,4 @@
--- The changes of an event as they are played on what the store's readers tell.
+-- The changes of an event as they are played on what the store's readers return.
 use Rattle.std.specs.Prelude.{ℕ, true, false, ◌==◌, List, Some, None, if◌then◌else◌, ◌^◌, [], ◌∷◌, ◌≤◌, IfSome}
 use Rattle.mon_msg.specs.Protocol.Changes.{Change, ops_of, Boot, Epoch, Numbers, Promise, Vote, Record, Learn, Last, Copy, Mark, Unmark}
 use Rattle.mon_msg.specs.Protocol.Readings.{Readings, after}

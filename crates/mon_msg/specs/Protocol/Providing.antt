@@ -23,13 +23,13 @@ use Rattle.mon_types.specs.declared.names.Which.{Which}
 abbrev pub reach : (last : ℕ) → Place → List (List Op) → Bool
 reach last p values = nat_le last (p.version + length values)
 
--- no shared entry is left behind these, of which `left` are those after the place
+-- no shared entry is left after these, of which `left` are those after the place
 abbrev pub is_finished : Place → (left : List Entry) → List Entry → Bool
 is_finished p left entries = is_done p.key || nat_le (length left) (length entries)
 
 -- `last` is the provider's last version
 module _ (last : ℕ) (c : Cookie) (p : Place) (left : List Entry) where
-  -- what is sent with these records and entries: the last chunk where both are at their end
+  -- what is sent with these records and entries: the last chunk if both are at their end
   abbrev pub chunk_with : List (List Op) → List Entry → Body
   chunk_with values entries =
       if reach last p values && is_finished p left entries then body.LastChunk c p values entries last else

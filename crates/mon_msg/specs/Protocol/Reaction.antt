@@ -28,6 +28,6 @@ abbrev pub any_reaction : Result Course Which → Result Reaction Which
 any_reaction (Ok x) = Ok (reaction_of x)
 any_reaction (Err which) = Err which
 
--- What a monitor does at an input at a moment, by its store and what it remembers; or which number runs out.
+-- What a monitor does at an input at a time, by its store and what it remembers; or the number that runs out.
 abbrev pub reaction : Me → ℕ → Store → State → Input → Result Reaction Which
 reaction me now m s came = any_reaction (react me (shared_entries m) now (readings_of m) s came)

@@ -1,4 +1,4 @@
--- What a monitor's store tells its readers.
+-- What the readers of a monitor's store return.
 use Rattle.std.specs.FinMap.{entries}
 use Rattle.std.specs.Option.{option_map, option_map_or}
 use Rattle.std.specs.Prelude.{ℕ, Bool, ◌==◌, List, Option, Some, None, map}
@@ -15,11 +15,11 @@ use Rattle.mon_tx.specs.declared.key.Key.{Key}
 use Rattle.mon_tx.specs.declared.op.Op.{Op}
 
 pub record Readings : Type 0 where
-  -- the election epoch, where there is one
+  -- the election epoch, if there is one
   pub epoch : Option ℕ
   -- how often the monitor was started
   pub boot : ℕ
-  -- the last proposal number that it made, and the one that it promised, where there are such
+  -- the last proposal number that it made, and the one that it promised, if there are any
   pub last_pn : Option ℕ
   pub promise : Option ℕ
   -- for which version it accepted a value last, and under which number
@@ -51,7 +51,7 @@ epoch_of w = epoch_or_first w.epoch
 abbrev pub promise_of : Readings → ℕ
 promise_of w = or_zero w.promise
 
--- a store is marked where this number is 1
+-- a store is marked if this number is 1
 abbrev pub marks : Cell → Bool
 marks c = number_in c == 1
 
@@ -88,7 +88,7 @@ number_after = told_after number_in
 abbrev pub cell_after : List Op → Area → Key → Cell → Cell
 cell_after ops a k before = or_before (decision ops (place a k)) before
 
--- what is told after changes of the store
+-- what the readers return after changes of the store
 unfoldable pub after : List Op → Readings → Readings
 after ops w = record {
   epoch = told_after number_if_there ops area.Monitor key.ElectionEpoch w.epoch;

@@ -22,7 +22,7 @@ changes_after w s v kept = let told = longest may_tell kept in reply.Since s v t
 abbrev pub shown : Readings → Service → Reply
 shown w s = reply.Shown s w.last (service_last w s) (read_map w s)
 
--- where they aren't kept any more, the whole map
+-- if they aren't kept any more, the whole map
 unfoldable pub since : Readings → Service → ℕ → Reply
 since w s v =
     if nat_le (service_first w s) (suc v)
@@ -30,7 +30,7 @@ since w s v =
     else shown w s
 
 module _ (me : Me) (now : ℕ) where
-  -- the lease stands, or nobody else is there
+  -- the lease is valid, or nobody else is there
   abbrev pub is_standing : State → Bool
   is_standing s = me.member.monitors == 1 || stands (lease_of s) now
 

@@ -28,7 +28,7 @@ abbrev pub transaction_in : Cell → Option (List Op)
 transaction_in None = None
 transaction_in (Some bytes) = where_it_may_begin (transaction_of bytes)
 
--- The value that the record of a version spells, of the records that a store keeps. A record that is no transaction counts
+-- The value that the record of a version encodes, of the records that a store keeps. A record that is no transaction counts
 -- as none, and so does one with which a BEGIN could not be sent.
 unfoldable pub record_at : (records : ℕ → Cell) → ℕ → Option (List Op)
 record_at records v = transaction_in (records v)
@@ -52,7 +52,7 @@ pending w = pending_of w.pending_v w.pending_pn w.last w.record_of
 
 -- ---- runs
 
--- the values of so many versions from v on, up to the first that has none
+-- the values of this many versions from v on, up to the first without one
 unfoldable pub run_of : (records : ℕ → Cell) → (count v : ℕ) → List (List Op)
 run_of records zero v = []
 run_of records (suc count) v = elim (record_at records v) as (λ _. List (List Op)) [

@@ -15,7 +15,8 @@ use Rattle.mon_tx.specs.declared.op.Op.{Op}
 abbrev pub full_every : ℕ
 full_every = 25
 
--- A service is trimmed where so many versions lie after its first one. So many still do afterwards, and so many go at most.
+-- A service is trimmed if this many versions lie after its first one. This many are left afterwards, and this many are erased
+-- at most.
 abbrev pub service_due : ℕ
 service_due = 75
 
@@ -25,7 +26,8 @@ service_keeps = 50
 abbrev pub service_goes : ℕ
 service_goes = 25
 
--- The log is trimmed where more than so many versions lie after its first one. So many still do afterwards, and so many go at most.
+-- The log is trimmed if more than this many versions lie after its first one. This many are left afterwards, and this many
+-- are erased at most.
 abbrev pub paxos_due : ℕ
 paxos_due = 750
 

@@ -21,7 +21,7 @@ members me q = filter (λ k. has q k && not (k == me.member.rank)) (range_with_l
 abbrev pub others : Me → List ℕ
 others me = filter (λ k. not (k == me.member.rank)) (range_with_len 0 me.member.monitors)
 
--- ---- messages, in the epoch that the store tells now
+-- ---- messages, in the epoch that the store has now
 
 abbrev pub message_to : Me → (epoch : ℕ) → Body → (to : ℕ) → Sent
 message_to me epoch b to =

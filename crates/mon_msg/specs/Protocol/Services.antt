@@ -19,8 +19,8 @@ service_last w s = number_in (w.row s key.LastCommitted)
 abbrev pub full_latest : Readings → Service → ℕ
 full_latest w s = number_in (w.row s key.FullLatest)
 
--- The map after so many incrementals from version v on. The reading ends before the first that isn't there, is none or gives
--- too long a map.
+-- The map after this many incrementals from version v on. Reading ends before the first that is missing, is invalid or makes
+-- the map too long.
 unfoldable pub read_on : Readings → Service → ℕ → ℕ → ShownMap → ShownMap
 read_on w s zero v m = m
 read_on w s (suc count) v m = elim (option_and_then (next_map s m) (w.row s (key.Version v))) as (λ _. ShownMap) [
@@ -43,7 +43,7 @@ read_map w s = read_from w s (full_map w s)
 
 -- ---- what changed
 
--- so many incrementals from version v on, up to the first that isn't there
+-- this many incrementals from version v on, up to the first that isn't there
 unfoldable pub kept_from : Readings → Service → ℕ → ℕ → List (List ℕ)
 kept_from w s zero v = []
 kept_from w s (suc count) v = elim (w.row s (key.Version v)) as (λ _. List (List ℕ)) [

@@ -17,8 +17,8 @@ use Rattle.mon_msg.specs.declared.synchronisation.Requester.{Requester}
 use Rattle.mon_msg.specs.declared.synchronisation.SyncStage.TheVariants as sync
 use Rattle.mon_types.specs.Ranks.{no_ranks}
 
--- The phase, what each role remembers, and for each kind of timer, in their order, the moment for which it is armed. What a
--- role remembers that the phase doesn't speak of counts for nothing.
+-- The phase, what each role remembers, and for each kind of timer, in their order, the time for which it is set. The state of
+-- a role outside its phases counts for nothing.
 pub record State : Type 0 where
   pub phase : Phase
   pub elector : Elector

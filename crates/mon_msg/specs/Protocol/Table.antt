@@ -47,7 +47,7 @@ module _ (me : Me) (now : ℕ) where
         ▸ arm_if (scores_count me.rule) now timer.Ping
         ▸ bootstrap me now
 
-  -- what comes before the start is dropped, and clients are told
+  -- what comes before the start is dropped, and clients get a reply
   abbrev pub before_start : Input → Course → Result Course Which
   before_start input.Start x = start x
   before_start (input.Deliver m) x = dropped x
@@ -69,7 +69,7 @@ module _ (me : Me) (now : ℕ) where
   timer_comes timer.Propose x = propose_due me now x
   timer_comes timer.Ping x = ping me now x
 
-  -- one that is armed is disarmed, and takes effect whether or not its moment has come
+  -- one that is set is disarmed, and takes effect whether or not its time has come
   abbrev pub take_timer : Timer → Course → Result Course Which
   take_timer t x = if is_armed t x.state.timers then x ▸ disarm t ▸ timer_comes t else dropped x
 
@@ -86,8 +86,8 @@ module _ (me : Me) (shared : List Entry) (now : ℕ) where
   running (input.Timer t) x = take_timer me now t x
   running (input.Client session r) x = hear_client me now session r x
 
-  -- What a monitor does at an input, by what its store tells, what it remembers and what comes; or which number runs
-  -- out. `shared` are the entries of its store that are shared, in order.
+  -- What a monitor does at an input, by what its store's readers return, what it remembers and the input; or the number that
+  -- runs out. `shared` are the entries of its store that are shared, in order.
   unfoldable pub react : Readings → State → Input → Result Course Which
   react w s came =
       if same_phase s.phase phase.Booting then before_start me now came (at_rest w s) else running came (at_rest w s)

@@ -37,7 +37,7 @@ abbrev pub made_log : List LogInc → Result LogInc CommandRefused → Result (L
 made_log es (Ok inc) = Ok (log_text.inc_text inc, map.Log (log.with_inc es inc))
 made_log es (Err e) = Err e
 
--- the incremental that a command makes of a map, spelled, and the map with it; `asked` is the monitor that was asked
+-- the incremental that a command makes of a map, encoded, and the map after it; `asked` is the monitor that was asked
 abbrev pub made : ShownMap → (asked : ℕ) → Command → Result (List ℕ × ShownMap) CommandRefused
 made (map.Kv m) asked c = made_kv m (kv_made.made m c)
 made (map.Log es) asked (command.Log text) = made_log es (log_made.made asked text)
@@ -53,6 +53,7 @@ abbrev pub value_if_made : Readings → Service
 value_if_made w s (Ok (incremental, next)) = Ok (value_of w s incremental next)
 value_if_made w s (Err e) = Err e
 
--- the value of a command over what a store tells, where `asked` is the monitor that was asked; or why there is none
+-- the value of a command over what a store's readers return, where `asked` is the monitor that was asked; or why there is
+-- none
 unfoldable pub value : Readings → Command → (asked : ℕ) → Result (List Op) CommandRefused
 value w c asked = value_if_made w (service_of c) (made (read_map w (service_of c)) asked c)

@@ -1,4 +1,4 @@
--- The bodies of messages among n monitors, told by the monitor of rank own.
+-- The bodies of messages among n monitors, sent by the monitor of rank own.
 use Rattle.std.specs.Prelude.{ℕ, Bool, List, Option}
 use Rattle.mon_bytes.specs.declared.command.Command.{Command}
 use Rattle.mon_bytes.specs.declared.entry.Entry.{Entry}

@@ -1,4 +1,4 @@
--- Tables of scores: a row for each of n monitors, with a score for each of them. Of the ranks past n nothing is told.
+-- Tables of scores: a row for each of n monitors, with a score for each of them. The ranks past n aren't sent.
 use Rattle.std.specs.Prelude.{◌≡◌, ℕ, ◌-◌, ◌≤◌, List, ◌++◌, length, take, drop, replicate, Ok, Err, nat_lt, if◌then◌else◌}
 use Rattle.std.specs.List.{flat_map, AllByRecursion}
 use Rattle.mon_bytes.specs.Reading.{number}
@@ -11,7 +11,7 @@ use Rattle.mon_wire.specs.declared.refusal.MsgRefused.TheVariants as refused
 use Rattle.mon_wire.specs.Message.Format.{◌>>=◌, cut, Reader, Format, ◌⊗◌, seen_as, as_parts, items}
 use Rattle.mon_wire.specs.Message.Fields.{numeral}
 
--- fifteen values, of which the first n are told; the others are always the same
+-- fifteen values, of which the first n are sent; the others are always the same
 unfoldable pub padded_at : {A : Type 0} → ℕ → A → Reader A → Reader (List A)
 padded_at n rest read c = do
   xs ← items read n c

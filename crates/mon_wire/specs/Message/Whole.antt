@@ -28,7 +28,7 @@ kinds =
 abbrev pub kind_of : ℕ → Kind
 kind_of n = get_or kinds (n - 1) kind.Probe
 
--- ---- how messages are spelled
+-- ---- how messages are encoded
 
 abbrev pub text : Message → List ℕ
 text m = 1 ∷ (spelled m.monitors m.from m.body).tag ∷ m.from ∷ m.monitors ∷ (number_bytes m.epoch ++ (spelled m.monitors m.from m.body).text)
@@ -79,16 +79,16 @@ message_at c = do
   body ← body_at sender.0.1 sender.0.0 (kind_of kind.0) epoch.1
   Ok (record { from = sender.0.0; monitors = sender.0.1; epoch = epoch.0; body = body.0 }, body.1)
 
--- what was read, where nothing is left
+-- what was read, if nothing is left
 unfoldable pub ended : {A : Type 0} → A × Reading → Result A MsgRefused
 ended x = if length x.1.rest == 0 then Ok x.0 else Err (refused.At x.1.at fault.Rest)
 
--- the message that all of what is left spells
+-- the message that all of the rest encodes
 unfoldable pub whole_at : Reading → Result Message MsgRefused
 whole_at c = do
   message ← message_at c
   ended message
 
--- the message that the bytes spell, all of them, or the first fault
+-- the message that all of the bytes encode, or the first fault
 unfoldable pub message_of : List ℕ → Result Message MsgRefused
 message_of bytes = if nat_lt most_message (length bytes) then Err (refused.At 0 fault.TooLong) else whole_at (record { at = 0; rest = bytes })

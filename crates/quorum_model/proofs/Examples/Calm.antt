@@ -1,4 +1,4 @@
--- A calm run of three monitors, played on what their stores tell: how they stand behind one command.
+-- A calm run of three monitors, played on what their stores hold: how they follow one command.
 use Rattle.std.proofs.Common.{◌≡◌, ℕ, zero, suc, Bool, true, false, List, [], ◌∷◌, ◌++◌, map, Option, Some, refl, sym, ap, ◌∙◌, arith}
 use Rattle.std.specs.Prelude.{slice_index_or, replicate}
 use Rattle.std.proofs.lemmas.Bool.{le-ltb}
@@ -104,7 +104,7 @@ first_follows = follows_by (state_of calm 1) (ap (λ (t : Seen). t.1) seen)
 second_follows : FollowsCalmly 3 (state_of calm 2)
 second_follows = follows_by (state_of calm 2) (ap (λ (t : Seen). t.2) seen)
 
--- ---- what the stores tell, and what the client was told
+-- ---- what the stores hold, and the client's reply
 
 -- the epoch, the promise and the last version
 abbrev tells : ℕ → ℕ × ℕ × ℕ

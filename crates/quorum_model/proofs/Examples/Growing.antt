@@ -32,15 +32,15 @@ made a = (a.event, a.version, a.service, a.incremental)
 
 -- the fifth event of a run, after which a monitor keeps this map and remembers this
 module _ (m : Store) (s : State) where
-  -- a ROUTE that tells that version 7 is done acknowledges it, with the incremental that the leader keeps in it
+  -- a ROUTE that says that version 7 is done acknowledges it, with the incremental that the leader keeps in it
   by_route : record_kept m 7 ≡ Put (codes "kv") (codes "3") (1 ∷ []) ∷ [] → map made (acknowledgements_of 5 m s (route (reply.Done 7) ∷ [])) ≡ (5, 7, service.Kv, 1 ∷ []) ∷ []
   by_route e = rw e refl
 
-  -- one that tells anything else acknowledges nothing
+  -- one that says anything else acknowledges nothing
   not_by_route : acknowledgements_of 5 m s (route (reply.Busy 64) ∷ []) ≡ []
   not_by_route = refl
 
-  -- and so does a peon that tells its client
+  -- and so does a peon that replies to its client
   not_by_peon : (to : Session) → is_leading s.phase ≡ false → acknowledgements_of 5 m s (sent.Reply to (reply.Done 7) ∷ []) ≡ []
   not_by_peon to e = rw e refl
 
