@@ -81,9 +81,12 @@ def read_export(octets: bytes) -> tuple[int, int, dict]:
     kv, before = {}, (b'', b'')
     for _ in range(fields.unsigned(4)):
         at = fields.at
-        place = fields.word(32), fields.word(255)
+        prefix = fields.word(32)
+        if prefix < before[0]:
+            raise At(at + 1)
+        place = prefix, fields.word(255)
         if place <= before:
-            raise At(at + 1 if place[0] < before[0] else at + 2 + len(place[0]))
+            raise At(at + 2 + len(prefix))
         kv[place], before = fields.counted(), place
     fields.end()
     size = sum(len(prefix) + len(key) + len(value) + 16 for (prefix, key), value in kv.items())
