@@ -36,6 +36,10 @@ class Step(NamedTuple):
     reasons: list[str]
     looks: list[dict[str, str]]
 
+    def is_crash(self) -> bool:
+        """Whether a monitor crashed in this event."""
+        return any(line.startswith('  crashed ') for line in self.lines)
+
     def is_idle(self) -> bool:
         """Whether the event sent, wrote and changed nothing."""
         return not self.changes and len(self.lines) == 1
