@@ -36,10 +36,6 @@ class Step(NamedTuple):
     reasons: list[str]
     looks: list[dict[str, str]]
 
-    def is_crash(self) -> bool:
-        """Whether a monitor crashed in this event."""
-        return any(line.startswith('  crashed ') for line in self.lines)
-
     def is_idle(self) -> bool:
         """Whether the event sent, wrote and changed nothing."""
         return not self.changes and len(self.lines) == 1
@@ -99,11 +95,11 @@ def lines_of(octets: bytes) -> list[str]:
     return octets.decode('ascii').splitlines()
 
 
-def steps(lines: list[str]) -> Iterator[Step]:
+def steps(schedule: list[str]) -> Iterator[Step]:
     """The events of a schedule, run one after the other. Raises Refused if a number runs out in one, where the program stops too."""
-    play = run.Play(lines[0])
+    play = run.Play(schedule[0])
     before = looks(play)
-    for number, line in enumerate(lines[1:], 1):
+    for number, line in enumerate(schedule[1:], 1):
         at = len(play.trace)
         antt.DROPS.clear()
         if not play.take(line):
@@ -111,8 +107,12 @@ def steps(lines: list[str]) -> Iterator[Step]:
         now = looks(play)
         changes = [(rank, part, before[rank].get(part, '-'), now[rank].get(part, '-'))
                    for rank in range(play.n) for part in {**before[rank], **now[rank]} if before[rank].get(part) != now[rank].get(part)]
-        reasons = [f'{row} {ENDS[how]}, since {test} {"holds" if holds else "fails"}' for row, how, test, holds in dict.fromkeys(antt.DROPS)]
-        yield Step(number, play.trace[at:], changes, reasons, now)
+        lines = play.trace[at:]
+        # A crash in no event is written as one in a timer that isn't set. That such a timer is dropped explains nothing.
+        is_crash = any(it.startswith('  crashed ') for it in lines)
+        drops = [drop for drop in dict.fromkeys(antt.DROPS) if not (is_crash and drop[0] == 'take_timer')]
+        reasons = [f'{row} {ENDS[how]}, since {test} {"holds" if holds else "fails"}' for row, how, test, holds in drops]
+        yield Step(number, lines, changes, reasons, now)
         before = now
 
 
