@@ -52,6 +52,8 @@ from typing import Iterator
 from wire import (LOG, MOST_MESSAGE, MOST_NUMBER, REMOVE, SERVICES, SET, SHOW, SINCE, Assembly, Malformed, Reply, datagrams, key_field, number_field,
                   reply_of, request_message, service_field, text_field)
 
+# The name in the usage: that of the call, without the folder of an installed command.
+NAME = os.path.basename(sys.argv[0]) if os.path.isabs(sys.argv[0]) else sys.argv[0]
 # Seconds between two tries, between two looks for changes, and for a request if nothing else is said.
 PAUSE, LOOK, TIMEOUT = 0.1, 0.25, 30.0
 # The replies that serve a request, what a monitor is said to do that is silent, and the replies that refuse for good.
@@ -262,7 +264,8 @@ COMMANDS = {
 def arguments() -> argparse.Namespace:
     text = __doc__.split('\nAs a module')[0]
     line = text.split('usage: ')[1].split('\n')[0]
-    parser = argparse.ArgumentParser(usage=line, description=text.replace(f'usage: {line}\n\n', ''), formatter_class=argparse.RawDescriptionHelpFormatter)
+    parser = argparse.ArgumentParser(usage=line.replace('examples/client.py', NAME), description=text.replace(f'usage: {line}\n\n', ''),
+                                     formatter_class=argparse.RawDescriptionHelpFormatter)
     parser.add_argument('--monitor', type=int, metavar='R', help='ask this monitor alone')
     parser.add_argument('--timeout', type=seconds, default=TIMEOUT, metavar='SECONDS', help=f'how long a request may take in all ({TIMEOUT:g})')
     parser.add_argument('--once', action='store_true', help='send the request once, to one monitor')

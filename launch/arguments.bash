@@ -97,7 +97,10 @@ explained() {
     [ -n "${FORMS[$1]+is there}" ] || { printf "'%s' is no command" "$1"; return; }
     read -ra names <<<"${FORMS[$1]}"
     [ ${#names[@]} = $(($# - 1)) ] || {
-        printf '%s takes %d arguments, and not %d: %s' "$1" ${#names[@]} $(($# - 1)) "$1 ${FORMS[$1]}"
+        case ${#names[@]} in
+        0) printf '%s takes no arguments, %d given' "$1" $(($# - 1)) ;;
+        *) printf '%s takes %d arguments, %d given: %s' "$1" ${#names[@]} $(($# - 1)) "$1 ${FORMS[$1]}" ;;
+        esac
         return
     }
     shift

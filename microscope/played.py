@@ -95,11 +95,11 @@ def lines_of(octets: bytes) -> list[str]:
     return octets.decode('ascii').splitlines()
 
 
-def steps(lines: list[str]) -> Iterator[Step]:
+def steps(schedule: list[str]) -> Iterator[Step]:
     """The events of a schedule, run one after the other. Raises Refused if a number runs out in one, where the program stops too."""
-    play = run.Play(lines[0])
+    play = run.Play(schedule[0])
     before = looks(play)
-    for number, line in enumerate(lines[1:], 1):
+    for number, line in enumerate(schedule[1:], 1):
         at = len(play.trace)
         antt.DROPS.clear()
         if not play.take(line):
@@ -107,8 +107,12 @@ def steps(lines: list[str]) -> Iterator[Step]:
         now = looks(play)
         changes = [(rank, part, before[rank].get(part, '-'), now[rank].get(part, '-'))
                    for rank in range(play.n) for part in {**before[rank], **now[rank]} if before[rank].get(part) != now[rank].get(part)]
-        reasons = [f'{row} {ENDS[how]}, since {test} {"holds" if holds else "fails"}' for row, how, test, holds in dict.fromkeys(antt.DROPS)]
-        yield Step(number, play.trace[at:], changes, reasons, now)
+        lines = play.trace[at:]
+        # A crash in no event is written as one in a timer that isn't set. That such a timer is dropped explains nothing.
+        is_crash = any(it.startswith('  crashed ') for it in lines)
+        drops = [drop for drop in dict.fromkeys(antt.DROPS) if not (is_crash and drop[0] == 'take_timer')]
+        reasons = [f'{row} {ENDS[how]}, since {test} {"holds" if holds else "fails"}' for row, how, test, holds in drops]
+        yield Step(number, lines, changes, reasons, now)
         before = now
 
 

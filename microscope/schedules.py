@@ -39,9 +39,14 @@ def is_decimal(text: str) -> bool:
     return re.fullmatch(r'0|[1-9][0-9]*', text) is not None
 
 
+def is_within(text: str, least: int, most: int) -> bool:
+    """Whether a decimal number is within these bounds. A number of more than 20 digits is above all bounds, and isn't converted."""
+    return len(text) <= 20 and least <= int(text) <= most
+
+
 def number(name: str, what: str, least: int, most: int) -> Field:
     def kind_of(text):
-        return None if is_decimal(text) and least <= int(text) <= most else 'Number'
+        return None if is_decimal(text) and is_within(text, least, most) else 'Number'
     return Field(name, f'{what}, a decimal number from {least} to {most} without a leading zero', kind_of)
 
 
@@ -51,7 +56,7 @@ def word(name: str, *words: str) -> Field:
 
 def rank(monitors: int) -> Field:
     def kind_of(text):
-        return 'Number' if not is_decimal(text) else None if int(text) < monitors else 'Rank'
+        return 'Number' if not is_decimal(text) else None if is_within(text, 0, monitors - 1) else 'Rank'
     return Field('R', 'the rank of a monitor, ' + (f'0 to {monitors - 1}' if monitors > 1 else '0'), kind_of)
 
 
@@ -109,7 +114,7 @@ def fault_of_header(line: str) -> Fault | None:
         return fault(0, len(words[0]), None, 'monitors N RULE')
     at = len('monitors ')
     count = words[1] if len(words) > 1 else ''
-    if not (is_decimal(count) and 1 <= int(count) <= MOST_MONITORS):
+    if not (is_decimal(count) and is_within(count, 1, MOST_MONITORS)):
         return fault(at, at + len(count), 'N', 'the number of monitors, 1 to 15, without a leading zero')
     at += len(count) + 1
     name, sign, ranks = ' '.join(words[2:]).partition('=')
@@ -117,7 +122,7 @@ def fault_of_header(line: str) -> Fault | None:
     if name not in RULES or bool(sign) and name == 'classic' or not sign and name == 'disallow':
         return fault(at, len(line), 'RULE', allowed)
     found = ranks.split(',') if sign else []
-    known = [int(text) for text in found if is_decimal(text) and int(text) < int(count)]
+    known = [int(text) for text in found if is_decimal(text) and is_within(text, 0, int(count) - 1)]
     return None if len(known) == len(found) and known == sorted(set(known)) else fault(at, len(line), 'RULE', allowed)
 
 
