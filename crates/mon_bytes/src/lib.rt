@@ -22,7 +22,7 @@ pub use entry::{Entry, KeyPlace};
 pub use form::{read_text, write_count, write_text};
 pub use items::{Items, TryCopy};
 pub use law::law_little_endian;
-pub use limits::MOST_MESSAGE;
+pub use limits::{MOST_MESSAGE, MOST_NAME, MOST_PREFIX};
 pub use memory::OutOfMemory;
 pub use out::Out;
 pub use texts::{Bytes, Text};

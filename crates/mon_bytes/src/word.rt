@@ -2,6 +2,7 @@ ghost use Rattle.std.specs.Prelude.{◌≡◌, ℕ, ◌≤◌, List, length, IsT
 ghost use Rattle.std.specs.List.{list_all};
 ghost use Rattle.mon_bytes.specs.Texts.{graphic, is_word};
 
+use crate::limits::{MOST_NAME, MOST_PREFIX};
 use crate::memory::OutOfMemory;
 use std::alloc::Global;
 use std::marker::Model;
@@ -113,7 +114,7 @@ impl<const MOST: usize> Word<MOST> {
 }
 
 /// A key of a map.
-pub type Name = Word<255>;
+pub type Name = Word<MOST_NAME>;
 
 /// A prefix of a map's keys: the name of an area.
-pub type Prefix = Word<32>;
+pub type Prefix = Word<MOST_PREFIX>;

@@ -1,6 +1,7 @@
 -- Reading a transaction from left to right, with the first fault that is met.
 use Rattle.std.specs.Prelude.{ℕ, zero, suc, ◌<◌, ◌≤◌, ◌^◌, ◌&&◌, not, Bool, List, [], ◌∷◌, length, Result, Ok, Err, IsTrue, is_ok, nat_lt, ◌==◌, if◌then◌else◌}
 use Rattle.std.specs.List.{list_any, AllByRecursion}
+use Rattle.mon_bytes.specs.declared.limits.TheConstants.{MOST_NAME, MOST_PREFIX}
 use Rattle.mon_bytes.specs.Reading.{Reading, number}
 use Rattle.mon_bytes.specs.Texts.{is_name, is_prefix}
 use Rattle.mon_tx.specs.declared.kinds.TheConstants.{PUT, ERASE, ERASE_PREFIX, ERASE_RANGE}
@@ -13,25 +14,25 @@ use Rattle.mon_tx.specs.Fields.{◌>>=◌, cut, word_at, value_at, version_at, f
 
 unfoldable pub put_at : Reading → Result (Op × Reading) TxRefused
 put_at c = do
-  prefix ← word_at 32 c
-  key ← word_at 255 prefix.1
+  prefix ← word_at MOST_PREFIX c
+  key ← word_at MOST_NAME prefix.1
   value ← value_at key.1
   Ok (Put prefix.0 key.0 value.0, value.1)
 
 unfoldable pub erase_at : Reading → Result (Op × Reading) TxRefused
 erase_at c = do
-  prefix ← word_at 32 c
-  key ← word_at 255 prefix.1
+  prefix ← word_at MOST_PREFIX c
+  key ← word_at MOST_NAME prefix.1
   Ok (Erase prefix.0 key.0, key.1)
 
 unfoldable pub erase_prefix_at : Reading → Result (Op × Reading) TxRefused
 erase_prefix_at c = do
-  prefix ← word_at 32 c
+  prefix ← word_at MOST_PREFIX c
   Ok (ErasePrefix prefix.0, prefix.1)
 
 unfoldable pub erase_range_at : Reading → Result (Op × Reading) TxRefused
 erase_range_at c = do
-  prefix ← word_at 32 c
+  prefix ← word_at MOST_PREFIX c
   from ← version_at prefix.1
   to ← version_at from.1
   if nat_lt from.0 to.0 then Ok (EraseRange prefix.0 from.0 to.0, to.1) else Err (refused.Range from.1.at)

@@ -24,17 +24,17 @@ fn graphic_front(bytes: &[u8]) -> usize
 
 /// A prefix or a key.
 #[tactic(auto, using(crate::proofs::Words::is_word_by), unfolding(crate::specs::Fields::word_at))]
-pub fn word_at<'a>(cursor: &mut Cursor<'a>, limit: u8) -> Result<&'a [u8], TxRefused>
+pub fn word_at<'a>(cursor: &mut Cursor<'a>, limit: usize) -> Result<&'a [u8], TxRefused>
     ensures bytes { Scans (λ x. x.now) result cursor.new (word_at limit cursor.old) }
     ensures word { IfOk result (λ x. IsTrue (is_word limit x.now)) }
 {
     let at = cursor.at();
-    let n = cursor.take_u8()?;
+    let n = cursor.take_u8()? as usize;
     if n < 1 || n > limit {
         return Err(TxRefused::Name { at });
     }
     let at = cursor.at();
-    let bytes = cursor.take_bytes(n as usize)?;
+    let bytes = cursor.take_bytes(n)?;
     let good = graphic_front(bytes);
     if good < bytes.len() {
         return Err(TxRefused::Name { at: at + good });

@@ -11,7 +11,7 @@ use crate::fields::{value_at, version_at, word_at};
 use crate::kinds::{ERASE, ERASE_PREFIX, ERASE_RANGE, PUT};
 use crate::op::Op;
 use crate::refusal::TxRefused;
-use mon_bytes::{Bytes, Cursor, Name, OutOfMemory, Prefix};
+use mon_bytes::{Bytes, Cursor, MOST_NAME, MOST_PREFIX, Name, OutOfMemory, Prefix};
 use mon_types::Version;
 use std::alloc::Global;
 
@@ -46,8 +46,8 @@ fn put_at<'a>(cursor: &mut Cursor<'a>) -> Result<Spelled<'a>, TxRefused>
     ensures op { Scans change result cursor.new (put_at cursor.old) }
     ensures fits { IfOk result (λ x. OpFits (change x)) }
 {
-    let prefix = word_at(cursor, 32)?;
-    let key = word_at(cursor, 255)?;
+    let prefix = word_at(cursor, MOST_PREFIX)?;
+    let key = word_at(cursor, MOST_NAME)?;
     let value = value_at(cursor)?;
     Ok(Spelled::Put { prefix, key, value })
 }
@@ -57,8 +57,8 @@ fn erase_at<'a>(cursor: &mut Cursor<'a>) -> Result<Spelled<'a>, TxRefused>
     ensures op { Scans change result cursor.new (erase_at cursor.old) }
     ensures fits { IfOk result (λ x. OpFits (change x)) }
 {
-    let prefix = word_at(cursor, 32)?;
-    let key = word_at(cursor, 255)?;
+    let prefix = word_at(cursor, MOST_PREFIX)?;
+    let key = word_at(cursor, MOST_NAME)?;
     Ok(Spelled::Erase { prefix, key })
 }
 
@@ -67,7 +67,7 @@ fn erase_prefix_at<'a>(cursor: &mut Cursor<'a>) -> Result<Spelled<'a>, TxRefused
     ensures op { Scans change result cursor.new (erase_prefix_at cursor.old) }
     ensures fits { IfOk result (λ x. OpFits (change x)) }
 {
-    let prefix = word_at(cursor, 32)?;
+    let prefix = word_at(cursor, MOST_PREFIX)?;
     Ok(Spelled::ErasePrefix { prefix })
 }
 
@@ -76,7 +76,7 @@ fn erase_range_at<'a>(cursor: &mut Cursor<'a>) -> Result<Spelled<'a>, TxRefused>
     ensures op { Scans change result cursor.new (erase_range_at cursor.old) }
     ensures fits { IfOk result (λ x. OpFits (change x)) }
 {
-    let prefix = word_at(cursor, 32)?;
+    let prefix = word_at(cursor, MOST_PREFIX)?;
     let from = version_at(cursor)?;
     let at = cursor.at();
     let to = version_at(cursor)?;

@@ -3,6 +3,7 @@ use Rattle.std.specs.Prelude.{◌≡◌, ℕ, ◌^◌, ◌<◌, ◌≤◌, Bool,
 use Rattle.std.specs.Str.{is_utf8}
 use Rattle.byteorder.specs.Endian.{little_bytes}
 use Rattle.mon_types.specs.Ranks.{to_bits, from_bits}
+use Rattle.mon_bytes.specs.declared.limits.TheConstants.{MOST_NAME, MOST_PREFIX}
 use Rattle.mon_bytes.specs.Reading.{Reading, number, front}
 use Rattle.mon_bytes.specs.Forms.{text_bytes}
 use Rattle.mon_bytes.specs.Texts.{is_word}
@@ -87,10 +88,10 @@ abbrev pub word : ℕ → Format (List ℕ)
 word most = record { text = λ bytes. length bytes ∷ bytes; read = word_at most; Form = λ bytes. IsTrue (is_word most bytes) }
 
 abbrev pub name : Format (List ℕ)
-name = word 255
+name = word MOST_NAME
 
 abbrev pub prefix : Format (List ℕ)
-prefix = word 32
+prefix = word MOST_PREFIX
 
 -- a transaction's text with its length
 abbrev pub spelled_at : ℕ → Reading → Result (List Op) TxRefused → Result (List Op × Reading) MsgRefused
