@@ -1,13 +1,10 @@
 -- A lease is the time of its end, or none.
 use Rattle.std.specs.Prelude.{ℕ, ◌+◌, ◌^◌, min, Bool, false, ◌&&◌, ◌||◌, ◌==◌, nat_lt, Option, None, Some}
-
--- the milliseconds for which a lease is valid
-abbrev pub length : ℕ
-length = 5000
+use Rattle.mon_lease.specs.declared.lease.TheConstants.{LENGTH}
 
 -- the lease that is given now
 abbrev pub extended : ℕ → Option ℕ
-extended now = Some (min (now + length) (2 ^ 62))
+extended now = Some (min (now + LENGTH) (2 ^ 62))
 
 -- whether it is valid now
 abbrev pub stands : Option ℕ → ℕ → Bool
