@@ -24,6 +24,7 @@ pub fn make(alloc: Global, rank: Rank, text: &Text) -> Result<LogInc, CommandRef
             most: MOST_TEXT,
         });
     }
+    // For the prover: a rank is at most 14.
     let _rank = rank.get();
     Ok(LogInc {
         rank,

@@ -18,6 +18,7 @@ pub(crate) fn inc_size(inc: &LogInc) -> u64
     ensures rank { inc.now.rank ≤ 14 }
     ensures text { IsTrue (is_utf8 inc.now.text) }
 {
+    // For the prover: a rank is at most 14.
     let _rank = inc.rank.get();
     inc.text.as_slice().len() as u64 + 5
 }

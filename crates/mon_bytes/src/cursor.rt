@@ -43,6 +43,7 @@ impl<'a> Cursor<'a> {
         ensures value { result ≡ self.now.at }
         ensures within { self.now.at + length self.now.rest < 2 ^ 63 }
     {
+        // For the prover: a slice has less than 2^63 bytes.
         let _whole = self.bytes.len();
         self.at
     }

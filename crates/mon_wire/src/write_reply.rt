@@ -17,11 +17,13 @@ fn write_shown_map(out: &mut Out, shown: &ShownMap) -> Result<(), OutOfMemory>
 {
     match shown {
         ShownMap::Kv(map) => {
+            // For the prover: the size is that of the text.
             let _size = map.size();
             let text = map.encode()?;
             write_bytes(out, &text)
         }
         ShownMap::Log(map) => {
+            // For the prover: the size is that of the text.
             let _size = map.size();
             let text = map.encode()?;
             write_bytes(out, &text)
