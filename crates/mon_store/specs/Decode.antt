@@ -7,6 +7,7 @@ use Rattle.mon_bytes.specs.declared.command.MapRefused.{MapRefused}
 use Rattle.mon_bytes.specs.declared.command.MapRefused.TheVariants.{Form}
 use Rattle.mon_bytes.specs.Reading.{Reading, number, front}
 use Rattle.mon_bytes.specs.Texts.{is_word}
+use Rattle.mon_bytes.specs.declared.limits.TheConstants.{MOST_NAME, MOST_PREFIX}
 use Rattle.mon_bytes.specs.Forms.{◌>>=◌, fitted, ended}
 use Rattle.mon_tx.specs.Map.{Place, place_cmp, Store}
 use Rattle.mon_store.specs.declared.checkpoint.TheConstants.{CHECKPOINT}
@@ -29,13 +30,13 @@ value_at c = do
 -- a prefix that isn't below the one before it; one that is has its fault where its bytes begin
 unfoldable pub prefix_at : List ℕ → Reading → Result (List ℕ × Reading) MapRefused
 prefix_at before c = do
-  prefix ← word_at 32 c
+  prefix ← word_at MOST_PREFIX c
   if is_lt (slice_cmp nat_cmp prefix.0 before) then Err (Form (c.at + 1)) else Ok prefix
 
 -- a key that with its prefix is above the place before it; one that isn't has its fault where its bytes begin
 unfoldable pub key_at : Place → List ℕ → Reading → Result (List ℕ × Reading) MapRefused
 key_at before prefix c = do
-  key ← word_at 255 c
+  key ← word_at MOST_NAME c
   if is_lt (place_cmp before (prefix, key.0)) then Ok key else Err (Form (c.at + 1))
 
 unfoldable pub entry_at : Place → Reading → Result (Entry × Reading) MapRefused

@@ -8,7 +8,7 @@ ghost use Rattle.mon_kv.specs.Readers.{entry_of};
 ghost use Rattle.mon_store.specs.Decode.{word_at, value_at, prefix_at, key_at, entry_at, entries_at, map_at, checkpoint_of};
 
 use crate::checkpoint::CHECKPOINT;
-use mon_bytes::{Cursor, MapRefused, Word};
+use mon_bytes::{Cursor, MOST_NAME, MOST_PREFIX, MapRefused, Word};
 use mon_kv::{EntryRef, Kv};
 use std::alloc::Global;
 use std::cmp::Ordering;
@@ -45,7 +45,7 @@ fn prefix_at<'a>(before: &[u8], cursor: &mut Cursor<'a>) -> Result<&'a [u8], Map
     ensures form { IfOk result (λ x. IsTrue (is_prefix x.now)) }
 {
     let at = cursor.at();
-    let prefix = word_at::<32>(cursor)?;
+    let prefix = word_at::<MOST_PREFIX>(cursor)?;
     match prefix.cmp(before) {
         Ordering::Less => Err(MapRefused::Form { at: at + 1 }),
         _ => Ok(prefix),
@@ -64,7 +64,7 @@ fn key_at<'a>(
     ensures form { IfOk result (λ x. IsTrue (is_name x.now)) }
 {
     let at = cursor.at();
-    let key = word_at::<255>(cursor)?;
+    let key = word_at::<MOST_NAME>(cursor)?;
     match before_prefix.cmp(prefix).then(before_key.cmp(key)) {
         Ordering::Less => Ok(key),
         _ => Err(MapRefused::Form { at: at + 1 }),
