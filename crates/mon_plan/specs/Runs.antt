@@ -1,5 +1,7 @@
 -- Runs of records that a message takes.
 use Rattle.std.specs.Prelude.{ℕ, ◌+◌, Bool, ◌&&◌, nat_le, nat_lt, List, Option, Some, None, if◌then◌else◌, length, sum_by}
+use Rattle.mon_bytes.specs.declared.limits.TheConstants.{MOST_MESSAGE}
+use Rattle.mon_wire.specs.declared.write_lists.TheConstants.{MOST_ITEMS}
 use Rattle.mon_msg.specs.Protocol.Parts.{value_length}
 use Rattle.mon_msg.specs.Protocol.Records.{run_from, longest}
 use Rattle.mon_tx.specs.Decision.{Cell}
@@ -12,7 +14,7 @@ besides last from plain at_end values = if nat_lt last (from + length values) th
 -- whether a message takes them, and they are no more than a list of a message has
 abbrev pub have_room : (last from plain at_end : ℕ) → List (List Op) → Bool
 have_room last from plain at_end values =
-    nat_le (besides last from plain at_end values + sum_by value_length values) 1048576 && nat_le (length values) 65535
+    nat_le (besides last from plain at_end values + sum_by value_length values) MOST_MESSAGE && nat_le (length values) MOST_ITEMS
 
 -- the longest run of records from a version on that a message takes
 unfoldable pub run_within : (records : ℕ → Cell) → (last from plain at_end : ℕ) → List (List Op)

@@ -1,10 +1,12 @@
 //! The values that a store's records encode, with the pending one, and runs of them.
 
 ghost use Rattle.std.specs.Prelude.{◌≡◌, ℕ, ◌+◌, ◌-◌, ◌≤◌, ◌^◌, sum_by, length, min, Some, IfOk, IfSome, is_some, if◌then◌else◌};
+ghost use Rattle.mon_bytes.specs.declared.limits.TheConstants.{MOST_MESSAGE};
 ghost use Rattle.mon_tx.specs.Text.{text};
 ghost use Rattle.mon_msg.specs.Protocol.Parts.{value_length};
 ghost use Rattle.mon_msg.specs.Protocol.Readings.{readings_of};
 ghost use Rattle.mon_msg.specs.Protocol.Records.{record_at, transaction_in, found_as, pending};
+ghost use Rattle.mon_wire.specs.declared.write_lists.TheConstants.{MOST_ITEMS};
 ghost use Rattle.mon_plan.specs.Runs.{run_within, where_room};
 
 use crate::stored::Stored;
@@ -16,7 +18,7 @@ use mon_types::Version;
 use std::alloc::Global;
 
 /// The longest text of a value of which a BEGIN may be sent, in bytes: that of a message without what it takes besides.
-const MOST_BEGUN: usize = 1_048_544;
+const MOST_BEGUN: usize = MOST_BYTES - 32;
 
 /// The value that the bytes encode, if a BEGIN may carry it. Longer ones aren't decoded.
 fn value_in(alloc: Global, bytes: &[u8]) -> Result<Option<Transaction>, OutOfMemory>
@@ -77,7 +79,7 @@ pub struct Run {
 /// How much room a message has that already has this many bytes of values, and this many others: at the last version,
 /// or before it.
 fn room_at(is_last: bool, plain: usize, at_end: usize, bytes: usize) -> usize
-    ensures { result ≡ 1048576 - (if is_last then at_end else plain) - bytes }
+    ensures { result ≡ MOST_MESSAGE - (if is_last then at_end else plain) - bytes }
 {
     let besides = if is_last { at_end } else { plain };
     MOST_BYTES.saturating_sub(besides).saturating_sub(bytes)
@@ -158,7 +160,7 @@ impl<'a> Stored<'a> {
     ) -> Result<Run, OutOfMemory>
         ensures values { IfOk result (λ run. run.values ≡ run_within (readings_of self.now).record_of (readings_of self.now).last from plain at_end) }
         ensures bytes { IfOk result (λ run. run.bytes ≡ sum_by value_length run.values) }
-        ensures few { IfOk result (λ run. length run.values ≤ 65535) }
+        ensures few { IfOk result (λ run. length run.values ≤ MOST_ITEMS) }
     {
         let last = self.last().get();
         let mut values = Items::new(alloc);
