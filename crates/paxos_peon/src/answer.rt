@@ -1,11 +1,14 @@
 //! The answer of a peon to a leader that collects.
 
 ghost use Rattle.std.specs.Prelude.{◌≡◌, ℕ, ◌+◌, ◌-◌, ◌≤◌, ◌^◌, ◌||◌, nat_le, nat_lt, false, None, length, min, sum_by, IfOk};
+ghost use Rattle.mon_bytes.specs.declared.limits.TheConstants.{MOST_MESSAGE};
 ghost use Rattle.mon_msg.specs.Protocol.Answers.{answer_of, told_of, told_values};
 ghost use Rattle.mon_msg.specs.Protocol.Parts.{value_length, told_length};
 ghost use Rattle.mon_msg.specs.Protocol.Readings.{readings_of};
 ghost use Rattle.mon_msg.specs.Protocol.Records.{pending};
 ghost use Rattle.mon_wire.specs.declared.body.Body.TheVariants as body;
+ghost use Rattle.mon_wire.specs.declared.write_lists.TheConstants.{MOST_ITEMS};
+ghost use Rattle.paxos_peon.specs.declared.answer.TheConstants.{BESIDES};
 
 use mon_bytes::{Items, OutOfMemory};
 use mon_msg::{Body, Found, MOST_BYTES, Told};
@@ -32,7 +35,7 @@ fn told_values(alloc: Global, stored: &Stored<'_>, from: Version) -> Result<Run,
     ensures values { (n promise : ℕ) → let w = readings_of stored.now in
         IfOk result (λ run. run.values ≡ told_values n promise w.first w.last w.record_of from) }
     ensures bytes { IfOk result (λ run. run.bytes ≡ sum_by value_length run.values) }
-    ensures few { IfOk result (λ run. length run.values ≤ 65535) }
+    ensures few { IfOk result (λ run. length run.values ≤ MOST_ITEMS) }
 {
     if tells_none(stored, from) {
         return Ok(Run {
@@ -72,7 +75,7 @@ fn told_len(told: &Option<Told>) -> usize
 
 /// Whether an answer with values of `bytes` bytes has room for the pending value besides.
 fn has_room(bytes: usize, told: &Option<Told>) -> bool
-    ensures { result ≡ nat_le (47 + bytes + told_length told.now) 1048576 }
+    ensures { result ≡ nat_le (BESIDES + bytes + told_length told.now) MOST_MESSAGE }
 {
     told_len(told).saturating_add(bytes).saturating_add(BESIDES) <= MOST_BYTES
 }
@@ -98,7 +101,7 @@ fn answer_in_part(
 }
 
 /// The answer to a leader that has the versions before `from`, if this number is promised.
-pub fn answer(
+pub(crate) fn answer(
     alloc: Global,
     stored: &Stored<'_>,
     promise: Pn,

@@ -22,7 +22,7 @@ use mon_types::{Pn, Version, Which};
 use std::alloc::Global;
 
 /// What a peon remembers, without a lease.
-pub fn without_lease(state: &Peon) -> Peon
+pub(crate) fn without_lease(state: &Peon) -> Peon
     ensures { result ≡ record state.now { lease = None } }
 {
     Peon {
@@ -45,7 +45,7 @@ fn promised(tx: &mut Transaction, old: Pn, pn: Pn) -> Result<Pn, OutOfMemory>
 }
 
 /// The leader collects under a number, and keeps these versions itself.
-pub fn collect(
+pub(crate) fn collect(
     alloc: Global,
     stored: &Stored<'_>,
     me: &Me,

@@ -36,7 +36,7 @@ fn is_refused(stored: &Stored<'_>, version: Version) -> bool
 }
 
 /// The leader gives a lease for a version.
-pub fn lease(
+pub(crate) fn lease(
     alloc: Global,
     stored: &Stored<'_>,
     me: &Me,

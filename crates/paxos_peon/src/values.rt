@@ -10,6 +10,7 @@ ghost use Rattle.mon_msg.specs.declared.view.Me.{Me};
 ghost use Rattle.mon_plan.specs.Leaves.{Leaves};
 ghost use Rattle.mon_plan.specs.Plans.{PlansRow};
 ghost use Rattle.mon_wire.specs.declared.phase.Phase.{Phase};
+ghost use Rattle.mon_wire.specs.declared.write_lists.TheConstants.{MOST_ITEMS};
 ghost use Rattle.paxos_peon.specs.Rows.{IsOurs};
 
 use crate::collecting::without_lease;
@@ -28,7 +29,7 @@ fn is_accepted(stored: &Stored<'_>, pn: Pn, version: Version) -> bool
 }
 
 /// The leader asks to accept a value for a version.
-pub fn begin(
+pub(crate) fn begin(
     alloc: Global,
     stored: &Stored<'_>,
     me: &Me,
@@ -68,7 +69,7 @@ fn is_ahead(stored: &Stored<'_>, from: Version) -> bool
 }
 
 /// The leader sends the values of the versions from `from` on, which are committed.
-pub fn commit(
+pub(crate) fn commit(
     alloc: Global,
     stored: &Stored<'_>,
     state: &Peon,
@@ -76,7 +77,7 @@ pub fn commit(
     values: &[Transaction],
 ) -> Result<Plan<Peon>, RoleStop>
     requires short { AllByRecursion (λ ops. length (text ops) ≤ most) values.now }
-    requires few { length values.now ≤ 65535 }
+    requires few { length values.now ≤ MOST_ITEMS }
     ensures plans { (m : Me) (now f e : ℕ) → PlansRow m now peon_is (IsOurs (readings_of stored.now) state.now f e)
         (hear_commit f e from values.now) result }
     ensures leaves { (at : Phase) → IfOk result (λ p. Leaves at p.next p.tx) }
