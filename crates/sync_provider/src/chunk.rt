@@ -8,7 +8,9 @@ ghost use Rattle.mon_msg.specs.Protocol.Providing.{chunk, given_values, reach, h
 ghost use Rattle.mon_msg.specs.Protocol.Readings.{readings_of, shared_entries};
 ghost use Rattle.mon_msg.specs.declared.plan.Next.TheVariants as next;
 ghost use Rattle.mon_wire.specs.declared.parts.Cookie.{Cookie};
+ghost use Rattle.mon_wire.specs.declared.write_lists.TheConstants.{MOST_ITEMS};
 ghost use Rattle.mon_plan.specs.Plans.{PlansRow};
+ghost use Rattle.sync_provider.specs.declared.entries.TheConstants.{BESIDES, BESIDES_LAST};
 ghost use Rattle.sync_provider.specs.Rows.{Holds, left_after};
 
 use crate::cookies::{answer, lacks};
@@ -22,7 +24,7 @@ use std::alloc::Global;
 
 /// How many bytes a chunk takes besides its place, its values and its entries, if it would be the last one or not.
 fn besides(is_last: bool) -> usize
-    ensures { result ≡ if is_last then 40 else 33 }
+    ensures { result ≡ if is_last then BESIDES_LAST else BESIDES }
 {
     if is_last { BESIDES_LAST } else { BESIDES }
 }
@@ -38,7 +40,7 @@ fn given_values(
     ensures values { IfOk result (λ run. (n : ℕ) (c : Cookie) → let w = readings_of kv.now in
         run.values ≡ given_values w.last c place.now (left_after kv.now place.now.key) n w.record_of) }
     ensures bytes { IfOk result (λ run. run.bytes ≡ sum_by value_length run.values) }
-    ensures few { IfOk result (λ run. length run.values ≤ 65535) }
+    ensures few { IfOk result (λ run. length run.values ≤ MOST_ITEMS) }
 {
     let len = place_len(place);
     let end = is_end(kv, place)?;
@@ -48,7 +50,7 @@ fn given_values(
 
 /// Whether the records after a place reach the last version.
 fn reaches(last: Version, place: &Place, count: usize) -> bool
-    requires { count ≤ 65535 }
+    requires { count ≤ MOST_ITEMS }
     ensures { result ≡ nat_le last (place.now.version + count) }
 {
     last.get() <= place.version.get() + count as u64
@@ -112,7 +114,7 @@ fn is_refused(
 }
 
 /// A monitor asks for what follows a place, under its cookie.
-pub fn give_chunk(
+pub(crate) fn give_chunk(
     alloc: Global,
     kv: &Kv,
     me: &Me,

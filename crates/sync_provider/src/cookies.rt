@@ -18,7 +18,7 @@ use mon_types::{GREATEST, Rank, Version, Which};
 use std::alloc::Global;
 
 /// One message is sent, and nothing else is done.
-pub fn answer(
+pub(crate) fn answer(
     alloc: Global,
     stored: &Stored<'_>,
     me: &Me,
@@ -56,7 +56,7 @@ fn with_cookie(state: &Provider, of: Rank, cookie: Cookie) -> Provider
 }
 
 /// A monitor gets a new cookie, for a whole copy or for the versions that it lacks.
-pub fn grant(
+pub(crate) fn grant(
     alloc: Global,
     stored: &Stored<'_>,
     me: &Me,
@@ -94,14 +94,14 @@ pub fn grant(
 }
 
 /// Whether some of the versions after `last` aren't kept any more.
-pub fn lacks(stored: &Stored<'_>, last: Version) -> bool
+pub(crate) fn lacks(stored: &Stored<'_>, last: Version) -> bool
     ensures { result ≡ nat_lt (suc last) (readings_of stored.now).first }
 {
     stored.first().get() > last.get() + 1
 }
 
 /// A monitor asks for the versions above its last one.
-pub fn grant_recent(
+pub(crate) fn grant_recent(
     alloc: Global,
     stored: &Stored<'_>,
     me: &Me,

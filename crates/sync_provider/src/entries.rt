@@ -1,10 +1,13 @@
 //! How much of a monitor's shared entries a chunk takes.
 
 ghost use Rattle.std.specs.Prelude.{◌≡◌, ℕ, ◌+◌, ◌-◌, ◌≤◌, ◌<◌, ◌^◌, List, [], false, nat_le, take, min, sum_by, length, IfOk};
+ghost use Rattle.mon_bytes.specs.declared.limits.TheConstants.{MOST_MESSAGE};
 ghost use Rattle.mon_tx.specs.declared.op.Op.{Op};
 ghost use Rattle.mon_msg.specs.Protocol.Parts.{entry_length, key_place_length, place_length, value_length};
 ghost use Rattle.mon_msg.specs.Protocol.Providing.{is_finished, reach};
 ghost use Rattle.mon_wire.specs.declared.parts.Cookie.{Cookie};
+ghost use Rattle.mon_wire.specs.declared.write_lists.TheConstants.{MOST_ITEMS};
+ghost use Rattle.sync_provider.specs.declared.entries.TheConstants.{BESIDES_LAST};
 ghost use Rattle.sync_provider.specs.Rows.{left_after};
 ghost use Rattle.sync_provider.specs.Taken.{IsTaken, IsGiven};
 
@@ -13,10 +16,10 @@ use mon_kv::{KeyRun, Kv};
 use mon_msg::{MOST_BYTES, MOST_ITEMS, Place};
 
 /// How many bytes a CHUNK takes besides its place, its values and its entries.
-pub const BESIDES: usize = 33;
+pub(crate) const BESIDES: usize = 33;
 
 /// How many a LAST_CHUNK takes.
-pub const BESIDES_LAST: usize = 40;
+pub(crate) const BESIDES_LAST: usize = 40;
 
 fn key_place_len(at: &KeyPlace) -> usize
     ensures value { result ≡ key_place_length at.now }
@@ -30,7 +33,7 @@ fn key_place_len(at: &KeyPlace) -> usize
 }
 
 /// How many bytes a place takes in a message.
-pub fn place_len(at: &Place) -> usize
+pub(crate) fn place_len(at: &Place) -> usize
     ensures value { result ≡ place_length at.now }
     ensures most { result < 2 ^ 11 }
 {
@@ -55,7 +58,7 @@ fn entries_len(entries: &[Entry]) -> usize
 }
 
 /// Whether no shared entry is left after a place.
-pub fn is_end(kv: &Kv, place: &Place) -> Result<bool, OutOfMemory>
+pub(crate) fn is_end(kv: &Kv, place: &Place) -> Result<bool, OutOfMemory>
     ensures { IfOk result (λ end. end ≡ is_finished place.now (left_after kv.now place.now.key) []) }
 {
     let found = kv.chunk_from(&place.key, 0, 0)?;
@@ -64,7 +67,7 @@ pub fn is_end(kv: &Kv, place: &Place) -> Result<bool, OutOfMemory>
 
 /// Whether a last chunk whose place and values take `bytes` bytes has room for these entries.
 fn are_last(entries: &[Entry], bytes: usize) -> bool
-    ensures { result ≡ nat_le (40 + bytes + sum_by entry_length entries.now) 1048576 }
+    ensures { result ≡ nat_le (BESIDES_LAST + bytes + sum_by entry_length entries.now) MOST_MESSAGE }
 {
     entries_len(entries)
         .saturating_add(bytes)
@@ -106,14 +109,14 @@ fn longest_entries(kv: &Kv, place: &Place, bytes: usize) -> Result<KeyRun, OutOf
 
 /// The entries of a chunk whose place and values take `bytes` bytes, and whether none is left after them. There are
 /// none if the values don't reach the last version.
-pub fn given_entries(
+pub(crate) fn given_entries(
     kv: &Kv,
     place: &Place,
     bytes: usize,
     reaches: bool,
 ) -> Result<KeyRun, OutOfMemory>
     ensures { IfOk result (λ run. (last n : ℕ) (c : Cookie) (values : List (List Op)) →
-        reach last place.now values ≡ reaches → length values ≤ 65535 →
+        reach last place.now values ≡ reaches → length values ≤ MOST_ITEMS →
         bytes ≡ place_length place.now + sum_by value_length values →
         IsGiven last c place.now (left_after kv.now place.now.key) n values run) }
 {

@@ -11,6 +11,7 @@ ghost use Rattle.mon_msg.specs.Protocol.Played.{Fits};
 ghost use Rattle.mon_msg.specs.Protocol.Readings.{Readings, readings_of};
 ghost use Rattle.mon_msg.specs.declared.view.Me.{Me};
 ghost use Rattle.mon_wire.specs.declared.phase.Phase.TheVariants as phase;
+ghost use Rattle.mon_wire.specs.declared.write_lists.TheConstants.{MOST_ITEMS};
 ghost use Rattle.mon_plan.specs.Leaves.{Leaves};
 ghost use Rattle.mon_plan.specs.Plans.{PlansRow};
 ghost use Rattle.sync_requester.specs.Copied.{copied, Copies, Takes};
@@ -85,7 +86,7 @@ fn take(
     done: bool,
 ) -> Result<Taken, RoleStop>
     requires short { AllByRecursion (λ ops. length (text ops) ≤ most) values.now }
-    requires few { length values.now ≤ 65535 }
+    requires few { length values.now ≤ MOST_ITEMS }
     ensures { Takes state.now place.now values.now entries.now done result }
 {
     let count = values.len() as u64;
@@ -122,7 +123,7 @@ fn at_place(state: &Requester, place: Place) -> Requester
 }
 
 /// The provider gives a chunk, after which there is another one.
-pub fn hear_chunk(
+pub(crate) fn hear_chunk(
     alloc: Global,
     kv: &Kv,
     me: &Me,
@@ -135,7 +136,7 @@ pub fn hear_chunk(
     now: Moment,
 ) -> Result<Plan<Requester>, RoleStop>
     requires short { AllByRecursion (λ ops. length (text ops) ≤ most) values.now }
-    requires few { length values.now ≤ 65535 }
+    requires few { length values.now ≤ MOST_ITEMS }
     ensures plans { (f : ℕ) → PlansRow me.now now requester_is (IsHeard (readings_of kv.now) state.now f)
         (hear_chunk me.now now f cookie place.now values.now entries.now done) result }
     ensures leaves { IfOk result (λ plan. Leaves phase.Synchronizing plan.next plan.tx) }
@@ -178,7 +179,7 @@ fn end_copy(
 ) -> Result<Plan<Requester>, RoleStop>
     requires full { state.now.full ≡ true }
     requires short { AllByRecursion (λ ops. length (text ops) ≤ most) values.now }
-    requires few { length values.now ≤ 65535 }
+    requires few { length values.now ≤ MOST_ITEMS }
     ensures plans { (me : Me) (w : Readings) (f : ℕ) →
         PlansRow me now requester_is (IsHeard w state.now f)
         (take_last me now place.now values.now entries.now last) result }
@@ -216,7 +217,7 @@ fn end_recent(
 ) -> Result<Plan<Requester>, RoleStop>
     requires recent { state.now.full ≡ false }
     requires short { AllByRecursion (λ ops. length (text ops) ≤ most) values.now }
-    requires few { length values.now ≤ 65535 }
+    requires few { length values.now ≤ MOST_ITEMS }
     ensures plans { (me : Me) (w : Readings) (now f last : ℕ) →
         PlansRow me now requester_is (IsHeard w state.now f)
         (take_last me now place.now values.now entries.now last) result }
@@ -235,7 +236,7 @@ fn end_recent(
 }
 
 /// The provider gives the last chunk, with its last version.
-pub fn hear_last_chunk(
+pub(crate) fn hear_last_chunk(
     alloc: Global,
     state: &Requester,
     cookie: Cookie,
@@ -246,7 +247,7 @@ pub fn hear_last_chunk(
     now: Moment,
 ) -> Result<Plan<Requester>, RoleStop>
     requires short { AllByRecursion (λ ops. length (text ops) ≤ most) values.now }
-    requires few { length values.now ≤ 65535 }
+    requires few { length values.now ≤ MOST_ITEMS }
     ensures plans { (me : Me) (w : Readings) (f : ℕ) →
         PlansRow me now requester_is (IsHeard w state.now f)
         (hear_last_chunk me now f cookie place.now values.now entries.now last) result }

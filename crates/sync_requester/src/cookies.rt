@@ -89,7 +89,7 @@ pub(crate) fn asking(
 }
 
 /// After these changes, the chunk that follows the requester's place is asked for.
-pub fn ask(
+pub(crate) fn ask(
     alloc: Global,
     me: &Me,
     epoch: Epoch,
@@ -119,7 +119,7 @@ pub fn ask(
 }
 
 /// The provider grants a cookie, for a whole copy or for the versions that are lacking.
-pub fn hear_cookie(
+pub(crate) fn hear_cookie(
     alloc: Global,
     stored: &Stored<'_>,
     me: &Me,
@@ -143,7 +143,7 @@ pub fn hear_cookie(
 }
 
 /// Whether a cookie that the provider doesn't know is the own one.
-pub fn is_own_cookie(state: &Requester, cookie: Cookie) -> bool
+pub(crate) fn is_own_cookie(state: &Requester, cookie: Cookie) -> bool
     ensures { result ≡ is_cookie cookie state.now.cookie }
 {
     match state.cookie {
@@ -168,7 +168,7 @@ fn is_lost(state: &Requester, cookie: Cookie) -> bool
 }
 
 /// The provider doesn't know a cookie, or can't grant one.
-pub fn hear_no_cookie(
+pub(crate) fn hear_no_cookie(
     alloc: Global,
     state: &Requester,
     cookie: Cookie,

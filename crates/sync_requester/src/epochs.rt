@@ -33,7 +33,7 @@ fn speak_of_monitor(ops: &[Op]) -> bool
 }
 
 /// The epoch that a store has after changes. Changes that don't set it, such as those of a provider, take no memory.
-pub fn epoch_after(alloc: Global, kv: &Kv, tx: &Transaction) -> Result<Epoch, OutOfMemory>
+pub(crate) fn epoch_after(alloc: Global, kv: &Kv, tx: &Transaction) -> Result<Epoch, OutOfMemory>
     ensures { IfOk result (λ epoch. epoch ≡ epoch_of (readings_of (apply tx.now kv.now))) }
 {
     if speak_of_monitor(tx.ops()) {

@@ -27,7 +27,7 @@ fn is_same_key_place(a: &KeyPlace, b: &KeyPlace) -> bool
 }
 
 /// Whether two places are the same.
-pub fn is_same_place(a: &Place, b: &Place) -> bool
+pub(crate) fn is_same_place(a: &Place, b: &Place) -> bool
     ensures { result ≡ same_place a.now b.now }
 {
     a.version == b.version && is_same_key_place(&a.key, &b.key)
@@ -35,7 +35,7 @@ pub fn is_same_place(a: &Place, b: &Place) -> bool
 
 /// Where a synchronisation begins: a whole copy after the provider's last version and before every key, a recent one
 /// after the own last version.
-pub fn first_place(full: bool, last: Version, own: Version) -> Place
+pub(crate) fn first_place(full: bool, last: Version, own: Version) -> Place
     ensures { result ≡ first_place full last own }
 {
     if full {
@@ -64,7 +64,7 @@ fn after_entries(alloc: Global, entries: &[Entry], key: &KeyPlace) -> Result<Key
 }
 
 /// The place among the keys after a chunk with these entries, which may say that none is left.
-pub fn next_key_place(
+pub(crate) fn next_key_place(
     alloc: Global,
     entries: &[Entry],
     done: bool,

@@ -149,7 +149,7 @@ fn go_on(
 
 /// A step of the replay of the versions from `next` to `end`. After the last of them the copy is over; if a record is
 /// missing the monitor begins again, and nothing of the step is written.
-pub fn replay(
+pub(crate) fn replay(
     alloc: Global,
     stored: &Stored<'_>,
     state: &Requester,
