@@ -20,7 +20,7 @@ use Rattle.mon_msg.specs.declared.plan.Origin.{Origin}
 use Rattle.mon_msg.specs.declared.plan.Origin.TheVariants as origin
 use Rattle.mon_msg.specs.declared.view.Me.{Me}
 use Rattle.mon_msg.specs.Protocol.Changes.{Change, Epoch, Promise, Vote}
-use Rattle.mon_msg.specs.Protocol.Commands.{most_waiting, is_too_long, too_long, wait_under, hand_on, may_propose, at_leader, at_peon, ask, hear_forward, propose_due}
+use Rattle.mon_msg.specs.Protocol.Commands.{is_too_long, too_long, wait_under, hand_on, may_propose, at_leader, at_peon, ask, hear_forward, propose_due}
 use Rattle.mon_msg.specs.Protocol.Course.{Course, change, elector_is, clients_are, leader_is}
 use Rattle.mon_msg.specs.Protocol.Elections.{is_allowed, stands_before, may_defer, table_or, merge, is_whole, weigh, hear_propose, count_ack, hear_ack, election_ends, hear_victory}
 use Rattle.mon_msg.specs.Protocol.Leader.{all_answered, is_one_of, of_member, note_told, note, hear_whole, hear_answer, hear_last, commit_any, hear_accept}
@@ -48,6 +48,7 @@ use Rattle.mon_msg.specs.Protocol.Entering.{is_even, bootstrap, elect, adopt}
 use Rattle.mon_msg.specs.Protocol.Sets.{is_empty, are_within}
 use Rattle.mon_msg.specs.Protocol.State.{State, quorum_of}
 use Rattle.mon_msg.specs.Protocol.Value.{service_of, value}
+use Rattle.mon_msg.specs.declared.limits.TheConstants.{MOST_WAITING}
 use Rattle.log_copies.proofs.Acts.{Then, done, and_then, where_fits, by_test, HasAt, Has, within, says_one, says_answer, says_reply, changes, changes_if, learns, commits, begins, settles, collects, bootstraps, elects, wins, adopts}
 use Rattle.log_copies.proofs.Telling.{news_versions, news_begin}
 use Rattle.log_model.specs.LogOfValues.{AllValues}
@@ -275,7 +276,7 @@ module _ (log : List (List ℕ)) (fits : length log ≤ 2 ^ 62) (all : AllValues
   leads_command : (c : Command) (o : Origin) (x : Course) → HasOthers me x.state.leader.quorum → OnLog x → Then OnLog (at_leader me now c o x)
   leads_command c o x others H =
       branch {b = is_too_long c} (λ t. done OnLog _ (tells_answer (epoch_of x.readings) o (too_long c) tt H)) (λ t. branch {b = may_propose me now x && not (has_queue x)} (λ u. proposes c o x others H)
-      (λ u. branch {b = leb most_waiting (length x.state.clients.queue)} (λ v. done OnLog _ (tells_answer (epoch_of x.readings) o (reply.Busy most_waiting) tt H)) (λ v. ok H)))
+      (λ u. branch {b = leb MOST_WAITING (length x.state.clients.queue)} (λ v. done OnLog _ (tells_answer (epoch_of x.readings) o (reply.Busy MOST_WAITING) tt H)) (λ v. ok H)))
 
   hands_on : (c : Command) (s : Session) (x : Course) → OnLog x → Then OnLog (hand_on me c s x)
   hands_on c s x H =
@@ -285,7 +286,7 @@ module _ (log : List (List ℕ)) (fits : length log ≤ 2 ^ 62) (all : AllValues
   peon_command : (c : Command) (s : Session) (x : Course) → OnLog x → Then OnLog (at_peon me c s x)
   peon_command c s x H =
       branch {b = is_too_long c} (λ t. done OnLog _ (tells_reply s (too_long c) tt H))
-      (λ t. branch {b = leb most_waiting (length x.state.clients.sessions)} (λ u. done OnLog _ (tells_reply s (reply.Busy most_waiting) tt H)) (λ u. hands_on c s x H))
+      (λ t. branch {b = leb MOST_WAITING (length x.state.clients.sessions)} (λ u. done OnLog _ (tells_reply s (reply.Busy MOST_WAITING) tt H)) (λ u. hands_on c s x H))
 
   pub asked : (s : Session) (c : Command) (x : Course) → (is_leading x.state.phase ≡ true → HasOthers me x.state.leader.quorum) → OnLog x → Then OnLog (ask me now s c x)
   unfolding ask

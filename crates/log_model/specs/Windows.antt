@@ -14,31 +14,31 @@ use Rattle.mon_msg.specs.Fold.{entry, incrementals, map_after, map_of_log, versi
 use Rattle.mon_msg.specs.Protocol.Parts.{map_text}
 use Rattle.mon_msg.specs.Protocol.Services.{service_last, read_map}
 use Rattle.mon_msg.specs.Protocol.Reads.{changes_after, since}
-use Rattle.mon_msg.specs.Protocol.Rules.{full_every, service_keeps, service_goes, paxos_due, paxos_keeps}
 use Rattle.mon_msg.specs.Protocol.Readings.{Readings}
+use Rattle.mon_msg.specs.declared.limits.TheConstants.{FULL_EVERY, PAXOS_DUE, PAXOS_KEEPS, SERVICE_GOES, SERVICE_KEEPS}
 
 -- ---- which versions
 
 -- The first version of a service that is kept, if it has n versions. Once as many lie after it as make a trim due,
 -- `service_goes` are erased, and `service_keeps` lie after the new first one.
 abbrev pub service_from : ℕ → ℕ
-service_from n = service_goes * ((n - suc service_keeps) / service_goes) + 1
+service_from n = SERVICE_GOES * ((n - suc SERVICE_KEEPS) / SERVICE_GOES) + 1
 
 -- How many versions of the log are erased at a time. It is trimmed if more than `paxos_due` lie after the first one, and then
 -- `paxos_keeps` do.
 abbrev pub log_goes : ℕ
-log_goes = suc paxos_due - paxos_keeps
+log_goes = suc PAXOS_DUE - PAXOS_KEEPS
 
 -- The first version of the log that is kept, if it has c versions. A trim comes with a version, and counts those before it.
 abbrev pub log_from : ℕ → ℕ
-log_from c = log_goes * ((c - suc (suc paxos_keeps)) / log_goes) + 1
+log_from c = log_goes * ((c - suc (suc PAXOS_KEEPS)) / log_goes) + 1
 
 -- from one version up to another
 abbrev pub within : ℕ → ℕ → ℕ → Bool
 within from to v = covers from to (key.Version v)
 
 abbrev pub is_full : ℕ → Bool
-is_full v = v % full_every == 0
+is_full v = v % FULL_EVERY == 0
 
 -- ---- what is kept
 
@@ -51,7 +51,7 @@ where_any (suc n) bytes = Some bytes
 abbrev pub service_row : ℕ → (incremental full : ℕ → List ℕ) → Key → Cell
 service_row n incremental full key.FirstCommitted = where_any n (number_bytes (service_from n))
 service_row n incremental full key.LastCommitted = where_any n (number_bytes n)
-service_row n incremental full key.FullLatest = if nat_lt n full_every then None else Some (number_bytes (full_every * (n / full_every)))
+service_row n incremental full key.FullLatest = if nat_lt n FULL_EVERY then None else Some (number_bytes (FULL_EVERY * (n / FULL_EVERY)))
 service_row n incremental full (key.Version v) = if within (service_from n) (suc n) v then Some (incremental v) else None
 service_row n incremental full (key.Full v) = if within (service_from n) (suc n) v && is_full v then Some (full v) else None
 service_row n incremental full other = None

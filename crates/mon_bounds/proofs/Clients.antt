@@ -13,7 +13,7 @@ use Rattle.mon_bytes.specs.declared.command.Command.TheVariants as command
 use Rattle.mon_bytes.specs.declared.command.Command.{Command}
 use Rattle.mon_bytes.specs.declared.command.CommandRefused.TheVariants as refused
 use Rattle.mon_bytes.specs.declared.command.CommandRefused.{CommandRefused}
-use Rattle.mon_msg.specs.Protocol.Commands.{ask, at_leader, at_peon, hand_on, hear_forward, hear_route, is_too_long, may_propose, most_text, most_waiting, propose_due, queue_up, text_length, too_long}
+use Rattle.mon_msg.specs.Protocol.Commands.{ask, at_leader, at_peon, hand_on, hear_forward, hear_route, is_too_long, may_propose, most_text, propose_due, queue_up, text_length, too_long}
 use Rattle.mon_msg.specs.Protocol.Course.{Course, clients_are, ◌▸◌}
 use Rattle.mon_msg.specs.Protocol.Hearing.{hear_client}
 use Rattle.mon_msg.specs.Protocol.Leader.{of_member}
@@ -35,6 +35,7 @@ use Rattle.mon_msg.specs.declared.plan.Origin.TheVariants as origin
 use Rattle.mon_msg.specs.declared.plan.Origin.{Origin}
 use Rattle.mon_msg.specs.declared.plan.Sent.TheVariants as sent
 use Rattle.mon_msg.specs.declared.view.Me.{Me}
+use Rattle.mon_msg.specs.declared.limits.TheConstants.{MOST_WAITING}
 use Rattle.mon_tx.specs.declared.op.Op.{Op}
 use Rattle.mon_tx.specs.declared.key.Key.TheVariants as key
 use Rattle.mon_types.specs.declared.names.Which.TheVariants as which
@@ -73,7 +74,7 @@ module _ (me : Me) (now : ℕ) where
   pub unavailable : Answers me reply.Unavailable
   unavailable = record { form = tt; length = omega arith; lists = λ id. refl }
 
-  busy : Routed me (reply.Busy most_waiting)
+  busy : Routed me (reply.Busy MOST_WAITING)
   busy = record { routed = refl; form = omega arith }
 
   most_short : (c : Command) → most_text c ≤ 2 ^ 62
@@ -134,8 +135,8 @@ module _ (me : Me) (now : ℕ) where
       (λ _. over me 0 _ (omega arith) (says me (answer_to me (epoch_of x.readings) o (too_long c) ∷ []) 0 _ _ _ (answers_go me now (Some o) (too_long c) (epoch_of x.readings) A.0.numbers.epoch O (long c form.1)) A.0, A.1))
       (λ t. let short = ltb-false (most_text c) (text_length c) t in
       by_test (may_propose me now x && not (has_queue x)) (λ _. propose_ok c o x form.0 short O A) (λ _.
-      by_test (leb most_waiting (length x.state.clients.queue))
-      (λ _. over me 0 _ (omega arith) (says me (answer_to me (epoch_of x.readings) o (reply.Busy most_waiting) ∷ []) 0 _ _ _ (answers_go me now (Some o) (reply.Busy most_waiting) (epoch_of x.readings) A.0.numbers.epoch O busy) A.0, A.1))
+      by_test (leb MOST_WAITING (length x.state.clients.queue))
+      (λ _. over me 0 _ (omega arith) (says me (answer_to me (epoch_of x.readings) o (reply.Busy MOST_WAITING) ∷ []) 0 _ _ _ (answers_go me now (Some o) (reply.Busy MOST_WAITING) (epoch_of x.readings) A.0.numbers.epoch O busy) A.0, A.1))
       (λ _. over me 0 (queue_up c o x) (omega arith) (queued c o x form.0 short O A))))
     where
       queued : (c : Command) (o : Origin) (x : Course) → IsCommand c → text_length c ≤ most_text c → IsOrigin n o → Under me 0 x → Under me 0 (queue_up c o x)
@@ -155,7 +156,7 @@ module _ (me : Me) (now : ℕ) where
   at_peon_ok : (c : Command) (s : Session) (x : Course) → MayAsk c → IsNumber s.id → Under me 0 x → Then (Over me) (at_peon me c s x)
   at_peon_ok c s x form id A =
       by_test (is_too_long c) (λ _. over me 0 _ (omega arith) (replies_ok s (too_long c) x id (routed_answers me (too_long c) (long c form.1)) A)) (λ t.
-      by_test (leb most_waiting (length x.state.clients.sessions)) (λ _. over me 0 _ (omega arith) (replies_ok s (reply.Busy most_waiting) x id (routed_answers me (reply.Busy most_waiting) busy) A))
+      by_test (leb MOST_WAITING (length x.state.clients.sessions)) (λ _. over me 0 _ (omega arith) (replies_ok s (reply.Busy MOST_WAITING) x id (routed_answers me (reply.Busy MOST_WAITING) busy) A))
       (λ _. hand_on_ok c s x form.0 (ltb-false (most_text c) (text_length c) t) id A))
 
   ask_ok : (s : Session) (c : Command) (x : Course) → IsNumber s.id → MayAsk c → Under me 0 x → Then (Over me) (ask me now s c x)

@@ -6,6 +6,7 @@ ghost use Rattle.mon_msg.specs.Protocol.Course.{clients_are};
 ghost use Rattle.mon_msg.specs.Protocol.Phases.{same_phase, is_leading, is_peon};
 ghost use Rattle.mon_msg.specs.Protocol.Readings.{readings_of};
 ghost use Rattle.mon_msg.specs.Protocol.Sets.{is_empty};
+ghost use Rattle.mon_msg.specs.declared.limits.TheConstants.{MOST_WAITING};
 ghost use Rattle.mon_wire.specs.declared.phase.Phase.TheVariants.{Active};
 ghost use Rattle.mon_plan.specs.Leaves.{Leaves};
 ghost use Rattle.mon_plan.specs.Plans.{PlansRow};
@@ -18,17 +19,16 @@ use mon_bytes::{Command, Items, OutOfMemory};
 use mon_kv::Kv;
 use mon_msg::plan::Sent;
 use mon_msg::{
-    Asked, Body, Clients, Me, Origin, Phase, Plan, Reply, RoleStop, Session, View, Waiting,
+    Asked, Body, Clients, MOST_WAITING, Me, Origin, Phase, Plan, Reply, RoleStop, Session, View,
+    Waiting,
 };
 use mon_plan::{answer, message, stay};
 use mon_types::{GREATEST, Moment, Which};
 use std::alloc::Global;
 
-/// At most this many commands queue at a leader, and at most this many sessions wait at a peon.
-const MOST_WAITING: u64 = 64;
 
 fn busy() -> Reply
-    ensures { result ≡ Reply.Busy 64 }
+    ensures { result ≡ Reply.Busy MOST_WAITING }
 {
     Reply::Busy {
         waiting: MOST_WAITING,
@@ -75,14 +75,14 @@ fn goes_first(view: &View, clients: &Clients) -> bool
 
 /// Whether no more commands may wait.
 fn is_queue_full(clients: &Clients) -> bool
-    ensures { result ≡ nat_le 64 (length clients.now.queue) }
+    ensures { result ≡ nat_le MOST_WAITING (length clients.now.queue) }
 {
     clients.queue.len() as u64 >= MOST_WAITING
 }
 
 /// Whether no more clients may wait.
 fn are_sessions_full(clients: &Clients) -> bool
-    ensures { result ≡ nat_le 64 (length clients.now.sessions) }
+    ensures { result ≡ nat_le MOST_WAITING (length clients.now.sessions) }
 {
     clients.sessions.len() as u64 >= MOST_WAITING
 }

@@ -13,7 +13,7 @@ use Rattle.mon_msg.specs.Protocol.Answers.{answer_of, last_answer, tells_all, to
 use Rattle.mon_msg.specs.Protocol.Changes.{Last, Learn}
 use Rattle.mon_msg.specs.Protocol.Chunks.{copy, hear_chunk, hear_last_chunk, is_ours, take, takes_chunks}
 use Rattle.mon_msg.specs.Protocol.Collecting.{begin_found, collect, collect_with, commits_to, commits_with, missed, reign, settle}
-use Rattle.mon_msg.specs.Protocol.Commands.{ask, at_leader, at_peon, hear_forward, hear_route, is_too_long, may_propose, most_waiting, propose_due, too_long}
+use Rattle.mon_msg.specs.Protocol.Commands.{ask, at_leader, at_peon, hear_forward, hear_route, is_too_long, may_propose, propose_due, too_long}
 use Rattle.mon_msg.specs.Protocol.Copying.{awaits_cookie, hear_cookie, hear_no_cookie, of_provider, same_flag}
 use Rattle.mon_msg.specs.Protocol.Course.{Course, disarm, elector_is, leader_is, leads_in, ◌▸◌}
 use Rattle.mon_msg.specs.Protocol.Elections.{election_ends, hear_ack, hear_propose, hear_victory, is_allowed, is_whole, may_defer, merge, stands_before, table_or, weigh}
@@ -56,6 +56,7 @@ use Rattle.mon_msg.specs.declared.plan.Sent.{Sent}
 use Rattle.mon_msg.specs.declared.synchronisation.SyncStage.TheVariants as sync
 use Rattle.mon_msg.specs.declared.synchronisation.SyncStage.{SyncStage}
 use Rattle.mon_msg.specs.declared.view.Me.{Me}
+use Rattle.mon_msg.specs.declared.limits.TheConstants.{MOST_WAITING}
 use Rattle.mon_tx.specs.Decision.{Cell}
 use Rattle.mon_tx.specs.declared.op.Op.{Op}
 use Rattle.mon_types.specs.Proposal.{next_number}
@@ -565,7 +566,7 @@ module _ (me : Me) (now : ℕ) (w : Readings) (s : State) (From : ℕ → Comman
       at_leads =
           by_test (is_too_long c) (λ _. quiet _ (answer_one_plain (epoch_of w) o (too_long c) tt) Z) (λ _.
           by_test (may_propose me now (at_rest w z) && not (has_queue (at_rest w z))) (λ t. proposes (and_three (same_phase z.phase phase.Active) (is_standing me now z) (not (has_queue (at_rest w z))) t).0) (λ _.
-          by_test (leb most_waiting (length z.clients.queue)) (λ _. quiet _ (answer_one_plain (epoch_of w) o (reply.Busy most_waiting) tt) Z) (λ _. quiet _ tt Z)))
+          by_test (leb MOST_WAITING (length z.clients.queue)) (λ _. quiet _ (answer_one_plain (epoch_of w) o (reply.Busy MOST_WAITING) tt) Z) (λ _. quiet _ tt Z)))
 
     replies : (t : Session) (r : Reply) → IsPlainReply r → Then Outcome (Ok (reply_to t r x0))
     replies t r k = quiet _ (k, tt) L
@@ -573,7 +574,7 @@ module _ (me : Me) (now : ℕ) (w : Readings) (s : State) (From : ℕ → Comman
     at_peons : (c : Command) (t : Session) → Then Outcome (at_peon me c t x0)
     at_peons c t =
         by_test (is_too_long c) (λ _. replies t (too_long c) tt) (λ _.
-        by_test (leb most_waiting (length s.clients.sessions)) (λ _. replies t (reply.Busy most_waiting) tt) (λ _. where_fits Outcome which.Seq s.clients.next_seq _ (λ _. quiet _ (tt, tt) L)))
+        by_test (leb MOST_WAITING (length s.clients.sessions)) (λ _. replies t (reply.Busy MOST_WAITING) tt) (λ _. where_fits Outcome which.Seq s.clients.next_seq _ (λ _. quiet _ (tt, tt) L)))
 
     asks : (t : Session) (c : Command) → From (epoch_of w) c (origin.Session t) → Then Outcome (ask me now t c x0)
     unfolding ask

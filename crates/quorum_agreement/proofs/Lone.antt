@@ -11,7 +11,7 @@ use Rattle.mon_bytes.specs.declared.entry.Entry.{Entry}
 use Rattle.mon_lease.specs.Lease.{readable}
 use Rattle.mon_msg.specs.Protocol.Changes.{Boot, Change, Epoch, Last, Learn, Numbers}
 use Rattle.mon_msg.specs.Protocol.Collecting.{begin_found, catch_up, collect, collect_with, commits_to, reign, settle}
-use Rattle.mon_msg.specs.Protocol.Commands.{ask, at_leader, at_peon, is_too_long, may_propose, most_waiting, propose_due, queue_up, too_long, wait_under}
+use Rattle.mon_msg.specs.Protocol.Commands.{ask, at_leader, at_peon, is_too_long, may_propose, propose_due, queue_up, too_long, wait_under}
 use Rattle.mon_msg.specs.Protocol.Course.{Course, arm_if, change, change_if, disarm, elector_is, forget_clients, in_phase, leader_is, leads_in, prober_is, ◌▸◌}
 use Rattle.mon_msg.specs.Protocol.Elections.{election_ends, is_allowed}
 use Rattle.mon_msg.specs.Protocol.Entering.{bootstrap, elect, in_next_epoch, in_odd_epoch, is_even, next_even, own_table, scores_count, win}
@@ -45,6 +45,7 @@ use Rattle.mon_msg.specs.declared.plan.Sent.{Sent}
 use Rattle.mon_msg.specs.declared.synchronisation.SyncStage.TheVariants as sync
 use Rattle.mon_msg.specs.declared.synchronisation.SyncStage.{SyncStage}
 use Rattle.mon_msg.specs.declared.view.Me.{Me}
+use Rattle.mon_msg.specs.declared.limits.TheConstants.{MOST_WAITING}
 use Rattle.mon_tx.specs.declared.op.Op.{Op}
 use Rattle.mon_types.specs.Proposal.{next_number}
 use Rattle.mon_types.specs.Ranks.{has, is_majority}
@@ -285,7 +286,7 @@ module _ (me : Me) (one : me.member.monitors ≡ 1) (now : ℕ) (g : Ghost) (G :
     at_leads c o s a =
         by_test (is_too_long c) (λ _. answered s s o (too_long c) (λ log. tt)) (λ _.
         by_test (may_propose me now (at_rest w s) && not (has_queue (at_rest w s))) (λ _. proposes c o s a) (λ _.
-        by_test (leb most_waiting (length s.clients.queue)) (λ _. answered s s o (reply.Busy most_waiting) (λ log. tt)) (λ _. quietly _ (rests (queue_up c o (at_rest w s)).state))))
+        by_test (leb MOST_WAITING (length s.clients.queue)) (λ _. answered s s o (reply.Busy MOST_WAITING) (λ log. tt)) (λ _. quietly _ (rests (queue_up c o (at_rest w s)).state))))
 
     replied : (s : State) (t : Session) (r : Reply) → Then Outcome (Ok (reply_to t r (at_rest w s)))
     replied s t r = quietly _ (says_quiet s (sent.Reply t r ∷ []) (at_rest w s) (tt, tt) (rests s))
@@ -293,7 +294,7 @@ module _ (me : Me) (one : me.member.monitors ≡ 1) (now : ℕ) (g : Ghost) (G :
     at_peons : (c : Command) (t : Session) (s : State) → Then Outcome (at_peon me c t (at_rest w s))
     at_peons c t s =
         by_test (is_too_long c) (λ _. replied s t (too_long c)) (λ _.
-        by_test (leb most_waiting (length s.clients.sessions)) (λ _. replied s t (reply.Busy most_waiting)) (λ _.
+        by_test (leb MOST_WAITING (length s.clients.sessions)) (λ _. replied s t (reply.Busy MOST_WAITING)) (λ _.
         where_fits Outcome which.Seq s.clients.next_seq _ (λ _. quietly _ (says_quiet (wait_under s.clients.next_seq t (at_rest w s)).state (message_to me (epoch_of w) (body.Forward s.clients.next_seq c) s.peon.leader ∷ []) (at_rest w s) ((λ log. tt), tt) (rests s)))))
 
     asks : (t : Session) (c : Command) (s : State) → Asks g i t c → Then Outcome (ask me now t c (at_rest w s))

@@ -6,7 +6,7 @@ use Rattle.mon_bytes.specs.declared.command.CommandRefused.{CommandRefused}
 use Rattle.mon_bytes.specs.declared.entry.Entry.{Entry}
 use Rattle.mon_lease.specs.Lease.{readable}
 use Rattle.mon_msg.specs.Protocol.Changes.{Last, Learn, Vote}
-use Rattle.mon_msg.specs.Protocol.Commands.{ask, at_leader, at_peon, hear_forward, is_too_long, may_propose, most_waiting, propose_due, too_long}
+use Rattle.mon_msg.specs.Protocol.Commands.{ask, at_leader, at_peon, hear_forward, is_too_long, may_propose, propose_due, too_long}
 use Rattle.mon_msg.specs.Protocol.Course.{Course, disarm, leads_in, ◌▸◌}
 use Rattle.mon_msg.specs.Protocol.Hearing.{hear, hear_client, is_heard}
 use Rattle.mon_msg.specs.Protocol.Leader.{is_one_of, of_member}
@@ -31,6 +31,7 @@ use Rattle.mon_msg.specs.declared.plan.Origin.{Origin}
 use Rattle.mon_msg.specs.declared.plan.Sent.TheVariants as sent
 use Rattle.mon_msg.specs.declared.plan.Sent.{Sent}
 use Rattle.mon_msg.specs.declared.view.Me.{Me}
+use Rattle.mon_msg.specs.declared.limits.TheConstants.{MOST_WAITING}
 use Rattle.mon_tx.specs.declared.op.Op.{Op}
 use Rattle.mon_types.specs.Ranks.{has}
 use Rattle.mon_types.specs.declared.names.Which.TheVariants as which
@@ -196,7 +197,7 @@ module _ (me : Me) (now : ℕ) (w : Readings) (s : State) (Source : Command → 
     at_leads =
         by_test (is_too_long c) (λ _. done (refuses (too_long c))) (λ _.
         by_test (may_propose me now (at_rest w z) && not (has_queue (at_rest w z))) (λ t. proposes (and_three (same_phase z.phase phase.Active) (is_standing me now z) (not (has_queue (at_rest w z))) t).0) (λ _.
-        by_test (leb most_waiting (length z.clients.queue)) (λ _. done (refuses (reply.Busy most_waiting))) (λ _. done (record {
+        by_test (leb MOST_WAITING (length z.clients.queue)) (λ _. done (refuses (reply.Busy MOST_WAITING))) (λ _. done (record {
           command = c;
           origin = o;
           others = z.clients.queue;
@@ -248,7 +249,7 @@ module _ (me : Me) (now : ℕ) (w : Readings) (s : State) (Source : Command → 
   at_peons : (c : Command) (t : Session) (r : Request) → is_peon s.phase ≡ true → Asks t c → Then (Outcome (input.Client t r)) (at_peon me c t x0)
   at_peons c t r peon A =
       by_test (is_too_long c) (λ _. resting (input.Client t r) (sent.Reply t (too_long c) ∷ []) (tt, tt)) (λ _.
-      by_test (leb most_waiting (length s.clients.sessions)) (λ _. resting (input.Client t r) (sent.Reply t (reply.Busy most_waiting) ∷ []) (tt, tt)) (λ _.
+      by_test (leb MOST_WAITING (length s.clients.sessions)) (λ _. resting (input.Client t r) (sent.Reply t (reply.Busy MOST_WAITING) ∷ []) (tt, tt)) (λ _.
       where_fits (Outcome (input.Client t r)) which.Seq s.clients.next_seq _ (λ _. done (inr (inr (record {
         session = t;
         command = c;

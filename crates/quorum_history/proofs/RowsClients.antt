@@ -4,7 +4,7 @@ use Rattle.mon_bytes.specs.declared.command.Command.TheVariants as command
 use Rattle.mon_bytes.specs.declared.command.Command.{Command}
 use Rattle.mon_bytes.specs.declared.command.CommandRefused.{CommandRefused}
 use Rattle.mon_lease.specs.Lease.{readable}
-use Rattle.mon_msg.specs.Protocol.Commands.{ask, at_leader, at_peon, hand_on, hear_forward, hear_route, is_too_long, may_propose, most_waiting, propose_due, queue_up, too_long, wait_under}
+use Rattle.mon_msg.specs.Protocol.Commands.{ask, at_leader, at_peon, hand_on, hear_forward, hear_route, is_too_long, may_propose, propose_due, queue_up, too_long, wait_under}
 use Rattle.mon_msg.specs.Protocol.Course.{Course, clients_are, ◌▸◌}
 use Rattle.mon_msg.specs.Protocol.Hearing.{hear_client}
 use Rattle.mon_msg.specs.Protocol.Leader.{of_member}
@@ -25,6 +25,7 @@ use Rattle.mon_msg.specs.declared.plan.Origin.TheVariants as origin
 use Rattle.mon_msg.specs.declared.plan.Origin.{Origin}
 use Rattle.mon_msg.specs.declared.plan.Sent.TheVariants as sent
 use Rattle.mon_msg.specs.declared.view.Me.{Me}
+use Rattle.mon_msg.specs.declared.limits.TheConstants.{MOST_WAITING}
 use Rattle.mon_tx.specs.declared.op.Op.{Op}
 use Rattle.mon_types.specs.Ranks.{has}
 use Rattle.mon_types.specs.declared.names.Which.TheVariants as which
@@ -102,7 +103,7 @@ module _ (me : Me) (now : ℕ) (g : Ghost) (Known : ℕ → List Op → Type 0) 
   at_leader_holds made c o x form rank last makes lead source A =
       by_test (is_too_long c) (λ _. done (answered_one _ o (too_long c) x A)) (λ _.
       by_test (may_propose me now x && not (has_queue x)) (λ w. proposes made c o x form rank last makes (source_asked x (epoch_of x.readings) c o A (source_lasts i g A.h A.ext i (epoch_of x.readings) c o source)) (active_is x.state.phase ((and_three (same_phase x.state.phase phase.Active) (is_standing me now x.state) (not (has_queue x)) w).0)) A) (λ _.
-      by_test (leb most_waiting (length x.state.clients.queue)) (λ _. done (answered_one _ o (reply.Busy most_waiting) x A)) (λ _. done (queued_up c o x lead source A))))
+      by_test (leb MOST_WAITING (length x.state.clients.queue)) (λ _. done (answered_one _ o (reply.Busy MOST_WAITING) x A)) (λ _. done (queued_up c o x lead source A))))
 
   -- ---- at a peon
 
@@ -131,7 +132,7 @@ module _ (me : Me) (now : ℕ) (g : Ghost) (Known : ℕ → List Op → Type 0) 
   at_peon_holds : (c : Command) (s : Session) (x : Course) → x.state.phase ≡ phase.Peon → Asks g i s c → Good me g Known x → Then (Good me g Known) (at_peon me c s x)
   at_peon_holds c s x peon ask A =
       by_test (is_too_long c) (λ _. done (replies _ s (too_long c) x A)) (λ _.
-      by_test (leb most_waiting (length x.state.clients.sessions)) (λ _. done (replies _ s (reply.Busy most_waiting) x A)) (λ _. hand_on_holds c s x peon ask A))
+      by_test (leb MOST_WAITING (length x.state.clients.sessions)) (λ _. done (replies _ s (reply.Busy MOST_WAITING) x A)) (λ _. hand_on_holds c s x peon ask A))
 
   -- ---- rows
 

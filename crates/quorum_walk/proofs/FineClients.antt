@@ -4,7 +4,7 @@ use Rattle.mon_bytes.specs.declared.command.Command.TheVariants as command
 use Rattle.mon_bytes.specs.declared.command.Command.{Command}
 use Rattle.mon_bytes.specs.declared.command.CommandRefused.{CommandRefused}
 use Rattle.mon_lease.specs.Lease.{readable}
-use Rattle.mon_msg.specs.Protocol.Commands.{ask, at_leader, at_peon, hear_forward, hear_route, is_too_long, may_propose, most_waiting, propose_due, too_long}
+use Rattle.mon_msg.specs.Protocol.Commands.{ask, at_leader, at_peon, hear_forward, hear_route, is_too_long, may_propose, propose_due, too_long}
 use Rattle.mon_msg.specs.Protocol.Course.{Course, clients_are}
 use Rattle.mon_msg.specs.Protocol.Hearing.{hear_client}
 use Rattle.mon_msg.specs.Protocol.Leader.{of_member}
@@ -26,6 +26,7 @@ use Rattle.mon_msg.specs.declared.plan.Origin.TheVariants as origin
 use Rattle.mon_msg.specs.declared.plan.Origin.{Origin}
 use Rattle.mon_msg.specs.declared.plan.Sent.TheVariants as sent
 use Rattle.mon_msg.specs.declared.view.Me.{Me}
+use Rattle.mon_msg.specs.declared.limits.TheConstants.{MOST_WAITING}
 use Rattle.mon_tx.specs.declared.op.Op.{Op}
 use Rattle.mon_types.specs.declared.names.Which.TheVariants as which
 use Rattle.mon_wire.specs.declared.body.Body.TheVariants as body
@@ -71,13 +72,13 @@ module _ (me : Me) (now : ℕ) (w0 : Base me) where
   at_leader_fine made c o x form rank A =
       by_test (is_too_long c) (λ _. over w0 (answer_one_fine o (too_long c) x A)) (λ _.
       by_test (may_propose me now x && not (has_queue x)) (λ _. propose_fine made c o x form rank A) (λ _.
-      by_test (leb most_waiting (length x.state.clients.queue)) (λ _. over w0 (answer_one_fine o (reply.Busy most_waiting) x A))
+      by_test (leb MOST_WAITING (length x.state.clients.queue)) (λ _. over w0 (answer_one_fine o (reply.Busy MOST_WAITING) x A))
       (λ _. over w0 (queue_fine _ x A (all_append WaitingFine x.state.clients.queue (record { command = c; origin = o } ∷ []) A.state.queue ((form, rank), tt))))))
 
   at_peon_fine : (c : Command) (s : Session) (x : Course) → IsCommand c → Fine w0 x → Then (Ended w0) (at_peon me c s x)
   at_peon_fine c s x form A =
       by_test (is_too_long c) (λ _. over w0 (replies_fine s (too_long c) x A)) (λ _.
-      by_test (leb most_waiting (length x.state.clients.sessions)) (λ _. over w0 (replies_fine s (reply.Busy most_waiting) x A))
+      by_test (leb MOST_WAITING (length x.state.clients.sessions)) (λ _. over w0 (replies_fine s (reply.Busy MOST_WAITING) x A))
       (λ _. where_fits (Ended w0) which.Seq x.state.clients.next_seq _ (λ _. over w0 (tell_fine me (body.Forward x.state.clients.next_seq c) x.state.peon.leader A form))))
 
   ask_fine : Made → (s : Session) (c : Command) (x : Course) → IsCommand c → Fine w0 x → Then (Ended w0) (ask me now s c x)

@@ -19,10 +19,11 @@ use Rattle.mon_bytes.proofs.Fields.{guard_ok, chosen_ok, ok_is}
 use Rattle.mon_tx.specs.declared.key.Area.{Area}
 use Rattle.mon_msg.specs.Protocol.Parts.{map_text}
 use Rattle.mon_msg.specs.Protocol.Services.{service_first, service_last, read_map}
-use Rattle.mon_msg.specs.Protocol.Rules.{full_every, value_ops}
+use Rattle.mon_msg.specs.Protocol.Rules.{value_ops}
 use Rattle.mon_msg.specs.Protocol.Value.{service_of, made, value_of, value}
 use Rattle.mon_msg.specs.Protocol.Readings.{Readings}
 use Rattle.mon_msg.specs.Puts.{area_of}
+use Rattle.mon_msg.specs.declared.limits.TheConstants.{FULL_EVERY}
 use Rattle.mon_wire.specs.declared.reply.ShownMap.{ShownMap}
 use Rattle.mon_wire.specs.declared.reply.ShownMap.TheVariants as map
 use Rattle.mon_wire.specs.declared.request.Service.{Service}
@@ -72,7 +73,7 @@ log_entry (map.Kv m) asked text inc k h = absurd cc
 log_entry (map.Log es) asked text inc k h = rw h refl
 
 -- a map's text matters only if a full map is due
-text_matters : (first last : ℕ) (a : Area) (n service_first : ℕ) (incremental text : List ℕ) (due : Bool) → eqb (n % full_every) 0 ≡ due
+text_matters : (first last : ℕ) (a : Area) (n service_first : ℕ) (incremental text : List ℕ) (due : Bool) → eqb (n % FULL_EVERY) 0 ≡ due
     → value_ops first last a n service_first incremental text ≡ value_ops first last a n service_first incremental (cond due text [])
 unfolding value_ops
 text_matters first last a n service_first incremental text true e = refl
@@ -82,7 +83,7 @@ made_so : (w : Readings) (c : Command) (asked : ℕ) (incremental : List ℕ) (n
 unfolding value
 made_so w c asked incremental next e = rw e refl
 
-pub value_made : (w : Readings) (c : Command) (asked : ℕ) (s : Service) (n : ℕ) (due : Bool) (d : Draft) → s ≡ service_of c → n ≡ service_last w s + 1 → due ≡ eqb (n % full_every) 0
+pub value_made : (w : Readings) (c : Command) (asked : ℕ) (s : Service) (n : ℕ) (due : Bool) (d : Draft) → s ≡ service_of c → n ≡ service_last w s + 1 → due ≡ eqb (n % FULL_EVERY) 0
     → drafted due (made (read_map w (service_of c)) asked c) ≡ Ok d → value w c asked ≡ Ok (value_ops w.first w.last (area_of s) n (service_first w s) d.incremental d.text)
 value_made w c asked s n due d same number is_due h = by (made (read_map w (service_of c)) asked c) refl h
   where

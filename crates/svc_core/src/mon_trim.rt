@@ -4,17 +4,10 @@ ghost use Rattle.std.specs.Prelude.{◌≡◌, ◌+◌, ◌-◌, ◌<◌, ◌≤
 ghost use Rattle.mon_msg.specs.Protocol.Rules.{paxos_to, paxos_trim};
 
 use mon_bytes::OutOfMemory;
+use mon_msg::{PAXOS_DUE, PAXOS_GOES, PAXOS_KEEPS};
 use mon_tx::{Area, Key, Op, Transaction};
 use std::alloc::Global;
 
-/// The log is trimmed if more than this many versions lie after its first one.
-const DUE: u64 = 750;
-
-/// Versions that stay after the first one that is kept.
-const KEEPS: u64 = 500;
-
-/// The most versions that are erased at a time.
-const GOES: u64 = 500;
 
 /// Appends what trims the log: the versions from the first one on that go, and the first one that is kept.
 pub(crate) fn push_trim(tx: &mut Transaction, first: u64, last: u64) -> Result<(), OutOfMemory>
@@ -22,10 +15,10 @@ pub(crate) fn push_trim(tx: &mut Transaction, first: u64, last: u64) -> Result<(
     requires last { last ≤ 2 ^ 62 }
     ensures { OnOk result (tx.new ≡ tx.old ++ paxos_trim first last) }
 {
-    if last.saturating_sub(first) <= DUE {
+    if last.saturating_sub(first) <= PAXOS_DUE {
         return Ok(());
     }
-    let to = (last - KEEPS).min(first + GOES);
+    let to = (last - PAXOS_KEEPS).min(first + PAXOS_GOES);
     tx.erase_range(Area::Paxos, first, to)?;
     tx.put_number(Area::Paxos, Key::FirstCommitted, to)
 }

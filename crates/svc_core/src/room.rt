@@ -10,10 +10,9 @@ ghost use Rattle.mon_msg.specs.Protocol.Readings.{readings_of};
 ghost use Rattle.svc_core.specs.Room.{IsWithin, IsRoom};
 
 use crate::row::{full, full_latest, incremental, last_version};
-use crate::rules::FULL_EVERY;
 use mon_bytes::OutOfMemory;
 use mon_kv::Kv;
-use mon_msg::Service;
+use mon_msg::{FULL_EVERY, Service};
 use std::alloc::Global;
 
 /// The length of the empty map.

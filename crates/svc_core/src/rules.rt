@@ -3,26 +3,17 @@
 ghost use Rattle.std.specs.Prelude.{◌≡◌, ◌==◌, ◌%◌, ◌≤◌, ◌^◌, [], ◌∷◌, ◌++◌, map, OnOk};
 ghost use Rattle.mon_tx.specs.declared.key.Key.TheVariants as key;
 ghost use Rattle.mon_msg.specs.Protocol.Changes.{erase};
-ghost use Rattle.mon_msg.specs.Protocol.Rules.{full_every, begins, paxos_begins, new_version, full_version, full_between, service_trim, service_trimmed};
+ghost use Rattle.mon_msg.specs.Protocol.Rules.{begins, paxos_begins, new_version, full_version, full_between, service_trim, service_trimmed};
+ghost use Rattle.mon_msg.specs.declared.limits.TheConstants.{FULL_EVERY};
 
 use mon_bytes::{Bytes, OutOfMemory};
+use mon_msg::{FULL_EVERY, SERVICE_DUE, SERVICE_GOES, SERVICE_KEEPS};
 use mon_tx::{Area, Key, Transaction};
 
-/// A full map is kept at each multiple of this.
-pub(crate) const FULL_EVERY: u64 = 25;
-
-/// A service is trimmed once this many versions lie after its first one.
-const DUE: u64 = 75;
-
-/// Versions that stay after the first one that is kept.
-const KEEPS: u64 = 50;
-
-/// The versions that are erased at a time.
-const GOES: u64 = 25;
 
 /// Whether a full map is kept at a version.
 pub(crate) fn has_full(n: u64) -> bool
-    ensures { result ≡ (n % full_every == 0) }
+    ensures { result ≡ (n % FULL_EVERY == 0) }
 {
     n % FULL_EVERY == 0
 }
@@ -97,10 +88,10 @@ pub(crate) fn push_service_trim(
     requires version { n ≤ 2 ^ 62 }
     ensures { OnOk result (tx.new ≡ tx.old ++ service_trim area n first) }
 {
-    if n.saturating_sub(first) < DUE {
+    if n.saturating_sub(first) < SERVICE_DUE {
         return Ok(());
     }
-    let to = (n - KEEPS).min(first + GOES);
+    let to = (n - SERVICE_KEEPS).min(first + SERVICE_GOES);
     tx.erase_range(area, first, to)?;
     push_full_erased(tx, area, first, to)?;
     tx.put_number(area, Key::FirstCommitted, to)

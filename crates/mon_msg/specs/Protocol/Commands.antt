@@ -22,12 +22,10 @@ use Rattle.mon_wire.specs.declared.reply.Reply.TheVariants as reply
 use Rattle.mon_wire.specs.declared.reply.Reply.{Reply}
 use Rattle.mon_wire.specs.declared.request.Session.{Session}
 use Rattle.mon_msg.specs.declared.view.Me.{Me}
+use Rattle.mon_msg.specs.declared.limits.TheConstants.{MOST_WAITING}
 use Rattle.mon_types.specs.declared.names.Which.TheVariants as which
 use Rattle.mon_types.specs.declared.names.Which.{Which}
 
--- how many commands may wait at a leader, and how many sessions at a peon
-abbrev pub most_waiting : ℕ
-most_waiting = 64
 
 -- ---- what is too long
 
@@ -71,9 +69,9 @@ module _ (me : Me) where
   -- a command at a peon: its session waits under a number, and the leader gets it
   abbrev pub at_peon : Command → Session → Course → Result Course Which
   at_peon c session x =
-      let is_full = nat_le most_waiting (length x.state.clients.sessions) in
+      let is_full = nat_le MOST_WAITING (length x.state.clients.sessions) in
       if is_too_long c then Ok (reply_to session (too_long c) x) else (
-      if is_full then Ok (reply_to session (reply.Busy most_waiting) x) else hand_on c session x)
+      if is_full then Ok (reply_to session (reply.Busy MOST_WAITING) x) else hand_on c session x)
 
 module _ (me : Me) (now : ℕ) where
   -- it is proposed at once
@@ -83,10 +81,10 @@ module _ (me : Me) (now : ℕ) where
   -- a command at the leader: it is proposed, or waits until it is
   abbrev pub at_leader : Command → Origin → Course → Result Course Which
   at_leader c o x =
-      let is_full = nat_le most_waiting (length x.state.clients.queue) in
+      let is_full = nat_le MOST_WAITING (length x.state.clients.queue) in
       if is_too_long c then Ok (answer me o (too_long c) x) else (
       if may_propose x && not (has_queue x) then propose me now c o x else (
-      if is_full then Ok (answer me o (reply.Busy most_waiting) x) else Ok (queue_up c o x)))
+      if is_full then Ok (answer me o (reply.Busy MOST_WAITING) x) else Ok (queue_up c o x)))
 
   unfoldable pub ask : Session → Command → Course → Result Course Which
   ask session c x =

@@ -4,6 +4,7 @@ use Rattle.std.specs.Prelude.{ℕ, ◌+◌, ◌==◌, nat_le, nat_lt, List, if�
 use Rattle.mon_msg.specs.Puts.{put, put_number}
 use Rattle.mon_msg.specs.Protocol.Changes.{erase}
 use Rattle.mon_msg.specs.Protocol.Services.{service_first}
+use Rattle.mon_msg.specs.declared.limits.TheConstants.{FULL_EVERY, PAXOS_DUE, PAXOS_GOES, PAXOS_KEEPS, SERVICE_DUE, SERVICE_GOES, SERVICE_KEEPS}
 use Rattle.mon_tx.specs.Keys.{area_text}
 use Rattle.mon_tx.specs.declared.key.Area.TheVariants as area
 use Rattle.mon_tx.specs.declared.key.Area.{Area}
@@ -11,31 +12,6 @@ use Rattle.mon_tx.specs.declared.key.Key.TheVariants as key
 use Rattle.mon_tx.specs.declared.op.Op.TheVariants.{EraseRange}
 use Rattle.mon_tx.specs.declared.op.Op.{Op}
 
--- a full map is kept at each multiple of this
-abbrev pub full_every : ℕ
-full_every = 25
-
--- A service is trimmed if this many versions lie after its first one. This many are left afterwards, and this many are erased
--- at most.
-abbrev pub service_due : ℕ
-service_due = 75
-
-abbrev pub service_keeps : ℕ
-service_keeps = 50
-
-abbrev pub service_goes : ℕ
-service_goes = 25
-
--- The log is trimmed if more than this many versions lie after its first one. This many are left afterwards, and this many
--- are erased at most.
-abbrev pub paxos_due : ℕ
-paxos_due = 750
-
-abbrev pub paxos_keeps : ℕ
-paxos_keeps = 500
-
-abbrev pub paxos_goes : ℕ
-paxos_goes = 500
 
 -- a number that is the first is put
 abbrev pub begins : Area → List Op
@@ -53,15 +29,15 @@ new_version a n incremental =
 -- the full map at version n
 abbrev pub full_version : Area → ℕ → List ℕ → List Op
 full_version a n text =
-    if n % full_every == 0 then put a (key.Full n) text ∷ put_number a key.FullLatest n ∷ [] else []
+    if n % FULL_EVERY == 0 then put a (key.Full n) text ∷ put_number a key.FullLatest n ∷ [] else []
 
 -- the first version that a service keeps once it is trimmed
 abbrev pub service_to : ℕ → ℕ → ℕ
-service_to n first = min (n - service_keeps) (first + service_goes)
+service_to n first = min (n - SERVICE_KEEPS) (first + SERVICE_GOES)
 
--- the multiples of `full_every` from one version up to another
+-- the multiples of `FULL_EVERY` from one version up to another
 abbrev pub full_between : ℕ → ℕ → List ℕ
-full_between from to = filter (λ v. v % full_every == 0) (range_with_len from (to - from))
+full_between from to = filter (λ v. v % FULL_EVERY == 0) (range_with_len from (to - from))
 
 -- the versions of a service from `from` up to `to` go, and the full maps there
 abbrev pub service_trimmed : Area → ℕ → ℕ → List Op
@@ -69,17 +45,17 @@ service_trimmed a from to =
     EraseRange (area_text a) from to ∷ (map (λ v. erase a (key.Full v)) (full_between from to) ++ put_number a key.FirstCommitted to ∷ [])
 
 abbrev pub service_trim : Area → ℕ → ℕ → List Op
-service_trim a n first = if nat_le service_due (n - first) then service_trimmed a first (service_to n first) else []
+service_trim a n first = if nat_le SERVICE_DUE (n - first) then service_trimmed a first (service_to n first) else []
 
 -- the first version that the log keeps once it is trimmed
 abbrev pub paxos_to : ℕ → ℕ → ℕ
-paxos_to first last = min (last - paxos_keeps) (first + paxos_goes)
+paxos_to first last = min (last - PAXOS_KEEPS) (first + PAXOS_GOES)
 
 abbrev pub paxos_trimmed : ℕ → ℕ → List Op
 paxos_trimmed from to = EraseRange (area_text area.Paxos) from to ∷ put_number area.Paxos key.FirstCommitted to ∷ []
 
 abbrev pub paxos_trim : ℕ → ℕ → List Op
-paxos_trim first last = if nat_lt paxos_due (last - first) then paxos_trimmed first (paxos_to first last) else []
+paxos_trim first last = if nat_lt PAXOS_DUE (last - first) then paxos_trimmed first (paxos_to first last) else []
 
 -- The value that makes version n of a service by an incremental. Of the log it takes the first and the last version, of the
 -- service the first one and the text of the map at version n.
