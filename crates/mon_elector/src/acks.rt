@@ -14,7 +14,7 @@ use mon_types::{Epoch, Rank};
 use std::alloc::Global;
 
 /// Another monitor defers to this one in an epoch.
-pub fn hear_ack(
+pub(crate) fn hear_ack(
     alloc: Global,
     stored: &Stored<'_>,
     me: &Me,
@@ -48,7 +48,7 @@ pub fn hear_ack(
 }
 
 /// The time of an election is over.
-pub fn election_ends(
+pub(crate) fn election_ends(
     alloc: Global,
     stored: &Stored<'_>,
     me: &Me,

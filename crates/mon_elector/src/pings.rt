@@ -31,7 +31,7 @@ fn with_heard(state: &Elector, from: Rank, table: &Scores) -> Elector
 }
 
 /// Another monitor pings.
-pub fn hear_ping(
+pub(crate) fn hear_ping(
     alloc: Global,
     stored: &Stored<'_>,
     me: &Me,
@@ -61,7 +61,7 @@ pub fn hear_ping(
 }
 
 /// Another monitor answers a ping.
-pub fn hear_ping_reply(
+pub(crate) fn hear_ping_reply(
     alloc: Global,
     stored: &Stored<'_>,
     me: &Me,
@@ -119,7 +119,7 @@ fn measured(alloc: Global, me: &Me, state: &Elector, now: Moment) -> Result<Elec
 }
 
 /// The time to ping has come.
-pub fn ping(
+pub(crate) fn ping(
     alloc: Global,
     stored: &Stored<'_>,
     me: &Me,

@@ -16,7 +16,7 @@ use mon_types::{Epoch, Moment, Rank};
 use std::alloc::Global;
 
 /// A monitor stands for election in an epoch, and sends its table if scores count.
-pub fn hear_propose(
+pub(crate) fn hear_propose(
     alloc: Global,
     stored: &Stored<'_>,
     me: &Me,

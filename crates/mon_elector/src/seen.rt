@@ -33,14 +33,14 @@ fn votes(phase: Phase) -> bool
 }
 
 /// Whether a monitor in this phase is in an election.
-pub fn is_electing(phase: Phase) -> bool
+pub(crate) fn is_electing(phase: Phase) -> bool
     ensures { result ≡ same_phase phase phase_is.Electing }
 {
     matches!(phase, Phase::Electing)
 }
 
 /// Whether an epoch is one of a quorum.
-pub fn is_even(epoch: Epoch) -> bool
+pub(crate) fn is_even(epoch: Epoch) -> bool
     ensures { result ≡ is_even epoch }
 {
     epoch.get() % 2 == 0
@@ -48,56 +48,56 @@ pub fn is_even(epoch: Epoch) -> bool
 
 /// Whether what a candidate says in an epoch is dropped: the monitor takes no part in elections, or nobody stands for
 /// election then.
-pub fn is_deaf(view: &View, epoch: Epoch) -> bool
+pub(crate) fn is_deaf(view: &View, epoch: Epoch) -> bool
     ensures { result ≡ (not (votes view.now.phase) || is_even epoch) }
 {
     !votes(view.phase) || is_even(epoch)
 }
 
 /// Whether what a winner says in an epoch is dropped: the monitor takes no part in elections, or nobody leads then.
-pub fn is_deaf_to_winners(view: &View, epoch: Epoch) -> bool
+pub(crate) fn is_deaf_to_winners(view: &View, epoch: Epoch) -> bool
     ensures { result ≡ (not (votes view.now.phase) || not (is_even epoch)) }
 {
     !votes(view.phase) || !is_even(epoch)
 }
 
 /// Whether an epoch is before the monitor's own.
-pub fn is_past(stored: &Stored<'_>, epoch: Epoch) -> bool
+pub(crate) fn is_past(stored: &Stored<'_>, epoch: Epoch) -> bool
     ensures { result ≡ nat_lt epoch (epoch_of (readings_of stored.now)) }
 {
     epoch.get() < stored.epoch().get()
 }
 
 /// Whether an epoch is after the monitor's own.
-pub fn is_later(stored: &Stored<'_>, epoch: Epoch) -> bool
+pub(crate) fn is_later(stored: &Stored<'_>, epoch: Epoch) -> bool
     ensures { result ≡ nat_lt (epoch_of (readings_of stored.now)) epoch }
 {
     stored.epoch().get() < epoch.get()
 }
 
 /// Whether an epoch is the monitor's own or before it.
-pub fn is_reached(stored: &Stored<'_>, epoch: Epoch) -> bool
+pub(crate) fn is_reached(stored: &Stored<'_>, epoch: Epoch) -> bool
     ensures { result ≡ nat_le epoch (epoch_of (readings_of stored.now)) }
 {
     epoch.get() <= stored.epoch().get()
 }
 
 /// Whether an epoch is the one after the monitor's own.
-pub fn is_next(stored: &Stored<'_>, epoch: Epoch) -> bool
+pub(crate) fn is_next(stored: &Stored<'_>, epoch: Epoch) -> bool
     ensures { result ≡ (epoch == suc (epoch_of (readings_of stored.now))) }
 {
     epoch.get() == stored.epoch().get() + 1
 }
 
 /// Whether a candidate of an earlier epoch makes the monitor call an election: one that is outside of its quorum.
-pub fn is_left_out(stored: &Stored<'_>, view: &View, from: Rank) -> bool
+pub(crate) fn is_left_out(stored: &Stored<'_>, view: &View, from: Rank) -> bool
     ensures { result ≡ (is_even (epoch_of (readings_of stored.now)) && not (has view.now.quorum from)) }
 {
     is_even(stored.epoch()) && !view.quorum.has(from)
 }
 
 /// The table that a message has, or otherwise the own one.
-pub fn table_or<'a>(table: &'a Option<ScoreTable>, own: &'a Scores) -> &'a Scores
+pub(crate) fn table_or<'a>(table: &'a Option<ScoreTable>, own: &'a Scores) -> &'a Scores
     ensures { result.now ≡ table_or table.now own.now }
 {
     match table {
@@ -107,7 +107,7 @@ pub fn table_or<'a>(table: &'a Option<ScoreTable>, own: &'a Scores) -> &'a Score
 }
 
 /// Whether a candidate may lead, and ranks before this monitor.
-pub fn is_better(me: &Me, table: &Scores, from: Rank) -> bool
+pub(crate) fn is_better(me: &Me, table: &Scores, from: Rank) -> bool
     ensures { result ≡ (is_allowed me.now from && stands_before me.now table.now from me.now.member.rank) }
 {
     me.rule.allows(from) && outranks(&me.rule, me.member.monitors, table, from, me.member.rank)
@@ -115,7 +115,7 @@ pub fn is_better(me: &Me, table: &Scores, from: Rank) -> bool
 
 /// Whether the monitor may defer to a candidate: it deferred to nobody yet, or to this one, or to one that it
 /// outranks.
-pub fn may_defer(me: &Me, table: &Scores, from: Rank, deferred: Option<Rank>) -> bool
+pub(crate) fn may_defer(me: &Me, table: &Scores, from: Rank, deferred: Option<Rank>) -> bool
     ensures { result ≡ may_defer me.now table.now from deferred }
 {
     match deferred {
@@ -127,21 +127,21 @@ pub fn may_defer(me: &Me, table: &Scores, from: Rank, deferred: Option<Rank>) ->
 }
 
 /// Whether a monitor doesn't take part in its own epoch's election yet.
-pub fn is_idle(state: &Elector) -> bool
+pub(crate) fn is_idle(state: &Elector) -> bool
     ensures { result ≡ (not (is_some state.now.deferred) && not state.now.candidate) }
 {
     state.deferred.is_none() && !state.candidate
 }
 
 /// Whether these are all monitors of the map, and this one may lead them.
-pub fn leads_all(me: &Me, acked: RankSet) -> bool
+pub(crate) fn leads_all(me: &Me, acked: RankSet) -> bool
     ensures { result ≡ (is_whole me.now acked && is_allowed me.now me.now.member.rank) }
 {
     acked.count() == me.member.monitors && me.rule.allows(me.member.rank)
 }
 
 /// Whether a candidate wins once the election's time is over.
-pub fn may_win(me: &Me, state: &Elector) -> bool
+pub(crate) fn may_win(me: &Me, state: &Elector) -> bool
     ensures { result ≡ (state.now.candidate && is_allowed me.now me.now.member.rank &&
         is_majority me.now.member.monitors state.now.acked) }
 {
@@ -149,7 +149,7 @@ pub fn may_win(me: &Me, state: &Elector) -> bool
 }
 
 /// Whether the monitor may follow a leader in a quorum: both are in it, and it is a majority.
-pub fn may_follow(me: &Me, quorum: RankSet, leader: Rank) -> bool
+pub(crate) fn may_follow(me: &Me, quorum: RankSet, leader: Rank) -> bool
     ensures { result ≡ (has quorum me.now.member.rank && has quorum leader &&
         is_majority me.now.member.monitors quorum) }
 {
@@ -157,7 +157,7 @@ pub fn may_follow(me: &Me, quorum: RankSet, leader: Rank) -> bool
 }
 
 /// The table that a monitor sends: its own, if scores count.
-pub fn table_told(
+pub(crate) fn table_told(
     alloc: Global,
     rule: &Rule,
     scores: &Scores,

@@ -23,7 +23,7 @@ use mon_types::{Epoch, Rank, RankSet, Which};
 use std::alloc::Global;
 
 /// The elector with what a message says of connections.
-pub fn merged(table: &Option<ScoreTable>, state: &Elector) -> Elector
+pub(crate) fn merged(table: &Option<ScoreTable>, state: &Elector) -> Elector
     ensures { result ≡ record state.now { scores = merged_if_told table.now state.now.scores } }
 {
     let mut scores = state.scores;
@@ -34,7 +34,7 @@ pub fn merged(table: &Option<ScoreTable>, state: &Elector) -> Elector
 }
 
 /// The elector in an election that another monitor called.
-pub fn joining(state: &Elector) -> Elector
+pub(crate) fn joining(state: &Elector) -> Elector
     ensures { result ≡ record state.now { candidate = false; acked = no_ranks; deferred = None } }
 {
     Elector {
@@ -58,7 +58,7 @@ fn deferring(state: &Elector, from: Rank) -> Elector
 }
 
 /// The transaction that puts an epoch.
-pub fn to_epoch(alloc: Global, epoch: Epoch) -> Result<Transaction, OutOfMemory>
+pub(crate) fn to_epoch(alloc: Global, epoch: Epoch) -> Result<Transaction, OutOfMemory>
     ensures changes { IfOk result (λ tx. tx ≡ spelled (ToEpoch epoch ∷ [])) }
     ensures fit { Fits (ToEpoch epoch) }
 {
@@ -68,7 +68,7 @@ pub fn to_epoch(alloc: Global, epoch: Epoch) -> Result<Transaction, OutOfMemory>
 }
 
 /// An epoch begins, and then an act.
-pub fn enter_epoch(
+pub(crate) fn enter_epoch(
     alloc: Global,
     epoch: Epoch,
     state: Elector,
@@ -88,7 +88,7 @@ pub fn enter_epoch(
 }
 
 /// An epoch begins, a timer is armed, and then comes an act.
-pub fn enter_epoch_until(
+pub(crate) fn enter_epoch_until(
     alloc: Global,
     epoch: Epoch,
     state: Elector,
@@ -133,7 +133,7 @@ fn tell_copies(
 }
 
 /// The same message to all others.
-pub fn tell_others(
+pub(crate) fn tell_others(
     alloc: Global,
     me: &Me,
     epoch: Epoch,
@@ -147,7 +147,7 @@ pub fn tell_others(
 }
 
 /// It sends to the others, and sets a timer.
-pub fn tell_until(
+pub(crate) fn tell_until(
     alloc: Global,
     tx: Transaction,
     out: Items<Sent>,
@@ -174,7 +174,7 @@ pub fn tell_until(
 }
 
 /// It defers to a candidate of its own epoch.
-pub fn defer(
+pub(crate) fn defer(
     alloc: Global,
     me: &Me,
     epoch: Epoch,
@@ -201,7 +201,7 @@ pub fn defer(
 }
 
 /// It joins the election of a later epoch, and defers to the candidate that called it.
-pub fn join_and_defer(
+pub(crate) fn join_and_defer(
     alloc: Global,
     me: &Me,
     epoch: Epoch,
@@ -233,7 +233,7 @@ pub fn join_and_defer(
 }
 
 /// It wins, and leads those who deferred to it in the next epoch.
-pub fn win(
+pub(crate) fn win(
     alloc: Global,
     stored: &Stored<'_>,
     state: Elector,

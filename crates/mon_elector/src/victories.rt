@@ -14,7 +14,7 @@ use mon_types::{Epoch, Moment, Rank, RankSet};
 use std::alloc::Global;
 
 /// Another monitor leads a quorum in an epoch.
-pub fn hear_victory(
+pub(crate) fn hear_victory(
     alloc: Global,
     stored: &Stored<'_>,
     me: &Me,

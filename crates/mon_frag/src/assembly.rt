@@ -14,13 +14,13 @@ use std::alloc::Global;
 use std::marker::Model;
 
 /// How many messages of one monitor are kept.
-pub const MOST_OF_MONITOR: usize = 4;
+pub(crate) const MOST_OF_MONITOR: usize = 4;
 
 /// How many messages of one client are kept.
-pub const MOST_OF_CLIENT: usize = 1;
+pub(crate) const MOST_OF_CLIENT: usize = 1;
 
 /// How many messages of all clients together are kept.
-pub const MOST_OF_CLIENTS: usize = 64;
+pub(crate) const MOST_OF_CLIENTS: usize = 64;
 
 /// The messages of which not all pieces came yet: at most `MOST_OF_MONITOR` of each monitor, `MOST_OF_CLIENT` of each
 /// client, and `MOST_OF_CLIENTS` of all clients together.

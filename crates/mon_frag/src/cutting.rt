@@ -10,7 +10,7 @@ use std::alloc::Global;
 pub const DATAGRAM: usize = 60_000;
 
 /// How many pieces a message of this many bytes has.
-pub fn count_of(total: usize) -> usize
+pub(crate) fn count_of(total: usize) -> usize
     ensures { result ≡ piece_count total }
 {
     total.div_ceil(PART as usize)

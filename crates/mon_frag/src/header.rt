@@ -8,13 +8,13 @@ use mon_bytes::{Cursor, MOST_MESSAGE};
 use mon_types::GREATEST;
 
 /// The byte with which a piece begins. No message begins with it.
-pub const PIECE: u8 = 2;
+pub(crate) const PIECE: u8 = 2;
 
 /// The bytes of a piece's header.
-pub const HEADER: usize = 28;
+pub(crate) const HEADER: usize = 28;
 
 /// The most bytes of a message that a piece has.
-pub const PART: u32 = 59_000;
+pub(crate) const PART: u32 = 59_000;
 
 /// The least bytes of a message that is cut.
 const LEAST: u32 = DATAGRAM as u32 + 1;
@@ -98,7 +98,7 @@ fn check(count: usize, header: Header) -> Result<Header, FragRefused>
 
 /// The bytes of a piece after its header.
 #[tactic(auto, using(std::proofs::lemmas::List::drop_min))]
-pub fn behind_header(datagram: &[u8]) -> &[u8]
+pub(crate) fn behind_header(datagram: &[u8]) -> &[u8]
     ensures { result.now ≡ drop HEADER datagram.now }
 {
     let (_, bytes) = datagram.split_at(HEADER.min(datagram.len()));
@@ -106,7 +106,7 @@ pub fn behind_header(datagram: &[u8]) -> &[u8]
 }
 
 /// The header of a piece.
-pub fn read_header(datagram: &[u8]) -> Result<Header, FragRefused>
+pub(crate) fn read_header(datagram: &[u8]) -> Result<Header, FragRefused>
     ensures header { result ≡ header_of datagram.now }
     ensures within { IfOk result (λ h. h.place < h.total) }
 {

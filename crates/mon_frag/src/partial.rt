@@ -48,7 +48,7 @@ pub enum Joined {
 }
 
 /// Whether two peers are the same one.
-pub fn is_same(a: &Peer, b: &Peer) -> bool
+pub(crate) fn is_same(a: &Peer, b: &Peer) -> bool
     ensures { result ≡ same_peer a.now b.now }
 {
     match a {

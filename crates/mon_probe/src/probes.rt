@@ -15,7 +15,7 @@ use mon_types::{Rank, RankSet, Version};
 use std::alloc::Global;
 
 /// Another monitor asks how far this one is, and in which quorum.
-pub fn hear_probe(
+pub(crate) fn hear_probe(
     alloc: Global,
     stored: &Stored<'_>,
     me: &Me,
@@ -47,7 +47,7 @@ pub fn hear_probe(
 }
 
 /// Another monitor says how far it is, and in which quorum.
-pub fn hear_probe_reply(
+pub(crate) fn hear_probe_reply(
     alloc: Global,
     stored: &Stored<'_>,
     me: &Me,

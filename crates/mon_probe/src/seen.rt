@@ -18,42 +18,42 @@ use std::alloc::Global;
 const LAG: u64 = 10;
 
 /// Whether a monitor in this phase probes.
-pub fn is_probing(phase: Phase) -> bool
+pub(crate) fn is_probing(phase: Phase) -> bool
     ensures { result ≡ same_phase phase phase_is.Probing }
 {
     matches!(phase, Phase::Probing)
 }
 
 /// Whether a last version is one that the interrupted copy may end with.
-pub fn reaches_floor(stored: &Stored<'_>, last: Version) -> bool
+pub(crate) fn reaches_floor(stored: &Stored<'_>, last: Version) -> bool
     ensures { result ≡ (nat_le 1 last && nat_le (readings_of stored.now).floor last) }
 {
     1 <= last.get() && stored.floor().get() <= last.get()
 }
 
 /// Whether another monitor doesn't keep the version any more that this one lacks first.
-pub fn is_cut_off(stored: &Stored<'_>, first: Version) -> bool
+pub(crate) fn is_cut_off(stored: &Stored<'_>, first: Version) -> bool
     ensures { result ≡ (nat_lt (readings_of stored.now).last first && nat_lt 1 first) }
 {
     stored.last().get() < first.get() && 1 < first.get()
 }
 
 /// Whether the monitor lacks more versions than one may that joins an election.
-pub fn is_behind(stored: &Stored<'_>, last: Version) -> bool
+pub(crate) fn is_behind(stored: &Stored<'_>, last: Version) -> bool
     ensures { result ≡ nat_lt ((readings_of stored.now).last + 10) last }
 {
     stored.last().get() + LAG < last.get()
 }
 
 /// Whether there is a quorum.
-pub fn is_quorum(ranks: RankSet) -> bool
+pub(crate) fn is_quorum(ranks: RankSet) -> bool
     ensures { result ≡ nat_lt 0 (count_of ranks) }
 {
     0 < ranks.count()
 }
 
 /// Whether the monitor has others in its map.
-pub fn has_others(me: &Me) -> bool
+pub(crate) fn has_others(me: &Me) -> bool
     ensures { result ≡ nat_lt 1 me.now.member.monitors }
 {
     1 < me.member.monitors
@@ -67,14 +67,14 @@ fn is_marked(alloc: Global, kv: &Kv) -> bool
 }
 
 /// Whether a monitor that is alone in its map may lead it.
-pub fn may_lead(alloc: Global, kv: &Kv, me: &Me) -> bool
+pub(crate) fn may_lead(alloc: Global, kv: &Kv, me: &Me) -> bool
     ensures { result ≡ (allows me.now.rule me.now.member.rank && not (readings_of kv.now).marked) }
 {
     me.rule.allows(me.member.rank) && !is_marked(alloc, kv)
 }
 
 /// The next greater even epoch, unless it would pass 2^62.
-pub fn next_even(epoch: Epoch) -> Option<Epoch>
+pub(crate) fn next_even(epoch: Epoch) -> Option<Epoch>
     ensures valid { IsSome result ↔ (next_even epoch ≤ 2 ^ 62) }
     ensures value { IfSome result (λ e. e ≡ next_even epoch) }
 {

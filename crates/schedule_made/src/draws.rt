@@ -8,14 +8,14 @@ use rand_core::utils::NextWord;
 use rand_pcg::Lcg64Xsh32;
 
 #[tactic(auto, unfolding(crate::specs::Draws::generator_of))]
-pub fn generator_of(number: u64) -> Lcg64Xsh32
+pub(crate) fn generator_of(number: u64) -> Lcg64Xsh32
     ensures { result ≡ generator_of number }
 {
     Lcg64Xsh32::seed_from_u64(number)
 }
 
 #[tactic(auto, unfolding(crate::specs::Draws::drawn))]
-pub fn draw(generator: &mut Lcg64Xsh32) -> u32
+pub(crate) fn draw(generator: &mut Lcg64Xsh32) -> u32
     ensures value { result ≡ (drawn generator.old).0 }
     ensures after { generator.new ≡ (drawn generator.old).1 }
 {

@@ -9,7 +9,7 @@ use mon_wire::{Request, Session, Timer};
 use schedule_text::{Event, Plain};
 use std::alloc::Global;
 
-pub fn start(rank: u8, at: u64) -> Event
+pub(crate) fn start(rank: u8, at: u64) -> Event
     requires rank { rank ≤ 14 }
     requires at { at ≤ 2 ^ 62 }
     ensures { result ≡ start rank at }
@@ -20,7 +20,7 @@ pub fn start(rank: u8, at: u64) -> Event
     })
 }
 
-pub fn deliver(message: u64, at: u64) -> Event
+pub(crate) fn deliver(message: u64, at: u64) -> Event
     requires { at ≤ 2 ^ 62 }
     ensures { result ≡ deliver message at }
 {
@@ -31,7 +31,7 @@ pub fn deliver(message: u64, at: u64) -> Event
 }
 
 /// The timer of this number, in the order of timers that are due together.
-pub fn timer(rank: u8, kind: u32, at: u64) -> Event
+pub(crate) fn timer(rank: u8, kind: u32, at: u64) -> Event
     requires rank { rank ≤ 14 }
     requires kind { kind < 11 }
     requires at { at ≤ 2 ^ 62 }
@@ -57,7 +57,7 @@ pub fn timer(rank: u8, kind: u32, at: u64) -> Event
     })
 }
 
-pub fn ask(rank: u8, at: u64, session: Session, request: Request) -> Event
+pub(crate) fn ask(rank: u8, at: u64, session: Session, request: Request) -> Event
     requires rank { rank ≤ 14 }
     requires at { at ≤ 2 ^ 62 }
     ensures { result ≡ ask rank at session.client session.id request }
@@ -90,7 +90,7 @@ fn text(text: String) -> Text
     }
 }
 
-pub fn set(alloc: Global, n: u32, value: u32) -> Result<Request, OutOfMemory>
+pub(crate) fn set(alloc: Global, n: u32, value: u32) -> Result<Request, OutOfMemory>
     ensures { IfOk result (λ request. request ≡ set n value) }
 {
     let key = key(alloc, n)?;
@@ -98,7 +98,7 @@ pub fn set(alloc: Global, n: u32, value: u32) -> Result<Request, OutOfMemory>
     Ok(Request::Set { key, value })
 }
 
-pub fn log(alloc: Global, n: u32) -> Result<Request, OutOfMemory>
+pub(crate) fn log(alloc: Global, n: u32) -> Result<Request, OutOfMemory>
     ensures { IfOk result (λ request. request ≡ log n) }
 {
     let text = text(format!(in alloc; "t{n}")?);
@@ -106,7 +106,7 @@ pub fn log(alloc: Global, n: u32) -> Result<Request, OutOfMemory>
 }
 
 /// Appends this many messages, from this one on.
-pub fn put_deliveries(
+pub(crate) fn put_deliveries(
     events: &mut Vec<Event>,
     first: u64,
     count: u64,
@@ -124,7 +124,7 @@ pub fn put_deliveries(
 
 /// Appends the events that each schedule begins with.
 #[tactic(auto, unfolding(crate::specs::Made::opening))]
-pub fn put_opening(events: &mut Vec<Event>) -> Result<(), OutOfMemory>
+pub(crate) fn put_opening(events: &mut Vec<Event>) -> Result<(), OutOfMemory>
     ensures { OnOk result (events.new.items ≡ events.old.items ++ opening) }
 {
     events.push(start(0, 0))?;

@@ -56,7 +56,7 @@ fn put_round(
 }
 
 /// Appends rounds until there are this many events.
-pub fn put_rounds(
+pub(crate) fn put_rounds(
     alloc: Global,
     events: &mut Vec<Event>,
     generator: &mut Lcg64Xsh32,

@@ -59,7 +59,7 @@ fn turn(
 }
 
 /// Appends events until there are this many.
-pub fn put_turns(
+pub(crate) fn put_turns(
     alloc: Global,
     events: &mut Vec<Event>,
     generator: &mut Lcg64Xsh32,
