@@ -2,6 +2,7 @@
 use Rattle.std.specs.Prelude.{◌≡◌, ℕ, ◌+◌, ◌^◌, ◌<◌, nat_lt, List, [], ◌∷◌, ◌++◌, length, map, take, Option, Result, Ok, Err, option_map, if◌then◌else◌}
 use Rattle.mon_bounds.specs.Fitting.{answer_in}
 use Rattle.mon_frag.specs.Pieces.{pieces_of}
+use Rattle.mon_frag.specs.declared.cutting.TheConstants.{DATAGRAM}
 use Rattle.mon_kv.specs.Readers.{epoch}
 use Rattle.mon_link.specs.Links.{Told, LinkState}
 use Rattle.mon_link.specs.declared.link.Outgoing.{Outgoing}
@@ -29,7 +30,7 @@ letter me e (sent.Reply to r) = to_peer (Client to.client) (text (answer_in me e
 
 -- a message that is longer than a datagram has a number, which no other one has
 abbrev pub next_behind : (next : ℕ) → (len : ℕ) → ℕ
-next_behind next len = if nat_lt 60000 len then next + 1 else next
+next_behind next len = if nat_lt DATAGRAM len then next + 1 else next
 
 -- the number that is next once these are sent
 abbrev pub next_after : ℕ → List Outgoing → ℕ

@@ -3,6 +3,7 @@
 ghost use Rattle.std.specs.Prelude.{◌≡◌, ◌≤◌, ◌<◌, ◌+◌, ◌^◌, [], ◌∷◌, length, map, IfOk, IfErr, OnOk};
 ghost use Rattle.std.specs.List.{AllByRecursion};
 ghost use Rattle.mon_bounds.specs.Fitting.{MaySend};
+ghost use Rattle.mon_bytes.specs.declared.limits.TheConstants.{MOST_MESSAGE};
 ghost use Rattle.mon_core.specs.Reacts.{TellsNamed};
 ghost use Rattle.mon_types.specs.declared.names.Which.TheVariants as number;
 ghost use Rattle.mon_wire.specs.Message.Whole.{HasText, text};
@@ -65,7 +66,7 @@ fn send_letter<L: Link>(
     next: &mut u64,
     letter: &Outgoing,
 ) -> Result<(), NodeEnd>
-    requires short { length letter.now.bytes ≤ 1048576 }
+    requires short { length letter.now.bytes ≤ MOST_MESSAGE }
     requires next { next.old ≤ 2 ^ 62 + 1 }
     ensures posts { Posts (datagrams_of boot next.old letter.now) result (L.state link.old) (L.state link.new) }
     ensures behind { OnOk result (next.new ≡ next_behind next.old (length letter.now.bytes)) }
@@ -84,7 +85,7 @@ fn send_letter<L: Link>(
 fn text_of(alloc: Global, message: &Message) -> Result<Bytes, OutOfMemory>
     requires { HasText message.now }
     ensures text { IfOk result (λ bytes. bytes ≡ text message.now) }
-    ensures short { IfOk result (λ bytes. length bytes ≤ 1048576) }
+    ensures short { IfOk result (λ bytes. length bytes ≤ MOST_MESSAGE) }
 {
     Ok(Bytes::new(message.encode(alloc)?))
 }
@@ -93,7 +94,7 @@ fn text_of(alloc: Global, message: &Message) -> Result<Bytes, OutOfMemory>
 fn into_text(alloc: Global, message: Message) -> Result<Bytes, OutOfMemory>
     requires { HasText message }
     ensures text { IfOk result (λ bytes. bytes ≡ text message) }
-    ensures short { IfOk result (λ bytes. length bytes ≤ 1048576) }
+    ensures short { IfOk result (λ bytes. length bytes ≤ MOST_MESSAGE) }
 {
     let text = text_of(alloc, &message);
     drop(message);
@@ -127,7 +128,7 @@ fn letter(alloc: Global, me: &Me, epoch: Epoch, sent: &Sent) -> Result<Outgoing,
     requires may { MaySend me.now sent.now }
     requires named { TellsNamed sent.now }
     ensures letter { IfOk result (λ l. l ≡ letter me.now epoch sent.now) }
-    ensures short { IfOk result (λ l. length l.bytes ≤ 1048576) }
+    ensures short { IfOk result (λ l. length l.bytes ≤ MOST_MESSAGE) }
 {
     law_message_fits();
     match sent {
