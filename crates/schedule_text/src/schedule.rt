@@ -75,16 +75,19 @@ fn request_fits(request: &Request) -> bool
 {
     match request {
         Request::Set { key, value } => {
+            // For the prover: a key is a name.
             let _name = key.as_slice();
             all_printable(value.as_slice())
         }
         Request::Remove { key } => {
+            // For the prover: a key is a name.
             let _name = key.as_slice();
             true
         }
         Request::Log { text } => all_printable(text.as_slice()),
         Request::Show { .. } => true,
         Request::Since { version, .. } => {
+            // For the prover: a version is at most 2^62.
             let _fits = version.get();
             true
         }
@@ -95,6 +98,7 @@ fn request_fits(request: &Request) -> bool
 fn client_fits(monitors: u8, rank: Rank, at: Moment, session: Session, request: &Request) -> bool
     ensures { result ≡ plain_fits monitors (Client rank at session request.now) }
 {
+    // For the prover: a time is at most 2^62.
     let _fits = at.get();
     if rank.get() >= monitors || session.id > GREATEST {
         return false;
@@ -107,14 +111,17 @@ fn plain_fits(monitors: u8, plain: &Plain) -> bool
 {
     match plain {
         Plain::Start { rank, at } => {
+            // For the prover: a time is at most 2^62.
             let _fits = at.get();
             rank.get() < monitors
         }
         Plain::Deliver { message, at } => {
+            // For the prover: a time is at most 2^62.
             let _fits = at.get();
             *message >= 1
         }
         Plain::Timer { rank, at, .. } => {
+            // For the prover: a time is at most 2^62.
             let _fits = at.get();
             rank.get() < monitors
         }
