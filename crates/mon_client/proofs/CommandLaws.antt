@@ -36,21 +36,21 @@ use Rattle.mon_client.specs.Rows.{IsUnderWay}
 pub under_way : (me : Me) (now : ℕ) (w : Readings) (v : View) (s : Clients) (x : Course) → IsMet me now w v (λ st. st.clients) s x → IsUnderWay me now w v x
 under_way me now w v s x b = record { readings = b.readings; seen = b.seen }
 
--- ---- what a role remembers, copied
+-- ---- what the role remembers
 
-module _ (me : Me) (now : ℕ) (w : Readings) (v : View) (s copied : Clients) (e : copied ≡ s) where
+module _ (me : Me) (now : ℕ) (w : Readings) (v : View) (s : Clients) where
   abbrev pub Met : Course → Type 0
   Met = IsMet me now w v (λ st. st.clients) s
 
-  pub same : (x : Course) → Met x → x ≡ clients_are copied x
-  same x b = sym (kept-clients copied x (b.role ∙ sym e))
+  pub same : (x : Course) → Met x → x ≡ clients_are s x
+  same x b = sym (kept-clients s x b.role)
 
-  -- what a call plans for the copy it plans for what is remembered
-  pub by_copy : (one other : Course → Result Course Which) (r : Result (Plan Clients) RoleStop) → ((x : Course) → Met x → other x ≡ one x)
-      → PlansRow me now clients_are (IsUnderWay me now w v) (λ x. one (clients_are copied x)) r → PlansRow me now clients_are Met other r
-  by_copy one other r f h =
-      instead me now clients_are Met (λ x. x) (λ x. one (clients_are copied x)) other r (λ x b. f x b ∙ ap one (same x b))
-      (weaken me now clients_are (IsUnderWay me now w v) Met (λ x. x) (λ x. one (clients_are copied x)) r (λ x b. under_way me now w v s x b) h)
+  -- what a call plans for any course whose clients are these it plans for one that remembers them
+  pub in_place : (one other : Course → Result Course Which) (r : Result (Plan Clients) RoleStop) → ((x : Course) → Met x → other x ≡ one x)
+      → PlansRow me now clients_are (IsUnderWay me now w v) (λ x. one (clients_are s x)) r → PlansRow me now clients_are Met other r
+  in_place one other r f h =
+      instead me now clients_are Met (λ x. x) (λ x. one (clients_are s x)) other r (λ x b. f x b ∙ ap one (same x b))
+      (weaken me now clients_are (IsUnderWay me now w v) Met (λ x. x) (λ x. one (clients_are s x)) r (λ x b. under_way me now w v s x b) h)
 
 abbrev pub seems_free : View → Bool
 seems_free v = same_phase v.phase phase.Active && v.standing

@@ -110,57 +110,61 @@ fn wait_under(mut clients: Clients, seq: u64, session: Session) -> Result<Client
     Ok(clients)
 }
 
-/// A command at a leader is proposed, or a copy of it waits until it is. Clients are remembered so before.
+/// A command at a leader is proposed, or waits until it is. Clients are remembered so before.
 pub fn at_leader(
     alloc: Global,
     kv: &Kv,
     me: &Me,
     view: &View,
     clients: Clients,
-    command: &Command,
+    command: Command,
     origin: Origin,
     now: Moment,
 ) -> Result<Plan<Clients>, RoleStop>
     ensures plans { PlansRow me.now now clients_are (IsUnderWay me.now now (readings_of kv.now) view.now)
-        (λ x. at_leader me.now now command.now origin (clients_are clients x)) result }
+        (λ x. at_leader me.now now command origin (clients_are clients x)) result }
     ensures leaves { IfOk result (λ plan. Leaves view.now.phase plan.next plan.tx) }
 {
-    if is_too_long(command) {
-        let sent = answer(me, epoch(alloc, kv), origin, too_long(command));
+    if is_too_long(&command) {
+        let sent = answer(me, epoch(alloc, kv), origin, too_long(&command));
+        drop(command);
         return Ok(answered(alloc, clients, sent)?);
     }
     if goes_first(view, &clients) {
-        return propose(alloc, kv, me, clients, command, origin, now);
+        let plan = propose(alloc, kv, me, clients, &command, origin, now);
+        drop(command);
+        return plan;
     }
     if is_queue_full(&clients) {
+        drop(command);
         let sent = answer(me, epoch(alloc, kv), origin, busy());
         return Ok(answered(alloc, clients, sent)?);
     }
-    let command = command.copy(alloc)?;
     Ok(stay(alloc, queue_up(clients, command, origin)?))
 }
 
-/// A copy of a command goes to the leader, and its client waits.
+/// A command goes to the leader, and its client waits.
 fn hand_on(
     alloc: Global,
     kv: &Kv,
     me: &Me,
     view: &View,
     clients: Clients,
-    command: &Command,
+    command: Command,
     session: Session,
 ) -> Result<Plan<Clients>, RoleStop>
     requires { is_peon view.now.phase ≡ true }
     ensures plans { (now : ℕ) → PlansRow me.now now clients_are (IsUnderWay me.now now (readings_of kv.now) view.now)
-        (λ x. hand_on me.now command.now session (clients_are clients x)) result }
+        (λ x. hand_on me.now command session (clients_are clients x)) result }
     ensures leaves { IfOk result (λ plan. Leaves view.now.phase plan.next plan.tx) }
 {
     let seq = clients.next_seq;
     if seq > GREATEST {
+        drop(clients);
+        drop(command);
         return Err(RoleStop::Spent { which: Which::Seq });
     }
     let waiting = wait_under(clients, seq, session)?;
-    let command = command.copy(alloc)?;
     let forward = Body::Forward { seq, command };
     let sent = message(me, epoch(alloc, kv), forward, view.leader);
     Ok(answered(alloc, waiting, sent)?)
@@ -173,59 +177,25 @@ fn at_peon(
     me: &Me,
     view: &View,
     clients: Clients,
-    command: &Command,
+    command: Command,
     session: Session,
 ) -> Result<Plan<Clients>, RoleStop>
     requires { is_peon view.now.phase ≡ true }
     ensures plans { (now : ℕ) → PlansRow me.now now clients_are (IsUnderWay me.now now (readings_of kv.now) view.now)
-        (λ x. at_peon me.now command.now session (clients_are clients x)) result }
+        (λ x. at_peon me.now command session (clients_are clients x)) result }
     ensures leaves { IfOk result (λ plan. Leaves view.now.phase plan.next plan.tx) }
 {
-    if is_too_long(command) {
-        let reply = too_long(command);
+    if is_too_long(&command) {
+        let reply = too_long(&command);
+        drop(command);
         return Ok(answered(alloc, clients, Sent::Reply { to: session, reply })?);
     }
     if are_sessions_full(&clients) {
+        drop(command);
         let reply = busy();
         return Ok(answered(alloc, clients, Sent::Reply { to: session, reply })?);
     }
     hand_on(alloc, kv, me, view, clients, command, session)
-}
-
-/// What a client's command does, of which a copy is kept or handed on.
-fn ask_for(
-    alloc: Global,
-    kv: &Kv,
-    me: &Me,
-    view: &View,
-    state: &Clients,
-    session: Session,
-    command: &Command,
-    now: Moment,
-) -> Result<Plan<Clients>, RoleStop>
-    ensures plans { PlansRow me.now now clients_are
-        (IsMet me.now now (readings_of kv.now) view.now (λ s. s.clients) state.now)
-        (ask me.now now session command.now) result }
-    ensures leaves { IfOk result (λ plan. Leaves view.now.phase plan.next plan.tx) }
-{
-    let clients = state.copy(alloc)?;
-    if is_leading(view.phase) {
-        return at_leader(
-            alloc,
-            kv,
-            me,
-            view,
-            clients,
-            command,
-            Origin::Session(session),
-            now,
-        );
-    }
-    if is_peon(view.phase) {
-        return at_peon(alloc, kv, me, view, clients, command, session);
-    }
-    let reply = Reply::Unavailable;
-    Ok(answered(alloc, clients, Sent::Reply { to: session, reply })?)
 }
 
 /// What a client's command does.
@@ -234,19 +204,26 @@ pub fn ask(
     kv: &Kv,
     me: &Me,
     view: &View,
-    state: &Clients,
+    clients: Clients,
     session: Session,
     command: Command,
     now: Moment,
 ) -> Result<Plan<Clients>, RoleStop>
     ensures plans { PlansRow me.now now clients_are
-        (IsMet me.now now (readings_of kv.now) view.now (λ s. s.clients) state.now)
+        (IsMet me.now now (readings_of kv.now) view.now (λ s. s.clients) clients)
         (ask me.now now session command) result }
     ensures leaves { IfOk result (λ plan. Leaves view.now.phase plan.next plan.tx) }
 {
-    let plan = ask_for(alloc, kv, me, view, state, session, &command, now);
+    if is_leading(view.phase) {
+        let origin = Origin::Session(session);
+        return at_leader(alloc, kv, me, view, clients, command, origin, now);
+    }
+    if is_peon(view.phase) {
+        return at_peon(alloc, kv, me, view, clients, command, session);
+    }
     drop(command);
-    plan
+    let reply = Reply::Unavailable;
+    Ok(answered(alloc, clients, Sent::Reply { to: session, reply })?)
 }
 
 /// The command that waits first, and the others.
@@ -266,15 +243,14 @@ pub fn propose_due(
     kv: &Kv,
     me: &Me,
     view: &View,
-    state: &Clients,
+    clients: Clients,
     now: Moment,
 ) -> Result<Plan<Clients>, RoleStop>
     ensures plans { PlansRow me.now now clients_are
-        (IsMet me.now now (readings_of kv.now) view.now (λ s. s.clients) state.now)
+        (IsMet me.now now (readings_of kv.now) view.now (λ s. s.clients) clients)
         (propose_due me.now now) result }
     ensures leaves { IfOk result (λ plan. Leaves view.now.phase plan.next plan.tx) }
 {
-    let clients = state.copy(alloc)?;
     if !may_propose(view) {
         return Ok(stay(alloc, clients));
     }
@@ -282,5 +258,8 @@ pub fn propose_due(
         return Ok(stay(alloc, clients));
     }
     let (first, clients) = take_first(clients);
-    propose(alloc, kv, me, clients, &first.command, first.origin, now)
+    let Waiting { command, origin } = first;
+    let plan = propose(alloc, kv, me, clients, &command, origin, now);
+    drop(command);
+    plan
 }

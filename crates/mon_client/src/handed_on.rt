@@ -59,7 +59,7 @@ pub fn forward(
     kv: &Kv,
     me: &Me,
     view: &View,
-    state: &Clients,
+    clients: Clients,
     from: Rank,
     epoch: Epoch,
     seq: u64,
@@ -67,17 +67,17 @@ pub fn forward(
     now: Moment,
 ) -> Result<Plan<Clients>, RoleStop>
     ensures plans { PlansRow me.now now clients_are
-        (IsMet me.now now (readings_of kv.now) view.now (λ s. s.clients) state.now)
+        (IsMet me.now now (readings_of kv.now) view.now (λ s. s.clients) clients)
         (hear_forward me.now now from epoch seq command.now) result }
     ensures leaves { IfOk result (λ plan. Leaves view.now.phase plan.next plan.tx) }
 {
-    let clients = state.copy(alloc)?;
     if !is_of_member(alloc, kv, view, from, epoch) {
         return Ok(stay(alloc, clients));
     }
     if !is_new(&clients, from, seq) {
         return Ok(stay(alloc, clients));
     }
+    let command = command.copy(alloc)?;
     let origin = Origin::Forwarded { rank: from, seq };
     at_leader(
         alloc,
@@ -133,24 +133,24 @@ pub fn route(
     alloc: Global,
     kv: &Kv,
     view: &View,
-    state: &Clients,
+    mut clients: Clients,
     from: Rank,
     epoch: Epoch,
     seq: u64,
     reply: &Reply,
 ) -> Result<Plan<Clients>, RoleStop>
     ensures plans { (me : Me) (now : ℕ) → PlansRow me now clients_are
-        (IsMet me now (readings_of kv.now) view.now (λ s. s.clients) state.now)
+        (IsMet me now (readings_of kv.now) view.now (λ s. s.clients) clients)
         (hear_route from epoch seq reply.now) result }
     ensures leaves { IfOk result (λ plan. Leaves view.now.phase plan.next plan.tx) }
 {
-    let mut clients = state.copy(alloc)?;
     if !is_of_leader(alloc, kv, view, from, epoch) {
         return Ok(stay(alloc, clients));
     }
-    let sessions = state.sessions.as_slice();
+    let sessions = clients.sessions.as_slice();
     let out = replies(alloc, sessions, seq, reply)?;
-    clients.sessions = others(alloc, sessions, seq)?;
+    let kept = others(alloc, sessions, seq)?;
+    clients.sessions = kept;
     Ok(Plan {
         tx: Transaction::new(alloc),
         out,

@@ -27,22 +27,22 @@ fn hear(
     kv: &Kv,
     me: &Me,
     view: &View,
-    state: &Clients,
+    clients: Clients,
     message: &Message,
     now: Moment,
 ) -> Result<Plan<Clients>, RoleStop>
     requires { IsTrue (is_told message.now.body) }
     ensures plans { (shared : List Entry) → PlansRow me.now now clients_are
-        (IsMet me.now now (readings_of kv.now) view.now (λ s. s.clients) state.now)
+        (IsMet me.now now (readings_of kv.now) view.now (λ s. s.clients) clients)
         (hear me.now shared now message.now.from message.now.epoch message.now.body) result }
     ensures leaves { IfOk result (λ plan. Leaves view.now.phase plan.next plan.tx) }
 {
     let (from, epoch) = (message.from, message.epoch);
     match &message.body {
         Body::Forward { seq, command } => forward(
-            alloc, kv, me, view, state, from, epoch, *seq, command, now,
+            alloc, kv, me, view, clients, from, epoch, *seq, command, now,
         ),
-        Body::Route { seq, reply } => route(alloc, kv, view, state, from, epoch, *seq, reply),
+        Body::Route { seq, reply } => route(alloc, kv, view, clients, from, epoch, *seq, reply),
         _ => unreachable!(),
     }
 }
@@ -53,14 +53,14 @@ fn client(
     kv: &Kv,
     me: &Me,
     view: &View,
-    state: &Clients,
+    clients: Clients,
     session: Session,
     request: &Request,
     now: Moment,
 ) -> Result<Plan<Clients>, RoleStop>
     requires { IsTrue (is_asked request.now) }
     ensures plans { PlansRow me.now now clients_are
-        (IsMet me.now now (readings_of kv.now) view.now (λ s. s.clients) state.now)
+        (IsMet me.now now (readings_of kv.now) view.now (λ s. s.clients) clients)
         (hear_client me.now now session request.now) result }
     ensures leaves { IfOk result (λ plan. Leaves view.now.phase plan.next plan.tx) }
 {
@@ -70,22 +70,22 @@ fn client(
                 key: key.copy(alloc)?,
                 value: value.copy(alloc)?,
             };
-            ask(alloc, kv, me, view, state, session, command, now)
+            ask(alloc, kv, me, view, clients, session, command, now)
         }
         Request::Remove { key } => {
             let command = Command::Remove {
                 key: key.copy(alloc)?,
             };
-            ask(alloc, kv, me, view, state, session, command, now)
+            ask(alloc, kv, me, view, clients, session, command, now)
         }
         Request::Log { text } => {
             let command = Command::Log {
                 text: text.copy(alloc)?,
             };
-            ask(alloc, kv, me, view, state, session, command, now)
+            ask(alloc, kv, me, view, clients, session, command, now)
         }
         Request::Since { service, version } => since(
-            alloc, kv, view, state, session, *service, *version,
+            alloc, kv, view, clients, session, *service, *version,
         ),
         Request::Show { .. } => unreachable!(),
     }
@@ -112,12 +112,32 @@ pub fn step(
         (row me.now shared now input.now) result }
     ensures leaves { IfOk result (λ plan. Leaves view.now.phase plan.next plan.tx) }
 {
+    step_owned(alloc, kv, me, view, state.copy(alloc)?, input, now)
+}
+
+/// The same as `step`, by value: what is remembered moves into the plan, and the commands that wait aren't copied.
+pub fn step_owned(
+    alloc: Global,
+    kv: &Kv,
+    me: &Me,
+    view: &View,
+    clients: Clients,
+    input: &Input,
+    now: Moment,
+) -> Result<Plan<Clients>, RoleStop>
+    requires input { IsTrue (is_input input.now) }
+    requires fits { IsTrue (may_come me.now.member.monitors input.now) }
+    ensures plans { (shared : List Entry) → PlansRow me.now now clients_are
+        (IsMet me.now now (readings_of kv.now) view.now (λ s. s.clients) clients)
+        (row me.now shared now input.now) result }
+    ensures leaves { IfOk result (λ plan. Leaves view.now.phase plan.next plan.tx) }
+{
     match input {
-        Input::Deliver(message) => hear(alloc, kv, me, view, state, message, now),
+        Input::Deliver(message) => hear(alloc, kv, me, view, clients, message, now),
         Input::Client(session, request) => client(
-            alloc, kv, me, view, state, *session, request, now,
+            alloc, kv, me, view, clients, *session, request, now,
         ),
-        Input::Timer(_) => propose_due(alloc, kv, me, view, state, now),
+        Input::Timer(_) => propose_due(alloc, kv, me, view, clients, now),
         Input::Start => unreachable!(),
     }
 }

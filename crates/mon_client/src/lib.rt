@@ -8,4 +8,4 @@ mod inputs;
 mod proposals;
 mod reads;
 
-pub use inputs::step;
+pub use inputs::{step, step_owned};

@@ -57,17 +57,16 @@ pub fn since(
     alloc: Global,
     kv: &Kv,
     view: &View,
-    state: &Clients,
+    clients: Clients,
     session: Session,
     service: Service,
     version: Version,
 ) -> Result<Plan<Clients>, RoleStop>
     ensures plans { (me : Me) (now : ℕ) → PlansRow me now clients_are
-        (IsMet me now (readings_of kv.now) view.now (λ s. s.clients) state.now)
+        (IsMet me now (readings_of kv.now) view.now (λ s. s.clients) clients)
         (read me now session (λ w. changes_since w service version)) result }
     ensures leaves { IfOk result (λ plan. Leaves view.now.phase plan.next plan.tx) }
 {
     let reply = told(alloc, kv, view, service, version)?;
-    let clients = state.copy(alloc)?;
     Ok(answered(alloc, clients, Sent::Reply { to: session, reply })?)
 }

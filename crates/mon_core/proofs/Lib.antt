@@ -5,6 +5,7 @@ pub mod Leaving
 pub mod Naming
 pub mod PutOnce
 pub mod Reacting
+pub mod Regaining
 pub mod Starting
 pub mod Taking
 pub mod Told

@@ -1,5 +1,6 @@
 -- The acts that plans name, and what they need of the event in which they are done.
 use Rattle.std.specs.Prelude.{◌≡◌, ℕ, true, false, nat_lt, List, Result, []}
+use Rattle.mon_msg.specs.Protocol.Changes.{Change}
 use Rattle.mon_msg.specs.Protocol.Course.{Course}
 use Rattle.mon_msg.specs.Protocol.Phases.{phase_of}
 use Rattle.mon_msg.specs.Protocol.Readings.{readings_of}
@@ -11,9 +12,9 @@ use Rattle.mon_msg.specs.declared.plan.RoleStop.{RoleStop}
 use Rattle.mon_msg.specs.declared.view.Me.{Me}
 use Rattle.mon_tx.specs.Map.{Store, apply}
 use Rattle.mon_tx.specs.declared.op.Op.{Op}
-use Rattle.mon_plan.specs.Plans.{act}
+use Rattle.mon_plan.specs.Plans.{act, changed, stands}
 use Rattle.mon_wire.specs.declared.phase.Phase.TheVariants as phase
-use Rattle.mon_event.specs.Events.{IsUnderWay, Reaches}
+use Rattle.mon_event.specs.Events.{IsUnderWay, Reaches, remembering}
 use Rattle.mon_event.specs.declared.event.Event.{Event}
 
 -- what the store's readers return after these changes is what they returned before, except for the epoch and the count of
@@ -42,6 +43,12 @@ Leads s = s.phase ≡ phase_of s.leader.stage
 -- so it stays with an active leader, whichever role's state is replaced
 abbrev pub LeadsOn : {S : Type 0} → (put : S → State → State) → Type 0
 LeadsOn {S} put = (x : S) (s : State) → s.phase ≡ phase.Active → Leads s → Leads (put x s)
+
+-- What a role has taken out of what its monitor remembers isn't missed: a plan puts in what the role remembers then,
+-- wherever the monitor stands by then and whatever it has written.
+abbrev pub Regains : {S : Type 0} → (put : S → State → State) → (whole left : State) → Type 0
+Regains {S} put whole left = (s : S) (n : Next) (cs : List Change) (x : Course) → x.state ≡ whole →
+    remembering put s (changed cs (stands n (record x { state = left }))) ≡ remembering put s (changed cs (stands n x))
 
 -- after which no other act comes in the same event
 abbrev pub IsLast : Next → Type 0

@@ -105,14 +105,15 @@ fn begin(
     kv: &Kv,
     me: &Me,
     event: &mut Event,
-    value: &Transaction,
-    origin: &Origin,
+    value: Transaction,
+    origin: Origin,
     now: Moment,
 ) -> Result<(), RoleStop>
-    requires { MayAct me.now kv.now event.old (next.Begin value.now origin.now) }
-    ensures { Acts me.now kv.now now event.old (next.Begin value.now origin.now) event.new result }
+    requires { MayAct me.now kv.now event.old (next.Begin value origin) }
+    ensures { Acts me.now kv.now now event.old (next.Begin value origin) event.new result }
 {
-    let plan = paxos_leader::begin(alloc, kv, me, &event.state.leader, value, origin, now)?;
+    let leader = event.state.take_leader();
+    let plan = paxos_leader::begin_owned(alloc, kv, me, leader, value, origin, now)?;
     event.carry_out(alloc, plan)?;
     Ok(())
 }
@@ -136,6 +137,6 @@ pub(crate) fn act(
         Next::Win { quorum } => reign(alloc, kv, me, event, quorum, now),
         Next::FullSync { from } => synchronize(alloc, kv, me, event, from, true, now),
         Next::RecentSync { from } => synchronize(alloc, kv, me, event, from, false, now),
-        Next::Begin { value, origin } => begin(alloc, kv, me, event, &value, &origin, now),
+        Next::Begin { value, origin } => begin(alloc, kv, me, event, value, origin, now),
     }
 }

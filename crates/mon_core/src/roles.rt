@@ -13,7 +13,7 @@ ghost use Rattle.mon_event.specs.Events.{remembering};
 ghost use Rattle.mon_event.specs.State.{state_of};
 ghost use Rattle.mon_event.specs.declared.role.Role.{Role as AnyRole};
 ghost use Rattle.mon_event.specs.declared.role.Role.TheVariants as roles;
-ghost use Rattle.mon_core.specs.Acts.{LeadsOn};
+ghost use Rattle.mon_core.specs.Acts.{LeadsOn, Regains};
 ghost use Rattle.mon_core.specs.Rows.{AnswersRow, IsFor, IsReady};
 
 use crate::acts::act;
@@ -34,22 +34,23 @@ trait Planner: RoleState {
     /// What the role remembers, as a part of what its monitor remembers.
     ghost part_of: { Remembered → Self };
 
-    /// The plan of the role's row at an input.
+    /// The plan of the role's row at an input. What the role remembers may move into the plan.
     fn step(
         alloc: Global,
         kv: &Kv,
         me: &Me,
         view: &View,
-        state: &State,
+        state: &mut State,
         input: &Input,
         now: Moment,
     ) -> Result<Plan<Self>, RoleStop>
         requires input { IsFor me.now role input.now }
-        requires remembers { MayRemember me.now (state_of state.now) }
+        requires remembers { MayRemember me.now (state_of state.old) }
         ensures plans { PlansRow me.now now (remembering Self.put)
-            (IsMet me.now now (readings_of kv.now) view.now part_of (part_of (state_of state.now)))
+            (IsMet me.now now (readings_of kv.now) view.now part_of (part_of (state_of state.old)))
             (row me.now (shared_entries kv.now) now input.now) result }
-        ensures leaves { IfOk result (λ p. Leaves view.now.phase p.next p.tx) };
+        ensures leaves { IfOk result (λ p. Leaves view.now.phase p.next p.tx) }
+        ensures regains { Regains Self.put (state_of state.old) (state_of state.new) };
 
     /// An active leader's stage stays its phase, whatever the role remembers.
     ghost leads_on: { LeadsOn Self.put };
@@ -67,7 +68,7 @@ impl Planner for Prober {
         kv: &Kv,
         me: &Me,
         view: &View,
-        state: &State,
+        state: &mut State,
         input: &Input,
         now: Moment,
     ) -> Result<Plan<Prober>, RoleStop> {
@@ -87,7 +88,7 @@ impl Planner for Elector {
         kv: &Kv,
         me: &Me,
         view: &View,
-        state: &State,
+        state: &mut State,
         input: &Input,
         now: Moment,
     ) -> Result<Plan<Elector>, RoleStop> {
@@ -107,11 +108,12 @@ impl Planner for Leader {
         kv: &Kv,
         me: &Me,
         view: &View,
-        state: &State,
+        state: &mut State,
         input: &Input,
         now: Moment,
     ) -> Result<Plan<Leader>, RoleStop> {
-        paxos_leader::step(alloc, kv, me, view, &state.leader, input, now)
+        let leader = state.take_leader();
+        paxos_leader::step_owned(alloc, kv, me, view, leader, input, now)
     }
 }
 
@@ -127,7 +129,7 @@ impl Planner for Peon {
         kv: &Kv,
         me: &Me,
         view: &View,
-        state: &State,
+        state: &mut State,
         input: &Input,
         now: Moment,
     ) -> Result<Plan<Peon>, RoleStop> {
@@ -147,11 +149,12 @@ impl Planner for Clients {
         kv: &Kv,
         me: &Me,
         view: &View,
-        state: &State,
+        state: &mut State,
         input: &Input,
         now: Moment,
     ) -> Result<Plan<Clients>, RoleStop> {
-        mon_client::step(alloc, kv, me, view, &state.clients, input, now)
+        let clients = state.take_clients(alloc);
+        mon_client::step_owned(alloc, kv, me, view, clients, input, now)
     }
 }
 
@@ -167,7 +170,7 @@ impl Planner for Provider {
         kv: &Kv,
         me: &Me,
         view: &View,
-        state: &State,
+        state: &mut State,
         input: &Input,
         now: Moment,
     ) -> Result<Plan<Provider>, RoleStop> {
@@ -187,7 +190,7 @@ impl Planner for Requester {
         kv: &Kv,
         me: &Me,
         view: &View,
-        state: &State,
+        state: &mut State,
         input: &Input,
         now: Moment,
     ) -> Result<Plan<Requester>, RoleStop> {
@@ -209,7 +212,7 @@ fn play<S: Planner>(
     ensures { AnswersRow me.now kv.now now event.old input.now event.new result }
 {
     let view = view(alloc, kv, me, &event.state, now);
-    let plan = S::step(alloc, kv, me, &view, &event.state, input, now)?;
+    let plan = S::step(alloc, kv, me, &view, &mut event.state, input, now)?;
     let next = event.carry_out(alloc, plan)?;
     act(alloc, kv, me, event, next, now)
 }

@@ -4,7 +4,7 @@ ghost use Rattle.std.specs.Prelude.{◌≡◌, not, None};
 ghost use Rattle.mon_msg.specs.Protocol.Course.{timers_in};
 ghost use Rattle.mon_msg.specs.Protocol.Phases.{same_phase, phase_of};
 ghost use Rattle.mon_msg.specs.Protocol.Sets.{is_empty};
-ghost use Rattle.mon_msg.specs.Protocol.State.{booting, no_clients};
+ghost use Rattle.mon_msg.specs.Protocol.State.{booting, no_clients, start_leader};
 ghost use Rattle.mon_plan.specs.Plans.{all_armed, phase_as};
 ghost use Rattle.mon_event.specs.State.{state_of};
 
@@ -19,6 +19,7 @@ use mon_msg::{
 };
 use mon_types::{Moment, Pn, Rank, RankSet, Version};
 use std::alloc::Global;
+use std::mem;
 
 /// What a running monitor remembers and its store doesn't keep.
 #[derive(Drop)]
@@ -56,8 +57,8 @@ fn first_elector(rank: Rank) -> Elector
     }
 }
 
-fn first_leader(rank: Rank) -> Leader
-    ensures { result ≡ (booting rank).leader }
+fn first_leader() -> Leader
+    ensures { result ≡ start_leader }
 {
     Leader {
         quorum: RankSet::empty(),
@@ -152,7 +153,7 @@ impl State {
             prober: Prober {
                 outside: RankSet::empty(),
             },
-            leader: first_leader(rank),
+            leader: first_leader(),
             peon: Peon {
                 leader: rank,
                 quorum: RankSet::empty(),
@@ -187,6 +188,22 @@ impl State {
         ensures { state_of self.new ≡ record (state_of self.old) { clients = no_clients } }
     {
         self.clients = no_clients(alloc);
+    }
+
+    /// Takes out what is remembered of clients. Nobody waits then.
+    pub fn take_clients(&mut self, alloc: Global) -> Clients
+        ensures taken { result ≡ (state_of self.old).clients }
+        ensures left { state_of self.new ≡ record (state_of self.old) { clients = no_clients } }
+    {
+        mem::replace(&mut self.clients, no_clients(alloc))
+    }
+
+    /// Takes out what is remembered as a leader. What is left has never led.
+    pub fn take_leader(&mut self) -> Leader
+        ensures taken { result ≡ (state_of self.old).leader }
+        ensures left { state_of self.new ≡ record (state_of self.old) { leader = start_leader } }
+    {
+        mem::replace(&mut self.leader, first_leader())
     }
 
     /// From now on the monitor follows this leader in this quorum, without a lease.

@@ -119,15 +119,15 @@ fn answered(mut state: Leader, from: Rank, last: Version, found: Option<Found>) 
     state
 }
 
-/// What a leader remembers once a member answered with all that it has, by what the member reported.
-fn note(state: &Leader, answer: &Answer<'_>) -> Result<Leader, RoleStop>
-    requires found { may_begin_found state.now.found ≡ true }
+/// What a leader remembers once a member answered with all that it has, by what the member told.
+fn note(state: Leader, answer: &Answer<'_>) -> Result<Leader, RoleStop>
+    requires found { may_begin_found state.found ≡ true }
     requires told { may_begin_told answer.now.pending.now ≡ true }
-    ensures notes { Notes state.now answer.now.from answer.now.last answer.now.pending.now result }
+    ensures notes { Notes state answer.now.from answer.now.last answer.now.pending.now result }
     ensures short { IfOk result (λ new. may_begin_found new.found ≡ true) }
-    ensures stage { IfOk result (λ new. new.stage ≡ state.now.stage) }
+    ensures stage { IfOk result (λ new. new.stage ≡ state.stage) }
 {
-    let (state, old) = take_found(state.copy()?);
+    let (state, old) = take_found(state);
     match found_with_any(old, answer.last, answer.pending) {
         Ok(found) => Ok(answered(state, answer.from, answer.last, found)),
         Err(stop) => {
@@ -142,14 +142,14 @@ fn hear_whole(
     alloc: Global,
     stored: &Stored<'_>,
     me: &Me,
-    state: &Leader,
+    state: Leader,
     answer: &Answer<'_>,
     now: Moment,
 ) -> Result<Plan<Leader>, RoleStop>
-    requires found { may_begin_found state.now.found ≡ true }
+    requires found { may_begin_found state.found ≡ true }
     requires told { may_begin_told answer.now.pending.now ≡ true }
     ensures goes { GoesOn me.now now (IsAsking (epoch_of (readings_of stored.now)) (readings_of stored.now))
-        (record { tx = []; out = []; state = state.now })
+        (record { tx = []; out = []; state = state })
         (whole_row me.now now answer.now.from answer.now.last answer.now.pending.now) result }
     ensures stays { IfOk result (λ p. p.next ≡ Next.Stay) }
 {
@@ -169,22 +169,24 @@ fn go_on(
     alloc: Global,
     stored: &Stored<'_>,
     me: &Me,
-    state: &Leader,
+    state: Leader,
     answer: &Answer<'_>,
     now: Moment,
 ) -> Result<Plan<Leader>, RoleStop>
-    requires found { may_begin_found state.now.found ≡ true }
+    requires found { may_begin_found state.found ≡ true }
     requires told { may_begin_told answer.now.pending.now ≡ true }
     ensures goes { GoesOn me.now now (IsAsking (epoch_of (readings_of stored.now)) (readings_of stored.now))
-        (record { tx = []; out = []; state = state.now })
+        (record { tx = []; out = []; state = state })
         (goes_on me.now now answer.now.from answer.now.last answer.now.whole answer.now.pending.now) result }
     ensures stays { IfOk result (λ p. p.next ≡ Next.Stay) }
 {
     if answer.whole {
         return hear_whole(alloc, stored, me, state, answer, now);
     }
+    let quorum = state.quorum;
+    drop(state);
     let above = Pn::known(0);
-    ask_again(alloc, stored, me, state.quorum, above, now)
+    ask_again(alloc, stored, me, quorum, above, now)
 }
 
 /// What follows, by the store after these changes.
@@ -193,15 +195,15 @@ fn go_on_after(
     kv: &Kv,
     tx: &Transaction,
     me: &Me,
-    state: &Leader,
+    state: Leader,
     answer: &Answer<'_>,
     now: Moment,
 ) -> Result<Plan<Leader>, RoleStop>
-    requires found { may_begin_found state.now.found ≡ true }
+    requires found { may_begin_found state.found ≡ true }
     requires told { may_begin_told answer.now.pending.now ≡ true }
     ensures goes { GoesOn me.now now (IsAsking (epoch_of (readings_of (apply tx.now kv.now)))
         (readings_of (apply tx.now kv.now)))
-        (record { tx = []; out = []; state = state.now })
+        (record { tx = []; out = []; state = state })
         (goes_on me.now now answer.now.from answer.now.last answer.now.whole answer.now.pending.now) result }
     ensures stays { IfOk result (λ p. p.next ≡ Next.Stay) }
 {
@@ -240,16 +242,16 @@ fn hear_answer(
     alloc: Global,
     kv: &Kv,
     me: &Me,
-    state: &Leader,
+    state: Leader,
     answer: &Answer<'_>,
     now: Moment,
 ) -> Result<Plan<Leader>, RoleStop>
     requires short { AllByRecursion (λ ops. length (text ops) ≤ most) answer.now.values.now }
     requires few { length answer.now.values.now ≤ 65535 }
-    requires found { may_begin_found state.now.found ≡ true }
+    requires found { may_begin_found state.found ≡ true }
     requires told { may_begin_told answer.now.pending.now ≡ true }
     ensures plans { (e : ℕ) →
-        PlansRow me.now now leads (IsHeard (phases.Collecting ∷ []) answer.now.from e (readings_of kv.now) state.now)
+        PlansRow me.now now leads (IsHeard (phases.Collecting ∷ []) answer.now.from e (readings_of kv.now) state)
         (answer_row me.now now answer.now.from answer.now.last answer.now.whole answer.now.start answer.now.values.now
         answer.now.pending.now) result }
     ensures stays { IfOk result (λ p. p.next ≡ Next.Stay) }
@@ -258,7 +260,10 @@ fn hear_answer(
     let mut tx = Transaction::new(alloc);
     match learn_news(&mut tx, own, answer) {
         Ok(()) => {}
-        Err(stop) => return Err(stop),
+        Err(stop) => {
+            drop(state);
+            return Err(stop);
+        }
     }
     match go_on_after(alloc, kv, &tx, me, state, answer, now) {
         Ok(plan) => Ok(behind(tx, plan)?),
@@ -278,29 +283,31 @@ pub(crate) fn hear_last(
     alloc: Global,
     kv: &Kv,
     me: &Me,
-    state: &Leader,
+    state: Leader,
     answer: &Answer<'_>,
     now: Moment,
 ) -> Result<Plan<Leader>, RoleStop>
     requires short { AllByRecursion (λ ops. length (text ops) ≤ most) answer.now.values.now }
     requires few { length answer.now.values.now ≤ 65535 }
-    requires found { may_begin_found state.now.found ≡ true }
+    requires found { may_begin_found state.found ≡ true }
     requires told { may_begin_told answer.now.pending.now ≡ true }
     ensures plans { (e : ℕ) →
-        PlansRow me.now now leads (IsHeard (phases.Collecting ∷ []) answer.now.from e (readings_of kv.now) state.now)
+        PlansRow me.now now leads (IsHeard (phases.Collecting ∷ []) answer.now.from e (readings_of kv.now) state)
         (last_row me.now now answer.now.from e answer.now.pn answer.now.first answer.now.last answer.now.whole
         answer.now.start answer.now.values.now answer.now.pending.now) result }
     ensures leaves { (at : Phase) → IfOk result (λ p. Leaves at p.next p.tx) }
 {
     if answer.pn.get() > state.pn.get() {
+        let quorum = state.quorum;
+        drop(state);
         let stored = Stored::of(alloc, kv);
-        return ask_again(alloc, &stored, me, state.quorum, answer.pn, now);
+        return ask_again(alloc, &stored, me, quorum, answer.pn, now);
     }
     if answer.pn.get() < state.pn.get() {
-        return Ok(stay(alloc, state.copy()?));
+        return Ok(stay(alloc, state));
     }
     if is_behind(own_last(alloc, kv), answer) {
-        return Ok(planned(alloc, state.copy()?, Next::Bootstrap));
+        return Ok(planned(alloc, state, Next::Bootstrap));
     }
     hear_answer(alloc, kv, me, state, answer, now)
 }

@@ -1,14 +1,14 @@
 //! What an event at a leader has done so far.
 
-ghost use Rattle.std.specs.Prelude.{◌≡◌, ◌++◌, [], map, IfOk};
+ghost use Rattle.std.specs.Prelude.{◌≡◌, ◌++◌, [], map, option_to_list, IfOk};
 ghost use Rattle.mon_msg.specs.Protocol.Sending.{members as members_of, message_to};
 
 use mon_bytes::{Items, OutOfMemory};
 use mon_msg::plan::Sent;
 use mon_msg::{Body, Leader, Me};
-use mon_plan::{members, send_each};
+use mon_plan::{members, message, send_each};
 use mon_tx::Transaction;
-use mon_types::{Epoch, RankSet};
+use mon_types::{Epoch, Rank, RankSet};
 use std::alloc::Global;
 
 /// What an event has written and sent so far, and what the leader remembers then.
@@ -32,24 +32,28 @@ impl Draft {
     }
 }
 
-/// Besides what was sent so far, a copy of this goes to each of the other members of a quorum.
-fn tell_copies(
+/// Besides what was sent so far, a copy of this goes to each of the other members of a quorum but the last, which is
+/// answered, if there is one.
+fn tell_all_but_last(
     alloc: Global,
-    out: Items<Sent>,
+    mut out: Items<Sent>,
     me: &Me,
     epoch: Epoch,
     quorum: RankSet,
     body: &Body,
-) -> Result<Items<Sent>, OutOfMemory>
-    ensures { IfOk result (λ sent. sent ≡ out ++ map (message_to me.now epoch body.now) (members_of me.now quorum)) }
+) -> Result<(Items<Sent>, Option<Rank>), OutOfMemory>
+    ensures { IfOk result (λ told.
+        told.0 ++ map (message_to me.now epoch body.now) (option_to_list told.1) ≡
+        out ++ map (message_to me.now epoch body.now) (members_of me.now quorum)) }
 {
-    let peons = members(alloc, me, quorum)?;
-    let mut out = out;
+    let mut peons = members(alloc, me, quorum)?;
+    let last = peons.pop();
     send_each(alloc, &mut out, me, epoch, peons.as_slice(), body)?;
-    Ok(out)
+    Ok((out, last))
 }
 
-/// Besides what was sent so far, the same message goes to the other members of a quorum.
+/// Besides what was sent so far, the same message goes to the other members of a quorum. The last of them takes it
+/// without a copy.
 pub(crate) fn tell(
     alloc: Global,
     out: Items<Sent>,
@@ -60,7 +64,17 @@ pub(crate) fn tell(
 ) -> Result<Items<Sent>, OutOfMemory>
     ensures { IfOk result (λ sent. sent ≡ out ++ map (message_to me.now epoch body) (members_of me.now quorum)) }
 {
-    let sent = tell_copies(alloc, out, me, epoch, quorum, &body);
-    drop(body);
-    sent
+    let told = tell_all_but_last(alloc, out, me, epoch, quorum, &body);
+    let (mut out, last) = match told {
+        Ok(told) => told,
+        Err(no_memory) => {
+            drop(body);
+            return Err(no_memory);
+        }
+    };
+    match last {
+        None => drop(body),
+        Some(last) => out.push(message(me, epoch, body, last))?,
+    }
+    Ok(out)
 }

@@ -117,21 +117,21 @@ fn hear(
     kv: &Kv,
     me: &Me,
     view: &View,
-    state: &Leader,
+    state: Leader,
     message: &Message,
     now: Moment,
 ) -> Result<Plan<Leader>, RoleStop>
     requires input { is_told message.now.body ≡ true }
     requires fits { fits me.now.member.monitors message.now.body ≡ true }
-    requires held { may_begin_all state.now ≡ true }
+    requires held { may_begin_all state ≡ true }
     ensures plans { (shared : List Entry) → PlansRow me.now now leads (IsMet me.now now (readings_of kv.now) view.now
-        (λ s. s.leader) state.now)
+        (λ s. s.leader) state)
         (hears me.now shared now message.now.from message.now.epoch message.now.body) result }
     ensures leaves { IfOk result (λ p. Leaves view.now.phase p.next p.tx) }
 {
     let epoch = own_epoch(alloc, kv);
-    if !is_ours(epoch, view, state, message) {
-        return Ok(stay(alloc, state.copy()?));
+    if !is_ours(epoch, view, &state, message) {
+        return Ok(stay(alloc, state));
     }
     let from = message.from;
     match &message.body {
@@ -170,14 +170,13 @@ fn renew(
     kv: &Kv,
     me: &Me,
     view: &View,
-    state: &Leader,
+    state: Leader,
     now: Moment,
 ) -> Result<Plan<Leader>, RoleStop>
-    ensures plans { PlansRow me.now now leads (IsMet me.now now (readings_of kv.now) view.now (λ s. s.leader) state.now)
+    ensures plans { PlansRow me.now now leads (IsMet me.now now (readings_of kv.now) view.now (λ s. s.leader) state)
         (renew_row me.now now) result }
     ensures stays { IfOk result (λ p. p.next ≡ Next.Stay) }
 {
-    let state = state.copy()?;
     if !is_active(view.phase) {
         return Ok(stay(alloc, state));
     }
@@ -193,18 +192,18 @@ fn ring(
     kv: &Kv,
     me: &Me,
     view: &View,
-    state: &Leader,
+    state: Leader,
     kind: Timer,
     now: Moment,
 ) -> Result<Plan<Leader>, RoleStop>
     requires { is_own kind ≡ true }
-    ensures plans { PlansRow me.now now leads (IsMet me.now now (readings_of kv.now) view.now (λ s. s.leader) state.now)
+    ensures plans { PlansRow me.now now leads (IsMet me.now now (readings_of kv.now) view.now (λ s. s.leader) state)
         (timer_comes me.now now kind) result }
     ensures leaves { IfOk result (λ p. Leaves view.now.phase p.next p.tx) }
 {
     match kind {
         Timer::Renew => renew(alloc, kv, me, view, state, now),
-        _ => Ok(planned(alloc, state.copy()?, Next::Bootstrap)),
+        _ => Ok(planned(alloc, state, Next::Bootstrap)),
     }
 }
 
@@ -226,6 +225,27 @@ pub fn step(
     requires held { may_begin_all state.now ≡ true }
     ensures plans { (shared : List Entry) → PlansRow me.now now leads (IsMet me.now now (readings_of kv.now) view.now
         (λ s. s.leader) state.now)
+        (row me.now shared now input.now) result }
+    ensures leaves { IfOk result (λ p. Leaves view.now.phase p.next p.tx) }
+{
+    step_owned(alloc, kv, me, view, state.copy()?, input, now)
+}
+
+/// The same as `step`, by value: what is remembered moves into the plan, and the value under way isn't copied.
+pub fn step_owned(
+    alloc: Global,
+    kv: &Kv,
+    me: &Me,
+    view: &View,
+    state: Leader,
+    input: &Input,
+    now: Moment,
+) -> Result<Plan<Leader>, RoleStop>
+    requires input { is_input input.now ≡ true }
+    requires fits { may_come me.now.member.monitors input.now ≡ true }
+    requires held { may_begin_all state ≡ true }
+    ensures plans { (shared : List Entry) → PlansRow me.now now leads (IsMet me.now now (readings_of kv.now) view.now
+        (λ s. s.leader) state)
         (row me.now shared now input.now) result }
     ensures leaves { IfOk result (λ p. Leaves view.now.phase p.next p.tx) }
 {
@@ -337,16 +357,34 @@ pub fn begin(
         (Next.Begin value.now origin.now) result }
     ensures stays { IfOk result (λ p. p.next ≡ Next.Stay) }
 {
+    let value = value.copy()?;
+    begin_owned(alloc, kv, me, state.copy()?, value, *origin, now)
+}
+
+/// The same as `begin`, by value: what is remembered and the value move into the plan.
+pub fn begin_owned(
+    alloc: Global,
+    kv: &Kv,
+    me: &Me,
+    state: Leader,
+    value: Transaction,
+    origin: Origin,
+    now: Moment,
+) -> Result<Plan<Leader>, RoleStop>
+    requires { may_begin value ≡ true }
+    ensures plans { PlansAct me.now now leads (IsLed (readings_of kv.now) state)
+        (Next.Begin value origin) result }
+    ensures stays { IfOk result (λ p. p.next ≡ Next.Stay) }
+{
     let Some(version) = own_last(alloc, kv).plus_one() else {
+        drop(state);
+        drop(value);
         return Err(RoleStop::Spent {
             which: Which::Version,
         });
     };
-    let alone = leads_alone(me, state);
-    let value = value.copy()?;
-    let state = state.copy()?;
-    if alone {
-        return begin_answered(alloc, kv, me, state, version, value, *origin);
+    if leads_alone(me, &state) {
+        return begin_answered(alloc, kv, me, state, version, value, origin);
     }
     let epoch = own_epoch(alloc, kv);
     let draft = Draft::new(alloc, state);
@@ -359,7 +397,7 @@ pub fn begin(
         stage,
         version,
         value,
-        Some(*origin),
+        Some(origin),
         now,
     )
 }

@@ -12,4 +12,4 @@ mod sets;
 mod timers;
 mod values;
 
-pub use inputs::{begin, enter, step};
+pub use inputs::{begin, begin_owned, enter, step, step_owned};

@@ -204,12 +204,11 @@ fn commit_any(
 }
 
 /// What a leader remembers once a member accepted its value.
-fn with_vote(state: &Leader, from: Rank) -> Result<Leader, OutOfMemory>
-    ensures { IfOk result (λ l. l ≡ record state.now { accepted = with_rank state.now.accepted from }) }
+fn with_vote(mut state: Leader, from: Rank) -> Leader
+    ensures { result ≡ record state { accepted = with_rank state.accepted from } }
 {
-    let mut state = state.copy()?;
     state.accepted = state.accepted.with(from);
-    Ok(state)
+    state
 }
 
 /// Whether all of the quorum accepted the leader's value.
@@ -231,22 +230,22 @@ pub(crate) fn hear_accept(
     alloc: Global,
     kv: &Kv,
     me: &Me,
-    state: &Leader,
+    state: Leader,
     from: Rank,
     pn: Pn,
     version: Version,
     now: Moment,
 ) -> Result<Plan<Leader>, RoleStop>
-    requires { may_begin_any state.now.value ≡ true }
+    requires { may_begin_any state.value ≡ true }
     ensures plans { (e : ℕ) →
-        PlansRow me.now now leads (IsHeard (phase.Previous ∷ phase.Updating ∷ []) from e (readings_of kv.now) state.now)
+        PlansRow me.now now leads (IsHeard (phase.Previous ∷ phase.Updating ∷ []) from e (readings_of kv.now) state)
         (accept_row me.now now from e pn version) result }
     ensures stays { IfOk result (λ p. p.next ≡ Next.Stay) }
 {
-    if !is_asked(alloc, kv, state, pn, version) {
-        return Ok(stay(alloc, state.copy()?));
+    if !is_asked(alloc, kv, &state, pn, version) {
+        return Ok(stay(alloc, state));
     }
-    let state = with_vote(state, from)?;
+    let state = with_vote(state, from);
     if !all_accepted(me, &state) {
         return Ok(stay(alloc, state));
     }
@@ -254,12 +253,11 @@ pub(crate) fn hear_accept(
 }
 
 /// What a leader remembers once a member took its lease.
-fn with_ack(state: &Leader, from: Rank) -> Result<Leader, OutOfMemory>
-    ensures { IfOk result (λ l. l ≡ record state.now { acks = with_rank state.now.acks from }) }
+fn with_ack(mut state: Leader, from: Rank) -> Leader
+    ensures { result ≡ record state { acks = with_rank state.acks from } }
 {
-    let mut state = state.copy()?;
     state.acks = state.acks.with(from);
-    Ok(state)
+    state
 }
 
 /// All of the quorum took the lease: nobody is waited for.
@@ -287,20 +285,20 @@ pub(crate) fn hear_lease_ack(
     alloc: Global,
     kv: &Kv,
     me: &Me,
-    state: &Leader,
+    state: Leader,
     from: Rank,
     last: Version,
 ) -> Result<Plan<Leader>, RoleStop>
     ensures plans { (now e : ℕ) →
-        PlansRow me.now now leads (IsHeard (phase.Active ∷ []) from e (readings_of kv.now) state.now)
+        PlansRow me.now now leads (IsHeard (phase.Active ∷ []) from e (readings_of kv.now) state)
         (ack_row me.now from e last) result }
     ensures stays { IfOk result (λ p. p.next ≡ Next.Stay) }
 {
     let own = own_last(alloc, kv);
     if last.get() != own.get() {
-        return Ok(stay(alloc, state.copy()?));
+        return Ok(stay(alloc, state));
     }
-    let state = with_ack(state, from)?;
+    let state = with_ack(state, from);
     if !are_within(me, state.quorum, state.acks) {
         return Ok(stay(alloc, state));
     }

@@ -18,9 +18,9 @@ returns-then-is_too_long-clause-plans c =
     let me = c.args.me.now in
     let w = readings_of c.args.kv.now in
     let o = c.args.origin in
-    answers me c.args.now (IsUnderWay me c.args.now w c.args.view.now) (λ x. at_leader me c.args.now c.args.command.now o (clients_are c.args.clients x))
-    (answer_to me (epoch_of w) o (too_long c.args.command.now)) c.args.clients
-    (λ x b. leader-long me c.args.now w c.args.view.now x b c.args.command.now o c.args.clients (sym c.is_too_long.ensures ∙ c.if-is_too_long.true))
+    answers me c.args.now (IsUnderWay me c.args.now w c.args.view.now) (λ x. at_leader me c.args.now c.args.command o (clients_are c.args.clients x))
+    (answer_to me (epoch_of w) o (too_long c.args.command)) c.args.clients
+    (λ x b. leader-long me c.args.now w c.args.view.now x b c.args.command o c.args.clients (sym c.is_too_long.ensures ∙ c.if-is_too_long.true))
     c.in_ok-answered.field-0
     (c.in_ok-answered.ensures
     ∙ (λ i. plan_of ((c.answer-sent.ensures ∙ (λ j. answer_to me (c.epoch.ensures j) o (c.too_long.ensures j))) i ∷ []) [] c.args.clients next.Stay))
@@ -31,21 +31,21 @@ returns-then-goes_first-clause-plans c =
     let w = readings_of c.args.kv.now in
     let o = c.args.origin in
     instead me c.args.now clients_are (IsUnderWay me c.args.now w c.args.view.now) (λ x. x)
-    (λ x. propose me c.args.now c.args.command.now o (clients_are c.args.clients x)) (λ x. at_leader me c.args.now c.args.command.now o (clients_are c.args.clients x)) c.propose.result
+    (λ x. propose me c.args.now c.args.command o (clients_are c.args.clients x)) (λ x. at_leader me c.args.now c.args.command o (clients_are c.args.clients x)) c.propose-plan.result
     (λ x b.
-    leader-first me c.args.now w c.args.view.now x b c.args.command.now o c.args.clients (sym c.is_too_long.ensures ∙ c.if-is_too_long.false) (sym c.goes_first.ensures ∙ c.if-goes_first.true))
+    leader-first me c.args.now w c.args.view.now x b c.args.command o c.args.clients (sym c.is_too_long.ensures ∙ c.if-is_too_long.false) (sym c.goes_first.ensures ∙ c.if-goes_first.true))
     (weaken me c.args.now clients_are (λ x. x.readings ≡ w) (IsUnderWay me c.args.now w c.args.view.now) (λ x. x)
-    (λ x. propose me c.args.now c.args.command.now o (clients_are c.args.clients x)) c.propose.result (λ x b. b.readings) c.propose.ensures.plans)
+    (λ x. propose me c.args.now c.args.command o (clients_are c.args.clients x)) c.propose-plan.result (λ x b. b.readings) c.propose-plan.ensures.plans)
 
 pub returns-then-is_queue_full-clause-plans : goal.returns-then-is_queue_full-clause-plans
 returns-then-is_queue_full-clause-plans c =
     let me = c.args.me.now in
     let w = readings_of c.args.kv.now in
     let o = c.args.origin in
-    answers me c.args.now (IsUnderWay me c.args.now w c.args.view.now) (λ x. at_leader me c.args.now c.args.command.now o (clients_are c.args.clients x))
+    answers me c.args.now (IsUnderWay me c.args.now w c.args.view.now) (λ x. at_leader me c.args.now c.args.command o (clients_are c.args.clients x))
     (answer_to me (epoch_of w) o (reply.Busy 64)) c.args.clients
     (λ x b.
-    leader-full me c.args.now w c.args.view.now x b c.args.command.now o c.args.clients (sym c.is_too_long.ensures ∙ c.if-is_too_long.false) (sym c.goes_first.ensures ∙ c.if-goes_first.false)
+    leader-full me c.args.now w c.args.view.now x b c.args.command o c.args.clients (sym c.is_too_long.ensures ∙ c.if-is_too_long.false) (sym c.goes_first.ensures ∙ c.if-goes_first.false)
     (sym c.is_queue_full.ensures ∙ c.if-is_queue_full.true))
     c.in_ok-answered-2.field-0
     (c.in_ok-answered-2.ensures
@@ -56,10 +56,10 @@ returns-clause-plans c =
     let me = c.args.me.now in
     let w = readings_of c.args.kv.now in
     let o = c.args.origin in
-    keeps me c.args.now (IsUnderWay me c.args.now w c.args.view.now) (λ x. at_leader me c.args.now c.args.command.now o (clients_are c.args.clients x))
+    keeps me c.args.now (IsUnderWay me c.args.now w c.args.view.now) (λ x. at_leader me c.args.now c.args.command o (clients_are c.args.clients x))
     c.in_ok-queue_up.field-0
     (λ x b.
-    leader-waits me c.args.now w c.args.view.now x b c.args.command.now o c.args.clients (sym c.is_too_long.ensures ∙ c.if-is_too_long.false) (sym c.goes_first.ensures ∙ c.if-goes_first.false)
+    leader-waits me c.args.now w c.args.view.now x b c.args.command o c.args.clients (sym c.is_too_long.ensures ∙ c.if-is_too_long.false) (sym c.goes_first.ensures ∙ c.if-goes_first.false)
     (sym c.is_queue_full.ensures ∙ c.if-is_queue_full.false) c.in_ok-queue_up.field-0
-    (c.in_ok-queue_up.ensures ∙ (λ i. record c.args.clients { queue = c.args.clients.queue ++ record { command = c.in_ok-command.ensures i; origin = o } ∷ [] })))
+    c.in_ok-queue_up.ensures)
     c.stay.result c.stay.ensures

@@ -13,7 +13,7 @@ use Rattle.mon_client.proofs.commands.hand_on.Goals as goal
 pub returns-then-seq-gt-GREATEST-clause-plans : goal.returns-then-seq-gt-GREATEST-clause-plans
 returns-then-seq-gt-GREATEST-clause-plans c =
     λ now x b.
-    spent c.args.me.now now (readings_of c.args.kv.now) c.args.view.now x b c.args.command.now c.args.session c.args.clients c.if-seq-gt-GREATEST.true
+    spent c.args.me.now now (readings_of c.args.kv.now) c.args.view.now x b c.args.command c.args.session c.args.clients c.if-seq-gt-GREATEST.true
 
 pub wait_under-requires : goal.wait_under-requires
 wait_under-requires c = omega arith
@@ -23,10 +23,10 @@ returns-clause-plans c =
     λ now.
     let me = c.args.me.now in
     let w = readings_of c.args.kv.now in
-    answers me now (IsUnderWay me now w c.args.view.now) (λ x. hand_on me c.args.command.now c.args.session (clients_are c.args.clients x))
-    (message_to me (epoch_of w) (body.Forward c.args.clients.next_seq c.args.command.now) c.args.view.now.leader) c.in_ok-waiting.waiting
+    answers me now (IsUnderWay me now w c.args.view.now) (λ x. hand_on me c.args.command c.args.session (clients_are c.args.clients x))
+    (message_to me (epoch_of w) (body.Forward c.args.clients.next_seq c.args.command) c.args.view.now.leader) c.in_ok-waiting.waiting
     (λ x b.
-    hands_on me now w c.args.view.now x b c.args.command.now c.args.session c.args.clients c.requires c.if-seq-gt-GREATEST.false c.in_ok-waiting.waiting c.in_ok-waiting.ensures)
+    hands_on me now w c.args.view.now x b c.args.command c.args.session c.args.clients c.requires c.if-seq-gt-GREATEST.false c.in_ok-waiting.waiting c.in_ok-waiting.ensures)
     c.in_ok-answered.field-0
     (c.in_ok-answered.ensures
-    ∙ (λ i. plan_of ((c.message-sent.ensures ∙ (λ j. message_to me (c.epoch.ensures j) (body.Forward c.args.clients.next_seq (c.in_ok-command.ensures j)) c.args.view.now.leader)) i ∷ []) [] c.in_ok-waiting.waiting next.Stay))
+    ∙ (λ i. plan_of ((c.message-sent.ensures ∙ (λ j. message_to me (c.epoch.ensures j) (body.Forward c.args.clients.next_seq c.args.command) c.args.view.now.leader)) i ∷ []) [] c.in_ok-waiting.waiting next.Stay))

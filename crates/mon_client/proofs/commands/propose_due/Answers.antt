@@ -16,11 +16,11 @@ returns-then-not-may_propose-clause-plans c =
     let me = c.args.me.now in
     let w = readings_of c.args.kv.now in
     let v = c.args.view.now in
-    let s = c.args.state.now in
-    keeps me c.args.now (Met me c.args.now w v s c.in_ok-clients.clients c.in_ok-clients.ensures) (propose_due me c.args.now) c.in_ok-clients.clients
+    let s = c.args.clients in
+    keeps me c.args.now (Met me c.args.now w v s) (propose_due me c.args.now) s
     (λ x b.
     due-not_free me c.args.now w v x (under_way me c.args.now w v s x b) (sym c.may_propose.ensures ∙ c.if-not-may_propose.true)
-    ∙ ap (λ (y : Course). Ok y) (same me c.args.now w v s c.in_ok-clients.clients c.in_ok-clients.ensures x b))
+    ∙ ap (λ (y : Course). Ok y) (same me c.args.now w v s x b))
     c.stay.result c.stay.ensures
 
 pub returns-then-is_empty-clause-plans : goal.returns-then-is_empty-clause-plans
@@ -28,18 +28,18 @@ returns-then-is_empty-clause-plans c =
     let me = c.args.me.now in
     let w = readings_of c.args.kv.now in
     let v = c.args.view.now in
-    let s = c.args.state.now in
-    let none : c.in_ok-clients.clients.queue ≡ [] = nil_from_length c.in_ok-clients.clients.queue (eqb-true (length c.in_ok-clients.clients.queue) 0 (sym c.is_empty.ensures ∙ c.if-is_empty.true)) in
-    keeps me c.args.now (Met me c.args.now w v s c.in_ok-clients.clients c.in_ok-clients.ensures) (propose_due me c.args.now) c.in_ok-clients.clients
+    let s = c.args.clients in
+    let none : s.queue ≡ [] = nil_from_length s.queue (eqb-true (length s.queue) 0 (sym c.is_empty.ensures ∙ c.if-is_empty.true)) in
+    keeps me c.args.now (Met me c.args.now w v s) (propose_due me c.args.now) s
     (λ x b.
     due-free me c.args.now w v x (under_way me c.args.now w v s x b) (sym c.may_propose.ensures ∙ c.if-not-may_propose.false)
-    ∙ next-none me c.args.now x (ap (λ (t : Clients). t.queue) (b.role ∙ sym c.in_ok-clients.ensures) ∙ none)
-    ∙ ap (λ (y : Course). Ok y) (same me c.args.now w v s c.in_ok-clients.clients c.in_ok-clients.ensures x b))
+    ∙ next-none me c.args.now x (ap (λ (t : Clients). t.queue) b.role ∙ none)
+    ∙ ap (λ (y : Course). Ok y) (same me c.args.now w v s x b))
     c.stay-then-is_empty.result c.stay-then-is_empty.ensures
 
 pub take_first-first-requires : goal.take_first-first-requires
 take_first-first-requires c =
-    let some = eqb-false (length c.in_ok-clients.clients.queue) 0 (sym c.is_empty.ensures ∙ c.if-is_empty.false) in
+    let some = eqb-false (length c.args.clients.queue) 0 (sym c.is_empty.ensures ∙ c.if-is_empty.false) in
     omega arith
 
 pub returns-clause-plans : goal.returns-clause-plans
@@ -47,14 +47,14 @@ returns-clause-plans c =
     let me = c.args.me.now in
     let w = readings_of c.args.kv.now in
     let v = c.args.view.now in
-    let s = c.args.state.now in
-    let met = Met me c.args.now w v s c.in_ok-clients.clients c.in_ok-clients.ensures in
+    let s = c.args.clients in
+    let met = Met me c.args.now w v s in
     let first = c.take_first-first.result.0 in
     let rest = c.take_first-first.result.1 in
     instead me c.args.now clients_are met (λ x. x)
-    (λ x. propose me c.args.now first.command first.origin (clients_are rest x)) (propose_due me c.args.now) c.propose.result
+    (λ x. propose me c.args.now first.command first.origin (clients_are rest x)) (propose_due me c.args.now) c.propose-plan.result
     (λ x b.
     due-free me c.args.now w v x (under_way me c.args.now w v s x b) (sym c.may_propose.ensures ∙ c.if-not-may_propose.false)
-    ∙ next-first me c.args.now x first rest (b.role ∙ sym c.in_ok-clients.ensures ∙ c.take_first-first.ensures))
+    ∙ next-first me c.args.now x first rest (b.role ∙ c.take_first-first.ensures))
     (weaken me c.args.now clients_are (λ x. x.readings ≡ w) met (λ x. x)
-    (λ x. propose me c.args.now first.command first.origin (clients_are rest x)) c.propose.result (λ x b. b.readings) c.propose.ensures.plans)
+    (λ x. propose me c.args.now first.command first.origin (clients_are rest x)) c.propose-plan.result (λ x b. b.readings) c.propose-plan.ensures.plans)

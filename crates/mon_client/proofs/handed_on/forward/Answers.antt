@@ -1,10 +1,10 @@
-use Rattle.std.proofs.Common.{◌≡◌, ℕ, List, ltb, set, Ok, refl, ap, sym, ◌∙◌}
-use Rattle.std.proofs.Math.ListN.{get_or}
+use Rattle.std.proofs.Common.{Ok, ap, sym, subst, ◌∙◌}
+use Rattle.mon_bytes.specs.declared.command.Command.{Command}
 use Rattle.mon_msg.specs.Protocol.Commands.{at_leader, hear_forward}
 use Rattle.mon_msg.specs.Protocol.Course.{Course, clients_are}
 use Rattle.mon_msg.specs.Protocol.Readings.{readings_of}
-use Rattle.mon_msg.specs.declared.clients.Clients.{Clients}
 use Rattle.mon_msg.specs.declared.plan.Origin.TheVariants as origin
+use Rattle.mon_plan.specs.Plans.{PlansRow}
 use Rattle.mon_plan.proofs.Planning.{weaken, instead}
 use Rattle.mon_client.specs.Rows.{IsUnderWay}
 use Rattle.mon_client.proofs.Planned.{keeps}
@@ -17,11 +17,11 @@ returns-then-not-is_of_member-clause-plans c =
     let me = c.args.me.now in
     let w = readings_of c.args.kv.now in
     let v = c.args.view.now in
-    let s = c.args.state.now in
-    keeps me c.args.now (Met me c.args.now w v s c.in_ok-clients.clients c.in_ok-clients.ensures) (hear_forward me c.args.now c.args.from c.args.epoch c.args.seq c.args.command.now) c.in_ok-clients.clients
+    let s = c.args.clients in
+    keeps me c.args.now (Met me c.args.now w v s) (hear_forward me c.args.now c.args.from c.args.epoch c.args.seq c.args.command.now) s
     (λ x b.
     forward-of_others me c.args.now w v s x b c.args.from c.args.epoch c.args.seq c.args.command.now (sym c.is_of_member.ensures ∙ c.if-not-is_of_member.true)
-    ∙ ap (λ (y : Course). Ok y) (same me c.args.now w v s c.in_ok-clients.clients c.in_ok-clients.ensures x b))
+    ∙ ap (λ (y : Course). Ok y) (same me c.args.now w v s x b))
     c.stay.result c.stay.ensures
 
 pub returns-then-not-is_new-clause-plans : goal.returns-then-not-is_new-clause-plans
@@ -29,12 +29,12 @@ returns-then-not-is_new-clause-plans c =
     let me = c.args.me.now in
     let w = readings_of c.args.kv.now in
     let v = c.args.view.now in
-    let s = c.args.state.now in
-    keeps me c.args.now (Met me c.args.now w v s c.in_ok-clients.clients c.in_ok-clients.ensures) (hear_forward me c.args.now c.args.from c.args.epoch c.args.seq c.args.command.now) c.in_ok-clients.clients
+    let s = c.args.clients in
+    keeps me c.args.now (Met me c.args.now w v s) (hear_forward me c.args.now c.args.from c.args.epoch c.args.seq c.args.command.now) s
     (λ x b.
     forward-again me c.args.now w v s x b c.args.from c.args.epoch c.args.seq c.args.command.now (sym c.is_of_member.ensures ∙ c.if-not-is_of_member.false)
-    (ap (λ (k : Clients). ltb (get_or k.taken c.args.from 0) c.args.seq) (sym c.in_ok-clients.ensures) ∙ sym c.is_new.ensures ∙ c.if-not-is_new.true)
-    ∙ ap (λ (y : Course). Ok y) (same me c.args.now w v s c.in_ok-clients.clients c.in_ok-clients.ensures x b))
+    (sym c.is_new.ensures ∙ c.if-not-is_new.true)
+    ∙ ap (λ (y : Course). Ok y) (same me c.args.now w v s x b))
     c.stay-then-not-is_new.result c.stay-then-not-is_new.ensures
 
 pub returns-clause-plans : goal.returns-clause-plans
@@ -42,14 +42,15 @@ returns-clause-plans c =
     let me = c.args.me.now in
     let w = readings_of c.args.kv.now in
     let v = c.args.view.now in
-    let s = c.args.state.now in
-    let met = Met me c.args.now w v s c.in_ok-clients.clients c.in_ok-clients.ensures in
+    let s = c.args.clients in
+    let met = Met me c.args.now w v s in
     let o = origin.Forwarded c.args.from c.args.seq in
-    let after = c.mark_taken.ensures ∙ ap (λ (k : Clients). record k { taken = set k.taken c.args.from c.args.seq }) c.in_ok-clients.ensures in
+    let after = c.mark_taken.result in
     instead me c.args.now clients_are met (λ x. x)
-    (λ x. at_leader me c.args.now c.args.command.now o (clients_are c.mark_taken.result x)) (hear_forward me c.args.now c.args.from c.args.epoch c.args.seq c.args.command.now) c.at_leader.result
+    (λ x. at_leader me c.args.now c.args.command.now o (clients_are after x)) (hear_forward me c.args.now c.args.from c.args.epoch c.args.seq c.args.command.now) c.at_leader.result
     (λ x b.
     forward-new me c.args.now w v s x b c.args.from c.args.epoch c.args.seq c.args.command.now (sym c.is_of_member.ensures ∙ c.if-not-is_of_member.false)
-    (ap (λ (k : Clients). ltb (get_or k.taken c.args.from 0) c.args.seq) (sym c.in_ok-clients.ensures) ∙ sym c.is_new.ensures ∙ c.if-not-is_new.false) c.mark_taken.result after)
+    (sym c.is_new.ensures ∙ c.if-not-is_new.false) after c.mark_taken.ensures)
+    (subst (λ (k : Command). PlansRow me c.args.now clients_are met (λ x. at_leader me c.args.now k o (clients_are after x)) c.at_leader.result) c.in_ok-command.ensures
     (weaken me c.args.now clients_are (IsUnderWay me c.args.now w v) met (λ x. x)
-    (λ x. at_leader me c.args.now c.args.command.now o (clients_are c.mark_taken.result x)) c.at_leader.result (λ x b. under_way me c.args.now w v s x b) c.at_leader.ensures.plans)
+    (λ x. at_leader me c.args.now c.in_ok-command.command o (clients_are after x)) c.at_leader.result (λ x b. under_way me c.args.now w v s x b) c.at_leader.ensures.plans))

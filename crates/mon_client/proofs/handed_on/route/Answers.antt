@@ -16,11 +16,11 @@ returns-then-not-is_of_leader-clause-plans c =
     λ me now.
     let w = readings_of c.args.kv.now in
     let v = c.args.view.now in
-    let s = c.args.state.now in
-    keeps me now (Met me now w v s c.in_ok-clients.clients c.in_ok-clients.ensures) (hear_route c.args.from c.args.epoch c.args.seq c.args.reply.now) c.in_ok-clients.clients
+    let s = c.args.clients in
+    keeps me now (Met me now w v s) (hear_route c.args.from c.args.epoch c.args.seq c.args.reply.now) s
     (λ x b.
     route-of_others me now w v s x b c.args.from c.args.epoch c.args.seq c.args.reply.now (sym c.is_of_leader.ensures ∙ c.if-not-is_of_leader.true)
-    ∙ ap (λ (y : Course). Ok y) (same me now w v s c.in_ok-clients.clients c.in_ok-clients.ensures x b))
+    ∙ ap (λ (y : Course). Ok y) (same me now w v s x b))
     c.stay.result c.stay.ensures
 
 pub returns-clause-plans : goal.returns-clause-plans
@@ -28,14 +28,14 @@ returns-clause-plans c =
     λ me now.
     let w = readings_of c.args.kv.now in
     let v = c.args.view.now in
-    let s = c.args.state.now in
-    let after = record c.in_ok-clients.clients { sessions = c.in_ok-clients-2.field-0 } in
-    let kept = c.in_ok-clients-2.ensures ∙ ap (λ (l : List Asked). filter (λ a. not (a.seq == c.args.seq)) l) c.as_slice-sessions.ensures in
+    let s = c.args.clients in
+    let after = record s { sessions = c.in_ok-kept.kept } in
+    let kept = c.in_ok-kept.ensures ∙ ap (λ (l : List Asked). filter (λ a. not (a.seq == c.args.seq)) l) c.as_slice-sessions.ensures in
     let told = c.in_ok-out.ensures ∙ ap (λ (l : List Asked). map (λ a. sent.Reply a.session c.args.reply.now) (filter (λ a. a.seq == c.args.seq) l)) c.as_slice-sessions.ensures in
-    plans me now (Met me now w v s c.in_ok-clients.clients c.in_ok-clients.ensures) (hear_route c.args.from c.args.epoch c.args.seq c.args.reply.now) c.in_ok-out.out [] after next.Stay
+    plans me now (Met me now w v s) (hear_route c.args.from c.args.epoch c.args.seq c.args.reply.now) c.in_ok-out.out [] after next.Stay
     (λ x b.
     route-replies me now w v s x b c.args.from c.args.epoch c.args.seq c.args.reply.now (sym c.is_of_leader.ensures ∙ c.if-not-is_of_leader.false)
-    after (λ i. record (c.in_ok-clients.ensures i) { sessions = kept i }) c.in_ok-out.out told
+    after (λ i. record s { sessions = kept i }) c.in_ok-out.out told
     ∙ ap (λ (y : Course). Ok y) (sym (sending-is c.in_ok-out.out (clients_are after x))))
     (record { tx = c.new.result; out = c.in_ok-out.out; timers = c.new-2.result; state = after; next = next.Stay })
     (λ i. record { tx = c.new.ensures i; out = c.in_ok-out.out; timers = c.new-2.ensures i; state = after; next = next.Stay })

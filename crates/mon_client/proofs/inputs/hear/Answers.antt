@@ -12,7 +12,7 @@ returns-in-Forward-clause-plans c =
     λ shared.
     let me = c.args.me.now in
     let m = c.args.message.now in
-    subst (λ (told : Body). PlansRow me c.args.now clients_are (IsMet me c.args.now (readings_of c.args.kv.now) c.args.view.now (λ st. st.clients) c.args.state.now) (hear me shared c.args.now m.from m.epoch told) c.forward.result)
+    subst (λ (told : Body). PlansRow me c.args.now clients_are (IsMet me c.args.now (readings_of c.args.kv.now) c.args.view.now (λ st. st.clients) c.args.clients) (hear me shared c.args.now m.from m.epoch told) c.forward.result)
     (sym c.in-Forward.is) c.forward.ensures.plans
 
 pub returns-in-Route-clause-plans : goal.returns-in-Route-clause-plans
@@ -20,5 +20,5 @@ returns-in-Route-clause-plans c =
     λ shared.
     let me = c.args.me.now in
     let m = c.args.message.now in
-    subst (λ (told : Body). PlansRow me c.args.now clients_are (IsMet me c.args.now (readings_of c.args.kv.now) c.args.view.now (λ st. st.clients) c.args.state.now) (hear me shared c.args.now m.from m.epoch told) c.route.result)
+    subst (λ (told : Body). PlansRow me c.args.now clients_are (IsMet me c.args.now (readings_of c.args.kv.now) c.args.view.now (λ st. st.clients) c.args.clients) (hear me shared c.args.now m.from m.epoch told) c.route.result)
     (sym c.in-Route.is) (c.route.ensures.plans me c.args.now)

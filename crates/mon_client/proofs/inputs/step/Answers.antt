@@ -1,36 +1,23 @@
-use Rattle.std.proofs.Common.{IsTrue, sym, subst}
-use Rattle.mon_msg.specs.Protocol.Commands.{propose_due}
+use Rattle.std.proofs.Common.{List, subst}
+use Rattle.mon_bytes.specs.declared.entry.Entry.{Entry}
 use Rattle.mon_msg.specs.Protocol.Course.{clients_are}
 use Rattle.mon_msg.specs.Protocol.Readings.{readings_of}
-use Rattle.mon_msg.specs.Protocol.Table.{timer_comes}
-use Rattle.mon_msg.specs.declared.input.Input.{Input}
+use Rattle.mon_msg.specs.declared.clients.Clients.{Clients}
 use Rattle.mon_plan.specs.Inputs.{row}
 use Rattle.mon_plan.specs.Plans.{PlansRow}
 use Rattle.mon_plan.specs.Seen.{IsMet}
-use Rattle.mon_plan.proofs.Planning.{instead}
-use Rattle.mon_client.specs.Rows.{is_input}
-use Rattle.mon_client.proofs.HandedOnLaws.{rings}
 use Rattle.mon_client.proofs.inputs.step.Goals as goal
 
-pub returns-in-Deliver-clause-plans : goal.returns-in-Deliver-clause-plans
-returns-in-Deliver-clause-plans c =
-    λ shared.
-    let me = c.args.me.now in
-    let met = IsMet me c.args.now (readings_of c.args.kv.now) c.args.view.now (λ st. st.clients) c.args.state.now in
-    subst (λ (came : Input). PlansRow me c.args.now clients_are met (row me shared c.args.now came) c.hear.result) (sym c.in-Deliver.is) (c.hear.ensures.plans shared)
+pub step_owned-requires-clause-input : goal.step_owned-requires-clause-input
+step_owned-requires-clause-input c = c.requires.input
 
-pub returns-in-Client-clause-plans : goal.returns-in-Client-clause-plans
-returns-in-Client-clause-plans c =
-    λ shared.
-    let me = c.args.me.now in
-    let met = IsMet me c.args.now (readings_of c.args.kv.now) c.args.view.now (λ st. st.clients) c.args.state.now in
-    subst (λ (came : Input). PlansRow me c.args.now clients_are met (row me shared c.args.now came) c.client.result) (sym c.in-Client.is) c.client.ensures.plans
+pub step_owned-requires-clause-fits : goal.step_owned-requires-clause-fits
+step_owned-requires-clause-fits c = c.requires.fits
 
-pub returns-in-Timer-clause-plans : goal.returns-in-Timer-clause-plans
-returns-in-Timer-clause-plans c =
-    λ shared.
+pub returns-clause-plans : goal.returns-clause-plans
+returns-clause-plans c =
     let me = c.args.me.now in
-    let met = IsMet me c.args.now (readings_of c.args.kv.now) c.args.view.now (λ st. st.clients) c.args.state.now in
-    subst (λ (came : Input). PlansRow me c.args.now clients_are met (row me shared c.args.now came) c.propose_due.result) (sym c.in-Timer.is)
-    (instead me c.args.now clients_are met (λ x. x) (propose_due me c.args.now) (timer_comes me c.args.now c.in-Timer.field-0) c.propose_due.result
-    (λ x b. rings me c.args.now c.in-Timer.field-0 (subst (λ (came : Input). IsTrue (is_input came)) c.in-Timer.is c.requires.input) x) c.propose_due.ensures.plans)
+    let w = readings_of c.args.kv.now in
+    subst
+    (λ (s : Clients). (shared : List Entry) → PlansRow me c.args.now clients_are (IsMet me c.args.now w c.args.view.now (λ st. st.clients) s) (row me shared c.args.now c.args.input.now) c.step_owned.result)
+    c.in_ok-copy.ensures c.step_owned.ensures.plans

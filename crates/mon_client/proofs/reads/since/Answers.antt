@@ -14,12 +14,12 @@ returns-clause-plans c =
     λ me now.
     let w = readings_of c.args.kv.now in
     let v = c.args.view.now in
-    let s = c.args.state.now in
+    let s = c.args.clients in
     let told = told_by w v c.args.service c.args.version in
-    answers me now (Met me now w v s c.in_ok-clients.clients c.in_ok-clients.ensures) (read me now c.args.session (λ r. since r c.args.service c.args.version))
-    (sent.Reply c.args.session told) c.in_ok-clients.clients
+    answers me now (Met me now w v s) (read me now c.args.session (λ r. since r c.args.service c.args.version))
+    (sent.Reply c.args.session told) s
     (λ x b.
     read-is me now w v x (under_way me now w v s x b) c.args.session c.args.service c.args.version
-    ∙ ap (λ (y : Course). Ok (say (sent.Reply c.args.session told ∷ []) y)) (same me now w v s c.in_ok-clients.clients c.in_ok-clients.ensures x b))
+    ∙ ap (λ (y : Course). Ok (say (sent.Reply c.args.session told ∷ []) y)) (same me now w v s x b))
     c.in_ok-answered.field-0
-    (c.in_ok-answered.ensures ∙ (λ i. plan_of (sent.Reply c.args.session (c.in_ok-reply.ensures i) ∷ []) [] c.in_ok-clients.clients next.Stay))
+    (c.in_ok-answered.ensures ∙ (λ i. plan_of (sent.Reply c.args.session (c.in_ok-reply.ensures i) ∷ []) [] s next.Stay))

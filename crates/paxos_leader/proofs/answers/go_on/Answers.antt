@@ -17,7 +17,7 @@ returns-then-answer-clause-goes c =
     let now = c.args.now in
     let a = c.args.answer.now in
     let w : Readings = readings_of c.args.stored.now in
-    otherwise me now (IsAsking (epoch_of w) w) (record { tx = []; out = []; state = c.args.state.now }) (goes_on me now a.from a.last a.whole a.pending.now) (hear_whole me now a.from a.last a.pending.now)
+    otherwise me now (IsAsking (epoch_of w) w) (record { tx = []; out = []; state = c.args.state }) (goes_on me now a.from a.last a.whole a.pending.now) (hear_whole me now a.from a.last a.pending.now)
     (λ y b r. goes-whole me now a.from a.last a.pending.now a.whole y c.if-answer.true)
     c.hear_whole.result c.hear_whole.ensures.goes
 
@@ -25,7 +25,7 @@ pub returns-clause-goes : goal.returns-clause-goes
 returns-clause-goes c =
     let me = c.args.me.now in
     let now = c.args.now in
-    let l : Leader = c.args.state.now in
+    let l : Leader = c.args.state in
     let a = c.args.answer.now in
     let w : Readings = readings_of c.args.stored.now in
     hands_on me now (IsAsking (epoch_of w) w) (record { tx = []; out = []; state = l }) (goes_on me now a.from a.last a.whole a.pending.now)

@@ -8,5 +8,5 @@ use Rattle.paxos_leader.proofs.answers.go_on_after.Goals as goal
 pub returns-clause-goes : goal.returns-clause-goes
 returns-clause-goes c =
     let a = c.args.answer.now in
-    subst (λ (m : Store). GoesOn c.args.me.now c.args.now (IsAsking (epoch_of (readings_of m)) (readings_of m)) (record { tx = []; out = []; state = c.args.state.now })
+    subst (λ (m : Store). GoesOn c.args.me.now c.args.now (IsAsking (epoch_of (readings_of m)) (readings_of m)) (record { tx = []; out = []; state = c.args.state })
     (goes_on c.args.me.now c.args.now a.from a.last a.whole a.pending.now) c.go_on.result) c.in_ok-stored.ensures c.go_on.ensures.goes

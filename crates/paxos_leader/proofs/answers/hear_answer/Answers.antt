@@ -28,7 +28,7 @@ returns-in-Err-clause-plans c =
     let w : Readings = readings_of c.args.kv.now in
     let own = c.own_last-own.result in
     let is : own ≡ w.last = c.own_last-own.ensures in
-    learning-fails me now (IsHeard (phase.Collecting ∷ []) a.from e w c.args.state.now) (news_from own a.start) (news own a.start a.values.now) (goes_on me now a.from a.last a.whole a.pending.now)
+    learning-fails me now (IsHeard (phase.Collecting ∷ []) a.from e w c.args.state) (news_from own a.start) (news own a.start a.values.now) (goes_on me now a.from a.last a.whole a.pending.now)
     (hear_answer me now a.from a.last a.whole a.start a.values.now a.pending.now) c.in-Err.stop c.in-Err.ensures.act
     (λ x b. answer-is me now a.from e x a.pn a.first a.last a.whole a.start a.values.now a.pending.now own (ap (λ (r : Readings). r.last) b.readings ∙ sym is))
 
@@ -37,7 +37,7 @@ returns-in-Err-go_on_after-clause-plans c =
     λ e.
     let me = c.args.me.now in
     let now = c.args.now in
-    let l : Leader = c.args.state.now in
+    let l : Leader = c.args.state in
     let a = c.args.answer.now in
     let m : Store = c.args.kv.now in
     let w : Readings = readings_of m in
@@ -59,7 +59,7 @@ returns-in_ok-behind-in-Ok-go_on_after-clause-plans c =
     λ e.
     let me = c.args.me.now in
     let now = c.args.now in
-    let l : Leader = c.args.state.now in
+    let l : Leader = c.args.state in
     let a = c.args.answer.now in
     let m : Store = c.args.kv.now in
     let w : Readings = readings_of m in

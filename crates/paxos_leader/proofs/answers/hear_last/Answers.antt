@@ -25,7 +25,7 @@ returns-then-get-clause-plans c =
     λ e.
     let me = c.args.me.now in
     let now = c.args.now in
-    let l : Leader = c.args.state.now in
+    let l : Leader = c.args.state in
     let a = c.args.answer.now in
     let w : Readings = readings_of c.args.kv.now in
     let At = IsHeard (phase.Collecting ∷ []) a.from e w l in
@@ -47,7 +47,7 @@ returns-then-get-2-clause-plans c =
     λ e.
     let me = c.args.me.now in
     let now = c.args.now in
-    let l : Leader = c.args.state.now in
+    let l : Leader = c.args.state in
     let a = c.args.answer.now in
     let w : Readings = readings_of c.args.kv.now in
     let At = IsHeard (phase.Collecting ∷ []) a.from e w l in
@@ -56,14 +56,14 @@ returns-then-get-2-clause-plans c =
     (λ x b.
     last-below me now a.from e x a.pn a.first a.last a.whole a.start a.values.now a.pending.now b.member
     (subst (λ (k : Leader). a.pn < k.pn) (sym b.role) (omega arith)))
-    c.stay.result (c.stay.ensures ∙ ap (λ (k : Leader). record { tx = []; out = []; timers = []; state = k; next = next.Stay }) c.in_ok-copy.ensures)
+    c.stay.result c.stay.ensures
 
 pub returns-then-is_behind-clause-plans : goal.returns-then-is_behind-clause-plans
 returns-then-is_behind-clause-plans c =
     λ e.
     let me = c.args.me.now in
     let now = c.args.now in
-    let l : Leader = c.args.state.now in
+    let l : Leader = c.args.state in
     let a = c.args.answer.now in
     let w : Readings = readings_of c.args.kv.now in
     let At = IsHeard (phase.Collecting ∷ []) a.from e w l in
@@ -73,7 +73,7 @@ returns-then-is_behind-clause-plans c =
     last-behind me now a.from e x a.pn a.first a.last a.whole a.start a.values.now a.pending.now b.member
     (subst (λ (k : Leader). a.pn ≡ k.pn) (sym b.role) (omega arith))
     (ap (λ (n : ℕ). nat_lt (suc n) a.first && nat_lt n a.last) (ap (λ (r : Readings). r.last) b.readings ∙ sym c.own_last.ensures) ∙ sym c.is_behind.ensures ∙ c.if-is_behind.true))
-    c.planned.result (c.planned.ensures ∙ ap (λ (k : Leader). record { tx = []; out = []; timers = []; state = k; next = next.Bootstrap }) c.in_ok-copy-2.ensures)
+    c.planned.result c.planned.ensures
 
 pub returns-then-is_behind-clause-leaves : goal.returns-then-is_behind-clause-leaves
 returns-then-is_behind-clause-leaves c =
@@ -87,7 +87,7 @@ returns-clause-plans c =
     λ e.
     let me = c.args.me.now in
     let now = c.args.now in
-    let l : Leader = c.args.state.now in
+    let l : Leader = c.args.state in
     let a = c.args.answer.now in
     let w : Readings = readings_of c.args.kv.now in
     let At = IsHeard (phase.Collecting ∷ []) a.from e w l in

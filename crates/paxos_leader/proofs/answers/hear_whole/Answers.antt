@@ -17,13 +17,13 @@ pub returns-in-Err-clause-goes : goal.returns-in-Err-clause-goes
 returns-in-Err-clause-goes c =
     let a = c.args.answer.now in
     let w : Readings = readings_of c.args.stored.now in
-    whole-fails c.args.me.now c.args.now a.from a.last a.pending.now (IsAsking (epoch_of w) w) c.args.state.now c.in-Err.stop c.in-Err.ensures.notes
+    whole-fails c.args.me.now c.args.now a.from a.last a.pending.now (IsAsking (epoch_of w) w) c.args.state c.in-Err.stop c.in-Err.ensures.notes
 
 pub returns-then-not-are_within-clause-goes : goal.returns-then-not-are_within-clause-goes
 returns-then-not-are_within-clause-goes c =
     let me = c.args.me.now in
     let now = c.args.now in
-    let l : Leader = c.args.state.now in
+    let l : Leader = c.args.state in
     let new : Leader = c.in-Ok.state in
     let a = c.args.answer.now in
     let w : Readings = readings_of c.args.stored.now in
@@ -39,7 +39,7 @@ pub returns-clause-goes : goal.returns-clause-goes
 returns-clause-goes c =
     let me = c.args.me.now in
     let now = c.args.now in
-    let l : Leader = c.args.state.now in
+    let l : Leader = c.args.state in
     let new : Leader = c.in-Ok.state in
     let a = c.args.answer.now in
     let w : Readings = readings_of c.args.stored.now in

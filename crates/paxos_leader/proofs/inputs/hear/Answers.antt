@@ -32,19 +32,19 @@ hear_last-requires c =
     record {
       short = subst (AllByRecursion (λ (ops : List Op). length (text ops) ≤ most)) (sym c.as_slice.ensures) (answered-short n i.pn i.first i.last i.whole i.start i.values i.pending h);
       few = subst (λ (vs : List (List Op)). length vs ≤ 65535) (sym c.as_slice.ensures) (answered-few n i.pn i.first i.last i.whole i.start i.values i.pending h);
-      found = (all-begun c.args.state.now c.requires.held).1;
+      found = (all-begun c.args.state c.requires.held).1;
       told = answered-begins n i.pn i.first i.last i.whole i.start i.values i.pending h;
     }
 
 pub hear_accept-requires : goal.hear_accept-requires
-hear_accept-requires c = (all-begun c.args.state.now c.requires.held).0
+hear_accept-requires c = (all-begun c.args.state c.requires.held).0
 
 pub returns-then-not-is_ours-clause-plans : goal.returns-then-not-is_ours-clause-plans
 returns-then-not-is_ours-clause-plans c =
     λ shared.
     let me = c.args.me.now in
     let now = c.args.now in
-    let l : Leader = c.args.state.now in
+    let l : Leader = c.args.state in
     let w : Readings = readings_of c.args.kv.now in
     let v = c.args.view.now in
     let m = c.args.message.now in
@@ -55,7 +55,7 @@ returns-then-not-is_ours-clause-plans c =
     (λ x b lead. ap (λ (k : Leader). phase_of k.stage) (sym b.role) ∙ b.seen.stage lead)
     next.Stay (λ x. refl) (λ x b. b.role)
     (λ x b. hear-dropped me shared now m.from m.epoch m.body c.requires.input x (others me now w v l m.from m.epoch m.body ours x b))
-    c.stay.result (c.stay.ensures ∙ ap (λ (k : Leader). record { tx = []; out = []; timers = []; state = k; next = next.Stay }) c.in_ok-copy.ensures)
+    c.stay.result c.stay.ensures
 
 pub returns-then-not-is_ours-clause-leaves : goal.returns-then-not-is_ours-clause-leaves
 returns-then-not-is_ours-clause-leaves c = stay_leaves c.args.view.now.phase c.stay.result (ap (λ (p : Plan Leader). p.next) c.stay.ensures)
@@ -65,7 +65,7 @@ returns-in-Last-clause-plans c =
     λ shared.
     let me = c.args.me.now in
     let now = c.args.now in
-    let l : Leader = c.args.state.now in
+    let l : Leader = c.args.state in
     let w : Readings = readings_of c.args.kv.now in
     let v = c.args.view.now in
     let m = c.args.message.now in
@@ -88,7 +88,7 @@ returns-in-Accept-clause-plans c =
     λ shared.
     let me = c.args.me.now in
     let now = c.args.now in
-    let l : Leader = c.args.state.now in
+    let l : Leader = c.args.state in
     let w : Readings = readings_of c.args.kv.now in
     let v = c.args.view.now in
     let m = c.args.message.now in
@@ -108,7 +108,7 @@ returns-in-LeaseAck-clause-plans c =
     λ shared.
     let me = c.args.me.now in
     let now = c.args.now in
-    let l : Leader = c.args.state.now in
+    let l : Leader = c.args.state in
     let w : Readings = readings_of c.args.kv.now in
     let v = c.args.view.now in
     let m = c.args.message.now in

@@ -20,23 +20,23 @@ pub returns-then-not-is_active-clause-plans : goal.returns-then-not-is_active-cl
 returns-then-not-is_active-clause-plans c =
     let me = c.args.me.now in
     let now = c.args.now in
-    let l : Leader = c.args.state.now in
+    let l : Leader = c.args.state in
     let w : Readings = readings_of c.args.kv.now in
     nothing_but me now (IsMet me now w c.args.view.now (λ s. s.leader) l) (renew me now) l
     (λ x b lead. ap (λ (k : Leader). phase_of k.stage) (sym b.role) ∙ b.seen.stage lead)
     next.Stay (λ x. refl) (λ x b. b.role)
     (λ x b. renew-other me now x (ap (λ (p : Phase). same_phase p phase.Active) (sym b.seen.phase) ∙ not_active c.args.view.now.phase (sym c.is_active.ensures ∙ c.if-not-is_active.true)))
-    c.stay.result (c.stay.ensures ∙ ap (λ (k : Leader). record { tx = []; out = []; timers = []; state = k; next = next.Stay }) c.in_ok-state.ensures)
+    c.stay.result c.stay.ensures
 
 pub returns-clause-plans : goal.returns-clause-plans
 returns-clause-plans c =
     let me = c.args.me.now in
     let now = c.args.now in
-    let l : Leader = c.args.state.now in
+    let l : Leader = c.args.state in
     let w : Readings = readings_of c.args.kv.now in
     let e = c.own_epoch-epoch.result in
     let v = c.own_last-last.result in
-    let drafted : c.new-draft.result ≡ record { tx = []; out = []; state = l } = c.new-draft.ensures ∙ ap (λ (k : Leader). record { tx = []; out = []; state = k }) c.in_ok-state.ensures in
+    let drafted : c.new-draft.result ≡ record { tx = []; out = []; state = l } = c.new-draft.ensures in
     from_start me now (IsHere e v) (record { tx = []; out = []; state = l }) (λ y. Ok (be_active me now y)) (Ok c.in_ok-be_active.field-0) refl
     (subst (λ (d : Draft). GoesOn me now (IsHere e v) d (λ y. Ok (be_active me now y)) (Ok c.in_ok-be_active.field-0)) drafted c.in_ok-be_active.ensures.goes)
     (IsMet me now w c.args.view.now (λ s. s.leader) l) (λ x. x) (renew me now)

@@ -14,24 +14,24 @@ use Rattle.paxos_leader.proofs.inputs.ring.Goals as goal
 
 pub returns-in-Renew-clause-plans : goal.returns-in-Renew-clause-plans
 returns-in-Renew-clause-plans c =
-    let met = IsMet c.args.me.now c.args.now (readings_of c.args.kv.now) c.args.view.now (λ s. s.leader) c.args.state.now in
+    let met = IsMet c.args.me.now c.args.now (readings_of c.args.kv.now) c.args.view.now (λ s. s.leader) c.args.state in
     subst (λ (t : Timer). PlansRow c.args.me.now c.args.now leads met (timer_comes c.args.me.now c.args.now t) c.renew.result) (sym c.in-Renew.is) c.renew.ensures.plans
 
 pub returns-in-Renew-clause-leaves : goal.returns-in-Renew-clause-leaves
 returns-in-Renew-clause-leaves c = stays_leaves c.args.view.now.phase c.renew.result c.renew.ensures.stays
 
-pub returns-in_ok-copy-in_default-clause-plans : goal.returns-in_ok-copy-in_default-clause-plans
-returns-in_ok-copy-in_default-clause-plans c =
+pub returns-in_default-clause-plans : goal.returns-in_default-clause-plans
+returns-in_default-clause-plans c =
     let me = c.args.me.now in
     let now = c.args.now in
-    let l : Leader = c.args.state.now in
+    let l : Leader = c.args.state in
     let w : Readings = readings_of c.args.kv.now in
     nothing_but me now (IsMet me now w c.args.view.now (λ s. s.leader) l) (timer_comes me now c.args.kind) l
     (λ x b lead. ap (λ (k : Leader). phase_of k.stage) (sym b.role) ∙ b.seen.stage lead)
     next.Bootstrap (λ x. refl) (λ x b. b.role)
     (λ x b. rings me now c.args.kind c.requires c.in_default.not-Renew x)
-    c.planned.result (c.planned.ensures ∙ ap (λ (k : Leader). record { tx = []; out = []; timers = []; state = k; next = next.Bootstrap }) c.in_ok-copy-in_default.ensures)
+    c.planned.result c.planned.ensures
 
-pub returns-in_ok-copy-in_default-clause-leaves : goal.returns-in_ok-copy-in_default-clause-leaves
-returns-in_ok-copy-in_default-clause-leaves c =
+pub returns-in_default-clause-leaves : goal.returns-in_default-clause-leaves
+returns-in_default-clause-leaves c =
     bootstrap_leaves c.args.view.now.phase c.planned.result (ap (λ (p : Plan Leader). p.next) c.planned.ensures) (ap (λ (p : Plan Leader). p.tx) c.planned.ensures)

@@ -1,23 +1,26 @@
-use Rattle.std.proofs.Common.{◌≡◌, true, sym, subst}
+use Rattle.std.proofs.Common.{◌≡◌, true, List, sym, subst}
+use Rattle.mon_bytes.specs.declared.entry.Entry.{Entry}
 use Rattle.mon_msg.specs.Protocol.Readings.{readings_of}
-use Rattle.mon_msg.specs.declared.input.Input.{Input}
+use Rattle.mon_msg.specs.declared.paxos.Leader.{Leader}
 use Rattle.mon_plan.specs.Inputs.{row}
 use Rattle.mon_plan.specs.Plans.{PlansRow, leads}
 use Rattle.mon_plan.specs.Seen.{IsMet}
-use Rattle.paxos_leader.specs.Inputs.{is_input}
+use Rattle.paxos_leader.specs.Inputs.{may_begin_all}
 use Rattle.paxos_leader.proofs.inputs.step.Goals as goal
 
-pub ring-requires : goal.ring-requires
-ring-requires c = subst (λ (came : Input). is_input came ≡ true) c.in-Timer.is c.requires.input
+pub step_owned-requires-clause-input : goal.step_owned-requires-clause-input
+step_owned-requires-clause-input c = c.requires.input
 
-pub returns-in-Deliver-clause-plans : goal.returns-in-Deliver-clause-plans
-returns-in-Deliver-clause-plans c =
-    λ shared.
-    let met = IsMet c.args.me.now c.args.now (readings_of c.args.kv.now) c.args.view.now (λ s. s.leader) c.args.state.now in
-    subst (λ (came : Input). PlansRow c.args.me.now c.args.now leads met (row c.args.me.now shared c.args.now came) c.hear.result) (sym c.in-Deliver.is) (c.hear.ensures.plans shared)
+pub step_owned-requires-clause-fits : goal.step_owned-requires-clause-fits
+step_owned-requires-clause-fits c = c.requires.fits
 
-pub returns-in-Timer-clause-plans : goal.returns-in-Timer-clause-plans
-returns-in-Timer-clause-plans c =
-    λ shared.
-    let met = IsMet c.args.me.now c.args.now (readings_of c.args.kv.now) c.args.view.now (λ s. s.leader) c.args.state.now in
-    subst (λ (came : Input). PlansRow c.args.me.now c.args.now leads met (row c.args.me.now shared c.args.now came) c.ring.result) (sym c.in-Timer.is) c.ring.ensures.plans
+pub step_owned-requires-clause-held : goal.step_owned-requires-clause-held
+step_owned-requires-clause-held c = subst (λ (l : Leader). may_begin_all l ≡ true) (sym c.in_ok-copy.ensures) c.requires.held
+
+pub returns-clause-plans : goal.returns-clause-plans
+returns-clause-plans c =
+    let me = c.args.me.now in
+    let w = readings_of c.args.kv.now in
+    subst
+    (λ (l : Leader). (shared : List Entry) → PlansRow me c.args.now leads (IsMet me c.args.now w c.args.view.now (λ s. s.leader) l) (row me shared c.args.now c.args.input.now) c.step_owned.result)
+    c.in_ok-copy.ensures c.step_owned.ensures.plans

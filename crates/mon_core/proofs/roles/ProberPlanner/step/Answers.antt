@@ -1,5 +1,10 @@
+use Rattle.std.proofs.Common.{refl}
 use Rattle.mon_msg.specs.Protocol.Readings.{shared_entries}
+use Rattle.mon_msg.specs.Protocol.State.{State as Remembered}
+use Rattle.mon_msg.specs.declared.election.Prober.{Prober}
+use Rattle.mon_event.specs.State.{state_of}
 use Rattle.mon_event.specs.declared.role.Role.TheVariants as role
+use Rattle.mon_core.proofs.Regaining.{none_taken}
 use Rattle.mon_core.proofs.Taking.{takes_own}
 use Rattle.mon_core.proofs.roles.ProberPlanner.step.Goals as goal
 
@@ -8,3 +13,6 @@ step-requires c = takes_own c.args.input.now role.Prober c.requires.input.role
 
 pub returns-clause-plans : goal.returns-clause-plans
 returns-clause-plans c = c.step.ensures.plans (shared_entries c.args.kv.now)
+
+pub returns-clause-regains : goal.returns-clause-regains
+returns-clause-regains c = none_taken (λ (prober : Prober) (s : Remembered). record s { prober = prober }) (state_of c.args.state.now) (state_of c.args.state.now) refl

@@ -1,6 +1,14 @@
+use Rattle.std.proofs.Common.{refl}
+use Rattle.mon_msg.specs.Protocol.State.{State as Remembered}
+use Rattle.mon_msg.specs.declared.synchronisation.Provider.{Provider}
+use Rattle.mon_event.specs.State.{state_of}
 use Rattle.mon_event.specs.declared.role.Role.TheVariants as role
+use Rattle.mon_core.proofs.Regaining.{none_taken}
 use Rattle.mon_core.proofs.Taking.{takes_own}
 use Rattle.mon_core.proofs.roles.ProviderPlanner.step.Goals as goal
 
 pub step-requires : goal.step-requires
 step-requires c = takes_own c.args.input.now role.Provider c.requires.input.role
+
+pub returns-clause-regains : goal.returns-clause-regains
+returns-clause-regains c = none_taken (λ (provider : Provider) (s : Remembered). record s { provider = provider }) (state_of c.args.state.now) (state_of c.args.state.now) refl
