@@ -8,6 +8,8 @@ use Rattle.mon_msg.specs.Protocol.Readings.{readings_of, shared_entries}
 use Rattle.mon_msg.specs.Protocol.State.{booting}
 use Rattle.mon_msg.specs.Protocol.Table.{react}
 use Rattle.mon_msg.specs.declared.input.Input.{Input}
+use Rattle.mon_msg.specs.declared.plan.RoleStop.TheVariants as stop
+use Rattle.mon_msg.specs.declared.plan.RoleStop.{RoleStop}
 use Rattle.mon_msg.specs.declared.plan.Sent.{Sent}
 use Rattle.mon_msg.specs.declared.view.Me.{Me}
 use Rattle.mon_tx.specs.Map.{Store}
@@ -18,10 +20,8 @@ use Rattle.mon_event.specs.State.{state_of}
 use Rattle.mon_event.specs.declared.event.Event.{Event}
 use Rattle.mon_event.specs.declared.state.State.{State as Held}
 use Rattle.mon_core.specs.Core.{Monitor}
-use Rattle.mon_core.specs.Reacts.{Comes, Reacts}
-use Rattle.mon_core.specs.Rows.{IsReady}
-use Rattle.mon_core.specs.declared.reaction.CoreStop.TheVariants as stop
-use Rattle.mon_core.specs.declared.reaction.CoreStop.{CoreStop}
+use Rattle.mon_core.specs.Reacts.{Reacts}
+use Rattle.mon_core.specs.Rows.{AnswersInput, IsReady}
 
 module _ (me : Me) (m : Store) (now : ℕ) (came : Input) (begun : Event) where
   pub reacts : (done : Event) → IsReached (readings_of m) (react me (shared_entries m) now (readings_of m) (state_of begun.state) came) done
@@ -35,7 +35,7 @@ module _ (me : Me) (m : Store) (now : ℕ) (came : Input) (begun : Event) where
         state = sym r.under_way.state i;
       }))
 
-  pub stops : (kept : Cache) (done : Event) (new : Monitor) (why : CoreStop) → Comes me m now begun came done (Err why)
+  pub stops : (kept : Cache) (done : Event) (new : Monitor) (why : RoleStop) → AnswersInput me m now begun came done (Err why)
       → Reacts (record { me = me; state = state_of begun.state; cache = kept }) new m now came (Err why)
   stops kept done new stop.OutOfMemory h = tt
   stops kept done new (stop.Spent which) h = ap any_reaction h

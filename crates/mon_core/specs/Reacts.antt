@@ -5,7 +5,7 @@ use Rattle.mon_bounds.specs.Fitting.{IsBounded, IsNamed, entries_in}
 use Rattle.mon_msg.specs.Protocol.Reaction.{reaction}
 use Rattle.mon_msg.specs.Protocol.Readings.{readings_of}
 use Rattle.mon_msg.specs.declared.input.Input.{Input}
-use Rattle.mon_msg.specs.declared.plan.RoleStop.TheVariants as role_stop
+use Rattle.mon_msg.specs.declared.plan.RoleStop.TheVariants as stop
 use Rattle.mon_msg.specs.declared.plan.RoleStop.{RoleStop}
 use Rattle.mon_msg.specs.declared.plan.Sent.TheVariants as sent
 use Rattle.mon_msg.specs.declared.plan.Sent.{Sent}
@@ -15,21 +15,8 @@ use Rattle.mon_wire.specs.declared.request.Service.{Service}
 use Rattle.svc_core.specs.Cache.{Follows, known, known_after}
 use Rattle.mon_core.specs.Core.{Monitor}
 use Rattle.mon_core.specs.Known.{known_by_then}
-use Rattle.mon_core.specs.Rows.{AnswersInput}
-use Rattle.mon_core.specs.declared.reaction.CoreStop.TheVariants as stop
-use Rattle.mon_core.specs.declared.reaction.CoreStop.{CoreStop}
 use Rattle.mon_core.specs.declared.reaction.Reaction.{Reaction}
 use Rattle.mon_event.specs.declared.event.Event.{Event}
-
-abbrev pub core_stop : RoleStop → CoreStop
-core_stop role_stop.OutOfMemory = stop.OutOfMemory
-core_stop (role_stop.Spent which) = stop.Spent which
-
--- an event has the result that the protocol states for an input, or its role stops
-abbrev pub Comes : Me → Store → (now : ℕ) → (old : Event) → Input → (new : Event) → Result Unit CoreStop → Type 0
-Comes me m now old came new (Ok done) = AnswersInput me m now old came new (Ok done)
-Comes me m now old came new (Err stop.OutOfMemory) = Unit {0}
-Comes me m now old came new (Err (stop.Spent which)) = AnswersInput me m now old came new (Err (role_stop.Spent which))
 
 -- the entries of a store in a message are named as they must be
 abbrev pub TellsNamed : Sent → Type 0
@@ -50,7 +37,7 @@ pub record IsReaction (old new : Monitor) (m : Store) (now : ℕ) (came : Input)
   pub follows : Follows new.cache (readings_of (apply r.tx m))
 
 -- or it names the number that runs out; or memory ran out
-abbrev pub Reacts : (old new : Monitor) → Store → (now : ℕ) → Input → Result Reaction CoreStop → Type 0
+abbrev pub Reacts : (old new : Monitor) → Store → (now : ℕ) → Input → Result Reaction RoleStop → Type 0
 Reacts old new m now came (Ok r) = IsReaction old new m now came r
 Reacts old new m now came (Err stop.OutOfMemory) = Unit {0}
 Reacts old new m now came (Err (stop.Spent which)) = reaction old.me now m old.state came ≡ Err which

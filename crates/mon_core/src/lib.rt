@@ -12,4 +12,6 @@ mod showing;
 
 pub use mon_msg::input::Input;
 pub use monitor::Core;
-pub use reaction::{CoreStop, Reaction};
+pub use reaction::Reaction;
+/// Why a core doesn't react: the reason for which a role has no plan. The core isn't used again.
+pub use mon_msg::RoleStop as CoreStop;

@@ -9,14 +9,15 @@ ghost use Rattle.mon_msg.specs.Protocol.Timers.{due};
 ghost use Rattle.mon_wire.specs.declared.request.Service as services;
 ghost use Rattle.svc_core.specs.Cache.{Follows, known};
 ghost use Rattle.mon_core.specs.Known.{known_by_then};
-ghost use Rattle.mon_core.specs.Reacts.{Comes, Reacts};
-ghost use Rattle.mon_core.specs.Rows.{IsReady};
+ghost use Rattle.mon_core.specs.Reacts.{Reacts};
+ghost use Rattle.mon_core.specs.Rows.{AnswersInput, IsReady};
 ghost use Rattle.mon_event.specs.State.{state_of};
 
+use crate::CoreStop;
 use crate::inputs::run;
 use crate::joining::joined;
 use crate::names::see_named;
-use crate::reaction::{CoreStop, Reaction};
+use crate::reaction::Reaction;
 use crate::showing::show;
 use election_rules::Rule;
 use mon_bytes::Items;
@@ -44,7 +45,7 @@ impl Model for Core {
     ghost use Rattle.std.specs.Coded.{codes};
     ghost use Rattle.map_kv.specs.contracts.map.KvMap as kv_map;
     ghost use Rattle.mon_core.specs.Core.{Monitor};
-    ghost use Rattle.mon_core.specs.Rows.{IsReady};
+    ghost use Rattle.mon_core.specs.Rows.{AnswersInput, IsReady};
 
     ghost Value = { Monitor };
 
@@ -70,7 +71,7 @@ fn played(
     requires follows { Follows cache.old (readings_of kv.now) }
     requires comes { MayCome input.now }
     requires ready { IsReady me.now event.old }
-    ensures comes { Comes me.now kv.now now event.old input.now event.new result }
+    ensures comes { AnswersInput me.now kv.now now event.old input.now event.new result }
     ensures known { OnOk result ((s : services.Service) → known cache.new s
         ≡ known_by_then me.now now (readings_of kv.now) (state_of event.old.state) input.now s (known cache.old s)) }
     ensures follows { OnOk result (Follows cache.new (readings_of kv.now)) }
@@ -83,11 +84,9 @@ fn played(
             Request::Set { .. }
             | Request::Remove { .. }
             | Request::Log { .. }
-            | Request::Since { .. } => Ok(run(alloc, kv, me, event, input, now)?),
+            | Request::Since { .. } => run(alloc, kv, me, event, input, now),
         },
-        Input::Start | Input::Deliver(_) | Input::Timer(_) => {
-            Ok(run(alloc, kv, me, event, input, now)?)
-        }
+        Input::Start | Input::Deliver(_) | Input::Timer(_) => run(alloc, kv, me, event, input, now),
     }
 }
 

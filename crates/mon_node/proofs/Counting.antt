@@ -1,8 +1,8 @@
 -- Which ends count a fault.
 use Rattle.std.proofs.Common.{◌≡◌, ℕ, Result, Ok, Err, refl, subst}
 use Rattle.std.specs.Prelude.{List, IfErr}
-use Rattle.mon_core.specs.declared.reaction.CoreStop.TheVariants as stop
-use Rattle.mon_core.specs.declared.reaction.CoreStop.{CoreStop}
+use Rattle.mon_msg.specs.declared.plan.RoleStop.TheVariants as stop
+use Rattle.mon_msg.specs.declared.plan.RoleStop.{RoleStop}
 use Rattle.mon_tx.specs.Map.{Store}
 use Rattle.mon_tx.specs.declared.op.Op.{Op}
 use Rattle.mon_node.specs.Ends.{of_core}
@@ -36,11 +36,11 @@ no_disk_fault h (end.Full would_be) o a b heard = absurd heard
 no_disk_fault h (end.Spent spent) o a b heard = absurd heard
 
 -- nor does a core that stops
-pub core_counts : (s : CoreStop) (a b : ℕ) → DisksCountAt (of_core s) a b a b
+pub core_counts : (s : RoleStop) (a b : ℕ) → DisksCountAt (of_core s) a b a b
 core_counts stop.OutOfMemory a b = (refl, refl)
 core_counts (stop.Spent which) a b = (refl, refl)
 
-pub core_is : (s : CoreStop) → IsOfInput (of_core s)
+pub core_is : (s : RoleStop) → IsOfInput (of_core s)
 core_is stop.OutOfMemory = tt
 core_is (stop.Spent which) = tt
 

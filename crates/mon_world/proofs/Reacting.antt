@@ -6,8 +6,8 @@ use Rattle.std.proofs.lemmas.Bool.{le-ltb, lt-ltb}
 use Rattle.mon_bounds.specs.Fitting.{MaySend}
 use Rattle.mon_core.specs.Core.{Monitor}
 use Rattle.mon_core.specs.Reacts.{IsReaction, Reacts}
-use Rattle.mon_core.specs.declared.reaction.CoreStop.{CoreStop}
-use Rattle.mon_core.specs.declared.reaction.CoreStop.TheVariants as stop
+use Rattle.mon_msg.specs.declared.plan.RoleStop.{RoleStop}
+use Rattle.mon_msg.specs.declared.plan.RoleStop.TheVariants as stop
 use Rattle.mon_core.specs.declared.reaction.Reaction as core
 use Rattle.mon_kv.specs.Readers.{size_of, most_size}
 use Rattle.mon_msg.specs.Protocol.Reaction.{Reaction, reaction}
@@ -72,7 +72,7 @@ unkept me now m s f came old new kv r e up is x h =
     not_kept me now m s came (record { transaction = r.tx; sends = r.out; state = new.state }) e (reacts_so me now m s came old.core new up.me_is up.state r so) h
 
 -- a core's stop stops the run as it should
-pub core_stops : (me : Me) (now : ℕ) (m : Store) (s : State) (came : Input) (old new : Monitor) (kv : Store) (e : CoreStop) → old.me ≡ me → old.state ≡ s → kv ≡ m → Reacts old new kv now came (Err e)
+pub core_stops : (me : Me) (now : ℕ) (m : Store) (s : State) (came : Input) (old new : Monitor) (kv : Store) (e : RoleStop) → old.me ≡ me → old.state ≡ s → kv ≡ m → Reacts old new kv now came (Err e)
     → Stops (core_stop e) (unless_stopped m (reaction me now m s came))
 core_stops me now m s came old new kv stop.OutOfMemory me_is state_is is h = tt
 core_stops me now m s came old new kv (stop.Spent which) me_is state_is is h =

@@ -1,7 +1,7 @@
 -- Why a run stops.
 use Rattle.std.specs.Prelude.{◌≡◌, ◌<◌, List, Result, Err}
-use Rattle.mon_core.specs.declared.reaction.CoreStop.{CoreStop}
-use Rattle.mon_core.specs.declared.reaction.CoreStop.TheVariants as core
+use Rattle.mon_msg.specs.declared.plan.RoleStop.{RoleStop}
+use Rattle.mon_msg.specs.declared.plan.RoleStop.TheVariants as core
 use Rattle.mon_kv.specs.Readers.{size_of, most_size}
 use Rattle.mon_store.specs.declared.stop.StoreStop.{StoreStop}
 use Rattle.mon_store.specs.declared.stop.StoreStop.TheVariants as store
@@ -13,7 +13,7 @@ use Rattle.mon_world.specs.declared.stop.WorldStop.{WorldStop}
 use Rattle.mon_world.specs.declared.stop.WorldStop.TheVariants.{OutOfMemory, Spent, Full}
 
 -- how a core's stop and a store's stop the world
-abbrev pub core_stop : CoreStop → WorldStop
+abbrev pub core_stop : RoleStop → WorldStop
 core_stop core.OutOfMemory = OutOfMemory
 core_stop (core.Spent which) = Spent which
 
