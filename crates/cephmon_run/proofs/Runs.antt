@@ -22,7 +22,7 @@ use Rattle.cephmon_run.specs.declared.replay.ReplayStop.TheVariants as stop
 use Rattle.cephmon_run.specs.declared.status.Status.{Status}
 use Rattle.cephmon_run.specs.declared.status.Status.TheVariants as status
 use Rattle.cephmon_run.specs.declared.summary.Counts.{Counts}
-use Rattle.cephmon_run.specs.Replay.{StopsAs, Writes, fault_of, status_of, stop_of}
+use Rattle.cephmon_run.specs.Replay.{StopsAs, Writes, fault_of, status_of}
 use Rattle.cephmon_run.specs.Run.{Made, MadeCause, ReplayCause, Replayed, Runs, SummedAll, TellsFault, most_read}
 use Rattle.cephmon_run.specs.Outside.{Outside, WroteNothing}
 use Rattle.cephmon_run.specs.Summary.{IsLine, Summary, counted_from, no_counts, summary, summed}
@@ -83,9 +83,9 @@ pub replay_stopped : (e : ReplayStop) (before after : Outside) (bytes : List ℕ
     → TraceIsOf s (Err e) before after → (e ≡ stop.WriteFault → Rose before.write_faults after.write_faults) → ReplayCause before after (status_of e)
 replay_stopped stop.WriteFault before after bytes s h read text writes fault =
     (fault refl, replayed before after bytes s h _ read text (writes (monitors_of s h) refl refl))
-replay_stopped (stop.Spent which) before after bytes s h read text writes fault = replayed before after bytes s h _ read text (writes (monitors_of s h) refl refl)
-replay_stopped (stop.Full would_be) before after bytes s h read text writes fault = replayed before after bytes s h _ read text (writes (monitors_of s h) refl refl)
-replay_stopped stop.OutOfMemory before after bytes s h read text writes fault = inr (replayed before after bytes s h _ read text (writes (monitors_of s h) refl refl))
+replay_stopped (stop.World (world_stop.Spent which)) before after bytes s h read text writes fault = replayed before after bytes s h _ read text (writes (monitors_of s h) refl refl)
+replay_stopped (stop.World (world_stop.Full would_be)) before after bytes s h read text writes fault = replayed before after bytes s h _ read text (writes (monitors_of s h) refl refl)
+replay_stopped (stop.World world_stop.OutOfMemory) before after bytes s h read text writes fault = inr (replayed before after bytes s h _ read text (writes (monitors_of s h) refl refl))
 
 -- ---- of a made schedule
 
@@ -144,7 +144,7 @@ summed_none stop ms es before after silent is =
 pub made_stopped : (e : WorldStop) (number events : ℕ) (before after : Outside) → events ≤ 100000 → Unread before after → WroteNothing before after
     → ((ms : Monitors) → ms.count ≡ (made_schedule number events).monitors → ms.rule ≡ (made_schedule number events).rule
     → StopsAs e (summary ms (made_schedule number events).events).stop)
-    → MadeCause number events before after (status_of (stop_of e))
+    → MadeCause number events before after (status_of (stop.World e))
 made_stopped world_stop.OutOfMemory number events before after most unread silent stops = ((unread.left, unread.faults), inl silent)
 made_stopped (world_stop.Spent which) number events before after most unread silent stops =
     let h = made_has_text number events most in

@@ -22,7 +22,7 @@ use Rattle.mon_world.specs.Step.{step}
 use Rattle.cephmon_run.specs.Trace.{Trace, behind, goes_on, trace_from}
 use Rattle.mon_world.specs.Stands.{Does, Fits, IsWorld, StandsFor}
 use Rattle.mon_world.specs.Stops.{Stops}
-use Rattle.cephmon_run.specs.Replay.{Did, Writes, stop_of, fault_of}
+use Rattle.cephmon_run.specs.Replay.{Did, Writes, fault_of}
 
 -- ---- fronts
 
@@ -52,10 +52,10 @@ front_behind a b c xs ys p q = (length xs + q.0, subst (Appends a c) (sym (take_
 
 pub writes_behind : (r : Result Unit ReplayStop) (a b c : Option (List ℕ)) (lines : List ℕ) (t : Trace) → Appends a b lines → Writes r b c t → Writes r a c (behind lines t)
 writes_behind (Ok done) a b c lines t p w = (w.0, Appends-trans a b c lines t.text p w.1)
-writes_behind (Err (stop.Spent which)) a b c lines t p w = (w.0, Appends-trans a b c lines t.text p w.1)
-writes_behind (Err (stop.Full would_be)) a b c lines t p w = (w.0, Appends-trans a b c lines t.text p w.1)
+writes_behind (Err (stop.World (world_stop.Spent which))) a b c lines t p w = (w.0, Appends-trans a b c lines t.text p w.1)
+writes_behind (Err (stop.World (world_stop.Full would_be))) a b c lines t p w = (w.0, Appends-trans a b c lines t.text p w.1)
 writes_behind (Err stop.WriteFault) a b c lines t p w = front_behind a b c lines t.text p w
-writes_behind (Err stop.OutOfMemory) a b c lines t p w = front_behind a b c lines t.text p w
+writes_behind (Err (stop.World world_stop.OutOfMemory)) a b c lines t p w = front_behind a b c lines t.text p w
 
 -- a write stopped in a trace
 pub writes_fault : (s : Stop) (a b : Option (List ℕ)) (t : Trace) → AppendsFront a b t.text → Writes (Err (fault_of s)) a b t
@@ -65,17 +65,17 @@ writes_fault outside.OutOfMemory a b t p = p
 -- ---- an event
 
 -- memory ran out before its lines
-pub did_memory : (ms : Monitors) (world : World) (a : Option (List ℕ)) (number : ℕ) (e : Event) (wanted : Result (Scene × StepLine) happens.Stop) → Did ms (Err stop.OutOfMemory) world a a number e wanted
+pub did_memory : (ms : Monitors) (world : World) (a : Option (List ℕ)) (number : ℕ) (e : Event) (wanted : Result (Scene × StepLine) happens.Stop) → Did ms (Err (stop.World world_stop.OutOfMemory)) world a a number e wanted
 did_memory ms world a number e wanted follow = front_none a _
 
 -- the run stopped at it, or memory ran out
 pub did_stop : (ms : Monitors) (s : WorldStop) (world : World) (a : Option (List ℕ)) (number : ℕ) (e : Event) (wanted : Result (Scene × StepLine) happens.Stop) → Stops s wanted
-    → Did ms (Err (stop_of s)) world a a number e wanted
+    → Did ms (Err (stop.World s)) world a a number e wanted
 did_stop ms world_stop.OutOfMemory world a number e wanted fails follow = front_none a _
 did_stop ms (world_stop.Spent which) world a number e wanted stops follow =
-    subst (λ (r : Result (Scene × StepLine) happens.Stop). Writes (Err (stop.Spent which)) a a (goes_on number e follow r)) (sym stops) (refl, Appends-nil a)
+    subst (λ (r : Result (Scene × StepLine) happens.Stop). Writes (Err (stop.World (world_stop.Spent which))) a a (goes_on number e follow r)) (sym stops) (refl, Appends-nil a)
 did_stop ms (world_stop.Full would_be) world a number e wanted stops follow =
-    subst (λ (r : Result (Scene × StepLine) happens.Stop). Writes (Err (stop.Full would_be)) a a (goes_on number e follow r)) (sym stops) (refl, Appends-nil a)
+    subst (λ (r : Result (Scene × StepLine) happens.Stop). Writes (Err (stop.World (world_stop.Full would_be))) a a (goes_on number e follow r)) (sym stops) (refl, Appends-nil a)
 
 -- its lines stopped on their way
 pub did_fault : (ms : Monitors) (s : Stop) (line : StepLine) (world : World) (a b : Option (List ℕ)) (number : ℕ) (e : Event) (wanted : Result (Scene × StepLine) happens.Stop) (bs : List ℕ)

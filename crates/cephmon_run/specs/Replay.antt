@@ -23,11 +23,11 @@ use Rattle.cephmon_run.specs.Trace.{Trace, goes_on}
 -- What a replay wrote to the sink, by how it ended: all of the trace, up to what stopped its run; or a prefix of it.
 abbrev pub Writes : Result Unit ReplayStop → Option (List ℕ) → Option (List ℕ) → Trace → Type 0
 Writes (Ok done) old new trace = (trace.stop ≡ None) × Appends old new trace.text
-Writes (Err (stop.Spent which)) old new trace = (trace.stop ≡ Some (happens.Spent which)) × Appends old new trace.text
-Writes (Err (stop.Full would_be)) old new trace = (trace.stop ≡ Some (happens.Full would_be)) ×
+Writes (Err (stop.World (world_stop.Spent which))) old new trace = (trace.stop ≡ Some (happens.Spent which)) × Appends old new trace.text
+Writes (Err (stop.World (world_stop.Full would_be))) old new trace = (trace.stop ≡ Some (happens.Full would_be)) ×
     Appends old new trace.text
 Writes (Err stop.WriteFault) old new trace = AppendsFront old new trace.text
-Writes (Err stop.OutOfMemory) old new trace = AppendsFront old new trace.text
+Writes (Err (stop.World world_stop.OutOfMemory)) old new trace = AppendsFront old new trace.text
 
 -- What a call that does one event left, and wrote to the sink: the event's lines; or what is written of any trace that
 -- goes on with it.
@@ -39,15 +39,14 @@ Did ms (Ok done) world old new number e wanted =
 Did ms (Err s) world old new number e wanted = (follow : Scene → Trace) →
     Writes (Err s) old new (goes_on number e follow wanted)
 
--- how the stops of the parts end a replay
-abbrev pub stop_of : WorldStop → ReplayStop
-stop_of world_stop.OutOfMemory = stop.OutOfMemory
-stop_of (world_stop.Spent which) = stop.Spent which
-stop_of (world_stop.Full would_be) = stop.Full would_be
+-- memory ran out
+abbrev pub no_memory : ReplayStop
+no_memory = stop.World world_stop.OutOfMemory
 
+-- how a fault of the output ends a replay
 abbrev pub fault_of : Stop → ReplayStop
 fault_of outside.Failed = stop.WriteFault
-fault_of outside.OutOfMemory = stop.OutOfMemory
+fault_of outside.OutOfMemory = no_memory
 
 -- what stops a run, unless memory ran out
 abbrev pub StopsAs : WorldStop → Option happens.Stop → Type 0
@@ -58,6 +57,6 @@ StopsAs (world_stop.Full would_be) stop = stop ≡ Some (happens.Full would_be)
 -- how a run's stop ends the program
 abbrev pub status_of : ReplayStop → Status
 status_of stop.WriteFault = status.WriteFault
-status_of (stop.Spent which) = status.Spent which
-status_of (stop.Full would_be) = status.Full would_be
-status_of stop.OutOfMemory = status.OutOfMemory
+status_of (stop.World (world_stop.Spent which)) = status.Spent which
+status_of (stop.World (world_stop.Full would_be)) = status.Full would_be
+status_of (stop.World world_stop.OutOfMemory) = status.OutOfMemory

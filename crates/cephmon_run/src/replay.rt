@@ -12,7 +12,7 @@ ghost use Rattle.cephmon_run.specs.Trace.{trace, trace_from};
 
 use mon_bytes::OutOfMemory;
 use mon_link::{Sink, write_all};
-use mon_types::{Stop, Which};
+use mon_types::Stop;
 use mon_world::{World, WorldStop};
 use schedule_text::{Event, Schedule};
 use std::alloc::Global;
@@ -21,24 +21,20 @@ use trace_text::{end_line, header_line, trace_line};
 /// Why a replay stopped before its end.
 #[derive(Clone, Copy, Debug, PartialEq, Eq)]
 pub enum ReplayStop {
+    /// Standard output couldn't be written.
     WriteFault,
-    Spent { which: Which },
-    Full { would_be: u64 },
-    OutOfMemory,
+    /// The run itself stopped.
+    World(WorldStop),
 }
 
 impl From<WorldStop> for ReplayStop {
     ghost use Rattle.std.specs.Prelude.{◌≡◌};
-    ghost use Rattle.cephmon_run.specs.Replay.{stop_of};
+    ghost use Rattle.cephmon_run.specs.declared.replay.ReplayStop.TheVariants as stop;
 
-    ghost from_gives = { λ s e. e ≡ stop_of s };
+    ghost from_gives = { λ s e. e ≡ stop.World s };
 
     fn from(stop: WorldStop) -> ReplayStop {
-        match stop {
-            WorldStop::OutOfMemory => ReplayStop::OutOfMemory,
-            WorldStop::Spent { which } => ReplayStop::Spent { which },
-            WorldStop::Full { would_be } => ReplayStop::Full { would_be },
-        }
+        ReplayStop::World(stop)
     }
 }
 
@@ -51,19 +47,19 @@ impl From<Stop> for ReplayStop {
     fn from(stop: Stop) -> ReplayStop {
         match stop {
             Stop::Failed => ReplayStop::WriteFault,
-            Stop::OutOfMemory => ReplayStop::OutOfMemory,
+            Stop::OutOfMemory => ReplayStop::World(WorldStop::OutOfMemory),
         }
     }
 }
 
 impl From<OutOfMemory> for ReplayStop {
     ghost use Rattle.std.specs.Prelude.{◌≡◌};
-    ghost use Rattle.cephmon_run.specs.declared.replay.ReplayStop.TheVariants.{OutOfMemory as no_memory};
+    ghost use Rattle.cephmon_run.specs.Replay.{no_memory};
 
     ghost from_gives = { λ _ e. e ≡ no_memory };
 
     fn from(_e: OutOfMemory) -> ReplayStop {
-        ReplayStop::OutOfMemory
+        ReplayStop::World(WorldStop::OutOfMemory)
     }
 }
 

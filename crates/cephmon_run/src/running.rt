@@ -103,9 +103,9 @@ fn status_of(stop: ReplayStop) -> Status
 {
     match stop {
         ReplayStop::WriteFault => Status::WriteFault,
-        ReplayStop::Spent { which } => Status::Spent { which },
-        ReplayStop::Full { would_be } => Status::Full { would_be },
-        ReplayStop::OutOfMemory => Status::OutOfMemory,
+        ReplayStop::World(WorldStop::Spent { which }) => Status::Spent { which },
+        ReplayStop::World(WorldStop::Full { would_be }) => Status::Full { would_be },
+        ReplayStop::World(WorldStop::OutOfMemory) => Status::OutOfMemory,
     }
 }
 

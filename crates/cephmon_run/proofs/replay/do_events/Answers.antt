@@ -3,8 +3,7 @@ use Rattle.std.proofs.lemmas.Result.{err_from_is_err_and}
 use Rattle.std.specs.Io.KnownBytes.{Appends}
 use Rattle.mon_link.specs.Whole.{AppendsFront}
 use Rattle.trace_text.specs.Trace.{end_text}
-use Rattle.cephmon_run.specs.declared.replay.ReplayStop.TheVariants as stop
-use Rattle.cephmon_run.specs.Replay.{fault_of}
+use Rattle.cephmon_run.specs.Replay.{fault_of, no_memory}
 use Rattle.cephmon_run.proofs.Schedules.{all_fit, monitors_of}
 use Rattle.cephmon_run.proofs.Writing.{begins, comes_on, ends, event_of, front_none, is_world, next_fits, none_of, stops_at, writes_fault}
 use Rattle.cephmon_run.proofs.replay.do_events.Goals as goal
@@ -61,7 +60,7 @@ returns-in_err-line-clause-writes g c =
     let p = err_from_is_err_and c.from_residual-in_err-line.result c.from_residual-in_err-line.ensures.1 in
     let none = none_of es c.as_slice-event-items.result.now l.event-index c.as_slice-event-items.ensures (omega (arith, c.loop-event-test.false)) in
     let here = g.K.Sink.held l.sink in
-    λ ms count rule. rw (p.1, p.2) (ends ms (Err stop.OutOfMemory) l.world (g.K.Sink.held c.args.sink.now) here here es l.event-index none (l.invariant.so_far ms count rule) (front_none here (end_text l.event-index l.world.log)))
+    λ ms count rule. rw (p.1, p.2) (ends ms (Err no_memory) l.world (g.K.Sink.held c.args.sink.now) here here es l.event-index none (l.invariant.so_far ms count rule) (front_none here (end_text l.event-index l.world.log)))
 
 pub returns-in_err-write_all-clause-writes : goal.returns-in_err-write_all-clause-writes
 returns-in_err-write_all-clause-writes g c =

@@ -3,14 +3,15 @@ use Rattle.std.specs.Io.KnownBytes.{Appends}
 use Rattle.mon_link.specs.Whole.{AppendsFront}
 use Rattle.cephmon_run.specs.Run.{MadeCause}
 use Rattle.cephmon_run.specs.Outside.{Outside}
-use Rattle.cephmon_run.specs.Replay.{fault_of, status_of, stop_of}
+use Rattle.cephmon_run.specs.Replay.{fault_of, status_of}
+use Rattle.cephmon_run.specs.declared.replay.ReplayStop.TheVariants as stop
 use Rattle.cephmon_run.proofs.Runs.{made_done, made_fault, made_stopped}
 use Rattle.cephmon_run.proofs.running.run_made.Goals as goal
 
 pub returns-in-Err : goal.returns-in-Err
 returns-in-Err g c = λ left read_faults.
     let same : Outside = record { left = left; held = g.K.Sink.held c.args.sink.now; read_faults = read_faults; write_faults = g.K.Sink.faults c.args.sink.now } in
-    let is : c.status_of.result ≡ status_of (stop_of c.in-Err.stop) = c.status_of.ensures ∙ ap status_of c.from.ensures in
+    let is : c.status_of.result ≡ status_of (stop.World c.in-Err.stop) = c.status_of.ensures ∙ ap status_of c.from.ensures in
     subst (MadeCause c.args.number c.args.events same same) (sym is)
     (made_stopped c.in-Err.stop c.args.number c.args.events same same c.requires.most (record { left = refl; faults = refl }) (refl, refl) c.in-Err.ensures.stops)
 
