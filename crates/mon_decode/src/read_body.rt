@@ -6,7 +6,7 @@ ghost use Rattle.mon_wire.specs.Message.Bodies.{body_at};
 
 use crate::fields::{read_count, read_flag, read_number, read_value};
 use crate::read_client::{read_reply, read_request, read_routed};
-use crate::read_lists::{read_entries, read_some_values, read_values};
+use crate::read_lists::{read_list, read_some};
 use crate::read_parts::{read_command, read_cookie, read_place, read_told};
 use crate::read_scores::{read_set, read_table};
 use mon_bytes::Cursor;
@@ -45,7 +45,7 @@ fn read_last(alloc: Global, n: u8, own: Rank, cursor: &mut Cursor<'_>) -> Result
     let last = read_number(cursor)?;
     let whole = read_flag(cursor)?;
     let from = read_number(cursor)?;
-    let values = read_values(alloc, cursor)?;
+    let values = read_list(alloc, cursor)?;
     let pending = read_told(alloc, cursor)?;
     Ok(Body::Last {
         pn,
@@ -79,7 +79,7 @@ fn read_commit(alloc: Global, n: u8, own: Rank, cursor: &mut Cursor<'_>) -> Resu
     ensures { Reads (λ x. x) result cursor.new (body_at n own Kind.Commit cursor.old) }
 {
     let from = read_number(cursor)?;
-    let values = read_some_values(alloc, cursor)?;
+    let values = read_some(alloc, cursor)?;
     Ok(Body::Commit { from, values })
 }
 
@@ -131,8 +131,8 @@ fn read_chunk(alloc: Global, n: u8, own: Rank, cursor: &mut Cursor<'_>) -> Resul
 {
     let cookie = read_cookie(cursor)?;
     let place = read_place(alloc, cursor)?;
-    let values = read_values(alloc, cursor)?;
-    let entries = read_entries(alloc, cursor)?;
+    let values = read_list(alloc, cursor)?;
+    let entries = read_list(alloc, cursor)?;
     let done = read_flag(cursor)?;
     Ok(Body::Chunk {
         cookie,
@@ -153,8 +153,8 @@ fn read_last_chunk(
 {
     let cookie = read_cookie(cursor)?;
     let place = read_place(alloc, cursor)?;
-    let values = read_values(alloc, cursor)?;
-    let entries = read_entries(alloc, cursor)?;
+    let values = read_list(alloc, cursor)?;
+    let entries = read_list(alloc, cursor)?;
     let last = read_number(cursor)?;
     Ok(Body::LastChunk {
         cookie,
@@ -186,76 +186,6 @@ fn read_answered(
     Ok(Body::Reply { id, reply })
 }
 
-fn read_propose(
-    alloc: Global,
-    n: u8,
-    own: Rank,
-    cursor: &mut Cursor<'_>,
-) -> Result<Body, MsgRefused>
-    requires { n ≤ 15 }
-    ensures { Reads (λ x. x) result cursor.new (body_at n own Kind.Propose cursor.old) }
-{
-    let table = read_table(alloc, n, own, cursor)?;
-    Ok(Body::Propose { table })
-}
-
-fn read_victory(n: u8, own: Rank, cursor: &mut Cursor<'_>) -> Result<Body, MsgRefused>
-    requires { n ≤ 15 }
-    ensures { Reads (λ x. x) result cursor.new (body_at n own Kind.Victory cursor.old) }
-{
-    let quorum = read_set(n, cursor)?;
-    Ok(Body::Victory { quorum })
-}
-
-fn read_lease(n: u8, own: Rank, cursor: &mut Cursor<'_>) -> Result<Body, MsgRefused>
-    ensures { Reads (λ x. x) result cursor.new (body_at n own Kind.Lease cursor.old) }
-{
-    let last = read_number(cursor)?;
-    Ok(Body::Lease { last })
-}
-
-fn read_lease_ack(n: u8, own: Rank, cursor: &mut Cursor<'_>) -> Result<Body, MsgRefused>
-    ensures { Reads (λ x. x) result cursor.new (body_at n own Kind.LeaseAck cursor.old) }
-{
-    let last = read_number(cursor)?;
-    Ok(Body::LeaseAck { last })
-}
-
-fn read_recent(n: u8, own: Rank, cursor: &mut Cursor<'_>) -> Result<Body, MsgRefused>
-    ensures { Reads (λ x. x) result cursor.new (body_at n own Kind.GetCookieRecent cursor.old) }
-{
-    let last = read_number(cursor)?;
-    Ok(Body::GetCookieRecent { last })
-}
-
-fn read_no_cookie(n: u8, own: Rank, cursor: &mut Cursor<'_>) -> Result<Body, MsgRefused>
-    ensures { Reads (λ x. x) result cursor.new (body_at n own Kind.NoCookie cursor.old) }
-{
-    let cookie = read_cookie(cursor)?;
-    Ok(Body::NoCookie { cookie })
-}
-
-fn read_ping(alloc: Global, n: u8, own: Rank, cursor: &mut Cursor<'_>) -> Result<Body, MsgRefused>
-    requires { n ≤ 15 }
-    ensures { Reads (λ x. x) result cursor.new (body_at n own Kind.Ping cursor.old) }
-{
-    let table = read_table(alloc, n, own, cursor)?;
-    Ok(Body::Ping { table })
-}
-
-fn read_ping_reply(
-    alloc: Global,
-    n: u8,
-    own: Rank,
-    cursor: &mut Cursor<'_>,
-) -> Result<Body, MsgRefused>
-    requires { n ≤ 15 }
-    ensures { Reads (λ x. x) result cursor.new (body_at n own Kind.PingReply cursor.old) }
-{
-    let table = read_table(alloc, n, own, cursor)?;
-    Ok(Body::PingReply { table })
-}
-
 /// What follows the header of a message of the monitor `own` of `n`, by its kind.
 pub(crate) fn read_body(
     alloc: Global,
@@ -270,27 +200,43 @@ pub(crate) fn read_body(
     match kind {
         Kind::Probe => Ok(Body::Probe),
         Kind::ProbeReply => read_probe_reply(n, own, cursor),
-        Kind::Propose => read_propose(alloc, n, own, cursor),
+        Kind::Propose => Ok(Body::Propose {
+            table: read_table(alloc, n, own, cursor)?,
+        }),
         Kind::Ack => Ok(Body::Ack),
-        Kind::Victory => read_victory(n, own, cursor),
+        Kind::Victory => Ok(Body::Victory {
+            quorum: read_set(n, cursor)?,
+        }),
         Kind::Collect => read_collect(n, own, cursor),
         Kind::Last => read_last(alloc, n, own, cursor),
         Kind::Begin => read_begin(alloc, n, own, cursor),
         Kind::Accept => read_accept(n, own, cursor),
         Kind::Commit => read_commit(alloc, n, own, cursor),
-        Kind::Lease => read_lease(n, own, cursor),
-        Kind::LeaseAck => read_lease_ack(n, own, cursor),
+        Kind::Lease => Ok(Body::Lease {
+            last: read_number(cursor)?,
+        }),
+        Kind::LeaseAck => Ok(Body::LeaseAck {
+            last: read_number(cursor)?,
+        }),
         Kind::Forward => read_forward(alloc, n, own, cursor),
         Kind::Route => read_route(n, own, cursor),
         Kind::GetCookieFull => Ok(Body::GetCookieFull),
-        Kind::GetCookieRecent => read_recent(n, own, cursor),
+        Kind::GetCookieRecent => Ok(Body::GetCookieRecent {
+            last: read_number(cursor)?,
+        }),
         Kind::Cookie => read_granted(n, own, cursor),
         Kind::GetChunk => read_get_chunk(alloc, n, own, cursor),
         Kind::Chunk => read_chunk(alloc, n, own, cursor),
         Kind::LastChunk => read_last_chunk(alloc, n, own, cursor),
-        Kind::NoCookie => read_no_cookie(n, own, cursor),
-        Kind::Ping => read_ping(alloc, n, own, cursor),
-        Kind::PingReply => read_ping_reply(alloc, n, own, cursor),
+        Kind::NoCookie => Ok(Body::NoCookie {
+            cookie: read_cookie(cursor)?,
+        }),
+        Kind::Ping => Ok(Body::Ping {
+            table: read_table(alloc, n, own, cursor)?,
+        }),
+        Kind::PingReply => Ok(Body::PingReply {
+            table: read_table(alloc, n, own, cursor)?,
+        }),
         Kind::Request => read_asked(alloc, n, own, cursor),
         Kind::Reply => read_answered(alloc, n, own, cursor),
     }

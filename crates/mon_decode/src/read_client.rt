@@ -6,7 +6,7 @@ ghost use Rattle.mon_wire.specs.Message.Fields.{numeral, flag, utf8, name, servi
 ghost use Rattle.mon_wire.specs.Message.Client.{request_at, shown, since, routed_kinds, routed_at, reply_at};
 
 use crate::fields::{read_count, read_flag, read_number, read_service, read_utf8, read_word};
-use crate::read_lists::read_incrementals;
+use crate::read_lists::read_list;
 use crate::read_parts::read_shown_map;
 use mon_bytes::Cursor;
 use mon_wire::{MsgKind, MsgRefused, Reply, Request};
@@ -74,7 +74,7 @@ fn read_since(alloc: Global, cursor: &mut Cursor<'_>) -> Result<Reply, MsgRefuse
     let service = read_service(cursor)?;
     let from = read_number(cursor)?;
     let more = read_flag(cursor)?;
-    let incrementals = read_incrementals(alloc, cursor)?;
+    let incrementals = read_list(alloc, cursor)?;
     Ok(Reply::Since {
         service,
         from,

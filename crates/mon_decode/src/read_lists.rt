@@ -2,8 +2,6 @@
 
 ghost use Rattle.std.specs.Prelude.{◌≡◌, ℕ};
 ghost use Rattle.mon_wire.specs.Message.Format.{Reads, items, list, some};
-ghost use Rattle.mon_wire.specs.Message.Fields.{value, blob, value_at, blob_at};
-ghost use Rattle.mon_wire.specs.Message.Parts.{entry};
 
 use crate::fields::{read_blob, read_value};
 use crate::read_parts::read_entry;
@@ -12,68 +10,80 @@ use mon_tx::Transaction;
 use mon_wire::{MsgKind, MsgRefused};
 use std::alloc::Global;
 
-fn so_many_values(
+/// What a list of a message can hold.
+pub(crate) trait Listed: Drop + Sized {
+    ghost use Rattle.mon_wire.specs.Message.Format.{Format};
+
+    /// How an item is encoded and decoded.
+    ghost format: { Format Self };
+
+    /// Reads an item from the front of the cursor.
+    fn read(alloc: Global, cursor: &mut Cursor<'_>) -> Result<Self, MsgRefused>
+        ensures { Reads (λ x. x) result cursor.new (format.read cursor.old) };
+}
+
+impl Listed for Transaction {
+    ghost use Rattle.mon_wire.specs.Message.Fields.{value};
+
+    ghost format = { value };
+
+    fn read(alloc: Global, cursor: &mut Cursor<'_>) -> Result<Transaction, MsgRefused> {
+        read_value(alloc, cursor)
+    }
+}
+
+impl Listed for Entry {
+    ghost use Rattle.mon_wire.specs.Message.Parts.{entry};
+
+    ghost format = { entry };
+
+    fn read(alloc: Global, cursor: &mut Cursor<'_>) -> Result<Entry, MsgRefused> {
+        read_entry(alloc, cursor)
+    }
+}
+
+impl Listed for Bytes {
+    ghost use Rattle.mon_wire.specs.Message.Fields.{blob};
+
+    ghost format = { blob };
+
+    fn read(alloc: Global, cursor: &mut Cursor<'_>) -> Result<Bytes, MsgRefused> {
+        read_blob(alloc, cursor)
+    }
+}
+
+fn read_items<T: Listed>(
     alloc: Global,
     count: u16,
     cursor: &mut Cursor<'_>,
-) -> Result<Items<Transaction>, MsgRefused>
-    ensures { Reads (λ x. x) result cursor.new (items value_at count cursor.old) }
+) -> Result<Items<T>, MsgRefused>
+    ensures { Reads (λ x. x) result cursor.new (items T.format.read count cursor.old) }
 {
-    let mut values = Items::new(alloc);
+    let mut read = Items::new(alloc);
     for _ in 0..count {
-        let value = read_value(alloc, cursor)?;
-        values.push(value)?;
+        let item = T::read(alloc, cursor)?;
+        read.push(item)?;
     }
-    Ok(values)
+    Ok(read)
 }
 
-fn so_many_entries(
-    alloc: Global,
-    count: u16,
-    cursor: &mut Cursor<'_>,
-) -> Result<Items<Entry>, MsgRefused>
-    ensures { Reads (λ x. x) result cursor.new (items entry.read count cursor.old) }
-{
-    let mut entries = Items::new(alloc);
-    for _ in 0..count {
-        let entry = read_entry(alloc, cursor)?;
-        entries.push(entry)?;
-    }
-    Ok(entries)
-}
-
-fn so_many_blobs(
-    alloc: Global,
-    count: u16,
-    cursor: &mut Cursor<'_>,
-) -> Result<Items<Bytes>, MsgRefused>
-    ensures { Reads (λ x. x) result cursor.new (items blob_at count cursor.old) }
-{
-    let mut blobs = Items::new(alloc);
-    for _ in 0..count {
-        let blob = read_blob(alloc, cursor)?;
-        blobs.push(blob)?;
-    }
-    Ok(blobs)
-}
-
-/// Transactions with their count.
-pub(crate) fn read_values(
+/// Items with their count.
+pub(crate) fn read_list<T: Listed>(
     alloc: Global,
     cursor: &mut Cursor<'_>,
-) -> Result<Items<Transaction>, MsgRefused>
-    ensures { Reads (λ x. x) result cursor.new ((list value).read cursor.old) }
+) -> Result<Items<T>, MsgRefused>
+    ensures { Reads (λ x. x) result cursor.new ((list T.format).read cursor.old) }
 {
     let count = cursor.take_u16()?;
-    so_many_values(alloc, count, cursor)
+    read_items(alloc, count, cursor)
 }
 
-/// At least one transaction, with their count.
-pub(crate) fn read_some_values(
+/// At least one item, with their count.
+pub(crate) fn read_some<T: Listed>(
     alloc: Global,
     cursor: &mut Cursor<'_>,
-) -> Result<Items<Transaction>, MsgRefused>
-    ensures { Reads (λ x. x) result cursor.new ((some value).read cursor.old) }
+) -> Result<Items<T>, MsgRefused>
+    ensures { Reads (λ x. x) result cursor.new ((some T.format).read cursor.old) }
 {
     let at = cursor.at();
     let count = cursor.take_u16()?;
@@ -83,27 +93,5 @@ pub(crate) fn read_some_values(
             kind: MsgKind::Value,
         });
     }
-    so_many_values(alloc, count, cursor)
-}
-
-/// Entries with their count.
-pub(crate) fn read_entries(
-    alloc: Global,
-    cursor: &mut Cursor<'_>,
-) -> Result<Items<Entry>, MsgRefused>
-    ensures { Reads (λ x. x) result cursor.new ((list entry).read cursor.old) }
-{
-    let count = cursor.take_u16()?;
-    so_many_entries(alloc, count, cursor)
-}
-
-/// Incrementals with their count.
-pub(crate) fn read_incrementals(
-    alloc: Global,
-    cursor: &mut Cursor<'_>,
-) -> Result<Items<Bytes>, MsgRefused>
-    ensures { Reads (λ x. x) result cursor.new ((list blob).read cursor.old) }
-{
-    let count = cursor.take_u16()?;
-    so_many_blobs(alloc, count, cursor)
+    read_items(alloc, count, cursor)
 }
