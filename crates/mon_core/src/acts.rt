@@ -4,139 +4,102 @@ ghost use Rattle.std.specs.Prelude.{if◌then◌else◌};
 ghost use Rattle.mon_msg.specs.declared.plan.Next.TheVariants as next;
 ghost use Rattle.mon_core.specs.Acts.{Acts, IsLast, MayAct};
 
+use crate::here::Here;
 use mon_event::Event;
-use mon_kv::Kv;
-use mon_msg::{Me, Next, Origin, Phase, RoleStop};
+use mon_msg::{Next, Origin, Phase, RoleStop};
 use mon_tx::Transaction;
-use mon_types::{Moment, Rank, RankSet};
-use std::alloc::Global;
+use mon_types::{Rank, RankSet};
 
 /// A monitor alone in its quorum map may have won as it began again, and leads.
-fn lead_alone(
-    alloc: Global,
-    kv: &Kv,
-    me: &Me,
-    event: &mut Event,
-    next: Next,
-    now: Moment,
-) -> Result<(), RoleStop>
+fn lead_alone(here: &Here<'_>, event: &mut Event, next: Next) -> Result<(), RoleStop>
     requires last { IsLast next }
-    requires may { MayAct me.now kv.now event.old next }
-    ensures { Acts me.now kv.now now event.old next event.new result }
+    requires may { MayAct here.now.me.now here.now.kv.now event.old next }
+    ensures { Acts here.now.me.now here.now.kv.now here.now.time event.old next event.new result }
 {
     match next {
-        Next::Win { quorum } => reign(alloc, kv, me, event, quorum, now),
+        Next::Win { quorum } => reign(here, event, quorum),
         _ => Ok(()),
     }
 }
 
 /// The monitor begins again, and probes.
-pub(crate) fn bootstrap(
-    alloc: Global,
-    kv: &Kv,
-    me: &Me,
-    event: &mut Event,
-    now: Moment,
-) -> Result<(), RoleStop>
-    requires { MayAct me.now kv.now event.old next.Bootstrap }
-    ensures { Acts me.now kv.now now event.old next.Bootstrap event.new result }
+pub(crate) fn bootstrap(here: &Here<'_>, event: &mut Event) -> Result<(), RoleStop>
+    requires { MayAct here.now.me.now here.now.kv.now event.old next.Bootstrap }
+    ensures { Acts here.now.me.now here.now.kv.now here.now.time event.old next.Bootstrap event.new result }
 {
-    let epoch = event.epoch(alloc, kv)?;
-    let plan = mon_probe::enter(alloc, kv, me, epoch, now)?;
-    event.start_over(alloc, Phase::Probing);
-    let next = event.carry_out(alloc, plan)?;
-    lead_alone(alloc, kv, me, event, next, now)
+    let epoch = event.epoch(here.alloc, here.kv)?;
+    let plan = mon_probe::enter(here.alloc, here.kv, here.me, epoch, here.time)?;
+    event.start_over(here.alloc, Phase::Probing);
+    let next = event.carry_out(here.alloc, plan)?;
+    lead_alone(here, event, next)
 }
 
 /// The monitor calls an election, and takes part in it.
-fn elect(alloc: Global, kv: &Kv, me: &Me, event: &mut Event, now: Moment) -> Result<(), RoleStop>
-    ensures { Acts me.now kv.now now event.old next.Elect event.new result }
+fn elect(here: &Here<'_>, event: &mut Event) -> Result<(), RoleStop>
+    ensures { Acts here.now.me.now here.now.kv.now here.now.time event.old next.Elect event.new result }
 {
-    let epoch = event.epoch(alloc, kv)?;
-    let plan = mon_elector::enter(alloc, me, epoch, &event.state.elector, now)?;
-    event.start_over(alloc, Phase::Electing);
-    event.carry_out(alloc, plan)?;
+    let epoch = event.epoch(here.alloc, here.kv)?;
+    let plan = mon_elector::enter(here.alloc, here.me, epoch, &event.state.elector, here.time)?;
+    event.start_over(here.alloc, Phase::Electing);
+    event.carry_out(here.alloc, plan)?;
     Ok(())
 }
 
 /// The monitor leads this quorum.
-fn reign(
-    alloc: Global,
-    kv: &Kv,
-    me: &Me,
-    event: &mut Event,
-    quorum: RankSet,
-    now: Moment,
-) -> Result<(), RoleStop>
-    requires { MayAct me.now kv.now event.old (next.Win quorum) }
-    ensures { Acts me.now kv.now now event.old (next.Win quorum) event.new result }
+fn reign(here: &Here<'_>, event: &mut Event, quorum: RankSet) -> Result<(), RoleStop>
+    requires { MayAct here.now.me.now here.now.kv.now event.old (next.Win quorum) }
+    ensures { Acts here.now.me.now here.now.kv.now here.now.time event.old (next.Win quorum) event.new result }
 {
-    let epoch = event.epoch(alloc, kv)?;
-    let plan = paxos_leader::enter(alloc, kv, me, epoch, quorum, now)?;
+    let epoch = event.epoch(here.alloc, here.kv)?;
+    let plan = paxos_leader::enter(here.alloc, here.kv, here.me, epoch, quorum, here.time)?;
     event.enter_phase(Phase::Collecting);
-    event.carry_out(alloc, plan)?;
+    event.carry_out(here.alloc, plan)?;
     Ok(())
 }
 
 /// The monitor takes another's store: a whole copy, or the versions that its own lacks.
-fn synchronize(
-    alloc: Global,
-    kv: &Kv,
-    me: &Me,
-    event: &mut Event,
-    from: Rank,
-    full: bool,
-    now: Moment,
-) -> Result<(), RoleStop>
-    requires { MayAct me.now kv.now event.old (if full then next.FullSync from else next.RecentSync from) }
-    ensures { Acts me.now kv.now now event.old (if full then next.FullSync from
+fn synchronize(here: &Here<'_>, event: &mut Event, from: Rank, full: bool) -> Result<(), RoleStop>
+    requires { MayAct here.now.me.now here.now.kv.now event.old (if full then next.FullSync from else next.RecentSync from) }
+    ensures { Acts here.now.me.now here.now.kv.now here.now.time event.old (if full then next.FullSync from
         else next.RecentSync from) event.new result }
 {
-    let epoch = event.epoch(alloc, kv)?;
-    let plan = sync_requester::enter(alloc, kv, me, epoch, from, full, now)?;
+    let epoch = event.epoch(here.alloc, here.kv)?;
+    let plan = sync_requester::enter(here.alloc, here.kv, here.me, epoch, from, full, here.time)?;
     event.enter_phase(Phase::Synchronizing);
-    event.carry_out(alloc, plan)?;
+    event.carry_out(here.alloc, plan)?;
     Ok(())
 }
 
 /// The value of a command is begun.
 fn begin(
-    alloc: Global,
-    kv: &Kv,
-    me: &Me,
+    here: &Here<'_>,
     event: &mut Event,
     value: Transaction,
     origin: Origin,
-    now: Moment,
 ) -> Result<(), RoleStop>
-    requires { MayAct me.now kv.now event.old (next.Begin value origin) }
-    ensures { Acts me.now kv.now now event.old (next.Begin value origin) event.new result }
+    requires { MayAct here.now.me.now here.now.kv.now event.old (next.Begin value origin) }
+    ensures { Acts here.now.me.now here.now.kv.now here.now.time event.old (next.Begin value origin) event.new result }
 {
     let leader = event.state.take_leader();
-    let plan = paxos_leader::begin_owned(alloc, kv, me, leader, value, origin, now)?;
-    event.carry_out(alloc, plan)?;
+    let plan = paxos_leader::begin_owned(
+        here.alloc, here.kv, here.me, leader, value, origin, here.time,
+    )?;
+    event.carry_out(here.alloc, plan)?;
     Ok(())
 }
 
 /// The act that a plan names, in the same event.
-pub(crate) fn act(
-    alloc: Global,
-    kv: &Kv,
-    me: &Me,
-    event: &mut Event,
-    next: Next,
-    now: Moment,
-) -> Result<(), RoleStop>
-    requires { MayAct me.now kv.now event.old next }
-    ensures { Acts me.now kv.now now event.old next event.new result }
+pub(crate) fn act(here: &Here<'_>, event: &mut Event, next: Next) -> Result<(), RoleStop>
+    requires { MayAct here.now.me.now here.now.kv.now event.old next }
+    ensures { Acts here.now.me.now here.now.kv.now here.now.time event.old next event.new result }
 {
     match next {
         Next::Stay | Next::Electing | Next::Follow { .. } => Ok(()),
-        Next::Bootstrap => bootstrap(alloc, kv, me, event, now),
-        Next::Elect => elect(alloc, kv, me, event, now),
-        Next::Win { quorum } => reign(alloc, kv, me, event, quorum, now),
-        Next::FullSync { from } => synchronize(alloc, kv, me, event, from, true, now),
-        Next::RecentSync { from } => synchronize(alloc, kv, me, event, from, false, now),
-        Next::Begin { value, origin } => begin(alloc, kv, me, event, value, origin, now),
+        Next::Bootstrap => bootstrap(here, event),
+        Next::Elect => elect(here, event),
+        Next::Win { quorum } => reign(here, event, quorum),
+        Next::FullSync { from } => synchronize(here, event, from, true),
+        Next::RecentSync { from } => synchronize(here, event, from, false),
+        Next::Begin { value, origin } => begin(here, event, value, origin),
     }
 }

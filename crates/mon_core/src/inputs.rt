@@ -15,11 +15,11 @@ ghost use Rattle.mon_core.specs.Known.{asks_any_map};
 ghost use Rattle.mon_core.specs.Rows.{AnswersInput, IsReady, ReachesFrom, first_changes, started};
 
 use crate::acts::bootstrap;
+use crate::here::Here;
 use crate::roles::answer;
 use election_rules::Scores;
 use mon_bytes::OutOfMemory;
 use mon_event::{Event, Role, hearer, is_heard, scores_count, woken_by};
-use mon_kv::Kv;
 use mon_msg::input::Input;
 use mon_msg::{Elector, Me, Message, Phase, Reply, RoleStop, Timer};
 use mon_plan::{Stored, armed, put_boot, put_epoch};
@@ -95,33 +95,26 @@ fn count_start(
 }
 
 /// The monitor starts, counts that, and bootstraps.
-fn start(alloc: Global, kv: &Kv, me: &Me, event: &mut Event, now: Moment) -> Result<(), RoleStop>
-    requires { IsReady me.now event.old }
-    ensures { ReachesFrom kv.now event.old (start me.now now) event.new result }
+fn start(here: &Here<'_>, event: &mut Event) -> Result<(), RoleStop>
+    requires { IsReady here.now.me.now event.old }
+    ensures { ReachesFrom here.now.kv.now event.old (start here.now.me.now here.now.time) event.new result }
 {
-    let stored = Stored::of(alloc, kv);
+    let stored = Stored::of(here.alloc, here.kv);
     let boot = stored.boot() + 1;
     if boot > GREATEST {
         return Err(RoleStop::Spent { which: Which::Boot });
     }
-    count_start(alloc, &stored, me, event, boot, now)?;
-    bootstrap(alloc, kv, me, event, now)
+    count_start(here.alloc, &stored, here.me, event, boot, here.time)?;
+    bootstrap(here, event)
 }
 
 /// What comes before the start is dropped, and clients are told that the monitor is unavailable.
-fn before_start(
-    alloc: Global,
-    kv: &Kv,
-    me: &Me,
-    event: &mut Event,
-    input: &Input,
-    now: Moment,
-) -> Result<(), RoleStop>
-    requires { IsReady me.now event.old }
-    ensures { ReachesFrom kv.now event.old (before_start me.now now input.now) event.new result }
+fn before_start(here: &Here<'_>, event: &mut Event, input: &Input) -> Result<(), RoleStop>
+    requires { IsReady here.now.me.now event.old }
+    ensures { ReachesFrom here.now.kv.now event.old (before_start here.now.me.now here.now.time input.now) event.new result }
 {
     match input {
-        Input::Start => start(alloc, kv, me, event, now),
+        Input::Start => start(here, event),
         Input::Deliver(_) | Input::Timer(_) => Ok(()),
         Input::Client(session, _) => {
             event.reply(*session, Reply::Unavailable)?;
@@ -134,48 +127,37 @@ fn before_start(
 
 /// A message, which is dropped if it isn't of another monitor of the same quorum map.
 fn deliver(
-    alloc: Global,
-    kv: &Kv,
-    me: &Me,
+    here: &Here<'_>,
     event: &mut Event,
     message: &Message,
     input: &Input,
-    now: Moment,
 ) -> Result<(), RoleStop>
     requires is { input.now ≡ Input.Deliver message.now }
     requires comes { MayCome input.now }
-    requires ready { IsReady me.now event.old }
-    ensures { ReachesFrom kv.now event.old (running me.now (shared_entries kv.now) now input.now) event.new result }
+    requires ready { IsReady here.now.me.now event.old }
+    ensures { ReachesFrom here.now.kv.now event.old (running here.now.me.now (shared_entries here.now.kv.now) here.now.time input.now) event.new result }
 {
-    let heard = is_heard(me, message);
+    let heard = is_heard(here.me, message);
     if !heard {
         return Ok(());
     }
     match hearer(&message.body) {
-        Some(role) => answer(alloc, kv, me, event, role, input, now),
+        Some(role) => answer(here, event, role, input),
         None => Ok(()),
     }
 }
 
 /// A timer, which is dropped if it isn't set, and disarmed if it is.
-fn ring(
-    alloc: Global,
-    kv: &Kv,
-    me: &Me,
-    event: &mut Event,
-    kind: Timer,
-    input: &Input,
-    now: Moment,
-) -> Result<(), RoleStop>
+fn ring(here: &Here<'_>, event: &mut Event, kind: Timer, input: &Input) -> Result<(), RoleStop>
     requires is { input.now ≡ Input.Timer kind }
-    requires ready { IsReady me.now event.old }
-    ensures { ReachesFrom kv.now event.old (running me.now (shared_entries kv.now) now input.now) event.new result }
+    requires ready { IsReady here.now.me.now event.old }
+    ensures { ReachesFrom here.now.kv.now event.old (running here.now.me.now (shared_entries here.now.kv.now) here.now.time input.now) event.new result }
 {
     if !event.state.timers.is_armed(kind) {
         return Ok(());
     }
     event.state.timers.disarm(kind);
-    answer(alloc, kv, me, event, woken_by(kind), input, now)
+    answer(here, event, woken_by(kind), input)
 }
 
 fn is_booting(phase: Phase) -> bool
@@ -185,26 +167,19 @@ fn is_booting(phase: Phase) -> bool
 }
 
 /// The protocol's row of an input that asks for no map.
-pub(crate) fn run(
-    alloc: Global,
-    kv: &Kv,
-    me: &Me,
-    event: &mut Event,
-    input: &Input,
-    now: Moment,
-) -> Result<(), RoleStop>
+pub(crate) fn run(here: &Here<'_>, event: &mut Event, input: &Input) -> Result<(), RoleStop>
     requires asks { asks_any_map input.now ≡ false }
     requires comes { MayCome input.now }
-    requires ready { IsReady me.now event.old }
-    ensures { AnswersInput me.now kv.now now event.old input.now event.new result }
+    requires ready { IsReady here.now.me.now event.old }
+    ensures { AnswersInput here.now.me.now here.now.kv.now here.now.time event.old input.now event.new result }
 {
     if is_booting(event.state.phase) {
-        return before_start(alloc, kv, me, event, input, now);
+        return before_start(here, event, input);
     }
     match input {
         Input::Start => Ok(()),
-        Input::Deliver(message) => deliver(alloc, kv, me, event, message, input, now),
-        Input::Timer(kind) => ring(alloc, kv, me, event, *kind, input, now),
-        Input::Client(..) => answer(alloc, kv, me, event, Role::Clients, input, now),
+        Input::Deliver(message) => deliver(here, event, message, input),
+        Input::Timer(kind) => ring(here, event, *kind, input),
+        Input::Client(..) => answer(here, event, Role::Clients, input),
     }
 }

@@ -2,6 +2,7 @@
 #![tactic(auto)]
 
 mod acts;
+mod here;
 mod inputs;
 mod joining;
 mod monitor;

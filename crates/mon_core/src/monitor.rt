@@ -14,6 +14,7 @@ ghost use Rattle.mon_core.specs.Rows.{AnswersInput, IsReady};
 ghost use Rattle.mon_event.specs.State.{state_of};
 
 use crate::CoreStop;
+use crate::here::Here;
 use crate::inputs::run;
 use crate::joining::joined;
 use crate::names::see_named;
@@ -60,58 +61,50 @@ impl Model for Core {
 
 /// What the core does at an input, before its transaction is joined.
 fn played(
-    alloc: Global,
-    kv: &Kv,
-    me: &Me,
+    here: &Here<'_>,
     cache: &mut Cache,
     event: &mut Event,
     input: &Input,
-    now: Moment,
 ) -> Result<(), CoreStop>
-    requires follows { Follows cache.old (readings_of kv.now) }
+    requires follows { Follows cache.old (readings_of here.now.kv.now) }
     requires comes { MayCome input.now }
-    requires ready { IsReady me.now event.old }
-    ensures comes { AnswersInput me.now kv.now now event.old input.now event.new result }
+    requires ready { IsReady here.now.me.now event.old }
+    ensures comes { AnswersInput here.now.me.now here.now.kv.now here.now.time event.old input.now event.new result }
     ensures known { OnOk result ((s : services.Service) → known cache.new s
-        ≡ known_by_then me.now now (readings_of kv.now) (state_of event.old.state) input.now s (known cache.old s)) }
-    ensures follows { OnOk result (Follows cache.new (readings_of kv.now)) }
+        ≡ known_by_then here.now.me.now here.now.time (readings_of here.now.kv.now) (state_of event.old.state) input.now s (known cache.old s)) }
+    ensures follows { OnOk result (Follows cache.new (readings_of here.now.kv.now)) }
 {
     match input {
         Input::Client(session, request) => match request {
-            Request::Show { service } => Ok(show(
-                alloc, kv, me, cache, event, *session, *service, now,
-            )?),
+            Request::Show { service } => Ok(show(here, cache, event, *session, *service)?),
             Request::Set { .. }
             | Request::Remove { .. }
             | Request::Log { .. }
-            | Request::Since { .. } => run(alloc, kv, me, event, input, now),
+            | Request::Since { .. } => run(here, event, input),
         },
-        Input::Start | Input::Deliver(_) | Input::Timer(_) => run(alloc, kv, me, event, input, now),
+        Input::Start | Input::Deliver(_) | Input::Timer(_) => run(here, event, input),
     }
 }
 
 /// The reaction to an input in an event that has just begun. Another may begin from what it leaves.
 fn react_to(
-    alloc: Global,
-    kv: &Kv,
-    me: &Me,
+    here: &Here<'_>,
     cache: &mut Cache,
     event: &mut Event,
     input: &Input,
-    now: Moment,
 ) -> Result<Reaction, CoreStop>
-    requires follows { Follows cache.old (readings_of kv.now) }
+    requires follows { Follows cache.old (readings_of here.now.kv.now) }
     requires comes { MayCome input.now }
-    requires ready { IsReady me.now event.old }
-    ensures reacts { Reacts (record { me = me.now; state = state_of event.old.state; cache = cache.old })
-        (record { me = me.now; state = state_of event.new.state; cache = cache.new }) kv.now now input.now result }
-    ensures ready { OnOk result (IsReady me.now event.new) }
+    requires ready { IsReady here.now.me.now event.old }
+    ensures reacts { Reacts (record { me = here.now.me.now; state = state_of event.old.state; cache = cache.old })
+        (record { me = here.now.me.now; state = state_of event.new.state; cache = cache.new }) here.now.kv.now here.now.time input.now result }
+    ensures ready { OnOk result (IsReady here.now.me.now event.new) }
 {
-    played(alloc, kv, me, cache, event, input, now)?;
-    let written = mem::replace(&mut event.tx, Transaction::new(alloc));
-    let out = mem::replace(&mut event.out, Items::new(alloc));
-    let tx = joined(alloc, written)?;
-    cache.follow(alloc, &tx)?;
+    played(here, cache, event, input)?;
+    let written = mem::replace(&mut event.tx, Transaction::new(here.alloc));
+    let out = mem::replace(&mut event.out, Items::new(here.alloc));
+    let tx = joined(here.alloc, written)?;
+    cache.follow(here.alloc, &tx)?;
     see_named(out.as_slice());
     Ok(Reaction { tx, out })
 }
@@ -178,15 +171,13 @@ impl Core {
         requires comes { MayCome input.now }
         ensures { Reacts self.old self.new kv.now now input.now result }
     {
-        let done = react_to(
+        let here = Here {
             alloc,
             kv,
-            &self.me,
-            &mut self.cache,
-            &mut self.event,
-            input,
-            now,
-        );
+            me: &self.me,
+            time: now,
+        };
+        let done = react_to(&here, &mut self.cache, &mut self.event, input);
         if done.is_err() {
             forget(alloc, &self.me, &mut self.event);
         }

@@ -17,14 +17,10 @@ ghost use Rattle.mon_core.specs.Acts.{LeadsOn, Regains};
 ghost use Rattle.mon_core.specs.Rows.{AnswersRow, IsFor, IsReady};
 
 use crate::acts::act;
+use crate::here::Here;
 use mon_event::{Event, Role, RoleState, State, view};
-use mon_kv::Kv;
 use mon_msg::input::Input;
-use mon_msg::{
-    Clients, Elector, Leader, Me, Peon, Plan, Prober, Provider, Requester, RoleStop, View,
-};
-use mon_types::Moment;
-use std::alloc::Global;
+use mon_msg::{Clients, Elector, Leader, Peon, Plan, Prober, Provider, Requester, RoleStop, View};
 
 /// A role that plans what an input of its own does, from what it remembers.
 trait Planner: RoleState {
@@ -36,19 +32,16 @@ trait Planner: RoleState {
 
     /// The plan of the role's row at an input. What the role remembers may move into the plan.
     fn step(
-        alloc: Global,
-        kv: &Kv,
-        me: &Me,
+        here: &Here<'_>,
         view: &View,
         state: &mut State,
         input: &Input,
-        now: Moment,
     ) -> Result<Plan<Self>, RoleStop>
-        requires input { IsFor me.now role input.now }
-        requires remembers { MayRemember me.now (state_of state.old) }
-        ensures plans { PlansRow me.now now (remembering Self.put)
-            (IsMet me.now now (readings_of kv.now) view.now part_of (part_of (state_of state.old)))
-            (row me.now (shared_entries kv.now) now input.now) result }
+        requires input { IsFor here.now.me.now role input.now }
+        requires remembers { MayRemember here.now.me.now (state_of state.old) }
+        ensures plans { PlansRow here.now.me.now here.now.time (remembering Self.put)
+            (IsMet here.now.me.now here.now.time (readings_of here.now.kv.now) view.now part_of (part_of (state_of state.old)))
+            (row here.now.me.now (shared_entries here.now.kv.now) here.now.time input.now) result }
         ensures leaves { IfOk result (λ p. Leaves view.now.phase p.next p.tx) }
         ensures regains { Regains Self.put (state_of state.old) (state_of state.new) };
 
@@ -64,15 +57,20 @@ impl Planner for Prober {
     ghost leads_on = { λ prober s active stage. stage };
 
     fn step(
-        alloc: Global,
-        kv: &Kv,
-        me: &Me,
+        here: &Here<'_>,
         view: &View,
         state: &mut State,
         input: &Input,
-        now: Moment,
     ) -> Result<Plan<Prober>, RoleStop> {
-        mon_probe::step(alloc, kv, me, view, &state.prober, input, now)
+        mon_probe::step(
+            here.alloc,
+            here.kv,
+            here.me,
+            view,
+            &state.prober,
+            input,
+            here.time,
+        )
     }
 }
 
@@ -84,15 +82,20 @@ impl Planner for Elector {
     ghost leads_on = { λ elector s active stage. stage };
 
     fn step(
-        alloc: Global,
-        kv: &Kv,
-        me: &Me,
+        here: &Here<'_>,
         view: &View,
         state: &mut State,
         input: &Input,
-        now: Moment,
     ) -> Result<Plan<Elector>, RoleStop> {
-        mon_elector::step(alloc, kv, me, view, &state.elector, input, now)
+        mon_elector::step(
+            here.alloc,
+            here.kv,
+            here.me,
+            view,
+            &state.elector,
+            input,
+            here.time,
+        )
     }
 }
 
@@ -104,16 +107,13 @@ impl Planner for Leader {
     ghost leads_on = { λ l s active stage. ap (phase_as l.stage) active };
 
     fn step(
-        alloc: Global,
-        kv: &Kv,
-        me: &Me,
+        here: &Here<'_>,
         view: &View,
         state: &mut State,
         input: &Input,
-        now: Moment,
     ) -> Result<Plan<Leader>, RoleStop> {
         let leader = state.take_leader();
-        paxos_leader::step_owned(alloc, kv, me, view, leader, input, now)
+        paxos_leader::step_owned(here.alloc, here.kv, here.me, view, leader, input, here.time)
     }
 }
 
@@ -125,15 +125,20 @@ impl Planner for Peon {
     ghost leads_on = { λ peon s active stage. stage };
 
     fn step(
-        alloc: Global,
-        kv: &Kv,
-        me: &Me,
+        here: &Here<'_>,
         view: &View,
         state: &mut State,
         input: &Input,
-        now: Moment,
     ) -> Result<Plan<Peon>, RoleStop> {
-        paxos_peon::step(alloc, kv, me, view, &state.peon, input, now)
+        paxos_peon::step(
+            here.alloc,
+            here.kv,
+            here.me,
+            view,
+            &state.peon,
+            input,
+            here.time,
+        )
     }
 }
 
@@ -145,16 +150,15 @@ impl Planner for Clients {
     ghost leads_on = { λ clients s active stage. stage };
 
     fn step(
-        alloc: Global,
-        kv: &Kv,
-        me: &Me,
+        here: &Here<'_>,
         view: &View,
         state: &mut State,
         input: &Input,
-        now: Moment,
     ) -> Result<Plan<Clients>, RoleStop> {
-        let clients = state.take_clients(alloc);
-        mon_client::step_owned(alloc, kv, me, view, clients, input, now)
+        let clients = state.take_clients(here.alloc);
+        mon_client::step_owned(
+            here.alloc, here.kv, here.me, view, clients, input, here.time,
+        )
     }
 }
 
@@ -166,15 +170,20 @@ impl Planner for Provider {
     ghost leads_on = { λ provider s active stage. stage };
 
     fn step(
-        alloc: Global,
-        kv: &Kv,
-        me: &Me,
+        here: &Here<'_>,
         view: &View,
         state: &mut State,
         input: &Input,
-        now: Moment,
     ) -> Result<Plan<Provider>, RoleStop> {
-        sync_provider::step(alloc, kv, me, view, &state.provider, input, now)
+        sync_provider::step(
+            here.alloc,
+            here.kv,
+            here.me,
+            view,
+            &state.provider,
+            input,
+            here.time,
+        )
     }
 }
 
@@ -186,59 +195,54 @@ impl Planner for Requester {
     ghost leads_on = { λ requester s active stage. stage };
 
     fn step(
-        alloc: Global,
-        kv: &Kv,
-        me: &Me,
+        here: &Here<'_>,
         view: &View,
         state: &mut State,
         input: &Input,
-        now: Moment,
     ) -> Result<Plan<Requester>, RoleStop> {
-        sync_requester::step(alloc, kv, me, view, &state.requester, input, now)
+        sync_requester::step(
+            here.alloc,
+            here.kv,
+            here.me,
+            view,
+            &state.requester,
+            input,
+            here.time,
+        )
     }
 }
 
 /// The row of an input of one role.
-fn play<S: Planner>(
-    alloc: Global,
-    kv: &Kv,
-    me: &Me,
-    event: &mut Event,
-    input: &Input,
-    now: Moment,
-) -> Result<(), RoleStop>
-    requires input { IsFor me.now S.role input.now }
-    requires ready { IsReady me.now event.old }
-    ensures { AnswersRow me.now kv.now now event.old input.now event.new result }
+fn play<S: Planner>(here: &Here<'_>, event: &mut Event, input: &Input) -> Result<(), RoleStop>
+    requires input { IsFor here.now.me.now S.role input.now }
+    requires ready { IsReady here.now.me.now event.old }
+    ensures { AnswersRow here.now.me.now here.now.kv.now here.now.time event.old input.now event.new result }
 {
-    let view = view(alloc, kv, me, &event.state, now);
-    let plan = S::step(alloc, kv, me, &view, &mut event.state, input, now)?;
-    let next = event.carry_out(alloc, plan)?;
-    act(alloc, kv, me, event, next, now)
+    let view = view(here.alloc, here.kv, here.me, &event.state, here.time);
+    let plan = S::step(here, &view, &mut event.state, input)?;
+    let next = event.carry_out(here.alloc, plan)?;
+    act(here, event, next)
 }
 
 /// The row of an input that is one of a role's: of a message that is heard, of a timer that is disarmed, or of a
 /// request.
 pub(crate) fn answer(
-    alloc: Global,
-    kv: &Kv,
-    me: &Me,
+    here: &Here<'_>,
     event: &mut Event,
     role: Role,
     input: &Input,
-    now: Moment,
 ) -> Result<(), RoleStop>
-    requires input { IsFor me.now role input.now }
-    requires ready { IsReady me.now event.old }
-    ensures { AnswersRow me.now kv.now now event.old input.now event.new result }
+    requires input { IsFor here.now.me.now role input.now }
+    requires ready { IsReady here.now.me.now event.old }
+    ensures { AnswersRow here.now.me.now here.now.kv.now here.now.time event.old input.now event.new result }
 {
     match role {
-        Role::Prober => play::<Prober>(alloc, kv, me, event, input, now),
-        Role::Elector => play::<Elector>(alloc, kv, me, event, input, now),
-        Role::Leader => play::<Leader>(alloc, kv, me, event, input, now),
-        Role::Peon => play::<Peon>(alloc, kv, me, event, input, now),
-        Role::Clients => play::<Clients>(alloc, kv, me, event, input, now),
-        Role::Provider => play::<Provider>(alloc, kv, me, event, input, now),
-        Role::Requester => play::<Requester>(alloc, kv, me, event, input, now),
+        Role::Prober => play::<Prober>(here, event, input),
+        Role::Elector => play::<Elector>(here, event, input),
+        Role::Leader => play::<Leader>(here, event, input),
+        Role::Peon => play::<Peon>(here, event, input),
+        Role::Clients => play::<Clients>(here, event, input),
+        Role::Provider => play::<Provider>(here, event, input),
+        Role::Requester => play::<Requester>(here, event, input),
     }
 }

@@ -12,12 +12,13 @@ ghost use Rattle.mon_core.specs.Known.{known_by_then};
 ghost use Rattle.mon_core.specs.Rows.{AnswersInput, IsReady};
 ghost use Rattle.mon_event.specs.State.{state_of};
 
+use crate::here::Here;
 use mon_bytes::OutOfMemory;
 use mon_event::{Event, is_leading, is_peon, view};
 use mon_kv::Kv;
-use mon_msg::{Me, Phase, Reply, Service, Session, View};
+use mon_msg::{Phase, Reply, Service, Session, View};
 use mon_plan::Stored;
-use mon_types::{Moment, Version};
+use mon_types::Version;
 use std::alloc::Global;
 use svc_core::{Cache, last_version};
 
@@ -79,26 +80,23 @@ fn told(
 
 /// A client asks for a service's map. No other input makes a service known.
 pub(crate) fn show(
-    alloc: Global,
-    kv: &Kv,
-    me: &Me,
+    here: &Here<'_>,
     cache: &mut Cache,
     event: &mut Event,
     session: Session,
     service: Service,
-    now: Moment,
 ) -> Result<(), OutOfMemory>
-    requires follows { Follows cache.old (readings_of kv.now) }
-    requires ready { IsReady me.now event.old }
+    requires follows { Follows cache.old (readings_of here.now.kv.now) }
+    requires ready { IsReady here.now.me.now event.old }
     ensures row { OnOk result
-        (AnswersInput me.now kv.now now event.old (input.Client session (request.Show service)) event.new (Ok tt)) }
+        (AnswersInput here.now.me.now here.now.kv.now here.now.time event.old (input.Client session (request.Show service)) event.new (Ok tt)) }
     ensures known { OnOk result ((t : services.Service) → known cache.new t
-        ≡ known_by_then me.now now (readings_of kv.now) (state_of event.old.state)
+        ≡ known_by_then here.now.me.now here.now.time (readings_of here.now.kv.now) (state_of event.old.state)
         (input.Client session (request.Show service)) t (known cache.old t)) }
-    ensures follows { OnOk result (Follows cache.new (readings_of kv.now)) }
+    ensures follows { OnOk result (Follows cache.new (readings_of here.now.kv.now)) }
 {
-    let view = view(alloc, kv, me, &event.state, now);
-    let answer = told(alloc, kv, &view, cache, service)?;
+    let view = view(here.alloc, here.kv, here.me, &event.state, here.time);
+    let answer = told(here.alloc, here.kv, &view, cache, service)?;
     event.reply(session, answer)?;
     Ok(())
 }

@@ -33,26 +33,26 @@ led m e l taken unwritten leads x u = record {
 
 pub returns-in_err-plan : goal.returns-in_err-plan
 returns-in_err-plan c =
-    let m = c.args.kv.now in
+    let m = c.args.here.now.kv.now in
     let e = c.args.event.now in
     let n = next.Begin c.args.value c.args.origin in
     let l = c.take_leader-leader.result in
     let left = record e { state = c.take_leader-leader.new.self } in
     let p = err_from_is_err_and c.from_residual.result c.from_residual.ensures.1 in
-    subst (λ (r : Result Unit RoleStop). Acts c.args.me.now m c.args.now e n left r)
+    subst (λ (r : Result Unit RoleStop). Acts c.args.here.now.me.now m c.args.here.now.time e n left r)
     (sym (p.1 ∙ ap Err p.2))
-    (act_fails c.args.me.now c.args.now m leads n e (IsLed (readings_of m) l)
+    (act_fails c.args.here.now.me.now c.args.here.now.time m leads n e (IsLed (readings_of m) l)
     (led m e l c.take_leader-leader.ensures.taken (ap (λ (ops : List Op). apply ops m) c.requires.0) c.requires.1)
     left c.in_err-plan.field-0.0 c.in_err-plan.ensures.plans)
 
 pub returns : goal.returns
 returns c =
-    let m = c.args.kv.now in
+    let m = c.args.here.now.kv.now in
     let e = c.args.event.now in
     let n = next.Begin c.args.value c.args.origin in
     let l = c.take_leader-leader.result in
     let left = record e { state = c.take_leader-leader.new.self } in
-    act_ends c.args.me.now c.args.now m leads n e (IsLed (readings_of m) l)
+    act_ends c.args.here.now.me.now c.args.here.now.time m leads n e (IsLed (readings_of m) l)
     (led m e l c.take_leader-leader.ensures.taken (ap (λ (ops : List Op). apply ops m) c.requires.0) c.requires.1)
     e (λ w x u. u) c.in_ok-plan.plan c.in_ok-plan.ensures.plans
     c.carry_out.new.self c.in_ok-carry_out.field-0

@@ -31,25 +31,25 @@ enters false from e begun h = h
 
 pub returns-in_err-plan : goal.returns-in_err-plan
 returns-in_err-plan c =
-    let m = c.args.kv.now in
+    let m = c.args.here.now.kv.now in
     let e = c.args.event.now in
     let p = err_from_is_err_and c.from_residual-in_err-plan.result c.from_residual-in_err-plan.ensures.1 in
-    subst (λ (r : Result Unit RoleStop). Acts c.args.me.now m c.args.now e (copying c.args.full c.args.from) e r) (sym (p.1 ∙ ap Err p.2))
-    (act_fails c.args.me.now c.args.now m requester_is (copying c.args.full c.args.from) e (IsEntering c.in_ok-epoch.epoch (readings_of m))
+    subst (λ (r : Result Unit RoleStop). Acts c.args.here.now.me.now m c.args.here.now.time e (copying c.args.full c.args.from) e r) (sym (p.1 ∙ ap Err p.2))
+    (act_fails c.args.here.now.me.now c.args.here.now.time m requester_is (copying c.args.full c.args.from) e (IsEntering c.in_ok-epoch.epoch (readings_of m))
     (λ x u. record {
       epoch = tells_epoch m e x u c.in_ok-epoch.epoch c.in_ok-epoch.ensures;
-      kept = kept m e x u (keeps c.args.full c.args.from c.args.me.now m e c.requires);
+      kept = kept m e x u (keeps c.args.full c.args.from c.args.here.now.me.now m e c.requires);
     })
     e c.in_err-plan.field-0.0 c.in_err-plan.ensures.plans)
 
 pub returns : goal.returns
 returns c =
-    let m = c.args.kv.now in
+    let m = c.args.here.now.kv.now in
     let e = c.args.event.now in
-    act_ends c.args.me.now c.args.now m requester_is (copying c.args.full c.args.from) e (IsEntering c.in_ok-epoch.epoch (readings_of m))
+    act_ends c.args.here.now.me.now c.args.here.now.time m requester_is (copying c.args.full c.args.from) e (IsEntering c.in_ok-epoch.epoch (readings_of m))
     (λ x u. record {
       epoch = tells_epoch m e x u c.in_ok-epoch.epoch c.in_ok-epoch.ensures;
-      kept = kept m e x u (keeps c.args.full c.args.from c.args.me.now m e c.requires);
+      kept = kept m e x u (keeps c.args.full c.args.from c.args.here.now.me.now m e c.requires);
     })
     c.enter_phase.new.self (enters c.args.full c.args.from e c.enter_phase.new.self c.enter_phase.ensures.goes)
     c.in_ok-plan.plan c.in_ok-plan.ensures.plans

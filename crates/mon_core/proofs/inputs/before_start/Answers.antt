@@ -10,11 +10,11 @@ use Rattle.mon_core.proofs.inputs.before_start.Goals as goal
 
 pub returns-in_ok-reply-in-Client : goal.returns-in_ok-reply-in-Client
 returns-in_ok-reply-in-Client c =
-    let me = c.args.me.now in
-    let m = c.args.kv.now in
+    let me = c.args.here.now.me.now in
+    let m = c.args.here.now.kv.now in
     let x = at_rest (readings_of m) (state_of c.args.event.now.state) in
     record {
       course = reply_to c.in-Client.session reply.Unavailable x;
-      wanted_is = ap (λ (came : Input). before_start me c.args.now came x) c.in-Client.is;
+      wanted_is = ap (λ (came : Input). before_start me c.args.here.now.time came x) c.in-Client.is;
       under_way = c.in_ok-reply-in-Client.ensures (readings_of m) x (rests me m c.args.event.now c.requires);
     }

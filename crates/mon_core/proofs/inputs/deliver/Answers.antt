@@ -14,16 +14,16 @@ use Rattle.mon_core.proofs.inputs.deliver.Goals as goal
 
 pub returns-then-not-heard : goal.returns-then-not-heard
 returns-then-not-heard c =
-    let me = c.args.me.now in
-    let m = c.args.kv.now in
+    let me = c.args.here.now.me.now in
+    let m = c.args.here.now.kv.now in
     let x = at_rest (readings_of m) (state_of c.args.event.now.state) in
-    drops me m c.args.event.now c.requires.ready (running me (shared_entries m) c.args.now c.args.input.now x)
-    (ap (λ (came : Input). running me (shared_entries m) c.args.now came x) c.requires.is
-    ∙ not_heard me (shared_entries m) c.args.now c.args.message.now x (sym c.is_heard-heard.ensures ∙ c.if-not-heard.true))
+    drops me m c.args.event.now c.requires.ready (running me (shared_entries m) c.args.here.now.time c.args.input.now x)
+    (ap (λ (came : Input). running me (shared_entries m) c.args.here.now.time came x) c.requires.is
+    ∙ not_heard me (shared_entries m) c.args.here.now.time c.args.message.now x (sym c.is_heard-heard.ensures ∙ c.if-not-heard.true))
 
 pub answer-requires-clause-input : goal.answer-requires-clause-input
 answer-requires-clause-input c =
-    let me = c.args.me.now in
+    let me = c.args.here.now.me.now in
     record {
       role = ap role_of c.requires.is ∙ sym c.hearer.ensures ∙ c.in-Some.is;
       comes =
@@ -33,22 +33,22 @@ answer-requires-clause-input c =
 
 pub returns-in-Some : goal.returns-in-Some
 returns-in-Some c =
-    let me = c.args.me.now in
-    let m = c.args.kv.now in
+    let me = c.args.here.now.me.now in
+    let m = c.args.here.now.kv.now in
     let x = at_rest (readings_of m) (state_of c.args.event.now.state) in
     subst (λ (r : Result Course Which). Reaches (readings_of m) r c.answer.new.event c.answer.result)
     (sym
-    (ap (λ (came : Input). running me (shared_entries m) c.args.now came x) c.requires.is
-    ∙ heard me (shared_entries m) c.args.now c.args.message.now x (sym c.is_heard-heard.ensures ∙ c.if-not-heard.false)
-    ∙ sym (ap (λ (came : Input). row me (shared_entries m) c.args.now came x) c.requires.is)))
+    (ap (λ (came : Input). running me (shared_entries m) c.args.here.now.time came x) c.requires.is
+    ∙ heard me (shared_entries m) c.args.here.now.time c.args.message.now x (sym c.is_heard-heard.ensures ∙ c.if-not-heard.false)
+    ∙ sym (ap (λ (came : Input). row me (shared_entries m) c.args.here.now.time came x) c.requires.is)))
     c.answer.ensures
 
 pub returns-in-None : goal.returns-in-None
 returns-in-None c =
-    let me = c.args.me.now in
-    let m = c.args.kv.now in
+    let me = c.args.here.now.me.now in
+    let m = c.args.here.now.kv.now in
     let x = at_rest (readings_of m) (state_of c.args.event.now.state) in
-    drops me m c.args.event.now c.requires.ready (running me (shared_entries m) c.args.now c.args.input.now x)
-    (ap (λ (came : Input). running me (shared_entries m) c.args.now came x) c.requires.is
-    ∙ nobodys me (shared_entries m) c.args.now c.args.message.now x (sym c.is_heard-heard.ensures ∙ c.if-not-heard.false)
+    drops me m c.args.event.now c.requires.ready (running me (shared_entries m) c.args.here.now.time c.args.input.now x)
+    (ap (λ (came : Input). running me (shared_entries m) c.args.here.now.time came x) c.requires.is
+    ∙ nobodys me (shared_entries m) c.args.here.now.time c.args.message.now x (sym c.is_heard-heard.ensures ∙ c.if-not-heard.false)
     (sym c.hearer.ensures ∙ c.in-None.is))

@@ -14,17 +14,17 @@ use Rattle.mon_core.proofs.inputs.ring.Goals as goal
 
 pub returns-then-not-is_armed : goal.returns-then-not-is_armed
 returns-then-not-is_armed c =
-    let me = c.args.me.now in
-    let m = c.args.kv.now in
+    let me = c.args.here.now.me.now in
+    let m = c.args.here.now.kv.now in
     let x = at_rest (readings_of m) (state_of c.args.event.now.state) in
-    drops me m c.args.event.now c.requires.ready (running me (shared_entries m) c.args.now c.args.input.now x)
-    (ap (λ (came : Input). running me (shared_entries m) c.args.now came x) c.requires.is
-    ∙ not_armed me (shared_entries m) c.args.now c.args.kind x (sym c.is_armed.ensures ∙ c.if-not-is_armed.true))
+    drops me m c.args.event.now c.requires.ready (running me (shared_entries m) c.args.here.now.time c.args.input.now x)
+    (ap (λ (came : Input). running me (shared_entries m) c.args.here.now.time came x) c.requires.is
+    ∙ not_armed me (shared_entries m) c.args.here.now.time c.args.kind x (sym c.is_armed.ensures ∙ c.if-not-is_armed.true))
 
 pub answer-requires-clause-input : goal.answer-requires-clause-input
 answer-requires-clause-input c = record {
   role = ap role_of c.requires.is ∙ ap Some (sym c.woken_by.ensures);
-  comes = subst (λ (came : Input). may_come c.args.me.now.member.monitors came ≡ true) (sym c.requires.is) refl;
+  comes = subst (λ (came : Input). may_come c.args.here.now.me.now.member.monitors came ≡ true) (sym c.requires.is) refl;
 }
 
 pub answer-requires-clause-ready : goal.answer-requires-clause-ready
@@ -45,18 +45,18 @@ answer-requires-clause-ready c =
 
 pub returns : goal.returns
 returns c =
-    let me = c.args.me.now in
-    let m = c.args.kv.now in
+    let me = c.args.here.now.me.now in
+    let m = c.args.here.now.kv.now in
     let w = readings_of m in
     let s = state_of c.args.event.now.state in
     let x = at_rest w s in
     subst (λ (r : Result Course Which). Reaches w r c.answer.new.event c.answer.result)
     (sym
-    (ap (λ (came : Input). running me (shared_entries m) c.args.now came x) c.requires.is
-    ∙ armed me (shared_entries m) c.args.now c.args.kind x (sym c.is_armed.ensures ∙ c.if-not-is_armed.false)
+    (ap (λ (came : Input). running me (shared_entries m) c.args.here.now.time came x) c.requires.is
+    ∙ armed me (shared_entries m) c.args.here.now.time c.args.kind x (sym c.is_armed.ensures ∙ c.if-not-is_armed.false)
     ∙ sym
-    (ap (λ (came : Input). row me (shared_entries m) c.args.now came (at_rest w (record s { timers = c.disarm.new.self }))) c.requires.is
+    (ap (λ (came : Input). row me (shared_entries m) c.args.here.now.time came (at_rest w (record s { timers = c.disarm.new.self }))) c.requires.is
     ∙ ap
-    (λ (timers : List (Option ℕ)). row me (shared_entries m) c.args.now (input.Timer c.args.kind) (at_rest w (record s { timers = timers })))
+    (λ (timers : List (Option ℕ)). row me (shared_entries m) c.args.here.now.time (input.Timer c.args.kind) (at_rest w (record s { timers = timers })))
     c.disarm.ensures)))
     c.answer.ensures

@@ -9,9 +9,9 @@ use Rattle.mon_core.proofs.monitor.played.Goals as goal
 pub returns-in_ok-run-in-Set-clause-known : goal.returns-in_ok-run-in-Set-clause-known
 returns-in_ok-run-in-Set-clause-known c =
     λ s.
-    let w = readings_of c.args.kv.now in
+    let w = readings_of c.args.here.now.kv.now in
     let k = known c.args.cache.now s in
     let none : asks_any_map c.args.input.now ≡ false = search rules in
     sym
-    (unasked (is_shown c.args.me.now c.args.now w (state_of c.args.event.now.state)) (asks_for s c.args.input.now) (known_once_read w s k) k
+    (unasked (is_shown c.args.here.now.me.now c.args.here.now.time w (state_of c.args.event.now.state)) (asks_for s c.args.input.now) (known_once_read w s k) k
     (asks_none c.args.input.now none s))

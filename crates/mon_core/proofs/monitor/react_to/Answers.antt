@@ -13,30 +13,30 @@ use Rattle.mon_core.proofs.monitor.react_to.Goals as goal
 
 pub returns-in_err-played-clause-reacts : goal.returns-in_err-played-clause-reacts
 returns-in_err-played-clause-reacts c =
-    let me = c.args.me.now in
-    let m = c.args.kv.now in
+    let me = c.args.here.now.me.now in
+    let m = c.args.here.now.kv.now in
     let came = c.args.input.now in
     let e = c.args.event.now in
     let done = c.played.new.event in
     let old : Monitor = record { me = me; state = state_of e.state; cache = c.args.cache.now } in
     let new : Monitor = record { me = me; state = state_of done.state; cache = c.played.new.cache } in
     let p = err_from_is_err_and c.from_residual.result c.from_residual.ensures.1 in
-    subst (Reacts old new m c.args.now came) (sym (p.1 ∙ ap Err p.2))
-    (stops me m c.args.now came e c.args.cache.now done new c.in_err-played.field-0.0 c.in_err-played.ensures.comes)
+    subst (Reacts old new m c.args.here.now.time came) (sym (p.1 ∙ ap Err p.2))
+    (stops me m c.args.here.now.time came e c.args.cache.now done new c.in_err-played.field-0.0 c.in_err-played.ensures.comes)
 
 pub returns-clause-reacts : goal.returns-clause-reacts
 returns-clause-reacts c =
-    let me = c.args.me.now in
-    let m = c.args.kv.now in
+    let me = c.args.here.now.me.now in
+    let m = c.args.here.now.kv.now in
     let came = c.args.input.now in
     let e = c.args.event.now in
     let tx = c.in_ok-tx.tx in
-    let is = reacts me m c.args.now came e c.played.new.event c.in_ok-played.ensures.comes tx
+    let is = reacts me m c.args.here.now.time came e c.played.new.event c.in_ok-played.ensures.comes tx
     (c.in_ok-tx.ensures ∙ ap joined c.replace-written.ensures.value) c.replace-out.result c.replace-out.ensures.value in
     record {
       me = refl;
       reacts = is;
-      bounded = IfOk-at_ok (IsBounded me) is (reaction_ok me c.args.now m (state_of e.state) came c.requires.ready.remembers c.requires.comes);
+      bounded = IfOk-at_ok (IsBounded me) is (reaction_ok me c.args.here.now.time m (state_of e.state) came c.requires.ready.remembers c.requires.comes);
       named = subst (AllByRecursion TellsNamed) c.as_slice.ensures c.see_named.ensures;
       known = λ s. c.in_ok-follow.ensures.known s ∙ ap (known_after s tx) (c.in_ok-played.ensures.known s);
       follows = c.in_ok-follow.ensures.follows m c.in_ok-played.ensures.follows;
@@ -44,15 +44,15 @@ returns-clause-reacts c =
 
 pub returns-clause-ready : goal.returns-clause-ready
 returns-clause-ready c =
-    let me = c.args.me.now in
-    let m = c.args.kv.now in
+    let me = c.args.here.now.me.now in
+    let m = c.args.here.now.kv.now in
     let came = c.args.input.now in
     let e = c.args.event.now in
-    let is = reacts me m c.args.now came e c.played.new.event c.in_ok-played.ensures.comes c.in_ok-tx.tx
+    let is = reacts me m c.args.here.now.time came e c.played.new.event c.in_ok-played.ensures.comes c.in_ok-tx.tx
     (c.in_ok-tx.ensures ∙ ap joined c.replace-written.ensures.value) c.replace-out.result c.replace-out.ensures.value in
     record {
       unwritten = c.replace-written.ensures.after ∙ c.new.ensures;
       unsent = c.replace-out.ensures.after ∙ c.new-2.ensures;
       remembers =
-          (IfOk-at_ok (IsBounded me) is (reaction_ok me c.args.now m (state_of e.state) came c.requires.ready.remembers c.requires.comes)).state;
+          (IfOk-at_ok (IsBounded me) is (reaction_ok me c.args.here.now.time m (state_of e.state) came c.requires.ready.remembers c.requires.comes)).state;
     }

@@ -10,8 +10,8 @@ use Rattle.mon_core.proofs.showing.show.Goals as goal
 
 pub returns-clause-row : goal.returns-clause-row
 returns-clause-row c =
-    let me = c.args.me.now in
-    let m = c.args.kv.now in
+    let me = c.args.here.now.me.now in
+    let m = c.args.here.now.kv.now in
     let w = readings_of m in
     let s = state_of c.args.event.now.state in
     let x = at_rest w s in
@@ -19,8 +19,8 @@ returns-clause-row c =
     record {
       course = reply_to session c.in_ok-answer.answer x;
       wanted_is =
-          shows me (shared_entries m) c.args.now w s session c.args.service
+          shows me (shared_entries m) c.args.here.now.time w s session c.args.service
           ∙ ap (λ (r : Reply). Ok (reply_to session r x))
-          (sym (c.in_ok-answer.ensures.reply ∙ told_seen me c.args.now w s c.view-view.result c.view-view.ensures c.args.service));
+          (sym (c.in_ok-answer.ensures.reply ∙ told_seen me c.args.here.now.time w s c.view-view.result c.view-view.ensures c.args.service));
       under_way = c.in_ok-reply.ensures w x (rests me m c.args.event.now c.requires.ready);
     }

@@ -19,10 +19,10 @@ step_owned-requires-clause-fits c = c.requires.input.comes
 
 pub returns-clause-plans : goal.returns-clause-plans
 returns-clause-plans c =
-    let me = c.args.me.now in
-    let m = c.args.kv.now in
+    let me = c.args.here.now.me.now in
+    let m = c.args.here.now.kv.now in
     subst
-    (λ (s : Clients). PlansRow me c.args.now clients_are (IsMet me c.args.now (readings_of m) c.args.view.now (λ st. st.clients) s) (row me (shared_entries m) c.args.now c.args.input.now) c.step_owned.result)
+    (λ (s : Clients). PlansRow me c.args.here.now.time clients_are (IsMet me c.args.here.now.time (readings_of m) c.args.view.now (λ st. st.clients) s) (row me (shared_entries m) c.args.here.now.time c.args.input.now) c.step_owned.result)
     c.take_clients-clients.ensures.taken (c.step_owned.ensures.plans (shared_entries m))
 
 pub returns-clause-regains : goal.returns-clause-regains

@@ -18,17 +18,17 @@ step_owned-requires-clause-input c = takes_own c.args.input.now role.Leader c.re
 pub step_owned-requires-clause-held : goal.step_owned-requires-clause-held
 step_owned-requires-clause-held c =
     subst (λ (l : Leader). may_begin_all l ≡ true) (sym c.take_leader-leader.ensures.taken)
-    (may_begin_held c.args.me.now.member.monitors c.args.state.now.leader c.requires.remembers.leader)
+    (may_begin_held c.args.here.now.me.now.member.monitors c.args.state.now.leader c.requires.remembers.leader)
 
 pub step_owned-requires-clause-fits : goal.step_owned-requires-clause-fits
 step_owned-requires-clause-fits c = c.requires.input.comes
 
 pub returns-clause-plans : goal.returns-clause-plans
 returns-clause-plans c =
-    let me = c.args.me.now in
-    let m = c.args.kv.now in
+    let me = c.args.here.now.me.now in
+    let m = c.args.here.now.kv.now in
     subst
-    (λ (l : Leader). PlansRow me c.args.now leads (IsMet me c.args.now (readings_of m) c.args.view.now (λ s. s.leader) l) (row me (shared_entries m) c.args.now c.args.input.now) c.step_owned.result)
+    (λ (l : Leader). PlansRow me c.args.here.now.time leads (IsMet me c.args.here.now.time (readings_of m) c.args.view.now (λ s. s.leader) l) (row me (shared_entries m) c.args.here.now.time c.args.input.now) c.step_owned.result)
     c.take_leader-leader.ensures.taken (c.step_owned.ensures.plans (shared_entries m))
 
 pub returns-clause-regains : goal.returns-clause-regains

@@ -12,7 +12,7 @@ pub step-requires : goal.step-requires
 step-requires c = takes_own c.args.input.now role.Prober c.requires.input.role
 
 pub returns-clause-plans : goal.returns-clause-plans
-returns-clause-plans c = c.step.ensures.plans (shared_entries c.args.kv.now)
+returns-clause-plans c = c.step.ensures.plans (shared_entries c.args.here.now.kv.now)
 
 pub returns-clause-regains : goal.returns-clause-regains
 returns-clause-regains c = none_taken (λ (prober : Prober) (s : Remembered). record s { prober = prober }) (state_of c.args.state.now) (state_of c.args.state.now) refl

@@ -15,7 +15,7 @@ pub step-requires-clause-fits : goal.step-requires-clause-fits
 step-requires-clause-fits c = c.requires.input.comes
 
 pub returns-clause-plans : goal.returns-clause-plans
-returns-clause-plans c = c.step.ensures.plans (shared_entries c.args.kv.now)
+returns-clause-plans c = c.step.ensures.plans (shared_entries c.args.here.now.kv.now)
 
 pub returns-clause-regains : goal.returns-clause-regains
 returns-clause-regains c = none_taken (λ (requester : Requester) (s : Remembered). record s { requester = requester }) (state_of c.args.state.now) (state_of c.args.state.now) refl
