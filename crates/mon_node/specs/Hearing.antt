@@ -22,6 +22,7 @@ use Rattle.mon_wire.specs.declared.refusal.MsgRefused.{MsgRefused}
 use Rattle.mon_node.specs.Nodes.{Outside}
 use Rattle.mon_node.specs.declared.end.NodeEnd.TheVariants as end
 use Rattle.mon_node.specs.declared.end.NodeEnd.{NodeEnd}
+use Rattle.mon_node.specs.declared.hearing.TheConstants.{LONGEST_WAIT}
 use Rattle.mon_node.specs.declared.hearing.TimedInput.{TimedInput}
 
 -- ---- timers
@@ -33,8 +34,8 @@ due_by now (Some next) = if nat_le next.1 now then Some next.0 else None
 
 -- how many milliseconds the link is asked to wait: up to that time, and at most a second
 abbrev pub wait_until : (now : ℕ) → Option (Timer × ℕ) → ℕ
-wait_until now None = 1000
-wait_until now (Some next) = min 1000 (next.1 - now)
+wait_until now None = LONGEST_WAIT
+wait_until now (Some next) = min LONGEST_WAIT (next.1 - now)
 
 -- ---- bytes
 

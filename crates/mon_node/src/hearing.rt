@@ -11,7 +11,7 @@ ghost use Rattle.mon_types.specs.declared.names.Stop.{Stop as stops};
 
 use crate::end::NodeEnd;
 use crate::reading::read;
-use mon_bytes::{Bytes, OutOfMemory};
+use mon_bytes::OutOfMemory;
 use mon_core::Input;
 use mon_frag::{Assembly, FragRefused};
 use mon_link::{Clock, Got, Link, Peer};
@@ -20,7 +20,7 @@ use mon_types::{Moment, Stop};
 use std::alloc::Global;
 
 /// The longest wait for what comes over the link, in milliseconds.
-const LONGEST_WAIT: u64 = 1000;
+pub(crate) const LONGEST_WAIT: u64 = 1000;
 
 /// An input, and the time at which it comes.
 #[derive(Drop)]
@@ -55,23 +55,7 @@ fn wait_until(now: Moment, next: &Option<(Timer, Moment)>) -> u64
     }
 }
 
-/// The message that this datagram completes, if it completes one.
-fn assembled(
-    assembly: &mut Assembly,
-    from: &Peer,
-    datagram: &[u8],
-) -> Result<Option<Bytes>, OutOfMemory>
-    ensures whole { IfOk result (λ whole. whole ≡ answer_in (taken assembly.old from.now datagram.now)) }
-    ensures kept { OnOk result (assembly.new ≡ kept_in assembly.old (taken assembly.old from.now datagram.now)) }
-{
-    match assembly.take(*from, datagram) {
-        Ok(whole) => Ok(whole),
-        Err(FragRefused::OutOfMemory) => Err(OutOfMemory),
-        Err(_) => Ok(None),
-    }
-}
-
-/// The input that a datagram brings, if it brings one.
+/// The input that a datagram brings, if it completes a message that encodes one.
 fn brought(
     alloc: Global,
     monitors: u8,
@@ -84,9 +68,10 @@ fn brought(
     ensures kept { OnOk result (assembly.new ≡ kept_in assembly.old (taken assembly.old from.now datagram.now)) }
     ensures comes { IfOk result (λ came. IfSome came MayCome) }
 {
-    match assembled(assembly, from, datagram)? {
-        Some(bytes) => read(alloc, monitors, from, bytes.as_slice()),
-        None => Ok(None),
+    match assembly.take(*from, datagram) {
+        Ok(Some(bytes)) => read(alloc, monitors, from, bytes.as_slice()),
+        Err(FragRefused::OutOfMemory) => Err(OutOfMemory),
+        Ok(None) | Err(_) => Ok(None),
     }
 }
 

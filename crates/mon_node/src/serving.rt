@@ -28,7 +28,8 @@ use std::alloc::Global;
 ///
 /// The disks are returned. A crash at any time of an iteration leaves the store on them as the iteration began with
 /// it, after the record of its transaction, or after the checkpoint. A disk's fault and lack of memory leave the
-/// same, and each other end leaves the store as the iterations did. What was sent is kept.
+/// same, and each other end leaves the store as the iterations did. A transaction that would make the map too large
+/// leaves the disks as they are, and nothing of its iteration is sent. What was sent is kept.
 pub fn serve<D: Disk, L: Link, C: Clock>(
     alloc: Global,
     store: Store<D>,
