@@ -8,7 +8,7 @@ ghost use Rattle.quorum_model.specs.Monitors.{classic};
 ghost use Rattle.calm_command.specs.Resting.{IsResting};
 
 /// For every number of monitors from 1 to 15 and every list of at most 100,000 commands, each asked of any monitor,
-/// the calm schedule comes to its end: no event stops the run, it is calm before the maps are shown, each command got
+/// the calm schedule is completed: no event stops the run, it is calm before the maps are shown, each command got
 /// its reply, and each monitor shows both maps. The run rests before the maps are shown, so `law_calm_command` holds
 /// of it.
 pub fn law_calm()

@@ -17,7 +17,7 @@ use mon_wire::Service;
 use std::alloc::Global;
 use stopped_stores::{StoreText, compare_reports, import_export, write_text};
 
-/// Follows a service of so many monitors over the link, and writes a line for each newer version to the sink.
+/// Follows a service of this number of monitors over the link, and writes a line for each newer version to the sink.
 pub fn run_follow<L: Link, K: Sink>(
     alloc: Global,
     service: Service,

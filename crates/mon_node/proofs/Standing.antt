@@ -160,7 +160,7 @@ module _ (old new : Disks) (P : Stood → Type 0) (m : Meanwhile old.a old.b new
     each = λ s t x y low high from to left there. m.each s t x y (let late : old.a.moment ≤ s = omega (arith, m.a.later, low) in late) high (let late : old.b.moment ≤ t = omega (arith, m.b.later, from) in late) to left there;
   }
 
-  -- a call that comes to its end in one step
+  -- a call that is completed in one step
   pub one_step : BothTell new → Pass P old new
   one_step tell = record { a = m.a; b = m.b; tell = tell; through = record { mid = moments new; written = meanwhile; renewed = at_end } }
 

@@ -86,7 +86,7 @@ IsOfInput (end.Full would_be) = Unit {0}
 IsOfInput (end.Spent spent) = Unit {0}
 IsOfInput end.OutOfMemory = Unit {0}
 
--- an iteration comes to its end, or the node ends at it
+-- an iteration is completed, or the node ends at it
 abbrev pub EndsTurn : {T : Type 0} → Me → Turn → Result T NodeEnd → Serving → Type 0
 EndsTurn me t (Ok x) now = ended_turn me t ≡ Ok now
 EndsTurn me t (Err e) now = EndsAt me t e now.outside.clock now.outside.link

@@ -24,7 +24,7 @@ use Rattle.quorum_network.specs.Lives.{IsLeftBy}
 use Rattle.quorum_network.specs.Network.{Up, Whole, Kept, at_end, down, left_by, map_of}
 use Rattle.quorum_network.proofs.Steps.{kept_kv}
 
--- ---- an iteration that comes to its end
+-- ---- an iteration that is completed
 
 pub up_is : (me : Me) (t : Turn) (now : Serving) → ended_turn me t ≡ Ok now → left_by me t Whole ≡ record { process = Up now; sends = sends_of me t }
 up_is me t now e = ap (λ (r : Result Serving NodeEnd). at_end me t r) e

@@ -59,7 +59,7 @@ pub data Doing : Type 0 where
   Begins : (stood : Stood) → (clock : Option Readings) → (link : Option Told) → (first : ℕ) → Doing
   Turns : (given : Given) → Doing
 
--- How far the start or the iteration gets. It comes to its end. Or the process ends or is killed in it: before the
+-- How far the start or the iteration gets. It is completed. Or the process ends or is killed in it: before the
 -- transaction is kept, or after that, when some of its datagrams were sent.
 pub data Until : Type 0 where
   Whole : Until

@@ -137,7 +137,7 @@ pub fn law_opening<D: Disk>(before: &NodeDisks<D>, after: &NodeDisks<D>)
 /// It never waits past a timer that is due. A timer that is due when the turn begins is its input, and the link isn't asked.
 /// Else the link is asked at most once, for at most a second, and that wait is over when the next timer is due.
 ///
-/// It sends nothing before what that rests on is kept. A turn that comes to its end leaves the store with its transaction
+/// It sends nothing before what that rests on is kept. A turn that is completed leaves the store with its transaction
 /// kept. If the node ends at a turn, nothing was sent at it, or its transaction is kept.
 ///
 /// Each datagram that a turn sends is a message of the core's reaction to its input, or a piece of one, and goes to whom

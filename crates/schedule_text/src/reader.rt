@@ -117,7 +117,7 @@ fn read(alloc: Global, bytes: &[u8]) -> Result<Schedule, ScheduleRefused>
     whole(alloc, bytes)
 }
 
-/// Parses a schedule from all of the bytes. The first faulty line is refused, with its fault; line 0 stands for more
+/// Parses a schedule from all of the bytes. The first faulty line is refused, with its fault; line 0 means more
 /// than 16,777,216 bytes, which is tested first.
 pub fn parse(alloc: Global, bytes: &[u8]) -> Result<Schedule, ScheduleRefused>
     // What is read is the schedule whose text the bytes are.

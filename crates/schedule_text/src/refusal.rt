@@ -59,7 +59,7 @@ impl From<OutOfMemory> for LineRefused {
 /// Why the bytes are no schedule.
 #[derive(Clone, Copy, Debug, PartialEq, Eq, Error)]
 pub enum ScheduleRefused {
-    /// The first faulty line, counted from 1; 0 stands for the whole text.
+    /// The first faulty line, counted from 1; 0 means the whole text.
     #[error("line {line}, {kind}")]
     At { line: u32, kind: ScheduleKind },
     #[error("out of memory")]

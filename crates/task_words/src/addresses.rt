@@ -87,7 +87,7 @@ pub(crate) fn count_of(text: &[u8]) -> Option<u8>
     }
 }
 
-/// Whether a text is so many addresses with commas between them: `addresses_of` without memory.
+/// Whether a text is this number of addresses with commas between them: `addresses_of` without memory.
 pub(crate) fn are_addresses(monitors: u8, text: &[u8]) -> bool
     ensures { result ≡ is_ok (addresses_of monitors text.now) }
 {

@@ -66,7 +66,7 @@ fn service_found(found: &ArgMatches<'_>) -> Result<Service, WordsStop>
     service_in(text).ok_or(WordsStop::Refused)
 }
 
-/// The addresses of so many monitors.
+/// The addresses of this number of monitors.
 fn addresses_in(
     alloc: Global,
     found: &ArgMatches<'_>,

@@ -25,7 +25,7 @@ pub enum Task {
         disk_b: Text,
         turns: u64,
     },
-    /// Keeps a client's copy of a service's map, for so many turns at most, 1 to 2^61. The addresses are those of all monitors, by rank, of
+    /// Keeps a client's copy of a service's map, for at most this number of turns, 1 to 2^61. The addresses are those of all monitors, by rank, of
     /// which there are 1 to 15.
     Follow {
         service: Service,
