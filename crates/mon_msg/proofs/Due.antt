@@ -2,9 +2,10 @@
 use Rattle.std.proofs.Common.{◌≡◌, ◌≢◌, ℕ, suc, ◌≤◌, ◌<◌, Bool, true, false, cond, leb, List, Option, Some, None, refl, ap, ◌∙◌, ◌⊎◌, inl, inr, arith, [], ◌∷◌, drop}
 use Rattle.std.proofs.lemmas.Bool.{leb-true, leb-false}
 use Rattle.std.specs.Prelude.{slice_index_or}
+use Rattle.mon_wire.specs.declared.phase.TheConstants.Timer.{ALL}
 use Rattle.mon_wire.specs.declared.phase.Timer.{Timer}
 use Rattle.mon_wire.specs.declared.phase.Timer.TheVariants as timer
-use Rattle.mon_msg.specs.Protocol.Timers.{index_of, end_of, kinds, sooner, soonest, due, IsDue, IsNext}
+use Rattle.mon_msg.specs.Protocol.Timers.{index_of, end_of, sooner, soonest, due, IsDue, IsNext}
 
 -- the same of the kinds from one on
 record IsDueFrom (timers : List (Option ℕ)) (k : ℕ) (next : Timer × ℕ) : Type 0 where
@@ -118,16 +119,16 @@ with_kind timers t ts h = one_more timers t (end_of t timers) (soonest ts timers
 
 from_first : (timers : List (Option ℕ)) → IsNextFrom timers 0 (due timers)
 from_first timers =
-    with_kind timers timer.Probe (drop 1 kinds) (
-    with_kind timers timer.Election (drop 2 kinds) (
-    with_kind timers timer.Collect (drop 3 kinds) (
-    with_kind timers timer.Accept (drop 4 kinds) (
-    with_kind timers timer.Renew (drop 5 kinds) (
-    with_kind timers timer.LeaseAck (drop 6 kinds) (
-    with_kind timers timer.Lease (drop 7 kinds) (
-    with_kind timers timer.Sync (drop 8 kinds) (
-    with_kind timers timer.Step (drop 9 kinds) (
-    with_kind timers timer.Propose (drop 10 kinds) (
+    with_kind timers timer.Probe (drop 1 ALL) (
+    with_kind timers timer.Election (drop 2 ALL) (
+    with_kind timers timer.Collect (drop 3 ALL) (
+    with_kind timers timer.Accept (drop 4 ALL) (
+    with_kind timers timer.Renew (drop 5 ALL) (
+    with_kind timers timer.LeaseAck (drop 6 ALL) (
+    with_kind timers timer.Lease (drop 7 ALL) (
+    with_kind timers timer.Sync (drop 8 ALL) (
+    with_kind timers timer.Step (drop 9 ALL) (
+    with_kind timers timer.Propose (drop 10 ALL) (
     with_kind timers timer.Ping [] (λ t from. let most = eleven t in absurd (omega arith))))))))))))
 
 whole : (timers : List (Option ℕ)) (next : Option (Timer × ℕ)) → IsNextFrom timers 0 next → IsNext timers next

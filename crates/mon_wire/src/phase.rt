@@ -1,3 +1,6 @@
+ghost use Rattle.std.specs.Prelude.{◌≡◌};
+ghost use Rattle.mon_wire.specs.Phases.{is_leading, is_member, is_peon, votes};
+
 /// The phase of a monitor.
 #[derive(Clone, Copy, Debug, PartialEq, Eq)]
 pub enum Phase {
@@ -21,7 +24,40 @@ pub enum Phase {
     Peon,
 }
 
-/// A timer of a monitor. Timers that are due together go in this order.
+impl Phase {
+    /// Whether a monitor in this phase leads a quorum.
+    pub fn is_leading(self) -> bool
+        ensures { result ≡ is_leading self }
+    {
+        matches!(
+            self,
+            Phase::Collecting | Phase::Previous | Phase::Active | Phase::Updating
+        )
+    }
+
+    /// Whether a monitor in this phase follows a leader.
+    pub fn is_peon(self) -> bool
+        ensures { result ≡ is_peon self }
+    {
+        matches!(self, Phase::Peon)
+    }
+
+    /// Whether a monitor in this phase is in a quorum.
+    pub fn is_member(self) -> bool
+        ensures { result ≡ is_member self }
+    {
+        self.is_leading() || self.is_peon()
+    }
+
+    /// Whether a monitor in this phase takes part in elections.
+    pub fn votes(self) -> bool
+        ensures { result ≡ votes self }
+    {
+        self.is_member() || matches!(self, Phase::Electing)
+    }
+}
+
+/// A timer of a monitor. Timers that are due together go in the order of their variants.
 #[derive(Clone, Copy, Debug, PartialEq, Eq)]
 pub enum Timer {
     /// The others are probed again.
@@ -46,4 +82,24 @@ pub enum Timer {
     Propose,
     /// The others are pinged again.
     Ping,
+}
+
+impl Timer {
+    /// How many timers there are.
+    pub const COUNT: usize = 11;
+
+    /// Every timer. Timers that are due together go in this order.
+    pub const ALL: [Timer; Timer::COUNT] = [
+        Timer::Probe,
+        Timer::Election,
+        Timer::Collect,
+        Timer::Accept,
+        Timer::Renew,
+        Timer::LeaseAck,
+        Timer::Lease,
+        Timer::Sync,
+        Timer::Step,
+        Timer::Propose,
+        Timer::Ping,
+    ];
 }
