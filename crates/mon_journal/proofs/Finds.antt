@@ -9,14 +9,14 @@ use Rattle.mon_disk.specs.declared.disk.DiskCall.{DiskCall}
 use Rattle.mon_disk.specs.declared.disk.DiskCall.TheVariants.{Write, Sync}
 use Rattle.mon_disk.specs.Calls.{DiskState, Called}
 use Rattle.mon_disk.specs.Images.{Content, images, Only, Torn, TornFrom, overwritten, written}
-use Rattle.mon_disk.proofs.Following.{now, widened, then_calls, stopped_at, without_memory}
+use Rattle.mon_disk.proofs.Following.{now, widened, then_calls, stopped_at}
 use Rattle.mon_journal.specs.declared.stop.JournalStop.{JournalStop}
 use Rattle.mon_journal.specs.declared.stop.JournalStop.TheVariants.{DiskFault, NotAStore, OutOfMemory}
 use Rattle.mon_journal.specs.declared.journal.Journal.{Journal}
 use Rattle.mon_journal.specs.Fields.{◌>>=◌, whole}
 use Rattle.mon_journal.specs.Content.{Header, Held, header_at, header_of_file, header_of, records_at, held_at, is_closed, content, payloads_in, payloads_of, held_by, Holds, Fails, Finds, FoundIn, HeaderIs}
 use Rattle.mon_journal.specs.Pieces.{left_at, OnlyReads}
-use Rattle.mon_journal.specs.Steps.{Closed, payloads_told, payloads_seen, Keeps, stop_in, IsOutside, open_calls, AlikeFrom, Opens, OpensBy}
+use Rattle.mon_journal.specs.Steps.{Closed, payloads_told, Keeps, stop_in, IsOutside, open_calls, AlikeFrom, Opens, OpensBy}
 use Rattle.mon_bytes.specs.Reading.{Reading, number}
 use Rattle.mon_journal.proofs.Local.{from}
 use Rattle.mon_journal.proofs.RecordParts.{Found, gate_read}
@@ -97,7 +97,7 @@ fault_calls T (NotAStore at) old new fails c = (
   each_file old.content.seen (λ file. content file ≡ Some (Err (NotAStore at))) (λ file. Sync ∷ [] ≡ open_calls (content file)) (λ file fault. ap open_calls (sym fault)) fails,
 )
 
--- the payloads that a disk tells are those of its file
+-- the payloads that can be seen on a disk are those of its file
 pub told_payloads : (journal : Journal) (s : Option (List ℕ)) → IfSome s (FoundIn (Ok (Some journal))) → IfSome s (Holds journal (payloads_told s))
 told_payloads journal None found = tt
 told_payloads journal (Some file) (payloads, is) = subst (λ (ps : List (List ℕ)). Holds journal ps file) (sym (ap payloads_in is)) is
@@ -137,7 +137,7 @@ module _ (bytes : List ℕ) (journal : Journal) (payloads : List (List ℕ)) (ho
   zeroed_holds : Holds journal payloads (overwritten journal.next_gate (0 ∷ []) bytes)
   zeroed_holds = ap content zeroed ∙ same_shut bytes held holds 0 q.behind (omega arith)
 
--- a store's file isn't shorter than its journal tells
+-- a store's file isn't shorter than its journal says
 pub not_short : (s : Option (List ℕ)) (journal : Journal) (end : ℕ) (P : Type 0) → IfSome s (λ file. Holds journal (payloads_of file) file) → IfSome s (λ file. end ≡ length file) → end ≤ journal.next_gate → IfSome s (λ file. P)
 not_short s journal end P holds long short = both_files s (λ file. Holds journal (payloads_of file) file) (λ file. end ≡ length file) (λ file. P)
     (λ file here is. absurd (let there = within file journal (payloads_of file) here in omega (arith, there, is, short))) holds long
@@ -272,7 +272,7 @@ module _ (n : ℕ) (file : List ℕ) (is : n ≡ min (length file) 25) (is_open 
         → FoundIn (Ok (Some (record { member = journal.member; generation = journal.generation; next_gate = gate; form = journal.form }))) file
     records_there gate (payloads, found) = (payloads, held_there ∙ ap (λ (f : Found). Some (held_with (header_of journal) f)) found)
 
--- ---- the same of a disk that may tell its file
+-- ---- the same, if the file may be seen
 
 module _ (s : Option (List ℕ)) (end n : ℕ) (bytes : List ℕ) (long : IfSome s (λ file. end ≡ length file)) (n_is : n ≡ min end 25) (read : IfSome s (λ file. bytes ≡ take n (drop 0 file))) where
   short : (file : List ℕ) → end ≡ length file → n ≡ min (length file) 25
@@ -300,7 +300,7 @@ module _ (s : Option (List ℕ)) (end n : ℕ) (bytes : List ℕ) (long : IfSome
           (FoundIn (Ok (Some (record { member = journal.member; generation = journal.generation; next_gate = gate; form = journal.form }))))
           (λ file is head f. records_there n file (short file is) (same_closed file is head ∙ is_open) journal (subst (λ (l : List ℕ). HeaderIs (Ok journal) (header_of_file l)) head header) gate f) long read found
 
--- a disk is read behind its sync
+-- a disk is read after its sync
 pub read_behind : (stop : Option Stop) (old mid new : DiskState) → Called (Sync ∷ []) (images old.content) None old mid → OnlyReads stop mid new → Called (Sync ∷ []) (images old.content) stop old new
 read_behind stop old mid new one r = then_calls (images old.content) (images mid.content) (images old.content) one r.call (λ c left. left) (λ c left. now old.content mid.content (images old.content) one.any_moment c left)
 

@@ -1,20 +1,19 @@
 -- The records of a file, gathered one after the other up to the first closed gate.
-use Rattle.std.proofs.Common.{◌≡◌, ℕ, ◌+◌, List, [], ◌∷◌, ◌++◌, length, take, drop, Option, Some, None, Result, Ok, Err, refl, sym, ap, ◌∙◌}
+use Rattle.std.proofs.Common.{◌≡◌, ℕ, ◌+◌, List, [], ◌∷◌, ◌++◌, take, drop, Option, Some, None, Result, Ok, Err, sym, ap, ◌∙◌}
 use Rattle.std.specs.Prelude.{IfSome}
 use Rattle.std.proofs.lemmas.List.{drop-drop, append-nil}
 use Rattle.mon_journal.specs.declared.stop.JournalStop.{JournalStop}
 use Rattle.mon_journal.specs.declared.stop.JournalStop.TheVariants.{DiskFault, NotAStore, OutOfMemory}
-use Rattle.mon_journal.specs.Content.{with_front, records_at, Fails, Finds, HeadAt}
+use Rattle.mon_journal.specs.Content.{with_front, records_at, Finds, HeadAt}
 use Rattle.mon_journal.specs.Pieces.{left_at}
 use Rattle.mon_journal.proofs.Local.{from}
 use Rattle.mon_journal.proofs.RecordParts.{Found, none_before, added}
-use Rattle.mon_journal.proofs.Heads.{each_file, both_files}
 
--- some payloads stand before this gate, and the others behind it
+-- some payloads precede this gate, and the others follow it
 abbrev pub SoFar : Option (List ℕ) → ℕ → Type 0
 SoFar seen at = IfSome seen (λ file. (before : List (List ℕ)) × (with_front before (records_at (left_at at file)) ≡ records_at (left_at 25 file)))
 
--- what gathering answers
+-- what gathering returns
 abbrev pub Gathers : Option (List ℕ) → Result ℕ JournalStop → Type 0
 Gathers seen result = IfSome seen (λ file. Finds (λ (gate : ℕ) (payloads : List (List ℕ)). (payloads, gate)) result (records_at (left_at 25 file)))
 

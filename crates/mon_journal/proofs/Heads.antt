@@ -1,10 +1,10 @@
--- What stands at a gate of a file, by the bytes that are read there.
-use Rattle.std.proofs.Common.{◌≡◌, ◌≢◌, ℕ, ◌+◌, ◌-◌, ◌≤◌, ◌<◌, true, false, ltb, List, [], ◌∷◌, length, take, drop, get_or, Option, Some, None, Result, Ok, Err, refl, sym, ap, subst, ◌∙◌, arith}
+-- What is at a gate of a file, by the bytes that are read there.
+use Rattle.std.proofs.Common.{◌≡◌, ◌≢◌, ℕ, ◌+◌, ◌≤◌, ◌<◌, true, false, ltb, List, [], ◌∷◌, length, take, drop, get_or, Option, Some, None, Result, Ok, Err, refl, sym, ap, ◌∙◌, arith}
 use Rattle.std.specs.Prelude.{IfSome}
 use Rattle.std.proofs.lemmas.Bool.{le-ltb, lt-ltb}
 use Rattle.std.proofs.lemmas.List.{drop_all, drop-drop, length-drop}
 use Rattle.byteorder.specs.Endian.{little_number}
-use Rattle.mon_bytes.specs.Reading.{Reading, moved}
+use Rattle.mon_bytes.specs.Reading.{moved}
 use Rattle.mon_journal.specs.declared.stop.JournalStop.{JournalStop}
 use Rattle.mon_journal.specs.declared.stop.JournalStop.TheVariants.{DiskFault, NotAStore, OutOfMemory}
 use Rattle.mon_journal.specs.Fields.{payload_at}
@@ -14,7 +14,7 @@ use Rattle.mon_journal.specs.Pieces.{left_at}
 use Rattle.mon_journal.proofs.Local.{from}
 use Rattle.mon_journal.proofs.RecordParts.{nothing_at, at_shut, at_open, at_fault}
 
--- what is told of a file, if one is told
+-- facts about a file, if one can be seen
 pub each_file : {X : Type 0} (s : Option X) (P R : X → Type 0) → ((x : X) → P x → R x) → IfSome s P → IfSome s R
 each_file None P R h p = tt
 each_file (Some x) P R h p = h x p
@@ -78,7 +78,7 @@ module _ (at gate : ℕ) (file : List ℕ) (first : drop at file ≡ gate ∷ dr
           let all : ltb (length (drop 4 rest)) n ≡ false = le-ltb _ _ (omega (arith, long, enough, length-drop 4 rest)) in
           rw (whole, sym number, all) refl
 
-      -- a payload, and the records behind it
+      -- a payload, and the records after it
       pub one_there : n + 4 ≤ length rest → records_at (left_at at file) ≡ with_front (take n (drop 5 (drop at file)) ∷ []) (records_at (moved (5 + n) (left_at at file)))
       one_there long =
           let front : drop 4 rest ≡ drop 5 (drop at file) = sym (ap (λ (l : List ℕ). drop 5 l) there) in
@@ -90,7 +90,7 @@ module _ (at gate : ℕ) (file : List ℕ) (first : drop at file ≡ gate ∷ dr
           ∙ ap (λ (l : List ℕ). with_front (take n (drop 5 (drop at file)) ∷ []) (records_at (from (at + 1 + 4 + n) l))) behind
           ∙ ap (λ (p : ℕ). with_front (take n (drop 5 (drop at file)) ∷ []) (records_at (from p (drop (5 + n) (drop at file))))) place
 
--- ---- what is answered at a gate, of a disk that may tell its file
+-- ---- what is returned for a gate, if the file may be seen
 
 module _ (s : Option (List ℕ)) (end at : ℕ) where
   abbrev Answers : Result (Option ℕ) JournalStop → Type 0

@@ -1,12 +1,12 @@
 -- Calls that only read, one after the other.
-use Rattle.std.proofs.Common.{◌≡◌, ℕ, ◌+◌, ◌-◌, ◌≤◌, List, [], ◌++◌, length, take, drop, Option, Some, None, refl, sym, ap, subst, ◌∙◌, arith}
+use Rattle.std.proofs.Common.{◌≡◌, ℕ, ◌+◌, ◌-◌, ◌≤◌, List, ◌++◌, length, take, drop, Option, Some, None, refl, sym, ap, subst, ◌∙◌, arith}
 use Rattle.std.specs.Prelude.{IfSome}
 use Rattle.std.proofs.lemmas.List.{take-append-drop, take-append-le, drop-append-le, drop-drop, length-drop}
 use Rattle.mon_journal.proofs.Heads.{each_file}
 use Rattle.mon_types.specs.declared.names.Stop.{Stop}
 use Rattle.mon_types.specs.declared.names.Stop.TheVariants.{OutOfMemory}
-use Rattle.mon_disk.specs.Images.{Content, images, LeavesOnly}
-use Rattle.mon_disk.specs.Calls.{DiskState, Called}
+use Rattle.mon_disk.specs.Images.{images}
+use Rattle.mon_disk.specs.Calls.{DiskState}
 use Rattle.mon_disk.proofs.Following.{none, then_calls, without_memory, now}
 use Rattle.mon_journal.specs.Pieces.{PieceState, IsPieceOf, OnlyReads}
 

@@ -10,10 +10,10 @@ use Rattle.mon_bytes.specs.Reading.{Reading, number, front}
 use Rattle.mon_bytes.specs.Forms.{u32_bytes}
 use Rattle.mon_bytes.proofs.Fields.{ok_is}
 use Rattle.mon_journal.specs.declared.stop.JournalStop.{JournalStop}
-use Rattle.mon_journal.specs.declared.stop.JournalStop.TheVariants.{DiskFault, NotAStore, OutOfMemory}
+use Rattle.mon_journal.specs.declared.stop.JournalStop.TheVariants.{NotAStore}
 use Rattle.mon_journal.specs.Fields.{◌>>=◌, whole, payload_at}
 pub use Rattle.mon_journal.specs.Content.{with_front}
-use Rattle.mon_journal.specs.Content.{records, records_at, Fails}
+use Rattle.mon_journal.specs.Content.{records, records_at}
 use Rattle.mon_journal.specs.Written.{payload_bytes, record_bytes}
 use Rattle.mon_journal.proofs.Local.{from, bind_ok}
 use Rattle.mon_journal.proofs.Parts.{payload_local}

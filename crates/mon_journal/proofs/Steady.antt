@@ -1,28 +1,26 @@
--- What the readers of a file's header read doesn't depend on what stands behind the header, a fault included.
-use Rattle.std.proofs.Common.{◌≡◌, ℕ, ◌+◌, ◌≤◌, ◌^◌, Bool, true, false, cond, eqb, ltb, leb, List, [], ◌++◌, length, take, drop, Result, Ok, Err, refl, sym, ap, subst, ◌∙◌, length-append, arith}
+-- What the readers of a file's header read, a fault included, doesn't depend on the bytes after the header.
+use Rattle.std.proofs.Common.{◌≡◌, ℕ, ◌+◌, ◌≤◌, ◌^◌, Bool, true, false, cond, eqb, ltb, leb, List, ◌++◌, length, take, drop, Result, Ok, Err, refl, sym, ap, ◌∙◌, length-append, arith}
 use Rattle.std.proofs.lemmas.Bool.{le-ltb}
 use Rattle.std.proofs.lemmas.List.{length-drop, take-append-le, drop-append-le, drop-drop}
 use Rattle.std.specs.List.{list_all}
 use Rattle.std.specs.Str.{bytes_eq}
 use Rattle.byteorder.specs.Endian.{little_number}
-use Rattle.mon_bytes.specs.declared.cursor.Short.{Short}
 use Rattle.mon_bytes.specs.Reading.{Reading, moved, number, front}
 use Rattle.mon_bytes.proofs.Fields.{guard_ok, ok_is}
 use Rattle.mon_journal.specs.declared.stop.JournalStop.{JournalStop}
 use Rattle.mon_journal.specs.declared.stop.JournalStop.TheVariants.{NotAStore}
-use Rattle.mon_journal.specs.declared.journal.Form.{Form}
 use Rattle.mon_journal.specs.declared.journal.Form.TheVariants.{First, Second}
-use Rattle.mon_journal.specs.Fields.{◌>>=◌, whole, Owner, first_word, second_word, form_at, owner_at, zeros_at, generation_at}
-use Rattle.mon_journal.specs.Content.{Header, header_at}
+use Rattle.mon_journal.specs.Fields.{◌>>=◌, whole, first_word, second_word, form_at, owner_at, zeros_at, generation_at}
+use Rattle.mon_journal.specs.Content.{header_at}
 use Rattle.mon_journal.proofs.Local.{from, bind_ok, whole_ok}
 use Rattle.mon_journal.proofs.Parts.{header_by}
 
--- with others behind what is left
+-- with others after what is left
 abbrev pub behind : {A : Type 0} → List ℕ → Result (A × Reading) JournalStop → Result (A × Reading) JournalStop
 behind others (Ok x) = Ok (x.0, from x.1.at (x.1.rest ++ others))
 behind others (Err e) = Err e
 
--- a reader that takes k bytes, and looks at no others where they are there
+-- a reader that takes k bytes, and looks at no others if they are there
 pub record Steady {A : Type 0} (k : ℕ) (read : Reading → Result (A × Reading) JournalStop) : Type 0 where
   pub moves : (c : Reading) (x : A × Reading) → read c ≡ Ok x → x.1 ≡ moved k c
   pub same : (c : Reading) (others : List ℕ) → k ≤ length c.rest → read (from c.at (c.rest ++ others)) ≡ behind others (read c)

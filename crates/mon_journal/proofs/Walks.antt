@@ -33,19 +33,19 @@ all_left_on s journal holds = each_file s (λ file. Holds journal (payloads_of f
 pub none_left : (payloads : List (List ℕ)) (c : Reading) → IsLeft payloads c → records_at c ≡ Ok ([], c.at) → payloads ≡ []
 none_left payloads c left shut = sym (ap (λ p. p.0) (ok_is ([], c.at) (payloads, left.0) (sym shut ∙ left.1)))
 
--- one that is left, and those behind it
+-- one that is left, and those after it
 pub one_left : (payloads : List (List ℕ)) (c behind : Reading) (payload : List ℕ) → IsLeft payloads c → records_at c ≡ with_front (payload ∷ []) (records_at behind) → IsNext (Some payload) payloads behind
 one_left payloads c behind payload left is =
     let y = one_found payload (records_at behind) (payloads, left.0) (sym is ∙ left.1) in
     (y.0.0, ap (λ z. z.0) y.2, (y.0.1, y.1))
 
--- where some are left none is at fault
+-- if some are left, none is at fault
 pub fails_none : {V : Type 0} (view : V → List ℕ) (e : JournalStop) (payloads : List (List ℕ)) (c behind : Reading) → IsLeft payloads c → Fails e (records_at c) → NextIs view payloads behind (Err e)
 fails_none view DiskFault payloads c behind left fails = tt
 fails_none view (NotAStore at) payloads c behind left fails = absurd (cc (fails, left.1))
 fails_none view OutOfMemory payloads c behind left fails = tt
 
--- ---- the same of a disk that may tell its file
+-- ---- the same, if the file may be seen
 
 abbrev pub Next : {V : Type 0} → (V → List ℕ) → Option (List ℕ) → ℕ → ℕ → Result (Option V) JournalStop → Type 0
 Next view seen gate behind result = IfSome seen (λ file. (payloads : List (List ℕ)) → IsLeft payloads (left_at gate file) → NextIs view payloads (left_at behind file) result)

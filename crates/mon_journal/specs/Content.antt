@@ -93,7 +93,7 @@ abbrev pub WithOrWithout : Journal → List (List ℕ) → List ℕ → List ℕ
 WithOrWithout journal payloads payload file =
     content file ≡ Some (Ok (if slice_index_or file journal.next_gate 0 == 1 then held_by (appended journal payload) (payloads ++ payload ∷ []) else held_by journal payloads))
 
--- A fault that a call answered is what reading gives, unless the disk failed or memory ran out.
+-- A fault that a call returned is what reading gives, unless the disk failed or memory ran out.
 abbrev pub Fails : {Y : Type 0} → JournalStop → Result Y JournalStop → Type 0
 Fails DiskFault read = Unit {0}
 Fails (NotAStore at) read = read ≡ Err (NotAStore at)
@@ -114,12 +114,12 @@ abbrev pub Finds : {X Y : Type 0} → (X → List (List ℕ) → Y) → Result X
 Finds view (Ok x) read = (payloads : List (List ℕ)) × (read ≡ Ok (view x payloads))
 Finds view (Err e) read = Fails e read
 
--- What a call answered of a file's header is what reading gives.
+-- What a call returned for a file's header is what reading gives.
 abbrev pub HeaderIs : Result Journal JournalStop → Result (Header × Reading) JournalStop → Type 0
 HeaderIs (Ok journal) read = (behind : Reading) × (read ≡ Ok (header_of journal, behind))
 HeaderIs (Err e) read = Fails e read
 
--- What a call answered of a file is what the file holds, but for the payloads.
+-- What a call returned for a file is what the file holds, except for the payloads.
 abbrev pub FoundIn : Result (Option Journal) JournalStop → List ℕ → Type 0
 FoundIn (Ok None) file = content file ≡ None
 FoundIn (Ok (Some journal)) file = (payloads : List (List ℕ)) × Holds journal payloads file
@@ -127,8 +127,8 @@ FoundIn (Err DiskFault) file = Unit {0}
 FoundIn (Err (NotAStore at)) file = content file ≡ Some (Err (NotAStore at))
 FoundIn (Err OutOfMemory) file = Unit {0}
 
--- What a call answered at a gate: that it is closed; or the length of the payload of the record whose gate it is, with the
--- other records behind that.
+-- What a call returned for a gate: that it is closed, or the length of its record's payload. The other records follow that
+-- payload.
 abbrev pub HeadAt : Result (Option ℕ) JournalStop → Reading → Type 0
 HeadAt (Ok None) c = records_at c ≡ Ok ([], c.at)
 HeadAt (Ok (Some n)) c = records_at c ≡ with_front (take n (drop 5 c.rest) ∷ []) (records_at (moved (5 + n) c))
@@ -147,7 +147,7 @@ abbrev pub IsNext : Option (List ℕ) → List (List ℕ) → Reading → Type 0
 IsNext None payloads c = payloads ≡ []
 IsNext (Some payload) payloads c = (others : List (List ℕ)) × (payloads ≡ payload ∷ others) × IsLeft others c
 
--- What a call answered that reads the next one from the disk: that one, unless the disk failed or memory ran out.
+-- What a call returned that reads the next payload from the disk: that payload, unless the disk failed or memory ran out.
 abbrev pub NextIs : {V : Type 0} → (V → List ℕ) → List (List ℕ) → Reading → Result (Option V) JournalStop → Type 0
 NextIs view payloads c (Ok found) = IsNext (option_map view found) payloads c
 NextIs view payloads c (Err DiskFault) = Unit {0}

@@ -11,7 +11,7 @@ pub record PieceState : Type 0 where
   pub at : ℕ
   pub bytes : List ℕ
 
--- These bytes stand on the disk at that place, if the disk tells what it holds. The file is as long as is known of the disk.
+-- The disk holds these bytes at that place, if its contents can be seen. The file's length is the disk's known length.
 pub record IsPieceOf (d : DiskState) (piece : PieceState) : Type 0 where
   pub known : d.known ≡ piece.end
   pub long : IfSome d.content.seen (λ file. piece.end ≡ length file)

@@ -37,8 +37,8 @@ fn synced_len<D: Disk>(disk: &mut D) -> Result<u64, Stop>
 }
 
 /// Opens what a crash may have left on a disk. It begins with a sync, and on an open disk it ends with zero at the
-/// first closed gate. A file that is no store is refused by the first field at fault, and what stands behind that isn't
-/// read. Its time is linear in the file's length, and it takes memory for at most 65,536 bytes and a header.
+/// first closed gate. A file that is no store is refused by the first field at fault, and nothing after that
+/// field is read. Its time is linear in the file's length. It needs memory for at most 65,536 bytes and a header.
 pub fn open<D: Disk>(alloc: Global, disk: &mut D) -> Result<Opened, JournalStop>
     ensures found { let seen = (D.state disk.old).content.seen in
         Opens seen (D.state disk.new).known (D.state disk.new).content (on_disk seen result) }

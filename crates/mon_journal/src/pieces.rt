@@ -60,7 +60,7 @@ impl Model for Piece {
 }
 
 impl Piece {
-    /// No bytes of a file of that length. It takes no memory.
+    /// No bytes of a file of that length. It needs no memory.
     pub fn new(alloc: Global, end: u64) -> Piece
         ensures { result ≡ record { end = end; at = 0; bytes = [] } }
     {
@@ -99,7 +99,7 @@ impl Piece {
         &self.bytes[from..from + count]
     }
 
-    /// Reads on, unless the piece has these bytes of the file. It gives the old piece back before it takes the new one.
+    /// Reads on, unless the piece has these bytes of the file. The old piece is released before the new one is made.
     fn reach<D: Disk>(&mut self, disk: &mut D, at: u64, count: usize) -> Result<(), JournalStop>
         requires within { at + count ≤ self.old.end }
         requires on { IsPieceOf (D.state disk.old) self.old }
@@ -120,7 +120,7 @@ impl Piece {
         Ok(())
     }
 
-    /// The bytes of the file at a place. It takes memory for them, and for at most 65,536 bytes beside.
+    /// The bytes of the file at a place. It needs memory for them, and for at most 65,536 other bytes.
     pub fn bytes<D: Disk>(
         &mut self,
         disk: &mut D,

@@ -12,8 +12,8 @@ use crate::stop::JournalStop;
 use mon_disk::Disk;
 use std::alloc::Global;
 
-/// The payloads of a file that are left to be read. It takes memory for at most 65,536 bytes of the file, and gives
-/// each payload away.
+/// The payloads of a file that are left to be read. It needs memory for at most 65,536 bytes of the file. Each payload
+/// belongs to the caller.
 #[derive(Debug, Drop)]
 pub struct Reader {
     piece: Piece,
@@ -21,7 +21,7 @@ pub struct Reader {
 }
 
 impl Reader {
-    /// The payloads of a journal's file, from the first on. If the file is shorter than the journal tells, `NotAStore`
+    /// The payloads of a journal's file, from the first on. If the file is shorter than the journal says, `NotAStore`
     /// names the first closed gate.
     pub fn of<D: Disk>(
         alloc: Global,
@@ -48,7 +48,7 @@ impl Reader {
         })
     }
 
-    /// The next payload, if one is left. It takes memory for it. A file that doesn't hold what it held when it was
+    /// The next payload, if one is left. It needs memory for it. A file that doesn't hold what it held when it was
     /// opened is `NotAStore` at the first field at fault.
     pub fn next_payload<D: Disk>(&mut self, disk: &mut D) -> Result<Option<Vec<u8>>, JournalStop>
         requires on { IsPieceOf (D.state disk.old) self.old.piece }

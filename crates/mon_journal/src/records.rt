@@ -76,7 +76,7 @@ fn is_closed(head: &[u8]) -> bool
     }
 }
 
-/// The header of an open file, as a journal whose first closed gate is the one behind it.
+/// The header of an open file, as a journal whose first closed gate is the one after it.
 fn header_in(head: &[u8]) -> Result<Journal, JournalStop>
     ensures header { HeaderIs result (header_of_file head.now) }
     ensures form { IfErr result IsOfForm }
@@ -86,7 +86,7 @@ fn header_in(head: &[u8]) -> Result<Journal, JournalStop>
     header_at(&mut cursor)
 }
 
-/// What a file holds, that is read from its beginning on: nothing if it is closed.
+/// What a file holds, which is read from its beginning on: nothing if it is closed.
 pub fn held_on<D: Disk>(piece: &mut Piece, disk: &mut D) -> Result<Option<Journal>, JournalStop>
     requires on { IsPieceOf (D.state disk.old) piece.old }
     ensures disk { OnlyReads (stop_in result) (D.state disk.old) (D.state disk.new) }

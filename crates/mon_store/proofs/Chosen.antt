@@ -161,7 +161,7 @@ module _ {D : Type 0} (state : D → DiskState) (a b : OnDisk) (on_a on_b : D) (
           size = sound.size;
         })
 
-    -- whatever restoring it answers
+    -- whatever restoring it returns
     pub sound_restored : IfOk result (λ r. r.side ≡ side) → IfOk result (λ r. r.journal ≡ j) → IfOk result (λ r. IfSome (state (of_live side on_a on_b)).content.seen (λ file. map_of (payloads_of file) ≡ Ok r.kv)) → IfOk result (λ r. size_of r.kv ≤ most_size)
         → OnOk result (j.next_gate < (state (of_live side new_a new_b)).known)
         → IfOk result (λ r. Sound r.journal r.kv (state (of_live r.side new_a new_b)).known (state (of_live r.side new_a new_b)).content (state (of_live (other_side r.side) new_a new_b)).content)
@@ -180,7 +180,7 @@ module _ {D : Type 0} (state : D → DiskState) (a b : OnDisk) (on_a on_b : D) (
             subst (λ (i : Side). Sound r.journal r.kv (state (of_live i new_a new_b)).known (state (of_live i new_a new_b)).content (state (of_live (other_side i) new_a new_b)).content) (sym at_side)
             (subst (λ (i : Journal). Sound i r.kv (state (of_live side new_a new_b)).known (state (of_live side new_a new_b)).content (state (of_live (other_side side) new_a new_b)).content) (sym journal) sound)
 
-  -- and what it answers is what the bytes give
+  -- and what it returns is what the bytes give
   pub gives_restored : {P : List (List ℕ) → Type 0} (side : Side) → chosen (held_in a) (held_in b) (len_of a) (len_of b) ≡ Ok (Live side (held_by j payloads)) → is_some (state on_a).content.seen ≡ is_some s → is_some (state on_b).content.seen ≡ is_some t
       → IfSome (state (of_live side on_a on_b)).content.seen (λ file. P (payloads_of file)) → (x y : List ℕ) → s ≡ Some x → t ≡ Some y → P payloads
   gives_restored {P = P} side is tells_a tells_b gives x y p q =

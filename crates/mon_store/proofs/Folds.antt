@@ -50,13 +50,13 @@ pub ends : (left : List (List ℕ)) (at : ℕ) (m : Store) (total : Result Store
 unfolding folded
 ends left at m total none so_far = sym so_far ∙ ap (λ ps. folded ps at m) none
 
--- ---- the same of a disk that may tell its file
+-- ---- the same, if the file may be seen
 
--- the payloads of a file that are left behind a gate take a map to the whole
+-- the payloads of a file that are left after a gate take a map to the whole
 abbrev pub IsFoldedOn : Option (List ℕ) → ℕ → ℕ → Store → Type 0
 IsFoldedOn seen gate at m = IfSome seen (λ file. IsFolded (left_at gate file) at m (map_of (payloads_of file)))
 
--- what a reader answers at one gate, and behind it
+-- what a reader returns at one gate, and after it
 abbrev pub Next : {V : Type 0} → (V → List ℕ) → Option (List ℕ) → ℕ → ℕ → Result (Option V) JournalStop → Type 0
 Next view seen gate behind result = IfSome seen (λ file. (payloads : List (List ℕ)) → IsLeft payloads (left_at gate file) → NextIs view payloads (left_at behind file) result)
 
@@ -101,7 +101,7 @@ module _ {V : Type 0} (view : V → List ℕ) (gate behind : ℕ) where
   ends_there None at m so_far next = tt
   ends_there (Some file) at m so_far next = ends so_far.0 at m (map_of (payloads_of file)) (next so_far.0 so_far.1) so_far.2
 
--- what isn't told doesn't matter
+-- what can't be seen doesn't matter
 pub any_fails : (e : JournalStop) (seen : Option (List ℕ)) → IfSome seen (λ file. IsOutside e) → IfSome seen (λ file. Fails e (map_of (payloads_of file)))
 any_fails e None outside = tt
 any_fails DiskFault (Some file) outside = tt

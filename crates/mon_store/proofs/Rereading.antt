@@ -24,7 +24,7 @@ use Rattle.mon_store.specs.Sound.{of_live}
 
 -- ---- of one disk
 
--- what a crash leaves after that it might have left before
+-- what a crash leaves afterwards it might have left before
 left_before : (stop : Option Stop) (old new : DiskState) → OnlyReads stop old new → (c : List ℕ) → images new.content c → images old.content c
 left_before stop old new r = now old.content new.content (images old.content) r.call.any_moment
 
@@ -123,7 +123,7 @@ reread_counts state side s x y a b a1 b1 r both = elim (goes state side s a b a1
     of_b (inl c) = c.1
     of_b (inr c) = c.1
 
--- a disk that tells its calls fails in none that only reads
+-- a disk whose calls can be seen fails in none that only reads
 never : (told : Option Told) (s : Option Stop) → is_some told ≡ true → IfSome told (λ t. s ≡ Some disk_stop.Failed → ⊥) → s ≡ Some disk_stop.Failed → ⊥
 never None s some h is = absurd cc
 never (Some t) s some h is = h is

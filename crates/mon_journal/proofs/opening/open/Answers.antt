@@ -1,4 +1,4 @@
-use Rattle.std.proofs.Common.{◌≡◌, List, ℕ, Option, Some, None, Ok, Err, subst, sym, ◌∙◌, arith}
+use Rattle.std.proofs.Common.{List, ℕ, Option, Some, None, Ok, Err, subst, ◌∙◌}
 use Rattle.std.specs.Prelude.{IfSome}
 use Rattle.std.proofs.lemmas.Result.{err_from_is_err_and}
 use Rattle.mon_journal.specs.declared.journal.Journal.{Journal}
@@ -29,10 +29,10 @@ returns-in-None-clause-call g c =
     let none = subst (λ (o : Option Journal). IfSome (state c.args.disk.now).content.seen (FoundIn (Ok o))) c.in-None.is told in
     closed_calls (state c.args.disk.now) (state c.held_on.new.disk) none (read_behind None (state c.args.disk.now) (state c.synced_len.new.disk) (state c.held_on.new.disk) c.in_ok-len.ensures.call c.in_ok-found.ensures.disk)
 
-pub returns-in_err-write_synced-clause-call : goal.returns-in_err-write_synced-clause-call
-returns-in_err-write_synced-clause-call g c =
-    let p = err_from_is_err_and c.from_residual-in_err-write_synced.result c.from_residual-in_err-write_synced.ensures.1 in
-    let e = c.in_err-write_synced.field-0.0 in
+pub returns-in_err-write_synced-in-Some-clause-call : goal.returns-in_err-write_synced-in-Some-clause-call
+returns-in_err-write_synced-in-Some-clause-call g c =
+    let p = err_from_is_err_and c.from_residual-in_err-write_synced-in-Some.result c.from_residual-in_err-write_synced-in-Some.ensures.1 in
+    let e = c.in_err-write_synced-in-Some.field-0.0 in
     let state = g.D.Disk.state in
     let s = (state c.args.disk.now).content.seen in
     let told = subst (λ (t : Option (List ℕ)). IfSome t (FoundIn (Ok c.in_ok-found.found))) c.in_ok-len.ensures.seen c.in_ok-found.ensures.held in
@@ -40,23 +40,23 @@ returns-in_err-write_synced-clause-call g c =
     rw (p.1, p.2, stop_back Opened e)
     (live_calls c.in-Some.journal (payloads_told s) (state c.args.disk.now) (state c.held_on.new.disk) (state c.write_synced.new.disk) (Some e) holds (c.in_ok-found.ensures.disk.seen ∙ c.in_ok-len.ensures.seen)
     (only_read None (state c.synced_len.new.disk) (state c.held_on.new.disk) c.in_ok-found.ensures.disk c.in_ok-len.ensures.durable)
-    (read_behind None (state c.args.disk.now) (state c.synced_len.new.disk) (state c.held_on.new.disk) c.in_ok-len.ensures.call c.in_ok-found.ensures.disk) c.in_err-write_synced.ensures.call)
+    (read_behind None (state c.args.disk.now) (state c.synced_len.new.disk) (state c.held_on.new.disk) c.in_ok-len.ensures.call c.in_ok-found.ensures.disk) c.in_err-write_synced-in-Some.ensures.call)
 
-pub returns-in-Some-clause-call : goal.returns-in-Some-clause-call
-returns-in-Some-clause-call g c =
+pub returns-clause-call : goal.returns-clause-call
+returns-clause-call g c =
     let state = g.D.Disk.state in
     let s = (state c.args.disk.now).content.seen in
     let told = subst (λ (t : Option (List ℕ)). IfSome t (FoundIn (Ok c.in_ok-found.found))) c.in_ok-len.ensures.seen c.in_ok-found.ensures.held in
     let holds = told_payloads c.in-Some.journal s (subst (λ (o : Option Journal). IfSome s (FoundIn (Ok o))) c.in-Some.is told) in
     live_calls c.in-Some.journal (payloads_told s) (state c.args.disk.now) (state c.held_on.new.disk) (state c.write_synced.new.disk) None holds (c.in_ok-found.ensures.disk.seen ∙ c.in_ok-len.ensures.seen)
     (only_read None (state c.synced_len.new.disk) (state c.held_on.new.disk) c.in_ok-found.ensures.disk c.in_ok-len.ensures.durable)
-    (read_behind None (state c.args.disk.now) (state c.synced_len.new.disk) (state c.held_on.new.disk) c.in_ok-len.ensures.call c.in_ok-found.ensures.disk) c.in_ok-write_synced.ensures.call
+    (read_behind None (state c.args.disk.now) (state c.synced_len.new.disk) (state c.held_on.new.disk) c.in_ok-len.ensures.call c.in_ok-found.ensures.disk) c.in_ok-write_synced-in-Some.ensures.call
 
-pub returns-in-Some-clause-found : goal.returns-in-Some-clause-found
-returns-in-Some-clause-found g c =
+pub returns-clause-found : goal.returns-clause-found
+returns-clause-found g c =
     let state = g.D.Disk.state in
     let s = (state c.args.disk.now).content.seen in
     let told = subst (λ (t : Option (List ℕ)). IfSome t (FoundIn (Ok c.in_ok-found.found))) c.in_ok-len.ensures.seen c.in_ok-found.ensures.held in
     let holds = told_payloads c.in-Some.journal s (subst (λ (o : Option Journal). IfSome s (FoundIn (Ok o))) c.in-Some.is told) in
     is_live c.in-Some.journal (payloads_told s) (state c.args.disk.now).content (state c.held_on.new.disk).content (state c.write_synced.new.disk).content (state c.held_on.new.disk).known (state c.write_synced.new.disk).known holds
-    (c.in_ok-found.ensures.disk.seen ∙ c.in_ok-len.ensures.seen) c.in_ok-write_synced.ensures.seen c.in_ok-write_synced.ensures.durable c.in_ok-write_synced.ensures.known
+    (c.in_ok-found.ensures.disk.seen ∙ c.in_ok-len.ensures.seen) c.in_ok-write_synced-in-Some.ensures.seen c.in_ok-write_synced-in-Some.ensures.durable c.in_ok-write_synced-in-Some.ensures.known

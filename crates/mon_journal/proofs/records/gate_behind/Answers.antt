@@ -1,4 +1,4 @@
-use Rattle.std.proofs.Common.{◌≡◌, ◌+◌, ◌<◌, ◌^◌, ℕ, List, Option, None, Ok, subst, ◌∙◌, arith}
+use Rattle.std.proofs.Common.{◌+◌, ◌<◌, ◌^◌, ℕ, List, Option, None, Ok, subst, ◌∙◌, arith}
 use Rattle.std.specs.Prelude.{IfSome}
 use Rattle.mon_journal.specs.Content.{HeadAt}
 use Rattle.mon_journal.specs.Pieces.{left_at}

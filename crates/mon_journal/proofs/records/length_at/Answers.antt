@@ -1,4 +1,4 @@
-use Rattle.std.proofs.Common.{◌+◌, ◌≡◌, List, ℕ, Option, length, take, drop, subst, ap, ◌∙◌, arith}
+use Rattle.std.proofs.Common.{◌+◌, ◌≡◌, List, ℕ, Option, take, drop, subst, ap, ◌∙◌, arith}
 use Rattle.std.specs.Prelude.{IfSome}
 use Rattle.byteorder.specs.Endian.{little_number}
 use Rattle.mon_journal.proofs.Heads.{past, shut, cut_in_length, cut_in_payload, whole}
