@@ -181,9 +181,9 @@ module _ {D : Type 0} (state : D → DiskState) (a b : OnDisk) (on_a on_b : D) (
             (subst (λ (i : Journal). Sound i r.kv (state (of_live side new_a new_b)).known (state (of_live side new_a new_b)).content (state (of_live (other_side side) new_a new_b)).content) (sym journal) sound)
 
   -- and what it returns is what the bytes give
-  pub gives_restored : {P : List (List ℕ) → Type 0} (side : Side) → chosen (held_in a) (held_in b) (len_of a) (len_of b) ≡ Ok (Live side (held_by j payloads)) → is_some (state on_a).content.seen ≡ is_some s → is_some (state on_b).content.seen ≡ is_some t
+  pub gives_restored : (P : List (List ℕ) → Type 0) (side : Side) → chosen (held_in a) (held_in b) (len_of a) (len_of b) ≡ Ok (Live side (held_by j payloads)) → is_some (state on_a).content.seen ≡ is_some s → is_some (state on_b).content.seen ≡ is_some t
       → IfSome (state (of_live side on_a on_b)).content.seen (λ file. P (payloads_of file)) → (x y : List ℕ) → s ≡ Some x → t ≡ Some y → P payloads
-  gives_restored {P = P} side is tells_a tells_b gives x y p q =
+  gives_restored P side is tells_a tells_b gives x y p q =
       let some_a : is_some (state on_a).content.seen ≡ true = tells_a ∙ ap is_some p in
       let some_b : is_some (state on_b).content.seen ≡ true = tells_b ∙ ap is_some q in
       by (state (of_live side on_a on_b)).content.seen (each side some_a some_b) (live_file side (chosen_live a b side (held_by j payloads) is)).1 gives

@@ -5,8 +5,8 @@ use Rattle.mon_store.specs.Checkpoint.{most_size}
 use Rattle.mon_store.proofs.Folds.{IsFoldedOn}
 use Rattle.mon_store.proofs.fold.fold.Given as goal
 
-abbrev pub invariant-loop-payload : goal.invariant-loop-payload
-invariant-loop-payload g l = record {
+abbrev pub invariant-loop-kv : goal.invariant-loop-kv
+invariant-loop-kv g l = record {
   map : IsFoldedOn (g.D.Disk.state l.fn.disk).content.seen l.reader.gate l.at l.kv;
   size : size_of l.kv ≤ most_size;
   disk : OnlyReads None (g.D.Disk.state l.fn.disk) (g.D.Disk.state l.disk);
@@ -14,5 +14,5 @@ invariant-loop-payload g l = record {
   reach : l.journal.next_gate < l.reader.piece.end;
 }
 
-abbrev pub decreases-loop-payload : goal.decreases-loop-payload
-decreases-loop-payload g l = l.reader.piece.end - l.reader.gate
+abbrev pub decreases-loop-kv : goal.decreases-loop-kv
+decreases-loop-kv g l = l.reader.piece.end - l.reader.gate

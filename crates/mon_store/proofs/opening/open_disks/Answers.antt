@@ -210,7 +210,7 @@ returns-in-Live-clause-answer g c =
     c.in_ok-choose.ensures.found (payloads_told s) (payloads_told t) ∙ ap (λ x. Ok (found_of (payloads_told s) (payloads_told t) x)) c.in-Live.is in
     answers_live on_a on_b s t (state a).known (state b).known (state a).content (state b).content c.in_ok-both.ensures.a c.in_ok-both.ensures.b c.args.member.now
     c.restore.result side j payloads is
-    (gives_restored state on_a on_b a b s t j payloads c.in_ok-both.ensures.a c.in_ok-both.ensures.b {P = λ ps. Gives (λ r. (Live side (held_by j ps), r.kv)) c.restore.result (taken (owner_of c.args.member.now) (Live side (held_by j ps)))} side is c.open_both.ensures.a_tells c.open_both.ensures.b_tells c.restore.ensures.answer)
+    (gives_restored state on_a on_b a b s t j payloads c.in_ok-both.ensures.a c.in_ok-both.ensures.b (λ ps. Gives (λ r. (Live side (held_by j ps), r.kv)) c.restore.result (taken (owner_of c.args.member.now) (Live side (held_by j ps)))) side is c.open_both.ensures.a_tells c.open_both.ensures.b_tells c.restore.ensures.answer)
     c.restore.ensures.side c.restore.ensures.journal c.restore.ensures.owner
 
 pub returns-in-Live-clause-sound : goal.returns-in-Live-clause-sound
