@@ -1,6 +1,6 @@
 -- The calls of opening two disks, from those of its parts.
 use Rattle.std.proofs.Common.{◌≡◌, ℕ, true, is_some, List, [], Option, Some, None, Result, Ok, Err, refl, sym, ap, subst, ◌∙◌}
-use Rattle.std.specs.Prelude.{IfSome, IfErr}
+use Rattle.std.specs.Prelude.{IfSome}
 use Rattle.mon_types.specs.declared.names.Side.{Side}
 use Rattle.mon_types.specs.declared.names.Side.TheVariants.{A, B}
 use Rattle.mon_disk.specs.declared.disk.DiskCall.{DiskCall}

@@ -1,26 +1,21 @@
 -- The live disk's file is read again, after both were opened.
-use Rattle.std.proofs.Common.{◌≡◌, ◌⊎◌, ⊎_elim, inl, inr, ℕ, ◌≤◌, ◌<◌, true, false, is_some, List, [], Option, Some, None, Result, Ok, Err, refl, sym, ap, subst, ◌∙◌, arith}
+use Rattle.std.proofs.Common.{◌≡◌, ◌⊎◌, ⊎_elim, inl, inr, ℕ, ◌≤◌, ◌<◌, true, is_some, List, Option, Some, None, Result, Err, sym, ap, subst, ◌∙◌, arith}
 use Rattle.std.specs.Prelude.{IfSome, IfErr, slice_index_or}
 use Rattle.mon_types.specs.declared.names.Stop.{Stop}
 use Rattle.mon_types.specs.declared.names.Stop.TheVariants as disk_stop
 use Rattle.mon_types.specs.declared.names.Side.{Side}
 use Rattle.mon_types.specs.declared.names.Side.TheVariants.{A, B}
-use Rattle.mon_types.specs.Sides.{other as other_side}
 use Rattle.mon_disk.specs.Images.{Content, images, Only, LeavesOnly}
 use Rattle.mon_disk.specs.Calls.{Told, DiskState, faults_after, MayWant}
 use Rattle.mon_disk.proofs.Following.{now}
-use Rattle.mon_journal.specs.declared.stop.JournalStop.{JournalStop}
 use Rattle.mon_journal.specs.declared.journal.Journal.{Journal}
-use Rattle.mon_journal.specs.Content.{content, payloads_of, Holds}
+use Rattle.mon_journal.specs.Content.{payloads_of, Holds}
 use Rattle.mon_journal.specs.Pieces.{OnlyReads}
 use Rattle.mon_journal.specs.Steps.{Stands}
-use Rattle.mon_journal.proofs.Looking.{nothing_read}
 use Rattle.mon_store.specs.declared.stop.OpenStop.{OpenStop}
-use Rattle.mon_store.specs.declared.stop.OpenStop.TheVariants.{DiskFault, OutOfMemory}
-use Rattle.mon_store.specs.declared.stop.OpenStop.TheVariants as stop
-use Rattle.mon_store.specs.Moments.{Lasts, Meanwhile}
+use Rattle.mon_store.specs.declared.stop.OpenStop.TheVariants.{DiskFault}
+use Rattle.mon_store.specs.Moments.{Meanwhile}
 use Rattle.mon_store.specs.Opening.{stop_in, Counts, BothCount, Rereads}
-use Rattle.mon_store.specs.Sound.{of_live}
 
 -- ---- of one disk
 

@@ -1,5 +1,4 @@
 use Rattle.std.proofs.Common.{◌≡◌, ◌<◌, ◌+◌, List, ℕ, Vec, Global, Option, Some, None, Ok, Err, length, sym, subst}
-use Rattle.std.specs.Prelude.{IfSome}
 use Rattle.std.proofs.lemmas.Result.{err_from_is_err_and}
 use Rattle.mon_bytes.proofs.Fields.{ok_is}
 use Rattle.mon_journal.proofs.Looking.{then_reads}

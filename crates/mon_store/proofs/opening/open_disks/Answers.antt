@@ -192,7 +192,7 @@ restore-requires g c =
     let payloads = of_live side (payloads_told s) (payloads_told t) in
     let is : chosen (held_in on_a) (held_in on_b) (len_of on_a) (len_of on_b) ≡ Ok (Live side (held_by j payloads)) =
     c.in_ok-choose.ensures.found (payloads_told s) (payloads_told t) ∙ ap (λ x. Ok (found_of (payloads_told s) (payloads_told t) x)) c.in-Live.is in
-    (live_file state on_a on_b a b s t j payloads c.in_ok-both.ensures.a c.in_ok-both.ensures.b side (chosen_live on_a on_b side (held_by j payloads) is)).0.holds
+    record { holds = (live_file state on_a on_b a b s t j payloads c.in_ok-both.ensures.a c.in_ok-both.ensures.b side (chosen_live on_a on_b side (held_by j payloads) is)).0.holds }
 
 pub returns-in-Live-clause-answer : goal.returns-in-Live-clause-answer
 returns-in-Live-clause-answer g c =
