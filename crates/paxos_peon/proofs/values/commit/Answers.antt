@@ -29,41 +29,47 @@ learn-requires c = record {
 
 pub returns-then-is_ahead-clause-plans : goal.returns-then-is_ahead-clause-plans
 returns-then-is_ahead-clause-plans c =
-    λ me now f e.
-    let s = c.args.state.now in
-    let w = readings_of c.args.stored.now in
-    only_acts me now peon_is (IsOurs w s f e) (λ x. x) (hear_commit f e c.args.from c.args.values.now)
+    λ e.
+    let here = c.args.here.now in
+    let me = here.me.now in
+    let s = here.state.now in
+    let w = readings_of here.stored.now in
+    only_acts me here.time peon_is (IsOurs w s s.leader e) (λ x. x) (hear_commit s.leader e c.args.from c.args.values.now)
     [] tt s (λ x b. kept-peon s x b.role) next.Stay (λ x. refl)
-    (λ x b. commit-ahead w s f e x b c.args.from c.args.values.now (sym c.is_ahead.ensures ∙ c.if-is_ahead.true))
+    (λ x b. commit-ahead w s s.leader e x b c.args.from c.args.values.now (sym c.is_ahead.ensures ∙ c.if-is_ahead.true))
     c.stay.result c.stay.ensures
 
 pub returns-in-Err-clause-plans : goal.returns-in-Err-clause-plans
 returns-in-Err-clause-plans c =
-    λ me now f e.
-    let s = c.args.state.now in
-    let w = readings_of c.args.stored.now in
+    λ e.
+    let here = c.args.here.now in
+    let me = here.me.now in
+    let s = here.state.now in
+    let w = readings_of here.stored.now in
     let v = c.get-next.result + 1 in
     let k = c.min-known.result in
     let low : c.args.from ≤ v = (let le = ltb-false (suc w.last) c.args.from (sym c.is_ahead.ensures ∙ c.if-is_ahead.false) in omega (arith, le, c.get-next.ensures.value, c.last.ensures.value)) in
-    learn-fails me now peon_is (IsOurs w s f e) (λ x. x) (hear_commit f e c.args.from c.args.values.now)
+    learn-fails me here.time peon_is (IsOurs w s s.leader e) (λ x. x) (hear_commit s.leader e c.args.from c.args.values.now)
     v (take (length c.args.values.now - k) (drop k c.args.values.now)) c.in-Err.stop c.in-Err.ensures.act
     (λ x b.
-    commit-learns w s f e x b c.args.from c.args.values.now v k (omega (arith, c.get-next.ensures.value, c.last.ensures.value))
+    commit-learns w s s.leader e x b c.args.from c.args.values.now v k (omega (arith, c.get-next.ensures.value, c.last.ensures.value))
     low (c.min-known.ensures ∙ ap (λ (n : ℕ). min (v - n) (length c.args.values.now)) c.get.ensures.value))
 
 pub returns-clause-plans : goal.returns-clause-plans
 returns-clause-plans c =
-    λ me now f e.
-    let s = c.args.state.now in
-    let w = readings_of c.args.stored.now in
+    λ e.
+    let here = c.args.here.now in
+    let me = here.me.now in
+    let s = here.state.now in
+    let w = readings_of here.stored.now in
     let v = c.get-next.result + 1 in
     let k = c.min-known.result in
     let low : c.args.from ≤ v = (let le = ltb-false (suc w.last) c.args.from (sym c.is_ahead.ensures ∙ c.if-is_ahead.false) in omega (arith, le, c.get-next.ensures.value, c.last.ensures.value)) in
     let news = take (length c.args.values.now - k) (drop k c.args.values.now) in
-    does me now peon_is (IsOurs w s f e) (λ x. x) (hear_commit f e c.args.from c.args.values.now)
+    does me here.time peon_is (IsOurs w s s.leader e) (λ x. x) (hear_commit s.leader e c.args.from c.args.values.now)
     (learned v news) c.in-Ok.ensures.fit [] [] s next.Stay
     (λ x b.
-    commit-learns w s f e x b c.args.from c.args.values.now v k (omega (arith, c.get-next.ensures.value, c.last.ensures.value))
+    commit-learns w s s.leader e x b c.args.from c.args.values.now v k (omega (arith, c.get-next.ensures.value, c.last.ensures.value))
     low (c.min-known.ensures ∙ ap (λ (n : ℕ). min (v - n) (length c.args.values.now)) c.get.ensures.value)
     ∙ c.in-Ok.ensures.act x ∙ sym (ap Ok (kept-peon s (changed (learned v news) x) (ap (λ (st : State). st.peon) (changed-state (learned v news) x) ∙ b.role))))
     (record { tx = c.learn.new.tx; out = c.new.result; timers = c.new-2.result; state = s; next = next.Stay })
