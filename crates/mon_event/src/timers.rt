@@ -3,6 +3,7 @@
 ghost use Rattle.std.specs.Prelude.{◌≡◌, ◌<◌};
 ghost use Rattle.mon_msg.specs.Protocol.Timers.{index_of, end_of, is_armed, unarmed, disarmed, only_ping, sooner, due, soonest};
 ghost use Rattle.mon_plan.specs.Plans.{is_needed, armed_as, all_armed};
+ghost use Rattle.mon_wire.specs.declared.phase.TheConstants.Timer.{COUNT};
 
 use mon_msg::{Arming, Timer};
 use mon_types::Moment;
@@ -11,7 +12,7 @@ use std::marker::Model;
 /// For each kind of timer, in their order, the time for which it is armed.
 #[derive(Clone, Copy, Debug, PartialEq, Eq)]
 pub struct Timers {
-    ends: [Option<Moment>; 11],
+    ends: [Option<Moment>; Timer::COUNT],
 }
 
 impl Model for Timers {
@@ -24,23 +25,12 @@ impl Model for Timers {
     ghost inverse = { λ ends. record { ends = ends } };
 }
 
+/// The place of a kind among all.
 fn index_of(kind: Timer) -> usize
     ensures value { result ≡ index_of kind }
-    ensures below { result < 11 }
+    ensures below { result < COUNT }
 {
-    match kind {
-        Timer::Probe => 0,
-        Timer::Election => 1,
-        Timer::Collect => 2,
-        Timer::Accept => 3,
-        Timer::Renew => 4,
-        Timer::LeaseAck => 5,
-        Timer::Lease => 6,
-        Timer::Sync => 7,
-        Timer::Step => 8,
-        Timer::Propose => 9,
-        Timer::Ping => 10,
-    }
+    kind as usize
 }
 
 /// The sooner of a timer and of the soonest of the kinds after it. At the same time the timer comes first.
@@ -69,7 +59,9 @@ impl Timers {
     pub fn unarmed() -> Timers
         ensures { result ≡ unarmed }
     {
-        Timers { ends: [None; 11] }
+        Timers {
+            ends: [None; Timer::COUNT],
+        }
     }
 
     /// The time for which a timer is armed.
@@ -97,9 +89,9 @@ impl Timers {
     pub fn only_ping(&self) -> Timers
         ensures { result ≡ only_ping self.now }
     {
-        let mut ends = [None; 11];
-        ends[10] = self.end_of(Timer::Ping);
-        Timers { ends }
+        let mut only = Timers::unarmed();
+        only.ends[index_of(Timer::Ping)] = self.end_of(Timer::Ping);
+        only
     }
 
     /// Whether arming sets a timer. The one that proposes is set only if a command waits. The one that awaits
@@ -150,16 +142,11 @@ impl Timers {
     pub fn due(&self) -> Option<(Timer, Moment)>
         ensures { result ≡ due self.now }
     {
-        let next = sooner(Timer::Ping, self.end_of(Timer::Ping), None);
-        let next = sooner(Timer::Propose, self.end_of(Timer::Propose), next);
-        let next = sooner(Timer::Step, self.end_of(Timer::Step), next);
-        let next = sooner(Timer::Sync, self.end_of(Timer::Sync), next);
-        let next = sooner(Timer::Lease, self.end_of(Timer::Lease), next);
-        let next = sooner(Timer::LeaseAck, self.end_of(Timer::LeaseAck), next);
-        let next = sooner(Timer::Renew, self.end_of(Timer::Renew), next);
-        let next = sooner(Timer::Accept, self.end_of(Timer::Accept), next);
-        let next = sooner(Timer::Collect, self.end_of(Timer::Collect), next);
-        let next = sooner(Timer::Election, self.end_of(Timer::Election), next);
-        sooner(Timer::Probe, self.end_of(Timer::Probe), next)
+        let mut next = None;
+        for i in (0..Timer::COUNT).rev() {
+            let kind = Timer::ALL[i];
+            next = sooner(kind, self.end_of(kind), next);
+        }
+        next
     }
 }

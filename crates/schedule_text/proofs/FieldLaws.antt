@@ -12,13 +12,14 @@ use Rattle.mon_bytes.specs.Texts.{graphic, is_name}
 use Rattle.mon_bytes.proofs.Ascii.{both, IsAscii-from_all}
 use Rattle.mon_types.specs.declared.names.Side.{Side}
 use Rattle.mon_types.specs.declared.names.Side.TheVariants as side
+use Rattle.mon_wire.specs.declared.phase.TheConstants.Timer.{ALL}
 use Rattle.mon_wire.specs.declared.phase.Timer.{Timer}
 use Rattle.mon_wire.specs.declared.phase.Timer.TheVariants.{Probe, Election, Collect, Accept, Renew, LeaseAck, Lease, Sync, Step, Propose, Ping}
 use Rattle.mon_wire.specs.declared.request.Service.{Service}
 use Rattle.mon_wire.specs.declared.request.Service.TheVariants as service
 use Rattle.schedule_text.specs.declared.refusal.ScheduleKind.{ScheduleKind}
 use Rattle.schedule_text.specs.declared.refusal.ScheduleKind.TheVariants as kind
-use Rattle.schedule_text.specs.Words.{printable, service_text, side_text, timer_text, timers}
+use Rattle.schedule_text.specs.Words.{printable, service_text, side_text, timer_text}
 use Rattle.schedule_text.specs.Fields.{◌>>=◌, cut, digit, next, field_at, ended, text_at, within, number_of, rank_of, name_of, service_of, side_of, timer_among, timer_of}
 use Rattle.schedule_text.specs.Spelling.{spaced}
 use Rattle.mon_bytes.proofs.Fields.{guard_ok, chosen_ok, ok_is}
@@ -260,7 +261,7 @@ among_takes (first ∷ ts) f t e =
 
 timer_takes : (f : List ℕ) (t : Timer) → timer_of f ≡ Ok t → (f ≡ timer_text t) × IsTrue (always t)
 unfolding timer_of
-timer_takes f t e = (among_takes timers f t e, refl)
+timer_takes f t e = (among_takes ALL f t e, refl)
 
 timer_again : (t : Timer) → IsTrue (always t) → timer_of (timer_text t) ≡ Ok t
 unfolding timer_of

@@ -8,3 +8,4 @@ pub mod ScheduleLoop
 pub mod ScheduleLaws
 pub mod Lengths
 pub mod Fits
+pub mod TimerLoop

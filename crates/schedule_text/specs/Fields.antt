@@ -7,12 +7,13 @@ use Rattle.mon_bytes.specs.Texts.{is_name}
 pub use Rattle.mon_bytes.specs.Answers.{◌>>=◌}
 use Rattle.mon_types.specs.declared.names.Side.{Side}
 use Rattle.mon_types.specs.declared.names.Side.TheVariants as side
+use Rattle.mon_wire.specs.declared.phase.TheConstants.Timer.{ALL}
 use Rattle.mon_wire.specs.declared.phase.Timer.{Timer}
 use Rattle.mon_wire.specs.declared.request.Service.{Service}
 use Rattle.mon_wire.specs.declared.request.Service.TheVariants as service
 use Rattle.schedule_text.specs.declared.refusal.ScheduleKind.{ScheduleKind}
 use Rattle.schedule_text.specs.declared.refusal.ScheduleKind.TheVariants as kind
-use Rattle.schedule_text.specs.Words.{printable, timers, timer_text}
+use Rattle.schedule_text.specs.Words.{printable, timer_text}
 
 -- What a function answered, seen by view, is what reading gives.
 abbrev pub Is : {X Y : Type 0} → (X → Y) → Result X ScheduleKind → Result Y ScheduleKind → Type 0
@@ -95,4 +96,4 @@ timer_among [] field = Err kind.Word
 timer_among (timer ∷ others) field = if bytes_eq field (timer_text timer) then Ok timer else timer_among others field
 
 unfoldable pub timer_of : List ℕ → Result Timer ScheduleKind
-timer_of field = timer_among timers field
+timer_of field = timer_among ALL field

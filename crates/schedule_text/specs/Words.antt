@@ -1,5 +1,5 @@
 -- The words of schedules.
-use Rattle.std.specs.Prelude.{ℕ, Bool, ◌&&◌, List, [], ◌∷◌, codes, nat_le}
+use Rattle.std.specs.Prelude.{ℕ, Bool, ◌&&◌, List, codes, nat_le}
 use Rattle.mon_types.specs.declared.names.Side.{Side}
 use Rattle.mon_types.specs.declared.names.Side.TheVariants.{A, B}
 use Rattle.mon_wire.specs.declared.phase.Timer.{Timer}
@@ -31,6 +31,3 @@ timer_text Sync = codes "sync"
 timer_text Step = codes "step"
 timer_text Propose = codes "propose"
 timer_text Ping = codes "ping"
-
-abbrev pub timers : List Timer
-timers = Probe ∷ Election ∷ Collect ∷ Accept ∷ Renew ∷ LeaseAck ∷ Lease ∷ Sync ∷ Step ∷ Propose ∷ Ping ∷ []

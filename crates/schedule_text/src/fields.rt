@@ -128,38 +128,10 @@ fn is_timer(field: &[u8], timer: Timer) -> bool
 fn timer_of(field: &[u8]) -> Result<Timer, ScheduleKind>
     ensures { Is (λ x. x) result (timer_of field.now) }
 {
-    if is_timer(field, Timer::Probe) {
-        return Ok(Timer::Probe);
-    }
-    if is_timer(field, Timer::Election) {
-        return Ok(Timer::Election);
-    }
-    if is_timer(field, Timer::Collect) {
-        return Ok(Timer::Collect);
-    }
-    if is_timer(field, Timer::Accept) {
-        return Ok(Timer::Accept);
-    }
-    if is_timer(field, Timer::Renew) {
-        return Ok(Timer::Renew);
-    }
-    if is_timer(field, Timer::LeaseAck) {
-        return Ok(Timer::LeaseAck);
-    }
-    if is_timer(field, Timer::Lease) {
-        return Ok(Timer::Lease);
-    }
-    if is_timer(field, Timer::Sync) {
-        return Ok(Timer::Sync);
-    }
-    if is_timer(field, Timer::Step) {
-        return Ok(Timer::Step);
-    }
-    if is_timer(field, Timer::Propose) {
-        return Ok(Timer::Propose);
-    }
-    if is_timer(field, Timer::Ping) {
-        return Ok(Timer::Ping);
+    for timer in &Timer::ALL {
+        if is_timer(field, *timer) {
+            return Ok(*timer);
+        }
     }
     Err(ScheduleKind::Word)
 }
