@@ -1,11 +1,10 @@
-use Rattle.std.proofs.Common.{◌≡◌, suc, ◌≤◌, ◌<◌, ◌^◌, List, [], length, Some, Ok, true, false, refl, sym, ap, subst, ◌∙◌, arith}
+use Rattle.std.proofs.Common.{◌≡◌, suc, ◌≤◌, ◌<◌, ◌^◌, List, [], Some, Ok, true, false, refl, sym, ap, subst, ◌∙◌, arith}
 use Rattle.mon_msg.specs.Protocol.Leading.{begin, begin_alone, begin_with}
 use Rattle.mon_msg.specs.Protocol.Readings.{Readings, readings_of, epoch_of}
 use Rattle.mon_msg.specs.Protocol.Sending.{members}
 use Rattle.mon_msg.specs.Protocol.Sets.{is_empty}
 use Rattle.mon_msg.specs.declared.paxos.Leader.{Leader}
 use Rattle.mon_msg.specs.declared.paxos.LeaderStage.TheVariants as stage
-use Rattle.mon_tx.specs.Text.{text, most}
 use Rattle.mon_tx.specs.declared.op.Op.{Op}
 use Rattle.mon_plan.specs.Plans.{Plans, leads}
 use Rattle.mon_plan.proofs.Planning.{instead}

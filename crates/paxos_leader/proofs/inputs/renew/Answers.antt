@@ -18,10 +18,10 @@ use Rattle.paxos_leader.proofs.inputs.renew.Goals as goal
 
 pub returns-then-not-is_active-clause-plans : goal.returns-then-not-is_active-clause-plans
 returns-then-not-is_active-clause-plans c =
-    let me = c.args.me.now in
-    let now = c.args.now in
+    let me = c.args.here.now.me.now in
+    let now = c.args.here.now.time in
     let l : Leader = c.args.state in
-    let w : Readings = readings_of c.args.kv.now in
+    let w : Readings = readings_of c.args.here.now.kv.now in
     nothing_but me now (IsMet me now w c.args.view.now (λ s. s.leader) l) (renew me now) l
     (λ x b lead. ap (λ (k : Leader). phase_of k.stage) (sym b.role) ∙ b.seen.stage lead)
     next.Stay (λ x. refl) (λ x b. b.role)
@@ -30,10 +30,10 @@ returns-then-not-is_active-clause-plans c =
 
 pub returns-clause-plans : goal.returns-clause-plans
 returns-clause-plans c =
-    let me = c.args.me.now in
-    let now = c.args.now in
+    let me = c.args.here.now.me.now in
+    let now = c.args.here.now.time in
     let l : Leader = c.args.state in
-    let w : Readings = readings_of c.args.kv.now in
+    let w : Readings = readings_of c.args.here.now.kv.now in
     let e = c.own_epoch-epoch.result in
     let v = c.own_last-last.result in
     let drafted : c.new-draft.result ≡ record { tx = []; out = []; state = l } = c.new-draft.ensures in

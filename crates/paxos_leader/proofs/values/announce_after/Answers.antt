@@ -8,5 +8,5 @@ use Rattle.paxos_leader.proofs.values.announce_after.Goals as goal
 pub returns-clause-goes : goal.returns-clause-goes
 returns-clause-goes c =
     subst (λ (here : ℕ × ℕ). IfOk c.announce.result
-    (λ (p : Plan Leader). GoesOn c.args.me.now c.args.now (IsHere here.0 here.1) (record { tx = c.args.tx; out = []; state = c.args.state }) (announced c.args.me.now c.args.now c.args.version c.args.values) (Ok p)))
+    (λ (p : Plan Leader). GoesOn c.args.here.now.me.now c.args.here.now.time (IsHere here.0 here.1) (record { tx = c.args.tx; out = []; state = c.args.state }) (announced c.args.here.now.me.now c.args.here.now.time c.args.version c.args.values) (Ok p)))
     c.in_ok-epoch.ensures c.announce.ensures.goes
