@@ -78,10 +78,7 @@ pub(crate) fn commit(
     let next = here.stored.last().get() + 1;
     let known = (next - from.get()).min(values.len() as u64) as usize;
     let mut tx = Transaction::new(here.alloc);
-    match learn(&mut tx, next, &values[known..]) {
-        Ok(()) => {}
-        Err(stop) => return Err(stop),
-    }
+    learn(&mut tx, next, &values[known..])?;
     Ok(Plan {
         tx,
         out: Items::new(here.alloc),
