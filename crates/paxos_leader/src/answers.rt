@@ -22,7 +22,7 @@ ghost use Rattle.paxos_leader.specs.Rows.{ByRow, IsHeard, Notes, NotesFound, may
 
 use crate::collecting::{ask_again, settle, take_found};
 use crate::draft::Draft;
-use crate::seen::{Act, Here, own_last};
+use crate::seen::{Act, Here};
 use crate::sets::are_within;
 use mon_bytes::OutOfMemory;
 use mon_msg::{Found, Leader, Next, Plan, RoleStop, Told};
@@ -199,12 +199,7 @@ fn go_on_after(
     ensures stays { IfOk result (λ p. p.next ≡ Next.Stay) }
 {
     let stored = Stored::after(here.alloc, here.kv, tx)?;
-    let act = Act {
-        alloc: here.alloc,
-        me: here.me,
-        epoch: stored.epoch(),
-        time: here.time,
-    };
+    let act = here.act(stored.epoch());
     go_on(&act, &stored, state, answer)
 }
 
@@ -250,7 +245,7 @@ fn hear_answer(
         answer.now.values.now answer.now.pending.now) result }
     ensures stays { IfOk result (λ p. p.next ≡ Next.Stay) }
 {
-    let own = own_last(here);
+    let own = here.own_last();
     let mut tx = Transaction::new(here.alloc);
     match learn_news(&mut tx, own, answer) {
         Ok(()) => {}
@@ -292,18 +287,13 @@ pub(crate) fn hear_last(
         let quorum = state.quorum;
         drop(state);
         let stored = Stored::of(here.alloc, here.kv);
-        let act = Act {
-            alloc: here.alloc,
-            me: here.me,
-            epoch: stored.epoch(),
-            time: here.time,
-        };
+        let act = here.act(stored.epoch());
         return ask_again(&act, &stored, quorum, answer.pn);
     }
     if answer.pn.get() < state.pn.get() {
         return Ok(stay(here.alloc, state));
     }
-    if is_behind(own_last(here), answer) {
+    if is_behind(here.own_last(), answer) {
         return Ok(planned(here.alloc, state, Next::Bootstrap));
     }
     hear_answer(here, state, answer)

@@ -26,7 +26,7 @@ use crate::acts::{at_rest, be_active, begin_with};
 use crate::answers::{Answer, hear_last};
 use crate::collecting::collect;
 use crate::draft::{Draft, tell};
-use crate::seen::{Act, Here, own_epoch, own_last};
+use crate::seen::{Act, Here};
 use crate::sets::leads_alone;
 use crate::values::{hear_accept, hear_lease_ack};
 use mon_bytes::{Items, OutOfMemory};
@@ -126,7 +126,7 @@ fn hear(
         (λ me now. hears me shared now message.now.from message.now.epoch message.now.body) result }
     ensures leaves { IfOk result (λ p. Leaves view.now.phase p.next p.tx) }
 {
-    let epoch = own_epoch(here);
+    let epoch = here.own_epoch();
     if !is_ours(epoch, view, &state, message) {
         return Ok(stay(here.alloc, state));
     }
@@ -153,7 +153,7 @@ fn hear(
             };
             hear_last(here, state, &answer)
         }
-        Body::Accept { pn, version } => { hear_accept(here, state, from, *pn, *version) }
+        Body::Accept { pn, version } => hear_accept(here, state, from, *pn, *version),
         Body::LeaseAck { last } => hear_lease_ack(here, state, from, *last),
         _ => unreachable!(),
     }
@@ -167,15 +167,10 @@ fn renew(here: &Here<'_>, view: &View, state: Leader) -> Result<Plan<Leader>, Ro
     if !is_active(view.phase) {
         return Ok(stay(here.alloc, state));
     }
-    let epoch = own_epoch(here);
-    let last = own_last(here);
+    let epoch = here.own_epoch();
+    let last = here.own_last();
     let draft = Draft::new(here.alloc, state);
-    let act = Act {
-        alloc: here.alloc,
-        me: here.me,
-        epoch,
-        time: here.time,
-    };
+    let act = here.act(epoch);
     Ok(be_active(&act, last, draft)?)
 }
 
@@ -371,7 +366,7 @@ pub fn begin_owned(
         me,
         time: now,
     };
-    let Some(version) = own_last(&here).plus_one() else {
+    let Some(version) = here.own_last().plus_one() else {
         drop(state);
         drop(value);
         return Err(RoleStop::Spent {
@@ -381,14 +376,9 @@ pub fn begin_owned(
     if leads_alone(me, &state) {
         return begin_answered(&here, state, version, value, origin);
     }
-    let epoch = own_epoch(&here);
+    let epoch = here.own_epoch();
     let draft = Draft::new(alloc, state);
-    let act = Act {
-        alloc,
-        me,
-        epoch,
-        time: now,
-    };
+    let act = here.act(epoch);
     let stage = LeaderStage::Updating;
     begin_with(&act, draft, stage, version, value, Some(origin))
 }

@@ -27,16 +27,30 @@ pub(crate) struct Act<'a> {
     pub(crate) time: Moment,
 }
 
-/// The own epoch.
-pub(crate) fn own_epoch(here: &Here<'_>) -> Epoch
-    ensures { result ≡ epoch_of (readings_of here.now.kv.now) }
-{
-    Stored::of(here.alloc, here.kv).epoch()
-}
+impl<'a> Here<'a> {
+    /// The own epoch.
+    pub(crate) fn own_epoch(&self) -> Epoch
+        ensures { result ≡ epoch_of (readings_of self.now.kv.now) }
+    {
+        Stored::of(self.alloc, self.kv).epoch()
+    }
 
-/// The own last version.
-pub(crate) fn own_last(here: &Here<'_>) -> Version
-    ensures { result ≡ (readings_of here.now.kv.now).last }
-{
-    Stored::of(here.alloc, here.kv).last()
+    /// The own last version.
+    pub(crate) fn own_last(&self) -> Version
+        ensures { result ≡ (readings_of self.now.kv.now).last }
+    {
+        Stored::of(self.alloc, self.kv).last()
+    }
+
+    /// What an act in this epoch reads.
+    pub(crate) fn act(&self, epoch: Epoch) -> Act<'a>
+        ensures { result ≡ record { alloc = self.now.alloc; me = self.now.me; epoch = epoch; time = self.now.time } }
+    {
+        Act {
+            alloc: self.alloc,
+            me: self.me,
+            epoch,
+            time: self.time,
+        }
+    }
 }

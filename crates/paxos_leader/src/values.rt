@@ -19,7 +19,7 @@ ghost use Rattle.paxos_leader.specs.Rows.{ByRow, IsHeard};
 
 use crate::acts::be_active;
 use crate::draft::{Draft, tell};
-use crate::seen::{Act, Here, own_last};
+use crate::seen::{Act, Here};
 use crate::sets::are_within;
 use crate::timers::one_timer;
 use mon_bytes::{Items, OutOfMemory};
@@ -111,12 +111,7 @@ fn announce_after(
     ensures stays { IfOk result (λ p. p.next ≡ Next.Stay) }
 {
     let (epoch, last) = standing(here, &tx)?;
-    let act = Act {
-        alloc: here.alloc,
-        me: here.me,
-        epoch,
-        time: here.time,
-    };
+    let act = here.act(epoch);
     announce(&act, last, tx, state, version, values)
 }
 
@@ -150,7 +145,7 @@ fn commit(here: &Here<'_>, state: Leader, value: Transaction) -> Result<Plan<Lea
         (commits here.now.me.now here.now.time value) result }
     ensures stays { IfOk result (λ p. p.next ≡ Next.Stay) }
 {
-    let Some(version) = own_last(here).plus_one() else {
+    let Some(version) = here.own_last().plus_one() else {
         drop(state);
         drop(value);
         return Err(RoleStop::Spent {
@@ -211,7 +206,7 @@ fn all_accepted(me: &Me, state: &Leader) -> bool
 fn is_asked(here: &Here<'_>, state: &Leader, pn: Pn, version: Version) -> bool
     ensures { result ≡ (pn == state.now.pn && version == suc (readings_of here.now.kv.now).last) }
 {
-    pn.get() == state.pn.get() && version.get() == own_last(here).get() + 1
+    pn.get() == state.pn.get() && version.get() == here.own_last().get() + 1
 }
 
 /// A member accepted a value.
@@ -278,7 +273,7 @@ pub(crate) fn hear_lease_ack(
         (ack_row here.now.me.now from e last) result }
     ensures stays { IfOk result (λ p. p.next ≡ Next.Stay) }
 {
-    let own = own_last(here);
+    let own = here.own_last();
     if last.get() != own.get() {
         return Ok(stay(here.alloc, state));
     }

@@ -11,8 +11,9 @@ use Rattle.mon_tx.specs.Map.{Store}
 use Rattle.mon_wire.specs.declared.phase.Phase.TheVariants as phase
 use Rattle.mon_plan.specs.Plans.{leads}
 use Rattle.mon_plan.proofs.Planning.{instead}
-use Rattle.paxos_leader.specs.Drafts.{GoesOn, IsAsking}
+use Rattle.paxos_leader.specs.Drafts.{ActsOn, GoesOn, IsAsking}
 use Rattle.paxos_leader.specs.Rows.{IsHeard}
+use Rattle.paxos_leader.specs.declared.seen.Act.{Act}
 use Rattle.paxos_leader.proofs.Answering.{asks-here, heard-phase}
 use Rattle.paxos_leader.proofs.Going.{from_start}
 use Rattle.paxos_leader.proofs.Hearing.{last-above, last-below, last-behind, last-answer}
@@ -32,7 +33,9 @@ returns-then-get-clause-plans c =
     let Asks = λ (e : ℕ) (m : Store).
     GoesOn me now (IsAsking e (readings_of m)) (record { tx = []; out = []; state = start_leader }) (collect me now l.quorum a.pn) c.ask_again.result in
     from_start me now (IsAsking (epoch_of w) w) (record { tx = []; out = []; state = start_leader }) (collect me now l.quorum a.pn) c.ask_again.result refl
-    (subst (λ (m : Store). Asks (epoch_of (readings_of m)) m) c.of-stored.ensures (subst (λ (e : ℕ). Asks e c.of-stored.result) c.epoch.ensures c.ask_again.ensures.goes))
+    (subst (λ (m : Store). Asks (epoch_of (readings_of m)) m) c.of-stored.ensures (subst (λ (e : ℕ). Asks e c.of-stored.result) c.epoch.ensures
+    (subst (λ (act : Act). ActsOn act (IsAsking act.epoch (readings_of c.of-stored.result)) (record { tx = []; out = []; state = start_leader }) (λ me now. collect me now l.quorum a.pn) c.ask_again.result)
+    c.act-act.ensures c.ask_again.ensures.goes)))
     At (λ x. x) (hear_last me now a.from e a.pn a.first a.last a.whole a.start a.values.now a.pending.now)
     (λ x b. asks-here (epoch_of w) w x b.readings refl (heard-phase a.from e w l x b))
     (λ x b.
