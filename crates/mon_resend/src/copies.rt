@@ -194,7 +194,7 @@ impl Copies {
                 now,
             ),
             Some(Part::First(header, total)) => self.begins(to, header, total, bytes, now),
-            Some(Part::Later) => match self.place_of(to.get()) {
+            Some(Part::Later { .. }) => match self.place_of(to.get()) {
                 Some(place) => self.goes_on_at(place, to, bytes),
                 None => true,
             },
@@ -202,26 +202,35 @@ impl Copies {
         }
     }
 
-    fn comes_at(&mut self, place: usize, header: Header, now: u64) -> bool
+    fn comes_at(&mut self, place: usize, header: Header, bytes: &[u8], now: u64) -> bool
         ensures { AreOf self.old self.new }
     {
         if place >= self.boxes.len() {
             return false;
         }
-        self.boxes[place].comes(header, now)
+        self.boxes[place].comes(header, bytes, now)
     }
 
-    fn hears(&mut self, from: Rank, header: Header, now: u64) -> bool
+    fn hears(&mut self, from: Rank, header: Header, bytes: &[u8], now: u64) -> bool
         ensures { AreOf self.old self.new }
     {
         match self.place_of(from.get()) {
-            Some(place) => self.comes_at(place, header, now),
+            Some(place) => self.comes_at(place, header, bytes, now),
             None => false,
         }
     }
 
-    /// Notes what came from a monitor. Whether it is a BEGIN that was accepted before, whose ACCEPT goes again. Of a long
-    /// message no piece answers anything: another one may be missing.
+    /// Notes that a piece came that answers nothing by itself: another one of its message may be missing.
+    fn hears_piece(&mut self, from: Rank, is_last: bool, now: u64)
+        ensures { AreOf self.old self.new }
+    {
+        if let Some(place) = self.place_of(from.get()) {
+            self.apply_at(place, Event::Piece { is_last }, now);
+        }
+    }
+
+    /// Notes what came from a monitor. Whether the copy of an answer alone answers it. Of a long message only the first
+    /// piece of a question is looked at.
     #[tactic(auto, using(crate::proofs::Parts::same, crate::proofs::Parts::through))]
     pub(crate) fn comes(&mut self, from: Rank, bytes: &[u8], now: u64) -> bool
         ensures { AreOf self.old self.new }
@@ -229,13 +238,20 @@ impl Copies {
         match part_of(bytes) {
             Some(Part::Whole(header)) => {
                 self.rises(header, now);
-                self.hears(from, header, now)
+                self.hears(from, header, bytes, now)
             }
             Some(Part::First(header, _)) => match header.kind {
-                Kind::Begin | Kind::Forward => self.hears(from, header, now),
-                _ => false,
+                Kind::Begin | Kind::Forward => self.hears(from, header, bytes, now),
+                _ => {
+                    self.hears_piece(from, false, now);
+                    false
+                }
             },
-            Some(Part::Later) | None => false,
+            Some(Part::Later { is_last }) => {
+                self.hears_piece(from, is_last, now);
+                false
+            }
+            None => false,
         }
     }
 

@@ -7,6 +7,11 @@ const MESSAGE: u8 = 1;
 
 const PIECE: u8 = 2;
 
+/// The bytes of a message that a piece carries, and those of a piece before them.
+pub(crate) const PART: u32 = 59_000;
+
+pub(crate) const BEFORE: u32 = 28;
+
 /// The fewest bytes of a message that hold its first fields.
 const FIELDS: usize = 28;
 
@@ -90,7 +95,7 @@ impl Kind {
 
     /// Whether a copy of such a message is kept, since it may be asked for again: then it goes again.
     pub(crate) fn answers(self) -> bool {
-        matches!(self, Kind::Accept | Kind::Route)
+        matches!(self, Kind::Accept | Kind::Route | Kind::Chunk)
     }
 }
 
@@ -112,7 +117,7 @@ pub(crate) enum Part {
     /// The first piece of a message of this many bytes.
     First(Header, u32),
     /// Another piece, which holds none of these fields.
-    Later,
+    Later { is_last: bool },
 }
 
 fn read_message(bytes: &[u8]) -> Option<Header> {
@@ -148,7 +153,8 @@ fn read_piece(bytes: &[u8]) -> Option<Part> {
     let total = cursor.take_u32().ok()?;
     let place = cursor.take_u32().ok()?;
     if place != 0 {
-        return Some(Part::Later);
+        let is_last = total.saturating_sub(place) <= PART;
+        return Some(Part::Later { is_last });
     }
     Some(Part::First(read_message(cursor.take_bytes(FIELDS).ok()?)?, total))
 }

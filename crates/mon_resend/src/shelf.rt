@@ -116,14 +116,13 @@ impl Shelf {
     fn apply_at(&mut self, at: usize, event: Event, now: u64)
         ensures { AreOf self.old self.new }
     {
-        let Some(note) = self.note(at) else {
+        let Some(note) = self.note(at).copied() else {
             return;
         };
         if note.is_ended(event, now) {
             self.remove(at);
-        } else if note.is_called(event) {
-            let called = note.called(now);
-            self.set_note(at, called);
+        } else if let Some(changed) = note.after(event, now) {
+            self.set_note(at, changed);
         }
     }
 
