@@ -4,7 +4,7 @@ ghost use Rattle.std.specs.Prelude.{◌≡◌, ◌≤◌, ◌++◌, ◌∷◌, [
 ghost use Rattle.mon_resend.specs.Copied.{AreOf, IsOneOf, all_of, datagram};
 ghost use Rattle.mon_link.specs.declared.link.Peer.TheVariants.{Monitor};
 
-use crate::header::{Header, Kind, Part, part_of};
+use crate::header::{Header, Kind, Part, Piece, part_of};
 use crate::note::Event;
 use crate::outbox::Outbox;
 use mon_link::Outgoing;
@@ -194,7 +194,7 @@ impl Copies {
                 now,
             ),
             Some(Part::First(header, total)) => self.begins(to, header, total, bytes, now),
-            Some(Part::Later { .. }) => match self.place_of(to.get()) {
+            Some(Part::Later(_)) => match self.place_of(to.get()) {
                 Some(place) => self.goes_on_at(place, to, bytes),
                 None => true,
             },
@@ -220,17 +220,25 @@ impl Copies {
         }
     }
 
-    /// Notes that a piece came that answers nothing by itself: another one of its message may be missing.
-    fn hears_piece(&mut self, from: Rank, is_last: bool, now: u64)
+    fn hears_piece_at(&mut self, place: usize, piece: Piece, now: u64)
         ensures { AreOf self.old self.new }
     {
-        if let Some(place) = self.place_of(from.get()) {
-            self.apply_at(place, Event::Piece { is_last }, now);
+        if place < self.boxes.len() {
+            self.boxes[place].hears_piece(piece, now);
         }
     }
 
-    /// Notes what came from a monitor. Whether the copy of an answer alone answers it. Of a long message only the first
-    /// piece of a question is looked at.
+    #[tactic(auto, using(crate::proofs::Parts::same))]
+    fn hears_piece(&mut self, from: Rank, piece: Piece, now: u64)
+        ensures { AreOf self.old self.new }
+    {
+        if let Some(place) = self.place_of(from.get()) {
+            self.hears_piece_at(place, piece, now);
+        }
+    }
+
+    /// Notes what came from a monitor. Whether the copy of an answer alone answers it. Of a long message no piece answers
+    /// anything: another one may be missing.
     #[tactic(auto, using(crate::proofs::Parts::same, crate::proofs::Parts::through))]
     pub(crate) fn comes(&mut self, from: Rank, bytes: &[u8], now: u64) -> bool
         ensures { AreOf self.old self.new }
@@ -242,13 +250,10 @@ impl Copies {
             }
             Some(Part::First(header, _)) => match header.kind {
                 Kind::Begin | Kind::Forward => self.hears(from, header, bytes, now),
-                _ => {
-                    self.hears_piece(from, false, now);
-                    false
-                }
+                _ => false,
             },
-            Some(Part::Later { is_last }) => {
-                self.hears_piece(from, is_last, now);
+            Some(Part::Later(piece)) => {
+                self.hears_piece(from, piece, now);
                 false
             }
             None => false,

@@ -19,7 +19,7 @@ const LEAST_OF_CHUNK: u64 = 100;
 
 /// How long after the last piece of a chunk it is asked for again, in milliseconds, unless the next one is asked for: then
 /// an earlier piece was lost.
-const AFTER_CHUNK: u64 = 50;
+const AFTER_CHUNK: u64 = 20;
 
 /// How much longer the copies of a long message wait for each of its pieces, in milliseconds.
 const PIECE_TIME: u64 = 10;
@@ -31,7 +31,7 @@ pub(crate) enum Event {
     Sent(Header),
     /// A message came from the peer.
     Came(Header),
-    /// A piece of a long message came from the peer, which may be the last one.
+    /// A later piece of a long message came from the peer, which may be the last one.
     Piece { is_last: bool },
     /// The peer asks again what was answered: this answer goes again.
     Asked(Header),

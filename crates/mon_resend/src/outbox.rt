@@ -4,7 +4,7 @@ ghost use Rattle.std.specs.Prelude.{◌≡◌, ◌++◌, ◌∷◌, [], length, 
 ghost use Rattle.mon_resend.specs.Copied.{AreOf, datagram};
 ghost use Rattle.mon_link.specs.declared.link.Peer.TheVariants.{Monitor};
 
-use crate::header::{BEFORE, Header, Kind, PART};
+use crate::header::{BEFORE, Header, Kind, Number, PART, Piece};
 use crate::measure::Measure;
 use crate::note::{Event, Note};
 use crate::shelf::Shelf;
@@ -35,6 +35,10 @@ pub(crate) struct Outbox {
     under_way: UnderWay,
     /// The last GET_CHUNK that came. The CHUNK that is kept answers it.
     asked: Vec<u8>,
+    /// The long message of which a later piece came last, and which one that was when the last GET_CHUNK began to go: that
+    /// GET_CHUNK follows it.
+    heard: Option<Number>,
+    past: Option<Number>,
     /// No copy goes before this time.
     due: u64,
 }
@@ -59,6 +63,8 @@ impl Outbox {
             measure: Measure::none(),
             under_way: UnderWay::Nothing,
             asked: Vec::new(alloc),
+            heard: None,
+            past: None,
             due: u64::MAX,
         }
     }
@@ -129,6 +135,9 @@ impl Outbox {
         ensures { AreOf self.old self.new }
     {
         self.under_way = UnderWay::Nothing;
+        if header.kind == Kind::GetChunk {
+            self.past = self.heard;
+        }
         self.apply(Event::Sent(header), now);
     }
 
@@ -320,6 +329,23 @@ impl Outbox {
                 self.hears(came, now);
                 false
             }
+        }
+    }
+
+    /// Notes that a later piece came. It says nothing of the CHUNK that is asked for if it is of the one before, which came
+    /// again.
+    #[tactic(auto, using(crate::proofs::Parts::same))]
+    pub(crate) fn hears_piece(&mut self, piece: Piece, now: u64)
+        ensures { AreOf self.old self.new }
+    {
+        self.heard = Some(piece.number);
+        if self.heard != self.past {
+            self.apply(
+                Event::Piece {
+                    is_last: piece.is_last,
+                },
+                now,
+            );
         }
     }
 
