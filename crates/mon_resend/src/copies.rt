@@ -12,7 +12,7 @@ use mon_types::Rank;
 use std::alloc::Global;
 use std::marker::Model;
 
-/// How many monitors there are at most.
+/// A quorum has no more monitors.
 const MOST: usize = 15;
 
 /// The newest datagrams to each monitor that aren't answered.
@@ -52,7 +52,6 @@ impl Copies {
         self.boxes.len()
     }
 
-    /// How many copies are kept at a place.
     pub(crate) fn len_at(&self, place: usize) -> usize {
         match self.boxes.get(place) {
             Some(outbox) => outbox.len(),
@@ -68,7 +67,6 @@ impl Copies {
         }
     }
 
-    /// A datagram at a place.
     #[tactic(auto, using(crate::proofs::Parts::found))]
     pub(crate) fn copy_at(&self, place: usize, at: usize) -> Option<&Outgoing>
         ensures { IfSome result (λ out. IsOneOf self.now out.now) }
@@ -76,7 +74,6 @@ impl Copies {
         self.boxes.get(place)?.out(at)
     }
 
-    /// The place of a monitor's copies.
     fn place_of(&self, rank: u8) -> Option<usize> {
         for place in 0..self.boxes.len() {
             if self.boxes[place].rank() == rank {
@@ -102,7 +99,6 @@ impl Copies {
         Some(count)
     }
 
-    /// Does at a place what an event does.
     fn apply_at(&mut self, place: usize, event: Event, now: u64)
         ensures { AreOf self.old self.new }
     {
@@ -111,7 +107,6 @@ impl Copies {
         }
     }
 
-    /// Does to all copies what an event does.
     fn apply(&mut self, event: Event, now: u64)
         ensures { AreOf self.old self.new }
     {

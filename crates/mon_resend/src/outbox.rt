@@ -83,7 +83,6 @@ impl Outbox {
         self.shelf.len()
     }
 
-    /// The datagram at a place.
     pub(crate) fn out(&self, at: usize) -> Option<&Outgoing>
         ensures { option_map (λ out. out.now) result ≡ slice_get self.now at }
     {

@@ -91,7 +91,6 @@ impl Shelf {
         true
     }
 
-    /// Notes something else of a datagram.
     pub(crate) fn set_note(&mut self, at: usize, note: Note)
         ensures { self.new ≡ self.old }
     {
@@ -100,7 +99,6 @@ impl Shelf {
         }
     }
 
-    /// Drops one.
     #[tactic(auto, using(crate::proofs::Parts::removed, crate::proofs::Parts::sum_removed))]
     fn remove(&mut self, at: usize)
         ensures { AreOf self.old self.new }
@@ -111,7 +109,6 @@ impl Shelf {
         }
     }
 
-    /// Does to one what an event does.
     #[tactic(auto, using(crate::proofs::Parts::same))]
     fn apply_at(&mut self, at: usize, event: Event, now: u64)
         ensures { AreOf self.old self.new }
@@ -126,7 +123,6 @@ impl Shelf {
         }
     }
 
-    /// Does to each what an event does.
     pub(crate) fn apply(&mut self, event: Event, now: u64)
         ensures { AreOf self.old self.new }
     {
