@@ -67,7 +67,8 @@ class Network:
     def run(self, real):
         self.real, self.chance, self.held, self.order = real, random.Random(self.seed), [], 0
         self.sockets = {(i, j): bound(self.ports[i][j]) for i, j in self.ways()}
-        with selectors.DefaultSelector() as selector:
+        # epoll and poll wait for whole milliseconds, so that what is to be late by less comes late by one or two.
+        with selectors.SelectSelector() as selector:
             for way, each in self.sockets.items():
                 selector.register(each, selectors.EVENT_READ, way)
             parent = os.getppid()

@@ -13,13 +13,13 @@ use mon_link::Peer;
 use std::alloc::Global;
 use std::marker::Model;
 
-/// How many messages of one monitor are kept.
+/// How many messages of one monitor are kept. Pieces of one may come among those of the next.
 pub(crate) const MOST_OF_MONITOR: usize = 4;
 
-/// How many messages of one client are kept.
+/// How many messages of one client are kept. A client waits for a reply before it asks again.
 pub(crate) const MOST_OF_CLIENT: usize = 1;
 
-/// How many messages of all clients together are kept.
+/// How many messages of all clients together are kept. Anyone may be a client, so this is what bounds their memory.
 pub(crate) const MOST_OF_CLIENTS: usize = 64;
 
 /// The messages of which not all pieces came yet: at most `MOST_OF_MONITOR` of each monitor, `MOST_OF_CLIENT` of each
@@ -55,7 +55,6 @@ fn first_from(kept: &[Partial], from: &Peer, most: usize) -> Option<usize>
     place_from(kept, from)
 }
 
-/// Whether a peer is a client.
 fn is_from_client(from: &Peer) -> bool
     ensures { result ≡ is_client from.now }
 {
@@ -173,7 +172,6 @@ impl Assembly {
         }
     }
 
-    /// Takes a piece.
     fn take_piece(
         &mut self,
         alloc: Global,
@@ -209,14 +207,12 @@ impl Assembly {
     }
 }
 
-/// The bytes in memory of their own.
 fn copied(alloc: Global, bytes: &[u8]) -> Result<Bytes, OutOfMemory>
     ensures { IfOk result (λ x. x ≡ bytes.now) }
 {
     Ok(Bytes::new(Vec::from_slice(alloc, bytes)?))
 }
 
-/// Whether a datagram is a piece of a message.
 fn begins_a_piece(datagram: &[u8]) -> bool
     ensures { result ≡ is_piece datagram.now }
 {

@@ -6,7 +6,7 @@ use crate::header::{PART, PIECE};
 use mon_bytes::{Bytes, Items, Out, OutOfMemory, write_count};
 use std::alloc::Global;
 
-/// The most bytes of a datagram.
+/// The most bytes of a datagram. UDP carries up to 65,507.
 pub const DATAGRAM: usize = 60_000;
 
 /// How many pieces a message of this many bytes has.
@@ -16,7 +16,6 @@ pub(crate) fn count_of(total: usize) -> usize
     total.div_ceil(PART as usize)
 }
 
-/// Appends a number in eight bytes.
 #[tactic(auto, unfolding(crate::specs::Pieces::u64_bytes))]
 fn put_u64(out: &mut Out, n: u64) -> Result<(), OutOfMemory>
     ensures { OnOk result (out.new ≡ out.old ++ u64_bytes n) }
@@ -24,7 +23,6 @@ fn put_u64(out: &mut Out, n: u64) -> Result<(), OutOfMemory>
     out.put_u64(n)
 }
 
-/// Appends the header of a piece.
 fn put_header(out: &mut Out, boot: u64, seq: u64, total: u32, place: u32) -> Result<(), OutOfMemory>
     ensures { OnOk result (out.new ≡ out.old ++ header boot seq total place) }
 {

@@ -10,7 +10,6 @@ use mon_types::GREATEST;
 /// The byte with which a piece begins. No message begins with it.
 pub(crate) const PIECE: u8 = 2;
 
-/// The bytes of a piece's header.
 pub(crate) const HEADER: usize = 28;
 
 /// The most bytes of a message that a piece has.
@@ -19,7 +18,6 @@ pub(crate) const PART: u32 = 59_000;
 /// The least bytes of a message that is cut.
 const LEAST: u32 = DATAGRAM as u32 + 1;
 
-/// The header of a piece.
 #[derive(Clone, Copy)]
 pub struct Header {
     pub zero_1: u8,
@@ -96,7 +94,6 @@ fn check(count: usize, header: Header) -> Result<Header, FragRefused>
     Ok(header)
 }
 
-/// The bytes of a piece after its header.
 #[tactic(auto, using(std::proofs::lemmas::List::drop_min))]
 pub(crate) fn behind_header(datagram: &[u8]) -> &[u8]
     ensures { result.now ≡ drop HEADER datagram.now }
@@ -105,7 +102,6 @@ pub(crate) fn behind_header(datagram: &[u8]) -> &[u8]
     bytes
 }
 
-/// The header of a piece.
 pub(crate) fn read_header(datagram: &[u8]) -> Result<Header, FragRefused>
     ensures header { result ≡ header_of datagram.now }
     ensures within { IfOk result (λ h. h.place < h.total) }

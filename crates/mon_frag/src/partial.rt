@@ -47,7 +47,6 @@ pub enum Joined {
     Whole(Bytes),
 }
 
-/// Whether two peers are the same one.
 pub(crate) fn is_same(a: &Peer, b: &Peer) -> bool
     ensures { result ≡ same_peer a.now b.now }
 {
@@ -63,7 +62,6 @@ pub(crate) fn is_same(a: &Peer, b: &Peer) -> bool
     }
 }
 
-/// Appends the parts that are there.
 fn append(whole: &mut Vec<u8>, parts: &[Option<Bytes>]) -> Result<(), OutOfMemory>
     ensures { OnOk result (whole.new.items ≡ whole.old.items ++ flat_map (λ part. unwrap_or part []) parts.now) }
 {
@@ -75,7 +73,6 @@ fn append(whole: &mut Vec<u8>, parts: &[Option<Bytes>]) -> Result<(), OutOfMemor
     Ok(())
 }
 
-/// Whether each of these is there.
 fn are_there(parts: &[Option<Bytes>]) -> bool
     ensures { result ≡ list_all is_some parts.now }
 {
@@ -155,7 +152,6 @@ impl Parts {
         }
     }
 
-    /// Puts a part at its place.
     pub fn put(&mut self, at: usize, bytes: Bytes)
         requires { at < length self.old }
         ensures { self.new ≡ slice_set self.old at (Some bytes) }

@@ -4,7 +4,7 @@ ghost use Rattle.std.specs.Prelude.{◌≡◌, ◌≤◌, ◌++◌, ◌∷◌, [
 ghost use Rattle.mon_resend.specs.Copied.{AreOf, IsOneOf, all_of, datagram};
 ghost use Rattle.mon_link.specs.declared.link.Peer.TheVariants.{Monitor};
 
-use crate::header::{Header, Kind, Part, part_of};
+use crate::header::{Header, Kind, Part, Piece, part_of};
 use crate::note::Event;
 use crate::outbox::Outbox;
 use mon_link::Outgoing;
@@ -12,7 +12,7 @@ use mon_types::Rank;
 use std::alloc::Global;
 use std::marker::Model;
 
-/// How many monitors there are at most.
+/// A quorum has no more monitors.
 const MOST: usize = 15;
 
 /// The newest datagrams to each monitor that aren't answered.
@@ -52,7 +52,6 @@ impl Copies {
         self.boxes.len()
     }
 
-    /// How many copies are kept at a place.
     pub(crate) fn len_at(&self, place: usize) -> usize {
         match self.boxes.get(place) {
             Some(outbox) => outbox.len(),
@@ -68,7 +67,6 @@ impl Copies {
         }
     }
 
-    /// A datagram at a place.
     #[tactic(auto, using(crate::proofs::Parts::found))]
     pub(crate) fn copy_at(&self, place: usize, at: usize) -> Option<&Outgoing>
         ensures { IfSome result (λ out. IsOneOf self.now out.now) }
@@ -76,7 +74,6 @@ impl Copies {
         self.boxes.get(place)?.out(at)
     }
 
-    /// The place of a monitor's copies.
     fn place_of(&self, rank: u8) -> Option<usize> {
         for place in 0..self.boxes.len() {
             if self.boxes[place].rank() == rank {
@@ -102,7 +99,6 @@ impl Copies {
         Some(count)
     }
 
-    /// Does at a place what an event does.
     fn apply_at(&mut self, place: usize, event: Event, now: u64)
         ensures { AreOf self.old self.new }
     {
@@ -111,7 +107,6 @@ impl Copies {
         }
     }
 
-    /// Does to all copies what an event does.
     fn apply(&mut self, event: Event, now: u64)
         ensures { AreOf self.old self.new }
     {
@@ -194,7 +189,7 @@ impl Copies {
                 now,
             ),
             Some(Part::First(header, total)) => self.begins(to, header, total, bytes, now),
-            Some(Part::Later) => match self.place_of(to.get()) {
+            Some(Part::Later(_)) => match self.place_of(to.get()) {
                 Some(place) => self.goes_on_at(place, to, bytes),
                 None => true,
             },
@@ -202,26 +197,43 @@ impl Copies {
         }
     }
 
-    fn comes_at(&mut self, place: usize, header: Header, now: u64) -> bool
+    fn comes_at(&mut self, place: usize, header: Header, bytes: &[u8], now: u64) -> bool
         ensures { AreOf self.old self.new }
     {
         if place >= self.boxes.len() {
             return false;
         }
-        self.boxes[place].comes(header, now)
+        self.boxes[place].comes(header, bytes, now)
     }
 
-    fn hears(&mut self, from: Rank, header: Header, now: u64) -> bool
+    fn hears(&mut self, from: Rank, header: Header, bytes: &[u8], now: u64) -> bool
         ensures { AreOf self.old self.new }
     {
         match self.place_of(from.get()) {
-            Some(place) => self.comes_at(place, header, now),
+            Some(place) => self.comes_at(place, header, bytes, now),
             None => false,
         }
     }
 
-    /// Notes what came from a monitor. Whether it is a BEGIN that was accepted before, whose ACCEPT goes again. Of a long
-    /// message no piece answers anything: another one may be missing.
+    fn hears_piece_at(&mut self, place: usize, piece: Piece, now: u64)
+        ensures { AreOf self.old self.new }
+    {
+        if place < self.boxes.len() {
+            self.boxes[place].hears_piece(piece, now);
+        }
+    }
+
+    #[tactic(auto, using(crate::proofs::Parts::same))]
+    fn hears_piece(&mut self, from: Rank, piece: Piece, now: u64)
+        ensures { AreOf self.old self.new }
+    {
+        if let Some(place) = self.place_of(from.get()) {
+            self.hears_piece_at(place, piece, now);
+        }
+    }
+
+    /// Notes what came from a monitor. Whether the copy of an answer alone answers it. Of a long message no piece answers
+    /// anything: another one may be missing.
     #[tactic(auto, using(crate::proofs::Parts::same, crate::proofs::Parts::through))]
     pub(crate) fn comes(&mut self, from: Rank, bytes: &[u8], now: u64) -> bool
         ensures { AreOf self.old self.new }
@@ -229,13 +241,17 @@ impl Copies {
         match part_of(bytes) {
             Some(Part::Whole(header)) => {
                 self.rises(header, now);
-                self.hears(from, header, now)
+                self.hears(from, header, bytes, now)
             }
             Some(Part::First(header, _)) => match header.kind {
-                Kind::Begin | Kind::Forward => self.hears(from, header, now),
+                Kind::Begin | Kind::Forward => self.hears(from, header, bytes, now),
                 _ => false,
             },
-            Some(Part::Later) | None => false,
+            Some(Part::Later(piece)) => {
+                self.hears_piece(from, piece, now);
+                false
+            }
+            None => false,
         }
     }
 

@@ -7,6 +7,11 @@ const MESSAGE: u8 = 1;
 
 const PIECE: u8 = 2;
 
+/// The bytes of a message that a piece carries, and those of a piece before them.
+pub(crate) const PART: u32 = 59_000;
+
+pub(crate) const BEFORE: u32 = 28;
+
 /// The fewest bytes of a message that hold its first fields.
 const FIELDS: usize = 28;
 
@@ -90,7 +95,7 @@ impl Kind {
 
     /// Whether a copy of such a message is kept, since it may be asked for again: then it goes again.
     pub(crate) fn answers(self) -> bool {
-        matches!(self, Kind::Accept | Kind::Route)
+        matches!(self, Kind::Accept | Kind::Route | Kind::Chunk)
     }
 }
 
@@ -104,6 +109,20 @@ pub(crate) struct Header {
     pub(crate) second: u64,
 }
 
+/// What distinguishes a long message from the others of its sender.
+#[derive(Clone, Copy, PartialEq, Eq)]
+pub(crate) struct Number {
+    boot: u64,
+    seq: u64,
+}
+
+/// A piece of a long message that isn't the first one. It holds none of the message's first fields.
+#[derive(Clone, Copy)]
+pub(crate) struct Piece {
+    pub(crate) number: Number,
+    pub(crate) is_last: bool,
+}
+
 /// What a datagram is of its message.
 #[derive(Clone, Copy)]
 pub(crate) enum Part {
@@ -111,8 +130,8 @@ pub(crate) enum Part {
     Whole(Header),
     /// The first piece of a message of this many bytes.
     First(Header, u32),
-    /// Another piece, which holds none of these fields.
-    Later,
+    /// A later piece.
+    Later(Piece),
 }
 
 fn read_message(bytes: &[u8]) -> Option<Header> {
@@ -143,12 +162,15 @@ fn read_message(bytes: &[u8]) -> Option<Header> {
 fn read_piece(bytes: &[u8]) -> Option<Part> {
     let mut cursor = Cursor::new(bytes);
     let _mark = cursor.take_u32().ok()?;
-    let _boot = cursor.take_u64().ok()?;
-    let _seq = cursor.take_u64().ok()?;
+    let boot = cursor.take_u64().ok()?;
+    let seq = cursor.take_u64().ok()?;
     let total = cursor.take_u32().ok()?;
     let place = cursor.take_u32().ok()?;
     if place != 0 {
-        return Some(Part::Later);
+        return Some(Part::Later(Piece {
+            number: Number { boot, seq },
+            is_last: total.saturating_sub(place) <= PART,
+        }));
     }
     Some(Part::First(read_message(cursor.take_bytes(FIELDS).ok()?)?, total))
 }

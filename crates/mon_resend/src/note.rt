@@ -17,6 +17,10 @@ const LEAST_OF_COOKIE: u64 = 2_000;
 
 const LEAST_OF_CHUNK: u64 = 100;
 
+/// How long after the last piece of a chunk it is asked for again, in milliseconds, unless the next one is asked for: then
+/// an earlier piece was lost.
+const AFTER_CHUNK: u64 = 20;
+
 /// How much longer the copies of a long message wait for each of its pieces, in milliseconds.
 const PIECE_TIME: u64 = 10;
 
@@ -27,6 +31,8 @@ pub(crate) enum Event {
     Sent(Header),
     /// A message came from the peer.
     Came(Header),
+    /// A later piece of a long message came from the peer, which may be the last one.
+    Piece { is_last: bool },
     /// The peer asks again what was answered: this answer goes again.
     Asked(Header),
     /// A message of this epoch, the greatest so far, went to a monitor or came from one.
@@ -99,11 +105,14 @@ impl Note {
                 kept,
                 Kind::Collect | Kind::Begin | Kind::Commit | Kind::Lease
             ),
+            Kind::GetCookie | Kind::GetChunk => matches!(kept, Kind::GetCookie | Kind::GetChunk),
             sent => kept == sent,
         }
     }
 
-    /// Whether a message that came from the peer answers this one.
+    /// Whether a message that came from the peer answers this one. What a copier of the store asks next shows that the CHUNK
+    /// before it arrived. Nothing that comes answers a copier's own question: it may answer an earlier one, and the next
+    /// question follows at once if it doesn't.
     pub(crate) fn is_answered_by(&self, came: Header) -> bool {
         let kept = self.header;
         match kept.kind {
@@ -120,8 +129,7 @@ impl Note {
             },
             Kind::Lease => came.kind == Kind::LeaseAck && came.first == kept.first,
             Kind::Forward => came.kind == Kind::Route && came.first == kept.first,
-            Kind::GetCookie => matches!(came.kind, Kind::Cookie | Kind::NoCookie),
-            Kind::GetChunk => matches!(came.kind, Kind::Chunk | Kind::NoCookie),
+            Kind::Chunk => matches!(came.kind, Kind::GetChunk | Kind::GetCookie | Kind::Probe),
             _ => false,
         }
     }
@@ -130,11 +138,14 @@ impl Note {
     pub(crate) fn answers(&self, came: Header) -> bool {
         let kept = self.header;
         let is_its = match kept.kind {
-            Kind::Accept => came.kind == Kind::Begin && kept.second == came.second,
-            Kind::Route => came.kind == Kind::Forward,
+            Kind::Accept => {
+                came.kind == Kind::Begin && kept.epoch == came.epoch && kept.second == came.second
+            }
+            Kind::Route => came.kind == Kind::Forward && kept.epoch == came.epoch,
+            Kind::Chunk => came.kind == Kind::GetChunk && kept.second == came.second,
             _ => false,
         };
-        is_its && kept.epoch == came.epoch && kept.first == came.first
+        is_its && kept.first == came.first
     }
 
     /// Whether it went often enough, or long enough.
@@ -153,23 +164,30 @@ impl Note {
             Event::Came(header) => self.is_answered_by(header),
             Event::Rose(epoch) => self.header.kind.is_of_epoch() && self.header.epoch < epoch,
             Event::Deferred => self.header.kind == Kind::Propose,
-            Event::Left => self.header.kind.is_of_epoch(),
+            Event::Left => true,
             Event::Passed => self.is_spent(now),
-            Event::Asked(_) | Event::Turn(_) => false,
+            Event::Piece { .. } | Event::Asked(_) | Event::Turn(_) => false,
         }
     }
 
-    /// Whether an event makes it go.
-    pub(crate) fn is_called(&self, event: Event) -> bool {
+    /// What is noted after an event that changes it and doesn't end it.
+    pub(crate) fn after(self, event: Event, now: u64) -> Option<Note> {
         match event {
-            Event::Asked(came) => self.answers(came),
-            Event::Turn(seq) => self.held && self.header.first == seq,
-            _ => false,
+            Event::Asked(came) if self.answers(came) => Some(self.called(now)),
+            Event::Turn(seq) if self.held && self.header.first == seq => Some(self.called(now)),
+            Event::Piece { is_last } if self.header.kind == Kind::GetChunk => {
+                let wait = if is_last { AFTER_CHUNK } else { self.every };
+                Some(Note {
+                    due: now.saturating_add(wait),
+                    ..self
+                })
+            }
+            _ => None,
         }
     }
 
     /// What is noted when it is to go.
-    pub(crate) fn called(self, now: u64) -> Note {
+    fn called(self, now: u64) -> Note {
         Note {
             sent: now,
             last: now,

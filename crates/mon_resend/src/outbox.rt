@@ -4,7 +4,7 @@ ghost use Rattle.std.specs.Prelude.{◌≡◌, ◌++◌, ◌∷◌, [], length, 
 ghost use Rattle.mon_resend.specs.Copied.{AreOf, datagram};
 ghost use Rattle.mon_link.specs.declared.link.Peer.TheVariants.{Monitor};
 
-use crate::header::{Header, Kind};
+use crate::header::{BEFORE, Header, Kind, Number, PART, Piece};
 use crate::measure::Measure;
 use crate::note::{Event, Note};
 use crate::shelf::Shelf;
@@ -13,11 +13,6 @@ use mon_link::{Outgoing, Peer};
 use mon_types::Rank;
 use std::alloc::Global;
 use std::marker::Model;
-
-/// The bytes of a message that one piece carries, and those of a piece before them.
-const PIECE: u32 = 59_000;
-
-const BEFORE: u32 = 28;
 
 /// The long message whose first piece, or a later one, was the last datagram.
 #[derive(Clone, Copy)]
@@ -38,6 +33,12 @@ pub(crate) struct Outbox {
     shelf: Shelf,
     measure: Measure,
     under_way: UnderWay,
+    /// The last GET_CHUNK that came. The CHUNK that is kept answers it.
+    asked: Vec<u8>,
+    /// The long message of which a later piece came last, and which one that was when the last GET_CHUNK began to go: that
+    /// GET_CHUNK follows it.
+    heard: Option<Number>,
+    past: Option<Number>,
     /// No copy goes before this time.
     due: u64,
 }
@@ -61,6 +62,9 @@ impl Outbox {
             shelf: Shelf::new(alloc),
             measure: Measure::none(),
             under_way: UnderWay::Nothing,
+            asked: Vec::new(alloc),
+            heard: None,
+            past: None,
             due: u64::MAX,
         }
     }
@@ -79,7 +83,6 @@ impl Outbox {
         self.shelf.len()
     }
 
-    /// The datagram at a place.
     pub(crate) fn out(&self, at: usize) -> Option<&Outgoing>
         ensures { option_map (λ out. out.now) result ≡ slice_get self.now at }
     {
@@ -131,6 +134,9 @@ impl Outbox {
         ensures { AreOf self.old self.new }
     {
         self.under_way = UnderWay::Nothing;
+        if header.kind == Kind::GetChunk {
+            self.past = self.heard;
+        }
         self.apply(Event::Sent(header), now);
     }
 
@@ -139,7 +145,7 @@ impl Outbox {
         let pieces = if total as usize == length {
             1
         } else {
-            total.div_ceil(PIECE)
+            total.div_ceil(PART)
         };
         let held = header.kind == Kind::Forward && self.has_forward();
         Note::new(header, u64::from(pieces), held, self.measure.wait(), now)
@@ -272,22 +278,74 @@ impl Outbox {
         false
     }
 
-    /// Notes that a message came: what it answers is kept no longer, and what answers it goes again. Whether it is a
-    /// BEGIN that was accepted before.
-    #[tactic(auto, using(crate::proofs::Parts::through, crate::proofs::Parts::same))]
-    pub(crate) fn comes(&mut self, came: Header, now: u64) -> bool
+    /// Whether a GET_CHUNK is the one that came last.
+    fn asks_the_same(&mut self, bytes: &[u8]) -> bool
+        ensures { self.new ≡ self.old }
+    {
+        if self.asked.as_slice() == bytes {
+            return true;
+        }
+        self.asked.clear();
+        let _ = self.asked.extend_from_slice(bytes);
+        false
+    }
+
+    /// Notes that a question came: the answer that is kept goes again. Whether there is one.
+    #[tactic(auto, using(crate::proofs::Parts::same))]
+    fn answers(&mut self, came: Header, now: u64) -> bool
         ensures { AreOf self.old self.new }
     {
-        if matches!(came.kind, Kind::Begin | Kind::Forward) {
-            let known = self.knows(came);
-            if known {
-                self.apply(Event::Asked(came), now);
-            }
-            return known && came.kind == Kind::Begin;
+        let known = self.knows(came);
+        if known {
+            self.apply(Event::Asked(came), now);
         }
+        known
+    }
+
+    /// Notes that a message came that isn't answered by a copy: what it answers is kept no longer.
+    #[tactic(auto, using(crate::proofs::Parts::through))]
+    fn hears(&mut self, came: Header, now: u64)
+        ensures { AreOf self.old self.new }
+    {
         self.measures(came, now);
         self.apply(Event::Came(came), now);
-        false
+    }
+
+    /// Notes that a message came. Whether the copy of its answer alone answers it, and not the monitor. A BEGIN would be
+    /// synced once more, and a CHUNK that is made anew has pieces that don't complete those of the one before.
+    #[tactic(auto, using(crate::proofs::Parts::same))]
+    pub(crate) fn comes(&mut self, came: Header, bytes: &[u8], now: u64) -> bool
+        ensures { AreOf self.old self.new }
+    {
+        match came.kind {
+            Kind::Begin => self.answers(came, now),
+            Kind::GetChunk if self.asks_the_same(bytes) => self.answers(came, now),
+            Kind::Forward => {
+                self.answers(came, now);
+                false
+            }
+            _ => {
+                self.hears(came, now);
+                false
+            }
+        }
+    }
+
+    /// Notes that a later piece came. It says nothing of the CHUNK that is asked for if it is of the one before, which came
+    /// again.
+    #[tactic(auto, using(crate::proofs::Parts::same))]
+    pub(crate) fn hears_piece(&mut self, piece: Piece, now: u64)
+        ensures { AreOf self.old self.new }
+    {
+        self.heard = Some(piece.number);
+        if self.heard != self.past {
+            self.apply(
+                Event::Piece {
+                    is_last: piece.is_last,
+                },
+                now,
+            );
+        }
     }
 
     /// Whether the datagram at a place goes now. One that went before goes only if `again` allows it.

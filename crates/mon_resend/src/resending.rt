@@ -90,7 +90,6 @@ impl<L: Link + Drop, C: Clock + Drop> Resending<L, C> {
         self.copies.sends(to, bytes, now)
     }
 
-    /// Sends a datagram.
     fn passes(&mut self, to: Peer, bytes: &[u8]) -> Result<(), Stop>
         ensures sends { CallsSend to bytes.now result (L.state self.old.inner) (L.state self.new.inner) }
         ensures kept { self.new.copies ≡ self.old.copies }

@@ -91,7 +91,6 @@ impl Shelf {
         true
     }
 
-    /// Notes something else of a datagram.
     pub(crate) fn set_note(&mut self, at: usize, note: Note)
         ensures { self.new ≡ self.old }
     {
@@ -100,7 +99,6 @@ impl Shelf {
         }
     }
 
-    /// Drops one.
     #[tactic(auto, using(crate::proofs::Parts::removed, crate::proofs::Parts::sum_removed))]
     fn remove(&mut self, at: usize)
         ensures { AreOf self.old self.new }
@@ -111,23 +109,20 @@ impl Shelf {
         }
     }
 
-    /// Does to one what an event does.
     #[tactic(auto, using(crate::proofs::Parts::same))]
     fn apply_at(&mut self, at: usize, event: Event, now: u64)
         ensures { AreOf self.old self.new }
     {
-        let Some(note) = self.note(at) else {
+        let Some(note) = self.note(at).copied() else {
             return;
         };
         if note.is_ended(event, now) {
             self.remove(at);
-        } else if note.is_called(event) {
-            let called = note.called(now);
-            self.set_note(at, called);
+        } else if let Some(changed) = note.after(event, now) {
+            self.set_note(at, changed);
         }
     }
 
-    /// Does to each what an event does.
     pub(crate) fn apply(&mut self, event: Event, now: u64)
         ensures { AreOf self.old self.new }
     {
