@@ -1,9 +1,9 @@
 -- What clients' commands do, by what is seen.
-use Rattle.std.proofs.Common.{◌≡◌, ℕ, suc, ◌+◌, ◌^◌, ◌<◌, ◌≤◌, Bool, true, false, not, ◌&&◌, ◌||◌, cond, eqb, leb, get_or, remove, List, [], ◌∷◌, ◌++◌, length, Result, Ok, Err, refl, sym, ap, subst, ◌∙◌, arith}
-use Rattle.std.specs.Bool.{◌==◌}
-use Rattle.std.proofs.lemmas.Bool.{le-leb, lt-leb}
+use Rattle.std.proofs.Common.{◌≡◌, ℕ, suc, ◌^◌, ◌<◌, ◌≤◌, Bool, true, false, not, ◌&&◌, cond, eqb, leb, get_or, remove, List, [], ◌∷◌, ◌++◌, length, Result, Ok, Err, refl, sym, ap, ◌∙◌, arith}
+use Rattle.std.proofs.lemmas.Bool.{eqb-true, le-leb, lt-leb}
+use Rattle.std.proofs.lemmas.List.{nil_from_length}
 use Rattle.mon_bytes.specs.declared.command.Command.{Command}
-use Rattle.mon_msg.specs.Protocol.Commands.{is_too_long, too_long, queue_up, wait_under, at_leader, hand_on, at_peon, ask, propose_due}
+use Rattle.mon_msg.specs.Protocol.Commands.{is_too_long, too_long, at_leader, hand_on, at_peon, ask, propose_due}
 use Rattle.mon_msg.specs.Protocol.Course.{Course, ◌▸◌, say, clients_are}
 use Rattle.mon_msg.specs.Protocol.Phases.{same_phase, is_leading, is_peon}
 use Rattle.mon_msg.specs.Protocol.Proposing.{propose, propose_first, propose_next}
@@ -24,7 +24,6 @@ use Rattle.mon_types.specs.declared.names.Which.TheVariants as which
 use Rattle.mon_types.specs.declared.names.Which.{Which}
 use Rattle.mon_wire.specs.declared.body.Body.TheVariants as body
 use Rattle.mon_wire.specs.declared.phase.Phase.TheVariants as phase
-use Rattle.mon_wire.specs.declared.phase.Phase.{Phase}
 use Rattle.mon_wire.specs.declared.reply.Reply.TheVariants as reply
 use Rattle.mon_wire.specs.declared.request.Session.{Session}
 use Rattle.mon_plan.specs.Plans.{PlansRow}
@@ -45,15 +44,30 @@ module _ (me : Me) (now : ℕ) (w : Readings) (v : View) (s : Clients) where
   pub same : (x : Course) → Met x → x ≡ clients_are s x
   same x b = sym (kept-clients s x b.role)
 
+  -- what a call plans once these clients are remembered
+  pub once : (after : Clients) (one other : Course → Result Course Which) (r : Result (Plan Clients) RoleStop) → ((x : Course) → Met x → other x ≡ one (clients_are after x))
+      → PlansRow me now clients_are (IsUnderWay me now w v) (λ x. one (clients_are after x)) r → PlansRow me now clients_are Met other r
+  once after one other r f h =
+      instead me now clients_are Met (λ x. x) (λ x. one (clients_are after x)) other r f
+      (weaken me now clients_are (IsUnderWay me now w v) Met (λ x. x) (λ x. one (clients_are after x)) r (λ x b. under_way me now w v s x b) h)
+
   -- what a call plans for any course whose clients are these it plans for one that remembers them
   pub in_place : (one other : Course → Result Course Which) (r : Result (Plan Clients) RoleStop) → ((x : Course) → Met x → other x ≡ one x)
       → PlansRow me now clients_are (IsUnderWay me now w v) (λ x. one (clients_are s x)) r → PlansRow me now clients_are Met other r
-  in_place one other r f h =
-      instead me now clients_are Met (λ x. x) (λ x. one (clients_are s x)) other r (λ x b. f x b ∙ ap one (same x b))
-      (weaken me now clients_are (IsUnderWay me now w v) Met (λ x. x) (λ x. one (clients_are s x)) r (λ x b. under_way me now w v s x b) h)
+  in_place one other r f h = once s one other r (λ x b. f x b ∙ ap one (same x b)) h
 
 abbrev pub seems_free : View → Bool
 seems_free v = same_phase v.phase phase.Active && v.standing
+
+-- whether a command is proposed at once
+
+pub goes_first : (free : Bool) (q : List Waiting) → free ≡ true → eqb (length q) 0 ≡ true → (free && not (not (is_empty q))) ≡ true
+goes_first free q h e = let none : q ≡ [] = nil_from_length q (eqb-true (length q) 0 e) in λ i. h i && not (not (is_empty (none i)))
+
+pub goes_later : (free : Bool) (q : List Waiting) → eqb (length q) 0 ≡ false → (free && not (not (is_empty q))) ≡ false
+goes_later true [] e = let no : true ≡ false = e in absurd cc
+goes_later true (w ∷ ws) e = refl
+goes_later false q e = refl
 
 module _ (me : Me) (now : ℕ) (w : Readings) (v : View) (x : Course) (b : IsUnderWay me now w v x) where
   free_is : (same_phase x.state.phase phase.Active && is_standing me now x.state) ≡ seems_free v

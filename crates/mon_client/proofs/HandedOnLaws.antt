@@ -1,13 +1,12 @@
 -- What a peon hands on and what its leader answers, by what is seen; and what clients read.
-use Rattle.std.proofs.Common.{◌≡◌, ℕ, Bool, true, false, not, ◌&&◌, ◌||◌, cond, eqb, ltb, List, [], ◌∷◌, ◌++◌, map, filter, take, length, get_or, set, ◌+◌, ◌<◌, Result, Ok, Err, IsTrue, refl, sym, ap, ◌∙◌, append-nil}
+use Rattle.std.proofs.Common.{◌≡◌, ℕ, Bool, true, false, not, ◌&&◌, cond, eqb, ltb, List, [], ◌∷◌, ◌++◌, map, filter, take, length, get_or, set, ◌+◌, ◌<◌, Ok, IsTrue, refl, sym, ap, ◌∙◌, append-nil}
 use Rattle.std.specs.Bool.{◌==◌}
 use Rattle.std.proofs.lemmas.List.Elements.{filter_more}
 use Rattle.std.proofs.lemmas.List.{map-append}
 use Rattle.mon_bytes.specs.declared.command.Command.{Command}
 use Rattle.mon_lease.specs.Lease.{readable}
-use Rattle.mon_bytes.specs.declared.entry.Entry.{Entry}
 use Rattle.mon_msg.specs.Protocol.Commands.{at_leader, hear_forward, hear_route, propose_due}
-use Rattle.mon_msg.specs.Protocol.Course.{Course, ◌▸◌, say, clients_are}
+use Rattle.mon_msg.specs.Protocol.Course.{Course, say, clients_are}
 use Rattle.mon_msg.specs.Protocol.Leader.{is_one_of}
 use Rattle.mon_msg.specs.Protocol.Phases.{is_leading, is_peon, is_member}
 use Rattle.mon_msg.specs.Protocol.Readings.{Readings, epoch_of}

@@ -1,5 +1,5 @@
 -- Plans that write nothing.
-use Rattle.std.proofs.Common.{◌≡◌, ℕ, List, [], ◌∷◌, Result, Ok, refl, sym, ap, ◌∙◌}
+use Rattle.std.proofs.Common.{◌≡◌, ℕ, List, [], ◌∷◌, Result, Ok, ap}
 use Rattle.mon_msg.specs.Protocol.Course.{Course, ◌▸◌, say, clients_are}
 use Rattle.mon_msg.specs.declared.clients.Clients.{Clients}
 use Rattle.mon_msg.specs.declared.plan.Arming.{Arming}
@@ -9,7 +9,7 @@ use Rattle.mon_msg.specs.declared.plan.Plan.{Plan}
 use Rattle.mon_msg.specs.declared.plan.Sent.{Sent}
 use Rattle.mon_msg.specs.declared.view.Me.{Me}
 use Rattle.mon_types.specs.declared.names.Which.{Which}
-use Rattle.mon_plan.specs.Plans.{stands, arm_all, sending, done, act, PlansRow}
+use Rattle.mon_plan.specs.Plans.{done, act, PlansRow}
 use Rattle.mon_plan.proofs.Planning.{does}
 
 abbrev pub plan_of : List Sent → List Arming → Clients → Next → Plan Clients

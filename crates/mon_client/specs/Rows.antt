@@ -1,12 +1,18 @@
--- The inputs of clients' commands and reads, and what is known when their rows are proved.
-use Rattle.std.specs.Prelude.{◌≡◌, ℕ, Bool, true, false}
-use Rattle.mon_msg.specs.Protocol.Course.{Course}
-use Rattle.mon_msg.specs.Protocol.Readings.{Readings}
+-- The inputs of clients' commands and reads, and what their calls answer.
+use Rattle.std.specs.Prelude.{◌≡◌, ℕ, Bool, true, false, Result}
+use Rattle.mon_msg.specs.Protocol.Course.{Course, clients_are}
+use Rattle.mon_msg.specs.Protocol.Readings.{Readings, readings_of}
+use Rattle.mon_msg.specs.declared.clients.Clients.{Clients}
 use Rattle.mon_msg.specs.declared.input.Input.TheVariants as input
 use Rattle.mon_msg.specs.declared.input.Input.{Input}
+use Rattle.mon_msg.specs.declared.plan.Plan.{Plan}
+use Rattle.mon_msg.specs.declared.plan.RoleStop.{RoleStop}
 use Rattle.mon_msg.specs.declared.view.Me.{Me}
 use Rattle.mon_msg.specs.declared.view.View.{View}
-use Rattle.mon_plan.specs.Seen.{IsSeen}
+use Rattle.mon_types.specs.declared.names.Which.{Which}
+use Rattle.mon_plan.specs.Plans.{PlansRow}
+use Rattle.mon_plan.specs.Seen.{IsMet, IsSeen}
+use Rattle.mon_client.specs.declared.here.Here.{Here}
 use Rattle.mon_wire.specs.declared.body.Body.TheVariants as body
 use Rattle.mon_wire.specs.declared.body.Body.{Body}
 use Rattle.mon_wire.specs.declared.phase.Timer.TheVariants as timer
@@ -39,3 +45,16 @@ is_input (input.Client session r) = is_asked r
 pub record IsUnderWay (me : Me) (now : ℕ) (w : Readings) (view : View) (x : Course) : Type 0 where
   pub readings : x.readings ≡ w
   pub seen : IsSeen me now x.readings x.state view
+
+module _ (here : Here) (clients : Clients) (row : Course → Result Course Which) where
+  -- a call's answer, by a row of the table, if these clients are remembered
+  abbrev pub ByRow : Result (Plan Clients) RoleStop → Type 0
+  ByRow result =
+      PlansRow here.me.now here.time clients_are
+      (IsMet here.me.now here.time (readings_of here.kv.now) here.view.now (λ s. s.clients) clients) row result
+
+  -- the same once these clients are remembered, whichever were before
+  abbrev pub ByRowOnce : Result (Plan Clients) RoleStop → Type 0
+  ByRowOnce result =
+      PlansRow here.me.now here.time clients_are
+      (IsUnderWay here.me.now here.time (readings_of here.kv.now) here.view.now) (λ x. row (clients_are clients x)) result

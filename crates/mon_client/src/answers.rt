@@ -2,29 +2,22 @@
 
 ghost use Rattle.std.specs.Prelude.{◌≡◌, ◌<◌, [], ◌∷◌, IfOk};
 ghost use Rattle.mon_msg.specs.Protocol.Commands.{most_text, text_length, is_too_long, too_long};
-ghost use Rattle.mon_msg.specs.Protocol.Readings.{epoch_of, readings_of};
 ghost use Rattle.mon_msg.specs.declared.plan.Next.TheVariants as next;
 
 use map_kv::MOST_VALUE;
 use map_log::MOST_TEXT;
 use mon_bytes::{Command, Items, OutOfMemory};
-use mon_kv::Kv;
 use mon_msg::plan::Sent;
 use mon_msg::{Clients, Next, Plan, Reply};
-use mon_plan::Stored;
 use mon_tx::Transaction;
-use mon_types::Epoch;
 use std::alloc::Global;
 
-/// The monitor's epoch.
-pub fn epoch(alloc: Global, kv: &Kv) -> Epoch
-    ensures { result ≡ epoch_of (readings_of kv.now) }
-{
-    Stored::of(alloc, kv).epoch()
-}
-
 /// Someone is answered, and nothing else is done.
-pub fn answered(alloc: Global, clients: Clients, sent: Sent) -> Result<Plan<Clients>, OutOfMemory>
+pub(crate) fn answered(
+    alloc: Global,
+    clients: Clients,
+    sent: Sent,
+) -> Result<Plan<Clients>, OutOfMemory>
     ensures { IfOk result
         (λ plan. plan ≡ record { tx = []; out = sent ∷ []; timers = []; state = clients; next = next.Stay }) }
 {
@@ -62,14 +55,14 @@ fn text_length(command: &Command) -> u64
 }
 
 /// Whether a command's value or text is longer than it may be.
-pub fn is_too_long(command: &Command) -> bool
+pub(crate) fn is_too_long(command: &Command) -> bool
     ensures { result ≡ is_too_long command.now }
 {
     text_length(command) > most_text(command)
 }
 
 /// The reply to a command whose value or text is too long.
-pub fn too_long(command: &Command) -> Reply
+pub(crate) fn too_long(command: &Command) -> Reply
     ensures { result ≡ too_long command.now }
 {
     Reply::TooLong {

@@ -1,41 +1,40 @@
 //! Commands that a peon hands on to its leader, and the leader's answers.
 
-ghost use Rattle.std.specs.Prelude.{◌≡◌, ℕ, ◌&&◌, ◌==◌, ◌++◌, not, nat_lt, filter, map, IfOk, slice_set, slice_index_or};
+ghost use Rattle.std.specs.Prelude.{◌≡◌, ◌&&◌, ◌==◌, ◌++◌, not, nat_lt, filter, map, IfOk, slice_set, slice_index_or};
 ghost use Rattle.mon_msg.specs.Protocol.Commands.{hear_forward, hear_route};
-ghost use Rattle.mon_msg.specs.Protocol.Course.{clients_are};
 ghost use Rattle.mon_msg.specs.Protocol.Phases.{is_leading, is_peon};
 ghost use Rattle.mon_msg.specs.Protocol.Readings.{epoch_of, readings_of};
 ghost use Rattle.mon_msg.specs.declared.plan.Sent.TheVariants as sent;
 ghost use Rattle.mon_types.specs.Ranks.{has};
 ghost use Rattle.mon_plan.specs.Leaves.{Leaves};
-ghost use Rattle.mon_plan.specs.Plans.{PlansRow};
-ghost use Rattle.mon_plan.specs.Seen.{IsMet};
+ghost use Rattle.mon_client.specs.Rows.{ByRow};
 
-use crate::answers::epoch;
-use crate::commands::{at_leader, is_leading, is_peon};
+use crate::commands::at_leader;
+use crate::here::Here;
 use mon_bytes::{Command, Items, OutOfMemory};
-use mon_kv::Kv;
 use mon_msg::plan::Sent;
-use mon_msg::{Asked, Clients, Me, Next, Origin, Plan, Reply, RoleStop, View};
+use mon_msg::{Asked, Clients, Next, Origin, Plan, Reply, RoleStop};
 use mon_plan::stay;
 use mon_tx::Transaction;
-use mon_types::{Epoch, Moment, Rank};
+use mon_types::{Epoch, Rank};
 use std::alloc::Global;
 
 /// Whether a message of an epoch is of a member of the quorum that the monitor leads.
-fn is_of_member(alloc: Global, kv: &Kv, view: &View, from: Rank, epoch_told: Epoch) -> bool
+fn is_of_member(here: &Here<'_>, from: Rank, epoch: Epoch) -> bool
     ensures { result ≡
-        (is_leading view.now.phase && epoch_told == epoch_of (readings_of kv.now) && has view.now.quorum from) }
+        (is_leading here.now.view.now.phase && epoch == epoch_of (readings_of here.now.kv.now)
+        && has here.now.view.now.quorum from) }
 {
-    is_leading(view.phase) && epoch_told == epoch(alloc, kv) && view.quorum.has(from)
+    here.view.phase.is_leading() && epoch == here.epoch() && here.view.quorum.has(from)
 }
 
 /// Whether a message of an epoch is of the leader that the monitor follows.
-fn is_of_leader(alloc: Global, kv: &Kv, view: &View, from: Rank, epoch_told: Epoch) -> bool
+fn is_of_leader(here: &Here<'_>, from: Rank, epoch: Epoch) -> bool
     ensures { result ≡
-        (is_peon view.now.phase && epoch_told == epoch_of (readings_of kv.now) && from == view.now.leader) }
+        (is_peon here.now.view.now.phase && epoch == epoch_of (readings_of here.now.kv.now)
+        && from == here.now.view.now.leader) }
 {
-    is_peon(view.phase) && epoch_told == epoch(alloc, kv) && from == view.leader
+    here.view.phase.is_peon() && epoch == here.epoch() && from == here.view.leader
 }
 
 /// Whether a command of a peon wasn't taken before.
@@ -54,41 +53,27 @@ fn mark_taken(mut clients: Clients, from: Rank, seq: u64) -> Clients
 }
 
 /// A peon hands a command on. It counts once.
-pub fn forward(
-    alloc: Global,
-    kv: &Kv,
-    me: &Me,
-    view: &View,
+pub(crate) fn forward(
+    here: &Here<'_>,
     clients: Clients,
     from: Rank,
     epoch: Epoch,
     seq: u64,
     command: &Command,
-    now: Moment,
 ) -> Result<Plan<Clients>, RoleStop>
-    ensures plans { PlansRow me.now now clients_are
-        (IsMet me.now now (readings_of kv.now) view.now (λ s. s.clients) clients)
-        (hear_forward me.now now from epoch seq command.now) result }
-    ensures leaves { IfOk result (λ plan. Leaves view.now.phase plan.next plan.tx) }
+    ensures plans { ByRow here.now clients
+        (hear_forward here.now.me.now here.now.time from epoch seq command.now) result }
+    ensures leaves { IfOk result (λ plan. Leaves here.now.view.now.phase plan.next plan.tx) }
 {
-    if !is_of_member(alloc, kv, view, from, epoch) {
-        return Ok(stay(alloc, clients));
+    if !is_of_member(here, from, epoch) {
+        return Ok(stay(here.alloc, clients));
     }
     if !is_new(&clients, from, seq) {
-        return Ok(stay(alloc, clients));
+        return Ok(stay(here.alloc, clients));
     }
-    let command = command.copy(alloc)?;
+    let command = command.copy(here.alloc)?;
     let origin = Origin::Forwarded { rank: from, seq };
-    at_leader(
-        alloc,
-        kv,
-        me,
-        view,
-        mark_taken(clients, from, seq),
-        command,
-        origin,
-        now,
-    )
+    at_leader(here, mark_taken(clients, from, seq), command, origin)
 }
 
 /// The clients that wait under other numbers.
@@ -129,32 +114,28 @@ fn replies(
 }
 
 /// The leader answers a command that was handed on.
-pub fn route(
-    alloc: Global,
-    kv: &Kv,
-    view: &View,
+pub(crate) fn route(
+    here: &Here<'_>,
     mut clients: Clients,
     from: Rank,
     epoch: Epoch,
     seq: u64,
     reply: &Reply,
 ) -> Result<Plan<Clients>, RoleStop>
-    ensures plans { (me : Me) (now : ℕ) → PlansRow me now clients_are
-        (IsMet me now (readings_of kv.now) view.now (λ s. s.clients) clients)
-        (hear_route from epoch seq reply.now) result }
-    ensures leaves { IfOk result (λ plan. Leaves view.now.phase plan.next plan.tx) }
+    ensures plans { ByRow here.now clients (hear_route from epoch seq reply.now) result }
+    ensures leaves { IfOk result (λ plan. Leaves here.now.view.now.phase plan.next plan.tx) }
 {
-    if !is_of_leader(alloc, kv, view, from, epoch) {
-        return Ok(stay(alloc, clients));
+    if !is_of_leader(here, from, epoch) {
+        return Ok(stay(here.alloc, clients));
     }
     let sessions = clients.sessions.as_slice();
-    let out = replies(alloc, sessions, seq, reply)?;
-    let kept = others(alloc, sessions, seq)?;
+    let out = replies(here.alloc, sessions, seq, reply)?;
+    let kept = others(here.alloc, sessions, seq)?;
     clients.sessions = kept;
     Ok(Plan {
-        tx: Transaction::new(alloc),
+        tx: Transaction::new(here.alloc),
         out,
-        timers: Items::new(alloc),
+        timers: Items::new(here.alloc),
         state: clients,
         next: Next::Stay,
     })

@@ -9,10 +9,11 @@ ghost use Rattle.mon_plan.specs.Inputs.{may_come, row};
 ghost use Rattle.mon_plan.specs.Leaves.{Leaves};
 ghost use Rattle.mon_plan.specs.Plans.{PlansRow};
 ghost use Rattle.mon_plan.specs.Seen.{IsMet};
-ghost use Rattle.mon_client.specs.Rows.{is_told, is_asked, is_input};
+ghost use Rattle.mon_client.specs.Rows.{ByRow, is_told, is_asked, is_input};
 
 use crate::commands::{ask, propose_due};
 use crate::handed_on::{forward, route};
+use crate::here::Here;
 use crate::reads::since;
 use mon_bytes::{Command, OutOfMemory};
 use mon_kv::Kv;
@@ -22,71 +23,53 @@ use mon_types::Moment;
 use std::alloc::Global;
 
 /// A message that is heard of another monitor.
-fn hear(
-    alloc: Global,
-    kv: &Kv,
-    me: &Me,
-    view: &View,
-    clients: Clients,
-    message: &Message,
-    now: Moment,
-) -> Result<Plan<Clients>, RoleStop>
+fn hear(here: &Here<'_>, clients: Clients, message: &Message) -> Result<Plan<Clients>, RoleStop>
     requires { IsTrue (is_told message.now.body) }
-    ensures plans { (shared : List Entry) → PlansRow me.now now clients_are
-        (IsMet me.now now (readings_of kv.now) view.now (λ s. s.clients) clients)
-        (hear me.now shared now message.now.from message.now.epoch message.now.body) result }
-    ensures leaves { IfOk result (λ plan. Leaves view.now.phase plan.next plan.tx) }
+    ensures plans { (shared : List Entry) → ByRow here.now clients
+        (hear here.now.me.now shared here.now.time message.now.from message.now.epoch message.now.body) result }
+    ensures leaves { IfOk result (λ plan. Leaves here.now.view.now.phase plan.next plan.tx) }
 {
     let (from, epoch) = (message.from, message.epoch);
     match &message.body {
-        Body::Forward { seq, command } => forward(
-            alloc, kv, me, view, clients, from, epoch, *seq, command, now,
-        ),
-        Body::Route { seq, reply } => route(alloc, kv, view, clients, from, epoch, *seq, reply),
+        Body::Forward { seq, command } => forward(here, clients, from, epoch, *seq, command),
+        Body::Route { seq, reply } => route(here, clients, from, epoch, *seq, reply),
         _ => unreachable!(),
     }
 }
 
 /// What a client asks for.
 fn client(
-    alloc: Global,
-    kv: &Kv,
-    me: &Me,
-    view: &View,
+    here: &Here<'_>,
     clients: Clients,
     session: Session,
     request: &Request,
-    now: Moment,
 ) -> Result<Plan<Clients>, RoleStop>
     requires { IsTrue (is_asked request.now) }
-    ensures plans { PlansRow me.now now clients_are
-        (IsMet me.now now (readings_of kv.now) view.now (λ s. s.clients) clients)
-        (hear_client me.now now session request.now) result }
-    ensures leaves { IfOk result (λ plan. Leaves view.now.phase plan.next plan.tx) }
+    ensures plans { ByRow here.now clients
+        (hear_client here.now.me.now here.now.time session request.now) result }
+    ensures leaves { IfOk result (λ plan. Leaves here.now.view.now.phase plan.next plan.tx) }
 {
     match request {
         Request::Set { key, value } => {
             let command = Command::Set {
-                key: key.copy(alloc)?,
-                value: value.copy(alloc)?,
+                key: key.copy(here.alloc)?,
+                value: value.copy(here.alloc)?,
             };
-            ask(alloc, kv, me, view, clients, session, command, now)
+            ask(here, clients, session, command)
         }
         Request::Remove { key } => {
             let command = Command::Remove {
-                key: key.copy(alloc)?,
+                key: key.copy(here.alloc)?,
             };
-            ask(alloc, kv, me, view, clients, session, command, now)
+            ask(here, clients, session, command)
         }
         Request::Log { text } => {
             let command = Command::Log {
-                text: text.copy(alloc)?,
+                text: text.copy(here.alloc)?,
             };
-            ask(alloc, kv, me, view, clients, session, command, now)
+            ask(here, clients, session, command)
         }
-        Request::Since { service, version } => since(
-            alloc, kv, view, clients, session, *service, *version,
-        ),
+        Request::Since { service, version } => { since(here, clients, session, *service, *version) }
         Request::Show { .. } => unreachable!(),
     }
 }
@@ -132,12 +115,17 @@ pub fn step_owned(
         (row me.now shared now input.now) result }
     ensures leaves { IfOk result (λ plan. Leaves view.now.phase plan.next plan.tx) }
 {
+    let here = Here {
+        alloc,
+        kv,
+        me,
+        view,
+        time: now,
+    };
     match input {
-        Input::Deliver(message) => hear(alloc, kv, me, view, clients, message, now),
-        Input::Client(session, request) => client(
-            alloc, kv, me, view, clients, *session, request, now,
-        ),
-        Input::Timer(_) => propose_due(alloc, kv, me, view, clients, now),
+        Input::Deliver(message) => hear(&here, clients, message),
+        Input::Client(session, request) => client(&here, clients, *session, request),
+        Input::Timer(_) => propose_due(&here, clients),
         Input::Start => unreachable!(),
     }
 }

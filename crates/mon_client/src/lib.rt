@@ -4,6 +4,7 @@
 mod answers;
 mod commands;
 mod handed_on;
+mod here;
 mod inputs;
 mod proposals;
 mod reads;

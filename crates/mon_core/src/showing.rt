@@ -14,20 +14,13 @@ ghost use Rattle.mon_event.specs.State.{state_of};
 
 use crate::here::Here;
 use mon_bytes::OutOfMemory;
-use mon_event::{Event, is_leading, is_peon, view};
+use mon_event::{Event, view};
 use mon_kv::Kv;
-use mon_msg::{Phase, Reply, Service, Session, View};
+use mon_msg::{Reply, Service, Session, View};
 use mon_plan::Stored;
 use mon_types::Version;
 use std::alloc::Global;
 use svc_core::{Cache, last_version};
-
-/// Whether a monitor in this phase is in a quorum.
-fn is_member(phase: Phase) -> bool
-    ensures { result ≡ is_member phase }
-{
-    is_leading(phase) || is_peon(phase)
-}
 
 /// The map that is kept, which is read first if it isn't known.
 fn shown(alloc: Global, kv: &Kv, cache: &mut Cache, service: Service) -> Result<Reply, OutOfMemory>
@@ -66,7 +59,7 @@ fn told(
     ensures others { OnOk result ((t : services.Service) → (t ≡ service → ⊥) → known cache.new t ≡ known cache.old t) }
     ensures follows { OnOk result (Follows cache.new (readings_of kv.now)) }
 {
-    if !is_member(view.phase) {
+    if !view.phase.is_member() {
         return Ok(Reply::Unavailable);
     }
     if !view.readable {

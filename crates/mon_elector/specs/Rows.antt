@@ -5,7 +5,7 @@ use Rattle.election_rules.specs.declared.scores.Scores.{Scores}
 use Rattle.mon_msg.specs.Protocol.Changes.{Epoch, spelled}
 use Rattle.mon_msg.specs.Protocol.Course.{Course, elector_is}
 use Rattle.mon_msg.specs.Protocol.Entering.{scores_count}
-use Rattle.mon_msg.specs.Protocol.Readings.{Readings, epoch_of}
+use Rattle.mon_msg.specs.Protocol.Readings.{Readings, epoch_of, readings_of}
 use Rattle.mon_msg.specs.declared.election.Elector.{Elector}
 use Rattle.mon_msg.specs.declared.input.Input.TheVariants as input
 use Rattle.mon_msg.specs.declared.input.Input.{Input}
@@ -23,6 +23,7 @@ use Rattle.mon_wire.specs.declared.body.Body.TheVariants as body
 use Rattle.mon_wire.specs.declared.body.Body.{Body}
 use Rattle.mon_wire.specs.declared.phase.Timer.TheVariants as timer
 use Rattle.mon_wire.specs.declared.phase.Timer.{Timer}
+use Rattle.mon_elector.specs.declared.here.Here.{Here}
 
 -- what monitors say to each other of elections and of their connections
 abbrev pub is_told : Body → Bool
@@ -50,6 +51,11 @@ abbrev pub PlansElection : Me → (now : ℕ) → Readings → View → Elector 
     Result (Plan Elector) RoleStop → Type 0
 PlansElection me now w view s row result =
     PlansRow me now elector_is (IsMet me now w view (λ state. state.elector) s) row result
+
+-- a row, by what an elector reads beside its message
+abbrev pub ByRow : Here → (Course → Result Course Which) → Result (Plan Elector) RoleStop → Type 0
+ByRow here row result =
+    PlansElection here.me.now here.time (readings_of here.stored.now) here.view.now here.state.now row result
 
 -- An event under way in which an election is called: the epoch is this, and the elector remembers that.
 pub record IsCalled (e : ℕ) (s : Elector) (x : Course) : Type 0 where

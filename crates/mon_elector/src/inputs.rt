@@ -1,15 +1,16 @@
 //! What an elector does at each of its inputs.
 
-ghost use Rattle.std.specs.Prelude.{◌≡◌, List, IfOk, IsTrue};
+ghost use Rattle.std.specs.Prelude.{List, IfOk, IsTrue};
 ghost use Rattle.mon_bytes.specs.declared.entry.Entry.{Entry};
 ghost use Rattle.mon_msg.specs.Protocol.Hearing.{hear};
 ghost use Rattle.mon_msg.specs.Protocol.Readings.{readings_of};
 ghost use Rattle.mon_msg.specs.Protocol.Table.{timer_comes};
 ghost use Rattle.mon_plan.specs.Inputs.{row};
 ghost use Rattle.mon_plan.specs.Leaves.{Leaves};
-ghost use Rattle.mon_elector.specs.Rows.{is_told, is_rung, is_input, PlansElection};
+ghost use Rattle.mon_elector.specs.Rows.{is_told, is_rung, is_input, PlansElection, ByRow};
 
 use crate::acks::{election_ends, hear_ack};
+use crate::here::Here;
 use crate::pings::{hear_ping, hear_ping_reply, ping};
 use crate::proposals::hear_propose;
 use crate::victories::hear_victory;
@@ -21,56 +22,33 @@ use mon_types::Moment;
 use std::alloc::Global;
 
 /// A message of another monitor.
-fn hear(
-    alloc: Global,
-    stored: &Stored<'_>,
-    me: &Me,
-    view: &View,
-    state: &Elector,
-    message: &Message,
-    now: Moment,
-) -> Result<Plan<Elector>, RoleStop>
+fn hear(here: &Here<'_>, message: &Message) -> Result<Plan<Elector>, RoleStop>
     requires { IsTrue (is_told message.now.body) }
-    ensures plans { (shared : List Entry) → PlansElection me.now now (readings_of stored.now) view.now state.now
-        (hear me.now shared now message.now.from message.now.epoch message.now.body) result }
-    ensures leaves { IfOk result (λ p. Leaves view.now.phase p.next p.tx) }
+    ensures plans { (shared : List Entry) → ByRow here.now
+        (hear here.now.me.now shared here.now.time message.now.from message.now.epoch message.now.body) result }
+    ensures leaves { IfOk result (λ p. Leaves here.now.view.now.phase p.next p.tx) }
 {
     let from = message.from;
     let epoch = message.epoch;
     match &message.body {
-        Body::Propose { table } => {
-            hear_propose(alloc, stored, me, view, state, from, epoch, table, now)
-        }
-        Body::Ack => hear_ack(alloc, stored, me, view, state, from, epoch),
-        Body::Victory { quorum } => {
-            hear_victory(alloc, stored, me, view, state, from, epoch, *quorum, now)
-        }
-        Body::Ping { table } => hear_ping(alloc, stored, me, view, state, from, table),
-        Body::PingReply { table } => {
-            Ok(hear_ping_reply(alloc, stored, me, view, state, from, table))
-        }
+        Body::Propose { table } => hear_propose(here, from, epoch, table),
+        Body::Ack => hear_ack(here, from, epoch),
+        Body::Victory { quorum } => hear_victory(here, from, epoch, *quorum),
+        Body::Ping { table } => hear_ping(here, from, table),
+        Body::PingReply { table } => Ok(hear_ping_reply(here, from, table)),
         _ => unreachable!(),
     }
 }
 
 /// A timer, which was armed and is disarmed.
-fn ring(
-    alloc: Global,
-    stored: &Stored<'_>,
-    me: &Me,
-    view: &View,
-    state: &Elector,
-    timer: Timer,
-    now: Moment,
-) -> Result<Plan<Elector>, RoleStop>
+fn ring(here: &Here<'_>, timer: Timer) -> Result<Plan<Elector>, RoleStop>
     requires { IsTrue (is_rung timer) }
-    ensures plans { PlansElection me.now now (readings_of stored.now) view.now state.now
-        (timer_comes me.now now timer) result }
-    ensures leaves { IfOk result (λ p. Leaves view.now.phase p.next p.tx) }
+    ensures plans { ByRow here.now (timer_comes here.now.me.now here.now.time timer) result }
+    ensures leaves { IfOk result (λ p. Leaves here.now.view.now.phase p.next p.tx) }
 {
     match timer {
-        Timer::Election => election_ends(alloc, stored, me, view, state),
-        Timer::Ping => ping(alloc, stored, me, view, state, now),
+        Timer::Election => election_ends(here),
+        Timer::Ping => ping(here),
         _ => unreachable!(),
     }
 }
@@ -93,9 +71,17 @@ pub fn step(
     ensures leaves { IfOk result (λ p. Leaves view.now.phase p.next p.tx) }
 {
     let stored = Stored::of(alloc, kv);
+    let here = Here {
+        alloc,
+        stored: &stored,
+        me,
+        view,
+        state,
+        time: now,
+    };
     match input {
-        Input::Deliver(message) => hear(alloc, &stored, me, view, state, message, now),
-        Input::Timer(timer) => ring(alloc, &stored, me, view, state, *timer, now),
+        Input::Deliver(message) => hear(&here, message),
+        Input::Timer(timer) => ring(&here, *timer),
         Input::Start | Input::Client(..) => unreachable!(),
     }
 }

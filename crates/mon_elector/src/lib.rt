@@ -4,6 +4,7 @@
 
 mod acks;
 mod calls;
+mod here;
 mod inputs;
 mod pings;
 mod proposals;

@@ -1,21 +1,20 @@
 //! Monitors measure their connections.
 
-ghost use Rattle.std.specs.Prelude.{◌≡◌, ℕ, ◌+◌, ◌-◌, ◌/◌, if◌then◌else◌, IfOk, Ok};
+ghost use Rattle.std.specs.Prelude.{◌≡◌, ◌+◌, ◌-◌, ◌/◌, if◌then◌else◌, IfOk, Ok};
 ghost use Rattle.election_rules.specs.Table.{raised, lowered, scored};
 ghost use Rattle.mon_msg.specs.Protocol.Pings.{hear_ping, hear_ping_reply, ping, scores_after, measure, with_heard};
-ghost use Rattle.mon_msg.specs.Protocol.Readings.{readings_of};
 ghost use Rattle.mon_plan.specs.Leaves.{Leaves};
-ghost use Rattle.mon_elector.specs.Rows.{PlansElection};
+ghost use Rattle.mon_elector.specs.Rows.{ByRow};
 
+use crate::here::Here;
 use crate::seen::table_told;
 use crate::steps::{tell_others, tell_until};
 use election_rules::Scores;
 use mon_bytes::{Items, OutOfMemory};
-use mon_msg::{Body, Elector, Me, Next, Plan, RoleStop, ScoreTable, Timer, View};
-use mon_plan::{Stored, armed, message, others, stay};
+use mon_msg::{Body, Elector, Next, Plan, RoleStop, ScoreTable, Timer};
+use mon_plan::{armed, message, others, stay};
 use mon_tx::Transaction;
-use mon_types::{Moment, Rank, RankSet};
-use std::alloc::Global;
+use mon_types::{Rank, RankSet};
 
 /// The elector that heard of a monitor, and what it now knows of connections.
 fn with_heard(state: &Elector, from: Rank, table: &Scores) -> Elector
@@ -32,29 +31,25 @@ fn with_heard(state: &Elector, from: Rank, table: &Scores) -> Elector
 
 /// Another monitor pings.
 pub(crate) fn hear_ping(
-    alloc: Global,
-    stored: &Stored<'_>,
-    me: &Me,
-    view: &View,
-    state: &Elector,
+    here: &Here<'_>,
     from: Rank,
     table: &Option<ScoreTable>,
 ) -> Result<Plan<Elector>, RoleStop>
-    ensures plans { (now : ℕ) →
-        PlansElection me.now now (readings_of stored.now) view.now state.now (hear_ping me.now from table.now) result }
-    ensures leaves { IfOk result (λ p. Leaves view.now.phase p.next p.tx) }
+    ensures plans { ByRow here.now (hear_ping here.now.me.now from table.now) result }
+    ensures leaves { IfOk result (λ p. Leaves here.now.view.now.phase p.next p.tx) }
 {
     let Some(table) = table else {
-        return Ok(stay(alloc, *state));
+        return Ok(stay(here.alloc, *here.state));
     };
-    let heard = with_heard(state, from, table.scores());
-    let table = table_told(alloc, &me.rule, &heard.scores)?;
-    let mut out = Items::new(alloc);
-    out.push(message(me, stored.epoch(), Body::PingReply { table }, from))?;
+    let heard = with_heard(here.state, from, table.scores());
+    let table = table_told(here.alloc, &here.me.rule, &heard.scores)?;
+    let mut out = Items::new(here.alloc);
+    let body = Body::PingReply { table };
+    out.push(message(here.me, here.stored.epoch(), body, from))?;
     Ok(Plan {
-        tx: Transaction::new(alloc),
+        tx: Transaction::new(here.alloc),
         out,
-        timers: Items::new(alloc),
+        timers: Items::new(here.alloc),
         state: heard,
         next: Next::Stay,
     })
@@ -62,21 +57,16 @@ pub(crate) fn hear_ping(
 
 /// Another monitor answers a ping.
 pub(crate) fn hear_ping_reply(
-    alloc: Global,
-    stored: &Stored<'_>,
-    me: &Me,
-    view: &View,
-    state: &Elector,
+    here: &Here<'_>,
     from: Rank,
     table: &Option<ScoreTable>,
 ) -> Plan<Elector>
-    ensures plans { (now : ℕ) → PlansElection me.now now (readings_of stored.now) view.now state.now
-        (hear_ping_reply from table.now) (Ok result) }
-    ensures leaves { Leaves view.now.phase result.next result.tx }
+    ensures plans { ByRow here.now (hear_ping_reply from table.now) (Ok result) }
+    ensures leaves { Leaves here.now.view.now.phase result.next result.tx }
 {
     match table {
-        None => stay(alloc, *state),
-        Some(table) => stay(alloc, with_heard(state, from, table.scores())),
+        None => stay(here.alloc, *here.state),
+        Some(table) => stay(here.alloc, with_heard(here.state, from, table.scores())),
     }
 }
 
@@ -104,35 +94,31 @@ fn scores_after(seconds: u64, heard: RankSet, ranks: &[Rank], scores: &Scores) -
 }
 
 /// The elector after the time since it last pinged.
-fn measured(alloc: Global, me: &Me, state: &Elector, now: Moment) -> Result<Elector, OutOfMemory>
-    ensures { IfOk result (λ elector. elector ≡ measure me.now now state.now) }
+fn measured(here: &Here<'_>) -> Result<Elector, OutOfMemory>
+    ensures { IfOk result (λ elector. elector ≡ measure here.now.me.now here.now.time here.now.state.now) }
 {
-    let ranks = others(alloc, me)?;
-    let seconds = now.get().saturating_sub(state.pinged.get()) / 1000;
+    let state = here.state;
+    let ranks = others(here.alloc, here.me)?;
+    let seconds = here.time.get().saturating_sub(state.pinged.get()) / 1000;
     let scores = scores_after(seconds, state.heard, ranks.as_slice(), &state.scores);
     Ok(Elector {
         scores,
         heard: RankSet::empty(),
-        pinged: now,
+        pinged: here.time,
         ..*state
     })
 }
 
 /// The time to ping has come.
-pub(crate) fn ping(
-    alloc: Global,
-    stored: &Stored<'_>,
-    me: &Me,
-    view: &View,
-    state: &Elector,
-    now: Moment,
-) -> Result<Plan<Elector>, RoleStop>
-    ensures plans { PlansElection me.now now (readings_of stored.now) view.now state.now (ping me.now now) result }
-    ensures leaves { IfOk result (λ p. Leaves view.now.phase p.next p.tx) }
+pub(crate) fn ping(here: &Here<'_>) -> Result<Plan<Elector>, RoleStop>
+    ensures plans { ByRow here.now (ping here.now.me.now here.now.time) result }
+    ensures leaves { IfOk result (λ p. Leaves here.now.view.now.phase p.next p.tx) }
 {
-    let elector = measured(alloc, me, state, now)?;
-    let table = table_told(alloc, &me.rule, &elector.scores)?;
-    let out = tell_others(alloc, me, stored.epoch(), Body::Ping { table })?;
-    let tx = Transaction::new(alloc);
-    Ok(tell_until(alloc, tx, out, elector, armed(now, Timer::Ping))?)
+    let elector = measured(here)?;
+    let table = table_told(here.alloc, &here.me.rule, &elector.scores)?;
+    let body = Body::Ping { table };
+    let out = tell_others(here.alloc, here.me, here.stored.epoch(), body)?;
+    let tx = Transaction::new(here.alloc);
+    let arming = armed(here.time, Timer::Ping);
+    Ok(tell_until(here.alloc, tx, out, elector, arming)?)
 }

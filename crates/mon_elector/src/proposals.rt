@@ -1,63 +1,61 @@
 //! Another monitor stands for election.
 
-ghost use Rattle.std.specs.Prelude.{◌≡◌, IfOk};
+ghost use Rattle.std.specs.Prelude.{IfOk};
 ghost use Rattle.mon_msg.specs.Protocol.Elections.{hear_propose};
-ghost use Rattle.mon_msg.specs.Protocol.Readings.{readings_of};
 ghost use Rattle.mon_plan.specs.Leaves.{Leaves};
-ghost use Rattle.mon_elector.specs.Rows.{PlansElection};
+ghost use Rattle.mon_elector.specs.Rows.{ByRow};
 
+use crate::here::Here;
 use crate::seen::{
     is_better, is_deaf, is_idle, is_later, is_left_out, is_past, may_defer, table_or,
 };
 use crate::steps::{defer, enter_epoch, join_and_defer, joining, merged};
-use mon_msg::{Elector, Me, Next, Plan, RoleStop, ScoreTable, Timer, View};
-use mon_plan::{Stored, armed, planned, stay};
-use mon_types::{Epoch, Moment, Rank};
-use std::alloc::Global;
+use mon_msg::{Elector, Next, Plan, RoleStop, ScoreTable, Timer};
+use mon_plan::{armed, planned, stay};
+use mon_types::{Epoch, Rank};
 
 /// A monitor stands for election in an epoch, and sends its table if scores count.
 pub(crate) fn hear_propose(
-    alloc: Global,
-    stored: &Stored<'_>,
-    me: &Me,
-    view: &View,
-    state: &Elector,
+    here: &Here<'_>,
     from: Rank,
     epoch: Epoch,
     table: &Option<ScoreTable>,
-    now: Moment,
 ) -> Result<Plan<Elector>, RoleStop>
-    ensures plans { PlansElection me.now now (readings_of stored.now) view.now state.now
-        (hear_propose me.now now from epoch table.now) result }
-    ensures leaves { IfOk result (λ p. Leaves view.now.phase p.next p.tx) }
+    ensures plans { ByRow here.now (hear_propose here.now.me.now here.now.time from epoch table.now) result }
+    ensures leaves { IfOk result (λ p. Leaves here.now.view.now.phase p.next p.tx) }
 {
-    if is_deaf(view, epoch) {
-        return Ok(stay(alloc, *state));
+    if is_deaf(here.view, epoch) {
+        return Ok(stay(here.alloc, *here.state));
     }
-    if is_past(stored, epoch) {
-        if is_left_out(stored, view, from) {
-            return Ok(planned(alloc, *state, Next::Elect));
+    if is_past(here.stored, epoch) {
+        if is_left_out(here.stored, here.view, from) {
+            return Ok(planned(here.alloc, *here.state, Next::Elect));
         }
-        return Ok(stay(alloc, *state));
+        return Ok(stay(here.alloc, *here.state));
     }
-    let is_better = is_better(me, table_or(table, &state.scores), from);
-    let merged = merged(table, state);
-    if is_later(stored, epoch) {
+    let is_better = is_better(here.me, table_or(table, &here.state.scores), from);
+    let merged = merged(table, here.state);
+    if is_later(here.stored, epoch) {
         let joining = joining(&merged);
         if is_better {
-            let arming = armed(now, Timer::Election);
-            return Ok(join_and_defer(alloc, me, epoch, &joining, from, arming)?);
+            let arming = armed(here.time, Timer::Election);
+            return Ok(join_and_defer(here.alloc, here.me, epoch, &joining, from, arming)?);
         }
-        return Ok(enter_epoch(alloc, epoch, joining, Next::Elect)?);
+        return Ok(enter_epoch(here.alloc, epoch, joining, Next::Elect)?);
     }
     if is_better {
-        if may_defer(me, table_or(table, &state.scores), from, merged.deferred) {
-            return Ok(defer(alloc, me, epoch, &merged, from)?);
+        if may_defer(
+            here.me,
+            table_or(table, &here.state.scores),
+            from,
+            merged.deferred,
+        ) {
+            return Ok(defer(here.alloc, here.me, epoch, &merged, from)?);
         }
-        return Ok(stay(alloc, merged));
+        return Ok(stay(here.alloc, merged));
     }
     if is_idle(&merged) {
-        return Ok(planned(alloc, merged, Next::Elect));
+        return Ok(planned(here.alloc, merged, Next::Elect));
     }
-    Ok(stay(alloc, merged))
+    Ok(stay(here.alloc, merged))
 }

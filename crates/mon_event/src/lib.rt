@@ -12,6 +12,6 @@ mod timers;
 pub use event::Event;
 pub use role::{Role, hearer, woken_by};
 pub use role_state::RoleState;
-pub use seen::{is_heard, is_leading, is_peon, scores_count, view};
+pub use seen::{is_heard, scores_count, view};
 pub use state::{State, is_same_phase};
 pub use timers::Timers;

@@ -3,7 +3,7 @@
 ghost use Rattle.std.specs.Prelude.{◌≡◌, ◌&&◌, ◌==◌, not, true};
 ghost use Rattle.mon_msg.specs.Protocol.Entering.{scores_count};
 ghost use Rattle.mon_msg.specs.Protocol.Hearing.{fits_rule, has_fitting_table, is_heard};
-ghost use Rattle.mon_msg.specs.Protocol.Phases.{is_leading, is_peon, phase_of};
+ghost use Rattle.mon_msg.specs.Protocol.Phases.{is_leading, phase_of};
 ghost use Rattle.mon_msg.specs.Protocol.Reads.{is_standing};
 ghost use Rattle.mon_msg.specs.Protocol.Readings.{readings_of};
 ghost use Rattle.mon_msg.specs.Protocol.State.{quorum_of, lease_of};
@@ -14,37 +14,16 @@ use crate::state::State;
 use election_rules::Rule;
 use mon_kv::Kv;
 use mon_lease::{Lease, readable};
-use mon_msg::{Body, Me, Message, Phase, ScoreTable, View};
+use mon_msg::{Body, Me, Message, ScoreTable, View};
 use mon_plan::Stored;
 use mon_types::{Moment, Rank, RankSet};
 use std::alloc::Global;
-
-// ---- phases
-
-/// Whether a monitor in this phase leads a quorum.
-pub fn is_leading(phase: Phase) -> bool
-    ensures { result ≡ is_leading phase }
-{
-    matches!(
-        phase,
-        Phase::Collecting | Phase::Previous | Phase::Active | Phase::Updating
-    )
-}
-
-/// Whether a monitor in this phase follows a leader.
-pub fn is_peon(phase: Phase) -> bool
-    ensures { result ≡ is_peon phase }
-{
-    matches!(phase, Phase::Peon)
-}
-
-// ---- views
 
 /// The leader of its quorum, or itself.
 fn leader_of(me: &Me, state: &State) -> Rank
     ensures { result ≡ leader_of me.now.member.rank (state_of state.now) }
 {
-    if is_peon(state.phase) {
+    if state.phase.is_peon() {
         state.peon.leader
     } else {
         me.member.rank
@@ -55,10 +34,10 @@ fn leader_of(me: &Me, state: &State) -> Rank
 fn quorum_of(state: &State) -> RankSet
     ensures { result ≡ quorum_of (state_of state.now) }
 {
-    if is_peon(state.phase) {
+    if state.phase.is_peon() {
         return state.peon.quorum;
     }
-    if is_leading(state.phase) {
+    if state.phase.is_leading() {
         return state.leader.quorum;
     }
     RankSet::empty()
@@ -68,10 +47,10 @@ fn quorum_of(state: &State) -> RankSet
 fn lease_of(state: &State) -> Lease
     ensures { result ≡ lease_of (state_of state.now) }
 {
-    if is_peon(state.phase) {
+    if state.phase.is_peon() {
         return state.peon.lease;
     }
-    if is_leading(state.phase) {
+    if state.phase.is_leading() {
         return state.leader.lease;
     }
     Lease::none()

@@ -8,7 +8,6 @@ ghost use Rattle.mon_msg.specs.Protocol.State.{booting, no_clients, start_leader
 ghost use Rattle.mon_plan.specs.Plans.{all_armed, phase_as};
 ghost use Rattle.mon_event.specs.State.{state_of};
 
-use crate::seen::is_leading;
 use crate::timers::Timers;
 use election_rules::Scores;
 use mon_bytes::{Items, KeyPlace};
@@ -135,7 +134,7 @@ fn phase_of(stage: LeaderStage) -> Phase
 fn phase_as(stage: LeaderStage, phase: Phase) -> Phase
     ensures { result ≡ phase_as stage phase }
 {
-    if is_leading(phase) {
+    if phase.is_leading() {
         phase_of(stage)
     } else {
         phase

@@ -4,13 +4,16 @@ pub mod Created
 pub mod Files
 pub mod Finds
 pub mod Gates
+pub mod Gathering
+pub mod Heads
 pub mod Headers
 pub mod Keeping
-pub mod Loads
 pub mod Local
+pub mod Looking
 pub mod Makes
 pub mod Parts
 pub mod RecordParts
 pub mod Spells
+pub mod Steady
 mod Stops
 pub mod Walks

@@ -10,19 +10,16 @@ use Rattle.mon_bytes.specs.Reading.{Reading, number, front}
 use Rattle.mon_bytes.specs.Forms.{u32_bytes}
 use Rattle.mon_bytes.proofs.Fields.{ok_is}
 use Rattle.mon_journal.specs.declared.stop.JournalStop.{JournalStop}
-use Rattle.mon_journal.specs.declared.stop.JournalStop.TheVariants.{DiskFault, NotAStore, OutOfMemory}
+use Rattle.mon_journal.specs.declared.stop.JournalStop.TheVariants.{NotAStore}
 use Rattle.mon_journal.specs.Fields.{◌>>=◌, whole, payload_at}
-use Rattle.mon_journal.specs.Content.{records, records_at, Fails}
+pub use Rattle.mon_journal.specs.Content.{with_front}
+use Rattle.mon_journal.specs.Content.{records, records_at}
 use Rattle.mon_journal.specs.Written.{payload_bytes, record_bytes}
 use Rattle.mon_journal.proofs.Local.{from, bind_ok}
 use Rattle.mon_journal.proofs.Parts.{payload_local}
 
 abbrev pub Found : Type 0
 Found = Result (List (List ℕ) × ℕ) JournalStop
-
--- payloads that were read before
-abbrev pub with_front : List (List ℕ) → Found → Found
-with_front payloads found = found >>= λ x. Ok (payloads ++ x.0, x.1)
 
 pub gate_read : (at gate : ℕ) (rest : List ℕ) → whole (number 1 (from at (gate ∷ rest))) ≡ Ok (gate, from (at + 1) rest)
 gate_read at gate rest =
@@ -180,7 +177,7 @@ one_record at payload gate behind lt shut =
 
 -- ---- reading the records one after the other, as a loop does
 
-at_fault : (at : ℕ) (rest : List ℕ) (e : JournalStop) → payload_at (from (at + 1) rest) ≡ Err e → records_at (from at (1 ∷ rest)) ≡ Err e
+pub at_fault : (at : ℕ) (rest : List ℕ) (e : JournalStop) → payload_at (from (at + 1) rest) ≡ Err e → records_at (from at (1 ∷ rest)) ≡ Err e
 unfolding records_at
 at_fault at rest e is = records_open (length rest) at rest ∙ ap (λ (r : Result (List ℕ × Reading) JournalStop). r >>= λ p. with_front (p.0 ∷ []) (records (length rest) p.1)) is
 
@@ -190,7 +187,7 @@ gate_found at (gate ∷ rest) x e =
     let is : (gate, from (at + 1) rest) ≡ x = ok_is (gate, from (at + 1) rest) x (sym (gate_read at gate rest) ∙ ap (λ (r : Result (ℕ × Reading) Short). whole r) e) in
     (rest, ap (λ (n : ℕ). n ∷ rest) (ap (λ (p : ℕ × Reading). p.0) is), sym (ap (λ (p : ℕ × Reading). p.1) is))
 
-added : (before : List (List ℕ)) (payload : List ℕ) (found : Found) → with_front before (with_front (payload ∷ []) found) ≡ with_front (before ++ payload ∷ []) found
+pub added : (before : List (List ℕ)) (payload : List ℕ) (found : Found) → with_front before (with_front (payload ∷ []) found) ≡ with_front (before ++ payload ∷ []) found
 added before payload (Ok x) = ap (λ (payloads : List (List ℕ)). Ok (payloads, x.1)) (simp append_assoc)
 added before payload (Err e) = refl
 
@@ -227,8 +224,3 @@ pub less_left : (c : Reading) (x : ℕ × Reading) (p : List ℕ × Reading) →
 less_left c x p gate is_open read =
     let g = opened c x gate is_open in
     omega (arith, ap length g.1, ap (λ (r : Reading). length r.rest) g.2, shorter x.1 p read)
-
-pub fails_of : (e : JournalStop) (total : Found) → total ≡ Err e → Fails e total
-fails_of OutOfMemory total is = tt
-fails_of DiskFault total is = is
-fails_of (NotAStore at) total is = is

@@ -1,51 +1,88 @@
 -- The payloads of a store's file, read one after the other.
-use Rattle.std.proofs.Common.{◌≡◌, ◌≢◌, ℕ, List, [], ◌∷◌, Some, Result, Ok, Err, sym, ap, ◌∙◌}
-use Rattle.mon_bytes.specs.declared.cursor.Short.{Short}
-use Rattle.mon_bytes.specs.Reading.{Reading, number, Steps}
+use Rattle.std.proofs.Common.{◌≡◌, ℕ, ◌+◌, List, [], ◌∷◌, length, take, drop, Option, Some, None, Result, Ok, Err, refl, sym, ap, ◌∙◌, subst, arith}
+use Rattle.std.specs.Prelude.{IfSome}
+use Rattle.std.proofs.lemmas.List.{drop-drop}
+use Rattle.mon_bytes.specs.Reading.{Reading, moved}
 use Rattle.mon_bytes.proofs.Fields.{ok_is}
 use Rattle.mon_journal.specs.declared.stop.JournalStop.{JournalStop}
-use Rattle.mon_journal.specs.Fields.{payload_at, Reads}
-use Rattle.mon_journal.specs.Content.{Header, header_at, records_at, payloads_in, payloads_of, IsStore, IsLeft, IsNext}
-use Rattle.mon_journal.proofs.Local.{from, bind_ok, whole_ok}
-use Rattle.mon_journal.proofs.RecordParts.{Found, with_front, gate_read, one_found, gate_missing, gate_shut, payload_faulty, payload_more}
+use Rattle.mon_journal.specs.declared.stop.JournalStop.TheVariants.{DiskFault, NotAStore, OutOfMemory}
+use Rattle.mon_journal.specs.declared.journal.Journal.{Journal}
+use Rattle.mon_journal.specs.Content.{Header, Held, with_front, header_at, records_at, payloads_in, payloads_of, content, held_by, Holds, Fails, IsStore, IsLeft, IsNext, HeadAt, NextIs}
+use Rattle.mon_journal.specs.Pieces.{left_at}
+use Rattle.mon_journal.proofs.Local.{from, bind_ok}
+use Rattle.mon_journal.proofs.RecordParts.{Found, one_found}
 use Rattle.mon_journal.proofs.Files.{held_with, held_open, held_found, opened_file}
-
-stepped : {X Y : Type 0} (view : X → Y) (r : Result X Short) (old new : Reading) (wanted : Result (Y × Reading) Short) (y : Y × Reading) → Steps view r old new wanted → wanted ≡ Ok y → new ≡ y.1
-stepped view (Ok x) old new wanted y step is = ap (λ p. p.1) (ok_is (view x, new) y (sym step ∙ is))
-stepped view (Err s) old new wanted y step is = absurd (cc (step.0, is))
-
-was_read : {X Y : Type 0} (view : X → Y) (r : Result X JournalStop) (new : Reading) (read : Result (Y × Reading) JournalStop) (y : Y × Reading) → Reads view r new read → read ≡ Ok y → new ≡ y.1
-was_read view (Ok x) new read y reads is = ap (λ p. p.1) (ok_is (view x, new) y (sym reads ∙ is))
-was_read view (Err e) new read y reads is = absurd (cc (reads, is))
+use Rattle.mon_journal.specs.Steps.{IsOutside}
+use Rattle.mon_journal.proofs.Steady.{header_steady}
+use Rattle.mon_journal.proofs.Heads.{each_file, both_files}
 
 -- after the gate and the header of a store's file all its payloads are left
-pub all_left : {X Y : Type 0} (as_number : X → ℕ) (as_header : Y → Header) (file : List ℕ) (first : Reading) (gate : Result X Short) (mid : Reading) (header : Result Y JournalStop) (last : Reading)
-    → IsStore file → first ≡ from 0 file → Steps as_number gate first mid (number 1 first) → Reads as_header header last (header_at mid) → IsLeft (payloads_of file) last
-all_left as_number as_header file first gate mid header last (held, is) start step reads =
+pub all_left : (file : List ℕ) → IsStore file → IsLeft (payloads_of file) (left_at 25 file)
+all_left file (held, is) =
     let o = opened_file file held is in
     let b = bind_ok (header_at (from 1 o.0)) (λ h. held_with h.0 (records_at h.1)) held (sym (held_open o.0) ∙ o.2) in
     let f = held_found b.0.0 (records_at b.0.1) held b.2 in
-    let gate_is : number 1 first ≡ Ok (1, from 1 o.0) =
-    ap (number 1) (start ∙ ap (λ (bytes : List ℕ). from 0 bytes) o.1) ∙ whole_ok (number 1 (from 0 (1 ∷ o.0))) (1, from 1 o.0) (gate_read 0 1 o.0) in
-    let mid_is : mid ≡ from 1 o.0 = stepped as_number gate first mid (number 1 first) (1, from 1 o.0) step gate_is in
-    let last_is : last ≡ b.0.1 = was_read as_header header last (header_at mid) b.0 reads (ap header_at mid_is ∙ b.1) in
+    let last_is : left_at 25 file ≡ b.0.1 = ap (λ (bytes : List ℕ). left_at 25 bytes) o.1 ∙ sym (header_steady.moves (from 1 o.0) b.0 b.1) in
     let payloads : held.payloads ≡ payloads_of file = sym (ap payloads_in is) in
     (held.next_gate, ap records_at last_is ∙ f.0 ∙ ap (λ (ps : List (List ℕ)). Ok (ps, held.next_gate)) payloads)
 
-module _ (payloads : List (List ℕ)) (c : Reading) (left : IsLeft payloads c) where
-  so_far : with_front [] (records_at c) ≡ Ok (payloads, left.0)
-  so_far = ap (λ (found : Found). with_front [] found) left.1
+pub all_left_on : (s : Option (List ℕ)) (journal : Journal) → IfSome s (λ file. Holds journal (payloads_of file) file) → IfSome s (λ file. IsLeft (payloads_of file) (left_at 25 file))
+all_left_on s journal holds = each_file s (λ file. Holds journal (payloads_of file) file) (λ file. IsLeft (payloads_of file) (left_at 25 file)) (λ file is. all_left file (held_by journal (payloads_of file), is)) holds
 
-  pub gate_there : (s : Short) → number 1 c ≡ Err s → payloads ≡ []
-  gate_there s e = absurd (cc (gate_missing [] c s (Ok (payloads, left.0)) e so_far))
+-- none is left at a closed gate
+pub none_left : (payloads : List (List ℕ)) (c : Reading) → IsLeft payloads c → records_at c ≡ Ok ([], c.at) → payloads ≡ []
+none_left payloads c left shut = sym (ap (λ p. p.0) (ok_is ([], c.at) (payloads, left.0) (sym shut ∙ left.1)))
 
-  pub none_next : (x : ℕ × Reading) → number 1 c ≡ Ok x → x.0 ≢ 1 → payloads ≡ []
-  none_next x e shut = ap (λ p. p.0) (ok_is (payloads, left.0) ([], c.at) (gate_shut [] c x (Ok (payloads, left.0)) e shut so_far))
+-- one that is left, and those after it
+pub one_left : (payloads : List (List ℕ)) (c behind : Reading) (payload : List ℕ) → IsLeft payloads c → records_at c ≡ with_front (payload ∷ []) (records_at behind) → IsNext (Some payload) payloads behind
+one_left payloads c behind payload left is =
+    let y = one_found payload (records_at behind) (payloads, left.0) (sym is ∙ left.1) in
+    (y.0.0, ap (λ z. z.0) y.2, (y.0.1, y.1))
 
-  pub payload_there : (x : ℕ × Reading) (e : JournalStop) → number 1 c ≡ Ok x → x.0 ≡ 1 → payload_at x.1 ≡ Err e → payloads ≡ []
-  payload_there x e gate is_open fault = absurd (cc (payload_faulty [] c x e (Ok (payloads, left.0)) gate is_open fault so_far))
+-- if some are left, none is at fault
+pub fails_none : {V : Type 0} (view : V → List ℕ) (e : JournalStop) (payloads : List (List ℕ)) (c behind : Reading) → IsLeft payloads c → Fails e (records_at c) → NextIs view payloads behind (Err e)
+fails_none view DiskFault payloads c behind left fails = tt
+fails_none view (NotAStore at) payloads c behind left fails = absurd (cc (fails, left.1))
+fails_none view OutOfMemory payloads c behind left fails = tt
 
-  pub one_next : (x : ℕ × Reading) (p : List ℕ × Reading) → number 1 c ≡ Ok x → x.0 ≡ 1 → payload_at x.1 ≡ Ok p → IsNext (Some p.0) payloads p.1
-  one_next x p gate is_open read =
-      let y = one_found p.0 (records_at p.1) (payloads, left.0) (payload_more [] c x p (Ok (payloads, left.0)) gate is_open read so_far) in
-      (y.0.0, ap (λ z. z.0) y.2, (y.0.1, y.1))
+-- ---- the same, if the file may be seen
+
+abbrev pub Next : {V : Type 0} → (V → List ℕ) → Option (List ℕ) → ℕ → ℕ → Result (Option V) JournalStop → Type 0
+Next view seen gate behind result = IfSome seen (λ file. (payloads : List (List ℕ)) → IsLeft payloads (left_at gate file) → NextIs view payloads (left_at behind file) result)
+
+abbrev pub Head : Option (List ℕ) → ℕ → Result (Option ℕ) JournalStop → Type 0
+Head seen gate result = IfSome seen (λ file. HeadAt result (left_at gate file))
+
+module _ {V : Type 0} (view : V → List ℕ) (seen : Option (List ℕ)) (gate : ℕ) where
+  pub next_fails : (behind : ℕ) (e : JournalStop) → Head seen gate (Err e) → Next view seen gate behind (Err e)
+  next_fails behind e head =
+      each_file seen (λ file. HeadAt (Err e) (left_at gate file)) (λ file. (payloads : List (List ℕ)) → IsLeft payloads (left_at gate file) → NextIs view payloads (left_at behind file) (Err e))
+      (λ file fails payloads left. fails_none view e payloads (left_at gate file) (left_at behind file) left fails) head
+
+  pub next_outside : (behind : ℕ) (e : JournalStop) → IsOutside e → Next view seen gate behind (Err e)
+  next_outside behind e outside = by e outside seen
+    where
+      by : (e : JournalStop) → IsOutside e → (s : Option (List ℕ)) → Next view s gate behind (Err e)
+      by e is None = tt
+      by DiskFault is (Some file) = λ payloads left. tt
+      by OutOfMemory is (Some file) = λ payloads left. tt
+      by (NotAStore at) is (Some file) = absurd is
+
+  pub next_none : (behind : ℕ) → Head seen gate (Ok None) → Next view seen gate behind (Ok None)
+  next_none behind head =
+      each_file seen (λ file. HeadAt (Ok None) (left_at gate file)) (λ file. (payloads : List (List ℕ)) → IsLeft payloads (left_at gate file) → payloads ≡ [])
+      (λ file shut payloads left. none_left payloads (left_at gate file) left shut) head
+
+  pub next_one : (behind n : ℕ) (v : V) → behind ≡ gate + (5 + n) → IfSome seen (λ file. view v ≡ take n (drop (gate + 5) file)) → Head seen gate (Ok (Some n)) → Next view seen gate behind (Ok (Some v))
+  next_one behind n v place read head = both_files seen (λ file. view v ≡ take n (drop (gate + 5) file)) (λ file. HeadAt (Ok (Some n)) (left_at gate file))
+      (λ file. (payloads : List (List ℕ)) → IsLeft payloads (left_at gate file) → IsNext (Some (view v)) payloads (left_at behind file))
+      (λ file is more payloads left. one_left payloads (left_at gate file) (left_at behind file) (view v) left (here file is more)) read head
+    where
+      here : (file : List ℕ) → view v ≡ take n (drop (gate + 5) file) → HeadAt (Ok (Some n)) (left_at gate file) → records_at (left_at gate file) ≡ with_front (view v ∷ []) (records_at (left_at behind file))
+      here file is more =
+          let payload : take n (drop 5 (drop gate file)) ≡ view v = ap (λ (l : List ℕ). take n l) (drop-drop 5 gate file) ∙ sym is in
+          let rest : drop (5 + n) (drop gate file) ≡ drop behind file = drop-drop (5 + n) gate file ∙ ap (λ (k : ℕ). drop k file) (sym place) in
+          more
+          ∙ ap (λ (p : List ℕ). with_front (p ∷ []) (records_at (from (gate + (5 + n)) (drop (5 + n) (drop gate file))))) payload
+          ∙ ap (λ (k : ℕ). with_front (view v ∷ []) (records_at (from k (drop (5 + n) (drop gate file))))) (sym place)
+          ∙ ap (λ (l : List ℕ). with_front (view v ∷ []) (records_at (from behind l))) rest

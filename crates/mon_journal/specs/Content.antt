@@ -1,6 +1,6 @@
 -- What a store's file holds.
-use Rattle.std.specs.Prelude.{◌≡◌, ℕ, zero, suc, ◌+◌, Bool, true, not, List, [], ◌∷◌, ◌++◌, length, slice_index_or, Option, Some, None, Result, Ok, Err, ◌==◌, if◌then◌else◌}
-use Rattle.mon_bytes.specs.Reading.{Reading, number}
+use Rattle.std.specs.Prelude.{◌≡◌, ℕ, zero, suc, ◌+◌, Bool, true, not, List, [], ◌∷◌, ◌++◌, length, take, drop, slice_index_or, Option, Some, None, option_map, Result, Ok, Err, ◌==◌, if◌then◌else◌}
+use Rattle.mon_bytes.specs.Reading.{Reading, number, moved}
 use Rattle.mon_journal.specs.declared.stop.JournalStop.{JournalStop}
 use Rattle.mon_journal.specs.declared.stop.JournalStop.TheVariants.{DiskFault, NotAStore, OutOfMemory}
 use Rattle.mon_journal.specs.declared.journal.Form.{Form}
@@ -20,6 +20,10 @@ header_at c = do
   generation ← generation_at zeros.1
   Ok (record { form = form.0; owner = owner.0; generation = generation.0 }, generation.1)
 
+-- the header after its gate
+abbrev pub header_of_file : List ℕ → Result (Header × Reading) JournalStop
+header_of_file file = whole (number 1 (record { at = 0; rest = file })) >>= λ gate. header_at gate.1
+
 -- the payloads of at most this many records whose gates are open, and the place of the first closed gate
 unfoldable pub records : ℕ → Reading → Result (List (List ℕ) × ℕ) JournalStop
 records zero c = Err (NotAStore c.at)
@@ -29,6 +33,10 @@ records (suc n) c = do
     payload ← payload_at gate.1
     others ← records n payload.1
     Ok (payload.0 ∷ others.0, others.1)) else Ok ([], c.at)
+
+-- payloads in front of those that are found
+abbrev pub with_front : List (List ℕ) → Result (List (List ℕ) × ℕ) JournalStop → Result (List (List ℕ) × ℕ) JournalStop
+with_front payloads found = found >>= λ x. Ok (payloads ++ x.0, x.1)
 
 -- of all the records: each takes a byte at least
 unfoldable pub records_at : Reading → Result (List (List ℕ) × ℕ) JournalStop
@@ -85,10 +93,11 @@ abbrev pub WithOrWithout : Journal → List (List ℕ) → List ℕ → List ℕ
 WithOrWithout journal payloads payload file =
     content file ≡ Some (Ok (if slice_index_or file journal.next_gate 0 == 1 then held_by (appended journal payload) (payloads ++ payload ∷ []) else held_by journal payloads))
 
--- What a call that takes memory answered is what reading gives, unless memory ran out.
+-- A fault that a call returned is what reading gives, unless the disk failed or memory ran out.
 abbrev pub Fails : {Y : Type 0} → JournalStop → Result Y JournalStop → Type 0
+Fails DiskFault read = Unit {0}
+Fails (NotAStore at) read = read ≡ Err (NotAStore at)
 Fails OutOfMemory read = Unit {0}
-Fails e read = read ≡ Err e
 
 -- a fault of the file's form, or out of memory
 abbrev pub IsOfForm : JournalStop → Type 0
@@ -105,6 +114,26 @@ abbrev pub Finds : {X Y : Type 0} → (X → List (List ℕ) → Y) → Result X
 Finds view (Ok x) read = (payloads : List (List ℕ)) × (read ≡ Ok (view x payloads))
 Finds view (Err e) read = Fails e read
 
+-- What a call returned for a file's header is what reading gives.
+abbrev pub HeaderIs : Result Journal JournalStop → Result (Header × Reading) JournalStop → Type 0
+HeaderIs (Ok journal) read = (behind : Reading) × (read ≡ Ok (header_of journal, behind))
+HeaderIs (Err e) read = Fails e read
+
+-- What a call returned for a file is what the file holds, except for the payloads.
+abbrev pub FoundIn : Result (Option Journal) JournalStop → List ℕ → Type 0
+FoundIn (Ok None) file = content file ≡ None
+FoundIn (Ok (Some journal)) file = (payloads : List (List ℕ)) × Holds journal payloads file
+FoundIn (Err DiskFault) file = Unit {0}
+FoundIn (Err (NotAStore at)) file = content file ≡ Some (Err (NotAStore at))
+FoundIn (Err OutOfMemory) file = Unit {0}
+
+-- What a call returned for a gate: that it is closed, or the length of its record's payload. The other records follow that
+-- payload.
+abbrev pub HeadAt : Result (Option ℕ) JournalStop → Reading → Type 0
+HeadAt (Ok None) c = records_at c ≡ Ok ([], c.at)
+HeadAt (Ok (Some n)) c = records_at c ≡ with_front (take n (drop 5 c.rest) ∷ []) (records_at (moved (5 + n) c))
+HeadAt (Err e) c = Fails e (records_at c)
+
 -- a file is a store's
 abbrev pub IsStore : List ℕ → Type 0
 IsStore file = (held : Held) × (content file ≡ Some (Ok held))
@@ -117,3 +146,10 @@ IsLeft payloads c = (gate : ℕ) × (records_at c ≡ Ok (payloads, gate))
 abbrev pub IsNext : Option (List ℕ) → List (List ℕ) → Reading → Type 0
 IsNext None payloads c = payloads ≡ []
 IsNext (Some payload) payloads c = (others : List (List ℕ)) × (payloads ≡ payload ∷ others) × IsLeft others c
+
+-- What a call returned that reads the next payload from the disk: that payload, unless the disk failed or memory ran out.
+abbrev pub NextIs : {V : Type 0} → (V → List ℕ) → List (List ℕ) → Reading → Result (Option V) JournalStop → Type 0
+NextIs view payloads c (Ok found) = IsNext (option_map view found) payloads c
+NextIs view payloads c (Err DiskFault) = Unit {0}
+NextIs view payloads c (Err (NotAStore at)) = ⊥
+NextIs view payloads c (Err OutOfMemory) = Unit {0}

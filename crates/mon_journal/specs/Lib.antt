@@ -1,4 +1,5 @@
 pub mod Content
 pub mod Fields
+pub mod Pieces
 pub mod Steps
 pub mod Written

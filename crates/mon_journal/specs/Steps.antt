@@ -11,7 +11,7 @@ use Rattle.mon_journal.specs.declared.stop.JournalStop.{JournalStop}
 use Rattle.mon_journal.specs.declared.stop.JournalStop.TheVariants.{DiskFault, NotAStore, OutOfMemory}
 use Rattle.mon_journal.specs.declared.journal.Journal.{Journal}
 use Rattle.mon_journal.specs.declared.opening.Opened.{Opened}
-use Rattle.mon_journal.specs.declared.opening.Opened.TheVariants.{Closed, Live}
+use Rattle.mon_journal.specs.declared.opening.Opened.TheVariants as opening
 use Rattle.mon_journal.specs.Content.{Held, content, payloads_of, Holds}
 use Rattle.mon_journal.specs.Fields.{Owner}
 use Rattle.mon_journal.specs.Written.{payload_bytes, head_bytes}
@@ -112,8 +112,22 @@ abbrev pub OpensBy : Option Stop → DiskState → DiskState → Type 0
 OpensBy stop old new =
     (calls : List DiskCall) × Called calls (AlikeFrom old.content) stop old new × IfSome old.content.seen (λ file. calls ≡ open_calls (content file))
 
+-- what a disk was found to hold: a closed file of that length, or a store's file, whose payloads stay on the disk
+pub data OnDisk : Type 0 where
+  Closed : (len : ℕ) → OnDisk
+  Live : (journal : Journal) (payloads : List (List ℕ)) → OnDisk
+
+abbrev pub with_payloads : List (List ℕ) → Opened → OnDisk
+with_payloads payloads (opening.Closed len) = Closed len
+with_payloads payloads (opening.Live journal) = Live journal payloads
+
+-- the result of opening a disk, with the payloads that its file holds if it can be seen
+abbrev pub on_disk : Option (List ℕ) → Result Opened JournalStop → Result OnDisk JournalStop
+on_disk seen (Ok opened) = Ok (with_payloads (payloads_told seen) opened)
+on_disk seen (Err e) = Err e
+
 -- What opening returned is what the disk held, if its contents can be seen, and survives a crash.
-abbrev pub Opens : Option (List ℕ) → ℕ → Content → Result Opened JournalStop → Type 0
+abbrev pub Opens : Option (List ℕ) → ℕ → Content → Result OnDisk JournalStop → Type 0
 Opens seen known new (Ok (Closed len)) = Only new × (new.seen ≡ seen) × (known ≡ len) × IfSome seen (λ file. (content file ≡ None) × (len ≡ length file))
 Opens seen known new (Ok (Live journal payloads)) = Keeps journal payloads known new × IfSome seen (Holds journal payloads)
 Opens seen known new (Err (NotAStore at)) = Only new × (new.seen ≡ seen) × IfSome seen (λ file. content file ≡ Some (Err (NotAStore at)))

@@ -1,59 +1,110 @@
 //! The records of a file, up to its first closed gate.
 
-ghost use Rattle.std.specs.Prelude.{◌≡◌, ◌<◌, IfErr};
-ghost use Rattle.mon_journal.specs.Content.{records_at, held_at, held_by, is_closed, Finds, IsOfForm};
+ghost use Rattle.std.specs.Prelude.{◌≡◌, ◌≤◌, ◌<◌, ◌+◌, ◌^◌, IfOk, IfErr, IfSome};
+ghost use Rattle.mon_journal.specs.Pieces.{IsPieceOf, OnlyReads, left_at};
+ghost use Rattle.mon_journal.specs.Steps.{stop_in};
+ghost use Rattle.mon_journal.specs.Content.{records_at, header_of_file, is_closed, Finds, FoundIn, HeaderIs, HeadAt, IsOfForm};
 
-use crate::journal::Journal;
-use crate::reading::{header_at, payload_at};
+use crate::journal::{HEADER, Journal, RECORD_HEAD};
+use crate::pieces::Piece;
+use crate::reading::header_at;
 use crate::stop::JournalStop;
+use byteorder::{ByteOrder, LittleEndian};
 use mon_bytes::Cursor;
+use mon_disk::Disk;
+
+/// The length of the payload of the record whose gate is at a place, and nothing if the gate is closed.
+pub fn length_at<D: Disk>(
+    piece: &mut Piece,
+    disk: &mut D,
+    at: u64,
+) -> Result<Option<u32>, JournalStop>
+    requires on { IsPieceOf (D.state disk.old) piece.old }
+    ensures disk { OnlyReads (stop_in result) (D.state disk.old) (D.state disk.new) }
+    ensures on { IsPieceOf (D.state disk.new) piece.new }
+    ensures end { piece.new.end ≡ piece.old.end }
+    ensures head { IfSome (D.state disk.old).content.seen (λ file. HeadAt result (left_at at file)) }
+    ensures gate { IfOk result (λ _. at < piece.old.end) }
+    ensures within { IfOk result (λ found. IfSome found (λ n. at + 5 + n ≤ piece.old.end)) }
+    ensures fits { IfOk result (λ found. IfSome found (λ n. at + 5 + n < 2 ^ 64)) }
+{
+    if at >= piece.end() {
+        return Err(JournalStop::NotAStore { at });
+    }
+    let gate = piece.bytes(disk, at, 1)?;
+    if gate[0] != 1 {
+        return Ok(None);
+    }
+    let left = piece.end() - at - 1;
+    if left < 4 {
+        return Err(JournalStop::NotAStore { at: at + 1 });
+    }
+    let number = piece.bytes(disk, at + 1, 4)?;
+    let length = LittleEndian::read_u32(&number);
+    if length as u64 > left - 4 {
+        return Err(JournalStop::NotAStore { at: at + 5 });
+    }
+    Ok(Some(length))
+}
 
 /// The place of the first closed gate, after records that are there whole.
-fn gate_behind(cursor: &mut Cursor<'_>) -> Result<u64, JournalStop>
-    ensures records { Finds (λ gate payloads. (payloads, gate)) result (records_at cursor.old) }
-    ensures form { IfErr result IsOfForm }
+fn gate_behind<D: Disk>(piece: &mut Piece, disk: &mut D) -> Result<u64, JournalStop>
+    requires on { IsPieceOf (D.state disk.old) piece.old }
+    ensures disk { OnlyReads (stop_in result) (D.state disk.old) (D.state disk.new) }
+    ensures on { IsPieceOf (D.state disk.new) piece.new }
+    ensures end { piece.new.end ≡ piece.old.end }
+    ensures records { IfSome (D.state disk.old).content.seen
+        (λ file. Finds (λ gate payloads. (payloads, gate)) result (records_at (left_at 25 file))) }
+    ensures within { IfOk result (λ gate. gate < piece.old.end) }
 {
+    let mut at = HEADER;
     loop {
-        let gate = cursor.at();
-        let byte = cursor.take_u8()?;
-        if byte != 1 {
-            return Ok(gate as u64);
-        }
-        payload_at(cursor)?;
+        let Some(length) = length_at(piece, disk, at)? else {
+            return Ok(at);
+        };
+        at += RECORD_HEAD + length as u64;
     }
 }
 
-#[tactic(auto, unfolding(crate::specs::Content::held_at))]
-fn held_at(cursor: &mut Cursor<'_>) -> Result<Journal, JournalStop>
-    ensures held { Finds held_by result (held_at cursor.old) }
+/// Whether a file is closed, by its first bytes.
+fn is_closed(head: &[u8]) -> bool
+    ensures { result ≡ is_closed head.now }
+{
+    match head {
+        [gate, _, ..] => *gate != 1,
+        _ => true,
+    }
+}
+
+/// The header of an open file, as a journal whose first closed gate is the one after it.
+fn header_in(head: &[u8]) -> Result<Journal, JournalStop>
+    ensures header { HeaderIs result (header_of_file head.now) }
     ensures form { IfErr result IsOfForm }
 {
+    let mut cursor = Cursor::new(head);
     cursor.take_u8()?;
-    let journal = header_at(cursor)?;
-    let next_gate = gate_behind(cursor)?;
-    Ok(Journal {
+    header_at(&mut cursor)
+}
+
+/// What a file holds, which is read from its beginning on: nothing if it is closed.
+pub fn held_on<D: Disk>(piece: &mut Piece, disk: &mut D) -> Result<Option<Journal>, JournalStop>
+    requires on { IsPieceOf (D.state disk.old) piece.old }
+    ensures disk { OnlyReads (stop_in result) (D.state disk.old) (D.state disk.new) }
+    ensures known { (D.state disk.new).known ≡ (D.state disk.old).known }
+    ensures held { IfSome (D.state disk.old).content.seen (FoundIn result) }
+    ensures within { IfOk result (λ found. IfSome found (λ journal. journal.next_gate < piece.old.end)) }
+{
+    let count = piece.end().min(HEADER) as usize;
+    let head = piece.bytes(disk, 0, count)?;
+    if is_closed(&head) {
+        return Ok(None);
+    }
+    let journal = header_in(&head)?;
+    let next_gate = gate_behind(piece, disk)?;
+    Ok(Some(Journal {
         member: journal.member,
         generation: journal.generation,
         next_gate,
         form: journal.form,
-    })
-}
-
-/// The journal of an open file. It takes no memory.
-pub fn held_in(file: &[u8]) -> Result<Journal, JournalStop>
-    ensures held { Finds held_by result (held_at (record { at = 0; rest = file.now })) }
-    ensures form { IfErr result IsOfForm }
-{
-    let mut cursor = Cursor::new(file);
-    held_at(&mut cursor)
-}
-
-/// Whether a file is closed.
-pub fn is_closed(file: &[u8]) -> bool
-    ensures { result ≡ is_closed file.now }
-{
-    match file {
-        [gate, _, ..] => *gate != 1,
-        _ => true,
-    }
+    }))
 }

@@ -1,7 +1,7 @@
 -- The inputs of a prober, and what is known when its rows and its act are proved.
 use Rattle.std.specs.Prelude.{◌≡◌, ℕ, Bool, true, false, nat_lt, Result}
 use Rattle.mon_msg.specs.Protocol.Course.{Course, prober_is}
-use Rattle.mon_msg.specs.Protocol.Readings.{Readings, epoch_of}
+use Rattle.mon_msg.specs.Protocol.Readings.{Readings, epoch_of, readings_of}
 use Rattle.mon_msg.specs.declared.election.Prober.{Prober}
 use Rattle.mon_msg.specs.declared.input.Input.TheVariants as input
 use Rattle.mon_msg.specs.declared.input.Input.{Input}
@@ -16,6 +16,7 @@ use Rattle.mon_wire.specs.declared.body.Body.TheVariants as body
 use Rattle.mon_wire.specs.declared.body.Body.{Body}
 use Rattle.mon_wire.specs.declared.phase.Timer.TheVariants as timer
 use Rattle.mon_wire.specs.declared.phase.Timer.{Timer}
+use Rattle.mon_probe.specs.declared.here.Here.{Here}
 
 -- what monitors say to each other while one of them probes
 abbrev pub is_told : Body → Bool
@@ -39,6 +40,11 @@ abbrev pub PlansProbe : Me → (now : ℕ) → Readings → View → Prober → 
     Result (Plan Prober) RoleStop → Type 0
 PlansProbe me now w view s row result =
     PlansRow me now prober_is (IsMet me now w view (λ state. state.prober) s) row result
+
+-- a call's result is this row of the table
+abbrev pub ByRow : Here → (now : ℕ) → (Course → Result Course Which) → Result (Plan Prober) RoleStop → Type 0
+ByRow here now row result =
+    PlansProbe here.me.now now (readings_of here.stored.now) here.view.now here.state.now row result
 
 -- An event under way in which a monitor begins again: the epoch is this, and if it is alone in its quorum map the mark is
 -- that from before the event.

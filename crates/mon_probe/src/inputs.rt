@@ -6,8 +6,9 @@ ghost use Rattle.mon_msg.specs.Protocol.Hearing.{hear};
 ghost use Rattle.mon_msg.specs.Protocol.Readings.{readings_of};
 ghost use Rattle.mon_plan.specs.Inputs.{row};
 ghost use Rattle.mon_plan.specs.Leaves.{Leaves};
-ghost use Rattle.mon_probe.specs.Rows.{is_told, is_input, PlansProbe};
+ghost use Rattle.mon_probe.specs.Rows.{is_told, is_input, ByRow, PlansProbe};
 
+use crate::here::Here;
 use crate::probes::{hear_probe, hear_probe_reply};
 use mon_kv::Kv;
 use mon_msg::input::Input;
@@ -17,27 +18,20 @@ use mon_types::Moment;
 use std::alloc::Global;
 
 /// A message of another monitor.
-fn hear(
-    alloc: Global,
-    stored: &Stored<'_>,
-    me: &Me,
-    view: &View,
-    state: &Prober,
-    message: &Message,
-) -> Result<Plan<Prober>, RoleStop>
+fn hear(here: &Here<'_>, message: &Message) -> Result<Plan<Prober>, RoleStop>
     requires { IsTrue (is_told message.now.body) }
-    ensures plans { (shared : List Entry) (now : ℕ) → PlansProbe me.now now (readings_of stored.now) view.now state.now
-        (hear me.now shared now message.now.from message.now.epoch message.now.body) result }
-    ensures leaves { IfOk result (λ p. Leaves view.now.phase p.next p.tx) }
+    ensures plans { (shared : List Entry) (now : ℕ) → let m = message.now in
+        ByRow here.now now (hear here.now.me.now shared now m.from m.epoch m.body) result }
+    ensures leaves { IfOk result (λ p. Leaves here.now.view.now.phase p.next p.tx) }
 {
     let from = message.from;
     match &message.body {
-        Body::Probe => hear_probe(alloc, stored, me, view, state, from),
+        Body::Probe => hear_probe(here, from),
         Body::ProbeReply {
             quorum,
             first,
             last,
-        } => Ok(hear_probe_reply(alloc, stored, me, view, state, from, *quorum, *first, *last)),
+        } => Ok(hear_probe_reply(here, from, *quorum, *first, *last)),
         _ => unreachable!(),
     }
 }
@@ -61,7 +55,14 @@ pub fn step(
     match input {
         Input::Deliver(message) => {
             let stored = Stored::of(alloc, kv);
-            hear(alloc, &stored, me, view, state, message)
+            let here = Here {
+                alloc,
+                stored: &stored,
+                me,
+                view,
+                state,
+            };
+            hear(&here, message)
         }
         Input::Timer(_) => Ok(planned(alloc, *state, Next::Bootstrap)),
         Input::Start | Input::Client(..) => unreachable!(),

@@ -2,6 +2,7 @@
 #![tactic(auto)]
 
 mod begin;
+mod here;
 mod inputs;
 mod probes;
 mod seen;

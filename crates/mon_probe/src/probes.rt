@@ -2,87 +2,74 @@
 
 ghost use Rattle.std.specs.Prelude.{◌≡◌, ℕ, Ok, IfOk};
 ghost use Rattle.mon_msg.specs.Protocol.Probing.{hear_probe, hear_probe_reply};
-ghost use Rattle.mon_msg.specs.Protocol.Readings.{readings_of};
 ghost use Rattle.mon_plan.specs.Leaves.{Leaves};
-ghost use Rattle.mon_probe.specs.Rows.{PlansProbe};
+ghost use Rattle.mon_probe.specs.Rows.{ByRow};
 
+use crate::here::Here;
 use crate::seen::{is_behind, is_cut_off, is_probing, is_quorum, reaches_floor};
 use mon_bytes::Items;
-use mon_msg::{Body, Me, Next, Plan, Prober, RoleStop, View};
-use mon_plan::{Stored, message, planned, stay};
+use mon_msg::{Body, Next, Plan, Prober, RoleStop};
+use mon_plan::{message, planned, stay};
 use mon_tx::Transaction;
 use mon_types::{Rank, RankSet, Version};
-use std::alloc::Global;
 
 /// Another monitor asks how far this one is, and in which quorum.
-pub(crate) fn hear_probe(
-    alloc: Global,
-    stored: &Stored<'_>,
-    me: &Me,
-    view: &View,
-    state: &Prober,
-    from: Rank,
-) -> Result<Plan<Prober>, RoleStop>
-    ensures plans { (now : ℕ) →
-        PlansProbe me.now now (readings_of stored.now) view.now state.now (hear_probe me.now from) result }
-    ensures leaves { IfOk result (λ p. Leaves view.now.phase p.next p.tx) }
+pub(crate) fn hear_probe(here: &Here<'_>, from: Rank) -> Result<Plan<Prober>, RoleStop>
+    ensures plans { (now : ℕ) → ByRow here.now now (hear_probe here.now.me.now from) result }
+    ensures leaves { IfOk result (λ p. Leaves here.now.view.now.phase p.next p.tx) }
 {
-    if stored.is_marked() {
-        return Ok(stay(alloc, *state));
+    if here.stored.is_marked() {
+        return Ok(stay(here.alloc, *here.state));
     }
     let body = Body::ProbeReply {
-        quorum: view.quorum,
-        first: stored.first(),
-        last: stored.last(),
+        quorum: here.view.quorum,
+        first: here.stored.first(),
+        last: here.stored.last(),
     };
-    let mut out = Items::new(alloc);
-    out.push(message(me, stored.epoch(), body, from))?;
+    let mut out = Items::new(here.alloc);
+    out.push(message(here.me, here.stored.epoch(), body, from))?;
     Ok(Plan {
-        tx: Transaction::new(alloc),
+        tx: Transaction::new(here.alloc),
         out,
-        timers: Items::new(alloc),
-        state: *state,
+        timers: Items::new(here.alloc),
+        state: *here.state,
         next: Next::Stay,
     })
 }
 
 /// Another monitor says how far it is, and in which quorum.
 pub(crate) fn hear_probe_reply(
-    alloc: Global,
-    stored: &Stored<'_>,
-    me: &Me,
-    view: &View,
-    state: &Prober,
+    here: &Here<'_>,
     from: Rank,
     quorum: RankSet,
     first: Version,
     last: Version,
 ) -> Plan<Prober>
-    ensures plans { (now : ℕ) → PlansProbe me.now now (readings_of stored.now) view.now state.now
-        (hear_probe_reply me.now now from quorum first last) (Ok result) }
-    ensures leaves { Leaves view.now.phase result.next result.tx }
+    ensures plans { (now : ℕ) →
+        ByRow here.now now (hear_probe_reply here.now.me.now now from quorum first last) (Ok result) }
+    ensures leaves { Leaves here.now.view.now.phase result.next result.tx }
 {
-    if !is_probing(view.phase) {
-        return stay(alloc, *state);
+    if !is_probing(here.view.phase) {
+        return stay(here.alloc, *here.state);
     }
-    if stored.is_marked() {
-        if reaches_floor(stored, last) {
-            return planned(alloc, *state, Next::FullSync { from });
+    if here.stored.is_marked() {
+        if reaches_floor(here.stored, last) {
+            return planned(here.alloc, *here.state, Next::FullSync { from });
         }
-        return stay(alloc, *state);
+        return stay(here.alloc, *here.state);
     }
-    if is_cut_off(stored, first) {
-        return planned(alloc, *state, Next::FullSync { from });
+    if is_cut_off(here.stored, first) {
+        return planned(here.alloc, *here.state, Next::FullSync { from });
     }
-    if is_behind(stored, last) {
-        return planned(alloc, *state, Next::RecentSync { from });
+    if is_behind(here.stored, last) {
+        return planned(here.alloc, *here.state, Next::RecentSync { from });
     }
     if is_quorum(quorum) {
-        return planned(alloc, *state, Next::Elect);
+        return planned(here.alloc, *here.state, Next::Elect);
     }
-    let outside = state.outside.with(from);
-    if outside.is_majority(me.member.monitors) {
-        return planned(alloc, Prober { outside }, Next::Elect);
+    let outside = here.state.outside.with(from);
+    if outside.is_majority(here.me.member.monitors) {
+        return planned(here.alloc, Prober { outside }, Next::Elect);
     }
-    stay(alloc, Prober { outside })
+    stay(here.alloc, Prober { outside })
 }

@@ -12,10 +12,9 @@ use Rattle.mon_disk.specs.Calls.{Told, DiskState, Makes}
 use Rattle.mon_disk.specs.Images.{Content, images, LeavesOnly}
 use Rattle.mon_journal.specs.declared.stop.JournalStop.{JournalStop}
 use Rattle.mon_journal.specs.declared.stop.JournalStop.TheVariants as journal
-use Rattle.mon_journal.specs.declared.opening.Opened.{Opened}
-use Rattle.mon_journal.specs.declared.opening.Opened.TheVariants as disk
+use Rattle.mon_journal.specs.Steps as disk
 use Rattle.mon_journal.specs.Content.{Held, content, held_by}
-use Rattle.mon_journal.specs.Steps.{AlikeFrom, Opens, OpensBy, open_calls, made_more}
+use Rattle.mon_journal.specs.Steps.{OnDisk, AlikeFrom, Opens, OpensBy, open_calls, made_more}
 use Rattle.mon_journal.proofs.Counts.{count, at_most, all_made}
 use Rattle.mon_store.specs.declared.stop.OpenStop.TheVariants.{DiskFault, OutOfMemory}
 use Rattle.mon_store.specs.Pair.{NotAStore, held_on, found, stands, opened}
@@ -114,7 +113,7 @@ pub at_some : {X : Type 0} (s : Option X) (x : X) (P : X → Type 0) → s ≡ S
 at_some s x P is h = subst (λ t. IfSome t P) is h
 
 -- what opening a disk found out about its bytes
-pub holds : (on : Opened) (s : Option (List ℕ)) (known : ℕ) (new : Content) (x : List ℕ) → s ≡ Some x → Opens s known new (Ok on) → (side : Side) → held_on side (content x) ≡ Ok (held_in on)
+pub holds : (on : OnDisk) (s : Option (List ℕ)) (known : ℕ) (new : Content) (x : List ℕ) → s ≡ Some x → Opens s known new (Ok on) → (side : Side) → held_on side (content x) ≡ Ok (held_in on)
 holds (disk.Closed len) s known new x is h side = ap (held_on side) (at_some s x (λ file. (content file ≡ None) × (len ≡ length file)) is h.3).0
 holds (disk.Live journal payloads) s known new x is h side = ap (held_on side) (at_some s x (λ file. content file ≡ Some (Ok (held_by journal payloads))) is h.1)
 
@@ -126,7 +125,7 @@ refused_a journal.OutOfMemory s t known new h = each_told s t (λ x y. Tells Out
 refused_a (journal.NotAStore at) s t known new h = each_told s t (λ x y. found x y ≡ Err (NotAStore A at)) (λ x y p q. rw (at_some s x (λ file. content file ≡ Some (Err (journal.NotAStore at))) p h.2) refl)
 
 -- and so is disk B's, if disk A has none
-pub refused_b : (e : JournalStop) (on : Opened) (s t : Option (List ℕ)) (known_a known : ℕ) (new_a new : Content) → Opens s known_a new_a (Ok on) → Opens t known new (Err e) → IfSome s (λ x. IfSome t (λ y. Tells (named B e) (found x y)))
+pub refused_b : (e : JournalStop) (on : OnDisk) (s t : Option (List ℕ)) (known_a known : ℕ) (new_a new : Content) → Opens s known_a new_a (Ok on) → Opens t known new (Err e) → IfSome s (λ x. IfSome t (λ y. Tells (named B e) (found x y)))
 unfolding found
 refused_b journal.DiskFault on s t known_a known new_a new h k = each_told s t (λ x y. Tells DiskFault (found x y)) (λ x y p q. tt)
 refused_b journal.OutOfMemory on s t known_a known new_a new h k = each_told s t (λ x y. Tells OutOfMemory (found x y)) (λ x y p q. tt)

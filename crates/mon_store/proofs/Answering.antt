@@ -7,13 +7,12 @@ use Rattle.mon_types.specs.declared.names.Side.TheVariants.{A, B}
 use Rattle.mon_disk.specs.Images.{Content}
 use Rattle.mon_tx.specs.Map.{Store}
 use Rattle.mon_journal.specs.declared.journal.Journal.{Journal}
-use Rattle.mon_journal.specs.declared.opening.Opened.{Opened}
-use Rattle.mon_journal.specs.declared.opening.Opened.TheVariants as disk
+use Rattle.mon_journal.specs.Steps as disk
 use Rattle.mon_journal.specs.Content.{content, held_by}
 use Rattle.mon_journal.specs.Fields.{Owner}
 use Rattle.mon_journal.specs.Written.{owner_of, created}
 use Rattle.mon_types.specs.declared.member.Member.{Member}
-use Rattle.mon_journal.specs.Steps.{Opens}
+use Rattle.mon_journal.specs.Steps.{OnDisk, Opens}
 use Rattle.mon_store.specs.declared.stop.OpenStop.{OpenStop}
 use Rattle.mon_store.specs.declared.stop.OpenStop.TheVariants.{DiskFault, OutOfMemory}
 use Rattle.mon_store.specs.declared.stop.OpenStop.TheVariants as stop
@@ -59,23 +58,23 @@ made r side journal m is_side is_journal is_map =
     ∙ (ap (λ (x : Journal). record { side = r.side; journal = x; kv = m }) (sym is_journal) ∙ ap (λ (x : Store). record { side = r.side; journal = r.journal; kv = x }) (sym is_map))
 
 -- what was chosen of what the disks were found to hold is what is found in their bytes
-lengths : (a b : Opened) (m n : ℕ) → (held_in a ≡ None → m ≡ len_of a) → (held_in b ≡ None → n ≡ len_of b) → chosen (held_in a) (held_in b) m n ≡ chosen (held_in a) (held_in b) (len_of a) (len_of b)
+lengths : (a b : OnDisk) (m n : ℕ) → (held_in a ≡ None → m ≡ len_of a) → (held_in b ≡ None → n ≡ len_of b) → chosen (held_in a) (held_in b) m n ≡ chosen (held_in a) (held_in b) (len_of a) (len_of b)
 lengths (disk.Closed la) (disk.Closed lb) m n p q = rw (p refl, q refl) refl
 lengths (disk.Live j ps) (disk.Closed lb) m n p q = refl
 lengths (disk.Closed la) (disk.Live k qs) m n p q = refl
 lengths (disk.Live j ps) (disk.Live k qs) m n p q = refl
 
-long : (on : Opened) (s : Option (List ℕ)) (known : ℕ) (new : Content) (x : List ℕ) → s ≡ Some x → Opens s known new (Ok on) → held_in on ≡ None → length x ≡ len_of on
+long : (on : OnDisk) (s : Option (List ℕ)) (known : ℕ) (new : Content) (x : List ℕ) → s ≡ Some x → Opens s known new (Ok on) → held_in on ≡ None → length x ≡ len_of on
 long (disk.Closed len) s known new x is h none = sym (at_some s x (λ file. (content file ≡ None) × (len ≡ length file)) is h.3).1
 long (disk.Live j ps) s known new x is h none = absurd cc
 
-pub found_is : (a b : Opened) (s t : Option (List ℕ)) (known_a known_b : ℕ) (new_a new_b : Content) (x y : List ℕ) → s ≡ Some x → t ≡ Some y → Opens s known_a new_a (Ok a) → Opens t known_b new_b (Ok b)
+pub found_is : (a b : OnDisk) (s t : Option (List ℕ)) (known_a known_b : ℕ) (new_a new_b : Content) (x y : List ℕ) → s ≡ Some x → t ≡ Some y → Opens s known_a new_a (Ok a) → Opens t known_b new_b (Ok b)
     → found x y ≡ chosen (held_in a) (held_in b) (len_of a) (len_of b)
 unfolding found
 found_is a b s t known_a known_b new_a new_b x y p q h k =
     rw (holds a s known_a new_a x p h A, holds b t known_b new_b y q k B) (lengths a b (length x) (length y) (long a s known_a new_a x p h) (long b t known_b new_b y q k))
 
-module _ (a b : Opened) (s t : Option (List ℕ)) (known_a known_b : ℕ) (new_a new_b : Content) (h : Opens s known_a new_a (Ok a)) (k : Opens t known_b new_b (Ok b)) (member : Member) where
+module _ (a b : OnDisk) (s t : Option (List ℕ)) (known_a known_b : ℕ) (new_a new_b : Content) (h : Opens s known_a new_a (Ok a)) (k : Opens t known_b new_b (Ok b)) (member : Member) where
   pub not_chosen : (e : OpenStop) → Tells e (chosen (held_in a) (held_in b) (len_of a) (len_of b)) → IfSome s (λ x. IfSome t (λ y. Tells e (opened (owner_of member) x y)))
   not_chosen e tells = each_told s t (λ x y. Tells e (opened (owner_of member) x y)) (λ x y p q.
       tells_on e (chosen (held_in a) (held_in b) (len_of a) (len_of b)) (opened (owner_of member) x y) tells (λ r is. opened_err (owner_of member) x y r (found_is a b s t known_a known_b new_a new_b x y p q h k ∙ is)))
@@ -101,12 +100,12 @@ module _ (a b : Opened) (s t : Option (List ℕ)) (known_a known_b : ℕ) (new_a
 
   -- a live file
   pub answers_live : (result : Result Standing OpenStop) (live : Side) (j : Journal) (payloads : List (List ℕ)) → chosen (held_in a) (held_in b) (len_of a) (len_of b) ≡ Ok (Live live (held_by j payloads))
-      → Gives (λ r. (Live live (held_by j payloads), r.kv)) result (taken (owner_of member) (Live live (held_by j payloads))) → IfOk result (λ r. r.side ≡ live) → IfOk result (λ r. r.journal ≡ j) → IfOk result (λ r. owner_of r.journal.member ≡ owner_of member)
+      → ((x y : List ℕ) → s ≡ Some x → t ≡ Some y → Gives (λ r. (Live live (held_by j payloads), r.kv)) result (taken (owner_of member) (Live live (held_by j payloads)))) → IfOk result (λ r. r.side ≡ live) → IfOk result (λ r. r.journal ≡ j) → IfOk result (λ r. owner_of r.journal.member ≡ owner_of member)
       → IfSome s (λ x. IfSome t (λ y. Answers member x y result))
   answers_live (Ok r) live j payloads is gives side journal own =
       let same : journal_of member (held_by j payloads) ≡ j = journal_is member j payloads (ap (λ (k : Journal). owner_of k.member) (sym journal) ∙ own) in
       let standing : standing_of member (Live live (held_by j payloads)) r.kv ≡ r = made r live (journal_of member (held_by j payloads)) r.kv side (journal ∙ sym same) refl in
-      each_told s t (λ x y. Answers member x y (Ok r)) (λ x y p q. opens_is (Live live (held_by j payloads)) r.kv r is standing gives x y p q)
+      each_told s t (λ x y. Answers member x y (Ok r)) (λ x y p q. opens_is (Live live (held_by j payloads)) r.kv r is standing (gives x y p q) x y p q)
   answers_live (Err e) live j payloads is gives side journal own =
       each_told s t (λ x y. Tells e (opens_as member x y)) (λ x y p q. unopened member e x y
-      (tells_on e (taken (owner_of member) (Live live (held_by j payloads))) (opened (owner_of member) x y) gives (λ r e_is. opened_is (Live live (held_by j payloads)) is x y p q ∙ e_is)))
+      (tells_on e (taken (owner_of member) (Live live (held_by j payloads))) (opened (owner_of member) x y) (gives x y p q) (λ r e_is. opened_is (Live live (held_by j payloads)) is x y p q ∙ e_is)))

@@ -86,6 +86,15 @@ still_a T ((B, call) ∷ calls) a b new_a new_b result some (inl m) = ap is_some
 still_a T ((B, call) ∷ calls) a b new_a new_b result some (inr (inl m)) = ap is_some m.1 ∙ some
 still_a T ((B, call) ∷ calls) a b new_a new_b result some (inr (inr m)) = still_a T calls a (and_made call b) new_a new_b result some m.1
 
+pub still_b : (T : Type 0) (calls : List (Side × DiskCall)) (a b new_a new_b : Option Told) (result : Result T OpenStop) → is_some b ≡ true → MakesBoth calls a b new_a new_b result → is_some new_b ≡ true
+still_b T [] a b new_a new_b result some m = ap is_some m.1 ∙ some
+still_b T ((A, call) ∷ calls) a b new_a new_b result some (inl m) = ap is_some m.2 ∙ some
+still_b T ((A, call) ∷ calls) a b new_a new_b result some (inr (inl m)) = ap is_some m.2 ∙ some
+still_b T ((A, call) ∷ calls) a b new_a new_b result some (inr (inr m)) = still_b T calls (and_made call a) b new_a new_b result some m.1
+still_b T ((B, call) ∷ calls) a b new_a new_b result some (inl m) = ap is_some m.2 ∙ some
+still_b T ((B, call) ∷ calls) a b new_a new_b result some (inr (inl m)) = ap is_some m.2 ∙ still_told call b some
+still_b T ((B, call) ∷ calls) a b new_a new_b result some (inr (inr m)) = still_b T calls a (and_made call b) new_a new_b result (still_told call b some) m.1
+
 -- running out of memory comes at any point
 no_memory : (U : Type 0) (calls : List (Side × DiskCall)) (a b : Option Told) → MakesBoth {T = U} calls a b a b (Err OutOfMemory)
 no_memory U [] a b = (refl, refl, λ h. absurd cc)

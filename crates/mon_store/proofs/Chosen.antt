@@ -1,6 +1,6 @@
 -- The disk that is live if two were opened.
-use Rattle.std.proofs.Common.{◌≡◌, ◌≢◌, ◌⊎◌, inl, inr, ℕ, ◌≤◌, ◌<◌, Bool, true, false, cond, eqb, ltb, List, [], length, Option, Some, None, Result, Ok, Err, refl, sym, ap, subst, ◌∙◌, arith}
-use Rattle.std.specs.Prelude.{IfOk, IfSome, slice_index_or}
+use Rattle.std.proofs.Common.{◌≡◌, ◌≢◌, ◌⊎◌, inl, inr, ℕ, ◌≤◌, ◌<◌, Bool, true, false, cond, eqb, ltb, is_some, List, length, Option, Some, None, Result, Ok, Err, refl, sym, ap, subst, ◌∙◌, arith}
+use Rattle.std.specs.Prelude.{IfOk, OnOk, IfSome, slice_index_or}
 use Rattle.std.proofs.lemmas.Bool.{ltb-true, ltb-false, eqb-false}
 use Rattle.mon_types.specs.declared.names.Side.{Side}
 use Rattle.mon_types.specs.declared.names.Side.TheVariants.{A, B}
@@ -9,10 +9,9 @@ use Rattle.mon_disk.specs.Images.{Content, Only}
 use Rattle.mon_tx.specs.Map.{Store}
 use Rattle.mon_kv.specs.Readers.{size_of}
 use Rattle.mon_journal.specs.declared.journal.Journal.{Journal}
-use Rattle.mon_journal.specs.declared.opening.Opened.{Opened}
-use Rattle.mon_journal.specs.declared.opening.Opened.TheVariants as disk
+use Rattle.mon_journal.specs.Steps as disk
 use Rattle.mon_journal.specs.Content.{Held, content, payloads_of, held_by, Holds}
-use Rattle.mon_journal.specs.Steps.{Opens, Stands}
+use Rattle.mon_journal.specs.Steps.{OnDisk, Opens, Stands}
 use Rattle.mon_store.specs.declared.opening.Standing.{Standing}
 use Rattle.mon_store.specs.declared.stop.OpenStop.{OpenStop}
 use Rattle.mon_store.specs.Checkpoint.{most_size}
@@ -20,18 +19,19 @@ use Rattle.mon_store.specs.Payloads.{map_of}
 use Rattle.mon_store.specs.Pair.{Refusal, NotAStore, Found, Create, Live, newer, chosen}
 use Rattle.mon_types.specs.Sides.{other as other_side}
 use Rattle.mon_store.specs.Sound.{of_live, IsBelow, Sound}
-use Rattle.mon_store.specs.Opening.{held_in, len_of}
+use Rattle.mon_store.specs.Opening.{held_in, len_of, stop_in, Rereads}
+use Rattle.mon_store.proofs.Rereading.{stands_still}
 
 same_live : (s t : Side) (x y : Held) → ◌≡◌ {A = Result Found Refusal} (Ok (Live s x)) (Ok (Live t y)) → (s ≡ t) × (x ≡ y)
 same_live s t x y is = let a : s ≡ t = cc in let b : x ≡ y = cc in (a, b)
 
 -- a disk that doesn't count beside a live one
-abbrev pub IsOther : ℕ → Opened → Type 0
+abbrev pub IsOther : ℕ → OnDisk → Type 0
 IsOther generation (disk.Closed len) = Unit {0}
 IsOther generation (disk.Live journal payloads) = journal.generation < generation
 
 -- the live disk was found with this, and the other one doesn't count
-pub record Chosen (side : Side) (held : Held) (a b : Opened) : Type 0 where
+pub record Chosen (side : Side) (held : Held) (a b : OnDisk) : Type 0 where
   pub live : held_in (of_live side a b) ≡ Some held
   pub other : IsOther held.header.generation (of_live (other_side side) a b)
 
@@ -46,7 +46,7 @@ newer_is j k p q side held = by (eqb j.generation k.generation) (ltb k.generatio
     by false true e f h = let is = same_live A side (held_by j p) held h in inl (sym is.0, is.1, ltb-true _ _ f)
     by false false e f h = let is = same_live B side (held_by k q) held h in inr (sym is.0, is.1, let le = ltb-false _ _ f in let ne = eqb-false _ _ e in omega (arith, le, ne))
 
-pub chosen_live : (a b : Opened) (side : Side) (held : Held) → chosen (held_in a) (held_in b) (len_of a) (len_of b) ≡ Ok (Live side held) → Chosen side held a b
+pub chosen_live : (a b : OnDisk) (side : Side) (held : Held) → chosen (held_in a) (held_in b) (len_of a) (len_of b) ≡ Ok (Live side held) → Chosen side held a b
 chosen_live (disk.Closed la) (disk.Closed lb) side held h = absurd (none (ltb 26 la) (ltb 0 lb) h)
   where
     none : (p q : Bool) → cond p (Err (NotAStore A 0)) (cond q (Err (NotAStore B 0)) (Ok Create)) ≡ Ok (Live side held) → ⊥
@@ -65,13 +65,13 @@ chosen_live (disk.Live j p) (disk.Live k q) side held h = elim (newer_is j k p q
 ]
 
 -- a store is to be created if both are closed, and hold no more than a creation that a crash cut short
-pub record New (a b : Opened) : Type 0 where
+pub record New (a b : OnDisk) : Type 0 where
   pub none_a : held_in a ≡ None
   pub none_b : held_in b ≡ None
   pub short : len_of a ≤ 26
   pub nothing : len_of b ≡ 0
 
-pub chosen_new : (a b : Opened) → chosen (held_in a) (held_in b) (len_of a) (len_of b) ≡ Ok Create → New a b
+pub chosen_new : (a b : OnDisk) → chosen (held_in a) (held_in b) (len_of a) (len_of b) ≡ Ok Create → New a b
 chosen_new (disk.Closed la) (disk.Closed lb) h = by (ltb 26 la) (ltb 0 lb) refl refl h
   where
     by : (p q : Bool) → ltb 26 la ≡ p → ltb 0 lb ≡ q → cond p (Err (NotAStore A 0)) (cond q (Err (NotAStore B 0)) (Ok Create)) ≡ Ok Create → New (disk.Closed la) (disk.Closed lb)
@@ -108,19 +108,16 @@ stands_as j k p q known x is s = record {
     by (Some file) h = h ∙ ap (λ held. Some (Ok held)) (same_held j k p q is (payloads_of file))
 
 -- the live disk
-pub stands_open : (on : Opened) (j : Journal) (payloads : List (List ℕ)) (m : Store) (s : Option (List ℕ)) (known : ℕ) (x : Content) → held_in on ≡ Some (held_by j payloads) → map_of payloads ≡ Ok m → Opens s known x (Ok on)
-    → Stands j known x × IfSome x.seen (λ file. map_of (payloads_of file) ≡ Ok m)
-stands_open (disk.Closed len) j payloads m s known x is map h = absurd cc
-stands_open (disk.Live k p) j payloads m s known x is map h =
+pub stands_open : (on : OnDisk) (j : Journal) (payloads : List (List ℕ)) (s : Option (List ℕ)) (known : ℕ) (x : Content) → held_in on ≡ Some (held_by j payloads) → Opens s known x (Ok on)
+    → Stands j known x × IfSome x.seen (λ file. payloads_of file ≡ payloads)
+stands_open (disk.Closed len) j payloads s known x is h = absurd cc
+stands_open (disk.Live k p) j payloads s known x is h =
     let same : held_by k p ≡ held_by j payloads = cc in
-    (stands_as k j p payloads known x same h.0.stands, by x.seen h.0.payloads_are)
-  where
-    by : (t : Option (List ℕ)) → IfSome t (λ file. payloads_of file ≡ p) → IfSome t (λ file. map_of (payloads_of file) ≡ Ok m)
-    by None g = tt
-    by (Some file) g = let these : p ≡ payloads = ap (λ (o : Option Held). Rattle.std.specs.Option.unwrap_or (Rattle.std.specs.Option.option_map (λ (y : Held). y.payloads) o) []) is in ap map_of (g ∙ these) ∙ map
+    let these : p ≡ payloads = ap (λ (y : Held). y.payloads) same in
+    (stands_as k j p payloads known x same h.0.stands, subst (λ (ps : List (List ℕ)). IfSome x.seen (λ file. payloads_of file ≡ ps)) these h.0.payloads_are)
 
 -- the other one
-pub stands_aside : (on : Opened) (generation : ℕ) (s : Option (List ℕ)) (known : ℕ) (x : Content) → IsOther generation on → Opens s known x (Ok on) → Only x × IfSome x.seen (λ file. IsBelow generation (content file))
+pub stands_aside : (on : OnDisk) (generation : ℕ) (s : Option (List ℕ)) (known : ℕ) (x : Content) → IsOther generation on → Opens s known x (Ok on) → Only x × IfSome x.seen (λ file. IsBelow generation (content file))
 stands_aside (disk.Closed len) generation s known x less h = (h.0, subst (λ t. IfSome t (λ file. IsBelow generation (content file))) (sym h.1) (by s h.3))
   where
     by : (t : Option (List ℕ)) → IfSome t (λ file. (content file ≡ None) × (len ≡ length file)) → IfSome t (λ file. IsBelow generation (content file))
@@ -132,28 +129,69 @@ stands_aside (disk.Live k p) generation s known x less h = (h.0.stands.only, by 
     by None g = tt
     by (Some file) g = subst (IsBelow generation) (sym g) less
 
-pub sound_open : (on other : Opened) (j : Journal) (payloads : List (List ℕ)) (m : Store) (s t : Option (List ℕ)) (known known_other : ℕ) (x y : Content) → held_in on ≡ Some (held_by j payloads) → IsOther j.generation other → map_of payloads ≡ Ok m → size_of m ≤ most_size
-    → Opens s known x (Ok on) → Opens t known_other y (Ok other) → Sound j m known x y
+sound_open : (on other : OnDisk) (j : Journal) (payloads : List (List ℕ)) (m : Store) (s t : Option (List ℕ)) (known known_other : ℕ) (x y : Content) → held_in on ≡ Some (held_by j payloads) → IsOther j.generation other
+    → IfSome x.seen (λ file. map_of (payloads_of file) ≡ Ok m) → size_of m ≤ most_size → Opens s known x (Ok on) → Opens t known_other y (Ok other) → Sound j m known x y
 sound_open on other j payloads m s t known known_other x y is less map small h k =
-    let live = stands_open on j payloads m s known x is map h in
+    let live = stands_open on j payloads s known x is h in
     let aside = stands_aside other j.generation t known_other y less k in
-    record { stands_live = live.0; only_other = aside.0; below = aside.1; map = live.1; size = small }
+    record { stands_live = live.0; only_other = aside.0; below = aside.1; map = map; size = small }
 
--- by the side of the live one
-pub sound_live : {D : Type 0} (state : D → DiskState) (a b : Opened) (on_a on_b : D) (s t : Option (List ℕ)) (side : Side) (j : Journal) (payloads : List (List ℕ)) (m : Store) → Chosen side (held_by j payloads) a b → map_of payloads ≡ Ok m → size_of m ≤ most_size
-    → Opens s (state on_a).known (state on_a).content (Ok a) → Opens t (state on_b).known (state on_b).content (Ok b)
-    → Sound j m (state (of_live side on_a on_b)).known (state (of_live side on_a on_b)).content (state (of_live (other_side side) on_a on_b)).content
-sound_live state a b on_a on_b s t A j payloads m is map small h k = sound_open a b j payloads m s t (state on_a).known (state on_b).known (state on_a).content (state on_b).content is.live is.other map small h k
-sound_live state a b on_a on_b s t B j payloads m is map small h k = sound_open b a j payloads m t s (state on_b).known (state on_a).known (state on_b).content (state on_a).content is.live is.other map small k h
+module _ {D : Type 0} (state : D → DiskState) (a b : OnDisk) (on_a on_b : D) (s t : Option (List ℕ)) (j : Journal) (payloads : List (List ℕ)) (h : Opens s (state on_a).known (state on_a).content (Ok a)) (k : Opens t (state on_b).known (state on_b).content (Ok b)) where
+  -- by the side of the live one
+  sound_live : (side : Side) (m : Store) → Chosen side (held_by j payloads) a b → IfSome (state (of_live side on_a on_b)).content.seen (λ file. map_of (payloads_of file) ≡ Ok m) → size_of m ≤ most_size
+      → Sound j m (state (of_live side on_a on_b)).known (state (of_live side on_a on_b)).content (state (of_live (other_side side) on_a on_b)).content
+  sound_live A m is map small = sound_open a b j payloads m s t (state on_a).known (state on_b).known (state on_a).content (state on_b).content is.live is.other map small h k
+  sound_live B m is map small = sound_open b a j payloads m t s (state on_b).known (state on_a).known (state on_b).content (state on_a).content is.live is.other map small k h
 
--- and whatever restoring it answers
-pub sound_restored : {D : Type 0} (state : D → DiskState) (a b : Opened) (on_a on_b : D) (s t : Option (List ℕ)) (side : Side) (j : Journal) (payloads : List (List ℕ)) → chosen (held_in a) (held_in b) (len_of a) (len_of b) ≡ Ok (Live side (held_by j payloads))
-    → Opens s (state on_a).known (state on_a).content (Ok a) → Opens t (state on_b).known (state on_b).content (Ok b)
-    → (result : Result Standing OpenStop) → IfOk result (λ r. r.side ≡ side) → IfOk result (λ r. r.journal ≡ j) → IfOk result (λ r. map_of payloads ≡ Ok r.kv) → IfOk result (λ r. size_of r.kv ≤ most_size)
-    → IfOk result (λ r. Sound r.journal r.kv (state (of_live r.side on_a on_b)).known (state (of_live r.side on_a on_b)).content (state (of_live (other_side r.side) on_a on_b)).content)
-sound_restored state a b on_a on_b s t side j payloads is h k (Err e) at_side journal map small = tt
-sound_restored state a b on_a on_b s t side j payloads is h k (Ok r) at_side journal map small =
-    let sound : Sound j r.kv (state (of_live side on_a on_b)).known (state (of_live side on_a on_b)).content (state (of_live (other_side side) on_a on_b)).content =
-    sound_live state a b on_a on_b s t side j payloads r.kv (chosen_live a b side (held_by j payloads) is) map small h k in
-    subst (λ (i : Side). Sound r.journal r.kv (state (of_live i on_a on_b)).known (state (of_live i on_a on_b)).content (state (of_live (other_side i) on_a on_b)).content) (sym at_side)
-    (subst (λ (i : Journal). Sound i r.kv (state (of_live side on_a on_b)).known (state (of_live side on_a on_b)).content (state (of_live (other_side side) on_a on_b)).content) (sym journal) sound)
+  -- the file of the live one
+  pub live_file : (side : Side) → Chosen side (held_by j payloads) a b
+      → Stands j (state (of_live side on_a on_b)).known (state (of_live side on_a on_b)).content × IfSome (state (of_live side on_a on_b)).content.seen (λ file. payloads_of file ≡ payloads)
+  live_file A is = stands_open a j payloads s (state on_a).known (state on_a).content is.live h
+  live_file B is = stands_open b j payloads t (state on_b).known (state on_b).content is.live k
+
+  module _ (side : Side) (is : chosen (held_in a) (held_in b) (len_of a) (len_of b) ≡ Ok (Live side (held_by j payloads))) (new_a new_b : D) (result : Result Standing OpenStop) (r : Rereads state side (stop_in result) on_a on_b new_a new_b) where
+    live_still : (m : Store) → j.next_gate < (state (of_live side new_a new_b)).known → Sound j m (state (of_live side on_a on_b)).known (state (of_live side on_a on_b)).content (state (of_live (other_side side) on_a on_b)).content
+        → Sound j m (state (of_live side new_a new_b)).known (state (of_live side new_a new_b)).content (state (of_live (other_side side) new_a new_b)).content
+    live_still m reach sound = subst (λ (d : D). Sound j m (state (of_live side new_a new_b)).known (state (of_live side new_a new_b)).content (state d).content) (sym r.other)
+        (record {
+          stands_live = stands_still (stop_in result) (state (of_live side on_a on_b)) (state (of_live side new_a new_b)) j r.live reach sound.stands_live;
+          only_other = sound.only_other;
+          below = sound.below;
+          map = subst (λ (t : Option (List ℕ)). IfSome t (λ file. map_of (payloads_of file) ≡ Ok m)) (sym r.live.seen) sound.map;
+          size = sound.size;
+        })
+
+    -- whatever restoring it returns
+    pub sound_restored : IfOk result (λ r. r.side ≡ side) → IfOk result (λ r. r.journal ≡ j) → IfOk result (λ r. IfSome (state (of_live side on_a on_b)).content.seen (λ file. map_of (payloads_of file) ≡ Ok r.kv)) → IfOk result (λ r. size_of r.kv ≤ most_size)
+        → OnOk result (j.next_gate < (state (of_live side new_a new_b)).known)
+        → IfOk result (λ r. Sound r.journal r.kv (state (of_live r.side new_a new_b)).known (state (of_live r.side new_a new_b)).content (state (of_live (other_side r.side) new_a new_b)).content)
+    sound_restored = by result live_still
+      where
+        by : (result : Result Standing OpenStop)
+            → ((m : Store) → j.next_gate < (state (of_live side new_a new_b)).known → Sound j m (state (of_live side on_a on_b)).known (state (of_live side on_a on_b)).content (state (of_live (other_side side) on_a on_b)).content
+            → Sound j m (state (of_live side new_a new_b)).known (state (of_live side new_a new_b)).content (state (of_live (other_side side) new_a new_b)).content)
+            → IfOk result (λ r. r.side ≡ side) → IfOk result (λ r. r.journal ≡ j) → IfOk result (λ r. IfSome (state (of_live side on_a on_b)).content.seen (λ file. map_of (payloads_of file) ≡ Ok r.kv)) → IfOk result (λ r. size_of r.kv ≤ most_size)
+            → OnOk result (j.next_gate < (state (of_live side new_a new_b)).known)
+            → IfOk result (λ r. Sound r.journal r.kv (state (of_live r.side new_a new_b)).known (state (of_live r.side new_a new_b)).content (state (of_live (other_side r.side) new_a new_b)).content)
+        by (Err e) still at_side journal map small reach = tt
+        by (Ok r) still at_side journal map small reach =
+            let sound : Sound j r.kv (state (of_live side new_a new_b)).known (state (of_live side new_a new_b)).content (state (of_live (other_side side) new_a new_b)).content =
+            still r.kv reach (sound_live side r.kv (chosen_live a b side (held_by j payloads) is) map small) in
+            subst (λ (i : Side). Sound r.journal r.kv (state (of_live i new_a new_b)).known (state (of_live i new_a new_b)).content (state (of_live (other_side i) new_a new_b)).content) (sym at_side)
+            (subst (λ (i : Journal). Sound i r.kv (state (of_live side new_a new_b)).known (state (of_live side new_a new_b)).content (state (of_live (other_side side) new_a new_b)).content) (sym journal) sound)
+
+  -- and what it returns is what the bytes give
+  pub gives_restored : (P : List (List ℕ) → Type 0) (side : Side) → chosen (held_in a) (held_in b) (len_of a) (len_of b) ≡ Ok (Live side (held_by j payloads)) → is_some (state on_a).content.seen ≡ is_some s → is_some (state on_b).content.seen ≡ is_some t
+      → IfSome (state (of_live side on_a on_b)).content.seen (λ file. P (payloads_of file)) → (x y : List ℕ) → s ≡ Some x → t ≡ Some y → P payloads
+  gives_restored P side is tells_a tells_b gives x y p q =
+      let some_a : is_some (state on_a).content.seen ≡ true = tells_a ∙ ap is_some p in
+      let some_b : is_some (state on_b).content.seen ≡ true = tells_b ∙ ap is_some q in
+      by (state (of_live side on_a on_b)).content.seen (each side some_a some_b) (live_file side (chosen_live a b side (held_by j payloads) is)).1 gives
+    where
+      each : (side : Side) → is_some (state on_a).content.seen ≡ true → is_some (state on_b).content.seen ≡ true → is_some (state (of_live side on_a on_b)).content.seen ≡ true
+      each A some_a some_b = some_a
+      each B some_a some_b = some_b
+
+      by : (z : Option (List ℕ)) → is_some z ≡ true → IfSome z (λ file. payloads_of file ≡ payloads) → IfSome z (λ file. P (payloads_of file)) → P payloads
+      by None some these h = absurd cc
+      by (Some file) some these h = subst P these h

@@ -10,9 +10,8 @@ use Rattle.mon_disk.specs.Calls.{Told, DiskState}
 use Rattle.mon_disk.specs.Images.{Content, images, Only, LeavesOnly}
 use Rattle.mon_journal.specs.Content.{content, payloads_of, held_by, Holds}
 use Rattle.mon_journal.specs.Written.{owner_of, created}
-use Rattle.mon_journal.specs.declared.opening.Opened.{Opened}
-use Rattle.mon_journal.specs.declared.opening.Opened.TheVariants as disk
-use Rattle.mon_journal.specs.Steps.{AlikeFrom, ByTest, ClosedFrom, CreatedFrom, made_more, Made, Keeps, Opens}
+use Rattle.mon_journal.specs.Steps as disk
+use Rattle.mon_journal.specs.Steps.{OnDisk, AlikeFrom, ByTest, ClosedFrom, CreatedFrom, made_more, Made, Keeps, Opens}
 use Rattle.mon_journal.proofs.Counts.{count}
 use Rattle.mon_store.specs.Payloads.{map_of}
 use Rattle.mon_store.specs.Pair.{◌>>=◌, Create, found, map_found, stands, taken, opened}
@@ -23,15 +22,11 @@ use Rattle.mon_store.specs.declared.opening.Standing.{Standing}
 use Rattle.mon_store.specs.declared.stop.OpenStop.{OpenStop}
 use Rattle.mon_types.specs.Sides.{other as other_side}
 use Rattle.mon_store.specs.Sound.{of_live, IsBelow, Sound}
+use Rattle.mon_store.proofs.Folds.{map_nothing}
 use Rattle.mon_store.proofs.Pairs.{stands_for, opens_live}
 use Rattle.mon_store.proofs.Sizes.{size_empty}
 use Rattle.mon_store.proofs.Moments.{weaker, then_first}
 use Rattle.mon_store.proofs.Alike.{alike_found, alike_pair, is_alike, opened_b}
-
--- no record makes the empty map
-map_nothing : map_of [] ≡ Ok empty
-unfolding map_of
-map_nothing = refl
 
 -- on two closed disks that a creation may begin on nothing is found
 empty_found : (c d : List ℕ) → content c ≡ None → length c ≤ 26 → content d ≡ None → length d ≡ 0 → found c d ≡ Ok Create
@@ -61,7 +56,7 @@ pub record Closed (before now : Content) (most : ℕ) : Type 0 where
   pub same : now.seen ≡ before.seen
   pub none : IfSome before.seen (λ file. (content file ≡ None) × (length file ≤ most))
 
-pub closed_of : (on : Opened) (before now : Content) (known most : ℕ) → held_in on ≡ None → len_of on ≤ most → Opens before.seen known now (Ok on) → Closed before now most
+pub closed_of : (on : OnDisk) (before now : Content) (known most : ℕ) → held_in on ≡ None → len_of on ≤ most → Opens before.seen known now (Ok on) → Closed before now most
 closed_of (disk.Closed len) before now known most none short h = record { only = h.0; same = h.1; none = by before.seen h.3 }
   where
     by : (s : Option (List ℕ)) → IfSome s (λ file. (content file ≡ None) × (len ≡ length file)) → IfSome s (λ file. (content file ≡ None) × (length file ≤ most))

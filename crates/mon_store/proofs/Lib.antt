@@ -11,6 +11,7 @@ pub mod Pairs
 pub mod Moments
 pub mod Keeping
 pub mod Applying
+pub mod Rereading
 pub mod Restarting
 pub mod Alike
 pub mod Chosen

@@ -1,6 +1,6 @@
 -- The calls of opening two disks, from those of its parts.
 use Rattle.std.proofs.Common.{◌≡◌, ℕ, true, is_some, List, [], Option, Some, None, Result, Ok, Err, refl, sym, ap, subst, ◌∙◌}
-use Rattle.std.specs.Prelude.{IfSome, IfErr}
+use Rattle.std.specs.Prelude.{IfSome}
 use Rattle.mon_types.specs.declared.names.Side.{Side}
 use Rattle.mon_types.specs.declared.names.Side.TheVariants.{A, B}
 use Rattle.mon_disk.specs.declared.disk.DiskCall.{DiskCall}
@@ -12,7 +12,7 @@ use Rattle.mon_journal.specs.declared.stop.JournalStop.TheVariants as journal
 use Rattle.mon_journal.specs.declared.opening.Opened.{Opened}
 use Rattle.mon_journal.specs.Content.{Held, content}
 use Rattle.mon_journal.specs.Fields.{Owner}
-use Rattle.mon_journal.specs.Steps.{Opens, open_calls, create_calls, stop_in as of_journal}
+use Rattle.mon_journal.specs.Steps.{OnDisk, Opens, open_calls, create_calls, stop_in as of_journal}
 use Rattle.mon_store.specs.declared.stop.OpenStop.{OpenStop}
 use Rattle.mon_store.specs.declared.stop.OpenStop.TheVariants.{DiskFault, OutOfMemory}
 use Rattle.mon_store.specs.declared.stop.OpenStop.TheVariants as stop
@@ -22,7 +22,7 @@ use Rattle.mon_store.specs.Opening.{held_in, len_of, named, Tells, IsRefusal, Is
 use Rattle.mon_store.specs.OpeningCalls.{calls_on, unless_refused, both_calls, creation, opening_calls, MakesBoth, OpensWith}
 use Rattle.mon_store.proofs.Alike.{at_some, holds}
 use Rattle.mon_store.proofs.Answering.{found_is}
-use Rattle.mon_store.proofs.Called.{stop_named, on_a, on_b, both_then, both_stop, still_a}
+use Rattle.mon_store.proofs.Called.{stop_named, on_a, on_b, both_then, both_stop, still_a, still_b}
 
 -- what can be seen of both disks
 pub each_known : (s t : Option (List ℕ)) (p q : Option Told) (P : List ℕ → List ℕ → Type 0) → ((x y : List ℕ) → s ≡ Some x → t ≡ Some y → is_some p ≡ true → is_some q ≡ true → P x y)
@@ -59,17 +59,17 @@ module _ (s t : Option (List ℕ)) (told_a told_b : Option Told) where
           ap (λ (c : Option (Result Held JournalStop)). unless_refused (held_on A c) more) (at_some s x (λ file. content file ≡ Some (Err (journal.NotAStore at))) is opens.2)
 
   -- disk A is opened, and disk B is opened or refused
-  pub calls_b : (U : Type 0) (on : Opened) (other : Result U OpenStop) (known : ℕ) (new : Content) (new_a new_b : Option Told) → Opens s known new (Ok on)
+  pub calls_b : (U : Type 0) (on : OnDisk) (other : Result U OpenStop) (known : ℕ) (new : Content) (new_a new_b : Option Told) → Opens s known new (Ok on)
       → IfSome s (λ x. Makes (open_calls (content x)) None told_a new_a) → IfSome t (λ y. Makes (open_calls (content y)) (stop_in other) told_b new_b)
       → OpensWith {T = U} both_calls s t told_a told_b new_a new_b other
   calls_b U on other known new new_a new_b opens makes_a makes_b = each_known s t told_a told_b (λ x y. MakesBoth {T = U} (both_calls x y) told_a told_b new_a new_b other) (λ x y is_x is_y some_a some_b.
-      let open_a : MakesBoth {T = Opened} (calls_on A (open_calls (content x))) told_a told_b new_a told_b (Ok on) =
-      on_a Opened (Ok on) (open_calls (content x)) told_a new_a told_b some_a (at_some s x (λ x. Makes (open_calls (content x)) None told_a new_a) is_x makes_a) in
+      let open_a : MakesBoth {T = OnDisk} (calls_on A (open_calls (content x))) told_a told_b new_a told_b (Ok on) =
+      on_a OnDisk (Ok on) (open_calls (content x)) told_a new_a told_b some_a (at_some s x (λ x. Makes (open_calls (content x)) None told_a new_a) is_x makes_a) in
       let open_b : MakesBoth {T = U} (calls_on B (open_calls (content y))) new_a told_b new_a new_b other =
       on_b U other (open_calls (content y)) new_a told_b new_b some_b (at_some t y (λ y. Makes (open_calls (content y)) (stop_in other) told_b new_b) is_y makes_b) in
       let both : unless_refused (held_on A (content x)) (calls_on B (open_calls (content y))) ≡ calls_on B (open_calls (content y)) =
       ap (λ (r : Result (Option Held) Refusal). unless_refused r (calls_on B (open_calls (content y)))) (holds on s known new x is_x opens A) in
-      rw both (both_then Opened U (calls_on A (open_calls (content x))) (calls_on B (open_calls (content y))) told_a told_b new_a told_b new_a new_b on other open_a open_b))
+      rw both (both_then OnDisk U (calls_on A (open_calls (content x))) (calls_on B (open_calls (content y))) told_a told_b new_a told_b new_a new_b on other open_a open_b))
 
   -- neither is opened, and so nothing is created
   pub calls_refused : (T U : Type 0) (owner : Owner) (e : OpenStop) (new_a new_b : Option Told) → IfSome s (λ x. IfSome t (λ y. Tells e (found x y))) → OpensWith {T = T} both_calls s t told_a told_b new_a new_b (Err e)
@@ -116,12 +116,8 @@ refusal_no_fault OutOfMemory is = tt
 refusal_no_fault (stop.NotAStore side at) is = tt
 refusal_no_fault (stop.Stranger kept asked) is = tt
 
-pub none_faults : {U : Type 0} (result : Result U OpenStop) → IfErr result IsNoFault → result ≡ Err DiskFault → ⊥
-none_faults (Ok x) other is = cc
-none_faults (Err e) other is = no_fault e other is
-
 -- what was chosen of the two, and the calls after that
-module _ (a b : Opened) (s t : Option (List ℕ)) (known_a known_b : ℕ) (content_a content_b : Content) (h : Opens s known_a content_a (Ok a)) (k : Opens t known_b content_b (Ok b)) (owner : Owner)
+module _ (a b : OnDisk) (s t : Option (List ℕ)) (known_a known_b : ℕ) (content_a content_b : Content) (h : Opens s known_a content_a (Ok a)) (k : Opens t known_b content_b (Ok b)) (owner : Owner)
     (told_a told_b mid_a mid_b : Option Told) (T U : Type 0) (both : T) (makes : OpensWith {T = T} both_calls s t told_a told_b mid_a mid_b (Ok both)) where
   found_as : (place : Result Found Refusal) → chosen (held_in a) (held_in b) (len_of a) (len_of b) ≡ place → (x y : List ℕ) → s ≡ Some x → t ≡ Some y → found x y ≡ place
   found_as place is x y p q = found_is a b s t known_a known_b content_a content_b x y p q h k ∙ is
@@ -132,10 +128,15 @@ module _ (a b : Opened) (s t : Option (List ℕ)) (known_a known_b : ℕ) (conte
       let r = refusal_of e (chosen (held_in a) (held_in b) (len_of a) (len_of b)) is tells in
       calls_more s t told_a told_b T U owner both (Err r.0) (Err e) mid_a mid_b mid_a mid_b (found_as (Err r.0) r.1) (λ some. (refl, refl, no_fault e (refusal_no_fault e is))) makes
 
-  -- a live file
-  pub calls_live : (side : Side) (held : Held) (result : Result U OpenStop) → chosen (held_in a) (held_in b) (len_of a) (len_of b) ≡ Ok (Live side held) → IfErr result IsNoFault → OpensWith {T = U} (opening_calls owner) s t told_a told_b mid_a mid_b result
-  calls_live side held result is other =
-      calls_more s t told_a told_b T U owner both (Ok (Live side held)) result mid_a mid_b mid_a mid_b (found_as (Ok (Live side held)) is) (λ some. (refl, refl, none_faults result other)) makes
+  -- a live file, which is read again
+  pub calls_live : (side : Side) (held : Held) (result : Result U OpenStop) (new_a new_b : Option Told) → chosen (held_in a) (held_in b) (len_of a) (len_of b) ≡ Ok (Live side held) → new_a ≡ mid_a → new_b ≡ mid_b
+      → (is_some mid_a ≡ true → is_some mid_b ≡ true → result ≡ Err DiskFault → ⊥) → OpensWith {T = U} (opening_calls owner) s t told_a told_b new_a new_b result
+  calls_live side held result new_a new_b is same_a same_b never = each_known s t told_a told_b (λ x y. MakesBoth {T = U} (opening_calls owner x y) told_a told_b new_a new_b result) (λ x y is_x is_y some_a some_b.
+      let made : MakesBoth {T = T} (both_calls x y) told_a told_b mid_a mid_b (Ok both) =
+      at_known s t told_a told_b (λ x y. MakesBoth {T = T} (both_calls x y) told_a told_b mid_a mid_b (Ok both)) x y is_x is_y some_a some_b makes in
+      let last = still_b T (both_calls x y) told_a told_b mid_a mid_b (Ok both) some_b made in
+      at_known s t told_a told_b (λ x y. MakesBoth {T = U} (opening_calls owner x y) told_a told_b new_a new_b result) x y is_x is_y some_a some_b
+      (calls_more s t told_a told_b T U owner both (Ok (Live side held)) result mid_a mid_b new_a new_b (found_as (Ok (Live side held)) is) (λ some. (same_a, same_b, never some last)) makes))
 
   -- a new store
   pub calls_new : (result : Result U OpenStop) (new_a : Option Told) → chosen (held_in a) (held_in b) (len_of a) (len_of b) ≡ Ok Create → (is_some mid_a ≡ true → MakesBoth (calls_on A (create_calls owner 1 None)) mid_a mid_b new_a mid_b result)

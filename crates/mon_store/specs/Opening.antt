@@ -7,12 +7,13 @@ use Rattle.mon_disk.specs.Images.{Content, images}
 use Rattle.mon_disk.specs.Calls.{Told, DiskState, faults_after, MayWant}
 use Rattle.mon_journal.specs.declared.stop.JournalStop.{JournalStop}
 use Rattle.mon_journal.specs.declared.stop.JournalStop.TheVariants as journal
-use Rattle.mon_journal.specs.declared.opening.Opened.{Opened}
-use Rattle.mon_journal.specs.declared.opening.Opened.TheVariants as disk
 use Rattle.mon_journal.specs.Written.{owner_of, created}
 use Rattle.mon_journal.specs.Content.{Held, content, held_by}
-use Rattle.mon_journal.specs.Steps.{made_more}
+use Rattle.mon_journal.specs.Steps.{OnDisk, made_more}
+use Rattle.mon_journal.specs.Steps as disk
+use Rattle.mon_journal.specs.Pieces.{OnlyReads}
 use Rattle.mon_types.specs.declared.names.Side.{Side}
+use Rattle.mon_types.specs.Sides.{other as other_side}
 use Rattle.mon_store.specs.declared.opening.Standing.{Standing}
 use Rattle.mon_store.specs.declared.stop.OpenStop.{OpenStop}
 use Rattle.mon_store.specs.declared.stop.OpenStop.TheVariants.{DiskFault, OutOfMemory}
@@ -20,20 +21,22 @@ use Rattle.mon_store.specs.declared.stop.OpenStop.TheVariants as stop
 use Rattle.mon_store.specs.declared.choice.Choice.{Choice}
 use Rattle.mon_store.specs.declared.choice.Choice.TheVariants as choice
 use Rattle.mon_store.specs.Stood.{opens_as}
+use Rattle.mon_store.specs.Sound.{of_live}
 use Rattle.mon_store.specs.Pair.{Refusal, NotAStore, Stranger, Found, Create, Live, found, stands}
 
 -- what a disk was found to hold, and how long it is if it holds nothing
-abbrev pub held_in : Opened → Option Held
+abbrev pub held_in : OnDisk → Option Held
 held_in (disk.Closed len) = None
 held_in (disk.Live journal payloads) = Some (held_by journal payloads)
 
-abbrev pub len_of : Opened → ℕ
+abbrev pub len_of : OnDisk → ℕ
 len_of (disk.Closed len) = len
 len_of (disk.Live journal payloads) = 0
 
-abbrev pub found_of : Choice → Found
-found_of choice.New = Create
-found_of (choice.Live side journal payloads) = Live side (held_by journal payloads)
+-- what was chosen of two disks with these payloads
+abbrev pub found_of : List (List ℕ) → List (List ℕ) → Choice → Found
+found_of p q choice.New = Create
+found_of p q (choice.Live side journal) = Live side (held_by journal (of_live side p q))
 
 -- a journal's fault, on its disk
 abbrev pub named : Side → JournalStop → OpenStop
@@ -97,6 +100,11 @@ Alike member a b c d = (opening : Bool) × AlikePair member a b opening c d
 abbrev pub Settled : Member → Content → Content → Told → Told → Told → Type 0
 Settled member a b before now_a now_b =
     AlikePair member a b (slice_index_or (now_a.settles now_a.made) 0 0 == 1 && made_more 5 before now_a) (now_a.settles now_a.made) (now_b.settles now_b.made)
+
+-- The live disk's file was read again, to its end or to a stop, and the other disk wasn't called.
+pub record Rereads {D : Type 0} (state : D → DiskState) (side : Side) (stop : Option Stop) (a b new_a new_b : D) : Type 0 where
+  pub live : OnlyReads stop (state (of_live side a b)) (state (of_live side new_a new_b))
+  pub other : of_live (other_side side) new_a new_b ≡ of_live (other_side side) a b
 
 -- a disk's fault, or out of memory
 abbrev pub IsOutside : OpenStop → Type 0

@@ -1,12 +1,13 @@
 //! Which of two disks is live.
 
-ghost use Rattle.std.specs.Prelude.{IfErr};
+ghost use Rattle.std.specs.Prelude.{List, ℕ, IfErr};
 ghost use Rattle.mon_store.specs.Pair.{new_store, newer, chosen};
 ghost use Rattle.mon_store.specs.Opening.{held_in, len_of, found_of, Gives, IsRefusal};
 ghost use Rattle.mon_journal.specs.Content.{held_by};
+ghost use Rattle.mon_journal.specs.Steps.{with_payloads};
 
 use crate::stop::OpenStop;
-use mon_journal::{HEADER, Journal, Opened, Payloads};
+use mon_journal::{HEADER, Journal, Opened};
 use mon_types::Side;
 
 /// The most bytes that a creation which a crash cut short leaves on disk A: a header, and a closed gate.
@@ -18,16 +19,12 @@ pub(crate) enum Choice {
     /// Nowhere: the store is to be created.
     New,
     /// In the file of a disk.
-    Live {
-        side: Side,
-        journal: Journal,
-        payloads: Payloads,
-    },
+    Live { side: Side, journal: Journal },
 }
 
 /// Two closed disks are a new store only if they hold no more than a creation that a crash cut short.
 fn new_store(a: u64, b: u64) -> Result<Choice, OpenStop>
-    ensures found { Gives found_of result (new_store a b) }
+    ensures found { (p q : List (List ℕ)) → Gives (found_of p q) result (new_store a b) }
     ensures refused { IfErr result IsRefusal }
 {
     if a > MOST_NEW {
@@ -45,13 +42,8 @@ fn new_store(a: u64, b: u64) -> Result<Choice, OpenStop>
     Ok(Choice::New)
 }
 
-fn newer(
-    a: Journal,
-    a_payloads: Payloads,
-    b: Journal,
-    b_payloads: Payloads,
-) -> Result<Choice, OpenStop>
-    ensures found { Gives found_of result (newer (held_by a a_payloads) (held_by b b_payloads)) }
+fn newer(a: Journal, b: Journal) -> Result<Choice, OpenStop>
+    ensures found { (p q : List (List ℕ)) → Gives (found_of p q) result (newer (held_by a p) (held_by b q)) }
     ensures refused { IfErr result IsRefusal }
 {
     if a.generation == b.generation {
@@ -64,42 +56,30 @@ fn newer(
         return Ok(Choice::Live {
             side: Side::A,
             journal: a,
-            payloads: a_payloads,
         });
     }
     Ok(Choice::Live {
         side: Side::B,
         journal: b,
-        payloads: b_payloads,
     })
 }
 
-/// The open disk is live, and of two that one with the greater generation.
+/// The open disk is live, and of two that one with the greater generation, whichever payloads they have.
 pub(crate) fn choose(a: Opened, b: Opened) -> Result<Choice, OpenStop>
-    ensures found { Gives found_of result (chosen (held_in a) (held_in b) (len_of a) (len_of b)) }
+    ensures found { (p q : List (List ℕ)) → let x = with_payloads p a in let y = with_payloads q b in
+        Gives (found_of p q) result (chosen (held_in x) (held_in y) (len_of x) (len_of y)) }
     ensures refused { IfErr result IsRefusal }
 {
     match (a, b) {
         (Opened::Closed { len: a }, Opened::Closed { len: b }) => new_store(a, b),
-        (Opened::Live { journal, payloads }, Opened::Closed { .. }) => Ok(Choice::Live {
+        (Opened::Live { journal }, Opened::Closed { .. }) => Ok(Choice::Live {
             side: Side::A,
             journal,
-            payloads,
         }),
-        (Opened::Closed { .. }, Opened::Live { journal, payloads }) => Ok(Choice::Live {
+        (Opened::Closed { .. }, Opened::Live { journal }) => Ok(Choice::Live {
             side: Side::B,
             journal,
-            payloads,
         }),
-        (
-            Opened::Live {
-                journal: a,
-                payloads: a_payloads,
-            },
-            Opened::Live {
-                journal: b,
-                payloads: b_payloads,
-            },
-        ) => newer(a, a_payloads, b, b_payloads),
+        (Opened::Live { journal: a }, Opened::Live { journal: b }) => newer(a, b),
     }
 }

@@ -1,8 +1,10 @@
 //! The map that the payloads of a file represent.
 
-ghost use Rattle.std.specs.Prelude.{◌≡◌, ◌≤◌, ◌+◌, length, Ok, IfOk, IfErr};
+ghost use Rattle.std.specs.Prelude.{◌≡◌, ◌≤◌, ◌<◌, ◌+◌, length, Ok, IfOk, IfErr, OnOk, IfSome};
 ghost use Rattle.mon_kv.specs.Readers.{size_of};
-ghost use Rattle.mon_journal.specs.Content.{Gives, IsOfForm};
+ghost use Rattle.mon_journal.specs.Content.{Gives, IsOfForm, Holds, payloads_of};
+ghost use Rattle.mon_journal.specs.Pieces.{OnlyReads};
+ghost use Rattle.mon_journal.specs.Steps.{stop_in};
 ghost use Rattle.mon_store.specs.Checkpoint.{most_size};
 ghost use Rattle.mon_store.specs.Payloads.{within, after, is_checkpoint, restored, begun, at_fault, folded, map_of};
 ghost use Rattle.mon_store.specs.Decode.{checkpoint_of};
@@ -10,7 +12,8 @@ ghost use Rattle.mon_store.specs.Decode.{checkpoint_of};
 use crate::checkpoint::CHECKPOINT;
 use crate::reading::read_checkpoint;
 use mon_bytes::{Cursor, MapRefused};
-use mon_journal::{FIRST_PAYLOAD, JournalStop, Payloads, RECORD_HEAD};
+use mon_disk::Disk;
+use mon_journal::{FIRST_PAYLOAD, Journal, JournalStop, RECORD_HEAD, Reader};
 use mon_kv::{Kv, MOST_SIZE};
 use mon_tx::TxRefused;
 use std::alloc::Global;
@@ -85,21 +88,27 @@ fn behind(at: u64, payload: &[u8]) -> Result<u64, JournalStop>
         .ok_or(JournalStop::OutOfMemory)
 }
 
-/// The map that the payloads of a file represent. `NotAStore` names the first byte of the first payload at fault.
-pub fn fold(alloc: Global, payloads: &Payloads) -> Result<Kv, JournalStop>
-    ensures map { Gives (λ kv. kv) result (map_of payloads.now) }
+/// The map that the payloads of a journal's file represent. They are read from its disk one after the other.
+/// `NotAStore` names the first byte of the first payload at fault. Beside the map it needs memory for one payload, and
+/// for at most 65,536 bytes of the file.
+pub fn fold<D: Disk>(alloc: Global, disk: &mut D, journal: &Journal) -> Result<Kv, JournalStop>
+    requires holds { IfSome (D.state disk.old).content.seen (λ file. Holds journal.now (payloads_of file) file) }
+    ensures map { IfSome (D.state disk.old).content.seen
+        (λ file. Gives (λ kv. kv) result (map_of (payloads_of file))) }
     ensures size { IfOk result (λ kv. size_of kv ≤ most_size) }
-    ensures form { IfErr result IsOfForm }
+    ensures disk { OnlyReads (stop_in result) (D.state disk.old) (D.state disk.new) }
+    ensures reach { OnOk result (journal.now.next_gate < (D.state disk.new).known) }
 {
-    let mut unread = payloads.unread();
-    let Some(first) = unread.next_payload() else {
+    let mut reader = Reader::of(alloc, disk, journal)?;
+    let Some(first) = reader.next_payload(disk)? else {
         return Ok(Kv::empty(alloc));
     };
-    let mut at = behind(FIRST_PAYLOAD, first)?;
-    let mut kv = begun(alloc, first, FIRST_PAYLOAD)?;
-    while let Some(payload) = unread.next_payload() {
-        kv = after(kv, payload, at)?;
-        at = behind(at, payload)?;
+    let mut at = behind(FIRST_PAYLOAD, &first)?;
+    let mut kv = begun(alloc, &first, FIRST_PAYLOAD)?;
+    drop(first);
+    while let Some(payload) = reader.next_payload(disk)? {
+        kv = after(kv, &payload, at)?;
+        at = behind(at, &payload)?;
     }
     Ok(kv)
 }

@@ -1,11 +1,11 @@
 //! Opening the two disks of a store.
 
-ghost use Rattle.std.specs.Prelude.{◌≡◌, ◌≤◌, false, [], is_some, Ok, None, IfOk, IfErr, OnOk, IfSome, IsTrue};
+ghost use Rattle.std.specs.Prelude.{◌≡◌, ◌≤◌, ◌<◌, false, [], is_some, Ok, None, IfOk, IfErr, OnOk, IfSome, IsTrue};
 ghost use Rattle.mon_disk.specs.Images.{LeavesOnly};
 ghost use Rattle.mon_disk.specs.Calls.{Called, Makes};
 ghost use Rattle.mon_kv.specs.Readers.{size_of};
-ghost use Rattle.mon_journal.specs.Content.{content, held_by};
-ghost use Rattle.mon_journal.specs.Steps.{AlikeFrom, CreatedFrom, made_more, Made, Opens, Keeps, open_calls, create_calls};
+ghost use Rattle.mon_journal.specs.Content.{content, held_by, payloads_of, Holds, Gives as JournalGives};
+ghost use Rattle.mon_journal.specs.Steps.{AlikeFrom, CreatedFrom, made_more, Made, Opens, on_disk, Keeps, open_calls, create_calls, stop_in as journal_stop};
 ghost use Rattle.mon_journal.specs.Written.{owner_of, created};
 ghost use Rattle.std.specs.FinMap.{empty};
 ghost use Rattle.mon_store.specs.Checkpoint.{most_size};
@@ -14,14 +14,14 @@ ghost use Rattle.mon_store.specs.Pair.{Live, taken, found};
 ghost use Rattle.mon_store.specs.Moments.{Meanwhile, WhileOpening};
 ghost use Rattle.mon_types.specs.Sides.{other as other_side};
 ghost use Rattle.mon_store.specs.Sound.{of_live, Sound};
-ghost use Rattle.mon_store.specs.Opening.{named, Tells, Gives, Answers, IsOutside, IsNoFault, AlikePair, Alike, Settled, stop_in, BothCount};
+ghost use Rattle.mon_store.specs.Opening.{named, Tells, Gives, Answers, IsOutside, Rereads, AlikePair, Alike, Settled, stop_in, BothCount};
 ghost use Rattle.mon_store.specs.OpeningCalls.{both_calls, opening_calls, OpensWith};
 
 use crate::choice::{Choice, choose};
 use crate::fold::fold;
 use crate::stop::OpenStop;
 use mon_disk::Disk;
-use mon_journal::{Journal, JournalStop, Opened, Payloads, create, open};
+use mon_journal::{Journal, JournalStop, Opened, create, open};
 use mon_kv::Kv;
 use mon_types::{Member, Side};
 use std::alloc::Global;
@@ -45,24 +45,52 @@ pub(crate) struct Standing {
     pub(crate) kv: Kv,
 }
 
-/// The map of a live file, if it is this member's.
-fn restore(
+/// The map of a live file, which is read from the disk of its side.
+fn fold_live<D: Disk>(
     alloc: Global,
+    a: &mut D,
+    b: &mut D,
+    side: Side,
+    journal: &Journal,
+) -> Result<Kv, JournalStop>
+    requires holds { IfSome (D.state (of_live side a.old b.old)).content.seen
+        (λ file. Holds journal.now (payloads_of file) file) }
+    ensures map { IfSome (D.state (of_live side a.old b.old)).content.seen
+        (λ file. JournalGives (λ kv. kv) result (map_of (payloads_of file))) }
+    ensures size { IfOk result (λ kv. size_of kv ≤ most_size) }
+    ensures disks { Rereads D.state side (journal_stop result) a.old b.old a.new b.new }
+    ensures reach { OnOk result (journal.now.next_gate < (D.state (of_live side a.new b.new)).known) }
+{
+    match side {
+        Side::A => fold(alloc, a, journal),
+        Side::B => fold(alloc, b, journal),
+    }
+}
+
+/// The map of a live file, if it is this member's.
+fn restore<D: Disk>(
+    alloc: Global,
+    a: &mut D,
+    b: &mut D,
     side: Side,
     journal: Journal,
-    payloads: &Payloads,
     member: &Member,
 ) -> Result<Standing, OpenStop>
-    ensures answer { Gives (λ s. (Live side (held_by journal payloads.now), s.kv)) result
-        (taken (owner_of member.now) (Live side (held_by journal payloads.now))) }
+    requires holds { IfSome (D.state (of_live side a.old b.old)).content.seen
+        (λ file. Holds journal (payloads_of file) file) }
+    ensures answer { IfSome (D.state (of_live side a.old b.old)).content.seen
+        (λ file. let live = Live side (held_by journal (payloads_of file)) in
+        Gives (λ s. (live, s.kv)) result (taken (owner_of member.now) live)) }
     ensures side { IfOk result (λ s. s.side ≡ side) }
     ensures journal { IfOk result (λ s. s.journal ≡ journal) }
     ensures owner { IfOk result (λ s. owner_of s.journal.member ≡ owner_of member.now) }
-    ensures map { IfOk result (λ s. map_of payloads.now ≡ Ok s.kv) }
+    ensures map { IfOk result (λ s. IfSome (D.state (of_live side a.old b.old)).content.seen
+        (λ file. map_of (payloads_of file) ≡ Ok s.kv)) }
     ensures size { IfOk result (λ s. size_of s.kv ≤ most_size) }
-    ensures no_fault { IfErr result IsNoFault }
+    ensures disks { Rereads D.state side (stop_in result) a.old b.old a.new b.new }
+    ensures reach { OnOk result (journal.next_gate < (D.state (of_live side a.new b.new)).known) }
 {
-    let kv = match fold(alloc, payloads) {
+    let kv = match fold_live(alloc, a, b, side, &journal) {
         Ok(kv) => kv,
         Err(stop) => return Err(named(side, stop)),
     };
@@ -85,10 +113,10 @@ struct Both {
 
 /// Opens disk A and then disk B.
 fn open_both<D: Disk>(alloc: Global, a: &mut D, b: &mut D) -> Result<Both, OpenStop>
-    ensures a { IfOk result (λ both. Opens (D.state a.old).content.seen (D.state a.new).known (D.state a.new).content
-        (Ok both.a)) }
-    ensures b { IfOk result (λ both. Opens (D.state b.old).content.seen (D.state b.new).known (D.state b.new).content
-        (Ok both.b)) }
+    ensures a { IfOk result (λ both. let seen = (D.state a.old).content.seen in
+        Opens seen (D.state a.new).known (D.state a.new).content (on_disk seen (Ok both.a))) }
+    ensures b { IfOk result (λ both. let seen = (D.state b.old).content.seen in
+        Opens seen (D.state b.new).known (D.state b.new).content (on_disk seen (Ok both.b))) }
     ensures refused { IfErr result (λ e. IfSome (D.state a.old).content.seen
         (λ x. IfSome (D.state b.old).content.seen (λ y. Tells e (found x y)))) }
     ensures a_moment { OnOk result (LeavesOnly (D.state a.old).content (D.state a.new).content
@@ -172,10 +200,6 @@ pub(crate) fn open_disks<D: Disk>(
     let both = open_both(alloc, a, b)?;
     match choose(both.a, both.b)? {
         Choice::New => create_on(alloc, a, member),
-        Choice::Live {
-            side,
-            journal,
-            payloads,
-        } => restore(alloc, side, journal, &payloads, member),
+        Choice::Live { side, journal } => restore(alloc, a, b, side, journal, member),
     }
 }

@@ -22,6 +22,7 @@ use Rattle.mon_wire.specs.declared.phase.Timer.TheVariants as timer
 use Rattle.mon_wire.specs.declared.phase.Timer.{Timer}
 use Rattle.mon_plan.specs.Plans.{Plans, changed, leads, sending}
 use Rattle.paxos_leader.specs.declared.draft.Draft.{Draft}
+use Rattle.paxos_leader.specs.declared.seen.Act.{Act}
 
 -- an event under way in which these changes were made and this was sent, and the leader remembers this
 abbrev pub under_way : List Change → List Sent → Leader → Course → Course
@@ -35,6 +36,11 @@ GoesOn me now At d wanted result =
     (cs : List Change) → AllByRecursion Fits cs → d.tx ≡ spelled cs
     → Plans me now leads (λ x. At (under_way cs d.out d.state x)) (λ x. x)
     (λ x. wanted (under_way cs d.out d.state x)) result
+
+-- The same of an act that reads this.
+abbrev pub ActsOn : Act → (At : Course → Type 0) → Draft → (wanted : Me → (now : ℕ) → Course → Result Course Which)
+    → Result (Plan Leader) RoleStop → Type 0
+ActsOn act At d wanted result = GoesOn act.me.now act.time At d (wanted act.me.now act.time) result
 
 -- An event under way at a leader whose store has this epoch and this last version.
 pub record IsHere (e v : ℕ) (y : Course) : Type 0 where

@@ -4,16 +4,30 @@ use Rattle.mon_msg.specs.Protocol.Collecting.{collect}
 use Rattle.mon_msg.specs.Protocol.Course.{Course, leader_is}
 use Rattle.mon_msg.specs.Protocol.Leader.{of_member, note, note_answer, hear_whole}
 use Rattle.mon_msg.specs.Protocol.Phases.{phase_of}
-use Rattle.mon_msg.specs.Protocol.Readings.{Readings}
+use Rattle.mon_msg.specs.Protocol.Readings.{Readings, readings_of}
 use Rattle.mon_msg.specs.Protocol.Records.{may_begin}
 use Rattle.mon_msg.specs.declared.paxos.Found.{Found}
 use Rattle.mon_msg.specs.declared.paxos.Leader.{Leader}
+use Rattle.mon_msg.specs.declared.plan.Plan.{Plan}
 use Rattle.mon_msg.specs.declared.plan.RoleStop.TheVariants as stop
 use Rattle.mon_msg.specs.declared.plan.RoleStop.{RoleStop}
 use Rattle.mon_msg.specs.declared.view.Me.{Me}
+use Rattle.mon_msg.specs.declared.view.View.{View}
 use Rattle.mon_types.specs.declared.names.Which.{Which}
 use Rattle.mon_wire.specs.declared.parts.Told.{Told}
 use Rattle.mon_wire.specs.declared.phase.Phase.{Phase}
+use Rattle.mon_plan.specs.Plans.{PlansRow, leads}
+use Rattle.mon_plan.specs.Seen.{IsMet}
+use Rattle.paxos_leader.specs.declared.seen.Here.{Here}
+
+-- a leader that reads this plans a row of the table
+abbrev pub ByRow : Here → (At : Course → Type 0) → (row : Me → (now : ℕ) → Course → Result Course Which)
+    → Result (Plan Leader) RoleStop → Type 0
+ByRow here At row result = PlansRow here.me.now here.time leads At (row here.me.now here.time) result
+
+-- an event under way before the call of a leader that reads this, sees the other roles so and remembers that
+abbrev pub Meets : Here → View → Leader → Course → Type 0
+Meets here view l = IsMet here.me.now here.time (readings_of here.kv.now) view (λ s. s.leader) l
 
 -- An event under way at a leader in one of these phases that hears of a member of its quorum in this epoch.
 pub record IsHeard (phases : List Phase) (f e : ℕ) (w : Readings) (l : Leader) (x : Course) : Type 0 where

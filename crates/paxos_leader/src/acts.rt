@@ -10,9 +10,10 @@ ghost use Rattle.mon_msg.specs.Protocol.Sets.{only as only_one};
 ghost use Rattle.mon_msg.specs.declared.paxos.LeaderStage.TheVariants as stage;
 ghost use Rattle.mon_msg.specs.declared.view.Me.{Me};
 ghost use Rattle.mon_tx.specs.Text.{text, most};
-ghost use Rattle.paxos_leader.specs.Drafts.{GoesOn, IsHere};
+ghost use Rattle.paxos_leader.specs.Drafts.{ActsOn, GoesOn, IsHere};
 
 use crate::draft::{Draft, tell};
+use crate::seen::Act;
 use crate::sets::{is_alone, leads_alone, only};
 use crate::timers::{lease_timers, value_timers};
 use mon_bytes::{Items, OutOfMemory};
@@ -21,7 +22,7 @@ use mon_msg::plan::Sent;
 use mon_msg::{Body, Leader, LeaderStage, Me, Next, Origin, Plan, RoleStop};
 use mon_plan::{learn, put_vote};
 use mon_tx::Transaction;
-use mon_types::{Epoch, Moment, RankSet, Version, Which};
+use mon_types::{Moment, RankSet, Version, Which};
 use std::alloc::Global;
 
 /// What an active leader remembers that gives a lease now.
@@ -38,37 +39,32 @@ fn leasing(me: &Me, mut state: Leader, now: Moment) -> Leader
 
 /// Besides what was sent so far, the lease goes to all members.
 fn tell_lease(
-    alloc: Global,
+    act: &Act<'_>,
     out: Items<Sent>,
-    me: &Me,
-    epoch: Epoch,
     quorum: RankSet,
     last: Version,
 ) -> Result<Items<Sent>, OutOfMemory>
-    ensures { IfOk result (λ sent. sent ≡ out ++ map (message_to me.now epoch (Body.Lease last))
-        (members_of me.now quorum)) }
+    ensures { IfOk result (λ sent. sent ≡ out ++ map (message_to act.now.me.now act.now.epoch (Body.Lease last))
+        (members_of act.now.me.now quorum)) }
 {
     let lease = Body::Lease { last };
-    tell(alloc, out, me, epoch, quorum, lease)
+    tell(act, out, quorum, lease)
 }
 
 /// The leader is active, and gives a lease to all members.
 pub(crate) fn be_active(
-    alloc: Global,
-    me: &Me,
-    epoch: Epoch,
+    act: &Act<'_>,
     last: Version,
     draft: Draft,
-    now: Moment,
 ) -> Result<Plan<Leader>, OutOfMemory>
     ensures goes { IfOk result
-        (λ p. GoesOn me.now now (IsHere epoch last) draft (λ y. Ok (active me.now now y)) (Ok p)) }
+        (λ p. ActsOn act.now (IsHere act.now.epoch last) draft (λ me now y. Ok (active me now y)) (Ok p)) }
     ensures stays { IfOk result (λ p. p.next ≡ Next.Stay) }
 {
     let Draft { tx, out, state } = draft;
-    let out = tell_lease(alloc, out, me, epoch, state.quorum, last)?;
-    let timers = lease_timers(alloc, is_alone(me, state.quorum), now)?;
-    let state = leasing(me, state, now);
+    let out = tell_lease(act, out, state.quorum, last)?;
+    let timers = lease_timers(act.alloc, is_alone(act.me, state.quorum), act.time)?;
+    let state = leasing(act.me, state, act.time);
     Ok(Plan {
         tx,
         out,
@@ -102,31 +98,27 @@ fn valued(
 
 /// The other members are asked to accept a value.
 fn ask(
-    alloc: Global,
+    act: &Act<'_>,
     out: Items<Sent>,
-    me: &Me,
-    epoch: Epoch,
     state: &Leader,
     version: Version,
     value: &Transaction,
 ) -> Result<Items<Sent>, OutOfMemory>
     ensures { IfOk result (λ sent.
-        sent ≡ out ++ map (message_to me.now epoch (Body.Begin state.now.pn version value.now))
-        (members_of me.now state.now.quorum)) }
+        sent ≡ out ++ map (message_to act.now.me.now act.now.epoch (Body.Begin state.now.pn version value.now))
+        (members_of act.now.me.now state.now.quorum)) }
 {
     let begin = Body::Begin {
         pn: state.pn,
         version,
         value: value.copy()?,
     };
-    tell(alloc, out, me, epoch, state.quorum, begin)
+    tell(act, out, state.quorum, begin)
 }
 
 /// The leader accepts a value itself, and asks its members to. What it remembers stays the same.
 fn put_to_vote(
-    alloc: Global,
-    me: &Me,
-    epoch: Epoch,
+    act: &Act<'_>,
     draft: Draft,
     version: Version,
     value: &Transaction,
@@ -134,42 +126,40 @@ fn put_to_vote(
     requires { length (text value.now) ≤ most }
     ensures draft { IfOk result (λ d. d ≡ record {
       tx = draft.tx ++ ops_of (Vote version draft.state.pn value.now);
-      out = draft.out ++ map (message_to me.now epoch (Body.Begin draft.state.pn version value.now)) (members_of me.now draft.state.quorum);
+      out = draft.out ++ map (message_to act.now.me.now act.now.epoch (Body.Begin draft.state.pn version value.now))
+          (members_of act.now.me.now draft.state.quorum);
       state = draft.state;
     }) }
     ensures fit { Fits (Vote version draft.state.pn value.now) }
 {
     let Draft { mut tx, out, state } = draft;
     put_vote(&mut tx, version, state.pn, value)?;
-    let out = ask(alloc, out, me, epoch, &state, version, value)?;
+    let out = ask(act, out, &state, version, value)?;
     Ok(Draft { tx, out, state })
 }
 
 /// A value is put to the vote, and the leader waits for its members.
 pub(crate) fn begin_with(
-    alloc: Global,
-    me: &Me,
-    epoch: Epoch,
+    act: &Act<'_>,
     draft: Draft,
     stage: LeaderStage,
     version: Version,
     value: Transaction,
     origin: Option<Origin>,
-    now: Moment,
 ) -> Result<Plan<Leader>, RoleStop>
     requires { length (text value) ≤ most }
-    ensures goes { (last : ℕ) → GoesOn me.now now (IsHere epoch last) draft
-        (λ y. Ok (begun_with me.now now stage version value origin y)) result }
+    ensures goes { (last : ℕ) → ActsOn act.now (IsHere act.now.epoch last) draft
+        (λ me now y. Ok (begun_with me now stage version value origin y)) result }
     ensures stays { IfOk result (λ p. p.next ≡ Next.Stay) }
 {
-    let timers = value_timers(alloc, now)?;
-    let asked = put_to_vote(alloc, me, epoch, draft, version, &value)?;
+    let timers = value_timers(act.alloc, act.time)?;
+    let asked = put_to_vote(act, draft, version, &value)?;
     let Draft { tx, out, state } = asked;
     Ok(Plan {
         tx,
         out,
         timers,
-        state: valued(me, state, stage, value, origin),
+        state: valued(act.me, state, stage, value, origin),
         next: Next::Stay,
     })
 }
@@ -214,17 +204,14 @@ pub(crate) fn begin_alone(
 
 /// A value is begun for which nobody waits.
 pub(crate) fn begin_value(
-    alloc: Global,
-    me: &Me,
-    epoch: Epoch,
+    act: &Act<'_>,
     last: Version,
     draft: Draft,
     stage: LeaderStage,
     value: Transaction,
-    now: Moment,
 ) -> Result<Plan<Leader>, RoleStop>
     requires { length (text value) ≤ most }
-    ensures goes { GoesOn me.now now (IsHere epoch last) draft (begun me.now now stage value None) result }
+    ensures goes { ActsOn act.now (IsHere act.now.epoch last) draft (λ me now. begun me now stage value None) result }
     ensures stays { IfOk result (λ p. p.next ≡ Next.Stay) }
 {
     let Some(version) = last.plus_one() else {
@@ -234,8 +221,8 @@ pub(crate) fn begin_value(
             which: Which::Version,
         });
     };
-    if leads_alone(me, &draft.state) {
-        return begin_alone(alloc, draft, version, value);
+    if leads_alone(act.me, &draft.state) {
+        return begin_alone(act.alloc, draft, version, value);
     }
-    begin_with(alloc, me, epoch, draft, stage, version, value, None, now)
+    begin_with(act, draft, stage, version, value, None)
 }

@@ -15,23 +15,20 @@ ghost use Rattle.mon_wire.specs.declared.phase.Phase.TheVariants as phases;
 ghost use Rattle.mon_wire.specs.declared.phase.Phase.{Phase};
 ghost use Rattle.mon_plan.specs.Leaves.{Leaves};
 ghost use Rattle.mon_plan.specs.Learned.{Learns, learned};
-ghost use Rattle.mon_plan.specs.Plans.{PlansRow, leads};
-ghost use Rattle.paxos_leader.specs.Drafts.{GoesOn, IsAsking};
+ghost use Rattle.paxos_leader.specs.Drafts.{ActsOn, GoesOn, IsAsking};
 ghost use Rattle.paxos_leader.specs.Inputs.{may_begin_found};
 ghost use Rattle.paxos_leader.specs.Parts.{with_answer};
-ghost use Rattle.paxos_leader.specs.Rows.{IsHeard, Notes, NotesFound, may_begin_told, goes_on};
+ghost use Rattle.paxos_leader.specs.Rows.{ByRow, IsHeard, Notes, NotesFound, may_begin_told, goes_on};
 
 use crate::collecting::{ask_again, settle, take_found};
 use crate::draft::Draft;
-use crate::seen::own_last;
+use crate::seen::{Act, Here};
 use crate::sets::are_within;
 use mon_bytes::OutOfMemory;
-use mon_kv::Kv;
-use mon_msg::{Found, Leader, Me, Next, Plan, RoleStop, Told};
+use mon_msg::{Found, Leader, Next, Plan, RoleStop, Told};
 use mon_plan::{MOST_VALUE, Stored, learn, planned, stay};
 use mon_tx::Transaction;
-use mon_types::{Moment, Pn, Rank, Version, Which};
-use std::alloc::Global;
+use mon_types::{Pn, Rank, Version, Which};
 
 /// What a member answered to a collect.
 #[derive(Clone, Copy)]
@@ -139,76 +136,71 @@ fn note(state: Leader, answer: &Answer<'_>) -> Result<Leader, RoleStop>
 
 /// A member answered with all that it has.
 fn hear_whole(
-    alloc: Global,
+    act: &Act<'_>,
     stored: &Stored<'_>,
-    me: &Me,
     state: Leader,
     answer: &Answer<'_>,
-    now: Moment,
 ) -> Result<Plan<Leader>, RoleStop>
     requires found { may_begin_found state.found ≡ true }
     requires told { may_begin_told answer.now.pending.now ≡ true }
-    ensures goes { GoesOn me.now now (IsAsking (epoch_of (readings_of stored.now)) (readings_of stored.now))
+    ensures goes { ActsOn act.now (IsAsking act.now.epoch (readings_of stored.now))
         (record { tx = []; out = []; state = state })
-        (whole_row me.now now answer.now.from answer.now.last answer.now.pending.now) result }
+        (λ me now. whole_row me now answer.now.from answer.now.last answer.now.pending.now) result }
     ensures stays { IfOk result (λ p. p.next ≡ Next.Stay) }
 {
     let state = match note(state, answer) {
         Ok(state) => state,
         Err(stop) => return Err(stop),
     };
-    if !are_within(me, state.quorum, state.answered) {
-        return Ok(stay(alloc, state));
+    if !are_within(act.me, state.quorum, state.answered) {
+        return Ok(stay(act.alloc, state));
     }
-    let draft = Draft::new(alloc, state);
-    settle(alloc, stored, me, stored.epoch(), draft, now)
+    let draft = Draft::new(act.alloc, state);
+    settle(act, stored, draft)
 }
 
 /// The values of an answer are learned: what follows.
 fn go_on(
-    alloc: Global,
+    act: &Act<'_>,
     stored: &Stored<'_>,
-    me: &Me,
     state: Leader,
     answer: &Answer<'_>,
-    now: Moment,
 ) -> Result<Plan<Leader>, RoleStop>
     requires found { may_begin_found state.found ≡ true }
     requires told { may_begin_told answer.now.pending.now ≡ true }
-    ensures goes { GoesOn me.now now (IsAsking (epoch_of (readings_of stored.now)) (readings_of stored.now))
+    ensures goes { ActsOn act.now (IsAsking act.now.epoch (readings_of stored.now))
         (record { tx = []; out = []; state = state })
-        (goes_on me.now now answer.now.from answer.now.last answer.now.whole answer.now.pending.now) result }
+        (λ me now. goes_on me now answer.now.from answer.now.last answer.now.whole answer.now.pending.now) result }
     ensures stays { IfOk result (λ p. p.next ≡ Next.Stay) }
 {
     if answer.whole {
-        return hear_whole(alloc, stored, me, state, answer, now);
+        return hear_whole(act, stored, state, answer);
     }
     let quorum = state.quorum;
     drop(state);
     let above = Pn::known(0);
-    ask_again(alloc, stored, me, quorum, above, now)
+    ask_again(act, stored, quorum, above)
 }
 
 /// What follows, by the store after these changes.
 fn go_on_after(
-    alloc: Global,
-    kv: &Kv,
+    here: &Here<'_>,
     tx: &Transaction,
-    me: &Me,
     state: Leader,
     answer: &Answer<'_>,
-    now: Moment,
 ) -> Result<Plan<Leader>, RoleStop>
     requires found { may_begin_found state.found ≡ true }
     requires told { may_begin_told answer.now.pending.now ≡ true }
-    ensures goes { GoesOn me.now now (IsAsking (epoch_of (readings_of (apply tx.now kv.now)))
-        (readings_of (apply tx.now kv.now)))
+    ensures goes { GoesOn here.now.me.now here.now.time
+        (IsAsking (epoch_of (readings_of (apply tx.now here.now.kv.now))) (readings_of (apply tx.now here.now.kv.now)))
         (record { tx = []; out = []; state = state })
-        (goes_on me.now now answer.now.from answer.now.last answer.now.whole answer.now.pending.now) result }
+        (goes_on here.now.me.now here.now.time answer.now.from answer.now.last answer.now.whole answer.now.pending.now)
+        result }
     ensures stays { IfOk result (λ p. p.next ≡ Next.Stay) }
 {
-    let stored = Stored::after(alloc, kv, tx)?;
-    go_on(alloc, &stored, me, state, answer, now)
+    let stored = Stored::after(here.alloc, here.kv, tx)?;
+    let act = here.act(stored.epoch());
+    go_on(&act, &stored, state, answer)
 }
 
 /// A plan after changes that came before it.
@@ -239,25 +231,22 @@ fn learn_news(tx: &mut Transaction, own: Version, answer: &Answer<'_>) -> Result
 
 /// An answer under the leader's own number: its values above the last version are learned first.
 fn hear_answer(
-    alloc: Global,
-    kv: &Kv,
-    me: &Me,
+    here: &Here<'_>,
     state: Leader,
     answer: &Answer<'_>,
-    now: Moment,
 ) -> Result<Plan<Leader>, RoleStop>
     requires short { AllByRecursion (λ ops. length (text ops) ≤ most) answer.now.values.now }
     requires few { length answer.now.values.now ≤ 65535 }
     requires found { may_begin_found state.found ≡ true }
     requires told { may_begin_told answer.now.pending.now ≡ true }
     ensures plans { (e : ℕ) →
-        PlansRow me.now now leads (IsHeard (phases.Collecting ∷ []) answer.now.from e (readings_of kv.now) state)
-        (answer_row me.now now answer.now.from answer.now.last answer.now.whole answer.now.start answer.now.values.now
-        answer.now.pending.now) result }
+        ByRow here.now (IsHeard (phases.Collecting ∷ []) answer.now.from e (readings_of here.now.kv.now) state)
+        (λ me now. answer_row me now answer.now.from answer.now.last answer.now.whole answer.now.start
+        answer.now.values.now answer.now.pending.now) result }
     ensures stays { IfOk result (λ p. p.next ≡ Next.Stay) }
 {
-    let own = own_last(alloc, kv);
-    let mut tx = Transaction::new(alloc);
+    let own = here.own_last();
+    let mut tx = Transaction::new(here.alloc);
     match learn_news(&mut tx, own, answer) {
         Ok(()) => {}
         Err(stop) => {
@@ -265,7 +254,7 @@ fn hear_answer(
             return Err(stop);
         }
     }
-    match go_on_after(alloc, kv, &tx, me, state, answer, now) {
+    match go_on_after(here, &tx, state, answer) {
         Ok(plan) => Ok(behind(tx, plan)?),
         Err(stop) => Err(stop),
     }
@@ -280,34 +269,32 @@ fn is_behind(own: Version, answer: &Answer<'_>) -> bool
 
 /// A member answers the leader's collect.
 pub(crate) fn hear_last(
-    alloc: Global,
-    kv: &Kv,
-    me: &Me,
+    here: &Here<'_>,
     state: Leader,
     answer: &Answer<'_>,
-    now: Moment,
 ) -> Result<Plan<Leader>, RoleStop>
     requires short { AllByRecursion (λ ops. length (text ops) ≤ most) answer.now.values.now }
     requires few { length answer.now.values.now ≤ 65535 }
     requires found { may_begin_found state.found ≡ true }
     requires told { may_begin_told answer.now.pending.now ≡ true }
     ensures plans { (e : ℕ) →
-        PlansRow me.now now leads (IsHeard (phases.Collecting ∷ []) answer.now.from e (readings_of kv.now) state)
-        (last_row me.now now answer.now.from e answer.now.pn answer.now.first answer.now.last answer.now.whole
+        ByRow here.now (IsHeard (phases.Collecting ∷ []) answer.now.from e (readings_of here.now.kv.now) state)
+        (λ me now. last_row me now answer.now.from e answer.now.pn answer.now.first answer.now.last answer.now.whole
         answer.now.start answer.now.values.now answer.now.pending.now) result }
     ensures leaves { (at : Phase) → IfOk result (λ p. Leaves at p.next p.tx) }
 {
     if answer.pn.get() > state.pn.get() {
         let quorum = state.quorum;
         drop(state);
-        let stored = Stored::of(alloc, kv);
-        return ask_again(alloc, &stored, me, quorum, answer.pn, now);
+        let stored = Stored::of(here.alloc, here.kv);
+        let act = here.act(stored.epoch());
+        return ask_again(&act, &stored, quorum, answer.pn);
     }
     if answer.pn.get() < state.pn.get() {
-        return Ok(stay(alloc, state));
+        return Ok(stay(here.alloc, state));
     }
-    if is_behind(own_last(alloc, kv), answer) {
-        return Ok(planned(alloc, state, Next::Bootstrap));
+    if is_behind(here.own_last(), answer) {
+        return Ok(planned(here.alloc, state, Next::Bootstrap));
     }
-    hear_answer(alloc, kv, me, state, answer, now)
+    hear_answer(here, state, answer)
 }

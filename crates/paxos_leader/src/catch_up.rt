@@ -2,87 +2,74 @@
 
 ghost use Rattle.std.specs.Prelude.{◌≡◌, ◌++◌, flat_map, IfOk, OnOk};
 ghost use Rattle.mon_msg.specs.Protocol.Collecting.{commits_to};
-ghost use Rattle.mon_msg.specs.Protocol.Readings.{readings_of, epoch_of};
+ghost use Rattle.mon_msg.specs.Protocol.Readings.{readings_of};
 ghost use Rattle.paxos_leader.specs.Drafts.{at_epoch};
 ghost use Rattle.paxos_leader.specs.Parts.{commits};
 
+use crate::seen::Act;
 use mon_bytes::{Items, OutOfMemory};
 use mon_msg::plan::Sent;
-use mon_msg::{Body, Leader, Me};
+use mon_msg::{Body, Leader};
 use mon_plan::{Run, Stored, members, message};
-use mon_types::{Epoch, Rank, Version};
-use std::alloc::Global;
+use mon_types::{Rank, Version};
 
 /// How many bytes a COMMIT takes besides its values.
 const BESIDES: usize = 22;
 
 /// What follows the version that a member reported, as much as one message takes, if there is anything.
 fn commit_to(
-    alloc: Global,
+    act: &Act<'_>,
     stored: &Stored<'_>,
-    me: &Me,
-    epoch: Epoch,
     lasts: &[Version; 15],
     to: Rank,
     out: &mut Items<Sent>,
 ) -> Result<(), OutOfMemory>
     ensures { OnOk result (out.new ≡ out.old ++
-        commits_to me.now (at_epoch epoch (readings_of stored.now)) lasts.now to) }
+        commits_to act.now.me.now (at_epoch act.now.epoch (readings_of stored.now)) lasts.now to) }
 {
     let told = lasts[usize::from(to.get())];
     if told.get() >= stored.last().get() {
         return Ok(());
     }
     let next = Version::known(told.get() + 1);
-    let Run { values, .. } = stored.run(alloc, next.get(), BESIDES, BESIDES)?;
+    let Run { values, .. } = stored.run(act.alloc, next.get(), BESIDES, BESIDES)?;
     if values.is_empty() {
         return Ok(());
     }
     let commit = Body::Commit { from: next, values };
-    out.push(message(me, epoch, commit, to))?;
+    out.push(message(act.me, act.epoch, commit, to))?;
     Ok(())
 }
 
 /// Appends the commits that each of some members lacks.
 fn catch_up(
-    alloc: Global,
+    act: &Act<'_>,
     stored: &Stored<'_>,
-    me: &Me,
-    epoch: Epoch,
     lasts: &[Version; 15],
     members: &[Rank],
     out: &mut Items<Sent>,
 ) -> Result<(), OutOfMemory>
     ensures { OnOk result (out.new ≡ out.old ++
-        flat_map (commits_to me.now (at_epoch epoch (readings_of stored.now)) lasts.now) members.now) }
+        flat_map (commits_to act.now.me.now (at_epoch act.now.epoch (readings_of stored.now)) lasts.now) members.now) }
 {
     for member in members {
-        commit_to(alloc, stored, me, epoch, lasts, *member, out)?;
+        commit_to(act, stored, lasts, *member, out)?;
     }
     Ok(())
 }
 
 /// Besides what was sent so far, each other member of the quorum is sent what follows the version that it reported.
 pub(crate) fn send_missed(
-    alloc: Global,
+    act: &Act<'_>,
     stored: &Stored<'_>,
-    me: &Me,
-    epoch: Epoch,
     state: &Leader,
     out: Items<Sent>,
 ) -> Result<Items<Sent>, OutOfMemory>
-    ensures { IfOk result (λ sent. sent ≡ out ++ commits me.now epoch (readings_of stored.now) state.now) }
+    ensures { IfOk result (λ sent.
+        sent ≡ out ++ commits act.now.me.now act.now.epoch (readings_of stored.now) state.now) }
 {
-    let peons = members(alloc, me, state.quorum)?;
+    let peons = members(act.alloc, act.me, state.quorum)?;
     let mut out = out;
-    catch_up(
-        alloc,
-        stored,
-        me,
-        epoch,
-        &state.lasts,
-        peons.as_slice(),
-        &mut out,
-    )?;
+    catch_up(act, stored, &state.lasts, peons.as_slice(), &mut out)?;
     Ok(out)
 }

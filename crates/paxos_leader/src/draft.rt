@@ -3,12 +3,13 @@
 ghost use Rattle.std.specs.Prelude.{◌≡◌, ◌++◌, [], map, option_to_list, IfOk};
 ghost use Rattle.mon_msg.specs.Protocol.Sending.{members as members_of, message_to};
 
+use crate::seen::Act;
 use mon_bytes::{Items, OutOfMemory};
 use mon_msg::plan::Sent;
-use mon_msg::{Body, Leader, Me};
+use mon_msg::{Body, Leader};
 use mon_plan::{members, message, send_each};
 use mon_tx::Transaction;
-use mon_types::{Epoch, Rank, RankSet};
+use mon_types::{Rank, RankSet};
 use std::alloc::Global;
 
 /// What an event has written and sent so far, and what the leader remembers then.
@@ -35,36 +36,40 @@ impl Draft {
 /// Besides what was sent so far, a copy of this goes to each of the other members of a quorum but the last, which is
 /// answered, if there is one.
 fn tell_all_but_last(
-    alloc: Global,
+    act: &Act<'_>,
     mut out: Items<Sent>,
-    me: &Me,
-    epoch: Epoch,
     quorum: RankSet,
     body: &Body,
 ) -> Result<(Items<Sent>, Option<Rank>), OutOfMemory>
     ensures { IfOk result (λ told.
-        told.0 ++ map (message_to me.now epoch body.now) (option_to_list told.1) ≡
-        out ++ map (message_to me.now epoch body.now) (members_of me.now quorum)) }
+        told.0 ++ map (message_to act.now.me.now act.now.epoch body.now) (option_to_list told.1) ≡
+        out ++ map (message_to act.now.me.now act.now.epoch body.now) (members_of act.now.me.now quorum)) }
 {
-    let mut peons = members(alloc, me, quorum)?;
+    let mut peons = members(act.alloc, act.me, quorum)?;
     let last = peons.pop();
-    send_each(alloc, &mut out, me, epoch, peons.as_slice(), body)?;
+    send_each(
+        act.alloc,
+        &mut out,
+        act.me,
+        act.epoch,
+        peons.as_slice(),
+        body,
+    )?;
     Ok((out, last))
 }
 
 /// Besides what was sent so far, the same message goes to the other members of a quorum. The last of them takes it
 /// without a copy.
 pub(crate) fn tell(
-    alloc: Global,
+    act: &Act<'_>,
     out: Items<Sent>,
-    me: &Me,
-    epoch: Epoch,
     quorum: RankSet,
     body: Body,
 ) -> Result<Items<Sent>, OutOfMemory>
-    ensures { IfOk result (λ sent. sent ≡ out ++ map (message_to me.now epoch body) (members_of me.now quorum)) }
+    ensures { IfOk result (λ sent.
+        sent ≡ out ++ map (message_to act.now.me.now act.now.epoch body) (members_of act.now.me.now quorum)) }
 {
-    let told = tell_all_but_last(alloc, out, me, epoch, quorum, &body);
+    let told = tell_all_but_last(act, out, quorum, &body);
     let (mut out, last) = match told {
         Ok(told) => told,
         Err(no_memory) => {
@@ -74,7 +79,7 @@ pub(crate) fn tell(
     };
     match last {
         None => drop(body),
-        Some(last) => out.push(message(me, epoch, body, last))?,
+        Some(last) => out.push(message(act.me, act.epoch, body, last))?,
     }
     Ok(out)
 }

@@ -20,12 +20,13 @@ ghost use Rattle.mon_types.specs.Ranks.{has};
 ghost use Rattle.mon_wire.specs.declared.phase.Phase.TheVariants as phases;
 ghost use Rattle.paxos_leader.specs.Drafts.{IsLed, IsWon};
 ghost use Rattle.paxos_leader.specs.Inputs.{is_input, is_own, is_told, may_begin_all, phases_for};
+ghost use Rattle.paxos_leader.specs.Rows.{ByRow, Meets};
 
 use crate::acts::{at_rest, be_active, begin_with};
 use crate::answers::{Answer, hear_last};
 use crate::collecting::collect;
 use crate::draft::{Draft, tell};
-use crate::seen::{own_epoch, own_last};
+use crate::seen::{Act, Here};
 use crate::sets::leads_alone;
 use crate::values::{hear_accept, hear_lease_ack};
 use mon_bytes::{Items, OutOfMemory};
@@ -113,25 +114,21 @@ fn is_ours(epoch: Epoch, view: &View, state: &Leader, message: &Message) -> bool
 
 /// A message, which is dropped if it isn't of a member in this epoch, or the leader isn't in a phase for it.
 fn hear(
-    alloc: Global,
-    kv: &Kv,
-    me: &Me,
+    here: &Here<'_>,
     view: &View,
     state: Leader,
     message: &Message,
-    now: Moment,
 ) -> Result<Plan<Leader>, RoleStop>
     requires input { is_told message.now.body ≡ true }
-    requires fits { fits me.now.member.monitors message.now.body ≡ true }
+    requires fits { fits here.now.me.now.member.monitors message.now.body ≡ true }
     requires held { may_begin_all state ≡ true }
-    ensures plans { (shared : List Entry) → PlansRow me.now now leads (IsMet me.now now (readings_of kv.now) view.now
-        (λ s. s.leader) state)
-        (hears me.now shared now message.now.from message.now.epoch message.now.body) result }
+    ensures plans { (shared : List Entry) → ByRow here.now (Meets here.now view.now state)
+        (λ me now. hears me shared now message.now.from message.now.epoch message.now.body) result }
     ensures leaves { IfOk result (λ p. Leaves view.now.phase p.next p.tx) }
 {
-    let epoch = own_epoch(alloc, kv);
+    let epoch = here.own_epoch();
     if !is_ours(epoch, view, &state, message) {
-        return Ok(stay(alloc, state));
+        return Ok(stay(here.alloc, state));
     }
     let from = message.from;
     match &message.body {
@@ -154,56 +151,38 @@ fn hear(
                 values: values.as_slice(),
                 pending,
             };
-            hear_last(alloc, kv, me, state, &answer, now)
+            hear_last(here, state, &answer)
         }
-        Body::Accept { pn, version } => {
-            hear_accept(alloc, kv, me, state, from, *pn, *version, now)
-        }
-        Body::LeaseAck { last } => hear_lease_ack(alloc, kv, me, state, from, *last),
+        Body::Accept { pn, version } => hear_accept(here, state, from, *pn, *version),
+        Body::LeaseAck { last } => hear_lease_ack(here, state, from, *last),
         _ => unreachable!(),
     }
 }
 
 /// It is time to give leases again.
-fn renew(
-    alloc: Global,
-    kv: &Kv,
-    me: &Me,
-    view: &View,
-    state: Leader,
-    now: Moment,
-) -> Result<Plan<Leader>, RoleStop>
-    ensures plans { PlansRow me.now now leads (IsMet me.now now (readings_of kv.now) view.now (λ s. s.leader) state)
-        (renew_row me.now now) result }
+fn renew(here: &Here<'_>, view: &View, state: Leader) -> Result<Plan<Leader>, RoleStop>
+    ensures plans { ByRow here.now (Meets here.now view.now state) renew_row result }
     ensures stays { IfOk result (λ p. p.next ≡ Next.Stay) }
 {
     if !is_active(view.phase) {
-        return Ok(stay(alloc, state));
+        return Ok(stay(here.alloc, state));
     }
-    let epoch = own_epoch(alloc, kv);
-    let last = own_last(alloc, kv);
-    let draft = Draft::new(alloc, state);
-    Ok(be_active(alloc, me, epoch, last, draft, now)?)
+    let epoch = here.own_epoch();
+    let last = here.own_last();
+    let draft = Draft::new(here.alloc, state);
+    let act = here.act(epoch);
+    Ok(be_active(&act, last, draft)?)
 }
 
 /// A timer of its own comes. But for the one that renews leases it means that its quorum is lost.
-fn ring(
-    alloc: Global,
-    kv: &Kv,
-    me: &Me,
-    view: &View,
-    state: Leader,
-    kind: Timer,
-    now: Moment,
-) -> Result<Plan<Leader>, RoleStop>
+fn ring(here: &Here<'_>, view: &View, state: Leader, kind: Timer) -> Result<Plan<Leader>, RoleStop>
     requires { is_own kind ≡ true }
-    ensures plans { PlansRow me.now now leads (IsMet me.now now (readings_of kv.now) view.now (λ s. s.leader) state)
-        (timer_comes me.now now kind) result }
+    ensures plans { ByRow here.now (Meets here.now view.now state) (λ me now. timer_comes me now kind) result }
     ensures leaves { IfOk result (λ p. Leaves view.now.phase p.next p.tx) }
 {
     match kind {
-        Timer::Renew => renew(alloc, kv, me, view, state, now),
-        _ => Ok(planned(alloc, state, Next::Bootstrap)),
+        Timer::Renew => renew(here, view, state),
+        _ => Ok(planned(here.alloc, state, Next::Bootstrap)),
     }
 }
 
@@ -249,25 +228,26 @@ pub fn step_owned(
         (row me.now shared now input.now) result }
     ensures leaves { IfOk result (λ p. Leaves view.now.phase p.next p.tx) }
 {
+    let here = Here {
+        alloc,
+        kv,
+        me,
+        time: now,
+    };
     match input {
-        Input::Deliver(message) => hear(alloc, kv, me, view, state, message, now),
-        Input::Timer(kind) => ring(alloc, kv, me, view, state, *kind, now),
+        Input::Deliver(message) => hear(&here, view, state, message),
+        Input::Timer(kind) => ring(&here, view, state, *kind),
         Input::Start | Input::Client(..) => unreachable!(),
     }
 }
 
 /// The message to the quorum that this monitor has won.
-fn tell_victory(
-    alloc: Global,
-    me: &Me,
-    epoch: Epoch,
-    quorum: RankSet,
-) -> Result<Items<Sent>, OutOfMemory>
-    ensures { IfOk result (λ sent. sent ≡ map (message_to me.now epoch (Body.Victory quorum))
-        (members_of me.now quorum)) }
+fn tell_victory(act: &Act<'_>, quorum: RankSet) -> Result<Items<Sent>, OutOfMemory>
+    ensures { IfOk result (λ sent. sent ≡ map (message_to act.now.me.now act.now.epoch (Body.Victory quorum))
+        (members_of act.now.me.now quorum)) }
 {
     let victory = Body::Victory { quorum };
-    tell(alloc, Items::new(alloc), me, epoch, quorum, victory)
+    tell(act, Items::new(act.alloc), quorum, victory)
 }
 
 /// It has won, and begins to lead this quorum: it asks that quorum, under a new number, what was accepted. `epoch` is
@@ -283,35 +263,38 @@ pub fn enter(
     ensures plans { PlansAct me.now now leads (IsWon epoch (readings_of kv.now)) (Next.Win quorum) result }
     ensures stays { IfOk result (λ p. p.next ≡ Next.Stay) }
 {
-    let out = tell_victory(alloc, me, epoch, quorum)?;
+    let act = Act {
+        alloc,
+        me,
+        epoch,
+        time: now,
+    };
+    let out = tell_victory(&act, quorum)?;
     let stored = Stored::of(alloc, kv);
     let above = Pn::known(0);
-    collect(alloc, &stored, me, epoch, out, quorum, above, now)
+    collect(&act, &stored, out, quorum, above)
 }
 
 /// The answer to whoever waits for a version that these changes commit.
 fn answers(
-    alloc: Global,
-    kv: &Kv,
-    me: &Me,
+    here: &Here<'_>,
     tx: &Transaction,
     version: Version,
     origin: Origin,
 ) -> Result<Items<Sent>, OutOfMemory>
-    ensures { IfOk result (λ sent. sent ≡ answers_to me.now (epoch_of (readings_of (apply tx.now kv.now))) (Some origin)
+    ensures { IfOk result (λ sent.
+        sent ≡ answers_to here.now.me.now (epoch_of (readings_of (apply tx.now here.now.kv.now))) (Some origin)
         (Reply.Done version)) }
 {
-    let epoch = Stored::after(alloc, kv, tx)?.epoch();
-    let mut out = Items::new(alloc);
-    out.push(answer(me, epoch, origin, Reply::Done { version }))?;
+    let epoch = Stored::after(here.alloc, here.kv, tx)?.epoch();
+    let mut out = Items::new(here.alloc);
+    out.push(answer(here.me, epoch, origin, Reply::Done { version }))?;
     Ok(out)
 }
 
 /// A leader alone commits a value at once, and answers whoever waits for it.
 fn begin_answered(
-    alloc: Global,
-    kv: &Kv,
-    me: &Me,
+    here: &Here<'_>,
     state: Leader,
     version: Version,
     value: Transaction,
@@ -319,11 +302,12 @@ fn begin_answered(
 ) -> Result<Plan<Leader>, RoleStop>
     requires short { length (text value) ≤ most }
     requires above { 1 ≤ version }
-    ensures plans { (now : ℕ) → Plans me.now now leads (IsLed (readings_of kv.now) state) (λ x. x)
-        (begun_alone me.now version value (Some origin)) result }
+    ensures plans { (now : ℕ) →
+        Plans here.now.me.now now leads (IsLed (readings_of here.now.kv.now) state) (λ x. x)
+        (begun_alone here.now.me.now version value (Some origin)) result }
     ensures stays { IfOk result (λ p. p.next ≡ Next.Stay) }
 {
-    let mut tx = Transaction::new(alloc);
+    let mut tx = Transaction::new(here.alloc);
     match learn(&mut tx, version.get(), &[value]) {
         Ok(()) => {}
         Err(stop) => {
@@ -331,11 +315,11 @@ fn begin_answered(
             return Err(stop);
         }
     }
-    let out = answers(alloc, kv, me, &tx, version, origin)?;
+    let out = answers(here, &tx, version, origin)?;
     Ok(Plan {
         tx,
         out,
-        timers: Items::new(alloc),
+        timers: Items::new(here.alloc),
         state: at_rest(state),
         next: Next::Stay,
     })
@@ -376,7 +360,13 @@ pub fn begin_owned(
         (Next.Begin value origin) result }
     ensures stays { IfOk result (λ p. p.next ≡ Next.Stay) }
 {
-    let Some(version) = own_last(alloc, kv).plus_one() else {
+    let here = Here {
+        alloc,
+        kv,
+        me,
+        time: now,
+    };
+    let Some(version) = here.own_last().plus_one() else {
         drop(state);
         drop(value);
         return Err(RoleStop::Spent {
@@ -384,20 +374,11 @@ pub fn begin_owned(
         });
     };
     if leads_alone(me, &state) {
-        return begin_answered(alloc, kv, me, state, version, value, origin);
+        return begin_answered(&here, state, version, value, origin);
     }
-    let epoch = own_epoch(alloc, kv);
+    let epoch = here.own_epoch();
     let draft = Draft::new(alloc, state);
+    let act = here.act(epoch);
     let stage = LeaderStage::Updating;
-    begin_with(
-        alloc,
-        me,
-        epoch,
-        draft,
-        stage,
-        version,
-        value,
-        Some(origin),
-        now,
-    )
+    begin_with(&act, draft, stage, version, value, Some(origin))
 }

@@ -12,42 +12,40 @@ ghost use Rattle.mon_tx.specs.Text.{text, most};
 ghost use Rattle.mon_types.specs.Ranks.{with_rank};
 ghost use Rattle.mon_wire.specs.declared.phase.Phase.TheVariants as phase;
 ghost use Rattle.mon_plan.specs.Plans.{PlansRow, leads};
-ghost use Rattle.paxos_leader.specs.Drafts.{GoesOn, IsHere, IsVoted};
+ghost use Rattle.paxos_leader.specs.Drafts.{ActsOn, GoesOn, IsHere, IsVoted};
 ghost use Rattle.paxos_leader.specs.Inputs.{may_begin_any};
 ghost use Rattle.paxos_leader.specs.Parts.{announced, without_value};
-ghost use Rattle.paxos_leader.specs.Rows.{IsHeard};
+ghost use Rattle.paxos_leader.specs.Rows.{ByRow, IsHeard};
 
 use crate::acts::be_active;
 use crate::draft::{Draft, tell};
-use crate::seen::own_last;
+use crate::seen::{Act, Here};
 use crate::sets::are_within;
 use crate::timers::one_timer;
 use mon_bytes::{Items, OutOfMemory};
-use mon_kv::Kv;
 use mon_msg::plan::Sent;
 use mon_msg::{Body, Leader, Me, Next, Origin, Plan, Reply, RoleStop, Timer};
 use mon_plan::{Stored, answer, disarmed, learn, stay};
 use mon_tx::Transaction;
-use mon_types::{Epoch, Moment, Pn, Rank, RankSet, Version, Which};
+use mon_types::{Epoch, Pn, Rank, RankSet, Version, Which};
 use std::alloc::Global;
 
 /// Whoever waits for a version hears that it is committed.
 fn answered(
-    me: &Me,
-    epoch: Epoch,
+    act: &Act<'_>,
     origin: Option<Origin>,
     version: Version,
     plan: Plan<Leader>,
 ) -> Result<Plan<Leader>, OutOfMemory>
     ensures { IfOk result (λ p.
-        p ≡ record plan { out = plan.out ++ answers_to me.now epoch origin (Reply.Done version) }) }
+        p ≡ record plan { out = plan.out ++ answers_to act.now.me.now act.now.epoch origin (Reply.Done version) }) }
 {
     match origin {
         None => Ok(plan),
         Some(origin) => {
             let mut plan = plan;
             plan.out
-                .push(answer(me, epoch, origin, Reply::Done { version }))?;
+                .push(answer(act.me, act.epoch, origin, Reply::Done { version }))?;
             Ok(plan)
         }
     }
@@ -64,70 +62,68 @@ fn without_value(mut state: Leader) -> Leader
 
 /// The message to the members that these values are committed.
 fn tell_commit(
-    alloc: Global,
-    me: &Me,
-    epoch: Epoch,
+    act: &Act<'_>,
     quorum: RankSet,
     from: Version,
     values: Items<Transaction>,
 ) -> Result<Items<Sent>, OutOfMemory>
-    ensures { IfOk result (λ sent. sent ≡ map (message_to me.now epoch (Body.Commit from values))
-        (members_of me.now quorum)) }
+    ensures { IfOk result (λ sent. sent ≡ map (message_to act.now.me.now act.now.epoch (Body.Commit from values))
+        (members_of act.now.me.now quorum)) }
 {
     let commit = Body::Commit { from, values };
-    tell(alloc, Items::new(alloc), me, epoch, quorum, commit)
+    tell(act, Items::new(act.alloc), quorum, commit)
 }
 
 /// The members hear of values that are committed, and whoever waits for the first of them is answered.
 fn announce(
-    alloc: Global,
-    me: &Me,
-    epoch: Epoch,
+    act: &Act<'_>,
     last: Version,
     tx: Transaction,
     state: Leader,
     version: Version,
     values: Items<Transaction>,
-    now: Moment,
 ) -> Result<Plan<Leader>, OutOfMemory>
-    ensures goes { IfOk result (λ p. GoesOn me.now now (IsHere epoch last) (record { tx = tx; out = []; state = state })
-        (announced me.now now version values) (Ok p)) }
+    ensures goes { IfOk result (λ p.
+        ActsOn act.now (IsHere act.now.epoch last) (record { tx = tx; out = []; state = state })
+        (λ me now. announced me now version values) (Ok p)) }
     ensures stays { IfOk result (λ p. p.next ≡ Next.Stay) }
 {
     let origin = state.origin;
-    let out = tell_commit(alloc, me, epoch, state.quorum, version, values)?;
+    let out = tell_commit(act, state.quorum, version, values)?;
     let state = without_value(state);
     let draft = Draft { tx, out, state };
-    let plan = be_active(alloc, me, epoch, last, draft, now)?;
-    Ok(answered(me, epoch, origin, version, plan)?)
+    let plan = be_active(act, last, draft)?;
+    Ok(answered(act, origin, version, plan)?)
 }
 
 /// The members get committed values, as the store has them after the changes so far.
 fn announce_after(
-    alloc: Global,
-    kv: &Kv,
-    me: &Me,
+    here: &Here<'_>,
     tx: Transaction,
     state: Leader,
     version: Version,
     values: Items<Transaction>,
-    now: Moment,
 ) -> Result<Plan<Leader>, OutOfMemory>
     ensures goes { IfOk result
-        (λ p. GoesOn me.now now (IsHere (epoch_of (readings_of (apply tx kv.now))) (readings_of (apply tx kv.now)).last)
-        (record { tx = tx; out = []; state = state }) (announced me.now now version values) (Ok p)) }
+        (λ p. GoesOn here.now.me.now here.now.time
+        (IsHere (epoch_of (readings_of (apply tx here.now.kv.now))) (readings_of (apply tx here.now.kv.now)).last)
+        (record { tx = tx; out = []; state = state }) (announced here.now.me.now here.now.time version values) (Ok p)) }
     ensures stays { IfOk result (λ p. p.next ≡ Next.Stay) }
 {
-    let (epoch, last) = standing(alloc, kv, &tx)?;
-    announce(alloc, me, epoch, last, tx, state, version, values, now)
+    let (epoch, last) = standing(here, &tx)?;
+    let act = here.act(epoch);
+    announce(&act, last, tx, state, version, values)
 }
 
 /// The epoch and the last version after changes.
-fn standing(alloc: Global, kv: &Kv, tx: &Transaction) -> Result<(Epoch, Version), OutOfMemory>
-    ensures { IfOk result (λ here.
-        here ≡ (epoch_of (readings_of (apply tx.now kv.now)), (readings_of (apply tx.now kv.now)).last)) }
+fn standing(here: &Here<'_>, tx: &Transaction) -> Result<(Epoch, Version), OutOfMemory>
+    ensures { IfOk result (λ standing.
+        standing ≡ (
+          epoch_of (readings_of (apply tx.now here.now.kv.now)),
+          (readings_of (apply tx.now here.now.kv.now)).last,
+        )) }
 {
-    let stored = Stored::after(alloc, kv, tx)?;
+    let stored = Stored::after(here.alloc, here.kv, tx)?;
     Ok((stored.epoch(), stored.last()))
 }
 
@@ -142,29 +138,22 @@ fn one_value(alloc: Global, value: Transaction) -> Result<Items<Transaction>, Ou
 
 /// All of the quorum accepted the value, which is committed. The leader then has no value; who accepted it stays
 /// noted until the next one.
-fn commit(
-    alloc: Global,
-    kv: &Kv,
-    me: &Me,
-    state: Leader,
-    value: Transaction,
-    now: Moment,
-) -> Result<Plan<Leader>, RoleStop>
+fn commit(here: &Here<'_>, state: Leader, value: Transaction) -> Result<Plan<Leader>, RoleStop>
     requires { length (text value) ≤ most }
-    ensures goes { GoesOn me.now now (IsVoted (readings_of kv.now))
+    ensures goes { GoesOn here.now.me.now here.now.time (IsVoted (readings_of here.now.kv.now))
         (record { tx = []; out = []; state = record state { value = Some value } })
-        (commits me.now now value) result }
+        (commits here.now.me.now here.now.time value) result }
     ensures stays { IfOk result (λ p. p.next ≡ Next.Stay) }
 {
-    let Some(version) = own_last(alloc, kv).plus_one() else {
+    let Some(version) = here.own_last().plus_one() else {
         drop(state);
         drop(value);
         return Err(RoleStop::Spent {
             which: Which::Version,
         });
     };
-    let values = one_value(alloc, value)?;
-    let mut tx = Transaction::new(alloc);
+    let values = one_value(here.alloc, value)?;
+    let mut tx = Transaction::new(here.alloc);
     match learn(&mut tx, version.get(), values.as_slice()) {
         Ok(()) => {}
         Err(stop) => {
@@ -172,7 +161,7 @@ fn commit(
             return Err(stop);
         }
     }
-    Ok(announce_after(alloc, kv, me, tx, state, version, values, now)?)
+    Ok(announce_after(here, tx, state, version, values)?)
 }
 
 /// The value is taken out of what a leader remembers.
@@ -184,22 +173,17 @@ fn take_value(mut state: Leader) -> (Leader, Option<Transaction>)
 }
 
 /// All of the quorum accepted the leader's value, which is committed.
-fn commit_any(
-    alloc: Global,
-    kv: &Kv,
-    me: &Me,
-    state: Leader,
-    now: Moment,
-) -> Result<Plan<Leader>, RoleStop>
+fn commit_any(here: &Here<'_>, state: Leader) -> Result<Plan<Leader>, RoleStop>
     requires { may_begin_any state.value ≡ true }
-    ensures goes { GoesOn me.now now (IsVoted (readings_of kv.now)) (record { tx = []; out = []; state = state })
-        (commits_any me.now now state.value) result }
+    ensures goes { GoesOn here.now.me.now here.now.time (IsVoted (readings_of here.now.kv.now))
+        (record { tx = []; out = []; state = state })
+        (commits_any here.now.me.now here.now.time state.value) result }
     ensures stays { IfOk result (λ p. p.next ≡ Next.Stay) }
 {
     let (state, value) = take_value(state);
     match value {
-        None => Ok(stay(alloc, state)),
-        Some(value) => commit(alloc, kv, me, state, value, now),
+        None => Ok(stay(here.alloc, state)),
+        Some(value) => commit(here, state, value),
     }
 }
 
@@ -219,37 +203,34 @@ fn all_accepted(me: &Me, state: &Leader) -> bool
 }
 
 /// Whether a member accepted what it is asked to: under the leader's number, for the version after the last one.
-fn is_asked(alloc: Global, kv: &Kv, state: &Leader, pn: Pn, version: Version) -> bool
-    ensures { result ≡ (pn == state.now.pn && version == suc (readings_of kv.now).last) }
+fn is_asked(here: &Here<'_>, state: &Leader, pn: Pn, version: Version) -> bool
+    ensures { result ≡ (pn == state.now.pn && version == suc (readings_of here.now.kv.now).last) }
 {
-    pn.get() == state.pn.get() && version.get() == own_last(alloc, kv).get() + 1
+    pn.get() == state.pn.get() && version.get() == here.own_last().get() + 1
 }
 
 /// A member accepted a value.
 pub(crate) fn hear_accept(
-    alloc: Global,
-    kv: &Kv,
-    me: &Me,
+    here: &Here<'_>,
     state: Leader,
     from: Rank,
     pn: Pn,
     version: Version,
-    now: Moment,
 ) -> Result<Plan<Leader>, RoleStop>
     requires { may_begin_any state.value ≡ true }
     ensures plans { (e : ℕ) →
-        PlansRow me.now now leads (IsHeard (phase.Previous ∷ phase.Updating ∷ []) from e (readings_of kv.now) state)
-        (accept_row me.now now from e pn version) result }
+        ByRow here.now (IsHeard (phase.Previous ∷ phase.Updating ∷ []) from e (readings_of here.now.kv.now) state)
+        (λ me now. accept_row me now from e pn version) result }
     ensures stays { IfOk result (λ p. p.next ≡ Next.Stay) }
 {
-    if !is_asked(alloc, kv, &state, pn, version) {
-        return Ok(stay(alloc, state));
+    if !is_asked(here, &state, pn, version) {
+        return Ok(stay(here.alloc, state));
     }
     let state = with_vote(state, from);
-    if !all_accepted(me, &state) {
-        return Ok(stay(alloc, state));
+    if !all_accepted(here.me, &state) {
+        return Ok(stay(here.alloc, state));
     }
-    commit_any(alloc, kv, me, state, now)
+    commit_any(here, state)
 }
 
 /// What a leader remembers once a member took its lease.
@@ -282,25 +263,23 @@ fn all_acked(alloc: Global, state: Leader) -> Result<Plan<Leader>, OutOfMemory>
 
 /// A member took the lease.
 pub(crate) fn hear_lease_ack(
-    alloc: Global,
-    kv: &Kv,
-    me: &Me,
+    here: &Here<'_>,
     state: Leader,
     from: Rank,
     last: Version,
 ) -> Result<Plan<Leader>, RoleStop>
     ensures plans { (now e : ℕ) →
-        PlansRow me.now now leads (IsHeard (phase.Active ∷ []) from e (readings_of kv.now) state)
-        (ack_row me.now from e last) result }
+        PlansRow here.now.me.now now leads (IsHeard (phase.Active ∷ []) from e (readings_of here.now.kv.now) state)
+        (ack_row here.now.me.now from e last) result }
     ensures stays { IfOk result (λ p. p.next ≡ Next.Stay) }
 {
-    let own = own_last(alloc, kv);
+    let own = here.own_last();
     if last.get() != own.get() {
-        return Ok(stay(alloc, state));
+        return Ok(stay(here.alloc, state));
     }
     let state = with_ack(state, from);
-    if !are_within(me, state.quorum, state.acks) {
-        return Ok(stay(alloc, state));
+    if !are_within(here.me, state.quorum, state.acks) {
+        return Ok(stay(here.alloc, state));
     }
-    Ok(all_acked(alloc, state)?)
+    Ok(all_acked(here.alloc, state)?)
 }

@@ -3,23 +3,20 @@
 ghost use Rattle.std.specs.Prelude.{◌≡◌, ℕ, ◌++◌, nat_lt, None, IfOk, OnOk, if◌then◌else◌};
 ghost use Rattle.std.specs.List.{AllByRecursion};
 ghost use Rattle.mon_msg.specs.Protocol.Changes.{spelled};
-ghost use Rattle.mon_msg.specs.Protocol.Course.{peon_is};
 ghost use Rattle.mon_msg.specs.Protocol.Peon.{hear_collect};
 ghost use Rattle.mon_msg.specs.Protocol.Played.{Fits};
-ghost use Rattle.mon_msg.specs.Protocol.Readings.{readings_of};
 ghost use Rattle.mon_plan.specs.Leaves.{Leaves};
-ghost use Rattle.mon_plan.specs.Plans.{PlansRow};
 ghost use Rattle.mon_wire.specs.declared.phase.Phase.{Phase};
-ghost use Rattle.paxos_peon.specs.Rows.{IsOurs, promised};
+ghost use Rattle.paxos_peon.specs.Rows.{ByRow, promised};
 
 use crate::answer::answer;
+use crate::here::Here;
 use mon_bytes::{Items, OutOfMemory};
 use mon_lease::Lease;
-use mon_msg::{Me, Next, Peon, Plan, RoleStop};
-use mon_plan::{Stored, message, planned, put_promise};
+use mon_msg::{Next, Peon, Plan, RoleStop};
+use mon_plan::{message, planned, put_promise};
 use mon_tx::Transaction;
 use mon_types::{Pn, Version, Which};
-use std::alloc::Global;
 
 /// What a peon remembers, without a lease.
 pub(crate) fn without_lease(state: &Peon) -> Peon
@@ -46,37 +43,33 @@ fn promised(tx: &mut Transaction, old: Pn, pn: Pn) -> Result<Pn, OutOfMemory>
 
 /// The leader collects under a number, and keeps these versions itself.
 pub(crate) fn collect(
-    alloc: Global,
-    stored: &Stored<'_>,
-    me: &Me,
-    state: &Peon,
+    here: &Here<'_>,
     pn: Pn,
     leader_first: Version,
     leader_last: Version,
 ) -> Result<Plan<Peon>, RoleStop>
-    ensures plans { (now e : ℕ) → let f = state.now.leader in
-        PlansRow me.now now peon_is (IsOurs (readings_of stored.now) state.now f e)
-        (hear_collect me.now now f e pn leader_first leader_last) result }
+    ensures plans { (e : ℕ) → ByRow here.now e
+        (hear_collect here.now.me.now here.now.time here.now.state.now.leader e pn leader_first leader_last) result }
     ensures leaves { (at : Phase) → IfOk result (λ p. Leaves at p.next p.tx) }
 {
-    if leader_first.get() > stored.last().get() + 1 {
-        return Ok(planned(alloc, *state, Next::Bootstrap));
+    if leader_first.get() > here.stored.last().get() + 1 {
+        return Ok(planned(here.alloc, *here.state, Next::Bootstrap));
     }
     let Some(next) = leader_last.plus_one() else {
         return Err(RoleStop::Spent {
             which: Which::Version,
         });
     };
-    let mut tx = Transaction::new(alloc);
-    let promise = promised(&mut tx, stored.promise(), pn)?;
-    let answer = answer(alloc, stored, promise, next)?;
-    let mut out = Items::new(alloc);
-    out.push(message(me, stored.epoch(), answer, state.leader))?;
+    let mut tx = Transaction::new(here.alloc);
+    let promise = promised(&mut tx, here.stored.promise(), pn)?;
+    let answer = answer(here.alloc, here.stored, promise, next)?;
+    let mut out = Items::new(here.alloc);
+    out.push(message(here.me, here.stored.epoch(), answer, here.state.leader))?;
     Ok(Plan {
         tx,
         out,
-        timers: Items::new(alloc),
-        state: without_lease(state),
+        timers: Items::new(here.alloc),
+        state: without_lease(here.state),
         next: Next::Stay,
     })
 }

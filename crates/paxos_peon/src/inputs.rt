@@ -14,6 +14,7 @@ ghost use Rattle.mon_plan.specs.Seen.{IsMet};
 ghost use Rattle.paxos_peon.specs.Rows.{is_told, is_input};
 
 use crate::collecting::collect;
+use crate::here::Here;
 use crate::leasing::lease;
 use crate::values::{begin, commit};
 use mon_kv::Kv;
@@ -24,44 +25,33 @@ use mon_types::Moment;
 use std::alloc::Global;
 
 /// Whether a message is of the leader that the monitor follows, and of its epoch.
-fn is_ours(stored: &Stored<'_>, view: &View, state: &Peon, message: &Message) -> bool
-    ensures { result ≡ (is_peon view.now.phase && message.now.epoch == epoch_of (readings_of stored.now)
-        && message.now.from == state.now.leader) }
+fn is_ours(here: &Here<'_>, view: &View, message: &Message) -> bool
+    ensures { result ≡ (is_peon view.now.phase && message.now.epoch == epoch_of (readings_of here.now.stored.now)
+        && message.now.from == here.now.state.now.leader) }
 {
     matches!(view.phase, Phase::Peon)
-        && message.epoch.get() == stored.epoch().get()
-        && message.from == state.leader
+        && message.epoch.get() == here.stored.epoch().get()
+        && message.from == here.state.leader
 }
 
 /// A message, which is dropped if it isn't of the leader in this epoch.
-fn hear(
-    alloc: Global,
-    stored: &Stored<'_>,
-    me: &Me,
-    view: &View,
-    state: &Peon,
-    message: &Message,
-    now: Moment,
-) -> Result<Plan<Peon>, RoleStop>
+fn hear(here: &Here<'_>, view: &View, message: &Message) -> Result<Plan<Peon>, RoleStop>
     requires input { IsTrue (is_told message.now.body) }
-    requires fits { IsTrue (fits me.now.member.monitors message.now.body) }
-    ensures plans { (shared : List Entry) → PlansRow me.now now peon_is
-        (IsMet me.now now (readings_of stored.now) view.now (λ s. s.peon) state.now)
-        (hear me.now shared now message.now.from message.now.epoch message.now.body) result }
+    requires fits { IsTrue (fits here.now.me.now.member.monitors message.now.body) }
+    ensures plans { (shared : List Entry) → let me = here.now.me.now in let now = here.now.time in
+        PlansRow me now peon_is
+        (IsMet me now (readings_of here.now.stored.now) view.now (λ s. s.peon) here.now.state.now)
+        (hear me shared now message.now.from message.now.epoch message.now.body) result }
     ensures leaves { IfOk result (λ p. Leaves view.now.phase p.next p.tx) }
 {
-    if !is_ours(stored, view, state, message) {
-        return Ok(stay(alloc, *state));
+    if !is_ours(here, view, message) {
+        return Ok(stay(here.alloc, *here.state));
     }
     match &message.body {
-        Body::Collect { pn, first, last } => {
-            collect(alloc, stored, me, state, *pn, *first, *last)
-        }
-        Body::Begin { pn, version, value } => {
-            begin(alloc, stored, me, state, *pn, *version, value)
-        }
-        Body::Commit { from, values } => commit(alloc, stored, state, *from, values.as_slice()),
-        Body::Lease { last } => lease(alloc, stored, me, state, *last, now),
+        Body::Collect { pn, first, last } => collect(here, *pn, *first, *last),
+        Body::Begin { pn, version, value } => begin(here, *pn, *version, value),
+        Body::Commit { from, values } => commit(here, *from, values.as_slice()),
+        Body::Lease { last } => lease(here, *last),
         _ => unreachable!(),
     }
 }
@@ -89,7 +79,14 @@ pub fn step(
     match input {
         Input::Deliver(message) => {
             let stored = Stored::of(alloc, kv);
-            hear(alloc, &stored, me, view, state, message, now)
+            let here = Here {
+                alloc,
+                stored: &stored,
+                me,
+                state,
+                time: now,
+            };
+            hear(&here, view, message)
         }
         Input::Timer(_) => Ok(planned(alloc, *state, Next::Bootstrap)),
         Input::Start | Input::Client(..) => unreachable!(),

@@ -1,23 +1,21 @@
 //! The leader gives a lease.
 
 ghost use Rattle.std.specs.Prelude.{◌≡◌, ℕ, ◌==◌, ◌||◌, not, is_some, IfOk};
-ghost use Rattle.mon_msg.specs.Protocol.Course.{peon_is};
 ghost use Rattle.mon_msg.specs.Protocol.Peon.{hear_lease};
 ghost use Rattle.mon_msg.specs.Protocol.Readings.{readings_of};
 ghost use Rattle.mon_msg.specs.Protocol.Records.{pending};
 ghost use Rattle.mon_lease.specs.Lease.{extended};
 ghost use Rattle.mon_plan.specs.Leaves.{Leaves};
-ghost use Rattle.mon_plan.specs.Plans.{PlansRow};
 ghost use Rattle.mon_wire.specs.declared.phase.Phase.{Phase};
-ghost use Rattle.paxos_peon.specs.Rows.{IsOurs};
+ghost use Rattle.paxos_peon.specs.Rows.{ByRow};
 
+use crate::here::Here;
 use mon_bytes::Items;
 use mon_lease::Lease;
-use mon_msg::{Body, Me, Next, Peon, Plan, RoleStop, Timer};
+use mon_msg::{Body, Next, Peon, Plan, RoleStop, Timer};
 use mon_plan::{Stored, armed, message, stay};
 use mon_tx::Transaction;
 use mon_types::{Moment, Version};
-use std::alloc::Global;
 
 /// What a peon remembers, with a lease that is given now.
 fn with_lease(state: &Peon, now: Moment) -> Peon
@@ -36,34 +34,26 @@ fn is_refused(stored: &Stored<'_>, version: Version) -> bool
 }
 
 /// The leader gives a lease for a version.
-pub(crate) fn lease(
-    alloc: Global,
-    stored: &Stored<'_>,
-    me: &Me,
-    state: &Peon,
-    version: Version,
-    now: Moment,
-) -> Result<Plan<Peon>, RoleStop>
-    ensures plans { (e : ℕ) → let f = state.now.leader in
-        PlansRow me.now now peon_is (IsOurs (readings_of stored.now) state.now f e)
-        (hear_lease me.now now f e version) result }
+pub(crate) fn lease(here: &Here<'_>, version: Version) -> Result<Plan<Peon>, RoleStop>
+    ensures plans { (e : ℕ) → ByRow here.now e
+        (hear_lease here.now.me.now here.now.time here.now.state.now.leader e version) result }
     ensures leaves { (at : Phase) → IfOk result (λ p. Leaves at p.next p.tx) }
 {
-    if is_refused(stored, version) {
-        return Ok(stay(alloc, *state));
+    if is_refused(here.stored, version) {
+        return Ok(stay(here.alloc, *here.state));
     }
-    let mut timers = Items::new(alloc);
-    timers.push(armed(now, Timer::Lease))?;
-    let mut out = Items::new(alloc);
+    let mut timers = Items::new(here.alloc);
+    timers.push(armed(here.time, Timer::Lease))?;
+    let mut out = Items::new(here.alloc);
     let taken = Body::LeaseAck {
-        last: stored.last(),
+        last: here.stored.last(),
     };
-    out.push(message(me, stored.epoch(), taken, state.leader))?;
+    out.push(message(here.me, here.stored.epoch(), taken, here.state.leader))?;
     Ok(Plan {
-        tx: Transaction::new(alloc),
+        tx: Transaction::new(here.alloc),
         out,
         timers,
-        state: with_lease(state, now),
+        state: with_lease(here.state, here.time),
         next: Next::Stay,
     })
 }

@@ -4,6 +4,7 @@
 
 mod answer;
 mod collecting;
+mod here;
 mod inputs;
 mod leasing;
 mod values;

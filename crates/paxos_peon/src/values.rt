@@ -3,23 +3,20 @@
 ghost use Rattle.std.specs.Prelude.{◌≡◌, ℕ, suc, ◌≤◌, ◌==◌, ◌&&◌, nat_lt, length, IfOk};
 ghost use Rattle.std.specs.List.{AllByRecursion};
 ghost use Rattle.mon_tx.specs.Text.{text, most};
-ghost use Rattle.mon_msg.specs.Protocol.Course.{peon_is};
 ghost use Rattle.mon_msg.specs.Protocol.Peon.{hear_begin, hear_commit};
 ghost use Rattle.mon_msg.specs.Protocol.Readings.{readings_of, promise_of};
-ghost use Rattle.mon_msg.specs.declared.view.Me.{Me};
 ghost use Rattle.mon_plan.specs.Leaves.{Leaves};
-ghost use Rattle.mon_plan.specs.Plans.{PlansRow};
 ghost use Rattle.mon_wire.specs.declared.phase.Phase.{Phase};
 ghost use Rattle.mon_wire.specs.declared.write_lists.TheConstants.{MOST_ITEMS};
-ghost use Rattle.paxos_peon.specs.Rows.{IsOurs};
+ghost use Rattle.paxos_peon.specs.Rows.{ByRow};
 
 use crate::collecting::without_lease;
+use crate::here::Here;
 use mon_bytes::Items;
-use mon_msg::{Body, Me, Next, Peon, Plan, RoleStop};
+use mon_msg::{Body, Next, Peon, Plan, RoleStop};
 use mon_plan::{Stored, learn, message, put_vote, stay};
 use mon_tx::Transaction;
 use mon_types::{Pn, Version};
-use std::alloc::Global;
 
 /// Whether a value is accepted: it comes under the number that is promised, for the version after the last one.
 fn is_accepted(stored: &Stored<'_>, pn: Pn, version: Version) -> bool
@@ -30,33 +27,29 @@ fn is_accepted(stored: &Stored<'_>, pn: Pn, version: Version) -> bool
 
 /// The leader asks to accept a value for a version.
 pub(crate) fn begin(
-    alloc: Global,
-    stored: &Stored<'_>,
-    me: &Me,
-    state: &Peon,
+    here: &Here<'_>,
     pn: Pn,
     version: Version,
     value: &Transaction,
 ) -> Result<Plan<Peon>, RoleStop>
     requires { length (text value.now) ≤ most }
-    ensures plans { (now e : ℕ) → let f = state.now.leader in
-        PlansRow me.now now peon_is (IsOurs (readings_of stored.now) state.now f e)
-        (hear_begin me.now f e pn version value.now) result }
+    ensures plans { (e : ℕ) → ByRow here.now e
+        (hear_begin here.now.me.now here.now.state.now.leader e pn version value.now) result }
     ensures leaves { (at : Phase) → IfOk result (λ p. Leaves at p.next p.tx) }
 {
-    if !is_accepted(stored, pn, version) {
-        return Ok(stay(alloc, *state));
+    if !is_accepted(here.stored, pn, version) {
+        return Ok(stay(here.alloc, *here.state));
     }
-    let mut tx = Transaction::new(alloc);
+    let mut tx = Transaction::new(here.alloc);
     put_vote(&mut tx, version, pn, value)?;
-    let mut out = Items::new(alloc);
+    let mut out = Items::new(here.alloc);
     let accepted = Body::Accept { pn, version };
-    out.push(message(me, stored.epoch(), accepted, state.leader))?;
+    out.push(message(here.me, here.stored.epoch(), accepted, here.state.leader))?;
     Ok(Plan {
         tx,
         out,
-        timers: Items::new(alloc),
-        state: without_lease(state),
+        timers: Items::new(here.alloc),
+        state: without_lease(here.state),
         next: Next::Stay,
     })
 }
@@ -70,33 +63,27 @@ fn is_ahead(stored: &Stored<'_>, from: Version) -> bool
 
 /// The leader sends the values of the versions from `from` on, which are committed.
 pub(crate) fn commit(
-    alloc: Global,
-    stored: &Stored<'_>,
-    state: &Peon,
+    here: &Here<'_>,
     from: Version,
     values: &[Transaction],
 ) -> Result<Plan<Peon>, RoleStop>
     requires short { AllByRecursion (λ ops. length (text ops) ≤ most) values.now }
     requires few { length values.now ≤ MOST_ITEMS }
-    ensures plans { (m : Me) (now f e : ℕ) → PlansRow m now peon_is (IsOurs (readings_of stored.now) state.now f e)
-        (hear_commit f e from values.now) result }
+    ensures plans { (e : ℕ) → ByRow here.now e (hear_commit here.now.state.now.leader e from values.now) result }
     ensures leaves { (at : Phase) → IfOk result (λ p. Leaves at p.next p.tx) }
 {
-    if is_ahead(stored, from) {
-        return Ok(stay(alloc, *state));
+    if is_ahead(here.stored, from) {
+        return Ok(stay(here.alloc, *here.state));
     }
-    let next = stored.last().get() + 1;
+    let next = here.stored.last().get() + 1;
     let known = (next - from.get()).min(values.len() as u64) as usize;
-    let mut tx = Transaction::new(alloc);
-    match learn(&mut tx, next, &values[known..]) {
-        Ok(()) => {}
-        Err(stop) => return Err(stop),
-    }
+    let mut tx = Transaction::new(here.alloc);
+    learn(&mut tx, next, &values[known..])?;
     Ok(Plan {
         tx,
-        out: Items::new(alloc),
-        timers: Items::new(alloc),
-        state: *state,
+        out: Items::new(here.alloc),
+        timers: Items::new(here.alloc),
+        state: *here.state,
         next: Next::Stay,
     })
 }

@@ -1,16 +1,21 @@
 -- The inputs of a provider, and what is known when its rows are proved.
-use Rattle.std.specs.Prelude.{◌≡◌, Bool, true, false, List, filter}
+use Rattle.std.specs.Prelude.{◌≡◌, ℕ, Bool, true, false, List, Result, filter}
 use Rattle.mon_bytes.specs.declared.entry.Entry.{Entry}
 use Rattle.mon_bytes.specs.declared.entry.KeyPlace.{KeyPlace}
-use Rattle.mon_msg.specs.Protocol.Course.{Course}
+use Rattle.mon_msg.specs.Protocol.Course.{Course, provider_is}
 use Rattle.mon_msg.specs.Protocol.Places.{is_after}
-use Rattle.mon_msg.specs.Protocol.Readings.{Readings, shared_entries}
+use Rattle.mon_msg.specs.Protocol.Readings.{Readings, readings_of, shared_entries}
 use Rattle.mon_msg.specs.declared.input.Input.TheVariants as input
 use Rattle.mon_msg.specs.declared.input.Input.{Input}
+use Rattle.mon_msg.specs.declared.plan.Plan.{Plan}
+use Rattle.mon_msg.specs.declared.plan.RoleStop.{RoleStop}
 use Rattle.mon_msg.specs.declared.synchronisation.Provider.{Provider}
+use Rattle.mon_plan.specs.Plans.{PlansRow}
 use Rattle.mon_tx.specs.Map.{Store}
+use Rattle.mon_types.specs.declared.names.Which.{Which}
 use Rattle.mon_wire.specs.declared.body.Body.TheVariants as body
 use Rattle.mon_wire.specs.declared.body.Body.{Body}
+use Rattle.sync_provider.specs.declared.here.Here.{Here}
 
 -- what a monitor asks from which it synchronises
 abbrev pub is_asked : Body → Bool
@@ -30,6 +35,10 @@ is_input (input.Client session r) = false
 pub record Holds (w : Readings) (state : Provider) (x : Course) : Type 0 where
   pub readings : x.readings ≡ w
   pub role : x.state.provider ≡ state
+
+-- a call's result is this row of the table
+abbrev pub ByRow : Here → (now : ℕ) → (row : Course → Result Course Which) → Result (Plan Provider) RoleStop → Type 0
+ByRow here now row result = PlansRow here.me.now now provider_is (Holds (readings_of here.kv.now) here.state.now) row result
 
 -- the shared entries that are left after a place, in order
 abbrev pub left_after : Store → KeyPlace → List Entry

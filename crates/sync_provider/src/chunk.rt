@@ -1,7 +1,6 @@
 //! A monitor asks for what follows the place that it has reached.
 
 ghost use Rattle.std.specs.Prelude.{◌≡◌, ℕ, suc, ◌+◌, ◌||◌, not, nat_lt, ◌≤◌, nat_le, false, None, if◌then◌else◌, length, slice_index_or, sum_by, IfOk};
-ghost use Rattle.mon_msg.specs.Protocol.Course.{provider_is};
 ghost use Rattle.mon_msg.specs.Protocol.Parts.{value_length};
 ghost use Rattle.mon_msg.specs.Protocol.Places.{is_cookie};
 ghost use Rattle.mon_msg.specs.Protocol.Providing.{chunk, given_values, reach, hear_get_chunk};
@@ -9,15 +8,15 @@ ghost use Rattle.mon_msg.specs.Protocol.Readings.{readings_of, shared_entries};
 ghost use Rattle.mon_msg.specs.declared.plan.Next.TheVariants as next;
 ghost use Rattle.mon_wire.specs.declared.parts.Cookie.{Cookie};
 ghost use Rattle.mon_wire.specs.declared.write_lists.TheConstants.{MOST_ITEMS};
-ghost use Rattle.mon_plan.specs.Plans.{PlansRow};
 ghost use Rattle.sync_provider.specs.declared.entries.TheConstants.{BESIDES, BESIDES_LAST};
-ghost use Rattle.sync_provider.specs.Rows.{Holds, left_after};
+ghost use Rattle.sync_provider.specs.Rows.{ByRow, left_after};
 
 use crate::cookies::{answer, lacks};
 use crate::entries::{BESIDES, BESIDES_LAST, given_entries, is_end, place_len};
+use crate::here::Here;
 use mon_bytes::{Items, OutOfMemory};
 use mon_kv::{KeyRun, Kv};
-use mon_msg::{Body, Cookie, Me, Place, Plan, Provider, RoleStop};
+use mon_msg::{Body, Cookie, Place, Plan, Provider, RoleStop};
 use mon_plan::{Run, Stored};
 use mon_types::{Rank, Version};
 use std::alloc::Global;
@@ -115,23 +114,20 @@ fn is_refused(
 
 /// A monitor asks for what follows a place, under its cookie.
 pub(crate) fn give_chunk(
-    alloc: Global,
-    kv: &Kv,
-    me: &Me,
-    state: &Provider,
+    here: &Here<'_>,
     to: Rank,
     cookie: Cookie,
     place: &Place,
 ) -> Result<Plan<Provider>, RoleStop>
-    requires { (readings_of kv.now).marked ≡ false }
-    ensures plans { (now : ℕ) → PlansRow me.now now provider_is (Holds (readings_of kv.now) state.now)
-        (hear_get_chunk me.now (shared_entries kv.now) to cookie place.now) result }
+    requires { (readings_of here.now.kv.now).marked ≡ false }
+    ensures plans { (now : ℕ) → ByRow here.now now
+        (hear_get_chunk here.now.me.now (shared_entries here.now.kv.now) to cookie place.now) result }
     ensures stays { IfOk result (λ plan. plan.next ≡ next.Stay) }
 {
-    let stored = Stored::of(alloc, kv);
-    if is_refused(&stored, state, to, cookie, place) {
-        return answer(alloc, &stored, me, state, to, Body::NoCookie { cookie });
+    let stored = Stored::of(here.alloc, here.kv);
+    if is_refused(&stored, here.state, to, cookie, place) {
+        return answer(here, to, Body::NoCookie { cookie });
     }
-    let body = chunk(alloc, kv, cookie, place)?;
-    answer(alloc, &stored, me, state, to, body)
+    let body = chunk(here.alloc, here.kv, cookie, place)?;
+    answer(here, to, body)
 }

@@ -1,42 +1,33 @@
 //! A monitor asks for a synchronisation.
 
 ghost use Rattle.std.specs.Prelude.{◌≡◌, ℕ, suc, ◌≤◌, ◌^◌, nat_lt, false, Some, Ok, IfOk, slice_set};
-ghost use Rattle.mon_msg.specs.Protocol.Course.{provider_is};
 ghost use Rattle.mon_msg.specs.Protocol.Providing.{grant, hear_get_cookie_recent};
 ghost use Rattle.mon_msg.specs.Protocol.Readings.{readings_of};
 ghost use Rattle.mon_msg.specs.Protocol.Sending.{send};
 ghost use Rattle.mon_msg.specs.declared.plan.Next.TheVariants as next;
 ghost use Rattle.mon_wire.specs.declared.body.Body.TheVariants as body;
-ghost use Rattle.mon_plan.specs.Plans.{PlansRow};
-ghost use Rattle.sync_provider.specs.Rows.{Holds};
+ghost use Rattle.sync_provider.specs.Rows.{ByRow};
 
+use crate::here::Here;
 use mon_bytes::Items;
-use mon_msg::{Body, Cookie, Me, Next, Plan, Provider, RoleStop};
+use mon_msg::{Body, Cookie, Next, Plan, Provider, RoleStop};
 use mon_plan::{Stored, message};
 use mon_tx::Transaction;
 use mon_types::{GREATEST, Rank, Version, Which};
-use std::alloc::Global;
 
 /// One message is sent, and nothing else is done.
-pub(crate) fn answer(
-    alloc: Global,
-    stored: &Stored<'_>,
-    me: &Me,
-    state: &Provider,
-    to: Rank,
-    body: Body,
-) -> Result<Plan<Provider>, RoleStop>
-    ensures plans { (now : ℕ) → PlansRow me.now now provider_is (Holds (readings_of stored.now) state.now)
-        (λ x. Ok (send me.now to body x)) result }
+pub(crate) fn answer(here: &Here<'_>, to: Rank, body: Body) -> Result<Plan<Provider>, RoleStop>
+    ensures plans { (now : ℕ) → ByRow here.now now (λ x. Ok (send here.now.me.now to body x)) result }
     ensures stays { IfOk result (λ plan. plan.next ≡ next.Stay) }
 {
-    let mut out = Items::new(alloc);
-    out.push(message(me, stored.epoch(), body, to))?;
+    let stored = Stored::of(here.alloc, here.kv);
+    let mut out = Items::new(here.alloc);
+    out.push(message(here.me, stored.epoch(), body, to))?;
     Ok(Plan {
-        tx: Transaction::new(alloc),
+        tx: Transaction::new(here.alloc),
         out,
-        timers: Items::new(alloc),
-        state: *state,
+        timers: Items::new(here.alloc),
+        state: *here.state,
         next: Next::Stay,
     })
 }
@@ -56,39 +47,32 @@ fn with_cookie(state: &Provider, of: Rank, cookie: Cookie) -> Provider
 }
 
 /// A monitor gets a new cookie, for a whole copy or for the versions that it lacks.
-pub(crate) fn grant(
-    alloc: Global,
-    stored: &Stored<'_>,
-    me: &Me,
-    state: &Provider,
-    to: Rank,
-    full: bool,
-) -> Result<Plan<Provider>, RoleStop>
-    ensures plans { (now : ℕ) → PlansRow me.now now provider_is (Holds (readings_of stored.now) state.now)
-        (grant me.now full to) result }
+pub(crate) fn grant(here: &Here<'_>, to: Rank, full: bool) -> Result<Plan<Provider>, RoleStop>
+    ensures plans { (now : ℕ) → ByRow here.now now (grant here.now.me.now full to) result }
     ensures stays { IfOk result (λ plan. plan.next ≡ next.Stay) }
 {
-    if state.next_cookie > GREATEST {
+    if here.state.next_cookie > GREATEST {
         return Err(RoleStop::Spent {
             which: Which::Cookie,
         });
     }
+    let stored = Stored::of(here.alloc, here.kv);
     let cookie = Cookie {
         boot: stored.boot(),
-        seq: state.next_cookie,
+        seq: here.state.next_cookie,
     };
     let granted = Body::Cookie {
         full,
         cookie,
         last: stored.last(),
     };
-    let mut out = Items::new(alloc);
-    out.push(message(me, stored.epoch(), granted, to))?;
+    let mut out = Items::new(here.alloc);
+    out.push(message(here.me, stored.epoch(), granted, to))?;
     Ok(Plan {
-        tx: Transaction::new(alloc),
+        tx: Transaction::new(here.alloc),
         out,
-        timers: Items::new(alloc),
-        state: with_cookie(state, to, cookie),
+        timers: Items::new(here.alloc),
+        state: with_cookie(here.state, to, cookie),
         next: Next::Stay,
     })
 }
@@ -102,21 +86,18 @@ pub(crate) fn lacks(stored: &Stored<'_>, last: Version) -> bool
 
 /// A monitor asks for the versions above its last one.
 pub(crate) fn grant_recent(
-    alloc: Global,
-    stored: &Stored<'_>,
-    me: &Me,
-    state: &Provider,
+    here: &Here<'_>,
     to: Rank,
     last: Version,
 ) -> Result<Plan<Provider>, RoleStop>
-    requires { (readings_of stored.now).marked ≡ false }
-    ensures plans { (now : ℕ) → PlansRow me.now now provider_is (Holds (readings_of stored.now) state.now)
-        (hear_get_cookie_recent me.now to last) result }
+    requires { (readings_of here.now.kv.now).marked ≡ false }
+    ensures plans { (now : ℕ) → ByRow here.now now (hear_get_cookie_recent here.now.me.now to last) result }
     ensures stays { IfOk result (λ plan. plan.next ≡ next.Stay) }
 {
-    if lacks(stored, last) {
+    let stored = Stored::of(here.alloc, here.kv);
+    if lacks(&stored, last) {
         let cookie = Cookie { boot: 0, seq: 0 };
-        return answer(alloc, stored, me, state, to, Body::NoCookie { cookie });
+        return answer(here, to, Body::NoCookie { cookie });
     }
-    grant(alloc, stored, me, state, to, false)
+    grant(here, to, false)
 }

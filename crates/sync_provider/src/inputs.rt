@@ -1,6 +1,6 @@
 //! What a provider does at each of its inputs.
 
-ghost use Rattle.std.specs.Prelude.{◌≡◌, IfOk, IsTrue};
+ghost use Rattle.std.specs.Prelude.{◌≡◌, ℕ, IfOk, IsTrue};
 ghost use Rattle.mon_msg.specs.Protocol.Course.{provider_is};
 ghost use Rattle.mon_msg.specs.Protocol.Hearing.{hear};
 ghost use Rattle.mon_msg.specs.Protocol.Readings.{readings_of, shared_entries};
@@ -9,10 +9,11 @@ ghost use Rattle.mon_plan.specs.Inputs.{row};
 ghost use Rattle.mon_plan.specs.Leaves.{Leaves};
 ghost use Rattle.mon_plan.specs.Plans.{PlansRow};
 ghost use Rattle.mon_plan.specs.Seen.{IsMet};
-ghost use Rattle.sync_provider.specs.Rows.{is_asked, is_input, Holds};
+ghost use Rattle.sync_provider.specs.Rows.{is_asked, is_input, ByRow};
 
 use crate::chunk::give_chunk;
 use crate::cookies::{grant, grant_recent};
+use crate::here::Here;
 use mon_kv::Kv;
 use mon_msg::input::Input;
 use mon_msg::{Body, Me, Message, Plan, Provider, RoleStop, View};
@@ -21,31 +22,20 @@ use mon_types::Moment;
 use std::alloc::Global;
 
 /// A message of a monitor that synchronises, or is about to. A monitor that is marked itself drops it.
-fn hear(
-    alloc: Global,
-    kv: &Kv,
-    me: &Me,
-    state: &Provider,
-    message: &Message,
-    now: Moment,
-) -> Result<Plan<Provider>, RoleStop>
+fn hear(here: &Here<'_>, message: &Message) -> Result<Plan<Provider>, RoleStop>
     requires { IsTrue (is_asked message.now.body) }
-    ensures plans { PlansRow me.now now provider_is (Holds (readings_of kv.now) state.now)
-        (hear me.now (shared_entries kv.now) now message.now.from message.now.epoch message.now.body) result }
+    ensures plans { (now : ℕ) → let m = message.now in ByRow here.now now
+        (hear here.now.me.now (shared_entries here.now.kv.now) now m.from m.epoch m.body) result }
     ensures stays { IfOk result (λ plan. plan.next ≡ next.Stay) }
 {
-    let stored = Stored::of(alloc, kv);
+    let stored = Stored::of(here.alloc, here.kv);
     if stored.is_marked() {
-        return Ok(stay(alloc, *state));
+        return Ok(stay(here.alloc, *here.state));
     }
     match &message.body {
-        Body::GetCookieFull => grant(alloc, &stored, me, state, message.from, true),
-        Body::GetCookieRecent { last } => {
-            grant_recent(alloc, &stored, me, state, message.from, *last)
-        }
-        Body::GetChunk { cookie, place } => {
-            give_chunk(alloc, kv, me, state, message.from, *cookie, place)
-        }
+        Body::GetCookieFull => grant(here, message.from, true),
+        Body::GetCookieRecent { last } => grant_recent(here, message.from, *last),
+        Body::GetChunk { cookie, place } => give_chunk(here, message.from, *cookie, place),
         _ => unreachable!(),
     }
 }
@@ -69,7 +59,15 @@ pub fn step(
     ensures leaves { IfOk result (λ plan. Leaves view.now.phase plan.next plan.tx) }
 {
     match input {
-        Input::Deliver(message) => hear(alloc, kv, me, state, message, now),
+        Input::Deliver(message) => {
+            let here = Here {
+                alloc,
+                kv,
+                me,
+                state,
+            };
+            hear(&here, message)
+        }
         Input::Start | Input::Timer(_) | Input::Client(..) => unreachable!(),
     }
 }

@@ -5,6 +5,7 @@
 mod chunk;
 mod cookies;
 mod entries;
+mod here;
 mod inputs;
 
 pub use inputs::step;

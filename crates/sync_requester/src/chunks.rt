@@ -5,28 +5,32 @@ ghost use Rattle.std.specs.List.{AllByRecursion};
 ghost use Rattle.mon_tx.specs.Text.{text, most};
 ghost use Rattle.mon_msg.specs.Protocol.Changes.{spelled};
 ghost use Rattle.mon_msg.specs.Protocol.Chunks.{hear_chunk, hear_last_chunk, take_last, takes_chunks};
-ghost use Rattle.mon_msg.specs.Protocol.Course.{requester_is};
 ghost use Rattle.mon_msg.specs.Protocol.Places.{is_cookie, same_place};
 ghost use Rattle.mon_msg.specs.Protocol.Played.{Fits};
-ghost use Rattle.mon_msg.specs.Protocol.Readings.{Readings, readings_of};
-ghost use Rattle.mon_msg.specs.declared.view.Me.{Me};
 ghost use Rattle.mon_wire.specs.declared.phase.Phase.TheVariants as phase;
 ghost use Rattle.mon_wire.specs.declared.write_lists.TheConstants.{MOST_ITEMS};
 ghost use Rattle.mon_plan.specs.Leaves.{Leaves};
-ghost use Rattle.mon_plan.specs.Plans.{PlansRow};
 ghost use Rattle.sync_requester.specs.Copied.{copied, Copies, Takes};
-ghost use Rattle.sync_requester.specs.Rows.{IsHeard};
+ghost use Rattle.sync_requester.specs.Rows.{ByHeard};
 
-use crate::cookies::{ask, is_own_cookie};
+use crate::cookies::{ask_chunk, is_own_cookie};
 use crate::epochs::epoch_after;
+use crate::here::Here;
 use crate::places::{is_same_place, next_key_place};
 use mon_bytes::{Entry, Items, OutOfMemory};
-use mon_kv::Kv;
-use mon_msg::{Cookie, Me, Next, Place, Plan, Requester, RoleStop, SyncStage, Timer};
+use mon_msg::{Cookie, Next, Place, Plan, Requester, RoleStop, SyncStage, Timer};
 use mon_plan::{armed, disarmed, learn, planned, put_copies, put_records, stay};
 use mon_tx::Transaction;
-use mon_types::{Moment, Version, Which};
+use mon_types::{Version, Which};
 use std::alloc::Global;
+
+/// What a chunk holds, and the place that it follows.
+#[derive(Clone, Copy)]
+pub(crate) struct Chunk<'a> {
+    pub(crate) place: &'a Place,
+    pub(crate) values: &'a [Transaction],
+    pub(crate) entries: &'a [Entry],
+}
 
 fn takes_chunks(stage: SyncStage) -> bool
     ensures { result ≡ takes_chunks stage }
@@ -47,25 +51,20 @@ fn is_awaited(state: &Requester, cookie: Cookie, place: &Place) -> bool
 
 /// What a chunk holds is written, each record and entry once: a whole copy takes them as they are, another one learns
 /// the values.
-fn write(
-    tx: &mut Transaction,
-    full: bool,
-    from: u64,
-    values: &[Transaction],
-    entries: &[Entry],
-) -> Result<(), RoleStop>
-    requires short { AllByRecursion (λ ops. length (text ops) ≤ most) values.now }
+fn write(tx: &mut Transaction, full: bool, from: u64, chunk: &Chunk<'_>) -> Result<(), RoleStop>
+    requires short { AllByRecursion (λ ops. length (text ops) ≤ most) chunk.now.values.now }
     requires from { 1 ≤ from }
-    requires room { from + length values.now ≤ 2 ^ 63 }
-    ensures copy { Copies full from values.now entries.now result }
-    ensures changes { OnOk result (tx.new ≡ tx.old ++ spelled (copied full from values.now entries.now)) }
-    ensures fit { OnOk result (AllByRecursion Fits (copied full from values.now entries.now)) }
+    requires room { from + length chunk.now.values.now ≤ 2 ^ 63 }
+    ensures copy { Copies full from chunk.now.values.now chunk.now.entries.now result }
+    ensures changes { OnOk result
+        (tx.new ≡ tx.old ++ spelled (copied full from chunk.now.values.now chunk.now.entries.now)) }
+    ensures fit { OnOk result (AllByRecursion Fits (copied full from chunk.now.values.now chunk.now.entries.now)) }
 {
     if !full {
-        return learn(tx, from, values);
+        return learn(tx, from, chunk.values);
     }
-    put_records(tx, from, values)?;
-    put_copies(tx, entries)?;
+    put_records(tx, from, chunk.values)?;
+    put_copies(tx, chunk.entries)?;
     Ok(())
 }
 
@@ -77,19 +76,13 @@ struct Taken {
 }
 
 /// What a chunk holds is taken, and the place moves on after it.
-fn take(
-    alloc: Global,
-    state: &Requester,
-    place: &Place,
-    values: &[Transaction],
-    entries: &[Entry],
-    done: bool,
-) -> Result<Taken, RoleStop>
-    requires short { AllByRecursion (λ ops. length (text ops) ≤ most) values.now }
-    requires few { length values.now ≤ MOST_ITEMS }
-    ensures { Takes state.now place.now values.now entries.now done result }
+fn take(alloc: Global, state: &Requester, chunk: &Chunk<'_>, done: bool) -> Result<Taken, RoleStop>
+    requires short { AllByRecursion (λ ops. length (text ops) ≤ most) chunk.now.values.now }
+    requires few { length chunk.now.values.now ≤ MOST_ITEMS }
+    ensures { Takes state.now chunk.now.place.now chunk.now.values.now chunk.now.entries.now done result }
 {
-    let count = values.len() as u64;
+    let place = chunk.place;
+    let count = chunk.values.len() as u64;
     let Some(version) = Version::new(place.version.get() + count) else {
         return Err(RoleStop::Spent {
             which: Which::Version,
@@ -97,11 +90,8 @@ fn take(
     };
     let mut tx = Transaction::new(alloc);
     let from = place.version.get() + 1;
-    match write(&mut tx, state.full, from, values, entries) {
-        Ok(()) => {}
-        Err(stop) => return Err(stop),
-    }
-    let key = next_key_place(alloc, entries, done, &place.key)?;
+    write(&mut tx, state.full, from, chunk)?;
+    let key = next_key_place(alloc, chunk.entries, done, &place.key)?;
     Ok(Taken {
         tx,
         place: Place { version, key },
@@ -124,33 +114,24 @@ fn at_place(state: &Requester, place: Place) -> Requester
 
 /// The provider gives a chunk, after which there is another one.
 pub(crate) fn hear_chunk(
-    alloc: Global,
-    kv: &Kv,
-    me: &Me,
+    here: &Here<'_>,
     state: &Requester,
     cookie: Cookie,
-    place: &Place,
-    values: &[Transaction],
-    entries: &[Entry],
+    chunk: &Chunk<'_>,
     done: bool,
-    now: Moment,
 ) -> Result<Plan<Requester>, RoleStop>
-    requires short { AllByRecursion (λ ops. length (text ops) ≤ most) values.now }
-    requires few { length values.now ≤ MOST_ITEMS }
-    ensures plans { (f : ℕ) → PlansRow me.now now requester_is (IsHeard (readings_of kv.now) state.now f)
-        (hear_chunk me.now now f cookie place.now values.now entries.now done) result }
+    requires short { AllByRecursion (λ ops. length (text ops) ≤ most) chunk.now.values.now }
+    requires few { length chunk.now.values.now ≤ MOST_ITEMS }
+    ensures plans { (f : ℕ) → ByHeard here.now state.now f (hear_chunk here.now.me.now here.now.time f cookie
+        chunk.now.place.now chunk.now.values.now chunk.now.entries.now done) result }
     ensures leaves { IfOk result (λ plan. Leaves phase.Synchronizing plan.next plan.tx) }
 {
-    if !is_awaited(state, cookie, place) {
-        return Ok(stay(alloc, state.copy(alloc)?));
+    if !is_awaited(state, cookie, chunk.place) {
+        return Ok(stay(here.alloc, state.copy(here.alloc)?));
     }
-    match take(alloc, state, place, values, entries, done) {
-        Ok(Taken { tx, place }) => {
-            let epoch = epoch_after(alloc, kv, &tx)?;
-            Ok(ask(alloc, me, epoch, tx, cookie, at_place(state, place), now)?)
-        }
-        Err(stop) => Err(stop),
-    }
+    let Taken { tx, place } = take(here.alloc, state, chunk, done)?;
+    let epoch = epoch_after(here.alloc, here.kv, &tx)?;
+    Ok(ask_chunk(here, epoch, tx, cookie, at_place(state, place))?)
 }
 
 /// What a requester remembers as it begins to replay the versions from `next` to `end`.
@@ -169,95 +150,78 @@ fn replaying(state: &Requester, place: Place, next: Version, end: Version) -> Re
 
 /// The last chunk of a whole copy: the versions after its beginning are replayed up to the provider's last one.
 fn end_copy(
-    alloc: Global,
+    here: &Here<'_>,
     state: &Requester,
-    place: &Place,
-    values: &[Transaction],
-    entries: &[Entry],
+    chunk: &Chunk<'_>,
     last: Version,
-    now: Moment,
 ) -> Result<Plan<Requester>, RoleStop>
     requires full { state.now.full ≡ true }
-    requires short { AllByRecursion (λ ops. length (text ops) ≤ most) values.now }
-    requires few { length values.now ≤ MOST_ITEMS }
-    ensures plans { (me : Me) (w : Readings) (f : ℕ) →
-        PlansRow me now requester_is (IsHeard w state.now f)
-        (take_last me now place.now values.now entries.now last) result }
+    requires short { AllByRecursion (λ ops. length (text ops) ≤ most) chunk.now.values.now }
+    requires few { length chunk.now.values.now ≤ MOST_ITEMS }
+    ensures plans { (f : ℕ) → ByHeard here.now state.now f (take_last here.now.me.now here.now.time
+        chunk.now.place.now chunk.now.values.now chunk.now.entries.now last) result }
     ensures leaves { IfOk result (λ plan. Leaves phase.Synchronizing plan.next plan.tx) }
 {
-    match take(alloc, state, place, values, entries, true) {
-        Ok(Taken { tx, place }) => {
-            let Some(next) = state.start.plus_one() else {
-                return Err(RoleStop::Spent {
-                    which: Which::Version,
-                });
-            };
-            let mut timers = Items::new(alloc);
-            timers.push(disarmed(Timer::Sync))?;
-            timers.push(armed(now, Timer::Step))?;
-            Ok(Plan {
-                tx,
-                out: Items::new(alloc),
-                timers,
-                state: replaying(state, place, next, last),
-                next: Next::Stay,
-            })
-        }
-        Err(stop) => Err(stop),
-    }
+    let Taken { tx, place } = take(here.alloc, state, chunk, true)?;
+    let Some(next) = state.start.plus_one() else {
+        return Err(RoleStop::Spent {
+            which: Which::Version,
+        });
+    };
+    let mut timers = Items::new(here.alloc);
+    timers.push(disarmed(Timer::Sync))?;
+    timers.push(armed(here.time, Timer::Step))?;
+    Ok(Plan {
+        tx,
+        out: Items::new(here.alloc),
+        timers,
+        state: replaying(state, place, next, last),
+        next: Next::Stay,
+    })
 }
 
 /// The last chunk of the missing versions: the monitor begins again with them.
 fn end_recent(
-    alloc: Global,
+    here: &Here<'_>,
     state: &Requester,
-    place: &Place,
-    values: &[Transaction],
-    entries: &[Entry],
+    chunk: &Chunk<'_>,
 ) -> Result<Plan<Requester>, RoleStop>
     requires recent { state.now.full ≡ false }
-    requires short { AllByRecursion (λ ops. length (text ops) ≤ most) values.now }
-    requires few { length values.now ≤ MOST_ITEMS }
-    ensures plans { (me : Me) (w : Readings) (now f last : ℕ) →
-        PlansRow me now requester_is (IsHeard w state.now f)
-        (take_last me now place.now values.now entries.now last) result }
+    requires short { AllByRecursion (λ ops. length (text ops) ≤ most) chunk.now.values.now }
+    requires few { length chunk.now.values.now ≤ MOST_ITEMS }
+    ensures plans { (f last : ℕ) → ByHeard here.now state.now f (take_last here.now.me.now here.now.time
+        chunk.now.place.now chunk.now.values.now chunk.now.entries.now last) result }
     ensures leaves { IfOk result (λ plan. Leaves phase.Synchronizing plan.next plan.tx) }
 {
-    match take(alloc, state, place, values, entries, true) {
-        Ok(Taken { tx, place }) => Ok(Plan {
-            tx,
-            out: Items::new(alloc),
-            timers: Items::new(alloc),
-            state: at_place(state, place),
-            next: Next::Bootstrap,
-        }),
-        Err(stop) => Err(stop),
-    }
+    let Taken { tx, place } = take(here.alloc, state, chunk, true)?;
+    Ok(Plan {
+        tx,
+        out: Items::new(here.alloc),
+        timers: Items::new(here.alloc),
+        state: at_place(state, place),
+        next: Next::Bootstrap,
+    })
 }
 
 /// The provider gives the last chunk, with its last version.
 pub(crate) fn hear_last_chunk(
-    alloc: Global,
+    here: &Here<'_>,
     state: &Requester,
     cookie: Cookie,
-    place: &Place,
-    values: &[Transaction],
-    entries: &[Entry],
+    chunk: &Chunk<'_>,
     last: Version,
-    now: Moment,
 ) -> Result<Plan<Requester>, RoleStop>
-    requires short { AllByRecursion (λ ops. length (text ops) ≤ most) values.now }
-    requires few { length values.now ≤ MOST_ITEMS }
-    ensures plans { (me : Me) (w : Readings) (f : ℕ) →
-        PlansRow me now requester_is (IsHeard w state.now f)
-        (hear_last_chunk me now f cookie place.now values.now entries.now last) result }
+    requires short { AllByRecursion (λ ops. length (text ops) ≤ most) chunk.now.values.now }
+    requires few { length chunk.now.values.now ≤ MOST_ITEMS }
+    ensures plans { (f : ℕ) → ByHeard here.now state.now f (hear_last_chunk here.now.me.now here.now.time f cookie
+        chunk.now.place.now chunk.now.values.now chunk.now.entries.now last) result }
     ensures leaves { IfOk result (λ plan. Leaves phase.Synchronizing plan.next plan.tx) }
 {
-    if !is_awaited(state, cookie, place) {
-        return Ok(stay(alloc, state.copy(alloc)?));
+    if !is_awaited(state, cookie, chunk.place) {
+        return Ok(stay(here.alloc, state.copy(here.alloc)?));
     }
     if state.full {
-        return end_copy(alloc, state, place, values, entries, last, now);
+        return end_copy(here, state, chunk, last);
     }
-    end_recent(alloc, state, place, values, entries)
+    end_recent(here, state, chunk)
 }

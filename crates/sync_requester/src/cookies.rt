@@ -2,10 +2,8 @@
 
 ghost use Rattle.std.specs.Prelude.{◌≡◌, ℕ, ◌+◌, ◌^◌, ◌&&◌, ◌||◌, ◌∷◌, [], not, nat_lt, min, Some, IfOk};
 ghost use Rattle.mon_msg.specs.Protocol.Copying.{awaits_cookie, first_place, hear_cookie, hear_no_cookie, same_flag};
-ghost use Rattle.mon_msg.specs.Protocol.Course.{requester_is};
 ghost use Rattle.mon_msg.specs.Protocol.Places.{is_cookie, no_cookie, same_cookie};
-ghost use Rattle.mon_msg.specs.Protocol.Readings.{Readings, readings_of};
-ghost use Rattle.mon_msg.specs.declared.view.Me.{Me};
+ghost use Rattle.mon_msg.specs.Protocol.Readings.{readings_of};
 ghost use Rattle.mon_msg.specs.Protocol.Sending.{message_to};
 ghost use Rattle.mon_msg.specs.Protocol.Timers.{length_of};
 ghost use Rattle.mon_msg.specs.declared.plan.Arming.TheVariants as arming;
@@ -13,17 +11,15 @@ ghost use Rattle.mon_msg.specs.declared.plan.Next.TheVariants as next;
 ghost use Rattle.mon_wire.specs.declared.body.Body.TheVariants as body;
 ghost use Rattle.mon_wire.specs.declared.phase.Phase.TheVariants as phase;
 ghost use Rattle.mon_plan.specs.Leaves.{Leaves};
-ghost use Rattle.mon_plan.specs.Plans.{PlansRow};
-ghost use Rattle.sync_requester.specs.Rows.{IsHeard};
+ghost use Rattle.sync_requester.specs.Rows.{ByHeard};
 
+use crate::here::Here;
 use crate::places::first_place;
 use mon_bytes::{Items, OutOfMemory};
-use mon_msg::plan::Sent;
-use mon_msg::{Arming, Body, Cookie, Me, Next, Place, Plan, Requester, RoleStop, SyncStage, Timer};
+use mon_msg::{Body, Cookie, Next, Place, Plan, Requester, RoleStop, SyncStage, Timer};
 use mon_plan::{Stored, armed, message, planned, stay};
 use mon_tx::Transaction;
-use mon_types::{Epoch, Moment, Rank, Version};
-use std::alloc::Global;
+use mon_types::{Epoch, Version};
 
 /// There is no cookie: a provider that can't serve a recent synchronisation says so.
 const NO_COOKIE: Cookie = Cookie { boot: 0, seq: 0 };
@@ -68,47 +64,26 @@ fn with_cookie(state: &Requester, cookie: Cookie, place: Place) -> Requester
     }
 }
 
-/// The provider is asked for something: the message to it, and the timer within which it answers.
-pub(crate) fn asking(
-    alloc: Global,
-    me: &Me,
-    epoch: Epoch,
-    body: Body,
-    to: Rank,
-    now: Moment,
-) -> Result<(Items<Sent>, Items<Arming>), OutOfMemory>
-    ensures out { IfOk result (λ asked. asked.0 ≡ message_to me.now epoch body to ∷ []) }
-    ensures timers { IfOk result
-        (λ asked. asked.1 ≡ arming.Arm Timer.Sync (min (now + length_of Timer.Sync) (2 ^ 62)) ∷ []) }
-{
-    let mut out = Items::new(alloc);
-    out.push(message(me, epoch, body, to))?;
-    let mut timers = Items::new(alloc);
-    timers.push(armed(now, Timer::Sync))?;
-    Ok((out, timers))
-}
-
-/// After these changes, the chunk that follows the requester's place is asked for.
+/// After these changes, the provider is asked for something. It has the time of one timer to answer.
 pub(crate) fn ask(
-    alloc: Global,
-    me: &Me,
+    here: &Here<'_>,
     epoch: Epoch,
     tx: Transaction,
-    cookie: Cookie,
+    body: Body,
     state: Requester,
-    now: Moment,
 ) -> Result<Plan<Requester>, OutOfMemory>
     ensures { IfOk result (λ p. p ≡ record {
       tx = tx;
-      out = message_to me.now epoch (body.GetChunk cookie state.place) state.provider ∷ [];
-      timers = arming.Arm Timer.Sync (min (now + length_of Timer.Sync) (2 ^ 62)) ∷ [];
+      out = message_to here.now.me.now epoch body state.provider ∷ [];
+      timers = arming.Arm Timer.Sync (min (here.now.time + length_of Timer.Sync) (2 ^ 62)) ∷ [];
       state = state;
       next = next.Stay;
     }) }
 {
-    let place = state.place.copy(alloc)?;
-    let asked = Body::GetChunk { cookie, place };
-    let (out, timers) = asking(alloc, me, epoch, asked, state.provider, now)?;
+    let mut out = Items::new(here.alloc);
+    out.push(message(here.me, epoch, body, state.provider))?;
+    let mut timers = Items::new(here.alloc);
+    timers.push(armed(here.time, Timer::Sync))?;
     Ok(Plan {
         tx,
         out,
@@ -118,28 +93,46 @@ pub(crate) fn ask(
     })
 }
 
+/// After these changes, the chunk that follows the requester's place is asked for.
+pub(crate) fn ask_chunk(
+    here: &Here<'_>,
+    epoch: Epoch,
+    tx: Transaction,
+    cookie: Cookie,
+    state: Requester,
+) -> Result<Plan<Requester>, OutOfMemory>
+    ensures { IfOk result (λ p. p ≡ record {
+      tx = tx;
+      out = message_to here.now.me.now epoch (body.GetChunk cookie state.place) state.provider ∷ [];
+      timers = arming.Arm Timer.Sync (min (here.now.time + length_of Timer.Sync) (2 ^ 62)) ∷ [];
+      state = state;
+      next = next.Stay;
+    }) }
+{
+    let place = state.place.copy(here.alloc)?;
+    ask(here, epoch, tx, Body::GetChunk { cookie, place }, state)
+}
+
 /// The provider grants a cookie, for a whole copy or for the versions that are lacking.
 pub(crate) fn hear_cookie(
-    alloc: Global,
-    stored: &Stored<'_>,
-    me: &Me,
+    here: &Here<'_>,
     state: &Requester,
     full: bool,
     cookie: Cookie,
     last: Version,
-    now: Moment,
 ) -> Result<Plan<Requester>, RoleStop>
-    ensures plans { (f : ℕ) → PlansRow me.now now requester_is (IsHeard (readings_of stored.now) state.now f)
-        (hear_cookie me.now now f full cookie last) result }
+    ensures plans { (f : ℕ) → ByHeard here.now state.now f
+        (hear_cookie here.now.me.now here.now.time f full cookie last) result }
     ensures leaves { IfOk result (λ plan. Leaves phase.Synchronizing plan.next plan.tx) }
 {
-    if is_refused(stored, state, full, last) {
-        return Ok(stay(alloc, state.copy(alloc)?));
+    let stored = Stored::of(here.alloc, here.kv);
+    if is_refused(&stored, state, full, last) {
+        return Ok(stay(here.alloc, state.copy(here.alloc)?));
     }
     let place = first_place(full, last, stored.last());
     let taking = with_cookie(state, cookie, place);
-    let tx = Transaction::new(alloc);
-    Ok(ask(alloc, me, stored.epoch(), tx, cookie, taking, now)?)
+    let tx = Transaction::new(here.alloc);
+    Ok(ask_chunk(here, stored.epoch(), tx, cookie, taking)?)
 }
 
 /// Whether a cookie that the provider doesn't know is the own one.
@@ -169,17 +162,17 @@ fn is_lost(state: &Requester, cookie: Cookie) -> bool
 
 /// The provider doesn't know a cookie, or can't grant one.
 pub(crate) fn hear_no_cookie(
-    alloc: Global,
+    here: &Here<'_>,
     state: &Requester,
     cookie: Cookie,
 ) -> Result<Plan<Requester>, RoleStop>
-    ensures plans { (me : Me) (now f : ℕ) (w : Readings) →
-        PlansRow me now requester_is (IsHeard w state.now f) (hear_no_cookie me now f cookie) result }
+    ensures plans { (f : ℕ) → ByHeard here.now state.now f
+        (hear_no_cookie here.now.me.now here.now.time f cookie) result }
     ensures leaves { IfOk result (λ plan. Leaves phase.Synchronizing plan.next plan.tx) }
 {
-    let kept = state.copy(alloc)?;
+    let kept = state.copy(here.alloc)?;
     if is_lost(state, cookie) {
-        return Ok(planned(alloc, kept, Next::Bootstrap));
+        return Ok(planned(here.alloc, kept, Next::Bootstrap));
     }
-    Ok(stay(alloc, kept))
+    Ok(stay(here.alloc, kept))
 }

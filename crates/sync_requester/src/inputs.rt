@@ -14,14 +14,16 @@ ghost use Rattle.mon_plan.specs.Leaves.{Leaves};
 ghost use Rattle.mon_plan.specs.Plans.{PlansRow};
 ghost use Rattle.mon_plan.specs.Seen.{IsMet};
 ghost use Rattle.sync_requester.specs.Inputs.{is_told, is_own, is_input};
+ghost use Rattle.sync_requester.specs.Rows.{ByRow};
 
-use crate::chunks::{hear_chunk, hear_last_chunk};
+use crate::chunks::{Chunk, hear_chunk, hear_last_chunk};
 use crate::cookies::{hear_cookie, hear_no_cookie};
+use crate::here::Here;
 use crate::replay::replay;
 use mon_kv::Kv;
 use mon_msg::input::Input;
 use mon_msg::{Body, Me, Message, Next, Phase, Plan, Requester, RoleStop, SyncStage, Timer, View};
-use mon_plan::{Stored, planned, stay};
+use mon_plan::{planned, stay};
 use mon_types::{Moment, Rank};
 use std::alloc::Global;
 
@@ -50,111 +52,83 @@ fn is_of_provider(view: &View, state: &Requester, from: Rank) -> bool
 
 /// A message, which is dropped if it isn't of the provider.
 fn hear(
-    alloc: Global,
-    kv: &Kv,
-    me: &Me,
+    here: &Here<'_>,
     view: &View,
     state: &Requester,
     message: &Message,
-    now: Moment,
 ) -> Result<Plan<Requester>, RoleStop>
     requires input { IsTrue (is_told message.now.body) }
-    requires fits { IsTrue (fits me.now.member.monitors message.now.body) }
-    ensures plans { (shared : List Entry) →
-        PlansRow me.now now requester_is (IsMet me.now now (readings_of kv.now) view.now (λ s. s.requester) state.now)
-        (hears me.now shared now message.now.from message.now.epoch message.now.body) result }
+    requires fits { IsTrue (fits here.now.me.now.member.monitors message.now.body) }
+    ensures plans { (shared : List Entry) → ByRow here.now view.now state.now
+        (hears here.now.me.now shared here.now.time message.now.from message.now.epoch message.now.body) result }
     ensures leaves { IfOk result (λ plan. Leaves view.now.phase plan.next plan.tx) }
 {
     if !is_of_provider(view, state, message.from) {
-        return Ok(stay(alloc, state.copy(alloc)?));
+        return Ok(stay(here.alloc, state.copy(here.alloc)?));
     }
     match &message.body {
-        Body::Cookie { full, cookie, last } => {
-            let stored = Stored::of(alloc, kv);
-            hear_cookie(alloc, &stored, me, state, *full, *cookie, *last, now)
-        }
+        Body::Cookie { full, cookie, last } => hear_cookie(here, state, *full, *cookie, *last),
         Body::Chunk {
             cookie,
             place,
             values,
             entries,
             done,
-        } => hear_chunk(
-            alloc,
-            kv,
-            me,
-            state,
-            *cookie,
-            place,
-            values.as_slice(),
-            entries.as_slice(),
-            *done,
-            now,
-        ),
+        } => {
+            let chunk = Chunk {
+                place,
+                values: values.as_slice(),
+                entries: entries.as_slice(),
+            };
+            hear_chunk(here, state, *cookie, &chunk, *done)
+        }
         Body::LastChunk {
             cookie,
             place,
             values,
             entries,
             last,
-        } => hear_last_chunk(
-            alloc,
-            state,
-            *cookie,
-            place,
-            values.as_slice(),
-            entries.as_slice(),
-            *last,
-            now,
-        ),
-        Body::NoCookie { cookie } => hear_no_cookie(alloc, state, *cookie),
+        } => {
+            let chunk = Chunk {
+                place,
+                values: values.as_slice(),
+                entries: entries.as_slice(),
+            };
+            hear_last_chunk(here, state, *cookie, &chunk, *last)
+        }
+        Body::NoCookie { cookie } => hear_no_cookie(here, state, *cookie),
         _ => unreachable!(),
     }
 }
 
 /// It is time for the next step of a replay.
-fn step_replay(
-    alloc: Global,
-    kv: &Kv,
-    me: &Me,
-    view: &View,
-    state: &Requester,
-    now: Moment,
-) -> Result<Plan<Requester>, RoleStop>
-    ensures plans { PlansRow me.now now requester_is
-        (IsMet me.now now (readings_of kv.now) view.now (λ s. s.requester) state.now) (replay_step me.now now) result }
+fn step_replay(here: &Here<'_>, view: &View, state: &Requester) -> Result<Plan<Requester>, RoleStop>
+    ensures plans { ByRow here.now view.now state.now (replay_step here.now.me.now here.now.time) result }
     ensures leaves { IfOk result (λ plan. Leaves view.now.phase plan.next plan.tx) }
 {
     if !synchronizes(view.phase) {
-        return Ok(stay(alloc, state.copy(alloc)?));
+        return Ok(stay(here.alloc, state.copy(here.alloc)?));
     }
     match state.stage {
-        SyncStage::Replay { next, end } => {
-            let stored = Stored::of(alloc, kv);
-            replay(alloc, &stored, state, next, end, now)
-        }
-        SyncStage::Cookie | SyncStage::Chunks => Ok(stay(alloc, state.copy(alloc)?)),
+        SyncStage::Replay { next, end } => replay(here, state, next, end),
+        SyncStage::Cookie | SyncStage::Chunks => Ok(stay(here.alloc, state.copy(here.alloc)?)),
     }
 }
 
 /// One of its timers comes, which is disarmed.
 fn ring(
-    alloc: Global,
-    kv: &Kv,
-    me: &Me,
+    here: &Here<'_>,
     view: &View,
     state: &Requester,
     kind: Timer,
-    now: Moment,
 ) -> Result<Plan<Requester>, RoleStop>
     requires { IsTrue (is_own kind) }
-    ensures plans { PlansRow me.now now requester_is
-        (IsMet me.now now (readings_of kv.now) view.now (λ s. s.requester) state.now) (timer_comes me.now now kind) result }
+    ensures plans { ByRow here.now view.now state.now (timer_comes here.now.me.now here.now.time kind) result }
     ensures leaves { IfOk result (λ plan. Leaves view.now.phase plan.next plan.tx) }
 {
     match kind {
-        Timer::Sync => Ok(planned(alloc, state.copy(alloc)?, Next::Bootstrap)),
-        Timer::Step => step_replay(alloc, kv, me, view, state, now),
+        Timer::Sync => Ok(planned(here.alloc, state.copy(here.alloc)?, Next::Bootstrap)),
+        Timer::Step => step_replay(here, view, state),
         _ => unreachable!(),
     }
 }
@@ -179,9 +153,15 @@ pub fn step(
         (row me.now shared now input.now) result }
     ensures leaves { IfOk result (λ plan. Leaves view.now.phase plan.next plan.tx) }
 {
+    let here = Here {
+        alloc,
+        kv,
+        me,
+        time: now,
+    };
     match input {
-        Input::Deliver(message) => hear(alloc, kv, me, view, state, message, now),
-        Input::Timer(kind) => ring(alloc, kv, me, view, state, *kind, now),
+        Input::Deliver(message) => hear(&here, view, state, message),
+        Input::Timer(kind) => ring(&here, view, state, *kind),
         Input::Start | Input::Client(..) => unreachable!(),
     }
 }

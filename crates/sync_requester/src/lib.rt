@@ -6,6 +6,7 @@ mod chunks;
 mod cookies;
 mod entering;
 mod epochs;
+mod here;
 mod inputs;
 mod places;
 mod replay;

@@ -12,19 +12,19 @@ ghost use Rattle.mon_msg.specs.Protocol.Readings.{readings_of};
 ghost use Rattle.mon_msg.specs.Protocol.Replay.{more_of, step_of, step_in};
 ghost use Rattle.mon_msg.specs.Protocol.Timers.{length_of};
 ghost use Rattle.mon_msg.specs.declared.plan.Arming.TheVariants as arming;
-ghost use Rattle.mon_msg.specs.declared.view.Me.{Me};
 ghost use Rattle.mon_wire.specs.declared.phase.Phase.TheVariants as phase;
 ghost use Rattle.mon_plan.specs.Leaves.{Leaves};
 ghost use Rattle.mon_plan.specs.Plans.{PlansRow};
 ghost use Rattle.sync_requester.specs.Rows.{Holds};
 
+use crate::here::Here;
 use mon_bytes::{Items, OutOfMemory};
 use mon_msg::{
     MOST_REPLAYED, MOST_REPLAYED_BYTES, Next, Plan, Requester, RoleStop, SyncStage, Timer,
 };
 use mon_plan::{Stored, armed, planned, put_last, put_learned, put_unmark};
 use mon_tx::Transaction;
-use mon_types::{Moment, Version};
+use mon_types::Version;
 use std::alloc::Global;
 
 /// These values, and after them those of the versions from `from` up to but not including `to` for which there is
@@ -122,25 +122,20 @@ fn end_with(
 }
 
 /// A step with these changes, after which there is another one.
-fn go_on(
-    alloc: Global,
-    kept: Requester,
-    tx: Transaction,
-    now: Moment,
-) -> Result<Plan<Requester>, OutOfMemory>
+fn go_on(here: &Here<'_>, kept: Requester, tx: Transaction) -> Result<Plan<Requester>, OutOfMemory>
     ensures { IfOk result (λ p. p ≡ record {
       tx = tx;
       out = [];
-      timers = arming.Arm Timer.Step (min (now + length_of Timer.Step) (2 ^ 62)) ∷ [];
+      timers = arming.Arm Timer.Step (min (here.now.time + length_of Timer.Step) (2 ^ 62)) ∷ [];
       state = kept;
       next = Next.Stay;
     }) }
 {
-    let mut timers = Items::new(alloc);
-    timers.push(armed(now, Timer::Step))?;
+    let mut timers = Items::new(here.alloc);
+    timers.push(armed(here.time, Timer::Step))?;
     Ok(Plan {
         tx,
-        out: Items::new(alloc),
+        out: Items::new(here.alloc),
         timers,
         state: kept,
         next: Next::Stay,
@@ -150,31 +145,30 @@ fn go_on(
 /// A step of the replay of the versions from `next` to `end`. After the last of them the copy is over; if a record is
 /// missing the monitor begins again, and nothing of the step is written.
 pub(crate) fn replay(
-    alloc: Global,
-    stored: &Stored<'_>,
+    here: &Here<'_>,
     state: &Requester,
     next: Version,
     end: Version,
-    now: Moment,
 ) -> Result<Plan<Requester>, RoleStop>
-    ensures plans { (me : Me) →
-        PlansRow me now requester_is (Holds (readings_of stored.now) state.now)
-        (step_in me now (SyncStage.Replay next end)) result }
+    ensures plans { PlansRow here.now.me.now here.now.time requester_is
+        (Holds (readings_of here.now.kv.now) state.now)
+        (step_in here.now.me.now here.now.time (SyncStage.Replay next end)) result }
     ensures leaves { IfOk result (λ plan. Leaves phase.Synchronizing plan.next plan.tx) }
 {
-    let values = step_values(alloc, stored, next, end)?;
-    let mut kept = state.copy(alloc)?;
+    let stored = Stored::of(here.alloc, here.kv);
+    let values = step_values(here.alloc, &stored, next, end)?;
+    let mut kept = state.copy(here.alloc)?;
     let Some(values) = values else {
-        return Ok(planned(alloc, kept, Next::Bootstrap));
+        return Ok(planned(here.alloc, kept, Next::Bootstrap));
     };
-    let tx = to_learn(alloc, next, values.as_slice())?;
+    let tx = to_learn(here.alloc, next, values.as_slice())?;
     let after = next.get() + values.len() as u64;
     if after > end.get() {
-        return Ok(end_with(alloc, kept, tx, end)?);
+        return Ok(end_with(here.alloc, kept, tx, end)?);
     }
     kept.stage = SyncStage::Replay {
         next: Version::known(after),
         end,
     };
-    Ok(go_on(alloc, kept, tx, now)?)
+    Ok(go_on(here, kept, tx)?)
 }

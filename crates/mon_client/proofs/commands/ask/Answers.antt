@@ -1,6 +1,6 @@
-use Rattle.std.proofs.Common.{◌≡◌, ℕ, List, [], ◌∷◌, Ok, refl, ap, sym, ◌∙◌}
+use Rattle.std.proofs.Common.{[], ◌∷◌, Ok, ap, sym, ◌∙◌}
 use Rattle.mon_msg.specs.Protocol.Commands.{at_leader, at_peon, ask}
-use Rattle.mon_msg.specs.Protocol.Course.{Course, say, clients_are}
+use Rattle.mon_msg.specs.Protocol.Course.{Course, say}
 use Rattle.mon_msg.specs.Protocol.Readings.{readings_of}
 use Rattle.mon_msg.specs.declared.plan.Origin.TheVariants as origin
 use Rattle.mon_msg.specs.declared.plan.Sent.TheVariants as sent
@@ -11,12 +11,13 @@ use Rattle.mon_client.proofs.commands.ask.Goals as goal
 
 pub returns-then-is_leading-clause-plans : goal.returns-then-is_leading-clause-plans
 returns-then-is_leading-clause-plans c =
-    let me = c.args.me.now in
-    let w = readings_of c.args.kv.now in
-    let v = c.args.view.now in
+    let here = c.args.here.now in
+    let me = here.me.now in
+    let w = readings_of here.kv.now in
+    let v = here.view.now in
     let s = c.args.clients in
-    in_place me c.args.now w v s (at_leader me c.args.now c.args.command (origin.Session c.args.session)) (ask me c.args.now c.args.session c.args.command) c.at_leader.result
-    (λ x b. ask-leads me c.args.now w v x (under_way me c.args.now w v s x b) c.args.command c.args.session (sym c.is_leading.ensures ∙ c.if-is_leading.true))
+    in_place me here.time w v s (at_leader me here.time c.args.command (origin.Session c.args.session)) (ask me here.time c.args.session c.args.command) c.at_leader.result
+    (λ x b. ask-leads me here.time w v x (under_way me here.time w v s x b) c.args.command c.args.session (sym c.is_leading.ensures ∙ c.if-is_leading.true))
     c.at_leader.ensures.plans
 
 pub at_peon-requires : goal.at_peon-requires
@@ -24,24 +25,26 @@ at_peon-requires c = sym c.is_peon.ensures ∙ c.if-is_peon.true
 
 pub returns-then-is_peon-clause-plans : goal.returns-then-is_peon-clause-plans
 returns-then-is_peon-clause-plans c =
-    let me = c.args.me.now in
-    let w = readings_of c.args.kv.now in
-    let v = c.args.view.now in
+    let here = c.args.here.now in
+    let me = here.me.now in
+    let w = readings_of here.kv.now in
+    let v = here.view.now in
     let s = c.args.clients in
-    in_place me c.args.now w v s (at_peon me c.args.command c.args.session) (ask me c.args.now c.args.session c.args.command) c.at_peon.result
+    in_place me here.time w v s (at_peon me c.args.command c.args.session) (ask me here.time c.args.session c.args.command) c.at_peon.result
     (λ x b.
-    ask-follows me c.args.now w v x (under_way me c.args.now w v s x b) c.args.command c.args.session (sym c.is_leading.ensures ∙ c.if-is_leading.false) (sym c.is_peon.ensures ∙ c.if-is_peon.true))
-    (c.at_peon.ensures.plans c.args.now)
+    ask-follows me here.time w v x (under_way me here.time w v s x b) c.args.command c.args.session (sym c.is_leading.ensures ∙ c.if-is_leading.false) (sym c.is_peon.ensures ∙ c.if-is_peon.true))
+    c.at_peon.ensures.plans
 
 pub returns-clause-plans : goal.returns-clause-plans
 returns-clause-plans c =
-    let me = c.args.me.now in
-    let w = readings_of c.args.kv.now in
-    let v = c.args.view.now in
+    let here = c.args.here.now in
+    let me = here.me.now in
+    let w = readings_of here.kv.now in
+    let v = here.view.now in
     let s = c.args.clients in
-    answers me c.args.now (Met me c.args.now w v s) (ask me c.args.now c.args.session c.args.command)
+    answers me here.time (Met me here.time w v s) (ask me here.time c.args.session c.args.command)
     (sent.Reply c.args.session reply.Unavailable) s
     (λ x b.
-    ask-nobody me c.args.now w v x (under_way me c.args.now w v s x b) c.args.command c.args.session (sym c.is_leading.ensures ∙ c.if-is_leading.false) (sym c.is_peon.ensures ∙ c.if-is_peon.false)
-    ∙ ap (λ (y : Course). Ok (say (sent.Reply c.args.session reply.Unavailable ∷ []) y)) (same me c.args.now w v s x b))
+    ask-nobody me here.time w v x (under_way me here.time w v s x b) c.args.command c.args.session (sym c.is_leading.ensures ∙ c.if-is_leading.false) (sym c.is_peon.ensures ∙ c.if-is_peon.false)
+    ∙ ap (λ (y : Course). Ok (say (sent.Reply c.args.session reply.Unavailable ∷ []) y)) (same me here.time w v s x b))
     c.in_ok-answered.field-0 c.in_ok-answered.ensures

@@ -1,4 +1,4 @@
-use Rattle.std.proofs.Common.{◌≡◌, ◌<◌, length, List, ◌∷◌, ap, sym, ◌∙◌, arith}
+use Rattle.std.proofs.Common.{◌<◌, length, List, ◌∷◌, ap, sym, ◌∙◌, arith}
 use Rattle.mon_msg.specs.declared.clients.Waiting.{Waiting}
 use Rattle.mon_client.proofs.CommandLaws.{first_rest}
 use Rattle.mon_client.proofs.commands.take_first.Goals as goal

@@ -1,4 +1,4 @@
-use Rattle.std.proofs.Common.{◌≡◌, Bool, not, ◌==◌, ap, sym, ◌∙◌}
+use Rattle.std.proofs.Common.{Bool, not, ◌==◌, ap, ◌∙◌}
 use Rattle.std.proofs.lemmas.Bool.{eq-eqb, ne_eqb}
 use Rattle.mon_msg.specs.declared.clients.Asked.{Asked}
 use Rattle.mon_client.proofs.HandedOnLaws.{keeps_one, skips_one}

@@ -1,4 +1,4 @@
-use Rattle.std.proofs.Common.{◌≡◌, Bool, ◌==◌, List, [], ◌∷◌, ◌++◌, map, filter, take, ap, sym, ◌∙◌}
+use Rattle.std.proofs.Common.{Bool, ◌==◌, List, map, ap, ◌∙◌}
 use Rattle.std.proofs.lemmas.Bool.{eq-eqb, ne_eqb}
 use Rattle.mon_msg.specs.declared.clients.Asked.{Asked}
 use Rattle.mon_msg.specs.declared.plan.Sent.TheVariants as sent

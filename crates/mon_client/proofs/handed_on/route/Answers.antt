@@ -1,4 +1,4 @@
-use Rattle.std.proofs.Common.{◌≡◌, ℕ, not, ◌==◌, filter, map, List, [], Ok, refl, ap, sym, ◌∙◌}
+use Rattle.std.proofs.Common.{not, ◌==◌, filter, map, List, [], Ok, ap, sym, ◌∙◌}
 use Rattle.mon_msg.specs.Protocol.Commands.{hear_route}
 use Rattle.mon_msg.specs.Protocol.Course.{Course, clients_are}
 use Rattle.mon_msg.specs.Protocol.Readings.{readings_of}
@@ -13,9 +13,11 @@ use Rattle.mon_client.proofs.handed_on.route.Goals as goal
 
 pub returns-then-not-is_of_leader-clause-plans : goal.returns-then-not-is_of_leader-clause-plans
 returns-then-not-is_of_leader-clause-plans c =
-    λ me now.
-    let w = readings_of c.args.kv.now in
-    let v = c.args.view.now in
+    let here = c.args.here.now in
+    let me = here.me.now in
+    let now = here.time in
+    let w = readings_of here.kv.now in
+    let v = here.view.now in
     let s = c.args.clients in
     keeps me now (Met me now w v s) (hear_route c.args.from c.args.epoch c.args.seq c.args.reply.now) s
     (λ x b.
@@ -25,9 +27,11 @@ returns-then-not-is_of_leader-clause-plans c =
 
 pub returns-clause-plans : goal.returns-clause-plans
 returns-clause-plans c =
-    λ me now.
-    let w = readings_of c.args.kv.now in
-    let v = c.args.view.now in
+    let here = c.args.here.now in
+    let me = here.me.now in
+    let now = here.time in
+    let w = readings_of here.kv.now in
+    let v = here.view.now in
     let s = c.args.clients in
     let after = record s { sessions = c.in_ok-kept.kept } in
     let kept = c.in_ok-kept.ensures ∙ ap (λ (l : List Asked). filter (λ a. not (a.seq == c.args.seq)) l) c.as_slice-sessions.ensures in

@@ -1,5 +1,5 @@
-use Rattle.std.proofs.Common.{◌≡◌, ℕ, List, [], ◌∷◌, Ok, refl, ap, sym, ◌∙◌}
-use Rattle.mon_msg.specs.Protocol.Course.{Course, say, clients_are}
+use Rattle.std.proofs.Common.{[], ◌∷◌, Ok, ap, ◌∙◌}
+use Rattle.mon_msg.specs.Protocol.Course.{Course, say}
 use Rattle.mon_msg.specs.Protocol.Readings.{readings_of}
 use Rattle.mon_msg.specs.Protocol.Reads.{since, read}
 use Rattle.mon_msg.specs.declared.plan.Next.TheVariants as next
@@ -11,9 +11,11 @@ use Rattle.mon_client.proofs.reads.since.Goals as goal
 
 pub returns-clause-plans : goal.returns-clause-plans
 returns-clause-plans c =
-    λ me now.
-    let w = readings_of c.args.kv.now in
-    let v = c.args.view.now in
+    let here = c.args.here.now in
+    let me = here.me.now in
+    let now = here.time in
+    let w = readings_of here.kv.now in
+    let v = here.view.now in
     let s = c.args.clients in
     let told = told_by w v c.args.service c.args.version in
     answers me now (Met me now w v s) (read me now c.args.session (λ r. since r c.args.service c.args.version))

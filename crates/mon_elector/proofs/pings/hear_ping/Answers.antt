@@ -2,7 +2,6 @@ use Rattle.std.proofs.Common.{◌≡◌, List, [], ◌∷◌, ◌++◌, Option, 
 use Rattle.election_rules.specs.declared.scores.Scores.{Scores}
 use Rattle.mon_msg.specs.Protocol.Course.{elector_is}
 use Rattle.mon_msg.specs.Protocol.Pings.{hear_ping, with_heard}
-use Rattle.mon_msg.specs.Protocol.Readings.{readings_of, epoch_of}
 use Rattle.mon_msg.specs.Protocol.Sending.{message_to}
 use Rattle.mon_msg.specs.declared.election.Elector.{Elector}
 use Rattle.mon_msg.specs.declared.plan.Next.TheVariants as next
@@ -10,7 +9,7 @@ use Rattle.mon_msg.specs.declared.plan.Sent.{Sent}
 use Rattle.mon_plan.proofs.Planning.{does}
 use Rattle.mon_wire.specs.declared.body.Body.TheVariants as body
 use Rattle.mon_elector.specs.Rows.{table_told}
-use Rattle.mon_elector.proofs.Known.{Met, stays}
+use Rattle.mon_elector.proofs.Known.{epoch_in, Met, stays}
 use Rattle.mon_elector.proofs.PingLaws as laws
 use Rattle.mon_elector.proofs.pings.hear_ping.Goals as goal
 
@@ -20,24 +19,22 @@ none_is (Some x) no_some = absurd (no_some x refl)
 
 pub returns-in_default-clause-plans : goal.returns-in_default-clause-plans
 returns-in_default-clause-plans c =
-    λ now.
-    let w = readings_of c.args.stored.now in
-    stays c.args.me.now now w c.args.view.now c.args.state.now (hear_ping c.args.me.now c.args.from c.args.table.now) c.stay.result c.stay.ensures
-    (λ x b. ap (λ (t : Option Scores). hear_ping c.args.me.now c.args.from t x) (none_is c.args.table.now c.in_default.not-Some) ∙ laws.ping-untold c.args.me.now c.args.from x)
+    let here = c.args.here.now in
+    stays here (hear_ping here.me.now c.args.from c.args.table.now) c.stay.result c.stay.ensures
+    (λ x b. ap (λ (t : Option Scores). hear_ping here.me.now c.args.from t x) (none_is c.args.table.now c.in_default.not-Some) ∙ laws.ping-untold here.me.now c.args.from x)
 
 pub returns-clause-plans : goal.returns-clause-plans
 returns-clause-plans c =
-    λ now.
-    let me = c.args.me.now in
-    let s = c.args.state.now in
-    let w = readings_of c.args.stored.now in
+    let here = c.args.here.now in
+    let me = here.me.now in
+    let s = here.state.now in
     let f = c.args.from in
     let table = c.in-Some.table in
     let heard : c.with_heard-heard.result ≡ with_heard f table s = c.with_heard-heard.ensures ∙ ap (λ (t : Scores). with_heard f t s) c.scores.ensures in
     let told : c.in_ok-table.table ≡ table_told me.rule (with_heard f table s).scores = c.in_ok-table.ensures ∙ ap (λ (t : Elector). table_told me.rule t.scores) heard in
-    does me now elector_is (Met me now w c.args.view.now s) (λ x. x) (hear_ping me f c.args.table.now)
-    [] tt (message_to me (epoch_of w) (body.PingReply (table_told me.rule (with_heard f table s).scores)) f ∷ []) [] (with_heard f table s) next.Stay
-    (λ x b. ap (λ (t : Option Scores). hear_ping me f t x) c.in-Some.is ∙ laws.ping-answered me now w c.args.view.now s x b f table)
+    does me here.time elector_is (Met here) (λ x. x) (hear_ping me f c.args.table.now)
+    [] tt (message_to me (epoch_in here) (body.PingReply (table_told me.rule (with_heard f table s).scores)) f ∷ []) [] (with_heard f table s) next.Stay
+    (λ x b. ap (λ (t : Option Scores). hear_ping me f t x) c.in-Some.is ∙ laws.ping-answered here x b f table)
     (record { tx = c.new.result; out = c.push.new.self; timers = c.new-2.result; state = c.with_heard-heard.result; next = next.Stay })
     c.new.ensures
     (c.in_ok-push.ensures.ok ∙ ap (λ (l : List Sent). l ++ c.message.result ∷ []) c.new-out.ensures

@@ -1,40 +1,25 @@
-use Rattle.std.proofs.Common.{[], ◌∷◌, ◌++◌}
-use Rattle.std.proofs.lemmas.Result.{err_from_is_err_and}
-use Rattle.mon_journal.specs.Content.{records_at}
-use Rattle.mon_journal.proofs.RecordParts.{none_before, gate_missing, gate_shut, payload_faulty, payload_more, less_left, fails_of}
+use Rattle.std.proofs.Common.{◌+◌, ◌<◌, ◌^◌, ℕ, List, Option, None, Ok, subst, ◌∙◌, arith}
+use Rattle.std.specs.Prelude.{IfSome}
+use Rattle.mon_journal.specs.Content.{HeadAt}
+use Rattle.mon_journal.specs.Pieces.{left_at}
+use Rattle.mon_journal.proofs.Looking.{then_reads}
+use Rattle.mon_journal.proofs.Gathering.{goes_on}
 use Rattle.mon_journal.proofs.records.gate_behind.Goals as goal
 
-pub loop-byte-init : goal.loop-byte-init
-loop-byte-init c = ([], none_before (records_at c.args.cursor.now))
+pub overflow_add-at-in-loop-length : goal.overflow_add-at-in-loop-length
+overflow_add-at-in-loop-length g c =
+    let fits : c.loop-length.at + 5 + c.in-Some.length < 2 ^ 64 = subst (λ (o : Option ℕ). IfSome o (λ n. c.loop-length.at + 5 + n < 2 ^ 64)) c.in-Some.is c.in_ok-length.ensures.fits in
+    omega (arith, fits)
 
-pub returns-in_err-byte-clause-records : goal.returns-in_err-byte-clause-records
-returns-in_err-byte-clause-records c =
-    let p = err_from_is_err_and c.from_residual.result c.from_residual.ensures.1 in
-    let so_far = c.loop-byte.invariant in
-    rw (p.1, p.2) (gate_missing so_far.0 c.loop-byte.cursor c.in_err-byte.field-0.0 (records_at c.args.cursor.now) c.in_err-byte.ensures.step.0 so_far.1)
-
-pub returns-then-byte-ne1-clause-records : goal.returns-then-byte-ne1-clause-records
-returns-then-byte-ne1-clause-records c =
-    let so_far = c.loop-byte.invariant in
-    rw c.at-gate.ensures.value
-    (so_far.0, gate_shut so_far.0 c.loop-byte.cursor (c.in_ok-byte.byte, c.take_u8.new.self) (records_at c.args.cursor.now) c.in_ok-byte.ensures.step c.if-byte-ne1.true so_far.1)
-
-pub returns-in_err-payload_at-clause-records : goal.returns-in_err-payload_at-clause-records
-returns-in_err-payload_at-clause-records c =
-    let p = err_from_is_err_and c.from_residual-in_err-payload_at.result c.from_residual-in_err-payload_at.ensures.1 in
-    let so_far = c.loop-byte.invariant in
-    rw (p.1, p.2)
-    (fails_of c.in_err-payload_at.field-0.0 (records_at c.args.cursor.now)
-    (payload_faulty so_far.0 c.loop-byte.cursor (c.in_ok-byte.byte, c.take_u8.new.self) c.in_err-payload_at.field-0.0 (records_at c.args.cursor.now) c.in_ok-byte.ensures.step c.if-byte-ne1.false c.in_err-payload_at.ensures.payload so_far.1))
-
-pub loop-byte-smaller : goal.loop-byte-smaller
-loop-byte-smaller c =
-    less_left c.loop-byte.cursor (c.in_ok-byte.byte, c.take_u8.new.self) (c.in_ok-payload_at.field-0.now, c.payload_at.new.cursor) c.in_ok-byte.ensures.step c.if-byte-ne1.false c.in_ok-payload_at.ensures.payload
-
-pub loop-byte-preserved : goal.loop-byte-preserved
-loop-byte-preserved c =
-    let so_far = c.loop-byte.invariant in
-    let payload = c.in_ok-payload_at.field-0.now in (
-      so_far.0 ++ payload ∷ [],
-      payload_more so_far.0 c.loop-byte.cursor (c.in_ok-byte.byte, c.take_u8.new.self) (payload, c.payload_at.new.cursor) (records_at c.args.cursor.now) c.in_ok-byte.ensures.step c.if-byte-ne1.false c.in_ok-payload_at.ensures.payload so_far.1,
-    )
+pub loop-length-preserved : goal.loop-length-preserved
+loop-length-preserved g c =
+    let l = c.loop-length in
+    let s = (g.D.Disk.state c.args.disk.now).content.seen in
+    let told = subst (λ (t : Option (List ℕ)). IfSome t (λ file. HeadAt (Ok c.in_ok-length.field-0) (left_at l.at file))) l.invariant.disk.seen c.in_ok-length.ensures.head in
+    let head = subst (λ (o : Option ℕ). IfSome s (λ file. HeadAt (Ok o) (left_at l.at file))) c.in-Some.is told in
+    record {
+      disk = then_reads None (g.D.Disk.state c.args.disk.now) (g.D.Disk.state l.disk) (g.D.Disk.state c.length_at.new.disk) l.invariant.disk c.in_ok-length.ensures.disk;
+      on = c.in_ok-length.ensures.on;
+      end = c.in_ok-length.ensures.end ∙ l.invariant.end;
+      records = goes_on s l.at c.in-Some.length (l.at + (5 + c.in-Some.length)) (omega arith) l.invariant.records head;
+    }

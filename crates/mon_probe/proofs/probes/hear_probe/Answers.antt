@@ -14,17 +14,22 @@ use Rattle.mon_probe.proofs.probes.hear_probe.Goals as goal
 pub returns-then-is_marked-clause-plans : goal.returns-then-is_marked-clause-plans
 returns-then-is_marked-clause-plans c =
     λ now.
-    let w = readings_of c.args.stored.now in
-    acts c.args.me.now now w c.args.view.now c.args.state.now (hear_probe c.args.me.now c.args.from) c.stay.result next.Stay (λ x. refl) c.stay.ensures
-    (λ x b. laws.probe-marked c.args.me.now now w c.args.view.now c.args.state.now x b c.args.from (sym c.is_marked.ensures ∙ c.if-is_marked.true))
+    let here = c.args.here.now in
+    let me = here.me.now in
+    let v = here.view.now in
+    let s = here.state.now in
+    let w = readings_of here.stored.now in
+    acts me now w v s (hear_probe me c.args.from) c.stay.result next.Stay (λ x. refl) c.stay.ensures
+    (λ x b. laws.probe-marked me now w v s x b c.args.from (sym c.is_marked.ensures ∙ c.if-is_marked.true))
 
 pub returns-clause-plans : goal.returns-clause-plans
 returns-clause-plans c =
     λ now.
-    let me = c.args.me.now in
-    let v = c.args.view.now in
-    let s = c.args.state.now in
-    let w = readings_of c.args.stored.now in
+    let here = c.args.here.now in
+    let me = here.me.now in
+    let v = here.view.now in
+    let s = here.state.now in
+    let w = readings_of here.stored.now in
     let f = c.args.from in
     does me now prober_is (Met me now w v s) (λ x. x) (hear_probe me f)
     [] tt (message_to me (epoch_of w) (body.ProbeReply v.quorum w.first w.last) f ∷ []) [] s next.Stay

@@ -10,76 +10,104 @@ use Rattle.mon_probe.proofs.probes.hear_probe_reply.Goals as goal
 pub returns-then-not-is_probing-clause-plans : goal.returns-then-not-is_probing-clause-plans
 returns-then-not-is_probing-clause-plans c =
     λ now.
-    let w = readings_of c.args.stored.now in
-    acts c.args.me.now now w c.args.view.now c.args.state.now (hear_probe_reply c.args.me.now now c.args.from c.args.quorum c.args.first c.args.last) c.stay.result next.Stay (λ x. refl) c.stay.ensures
-    (λ x b. laws.reply-elsewhere c.args.me.now now w c.args.view.now c.args.state.now x b c.args.from c.args.quorum c.args.first c.args.last (sym c.is_probing.ensures ∙ c.if-not-is_probing.true))
+    let here = c.args.here.now in
+    let me = here.me.now in
+    let v = here.view.now in
+    let s = here.state.now in
+    let w = readings_of here.stored.now in
+    acts me now w v s (hear_probe_reply me now c.args.from c.args.quorum c.args.first c.args.last) c.stay.result next.Stay (λ x. refl) c.stay.ensures
+    (λ x b. laws.reply-elsewhere me now w v s x b c.args.from c.args.quorum c.args.first c.args.last (sym c.is_probing.ensures ∙ c.if-not-is_probing.true))
 
 pub returns-then-reaches_floor-clause-plans : goal.returns-then-reaches_floor-clause-plans
 returns-then-reaches_floor-clause-plans c =
     λ now.
-    let w = readings_of c.args.stored.now in
-    acts c.args.me.now now w c.args.view.now c.args.state.now (hear_probe_reply c.args.me.now now c.args.from c.args.quorum c.args.first c.args.last) c.planned.result (next.FullSync c.args.from) (λ x. refl) c.planned.ensures
-    (λ x b. laws.reply-copied c.args.me.now now w c.args.view.now c.args.state.now x b c.args.from c.args.quorum c.args.first c.args.last (sym c.is_probing.ensures ∙ c.if-not-is_probing.false) (sym c.is_marked.ensures ∙ c.if-is_marked.true)
+    let here = c.args.here.now in
+    let me = here.me.now in
+    let v = here.view.now in
+    let s = here.state.now in
+    let w = readings_of here.stored.now in
+    acts me now w v s (hear_probe_reply me now c.args.from c.args.quorum c.args.first c.args.last) c.planned.result (next.FullSync c.args.from) (λ x. refl) c.planned.ensures
+    (λ x b. laws.reply-copied me now w v s x b c.args.from c.args.quorum c.args.first c.args.last (sym c.is_probing.ensures ∙ c.if-not-is_probing.false) (sym c.is_marked.ensures ∙ c.if-is_marked.true)
     (sym c.reaches_floor.ensures ∙ c.if-reaches_floor.true))
 
 pub returns-then-is_marked-clause-plans : goal.returns-then-is_marked-clause-plans
 returns-then-is_marked-clause-plans c =
     λ now.
-    let w = readings_of c.args.stored.now in
-    acts c.args.me.now now w c.args.view.now c.args.state.now (hear_probe_reply c.args.me.now now c.args.from c.args.quorum c.args.first c.args.last) c.stay-then-is_marked.result next.Stay (λ x. refl) c.stay-then-is_marked.ensures
-    (λ x b. laws.reply-short c.args.me.now now w c.args.view.now c.args.state.now x b c.args.from c.args.quorum c.args.first c.args.last (sym c.is_probing.ensures ∙ c.if-not-is_probing.false) (sym c.is_marked.ensures ∙ c.if-is_marked.true)
+    let here = c.args.here.now in
+    let me = here.me.now in
+    let v = here.view.now in
+    let s = here.state.now in
+    let w = readings_of here.stored.now in
+    acts me now w v s (hear_probe_reply me now c.args.from c.args.quorum c.args.first c.args.last) c.stay-then-is_marked.result next.Stay (λ x. refl) c.stay-then-is_marked.ensures
+    (λ x b. laws.reply-short me now w v s x b c.args.from c.args.quorum c.args.first c.args.last (sym c.is_probing.ensures ∙ c.if-not-is_probing.false) (sym c.is_marked.ensures ∙ c.if-is_marked.true)
     (sym c.reaches_floor.ensures ∙ c.if-reaches_floor.false))
 
 pub returns-then-is_cut_off-clause-plans : goal.returns-then-is_cut_off-clause-plans
 returns-then-is_cut_off-clause-plans c =
     λ now.
-    let w = readings_of c.args.stored.now in
-    acts c.args.me.now now w c.args.view.now c.args.state.now (hear_probe_reply c.args.me.now now c.args.from c.args.quorum c.args.first c.args.last) c.planned-then-is_cut_off.result (next.FullSync c.args.from) (λ x. refl) c.planned-then-is_cut_off.ensures
-    (λ x b. laws.reply-cut_off c.args.me.now now w c.args.view.now c.args.state.now x b c.args.from c.args.quorum c.args.first c.args.last (sym c.is_probing.ensures ∙ c.if-not-is_probing.false) (sym c.is_marked.ensures ∙ c.if-is_marked.false)
+    let here = c.args.here.now in
+    let me = here.me.now in
+    let v = here.view.now in
+    let s = here.state.now in
+    let w = readings_of here.stored.now in
+    acts me now w v s (hear_probe_reply me now c.args.from c.args.quorum c.args.first c.args.last) c.planned-then-is_cut_off.result (next.FullSync c.args.from) (λ x. refl) c.planned-then-is_cut_off.ensures
+    (λ x b. laws.reply-cut_off me now w v s x b c.args.from c.args.quorum c.args.first c.args.last (sym c.is_probing.ensures ∙ c.if-not-is_probing.false) (sym c.is_marked.ensures ∙ c.if-is_marked.false)
     (sym c.is_cut_off.ensures ∙ c.if-is_cut_off.true))
 
 pub returns-then-is_behind-clause-plans : goal.returns-then-is_behind-clause-plans
 returns-then-is_behind-clause-plans c =
     λ now.
-    let w = readings_of c.args.stored.now in
-    acts c.args.me.now now w c.args.view.now c.args.state.now (hear_probe_reply c.args.me.now now c.args.from c.args.quorum c.args.first c.args.last) c.planned-then-is_behind.result (next.RecentSync c.args.from) (λ x. refl) c.planned-then-is_behind.ensures
-    (λ x b. laws.reply-behind c.args.me.now now w c.args.view.now c.args.state.now x b c.args.from c.args.quorum c.args.first c.args.last (sym c.is_probing.ensures ∙ c.if-not-is_probing.false) (sym c.is_marked.ensures ∙ c.if-is_marked.false)
+    let here = c.args.here.now in
+    let me = here.me.now in
+    let v = here.view.now in
+    let s = here.state.now in
+    let w = readings_of here.stored.now in
+    acts me now w v s (hear_probe_reply me now c.args.from c.args.quorum c.args.first c.args.last) c.planned-then-is_behind.result (next.RecentSync c.args.from) (λ x. refl) c.planned-then-is_behind.ensures
+    (λ x b. laws.reply-behind me now w v s x b c.args.from c.args.quorum c.args.first c.args.last (sym c.is_probing.ensures ∙ c.if-not-is_probing.false) (sym c.is_marked.ensures ∙ c.if-is_marked.false)
     (sym c.is_cut_off.ensures ∙ c.if-is_cut_off.false) (sym c.is_behind.ensures ∙ c.if-is_behind.true))
 
 pub returns-then-is_quorum-clause-plans : goal.returns-then-is_quorum-clause-plans
 returns-then-is_quorum-clause-plans c =
     λ now.
-    let w = readings_of c.args.stored.now in
-    acts c.args.me.now now w c.args.view.now c.args.state.now (hear_probe_reply c.args.me.now now c.args.from c.args.quorum c.args.first c.args.last) c.planned-then-is_quorum.result next.Elect (λ x. refl) c.planned-then-is_quorum.ensures
-    (λ x b. laws.reply-quorum c.args.me.now now w c.args.view.now c.args.state.now x b c.args.from c.args.quorum c.args.first c.args.last (sym c.is_probing.ensures ∙ c.if-not-is_probing.false) (sym c.is_marked.ensures ∙ c.if-is_marked.false)
+    let here = c.args.here.now in
+    let me = here.me.now in
+    let v = here.view.now in
+    let s = here.state.now in
+    let w = readings_of here.stored.now in
+    acts me now w v s (hear_probe_reply me now c.args.from c.args.quorum c.args.first c.args.last) c.planned-then-is_quorum.result next.Elect (λ x. refl) c.planned-then-is_quorum.ensures
+    (λ x b. laws.reply-quorum me now w v s x b c.args.from c.args.quorum c.args.first c.args.last (sym c.is_probing.ensures ∙ c.if-not-is_probing.false) (sym c.is_marked.ensures ∙ c.if-is_marked.false)
     (sym c.is_cut_off.ensures ∙ c.if-is_cut_off.false) (sym c.is_behind.ensures ∙ c.if-is_behind.false) (sym c.is_quorum.ensures ∙ c.if-is_quorum.true))
 
 pub returns-then-is_majority-clause-plans : goal.returns-then-is_majority-clause-plans
 returns-then-is_majority-clause-plans c =
     λ now.
-    let me = c.args.me.now in
-    let s = c.args.state.now in
-    let w = readings_of c.args.stored.now in
+    let here = c.args.here.now in
+    let me = here.me.now in
+    let v = here.view.now in
+    let s = here.state.now in
+    let w = readings_of here.stored.now in
     let f = c.args.from in
     let enough = ap (λ (q : List Bool). is_majority me.member.monitors q) c.with-outside.ensures in
-    plans me now w c.args.view.now s (hear_probe_reply me now f c.args.quorum c.args.first c.args.last) c.planned-then-is_majority.result
+    plans me now w v s (hear_probe_reply me now f c.args.quorum c.args.first c.args.last) c.planned-then-is_majority.result
     [] tt [] [] (record { outside = with_rank s.outside f }) next.Elect
     (c.planned-then-is_majority.ensures ∙ (λ i. plan_of [] [] [] (record { outside = c.with-outside.ensures i }) next.Elect))
-    (λ x b. laws.reply-elects me now w c.args.view.now s x b f c.args.quorum c.args.first c.args.last (sym c.is_probing.ensures ∙ c.if-not-is_probing.false) (sym c.is_marked.ensures ∙ c.if-is_marked.false)
+    (λ x b. laws.reply-elects me now w v s x b f c.args.quorum c.args.first c.args.last (sym c.is_probing.ensures ∙ c.if-not-is_probing.false) (sym c.is_marked.ensures ∙ c.if-is_marked.false)
     (sym c.is_cut_off.ensures ∙ c.if-is_cut_off.false) (sym c.is_behind.ensures ∙ c.if-is_behind.false) (sym c.is_quorum.ensures ∙ c.if-is_quorum.false)
     (sym (c.is_majority.ensures ∙ enough) ∙ c.if-is_majority.true))
 
 pub returns-clause-plans : goal.returns-clause-plans
 returns-clause-plans c =
     λ now.
-    let me = c.args.me.now in
-    let s = c.args.state.now in
-    let w = readings_of c.args.stored.now in
+    let here = c.args.here.now in
+    let me = here.me.now in
+    let v = here.view.now in
+    let s = here.state.now in
+    let w = readings_of here.stored.now in
     let f = c.args.from in
     let enough = ap (λ (q : List Bool). is_majority me.member.monitors q) c.with-outside.ensures in
-    plans me now w c.args.view.now s (hear_probe_reply me now f c.args.quorum c.args.first c.args.last) c.stay-2.result
+    plans me now w v s (hear_probe_reply me now f c.args.quorum c.args.first c.args.last) c.stay-2.result
     [] tt [] [] (record { outside = with_rank s.outside f }) next.Stay
     (c.stay-2.ensures ∙ (λ i. plan_of [] [] [] (record { outside = c.with-outside.ensures i }) next.Stay))
-    (λ x b. laws.reply-waits me now w c.args.view.now s x b f c.args.quorum c.args.first c.args.last (sym c.is_probing.ensures ∙ c.if-not-is_probing.false) (sym c.is_marked.ensures ∙ c.if-is_marked.false)
+    (λ x b. laws.reply-waits me now w v s x b f c.args.quorum c.args.first c.args.last (sym c.is_probing.ensures ∙ c.if-not-is_probing.false) (sym c.is_marked.ensures ∙ c.if-is_marked.false)
     (sym c.is_cut_off.ensures ∙ c.if-is_cut_off.false) (sym c.is_behind.ensures ∙ c.if-is_behind.false) (sym c.is_quorum.ensures ∙ c.if-is_quorum.false)
     (sym (c.is_majority.ensures ∙ enough) ∙ c.if-is_majority.false))

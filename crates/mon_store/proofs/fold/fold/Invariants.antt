@@ -1,15 +1,18 @@
-use Rattle.std.proofs.Common.{◌≤◌, length}
+use Rattle.std.proofs.Common.{◌≤◌, ◌<◌, ◌-◌, None}
 use Rattle.mon_kv.specs.Readers.{size_of}
+use Rattle.mon_journal.specs.Pieces.{IsPieceOf, OnlyReads}
 use Rattle.mon_store.specs.Checkpoint.{most_size}
-use Rattle.mon_store.specs.Payloads.{map_of}
-use Rattle.mon_store.proofs.Folds.{IsFolded}
+use Rattle.mon_store.proofs.Folds.{IsFoldedOn}
 use Rattle.mon_store.proofs.fold.fold.Given as goal
 
-abbrev pub invariant-loop-payload : goal.invariant-loop-payload
-invariant-loop-payload l = record {
-  map : IsFolded l.unread.cursor l.at l.kv (map_of l.payloads);
+abbrev pub invariant-loop-kv : goal.invariant-loop-kv
+invariant-loop-kv g l = record {
+  map : IsFoldedOn (g.D.Disk.state l.fn.disk).content.seen l.reader.gate l.at l.kv;
   size : size_of l.kv ≤ most_size;
+  disk : OnlyReads None (g.D.Disk.state l.fn.disk) (g.D.Disk.state l.disk);
+  on : IsPieceOf (g.D.Disk.state l.disk) l.reader.piece;
+  reach : l.journal.next_gate < l.reader.piece.end;
 }
 
-abbrev pub decreases-loop-payload : goal.decreases-loop-payload
-decreases-loop-payload l = length l.unread.cursor.rest
+abbrev pub decreases-loop-kv : goal.decreases-loop-kv
+decreases-loop-kv g l = l.reader.piece.end - l.reader.gate

@@ -1,7 +1,7 @@
 use Rattle.std.proofs.Common.{Option, None, Ok, Err, inl, inr, sym, subst}
 use Rattle.mon_types.specs.declared.names.Stop.{Stop}
 use Rattle.mon_types.specs.declared.names.Side.TheVariants.{A, B}
-use Rattle.mon_journal.specs.Steps.{OpensBy, stop_in as of_journal}
+use Rattle.mon_journal.specs.Steps.{OpensBy, with_payloads, payloads_told, stop_in as of_journal}
 use Rattle.mon_journal.specs.declared.opening.Opened.{Opened}
 use Rattle.std.specs.Prelude.{IfSome}
 use Rattle.mon_store.specs.declared.stop.OpenStop.{OpenStop}
@@ -33,7 +33,7 @@ returns-in-Err-open-clause-refused g c =
     let x = (g.D.Disk.state c.args.a.now).content in
     let y = (g.D.Disk.state c.args.b.now).content in
     subst (λ (e : OpenStop). IfSome x.seen (λ s. IfSome y.seen (λ t. Tells e (found s t)))) (sym c.named-in-Err-open.ensures)
-    (refused_b c.in-Err-open.stop c.in-Ok.opened x.seen y.seen (g.D.Disk.state c.open.new.disk).known (g.D.Disk.state c.open-2.new.disk).known (g.D.Disk.state c.open.new.disk).content (g.D.Disk.state c.open-2.new.disk).content c.in-Ok.ensures.found c.in-Err-open.ensures.found)
+    (refused_b c.in-Err-open.stop (with_payloads (payloads_told x.seen) c.in-Ok.opened) x.seen y.seen (g.D.Disk.state c.open.new.disk).known (g.D.Disk.state c.open-2.new.disk).known (g.D.Disk.state c.open.new.disk).content (g.D.Disk.state c.open-2.new.disk).content c.in-Ok.ensures.found c.in-Err-open.ensures.found)
 
 pub returns-in-Err-open-clause-any_moment : goal.returns-in-Err-open-clause-any_moment
 returns-in-Err-open-clause-any_moment g c =
@@ -62,7 +62,7 @@ returns-in-Ok-open-clause-calls g c =
     let y = g.D.Disk.state c.args.b.now in
     let m = g.D.Disk.state c.open.new.disk in
     let n = g.D.Disk.state c.open-2.new.disk in
-    calls_b x.content.seen y.content.seen x.told y.told Both c.in-Ok.opened (Ok _) m.known m.content m.told n.told c.in-Ok.ensures.found (made_by None x m c.in-Ok.ensures.call) (made_by None y n c.in-Ok-open.ensures.call)
+    calls_b x.content.seen y.content.seen x.told y.told Both (with_payloads (payloads_told x.content.seen) c.in-Ok.opened) (Ok _) m.known m.content m.told n.told c.in-Ok.ensures.found (made_by None x m c.in-Ok.ensures.call) (made_by None y n c.in-Ok-open.ensures.call)
 
 pub returns-in-Err-open-clause-calls : goal.returns-in-Err-open-clause-calls
 returns-in-Err-open-clause-calls g c =
@@ -73,7 +73,7 @@ returns-in-Err-open-clause-calls g c =
     let e = c.in-Err-open.stop in
     let stop = stop_in {T = Both} (Err (named B e)) in
     let opens : OpensBy stop y n = subst (λ (k : Option Stop). OpensBy k y n) (sym (stop_named Opened Both B e)) c.in-Err-open.ensures.call in
-    rw c.named-in-Err-open.ensures (calls_b x.content.seen y.content.seen x.told y.told Both c.in-Ok.opened (Err (named B e)) m.known m.content m.told n.told c.in-Ok.ensures.found (made_by None x m c.in-Ok.ensures.call) (made_by stop y n opens))
+    rw c.named-in-Err-open.ensures (calls_b x.content.seen y.content.seen x.told y.told Both (with_payloads (payloads_told x.content.seen) c.in-Ok.opened) (Err (named B e)) m.known m.content m.told n.told c.in-Ok.ensures.found (made_by None x m c.in-Ok.ensures.call) (made_by stop y n opens))
 
 pub returns-in-Err-clause-counts : goal.returns-in-Err-clause-counts
 returns-in-Err-clause-counts g c =

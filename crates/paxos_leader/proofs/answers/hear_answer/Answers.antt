@@ -22,10 +22,10 @@ use Rattle.paxos_leader.proofs.answers.hear_answer.Goals as goal
 pub returns-in-Err-clause-plans : goal.returns-in-Err-clause-plans
 returns-in-Err-clause-plans c =
     λ e.
-    let me = c.args.me.now in
-    let now = c.args.now in
+    let me = c.args.here.now.me.now in
+    let now = c.args.here.now.time in
     let a = c.args.answer.now in
-    let w : Readings = readings_of c.args.kv.now in
+    let w : Readings = readings_of c.args.here.now.kv.now in
     let own = c.own_last-own.result in
     let is : own ≡ w.last = c.own_last-own.ensures in
     learning-fails me now (IsHeard (phase.Collecting ∷ []) a.from e w c.args.state) (news_from own a.start) (news own a.start a.values.now) (goes_on me now a.from a.last a.whole a.pending.now)
@@ -35,11 +35,11 @@ returns-in-Err-clause-plans c =
 pub returns-in-Err-go_on_after-clause-plans : goal.returns-in-Err-go_on_after-clause-plans
 returns-in-Err-go_on_after-clause-plans c =
     λ e.
-    let me = c.args.me.now in
-    let now = c.args.now in
+    let me = c.args.here.now.me.now in
+    let now = c.args.here.now.time in
     let l : Leader = c.args.state in
     let a = c.args.answer.now in
-    let m : Store = c.args.kv.now in
+    let m : Store = c.args.here.now.kv.now in
     let w : Readings = readings_of m in
     let own = c.own_last-own.result in
     let is : own ≡ w.last = c.own_last-own.ensures in
@@ -57,11 +57,11 @@ returns-in-Err-go_on_after-clause-plans c =
 pub returns-in_ok-behind-in-Ok-go_on_after-clause-plans : goal.returns-in_ok-behind-in-Ok-go_on_after-clause-plans
 returns-in_ok-behind-in-Ok-go_on_after-clause-plans c =
     λ e.
-    let me = c.args.me.now in
-    let now = c.args.now in
+    let me = c.args.here.now.me.now in
+    let now = c.args.here.now.time in
     let l : Leader = c.args.state in
     let a = c.args.answer.now in
-    let m : Store = c.args.kv.now in
+    let m : Store = c.args.here.now.kv.now in
     let w : Readings = readings_of m in
     let own = c.own_last-own.result in
     let is : own ≡ w.last = c.own_last-own.ensures in

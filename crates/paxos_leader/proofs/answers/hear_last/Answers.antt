@@ -11,8 +11,9 @@ use Rattle.mon_tx.specs.Map.{Store}
 use Rattle.mon_wire.specs.declared.phase.Phase.TheVariants as phase
 use Rattle.mon_plan.specs.Plans.{leads}
 use Rattle.mon_plan.proofs.Planning.{instead}
-use Rattle.paxos_leader.specs.Drafts.{GoesOn, IsAsking}
+use Rattle.paxos_leader.specs.Drafts.{ActsOn, GoesOn, IsAsking}
 use Rattle.paxos_leader.specs.Rows.{IsHeard}
+use Rattle.paxos_leader.specs.declared.seen.Act.{Act}
 use Rattle.paxos_leader.proofs.Answering.{asks-here, heard-phase}
 use Rattle.paxos_leader.proofs.Going.{from_start}
 use Rattle.paxos_leader.proofs.Hearing.{last-above, last-below, last-behind, last-answer}
@@ -23,14 +24,18 @@ use Rattle.paxos_leader.proofs.answers.hear_last.Goals as goal
 pub returns-then-get-clause-plans : goal.returns-then-get-clause-plans
 returns-then-get-clause-plans c =
     λ e.
-    let me = c.args.me.now in
-    let now = c.args.now in
+    let me = c.args.here.now.me.now in
+    let now = c.args.here.now.time in
     let l : Leader = c.args.state in
     let a = c.args.answer.now in
-    let w : Readings = readings_of c.args.kv.now in
+    let w : Readings = readings_of c.args.here.now.kv.now in
     let At = IsHeard (phase.Collecting ∷ []) a.from e w l in
+    let Asks = λ (e : ℕ) (m : Store).
+    GoesOn me now (IsAsking e (readings_of m)) (record { tx = []; out = []; state = start_leader }) (collect me now l.quorum a.pn) c.ask_again.result in
     from_start me now (IsAsking (epoch_of w) w) (record { tx = []; out = []; state = start_leader }) (collect me now l.quorum a.pn) c.ask_again.result refl
-    (subst (λ (m : Store). GoesOn me now (IsAsking (epoch_of (readings_of m)) (readings_of m)) (record { tx = []; out = []; state = start_leader }) (collect me now l.quorum a.pn) c.ask_again.result) c.of-stored.ensures c.ask_again.ensures.goes)
+    (subst (λ (m : Store). Asks (epoch_of (readings_of m)) m) c.of-stored.ensures (subst (λ (e : ℕ). Asks e c.of-stored.result) c.epoch.ensures
+    (subst (λ (act : Act). ActsOn act (IsAsking act.epoch (readings_of c.of-stored.result)) (record { tx = []; out = []; state = start_leader }) (λ me now. collect me now l.quorum a.pn) c.ask_again.result)
+    c.act-act.ensures c.ask_again.ensures.goes)))
     At (λ x. x) (hear_last me now a.from e a.pn a.first a.last a.whole a.start a.values.now a.pending.now)
     (λ x b. asks-here (epoch_of w) w x b.readings refl (heard-phase a.from e w l x b))
     (λ x b.
@@ -45,11 +50,11 @@ returns-then-get-clause-leaves c = λ at. stays_leaves at c.ask_again.result c.a
 pub returns-then-get-2-clause-plans : goal.returns-then-get-2-clause-plans
 returns-then-get-2-clause-plans c =
     λ e.
-    let me = c.args.me.now in
-    let now = c.args.now in
+    let me = c.args.here.now.me.now in
+    let now = c.args.here.now.time in
     let l : Leader = c.args.state in
     let a = c.args.answer.now in
-    let w : Readings = readings_of c.args.kv.now in
+    let w : Readings = readings_of c.args.here.now.kv.now in
     let At = IsHeard (phase.Collecting ∷ []) a.from e w l in
     nothing_but me now At (hear_last me now a.from e a.pn a.first a.last a.whole a.start a.values.now a.pending.now) l (λ x b _. b.stage)
     next.Stay (λ x. refl) (λ x b. b.role)
@@ -61,11 +66,11 @@ returns-then-get-2-clause-plans c =
 pub returns-then-is_behind-clause-plans : goal.returns-then-is_behind-clause-plans
 returns-then-is_behind-clause-plans c =
     λ e.
-    let me = c.args.me.now in
-    let now = c.args.now in
+    let me = c.args.here.now.me.now in
+    let now = c.args.here.now.time in
     let l : Leader = c.args.state in
     let a = c.args.answer.now in
-    let w : Readings = readings_of c.args.kv.now in
+    let w : Readings = readings_of c.args.here.now.kv.now in
     let At = IsHeard (phase.Collecting ∷ []) a.from e w l in
     nothing_but me now At (hear_last me now a.from e a.pn a.first a.last a.whole a.start a.values.now a.pending.now) l (λ x b _. b.stage)
     next.Bootstrap (λ x. refl) (λ x b. b.role)
@@ -85,11 +90,11 @@ returns-then-get-2-clause-leaves c = λ at. stay_leaves at c.stay.result (ap (λ
 pub returns-clause-plans : goal.returns-clause-plans
 returns-clause-plans c =
     λ e.
-    let me = c.args.me.now in
-    let now = c.args.now in
+    let me = c.args.here.now.me.now in
+    let now = c.args.here.now.time in
     let l : Leader = c.args.state in
     let a = c.args.answer.now in
-    let w : Readings = readings_of c.args.kv.now in
+    let w : Readings = readings_of c.args.here.now.kv.now in
     let At = IsHeard (phase.Collecting ∷ []) a.from e w l in
     instead me now leads At (λ x. x) (hear_answer me now a.from a.last a.whole a.start a.values.now a.pending.now)
     (hear_last me now a.from e a.pn a.first a.last a.whole a.start a.values.now a.pending.now) c.hear_answer.result

@@ -2,7 +2,7 @@ use Rattle.std.proofs.Common.{[], Ok, refl, sym, ap, subst, ◌∙◌}
 use Rattle.mon_msg.specs.Protocol.Collecting.{settle}
 use Rattle.mon_msg.specs.Protocol.Leader.{hear_whole}
 use Rattle.mon_msg.specs.Protocol.Phases.{phase_of}
-use Rattle.mon_msg.specs.Protocol.Readings.{Readings, readings_of, epoch_of}
+use Rattle.mon_msg.specs.Protocol.Readings.{Readings, readings_of}
 use Rattle.mon_msg.specs.declared.paxos.Leader.{Leader}
 use Rattle.mon_msg.specs.declared.plan.Plan.{Plan}
 use Rattle.paxos_leader.specs.Drafts.{GoesOn, IsAsking, IsCollecting}
@@ -17,19 +17,19 @@ pub returns-in-Err-clause-goes : goal.returns-in-Err-clause-goes
 returns-in-Err-clause-goes c =
     let a = c.args.answer.now in
     let w : Readings = readings_of c.args.stored.now in
-    whole-fails c.args.me.now c.args.now a.from a.last a.pending.now (IsAsking (epoch_of w) w) c.args.state c.in-Err.stop c.in-Err.ensures.notes
+    whole-fails c.args.act.now.me.now c.args.act.now.time a.from a.last a.pending.now (IsAsking c.args.act.now.epoch w) c.args.state c.in-Err.stop c.in-Err.ensures.notes
 
 pub returns-then-not-are_within-clause-goes : goal.returns-then-not-are_within-clause-goes
 returns-then-not-are_within-clause-goes c =
-    let me = c.args.me.now in
-    let now = c.args.now in
+    let me = c.args.act.now.me.now in
+    let now = c.args.act.now.time in
     let l : Leader = c.args.state in
     let new : Leader = c.in-Ok.state in
     let a = c.args.answer.now in
     let w : Readings = readings_of c.args.stored.now in
     let p : Plan Leader = c.stay.result in
     let is = c.stay.ensures in
-    goes me now (IsAsking (epoch_of w) w) (record { tx = []; out = []; state = l }) (hear_whole me now a.from a.last a.pending.now) [] tt [] [] new
+    goes me now (IsAsking c.args.act.now.epoch w) (record { tx = []; out = []; state = l }) (hear_whole me now a.from a.last a.pending.now) [] tt [] [] new
     (λ y b r.
     whole-waits me now a.from a.last a.pending.now new y (c.in-Ok.ensures.notes y r) (sym c.are_within.ensures ∙ c.if-not-are_within.true)
     ∙ ap Ok (sym (notes-is new y (ap phase_of (c.in-Ok.ensures.stage ∙ ap (λ (k : Leader). k.stage) (sym r) ∙ b.stage) ∙ sym b.phase))))
@@ -37,22 +37,22 @@ returns-then-not-are_within-clause-goes c =
 
 pub returns-clause-goes : goal.returns-clause-goes
 returns-clause-goes c =
-    let me = c.args.me.now in
-    let now = c.args.now in
+    let me = c.args.act.now.me.now in
+    let now = c.args.act.now.time in
     let l : Leader = c.args.state in
     let new : Leader = c.in-Ok.state in
     let a = c.args.answer.now in
     let w : Readings = readings_of c.args.stored.now in
-    hands_on me now (IsAsking (epoch_of w) w) (record { tx = []; out = []; state = l }) (hear_whole me now a.from a.last a.pending.now)
-    (IsCollecting c.epoch.result w) (record { tx = []; out = []; state = new }) (settle me now) [] tt [] refl refl
+    hands_on me now (IsAsking c.args.act.now.epoch w) (record { tx = []; out = []; state = l }) (hear_whole me now a.from a.last a.pending.now)
+    (IsCollecting c.args.act.now.epoch w) (record { tx = []; out = []; state = new }) (settle me now) [] tt [] refl refl
     (λ y b r. record {
-      epoch = b.epoch ∙ sym c.epoch.ensures;
+      epoch = b.epoch;
       last = ap (λ (r : Readings). r.last) b.kept;
       records = ap (λ (r : Readings). r.record_of) b.kept;
       phase = b.phase;
     })
     (λ y b r. whole-settles me now a.from a.last a.pending.now new y (c.in-Ok.ensures.notes y r) (sym c.are_within.ensures ∙ c.if-not-are_within.false))
-    c.settle.result (subst (λ (d : Draft). GoesOn me now (IsCollecting c.epoch.result w) d (settle me now) c.settle.result) c.new-draft.ensures c.settle.ensures.goes)
+    c.settle.result (subst (λ (d : Draft). GoesOn me now (IsCollecting c.args.act.now.epoch w) d (settle me now) c.settle.result) c.new-draft.ensures c.settle.ensures.goes)
 
 pub settle-requires : goal.settle-requires
 settle-requires c = ap (λ (d : Draft). may_begin_found d.state.found) c.new-draft.ensures ∙ c.in-Ok.ensures.short

@@ -2,7 +2,7 @@ use Rattle.std.proofs.Common.{◌≡◌, Option, Ok, Err, sym, ap, subst, ◌∙
 use Rattle.mon_msg.specs.declared.paxos.Found.{Found}
 use Rattle.mon_msg.specs.declared.paxos.Leader.{Leader}
 use Rattle.paxos_leader.specs.Inputs.{may_begin_found}
-use Rattle.paxos_leader.specs.Parts.{with_answer, without_found}
+use Rattle.paxos_leader.specs.Parts.{with_answer}
 use Rattle.paxos_leader.specs.Rows.{Notes, NotesFound}
 use Rattle.paxos_leader.proofs.Answering.{notes-leader, notes-fails}
 use Rattle.paxos_leader.proofs.answers.note.Goals as goal

@@ -9,7 +9,7 @@ use Rattle.paxos_leader.proofs.catch_up.catch_up.Goals as goal
 
 pub loop-member-preserved : goal.loop-member-preserved
 loop-member-preserved c =
-    let f : ℕ → List Sent = commits_to c.args.me.now (at_epoch c.args.epoch (readings_of c.args.stored.now)) c.args.lasts.now in
+    let f : ℕ → List Sent = commits_to c.args.act.now.me.now (at_epoch c.args.act.now.epoch (readings_of c.args.stored.now)) c.args.lasts.now in
     let i = c.loop-member.member-index in
     c.in_ok-commit_to.ensures
     ∙ ap (λ o. o ++ f c.member-item.result) c.loop-member.invariant

@@ -8,4 +8,4 @@ use Rattle.paxos_leader.proofs.catch_up.send_missed.Goals as goal
 pub returns : goal.returns
 returns c =
     c.in_ok-catch_up.ensures
-    ∙ ap (λ (ks : List ℕ). c.args.out ++ flat_map (commits_to c.args.me.now (at_epoch c.args.epoch (readings_of c.args.stored.now)) c.args.state.now.lasts) ks) (c.as_slice.ensures.value ∙ c.in_ok-peons.ensures)
+    ∙ ap (λ (ks : List ℕ). c.args.out ++ flat_map (commits_to c.args.act.now.me.now (at_epoch c.args.act.now.epoch (readings_of c.args.stored.now)) c.args.state.now.lasts) ks) (c.as_slice.ensures.value ∙ c.in_ok-peons.ensures)

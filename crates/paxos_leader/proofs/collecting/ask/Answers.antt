@@ -11,7 +11,7 @@ use Rattle.paxos_leader.proofs.collecting.ask.Goals as goal
 
 pub returns-clause-draft : goal.returns-clause-draft
 returns-clause-draft c =
-    let me = c.args.me.now in
+    let me = c.args.act.now.me.now in
     let state : c.collector-state.result ≡ collector me c.args.quorum c.args.pn (readings_of c.args.stored.now) =
     c.collector-state.ensures
     ∙ ap (λ (f : Option Found). record start_leader { quorum = c.args.quorum; pn = c.args.pn; answered = only me.member.rank; found = f }) c.in_ok-found.ensures in

@@ -13,16 +13,16 @@ begin_value-requires c = begun-short c.args.found.value c.requires
 
 pub returns-then-get-clause-goes : goal.returns-then-get-clause-goes
 returns-then-get-clause-goes c =
-    let me = c.args.me.now in
-    let now = c.args.now in
-    otherwise me now (IsHere c.args.epoch c.args.last) c.args.draft (begin_found me now (Some c.args.found)) (λ y. Ok (be_active me now y))
+    let me = c.args.act.now.me.now in
+    let now = c.args.act.now.time in
+    otherwise me now (IsHere c.args.act.now.epoch c.args.last) c.args.draft (begin_found me now (Some c.args.found)) (λ y. Ok (be_active me now y))
     (λ y b e. found-other me now c.args.last c.args.found y b.last (λ is. c.if-get.true (omega (arith, is, c.get.ensures.value, c.get-2.ensures.value))))
     (Ok c.in_ok-be_active.field-0) c.in_ok-be_active.ensures.goes
 
 pub returns-clause-goes : goal.returns-clause-goes
 returns-clause-goes c =
-    let me = c.args.me.now in
-    let now = c.args.now in
-    otherwise me now (IsHere c.args.epoch c.args.last) c.args.draft (begin_found me now (Some c.args.found)) (begin me now stage.Previous c.args.found.value None)
+    let me = c.args.act.now.me.now in
+    let now = c.args.act.now.time in
+    otherwise me now (IsHere c.args.act.now.epoch c.args.last) c.args.draft (begin_found me now (Some c.args.found)) (begin me now stage.Previous c.args.found.value None)
     (λ y b e. found-next me now c.args.last c.args.found y b.last (omega (arith, c.if-get.false, c.get.ensures.value, c.get-2.ensures.value)))
     c.begin_value.result c.begin_value.ensures.goes

@@ -21,14 +21,14 @@ pub returns-in_default-clause-goes : goal.returns-in_default-clause-goes
 returns-in_default-clause-goes c =
     λ cs fits is x b.
     let w : Readings = readings_of c.args.stored.now in
-    collect-over c.args.me.now c.args.now c.args.quorum c.args.above c.args.epoch w (under_way cs c.args.out start_leader x) b
-    (above (made c.args.me.now c.args.above w) (2 ^ 62) c.in_default.ensures.fits.1)
+    collect-over c.args.act.now.me.now c.args.act.now.time c.args.quorum c.args.above c.args.act.now.epoch w (under_way cs c.args.out start_leader x) b
+    (above (made c.args.act.now.me.now c.args.above w) (2 ^ 62) c.in_default.ensures.fits.1)
 
 pub returns-then-is_alone-clause-goes : goal.returns-then-is_alone-clause-goes
 returns-then-is_alone-clause-goes c =
-    let me = c.args.me.now in
-    let now = c.args.now in
-    let e = c.args.epoch in
+    let me = c.args.act.now.me.now in
+    let now = c.args.act.now.time in
+    let e = c.args.act.now.epoch in
     let q = c.args.quorum in
     let pn = c.in-Some.pn in
     let w : Readings = readings_of c.args.stored.now in
@@ -47,9 +47,9 @@ returns-then-is_alone-clause-goes c =
 
 pub returns-clause-goes : goal.returns-clause-goes
 returns-clause-goes c =
-    let me = c.args.me.now in
-    let now = c.args.now in
-    let e = c.args.epoch in
+    let me = c.args.act.now.me.now in
+    let now = c.args.act.now.time in
+    let e = c.args.act.now.epoch in
     let q = c.args.quorum in
     let pn = c.in-Some.pn in
     let w : Readings = readings_of c.args.stored.now in

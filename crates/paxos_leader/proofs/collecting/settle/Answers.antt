@@ -17,9 +17,9 @@ begin_found-requires c = ap (λ (r : Leader × Option Found). may_begin_found r.
 
 pub returns-clause-goes : goal.returns-clause-goes
 returns-clause-goes c =
-    let me = c.args.me.now in
-    let now = c.args.now in
-    let e = c.args.epoch in
+    let me = c.args.act.now.me.now in
+    let now = c.args.act.now.time in
+    let e = c.args.act.now.epoch in
     let w : Readings = readings_of c.args.stored.now in
     let d : Draft = c.args.draft in
     let sends : List Sent = commits me e w d.state in

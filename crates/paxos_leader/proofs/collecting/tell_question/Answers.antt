@@ -8,7 +8,7 @@ use Rattle.paxos_leader.proofs.collecting.tell_question.Goals as goal
 
 pub returns : goal.returns
 returns c =
-    let me = c.args.me.now in
-    let same : map (message_to me c.args.epoch (body.Collect c.args.pn c.first.result c.last.result)) (members me c.args.quorum) ≡ asked me c.args.quorum c.args.pn c.args.epoch (readings_of c.args.stored.now) =
-    λ i. map (message_to me c.args.epoch (body.Collect c.args.pn (c.first.ensures i) (c.last.ensures.value i))) (members me c.args.quorum) in
+    let me = c.args.act.now.me.now in
+    let same : map (message_to me c.args.act.now.epoch (body.Collect c.args.pn c.first.result c.last.result)) (members me c.args.quorum) ≡ asked me c.args.quorum c.args.pn c.args.act.now.epoch (readings_of c.args.stored.now) =
+    λ i. map (message_to me c.args.act.now.epoch (body.Collect c.args.pn (c.first.ensures i) (c.last.ensures.value i))) (members me c.args.quorum) in
     subst (λ (l : List Sent). IfOk c.tell.result (λ sent. sent ≡ c.args.out ++ l)) same c.tell.ensures

@@ -1,16 +1,16 @@
-use Rattle.std.proofs.Common.{◌≡◌, suc, ◌≤◌, ◌<◌, ◌^◌, List, [], length, Some, Ok, true, false, refl, sym, ap, subst, ◌∙◌, arith}
+use Rattle.std.proofs.Common.{◌≡◌, suc, ◌<◌, ◌^◌, List, [], Some, Ok, true, false, refl, sym, ap, subst, ◌∙◌, arith}
 use Rattle.mon_msg.specs.Protocol.Leading.{begin, begin_alone, begin_with}
 use Rattle.mon_msg.specs.Protocol.Readings.{Readings, readings_of, epoch_of}
 use Rattle.mon_msg.specs.Protocol.Sending.{members}
 use Rattle.mon_msg.specs.Protocol.Sets.{is_empty}
 use Rattle.mon_msg.specs.declared.paxos.Leader.{Leader}
 use Rattle.mon_msg.specs.declared.paxos.LeaderStage.TheVariants as stage
-use Rattle.mon_tx.specs.Text.{text, most}
 use Rattle.mon_tx.specs.declared.op.Op.{Op}
-use Rattle.mon_plan.specs.Plans.{Plans, leads}
+use Rattle.mon_plan.specs.Plans.{leads}
 use Rattle.mon_plan.proofs.Planning.{instead}
-use Rattle.paxos_leader.specs.Drafts.{GoesOn, IsHere, IsLed}
+use Rattle.paxos_leader.specs.Drafts.{ActsOn, GoesOn, IsHere, IsLed}
 use Rattle.paxos_leader.specs.declared.draft.Draft.{Draft}
+use Rattle.paxos_leader.specs.declared.seen.Act.{Act}
 use Rattle.paxos_leader.proofs.Acting.{over, begin-spent, begins-alone, begins-among}
 use Rattle.paxos_leader.proofs.Beginning.{led-here}
 use Rattle.paxos_leader.proofs.Going.{from_start}
@@ -68,7 +68,8 @@ returns-clause-plans c =
     let drafted : c.new-draft.result ≡ record { tx = []; out = []; state = l } = c.new-draft.ensures in
     from_start me now (IsHere e w.last) (record { tx = []; out = []; state = l }) (λ y. Ok (begin_with me now stage.Updating v value (Some o) y)) r refl
     (subst (λ (d : Draft). GoesOn me now (IsHere e w.last) d (λ y. Ok (begin_with me now stage.Updating v value (Some o) y)) r) drafted
-    (c.begin_with.ensures.goes w.last))
+    (subst (λ (act : Act). ActsOn act (IsHere act.epoch w.last) c.new-draft.result (λ me now y. Ok (begin_with me now stage.Updating v value (Some o) y)) r) c.act-act.ensures
+    (c.begin_with.ensures.goes w.last)))
     (IsLed w l) (λ x. x) (λ x. begin me now stage.Updating value (Some o) x)
     (λ x b. let here : IsHere (epoch_of w) w.last x = led-here w l x b in record { epoch = here.epoch ∙ is_epoch; last = here.last; leads = here.leads })
     (λ x b.

@@ -26,7 +26,7 @@ use Rattle.paxos_leader.proofs.inputs.hear.Goals as goal
 
 pub hear_last-requires : goal.hear_last-requires
 hear_last-requires c =
-    let n = c.args.me.now.member.monitors in
+    let n = c.args.here.now.me.now.member.monitors in
     let i = c.in-Last in
     let h : fits n (body.Last i.pn i.first i.last i.whole i.start i.values i.pending) ≡ true = ap (fits n) (sym c.in-Last.is) ∙ c.requires.fits in
     record {
@@ -42,10 +42,10 @@ hear_accept-requires c = (all-begun c.args.state c.requires.held).0
 pub returns-then-not-is_ours-clause-plans : goal.returns-then-not-is_ours-clause-plans
 returns-then-not-is_ours-clause-plans c =
     λ shared.
-    let me = c.args.me.now in
-    let now = c.args.now in
+    let me = c.args.here.now.me.now in
+    let now = c.args.here.now.time in
     let l : Leader = c.args.state in
-    let w : Readings = readings_of c.args.kv.now in
+    let w : Readings = readings_of c.args.here.now.kv.now in
     let v = c.args.view.now in
     let m = c.args.message.now in
     let epoch : epoch_of w ≡ c.own_epoch-epoch.result = sym c.own_epoch-epoch.ensures in
@@ -63,10 +63,10 @@ returns-then-not-is_ours-clause-leaves c = stay_leaves c.args.view.now.phase c.s
 pub returns-in-Last-clause-plans : goal.returns-in-Last-clause-plans
 returns-in-Last-clause-plans c =
     λ shared.
-    let me = c.args.me.now in
-    let now = c.args.now in
+    let me = c.args.here.now.me.now in
+    let now = c.args.here.now.time in
     let l : Leader = c.args.state in
-    let w : Readings = readings_of c.args.kv.now in
+    let w : Readings = readings_of c.args.here.now.kv.now in
     let v = c.args.view.now in
     let m = c.args.message.now in
     let i = c.in-Last in
@@ -86,10 +86,10 @@ returns-in-Last-clause-leaves c = c.hear_last.ensures.leaves c.args.view.now.pha
 pub returns-in-Accept-clause-plans : goal.returns-in-Accept-clause-plans
 returns-in-Accept-clause-plans c =
     λ shared.
-    let me = c.args.me.now in
-    let now = c.args.now in
+    let me = c.args.here.now.me.now in
+    let now = c.args.here.now.time in
     let l : Leader = c.args.state in
-    let w : Readings = readings_of c.args.kv.now in
+    let w : Readings = readings_of c.args.here.now.kv.now in
     let v = c.args.view.now in
     let m = c.args.message.now in
     let b : Body = body.Accept c.in-Accept.pn c.in-Accept.version in
@@ -106,10 +106,10 @@ returns-in-Accept-clause-leaves c = stays_leaves c.args.view.now.phase c.hear_ac
 pub returns-in-LeaseAck-clause-plans : goal.returns-in-LeaseAck-clause-plans
 returns-in-LeaseAck-clause-plans c =
     λ shared.
-    let me = c.args.me.now in
-    let now = c.args.now in
+    let me = c.args.here.now.me.now in
+    let now = c.args.here.now.time in
     let l : Leader = c.args.state in
-    let w : Readings = readings_of c.args.kv.now in
+    let w : Readings = readings_of c.args.here.now.kv.now in
     let v = c.args.view.now in
     let m = c.args.message.now in
     let b : Body = body.LeaseAck c.in-LeaseAck.last in

@@ -5,4 +5,4 @@ use Rattle.paxos_leader.proofs.inputs.tell_victory.Goals as goal
 
 pub returns : goal.returns
 returns c =
-    subst (λ (out : List Sent). IfOk c.tell.result (λ sent. sent ≡ out ++ victories c.args.me.now c.args.epoch c.args.quorum)) c.new.ensures c.tell.ensures
+    subst (λ (out : List Sent). IfOk c.tell.result (λ sent. sent ≡ out ++ victories c.args.act.now.me.now c.args.act.now.epoch c.args.quorum)) c.new.ensures c.tell.ensures

@@ -6,8 +6,8 @@ use Rattle.paxos_leader.proofs.values.announce.Goals as goal
 
 pub returns-clause-goes : goal.returns-clause-goes
 returns-clause-goes c =
-    let me = c.args.me.now in
-    announces me c.args.now c.args.epoch c.args.last c.args.version c.args.state c.args.values c.args.tx
+    let me = c.args.act.now.me.now in
+    announces me c.args.act.now.time c.args.act.now.epoch c.args.last c.args.version c.args.state c.args.values c.args.tx
     (record { tx = c.args.tx; out = c.in_ok-out.out; state = c.without_value-state.result }) refl
     c.in_ok-out.ensures
     c.without_value-state.ensures

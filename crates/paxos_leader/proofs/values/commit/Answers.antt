@@ -31,25 +31,25 @@ learn-requires c =
 pub returns-in_default-clause-goes : goal.returns-in_default-clause-goes
 returns-in_default-clause-goes c =
     λ cs fits is x b.
-    let w : Readings = readings_of c.args.kv.now in
+    let w : Readings = readings_of c.args.here.now.kv.now in
     let own : c.own_last.result ≡ w.last = c.own_last.ensures in
-    commit-over c.args.me.now c.args.now c.args.value w.last (under_way cs [] (record c.args.state { value = Some c.args.value }) x) (ap (λ (r : Readings). r.last) b.readings)
+    commit-over c.args.here.now.me.now c.args.here.now.time c.args.value w.last (under_way cs [] (record c.args.state { value = Some c.args.value }) x) (ap (λ (r : Readings). r.last) b.readings)
     (subst (λ (n : ℕ). 2 ^ 62 < suc n) own (over c.own_last.result c.in_default.ensures.valid.1))
 
 pub returns-in-Err-clause-goes : goal.returns-in-Err-clause-goes
 returns-in-Err-clause-goes c =
-    let w : Readings = readings_of c.args.kv.now in
+    let w : Readings = readings_of c.args.here.now.kv.now in
     let own : c.own_last.result ≡ w.last = c.own_last.ensures in
-    commit-fails c.args.me.now c.args.now c.args.value w (record { tx = []; out = []; state = record c.args.state { value = Some c.args.value } }) c.in-Some.version
+    commit-fails c.args.here.now.me.now c.args.here.now.time c.args.value w (record { tx = []; out = []; state = record c.args.state { value = Some c.args.value } }) c.in-Some.version
     (omega (arith, own, c.in-Some.ensures.value)) c.in-Err.stop
     (subst (λ (vs : List (List Op)). Learns c.in-Some.version vs (Err c.in-Err.stop)) (c.as_slice.ensures ∙ c.in_ok-values.ensures)
     (subst (λ (v : ℕ). Learns v c.as_slice.result.now (Err c.in-Err.stop)) c.get.ensures.value c.in-Err.ensures.act))
 
 pub returns-clause-goes : goal.returns-clause-goes
 returns-clause-goes c =
-    let me = c.args.me.now in
-    let now = c.args.now in
-    let m : Store = c.args.kv.now in
+    let me = c.args.here.now.me.now in
+    let now = c.args.here.now.time in
+    let m : Store = c.args.here.now.kv.now in
     let w : Readings = readings_of m in
     let v = c.in-Some.version in
     let value = c.args.value in

@@ -20,10 +20,10 @@ commit-requires c =
 
 pub returns-in-None-clause-goes : goal.returns-in-None-clause-goes
 returns-in-None-clause-goes c =
-    let me = c.args.me.now in
-    let now = c.args.now in
+    let me = c.args.here.now.me.now in
+    let now = c.args.here.now.time in
     let l : Leader = c.args.state in
-    let w : Readings = readings_of c.args.kv.now in
+    let w : Readings = readings_of c.args.here.now.kv.now in
     let none : l.value ≡ None = sym (ap (λ (r : Leader × Option (List Op)). r.1) c.take_value-state.ensures) ∙ c.in-None.is in
     let kept : c.take_value-state.result.0 ≡ l = ap (λ (r : Leader × Option (List Op)). r.0) c.take_value-state.ensures ∙ (λ i. record l { value = sym none i }) in
     let is = c.stay.ensures in
@@ -35,10 +35,10 @@ returns-in-None-clause-goes c =
 
 pub returns-in-Some-clause-goes : goal.returns-in-Some-clause-goes
 returns-in-Some-clause-goes c =
-    let me = c.args.me.now in
-    let now = c.args.now in
+    let me = c.args.here.now.me.now in
+    let now = c.args.here.now.time in
     let l : Leader = c.args.state in
-    let w : Readings = readings_of c.args.kv.now in
+    let w : Readings = readings_of c.args.here.now.kv.now in
     let some : l.value ≡ Some c.in-Some.value = sym (ap (λ (r : Leader × Option (List Op)). r.1) c.take_value-state.ensures) ∙ c.in-Some.is in
     let kept : record c.take_value-state.result.0 { value = Some c.in-Some.value } ≡ l =
     ap (λ (r : Leader × Option (List Op)). record r.0 { value = Some c.in-Some.value }) c.take_value-state.ensures ∙ (λ i. record l { value = sym some i }) in

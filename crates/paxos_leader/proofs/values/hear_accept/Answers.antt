@@ -20,10 +20,10 @@ commit_any-requires c = ap (λ (l : Leader). may_begin_any l.value) c.with_vote-
 pub returns-then-not-is_asked-clause-plans : goal.returns-then-not-is_asked-clause-plans
 returns-then-not-is_asked-clause-plans c =
     λ e.
-    let me = c.args.me.now in
-    let now = c.args.now in
+    let me = c.args.here.now.me.now in
+    let now = c.args.here.now.time in
     let l : Leader = c.args.state in
-    let w : Readings = readings_of c.args.kv.now in
+    let w : Readings = readings_of c.args.here.now.kv.now in
     let other : (c.args.pn == l.pn && c.args.version == suc w.last) ≡ false = sym c.is_asked.ensures ∙ c.if-not-is_asked.true in
     nothing_but me now (IsHeard (phase.Previous ∷ phase.Updating ∷ []) c.args.from e w l) (hear_accept me now c.args.from e c.args.pn c.args.version) l (λ x b _. b.stage)
     next.Stay (λ x. refl) (λ x b. b.role)
@@ -33,10 +33,10 @@ returns-then-not-is_asked-clause-plans c =
 pub returns-then-not-all_accepted-clause-plans : goal.returns-then-not-all_accepted-clause-plans
 returns-then-not-all_accepted-clause-plans c =
     λ e.
-    let me = c.args.me.now in
-    let now = c.args.now in
+    let me = c.args.here.now.me.now in
+    let now = c.args.here.now.time in
     let l : Leader = c.args.state in
-    let w : Readings = readings_of c.args.kv.now in
+    let w : Readings = readings_of c.args.here.now.kv.now in
     let new : Leader = c.with_vote-state.result in
     let asked : (c.args.pn == l.pn && c.args.version == suc w.last) ≡ true = sym c.is_asked.ensures ∙ c.if-not-is_asked.false in
     notes me now (IsHeard (phase.Previous ∷ phase.Updating ∷ []) c.args.from e w l) (hear_accept me now c.args.from e c.args.pn c.args.version) new
@@ -47,10 +47,10 @@ returns-then-not-all_accepted-clause-plans c =
 pub returns-clause-plans : goal.returns-clause-plans
 returns-clause-plans c =
     λ e.
-    let me = c.args.me.now in
-    let now = c.args.now in
+    let me = c.args.here.now.me.now in
+    let now = c.args.here.now.time in
     let l : Leader = c.args.state in
-    let w : Readings = readings_of c.args.kv.now in
+    let w : Readings = readings_of c.args.here.now.kv.now in
     let new : Leader = c.with_vote-state.result in
     let asked : (c.args.pn == l.pn && c.args.version == suc w.last) ≡ true = sym c.is_asked.ensures ∙ c.if-not-is_asked.false in
     from_start me now (IsVoted w) (record { tx = []; out = []; state = new }) (commit_any me now new.value) c.commit_any.result refl c.commit_any.ensures.goes

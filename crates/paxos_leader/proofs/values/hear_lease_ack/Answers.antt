@@ -15,9 +15,9 @@ use Rattle.paxos_leader.proofs.values.hear_lease_ack.Goals as goal
 pub returns-then-get-clause-plans : goal.returns-then-get-clause-plans
 returns-then-get-clause-plans c =
     λ now e.
-    let me = c.args.me.now in
+    let me = c.args.here.now.me.now in
     let l : Leader = c.args.state in
-    let w : Readings = readings_of c.args.kv.now in
+    let w : Readings = readings_of c.args.here.now.kv.now in
     let own : c.own_last-own.result ≡ w.last = c.own_last-own.ensures in
     nothing_but me now (IsHeard (phase.Active ∷ []) c.args.from e w l) (hear_lease_ack me c.args.from e c.args.last) l (λ x b _. b.stage)
     next.Stay (λ x. refl) (λ x b. b.role)
@@ -28,9 +28,9 @@ returns-then-get-clause-plans c =
 pub returns-then-not-are_within-clause-plans : goal.returns-then-not-are_within-clause-plans
 returns-then-not-are_within-clause-plans c =
     λ now e.
-    let me = c.args.me.now in
+    let me = c.args.here.now.me.now in
     let l : Leader = c.args.state in
-    let w : Readings = readings_of c.args.kv.now in
+    let w : Readings = readings_of c.args.here.now.kv.now in
     let new : Leader = c.with_ack-state.result in
     let own : c.own_last-own.result ≡ w.last = c.own_last-own.ensures in
     let is : c.args.last ≡ w.last = omega (arith, own, c.if-get.false, c.get.ensures.value, c.get-2.ensures.value) in
@@ -42,9 +42,9 @@ returns-then-not-are_within-clause-plans c =
 pub returns-clause-plans : goal.returns-clause-plans
 returns-clause-plans c =
     λ now e.
-    let me = c.args.me.now in
+    let me = c.args.here.now.me.now in
     let l : Leader = c.args.state in
-    let w : Readings = readings_of c.args.kv.now in
+    let w : Readings = readings_of c.args.here.now.kv.now in
     let new : Leader = c.with_ack-state.result in
     let own : c.own_last-own.result ≡ w.last = c.own_last-own.ensures in
     let is : c.args.last ≡ w.last = omega (arith, own, c.if-get.false, c.get.ensures.value, c.get-2.ensures.value) in

@@ -6,4 +6,4 @@ use Rattle.paxos_leader.proofs.values.tell_commit.Goals as goal
 
 pub returns : goal.returns
 returns c =
-    subst (λ (out : List Sent). IfOk c.tell.result (λ sent. sent ≡ out ++ map (message_to c.args.me.now c.args.epoch (body.Commit c.args.from c.args.values)) (members c.args.me.now c.args.quorum))) c.new.ensures c.tell.ensures
+    subst (λ (out : List Sent). IfOk c.tell.result (λ sent. sent ≡ out ++ map (message_to c.args.act.now.me.now c.args.act.now.epoch (body.Commit c.args.from c.args.values)) (members c.args.act.now.me.now c.args.quorum))) c.new.ensures c.tell.ensures

@@ -21,38 +21,42 @@ use Rattle.paxos_peon.proofs.collecting.collect.Goals as goal
 
 pub returns-then-get-clause-plans : goal.returns-then-get-clause-plans
 returns-then-get-clause-plans c =
-    λ now e.
-    let s = c.args.state.now in
-    let w = readings_of c.args.stored.now in
-    only_acts c.args.me.now now peon_is (IsOurs w s s.leader e) (λ x. x) (hear_collect c.args.me.now now s.leader e c.args.pn c.args.leader_first c.args.leader_last)
+    λ e.
+    let here = c.args.here.now in
+    let me = here.me.now in
+    let s = here.state.now in
+    let w = readings_of here.stored.now in
+    only_acts me here.time peon_is (IsOurs w s s.leader e) (λ x. x) (hear_collect me here.time s.leader e c.args.pn c.args.leader_first c.args.leader_last)
     [] tt s (λ x b. kept-peon s x b.role) next.Bootstrap (λ x. refl)
     (λ x b.
-    collect-behind w s s.leader e x b c.args.me.now now c.args.pn c.args.leader_first c.args.leader_last
+    collect-behind w s s.leader e x b me here.time c.args.pn c.args.leader_first c.args.leader_last
     (omega (arith, c.if-get.true, c.get.ensures.value, c.get-2.ensures.value, c.last.ensures.value)))
     c.planned.result c.planned.ensures
 
 pub returns-in_default-clause-plans : goal.returns-in_default-clause-plans
 returns-in_default-clause-plans c =
-    λ now e x b.
-    let s = c.args.state.now in
-    collect-spent (readings_of c.args.stored.now) s s.leader e x b c.args.me.now now c.args.pn c.args.leader_first c.args.leader_last
+    λ e x b.
+    let here = c.args.here.now in
+    let s = here.state.now in
+    collect-spent (readings_of here.stored.now) s s.leader e x b here.me.now here.time c.args.pn c.args.leader_first c.args.leader_last
     (omega (arith, c.if-get.false, c.get.ensures.value, c.get-2.ensures.value, c.last.ensures.value))
     (let over = above (suc c.args.leader_last) (2 ^ 62) (λ le. c.in_default.ensures.valid.1 (omega (arith, le))) in omega (arith, over))
 
 pub returns-clause-plans : goal.returns-clause-plans
 returns-clause-plans c =
-    λ now e.
-    let me = c.args.me.now in
-    let s = c.args.state.now in
-    let w = readings_of c.args.stored.now in
+    λ e.
+    let here = c.args.here.now in
+    let me = here.me.now in
+    let s = here.state.now in
+    let w = readings_of here.stored.now in
     let old = promise_of w in
     let new : c.in_ok-promise.promise ≡ cond (ltb old c.args.pn) c.args.pn old = c.in_ok-promise.ensures.number ∙ ap (λ (k : ℕ). cond (ltb k c.args.pn) c.args.pn k) c.promise.ensures in
     let from : c.in-Some.next ≡ suc c.args.leader_last = omega (arith, c.in-Some.ensures.value) in
-    does me now peon_is (IsOurs w s s.leader e) (λ x. x) (hear_collect me now s.leader e c.args.pn c.args.leader_first c.args.leader_last)
+    does me here.time peon_is (IsOurs w s s.leader e) (λ x. x) (hear_collect me here.time s.leader e c.args.pn c.args.leader_first c.args.leader_last)
     (promised old c.args.pn) (subst (λ (k : ℕ). AllByRecursion Fits (promised k c.args.pn)) c.promise.ensures c.in_ok-promise.ensures.fit)
     (message_to me (epoch_of w) (told_with me c.args.leader_last (cond (ltb old c.args.pn) c.args.pn old) w) s.leader ∷ []) [] (record s { lease = None }) next.Stay
     (λ x b.
-    collect-told w s s.leader e x b me now c.args.pn c.args.leader_first c.args.leader_last
+    collect-told w s s.leader e x b me here.time c.args.pn c.args.leader_first c.args.leader_last
     (omega (arith, c.if-get.false, c.get.ensures.value, c.get-2.ensures.value, c.last.ensures.value))
     (let short = c.in-Some.ensures.valid.0 refl in omega (arith, short)))
     (record { tx = c.promised.new.tx; out = c.push.new.self; timers = c.new.result; state = c.without_lease.result; next = next.Stay })

@@ -20,23 +20,26 @@ use Rattle.paxos_peon.proofs.leasing.lease.Goals as goal
 pub returns-then-is_refused-clause-plans : goal.returns-then-is_refused-clause-plans
 returns-then-is_refused-clause-plans c =
     λ e.
-    let s = c.args.state.now in
-    let w = readings_of c.args.stored.now in
-    only_acts c.args.me.now c.args.now peon_is (IsOurs w s s.leader e) (λ x. x) (hear_lease c.args.me.now c.args.now s.leader e c.args.version)
+    let here = c.args.here.now in
+    let me = here.me.now in
+    let s = here.state.now in
+    let w = readings_of here.stored.now in
+    only_acts me here.time peon_is (IsOurs w s s.leader e) (λ x. x) (hear_lease me here.time s.leader e c.args.version)
     [] tt s (λ x b. kept-peon s x b.role) next.Stay (λ x. refl)
-    (λ x b. lease-dropped w s s.leader e x b c.args.me.now c.args.now c.args.version (sym c.is_refused.ensures ∙ c.if-is_refused.true))
+    (λ x b. lease-dropped w s s.leader e x b me here.time c.args.version (sym c.is_refused.ensures ∙ c.if-is_refused.true))
     c.stay.result c.stay.ensures
 
 pub returns-clause-plans : goal.returns-clause-plans
 returns-clause-plans c =
     λ e.
-    let me = c.args.me.now in
-    let s = c.args.state.now in
-    let w = readings_of c.args.stored.now in
-    does me c.args.now peon_is (IsOurs w s s.leader e) (λ x. x) (hear_lease me c.args.now s.leader e c.args.version)
-    [] tt (message_to me (epoch_of w) (body.LeaseAck w.last) s.leader ∷ []) (arming.Arm timer.Lease (min (c.args.now + length_of timer.Lease) (2 ^ 62)) ∷ [])
-    (record s { lease = extended c.args.now }) next.Stay
-    (λ x b. lease-taken w s s.leader e x b me c.args.now c.args.version (sym c.is_refused.ensures ∙ c.if-is_refused.false))
+    let here = c.args.here.now in
+    let me = here.me.now in
+    let s = here.state.now in
+    let w = readings_of here.stored.now in
+    does me here.time peon_is (IsOurs w s s.leader e) (λ x. x) (hear_lease me here.time s.leader e c.args.version)
+    [] tt (message_to me (epoch_of w) (body.LeaseAck w.last) s.leader ∷ []) (arming.Arm timer.Lease (min (here.time + length_of timer.Lease) (2 ^ 62)) ∷ [])
+    (record s { lease = extended here.time }) next.Stay
+    (λ x b. lease-taken w s s.leader e x b me here.time c.args.version (sym c.is_refused.ensures ∙ c.if-is_refused.false))
     (record { tx = c.new.result; out = c.push-2.new.self; timers = c.push.new.self; state = c.with_lease.result; next = next.Stay })
     c.new.ensures
     (c.in_ok-push-2.ensures.ok ∙ ap (λ (l : List Sent). l ++ c.message.result ∷ []) c.new-out.ensures

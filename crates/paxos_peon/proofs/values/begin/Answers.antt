@@ -16,22 +16,25 @@ use Rattle.paxos_peon.proofs.values.begin.Goals as goal
 
 pub returns-then-not-is_accepted-clause-plans : goal.returns-then-not-is_accepted-clause-plans
 returns-then-not-is_accepted-clause-plans c =
-    λ now e.
-    let s = c.args.state.now in
-    let w = readings_of c.args.stored.now in
-    only_acts c.args.me.now now peon_is (IsOurs w s s.leader e) (λ x. x) (hear_begin c.args.me.now s.leader e c.args.pn c.args.version c.args.value.now)
+    λ e.
+    let here = c.args.here.now in
+    let me = here.me.now in
+    let s = here.state.now in
+    let w = readings_of here.stored.now in
+    only_acts me here.time peon_is (IsOurs w s s.leader e) (λ x. x) (hear_begin me s.leader e c.args.pn c.args.version c.args.value.now)
     [] tt s (λ x b. kept-peon s x b.role) next.Stay (λ x. refl)
-    (λ x b. begin-dropped w s s.leader e x b c.args.me.now c.args.pn c.args.version c.args.value.now (sym c.is_accepted.ensures ∙ c.if-not-is_accepted.true))
+    (λ x b. begin-dropped w s s.leader e x b me c.args.pn c.args.version c.args.value.now (sym c.is_accepted.ensures ∙ c.if-not-is_accepted.true))
     c.stay.result c.stay.ensures
 
 pub returns-clause-plans : goal.returns-clause-plans
 returns-clause-plans c =
-    λ now e.
-    let me = c.args.me.now in
-    let s = c.args.state.now in
-    let w = readings_of c.args.stored.now in
+    λ e.
+    let here = c.args.here.now in
+    let me = here.me.now in
+    let s = here.state.now in
+    let w = readings_of here.stored.now in
     let vote = Vote c.args.version c.args.pn c.args.value.now in
-    does me now peon_is (IsOurs w s s.leader e) (λ x. x) (hear_begin me s.leader e c.args.pn c.args.version c.args.value.now)
+    does me here.time peon_is (IsOurs w s s.leader e) (λ x. x) (hear_begin me s.leader e c.args.pn c.args.version c.args.value.now)
     (vote ∷ []) (c.put_vote.ensures.fit, tt) (message_to me (epoch_of w) (body.Accept c.args.pn c.args.version) s.leader ∷ []) [] (record s { lease = None }) next.Stay
     (λ x b.
     begin-accepts w s s.leader e x b me c.args.pn c.args.version c.args.value.now (sym c.is_accepted.ensures ∙ c.if-not-is_accepted.false))

@@ -1,7 +1,7 @@
-use Rattle.std.proofs.Common.{◌++◌, List, [], ◌∷◌, refl, ap, ◌∙◌, arith}
+use Rattle.std.proofs.Common.{◌≡◌, ◌++◌, List, [], ◌∷◌, refl, ap, ◌∙◌, arith}
 use Rattle.mon_msg.specs.Protocol.Course.{provider_is}
 use Rattle.mon_msg.specs.Protocol.Providing.{grant}
-use Rattle.mon_msg.specs.Protocol.Readings.{readings_of, epoch_of}
+use Rattle.mon_msg.specs.Protocol.Readings.{Readings, readings_of, epoch_of}
 use Rattle.mon_msg.specs.Protocol.Sending.{message_to}
 use Rattle.mon_msg.specs.declared.plan.Next.TheVariants as next
 use Rattle.mon_msg.specs.declared.plan.Sent.{Sent}
@@ -11,21 +11,26 @@ use Rattle.sync_provider.specs.Rows.{Holds}
 use Rattle.sync_provider.proofs.RowLaws.{cookie_of, with_cookie, grant-spent, grant-given}
 use Rattle.sync_provider.proofs.cookies.grant.Goals as goal
 
-pub returns-then-state-gt-GREATEST-clause-plans : goal.returns-then-state-gt-GREATEST-clause-plans
-returns-then-state-gt-GREATEST-clause-plans c =
-    λ now x b. grant-spent (readings_of c.args.stored.now) c.args.state.now x b c.args.me.now c.args.to c.args.full (omega arith)
+pub returns-then-here-gt-GREATEST-clause-plans : goal.returns-then-here-gt-GREATEST-clause-plans
+returns-then-here-gt-GREATEST-clause-plans c =
+    λ now x b. grant-spent (readings_of c.args.here.now.kv.now) c.args.here.now.state.now x b c.args.here.now.me.now c.args.to c.args.full (omega arith)
 
 pub returns-clause-plans : goal.returns-clause-plans
 returns-clause-plans c =
     λ now.
-    let me = c.args.me.now in
-    let s = c.args.state.now in
-    let w = readings_of c.args.stored.now in
+    let here = c.args.here.now in
+    let me = here.me.now in
+    let s = here.state.now in
+    let w = readings_of here.kv.now in
+    let read : readings_of c.of-stored.result ≡ w = ap readings_of c.of-stored.ensures in
+    let epoch : c.epoch.result ≡ epoch_of w = c.epoch.ensures ∙ ap epoch_of read in
+    let boot : c.boot.result ≡ w.boot = c.boot.ensures.value ∙ ap (λ (r : Readings). r.boot) read in
+    let last : c.last.result ≡ w.last = c.last.ensures.value ∙ ap (λ (r : Readings). r.last) read in
     does me now provider_is (Holds w s) (λ x. x) (grant me c.args.full c.args.to)
     [] tt (message_to me (epoch_of w) (body.Cookie c.args.full (cookie_of w s) w.last) c.args.to ∷ []) [] (with_cookie c.args.to (cookie_of w s) s) next.Stay
     (λ x b. grant-given w s x b me c.args.to c.args.full (omega arith))
     (record { tx = c.new.result; out = c.push.new.self; timers = c.new-2.result; state = c.with_cookie.result; next = next.Stay })
     c.new.ensures
     (c.in_ok-push.ensures.ok ∙ ap (λ (l : List Sent). l ++ c.message.result ∷ []) c.new-out.ensures
-    ∙ ap (λ (m : Sent). m ∷ []) (c.message.ensures ∙ (λ i. message_to me (c.epoch.ensures i) (body.Cookie c.args.full (record { boot = c.boot.ensures.value i; seq = s.next_cookie }) (c.last.ensures.value i)) c.args.to)))
-    c.new-2.ensures (c.with_cookie.ensures ∙ (λ i. with_cookie c.args.to (record { boot = c.boot.ensures.value i; seq = s.next_cookie }) s)) refl
+    ∙ ap (λ (m : Sent). m ∷ []) (c.message.ensures ∙ (λ i. message_to me (epoch i) (body.Cookie c.args.full (record { boot = boot i; seq = s.next_cookie }) (last i)) c.args.to)))
+    c.new-2.ensures (c.with_cookie.ensures ∙ (λ i. with_cookie c.args.to (record { boot = boot i; seq = s.next_cookie }) s)) refl

@@ -26,7 +26,7 @@ returns-clause-plans c =
     let shared = shared_entries c.args.kv.now in
     subst (λ (came : Input). PlansRow me c.args.now provider_is met (row me shared c.args.now came) c.hear.result) (sym c.in-Deliver.is)
     (weaken me c.args.now provider_is (Holds w s) met (λ x. x) (hear me shared c.args.now m.from m.epoch m.body) c.hear.result
-    (λ x b. record { readings = b.readings; role = b.role }) c.hear.ensures.plans)
+    (λ x b. record { readings = b.readings; role = b.role }) (c.hear.ensures.plans c.args.now))
 
 pub returns-clause-leaves : goal.returns-clause-leaves
 returns-clause-leaves c =

@@ -1,4 +1,5 @@
-use Rattle.std.proofs.Common.{◌≡◌, suc, true, false, List, Result, Ok, refl, sym, ap, ◌∙◌}
+use Rattle.std.proofs.Common.{◌≡◌, suc, true, false, List, Result, Ok, refl, sym, ap, ◌∙◌, Err, subst}
+use Rattle.std.proofs.lemmas.Result.{err_from_is_err_and}
 use Rattle.mon_msg.specs.Protocol.Changes.{spelled}
 use Rattle.mon_msg.specs.Protocol.Chunks.{hear_chunk}
 use Rattle.mon_msg.specs.Protocol.Copying.{ask_chunk}
@@ -9,6 +10,10 @@ use Rattle.mon_msg.specs.declared.plan.Next.TheVariants as next
 use Rattle.mon_plan.proofs.Standing.{readings-after}
 use Rattle.mon_tx.specs.Map.{apply}
 use Rattle.mon_tx.specs.declared.op.Op.{Op}
+use Rattle.mon_msg.specs.declared.plan.Plan.{Plan}
+use Rattle.mon_msg.specs.declared.plan.RoleStop.{RoleStop}
+use Rattle.mon_msg.specs.declared.synchronisation.Requester.{Requester}
+use Rattle.mon_plan.specs.Plans.{PlansRow}
 use Rattle.mon_types.specs.declared.names.Which.{Which}
 use Rattle.sync_requester.specs.Copied.{copied}
 use Rattle.sync_requester.specs.Rows.{IsHeard}
@@ -19,49 +24,52 @@ use Rattle.sync_requester.proofs.chunks.hear_chunk.Goals as goal
 pub returns-then-not-is_awaited-clause-plans : goal.returns-then-not-is_awaited-clause-plans
 returns-then-not-is_awaited-clause-plans c =
     λ f.
-    let me = c.args.me.now in
+    let me = c.args.here.now.me.now in
     let s = c.args.state.now in
-    let w = readings_of c.args.kv.now in
-    let p = c.args.place.now in
-    let values = c.args.values.now in
-    let entries = c.args.entries.now in
-    remains me c.args.now (IsHeard w s f) (hear_chunk me c.args.now f c.args.cookie p values entries c.args.done) s (λ x b. b.role) next.Stay (λ x. refl)
-    (λ x b. chunk-is w s f x b me c.args.now p values entries c.args.cookie c.args.done false (sym c.is_awaited.ensures ∙ c.if-not-is_awaited.true))
+    let w = readings_of c.args.here.now.kv.now in
+    let p = c.args.chunk.now.place.now in
+    let values = c.args.chunk.now.values.now in
+    let entries = c.args.chunk.now.entries.now in
+    remains me c.args.here.now.time (IsHeard w s f) (hear_chunk me c.args.here.now.time f c.args.cookie p values entries c.args.done) s (λ x b. b.role) next.Stay (λ x. refl)
+    (λ x b. chunk-is w s f x b me c.args.here.now.time p values entries c.args.cookie c.args.done false (sym c.is_awaited.ensures ∙ c.if-not-is_awaited.true))
     c.stay.result c.in_ok-copy.field-0 c.in_ok-copy.ensures c.stay.ensures
 
-pub returns-in_ok-ask-in-Ok-clause-plans : goal.returns-in_ok-ask-in-Ok-clause-plans
-returns-in_ok-ask-in-Ok-clause-plans c =
+pub returns-clause-plans : goal.returns-clause-plans
+returns-clause-plans c =
     λ f.
-    let me = c.args.me.now in
+    let me = c.args.here.now.me.now in
     let s = c.args.state.now in
-    let m = c.args.kv.now in
+    let m = c.args.here.now.kv.now in
     let w = readings_of m in
-    let p = c.args.place.now in
-    let values = c.args.values.now in
-    let entries = c.args.entries.now in
-    let taken = c.in-Ok.field-0 in
-    let h = c.in-Ok.ensures in
+    let p = c.args.chunk.now.place.now in
+    let values = c.args.chunk.now.values.now in
+    let entries = c.args.chunk.now.entries.now in
+    let taken = c.in_ok-tx.field-0 in
+    let h = c.in_ok-tx.ensures in
     let cs = copied s.full (suc p.version) values entries in
-    let epoch : c.in_ok-epoch-in-Ok.epoch ≡ epoch_of (played cs w) =
-    c.in_ok-epoch-in-Ok.ensures ∙ ap (λ (ops : List Op). epoch_of (readings_of (apply ops m))) h.spelled ∙ ap epoch_of (readings-after cs h.fit m) in
-    does_as me c.args.now requester_is (IsHeard w s f) (λ x. x) (hear_chunk me c.args.now f c.args.cookie p values entries c.args.done)
-    cs h.fit (asks_chunk me c.args.now (spelled cs) c.args.cookie (record s { place = taken.place }) (epoch_of (played cs w))) refl
+    let epoch : c.in_ok-epoch.epoch ≡ epoch_of (played cs w) =
+    c.in_ok-epoch.ensures ∙ ap (λ (ops : List Op). epoch_of (readings_of (apply ops m))) h.spelled ∙ ap epoch_of (readings-after cs h.fit m) in
+    does_as me c.args.here.now.time requester_is (IsHeard w s f) (λ x. x) (hear_chunk me c.args.here.now.time f c.args.cookie p values entries c.args.done)
+    cs h.fit (asks_chunk me c.args.here.now.time (spelled cs) c.args.cookie (record s { place = taken.place }) (epoch_of (played cs w))) refl
     (λ x b.
-    chunk-is w s f x b me c.args.now p values entries c.args.cookie c.args.done true (sym c.is_awaited.ensures ∙ c.if-not-is_awaited.false)
-    ∙ chunk-asks w s f x b me c.args.now p values entries c.args.done taken h c.args.cookie)
-    c.in_ok-ask-in-Ok.field-0
-    (c.in_ok-ask-in-Ok.ensures ∙ (λ i. asks_chunk me c.args.now (h.spelled i) c.args.cookie (c.at_place.ensures i) (epoch i)))
+    chunk-is w s f x b me c.args.here.now.time p values entries c.args.cookie c.args.done true (sym c.is_awaited.ensures ∙ c.if-not-is_awaited.false)
+    ∙ chunk-asks w s f x b me c.args.here.now.time p values entries c.args.done taken h c.args.cookie)
+    c.in_ok-ask_chunk.field-0
+    (c.in_ok-ask_chunk.ensures ∙ (λ i. asks_chunk me c.args.here.now.time (h.spelled i) c.args.cookie (c.at_place.ensures i) (epoch i)))
 
-pub returns-in-Err-clause-plans : goal.returns-in-Err-clause-plans
-returns-in-Err-clause-plans c =
+pub returns-in_err-tx-clause-plans : goal.returns-in_err-tx-clause-plans
+returns-in_err-tx-clause-plans c =
     λ f.
-    let me = c.args.me.now in
+    let me = c.args.here.now.me.now in
     let s = c.args.state.now in
-    let w = readings_of c.args.kv.now in
-    let p = c.args.place.now in
-    let values = c.args.values.now in
-    let entries = c.args.entries.now in
-    take-stops s p values entries c.args.done me c.args.now (IsHeard w s f) (hear_chunk me c.args.now f c.args.cookie p values entries c.args.done) c.in-Err.stop c.in-Err.ensures (λ x b. b.role)
+    let w = readings_of c.args.here.now.kv.now in
+    let p = c.args.chunk.now.place.now in
+    let values = c.args.chunk.now.values.now in
+    let entries = c.args.chunk.now.entries.now in
+    let failed = err_from_is_err_and c.from_residual-in_err-tx.result c.from_residual-in_err-tx.ensures.1 in
+    let row = hear_chunk me c.args.here.now.time f c.args.cookie p values entries c.args.done in
+    subst (λ (r : Result (Plan Requester) RoleStop). PlansRow me c.args.here.now.time requester_is (IsHeard w s f) row r) (sym (failed.1 ∙ ap Err failed.2))
+    (take-stops s p values entries c.args.done me c.args.here.now.time (IsHeard w s f) row c.in_err-tx.field-0.0 c.in_err-tx.ensures (λ x b. b.role)
     (λ x b which e.
-    chunk-is w s f x b me c.args.now p values entries c.args.cookie c.args.done true (sym c.is_awaited.ensures ∙ c.if-not-is_awaited.false)
-    ∙ ap (λ (r : Result Course Which). r >>= (λ y. Ok (ask_chunk me c.args.now c.args.cookie y.state.requester.place y))) e)
+    chunk-is w s f x b me c.args.here.now.time p values entries c.args.cookie c.args.done true (sym c.is_awaited.ensures ∙ c.if-not-is_awaited.false)
+    ∙ ap (λ (r : Result Course Which). r >>= (λ y. Ok (ask_chunk me c.args.here.now.time c.args.cookie y.state.requester.place y))) e))

@@ -1,7 +1,7 @@
 use Rattle.std.proofs.lemmas.Result.{err_from_is_err_and}
 use Rattle.mon_disk.specs.Images.{images}
 use Rattle.mon_disk.proofs.Following.{then_calls, now}
-use Rattle.mon_journal.proofs.loading.synced_len.Goals as goal
+use Rattle.mon_journal.proofs.opening.synced_len.Goals as goal
 
 pub returns-in_err-len-clause-call : goal.returns-in_err-len-clause-call
 returns-in_err-len-clause-call g c =
