@@ -157,15 +157,7 @@ fn ended(message: Message, cursor: &Cursor<'_>) -> Result<Message, MsgRefused>
     Ok(message)
 }
 
-#[tactic(auto, unfolding(mon_wire::specs::Message::Whole::whole_at))]
-fn read_whole(alloc: Global, cursor: &mut Cursor<'_>) -> Result<Message, MsgRefused>
-    ensures { Gives (λ x. x) result (whole_at cursor.old) }
-{
-    let message = read_message(alloc, cursor)?;
-    ended(message, cursor)
-}
-
-#[tactic(auto, unfolding(mon_wire::specs::Message::Whole::message_of))]
+#[tactic(auto, unfolding(mon_wire::specs::Message::Whole::message_of, mon_wire::specs::Message::Whole::whole_at))]
 fn read(alloc: Global, bytes: &[u8]) -> Result<Message, MsgRefused>
     ensures { Gives (λ x. x) result (message_of bytes.now) }
 {
@@ -175,7 +167,9 @@ fn read(alloc: Global, bytes: &[u8]) -> Result<Message, MsgRefused>
             kind: MsgKind::TooLong,
         });
     }
-    read_whole(alloc, &mut Cursor::new(bytes))
+    let mut cursor = Cursor::new(bytes);
+    let message = read_message(alloc, &mut cursor)?;
+    ended(message, &cursor)
 }
 
 /// Decodes a message from all of the bytes. A refusal names the first faulty field and its fault. Memory is taken as

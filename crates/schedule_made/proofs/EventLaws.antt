@@ -8,11 +8,12 @@ use Rattle.std.proofs.lemmas.Fmt.{digits_decimal}
 use Rattle.mon_bytes.specs.Texts.{graphic, is_name}
 use Rattle.mon_bytes.proofs.Ascii.{both}
 use Rattle.mon_wire.specs.declared.request.Request.{Request}
+use Rattle.mon_wire.specs.declared.phase.TheConstants.Timer.{ALL}
 use Rattle.mon_wire.specs.declared.phase.Timer.{Timer}
 use Rattle.mon_wire.specs.declared.phase.Timer.TheVariants.{Probe, Election, Collect, Accept, Renew, LeaseAck, Lease, Sync, Step, Propose, Ping}
 use Rattle.schedule_text.specs.declared.event.Event.{Event}
 use Rattle.schedule_text.specs.Fields.{digit}
-use Rattle.schedule_text.specs.Words.{printable, timers, timer_text}
+use Rattle.schedule_text.specs.Words.{printable, timer_text}
 use Rattle.schedule_text.specs.Spelling.{request_text, request_fits, event_fits, event_line}
 use Rattle.schedule_text.proofs.Lengths.{at_most_20_digits}
 use Rattle.schedule_text.proofs.Numerals.{own}
@@ -99,6 +100,6 @@ timer_word Ping = omega arith
 
 pub timer_short : (rank kind at : ℕ) → rank < 3 → at ≤ 2 ^ 62 → IsTrue (is_short (timer rank kind at))
 timer_short rank kind at r a =
-    let word = timer_word (slice_index_or timers kind Probe) in
+    let word = timer_word (slice_index_or ALL kind Probe) in
     short_by (timer rank kind at) (rw (lt-ltb rank 3 r, le-leb at (2 ^ 62) a) refl)
     (simp length-append (omega (arith, word, digits rank (omega arith), digits at (omega arith))))

@@ -3,6 +3,7 @@ use Rattle.std.specs.Prelude.{ℕ, zero, suc, ◌+◌, ◌-◌, ◌*◌, ◌%◌
 use Rattle.std.specs.List.{range_with_len, slice_index_or}
 use Rattle.rand_pcg.specs.Lcg.{Lcg}
 use Rattle.election_rules.specs.declared.rule.Rule.TheVariants.{Classic}
+use Rattle.mon_wire.specs.declared.phase.TheConstants.Timer.{ALL}
 use Rattle.mon_wire.specs.declared.phase.Timer.TheVariants.{Probe}
 use Rattle.mon_wire.specs.declared.request.Request.{Request}
 use Rattle.mon_wire.specs.declared.request.Request.TheVariants as request
@@ -11,7 +12,6 @@ use Rattle.schedule_text.specs.declared.event.Plain.TheVariants as plain
 use Rattle.schedule_text.specs.declared.event.Event.{Event}
 use Rattle.schedule_text.specs.declared.event.Event.TheVariants.{Plain}
 use Rattle.schedule_text.specs.declared.schedule.Schedule.{Schedule}
-use Rattle.schedule_text.specs.Words.{timers}
 use Rattle.schedule_made.specs.Draws.{generator_of, passed, draw}
 
 -- ---- events
@@ -24,7 +24,7 @@ deliver message at = Plain (plain.Deliver message at)
 
 -- the timer of this number, in the order of timers that are due together
 abbrev pub timer : ℕ → ℕ → ℕ → Event
-timer rank kind at = Plain (plain.Timer rank (slice_index_or timers kind Probe) at)
+timer rank kind at = Plain (plain.Timer rank (slice_index_or ALL kind Probe) at)
 
 abbrev pub ask : ℕ → ℕ → ℕ → ℕ → Request → Event
 ask rank at client id asked = Plain (plain.Client rank at (record { client = client; id = id }) asked)

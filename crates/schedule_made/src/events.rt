@@ -1,6 +1,7 @@
 //! The events that schedules are made of.
 
 ghost use Rattle.std.specs.Prelude.{◌≡◌, ◌+◌, ◌^◌, ◌<◌, ◌≤◌, ◌++◌, codes, decimal, string_bytes, IfOk, OnOk};
+ghost use Rattle.mon_wire.specs.declared.phase.TheConstants.Timer.{COUNT};
 ghost use Rattle.schedule_made.specs.Made.{start, deliver, timer, ask, set, log, deliveries, opening};
 
 use mon_bytes::{Name, OutOfMemory, Text};
@@ -33,26 +34,13 @@ pub(crate) fn deliver(message: u64, at: u64) -> Event
 /// The timer of this number, in the order of timers that are due together.
 pub(crate) fn timer(rank: u8, kind: u32, at: u64) -> Event
     requires rank { rank ≤ 14 }
-    requires kind { kind < 11 }
+    requires kind { kind < COUNT }
     requires at { at ≤ 2 ^ 62 }
     ensures { result ≡ timer rank kind at }
 {
-    let kind = match kind {
-        0 => Timer::Probe,
-        1 => Timer::Election,
-        2 => Timer::Collect,
-        3 => Timer::Accept,
-        4 => Timer::Renew,
-        5 => Timer::LeaseAck,
-        6 => Timer::Lease,
-        7 => Timer::Sync,
-        8 => Timer::Step,
-        9 => Timer::Propose,
-        _ => Timer::Ping,
-    };
     Event::Plain(Plain::Timer {
         rank: Rank::known(rank),
-        kind,
+        kind: Timer::ALL[kind as usize],
         at: Moment::known(at),
     })
 }
