@@ -6,8 +6,8 @@ use Rattle.mon_core.specs.Known.{asks_any_map, asks_for, is_shown}
 use Rattle.mon_core.proofs.Told.{asks_none, unasked}
 use Rattle.mon_core.proofs.monitor.played.Goals as goal
 
-pub returns-in_ok-run-in-Set-clause-known : goal.returns-in_ok-run-in-Set-clause-known
-returns-in_ok-run-in-Set-clause-known c =
+pub returns-in-Set-clause-known : goal.returns-in-Set-clause-known
+returns-in-Set-clause-known c =
     λ s.
     let w = readings_of c.args.here.now.kv.now in
     let k = known c.args.cache.now s in
