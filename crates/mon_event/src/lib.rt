@@ -13,5 +13,5 @@ pub use event::Event;
 pub use role::{Role, hearer, woken_by};
 pub use role_state::RoleState;
 pub use seen::{is_heard, scores_count, view};
-pub use state::{State, is_same_phase};
+pub use state::State;
 pub use timers::Timers;

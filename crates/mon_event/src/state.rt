@@ -2,7 +2,7 @@
 
 ghost use Rattle.std.specs.Prelude.{◌≡◌, not, None};
 ghost use Rattle.mon_msg.specs.Protocol.Course.{timers_in};
-ghost use Rattle.mon_msg.specs.Protocol.Phases.{same_phase, phase_of};
+ghost use Rattle.mon_msg.specs.Protocol.Phases.{phase_of};
 ghost use Rattle.mon_msg.specs.Protocol.Sets.{is_empty};
 ghost use Rattle.mon_msg.specs.Protocol.State.{booting, no_clients, start_leader};
 ghost use Rattle.mon_plan.specs.Plans.{all_armed, phase_as};
@@ -102,23 +102,6 @@ fn no_clients(alloc: Global) -> Clients
     }
 }
 
-/// Whether two phases are the same.
-pub fn is_same_phase(a: Phase, b: Phase) -> bool
-    ensures { result ≡ same_phase a b }
-{
-    match a {
-        Phase::Booting => matches!(b, Phase::Booting),
-        Phase::Probing => matches!(b, Phase::Probing),
-        Phase::Synchronizing => matches!(b, Phase::Synchronizing),
-        Phase::Electing => matches!(b, Phase::Electing),
-        Phase::Collecting => matches!(b, Phase::Collecting),
-        Phase::Previous => matches!(b, Phase::Previous),
-        Phase::Active => matches!(b, Phase::Active),
-        Phase::Updating => matches!(b, Phase::Updating),
-        Phase::Peon => matches!(b, Phase::Peon),
-    }
-}
-
 fn phase_of(stage: LeaderStage) -> Phase
     ensures { result ≡ phase_of stage }
 {
@@ -176,7 +159,7 @@ impl State {
           timers = timers_in phase (state_of self.old);
         } }
     {
-        if !is_same_phase(self.phase, phase) {
+        if self.phase != phase {
             self.timers = self.timers.only_ping();
         }
         self.phase = phase;

@@ -3,7 +3,6 @@
 ghost use Rattle.std.specs.Prelude.{◌≡◌};
 ghost use Rattle.mon_world.specs.Step.{still_line, told};
 
-use mon_event::is_same_phase;
 use mon_msg::Items;
 use std::alloc::Global;
 use trace_text::{Outcome, Replies, StateLine, StepLine};
@@ -15,10 +14,7 @@ pub(crate) fn told(before: Option<StateLine>, now: StateLine) -> Option<StateLin
     let Some(before) = before else {
         return Some(now);
     };
-    if is_same_phase(before.phase, now.phase)
-        && before.epoch == now.epoch
-        && before.last == now.last
-    {
+    if before.phase == now.phase && before.epoch == now.epoch && before.last == now.last {
         None
     } else {
         Some(now)
