@@ -148,10 +148,7 @@ fn hear_whole(
         (λ me now. whole_row me now answer.now.from answer.now.last answer.now.pending.now) result }
     ensures stays { IfOk result (λ p. p.next ≡ Next.Stay) }
 {
-    let state = match note(state, answer) {
-        Ok(state) => state,
-        Err(stop) => return Err(stop),
-    };
+    let state = note(state, answer)?;
     if !are_within(act.me, state.quorum, state.answered) {
         return Ok(stay(act.alloc, state));
     }
