@@ -145,19 +145,14 @@ pub(crate) fn is_own_cookie(state: &Requester, cookie: Cookie) -> bool
     }
 }
 
-/// Whether the provider says that it can't give the missing versions.
-fn is_no_grant(state: &Requester, cookie: Cookie) -> bool
-    ensures { result ≡ (awaits_cookie state.now.stage && not state.now.full && same_cookie cookie no_cookie) }
-{
-    awaits_cookie(state.stage) && !state.full && cookie == NO_COOKIE
-}
-
-/// Whether the provider says that there is no cookie with which it could go on.
+/// Whether the provider says that there is no cookie with which it could go on, or that it can't give the missing
+/// versions.
 fn is_lost(state: &Requester, cookie: Cookie) -> bool
     ensures { result ≡ (is_cookie cookie state.now.cookie ||
         (awaits_cookie state.now.stage && not state.now.full && same_cookie cookie no_cookie)) }
 {
-    is_own_cookie(state, cookie) || is_no_grant(state, cookie)
+    is_own_cookie(state, cookie)
+        || (awaits_cookie(state.stage) && !state.full && cookie == NO_COOKIE)
 }
 
 /// The provider doesn't know a cookie, or can't grant one.

@@ -2,13 +2,13 @@ use Rattle.std.proofs.Common.{suc, ◌^◌, true, Result, ap, arith, Err, sym, s
 use Rattle.std.proofs.lemmas.Result.{err_from_is_err_and}
 use Rattle.mon_msg.specs.Protocol.Chunks.{replay_or_end, take_last}
 use Rattle.mon_msg.specs.Protocol.Course.{Course, ◌>>=◌, requester_is}
-use Rattle.mon_plan.proofs.Learning.{above}
+use Rattle.mon_msg.specs.Protocol.Readings.{readings_of}
 use Rattle.mon_msg.specs.declared.plan.Plan.{Plan}
 use Rattle.mon_msg.specs.declared.plan.RoleStop.{RoleStop}
 use Rattle.mon_msg.specs.declared.synchronisation.Requester.{Requester}
+use Rattle.mon_plan.proofs.Learning.{above}
 use Rattle.mon_plan.specs.Plans.{PlansRow}
 use Rattle.mon_types.specs.declared.names.Which.{Which}
-use Rattle.mon_msg.specs.Protocol.Readings.{readings_of}
 use Rattle.sync_requester.specs.Rows.{IsHeard}
 use Rattle.sync_requester.proofs.ChunkLaws.{copy-spent, take-stops}
 use Rattle.sync_requester.proofs.chunks.end_copy.Goals as goal

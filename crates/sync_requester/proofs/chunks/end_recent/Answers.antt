@@ -3,6 +3,7 @@ use Rattle.std.proofs.lemmas.Result.{err_from_is_err_and}
 use Rattle.mon_msg.specs.Protocol.Changes.{spelled}
 use Rattle.mon_msg.specs.Protocol.Chunks.{replay_or_end, take_last}
 use Rattle.mon_msg.specs.Protocol.Course.{Course, ◌>>=◌, requester_is}
+use Rattle.mon_msg.specs.Protocol.Readings.{readings_of}
 use Rattle.mon_msg.specs.declared.plan.Next.TheVariants as next
 use Rattle.mon_msg.specs.declared.plan.Plan.{Plan}
 use Rattle.mon_msg.specs.declared.plan.RoleStop.{RoleStop}
@@ -10,7 +11,6 @@ use Rattle.mon_msg.specs.declared.synchronisation.Requester.{Requester}
 use Rattle.mon_plan.specs.Plans.{PlansRow}
 use Rattle.mon_types.specs.declared.names.Which.{Which}
 use Rattle.sync_requester.specs.Copied.{copied}
-use Rattle.mon_msg.specs.Protocol.Readings.{readings_of}
 use Rattle.sync_requester.specs.Rows.{IsHeard}
 use Rattle.sync_requester.proofs.ChunkLaws.{recent-ends, take-stops}
 use Rattle.sync_requester.proofs.Planned.{does_as, then_acts}

@@ -7,13 +7,13 @@ use Rattle.mon_msg.specs.Protocol.Course.{Course, ◌>>=◌, requester_is}
 use Rattle.mon_msg.specs.Protocol.Played.{played}
 use Rattle.mon_msg.specs.Protocol.Readings.{epoch_of, readings_of}
 use Rattle.mon_msg.specs.declared.plan.Next.TheVariants as next
-use Rattle.mon_plan.proofs.Standing.{readings-after}
-use Rattle.mon_tx.specs.Map.{apply}
-use Rattle.mon_tx.specs.declared.op.Op.{Op}
 use Rattle.mon_msg.specs.declared.plan.Plan.{Plan}
 use Rattle.mon_msg.specs.declared.plan.RoleStop.{RoleStop}
 use Rattle.mon_msg.specs.declared.synchronisation.Requester.{Requester}
+use Rattle.mon_plan.proofs.Standing.{readings-after}
 use Rattle.mon_plan.specs.Plans.{PlansRow}
+use Rattle.mon_tx.specs.Map.{apply}
+use Rattle.mon_tx.specs.declared.op.Op.{Op}
 use Rattle.mon_types.specs.declared.names.Which.{Which}
 use Rattle.sync_requester.specs.Copied.{copied}
 use Rattle.sync_requester.specs.Rows.{IsHeard}

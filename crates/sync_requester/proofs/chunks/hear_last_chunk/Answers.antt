@@ -1,9 +1,9 @@
 use Rattle.std.proofs.Common.{true, false, refl, sym, ◌∙◌}
 use Rattle.mon_msg.specs.Protocol.Chunks.{hear_last_chunk, take_last}
 use Rattle.mon_msg.specs.Protocol.Course.{requester_is}
+use Rattle.mon_msg.specs.Protocol.Readings.{readings_of}
 use Rattle.mon_msg.specs.declared.plan.Next.TheVariants as next
 use Rattle.mon_plan.proofs.Planning.{instead}
-use Rattle.mon_msg.specs.Protocol.Readings.{readings_of}
 use Rattle.sync_requester.specs.Rows.{IsHeard}
 use Rattle.sync_requester.proofs.ChunkLaws.{last_chunk-is}
 use Rattle.sync_requester.proofs.Planned.{remains}
