@@ -1,7 +1,6 @@
 //! The monitor calls an election.
 
 ghost use Rattle.std.specs.Prelude.{◌≡◌, ◌+◌, ◌^◌, [], ◌∷◌, None, true, min, map, IfOk};
-ghost use Rattle.mon_msg.specs.Protocol.Changes.{Epoch as ToEpoch, spelled};
 ghost use Rattle.mon_msg.specs.Protocol.Course.{elector_is};
 ghost use Rattle.mon_msg.specs.Protocol.Sending.{others, message_to};
 ghost use Rattle.mon_msg.specs.Protocol.Sets.{only};

@@ -1,6 +1,6 @@
 //! Monitors measure their connections.
 
-ghost use Rattle.std.specs.Prelude.{◌≡◌, ◌+◌, ◌-◌, ◌/◌, if◌then◌else◌, IfOk, Ok};
+ghost use Rattle.std.specs.Prelude.{◌≡◌, ◌-◌, ◌/◌, if◌then◌else◌, IfOk, Ok};
 ghost use Rattle.election_rules.specs.Table.{raised, lowered, scored};
 ghost use Rattle.mon_msg.specs.Protocol.Pings.{hear_ping, hear_ping_reply, ping, scores_after, measure, with_heard};
 ghost use Rattle.mon_plan.specs.Leaves.{Leaves};

@@ -1,9 +1,9 @@
-//! What an elector asks of what it sees and remembers.
+//! What an elector asks of what it sees and remembers. Each test is a function of its own. Its clause has the form that
+//! the protocol's definitions give the test, so that the proof of a row cites one equation for it.
 
 ghost use Rattle.std.specs.Prelude.{◌≡◌, ◌&&◌, ◌||◌, ◌==◌, not, nat_lt, nat_le, suc, is_some, IfOk};
-ghost use Rattle.election_rules.specs.Ranking.{outranks as is_before};
 ghost use Rattle.mon_msg.specs.Protocol.Elections.{is_allowed, stands_before, may_defer, is_whole, table_or};
-ghost use Rattle.mon_msg.specs.Protocol.Entering.{is_even, scores_count};
+ghost use Rattle.mon_msg.specs.Protocol.Entering.{is_even};
 ghost use Rattle.mon_msg.specs.Protocol.Phases.{votes, same_phase};
 ghost use Rattle.mon_msg.specs.Protocol.Readings.{epoch_of, readings_of};
 ghost use Rattle.mon_types.specs.Ranks.{has, is_majority};

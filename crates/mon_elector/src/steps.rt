@@ -1,6 +1,6 @@
 //! The steps of which an elector's plans are made.
 
-ghost use Rattle.std.specs.Prelude.{◌≡◌, ◌+◌, ◌≤◌, ◌^◌, [], ◌∷◌, Some, None, suc, true, false, min, map, IfOk};
+ghost use Rattle.std.specs.Prelude.{◌≡◌, [], ◌∷◌, Some, None, false, map, IfOk};
 ghost use Rattle.mon_msg.specs.Protocol.Changes.{Epoch as ToEpoch, spelled};
 ghost use Rattle.mon_msg.specs.Protocol.Elections.{merged_if_told};
 ghost use Rattle.mon_msg.specs.Protocol.Played.{Fits};
