@@ -393,7 +393,8 @@ impl World {
         Ok(still(self.alloc, upshot.told(fault)))
     }
 
-    /// An event of a schedule, and its lines of the trace.
+    /// An event of a schedule, and its lines of the trace. It is apart from `step`, which so shows once for all kinds of
+    /// events that the run goes on.
     fn happen(&mut self, event: &Event) -> Result<StepLine, WorldStop>
         requires world { IsWorld self.old }
         requires fits { Fits (length self.old.monitors.items) event.now }
