@@ -1,6 +1,6 @@
 -- The reply to a client that asks for a map.
-use Rattle.std.proofs.Common.{◌≡◌, ℕ, Bool, true, false, not, ◌&&◌, ◌||◌, List, Option, Result, Ok, refl, ap, ◌∙◌}
-use Rattle.std.specs.Prelude.{if◌then◌else◌}
+use Rattle.std.proofs.Common.{◌≡◌, ℕ, Bool, true, false, not, ◌&&◌, ◌||◌, List, Option, Result, Ok, Err, refl, ap, ◌∙◌}
+use Rattle.std.specs.Prelude.{if◌then◌else◌, OnOk}
 use Rattle.mon_bytes.specs.declared.entry.Entry.{Entry}
 use Rattle.mon_lease.specs.Lease.{readable}
 use Rattle.mon_msg.specs.Protocol.Course.{Course}
@@ -89,3 +89,8 @@ asks_none came h service.Log = (neither (asks_for service.Kv came) (asks_for ser
 pub unasked : (shown asked : Bool) (read k : Option Known) → asked ≡ false → (if shown && asked then read else k) ≡ k
 unasked true asked read k h = ap (λ b. if b then read else k) h
 unasked false asked read k h = refl
+
+-- what holds of every result holds of one that isn't an error
+pub on_ok_any : {T E : Type 0} (r : Result T E) (P : Type 0) → P → OnOk r P
+on_ok_any (Ok x) P p = p
+on_ok_any (Err e) P p = tt
