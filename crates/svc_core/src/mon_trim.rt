@@ -8,7 +8,6 @@ use mon_msg::{PAXOS_DUE, PAXOS_GOES, PAXOS_KEEPS};
 use mon_tx::{Area, Key, Op, Transaction};
 use std::alloc::Global;
 
-
 /// Appends what trims the log: the versions from the first one on that go, and the first one that is kept.
 pub(crate) fn push_trim(tx: &mut Transaction, first: u64, last: u64) -> Result<(), OutOfMemory>
     requires first { first ≤ 2 ^ 62 }

@@ -10,7 +10,6 @@ use mon_bytes::{Bytes, OutOfMemory};
 use mon_msg::{FULL_EVERY, SERVICE_DUE, SERVICE_GOES, SERVICE_KEEPS};
 use mon_tx::{Area, Key, Transaction};
 
-
 /// Whether a full map is kept at a version.
 pub(crate) fn has_full(n: u64) -> bool
     ensures { result ≡ (n % FULL_EVERY == 0) }

@@ -26,7 +26,6 @@ use Rattle.mon_msg.specs.declared.limits.TheConstants.{MOST_WAITING}
 use Rattle.mon_types.specs.declared.names.Which.TheVariants as which
 use Rattle.mon_types.specs.declared.names.Which.{Which}
 
-
 -- ---- what is too long
 
 -- the longest value or text of a command, in bytes, and that of the command

@@ -12,7 +12,6 @@ use Rattle.mon_tx.specs.declared.key.Key.TheVariants as key
 use Rattle.mon_tx.specs.declared.op.Op.TheVariants.{EraseRange}
 use Rattle.mon_tx.specs.declared.op.Op.{Op}
 
-
 -- a number that is the first is put
 abbrev pub begins : Area → List Op
 begins a = put_number a key.FirstCommitted 1 ∷ []
