@@ -182,7 +182,11 @@ class Client:
                 return reply.fields
             if reply and reply.kind in REFUSALS:
                 raise Refused(REFUSALS[reply.kind].format(**reply.fields))
-            outcomes[self.asked] = reply.kind if reply else NO_ANSWER
+            if reply or time.monotonic() < end:
+                outcomes[self.asked] = reply.kind if reply else NO_ANSWER
+            else:
+                # A last try that was cut short says nothing of a monitor that answered before.
+                outcomes.setdefault(self.asked, NO_ANSWER)
             if self.monitor is None:
                 self.asked = (self.asked + 1) % len(self.addresses)
         raise NotServed(self.timeout, outcomes)
