@@ -2,26 +2,15 @@
 
 ghost use Rattle.std.specs.Prelude.{◌≡◌, IfOk};
 ghost use Rattle.std.specs.List.{list_any};
-ghost use Rattle.std.specs.Ordering.{eq_by_cmp};
-ghost use Rattle.mon_tx.specs.Map.{place_cmp};
 ghost use Rattle.mon_msg.specs.Joined.{joined, puts};
 ghost use Rattle.mon_core.specs.Joining.{is_put_again, are_put_once};
 
 use mon_bytes::OutOfMemory;
-use mon_tx::{Op, Transaction};
+use mon_tx::{Op, Transaction, is_at};
 use std::alloc::Global;
 
 /// Most transactions are no longer than this, and put no key twice. Of a longer one it isn't looked at pair by pair.
 const SHORT: usize = 32;
-
-/// Whether two places are the same.
-fn is_at(prefix: &[u8], key: &[u8], other_prefix: &[u8], other_key: &[u8]) -> bool
-    ensures { result ≡ eq_by_cmp place_cmp (prefix.now, key.now) (other_prefix.now, other_key.now) }
-{
-    let same_prefix = prefix == other_prefix;
-    let same_key = key == other_key;
-    same_prefix & same_key
-}
 
 /// Whether a change puts a key.
 fn puts(prefix: &[u8], key: &[u8], op: &Op) -> bool

@@ -4,9 +4,8 @@ ghost use Rattle.std.specs.Prelude.{◌≡◌, ◌≤◌, ◌^◌, None, IfOk, I
 ghost use Rattle.std.specs.FinMap.{get};
 ghost use Rattle.std.specs.List.{filter, list_any};
 ghost use Rattle.std.specs.Option.{option_copied, option_map};
-ghost use Rattle.std.specs.Ordering.{eq_by_cmp};
 ghost use Rattle.mon_tx.specs.Keys.{cell, number, covers, area_text, key_text};
-ghost use Rattle.mon_tx.specs.Map.{apply, place_cmp};
+ghost use Rattle.mon_tx.specs.Map.{apply};
 ghost use Rattle.mon_tx.specs.declared.key.Area.TheVariants as area;
 ghost use Rattle.mon_tx.specs.declared.key.Key.TheVariants as key;
 ghost use Rattle.mon_msg.specs.Joined.{takes_away};
@@ -16,7 +15,7 @@ ghost use Rattle.mon_plan.specs.Taking.{is_taking, IsAt};
 use itoa::Buffer;
 use mon_bytes::OutOfMemory;
 use mon_kv::{Kv, number_of};
-use mon_tx::{Area, Key, Op, Transaction};
+use mon_tx::{Area, Key, Op, Transaction, is_at};
 use mon_types::{Epoch, Pn, Version};
 use std::alloc::Global;
 use std::marker::Model;
@@ -95,15 +94,6 @@ fn covers(from: u64, to: u64, key: Key) -> bool
         Key::Version(v) => from <= v && v < to,
         _ => false,
     }
-}
-
-/// Whether two places are the same.
-fn is_at(prefix: &[u8], key: &[u8], other_prefix: &[u8], other_key: &[u8]) -> bool
-    ensures { result ≡ eq_by_cmp place_cmp (prefix.now, key.now) (other_prefix.now, other_key.now) }
-{
-    let same_prefix = prefix == other_prefix;
-    let same_key = key == other_key;
-    same_prefix & same_key
 }
 
 /// Whether a change takes a named key away, whose prefix and text are known.

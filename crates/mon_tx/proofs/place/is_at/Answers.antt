@@ -2,7 +2,7 @@ use Rattle.std.proofs.Common.{◌&&◌, ◌∙◌}
 use Rattle.std.specs.Cmp.{tied_then}
 use Rattle.std.specs.Cmp.Lexicographic.{slice_cmp, texts_ties}
 use Rattle.std.specs.Ordering.{nat_cmp}
-use Rattle.mon_plan.proofs.stored.is_at.Goals as goal
+use Rattle.mon_tx.proofs.place.is_at.Goals as goal
 
 pub returns : goal.returns
 returns c =
