@@ -1,15 +1,18 @@
 //! The values that a map has under known names.
+//!
+//! `last_pn`, `promise`, `floor` and `pending` are here for tests. The program reads these values through `mon_plan`,
+//! which sees changes that aren't made yet.
 
-ghost use Rattle.std.specs.Prelude.{◌≡◌, ◌≤◌, ◌^◌, IfSome};
+ghost use Rattle.std.specs.Prelude.{◌≡◌, ◌≤◌, ◌^◌, IfSome, IsTrue};
 ghost use Rattle.std.specs.Option.{option_copied, option_map};
-ghost use Rattle.mon_tx.specs.Keys.{cell, number};
+ghost use Rattle.mon_tx.specs.Keys.{cell, is_fixed, number};
 ghost use Rattle.mon_tx.specs.declared.key.Area.TheVariants as area;
 ghost use Rattle.mon_tx.specs.declared.key.Key.TheVariants as key;
 ghost use Rattle.mon_kv.specs.Readers.{epoch, is_marked, pending};
 
-use crate::kv::Kv;
+use crate::kv::{Kv, number_of};
 use itoa::Buffer;
-use mon_tx::is_text;
+use mon_tx::{Area, Key, is_text};
 
 /// A value that this monitor accepted and that isn't committed yet.
 #[derive(Clone, Copy, Debug)]
@@ -20,12 +23,29 @@ pub struct Pending<'a> {
 }
 
 impl Kv {
+    /// The value at a key with a fixed text.
+    fn named(&self, area: Area, key: Key) -> Option<&[u8]>
+        requires { IsTrue (is_fixed key) }
+        ensures { option_copied result ≡ cell self.now area key }
+    {
+        self.get(area.as_bytes(), key.as_bytes())
+    }
+
+    /// The number at a key with a fixed text.
+    pub fn named_number(&self, area: Area, key: Key) -> u64
+        requires { IsTrue (is_fixed key) }
+        ensures value { result ≡ number self.now area key }
+        ensures most { result ≤ 2 ^ 62 }
+    {
+        number_of(self.named(area, key))
+    }
+
     /// The first version that is kept.
     pub fn first_committed(&self) -> u64
         ensures value { result ≡ number self.now area.Paxos key.FirstCommitted }
         ensures most { result ≤ 2 ^ 62 }
     {
-        self.number(b"paxos", b"first_committed")
+        self.named_number(Area::Paxos, Key::FirstCommitted)
     }
 
     /// The last committed version.
@@ -33,7 +53,7 @@ impl Kv {
         ensures value { result ≡ number self.now area.Paxos key.LastCommitted }
         ensures most { result ≤ 2 ^ 62 }
     {
-        self.number(b"paxos", b"last_committed")
+        self.named_number(Area::Paxos, Key::LastCommitted)
     }
 
     /// The last proposal number that the monitor made.
@@ -41,7 +61,7 @@ impl Kv {
         ensures value { result ≡ number self.now area.Paxos key.LastPn }
         ensures most { result ≤ 2 ^ 62 }
     {
-        self.number(b"paxos", b"last_pn")
+        self.named_number(Area::Paxos, Key::LastPn)
     }
 
     /// The proposal number that the monitor promised.
@@ -49,7 +69,7 @@ impl Kv {
         ensures value { result ≡ number self.now area.Paxos key.AcceptedPn }
         ensures most { result ≤ 2 ^ 62 }
     {
-        self.number(b"paxos", b"accepted_pn")
+        self.named_number(Area::Paxos, Key::AcceptedPn)
     }
 
     /// The election epoch. It counts as 1 if there is none.
@@ -57,10 +77,10 @@ impl Kv {
         ensures value { result ≡ epoch self.now }
         ensures most { result ≤ 2 ^ 62 }
     {
-        if self.get(b"monitor", b"election_epoch").is_none() {
+        if self.named(Area::Monitor, Key::ElectionEpoch).is_none() {
             return 1;
         }
-        self.number(b"monitor", b"election_epoch")
+        self.named_number(Area::Monitor, Key::ElectionEpoch)
     }
 
     /// How often the monitor was started.
@@ -68,7 +88,7 @@ impl Kv {
         ensures value { result ≡ number self.now area.Monitor key.BootCount }
         ensures most { result ≤ 2 ^ 62 }
     {
-        self.number(b"monitor", b"boot_count")
+        self.named_number(Area::Monitor, Key::BootCount)
     }
 
     /// The version that a full synchronisation must reach.
@@ -76,14 +96,14 @@ impl Kv {
         ensures value { result ≡ number self.now area.Sync key.Floor }
         ensures most { result ≤ 2 ^ 62 }
     {
-        self.number(b"mon_sync", b"last_committed_floor")
+        self.named_number(Area::Sync, Key::Floor)
     }
 
     /// Whether a full synchronisation is under way.
     pub fn in_sync(&self) -> bool
         ensures { result ≡ is_marked self.now }
     {
-        self.number(b"mon_sync", b"in_sync") == 1
+        self.named_number(Area::Sync, Key::InSync) == 1
     }
 
     /// The record of a version: the bytes at its decimal key, or `None` if and only if there are none.
@@ -92,7 +112,7 @@ impl Kv {
         ensures { option_copied result ≡ cell self.now area.Paxos (key.Version v) }
     {
         let mut digits = Buffer::new();
-        self.get(b"paxos", digits.format(v).as_bytes())
+        self.get(Area::Paxos.as_bytes(), digits.format(v).as_bytes())
     }
 
     /// The value that was accepted for the version after the last one. It is there if and only if `pending_v` is that
@@ -103,14 +123,14 @@ impl Kv {
         ensures most { IfSome result (λ p. (p.v ≤ 2 ^ 62) × (p.pn ≤ 2 ^ 62)) }
     {
         let v = self.last_committed() + 1;
-        if self.number(b"paxos", b"pending_v") != v {
+        if self.named_number(Area::Paxos, Key::PendingV) != v {
             return None;
         }
         let value = self.stored(v)?;
         if !is_text(value) {
             return None;
         }
-        let pn = self.number(b"paxos", b"pending_pn");
+        let pn = self.named_number(Area::Paxos, Key::PendingPn);
         Some(Pending { v, pn, value })
     }
 }

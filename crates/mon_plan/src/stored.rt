@@ -1,13 +1,11 @@
 //! A monitor's store as changes leave it that aren't made yet.
 
-ghost use Rattle.std.specs.Prelude.{◌≡◌, ◌≤◌, ◌^◌, None, IfOk, IfSome, is_some, if◌then◌else◌};
+ghost use Rattle.std.specs.Prelude.{◌≡◌, ◌≤◌, ◌^◌, None, IfOk, IfSome, IsTrue, is_some, if◌then◌else◌};
 ghost use Rattle.std.specs.FinMap.{get};
 ghost use Rattle.std.specs.List.{filter, list_any};
 ghost use Rattle.std.specs.Option.{option_copied, option_map};
-ghost use Rattle.mon_tx.specs.Keys.{cell, number, covers, area_text, key_text};
+ghost use Rattle.mon_tx.specs.Keys.{cell, number, covers, is_fixed, key_text};
 ghost use Rattle.mon_tx.specs.Map.{apply};
-ghost use Rattle.mon_tx.specs.declared.key.Area.TheVariants as area;
-ghost use Rattle.mon_tx.specs.declared.key.Key.TheVariants as key;
 ghost use Rattle.mon_msg.specs.Joined.{takes_away};
 ghost use Rattle.mon_msg.specs.Protocol.Readings.{readings_of, epoch_of, promise_of, number_if_there};
 ghost use Rattle.mon_plan.specs.Taking.{is_taking, IsAt};
@@ -77,13 +75,6 @@ fn taken_by(alloc: Global, ops: &[Op]) -> Result<Vec<Op>, OutOfMemory>
         taken.push(op.copy(alloc)?)?;
     }
     Ok(taken)
-}
-
-/// The prefix of an area.
-fn area_bytes(area: Area) -> &'static [u8]
-    ensures { result.now ≡ area_text area }
-{
-    area.as_str().as_bytes()
 }
 
 /// Whether a named key is that of a version from `from` up to but not including `to`.
@@ -172,28 +163,29 @@ impl<'a> Stored<'a> {
         requires { text.now ≡ key_text key }
         ensures { option_copied result ≡ cell self.now area key }
     {
-        let prefix = area_bytes(area);
+        let prefix = area.as_bytes();
         match self.put.get(prefix, text) {
             Some(bytes) => Some(bytes),
             None => still_there(self.kv, self.taken.as_slice(), &At { prefix, key, text }),
         }
     }
 
-    fn number(&self, area: Area, key: Key, text: &[u8]) -> u64
-        requires { text.now ≡ key_text key }
+    /// The number at a key with a fixed text.
+    fn number(&self, area: Area, key: Key) -> u64
+        requires { IsTrue (is_fixed key) }
         ensures value { result ≡ number self.now area key }
         ensures most { result ≤ 2 ^ 62 }
     {
-        number_of(self.named(area, key, text))
+        number_of(self.named(area, key, key.as_bytes()))
     }
 
-    /// A number, if there is one.
-    fn if_there(&self, area: Area, key: Key, text: &[u8]) -> Option<u64>
-        requires { text.now ≡ key_text key }
+    /// The number at a key with a fixed text, if there is one.
+    fn if_there(&self, area: Area, key: Key) -> Option<u64>
+        requires { IsTrue (is_fixed key) }
         ensures value { result ≡ number_if_there (cell self.now area key) }
         ensures most { IfSome result (λ n. n ≤ 2 ^ 62) }
     {
-        match self.named(area, key, text) {
+        match self.named(area, key, key.as_bytes()) {
             Some(bytes) => Some(number_of(Some(bytes))),
             None => None,
         }
@@ -204,7 +196,7 @@ impl<'a> Stored<'a> {
     pub fn epoch(&self) -> Epoch
         ensures { result ≡ epoch_of (readings_of self.now) }
     {
-        match self.if_there(Area::Monitor, Key::ElectionEpoch, b"election_epoch") {
+        match self.if_there(Area::Monitor, Key::ElectionEpoch) {
             Some(epoch) => Epoch::known(epoch),
             None => Epoch::known(1),
         }
@@ -215,8 +207,7 @@ impl<'a> Stored<'a> {
     pub fn has_epoch(&self) -> bool
         ensures { result ≡ is_some (readings_of self.now).epoch }
     {
-        self.if_there(Area::Monitor, Key::ElectionEpoch, b"election_epoch")
-            .is_some()
+        self.if_there(Area::Monitor, Key::ElectionEpoch).is_some()
     }
 
     /// How often the monitor was started.
@@ -225,7 +216,7 @@ impl<'a> Stored<'a> {
         ensures value { result ≡ (readings_of self.now).boot }
         ensures most { result ≤ 2 ^ 62 }
     {
-        self.number(Area::Monitor, Key::BootCount, b"boot_count")
+        self.number(Area::Monitor, Key::BootCount)
     }
 
     /// The last proposal number that the monitor made, if there is one.
@@ -233,7 +224,7 @@ impl<'a> Stored<'a> {
     pub fn last_pn(&self) -> Option<Pn>
         ensures { result ≡ (readings_of self.now).last_pn }
     {
-        match self.if_there(Area::Paxos, Key::LastPn, b"last_pn") {
+        match self.if_there(Area::Paxos, Key::LastPn) {
             Some(pn) => Some(Pn::known(pn)),
             None => None,
         }
@@ -244,7 +235,7 @@ impl<'a> Stored<'a> {
     pub fn promised(&self) -> Option<Pn>
         ensures { result ≡ (readings_of self.now).promise }
     {
-        match self.if_there(Area::Paxos, Key::AcceptedPn, b"accepted_pn") {
+        match self.if_there(Area::Paxos, Key::AcceptedPn) {
             Some(pn) => Some(Pn::known(pn)),
             None => None,
         }
@@ -265,7 +256,7 @@ impl<'a> Stored<'a> {
     pub fn first(&self) -> Version
         ensures { result ≡ (readings_of self.now).first }
     {
-        Version::known(self.number(Area::Paxos, Key::FirstCommitted, b"first_committed"))
+        Version::known(self.number(Area::Paxos, Key::FirstCommitted))
     }
 
     /// The last committed version.
@@ -274,7 +265,7 @@ impl<'a> Stored<'a> {
         ensures value { result ≡ (readings_of self.now).last }
         ensures most { (readings_of self.now).last ≤ 2 ^ 62 }
     {
-        Version::known(self.number(Area::Paxos, Key::LastCommitted, b"last_committed"))
+        Version::known(self.number(Area::Paxos, Key::LastCommitted))
     }
 
     /// For which version a value was accepted last.
@@ -283,7 +274,7 @@ impl<'a> Stored<'a> {
         ensures value { result ≡ (readings_of self.now).pending_v }
         ensures most { result ≤ 2 ^ 62 }
     {
-        self.number(Area::Paxos, Key::PendingV, b"pending_v")
+        self.number(Area::Paxos, Key::PendingV)
     }
 
     /// Under which proposal number.
@@ -291,7 +282,7 @@ impl<'a> Stored<'a> {
     pub(crate) fn pending_pn(&self) -> Pn
         ensures { result ≡ (readings_of self.now).pending_pn }
     {
-        Pn::known(self.number(Area::Paxos, Key::PendingPn, b"pending_pn"))
+        Pn::known(self.number(Area::Paxos, Key::PendingPn))
     }
 
     /// Whether a full synchronisation is under way.
@@ -299,7 +290,7 @@ impl<'a> Stored<'a> {
     pub fn is_marked(&self) -> bool
         ensures { result ≡ (readings_of self.now).marked }
     {
-        self.number(Area::Sync, Key::InSync, b"in_sync") == 1
+        self.number(Area::Sync, Key::InSync) == 1
     }
 
     /// The version that a full synchronisation must reach.
@@ -307,7 +298,7 @@ impl<'a> Stored<'a> {
     pub fn floor(&self) -> Version
         ensures { result ≡ (readings_of self.now).floor }
     {
-        Version::known(self.number(Area::Sync, Key::Floor, b"last_committed_floor"))
+        Version::known(self.number(Area::Sync, Key::Floor))
     }
 
     /// The record of a version: the bytes at its decimal key, or `None` if and only if there are none.

@@ -89,3 +89,9 @@ same_key a b = false
 abbrev pub covers : ℕ → ℕ → Key → Bool
 covers from to (Version v) = nat_le from v && nat_lt v to
 covers from to key = false
+
+-- whether the text of a key is fixed: it has no number
+abbrev pub is_fixed : Key → Bool
+is_fixed (Version v) = false
+is_fixed (Full v) = false
+is_fixed key = true

@@ -1,6 +1,6 @@
-ghost use Rattle.std.specs.Prelude.{◌≡◌, true, IfOk, string_bytes};
+ghost use Rattle.std.specs.Prelude.{◌≡◌, true, IfOk, IsTrue, string_bytes};
 ghost use Rattle.mon_bytes.specs.Texts.{is_word, is_name};
-ghost use Rattle.mon_tx.specs.Keys.{area_text, key_text, decimal_text};
+ghost use Rattle.mon_tx.specs.Keys.{area_text, key_text, decimal_text, is_fixed};
 
 use mon_bytes::{Name, OutOfMemory, Prefix};
 use std::alloc::Global;
@@ -66,29 +66,49 @@ fn decimal(alloc: Global, n: u64) -> Result<String, OutOfMemory>
 }
 
 impl Key {
+    /// The text of a key that has no number.
+    fn as_str(self) -> &'static str
+        requires { IsTrue (is_fixed self) }
+        ensures text { result.now ≡ key_text self }
+        ensures form { is_name result.now ≡ true }
+    {
+        match self {
+            Key::FirstCommitted => "first_committed",
+            Key::LastCommitted => "last_committed",
+            Key::LastPn => "last_pn",
+            Key::AcceptedPn => "accepted_pn",
+            Key::PendingV => "pending_v",
+            Key::PendingPn => "pending_pn",
+            Key::FullLatest => "full_latest",
+            Key::ElectionEpoch => "election_epoch",
+            Key::BootCount => "boot_count",
+            Key::InSync => "in_sync",
+            Key::Floor => "last_committed_floor",
+            Key::Version(_) | Key::Full(_) => unreachable!(),
+        }
+    }
+
+    /// The key as a map has it, given that its text is fixed: it is neither `Version` nor `Full`. It takes no memory.
+    pub fn as_bytes(self) -> &'static [u8]
+        requires { IsTrue (is_fixed self) }
+        ensures { result.now ≡ key_text self }
+    {
+        self.as_str().as_bytes()
+    }
+
     #[tactic(auto, using(crate::proofs::Decimals::word_name, crate::proofs::Decimals::whole_name))]
     fn written(self, alloc: Global) -> Result<String, OutOfMemory>
         ensures text { IfOk result (λ s. string_bytes s ≡ key_text self) }
         ensures form { IfOk result (λ s. is_name (string_bytes s) ≡ true) }
     {
         match self {
-            Key::FirstCommitted => copied(alloc, "first_committed"),
-            Key::LastCommitted => copied(alloc, "last_committed"),
-            Key::LastPn => copied(alloc, "last_pn"),
-            Key::AcceptedPn => copied(alloc, "accepted_pn"),
-            Key::PendingV => copied(alloc, "pending_v"),
-            Key::PendingPn => copied(alloc, "pending_pn"),
-            Key::FullLatest => copied(alloc, "full_latest"),
-            Key::ElectionEpoch => copied(alloc, "election_epoch"),
-            Key::BootCount => copied(alloc, "boot_count"),
-            Key::InSync => copied(alloc, "in_sync"),
-            Key::Floor => copied(alloc, "last_committed_floor"),
             Key::Version(v) => decimal(alloc, v),
             Key::Full(v) => {
                 let mut text = copied(alloc, "full_")?;
                 text.push_str(decimal(alloc, v)?.as_str())?;
                 Ok(text)
             }
+            _ => copied(alloc, self.as_str()),
         }
     }
 
@@ -117,10 +137,17 @@ impl Area {
         }
     }
 
+    /// The area's prefix as bytes. It takes no memory.
+    pub fn as_bytes(self) -> &'static [u8]
+        ensures { result.now ≡ area_text self }
+    {
+        self.as_str().as_bytes()
+    }
+
     /// The area's prefix.
     pub fn prefix(self, alloc: Global) -> Result<Prefix, OutOfMemory>
         ensures { IfOk result (λ p. p ≡ area_text self) }
     {
-        Prefix::from_slice(alloc, self.as_str().as_bytes())
+        Prefix::from_slice(alloc, self.as_bytes())
     }
 }

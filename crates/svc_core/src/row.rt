@@ -1,9 +1,8 @@
 //! What a store holds of a service.
 
-ghost use Rattle.std.specs.Prelude.{◌≡◌, ◌≤◌, ◌^◌, IfOk};
+ghost use Rattle.std.specs.Prelude.{◌≡◌, ◌≤◌, ◌^◌, IfOk, IsTrue};
 ghost use Rattle.std.specs.Option.{option_copied};
-ghost use Rattle.mon_tx.specs.Keys.{area_text};
-ghost use Rattle.mon_tx.specs.Map.{number_at};
+ghost use Rattle.mon_tx.specs.Keys.{is_fixed, number};
 ghost use Rattle.mon_tx.specs.declared.key.Key.TheVariants as keys;
 ghost use Rattle.mon_msg.specs.Protocol.Services.{service_first, service_last, full_latest};
 ghost use Rattle.mon_msg.specs.Protocol.Readings.{readings_of};
@@ -26,12 +25,13 @@ pub(crate) fn area_of(service: Service) -> Area
     }
 }
 
-/// The number under a key of the service.
-fn number(kv: &Kv, service: Service, key: &[u8]) -> u64
-    ensures value { result ≡ number_at kv.now (area_text (area_of service)) key.now }
+/// The number under a key of the service with a fixed text.
+fn number(kv: &Kv, service: Service, key: Key) -> u64
+    requires { IsTrue (is_fixed key) }
+    ensures value { result ≡ number kv.now (area_of service) key }
     ensures most { result ≤ 2 ^ 62 }
 {
-    kv.number(area_of(service).as_str().as_bytes(), key)
+    kv.named_number(area_of(service), key)
 }
 
 /// The first version that is kept.
@@ -40,7 +40,7 @@ pub(crate) fn first_version(kv: &Kv, service: Service) -> u64
     ensures value { result ≡ service_first (readings_of kv.now) service }
     ensures most { result ≤ 2 ^ 62 }
 {
-    number(kv, service, b"first_committed")
+    number(kv, service, Key::FirstCommitted)
 }
 
 /// A service's last version, which is 0 if it has none.
@@ -49,7 +49,7 @@ pub fn last_version(kv: &Kv, service: Service) -> u64
     ensures value { result ≡ service_last (readings_of kv.now) service }
     ensures most { result ≤ 2 ^ 62 }
 {
-    number(kv, service, b"last_committed")
+    number(kv, service, Key::LastCommitted)
 }
 
 /// The version of the newest full map.
@@ -58,7 +58,7 @@ pub(crate) fn full_latest(kv: &Kv, service: Service) -> u64
     ensures value { result ≡ full_latest (readings_of kv.now) service }
     ensures most { result ≤ 2 ^ 62 }
 {
-    number(kv, service, b"full_latest")
+    number(kv, service, Key::FullLatest)
 }
 
 /// The bytes of the incremental that made a version, or `None` if and only if there are none.
@@ -67,10 +67,7 @@ pub(crate) fn incremental(kv: &Kv, service: Service, v: u64) -> Option<&[u8]>
     ensures { option_copied result ≡ (readings_of kv.now).row service (keys.Version v) }
 {
     let mut digits = Buffer::new();
-    kv.get(
-        area_of(service).as_str().as_bytes(),
-        digits.format(v).as_bytes(),
-    )
+    kv.get(area_of(service).as_bytes(), digits.format(v).as_bytes())
 }
 
 /// The bytes of the full map at a version, or `None` if and only if there are none.
@@ -84,5 +81,5 @@ pub(crate) fn full(
     ensures { IfOk result (λ bytes. option_copied bytes ≡ (readings_of kv.now).row service (keys.Full v)) }
 {
     let key = Key::Full(v).name(alloc)?;
-    Ok(kv.get(area_of(service).as_str().as_bytes(), key.as_slice()))
+    Ok(kv.get(area_of(service).as_bytes(), key.as_slice()))
 }

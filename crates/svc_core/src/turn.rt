@@ -1,8 +1,8 @@
 //! How a known map follows the changes of a transaction.
 
-ghost use Rattle.std.specs.Prelude.{◌≡◌, ◌+◌, ◌<◌, ◌≤◌, ◌^◌, true, Some, IfOk};
+ghost use Rattle.std.specs.Prelude.{◌≡◌, ◌+◌, ◌<◌, ◌≤◌, ◌^◌, true, Some, IfOk, IsTrue};
 ghost use Rattle.std.specs.Str.{bytes_eq};
-ghost use Rattle.mon_tx.specs.Keys.{key_text};
+ghost use Rattle.mon_tx.specs.Keys.{is_fixed, key_text};
 ghost use Rattle.mon_tx.specs.declared.key.Key.TheVariants as keys;
 ghost use Rattle.svc_core.specs.Cache.{Went, after_put, after_op, after_ops};
 
@@ -12,7 +12,7 @@ use itoa::Buffer;
 use mon_bytes::OutOfMemory;
 use mon_kv::number_of;
 use mon_msg::{Service, ShownMap};
-use mon_tx::Op;
+use mon_tx::{Key, Op};
 use std::alloc::Global;
 
 /// A known map in the course of a transaction.
@@ -34,6 +34,14 @@ fn is_version(key: &[u8], v: u64) -> bool
     key == digits.format(v).as_bytes()
 }
 
+/// Whether a key is this named one, which has a fixed text.
+fn is_named(key: &[u8], named: Key) -> bool
+    requires { IsTrue (is_fixed named) }
+    ensures { result ≡ bytes_eq key.now (key_text named) }
+{
+    key == named.as_bytes()
+}
+
 /// Follows a put of a service's key, and returns whether it could.
 fn put(
     alloc: Global,
@@ -53,10 +61,10 @@ fn put(
         turn.told = false;
         return step(alloc, service, &mut turn.map, value);
     }
-    if key == b"first_committed".as_slice() {
+    if is_named(key, Key::FirstCommitted) {
         return Ok(true);
     }
-    if key != b"last_committed".as_slice() || number_of(Some(value)) != turn.version {
+    if !is_named(key, Key::LastCommitted) || number_of(Some(value)) != turn.version {
         return Ok(false);
     }
     turn.told = true;
@@ -71,7 +79,7 @@ fn change(alloc: Global, service: Service, op: &Op, turn: &mut Turn) -> Result<b
     ensures version { turn.new.version ≤ turn.old.version + 1 }
     ensures fits { turn.new.told ≡ true → turn.new.version ≤ 2 ^ 62 }
 {
-    let own = area_of(service).as_str().as_bytes();
+    let own = area_of(service).as_bytes();
     match op {
         Op::Put { prefix, key, value } => {
             if prefix.as_slice() != own {

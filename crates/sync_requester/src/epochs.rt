@@ -17,7 +17,7 @@ use std::alloc::Global;
 fn speaks_of_monitor(op: &Op) -> bool
     ensures { result ≡ speaks_of_monitor op.now }
 {
-    let area = Area::Monitor.as_str().as_bytes();
+    let area = Area::Monitor.as_bytes();
     match op {
         Op::Put { prefix, .. }
         | Op::Erase { prefix, .. }
