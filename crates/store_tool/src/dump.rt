@@ -12,7 +12,7 @@ ghost use Rattle.store_tool.specs.Dump.{key_line, keys_text, range_line, op_line
 
 use mon_bytes::{Out, OutOfMemory};
 use mon_kv::{EntryRef, Kv};
-use mon_tx::{Op, TxRefused, decode};
+use mon_tx::{Area, Op, TxRefused, decode};
 use std::alloc::{AllocError, Global};
 use std::fmt::Write;
 
@@ -128,7 +128,7 @@ fn may_be_within(key: &[u8], from: u64, to: u64) -> bool
 fn is_paxos(prefix: &[u8]) -> bool
     ensures { result ≡ bytes_eq prefix.now (area_text Paxos) }
 {
-    prefix == b"paxos".as_slice()
+    prefix == Area::Paxos.as_bytes()
 }
 
 /// Whether an entry may be the record of a version from `from` up to `to`.
