@@ -1,5 +1,5 @@
 -- What the readers of a monitor's map return.
-use Rattle.std.specs.Prelude.{ℕ, ◌+◌, ◌==◌, if◌then◌else◌, Bool, List, length, Option, Some, None}
+use Rattle.std.specs.Prelude.{ℕ, ◌+◌, ◌*◌, ◌==◌, ◌&&◌, nat_lt, if◌then◌else◌, Bool, List, length, Option, Some, None}
 use Rattle.std.specs.FinMap.{entries}
 use Rattle.std.specs.List.{filter, sum_by}
 use Rattle.std.specs.Option.{option_map, unwrap_or}
@@ -32,9 +32,10 @@ size_of m = sum_by entry_size (entries m)
 abbrev pub most_size : ℕ
 most_size = MOST_SIZE
 
--- a store's file is replaced by a new one only if it is longer than this, up to and with its first closed gate
-abbrev pub least_length : ℕ
-least_length = LEAST_LENGTH
+-- whether a file outgrew its map: up to and with its first closed gate it is longer than the least length, and than four times
+-- what the map counts with
+abbrev pub is_outgrown : ℕ → Store → Bool
+is_outgrown bytes m = nat_lt LEAST_LENGTH bytes && nat_lt (4 * size_of m) bytes
 
 -- an entry as a map has it
 abbrev pub entry_of : EntryRef → Place × List ℕ

@@ -1,5 +1,5 @@
 -- How long a checkpoint is, and so where the file that it begins has its first closed gate; and when one is due.
-use Rattle.std.proofs.Common.{◌≡◌, suc, ◌+◌, ◌*◌, ◌^◌, Bool, nat_lt, List, [], ◌∷◌, ◌++◌, length, refl, ap, ◌∙◌, length-append, arith}
+use Rattle.std.proofs.Common.{◌≡◌, suc, ◌+◌, ◌^◌, Bool, nat_lt, List, [], ◌∷◌, ◌++◌, length, refl, ap, ◌∙◌, length-append, arith}
 use Rattle.std.specs.Prelude.{◌&&◌, ◌||◌}
 use Rattle.std.specs.List.{flat_map, sum_by}
 use Rattle.std.specs.FinMap.{entries, len}
@@ -8,7 +8,7 @@ use Rattle.mon_bytes.specs.Forms.{u32_bytes}
 use Rattle.mon_bytes.proofs.Forms.{length-u32_bytes}
 use Rattle.mon_tx.specs.Map.{Store}
 use Rattle.mon_kv.specs.Chunks.{entry_len}
-use Rattle.mon_kv.specs.Readers.{size_of, least_length}
+use Rattle.mon_kv.specs.Readers.{is_outgrown}
 use Rattle.mon_journal.specs.declared.journal.Form.TheVariants.{Second}
 use Rattle.mon_journal.specs.declared.journal.Journal.{Journal}
 use Rattle.mon_journal.specs.Written.{payload_bytes}
@@ -42,4 +42,4 @@ next_file j m =
 
 -- a checkpoint is due of a file with the second header
 pub due_is : (j : Journal) (m : Store) → j.form ≡ Second → stored.is_due j m ≡ model.is_due (file_by j) m
-due_is j m second = ap (λ (first : Bool). nat_lt j.generation (2 ^ 62) && (first || (nat_lt least_length (j.next_gate + 1) && nat_lt (4 * size_of m) (j.next_gate + 1)))) (ap is_first second)
+due_is j m second = ap (λ (first : Bool). nat_lt j.generation (2 ^ 62) && (first || is_outgrown (j.next_gate + 1) m)) (ap is_first second)

@@ -1,5 +1,5 @@
 -- How a store is on its disks.
-use Rattle.std.specs.Prelude.{◌≡◌, ℕ, ◌≤◌, ◌<◌, ◌+◌, ◌*◌, ◌^◌, Bool, true, false, ◌⊎◌, ◌||◌, ◌&&◌, ◌==◌, nat_lt, if◌then◌else◌, List, [], ◌∷◌, slice_index_or, Option, Some, None, Result, Ok, Err, IfSome}
+use Rattle.std.specs.Prelude.{◌≡◌, ℕ, ◌≤◌, ◌<◌, ◌+◌, ◌^◌, Bool, true, false, ◌⊎◌, ◌||◌, ◌&&◌, ◌==◌, nat_lt, if◌then◌else◌, List, [], ◌∷◌, slice_index_or, Option, Some, None, Result, Ok, Err, IfSome}
 use Rattle.mon_types.specs.declared.names.Side.{Side}
 use Rattle.mon_types.specs.declared.names.Side.TheVariants.{A, B}
 use Rattle.mon_types.specs.Sides.{other as other_side}
@@ -8,7 +8,7 @@ use Rattle.mon_tx.specs.declared.op.Op.{Op}
 use Rattle.mon_tx.specs.Map.{Store, apply}
 use Rattle.mon_tx.specs.Text.{text}
 use Rattle.mon_tx.specs.Decode.{HasText}
-use Rattle.mon_kv.specs.Readers.{size_of, least_length}
+use Rattle.mon_kv.specs.Readers.{size_of, is_outgrown}
 use Rattle.mon_journal.specs.declared.stop.JournalStop.{JournalStop}
 use Rattle.mon_journal.specs.declared.journal.Form.{Form}
 use Rattle.mon_journal.specs.declared.journal.Form.TheVariants.{First, Second}
@@ -75,8 +75,7 @@ is_first Second = false
 -- A checkpoint is due if the live file has the first header, or is longer than 1,048,576 bytes up to and with its first
 -- closed gate and than four times the map's size. No generation passes 2^62.
 abbrev pub is_due : Journal → Store → Bool
-is_due journal m =
-    nat_lt journal.generation (2 ^ 62) && (is_first journal.form || (nat_lt least_length (journal.next_gate + 1) && nat_lt (4 * size_of m) (journal.next_gate + 1)))
+is_due journal m = nat_lt journal.generation (2 ^ 62) && (is_first journal.form || is_outgrown (journal.next_gate + 1) m)
 
 -- what a crash may leave of the other disk while a checkpoint begins a journal there
 abbrev pub Begins : Content → Journal → Store → List ℕ → Type 0

@@ -1,12 +1,12 @@
 -- What a monitor's two disks hold, and what is left on them if a call fails.
-use Rattle.std.specs.Prelude.{ℕ, ◌+◌, ◌*◌, ◌^◌, nat_lt, Bool, ◌&&◌, ◌||◌, List, [], ◌∷◌, length, Option, Some, None, is_some, if◌then◌else◌}
+use Rattle.std.specs.Prelude.{ℕ, ◌+◌, ◌^◌, nat_lt, Bool, ◌&&◌, ◌||◌, List, [], ◌∷◌, length, Option, Some, None, is_some, if◌then◌else◌}
 use Rattle.std.specs.FinMap.{entries}
 use Rattle.std.specs.List.{sum_by}
 use Rattle.std.specs.Option.{option_map}
 use Rattle.mon_types.specs.declared.names.Side.{Side}
 use Rattle.mon_types.specs.declared.names.Side.TheVariants.{A, B}
 use Rattle.mon_kv.specs.Chunks.{entry_len}
-use Rattle.mon_kv.specs.Readers.{size_of, least_length}
+use Rattle.mon_kv.specs.Readers.{is_outgrown}
 use Rattle.mon_tx.specs.declared.op.Op.{Op}
 use Rattle.mon_tx.specs.Map.{Store}
 use Rattle.mon_tx.specs.Text.{text}
@@ -72,7 +72,7 @@ checkpoint_length m = 5 + sum_by entry_len (entries m)
 -- A checkpoint of a map is due if the live file is longer than 1,048,576 bytes up to and with its first closed gate, and than
 -- four times the map's size. No generation passes 2^62. In a run from empty disks no file has the first header.
 abbrev pub is_due : File → Store → Bool
-is_due f m = nat_lt f.generation (2 ^ 62) && (nat_lt least_length (f.gate + 1) && nat_lt (4 * size_of m) (f.gate + 1))
+is_due f m = nat_lt f.generation (2 ^ 62) && is_outgrown (f.gate + 1) m
 
 -- the file that it begins
 abbrev pub checkpoint : File → Store → File
