@@ -50,16 +50,7 @@ pub enum Joined {
 pub(crate) fn is_same(a: &Peer, b: &Peer) -> bool
     ensures { result ≡ same_peer a.now b.now }
 {
-    match a {
-        Peer::Monitor(a) => match b {
-            Peer::Monitor(b) => a.get() == b.get(),
-            Peer::Client(_) => false,
-        },
-        Peer::Client(a) => match b {
-            Peer::Monitor(_) => false,
-            Peer::Client(b) => *a == *b,
-        },
-    }
+    *a == *b
 }
 
 fn append(whole: &mut Vec<u8>, parts: &[Option<Bytes>]) -> Result<(), OutOfMemory>
