@@ -95,26 +95,6 @@ pub fn step(
         (row me.now shared now input.now) result }
     ensures leaves { IfOk result (λ plan. Leaves view.now.phase plan.next plan.tx) }
 {
-    step_owned(alloc, kv, me, view, state.copy(alloc)?, input, now)
-}
-
-/// The same as `step`, by value: what is remembered moves into the plan, and the commands that wait aren't copied.
-pub fn step_owned(
-    alloc: Global,
-    kv: &Kv,
-    me: &Me,
-    view: &View,
-    clients: Clients,
-    input: &Input,
-    now: Moment,
-) -> Result<Plan<Clients>, RoleStop>
-    requires input { IsTrue (is_input input.now) }
-    requires fits { IsTrue (may_come me.now.member.monitors input.now) }
-    ensures plans { (shared : List Entry) → PlansRow me.now now clients_are
-        (IsMet me.now now (readings_of kv.now) view.now (λ s. s.clients) clients)
-        (row me.now shared now input.now) result }
-    ensures leaves { IfOk result (λ plan. Leaves view.now.phase plan.next plan.tx) }
-{
     let here = Here {
         alloc,
         kv,
@@ -122,10 +102,26 @@ pub fn step_owned(
         view,
         time: now,
     };
+    step_owned(&here, state.copy(alloc)?, input)
+}
+
+/// The same as `step`, by value: what is remembered moves into the plan, and the commands that wait aren't copied.
+pub fn step_owned(
+    here: &Here<'_>,
+    clients: Clients,
+    input: &Input,
+) -> Result<Plan<Clients>, RoleStop>
+    requires input { IsTrue (is_input input.now) }
+    requires fits { IsTrue (may_come here.now.me.now.member.monitors input.now) }
+    ensures plans { (shared : List Entry) → PlansRow here.now.me.now here.now.time clients_are
+        (IsMet here.now.me.now here.now.time (readings_of here.now.kv.now) here.now.view.now (λ s. s.clients) clients)
+        (row here.now.me.now shared here.now.time input.now) result }
+    ensures leaves { IfOk result (λ plan. Leaves here.now.view.now.phase plan.next plan.tx) }
+{
     match input {
-        Input::Deliver(message) => hear(&here, clients, message),
-        Input::Client(session, request) => client(&here, clients, *session, request),
-        Input::Timer(_) => propose_due(&here, clients),
+        Input::Deliver(message) => hear(here, clients, message),
+        Input::Client(session, request) => client(here, clients, *session, request),
+        Input::Timer(_) => propose_due(here, clients),
         Input::Start => unreachable!(),
     }
 }

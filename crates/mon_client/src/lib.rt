@@ -9,4 +9,5 @@ mod inputs;
 mod proposals;
 mod reads;
 
+pub use here::Here;
 pub use inputs::{step, step_owned};

@@ -4,9 +4,9 @@ ghost use Rattle.std.specs.Prelude.{if◌then◌else◌};
 ghost use Rattle.mon_msg.specs.declared.plan.Next.TheVariants as next;
 ghost use Rattle.mon_core.specs.Acts.{Acts, IsLast, MayAct};
 
-use crate::here::Here;
 use mon_event::Event;
 use mon_msg::{Next, Origin, Phase, RoleStop};
+use mon_plan::Here;
 use mon_tx::Transaction;
 use mon_types::{Rank, RankSet};
 
@@ -81,9 +81,7 @@ fn begin(
     ensures { Acts here.now.me.now here.now.kv.now here.now.time event.old (next.Begin value origin) event.new result }
 {
     let leader = event.state.take_leader();
-    let plan = paxos_leader::begin_owned(
-        here.alloc, here.kv, here.me, leader, value, origin, here.time,
-    )?;
+    let plan = paxos_leader::begin_owned(here, leader, value, origin)?;
     event.carry_out(here.alloc, plan)?;
     Ok(())
 }

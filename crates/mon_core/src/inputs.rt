@@ -15,14 +15,13 @@ ghost use Rattle.mon_core.specs.Known.{asks_any_map};
 ghost use Rattle.mon_core.specs.Rows.{AnswersInput, IsReady, ReachesFrom, first_changes, started};
 
 use crate::acts::bootstrap;
-use crate::here::Here;
 use crate::roles::answer;
 use election_rules::Scores;
 use mon_bytes::OutOfMemory;
 use mon_event::{Event, Role, hearer, is_heard, scores_count, woken_by};
 use mon_msg::input::Input;
 use mon_msg::{Elector, Me, Message, Phase, Reply, RoleStop, Timer};
-use mon_plan::{Stored, armed, put_boot, put_epoch};
+use mon_plan::{Here, Stored, armed, put_boot, put_epoch};
 use mon_tx::Transaction;
 use mon_types::{Epoch, GREATEST, Moment, RankSet, Which};
 use std::alloc::Global;

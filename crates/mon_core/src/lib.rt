@@ -2,7 +2,6 @@
 #![tactic(auto)]
 
 mod acts;
-mod here;
 mod inputs;
 mod joining;
 mod monitor;

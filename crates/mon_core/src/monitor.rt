@@ -14,7 +14,6 @@ ghost use Rattle.mon_core.specs.Rows.{AnswersInput, IsReady};
 ghost use Rattle.mon_event.specs.State.{state_of};
 
 use crate::CoreStop;
-use crate::here::Here;
 use crate::inputs::run;
 use crate::joining::joined;
 use crate::names::see_named;
@@ -26,6 +25,7 @@ use mon_event::{Event, State};
 use mon_kv::Kv;
 use mon_msg::input::Input;
 use mon_msg::{Me, Phase, Request, Service, ShownMap, Timer};
+use mon_plan::Here;
 use mon_tx::Transaction;
 use mon_types::{Member, Moment};
 use std::alloc::Global;

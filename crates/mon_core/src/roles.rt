@@ -17,10 +17,10 @@ ghost use Rattle.mon_core.specs.Acts.{LeadsOn, Regains};
 ghost use Rattle.mon_core.specs.Rows.{AnswersRow, IsFor, IsReady};
 
 use crate::acts::act;
-use crate::here::Here;
 use mon_event::{Event, Role, RoleState, State, view};
 use mon_msg::input::Input;
 use mon_msg::{Clients, Elector, Leader, Peon, Plan, Prober, Provider, Requester, RoleStop, View};
+use mon_plan::Here;
 
 /// A role that plans what an input of its own does, from what it remembers.
 trait Planner: RoleState {
@@ -113,7 +113,7 @@ impl Planner for Leader {
         input: &Input,
     ) -> Result<Plan<Leader>, RoleStop> {
         let leader = state.take_leader();
-        paxos_leader::step_owned(here.alloc, here.kv, here.me, view, leader, input, here.time)
+        paxos_leader::step_owned(here, view, leader, input)
     }
 }
 
@@ -156,9 +156,14 @@ impl Planner for Clients {
         input: &Input,
     ) -> Result<Plan<Clients>, RoleStop> {
         let clients = state.take_clients(here.alloc);
-        mon_client::step_owned(
-            here.alloc, here.kv, here.me, view, clients, input, here.time,
-        )
+        let asked = mon_client::Here {
+            alloc: here.alloc,
+            kv: here.kv,
+            me: here.me,
+            view,
+            time: here.time,
+        };
+        mon_client::step_owned(&asked, clients, input)
     }
 }
 

@@ -12,12 +12,11 @@ ghost use Rattle.mon_core.specs.Known.{known_by_then};
 ghost use Rattle.mon_core.specs.Rows.{AnswersInput, IsReady};
 ghost use Rattle.mon_event.specs.State.{state_of};
 
-use crate::here::Here;
 use mon_bytes::OutOfMemory;
 use mon_event::{Event, view};
 use mon_kv::Kv;
 use mon_msg::{Reply, Service, Session, View};
-use mon_plan::Stored;
+use mon_plan::{Here, Stored};
 use mon_types::Version;
 use std::alloc::Global;
 use svc_core::{Cache, last_version};

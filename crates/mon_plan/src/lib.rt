@@ -1,6 +1,7 @@
 //! What the roles of a monitor share: what they read of its store, what they write, and the parts of their plans.
 #![tactic(auto)]
 
+mod here;
 mod join;
 mod plans;
 mod records;
@@ -8,6 +9,7 @@ mod sends;
 mod stored;
 mod writers;
 
+pub use here::Here;
 pub use join::joined;
 pub use plans::{armed, disarmed, message, planned, stay};
 pub use records::{MOST_VALUE, Run};

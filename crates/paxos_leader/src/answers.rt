@@ -22,11 +22,11 @@ ghost use Rattle.paxos_leader.specs.Rows.{ByRow, IsHeard, Notes, NotesFound, may
 
 use crate::collecting::{ask_again, settle, take_found};
 use crate::draft::Draft;
-use crate::seen::{Act, Here};
+use crate::seen::Act;
 use crate::sets::are_within;
 use mon_bytes::OutOfMemory;
 use mon_msg::{Found, Leader, Next, Plan, RoleStop, Told};
-use mon_plan::{MOST_VALUE, Stored, learn, planned, stay};
+use mon_plan::{Here, MOST_VALUE, Stored, learn, planned, stay};
 use mon_tx::Transaction;
 use mon_types::{Pn, Rank, Version, Which};
 
@@ -196,7 +196,7 @@ fn go_on_after(
     ensures stays { IfOk result (λ p. p.next ≡ Next.Stay) }
 {
     let stored = Stored::after(here.alloc, here.kv, tx)?;
-    let act = here.act(stored.epoch());
+    let act = Act::of(here, stored.epoch());
     go_on(&act, &stored, state, answer)
 }
 
@@ -284,7 +284,7 @@ pub(crate) fn hear_last(
         let quorum = state.quorum;
         drop(state);
         let stored = Stored::of(here.alloc, here.kv);
-        let act = here.act(stored.epoch());
+        let act = Act::of(here, stored.epoch());
         return ask_again(&act, &stored, quorum, answer.pn);
     }
     if answer.pn.get() < state.pn.get() {

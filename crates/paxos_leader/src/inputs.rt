@@ -26,7 +26,7 @@ use crate::acts::{at_rest, be_active, begin_with};
 use crate::answers::{Answer, hear_last};
 use crate::collecting::collect;
 use crate::draft::{Draft, tell};
-use crate::seen::{Act, Here};
+use crate::seen::Act;
 use crate::sets::leads_alone;
 use crate::values::{hear_accept, hear_lease_ack};
 use mon_bytes::{Items, OutOfMemory};
@@ -36,7 +36,7 @@ use mon_msg::plan::Sent;
 use mon_msg::{
     Body, Leader, LeaderStage, Me, Message, Next, Origin, Phase, Plan, Reply, RoleStop, Timer, View,
 };
-use mon_plan::{Stored, answer, learn, planned, stay};
+use mon_plan::{Here, Stored, answer, learn, planned, stay};
 use mon_tx::Transaction;
 use mon_types::{Epoch, Moment, Pn, RankSet, Version, Which};
 use std::alloc::Global;
@@ -170,7 +170,7 @@ fn renew(here: &Here<'_>, view: &View, state: Leader) -> Result<Plan<Leader>, Ro
     let epoch = here.own_epoch();
     let last = here.own_last();
     let draft = Draft::new(here.alloc, state);
-    let act = here.act(epoch);
+    let act = Act::of(here, epoch);
     Ok(be_active(&act, last, draft)?)
 }
 
@@ -207,36 +207,32 @@ pub fn step(
         (row me.now shared now input.now) result }
     ensures leaves { IfOk result (λ p. Leaves view.now.phase p.next p.tx) }
 {
-    step_owned(alloc, kv, me, view, state.copy()?, input, now)
-}
-
-/// The same as `step`, by value: what is remembered moves into the plan, and the value under way isn't copied.
-pub fn step_owned(
-    alloc: Global,
-    kv: &Kv,
-    me: &Me,
-    view: &View,
-    state: Leader,
-    input: &Input,
-    now: Moment,
-) -> Result<Plan<Leader>, RoleStop>
-    requires input { is_input input.now ≡ true }
-    requires fits { may_come me.now.member.monitors input.now ≡ true }
-    requires held { may_begin_all state ≡ true }
-    ensures plans { (shared : List Entry) → PlansRow me.now now leads (IsMet me.now now (readings_of kv.now) view.now
-        (λ s. s.leader) state)
-        (row me.now shared now input.now) result }
-    ensures leaves { IfOk result (λ p. Leaves view.now.phase p.next p.tx) }
-{
     let here = Here {
         alloc,
         kv,
         me,
         time: now,
     };
+    step_owned(&here, view, state.copy()?, input)
+}
+
+/// The same as `step`, by value: what is remembered moves into the plan, and the value under way isn't copied.
+pub fn step_owned(
+    here: &Here<'_>,
+    view: &View,
+    state: Leader,
+    input: &Input,
+) -> Result<Plan<Leader>, RoleStop>
+    requires input { is_input input.now ≡ true }
+    requires fits { may_come here.now.me.now.member.monitors input.now ≡ true }
+    requires held { may_begin_all state ≡ true }
+    ensures plans { (shared : List Entry) →
+        ByRow here.now (Meets here.now view.now state) (λ me now. row me shared now input.now) result }
+    ensures leaves { IfOk result (λ p. Leaves view.now.phase p.next p.tx) }
+{
     match input {
-        Input::Deliver(message) => hear(&here, view, state, message),
-        Input::Timer(kind) => ring(&here, view, state, *kind),
+        Input::Deliver(message) => hear(here, view, state, message),
+        Input::Timer(kind) => ring(here, view, state, *kind),
         Input::Start | Input::Client(..) => unreachable!(),
     }
 }
@@ -342,30 +338,27 @@ pub fn begin(
     ensures stays { IfOk result (λ p. p.next ≡ Next.Stay) }
 {
     let value = value.copy()?;
-    begin_owned(alloc, kv, me, state.copy()?, value, *origin, now)
-}
-
-/// The same as `begin`, by value: what is remembered and the value move into the plan.
-pub fn begin_owned(
-    alloc: Global,
-    kv: &Kv,
-    me: &Me,
-    state: Leader,
-    value: Transaction,
-    origin: Origin,
-    now: Moment,
-) -> Result<Plan<Leader>, RoleStop>
-    requires { may_begin value ≡ true }
-    ensures plans { PlansAct me.now now leads (IsLed (readings_of kv.now) state)
-        (Next.Begin value origin) result }
-    ensures stays { IfOk result (λ p. p.next ≡ Next.Stay) }
-{
     let here = Here {
         alloc,
         kv,
         me,
         time: now,
     };
+    begin_owned(&here, state.copy()?, value, *origin)
+}
+
+/// The same as `begin`, by value: what is remembered and the value move into the plan.
+pub fn begin_owned(
+    here: &Here<'_>,
+    state: Leader,
+    value: Transaction,
+    origin: Origin,
+) -> Result<Plan<Leader>, RoleStop>
+    requires { may_begin value ≡ true }
+    ensures plans { PlansAct here.now.me.now here.now.time leads (IsLed (readings_of here.now.kv.now) state)
+        (Next.Begin value origin) result }
+    ensures stays { IfOk result (λ p. p.next ≡ Next.Stay) }
+{
     let Some(version) = here.own_last().plus_one() else {
         drop(state);
         drop(value);
@@ -373,12 +366,12 @@ pub fn begin_owned(
             which: Which::Version,
         });
     };
-    if leads_alone(me, &state) {
-        return begin_answered(&here, state, version, value, origin);
+    if leads_alone(here.me, &state) {
+        return begin_answered(here, state, version, value, origin);
     }
     let epoch = here.own_epoch();
-    let draft = Draft::new(alloc, state);
-    let act = here.act(epoch);
+    let draft = Draft::new(here.alloc, state);
+    let act = Act::of(here, epoch);
     let stage = LeaderStage::Updating;
     begin_with(&act, draft, stage, version, value, Some(origin))
 }

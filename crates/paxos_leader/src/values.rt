@@ -19,13 +19,13 @@ ghost use Rattle.paxos_leader.specs.Rows.{ByRow, IsHeard};
 
 use crate::acts::be_active;
 use crate::draft::{Draft, tell};
-use crate::seen::{Act, Here};
+use crate::seen::Act;
 use crate::sets::are_within;
 use crate::timers::one_timer;
 use mon_bytes::{Items, OutOfMemory};
 use mon_msg::plan::Sent;
 use mon_msg::{Body, Leader, Me, Next, Origin, Plan, Reply, RoleStop, Timer};
-use mon_plan::{Stored, answer, disarmed, learn, stay};
+use mon_plan::{Here, Stored, answer, disarmed, learn, stay};
 use mon_tx::Transaction;
 use mon_types::{Epoch, Pn, Rank, RankSet, Version, Which};
 use std::alloc::Global;
@@ -111,7 +111,7 @@ fn announce_after(
     ensures stays { IfOk result (λ p. p.next ≡ Next.Stay) }
 {
     let (epoch, last) = standing(here, &tx)?;
-    let act = here.act(epoch);
+    let act = Act::of(here, epoch);
     announce(&act, last, tx, state, version, values)
 }
 

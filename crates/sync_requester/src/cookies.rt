@@ -13,11 +13,10 @@ ghost use Rattle.mon_wire.specs.declared.phase.Phase.TheVariants as phase;
 ghost use Rattle.mon_plan.specs.Leaves.{Leaves};
 ghost use Rattle.sync_requester.specs.Rows.{ByHeard};
 
-use crate::here::Here;
 use crate::places::first_place;
 use mon_bytes::{Items, OutOfMemory};
 use mon_msg::{Body, Cookie, Next, Place, Plan, Requester, RoleStop, SyncStage, Timer};
-use mon_plan::{Stored, armed, message, planned, stay};
+use mon_plan::{Here, Stored, armed, message, planned, stay};
 use mon_tx::Transaction;
 use mon_types::{Epoch, Version};
 

@@ -10,11 +10,10 @@ ghost use Rattle.mon_plan.specs.Plans.{PlansAct};
 ghost use Rattle.sync_requester.specs.Rows.{IsEntering};
 
 use crate::cookies::ask;
-use crate::here::Here;
 use mon_bytes::KeyPlace;
 use mon_kv::Kv;
 use mon_msg::{Body, Me, Place, Plan, Requester, RoleStop, SyncStage};
-use mon_plan::{Stored, put_mark};
+use mon_plan::{Here, Stored, put_mark};
 use mon_tx::Transaction;
 use mon_types::{Epoch, Moment, Rank, Version};
 use std::alloc::Global;

@@ -18,12 +18,11 @@ ghost use Rattle.sync_requester.specs.Rows.{ByRow};
 
 use crate::chunks::{Chunk, hear_chunk, hear_last_chunk};
 use crate::cookies::{hear_cookie, hear_no_cookie};
-use crate::here::Here;
 use crate::replay::replay;
 use mon_kv::Kv;
 use mon_msg::input::Input;
 use mon_msg::{Body, Me, Message, Next, Phase, Plan, Requester, RoleStop, SyncStage, Timer, View};
-use mon_plan::{planned, stay};
+use mon_plan::{Here, planned, stay};
 use mon_types::{Moment, Rank};
 use std::alloc::Global;
 

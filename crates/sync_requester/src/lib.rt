@@ -6,7 +6,6 @@ mod chunks;
 mod cookies;
 mod entering;
 mod epochs;
-mod here;
 mod inputs;
 mod places;
 mod replay;

@@ -17,12 +17,11 @@ ghost use Rattle.mon_plan.specs.Leaves.{Leaves};
 ghost use Rattle.mon_plan.specs.Plans.{PlansRow};
 ghost use Rattle.sync_requester.specs.Rows.{Holds};
 
-use crate::here::Here;
 use mon_bytes::{Items, OutOfMemory};
 use mon_msg::{
     MOST_REPLAYED, MOST_REPLAYED_BYTES, Next, Plan, Requester, RoleStop, SyncStage, Timer,
 };
-use mon_plan::{Stored, armed, planned, put_last, put_learned, put_unmark};
+use mon_plan::{Here, Stored, armed, planned, put_last, put_learned, put_unmark};
 use mon_tx::Transaction;
 use mon_types::Version;
 use std::alloc::Global;

@@ -16,4 +16,4 @@ returns-clause-goes c =
     subst (λ (m : Store). At (epoch_of (readings_of m)) m) c.in_ok-stored.ensures (subst (λ (e : ℕ). At e c.in_ok-stored.stored) c.epoch.ensures
     (subst
     (λ (act : Act). ActsOn act (IsAsking act.epoch (readings_of c.in_ok-stored.stored)) (record { tx = []; out = []; state = c.args.state }) (λ me now. goes_on me now a.from a.last a.whole a.pending.now) c.go_on.result)
-    c.act-act.ensures c.go_on.ensures.goes))
+    c.of-act.ensures c.go_on.ensures.goes))

@@ -35,7 +35,7 @@ returns-then-get-clause-plans c =
     from_start me now (IsAsking (epoch_of w) w) (record { tx = []; out = []; state = start_leader }) (collect me now l.quorum a.pn) c.ask_again.result refl
     (subst (λ (m : Store). Asks (epoch_of (readings_of m)) m) c.of-stored.ensures (subst (λ (e : ℕ). Asks e c.of-stored.result) c.epoch.ensures
     (subst (λ (act : Act). ActsOn act (IsAsking act.epoch (readings_of c.of-stored.result)) (record { tx = []; out = []; state = start_leader }) (λ me now. collect me now l.quorum a.pn) c.ask_again.result)
-    c.act-act.ensures c.ask_again.ensures.goes)))
+    c.of-act.ensures c.ask_again.ensures.goes)))
     At (λ x. x) (hear_last me now a.from e a.pn a.first a.last a.whole a.start a.values.now a.pending.now)
     (λ x b. asks-here (epoch_of w) w x b.readings refl (heard-phase a.from e w l x b))
     (λ x b.

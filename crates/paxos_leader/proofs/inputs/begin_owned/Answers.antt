@@ -30,16 +30,16 @@ begin_with-requires c = begun-short c.args.value c.requires
 pub returns-in_default-clause-plans : goal.returns-in_default-clause-plans
 returns-in_default-clause-plans c =
     λ x b.
-    let w : Readings = readings_of c.args.kv.now in
+    let w : Readings = readings_of c.args.here.now.kv.now in
     let own : c.own_last.result ≡ w.last = c.own_last.ensures in
     let spent : 2 ^ 62 < suc c.own_last.result = over c.own_last.result c.in_default.ensures.valid.1 in
-    begin-spent c.args.me.now c.args.now x stage.Updating c.args.value (Some c.args.origin) (omega (arith, spent, own, ap (λ (r : Readings). r.last) b.readings))
+    begin-spent c.args.here.now.me.now c.args.here.now.time x stage.Updating c.args.value (Some c.args.origin) (omega (arith, spent, own, ap (λ (r : Readings). r.last) b.readings))
 
 pub returns-then-leads_alone-clause-plans : goal.returns-then-leads_alone-clause-plans
 returns-then-leads_alone-clause-plans c =
-    let me = c.args.me.now in
-    let now = c.args.now in
-    let w : Readings = readings_of c.args.kv.now in
+    let me = c.args.here.now.me.now in
+    let now = c.args.here.now.time in
+    let w : Readings = readings_of c.args.here.now.kv.now in
     let l : Leader = c.args.state in
     let v = c.in-Some.version in
     let value : List Op = c.args.value in
@@ -53,9 +53,9 @@ returns-then-leads_alone-clause-plans c =
 
 pub returns-clause-plans : goal.returns-clause-plans
 returns-clause-plans c =
-    let me = c.args.me.now in
-    let now = c.args.now in
-    let w : Readings = readings_of c.args.kv.now in
+    let me = c.args.here.now.me.now in
+    let now = c.args.here.now.time in
+    let w : Readings = readings_of c.args.here.now.kv.now in
     let l : Leader = c.args.state in
     let v = c.in-Some.version in
     let value : List Op = c.args.value in
@@ -68,7 +68,7 @@ returns-clause-plans c =
     let drafted : c.new-draft.result ≡ record { tx = []; out = []; state = l } = c.new-draft.ensures in
     from_start me now (IsHere e w.last) (record { tx = []; out = []; state = l }) (λ y. Ok (begin_with me now stage.Updating v value (Some o) y)) r refl
     (subst (λ (d : Draft). GoesOn me now (IsHere e w.last) d (λ y. Ok (begin_with me now stage.Updating v value (Some o) y)) r) drafted
-    (subst (λ (act : Act). ActsOn act (IsHere act.epoch w.last) c.new-draft.result (λ me now y. Ok (begin_with me now stage.Updating v value (Some o) y)) r) c.act-act.ensures
+    (subst (λ (act : Act). ActsOn act (IsHere act.epoch w.last) c.new-draft.result (λ me now y. Ok (begin_with me now stage.Updating v value (Some o) y)) r) c.of-act.ensures
     (c.begin_with.ensures.goes w.last)))
     (IsLed w l) (λ x. x) (λ x. begin me now stage.Updating value (Some o) x)
     (λ x b. let here : IsHere (epoch_of w) w.last x = led-here w l x b in record { epoch = here.epoch ∙ is_epoch; last = here.last; leads = here.leads })

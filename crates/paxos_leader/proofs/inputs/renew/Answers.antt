@@ -40,7 +40,7 @@ returns-clause-plans c =
     let drafted : c.new-draft.result ≡ record { tx = []; out = []; state = l } = c.new-draft.ensures in
     from_start me now (IsHere e v) (record { tx = []; out = []; state = l }) (λ y. Ok (be_active me now y)) (Ok c.in_ok-be_active.field-0) refl
     (subst (λ (d : Draft). GoesOn me now (IsHere e v) d (λ y. Ok (be_active me now y)) (Ok c.in_ok-be_active.field-0)) drafted
-    (subst (λ (a : Act). ActsOn a (IsHere a.epoch v) c.new-draft.result (λ me now y. Ok (be_active me now y)) (Ok c.in_ok-be_active.field-0)) c.act-act.ensures c.in_ok-be_active.ensures.goes))
+    (subst (λ (a : Act). ActsOn a (IsHere a.epoch v) c.new-draft.result (λ me now y. Ok (be_active me now y)) (Ok c.in_ok-be_active.field-0)) c.of-act.ensures c.in_ok-be_active.ensures.goes))
     (IsMet me now w c.args.view.now (λ s. s.leader) l) (λ x. x) (renew me now)
     (λ x b.
     let phases : x.state.phase ≡ phase.Active = sym b.seen.phase ∙ acts c.args.view.now.phase (sym c.is_active.ensures ∙ c.if-not-is_active.false) in

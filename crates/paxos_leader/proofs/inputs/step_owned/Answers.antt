@@ -13,11 +13,11 @@ ring-requires c = subst (λ (came : Input). is_input came ≡ true) c.in-Timer.i
 pub returns-in-Deliver-clause-plans : goal.returns-in-Deliver-clause-plans
 returns-in-Deliver-clause-plans c =
     λ shared.
-    let met = IsMet c.args.me.now c.args.now (readings_of c.args.kv.now) c.args.view.now (λ s. s.leader) c.args.state in
-    subst (λ (came : Input). PlansRow c.args.me.now c.args.now leads met (row c.args.me.now shared c.args.now came) c.hear.result) (sym c.in-Deliver.is) (c.hear.ensures.plans shared)
+    let met = IsMet c.args.here.now.me.now c.args.here.now.time (readings_of c.args.here.now.kv.now) c.args.view.now (λ s. s.leader) c.args.state in
+    subst (λ (came : Input). PlansRow c.args.here.now.me.now c.args.here.now.time leads met (row c.args.here.now.me.now shared c.args.here.now.time came) c.hear.result) (sym c.in-Deliver.is) (c.hear.ensures.plans shared)
 
 pub returns-in-Timer-clause-plans : goal.returns-in-Timer-clause-plans
 returns-in-Timer-clause-plans c =
     λ shared.
-    let met = IsMet c.args.me.now c.args.now (readings_of c.args.kv.now) c.args.view.now (λ s. s.leader) c.args.state in
-    subst (λ (came : Input). PlansRow c.args.me.now c.args.now leads met (row c.args.me.now shared c.args.now came) c.ring.result) (sym c.in-Timer.is) c.ring.ensures.plans
+    let met = IsMet c.args.here.now.me.now c.args.here.now.time (readings_of c.args.here.now.kv.now) c.args.view.now (λ s. s.leader) c.args.state in
+    subst (λ (came : Input). PlansRow c.args.here.now.me.now c.args.here.now.time leads met (row c.args.here.now.me.now shared c.args.here.now.time came) c.ring.result) (sym c.in-Timer.is) c.ring.ensures.plans

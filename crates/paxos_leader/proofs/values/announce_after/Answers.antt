@@ -14,4 +14,4 @@ returns-clause-goes c =
     (subst
     (λ (act : Act). IfOk c.announce.result
     (λ (p : Plan Leader). ActsOn act (IsHere act.epoch c.in_ok-epoch.last) (record { tx = c.args.tx; out = []; state = c.args.state }) (λ me now. announced me now c.args.version c.args.values) (Ok p)))
-    c.act-act.ensures c.announce.ensures.goes)
+    c.of-act.ensures c.announce.ensures.goes)
