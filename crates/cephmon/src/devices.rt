@@ -12,6 +12,9 @@ use task_words::{Task, WordsStop, read_words};
 /// The link of a monitor.
 pub type MonitorLink = Resending<UdpLink<HostRuntime>, RunClock<HostRuntime>>;
 
+/// The disks in two files.
+pub type FileDisks = NodeDisks<FileDisk<HostRuntime>>;
+
 /// A link to monitors.
 #[derive(Drop)]
 pub enum Channel {
@@ -23,10 +26,10 @@ pub enum Channel {
     Unused(UdpLink<HostRuntime>),
 }
 
-/// The disks and the link that words name. Each opens at its first call.
+/// The disks and the link that arguments name. Each opens at its first call.
 #[derive(Drop)]
 pub struct Devices {
-    pub disks: NodeDisks<FileDisk<HostRuntime>>,
+    pub disks: FileDisks,
     pub channel: Channel,
 }
 
@@ -37,12 +40,16 @@ fn path(alloc: Global, name: &Text) -> Result<String, Status> {
     }
 }
 
+/// The addresses of all monitors, as a link takes them.
+fn peers(alloc: Global, addresses: &Items<Address>) -> Result<Vec<Address>, Status> {
+    match addresses.as_slice().to_vec(alloc) {
+        Ok(peers) => Ok(peers),
+        Err(_) => Err(Status::OutOfMemory),
+    }
+}
+
 /// The disks in these two files.
-fn disks_in(
-    rt: &HostRuntime,
-    disk_a: &Text,
-    disk_b: &Text,
-) -> Result<NodeDisks<FileDisk<HostRuntime>>, Status> {
+fn disks_in(rt: &HostRuntime, disk_a: &Text, disk_b: &Text) -> Result<FileDisks, Status> {
     let a = path(rt.alloc(), disk_a)?;
     let b = path(rt.alloc(), disk_b)?;
     Ok(NodeDisks {
@@ -52,64 +59,98 @@ fn disks_in(
 }
 
 /// Disks that nothing calls.
-fn no_disks(rt: &HostRuntime) -> NodeDisks<FileDisk<HostRuntime>> {
+fn no_disks(rt: &HostRuntime) -> FileDisks {
     NodeDisks {
         a: FileDisk::named(rt, String::new(rt.alloc())),
         b: FileDisk::named(rt, String::new(rt.alloc())),
     }
 }
 
-fn monitor_channel(rt: &HostRuntime, own: Rank, addresses: Items<Address>) -> Channel {
-    let link = UdpLink::named(rt, own, addresses.into_vec());
+fn monitor_channel(rt: &HostRuntime, own: Rank, addresses: Vec<Address>) -> Channel {
+    let link = UdpLink::named(rt, own, addresses);
     Channel::Monitor(Resending::new(rt.alloc(), link, RunClock::new(rt)))
 }
 
-fn client_channel(rt: &HostRuntime, addresses: Items<Address>) -> Channel {
-    Channel::Client(UdpLink::client(rt, addresses.into_vec()))
+fn client_channel(rt: &HostRuntime, addresses: Vec<Address>) -> Channel {
+    Channel::Client(UdpLink::client(rt, addresses))
 }
 
 fn no_channel(rt: &HostRuntime) -> Channel {
     Channel::Unused(UdpLink::named(rt, Rank::known(0), Vec::new(rt.alloc())))
 }
 
+/// The devices of a monitor whose store is in two files.
+// The list of addresses comes first: where a call can fail, nothing larger than it is to be dropped.
+fn monitor_devices(
+    rt: &HostRuntime,
+    own: Rank,
+    addresses: &Items<Address>,
+    disk_a: &Text,
+    disk_b: &Text,
+) -> Result<Devices, Status> {
+    let addresses = peers(rt.alloc(), addresses)?;
+    let disks = disks_in(rt, disk_a, disk_b)?;
+    Ok(Devices {
+        disks,
+        channel: monitor_channel(rt, own, addresses),
+    })
+}
+
+/// The devices of a client.
+fn client_devices(rt: &HostRuntime, addresses: &Items<Address>) -> Result<Devices, Status> {
+    let addresses = peers(rt.alloc(), addresses)?;
+    Ok(Devices {
+        disks: no_disks(rt),
+        channel: client_channel(rt, addresses),
+    })
+}
+
 /// The devices of a command on the store in two files.
 fn store_devices(rt: &HostRuntime, disk_a: &Text, disk_b: &Text) -> Result<Devices, Status> {
+    let disks = disks_in(rt, disk_a, disk_b)?;
     Ok(Devices {
-        disks: disks_in(rt, disk_a, disk_b)?,
+        disks,
         channel: no_channel(rt),
     })
 }
 
-/// The devices that the words name; or that memory ran out.
+/// Devices that nothing calls.
+fn no_devices(rt: &HostRuntime) -> Devices {
+    Devices {
+        disks: no_disks(rt),
+        channel: no_channel(rt),
+    }
+}
+
+/// The devices that a task names; or that memory ran out.
+fn devices_for(rt: &HostRuntime, task: &Task) -> Result<Devices, Status> {
+    match task {
+        Task::Node {
+            member,
+            addresses,
+            disk_a,
+            disk_b,
+            ..
+        } => monitor_devices(rt, member.rank, addresses, disk_a, disk_b),
+        Task::Follow { addresses, .. } => client_devices(rt, addresses),
+        Task::Scrub { disk_a, disk_b, .. } => store_devices(rt, disk_a, disk_b),
+        Task::DumpKeys { disk_a, disk_b, .. } => store_devices(rt, disk_a, disk_b),
+        Task::DumpPaxos { disk_a, disk_b, .. } => store_devices(rt, disk_a, disk_b),
+        Task::StoreExport { disk_a, disk_b, .. } => store_devices(rt, disk_a, disk_b),
+        Task::StoreImport { disk_a, disk_b, .. } => store_devices(rt, disk_a, disk_b),
+        Task::Replay | Task::Made { .. } | Task::ScrubCompare => Ok(no_devices(rt)),
+    }
+}
+
+/// The devices that arguments name; or that memory ran out.
 pub fn devices_of(rt: &HostRuntime, words: &[String]) -> Result<Devices, Status> {
     match read_words(rt.alloc(), words) {
-        Ok(
-            Task::Node {
-                member,
-                addresses,
-                disk_a,
-                disk_b,
-                ..
-            },
-        ) => Ok(Devices {
-            disks: disks_in(rt, &disk_a, &disk_b)?,
-            channel: monitor_channel(rt, member.rank, addresses),
-        }),
-        Ok(Task::Follow { addresses, .. }) => Ok(Devices {
-            disks: no_disks(rt),
-            channel: client_channel(rt, addresses),
-        }),
-        Ok(Task::Scrub { disk_a, disk_b, .. }) => store_devices(rt, &disk_a, &disk_b),
-        Ok(Task::DumpKeys { disk_a, disk_b, .. }) => store_devices(rt, &disk_a, &disk_b),
-        Ok(Task::DumpPaxos { disk_a, disk_b, .. }) => store_devices(rt, &disk_a, &disk_b),
-        Ok(Task::StoreExport { disk_a, disk_b, .. }) => store_devices(rt, &disk_a, &disk_b),
-        Ok(Task::StoreImport { disk_a, disk_b, .. }) => store_devices(rt, &disk_a, &disk_b),
-        Ok(Task::Replay | Task::Made { .. } | Task::ScrubCompare) | Err(WordsStop::Refused) => {
-            Ok(Devices {
-                disks: no_disks(rt),
-                channel: no_channel(rt),
-            })
+        Ok(task) => {
+            let devices = devices_for(rt, &task);
+            drop(task);
+            devices
         }
+        Err(WordsStop::Refused) => Ok(no_devices(rt)),
         Err(WordsStop::OutOfMemory) => Err(Status::OutOfMemory),
     }
 }

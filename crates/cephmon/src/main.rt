@@ -4,16 +4,15 @@
 mod devices;
 mod words;
 
-use crate::devices::{Channel, Devices, devices_of};
+use crate::devices::{Channel, Devices, FileDisks, MonitorLink, devices_of};
 use crate::words::words_of;
-use cephmon_run::{Ended, Status, run};
-use mon_disk::{FileDisk, NodeDisks};
+use cephmon_run::{Status, run};
 use mon_link::{Link, RunClock, StdinSource, StdoutSink, UdpLink};
 use std::process::ExitCode;
 
 fn main(rt: HostRuntime) -> ExitCode {
     let status = match words_of(&rt) {
-        Ok(words) => run_on_devices(&rt, words.as_slice()),
+        Ok(words) => run_words(&rt, words.as_slice()),
         Err(status) => status,
     };
     tell(&rt, &status);
@@ -21,43 +20,71 @@ fn main(rt: HostRuntime) -> ExitCode {
 }
 
 /// Does what the arguments ask for, on the streams, files, sockets and the clock of the system.
-fn run_on_devices(rt: &HostRuntime, words: &[String]) -> Status {
-    let Devices { disks, channel } = match devices_of(rt, words) {
-        Ok(devices) => devices,
-        Err(status) => return status,
-    };
-    match channel {
-        Channel::Monitor(mut link) => {
-            tell_short_room(rt, &mut link.inner);
-            let ended = run_over(rt, words, disks, &mut link);
-            tell_failures(rt, &ended.disks, &link.inner);
-            ended.status
-        }
-        Channel::Client(mut link) => {
-            tell_short_room(rt, &mut link);
-            let ended = run_over(rt, words, disks, &mut link);
-            tell_failures(rt, &ended.disks, &link);
-            ended.status
-        }
-        Channel::Unused(mut link) => {
-            let ended = run_over(rt, words, disks, &mut link);
-            tell_failures(rt, &ended.disks, &link);
-            ended.status
-        }
+fn run_words(rt: &HostRuntime, words: &[String]) -> Status {
+    match devices_of(rt, words) {
+        Ok(devices) => run_on_devices(rt, words, devices),
+        Err(status) => status,
     }
 }
 
-/// Does what the words say over this link.
-fn run_over<L: Link>(
+/// Does what the arguments ask for, on the devices that they name.
+// Each arm hands its link on as a whole: a link that goes out of scope in an arm is proved part by part there.
+fn run_on_devices(rt: &HostRuntime, words: &[String], devices: Devices) -> Status {
+    let Devices { disks, channel } = devices;
+    match channel {
+        Channel::Monitor(link) => run_as_monitor(rt, words, disks, link),
+        Channel::Client(link) => run_as_client(rt, words, disks, link),
+        Channel::Unused(link) => run_alone(rt, words, disks, link),
+    }
+}
+
+/// Serves as a monitor over this link.
+fn run_as_monitor(
     rt: &HostRuntime,
     words: &[String],
-    disks: NodeDisks<FileDisk<HostRuntime>>,
-    link: &mut L,
-) -> Ended<FileDisk<HostRuntime>> {
+    disks: FileDisks,
+    mut link: MonitorLink,
+) -> Status {
+    tell_short_room(rt, &mut link.inner);
+    let status = run_over(rt, words, disks, &mut link);
+    tell_link_failure(rt, &link.inner);
+    drop(link);
+    status
+}
+
+/// Follows as a client over this link.
+fn run_as_client(
+    rt: &HostRuntime,
+    words: &[String],
+    disks: FileDisks,
+    mut link: UdpLink<HostRuntime>,
+) -> Status {
+    tell_short_room(rt, &mut link);
+    let status = run_over(rt, words, disks, &mut link);
+    tell_link_failure(rt, &link);
+    drop(link);
+    status
+}
+
+/// Does what needs no link. Nothing calls this one.
+fn run_alone(
+    rt: &HostRuntime,
+    words: &[String],
+    disks: FileDisks,
+    mut link: UdpLink<HostRuntime>,
+) -> Status {
+    let status = run_over(rt, words, disks, &mut link);
+    tell_link_failure(rt, &link);
+    drop(link);
+    status
+}
+
+/// Does what the arguments ask for over this link, and says on standard error which disk failed.
+fn run_over<L: Link>(rt: &HostRuntime, words: &[String], disks: FileDisks, link: &mut L) -> Status {
     let mut source = StdinSource::new(rt);
     let mut sink = StdoutSink::new(rt);
     let mut clock = RunClock::new(rt);
-    run(
+    let ended = run(
         rt.alloc(),
         words,
         &mut source,
@@ -65,7 +92,11 @@ fn run_over<L: Link>(
         disks,
         link,
         &mut clock,
-    )
+    );
+    tell_disk_failures(rt, &ended.disks);
+    let status = ended.status;
+    drop(ended);
+    status
 }
 
 /// Says on standard error, before a monitor serves or a client follows, that its socket may lose a part of a long message.
@@ -77,18 +108,18 @@ fn tell_short_room(rt: &HostRuntime, link: &mut UdpLink<HostRuntime>) {
     }
 }
 
-/// Says on standard error what the system said to the first call of each disk, and of the link, that failed.
-fn tell_failures(
-    rt: &HostRuntime,
-    disks: &NodeDisks<FileDisk<HostRuntime>>,
-    link: &UdpLink<HostRuntime>,
-) {
+/// Says on standard error what the system said to the first call of each disk that failed.
+fn tell_disk_failures(rt: &HostRuntime, disks: &FileDisks) {
     if let Some(said) = disks.a.failure() {
         let _ = eprintln!(rt; "disk a: {said}");
     }
     if let Some(said) = disks.b.failure() {
         let _ = eprintln!(rt; "disk b: {said}");
     }
+}
+
+/// Says on standard error what the system said to the first call of the link that failed.
+fn tell_link_failure(rt: &HostRuntime, link: &UdpLink<HostRuntime>) {
     if let Some(said) = link.failure() {
         let _ = eprintln!(rt; "link: {said}");
     }
