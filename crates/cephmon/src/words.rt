@@ -1,7 +1,7 @@
 //! The arguments that the program was called with.
 
 ghost use Rattle.std.specs.Prelude.{◌≡◌, ◌⊎◌, IfErr};
-ghost use Rattle.cephmon_run.specs.declared.status.Status.TheVariants.{Words, OutOfMemory};
+ghost use Rattle.run_status.specs.declared.status.Status.TheVariants.{Words, OutOfMemory};
 
 use cephmon_run::Status;
 use std::env::{Env, FillError};

@@ -23,9 +23,9 @@ use Rattle.cephmon_run.specs.Further.{CompareCause, FollowCause, Followed, Impor
 use Rattle.cephmon_run.specs.Node.{Around}
 use Rattle.cephmon_run.specs.Outside.{Outside, ReadNothing, WroteNothing, sink_of, source_of}
 use Rattle.cephmon_run.specs.Run.{HasCause, IsFollowed, NoneFailed, NothingFailed, text_task}
-use Rattle.cephmon_run.specs.Status.{StatusOf, status_of_follow, status_of_tool}
-use Rattle.cephmon_run.specs.declared.status.Status.{Status}
-use Rattle.cephmon_run.specs.declared.status.Status.TheVariants as status
+use Rattle.run_status.specs.Status.{StatusOf, status_of_follow, status_of_tool}
+use Rattle.run_status.specs.declared.status.Status.{Status}
+use Rattle.run_status.specs.declared.status.Status.TheVariants as status
 
 module _ {D : Type 0} (state : D → DiskState) (before after : Outside) (around left : Around D) where
   -- the cause is that of the command's own task

@@ -13,8 +13,8 @@ use Rattle.cephmon_run.specs.Run.{Completes, Ends, HasCause, HasStatus, Holds, I
 use Rattle.cephmon_run.specs.Outside.{Outside}
 use Rattle.cephmon_run.specs.Summary.{summary}
 use Rattle.cephmon_run.specs.Trace.{Trace, trace}
-use Rattle.cephmon_run.specs.declared.status.Status.TheVariants as status
-use Rattle.cephmon_run.specs.declared.status.Status.{Status}
+use Rattle.run_status.specs.declared.status.Status.TheVariants as status
+use Rattle.run_status.specs.declared.status.Status.{Status}
 use Rattle.mon_disk.specs.Calls.{DiskState}
 use Rattle.mon_link.specs.Whole.{ConsumesFront, ReadsWhole}
 use Rattle.mon_msg.specs.declared.view.Me.{Me}

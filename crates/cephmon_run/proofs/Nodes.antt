@@ -9,9 +9,9 @@ use Rattle.mon_store.specs.Opening.{BothCount}
 use Rattle.mon_store.specs.declared.stop.OpenStop.{OpenStop}
 use Rattle.mon_store.specs.declared.stop.OpenStop.TheVariants as open_stop
 use Rattle.mon_node.specs.Keeping.{DisksCountAt}
-use Rattle.cephmon_run.specs.declared.status.Status.{Status}
+use Rattle.run_status.specs.declared.status.Status.{Status}
 use Rattle.cephmon_run.specs.Node.{Around, NodeCause, Served, Unopened}
-use Rattle.cephmon_run.specs.Status.{status_of_end, status_of_opening}
+use Rattle.run_status.specs.Status.{status_of_end, status_of_opening}
 
 module _ {D : Type 0} (state : D → DiskState) (me : Me) (turns : ℕ) (before after : Around D) where
   unopened : (why : OpenStop) → Unopened state me.member before after why → NodeCause state me turns before after (status_of_opening why)

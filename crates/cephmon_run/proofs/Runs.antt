@@ -19,8 +19,8 @@ use Rattle.mon_world.specs.declared.stop.WorldStop.{WorldStop}
 use Rattle.mon_world.specs.declared.stop.WorldStop.TheVariants as world_stop
 use Rattle.cephmon_run.specs.declared.replay.ReplayStop.{ReplayStop}
 use Rattle.cephmon_run.specs.declared.replay.ReplayStop.TheVariants as stop
-use Rattle.cephmon_run.specs.declared.status.Status.{Status}
-use Rattle.cephmon_run.specs.declared.status.Status.TheVariants as status
+use Rattle.run_status.specs.declared.status.Status.{Status}
+use Rattle.run_status.specs.declared.status.Status.TheVariants as status
 use Rattle.cephmon_run.specs.declared.summary.Counts.{Counts}
 use Rattle.cephmon_run.specs.Replay.{StopsAs, Writes, fault_of, status_of}
 use Rattle.cephmon_run.specs.Run.{Made, MadeCause, ReplayCause, Replayed, Runs, SummedAll, TellsFault, most_read}

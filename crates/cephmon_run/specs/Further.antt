@@ -17,9 +17,9 @@ use Rattle.stopped_stores.specs.Texts.{Stream, WritesText}
 use Rattle.stopped_stores.specs.declared.writing.StoreText.{StoreText}
 use Rattle.cephmon_run.specs.Node.{Around}
 use Rattle.cephmon_run.specs.Outside.{Outside, ReadNothing, WroteNothing, sink_of, source_of}
-use Rattle.cephmon_run.specs.Status.{StatusOf, status_of_follow, status_of_tool}
-use Rattle.cephmon_run.specs.declared.status.Status.{Status}
-use Rattle.cephmon_run.specs.declared.status.Status.TheVariants as status
+use Rattle.run_status.specs.Status.{StatusOf, status_of_follow, status_of_tool}
+use Rattle.run_status.specs.declared.status.Status.{Status}
+use Rattle.run_status.specs.declared.status.Status.TheVariants as status
 
 -- memory ran out before anything was done
 pub record RanOut {D : Type 0} (before after : Outside) (around left : Around D) (s : Status) : Type 0 where

@@ -3,6 +3,5 @@ pub mod Node
 pub mod Outside
 pub mod Replay
 pub mod Run
-pub mod Status
 pub mod Summary
 pub mod Trace

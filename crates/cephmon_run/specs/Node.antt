@@ -19,8 +19,8 @@ use Rattle.mon_node.specs.Nodes.{Disks, unstarted, disks as disks_held}
 use Rattle.mon_node.specs.Serving.{Serves}
 use Rattle.mon_node.specs.declared.end.NodeEnd.{NodeEnd}
 use Rattle.mon_node.specs.declared.end.NodeEnd.TheVariants as end
-use Rattle.cephmon_run.specs.declared.status.Status.{Status}
-use Rattle.cephmon_run.specs.declared.status.Status.TheVariants as status
+use Rattle.run_status.specs.declared.status.Status.{Status}
+use Rattle.run_status.specs.declared.status.Status.TheVariants as status
 
 -- The devices around a node: its two disks; its link; and what its clock shows, if that is known.
 pub record Around (D : Type 0) : Type 0 where

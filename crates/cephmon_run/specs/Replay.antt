@@ -16,8 +16,8 @@ use Rattle.mon_types.specs.declared.names.Stop.TheVariants as outside
 use Rattle.cephmon_run.specs.declared.replay.ReplayStop.{ReplayStop}
 use Rattle.cephmon_run.specs.declared.replay.ReplayStop.TheVariants as stop
 use Rattle.mon_world.specs.Stands.{StandsFor}
-use Rattle.cephmon_run.specs.declared.status.Status.{Status}
-use Rattle.cephmon_run.specs.declared.status.Status.TheVariants as status
+use Rattle.run_status.specs.declared.status.Status.{Status}
+use Rattle.run_status.specs.declared.status.Status.TheVariants as status
 use Rattle.cephmon_run.specs.Trace.{Trace, goes_on}
 
 -- What a replay wrote to the sink, by how it ended: all of the trace, up to what stopped its run; or a prefix of it.

@@ -23,8 +23,8 @@ use Rattle.quorum_model.specs.Monitors.{Monitors}
 use Rattle.quorum_model.specs.Safe.{Safe}
 use Rattle.quorum_model.specs.Scenes.{events_of}
 use Rattle.quorum_model.specs.World.{Event}
-use Rattle.cephmon_run.specs.declared.status.Status.{Status}
-use Rattle.cephmon_run.specs.declared.status.Status.TheVariants as status
+use Rattle.run_status.specs.declared.status.Status.{Status}
+use Rattle.run_status.specs.declared.status.Status.TheVariants as status
 use Rattle.mon_world.specs.Events.{scheduled_of}
 use Rattle.mon_world.specs.Traced.{TracesRun}
 use Rattle.task_words.specs.declared.task.Task.{Task}
@@ -34,7 +34,7 @@ use Rattle.task_words.specs.Task.{AsksFor, AsksForNone}
 use Rattle.cephmon_run.specs.Further.{CompareCause, FollowCause, ImportCause, RanOut, TextCause}
 use Rattle.cephmon_run.specs.Node.{Around, NodeCause}
 use Rattle.cephmon_run.specs.Outside.{Outside, ReadNothing, WroteNothing}
-use Rattle.cephmon_run.specs.Status.{StatusOf, status_of_tool}
+use Rattle.run_status.specs.Status.{StatusOf, status_of_tool}
 use Rattle.cephmon_run.specs.Trace.{Trace, trace}
 use Rattle.mon_wire.specs.declared.request.Service.{Service}
 use Rattle.stopped_stores.specs.Completing.{ComparisonCompletes, Hold, ImportCompletes, TextCompletes}

@@ -5,15 +5,15 @@ ghost use Rattle.stopped_stores.specs.Importing.{ImportsExport};
 ghost use Rattle.stopped_stores.specs.Reading.{Compares};
 ghost use Rattle.stopped_stores.specs.Texts.{WritesText};
 ghost use Rattle.cephmon_run.specs.Further.{Followed};
-ghost use Rattle.cephmon_run.specs.Status.{StatusOf, status_of_follow, status_of_tool};
+ghost use Rattle.run_status.specs.Status.{StatusOf, status_of_follow, status_of_tool};
 
 use crate::node::Ended;
-use crate::status::Status;
 use map_follower::{Follower, follow};
 use mon_disk::{Disk, NodeDisks};
 use mon_link::{Link, Sink, Source};
 use mon_types::Member;
 use mon_wire::Service;
+use run_status::Status;
 use std::alloc::Global;
 use stopped_stores::{StoreText, compare_reports, import_export, write_text};
 

@@ -6,9 +6,8 @@ mod further;
 mod node;
 mod replay;
 mod running;
-mod status;
 mod summary;
 
 pub use node::Ended;
+pub use run_status::Status;
 pub use running::run;
-pub use status::Status;

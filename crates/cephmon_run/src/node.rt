@@ -3,12 +3,12 @@
 ghost use Rattle.std.specs.Prelude.{◌≡◌};
 ghost use Rattle.cephmon_run.specs.Node.{NodeCause};
 
-use crate::status::Status;
 use mon_disk::{Disk, NodeDisks};
 use mon_link::{Clock, Link};
 use mon_msg::Me;
 use mon_node::serve;
 use mon_store::Store;
+use run_status::Status;
 use std::alloc::Global;
 
 /// A run that ended, with the disks that it was given.

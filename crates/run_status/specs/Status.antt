@@ -6,8 +6,8 @@ use Rattle.mon_node.specs.declared.end.NodeEnd.{NodeEnd}
 use Rattle.mon_node.specs.declared.end.NodeEnd.TheVariants as end
 use Rattle.mon_store.specs.declared.stop.OpenStop.{OpenStop}
 use Rattle.mon_store.specs.declared.stop.OpenStop.TheVariants as open_stop
-use Rattle.cephmon_run.specs.declared.status.Status.{Status}
-use Rattle.cephmon_run.specs.declared.status.Status.TheVariants as status
+use Rattle.run_status.specs.declared.status.Status.{Status}
+use Rattle.run_status.specs.declared.status.Status.TheVariants as status
 use Rattle.stopped_stores.specs.declared.end.ToolEnd.{ToolEnd}
 use Rattle.stopped_stores.specs.declared.end.ToolEnd.TheVariants as tool_end
 

@@ -48,7 +48,7 @@ pub enum Status {
 
 impl Status {
     ghost use Rattle.std.specs.Prelude.{◌≡◌};
-    ghost use Rattle.cephmon_run.specs.Status.{status_number, status_of_opening, status_of_end, status_of_follow, status_of_tool};
+    ghost use Rattle.run_status.specs.Status.{status_number, status_of_opening, status_of_end, status_of_follow, status_of_tool};
 
     /// The number that the program ends with.
     pub fn number(self) -> u8
