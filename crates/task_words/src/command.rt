@@ -3,7 +3,7 @@
 ghost use Rattle.std.specs.Prelude.{◌≡◌, false, map, codes, IfOk};
 ghost use Rattle.clap.specs.Words.{app_of, shape_of};
 ghost use Rattle.clap.specs.declared.builder.command.Command.TheViews.{out-Command};
-ghost use Rattle.task_words.specs.Commands.{with_required, subcommand, plain, first_commands, command, follow_texts, store_texts, versions_texts};
+ghost use Rattle.task_words.specs.Commands.{with_required, with_texts, subcommand, plain, first_commands, command, follow_texts, store_texts, versions_texts};
 
 use clap::{Arg, Command};
 use std::alloc::{AllocError, Global};
@@ -42,28 +42,49 @@ fn subcommand<'a>(
     Ok(command)
 }
 
-/// The subcommand of a client that follows.
-fn follow_subcommand<'a>(alloc: Global) -> Result<Command<'a>, AllocError>
-    ensures shape { IfOk result (λ c. shape_of c ≡ subcommand (codes "follow") follow_texts) }
-    ensures local { IfOk result (λ c. (out-Command c).has_globals ≡ false) }
+/// The command with one subcommand more, which requires these texts, in order.
+// If the subcommand can't be made, what was built is dropped by a call. Behind a `?` the prover would go through all of its parts, once for
+// each subcommand of a chain.
+fn with_texts<'a>(
+    alloc: Global,
+    command: Command<'a>,
+    name: &'a str,
+    texts: &'a [&'a str],
+) -> Result<Command<'a>, AllocError>
+    ensures { IfOk result (λ c. app_of c ≡ with_texts (app_of command.entry) name.now (map (λ t. t.now) texts.entry.now)) }
 {
-    subcommand(alloc, "follow", FOLLOW_TEXTS.as_slice())
+    match subcommand(alloc, name, texts) {
+        Ok(more) => command.subcommand(more),
+        Err(refused) => {
+            drop(command);
+            Err(refused)
+        }
+    }
 }
 
-/// A subcommand on a store.
-fn store_subcommand<'a>(alloc: Global, name: &'a str) -> Result<Command<'a>, AllocError>
-    ensures shape { IfOk result (λ c. shape_of c ≡ subcommand name.now store_texts) }
-    ensures local { IfOk result (λ c. (out-Command c).has_globals ≡ false) }
+/// The command with that of a client that follows.
+fn with_follow<'a>(alloc: Global, command: Command<'a>) -> Result<Command<'a>, AllocError>
+    ensures { IfOk result (λ c. app_of c ≡ with_texts (app_of command.entry) (codes "follow") follow_texts) }
 {
-    subcommand(alloc, name, STORE_TEXTS.as_slice())
+    with_texts(alloc, command, "follow", FOLLOW_TEXTS.as_slice())
 }
 
-/// The subcommand that dumps versions.
-fn versions_subcommand<'a>(alloc: Global) -> Result<Command<'a>, AllocError>
-    ensures shape { IfOk result (λ c. shape_of c ≡ subcommand (codes "dump-paxos") versions_texts) }
-    ensures local { IfOk result (λ c. (out-Command c).has_globals ≡ false) }
+/// The command with one more on a store.
+fn with_store<'a>(
+    alloc: Global,
+    command: Command<'a>,
+    name: &'a str,
+) -> Result<Command<'a>, AllocError>
+    ensures { IfOk result (λ c. app_of c ≡ with_texts (app_of command.entry) name.now store_texts) }
 {
-    subcommand(alloc, "dump-paxos", VERSIONS_TEXTS.as_slice())
+    with_texts(alloc, command, name, STORE_TEXTS.as_slice())
+}
+
+/// The command with that which dumps versions.
+fn with_versions<'a>(alloc: Global, command: Command<'a>) -> Result<Command<'a>, AllocError>
+    ensures { IfOk result (λ c. app_of c ≡ with_texts (app_of command.entry) (codes "dump-paxos") versions_texts) }
+{
+    with_texts(alloc, command, "dump-paxos", VERSIONS_TEXTS.as_slice())
 }
 
 /// One level of subcommands, and no form of help or version, with those for schedules and monitors. The words are those behind the program's
@@ -71,26 +92,26 @@ fn versions_subcommand<'a>(alloc: Global) -> Result<Command<'a>, AllocError>
 fn first_commands<'a>(alloc: Global) -> Result<Command<'a>, AllocError>
     ensures { IfOk result (λ c. app_of c ≡ first_commands) }
 {
-    Command::new(alloc, "cephmon")
+    let plain = Command::new(alloc, "cephmon")
         .no_binary_name(true)
         .disable_help_flag(true)
         .disable_help_subcommand(true)
-        .disable_version_flag(true)
-        .subcommand(subcommand(alloc, "replay", &[])?)?
-        .subcommand(subcommand(alloc, "made", MADE_TEXTS.as_slice())?)?
-        .subcommand(subcommand(alloc, "node", NODE_TEXTS.as_slice())?)
+        .disable_version_flag(true);
+    let replay = with_texts(alloc, plain, "replay", &[])?;
+    let made = with_texts(alloc, replay, "made", MADE_TEXTS.as_slice())?;
+    with_texts(alloc, made, "node", NODE_TEXTS.as_slice())
 }
 
 /// The command with all its subcommands.
 pub(crate) fn command<'a>(alloc: Global) -> Result<Command<'a>, AllocError>
     ensures { IfOk result (λ c. app_of c ≡ command) }
 {
-    first_commands(alloc)?
-        .subcommand(follow_subcommand(alloc)?)?
-        .subcommand(store_subcommand(alloc, "scrub")?)?
-        .subcommand(subcommand(alloc, "scrub-compare", &[])?)?
-        .subcommand(store_subcommand(alloc, "dump-keys")?)?
-        .subcommand(versions_subcommand(alloc)?)?
-        .subcommand(store_subcommand(alloc, "store-export")?)?
-        .subcommand(store_subcommand(alloc, "store-import")?)
+    let first = first_commands(alloc)?;
+    let follow = with_follow(alloc, first)?;
+    let scrub = with_store(alloc, follow, "scrub")?;
+    let compare = with_texts(alloc, scrub, "scrub-compare", &[])?;
+    let keys = with_store(alloc, compare, "dump-keys")?;
+    let versions = with_versions(alloc, keys)?;
+    let export = with_store(alloc, versions, "store-export")?;
+    with_store(alloc, export, "store-import")
 }

@@ -1,14 +1,15 @@
-use Rattle.std.proofs.Common.{ap₂, ◌∙◌}
+use Rattle.std.proofs.Common.{codes, ap, ◌∙◌}
 use Rattle.std.proofs.lemmas.Result.{IfOk-weaker}
-use Rattle.clap.specs.Words.{with_subcommand}
+use Rattle.clap.specs.Words.{App}
+use Rattle.task_words.specs.Commands.{follow_texts, no_texts, store_texts, versions_texts, with_texts}
 use Rattle.task_words.proofs.command.command.Goals as goal
 
 pub returns : goal.returns
 returns c =
-    let first = c.in_ok-subcommand.ensures.shape c.in_ok-follow_subcommand.ensures.local ∙ ap₂ with_subcommand c.in_ok-first_commands.ensures c.in_ok-follow_subcommand.ensures.shape in
-    let second = c.in_ok-subcommand-2.ensures.shape c.in_ok-store_subcommand.ensures.local ∙ ap₂ with_subcommand first c.in_ok-store_subcommand.ensures.shape in
-    let third = c.in_ok-subcommand-4.ensures.shape c.in_ok-subcommand-3.ensures.local ∙ ap₂ with_subcommand second c.in_ok-subcommand-3.ensures.shape in
-    let fourth = c.in_ok-subcommand-5.ensures.shape c.in_ok-store_subcommand-2.ensures.local ∙ ap₂ with_subcommand third c.in_ok-store_subcommand-2.ensures.shape in
-    let fifth = c.in_ok-subcommand-6.ensures.shape c.in_ok-versions_subcommand.ensures.local ∙ ap₂ with_subcommand fourth c.in_ok-versions_subcommand.ensures.shape in
-    let sixth = c.in_ok-subcommand-7.ensures.shape c.in_ok-store_subcommand-3.ensures.local ∙ ap₂ with_subcommand fifth c.in_ok-store_subcommand-3.ensures.shape in
-    IfOk-weaker c.subcommand-8.result _ _ (λ r adds. adds.shape c.in_ok-store_subcommand-4.ensures.local ∙ ap₂ with_subcommand sixth c.in_ok-store_subcommand-4.ensures.shape) c.subcommand-8.ensures
+    let follow = c.in_ok-follow.ensures ∙ ap (λ (a : App). with_texts a (codes "follow") follow_texts) c.in_ok-first.ensures in
+    let scrub = c.in_ok-scrub.ensures ∙ ap (λ (a : App). with_texts a (codes "scrub") store_texts) follow in
+    let compare = c.in_ok-compare.ensures ∙ ap (λ (a : App). with_texts a (codes "scrub-compare") no_texts) scrub in
+    let keys = c.in_ok-keys.ensures ∙ ap (λ (a : App). with_texts a (codes "dump-keys") store_texts) compare in
+    let versions = c.in_ok-versions.ensures ∙ ap (λ (a : App). with_texts a (codes "dump-paxos") versions_texts) keys in
+    let export = c.in_ok-export.ensures ∙ ap (λ (a : App). with_texts a (codes "store-export") store_texts) versions in
+    IfOk-weaker c.with_store-4.result _ _ (λ r is. is ∙ ap (λ (a : App). with_texts a (codes "store-import") store_texts) export) c.with_store-4.ensures
