@@ -1,10 +1,10 @@
 -- The tests of a monitor's own keys in a row.
-use Rattle.std.proofs.Common.{◌≡◌, ℕ, ◌+◌, Bool, true, false, ◌||◌, refl, ◌∙◌}
+use Rattle.std.proofs.Common.{◌≡◌, ℕ, ◌+◌, Bool, true, false, ◌||◌, List, refl, ◌∙◌}
 use Rattle.std.specs.Ordering.{eq_by_cmp}
 use Rattle.mon_tx.specs.declared.key.Area.TheVariants as area
 use Rattle.mon_tx.specs.declared.key.Key.TheVariants as key
 use Rattle.mon_tx.specs.Map.{Place, place_cmp}
-use Rattle.mon_tx.specs.Keys.{place, decimal_text, is_local}
+use Rattle.mon_tx.specs.Keys.{area_text, place, decimal_text, is_local}
 use Rattle.mon_kv.specs.Chunks.{own_of_paxos}
 
 in_a_row : (o b c d e : Bool) → ((((o || b) || c) || d) || e) ≡ (o || (b || (c || (d || (e || false)))))
@@ -14,6 +14,20 @@ in_a_row false false true d e = refl
 in_a_row false false false true e = refl
 in_a_row false false false false true = refl
 in_a_row false false false false false = refl
+
+six_in_a_row : (a b c d e f : Bool) → (((((a || b) || c) || d) || e) || f) ≡ (a || (b || (c || (d || (e || (f || false))))))
+six_in_a_row true b c d e f = refl
+six_in_a_row false true c d e f = refl
+six_in_a_row false false true d e f = refl
+six_in_a_row false false false true e f = refl
+six_in_a_row false false false false true f = refl
+six_in_a_row false false false false false true = refl
+six_in_a_row false false false false false false = refl
+
+pub own_of_paxos-row : (next : List ℕ) (at : Place) (a b c d e f : Bool) → a ≡ eq_by_cmp place_cmp (place area.Paxos key.LastCommitted) at → b ≡ eq_by_cmp place_cmp (place area.Paxos key.LastPn) at → c ≡ eq_by_cmp place_cmp (place area.Paxos key.AcceptedPn) at → d ≡ eq_by_cmp place_cmp (place area.Paxos key.PendingV) at → e ≡ eq_by_cmp place_cmp (place area.Paxos key.PendingPn) at → f ≡ eq_by_cmp place_cmp (area_text area.Paxos, next) at
+    → (((((a || b) || c) || d) || e) || f) ≡ own_of_paxos next at
+own_of_paxos-row next at a b c d e f pa pb pc pd pe pf =
+    six_in_a_row a b c d e f ∙ (λ i. pa i || (pb i || (pc i || (pd i || (pe i || (pf i || false))))))
 
 six_first : (a b c d e f r : Bool) → ((a || (b || (c || (d || (e || (f || false)))))) || r) ≡ (a || (b || (c || (d || (e || (f || r))))))
 six_first true b c d e f r = refl
