@@ -19,7 +19,7 @@ use crate::leasing::lease;
 use crate::values::{begin, commit};
 use mon_kv::Kv;
 use mon_msg::input::Input;
-use mon_msg::{Body, Me, Message, Next, Peon, Phase, Plan, RoleStop, View};
+use mon_msg::{Body, Me, Message, Next, Peon, Plan, RoleStop, View};
 use mon_plan::{Stored, planned, stay};
 use mon_types::Moment;
 use std::alloc::Global;
@@ -29,7 +29,7 @@ fn is_ours(here: &Here<'_>, view: &View, message: &Message) -> bool
     ensures { result ≡ (is_peon view.now.phase && message.now.epoch == epoch_of (readings_of here.now.stored.now)
         && message.now.from == here.now.state.now.leader) }
 {
-    matches!(view.phase, Phase::Peon)
+    view.phase.is_peon()
         && message.epoch.get() == here.stored.epoch().get()
         && message.from == here.state.leader
 }
