@@ -17,21 +17,6 @@ use mon_plan::Stored;
 use mon_types::{Epoch, Rank, RankSet};
 use std::alloc::Global;
 
-/// Whether a monitor in this phase takes part in elections.
-fn votes(phase: Phase) -> bool
-    ensures { result ≡ votes phase }
-{
-    match phase {
-        Phase::Booting | Phase::Probing | Phase::Synchronizing => false,
-        Phase::Electing
-        | Phase::Collecting
-        | Phase::Previous
-        | Phase::Active
-        | Phase::Updating
-        | Phase::Peon => true,
-    }
-}
-
 /// Whether a monitor in this phase is in an election.
 pub(crate) fn is_electing(phase: Phase) -> bool
     ensures { result ≡ same_phase phase phase_is.Electing }
@@ -51,14 +36,14 @@ pub(crate) fn is_even(epoch: Epoch) -> bool
 pub(crate) fn is_deaf(view: &View, epoch: Epoch) -> bool
     ensures { result ≡ (not (votes view.now.phase) || is_even epoch) }
 {
-    !votes(view.phase) || is_even(epoch)
+    !view.phase.votes() || is_even(epoch)
 }
 
 /// Whether what a winner says in an epoch is dropped: the monitor takes no part in elections, or nobody leads then.
 pub(crate) fn is_deaf_to_winners(view: &View, epoch: Epoch) -> bool
     ensures { result ≡ (not (votes view.now.phase) || not (is_even epoch)) }
 {
-    !votes(view.phase) || !is_even(epoch)
+    !view.phase.votes() || !is_even(epoch)
 }
 
 /// Whether an epoch is before the monitor's own.
