@@ -26,20 +26,11 @@ use mon_plan::{Here, planned, stay};
 use mon_types::{Moment, Rank};
 use std::alloc::Global;
 
+/// Whether a monitor in this phase synchronises.
 fn synchronizes(phase: Phase) -> bool
     ensures { result ≡ same_phase phase Phase.Synchronizing }
 {
-    match phase {
-        Phase::Synchronizing => true,
-        Phase::Booting
-        | Phase::Probing
-        | Phase::Electing
-        | Phase::Collecting
-        | Phase::Previous
-        | Phase::Active
-        | Phase::Updating
-        | Phase::Peon => false,
-    }
+    matches!(phase, Phase::Synchronizing)
 }
 
 /// Whether a message is of the provider, while the monitor synchronises.
