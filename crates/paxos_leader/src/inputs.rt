@@ -41,51 +41,25 @@ use mon_tx::Transaction;
 use mon_types::{Epoch, Moment, Pn, RankSet, Version, Which};
 use std::alloc::Global;
 
+/// Whether a leader in this phase gathers what its quorum accepted.
 fn collects(phase: Phase) -> bool
     ensures { result ≡ is_one_of (phases.Collecting ∷ []) phase }
 {
-    match phase {
-        Phase::Collecting => true,
-        Phase::Booting
-        | Phase::Probing
-        | Phase::Synchronizing
-        | Phase::Electing
-        | Phase::Previous
-        | Phase::Active
-        | Phase::Updating
-        | Phase::Peon => false,
-    }
+    matches!(phase, Phase::Collecting)
 }
 
+/// Whether the value of a leader in this phase waits for its quorum.
 fn has_begun(phase: Phase) -> bool
     ensures { result ≡ is_one_of (phases.Previous ∷ phases.Updating ∷ []) phase }
 {
-    match phase {
-        Phase::Previous | Phase::Updating => true,
-        Phase::Booting
-        | Phase::Probing
-        | Phase::Synchronizing
-        | Phase::Electing
-        | Phase::Collecting
-        | Phase::Active
-        | Phase::Peon => false,
-    }
+    matches!(phase, Phase::Previous | Phase::Updating)
 }
 
+/// Whether a leader in this phase waits for commands.
 fn is_active(phase: Phase) -> bool
     ensures { result ≡ is_one_of (phases.Active ∷ []) phase }
 {
-    match phase {
-        Phase::Active => true,
-        Phase::Booting
-        | Phase::Probing
-        | Phase::Synchronizing
-        | Phase::Electing
-        | Phase::Collecting
-        | Phase::Previous
-        | Phase::Updating
-        | Phase::Peon => false,
-    }
+    matches!(phase, Phase::Active)
 }
 
 /// Whether a message is heard in a phase.
