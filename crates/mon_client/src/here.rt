@@ -13,24 +13,24 @@ use std::alloc::Global;
 
 /// A monitor at an event under way: its store, its rank, what the other roles know, and the time.
 #[derive(Clone, Copy)]
-pub struct Here<'a> {
-    pub alloc: Global,
-    pub kv: &'a Kv,
-    pub me: &'a Me,
-    pub view: &'a View,
-    pub time: Moment,
+pub(crate) struct Here<'a> {
+    pub(crate) alloc: Global,
+    pub(crate) kv: &'a Kv,
+    pub(crate) me: &'a Me,
+    pub(crate) view: &'a View,
+    pub(crate) time: Moment,
 }
 
 impl Here<'_> {
     /// The monitor's epoch.
-    pub fn epoch(&self) -> Epoch
+    pub(crate) fn epoch(&self) -> Epoch
         ensures { result ≡ epoch_of (readings_of self.now.kv.now) }
     {
         Stored::of(self.alloc, self.kv).epoch()
     }
 
     /// The answer to whoever asked for a command.
-    pub fn answer(&self, origin: Origin, reply: Reply) -> Sent
+    pub(crate) fn answer(&self, origin: Origin, reply: Reply) -> Sent
         ensures { result ≡ answer_to self.now.me.now (epoch_of (readings_of self.now.kv.now)) origin reply }
     {
         answer(self.me, self.epoch(), origin, reply)

@@ -95,33 +95,40 @@ pub fn step(
         (row me.now shared now input.now) result }
     ensures leaves { IfOk result (λ plan. Leaves view.now.phase plan.next plan.tx) }
 {
-    let here = Here {
+    let here = mon_plan::Here {
         alloc,
         kv,
         me,
-        view,
         time: now,
     };
-    step_owned(&here, state.copy(alloc)?, input)
+    step_owned(&here, view, state.copy(alloc)?, input)
 }
 
 /// The same as `step`, by value: what is remembered moves into the plan, and the commands that wait aren't copied.
 pub fn step_owned(
-    here: &Here<'_>,
+    here: &mon_plan::Here<'_>,
+    view: &View,
     clients: Clients,
     input: &Input,
 ) -> Result<Plan<Clients>, RoleStop>
     requires input { IsTrue (is_input input.now) }
     requires fits { IsTrue (may_come here.now.me.now.member.monitors input.now) }
     ensures plans { (shared : List Entry) → PlansRow here.now.me.now here.now.time clients_are
-        (IsMet here.now.me.now here.now.time (readings_of here.now.kv.now) here.now.view.now (λ s. s.clients) clients)
+        (IsMet here.now.me.now here.now.time (readings_of here.now.kv.now) view.now (λ s. s.clients) clients)
         (row here.now.me.now shared here.now.time input.now) result }
-    ensures leaves { IfOk result (λ plan. Leaves here.now.view.now.phase plan.next plan.tx) }
+    ensures leaves { IfOk result (λ plan. Leaves view.now.phase plan.next plan.tx) }
 {
+    let here = Here {
+        alloc: here.alloc,
+        kv: here.kv,
+        me: here.me,
+        view,
+        time: here.time,
+    };
     match input {
-        Input::Deliver(message) => hear(here, clients, message),
-        Input::Client(session, request) => client(here, clients, *session, request),
-        Input::Timer(_) => propose_due(here, clients),
+        Input::Deliver(message) => hear(&here, clients, message),
+        Input::Client(session, request) => client(&here, clients, *session, request),
+        Input::Timer(_) => propose_due(&here, clients),
         Input::Start => unreachable!(),
     }
 }

@@ -9,5 +9,4 @@ mod inputs;
 mod proposals;
 mod reads;
 
-pub use here::Here;
 pub use inputs::{step, step_owned};

@@ -22,6 +22,9 @@ use mon_msg::input::Input;
 use mon_msg::{Clients, Elector, Leader, Peon, Plan, Prober, Provider, Requester, RoleStop, View};
 use mon_plan::Here;
 
+/// What a role plans, or why it plans nothing.
+type Planned<S> = Result<Plan<S>, RoleStop>;
+
 /// A role that plans what an input of its own does, from what it remembers.
 trait Planner: RoleState {
     /// The role whose inputs these are.
@@ -31,12 +34,7 @@ trait Planner: RoleState {
     ghost part_of: { Remembered → Self };
 
     /// The plan of the role's row at an input. What the role remembers may move into the plan.
-    fn step(
-        here: &Here<'_>,
-        view: &View,
-        state: &mut State,
-        input: &Input,
-    ) -> Result<Plan<Self>, RoleStop>
+    fn step(here: &Here<'_>, view: &View, state: &mut State, input: &Input) -> Planned<Self>
         requires input { IsFor here.now.me.now role input.now }
         requires remembers { MayRemember here.now.me.now (state_of state.old) }
         ensures plans { PlansRow here.now.me.now here.now.time (remembering Self.put)
@@ -56,21 +54,9 @@ impl Planner for Prober {
 
     ghost leads_on = { λ prober s active stage. stage };
 
-    fn step(
-        here: &Here<'_>,
-        view: &View,
-        state: &mut State,
-        input: &Input,
-    ) -> Result<Plan<Prober>, RoleStop> {
-        mon_probe::step(
-            here.alloc,
-            here.kv,
-            here.me,
-            view,
-            &state.prober,
-            input,
-            here.time,
-        )
+    fn step(here: &Here<'_>, view: &View, state: &mut State, input: &Input) -> Planned<Prober> {
+        let (alloc, kv, me, time) = (here.alloc, here.kv, here.me, here.time);
+        mon_probe::step(alloc, kv, me, view, &state.prober, input, time)
     }
 }
 
@@ -81,21 +67,9 @@ impl Planner for Elector {
 
     ghost leads_on = { λ elector s active stage. stage };
 
-    fn step(
-        here: &Here<'_>,
-        view: &View,
-        state: &mut State,
-        input: &Input,
-    ) -> Result<Plan<Elector>, RoleStop> {
-        mon_elector::step(
-            here.alloc,
-            here.kv,
-            here.me,
-            view,
-            &state.elector,
-            input,
-            here.time,
-        )
+    fn step(here: &Here<'_>, view: &View, state: &mut State, input: &Input) -> Planned<Elector> {
+        let (alloc, kv, me, time) = (here.alloc, here.kv, here.me, here.time);
+        mon_elector::step(alloc, kv, me, view, &state.elector, input, time)
     }
 }
 
@@ -106,12 +80,7 @@ impl Planner for Leader {
 
     ghost leads_on = { λ l s active stage. ap (phase_as l.stage) active };
 
-    fn step(
-        here: &Here<'_>,
-        view: &View,
-        state: &mut State,
-        input: &Input,
-    ) -> Result<Plan<Leader>, RoleStop> {
+    fn step(here: &Here<'_>, view: &View, state: &mut State, input: &Input) -> Planned<Leader> {
         let leader = state.take_leader();
         paxos_leader::step_owned(here, view, leader, input)
     }
@@ -124,21 +93,9 @@ impl Planner for Peon {
 
     ghost leads_on = { λ peon s active stage. stage };
 
-    fn step(
-        here: &Here<'_>,
-        view: &View,
-        state: &mut State,
-        input: &Input,
-    ) -> Result<Plan<Peon>, RoleStop> {
-        paxos_peon::step(
-            here.alloc,
-            here.kv,
-            here.me,
-            view,
-            &state.peon,
-            input,
-            here.time,
-        )
+    fn step(here: &Here<'_>, view: &View, state: &mut State, input: &Input) -> Planned<Peon> {
+        let (alloc, kv, me, time) = (here.alloc, here.kv, here.me, here.time);
+        paxos_peon::step(alloc, kv, me, view, &state.peon, input, time)
     }
 }
 
@@ -149,21 +106,9 @@ impl Planner for Clients {
 
     ghost leads_on = { λ clients s active stage. stage };
 
-    fn step(
-        here: &Here<'_>,
-        view: &View,
-        state: &mut State,
-        input: &Input,
-    ) -> Result<Plan<Clients>, RoleStop> {
+    fn step(here: &Here<'_>, view: &View, state: &mut State, input: &Input) -> Planned<Clients> {
         let clients = state.take_clients(here.alloc);
-        let asked = mon_client::Here {
-            alloc: here.alloc,
-            kv: here.kv,
-            me: here.me,
-            view,
-            time: here.time,
-        };
-        mon_client::step_owned(&asked, clients, input)
+        mon_client::step_owned(here, view, clients, input)
     }
 }
 
@@ -174,21 +119,9 @@ impl Planner for Provider {
 
     ghost leads_on = { λ provider s active stage. stage };
 
-    fn step(
-        here: &Here<'_>,
-        view: &View,
-        state: &mut State,
-        input: &Input,
-    ) -> Result<Plan<Provider>, RoleStop> {
-        sync_provider::step(
-            here.alloc,
-            here.kv,
-            here.me,
-            view,
-            &state.provider,
-            input,
-            here.time,
-        )
+    fn step(here: &Here<'_>, view: &View, state: &mut State, input: &Input) -> Planned<Provider> {
+        let (alloc, kv, me, time) = (here.alloc, here.kv, here.me, here.time);
+        sync_provider::step(alloc, kv, me, view, &state.provider, input, time)
     }
 }
 
@@ -199,21 +132,9 @@ impl Planner for Requester {
 
     ghost leads_on = { λ requester s active stage. stage };
 
-    fn step(
-        here: &Here<'_>,
-        view: &View,
-        state: &mut State,
-        input: &Input,
-    ) -> Result<Plan<Requester>, RoleStop> {
-        sync_requester::step(
-            here.alloc,
-            here.kv,
-            here.me,
-            view,
-            &state.requester,
-            input,
-            here.time,
-        )
+    fn step(here: &Here<'_>, view: &View, state: &mut State, input: &Input) -> Planned<Requester> {
+        let (alloc, kv, me, time) = (here.alloc, here.kv, here.me, here.time);
+        sync_requester::step(alloc, kv, me, view, &state.requester, input, time)
     }
 }
 
