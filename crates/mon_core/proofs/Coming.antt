@@ -1,5 +1,5 @@
 -- What comes to a monitor that was started, and which of its rows that is.
-use Rattle.std.proofs.Common.{◌≡◌, ℕ, true, false, List, None, Result, Ok, is_some, ap, subst, ◌∙◌, arith}
+use Rattle.std.proofs.Common.{◌≡◌, ℕ, Bool, true, false, List, None, Result, Ok, is_some, sym, ap, subst, ◌∙◌, arith}
 use Rattle.std.proofs.lemmas.Bool.Decides.{nat_tests}
 use Rattle.std.specs.Prelude.{if◌then◌else◌}
 use Rattle.mon_bounds.specs.Fitting.{MayCome}
@@ -8,12 +8,12 @@ use Rattle.mon_msg.specs.Protocol.Course.{Course, ◌▸◌, disarm, dropped}
 use Rattle.mon_msg.specs.Protocol.Hearing.{hear, is_heard}
 use Rattle.mon_msg.specs.Protocol.Length.{fits}
 use Rattle.mon_msg.specs.Protocol.Phases.{same_phase}
-use Rattle.mon_msg.specs.Protocol.Readings.{Readings, readings_of}
-use Rattle.mon_msg.specs.Protocol.State.{State}
+use Rattle.mon_msg.specs.Protocol.Readings.{readings_of, shared_entries}
 use Rattle.mon_msg.specs.Protocol.Table.{at_rest, before_start, react, running, timer_comes}
 use Rattle.mon_msg.specs.Protocol.Timers.{end_of}
 use Rattle.mon_msg.specs.declared.input.Input.TheVariants as input
 use Rattle.mon_msg.specs.declared.input.Input.{Input}
+use Rattle.mon_msg.specs.declared.plan.RoleStop.{RoleStop}
 use Rattle.mon_msg.specs.declared.view.Me.{Me}
 use Rattle.mon_tx.specs.Map.{Store}
 use Rattle.mon_types.specs.declared.names.Which.{Which}
@@ -25,7 +25,7 @@ use Rattle.mon_event.specs.Events.{Reaches}
 use Rattle.mon_event.specs.Roles.{hearer}
 use Rattle.mon_event.specs.State.{state_of}
 use Rattle.mon_event.specs.declared.event.Event.{Event}
-use Rattle.mon_core.specs.Rows.{IsReady}
+use Rattle.mon_core.specs.Rows.{AnswersInput, IsReady, ReachesFrom}
 use Rattle.mon_core.proofs.Acting.{rests}
 use Rattle.mon_core.proofs.Taking.{unheard}
 
@@ -69,11 +69,20 @@ module _ (me : Me) (shared : List Entry) (now : ℕ) (t : Timer) (x : Course) wh
 
 -- ---- before the start and then
 
-module _ (me : Me) (shared : List Entry) (now : ℕ) (w : Readings) (s : State) (came : Input) where
-  pub not_started : same_phase s.phase phase.Booting ≡ true → react me shared now w s came ≡ before_start me now came (at_rest w s)
-  unfolding react
-  not_started h = ap (λ b. if b then before_start me now came (at_rest w s) else running me shared now came (at_rest w s)) h
+module _ (me : Me) (m : Store) (now : ℕ) (e : Event) (came : Input) where
+  abbrev begins : Course
+  begins = at_rest (readings_of m) (state_of e.state)
 
-  pub started : same_phase s.phase phase.Booting ≡ false → react me shared now w s came ≡ running me shared now came (at_rest w s)
-  unfolding react
-  started h = ap (λ b. if b then before_start me now came (at_rest w s) else running me shared now came (at_rest w s)) h
+  abbrev then_runs : Bool → Result Course Which
+  then_runs booting = if booting then before_start me now came begins else running me (shared_entries m) now came begins
+
+  module _ (new : Event) (result : Result Unit RoleStop) where
+    pub not_started : same_phase (state_of e.state).phase phase.Booting ≡ true → ReachesFrom m e (before_start me now came) new result
+        → AnswersInput me m now e came new result
+    unfolding react
+    not_started h done = subst (λ (r : Result Course Which). Reaches (readings_of m) r new result) (sym (ap then_runs h)) done
+
+    pub started : same_phase (state_of e.state).phase phase.Booting ≡ false → ReachesFrom m e (running me (shared_entries m) now came) new result
+        → AnswersInput me m now e came new result
+    unfolding react
+    started h done = subst (λ (r : Result Course Which). Reaches (readings_of m) r new result) (sym (ap then_runs h)) done
