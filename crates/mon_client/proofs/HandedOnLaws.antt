@@ -1,6 +1,7 @@
 -- What a peon hands on and what its leader answers, by what is seen; and what clients read.
-use Rattle.std.proofs.Common.{◌≡◌, ℕ, Bool, true, false, not, ◌&&◌, cond, eqb, ltb, List, [], ◌∷◌, ◌++◌, map, filter, take, length, get_or, set, ◌+◌, ◌<◌, Ok, IsTrue, refl, sym, ap, ◌∙◌, append-nil}
+use Rattle.std.proofs.Common.{◌≡◌, ℕ, Bool, true, false, not, ◌&&◌, cond, eqb, ltb, List, [], ◌∷◌, ◌++◌, map, filter, take, length, get_or, set, ◌+◌, ◌<◌, Some, None, Ok, IsTrue, refl, sym, ap, ◌∙◌, append-nil}
 use Rattle.std.specs.Bool.{◌==◌}
+use Rattle.std.specs.Option.{unwrap_or}
 use Rattle.std.proofs.lemmas.List.Elements.{filter_more}
 use Rattle.std.proofs.lemmas.List.{map-append}
 use Rattle.mon_bytes.specs.declared.command.Command.{Command}
@@ -30,7 +31,7 @@ use Rattle.mon_wire.specs.declared.reply.Reply.{Reply}
 use Rattle.mon_wire.specs.declared.request.Service.{Service}
 use Rattle.mon_wire.specs.declared.request.Session.{Session}
 use Rattle.mon_plan.specs.Seen.{IsMet}
-use Rattle.mon_client.specs.Rows.{is_rung, IsUnderWay}
+use Rattle.mon_client.specs.Rows.{is_rung, unreadable, IsUnderWay}
 
 abbrev pub leading : List Phase
 leading = phase.Collecting ∷ phase.Previous ∷ phase.Active ∷ phase.Updating ∷ []
@@ -133,14 +134,15 @@ replies_one seq r xs i out so_far d lt is copied same after adds =
 
 -- ---- what clients read
 
-chosen : {X : Type 0} (a b : Bool) (f : Reply → X) (u n s : Reply) → cond a (f u) (cond b (f n) (f s)) ≡ f (cond a u (cond b n s))
+chosen : {X : Type 0} (a b : Bool) (f : Reply → X) (u n s : Reply)
+    → cond a (f u) (cond b (f n) (f s)) ≡ f (unwrap_or (cond a (Some u) (cond b (Some n) None)) s)
 chosen true b f u n s = refl
 chosen false true f u n s = refl
 chosen false false f u n s = refl
 
 abbrev pub told_by : Readings → View → Service → ℕ → Reply
 told_by w v service version =
-    cond (not (is_member v.phase)) reply.Unavailable (cond (not v.readable) (reply.NotReadable w.last v.standing) (since w service version))
+    unwrap_or (unreadable w v) (since w service version)
 
 pub read-is : (me : Me) (now : ℕ) (w : Readings) (v : View) (x : Course) → IsUnderWay me now w v x → (session : Session) (service : Service) (version : ℕ)
     → read me now session (λ r. since r service version) x ≡ Ok (say (sent.Reply session (told_by w v service version) ∷ []) x)
@@ -149,7 +151,10 @@ read-is me now w v x b session service version =
     reply.Unavailable (reply.NotReadable x.readings.last (is_standing me now x.state)) (since x.readings service version)
     ∙ (λ i.
     Ok (say (sent.Reply session
-    (cond (not (is_member (sym b.seen.phase i))) reply.Unavailable (cond (not (sym b.seen.readable i)) (reply.NotReadable (b.readings i).last (sym b.seen.standing i)) (since (b.readings i) service version))) ∷ []) x))
+    (unwrap_or
+    (cond (not (is_member (sym b.seen.phase i))) (Some reply.Unavailable)
+    (cond (not (sym b.seen.readable i)) (Some (reply.NotReadable (b.readings i).last (sym b.seen.standing i))) None))
+    (since (b.readings i) service version)) ∷ []) x))
 
 pub rings : (me : Me) (now : ℕ) (t : Timer) → IsTrue (is_rung t) → (x : Course) → timer_comes me now t x ≡ propose_due me now x
 rings me now timer.Propose h x = refl

@@ -1,6 +1,7 @@
 -- The inputs of clients' commands and reads, and what their calls answer.
-use Rattle.std.specs.Prelude.{◌≡◌, ℕ, Bool, true, false, Result}
+use Rattle.std.specs.Prelude.{◌≡◌, ℕ, Bool, true, false, not, Option, Some, None, Result, if◌then◌else◌}
 use Rattle.mon_msg.specs.Protocol.Course.{Course, clients_are}
+use Rattle.mon_msg.specs.Protocol.Phases.{is_member}
 use Rattle.mon_msg.specs.Protocol.Readings.{Readings, readings_of}
 use Rattle.mon_msg.specs.declared.clients.Clients.{Clients}
 use Rattle.mon_msg.specs.declared.input.Input.TheVariants as input
@@ -17,6 +18,8 @@ use Rattle.mon_wire.specs.declared.body.Body.TheVariants as body
 use Rattle.mon_wire.specs.declared.body.Body.{Body}
 use Rattle.mon_wire.specs.declared.phase.Timer.TheVariants as timer
 use Rattle.mon_wire.specs.declared.phase.Timer.{Timer}
+use Rattle.mon_wire.specs.declared.reply.Reply.TheVariants as reply
+use Rattle.mon_wire.specs.declared.reply.Reply.{Reply}
 use Rattle.mon_wire.specs.declared.request.Request.TheVariants as request
 use Rattle.mon_wire.specs.declared.request.Request.{Request}
 
@@ -40,6 +43,12 @@ is_input input.Start = false
 is_input (input.Deliver m) = is_told m.body
 is_input (input.Timer t) = is_rung t
 is_input (input.Client session r) = is_asked r
+
+-- the reply to a client if nothing may be read now, by what is seen
+abbrev pub unreadable : Readings → View → Option Reply
+unreadable w view =
+    if not (is_member view.phase) then Some reply.Unavailable
+    else (if not view.readable then Some (reply.NotReadable w.last view.standing) else None)
 
 -- An event under way, whatever is remembered of clients: the store's readers return this, and the other roles are seen so.
 pub record IsUnderWay (me : Me) (now : ℕ) (w : Readings) (view : View) (x : Course) : Type 0 where

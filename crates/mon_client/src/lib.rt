@@ -10,3 +10,4 @@ mod proposals;
 mod reads;
 
 pub use inputs::{step, step_owned};
+pub use reads::unreadable;

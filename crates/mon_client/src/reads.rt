@@ -1,38 +1,47 @@
 //! What clients read.
 
-ghost use Rattle.std.specs.Prelude.{◌≡◌, not, if◌then◌else◌, IfOk};
-ghost use Rattle.mon_msg.specs.Protocol.Phases.{is_member};
+ghost use Rattle.std.specs.Prelude.{◌≡◌, unwrap_or, IfOk};
 ghost use Rattle.mon_msg.specs.Protocol.Readings.{readings_of};
 ghost use Rattle.mon_msg.specs.Protocol.Reads.{since as changes_since, read};
 ghost use Rattle.mon_plan.specs.Leaves.{Leaves};
-ghost use Rattle.mon_client.specs.Rows.{ByRow};
+ghost use Rattle.mon_client.specs.Rows.{ByRow, unreadable};
 
 use crate::answers::answered;
 use crate::here::Here;
 use mon_bytes::OutOfMemory;
+use mon_kv::Kv;
 use mon_msg::plan::Sent;
-use mon_msg::{Clients, Plan, Reply, RoleStop, Service, Session};
+use mon_msg::{Clients, Plan, Reply, RoleStop, Service, Session, View};
 use mon_plan::Stored;
 use mon_types::Version;
+use std::alloc::Global;
+
+/// The reply to a client if nothing may be read now: the monitor is in no quorum, or its version isn't readable.
+pub fn unreadable(alloc: Global, kv: &Kv, view: &View) -> Option<Reply>
+    ensures { result ≡ unreadable (readings_of kv.now) view.now }
+{
+    if !view.phase.is_member() {
+        return Some(Reply::Unavailable);
+    }
+    if !view.readable {
+        return Some(Reply::NotReadable {
+            has: Stored::of(alloc, kv).last(),
+            lease: view.standing,
+        });
+    }
+    None
+}
 
 /// The reply to a client that asks what changed after a version.
 fn told(here: &Here<'_>, service: Service, version: Version) -> Result<Reply, OutOfMemory>
     ensures { IfOk result (λ reply. reply ≡
-        if not (is_member here.now.view.now.phase) then Reply.Unavailable
-        else (if not here.now.view.now.readable
-        then Reply.NotReadable (readings_of here.now.kv.now).last here.now.view.now.standing
-        else changes_since (readings_of here.now.kv.now) service version)) }
+        unwrap_or (unreadable (readings_of here.now.kv.now) here.now.view.now)
+        (changes_since (readings_of here.now.kv.now) service version)) }
 {
-    if !here.view.phase.is_member() {
-        return Ok(Reply::Unavailable);
+    match unreadable(here.alloc, here.kv, here.view) {
+        Some(reply) => Ok(reply),
+        None => svc_core::since(here.alloc, here.kv, service, version.get()),
     }
-    if !here.view.readable {
-        return Ok(Reply::NotReadable {
-            has: Stored::of(here.alloc, here.kv).last(),
-            lease: here.view.standing,
-        });
-    }
-    svc_core::since(here.alloc, here.kv, service, version.get())
 }
 
 /// A client asks what changed a service's map after a version.

@@ -1,5 +1,6 @@
 -- The reply to a client that asks for a map.
-use Rattle.std.proofs.Common.{◌≡◌, ℕ, Bool, true, false, not, ◌&&◌, ◌||◌, List, Option, Result, Ok, Err, refl, ap, ◌∙◌}
+use Rattle.std.proofs.Common.{◌≡◌, ℕ, Bool, true, false, not, ◌&&◌, ◌||◌, List, Option, Some, None, Result, Ok, Err, refl, ap, ◌∙◌}
+use Rattle.std.specs.Option.{is_none, unwrap_or}
 use Rattle.std.specs.Prelude.{if◌then◌else◌, OnOk}
 use Rattle.mon_bytes.specs.declared.entry.Entry.{Entry}
 use Rattle.mon_lease.specs.Lease.{readable}
@@ -24,13 +25,26 @@ use Rattle.mon_wire.specs.declared.reply.Reply.{Reply}
 use Rattle.mon_wire.specs.declared.request.Request.TheVariants as request
 use Rattle.mon_wire.specs.declared.request.Service.TheVariants as service
 use Rattle.mon_wire.specs.declared.request.Service.{Service}
+use Rattle.mon_client.specs.Rows.{unreadable}
 use Rattle.mon_core.specs.Known.{asks_any_map, asks_for}
 use Rattle.mon_wire.specs.declared.request.Session.{Session}
 use Rattle.svc_core.specs.declared.cache.Known.{Known}
 
+abbrev refused : (is_member may_read : Bool) → (not_readable : Reply) → Option Reply
+refused member may_read not_readable = if not member then Some reply.Unavailable else (if not may_read then Some not_readable else None)
+
 -- the reply, by the monitor's phase
 abbrev pub told : (is_member may_read : Bool) → (not_readable shown : Reply) → Reply
-told member may_read not_readable shown = if not member then reply.Unavailable else (if not may_read then not_readable else shown)
+told member may_read not_readable shown = unwrap_or (refused member may_read not_readable) shown
+
+both : (member may_read : Bool) (not_readable : Reply) → (member && may_read) ≡ is_none (refused member may_read not_readable)
+both false may_read r = refl
+both true false r = refl
+both true true r = refl
+
+-- a map may be read if no refusal comes
+pub may_read : (w : Readings) (view : View) → (is_member view.phase && view.readable) ≡ is_none (unreadable w view)
+may_read w view = both (is_member view.phase) view.readable (reply.NotReadable w.last view.standing)
 
 module _ (session : Session) (x : Course) where
   abbrev Answer : Type 0

@@ -1,18 +1,20 @@
 //! A client is shown a service's map, from what the core keeps.
 
-ghost use Rattle.std.specs.Prelude.{◌≡◌, Ok, not, if◌then◌else◌, ◌&&◌, IfOk, OnOk};
+ghost use Rattle.std.specs.Prelude.{◌≡◌, Ok, if◌then◌else◌, ◌&&◌, unwrap_or, IfOk, OnOk};
 ghost use Rattle.mon_msg.specs.Protocol.Phases.{is_member};
 ghost use Rattle.mon_msg.specs.declared.input.Input.TheVariants as input;
 ghost use Rattle.mon_wire.specs.declared.request.Request.TheVariants as request;
 ghost use Rattle.mon_msg.specs.Protocol.Reads.{shown};
 ghost use Rattle.mon_msg.specs.Protocol.Readings.{readings_of};
 ghost use Rattle.mon_wire.specs.declared.request.Service as services;
+ghost use Rattle.mon_client.specs.Rows.{unreadable};
 ghost use Rattle.svc_core.specs.Cache.{Follows, known, known_once_read};
 ghost use Rattle.mon_core.specs.Known.{known_by_then};
 ghost use Rattle.mon_core.specs.Rows.{AnswersInput, IsReady};
 ghost use Rattle.mon_event.specs.State.{state_of};
 
 use mon_bytes::OutOfMemory;
+use mon_client::unreadable;
 use mon_event::{Event, view};
 use mon_kv::Kv;
 use mon_msg::{Reply, Service, Session, View};
@@ -49,25 +51,17 @@ fn told(
 ) -> Result<Reply, OutOfMemory>
     requires { Follows cache.old (readings_of kv.now) }
     ensures reply { IfOk result (λ reply. reply ≡
-        if not (is_member view.now.phase) then Reply.Unavailable
-        else (if not view.now.readable then Reply.NotReadable (readings_of kv.now).last view.now.standing
-        else shown (readings_of kv.now) service)) }
+        unwrap_or (unreadable (readings_of kv.now) view.now) (shown (readings_of kv.now) service)) }
     ensures known { OnOk result (known cache.new service ≡
         if is_member view.now.phase && view.now.readable then known_once_read (readings_of kv.now) service (known cache.old service)
         else known cache.old service) }
     ensures others { OnOk result ((t : services.Service) → (t ≡ service → ⊥) → known cache.new t ≡ known cache.old t) }
     ensures follows { OnOk result (Follows cache.new (readings_of kv.now)) }
 {
-    if !view.phase.is_member() {
-        return Ok(Reply::Unavailable);
+    match unreadable(alloc, kv, view) {
+        Some(reply) => Ok(reply),
+        None => shown(alloc, kv, cache, service),
     }
-    if !view.readable {
-        return Ok(Reply::NotReadable {
-            has: Stored::of(alloc, kv).last(),
-            lease: view.standing,
-        });
-    }
-    shown(alloc, kv, cache, service)
 }
 
 /// A client asks for a service's map. No other input makes a service known.
