@@ -1,5 +1,5 @@
--- What a turn of a serving node does with its link: it asks the link in time, sends once the turn's transaction is kept,
--- and sends the messages of its reaction.
+-- What an iteration of a serving node does with its link: it asks the link in time, sends once the iteration's
+-- transaction is kept, and sends the messages of its reaction.
 use Rattle.std.specs.Prelude.{◌≡◌, ◌⊎◌, ℕ, ◌+◌, ◌≤◌, List, [], ◌∷◌, ◌++◌, Option, Some, None, Ok}
 use Rattle.std.specs.List.{Contains}
 use Rattle.std.specs.Option.{option_map}
@@ -21,7 +21,7 @@ use Rattle.mon_wire.specs.declared.phase.Timer.{Timer}
 
 -- ---- it never waits past a timer that is due
 
--- the turn takes this timer, and doesn't ask the link
+-- the iteration takes this timer, and doesn't ask the link
 pub record Takes (g : Given) (old : Serving) (timer : Timer) (t : Turn) : Type 0 where
   pub came : t.came ≡ Ok (Some (at_moment g.began (input.Timer timer)))
   pub link : t.serving.outside.link ≡ old.outside.link
@@ -40,15 +40,15 @@ IsAskedInTime began next old new =
     (waits_in new ≡ waits_in old)
     ⊎ ((wait : ℕ) × IsInTime began next wait × (waits_in new ≡ option_map (λ waits. waits ++ wait ∷ []) (waits_in old)))
 
--- ---- it sends nothing before what that rests on is kept
+-- ---- it sends nothing before the state that this depends on is kept
 
--- nothing was sent at this turn, or its transaction is kept
+-- nothing was sent at this iteration, or its transaction is kept
 abbrev pub IsKeptFirst : Me → Turn → Option Told → Stood → Type 0
 IsKeptFirst me t link s = (link ≡ t.serving.outside.link) ⊎ (s ≡ stood_kept me t)
 
 -- ---- each datagram is a message of its reaction, or a piece of one
 
--- of a whole message to a peer, in this life of its monitor
+-- of a whole message to a peer, since this start of its monitor
 abbrev pub IsDatagramOf : (whole : Outgoing) → (boot : ℕ) → Outgoing → Type 0
 IsDatagramOf whole boot d = (d.to ≡ whole.to) × ((seq : ℕ) × Contains (pieces_of whole.bytes boot seq) d.bytes)
 

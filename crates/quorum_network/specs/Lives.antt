@@ -39,8 +39,8 @@ unfoldable pub alone : Me → List Step → Left
 alone me [] = record { process = Down empty; sends = [] }
 alone me (s ∷ earlier) = left_at me s.up_to (alone me earlier) (turn_of me (alone me earlier).process s.doing)
 
--- The steps of a life: the process is started and makes these turns, the newest first. `u` is how far the last of them
--- gets, or the start if there is none.
+-- The steps of a life: the process is started and makes these iterations, the newest first. `u` is how far the last of
+-- them gets, or the start if there is none.
 abbrev pub life : ℕ → Stood → Option Readings → Option Told → (first : ℕ) → List Given → Until → List Step → List Step
 life i stood clock link first [] u earlier =
     record { rank = i; doing = Begins stood clock link first; up_to = u } ∷ earlier

@@ -54,7 +54,7 @@ map_of (Down m) = m
 -- ---- what happens
 
 -- A process is started on a store, with a clock and a link, at a reading of the clock. A process of its rank that is
--- still up ends then. Or a process makes a turn.
+-- still up ends then. Or a process makes an iteration.
 pub data Doing : Type 0 where
   Begins : (stood : Stood) → (clock : Option Readings) → (link : Option Told) → (first : ℕ) → Doing
   Turns : (given : Given) → Doing

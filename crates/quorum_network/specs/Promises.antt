@@ -1,4 +1,4 @@
--- What processes promise: there is one log that only goes on, and all maps and all answers on the wire are of it.
+-- What processes promise: there is one log that only grows, and all maps and all answers on the wire are of it.
 use Rattle.std.specs.Prelude.{◌≡◌, ◌⊎◌, ℕ, ◌<◌, ◌≤◌, max, true, List, [], ◌∷◌, ◌++◌, length, Some}
 use Rattle.std.specs.List.{AllByRecursion, Contains}
 use Rattle.mon_frag.specs.Whole.{FromPeer, answered}
@@ -113,7 +113,7 @@ pub record AreAnswers (n : ℕ) (requests : List Asked) (acks before : List Ackn
 -- ---- what is acknowledged lasts
 
 -- an active leader with a number of at least that of the acknowledgement has the version, and is under no full
--- synchronisation
+-- synchronization
 abbrev pub LeaderHas : Acknowledgement → Process → Type 0
 LeaderHas a (Down m) = Unit {0}
 LeaderHas a (Up s) = is_active s.node.state.phase ≡ true → a.pn ≤ s.node.state.leader.pn
@@ -134,7 +134,7 @@ AcknowledgedOnce (a ∷ others) =
 -- ---- the log
 
 -- Each entry of the log is the value of a command that a client asked, over the entries before it. All maps are the
--- log's, but those under a full synchronisation. So are all answers that were ever on the wire, and all that was
+-- log's, except those under a full synchronization. So are all answers that were ever on the wire, and all that was
 -- acknowledged is kept.
 pub record IsLogOf (ms : Monitors) (requests : List Asked) (acks : List Acknowledgement) (net : Network)
     (log : List (List ℕ)) : Type 0 where
@@ -144,8 +144,8 @@ pub record IsLogOf (ms : Monitors) (requests : List Asked) (acks : List Acknowle
   pub kept : AllByRecursion (IsKept ms.count net log) acks
   pub once : AcknowledgedOnce acks
 
--- After these steps there is a log, and after later ones the same log that went on. What is answered in the later ones
--- is no older than what was acknowledged in the earlier ones.
+-- After these steps there is a log, and after later ones the same log, perhaps longer. What is answered in the later
+-- ones is no older than what was acknowledged in the earlier ones.
 pub record HaveOneLog (ms : Monitors) (earlier later : List Step) : Type 0 where
   pub log : List (List ℕ)
   pub more : List (List ℕ)

@@ -56,7 +56,7 @@ pub record Acknowledgement : Type 0 where
 abbrev pub acknowledges : Store → State → ℕ → Acknowledgement
 acknowledges m s v = record { version = v; pn = s.leader.pn; epoch = epoch_of (readings_of m) }
 
--- of what a monitor sends that keeps m and remembers s then
+-- of what a monitor that then keeps m and remembers s sends
 abbrev pub acknowledged_in : Store → State → List Sent → List Acknowledgement
 acknowledged_in m s sends = filter_map (λ x. option_map (acknowledges m s) (done_by s x)) sends
 
@@ -64,7 +64,7 @@ abbrev pub acknowledged_by : Node → Option Reaction → List Acknowledgement
 acknowledged_by n (Some r) = acknowledged_in (map_after n r) r.state r.sends
 acknowledged_by n None = []
 
--- the reaction whose transaction an iteration keeps that gets this far
+-- the reaction whose transaction is kept by an iteration that gets this far
 abbrev pub kept_by : Me → Turn → Until → Option Reaction
 kept_by me t Whole = kept_reaction me t
 kept_by me t Lost = None
@@ -91,7 +91,7 @@ pub record Leadership : Type 0 where
   pub rank : ℕ
   pub epoch : ℕ
 
--- of monitor i that keeps m and remembers s then
+-- of monitor i, which then keeps m and remembers s
 abbrev pub led_in : ℕ → Store → State → List Leadership
 led_in i m s = if is_active s.phase then record { rank = i; epoch = epoch_of (readings_of m) } ∷ [] else []
 
@@ -107,7 +107,7 @@ abbrev pub led_at : Network → Step → Option Me → List Leadership
 led_at net s (Some me) = led_in_turn s.rank me s.up_to (turn_of me (net.process s.rank) s.doing)
 led_at net s None = []
 
--- Who led in these steps. A process that is killed in a turn leads if the transaction of that turn was kept.
+-- Who led in these steps. A process that is killed in an iteration leads if the transaction of that iteration was kept.
 unfoldable pub leaderships : Monitors → List Step → List Leadership
 leaderships ms [] = []
 leaderships ms (s ∷ earlier) = leaderships ms earlier ++ led_at (network ms earlier) s (me_of ms s.rank)

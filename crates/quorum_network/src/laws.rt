@@ -28,28 +28,28 @@ ghost use Rattle.quorum_network.specs.Running.{DoesARun};
 
 use mon_disk::{Disk, NodeDisks};
 
-/// What processes do is what a run of the model does. The monitors of a map are processes that all began with empty
-/// stores. Their network loses, repeats and delays datagrams. Each process may end, be killed and be started again at any
-/// point. Whatever happens, there is a run of the model that has the map of each store, what each process remembers
-/// that is up, and each message and reply of which a datagram was sent. In it clients ask nothing but the requests that
-/// came to processes, and it is safe.
+/// Whatever processes do, a run of the model does it too. The monitors of a map are processes that all began with empty
+/// stores. Their network loses, repeats and delays datagrams. Each process may end, be killed and be started again at
+/// any point. Whatever happens, there is a run of the model that has the map of each store, what each process that is
+/// up remembers, and each message and reply of which a datagram was sent. In it clients ask nothing but the requests
+/// that came to processes, and it is safe.
 pub fn law_network()
     ensures runs { (ms : Monitors) (steps : List Step) → AllMay ms steps
         → DoesARun ms (requests ms steps) (network ms steps) }
 {}
 
-/// At any two points of time of a network there is one log, which only grows. All maps are of it, except those under a
-/// full synchronization, and so is every datagram that ever went to a client, a piece of a REPLY: what is shown is the log
-/// up to a version, and was asked for; and the command that is said to be done is in it. Each entry is the value of a
-/// command that a client asked. A client that joins the pieces of long REPLYs, whatever of them is lost, repeated or late,
-/// joins whole REPLYs, of which all this holds.
+/// At any two points in time of a network there is one log, which only grows. All maps are of it, except those under a
+/// full synchronization, and so is every datagram that ever went to a client, a piece of a REPLY: what is shown is the
+/// log up to a version, and was asked for; and the command that is said to be done is in it. Each entry is the value of
+/// a command that a client asked. A client that joins the pieces of long REPLYs, whatever of them is lost, repeated or
+/// late, joins whole REPLYs, of which all this holds.
 ///
 /// No version is acknowledged twice. Each active leader with a proposal number of at least that of an acknowledgement
 /// has its version. What is shown after an acknowledgement, in its epoch, is no older.
 ///
-/// Any two maps have the same bytes of each version that both keep, at any two points of time. No two processes ever lead
-/// in one epoch: those that are up and lead are among the leaders of all steps, and so are those that were killed in the
-/// turn in which they began to lead.
+/// Any two maps have the same bytes of each version that both keep, at any two points in time. No two processes ever
+/// lead in one epoch: those that are up and lead are among the leaders of all steps, and so are those that were killed
+/// in the iteration in which they began to lead.
 pub fn law_one_log()
     ensures log { (ms : Monitors) (later earlier : List Step) → AllMay ms (later ++ earlier)
         → HaveOneLog ms earlier (later ++ earlier) }
@@ -67,18 +67,18 @@ pub fn law_one_log()
         → Leads (network ms earlier) i e → Leads (network ms (later ++ earlier)) j e → i ≡ j }
 {}
 
-/// What a network makes of a process is what `serve` and `Store::open` promise of it. A process does what its own steps
-/// make it do, and sends what they send.
+/// The steps of a process on a network are those that `serve` and `Store::open` promise. What a process does and sends
+/// depends on its own steps alone.
 ///
-/// Let a node serve as `Serves` and `StandsThrough` say, to whatever end, and let its disks be opened after a crash. Then
-/// its turns are the steps of a life: their map is the one that is opened, and they send what the link was asked to send.
-/// So a process may begin on that store. A step that was kept sends a prefix of what its turn sends, and one that was
-/// lost sends nothing.
+/// Let a node serve as `Serves` and `StandsThrough` say, to whatever end, and let its disks be opened after a crash.
+/// Then its iterations are the steps of a life: their map is the one that is opened, and they send what the link was
+/// asked to send. So a process may begin on that store. A step that was kept sends a prefix of what its iteration
+/// sends, and one that was lost sends nothing.
 ///
-/// Let a node be killed in a turn, and leave what `serve` says of one that runs out of memory there: it sent nothing yet, or
-/// it kept the turn's transaction and sent a prefix of the turn's datagrams. Then its turns are the steps of a life too. After
-/// a crash within a call to a disk, the map that is opened is that of a step in the same turn that was lost, or of each one
-/// that was kept.
+/// Let a node be killed in an iteration, and leave what `serve` says of one that runs out of memory there: it sent
+/// nothing yet, or it kept the iteration's transaction and sent a prefix of its datagrams. Then its iterations are the
+/// steps of a life too. After a crash within a call to a disk, the map that is opened is that of a step in the same
+/// iteration that was lost, or of each one that was kept.
 pub fn law_lives()
     ensures process { (ms : Monitors) (i : ℕ) (me : Me) → me_of ms i ≡ Some me → (steps : List Step)
         → (network ms steps).process i ≡ (alone me (own i steps)).process }
@@ -104,7 +104,7 @@ pub fn law_lives()
         → (member : Member) (s : Stood) → opens_as member x y ≡ Ok s
         → IsLife i me stood clock link first given earlier s.kv left_link }
 
-    // A kill in a turn, between two calls to the disks and the link.
+    // A kill in an iteration, between two calls to the disks and the link.
     ensures killed { (i : ℕ) (me : Me) (stood : Stood) (clock : Option Readings) (link : Option Told) (first : ℕ)
         (given : List Given) (earlier : List Step) (t : Turn) (left_link : Option Told) (x y : List ℕ)
         → last_turn me first (unstarted me.member.rank stood clock link) given ≡ Ok t
@@ -132,16 +132,17 @@ pub fn law_opening<D: Disk>(before: &NodeDisks<D>, after: &NodeDisks<D>)
     ensures new_store { (member : Member) → (s : Stood) × (opens_as member [] [] ≡ Ok s) × (s.kv ≡ empty) }
 {}
 
-/// What each turn that `serve` makes does with its link.
+/// What each iteration that `serve` makes does with its link.
 ///
-/// It never waits past a timer that is due. A timer that is due when the turn begins is its input, and the link isn't asked.
-/// Else the link is asked at most once, for at most a second, and that wait is over when the next timer is due.
+/// It never waits past a timer that is due. A timer that is due when the iteration begins is its input, and the link
+/// isn't asked. Otherwise the link is asked at most once, for at most a second, and that wait is over when the next
+/// timer is due.
 ///
-/// It sends nothing before what that rests on is kept. A turn that is completed leaves the store with its transaction
-/// kept. If the node ends at a turn, nothing was sent at it, or its transaction is kept.
+/// It sends nothing before the state that this depends on is kept. An iteration that is completed leaves the store with
+/// its transaction kept. If the node ends at an iteration, nothing was sent at it, or its transaction is kept.
 ///
-/// Each datagram that a turn sends is a message of the core's reaction to its input, or a piece of one, and goes to whom
-/// that message goes.
+/// Each datagram that an iteration sends is a message of the core's reaction to its input, or a piece of one, and goes
+/// to the receiver of that message.
 pub fn law_turns()
     ensures timers { (me : Me) (g : Given) (s : Serving) (timer : Timer) (at : ℕ)
         → due s.node.state.timers ≡ Some (timer, at) → at ≤ g.began → Takes g s timer (turn me g s) }

@@ -1,5 +1,5 @@
-//! What several processes do on a network is what a run of the model does. What follows from that for them, and what each
-//! turn of one of them does.
+//! Whatever several processes do on a network, a run of the model does it too. What follows from that for the
+//! processes, and what each iteration of one of them does.
 #![tactic(auto)]
 
 mod laws;
