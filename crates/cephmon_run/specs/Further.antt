@@ -27,8 +27,8 @@ pub record RanOut {D : Type 0} (before after : Outside) (around left : Around D)
   pub streams : after ≡ before
   pub devices : left ≡ around
 
--- A client followed a service of n monitors and ended so. It began with the empty map at version 0. What its link returned, one answer a turn,
--- decides what it asked and what was written to its sink.
+-- A client followed a service of n monitors and ended so. It began with the empty map at version 0. What its link
+-- returned, one answer an iteration, determines what it asked and what was written to its sink.
 pub record Followed (service : Service) (n turns : ℕ) (before after : Stream) (link new : LinkState) (e : FollowEnd) : Type 0 where
   pub copy : Follower
   pub parts : List Partial

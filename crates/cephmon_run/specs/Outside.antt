@@ -2,8 +2,8 @@
 use Rattle.std.specs.Prelude.{◌≡◌, ℕ, List, Option}
 use Rattle.stopped_stores.specs.Texts.{Stream}
 
--- What stands before a run and after it: what the source has left and what the sink holds, if they report it, and their counts of faults. Of a
--- source or a sink that reports nothing, as the standard streams, no bytes are known.
+-- The state of the streams before a run or after it: what the source has left and what the sink holds, if the prover
+-- can see it, and their counts of faults. Of the standard streams no bytes are known.
 pub record Outside : Type 0 where
   pub left : Option (List ℕ)
   pub held : Option (List ℕ)

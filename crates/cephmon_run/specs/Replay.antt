@@ -30,7 +30,7 @@ Writes (Err stop.WriteFault) old new trace = AppendsFront old new trace.text
 Writes (Err (stop.World world_stop.OutOfMemory)) old new trace = AppendsFront old new trace.text
 
 -- What a call that does one event left, and wrote to the sink: the event's lines; or what is written of any trace that
--- goes on with it.
+-- continues with it.
 abbrev pub Did : Monitors → Result Unit ReplayStop → World → Option (List ℕ) → Option (List ℕ) → ℕ → schedule.Event →
     Result (Scene × StepLine) happens.Stop → Type 0
 Did ms (Ok done) world old new number e wanted =

@@ -66,7 +66,7 @@ pub record Replays (bytes : List ℕ) (fact : Trace → Type 0) : Type 0 where
   pub runs : Runs schedule monitors
   pub traced : fact (trace monitors schedule.events)
 
--- the whole trace was written, and its run came to the end, or this stopped it
+-- the whole trace was written, and its run reached its end, or this stopped it
 abbrev pub WroteAll : Outside → Outside → Option Stop → Trace → Type 0
 WroteAll before after stop t = (t.stop ≡ stop) × Appends before.held after.held t.text
 
@@ -119,7 +119,7 @@ MadeCause number events before after status.OutOfMemory =
     ReadNothing before after × (WroteNothing before after ⊎ Made number events before after (SummedFront before after))
 MadeCause number events before after other = ⊥
 
--- What a task has no use for is as it was.
+-- Devices that a task doesn't use are left untouched.
 abbrev pub HasCause : {D : Type 0} → (D → DiskState) → Task → Outside → Outside → Around D → Around D → Status → Type 0
 HasCause state task.Replay before after around left s = ReplayCause before after s × (left ≡ around)
 HasCause state (task.Made number events) before after around left s = MadeCause number events before after s × (left ≡ around)
@@ -166,7 +166,7 @@ Tells None s = s ≡ status.Done
 Tells (Some (happens.Spent which)) s = s ≡ status.Spent which
 Tells (Some (happens.Full would_be)) s = s ≡ status.Full would_be
 
--- it says which line is faulty, unless memory ran out
+-- the status says which line is faulty, unless memory ran out
 abbrev pub TellsLine : ℕ → ScheduleKind → Status → Type 0
 TellsLine line kind status.OutOfMemory = Unit {0}
 TellsLine line kind s = s ≡ status.Schedule line kind
@@ -212,10 +212,11 @@ text_task text.Keys member disk_a disk_b = task.DumpKeys member disk_a disk_b
 text_task (text.Versions from to) member disk_a disk_b = task.DumpPaxos member disk_a disk_b from to
 text_task text.Export member disk_a disk_b = task.StoreExport member disk_a disk_b
 
--- Faulty words are told. Where nothing fails, the status tells how the run of the schedule ends that the source has, or that is made; of
--- bytes that are no schedule's text, however many, which line is at fault; and of disks that stand for no store of the member, why they
--- don't, while on a store of its own, or where it is to be created, the monitor serves. A client follows. The status of a command on a stopped
--- store is that of the end that comes by what the disks and the source have, and so is that of a comparison.
+-- If the arguments are faulty, the status says so. If no device fails, the status says how the run of the schedule that
+-- was read or made ends; which line is at fault if the bytes, however many, are no schedule's text; and why disks that
+-- represent no store of the member represent none. On disks with a store of its own, or on which one is to be created,
+-- the monitor serves. A client follows. The status of a command on a stopped store, and of a comparison, is that of the
+-- end that follows from what the disks and the source hold.
 pub record Completes {D : Type 0} (state : D → DiskState) (words : List (String Global)) (before after : Outside) (around left : Around D) (s : Status) : Type 0 where
   pub faulty : AsksForNone words → s ≡ status.Words
   pub replayed : (schedule : Schedule) (ms : Monitors) → AsksFor task.Replay words → NothingFailed before after

@@ -59,7 +59,7 @@ pub fn run_text<D: Disk, K: Sink>(
     }
 }
 
-/// Makes a store on the disks of the export that the source has.
+/// Reads an export from the source, and makes a store of it on the disks.
 pub fn run_import<D: Disk, S: Source>(
     alloc: Global,
     member: &Member,
@@ -77,7 +77,7 @@ pub fn run_import<D: Disk, S: Source>(
     }
 }
 
-/// Writes to the sink where the two reports differ that the source has.
+/// Reads two reports from the source, and writes to the sink where they differ.
 pub fn run_compare<S: Source, K: Sink>(alloc: Global, source: &mut S, sink: &mut K) -> Status
     ensures { StatusOf status_of_tool (Compares
         (record { bytes = S.left source.old; faults = S.faults source.old })

@@ -1,5 +1,5 @@
-//! Does what the words of a command line ask for: replays a schedule, runs one that is made, serves as a monitor, follows a map as a client, or
-//! reads, compares and restores the stores of stopped monitors.
+//! Does what the arguments of a command line ask for: replays a schedule, runs one that is made, serves as a monitor,
+//! follows a map as a client, or reads, compares and restores the stores of stopped monitors.
 #![tactic(auto)]
 
 mod further;

@@ -26,7 +26,7 @@ use std::alloc::Global;
 use stopped_stores::StoreText;
 use task_words::{Task, WordsStop, read_words};
 
-/// One more byte than a schedule may have.
+/// One more byte than a schedule may have, to distinguish one that is too long.
 const MOST_READ: usize = 16_777_217;
 
 /// The schedule that the bytes encode, or the status that says why there is none.
@@ -182,12 +182,13 @@ fn run_task<S: Source, K: Sink, D: Disk, L: Link, C: Clock>(
     }
 }
 
-/// Does what the words say: `replay` runs the schedule that the source has and writes its trace to the sink; `made`
-/// runs the schedule of a number and writes its summary; `node` serves as a monitor from the two disks, over the
-/// link, and writes nothing; `follow` follows a service over the link and writes a line for each newer version;
-/// `scrub`, `dump-keys`, `dump-paxos` and `store-export` write a text of the store on the two disks; `scrub-compare`
-/// writes where the two reports differ that the source has; and `store-import` makes a store on the two disks of the
-/// export that the source has. What a command has no use for is left as it was.
+/// Does what the arguments ask for. `replay` reads a schedule from the source, runs it, and writes its trace to the
+/// sink. `made` runs the schedule of a number, and writes its summary. `node` serves as a monitor from the two disks,
+/// over the link, and writes nothing. `follow` follows a service over the link, and writes a line for each newer
+/// version. `scrub`, `dump-keys`, `dump-paxos` and `store-export` write a text of the store on the two disks.
+/// `scrub-compare` reads two reports from the source, and writes where they differ. `store-import` reads an export from
+/// the source, and makes a store of it on the two disks. Devices that a command doesn't use are left untouched. The
+/// status says what was done, and why the command ended.
 pub fn run<S: Source, K: Sink, D: Disk, L: Link, C: Clock>(
     alloc: Global,
     words: &[String],
