@@ -6,7 +6,7 @@ use mon_link::{Got, MemoryLink, MemorySink, MemorySource};
 use std::alloc::Global;
 use std::test::Fail;
 
-/// How a client with one turn ends, and how many requests it sent, over a link that gives this, or whose first call fails. It writes nothing.
+/// How a client with one iteration ends, and how many requests it sent, over a link that returns this, or whose first call fails. It writes nothing.
 fn followed(
     alloc: Global,
     got: Vec<Got>,

@@ -1,6 +1,6 @@
-//! Tests of the top call, as its users see it: over disks, links, clocks and streams in memory. Want of memory is the one status that a
-//! contract can't refuse, so that a `run` which always gave up would be proved. These tests refuse one: each names the status with which a
-//! command ends, and it is never that one.
+//! Tests of the top call, as its users see it: over disks, links, clocks and streams in memory. Out of memory is the one status that no contract
+//! excludes, so a `run` that always returned it would be proved. These tests exclude that: each names the status with which a command ends, and it is
+//! always another one.
 #![tactic(auto)]
 
 #[cfg(test)]
