@@ -1,4 +1,4 @@
--- The iterations of a client that follows, as a function of what its link gives it.
+-- The iterations of a client that follows, as a function of what its link returns.
 use Rattle.std.specs.Prelude.{◌≡◌, ◌⊎◌, ℕ, ◌+◌, ◌%◌, ◌==◌, ◌≤◌, List, [], ◌∷◌, ◌++◌, length, take, Option, Some, None, IfSome, Result, Ok, Err, codes, decimal, option_map, if◌then◌else◌}
 use Rattle.mon_frag.specs.Keeping.{taken as piece_taken}
 use Rattle.mon_frag.specs.Whole.{answer_in, kept_in}

@@ -10,7 +10,7 @@ pub enum FollowEnd {
     /// All iterations were made.
     #[error("turns used")]
     TurnsUsed,
-    /// The link failed to report what comes next.
+    /// The link couldn't receive, and counted a fault.
     #[error("the link failed")]
     LinkFault,
     /// A line couldn't be written whole. A prefix of it may be there.
