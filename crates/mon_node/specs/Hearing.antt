@@ -1,4 +1,4 @@
--- What comes to a monitor: a timer that is due, or what the link gives.
+-- What a monitor gets: a timer that is due, or what the link returns.
 use Rattle.std.specs.Prelude.{◌≡◌, ℕ, ◌-◌, ◌==◌, ◌&&◌, nat_le, min, not, Bool, true, false, List, Option, Some, None, IfSome, Result, Ok, Err, option_map, if◌then◌else◌}
 use Rattle.mon_frag.specs.Keeping.{taken}
 use Rattle.mon_frag.specs.Whole.{answer_in, kept_in}

@@ -1,4 +1,4 @@
--- The iterations of a node, as a function of what its clock shows and its link gives.
+-- The iterations of a node, as a function of what its clock shows and its link returns.
 use Rattle.std.specs.Prelude.{ℕ, ◌+◌, ◌^◌, nat_lt, List, [], ◌∷◌, Option, Some, None, Result, Ok, Err, option_map, if◌then◌else◌}
 use Rattle.mon_bytes.specs.Answers.{◌>>=◌}
 use Rattle.mon_kv.specs.Readers.{size_of}

@@ -7,7 +7,7 @@ use thiserror::Error;
 /// Why a node ended.
 #[derive(Clone, Copy, Debug, PartialEq, Eq, Error)]
 pub enum NodeEnd {
-    /// The link said so.
+    /// The link reported that it is closed.
     #[error("the link is closed")]
     Closed,
     /// All iterations that were asked for were made.
@@ -19,7 +19,7 @@ pub enum NodeEnd {
     /// The link couldn't receive.
     #[error("the link failed")]
     LinkFault,
-    /// The store's map would count with `would_be`, above 268,435,456.
+    /// The store's map would have the size `would_be`, above 268,435,456.
     #[error("the map would count with {would_be}")]
     Full { would_be: u64 },
     /// That number would pass 2^62. `Seq` is also that under which the node sends a message longer than a datagram.
@@ -60,6 +60,6 @@ pub struct Served<D> {
     pub end: NodeEnd,
     /// How many iterations were begun. The start isn't one.
     pub turns: u64,
-    /// Those of the store.
+    /// The disks of the store, which is closed.
     pub disks: NodeDisks<D>,
 }

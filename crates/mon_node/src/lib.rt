@@ -1,5 +1,5 @@
-//! One monitor's serving loop. What comes over a link, and each timer in its time, is handed to the core; what the core
-//! writes is kept by the store, and only then what it sends goes out.
+//! One monitor's serving loop. The core gets each timer when it is due, and what arrives over a link. The store keeps
+//! what the core writes, and only then what the core sends goes out.
 #![tactic(auto)]
 
 mod end;

@@ -20,16 +20,17 @@ use std::alloc::Global;
 /// Serves as a monitor over a link, a clock and a store, for at most `turns` iterations. It starts, which isn't an
 /// iteration; then each iteration takes the timer that is due, or else asks the link once, and waits at most a second
 /// and never past the next timer. The transaction of an input is kept, and a checkpoint made if one is due, before
-/// anything is sent.
+/// anything is sent. The store is one that `Store::open` returned, and that no call broke.
 ///
-/// `Closed` comes if and only if the link said so, `TurnsUsed` if and only if that many iterations were made, `Spent`
-/// and `Full` if and only if that number or the map would pass its bound. `LinkFault` and `DiskFault` come only if a
-/// fault was counted.
+/// `Closed` comes if and only if the link reported it, `TurnsUsed` if and only if that many iterations were made,
+/// `Spent` and `Full` if and only if that number or the map would pass its bound. `LinkFault` and `DiskFault` come only
+/// if a fault was counted.
 ///
-/// The disks are returned. A crash at any time of an iteration leaves the store on them as the iteration began with
-/// it, after the record of its transaction, or after the checkpoint. A disk's fault and lack of memory leave the
-/// same, and each other end leaves the store as the iterations did. A transaction that would make the map too large
-/// leaves the disks as they are, and nothing of its iteration is sent. What was sent is kept.
+/// The disks are returned. A crash at any point of an iteration leaves on them the store as it was when the iteration
+/// began, with the record of its transaction, or with the checkpoint. The same holds after a disk's fault and if memory
+/// ran out. After every other end they hold the store that the iterations made. A transaction that would make the map
+/// too large leaves the disks as they are, and nothing of its iteration is sent. If anything of an iteration was sent,
+/// its transaction is kept.
 pub fn serve<D: Disk, L: Link, C: Clock>(
     alloc: Global,
     store: Store<D>,
