@@ -31,6 +31,6 @@ parts_of_entries es =
 abbrev pub parts_of : Store → List Part
 parts_of m = parts_of_entries (entries (shared m))
 
--- the member, its last committed version, whether a full synchronisation is under way, and the parts
+-- the member, its last committed version, whether a full synchronization is in progress, and the parts
 abbrev pub report_of : Member → Store → Report
 report_of member m = record { member = member; last = number m Paxos key.LastCommitted; marked = is_marked m; parts = parts_of m }

@@ -13,7 +13,7 @@ pub struct Report {
     pub member: Member,
     /// The last committed version.
     pub last: u64,
-    /// Whether a full synchronisation is under way.
+    /// Whether a full synchronization is in progress.
     pub marked: bool,
     /// The parts of `kv`, `logm` and `paxos`, in this order.
     pub parts: [Part; 3],
