@@ -24,7 +24,7 @@ files_in a b = record { a = file_in a; b = file_in b }
 abbrev pub content : MemoryState → Content
 content d = content_of d.past d.life
 
--- A disk at rest: it had no injected fault, and a crash leaves what a read gives.
+-- A disk at rest: it has no injected fault, and a crash leaves what a read returns.
 pub record IsCalm (d : MemoryState) : Type 0 where
   pub calm : d.life.upset ≡ None
   pub only : Only (content d)

@@ -11,7 +11,7 @@ use mon_bytes::OutOfMemory;
 use mon_disk::{MemoryDisk, NodeDisks};
 use mon_types::Side;
 
-/// Upsets one of two disks.
+/// Injects a fault into one of two disks.
 pub fn upset_one(disks: NodeDisks<MemoryDisk>, upset: Upset) -> NodeDisks<MemoryDisk>
     requires calm_a { disks.a.life.upset ≡ None }
     requires calm_b { disks.b.life.upset ≡ None }

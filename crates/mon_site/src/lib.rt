@@ -1,4 +1,4 @@
-//! A monitor's store on two disks in memory, of which none fails within an event, or one.
+//! A monitor's store on two disks in memory. Within an event none of them fails, or one.
 #![tactic(auto)]
 
 mod disks;

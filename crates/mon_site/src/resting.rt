@@ -76,7 +76,7 @@ fn count(side: Side, a: bool, b: bool) -> u64
     }
 }
 
-/// How many writes and syncs opening makes on one of two disks. They rest as before.
+/// How many writes and syncs opening makes on one of two disks. They are at rest as before.
 pub fn opening_count(disks: &mut NodeDisks<MemoryDisk>, side: Side) -> Result<u64, OutOfMemory>
     ensures rests { (member : Member) (m : Map) (f : Files) → Rests member m f disks.old.a disks.old.b →
         Rests member m f disks.new.a disks.new.b }

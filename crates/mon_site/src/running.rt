@@ -77,8 +77,8 @@ fn renew(store: &mut Store<MemoryDisk>) -> Result<(), StoreStop>
     }
 }
 
-/// Makes a transaction's changes, and then the checkpoint that is due, if one is. The answer is Full if the map would be
-/// too large, and TooLong if the transaction's text is too long.
+/// Makes a transaction's changes, and then the checkpoint that is due, if one is. It returns Full if the map would be
+/// too large, and TooLong if the transaction's encoding is too long.
 pub fn apply(store: &mut Store<MemoryDisk>, tx: &Transaction) -> Result<(), StoreStop>
     requires sound { IsSound state_of store.old }
     ensures sound { IsSound state_of store.new }
@@ -97,7 +97,7 @@ pub fn apply(store: &mut Store<MemoryDisk>, tx: &Transaction) -> Result<(), Stor
     }
 }
 
-/// Closes a store. Then its disks rest, and one has a file.
+/// Closes a store. Its disks are at rest then, and one of them has a file.
 pub fn close(store: Store<MemoryDisk>) -> NodeDisks<MemoryDisk>
     ensures a { result.a ≡ disk_a store }
     ensures b { result.b ≡ disk_b store }
