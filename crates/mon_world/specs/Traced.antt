@@ -18,7 +18,7 @@ pub record Traced : Type 0 where
   pub scene : Scene
   pub stop : Option Stop
 
--- the trace that begins with this line and then goes on so
+-- the trace that begins with this line and then continues with that trace
 abbrev pub told_first : StepLine → Traced → Traced
 told_first line t = record { lines = line ∷ t.lines; scene = t.scene; stop = t.stop }
 

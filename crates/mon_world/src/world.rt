@@ -236,7 +236,7 @@ fn down(alloc: Global, rank: u8, monitors: u8, rule: &Rule) -> Monitor
 }
 
 impl World {
-    /// A world of `monitors` monitors, all down, with empty disks and an empty log: nothing has happened.
+    /// A world of `monitors` monitors, at most 15, all down, with empty disks and an empty log: nothing has happened.
     pub fn new(alloc: Global, monitors: u8, rule: Rule) -> Result<World, OutOfMemory>
         requires { monitors ≤ 15 }
         ensures { (ms : Monitors) → ms.count ≡ monitors → ms.rule ≡ rule →
@@ -393,8 +393,8 @@ impl World {
         Ok(still(self.alloc, upshot.told(fault)))
     }
 
-    /// An event of a schedule, and its lines of the trace. It is apart from `step`, which so shows once for all kinds of
-    /// events that the run goes on.
+    /// Makes an event of a schedule happen, and returns its lines of the trace. It is apart from `step`, so that `step`
+    /// proves once for all kinds of events that the run continues.
     fn happen(&mut self, event: &Event) -> Result<StepLine, WorldStop>
         requires world { IsWorld self.old }
         requires fits { Fits (length self.old.monitors.items) event.now }
@@ -421,11 +421,11 @@ impl World {
         }
     }
 
-    /// One event, and its lines of the trace. It may be any event at a monitor of the quorum map, whether or not a
-    /// schedule has a line for it: a value or text may hold any characters, and a message may have any number. A
-    /// number that no sent message has, as 0, is `NoMessage`. If the world represented a list of events, it then
-    /// represents the list with this one added, and the run of that is safe. `Spent` and `Full` are returned if and
-    /// only if the model's run stops before the event, with the same number or size, and `OutOfMemory` if an
+    /// Makes one event happen, and returns its lines of the trace. It may be any event at a monitor of the quorum map,
+    /// whether or not a schedule has a line for it: a value or text may hold any characters, and a message may have any
+    /// number. A number that no sent message has, as 0, is `NoMessage`. If the world represented a list of events, it
+    /// then represents the list with this one added, and the run of that is safe. `Spent` and `Full` are returned if
+    /// and only if the model's run stops before the event, with the same number or size, and `OutOfMemory` if an
     /// allocation was refused. After an `Err` the world isn't used again.
     pub fn step(&mut self, event: &Event) -> Result<StepLine, WorldStop>
         requires world { IsWorld self.old }
@@ -437,8 +437,8 @@ impl World {
         ensures safe { (ms : Monitors) (c : Scene) (events : List model.Event) → StandsForRun ms events self.old c
             → Safe ms (and_event ms events c event.now) }
 
-        // A crash at any time of an event in which no disk fails, also inside each call on a disk, leaves each
-        // monitor two images on which it opens the map from before the event or from after it.
+        // A crash at any point of an event in which no disk fails, also inside each call on a disk, leaves each monitor
+        // two images on which it opens the map from before the event or from after it.
         ensures any_moment { (ms : Monitors) (c next : Scene) (p : Plain) → event.now ≡ events.Plain p
             → StandsFor ms self.old c → StandsFor ms self.new next
             → OnOk result (EachPasses ms c next self.old self.new) }
