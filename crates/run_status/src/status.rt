@@ -21,17 +21,17 @@ pub enum Status {
     WriteFault,
     /// A disk failed.
     DiskFault,
-    /// The link failed to report what comes.
+    /// The link couldn't receive.
     LinkFault,
     /// That disk holds no store, or none that belongs with the other disk, from this byte on. What the disks
     /// represent is unchanged.
     NotAStore { disk: Side, at: u64 },
-    /// The store, or the export, is another monitor's, or of another number of monitors. What the disks stand for is unchanged.
+    /// The store, or the export, is another monitor's, or of another number of monitors. What the disks represent is unchanged.
     Stranger { kept: Member, asked: Member },
     /// A number of this kind would pass 2^62. Of a trace the lines of the events before were written, and of a summary
     /// nothing.
     Spent { which: Which },
-    /// The node, or the client, made as many turns as were asked.
+    /// The node, or the client, made as many iterations as were asked.
     TurnsUsed,
     /// A map would have the size `would_be`, above 268,435,456: of a run, in which case what was written is as with `Spent`, of a node, or of an
     /// export, in which case nothing was done.
