@@ -72,6 +72,8 @@ fn request_by(alloc: Global, word: &[u8], fields: &mut Fields<'_>) -> Result<Req
     Err(LineRefused::Kind(ScheduleKind::Word))
 }
 
+/// Reads a request from the fields that are left of a line: its word, and what follows that. The first faulty field is
+/// refused, with its kind.
 #[tactic(auto, unfolding(crate::specs::Requests::request_at))]
 pub fn request_at(alloc: Global, fields: &mut Fields<'_>) -> Result<Request, LineRefused>
     ensures { Gives (λ y. y) result (request_at fields.old) }

@@ -16,6 +16,7 @@ pub fn service_word(service: Service) -> &'static str
     }
 }
 
+/// The word of a disk, `a` or `b`.
 pub fn side_word(side: Side) -> &'static str
     ensures { result.now ≡ side_text side }
 {
@@ -25,6 +26,7 @@ pub fn side_word(side: Side) -> &'static str
     }
 }
 
+/// The word of a timer.
 pub fn timer_word(timer: Timer) -> &'static str
     ensures { result.now ≡ timer_text timer }
 {
