@@ -74,7 +74,8 @@ fn read_and_import<D: Disk, S: Source>(
 }
 
 /// Reads a member's export and makes a store of its map on two empty disks. Until the export was read whole, and is the
-/// member's, the disks are left alone.
+/// member's, the disks are left alone. After `Done` the store is durable; a crash before leaves what was there, two
+/// closed files or the whole store.
 pub fn import_export<D: Disk, S: Source>(
     alloc: Global,
     source: &mut S,

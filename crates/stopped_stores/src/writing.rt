@@ -93,7 +93,8 @@ fn write<D: Disk, K: Sink>(
 }
 
 /// Opens the member's store on two disks, or creates it if both are new, and writes a text of its map to the sink. The
-/// disks hold what they held, but for the first file of a new store; a store of an earlier format isn't rewritten.
+/// map on the disks stays as it was, and a store of an earlier format isn't rewritten. The end names the first cause: a
+/// refusal of the disks, a write that failed, or lack of memory.
 pub fn write_text<D: Disk, K: Sink>(
     alloc: Global,
     disks: NodeDisks<D>,
