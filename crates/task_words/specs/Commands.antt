@@ -1,4 +1,4 @@
--- The command that takes the words apart: its subcommands, each with the texts that it requires.
+-- The command that parses the arguments: its subcommands, each with the texts that it requires.
 use Rattle.std.specs.Prelude.{true, List, [], ◌∷◌, codes}
 use Rattle.clap.specs.Words.{App, Rule, Shape, Text, new_app, new_rule, with_rule, with_subcommand}
 
@@ -32,7 +32,7 @@ store_texts = codes "RANK" ∷ codes "MONITORS" ∷ codes "DISK_A" ∷ codes "DI
 abbrev pub versions_texts : List Text
 versions_texts = codes "RANK" ∷ codes "MONITORS" ∷ codes "DISK_A" ∷ codes "DISK_B" ∷ codes "FROM" ∷ codes "TO" ∷ []
 
--- there is no form of help or version, and the words are those behind the program's name
+-- there is no form of help or version, and the arguments are those after the program's name
 abbrev pub plain : App
 plain =
     let a = new_app (codes "cephmon") in

@@ -17,7 +17,7 @@ abbrev pub is_word : List ℕ → Bool
 is_word [] = false
 is_word (b ∷ bytes) = not (b == 45) && nat_le (length (b ∷ bytes)) LONGEST_WORD
 
--- the words of a command on a member's store: its name, `RANK MONITORS DISK_A DISK_B`, and others
+-- the arguments of a command on a member's store: its name, `RANK MONITORS DISK_A DISK_B`, and others
 abbrev pub store_words : List ℕ → Member → (disk_a disk_b : List ℕ) → List (List ℕ) → List (List ℕ)
 store_words name member disk_a disk_b others = name ∷ decimal member.rank ∷ decimal member.monitors ∷ disk_a ∷ disk_b ∷ others
 
@@ -62,7 +62,7 @@ pub record AreStore (texts : List (List ℕ)) : Type 0 where
   pub disk_b : List ℕ
   pub are : texts ≡ decimal member.rank ∷ decimal member.monitors ∷ disk_a ∷ disk_b ∷ []
 
--- The words are the task's, and each of them is one.
+-- The arguments are the task's, and each of them is allowed.
 pub record Asks (t : Task) (words : List (List ℕ)) : Type 0 where
   pub has : HasWords t
   pub are : words ≡ words_of t

@@ -74,7 +74,7 @@ fn next_address(parts: &mut Parts<'_>) -> Result<Address, ScheduleKind>
     address_of(part)
 }
 
-/// How many addresses stand between the commas of a text, of 15 at most.
+/// How many addresses the commas of a text separate, or nothing if there are more than 15.
 pub(crate) fn count_of(text: &[u8]) -> Option<u8>
     ensures some { IfSome result (λ n. (n ≤ 15) × (n ≡ commas text.now + 1)) }
     ensures none { result ≡ None → 15 ≤ commas text.now }

@@ -15,10 +15,10 @@ pub const LONGEST_WORD: usize = 4_096;
 /// The most events of a made schedule.
 pub const MOST_MADE: u64 = 100_000;
 
-/// The most turns of a client that follows, 2^61.
+/// The most iterations of a client that follows, 2^61.
 pub const MOST_FOLLOWED: u64 = 2_305_843_009_213_693_952;
 
-/// Whether a word may stand among the words at all.
+/// Whether an argument is allowed at all: it isn't empty, isn't too long and doesn't begin with a hyphen.
 fn is_word(word: &[u8]) -> bool
     ensures { result ≡ is_word word.now }
 {

@@ -87,8 +87,7 @@ fn with_versions<'a>(alloc: Global, command: Command<'a>) -> Result<Command<'a>,
     with_texts(alloc, command, "dump-paxos", VERSIONS_TEXTS.as_slice())
 }
 
-/// One level of subcommands, and no form of help or version, with those for schedules and monitors. The words are those behind the program's
-/// name.
+/// One level of subcommands, and no form of help or version, with those for schedules and monitors. The arguments are those after the program's name.
 fn first_commands<'a>(alloc: Global) -> Result<Command<'a>, AllocError>
     ensures { IfOk result (λ c. app_of c ≡ first_commands) }
 {

@@ -140,7 +140,7 @@ fn node_in(alloc: Global, found: &ArgMatches<'_>) -> Result<Task, WordsStop>
     })
 }
 
-/// The task of the texts behind `follow`.
+/// The task of the arguments after `follow`.
 fn follow_in(alloc: Global, found: &ArgMatches<'_>) -> Result<Task, WordsStop>
     ensures { (service : services) (addresses : List places) (turns : ℕ) → HasWords (task.Follow service addresses turns)
         → AreTexts (rows_of (found_of found.now)) follow_texts (service_text service ∷ addresses_text addresses ∷ decimal turns ∷ [])
@@ -156,7 +156,7 @@ fn follow_in(alloc: Global, found: &ArgMatches<'_>) -> Result<Task, WordsStop>
     })
 }
 
-/// The task of the texts behind `scrub`.
+/// The task of the arguments after `scrub`.
 fn scrub_in(alloc: Global, found: &ArgMatches<'_>) -> Result<Task, WordsStop>
     ensures { (member : members) (disk_a disk_b : List ℕ)
         → AreTexts (rows_of (found_of found.now)) store_texts (decimal member.rank ∷ decimal member.monitors ∷ disk_a ∷ disk_b ∷ [])
@@ -172,7 +172,7 @@ fn scrub_in(alloc: Global, found: &ArgMatches<'_>) -> Result<Task, WordsStop>
     })
 }
 
-/// The task of the texts behind `dump-keys`.
+/// The task of the arguments after `dump-keys`.
 fn dump_keys_in(alloc: Global, found: &ArgMatches<'_>) -> Result<Task, WordsStop>
     ensures { (member : members) (disk_a disk_b : List ℕ)
         → AreTexts (rows_of (found_of found.now)) store_texts (decimal member.rank ∷ decimal member.monitors ∷ disk_a ∷ disk_b ∷ [])
@@ -188,7 +188,7 @@ fn dump_keys_in(alloc: Global, found: &ArgMatches<'_>) -> Result<Task, WordsStop
     })
 }
 
-/// The task of the texts behind `dump-paxos`.
+/// The task of the arguments after `dump-paxos`.
 fn dump_paxos_in(alloc: Global, found: &ArgMatches<'_>) -> Result<Task, WordsStop>
     ensures { (member : members) (disk_a disk_b : List ℕ) (from to : ℕ) → HasWords (task.DumpPaxos member disk_a disk_b from to)
         → AreTexts (rows_of (found_of found.now)) versions_texts
@@ -209,7 +209,7 @@ fn dump_paxos_in(alloc: Global, found: &ArgMatches<'_>) -> Result<Task, WordsSto
     })
 }
 
-/// The task of the texts behind `store-export`.
+/// The task of the arguments after `store-export`.
 fn export_in(alloc: Global, found: &ArgMatches<'_>) -> Result<Task, WordsStop>
     ensures { (member : members) (disk_a disk_b : List ℕ)
         → AreTexts (rows_of (found_of found.now)) store_texts (decimal member.rank ∷ decimal member.monitors ∷ disk_a ∷ disk_b ∷ [])
@@ -225,7 +225,7 @@ fn export_in(alloc: Global, found: &ArgMatches<'_>) -> Result<Task, WordsStop>
     })
 }
 
-/// The task of the texts behind `store-import`.
+/// The task of the arguments after `store-import`.
 fn import_in(alloc: Global, found: &ArgMatches<'_>) -> Result<Task, WordsStop>
     ensures { (member : members) (disk_a disk_b : List ℕ)
         → AreTexts (rows_of (found_of found.now)) store_texts (decimal member.rank ∷ decimal member.monitors ∷ disk_a ∷ disk_b ∷ [])

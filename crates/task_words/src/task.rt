@@ -25,8 +25,8 @@ pub enum Task {
         disk_b: Text,
         turns: u64,
     },
-    /// Keeps a client's copy of a service's map, for at most this number of turns, 1 to 2^61. The addresses are those of all monitors, by rank, of
-    /// which there are 1 to 15.
+    /// Keeps a client's copy of a service's map, for at most this number of iterations, 1 to 2^61. The addresses are those of all monitors, by rank,
+    /// of which there are 1 to 15.
     Follow {
         service: Service,
         addresses: Items<Address>,
@@ -38,7 +38,7 @@ pub enum Task {
         disk_a: Text,
         disk_b: Text,
     },
-    /// Writes where the two reports differ that the source has.
+    /// Reads two reports from the source, and writes where they differ.
     ScrubCompare,
     /// Writes a line for each key of the store on two files.
     DumpKeys {
@@ -60,7 +60,7 @@ pub enum Task {
         disk_a: Text,
         disk_b: Text,
     },
-    /// Makes a store on two files of the export that the source has.
+    /// Reads an export from the source, and makes a store of it in two files.
     StoreImport {
         member: Member,
         disk_a: Text,
@@ -71,7 +71,7 @@ pub enum Task {
 /// Why arguments gave no task.
 #[derive(Clone, Copy, Debug, PartialEq, Eq, Error)]
 pub enum WordsStop {
-    /// They ask for nothing that the program does.
+    /// They ask for no task.
     #[error("words refused")]
     Refused,
     /// They ask for a task, and memory ran out.
