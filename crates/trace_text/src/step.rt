@@ -12,7 +12,7 @@ pub struct Numbered {
     pub message: Message,
 }
 
-/// A reply, the monitor that gave it, and whom it is for.
+/// A reply, the monitor that sent it, and the session that it is for.
 #[derive(Drop)]
 pub struct Replied {
     pub rank: Rank,

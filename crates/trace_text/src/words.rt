@@ -5,19 +5,21 @@ ghost use Rattle.trace_text.specs.Words.{flag_text, fate_text, phase_text, kind_
 
 use mon_wire::{Body, Phase};
 
+/// The text of a flag, `1` or `0`.
 pub fn flag(value: bool) -> &'static str
     ensures { result.now ≡ flag_text value }
 {
     if value { "1" } else { "0" }
 }
 
-/// What became of a transaction.
+/// What became of a transaction: `kept` or `lost`.
 pub fn fate(kept: bool) -> &'static str
     ensures { result.now ≡ fate_text kept }
 {
     if kept { "kept" } else { "lost" }
 }
 
+/// The word of a phase.
 pub fn phase_word(phase: Phase) -> &'static str
     ensures { result.now ≡ phase_text phase }
 {
@@ -34,6 +36,7 @@ pub fn phase_word(phase: Phase) -> &'static str
     }
 }
 
+/// The name of a message's kind, in capitals.
 pub fn kind_word(body: &Body) -> &'static str
     ensures { result.now ≡ kind_text body.now }
 {
