@@ -25,7 +25,7 @@ pub fn law_never_full()
 {}
 
 /// In every run of any monitors under any rule, crashes included, no event finds the store full at a monitor that is in no full
-/// synchronisation afterwards and has no value of its own that is longer than a transaction may be.
+/// synchronization afterwards and has no value of its own that is longer than a transaction may be.
 pub fn law_goes_on()
     ensures { (ms : Monitors) (events : List Event) → AllFit ms.count events → (p : Plain) → PlainFits ms.count p
         → (i : ℕ) (came : Input) (r : Reaction) → meets ms (run ms events) p ≡ Reacts i came (Ok r)

@@ -1,5 +1,5 @@
 -- Whatever comes to an unmarked monitor that has versions of the log: it has versions of the log afterwards, or it begins a full
--- synchronisation.
+-- synchronization.
 use Rattle.std.proofs.Common.{◌≡◌, ℕ, suc, ◌+◌, ◌≤◌, ◌<◌, ◌^◌, Bool, true, false, not, ◌&&◌, ◌||◌, eqb, ltb, is_some, List, [], ◌∷◌, length, map, sym, subst, ◌≤◌, Option, Some, None, Ok, ap, ◌∙◌}
 use Rattle.std.proofs.lemmas.Bool.{and_parts}
 use Rattle.std.specs.Prelude.{slice_index_or, filter}

@@ -1,4 +1,4 @@
--- A marked monitor that is in no election and in no quorum: what else comes to it leaves its store and its synchronisation, or it
+-- A marked monitor that is in no election and in no quorum: what else comes to it leaves its store and its synchronization, or it
 -- probes again.
 use Rattle.std.proofs.Common.{◌≡◌, ℕ, ◌<◌, Bool, true, false, not, ◌&&◌, ◌||◌, cond, List, Option, Some, None, ◌⊎◌, inl, inr, Result, Ok, refl, subst}
 use Rattle.std.proofs.lemmas.Bool.{lt-ltb}
@@ -175,7 +175,7 @@ module _ (me : Me) (several : 1 < me.member.monitors) (now : ℕ) (x y : Course)
     ping_reply f None e = drops e
     ping_reply f (Some table) e = keeps _ (record { changes = refl; phase = refl; requester = refl }) e
 
-    -- what is said of a synchronisation of its own, or of another monitor's versions, is left to other rows
+    -- what is said of a synchronization of its own, or of another monitor's versions, is left to other rows
     abbrev pub IsElse : Body → Type 0
     IsElse (body.ProbeReply quorum first own) = ⊥
     IsElse (body.Cookie full cookie own) = ⊥

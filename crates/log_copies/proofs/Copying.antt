@@ -1,4 +1,4 @@
--- The rows by which a full synchronisation begins, and by which it takes its cookie and its chunks.
+-- The rows by which a full synchronization begins, and by which it takes its cookie and its chunks.
 use Rattle.std.proofs.Common.{◌≡◌, ◌⊎◌, ℕ, suc, ◌+◌, ◌≤◌, ◌^◌, Bool, true, false, not, ◌&&◌, ◌||◌, cond, leb, ltb, List, [], ◌∷◌, ◌++◌, length, inl, inr, Result, Ok, Err, refl, sym, ap, subst, ◌∙◌, arith}
 use Rattle.std.proofs.lemmas.Bool.{and_parts, ltb-false, le-leb}
 use Rattle.std.specs.FinMap.{empty}
@@ -86,7 +86,7 @@ module _ (log : List (List ℕ)) (fits : length log ≤ 2 ^ 62) (all : AllValues
     abbrev x0 : Course
     x0 = at_rest (readings_of m) s
 
-    -- only a monitor that synchronises takes what comes
+    -- only a monitor that synchronizes takes what comes
     is_under_way : Marked log before floor m s → same_phase s.phase phase.Synchronizing ≡ true → UnderWay log before floor m s
     is_under_way (inl U) h = U
     is_under_way (inr W) h = by W.in_phase

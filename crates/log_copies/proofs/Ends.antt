@@ -1,4 +1,4 @@
--- How a full synchronisation begins and ends: it gives up all that is shared, and in the end shares the fold.
+-- How a full synchronization begins and ends: it gives up all that is shared, and in the end shares the fold.
 use Rattle.std.proofs.Common.{◌≡◌, ℕ, ◌≤◌, ◌^◌, Bool, true, false, not, cond, List, [], ◌∷◌, length, Some, None, inl, refl, sym, ap, ◌∙◌, arith}
 use Rattle.std.specs.FinMap.{get, get-empty, empty, same_map}
 use Rattle.std.specs.Ordering.{eq_by_cmp}

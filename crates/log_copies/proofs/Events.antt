@@ -66,7 +66,7 @@ module _ (log : List (List ℕ)) (fits : length log ≤ 2 ^ 62) (all : AllValues
   marked_shaped s (inl U) = under_way_shaped log fits all me several before floor m s U
   marked_shaped s (inr W) = W.shaped
 
-  -- ---- what leaves the store, and the synchronisation or its phase
+  -- ---- what leaves the store, and the synchronization or its phase
 
   module _ (s : State) (I : Marked log before floor m s) (y : Course) where
     unchanged : y.changes ≡ [] → m ≡ written m y

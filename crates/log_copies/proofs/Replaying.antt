@@ -1,4 +1,4 @@
--- A step of the replay, after the last of which a full synchronisation is over.
+-- A step of the replay, after the last of which a full synchronization is over.
 use Rattle.std.proofs.Common.{◌≡◌, ◌⊎◌, ℕ, suc, ◌+◌, ◌-◌, ◌≤◌, ◌<◌, ◌^◌, Bool, true, false, cond, ltb, List, [], ◌∷◌, ◌++◌, length, Option, Some, None, inl, inr, Ok, refl, sym, ap, subst, ◌∙◌, arith, append_assoc}
 use Rattle.std.proofs.lemmas.Bool.{ltb-true, ltb-false, lt-ltb}
 use Rattle.mon_bytes.proofs.Fields.{ok_is}

@@ -1,4 +1,4 @@
--- Which keys a store has: a monitor's own, and those that a full synchronisation gives up before it begins.
+-- Which keys a store has: a monitor's own, and those that a full synchronization gives up before it begins.
 use Rattle.std.proofs.Common.{◌≡◌, ℕ, ◌≤◌, ◌^◌, Bool, true, false, not, ◌&&◌, ◌||◌, cond, List, [], ◌∷◌, ◌++◌, length, Option, Some, None, ◌⊎◌, inl, inr, refl, sym, ap, ◌∙◌, arith}
 use Rattle.std.proofs.lemmas.List.{append-nil}
 use Rattle.std.specs.FinMap.{get, get-empty, empty, same_map}
@@ -117,7 +117,7 @@ pub nothing_shaped : (m : Store) → shared_with_records m ≡ empty → IsShape
 nothing_shaped m none at not_own out =
     sym (get_kept m (λ q. not (is_own q)) at ∙ ap (λ b. cond (not b) (get m at) None) not_own) ∙ ap (λ (n : Store). get n at) none ∙ get-empty place_cmp at
 
--- ---- what a full synchronisation gives up
+-- ---- what a full synchronization gives up
 
 undecided : (ops : List Op) (at : Place) → AllByRecursion (λ op. decided op at ≡ None) ops → decision ops at ≡ None
 undecided [] at h = refl

@@ -1,4 +1,4 @@
--- A full synchronisation under way: what the monitor's store holds at each stage.
+-- A full synchronization under way: what the monitor's store holds at each stage.
 use Rattle.std.proofs.Common.{◌≡◌, inl, ℕ, suc, ◌≤◌, ◌^◌, true, ◌&&◌, eqb, leb, List, [], length, Option, Some, None, IfSome, ◌⊎◌, Result, Ok, refl, sym, ap, subst, ◌∙◌, arith}
 use Rattle.std.proofs.lemmas.Bool.{and_parts, leb-true, eqb-true, cond_both}
 use Rattle.std.proofs.lemmas.Map.Lookups.{exact_bytes}

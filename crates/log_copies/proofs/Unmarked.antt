@@ -1,5 +1,5 @@
 -- Every event of an unmarked monitor that has versions of the log leaves it versions of the log, or it begins a full
--- synchronisation.
+-- synchronization.
 use Rattle.std.proofs.Common.{◌≡◌, ℕ, suc, ◌+◌, ◌≤◌, ◌<◌, ◌^◌, Bool, true, false, not, ◌&&◌, cond, ltb, is_some, List, [], length, IfSome, ◌⊎◌, inl, inr, Result, Ok, refl, sym, ap, subst, ◌∙◌, arith}
 use Rattle.mon_bytes.specs.declared.command.Command.TheVariants as command
 use Rattle.mon_bytes.specs.declared.entry.Entry.{Entry}
@@ -89,7 +89,7 @@ module _ (log : List (List ℕ)) (fits : length log ≤ 2 ^ 62) (all : AllValues
   abbrev On : Course → Type 0
   On x = Here log fits all m me several now x
 
-  -- it begins a full synchronisation, and does nothing else
+  -- it begins a full synchronization, and does nothing else
   record Marks (x y : Course) : Type 0 where
     from : ℕ
     is : y ≡ full_sync me now from x

@@ -1,4 +1,4 @@
--- A full synchronisation from monitors of one log, from its beginning on: it is under way, or it is finished.
+-- A full synchronization from monitors of one log, from its beginning on: it is under way, or it is finished.
 use Rattle.std.proofs.Common.{◌≡◌, ℕ, ◌≤◌, ◌<◌, ◌^◌, true, false, List, length, inl, inr, refl, sym, subst, ◌∙◌, arith}
 use Rattle.mon_tx.specs.Map.{Store}
 use Rattle.mon_wire.specs.declared.body.Body.{Body}

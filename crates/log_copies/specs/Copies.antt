@@ -1,4 +1,4 @@
--- The copy of another monitor's store that a full synchronisation makes, while the other's log goes on.
+-- The copy of another monitor's store that a full synchronization makes, while the other's log goes on.
 use Rattle.std.specs.Prelude.{◌≡◌, ℕ, suc, ◌-◌, ◌<◌, ◌≤◌, ◌⊎◌, Bool, true, false, not, ◌&&◌, List, [], ◌∷◌, Option, Some, None}
 use Rattle.std.specs.FinMap.{get, retain_keys}
 use Rattle.std.specs.List.{range_with_len}

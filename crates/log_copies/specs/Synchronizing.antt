@@ -1,4 +1,4 @@
--- A full synchronisation of one monitor from monitors of one log.
+-- A full synchronization of one monitor from monitors of one log.
 use Rattle.std.specs.FinMap.{get}
 use Rattle.std.specs.Prelude.{◌≡◌, ℕ, ◌≤◌, Bool, true, false, ◌||◌, List, length, filter, None, Ok}
 use Rattle.std.specs.Str.{bytes_eq}
@@ -22,7 +22,7 @@ use Rattle.mon_msg.specs.declared.view.Me.{Me}
 use Rattle.log_copies.specs.Copies.{is_own}
 use Rattle.log_copies.specs.Versions.{HasVersions, behind}
 
--- the keys of the services and of the log, which a full synchronisation gives up when it begins
+-- the keys of the services and of the log, which a full synchronization gives up when it begins
 abbrev pub is_given_up : Place → Bool
 is_given_up at = bytes_eq at.0 (area_text area.Kv) || (bytes_eq at.0 (area_text area.Logm) || bytes_eq at.0 (area_text area.Paxos))
 
@@ -59,7 +59,7 @@ InputMayCome log n other = Unit {0}
 abbrev pub written : Store → Course → Store
 written m x = behind x.changes m
 
--- The store and the memory of a monitor, whose store was `before` when it began to synchronise, after further events as long as it is
+-- The store and the memory of a monitor, whose store was `before` when it began to synchronize, after further events as long as it is
 -- marked: whatever comes to it, and whenever it crashes.
 pub data Synchronizes (log : List (List ℕ)) (me : Me) (before : Store) : Store → State → Type 0 where
   begins : (now from : ℕ) (s : State) (x : Course) → full_sync me now from (at_rest (readings_of before) s) ≡ x

@@ -18,8 +18,9 @@ ghost use Rattle.log_copies.specs.Copies.{IsFuzzyCopy, catch_up, shared_with_rec
 ghost use Rattle.log_copies.specs.Synchronizing.{IsShaped, Synchronizes, IsSynchronized};
 ghost use Rattle.log_copies.specs.Versions.{HasVersions, values_from, behind, IsOwnChange};
 
-/// A caught-up copy is the fold: along every log whose versions are values of commands, whatever was copied while its versions went
-/// from one to another, the versions after the first make of it what the log's own are up to the last, but for a monitor's own keys.
+/// A copy that caught up is the log's fold. Let a store be copied while its log of values went from one version to
+/// another. The copy to which the versions between are applied is the log's fold up to the last of them, except for a
+/// monitor's own keys.
 pub fn law_caught_up()
     ensures { (log : List (List ℕ)) → length log ≤ 2 ^ 62 → AllValues log → (s e : ℕ) → s ≤ e → e ≤ length log → (copy : Store)
         → IsFuzzyCopy log s e key_place.Done copy → shared_with_records (catch_up log s e copy) ≡ fold log e }
@@ -43,12 +44,12 @@ pub fn law_learned()
         → run_from (readings_of m).record_of c (suc v) ≡ values_from log (suc v) (length (run_from (readings_of m).record_of c (suc v))) }
 {}
 
-/// A full synchronisation of one monitor among several, from monitors of one log of values: however it is begun
+/// A full synchronization of one monitor among several, from monitors of one log of values: however it is begun
 /// again, from whom it takes cookies and chunks, what else comes meanwhile and wherever the monitor crashes and
 /// starts: once the mark is gone, it is finished. The monitor then shares what the log's versions up to its last one
 /// make, it has reached what it had to reach when it began, and it has the promise, the last proposal number and the
 /// epoch from before. It begins at a store with no other keys than the monitor's own and those of the log and of the
-/// services: as every monitor of the log does, and as the synchronisation itself leaves it.
+/// services: as every monitor of the log does, and as the synchronization itself leaves it.
 pub fn law_synchronized()
     ensures finished { (log : List (List ℕ)) → length log ≤ 2 ^ 62 → AllValues log → (me : Me) → 1 < me.member.monitors → (before : Store)
         → IsShaped before → (after : Store) (s : State) → Synchronizes log me before after s → (readings_of after).marked ≡ false

@@ -18,10 +18,10 @@ ghost use Rattle.mon_msg.specs.Protocol.Readings.{Readings, readings_of, after};
 ghost use Rattle.log_model.specs.LogOfValues.{AllValues, IsValue, LogOf};
 ghost use Rattle.log_model.specs.Windows.{Keeps, IsKeptKey, Shows};
 
-/// Along every log whose versions are values of commands, in either spelling, its fold keeps the windows: of the log the newest
-/// records, and of each service the newest incrementals and full maps. It has no record above the last version. A store that
-/// kept them keeps them once it learns the next version. There are such logs of every length. A value over such a store has a
-/// text, which is short enough to be proposed, and with that text the versions before it are again such a log.
+/// The fold of every log of values keeps the windows: the newest records of the log, and the newest incrementals and
+/// full maps of each service. It has no record above the last version. A store that kept them keeps them once it learns
+/// the next version. There are such logs of every length. A value over such a store has an encoding that is short
+/// enough to be proposed, and the versions before it with this encoding are again such a log.
 pub fn law_windows()
     ensures fold { (log : List (List ℕ)) → length log ≤ 2 ^ 62 → AllValues log → (c : ℕ) → c ≤ length log → Keeps log c (readings_of (fold log c)) }
     ensures above { (log : List (List ℕ)) → length log ≤ 2 ^ 62 → AllValues log → (c : ℕ) → c ≤ length log → (v : ℕ) → c < v

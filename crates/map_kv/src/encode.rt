@@ -15,8 +15,7 @@ pub(crate) fn put_name(out: &mut Out, name: &str) -> Result<(), OutOfMemory>
 }
 
 impl KvInc {
-    /// The incremental's bytes, in the grammar of incrementals. It is for incrementals that have a text: with a value
-    /// of fewer than 2 ^ 32 bytes.
+    /// The incremental's encoding. The value must have fewer than 2 ^ 32 bytes.
     pub fn encode(&self, alloc: Global) -> Result<Vec<u8>, OutOfMemory>
         requires { IncIsShort self.now }
         ensures text { IfOk result (λ bytes. bytes.items ≡ inc_text self.now) }

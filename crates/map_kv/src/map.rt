@@ -202,8 +202,7 @@ impl KvMap {
         }
     }
 
-    /// The map's bytes, in the grammar of maps. It is for maps that have a text: with fewer than 2 ^ 32 entries, each
-    /// value of fewer than 2 ^ 32 bytes.
+    /// The map's encoding. There must be fewer than 2 ^ 32 entries, each with a value of fewer than 2 ^ 32 bytes.
     pub fn encode(&self) -> Result<Vec<u8>, OutOfMemory>
         requires { MapIsShort self.now }
         ensures text { IfOk result (λ bytes. bytes.items ≡ map_text self.now) }

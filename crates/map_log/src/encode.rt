@@ -16,8 +16,7 @@ pub(crate) fn put_inc(out: &mut Out, inc: &LogInc) -> Result<(), OutOfMemory>
 }
 
 impl LogInc {
-    /// The entry's bytes, in the grammar of incrementals. It is for entries that have a text: of fewer than 2 ^ 32
-    /// bytes.
+    /// The entry's encoding. The text must have fewer than 2 ^ 32 bytes.
     pub fn encode(&self, alloc: Global) -> Result<Vec<u8>, OutOfMemory>
         requires { IncIsShort self.now }
         ensures text { IfOk result (λ bytes. bytes.items ≡ inc_text self.now) }

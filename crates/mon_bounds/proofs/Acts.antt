@@ -346,7 +346,7 @@ module _ (me : Me) (now : ℕ) where
   win_ok q b x s h A = and_then _ (Over me) (in_next_epoch x) _ (in_next_epoch_ok (λ s. Unit {0}) b x tt A) (λ y B.
       let r = room_least (is_alone me q) in reign_ok q (b + 100) y s (omega arith) B.0.0 B.0.1.others)
 
-  -- ---- synchronisation
+  -- ---- synchronization
 
   pub full_sync_ok : (f b : ℕ) (x : Course) → f < n → 1 < n → b + 200 ≤ 4194299 → Under me b x → Over me (full_sync me now f x)
   unfolding full_sync

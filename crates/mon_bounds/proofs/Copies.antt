@@ -1,4 +1,4 @@
--- The rows of synchronisation: of a provider, of a requester, and of a copy's replay.
+-- The rows of synchronization: of a provider, of a requester, and of a copy's replay.
 use Rattle.std.proofs.Common.{◌≡◌, ℕ, suc, ◌+◌, ◌-◌, ◌*◌, ◌<◌, ◌≤◌, ◌^◌, Bool, true, false, not, ◌&&◌, ◌||◌, cond, ltb, leb, min, List, [], ◌∷◌, length, filter, Option, Some, None, Result, Ok, Err, refl, inl, inr, arith}
 use Rattle.std.proofs.lemmas.Bool.{and_parts, cond_both, leb-true}
 use Rattle.std.proofs.lemmas.List.Sums.{sum_by-cons}

@@ -181,7 +181,7 @@ module _ (me : Me) where
   pub answer : (id : ℕ) (r : Reply) → id ≤ 2 ^ 62 → Answers r → Said me (body.Reply id r)
   answer id r k R = record { form = λ _. (k, R.form); fits = within n (body.Reply id r) (let l = R.length in omega arith) (R.lists id); plain = refl }
 
-  -- ---- synchronisation
+  -- ---- synchronization
 
   pub get_cookie_full : Said me body.GetCookieFull
   get_cookie_full = record { form = λ _. tt; fits = refl; plain = refl }

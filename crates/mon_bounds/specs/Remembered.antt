@@ -82,7 +82,7 @@ pub record IsRequester (n : ℕ) (requester : Requester) : Type 0 where
 
 -- ---- and all of them
 
--- a leader's stage is its phase, and a monitor that is alone never synchronises
+-- a leader's stage is its phase, and a monitor that is alone never synchronizes
 pub record IsPlaced (n : ℕ) (at : Phase) (leader : Leader) : Type 0 where
   pub leads : is_leading at ≡ true → phase_of leader.stage ≡ at
   pub copies : at ≡ phase.Synchronizing → 1 < n

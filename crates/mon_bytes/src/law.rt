@@ -1,4 +1,4 @@
-//! The law that every decoder rests on.
+//! The law on which every decoder depends.
 
 ghost use Rattle.std.specs.Prelude.{◌≡◌, ℕ, ◌<◌, ◌^◌, List, length};
 ghost use Rattle.byteorder.specs.Endian.{little_bytes, little_number};

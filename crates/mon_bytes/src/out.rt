@@ -6,7 +6,7 @@ use byteorder::{ByteOrder, LittleEndian};
 use std::alloc::Global;
 use std::marker::Model;
 
-/// Bytes under way, to which numbers are appended with the lowest byte first. A refused call leaves them.
+/// A buffer of bytes, to which numbers are appended with the lowest byte first. A call that fails leaves it unchanged.
 #[derive(Debug, Drop)]
 pub struct Out {
     bytes: Vec<u8>,

@@ -1,4 +1,4 @@
-//! Commands that a peon hands on to its leader, and the leader's answers.
+//! Commands that a peon forwards to its leader, and the leader's answers.
 
 ghost use Rattle.std.specs.Prelude.{◌≡◌, ◌&&◌, ◌==◌, ◌++◌, not, nat_lt, filter, map, IfOk, slice_set, slice_index_or};
 ghost use Rattle.mon_msg.specs.Protocol.Commands.{hear_forward, hear_route};
@@ -113,7 +113,7 @@ fn replies(
     Ok(out)
 }
 
-/// The leader answers a command that was handed on.
+/// The leader answers a command that was forwarded.
 pub(crate) fn route(
     here: &Here<'_>,
     mut clients: Clients,

@@ -1,4 +1,5 @@
-//! Clients' commands and reads: which commands wait at a leader, which clients at a peon, and what a peon hands on.
+//! Clients' commands and reads: which commands wait at a leader, which clients wait at a peon, and what a peon
+//! forwards.
 #![tactic(auto)]
 
 mod answers;

@@ -107,7 +107,7 @@ fn start(here: &Here<'_>, event: &mut Event) -> Result<(), RoleStop>
     bootstrap(here, event)
 }
 
-/// What comes before the start is dropped, and clients are told that the monitor is unavailable.
+/// Inputs before the start are dropped, and clients get the reply that the monitor is unavailable.
 fn before_start(here: &Here<'_>, event: &mut Event, input: &Input) -> Result<(), RoleStop>
     requires { IsReady here.now.me.now event.old }
     ensures { ReachesFrom here.now.kv.now event.old (before_start here.now.me.now here.now.time input.now) event.new result }

@@ -33,8 +33,7 @@ use std::marker::Model;
 use std::mem;
 use svc_core::Cache;
 
-/// One monitor, but for its store: what it remembers, and the services' maps that it keeps. The event has just begun:
-/// the next input is played in it.
+/// One monitor without its store: what it remembers, and the services' maps that it keeps.
 #[derive(Drop)]
 pub struct Core {
     me: Me,
@@ -156,10 +155,11 @@ impl Core {
         self.cache.cached(service)
     }
 
-    /// What the monitor does at an input at a time: the protocol's reaction. The maps of the services that it keeps
-    /// have to be those of its store; once the transaction is applied, they are again. `Spent` comes if and only if
-    /// that number would pass 2^62. A message, a session's number and a value must be within their limits; then so is
-    /// all that is written or sent. After a `CoreStop` the core isn't used again.
+    /// Returns what the monitor does at an input at a time, in milliseconds: the protocol's reaction. `kv` is the
+    /// monitor's store, and the maps of the services that the core keeps have to be those of this store. They are those
+    /// of the store again once the caller applied the transaction. A message, a session's number and a value must be
+    /// within their limits; then so is all that is written or sent. `Spent` is returned if and only if that number
+    /// would pass 2^62. After a `CoreStop` the core must not be used again.
     pub fn react(
         &mut self,
         alloc: Global,

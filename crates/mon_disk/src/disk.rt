@@ -16,7 +16,7 @@ pub enum DiskCall {
     Sync,
 }
 
-/// A file of bytes that lasts over a crash, but for what was written since the last sync that answered `Ok`.
+/// A file of bytes that survives a crash, except what was written since the last sync that returned `Ok`.
 ///
 /// For each method, `call` is the part that composed operations reuse: whether the disk's contents can be seen stays
 /// the same; what a crash leaves at each point of the call; which writes and syncs were made; and what the disk
@@ -50,8 +50,8 @@ pub trait Disk {
         ensures seen { (state self.new).content.seen ≡ (state self.old).content.seen }
         ensures no_memory { result ≡ Err OutOfMemory → Unmade (state self.old) (state self.new) };
 
-    /// Writes over what is there, and past the end. Until a sync a crash may cut it short, whatever it answered; after
-    /// `Failed` a read too may give what was cut short.
+    /// Writes over what is there, and past the end. Until a sync, a crash may leave a part of it, whatever the call
+    /// returned. After `Failed` a read, too, may return a part of it.
     fn write_at(&mut self, at: u64, bytes: &[u8]) -> Result<(), Stop>
         requires { at ≤ (state self.old).known }
         ensures call { Called (DiskCall.Write at bytes.now ∷ []) (TornFrom (state self.old).content at bytes.now)
@@ -62,7 +62,7 @@ pub trait Disk {
         ensures known_err { OnErr result ((state self.new).known ≡ (state self.old).known) }
         ensures no_memory { result ≡ Err OutOfMemory → Unmade (state self.old) (state self.new) };
 
-    /// Keeps what was written. After `Ok` a crash leaves what a read gives.
+    /// Makes durable what was written. After `Ok` a crash leaves what a read returns.
     fn sync(&mut self) -> Result<(), Stop>
         ensures call { Called (DiskCall.Sync ∷ []) (images (state self.old).content) (result_err result)
             (state self.old) (state self.new) }

@@ -20,7 +20,7 @@ use mon_tx::Transaction;
 use mon_types::{Epoch, Moment, RankSet, Which};
 use std::alloc::Global;
 
-/// The elector that stands for election.
+/// The elector as a candidate.
 fn standing(me: &Me, state: &Elector) -> Elector
     ensures { result ≡ record state.now { candidate = true; acked = only me.now.member.rank; deferred = None } }
 {

@@ -1,4 +1,4 @@
-//! Another monitor stands for election.
+//! Another monitor proposes itself as the leader.
 
 ghost use Rattle.std.specs.Prelude.{IfOk};
 ghost use Rattle.mon_msg.specs.Protocol.Elections.{hear_propose};
@@ -14,7 +14,7 @@ use mon_msg::{Elector, Next, Plan, RoleStop, ScoreTable, Timer};
 use mon_plan::{armed, planned, stay};
 use mon_types::{Epoch, Rank};
 
-/// A monitor stands for election in an epoch, and sends its table if scores count.
+/// A monitor proposes itself in an epoch, and sends its table if scores count.
 pub(crate) fn hear_propose(
     here: &Here<'_>,
     from: Rank,

@@ -1,4 +1,4 @@
-//! An event under way, and how a role's plan is carried out in it.
+//! An event in progress, and how a role's plan is carried out in it.
 
 ghost use Rattle.std.specs.Prelude.{◌≡◌, ◌++◌, OnOk, IfOk, List, [], None};
 ghost use Rattle.std.specs.List.{AllByRecursion};
@@ -24,7 +24,7 @@ use mon_types::{Epoch, Rank, RankSet};
 use std::alloc::Global;
 use std::mem;
 
-/// An event under way: what it writes and sends, and what the monitor remembers by then.
+/// An event in progress: what it writes and sends so far, and what the monitor remembers then.
 #[derive(Drop)]
 pub struct Event {
     /// What it writes so far.

@@ -34,7 +34,7 @@ pub struct Partial {
     pub parts: Parts,
 }
 
-/// What a piece does to a message that is under way.
+/// What a piece does to an incomplete message.
 #[derive(Drop)]
 pub enum Joined {
     /// It contradicts an earlier one.

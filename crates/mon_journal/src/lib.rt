@@ -1,4 +1,4 @@
-//! The records of a store. Each is on the disk behind a closed gate before that gate is opened.
+//! The records of a store. Each is written after a closed commit byte (a gate), and is durable before that gate is opened.
 #![tactic(auto)]
 
 mod append;

@@ -17,7 +17,7 @@ use Rattle.mon_kv.specs.declared.next.Found.{Found}
 abbrev pub epoch : Store → ℕ
 epoch m = unwrap_or (option_map (λ bytes. number_in (Some bytes)) (cell m area.Monitor key.ElectionEpoch)) 1
 
--- whether a full synchronisation is under way
+-- whether a full synchronization is under way
 abbrev pub is_marked : Store → Bool
 is_marked m = number m area.Sync key.InSync == 1
 

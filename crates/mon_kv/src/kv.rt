@@ -50,7 +50,7 @@ impl Model for Kv {
     ghost invariant = { λ k. IsWhole k.areas × (k.size ≡ areas_size (entries k.areas)) };
 }
 
-/// The most that the map of a store may count with, as `size` counts.
+/// The greatest size of a store's map, as `size` counts it.
 pub const MOST_SIZE: u64 = 268435456;
 
 /// A store's file is replaced by a new one only if it is longer than this, up to and with its first closed gate.
@@ -74,7 +74,7 @@ pub fn number_of(bytes: Option<&[u8]>) -> u64
 impl Kv {
     ghost use Rattle.std.specs.FinMap.{empty, entries};
 
-    /// A map of nothing. It takes no memory.
+    /// An empty map. It takes no memory.
     pub fn empty(alloc: Global) -> Kv
         ensures { result ≡ empty }
     {
@@ -146,7 +146,7 @@ impl Kv {
         self.alloc
     }
 
-    /// Puts the value of a key. After `OutOfMemory` the map is spoiled and is not to be used.
+    /// Puts the value of a key. After `OutOfMemory` the map is unspecified and must not be used.
     pub fn put(&mut self, prefix: &[u8], key: &[u8], value: &[u8]) -> Result<(), OutOfMemory>
         requires prefix { IsTrue (is_prefix prefix.now) }
         requires key { IsTrue (is_name key.now) }
@@ -196,7 +196,7 @@ impl Kv {
         Ok(())
     }
 
-    /// Makes the changes, in order. After `OutOfMemory` the map is spoiled and is not to be used.
+    /// Makes the changes, in order. After `OutOfMemory` the map is unspecified and must not be used.
     pub fn apply(&mut self, tx: &Transaction) -> Result<(), OutOfMemory>
         ensures { OnOk result (self.new ≡ apply tx.now self.old) }
     {
@@ -231,9 +231,8 @@ impl Kv {
         }
     }
 
-    /// Makes the changes that a text encodes, in order, as they are read. It takes no memory but for what the map
-    /// keeps. An `Err` is what the text is refused with, or `OutOfMemory`; after it the map is broken and must not be
-    /// used.
+    /// Makes the changes that a text encodes, in order, as they are read. It allocates only what the map keeps. An
+    /// `Err` is the refusal of the bytes, or `OutOfMemory`; after it the map is unspecified and must not be used.
     pub fn apply_text(&mut self, text: &[u8]) -> Result<(), TxRefused>
         ensures { Gives (λ _. self.new) result (applied self.old (transaction_of text.now)) }
     {

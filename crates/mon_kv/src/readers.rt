@@ -91,7 +91,7 @@ impl Kv {
         self.named_number(Area::Monitor, Key::BootCount)
     }
 
-    /// The version that a full synchronisation must reach.
+    /// The version that a full synchronization must reach.
     pub fn floor(&self) -> u64
         ensures value { result ≡ number self.now area.Sync key.Floor }
         ensures most { result ≤ 2 ^ 62 }
@@ -99,7 +99,7 @@ impl Kv {
         self.named_number(Area::Sync, Key::Floor)
     }
 
-    /// Whether a full synchronisation is under way.
+    /// Whether a full synchronization is under way.
     pub fn in_sync(&self) -> bool
         ensures { result ≡ is_marked self.now }
     {

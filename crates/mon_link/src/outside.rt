@@ -20,8 +20,8 @@ pub trait Source {
     /// The faults so far. The count never falls.
     ghost faults: { Self → ℕ };
 
-    /// Reads some of the bytes that are left into the front of `into`, and returns how many. 0 is the end of the
-    /// input, or no room. A call that isn't Ok has given nothing.
+    /// Reads some of the bytes that are left into the beginning of `into`, and returns how many. It returns 0 at the
+    /// end of the input, or if `into` is empty. A call that isn't Ok has read nothing.
     fn read(&mut self, into: &mut [u8]) -> Result<usize, Stop>
         ensures bound { ReadsAtMost result into.new }
         ensures bytes { ReadConsumes (left self.old) (left self.new) result into.new }

@@ -50,7 +50,7 @@ pub struct Clients {
     pub queue: Items<Waiting>,
     /// The clients that wait at a peon, the oldest first.
     pub sessions: Items<Asked>,
-    /// The number of the next command that a peon hands on, from 1 in each epoch.
+    /// The number of the next command that a peon forwards, from 1 in each epoch.
     pub next_seq: u64,
     /// The number of the last command that the leader took from each peon in this epoch, 0 before.
     pub taken: [u64; 15],

@@ -4,7 +4,7 @@ use mon_types::{Moment, Rank, RankSet};
 /// What a monitor remembers of elections.
 #[derive(Clone, Copy, Debug, PartialEq, Eq)]
 pub struct Elector {
-    /// Whether it stands for election.
+    /// Whether it is a candidate.
     pub candidate: bool,
     /// Who deferred to it in this epoch, itself among them.
     pub acked: RankSet,

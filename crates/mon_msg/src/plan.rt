@@ -19,7 +19,7 @@ pub enum Arming {
     /// It is set for the time `end`, whenever it was to fire before. `Propose` isn't set if no command waits, and
     /// `LeaseAck` keeps the time that it has.
     Arm { kind: Timer, end: Moment },
-    /// It doesn't come.
+    /// It is disarmed.
     Disarm { kind: Timer },
 }
 
@@ -28,7 +28,7 @@ pub enum Arming {
 pub enum Origin {
     /// A client of this monitor.
     Session(Session),
-    /// The peon `rank`, which handed the command on under the number `seq`.
+    /// The peon `rank`, which forwarded the command under the number `seq`.
     Forwarded { rank: Rank, seq: u64 },
 }
 
@@ -37,7 +37,7 @@ pub enum Origin {
 pub enum Next {
     /// Nothing.
     Stay,
-    /// It begins again and probes.
+    /// It bootstraps: it probes the others.
     Bootstrap,
     /// It calls an election.
     Elect,

@@ -5,7 +5,7 @@ use mon_types::{Rank, Version};
 use mon_wire::{Cookie, Place};
 use std::alloc::Global;
 
-/// What a monitor remembers of those that synchronise from it.
+/// What a monitor remembers of those that synchronize from it.
 #[derive(Clone, Copy, Debug, PartialEq, Eq)]
 pub struct Provider {
     /// The cookie of each of them.
@@ -14,7 +14,7 @@ pub struct Provider {
     pub next_cookie: u64,
 }
 
-/// How far a monitor is that synchronises.
+/// How far a monitor is that synchronizes.
 #[derive(Clone, Copy, Debug, PartialEq, Eq)]
 pub enum SyncStage {
     /// It waits for its cookie.
@@ -25,7 +25,7 @@ pub enum SyncStage {
     Replay { next: Version, end: Version },
 }
 
-/// What a monitor remembers that synchronises.
+/// What a monitor remembers that synchronizes.
 #[derive(Debug, Drop)]
 pub struct Requester {
     /// From whom it takes.

@@ -285,7 +285,7 @@ impl<'a> Stored<'a> {
         Pn::known(self.number(Area::Paxos, Key::PendingPn))
     }
 
-    /// Whether a full synchronisation is under way.
+    /// Whether a full synchronization is under way.
     #[tactic(auto, unfolding(mon_msg::specs::Protocol::Readings::readings_of))]
     pub fn is_marked(&self) -> bool
         ensures { result ≡ (readings_of self.now).marked }
@@ -293,7 +293,7 @@ impl<'a> Stored<'a> {
         self.number(Area::Sync, Key::InSync) == 1
     }
 
-    /// The version that a full synchronisation must reach.
+    /// The version that a full synchronization must reach.
     #[tactic(auto, unfolding(mon_msg::specs::Protocol::Readings::readings_of))]
     pub fn floor(&self) -> Version
         ensures { result ≡ (readings_of self.now).floor }

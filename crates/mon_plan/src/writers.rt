@@ -26,7 +26,7 @@ fn value_bytes(value: &Transaction) -> Result<Bytes, OutOfMemory>
     }
 }
 
-/// The monitor was started so often.
+/// The count of the monitor's starts.
 pub fn put_boot(tx: &mut Transaction, boot: u64) -> Result<(), OutOfMemory>
     requires { boot ≤ 2 ^ 62 }
     ensures changes { OnOk result (tx.new ≡ tx.old ++ ops_of (Boot boot)) }
@@ -206,7 +206,7 @@ fn put_back(tx: &mut Transaction, key: Key, pn: Option<Pn>) -> Result<(), OutOfM
     }
 }
 
-/// A full synchronisation begins, which must reach the floor: all that is shared goes, and the own numbers stay that were
+/// A full synchronization begins, which must reach the floor: all that is shared goes, and the own numbers stay that were
 /// there.
 pub fn put_mark(
     tx: &mut Transaction,
@@ -226,7 +226,7 @@ pub fn put_mark(
     put_back(tx, Key::AcceptedPn, promise)
 }
 
-/// A full synchronisation is over.
+/// A full synchronization is over.
 pub fn put_unmark(tx: &mut Transaction) -> Result<(), OutOfMemory>
     ensures { OnOk result (tx.new ≡ tx.old ++ ops_of Unmark) }
 {

@@ -1,4 +1,4 @@
-//! A monitor begins again.
+//! A monitor bootstraps.
 
 ghost use Rattle.std.specs.Prelude.{◌≡◌, ◌+◌, ◌^◌, [], ◌∷◌, min, map, IfOk};
 ghost use Rattle.mon_msg.specs.Protocol.Changes.{Epoch as ToEpoch, spelled};
@@ -90,10 +90,10 @@ fn lead(alloc: Global, me: &Me, epoch: Epoch) -> Result<Plan<Prober>, OutOfMemor
     })
 }
 
-/// What a prober does if its monitor begins again, after the earlier acts of the event: the epoch is the one that the
-/// store then has, and the map is that of before. A monitor of several asks the others. One that is alone, may lead
-/// and isn't marked wins the next even epoch; one that is alone otherwise waits. `Spent` names that epoch if and only
-/// if it would pass 2^62.
+/// What a prober does if its monitor bootstraps, after the earlier acts of the event: the epoch is the one that the
+/// store then has, and the map is that of before. A monitor of several asks the others. One that is alone, may lead and
+/// isn't marked wins the next even epoch; one that is alone otherwise waits. `Spent` names that epoch if and only if it
+/// would pass 2^62.
 pub fn enter(
     alloc: Global,
     kv: &Kv,

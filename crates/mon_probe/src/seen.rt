@@ -59,7 +59,7 @@ pub(crate) fn has_others(me: &Me) -> bool
     1 < me.member.monitors
 }
 
-/// Whether a full synchronisation is under way.
+/// Whether a full synchronization is under way.
 fn is_marked(alloc: Global, kv: &Kv) -> bool
     ensures { result ≡ (readings_of kv.now).marked }
 {

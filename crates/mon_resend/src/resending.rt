@@ -13,7 +13,7 @@ use std::alloc::Global;
 /// How many datagrams are taken one after the other before copies go although more may wait.
 const RUN: u64 = 64;
 
-/// A link, and copies of what it was given to send to monitors.
+/// A link, and copies of what it was given to send to monitors: for each monitor at most 160 datagrams of 6 MiB in all.
 #[derive(Drop)]
 pub struct Resending<L: Link + Drop, C: Clock + Drop> {
     pub inner: L,

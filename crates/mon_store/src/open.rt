@@ -43,9 +43,9 @@ impl<D: Disk> Store<D> {
     ghost use Rattle.mon_store.specs.Whole.{IsSound, a_after, b_after, answered};
 
     /// Opens the store on two disks, or creates it on them if both are new. NotAStore, and then Stranger, say what is
-    /// wrong with their contents; a refusal returns the disks, and what they represent is unchanged. The live file is
-    /// read twice, the other one once. Beside the map this needs memory for one record, and for at most 65,536 bytes
-    /// of a file.
+    /// wrong with their contents; DiskFault is returned only if a disk counted a fault, and OutOfMemory if memory ran
+    /// out. A refusal returns the disks, and what they represent is unchanged. The live file is read twice, the other
+    /// one once. Beside the map this needs memory for one record, and for at most 65,536 bytes of a file.
     pub fn open(
         alloc: Global,
         disks: NodeDisks<D>,

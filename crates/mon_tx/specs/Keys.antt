@@ -47,7 +47,7 @@ abbrev pub number : Store → Area → Key → ℕ
 number m area key = number_in (cell m area key)
 
 -- the keys that are a monitor's own, if `last` is its last version: its numbers of Paxos and the record that is not committed
--- yet, its epoch and its count of starts, and its notes of a synchronisation
+-- yet, its epoch and its count of starts, and its notes of a synchronization
 abbrev pub local_places : ℕ → List Place
 local_places last =
     place Paxos LastCommitted ∷ place Paxos LastPn ∷ place Paxos AcceptedPn ∷ place Paxos PendingV ∷ place Paxos PendingPn ∷ place Paxos (Version (last + 1))

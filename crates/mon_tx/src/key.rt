@@ -16,7 +16,7 @@ pub enum Area {
     Logm,
     /// The monitor itself.
     Monitor,
-    /// A full synchronisation under way.
+    /// A full synchronization under way.
     Sync,
 }
 
@@ -41,9 +41,9 @@ pub enum Key {
     ElectionEpoch,
     /// How often this monitor was started.
     BootCount,
-    /// 1 while a full synchronisation is under way.
+    /// 1 while a full synchronization is under way.
     InSync,
-    /// The version that such a synchronisation must reach.
+    /// The version that such a synchronization must reach.
     Floor,
     /// The record of a version: a value of the log, or a service's incremental.
     Version(u64),

@@ -1,4 +1,4 @@
-//! Transactions on a monitor's map, their one spelling in bytes, and the names of the map's keys.
+//! Transactions on a monitor's map, their one encoding, and the names of the map's keys.
 #![tactic(auto)]
 
 mod changes;

@@ -2,7 +2,7 @@ ghost use Rattle.std.specs.Prelude.{◌≡◌, ◌≤◌, ◌<◌, ◌↔◌, Is
 
 use crate::rank::Rank;
 
-/// A rank of a monitor map of `monitors` monitors, of which there are 1 to 15.
+/// A monitor's rank, and the number of monitors in its map, 1 to 15.
 #[derive(Clone, Copy, Debug, PartialEq, Eq)]
 pub struct Member {
     pub rank: Rank,

@@ -11,9 +11,9 @@ pub enum Which {
     Version,
     /// How often a monitor was started.
     Boot,
-    /// The number that a monitor gives a command that it hands on.
+    /// The number under which a peon forwards a command, or a monitor sends a long message.
     Seq,
-    /// The number of a synchronisation that a monitor gives another.
+    /// The number in the cookie of a synchronization.
     Cookie,
 }
 

@@ -50,7 +50,7 @@ impl<K: Copy> Number<K> {
         }
     }
 
-    /// The number above it, or `None` exactly at 2^62.
+    /// The next number, or `None` if and only if this one is 2^62.
     pub fn plus_one(self) -> Option<Number<K>>
         ensures valid { IsSome result ↔ (self < 2 ^ 62) }
         ensures value { IfSome result (λ x. x ≡ self + 1) }
@@ -58,7 +58,7 @@ impl<K: Copy> Number<K> {
         Number::new(self.number + 1)
     }
 
-    /// The number above it, or 2^62 at 2^62.
+    /// The next number, or 2^62 if this one is 2^62.
     pub fn plus_one_saturating(self) -> Number<K>
         ensures { result ≡ plus_one_saturating self }
     {

@@ -19,7 +19,7 @@ pub enum Body {
         first: Version,
         last: Version,
     },
-    /// The sender stands for election. If scores count, it sends its table.
+    /// The sender proposes itself as the leader. If scores count, it sends its table.
     Propose {
         table: Option<ScoreTable>,
     },
@@ -71,7 +71,7 @@ pub enum Body {
     LeaseAck {
         last: Version,
     },
-    /// A peon hands a client's command on to the leader, under a number of its own.
+    /// A peon forwards a client's command to the leader, under a number of its own.
     Forward {
         seq: u64,
         command: Command,
@@ -81,13 +81,13 @@ pub enum Body {
         seq: u64,
         reply: Reply,
     },
-    /// The sender asks for a full synchronisation.
+    /// The sender asks for a full synchronization.
     GetCookieFull,
     /// The sender asks for the versions above its own last one.
     GetCookieRecent {
         last: Version,
     },
-    /// The synchronisation is granted under this cookie. `last` is the provider's last version.
+    /// The synchronization is granted under this cookie. `last` is the provider's last version.
     Cookie {
         full: bool,
         cookie: Cookie,
@@ -114,7 +114,7 @@ pub enum Body {
         entries: Items<Entry>,
         last: Version,
     },
-    /// There is no synchronisation under that cookie, or none any more.
+    /// There is no synchronization under that cookie, or none any more.
     NoCookie {
         cookie: Cookie,
     },

@@ -1,5 +1,5 @@
-//! Messages among monitors and their clients, their bytes and the number of these. The sessions, requests and replies of clients,
-//! the phases and timers of a monitor. Bytes are read by the crate above, `mon_decode`.
+//! Messages among monitors and their clients, their encoding and its length. The sessions, requests and replies of
+//! clients, the phases and timers of a monitor. Bytes are read by the crate above, `mon_decode`.
 #![tactic(auto)]
 
 mod body;

@@ -25,7 +25,7 @@ impl Told {
     }
 }
 
-/// How far a synchronisation has come: the last version that was given, and the place among the shared keys.
+/// How far a synchronization has come: the last version that was given, and the place among the shared keys.
 #[derive(Debug, Drop)]
 pub struct Place {
     pub version: Version,
@@ -44,7 +44,7 @@ impl Place {
     }
 }
 
-/// What names a synchronisation: the provider's boot count, and a number that it gives once in that boot.
+/// What names a synchronization: the provider's boot count, and a number that it gives once in that boot.
 #[derive(Clone, Copy, Debug, PartialEq, Eq)]
 pub struct Cookie {
     pub boot: u64,

@@ -74,9 +74,9 @@ pub enum Timer {
     LeaseAck,
     /// A peon's lease ends.
     Lease,
-    /// The provider of a synchronisation is silent.
+    /// The provider of a synchronization is silent.
     Sync,
-    /// The next versions of a full synchronisation are replayed.
+    /// The next versions of a full synchronization are replayed.
     Step,
     /// The next command of the queue is proposed.
     Propose,

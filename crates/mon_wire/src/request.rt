@@ -31,7 +31,7 @@ pub enum Request {
     Log { text: Text },
     /// Shows a service's map.
     Show { service: Service },
-    /// Tells what changed a service's map after this version of the service.
+    /// Returns what changed a service's map after this version of the service.
     Since { service: Service, version: Version },
 }
 

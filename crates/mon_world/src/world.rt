@@ -261,7 +261,7 @@ impl World {
         self.log
     }
 
-    /// The last committed version of a monitor's map, and 0 if there is none.
+    /// The last committed version of a monitor's map, and 0 if there is none. The rank has to be a monitor's.
     pub fn last_of(&self, rank: Rank) -> Version
         requires { rank < length self.now.monitors.items }
         ensures { (ms : Monitors) (c : Scene) → StandsFor ms self.now c → result ≡ last_of (c.world.store rank) }

@@ -257,7 +257,7 @@ fn hear_answer(
     }
 }
 
-/// Whether a member lacks so much, or has so much more, that only a synchronisation helps the leader.
+/// Whether a member lacks so much, or has so much more, that only a synchronization helps the leader.
 fn is_behind(own: Version, answer: &Answer<'_>) -> bool
     ensures { result ≡ (nat_lt (suc own) answer.now.first && nat_lt own answer.now.last) }
 {

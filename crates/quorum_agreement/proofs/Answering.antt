@@ -625,7 +625,7 @@ module _ (me : Me) (now : ℕ) (w : Readings) (s : State) (From : ℕ → Comman
         by_test (not (readable w.last me.member.monitors (lease_of s) now)) (λ _. replies t (reply.NotReadable w.last (is_standing me now s)) tt)
         (λ r. done (inr (inr (inl (record { session = t; reply = reading w; out = refl; is = refl; member = not-false _ member; readable = not-false _ r; read = k }))))))
 
-    -- ---- synchronisation
+    -- ---- synchronization
 
     grants : (full : Bool) (f : ℕ) → Then Outcome (grant me full f x0)
     grants full f = where_fits Outcome which.Cookie s.provider.next_cookie _ (λ _. quiet _ (tt, tt) L)

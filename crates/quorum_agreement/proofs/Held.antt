@@ -42,7 +42,7 @@ Still phase.Collecting l = l.lease ≡ None
 Still phase.Previous l = (l.lease ≡ None) × (l.origin ≡ None)
 Still other l = Unit {0}
 
--- the level of a monitor: the floor of a full synchronisation that is under way, and else its last version
+-- the level of a monitor: the floor of a full synchronization that is under way, and else its last version
 abbrev pub level_at : World → ℕ → ℕ
 level_at w i = level_in (own_of (readings_at w i))
 
@@ -104,7 +104,7 @@ module _ (ms : Monitors) (w : World) (J : InvOf ms w) (a : Acknowledged) (H : Is
   R : RolesHold n J.g.roles
   R = J.glob.roles
 
-  -- the rank that acknowledged it has it, unless it is under a full synchronisation
+  -- the rank that acknowledged it has it, unless it is under a full synchronization
   itself : (i : ℕ) → i ≡ H.rank → (readings_at w i).marked ≡ false → a.version ≤ (readings_at w i).last
   itself i e u =
       let level : level_at w i ≡ (readings_at w i).last = level_is (own_of (readings_at w i)) u in

@@ -1,4 +1,4 @@
--- What the store of a monitor under a full synchronisation has of the one log.
+-- What the store of a monitor under a full synchronization has of the one log.
 use Rattle.std.specs.FinMap.{empty}
 use Rattle.std.specs.Prelude.{◌≡◌, ℕ, suc, ◌≤◌, ◌⊎◌, true, List, length, Option, Some, None}
 use Rattle.log_copies.specs.Copies.{IsFuzzyCopy, shared_with_records}

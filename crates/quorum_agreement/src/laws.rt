@@ -16,9 +16,9 @@ ghost use Rattle.quorum_agreement.specs.Serving.{Fenced, KeptAndShown};
 ghost use Rattle.quorum_agreement.specs.Telling.{TellsLog};
 
 /// No two monitors disagree on what is committed, in any run of any monitors under any rule, wherever monitors crash.
-/// The committed versions of each are entries of one log. The log only goes on, by one entry an event at most. Each
-/// entry is the value of a command that a client asked, over the entries before it, and if there are several
-/// monitors, a majority of them accepted it under one number.
+/// The committed versions of each are entries of one log. The log only grows, by at most one entry an event. Each entry
+/// is the value of a command that a client asked, over the entries before it, and if there are several monitors, a
+/// majority of them accepted it under one number.
 pub fn law_agree()
     ensures agree { (ms : Monitors) (events : List Event) → AllFit ms.count events → Agree ms.count (run ms events) }
     ensures grows { (ms : Monitors) (before after : List Event) → AllFit ms.count (before ++ after)
@@ -30,7 +30,7 @@ pub fn law_agree()
 {}
 
 /// All that monitors send each other of what is committed is the one log's, and so is what a monitor under a full
-/// synchronisation holds: the sent values are those of its versions, the sent entries are what its versions leave,
+/// synchronization holds: the sent values are those of its versions, the sent entries are what its versions leave,
 /// and the copy is one of the log, from the floor on. A monitor that takes a copy is marked if and only if the copy
 /// is a full one, so a full requester is marked.
 pub fn law_marked()

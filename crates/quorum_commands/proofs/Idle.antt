@@ -355,7 +355,7 @@ module _ (me : Me) (now : ℕ) (w : Readings) (s : State) where
     route_heard f e seq r = by_test (not (of_leader f e x0)) (λ _. rests)
         (λ _. quiet _ (all_of IsOther (λ (a : Asked). sent.Reply a.session r) (λ a. tt) (filter (λ (a : Asked). eqb a.seq seq) s.clients.sessions)) refl (refl, refl) among)
 
-    -- ---- synchronisation
+    -- ---- synchronization
 
     grants : (full : Bool) (f : ℕ) → Then Idle (grant me full f x0)
     grants full f = where_fits Idle which.Cookie s.provider.next_cookie _ (λ _. quiet _ (tt, tt) refl (refl, refl) among)

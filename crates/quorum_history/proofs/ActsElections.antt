@@ -1,4 +1,4 @@
--- The acts of elections, and those by which a monitor begins to synchronise, keep what holds.
+-- The acts of elections, and those by which a monitor begins to synchronize, keep what holds.
 use Rattle.election_rules.specs.Ranking.{allows}
 use Rattle.mon_msg.specs.Protocol.Changes.{Epoch, Mark}
 use Rattle.mon_msg.specs.Protocol.Collecting.{reign}
@@ -56,7 +56,7 @@ module _ (me : Me) (now : ℕ) (g : Ghost) (Known : ℕ → List Op → Type 0) 
       (not-true _ ((and_parts (allows me.rule me.member.rank) _ fresh).1)) only_below A))
       (λ _. done A))
 
-  -- in an odd epoch, and under no full synchronisation still
+  -- in an odd epoch, and under no full synchronization still
   abbrev InOdd : Course → Course → Type 0
   InOdd x y = Sound me g Known y × (is_even (epoch_of y.readings) ≡ false) × (y.readings.marked ≡ x.readings.marked)
 
@@ -75,7 +75,7 @@ module _ (me : Me) (now : ℕ) (g : Ghost) (Known : ℕ → List Op → Type 0) 
   unfolding adopt
   adopt_holds e x le odd unmarked A = rises Nothing _ e le A (λ h k E p. record { odd = odd; unmarked = unmarked; self = λ c. absurd (false≢true c); within = λ m c. absurd (false≢true (sym (nobody m) ∙ c)); queue = refl; sessions = refl })
 
-  -- ---- synchronisation
+  -- ---- synchronization
 
   -- the floor reaches whatever it accepted
   reached_floor : (h : Ghost) (w : Readings) → Glob me.member.monitors h → Disk h me.member.rank (own_of w) w.record_of → (v p : ℕ) (y : List Op) → Accepted h me.member.rank v p y → w.pending_v ≡ v → v ≤ floor_of w

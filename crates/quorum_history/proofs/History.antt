@@ -39,7 +39,7 @@ pub record Triple : Type 0 where
   pub x : List Op
 
 -- the numbers of a monitor that never fall: its epoch, the last proposal number that it made, the one that it promised, and its
--- level, which is the floor of a full synchronisation that is under way, and else its last version
+-- level, which is the floor of a full synchronization that is under way, and else its last version
 pub data Rising : Type 0 where
   AnEpoch : Rising
   ANumber : Rising

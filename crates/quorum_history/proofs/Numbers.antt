@@ -1,4 +1,4 @@
--- The elementary steps of a store: a promise, a number of its own, versions that are learned, and a full synchronisation's mark.
+-- The elementary steps of a store: a promise, a number of its own, versions that are learned, and a full synchronization's mark.
 use Rattle.mon_bytes.specs.declared.command.Command.{Command}
 use Rattle.mon_msg.specs.Protocol.Changes.{Change, Numbers, Promise}
 use Rattle.mon_msg.specs.Protocol.Records.{most_value, pending_of, record_at}
@@ -138,7 +138,7 @@ records_kept rs hs ts i o records records2 u k = record {
   clear = k.clear;
 }
 
--- ---- a full synchronisation
+-- ---- a full synchronization
 
 abbrev pub marked_at : ℕ → Own → Own
 marked_at floor o = record o { pending_v = 0; pending_pn = 0; last = 0; marked = true; floor = floor }

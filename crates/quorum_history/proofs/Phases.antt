@@ -113,7 +113,7 @@ votes_in_odd n h i c phase.Booting G odd v k = no v
 votes_in_odd n h i c phase.Probing G odd v k = no v
 votes_in_odd n h i c phase.Synchronizing G odd v k = no v
 
--- who votes is under no full synchronisation
+-- who votes is under no full synchronization
 pub votes_unmarked : (n : ℕ) (h : Ghost) (i : ℕ) (c : Core) (p : Phase) → votes p ≡ true → InPhase n h i c p → c.own.marked ≡ false
 votes_unmarked n h i c phase.Electing v k = k.unmarked
 votes_unmarked n h i c phase.Collecting v k = k.0.reigns.unmarked

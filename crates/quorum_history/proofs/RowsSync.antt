@@ -1,4 +1,4 @@
--- The rows of synchronisation keep what holds.
+-- The rows of synchronization keep what holds.
 use Rattle.mon_msg.specs.Protocol.Changes.{Change, Last, Unmark}
 use Rattle.mon_msg.specs.Protocol.Chunks.{copy, copy_changes, hear_chunk, hear_last_chunk, is_ours, next_place, record_changes, replay_or_end, take, takes_chunks}
 use Rattle.mon_msg.specs.Protocol.Copying.{ask_chunk, awaits_cookie, first_place, hear_cookie, hear_no_cookie, of_provider, same_flag, start_chunks}

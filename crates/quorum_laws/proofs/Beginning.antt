@@ -114,7 +114,7 @@ at_first ms = record {
   asks = λ i s c a. absurd a;
 }
 
--- an empty store is under no full synchronisation
+-- an empty store is under no full synchronization
 pub unmarked_at_first : (readings_of empty).marked ≡ false
 unfolding readings_of number_in
 unmarked_at_first = ap marks (nothing_there area.Sync key.InSync)

@@ -20,7 +20,7 @@ use Rattle.std.specs.Prelude.{if◌then◌else◌}
 
 -- ---- what never falls
 
--- the floor of a full synchronisation that is under way, and else the last version
+-- the floor of a full synchronization that is under way, and else the last version
 abbrev pub level_of : Readings → ℕ
 level_of w = if w.marked then w.floor else w.last
 
@@ -53,7 +53,7 @@ pub record NumbersHold (w : World) : Type 0 where
   pub owner : (i v pn : ℕ) (bytes : List ℕ) → HasAccepted w i v pn bytes
       → HasAccepted w (pn % 100) v pn bytes × (pn ≤ or_zero (readings_at w (pn % 100)).last_pn)
 
--- A transaction collects under a number: it puts it as the last one that the monitor made, and begins no full synchronisation.
+-- A transaction collects under a number: it puts it as the last one that the monitor made, and begins no full synchronization.
 pub record Collects (transaction : List Op) (pn : ℕ) : Type 0 where
   pub number : (put_alone transaction).last_pn ≡ Some pn
   pub unmarked : (put_alone transaction).marked ≡ false
@@ -81,7 +81,7 @@ pub record IsPending (w : Readings) (v pn : ℕ) : Type 0 where
   pub version : found.version ≡ v
   pub number : pn ≤ found.pn
 
--- the version is committed or pending, or the floor of a full synchronisation reaches it
+-- the version is committed or pending, or the floor of a full synchronization reaches it
 abbrev pub RemembersIn : (is_marked : Bool) → Readings → (v pn : ℕ) → Type 0
 RemembersIn true w v pn = v ≤ w.floor
 RemembersIn false w v pn = (v ≤ w.last) ⊎ IsPending w v pn

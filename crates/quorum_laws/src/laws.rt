@@ -15,8 +15,8 @@ pub fn law_one_active()
     ensures { (ms : Monitors) (events : List Event) → AllFit ms.count events → OneActive (run ms events) }
 {}
 
-/// In every run of any monitors a store is what its kept transactions leave, in order; and these are the transactions of all its monitor's
-/// events, but for those that a crash lost.
+/// In every run of any monitors a store is what its kept transactions leave, in order; and these are the transactions
+/// of all its monitor's events, except those that a crash lost.
 pub fn law_held()
     ensures { (ms : Monitors) (events : List Event) → AllFit ms.count events → Held ms events }
 {}
@@ -38,7 +38,7 @@ pub fn law_elections()
 
 /// What a promise forbids. A monitor's numbers are its own, each of one collect, and it promised each under which it answered or
 /// accepted. Its epoch, its promise and its level never fall. What it accepted it doesn't forget: the version is committed or pending, or a
-/// full synchronisation must reach it. A whole answer covers what its monitor accepted under lower numbers, for ever. And all that is sent
+/// full synchronization must reach it. A whole answer covers what its monitor accepted under lower numbers, for ever. And all that is sent
 /// or kept as a value is one of a command.
 pub fn law_promises()
     ensures numbers { (ms : Monitors) (events : List Event) → AllFit ms.count events → NumbersHold (run ms events) }
@@ -69,8 +69,8 @@ pub fn law_leases()
     ensures { (ms : Monitors) (events : List Event) → AllFit ms.count events → LeasesHold ms.count (run ms events) }
 {}
 
-/// A command that a monitor hands on, or that waits at a leader, is one that a session asked the monitor that it came from; and each session
-/// that waits at a peon asked that peon.
+/// A command that a monitor forwards was asked of it by a session. One that waits at a leader was asked of the leader,
+/// or of the peon that forwarded it. Each session that waits at a peon asked that peon.
 pub fn law_commands()
     ensures { (ms : Monitors) (events : List Event) → AllFit ms.count events → CommandsHold ms.count (run ms events) }
 {}

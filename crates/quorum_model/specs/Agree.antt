@@ -39,7 +39,7 @@ pub record IsAsked (n : ℕ) (asked : List Asked) (log : List (List ℕ)) (v : �
   pub has_text : HasText ops
   pub spells : entry log (suc v) ≡ text ops
 
--- a monitor under a full synchronisation has no committed versions
+-- a monitor under a full synchronization has no committed versions
 pub record Agree (n : ℕ) (w : World) : Type 0 where
   pub monitors : (i : ℕ) → i < n → ¬ (is_marked (w.store i) ≡ true) → Agrees w.log (w.store i)
   pub values : (v : ℕ) → v < length w.log → IsAsked n w.asked w.log v

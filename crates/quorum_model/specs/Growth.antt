@@ -18,6 +18,6 @@ record_in m v = unwrap_or (cell m area.Paxos (key.Version v)) []
 abbrev pub records_behind : Store → (v count : ℕ) → List (List ℕ)
 records_behind m v count = map (record_in m) (range_with_len (suc v) count)
 
--- the log with the records that are new in a map; one under a full synchronisation has no committed versions
+-- the log with the records that are new in a map; one under a full synchronization has no committed versions
 unfoldable pub grown : List (List ℕ) → Store → List (List ℕ)
 grown log m = if is_marked m then log else log ++ records_behind m (length log) (last_of m - length log)

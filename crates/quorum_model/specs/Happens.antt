@@ -25,7 +25,7 @@ put_at f i a j = if j == i then a else f j
 
 -- ---- what becomes of the world
 
--- it is counted, and what was asked counts; nothing else came of it
+-- the event is counted, and what was asked is noted; nothing else changes
 unfoldable pub unmoved : World → Plain → World
 unmoved w p = record w { asked = with_asked p w.asked; events = suc w.events }
 

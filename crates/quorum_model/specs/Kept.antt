@@ -13,7 +13,7 @@ use Rattle.quorum_model.specs.Growth.{last_of}
 use Rattle.quorum_model.specs.Happens.{is_active}
 use Rattle.quorum_model.specs.World.{World, Asked, Acknowledged, Replied}
 
--- an active leader with a number of at least that of the acknowledgement has the version, and is under no full synchronisation
+-- an active leader with a number of at least that of the acknowledgement has the version, and is under no full synchronization
 abbrev pub LeaderHas : Acknowledged → Option State → Store → Type 0
 LeaderHas a None m = Unit {0}
 LeaderHas a (Some s) m = is_active s.phase ≡ true → a.pn ≤ s.leader.pn → (a.version ≤ last_of m) × ¬ (is_marked m ≡ true)

@@ -15,8 +15,8 @@ abbrev pub after_transactions : List (List Op) → Store → Store
 after_transactions [] m = m
 after_transactions (tx ∷ txs) m = after_transactions txs (apply tx m)
 
--- A store is what its transactions leave, in order; and these are all that its monitor's events wrote, but for those that
--- a crash lost.
+-- A store is what its transactions leave, in order; and these are all that its monitor's events wrote, except those
+-- that a crash lost.
 pub record Held (ms : Monitors) (events : List Event) : Type 0 where
   pub folded : (i : ℕ) → i < ms.count
       → (run ms events).store i ≡ after_transactions ((run ms events).transactions i) empty

@@ -13,19 +13,19 @@ use Rattle.mon_wire.specs.declared.request.Session.{Session}
 
 -- ---- what happens, and when
 
--- what comes to a monitor
+-- an input of a monitor
 pub data Plain : Type 0 where
   -- it forgets all that its store doesn't keep, and starts
   Start : (rank : ℕ) → (at : ℕ) → Plain
   -- the message of that number, counted from 1, comes to its receiver: at any time after it was sent, and any number of
   -- times
   Deliver : (message : ℕ) → (at : ℕ) → Plain
-  -- that timer rings, whether or not its time has come
+  -- that timer fires, whether or not its time has come
   Ring : (rank : ℕ) → (timer : Timer) → (at : ℕ) → Plain
   -- a client asks
   Client : (rank : ℕ) → (at : ℕ) → (session : Session) → (request : Request) → Plain
 
--- The monitor does what it does then; or it crashes before it sends anything, and what it writes is kept or lost.
+-- The monitor reacts to what comes; or it crashes before it sends anything, and what it writes is kept or lost.
 pub data Event : Type 0 where
   Comes : (plain : Plain) → Event
   Crash : (plain : Plain) → (kept : Bool) → Event

@@ -172,7 +172,7 @@ module _ (me : Me) (now : ℕ) (w0 : Base me) where
   unfolding win
   win_fine q x A = and_then (Fine w0) (Ended w0) (in_next_epoch x) _ (in_next_epoch_fine x A) (λ y B. reign_fine q y B)
 
-  -- ---- synchronisation
+  -- ---- synchronization
 
   version_fine : (w : Readings) → ReadingsFine w → IsShort (pending_version (pending w))
   unfolding pending_of

@@ -17,7 +17,7 @@ use Rattle.mon_wire.specs.declared.body.Body.TheVariants as body
 use Rattle.mon_wire.specs.declared.body.Body.{Body}
 use Rattle.sync_provider.specs.declared.here.Here.{Here}
 
--- what a monitor asks from which it synchronises
+-- what a monitor asks from which it synchronizes
 abbrev pub is_asked : Body → Bool
 is_asked body.GetCookieFull = true
 is_asked (body.GetCookieRecent last) = true

@@ -1,4 +1,4 @@
-//! A monitor asks for a synchronisation.
+//! A monitor asks for a synchronization.
 
 ghost use Rattle.std.specs.Prelude.{◌≡◌, ℕ, suc, ◌≤◌, ◌^◌, nat_lt, false, Some, Ok, IfOk, slice_set};
 ghost use Rattle.mon_msg.specs.Protocol.Providing.{grant, hear_get_cookie_recent};

@@ -21,7 +21,7 @@ use mon_plan::{Stored, stay};
 use mon_types::Moment;
 use std::alloc::Global;
 
-/// A message of a monitor that synchronises, or is about to. A monitor that is marked itself drops it.
+/// A message of a monitor that synchronizes, or is about to. A monitor that is marked itself drops it.
 fn hear(here: &Here<'_>, message: &Message) -> Result<Plan<Provider>, RoleStop>
     requires { IsTrue (is_asked message.now.body) }
     ensures plans { (now : ℕ) → let m = message.now in ByRow here.now now

@@ -1,4 +1,4 @@
-//! A monitor from which others synchronise: it gives them cookies, and what follows the places that they have
+//! A monitor from which others synchronize: it gives them cookies, and what follows the places that they have
 //! reached.
 #![tactic(auto)]
 

@@ -1,4 +1,4 @@
--- How a synchronisation begins.
+-- How a synchronization begins.
 use Rattle.std.proofs.Common.{◌≡◌, ℕ, suc, ◌≤◌, ◌^◌, Bool, true, false, ◌&&◌, cond, eqb, leb, inl, inr, is_some, List, [], ◌∷◌, length, Option, Some, None, Result, Ok, refl, subst, ◌∙◌, arith}
 use Rattle.std.specs.Option.{option_map}
 use Rattle.std.proofs.lemmas.Bool.{cases_Bool, leb-true, eqb-true}

@@ -20,7 +20,7 @@ use mon_plan::{Here, Stored, armed, message, planned, stay};
 use mon_tx::Transaction;
 use mon_types::{Epoch, Version};
 
-/// There is no cookie: a provider that can't serve a recent synchronisation says so.
+/// There is no cookie: a provider that can't serve a recent synchronization says so.
 const NO_COOKIE: Cookie = Cookie { boot: 0, seq: 0 };
 
 fn awaits_cookie(stage: SyncStage) -> bool

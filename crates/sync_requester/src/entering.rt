@@ -1,4 +1,4 @@
-//! A monitor begins to synchronise.
+//! A monitor begins to synchronize.
 
 ghost use Rattle.std.specs.Prelude.{◌≡◌, IfOk, if◌then◌else◌};
 ghost use Rattle.mon_msg.specs.Protocol.Course.{requester_is};

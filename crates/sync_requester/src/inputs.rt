@@ -33,7 +33,7 @@ fn synchronizes(phase: Phase) -> bool
     matches!(phase, Phase::Synchronizing)
 }
 
-/// Whether a message is of the provider, while the monitor synchronises.
+/// Whether a message is of the provider, while the monitor synchronizes.
 fn is_of_provider(view: &View, state: &Requester, from: Rank) -> bool
     ensures { result ≡ (same_phase view.now.phase Phase.Synchronizing && from == state.now.provider) }
 {
@@ -125,7 +125,7 @@ fn ring(
 
 /// What a requester does at a COOKIE, CHUNK, LAST_CHUNK or NO_COOKIE that is taken, and when one of its timers fires:
 /// its row of the protocol's table. Whatever isn't of its provider, isn't what it waits for, or comes while it
-/// doesn't synchronise does nothing, and takes no memory but for a copy of the place that is remembered. `Spent`
+/// doesn't synchronize does nothing, and takes no memory but for a copy of the place that is remembered. `Spent`
 /// names the version of the place after a chunk, or the first one that is replayed, if that would pass 2^62.
 pub fn step(
     alloc: Global,

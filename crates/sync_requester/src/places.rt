@@ -1,4 +1,4 @@
-//! How far a synchronisation has come.
+//! How far a synchronization has come.
 
 ghost use Rattle.std.specs.Prelude.{◌≡◌, IfOk, if◌then◌else◌};
 ghost use Rattle.mon_bytes.specs.declared.entry.KeyPlace.TheVariants as key_place;
@@ -33,7 +33,7 @@ pub(crate) fn is_same_place(a: &Place, b: &Place) -> bool
     a.version == b.version && is_same_key_place(&a.key, &b.key)
 }
 
-/// Where a synchronisation begins: a whole copy after the provider's last version and before every key, a recent one
+/// Where a synchronization begins: a whole copy after the provider's last version and before every key, a recent one
 /// after the own last version.
 pub(crate) fn first_place(full: bool, last: Version, own: Version) -> Place
     ensures { result ≡ first_place full last own }

@@ -76,7 +76,7 @@ agreeing_text (body.Forward seq command) = codes " seq=" ++ decimal seq
 agreeing_text (body.Route seq reply) = codes " seq=" ++ decimal seq
 agreeing_text _ = []
 
--- those of synchronisation
+-- those of synchronization
 abbrev pub copying_text : Body → List ℕ
 copying_text (body.GetCookieRecent last) = last_text last
 copying_text (body.Cookie full cookie last) = codes " full=" ++ (flag_text full ++ (cookie_text cookie ++ last_text last))

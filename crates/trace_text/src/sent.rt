@@ -196,7 +196,7 @@ fn put_agreeing(out: &mut String, body: &Body) -> Result<(), AllocError>
     }
 }
 
-/// The fields of a message of a synchronisation, each after a space.
+/// The fields of a message of a synchronization, each after a space.
 fn put_copying(out: &mut String, body: &Body) -> Result<(), AllocError>
     ensures { OnOk result (string_bytes out.new ≡ string_bytes out.old ++ copying_text body.now) }
 {

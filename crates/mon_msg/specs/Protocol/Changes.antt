@@ -30,7 +30,7 @@ pub data Change : Type 0 where
   Last : (v : ℕ) → Change
   -- an entry of a copy
   Copy : (entry : Entry) → Change
-  -- a full synchronisation begins, which must reach the floor: all that is shared goes, and the own numbers stay that were there
+  -- a full synchronization begins, which must reach the floor: all that is shared goes, and the own numbers stay that were there
   Mark : (floor : ℕ) → (last_pn : Option ℕ) → (promise : Option ℕ) → Change
   -- it is over
   Unmark : Change

@@ -21,7 +21,7 @@ awaits_cookie sync.Cookie = true
 awaits_cookie sync.Chunks = false
 awaits_cookie (sync.Replay next end) = false
 
--- a message of the provider, while it synchronises
+-- a message of the provider, while it synchronizes
 abbrev pub of_provider : (f : ℕ) → Course → Bool
 of_provider f x = same_phase x.state.phase phase.Synchronizing && f == x.state.requester.provider
 

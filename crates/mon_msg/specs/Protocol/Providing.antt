@@ -1,4 +1,4 @@
--- The rows of a provider of synchronisations.
+-- The rows of a provider of synchronizations.
 use Rattle.std.specs.Prelude.{ℕ, suc, ◌+◌, Bool, true, false, not, ◌&&◌, ◌||◌, nat_le, nat_lt, List, Some, None, Result, Ok, if◌then◌else◌, [], filter, length, slice_set, slice_index_or}
 use Rattle.mon_bytes.specs.declared.entry.Entry.{Entry}
 use Rattle.mon_msg.specs.Protocol.Course.{Course, ◌▸◌, ◌>>=◌, checked, dropped, provider_is}

@@ -28,7 +28,7 @@ pub record Readings : Type 0 where
   -- the first version that is kept and the last one that is committed
   pub first : ℕ
   pub last : ℕ
-  -- whether a full synchronisation is under way, and the version that it must reach
+  -- whether a full synchronization is under way, and the version that it must reach
   pub marked : Bool
   pub floor : ℕ
   -- the record of each version

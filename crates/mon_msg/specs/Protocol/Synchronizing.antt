@@ -1,4 +1,4 @@
--- The acts by which a monitor begins to synchronise.
+-- The acts by which a monitor begins to synchronize.
 use Rattle.std.specs.Prelude.{ℕ, true, false, Option, Some, None, max}
 use Rattle.mon_msg.specs.Protocol.Changes.{Mark}
 use Rattle.mon_msg.specs.Protocol.Course.{Course, ◌▸◌, change, requester_is, arm, in_phase}
@@ -17,7 +17,7 @@ abbrev pub pending_version : Option Found → ℕ
 pending_version None = 0
 pending_version (Some found) = found.version
 
--- what a full synchronisation must reach
+-- what a full synchronization must reach
 abbrev pub floor_of : Readings → ℕ
 floor_of w = max (max w.floor w.last) (pending_version (pending w))
 

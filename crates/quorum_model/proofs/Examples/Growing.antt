@@ -50,7 +50,7 @@ module _ (m : Store) (x y : List ℕ) (last : last_of m ≡ 2) (kept : cell m ar
   unfolding grown
   recovered unmarked = rw (unmarked, last, kept) refl
 
-  -- one under a full synchronisation has no committed versions
+  -- one under a full synchronization has no committed versions
   not_yet : is_marked m ≡ true → grown (x ∷ []) m ≡ x ∷ []
   unfolding grown
   not_yet marked = rw marked refl
