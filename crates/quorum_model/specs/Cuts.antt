@@ -1,20 +1,20 @@
 -- What is left on a monitor's disks if one of them fails within an event.
-use Rattle.std.specs.Prelude.{ℕ, ◌-◌, nat_le, nat_lt, ◌||◌, List, Option, Some, None, if◌then◌else◌}
+use Rattle.std.specs.Prelude.{ℕ, ◌+◌, ◌-◌, nat_le, nat_lt, ◌||◌, List, Option, Some, None, if◌then◌else◌}
 use Rattle.mon_types.specs.declared.names.Side.{Side}
 use Rattle.mon_types.specs.declared.names.Side.TheVariants.{A, B}
 use Rattle.mon_types.specs.Sides.{other}
 use Rattle.mon_tx.specs.declared.op.Op.{Op}
 use Rattle.mon_tx.specs.Map.{Store, apply}
 use Rattle.mon_msg.specs.Protocol.Sets.{is_empty}
-use Rattle.quorum_model.specs.Files.{File, Files, file_on, with_file, live_side, is_created, after_opening, after_append, is_due, checkpoint}
-use Rattle.quorum_model.specs.Upsets.{Upset, same_side, opens_gate, closes_gate}
+use Rattle.quorum_model.specs.declared.calls.TheConstants.{SYNC, CREATION, APPEND}
+use Rattle.quorum_model.specs.Files.{File, Files, first_file, file_on, with_file, live_side, is_created, after_opening, after_append, is_due, checkpoint}
+use Rattle.quorum_model.specs.Upsets.{Upset, same_side, last_write, opens_gate, closes_gate}
 
--- Six calls begin a file: its header's gate is closed, what follows it is written, and the gate is opened, each with a sync.
--- If they fail from that call on, the disk has the new file once the gate was opened; none once it was closed; and otherwise
--- what it had.
+-- A creation closes the gate of a file's header by its first call, and opens it by its last write. If its calls fail from that
+-- one on, the disk has the new file once the gate was opened; none once it was closed; and otherwise what it had.
 abbrev pub file_left : (call image : ℕ) → (old : Option File) → File → Option File
 file_left call image old new =
-    if opens_gate 5 call image then Some new else (if closes_gate 1 call image then None else old)
+    if opens_gate (last_write CREATION) call image then Some new else (if closes_gate 1 call image then None else old)
 
 -- the checkpoint on the other disk, if one is due, up to that call
 abbrev pub checkpoint_cut : (call image : ℕ) → Store → Side → Option File → Files → Files
@@ -25,24 +25,23 @@ checkpoint_cut call image m side (Some live) f =
 abbrev pub checkpoint_begun : (call image : ℕ) → Store → Files → Files
 checkpoint_begun call image m f = checkpoint_cut call image m (other (live_side f)) (file_on (live_side f) f) f
 
--- the whole of it: a seventh call never comes
+-- the whole of it: a call after it never comes
 abbrev pub after_checkpoint : Store → Files → Files
-after_checkpoint m f = checkpoint_begun 7 0 m f
+after_checkpoint m f = checkpoint_begun (CREATION + 1) 0 m f
 
 -- a transaction over a map, and the checkpoint after it, where the calls of a disk fail from that call on
 abbrev pub append_cut : Files → Store → Side → (call image : ℕ) → List Op → Files
 append_cut f m disk call image ops =
     if same_side disk (live_side f)
-    then (if nat_lt 4 call || is_empty ops then after_checkpoint (apply ops m) (after_append ops f)
-    else (if opens_gate 3 call image then after_append ops f else f))
+    then (if nat_lt APPEND call || is_empty ops then after_checkpoint (apply ops m) (after_append ops f)
+    else (if opens_gate (last_write APPEND) call image then after_append ops f else f))
     else checkpoint_begun call image (apply ops m) (after_append ops f)
 
--- Opening that fails at that call: a creation may be cut short; otherwise the files stay. The first call is the sync before
--- it.
+-- Opening that fails at that call: a creation may be cut short, which follows a sync; otherwise the files stay.
 abbrev pub opening_cut : Files → Side → (call image : ℕ) → Files
 opening_cut f B call image = f
 opening_cut f A call image =
-    if is_created f then f else with_file A (file_left (call - 1) image None (record { generation = 1; gate = 25 })) f
+    if is_created f then f else with_file A (file_left (call - SYNC) image None first_file) f
 
 -- what an event that writes this leaves of a monitor's files
 abbrev pub files_cut : Files → Store → (opening : ℕ) → Upset → List Op → Files

@@ -5,6 +5,7 @@ use Rattle.std.specs.List.{sum_by}
 use Rattle.std.specs.Option.{option_map}
 use Rattle.mon_types.specs.declared.names.Side.{Side}
 use Rattle.mon_types.specs.declared.names.Side.TheVariants.{A, B}
+use Rattle.mon_journal.specs.declared.journal.TheConstants.{HEADER, RECORD_HEAD}
 use Rattle.mon_kv.specs.Chunks.{entry_len}
 use Rattle.mon_kv.specs.Readers.{is_outgrown}
 use Rattle.mon_tx.specs.declared.op.Op.{Op}
@@ -51,11 +52,15 @@ is_created f = is_some f.a || is_some f.b
 
 -- the place of the gate after a record
 abbrev pub gate_after : (gate payload : ℕ) → ℕ
-gate_after gate payload = gate + 5 + payload
+gate_after gate payload = gate + RECORD_HEAD + payload
+
+-- the file of a new store: a header, and no record
+abbrev pub first_file : File
+first_file = record { generation = 1; gate = HEADER }
 
 -- opening creates a store that isn't there
 abbrev pub after_opening : Files → Files
-after_opening f = if is_created f then f else with_file A (Some (record { generation = 1; gate = 25 })) f
+after_opening f = if is_created f then f else with_file A (Some first_file) f
 
 -- the file after a transaction; an empty one leaves it
 abbrev pub file_after : List Op → File → File
@@ -65,7 +70,7 @@ file_after (op ∷ ops) f = record { generation = f.generation; gate = gate_afte
 abbrev pub after_append : List Op → Files → Files
 after_append ops f = with_file (live_side f) (option_map (file_after ops) (file_on (live_side f) f)) f
 
--- how many bytes a checkpoint of a map has
+-- How many bytes a checkpoint of a map has: one that marks it, four for the number of its entries, and the entries.
 abbrev pub checkpoint_length : Store → ℕ
 checkpoint_length m = 5 + sum_by entry_len (entries m)
 
@@ -76,4 +81,4 @@ is_due f m = nat_lt f.generation (2 ^ 62) && is_outgrown (f.gate + 1) m
 
 -- the file that it begins
 abbrev pub checkpoint : File → Store → File
-checkpoint f m = record { generation = f.generation + 1; gate = gate_after 25 (checkpoint_length m) }
+checkpoint f m = record { generation = f.generation + 1; gate = gate_after HEADER (checkpoint_length m) }

@@ -6,6 +6,7 @@ use Rattle.mon_types.specs.declared.names.Which.{Which}
 use Rattle.mon_tx.specs.Map.{Store}
 use Rattle.mon_msg.specs.Protocol.Reaction.{Reaction}
 use Rattle.mon_msg.specs.Protocol.Sets.{is_empty}
+use Rattle.quorum_model.specs.declared.calls.TheConstants.{SYNC, OPENING, FIRST_OPENING, APPEND}
 use Rattle.quorum_model.specs.Files.{File, Files, file_on, live_side, is_created}
 use Rattle.quorum_model.specs.Happens.{unless_stopped}
 
@@ -25,14 +26,18 @@ same_side a b = false
 -- ---- how many calls are made
 
 -- Opening syncs a disk, and then writes and syncs the first closed gate of an open file. If the store is created, on disk a,
--- six calls make its file, and opening makes none after them.
+-- its file is created after the sync, and opening makes no call after that.
 abbrev pub opening_count : Side → Files → ℕ
 opening_count side f = count (file_on side f) (is_created f) side
   where
     count : Option File → Bool → Side → ℕ
-    count (Some file) created side = 3
-    count None false A = 7
-    count None created side = 1
+    count (Some file) created side = OPENING
+    count None false A = FIRST_OPENING
+    count None created side = SYNC
+
+-- of calls that end with a sync of what they write last: which one writes it
+abbrev pub last_write : ℕ → ℕ
+last_write calls = calls - SYNC
 
 -- A gate is one byte, which a call writes and the next one syncs. If the calls of its disk fail from some call on, it was
 -- opened if that one follows these two, or if it is one of them and all of the write is left.
@@ -54,10 +59,9 @@ writes_nothing (Ok r) = is_empty r.transaction
 
 -- Whether a monitor's transaction is kept, where opening makes this many calls of the disk: 0 except for a start. A
 -- transaction that stops the run counts as kept unless opening failed. An empty one is kept. On the live disk it is kept if
--- the gate of its record is opened, which an append writes by its third call; on the other disk it is kept if opening didn't
--- fail.
+-- the gate of its record is opened, which is an append's last write; on the other disk it is kept if opening didn't fail.
 abbrev pub crash_keeps : Files → Store → (opening : ℕ) → Upset → Result Reaction Which → Bool
 crash_keeps f m opening u r =
     if stops m r && nat_lt opening u.call then true
     else (if writes_nothing r then true
-    else (if same_side u.disk (live_side f) then opens_gate 3 (u.call - opening) u.image else nat_lt opening u.call))
+    else (if same_side u.disk (live_side f) then opens_gate (last_write APPEND) (u.call - opening) u.image else nat_lt opening u.call))

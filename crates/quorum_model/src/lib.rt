@@ -2,7 +2,9 @@
 //! of a safe run is one of values.
 #![tactic(auto)]
 
+mod calls;
 mod laws;
 
+pub use calls::{APPEND, CREATION, FIRST_OPENING, OPENING, SYNC};
 pub use laws::{law_log, law_written};
 pub use log_model::{law_proposed, law_shared, law_shown, law_windows};
