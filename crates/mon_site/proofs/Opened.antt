@@ -28,7 +28,7 @@ use Rattle.mon_store.specs.Pair.{◌>>=◌, Found, Create, Live, Refusal, found,
 use Rattle.mon_store.specs.Pair as pair
 use Rattle.mon_store.specs.Stood.{Stood, opens_as, standing_of}
 use Rattle.quorum_model.specs.Cuts.{opening_cut}
-use Rattle.quorum_model.specs.Files.{File, Files, is_created}
+use Rattle.quorum_model.specs.Files.{File, Files, first_file, is_created}
 use Rattle.quorum_model.specs.Upsets.{opening_count, opens_gate, closes_gate}
 use Rattle.mon_site.specs.Disks.{file_of, file_in, files_in, content}
 use Rattle.mon_site.specs.Falls.{OpensMap, IsReady, Settles}
@@ -64,10 +64,10 @@ first_there member b file place t = ap (first_content member b file) t.is ∙ by
     by false = refl
 
 first_new : (member : Member) (b : Bool) (file : List ℕ) (place : Result Found Refusal) → place ≡ Ok Create → journal.content file ≡ None
-    → file_of (first_content member b file place) ≡ (if b then Some (record { generation = 1; gate = 25 }) else None)
+    → file_of (first_content member b file place) ≡ (if b then Some first_file else None)
 first_new member b file place e none = ap (λ (r : Result Found Refusal). file_of (first_content member b file r)) e ∙ by b
   where
-    by : (b : Bool) → file_of (first_content member b file (Ok Create)) ≡ (if b then Some (record { generation = 1; gate = 25 }) else None)
+    by : (b : Bool) → file_of (first_content member b file (Ok Create)) ≡ (if b then Some first_file else None)
     by true = refl
     by false = ap file_of none
 
@@ -117,10 +117,10 @@ module _ (member : Member) (m : Store) (a b na nb : MemoryState) (only_a : Only 
 
     -- and if there was none
     pub files_new : found sa sb ≡ Ok Create → journal.content sa ≡ None → journal.content sb ≡ None
-        → files_in c d ≡ record { a = if test then Some (record { generation = 1; gate = 25 }) else None; b = None }
+        → files_in c d ≡ record { a = if test then Some first_file else None; b = None }
     files_new e none_a none_b =
         ap (λ (x : Option File). record { a = x; b = file_in d }) (ap file_of first_is ∙ first_new member test sa (found sa sb) e none_a)
-        ∙ ap (λ (y : Option File). record { a = if test then Some (record { generation = 1; gate = 25 }) else None; b = y }) (ap file_of (second_is ∙ none_b))
+        ∙ ap (λ (y : Option File). record { a = if test then Some first_file else None; b = y }) (ap file_of (second_is ∙ none_b))
 
     pub second_none : journal.content sb ≡ None → file_in d ≡ None
     second_none none = ap file_of (second_is ∙ none)
@@ -146,9 +146,6 @@ more_five n done made is = grind (arith, nat_tests)
 
 abbrev failed : Result Stood OpenStop
 failed = Err opening.DiskFault
-
-abbrev pub first_file : File
-first_file = record { generation = 1; gate = 25 }
 
 abbrev pub none_yet : Files
 none_yet = record { a = None; b = None }

@@ -23,7 +23,7 @@ use Rattle.mon_store.specs.Pair.{Found, Create, found}
 use Rattle.mon_types.specs.Sides.{other as other_side}
 use Rattle.mon_store.specs.Sound.{of_a, of_b, of_live, Sound}
 use Rattle.mon_store.specs.Stood.{Stood, opens_as}
-use Rattle.quorum_model.specs.Files.{File, Files, is_created, after_opening}
+use Rattle.quorum_model.specs.Files.{File, Files, first_file, is_created, after_opening}
 use Rattle.quorum_model.specs.Upsets.{opening_count}
 use Rattle.mon_site.specs.Disks.{file_in, content}
 use Rattle.mon_site.specs.Upset.{IsUpset, files_on}
@@ -31,7 +31,7 @@ use Rattle.mon_site.specs.Falls.{OpensMap, IsReady}
 use Rattle.mon_site.proofs.Checkpointing.{files_seen}
 use Rattle.mon_site.proofs.Found.{Content, files_with, open_writes, writes_a, Finds, IsNew, WasThere, finds, on_disk_a, on_disk_b, counts_a, counts_b}
 use Rattle.mon_site.proofs.Guarded.{guarded}
-use Rattle.mon_site.proofs.Opened.{place_of, new_opens, first_file, none_yet, files_there, second_none}
+use Rattle.mon_site.proofs.Opened.{place_of, new_opens, none_yet, files_there, second_none}
 use Rattle.mon_site.proofs.Openings.{on_a, on_b, Opened, walks, upset_left}
 use Rattle.mon_site.proofs.Standing.{file_by}
 

@@ -14,9 +14,10 @@ use Rattle.mon_store.specs.declared.stop.StoreStop.TheVariants as stop
 use Rattle.mon_store.specs.declared.store.Store as kept
 use Rattle.mon_store.specs.Sound.{Sound}
 use Rattle.mon_store.specs.Whole.{disk_a, disk_b}
+use Rattle.quorum_model.specs.declared.calls.TheConstants.{APPEND}
 use Rattle.quorum_model.specs.Cuts.{after_checkpoint, checkpoint_begun, append_cut}
 use Rattle.quorum_model.specs.Files.{Files, live_side, after_append}
-use Rattle.quorum_model.specs.Upsets.{same_side, opens_gate}
+use Rattle.quorum_model.specs.Upsets.{same_side, last_write, opens_gate}
 use Rattle.mon_site.specs.declared.finishing.Ended.{Ended}
 use Rattle.mon_site.specs.declared.finishing.Kept.{Kept}
 use Rattle.mon_site.specs.declared.finishing.Kept.TheVariants.{Whole, Cut}
@@ -43,7 +44,7 @@ on_live u f = same_side u.disk (live_side f)
 
 -- whether its calls reach the end of a transaction's record
 abbrev pub is_beyond : Upset → List Op → Bool
-is_beyond u ops = nat_lt 4 u.call || is_empty ops
+is_beyond u ops = nat_lt APPEND u.call || is_empty ops
 
 -- why a transaction isn't made at all
 abbrev pub StopsAt : Store → List Op → StoreStop → Type 0
@@ -67,7 +68,7 @@ Keeps u member m f ops store (Ok Whole) =
     × IsKept (on_live u f) u.call u.image member (apply ops m) (after_append ops f) store
 Keeps u member m f ops store (Ok (Cut kept)) =
     (on_live u f ≡ true) × (is_beyond u ops ≡ false) × (size_of (apply ops m) ≤ most_size) ×
-    (kept ≡ opens_gate 3 u.call u.image)
+    (kept ≡ opens_gate (last_write APPEND) u.call u.image)
     × Settles member (if kept then apply ops m else m) (if kept then after_append ops f else f)
     (disk_a store) (disk_b store)
 Keeps u member m f ops store (Err e) = StopsAt m ops e
@@ -82,7 +83,7 @@ Checkpoints live call image member m f store (Err e) = IsMemory e
 
 -- whether the transaction is kept, as a crash keeps it
 abbrev pub is_kept : Upset → Files → List Op → Bool
-is_kept u f ops = if is_empty ops then true else if on_live u f then opens_gate 3 u.call u.image else true
+is_kept u f ops = if is_empty ops then true else if on_live u f then opens_gate (last_write APPEND) u.call u.image else true
 
 -- What a monitor's event ends with: whether its transaction is kept, and what its disks settle to.
 abbrev pub Writes : Upset → Member → Store → Files → List Op → (a b : MemoryState) → Result Bool StoreStop → Type 0

@@ -5,7 +5,9 @@ ghost use Rattle.mon_types.specs.declared.member.Member.{Member};
 ghost use Rattle.mon_disk.specs.MemoryDisk.{state_of};
 ghost use Rattle.mon_store.specs.Whole.{IsSound, disk_a, disk_b};
 ghost use Rattle.mon_tx.specs.Map.{Store as Map};
+ghost use Rattle.quorum_model.specs.declared.calls.TheConstants.{APPEND};
 ghost use Rattle.quorum_model.specs.Files.{Files};
+ghost use Rattle.quorum_model.specs.Upsets.{last_write};
 ghost use Rattle.mon_site.specs.Ending.{IsKept, Keeps, Checkpoints, Writes, Finishes};
 ghost use Rattle.mon_site.specs.Falls.{IsFalling};
 
@@ -13,6 +15,7 @@ use crate::upset::Upset;
 use mon_disk::{MemoryDisk, NodeDisks};
 use mon_store::{Store, StoreStop};
 use mon_tx::Transaction;
+use quorum_model::APPEND;
 
 /// What became of a transaction.
 enum Kept {
@@ -30,15 +33,15 @@ pub struct Ended {
     pub kept: bool,
 }
 
-/// Whether a gate is opened that a record's third call writes and that isn't synced.
+/// Whether a gate is opened that an append's last write opens and that isn't synced.
 fn opens_gate(upset: Upset) -> bool
-    ensures { result ≡ (nat_le 3 upset.call && upset.image == 1) }
+    ensures { result ≡ (nat_le (last_write APPEND) upset.call && upset.image == 1) }
 {
-    upset.call >= 3 && upset.image == 1
+    upset.call >= APPEND - 1 && upset.image == 1
 }
 
-/// Makes a transaction's changes, as far as the live disk lets it. An append writes the record first, and then by the
-/// third call its gate, which the fourth one syncs.
+/// Makes a transaction's changes, as far as the live disk lets it. An append writes the record first, and then its
+/// gate.
 fn keep(store: &mut Store<MemoryDisk>, tx: &Transaction, upset: Upset) -> Result<Kept, StoreStop>
     requires unbroken { store.old.broken ≡ false }
     requires sound { IsSound state_of store.old }

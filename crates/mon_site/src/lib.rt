@@ -3,6 +3,7 @@
 
 mod disks;
 mod finishing;
+mod law;
 mod opening;
 mod resting;
 mod running;
@@ -10,6 +11,7 @@ mod upset;
 
 pub use disks::{settle_both, upset_one};
 pub use finishing::{Ended, finish};
+pub use law::law_calls;
 pub use opening::{Begun, open};
 pub use resting::{empty_disks, opening_count};
 pub use running::{apply, close, start};

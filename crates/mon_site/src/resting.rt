@@ -14,6 +14,7 @@ ghost use Rattle.mon_site.specs.Falls.{Rests};
 use mon_bytes::OutOfMemory;
 use mon_disk::{Disk, MemoryDisk, NodeDisks};
 use mon_types::{Side, Stop};
+use quorum_model::{FIRST_OPENING, OPENING, SYNC};
 use std::alloc::Global;
 
 /// Two empty disks. They take no memory.
@@ -65,14 +66,14 @@ fn is_open(disk: &mut MemoryDisk) -> Result<bool, OutOfMemory>
 }
 
 /// How many writes and syncs opening makes on a disk, by which of the two are open. It syncs the disk, and of an open
-/// file it writes the first closed gate, which it syncs. If no store is there yet, disk A gets one by six calls.
+/// file it writes the first closed gate, which it syncs. If no store is there yet, one is created on disk A.
 fn count(side: Side, a: bool, b: bool) -> u64
     ensures { (f : Files) → is_some f.a ≡ a → is_some f.b ≡ b → result ≡ opening_count side f }
 {
     match (side, a, b) {
-        (Side::A, false, false) => 7,
-        (Side::A, true, _) | (Side::B, _, true) => 3,
-        (Side::A, false, true) | (Side::B, _, false) => 1,
+        (Side::A, false, false) => FIRST_OPENING,
+        (Side::A, true, _) | (Side::B, _, true) => OPENING,
+        (Side::A, false, true) | (Side::B, _, false) => SYNC,
     }
 }
 
