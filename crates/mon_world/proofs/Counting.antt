@@ -14,6 +14,7 @@ use Rattle.mon_types.specs.declared.member.Member.{Member}
 use Rattle.mon_types.specs.declared.names.Side.{Side}
 use Rattle.mon_types.specs.declared.names.Side.TheVariants.{A, B}
 use Rattle.mon_types.specs.declared.names.Which.{Which}
+use Rattle.quorum_model.specs.declared.calls.TheConstants.{FIRST_OPENING}
 use Rattle.quorum_model.specs.Cuts.{opening_cut}
 use Rattle.quorum_model.specs.Files.{File, Files, after_opening}
 use Rattle.quorum_model.specs.Upsets.{opening_count, writes_nothing}
@@ -22,7 +23,7 @@ use Rattle.mon_world.specs.declared.stop.WorldStop.{WorldStop}
 use Rattle.mon_world.specs.Falls.{Ends, Falls, IsLeft, counted}
 use Rattle.mon_world.proofs.Deciding.{behind, counted_behind, ended, failed, fails_at_start}
 
-few_by_files : (side : Side) (a b : Option File) → opening_count side (record { a = a; b = b }) ≤ 7
+few_by_files : (side : Side) (a b : Option File) → opening_count side (record { a = a; b = b }) ≤ FIRST_OPENING
 few_by_files A None None = omega arith
 few_by_files A None (Some b) = omega arith
 few_by_files A (Some a) b = omega arith
@@ -31,8 +32,8 @@ few_by_files B (Some a) None = omega arith
 few_by_files B None (Some b) = omega arith
 few_by_files B (Some a) (Some b) = omega arith
 
--- opening makes seven calls of a disk at the most
-pub few_calls : (side : Side) (f : Files) → opening_count side f ≤ 7
+-- opening makes the most calls of a disk if it creates a store there
+pub few_calls : (side : Side) (f : Files) → opening_count side f ≤ FIRST_OPENING
 few_calls side f = few_by_files side f.a f.b
 
 -- ---- what counting leaves as it was

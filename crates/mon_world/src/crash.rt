@@ -11,6 +11,7 @@ ghost use Rattle.mon_tx.specs.Map.{Store as Map, apply};
 ghost use Rattle.mon_tx.specs.Text.{text, most};
 ghost use Rattle.mon_types.specs.declared.member.Member.{Member};
 ghost use Rattle.mon_wire.specs.declared.phase.Phase.TheVariants.{Booting};
+ghost use Rattle.quorum_model.specs.declared.calls.TheConstants.{FIRST_OPENING};
 ghost use Rattle.quorum_model.specs.Files.{Files};
 ghost use Rattle.svc_core.specs.Cache.{Follows};
 ghost use Rattle.mon_world.specs.Falls.{Ends, EndsWith, Falling, Falls, MayBe, counted, written};
@@ -103,7 +104,7 @@ fn end(
 /// `opening` calls.
 fn counted_from(upset: Upset, input: &Input, opening: u64) -> Upset
     requires may { MayBe upset }
-    requires opening { opening ≤ 7 }
+    requires opening { opening ≤ FIRST_OPENING }
     ensures { result ≡ counted upset input.now opening }
 {
     match input {
