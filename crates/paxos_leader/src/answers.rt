@@ -116,7 +116,7 @@ fn answered(mut state: Leader, from: Rank, last: Version, found: Option<Found>) 
     state
 }
 
-/// What a leader remembers once a member answered with all that it has, by what the member told.
+/// What a leader remembers once a member answered with all that it has, by what the member reported.
 fn note(state: Leader, answer: &Answer<'_>) -> Result<Leader, RoleStop>
     requires found { may_begin_found state.found ≡ true }
     requires told { may_begin_told answer.now.pending.now ≡ true }

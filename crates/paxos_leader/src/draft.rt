@@ -34,7 +34,7 @@ impl Draft {
 }
 
 /// Besides what was sent so far, a copy of this goes to each of the other members of a quorum but the last, which is
-/// answered, if there is one.
+/// returned, if there is one.
 fn tell_all_but_last(
     act: &Act<'_>,
     mut out: Items<Sent>,
