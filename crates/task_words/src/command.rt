@@ -43,7 +43,7 @@ fn subcommand<'a>(
 }
 
 /// The command with one subcommand more, which requires these texts, in order.
-// If the subcommand can't be made, what was built is dropped by a call. Behind a `?` the prover would go through all of its parts, once for
+// If the subcommand can't be made, what was built is dropped by a call. After a `?` the prover would go through all of its parts, once for
 // each subcommand of a chain.
 fn with_texts<'a>(
     alloc: Global,

@@ -1,4 +1,4 @@
-//! The numbers, the rule and the service among the words.
+//! The numbers, the rule and the service among the arguments.
 
 ghost use Rattle.std.specs.Prelude.{◌≡◌, ◌≤◌, ℕ, None, IfSome, decimal};
 ghost use Rattle.mon_types.specs.declared.member.Member.{Member as members};
@@ -41,7 +41,7 @@ pub(crate) fn rule_in(monitors: u8, word: &[u8]) -> Option<Rule>
     }
 }
 
-/// The service that a word names.
+/// The service that an argument names.
 pub(crate) fn service_in(word: &str) -> Option<Service>
     ensures { Spells service_text (λ _. Unit {0}) result word.now }
 {
