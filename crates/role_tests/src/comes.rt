@@ -86,7 +86,7 @@ fn meanwhile(alloc: Global) -> Result<Items<Transaction>, Fail> {
     Ok(values)
 }
 
-/// Behind the key `kv/7`.
+/// After the key `kv/7`.
 fn behind_seven(alloc: Global) -> Result<KeyPlace, Fail> {
     let prefix = Area::Kv.prefix(alloc)?;
     let key = Key::Version(7).name(alloc)?;
