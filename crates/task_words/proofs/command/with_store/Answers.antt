@@ -1,0 +1,12 @@
+use Rattle.std.proofs.Common.{◌≡◌, List, map, rules, ap, ◌∙◌}
+use Rattle.std.proofs.lemmas.Result.{IfOk-weaker}
+use Rattle.clap.specs.Words.{Text, app_of}
+use Rattle.task_words.specs.Commands.{store_texts, with_texts}
+use Rattle.task_words.proofs.command.with_store.Goals as goal
+
+pub returns : goal.returns
+returns c =
+    let texts_are : map (λ t. t.now) c.as_slice.result.now ≡ store_texts = search rules in
+    IfOk-weaker c.with_texts.result _ _
+    (λ r is. is ∙ ap (λ (ts : List Text). with_texts (app_of c.args.command) c.args.name.now ts) texts_are)
+    c.with_texts.ensures
