@@ -259,8 +259,11 @@ class Judge:
         self.wrong = []
         self.answered = load.answered()
         self.known = collections.defaultdict(list)
+        # Of each key the last version of each value, so that a long history is judged in the time of its maps.
+        self.made = collections.defaultdict(dict)
         for change in self.answered:
             self.known[change.key].append((change.version, change.value))
+            self.made[change.key][change.value] = max(change.version, self.made[change.key].get(change.value, 0))
         self.order()
         self.maps([(f'monitor {looker.rank}', paxos, shown) for looker in load.lookers for _, _, paxos, shown in looker.maps])
         self.rises(load.lookers)
@@ -290,7 +293,7 @@ class Judge:
                 value = number_of(shown[key]) if key in shown else None
                 if place and (value is None or value < changes[place - 1][1]):
                     self.wrong.append(f'LOST: {key} is {value} at {paxos}, and {changes[place - 1][1]} was answered')
-                if value is not None and any(told == value and version > paxos for version, told in changes):
+                if value is not None and self.made[key].get(value, paxos) > paxos:
                     self.wrong.append(f'{key} is {value} at {paxos}, before its version')
 
     def rises(self, lookers):
