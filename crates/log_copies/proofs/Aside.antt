@@ -1,4 +1,4 @@
--- A marked monitor that is in no election and in no quorum: what else comes to it leaves its store and its synchronization, or it
+-- A marked monitor that is in no election and in no quorum: any other input leaves its store and its synchronization, or it
 -- probes again.
 use Rattle.std.proofs.Common.{◌≡◌, ℕ, ◌<◌, Bool, true, false, not, ◌&&◌, ◌||◌, cond, List, Option, Some, None, ◌⊎◌, inl, inr, Result, Ok, refl, subst}
 use Rattle.std.proofs.lemmas.Bool.{lt-ltb}

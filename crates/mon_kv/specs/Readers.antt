@@ -1,10 +1,12 @@
 -- What the readers of a monitor's map return.
-use Rattle.std.specs.Prelude.{ℕ, ◌+◌, ◌*◌, ◌==◌, ◌&&◌, nat_lt, if◌then◌else◌, Bool, List, length, Option, Some, None}
+use Rattle.std.specs.Prelude.{ℕ, ◌+◌, ◌*◌, ◌^◌, ◌≡◌, ◌≤◌, ◌==◌, ◌&&◌, nat_lt, if◌then◌else◌, Bool, List, length, Option, Some, None}
 use Rattle.std.specs.FinMap.{entries}
 use Rattle.std.specs.List.{filter, sum_by}
 use Rattle.std.specs.Option.{option_map, unwrap_or}
 use Rattle.std.specs.Ordering.{is_lt}
+use Rattle.mon_tx.specs.declared.key.Area.{Area}
 use Rattle.mon_tx.specs.declared.key.Area.TheVariants as area
+use Rattle.mon_tx.specs.declared.key.Key.{Key}
 use Rattle.mon_tx.specs.declared.key.Key.TheVariants as key
 use Rattle.mon_tx.specs.Map.{Place, place_cmp, Store, number_in}
 use Rattle.mon_tx.specs.Keys.{cell, number}
@@ -12,6 +14,10 @@ use Rattle.mon_tx.specs.Decode.{is_text}
 use Rattle.mon_kv.specs.declared.entry_ref.EntryRef.{EntryRef}
 use Rattle.mon_kv.specs.declared.kv.TheConstants.{LEAST_LENGTH, MOST_SIZE}
 use Rattle.mon_kv.specs.declared.next.Found.{Found}
+
+-- the number that a map holds at a named key: no number of a map is above 2^62
+abbrev pub IsNumber : Store → Area → Key → ℕ → Type 0
+IsNumber m area key n = (n ≡ number m area key) × (n ≤ 2 ^ 62)
 
 -- the election epoch, which counts as 1 if there is none
 abbrev pub epoch : Store → ℕ

@@ -8,7 +8,7 @@ ghost use Rattle.std.specs.Option.{option_copied, option_map};
 ghost use Rattle.mon_tx.specs.Keys.{cell, is_fixed, number};
 ghost use Rattle.mon_tx.specs.declared.key.Area.TheVariants as area;
 ghost use Rattle.mon_tx.specs.declared.key.Key.TheVariants as key;
-ghost use Rattle.mon_kv.specs.Readers.{epoch, is_marked, pending};
+ghost use Rattle.mon_kv.specs.Readers.{IsNumber, epoch, is_marked, pending};
 
 use crate::kv::{Kv, number_of};
 use itoa::Buffer;
@@ -34,40 +34,35 @@ impl Kv {
     /// The number at a key with a fixed text.
     pub fn named_number(&self, area: Area, key: Key) -> u64
         requires { IsTrue (is_fixed key) }
-        ensures value { result ≡ number self.now area key }
-        ensures most { result ≤ 2 ^ 62 }
+        ensures { IsNumber self.now area key result }
     {
         number_of(self.named(area, key))
     }
 
     /// The first version that is kept.
     pub fn first_committed(&self) -> u64
-        ensures value { result ≡ number self.now area.Paxos key.FirstCommitted }
-        ensures most { result ≤ 2 ^ 62 }
+        ensures { IsNumber self.now area.Paxos key.FirstCommitted result }
     {
         self.named_number(Area::Paxos, Key::FirstCommitted)
     }
 
     /// The last committed version.
     pub fn last_committed(&self) -> u64
-        ensures value { result ≡ number self.now area.Paxos key.LastCommitted }
-        ensures most { result ≤ 2 ^ 62 }
+        ensures { IsNumber self.now area.Paxos key.LastCommitted result }
     {
         self.named_number(Area::Paxos, Key::LastCommitted)
     }
 
     /// The last proposal number that the monitor made.
     pub fn last_pn(&self) -> u64
-        ensures value { result ≡ number self.now area.Paxos key.LastPn }
-        ensures most { result ≤ 2 ^ 62 }
+        ensures { IsNumber self.now area.Paxos key.LastPn result }
     {
         self.named_number(Area::Paxos, Key::LastPn)
     }
 
     /// The proposal number that the monitor promised.
     pub fn promise(&self) -> u64
-        ensures value { result ≡ number self.now area.Paxos key.AcceptedPn }
-        ensures most { result ≤ 2 ^ 62 }
+        ensures { IsNumber self.now area.Paxos key.AcceptedPn result }
     {
         self.named_number(Area::Paxos, Key::AcceptedPn)
     }
@@ -85,16 +80,14 @@ impl Kv {
 
     /// How often the monitor was started.
     pub fn boot_count(&self) -> u64
-        ensures value { result ≡ number self.now area.Monitor key.BootCount }
-        ensures most { result ≤ 2 ^ 62 }
+        ensures { IsNumber self.now area.Monitor key.BootCount result }
     {
         self.named_number(Area::Monitor, Key::BootCount)
     }
 
     /// The version that a full synchronization must reach.
     pub fn floor(&self) -> u64
-        ensures value { result ≡ number self.now area.Sync key.Floor }
-        ensures most { result ≤ 2 ^ 62 }
+        ensures { IsNumber self.now area.Sync key.Floor result }
     {
         self.named_number(Area::Sync, Key::Floor)
     }

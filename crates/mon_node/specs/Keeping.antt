@@ -12,11 +12,11 @@ use Rattle.mon_types.specs.Sides.{other as other_side}
 use Rattle.mon_node.specs.declared.end.NodeEnd.TheVariants as end
 use Rattle.mon_node.specs.declared.end.NodeEnd.{NodeEnd}
 
--- where a store is once a transaction was applied: an empty one has no record
+-- where a store is after a transaction was applied: an empty one has no record
 abbrev pub changed : List Op → Stood → Stood
 changed ops s = record { side = s.side; journal = journal_after s.journal ops; kv = apply ops s.kv }
 
--- and once the checkpoint that is due is made, if one is
+-- where a store is after the checkpoint that is due, if one is
 abbrev pub renewed : Stood → Stood
 renewed s = if is_due s.journal s.kv
     then (record { side = other_side s.side; journal = next_journal s.journal s.kv; kv = s.kv }) else s

@@ -91,8 +91,7 @@ fn put_learn(tx: &mut Transaction, v: u64, value: &Transaction) -> Result<(), Ou
     requires { length (text value.now) ≤ most }
     ensures { OnOk result (tx.new ≡ tx.old ++ ops_of (Learn v value.now)) }
 {
-    let record = value_bytes(value)?;
-    tx.put(Area::Paxos, Key::Version(v), record)?;
+    put_record(tx, v, value)?;
     tx.append(value)
 }
 

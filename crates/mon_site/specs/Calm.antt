@@ -45,18 +45,18 @@ abbrev pub Starts : Member → Store → Files → Result (kept.Store MemoryStat
 Starts member m f (Ok store) = Runs member m (after_opening f) store
 Starts member m f (Err e) = Unit {0}
 
--- a transaction's changes are made
+-- a store after a transaction's changes were made
 abbrev pub Changes : Member → Store → Files → List Op → kept.Store MemoryState → Result Unit StoreStop → Type 0
 Changes member m f ops store (Ok done) = (size_of (apply ops m) ≤ most_size) ×
     Runs member (apply ops m) (after_append ops f) store
 Changes member m f ops store (Err e) = StopsAt m ops e
 
--- what is due is made
+-- a store after the checkpoint that is due was made
 abbrev pub Renews : Member → Store → Files → kept.Store MemoryState → Result Unit StoreStop → Type 0
 Renews member m f store (Ok done) = Runs member m (after_checkpoint m f) store
 Renews member m f store (Err e) = IsMemory e
 
--- and both
+-- a store after a transaction's changes and the checkpoint that is due
 abbrev pub Applies : Member → Store → Files → List Op → kept.Store MemoryState → Result Unit StoreStop → Type 0
 Applies member m f ops store (Ok done) = (size_of (apply ops m) ≤ most_size) ×
     Runs member (apply ops m) (after_checkpoint (apply ops m) (after_append ops f)) store

@@ -1,5 +1,5 @@
 -- The map that the images of two disks represent.
-use Rattle.std.specs.Prelude.{ℕ, nat_lt, ◌==◌, ◌&&◌, if◌then◌else◌, List, length, Option, Some, None, Result, Ok, Err}
+use Rattle.std.specs.Prelude.{ℕ, ◌+◌, nat_lt, ◌==◌, ◌&&◌, if◌then◌else◌, List, length, Option, Some, None, Result, Ok, Err}
 use Rattle.std.specs.FinMap.{empty}
 pub use Rattle.mon_bytes.specs.Answers.{◌>>=◌}
 use Rattle.mon_types.specs.declared.names.Side.{Side}
@@ -7,6 +7,7 @@ use Rattle.mon_types.specs.declared.names.Side.TheVariants.{A, B}
 use Rattle.mon_tx.specs.Map.{Store}
 use Rattle.mon_journal.specs.declared.stop.JournalStop.{JournalStop}
 use Rattle.mon_journal.specs.declared.stop.JournalStop.TheVariants as journal
+use Rattle.mon_journal.specs.declared.journal.TheConstants.{HEADER}
 use Rattle.mon_journal.specs.Content.{Held, content}
 use Rattle.mon_journal.specs.Fields.{Owner}
 use Rattle.mon_store.specs.Payloads.{map_of}
@@ -36,7 +37,7 @@ pub data Found : Type 0 where
 
 -- two closed disks are a new store only if they hold no more than a creation that a crash cut short
 abbrev pub new_store : ℕ → ℕ → Result Found Refusal
-new_store a b = if nat_lt 26 a then Err (NotAStore A 0) else (if nat_lt 0 b then Err (NotAStore B 0) else Ok Create)
+new_store a b = if nat_lt (HEADER + 1) a then Err (NotAStore A 0) else (if nat_lt 0 b then Err (NotAStore B 0) else Ok Create)
 
 -- the file with the greater generation is live
 abbrev pub newer : Held → Held → Result Found Refusal

@@ -10,7 +10,7 @@ use Rattle.mon_tx.specs.Decode.{transaction_of}
 use Rattle.mon_kv.specs.Readers.{size_of}
 use Rattle.mon_journal.specs.declared.stop.JournalStop.{JournalStop}
 use Rattle.mon_journal.specs.declared.stop.JournalStop.TheVariants.{NotAStore}
-use Rattle.mon_journal.specs.declared.journal.TheConstants.{FIRST_PAYLOAD}
+use Rattle.mon_journal.specs.declared.journal.TheConstants.{FIRST_PAYLOAD, RECORD_HEAD}
 use Rattle.mon_store.specs.declared.checkpoint.TheConstants.{CHECKPOINT}
 use Rattle.mon_store.specs.Checkpoint.{most_size}
 use Rattle.mon_store.specs.Decode.{checkpoint_of}
@@ -50,11 +50,11 @@ unfoldable pub folded : List (List ℕ) → ℕ → Store → Result Store Journ
 folded [] at m = Ok m
 folded (payload ∷ payloads) at m = do
   next ← at_fault at (after payload m)
-  folded payloads (at + 5 + length payload) next
+  folded payloads (at + RECORD_HEAD + length payload) next
 
 -- The map that the payloads of a file represent. The first of them begins after the header, a gate and a length.
 unfoldable pub map_of : List (List ℕ) → Result Store JournalStop
 map_of [] = Ok empty
 map_of (payload ∷ payloads) = do
   first ← at_fault FIRST_PAYLOAD (begun payload)
-  folded payloads (35 + length payload) first
+  folded payloads (FIRST_PAYLOAD + RECORD_HEAD + length payload) first

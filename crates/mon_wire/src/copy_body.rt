@@ -1,14 +1,12 @@
 //! Bodies of messages, copied.
 
 ghost use Rattle.std.specs.Prelude.{◌≡◌, IfOk};
-ghost use Rattle.mon_wire.specs.declared.body.Body.TheVariants as body;
 
 use crate::body::Body;
-use crate::parts::{Cookie, Place, Told};
+use crate::parts::{Place, Told};
 use crate::score_table::ScoreTable;
 use mon_bytes::{Entry, Items, OutOfMemory};
 use mon_tx::Transaction;
-use mon_types::Version;
 use std::alloc::Global;
 
 fn copied_table(
@@ -32,45 +30,29 @@ fn copied_told(pending: &Option<Told>) -> Result<Option<Told>, OutOfMemory>
     }
 }
 
-fn copied_chunk(
-    cookie: Cookie,
-    place: &Place,
-    values: &Items<Transaction>,
-    entries: &Items<Entry>,
-    done: bool,
-    alloc: Global,
-) -> Result<Body, OutOfMemory>
-    ensures { IfOk result (λ copied. copied ≡ body.Chunk cookie place.now values.now entries.now done) }
-{
-    let values = values.copy(alloc)?;
-    let entries = entries.copy(alloc)?;
-    Ok(Body::Chunk {
-        cookie,
-        place: place.copy(alloc)?,
-        values,
-        entries,
-        done,
-    })
+/// What CHUNK and LAST_CHUNK alike carry.
+struct Carried {
+    place: Place,
+    values: Items<Transaction>,
+    entries: Items<Entry>,
 }
 
-fn copied_last_chunk(
-    cookie: Cookie,
+fn copied_carried(
     place: &Place,
     values: &Items<Transaction>,
     entries: &Items<Entry>,
-    last: Version,
     alloc: Global,
-) -> Result<Body, OutOfMemory>
-    ensures { IfOk result (λ copied. copied ≡ body.LastChunk cookie place.now values.now entries.now last) }
+) -> Result<Carried, OutOfMemory>
+    ensures place { IfOk result (λ copied. copied.place ≡ place.now) }
+    ensures values { IfOk result (λ copied. copied.values ≡ values.now) }
+    ensures entries { IfOk result (λ copied. copied.entries ≡ entries.now) }
 {
     let values = values.copy(alloc)?;
     let entries = entries.copy(alloc)?;
-    Ok(Body::LastChunk {
-        cookie,
+    Ok(Carried {
         place: place.copy(alloc)?,
         values,
         entries,
-        last,
     })
 }
 
@@ -153,14 +135,40 @@ impl Body {
                 ref values,
                 ref entries,
                 done,
-            } => return copied_chunk(cookie, place, values, entries, done, alloc),
+            } => {
+                let Carried {
+                    place,
+                    values,
+                    entries,
+                } = copied_carried(place, values, entries, alloc)?;
+                Body::Chunk {
+                    cookie,
+                    place,
+                    values,
+                    entries,
+                    done,
+                }
+            }
             Body::LastChunk {
                 cookie,
                 ref place,
                 ref values,
                 ref entries,
                 last,
-            } => return copied_last_chunk(cookie, place, values, entries, last, alloc),
+            } => {
+                let Carried {
+                    place,
+                    values,
+                    entries,
+                } = copied_carried(place, values, entries, alloc)?;
+                Body::LastChunk {
+                    cookie,
+                    place,
+                    values,
+                    entries,
+                    last,
+                }
+            }
             Body::NoCookie { cookie } => Body::NoCookie { cookie },
             Body::Ping { ref table } => Body::Ping {
                 table: copied_table(table, alloc)?,

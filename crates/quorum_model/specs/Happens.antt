@@ -25,7 +25,7 @@ put_at f i a j = if j == i then a else f j
 
 -- ---- what becomes of the world
 
--- the event is counted, and what was asked is noted; nothing else changes
+-- an event that moves no monitor: it is counted, and what it asked is noted
 unfoldable pub unmoved : World → Plain → World
 unmoved w p = record w { asked = with_asked p w.asked; events = suc w.events }
 

@@ -12,7 +12,7 @@ use Rattle.mon_msg.specs.declared.view.Me.{Me}
 use Rattle.quorum_model.specs.Monitors.{Monitors, me_of}
 use Rattle.quorum_model.specs.World.{World, Plain, Start, Deliver, Ring, Client, Envelope}
 
--- to whom, when and what
+-- an input that comes to the monitor of a rank at a time
 pub record Arrival : Type 0 where
   pub rank : ℕ
   pub at : ℕ
@@ -23,7 +23,7 @@ abbrev pub message_at : List Envelope → ℕ → Option Envelope
 message_at es zero = None
 message_at es (suc k) = slice_get es k
 
--- what comes by an event; a message that wasn't sent doesn't come
+-- what an event brings to a monitor: a message that wasn't sent doesn't come
 abbrev pub arrival : World → Plain → Option Arrival
 arrival w (Start rank at) = Some (record { rank = rank; at = at; input = input.Start })
 arrival w (Deliver k at) =

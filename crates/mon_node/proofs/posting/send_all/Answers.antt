@@ -25,7 +25,7 @@ returns-in_err-send_letter-clause-posts g c =
     let new = g.L.Link.state c.send_letter.new.link in
     let p = err_from_is_err_and c.from_residual-in_err-send_letter.result c.from_residual-in_err-send_letter.ensures.1 in
     let is : text ≡ letter me (epoch m) x = c.in_ok-letter.ensures.letter ∙ ap (λ (n : ℕ). letter me n x) (c.known-epoch.ensures ∙ c.epoch.ensures.value) in
-    let posts = subst (λ (boot : ℕ). Posts {T = Unit {0}} {E = NodeEnd} (datagrams_of boot l.next text) (Err e) now new) c.boot_count-boot.ensures.value c.in_err-send_letter.ensures.posts in
+    let posts = subst (λ (boot : ℕ). Posts {T = Unit {0}} {E = NodeEnd} (datagrams_of boot l.next text) (Err e) now new) c.boot_count-boot.ensures.0 c.in_err-send_letter.ensures.posts in
     rw (p.1, p.2)
     (letter_stops me m c.args.next.now c.args.out.now l.sent-index l.next (g.L.Link.state c.args.link.now) now l.invariant
     x text (omega (arith, c.loop-sent-test.true)) c.sent-item.is is new e e posts c.send_letter.ensures.unsent)
@@ -54,6 +54,6 @@ loop-sent-preserved g c =
     let now = g.L.Link.state l.link in
     let new = g.L.Link.state c.send_letter.new.link in
     let is : text ≡ letter me (epoch m) x = c.in_ok-letter.ensures.letter ∙ ap (λ (n : ℕ). letter me n x) (c.known-epoch.ensures ∙ c.epoch.ensures.value) in
-    let posts = subst (λ (boot : ℕ). Posts {T = Unit {0}} {E = NodeEnd} (datagrams_of boot l.next text) (Ok u) now new) c.boot_count-boot.ensures.value c.in_ok-send_letter.ensures.posts in
+    let posts = subst (λ (boot : ℕ). Posts {T = Unit {0}} {E = NodeEnd} (datagrams_of boot l.next text) (Ok u) now new) c.boot_count-boot.ensures.0 c.in_ok-send_letter.ensures.posts in
     letter_sent me m c.args.next.now c.args.out.now l.sent-index l.next (g.L.Link.state c.args.link.now) now l.invariant
     x text (omega (arith, c.loop-sent-test.true)) c.sent-item.is is new u c.send_letter.new.next c.in_ok-send_letter.ensures.behind c.in_ok-send_letter.ensures.most posts

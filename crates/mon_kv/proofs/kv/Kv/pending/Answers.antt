@@ -15,8 +15,8 @@ returns-clause-value c =
     let last = c.last_committed-v.result in
     let text : is_text c.in_ok-value.value.now ≡ true = search rules in
     let there : cell m area.Paxos (key.Version (last + 1)) ≡ Some c.in_ok-value.value.now = sym c.stored.ensures ∙ ap option_copied c.in_ok-value.was in
-    let own : number m area.Paxos key.PendingV ≡ last + 1 = sym c.named_number.ensures.value ∙ c.if-named_number-v.false in
-    rw (← c.last_committed-v.ensures.value, ← c.named_number-pn.ensures.value) (sym (waiting-some (number m area.Paxos key.PendingV) c.named_number-pn.result last (cell m area.Paxos (key.Version (last + 1))) c.in_ok-value.value.now own there text))
+    let own : number m area.Paxos key.PendingV ≡ last + 1 = sym c.named_number.ensures.0 ∙ c.if-named_number-v.false in
+    rw (← c.last_committed-v.ensures.0, ← c.named_number-pn.ensures.0) (sym (waiting-some (number m area.Paxos key.PendingV) c.named_number-pn.result last (cell m area.Paxos (key.Version (last + 1))) c.in_ok-value.value.now own there text))
 
 pub returns-clause-most : goal.returns-clause-most
-returns-clause-most c = (omega (arith, c.named_number.ensures.most, c.if-named_number-v.false), c.named_number-pn.ensures.most)
+returns-clause-most c = (omega (arith, c.named_number.ensures.1, c.if-named_number-v.false), c.named_number-pn.ensures.1)

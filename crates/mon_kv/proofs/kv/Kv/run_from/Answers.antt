@@ -65,4 +65,4 @@ returns-then-len-most c =
       | inr long ↦ runs_long all c.args.room c.args.most (map plain items) c.loop-found.left e _ before (λ full. long.0 (sym len ∙ full)) (omega (arith, long.1, c.entry_len-len.ensures))
     ] in
     let more : eqb (length items) (length all) ≡ false = ap (λ n. eqb n (length all)) (sym (length-map items plain)) ∙ runs_more all c.args.room c.args.most (map plain items) c.loop-found.left e _ before in
-    rw (← c.last_committed-last.ensures.value) (record { entries = run; done = sym more })
+    rw (← c.last_committed-last.ensures.0) (record { entries = run; done = sym more })
