@@ -14,9 +14,9 @@ use mon_types::Rank;
 use mon_wire::{Body, Kind, MsgRefused};
 use std::alloc::Global;
 
-fn read_probe_reply(n: u8, own: Rank, cursor: &mut Cursor<'_>) -> Result<Body, MsgRefused>
+fn read_probe_reply(n: u8, cursor: &mut Cursor<'_>) -> Result<Body, MsgRefused>
     requires { n ≤ 15 }
-    ensures { Reads (λ x. x) result cursor.new (body_at n own Kind.ProbeReply cursor.old) }
+    ensures { (own : ℕ) → Reads (λ x. x) result cursor.new (body_at n own Kind.ProbeReply cursor.old) }
 {
     let quorum = read_set(n, cursor)?;
     let first = read_number(cursor)?;
@@ -28,8 +28,8 @@ fn read_probe_reply(n: u8, own: Rank, cursor: &mut Cursor<'_>) -> Result<Body, M
     })
 }
 
-fn read_collect(n: u8, own: Rank, cursor: &mut Cursor<'_>) -> Result<Body, MsgRefused>
-    ensures { Reads (λ x. x) result cursor.new (body_at n own Kind.Collect cursor.old) }
+fn read_collect(cursor: &mut Cursor<'_>) -> Result<Body, MsgRefused>
+    ensures { (n own : ℕ) → Reads (λ x. x) result cursor.new (body_at n own Kind.Collect cursor.old) }
 {
     let pn = read_number(cursor)?;
     let first = read_number(cursor)?;
@@ -37,8 +37,8 @@ fn read_collect(n: u8, own: Rank, cursor: &mut Cursor<'_>) -> Result<Body, MsgRe
     Ok(Body::Collect { pn, first, last })
 }
 
-fn read_last(alloc: Global, n: u8, own: Rank, cursor: &mut Cursor<'_>) -> Result<Body, MsgRefused>
-    ensures { Reads (λ x. x) result cursor.new (body_at n own Kind.Last cursor.old) }
+fn read_last(alloc: Global, cursor: &mut Cursor<'_>) -> Result<Body, MsgRefused>
+    ensures { (n own : ℕ) → Reads (λ x. x) result cursor.new (body_at n own Kind.Last cursor.old) }
 {
     let pn = read_number(cursor)?;
     let first = read_number(cursor)?;
@@ -58,8 +58,8 @@ fn read_last(alloc: Global, n: u8, own: Rank, cursor: &mut Cursor<'_>) -> Result
     })
 }
 
-fn read_begin(alloc: Global, n: u8, own: Rank, cursor: &mut Cursor<'_>) -> Result<Body, MsgRefused>
-    ensures { Reads (λ x. x) result cursor.new (body_at n own Kind.Begin cursor.old) }
+fn read_begin(alloc: Global, cursor: &mut Cursor<'_>) -> Result<Body, MsgRefused>
+    ensures { (n own : ℕ) → Reads (λ x. x) result cursor.new (body_at n own Kind.Begin cursor.old) }
 {
     let pn = read_number(cursor)?;
     let version = read_number(cursor)?;
@@ -67,45 +67,40 @@ fn read_begin(alloc: Global, n: u8, own: Rank, cursor: &mut Cursor<'_>) -> Resul
     Ok(Body::Begin { pn, version, value })
 }
 
-fn read_accept(n: u8, own: Rank, cursor: &mut Cursor<'_>) -> Result<Body, MsgRefused>
-    ensures { Reads (λ x. x) result cursor.new (body_at n own Kind.Accept cursor.old) }
+fn read_accept(cursor: &mut Cursor<'_>) -> Result<Body, MsgRefused>
+    ensures { (n own : ℕ) → Reads (λ x. x) result cursor.new (body_at n own Kind.Accept cursor.old) }
 {
     let pn = read_number(cursor)?;
     let version = read_number(cursor)?;
     Ok(Body::Accept { pn, version })
 }
 
-fn read_commit(alloc: Global, n: u8, own: Rank, cursor: &mut Cursor<'_>) -> Result<Body, MsgRefused>
-    ensures { Reads (λ x. x) result cursor.new (body_at n own Kind.Commit cursor.old) }
+fn read_commit(alloc: Global, cursor: &mut Cursor<'_>) -> Result<Body, MsgRefused>
+    ensures { (n own : ℕ) → Reads (λ x. x) result cursor.new (body_at n own Kind.Commit cursor.old) }
 {
     let from = read_number(cursor)?;
     let values = read_some(alloc, cursor)?;
     Ok(Body::Commit { from, values })
 }
 
-fn read_forward(
-    alloc: Global,
-    n: u8,
-    own: Rank,
-    cursor: &mut Cursor<'_>,
-) -> Result<Body, MsgRefused>
-    ensures { Reads (λ x. x) result cursor.new (body_at n own Kind.Forward cursor.old) }
+fn read_forward(alloc: Global, cursor: &mut Cursor<'_>) -> Result<Body, MsgRefused>
+    ensures { (n own : ℕ) → Reads (λ x. x) result cursor.new (body_at n own Kind.Forward cursor.old) }
 {
     let seq = read_count(cursor)?;
     let command = read_command(alloc, cursor)?;
     Ok(Body::Forward { seq, command })
 }
 
-fn read_route(n: u8, own: Rank, cursor: &mut Cursor<'_>) -> Result<Body, MsgRefused>
-    ensures { Reads (λ x. x) result cursor.new (body_at n own Kind.Route cursor.old) }
+fn read_route(cursor: &mut Cursor<'_>) -> Result<Body, MsgRefused>
+    ensures { (n own : ℕ) → Reads (λ x. x) result cursor.new (body_at n own Kind.Route cursor.old) }
 {
     let seq = read_count(cursor)?;
     let reply = read_routed(cursor)?;
     Ok(Body::Route { seq, reply })
 }
 
-fn read_granted(n: u8, own: Rank, cursor: &mut Cursor<'_>) -> Result<Body, MsgRefused>
-    ensures { Reads (λ x. x) result cursor.new (body_at n own Kind.Cookie cursor.old) }
+fn read_granted(cursor: &mut Cursor<'_>) -> Result<Body, MsgRefused>
+    ensures { (n own : ℕ) → Reads (λ x. x) result cursor.new (body_at n own Kind.Cookie cursor.old) }
 {
     let full = read_flag(cursor)?;
     let cookie = read_cookie(cursor)?;
@@ -113,21 +108,16 @@ fn read_granted(n: u8, own: Rank, cursor: &mut Cursor<'_>) -> Result<Body, MsgRe
     Ok(Body::Cookie { full, cookie, last })
 }
 
-fn read_get_chunk(
-    alloc: Global,
-    n: u8,
-    own: Rank,
-    cursor: &mut Cursor<'_>,
-) -> Result<Body, MsgRefused>
-    ensures { Reads (λ x. x) result cursor.new (body_at n own Kind.GetChunk cursor.old) }
+fn read_get_chunk(alloc: Global, cursor: &mut Cursor<'_>) -> Result<Body, MsgRefused>
+    ensures { (n own : ℕ) → Reads (λ x. x) result cursor.new (body_at n own Kind.GetChunk cursor.old) }
 {
     let cookie = read_cookie(cursor)?;
     let place = read_place(alloc, cursor)?;
     Ok(Body::GetChunk { cookie, place })
 }
 
-fn read_chunk(alloc: Global, n: u8, own: Rank, cursor: &mut Cursor<'_>) -> Result<Body, MsgRefused>
-    ensures { Reads (λ x. x) result cursor.new (body_at n own Kind.Chunk cursor.old) }
+fn read_chunk(alloc: Global, cursor: &mut Cursor<'_>) -> Result<Body, MsgRefused>
+    ensures { (n own : ℕ) → Reads (λ x. x) result cursor.new (body_at n own Kind.Chunk cursor.old) }
 {
     let cookie = read_cookie(cursor)?;
     let place = read_place(alloc, cursor)?;
@@ -143,13 +133,8 @@ fn read_chunk(alloc: Global, n: u8, own: Rank, cursor: &mut Cursor<'_>) -> Resul
     })
 }
 
-fn read_last_chunk(
-    alloc: Global,
-    n: u8,
-    own: Rank,
-    cursor: &mut Cursor<'_>,
-) -> Result<Body, MsgRefused>
-    ensures { Reads (λ x. x) result cursor.new (body_at n own Kind.LastChunk cursor.old) }
+fn read_last_chunk(alloc: Global, cursor: &mut Cursor<'_>) -> Result<Body, MsgRefused>
+    ensures { (n own : ℕ) → Reads (λ x. x) result cursor.new (body_at n own Kind.LastChunk cursor.old) }
 {
     let cookie = read_cookie(cursor)?;
     let place = read_place(alloc, cursor)?;
@@ -165,21 +150,16 @@ fn read_last_chunk(
     })
 }
 
-fn read_asked(alloc: Global, n: u8, own: Rank, cursor: &mut Cursor<'_>) -> Result<Body, MsgRefused>
-    ensures { Reads (λ x. x) result cursor.new (body_at n own Kind.Request cursor.old) }
+fn read_asked(alloc: Global, cursor: &mut Cursor<'_>) -> Result<Body, MsgRefused>
+    ensures { (n own : ℕ) → Reads (λ x. x) result cursor.new (body_at n own Kind.Request cursor.old) }
 {
     let id = read_count(cursor)?;
     let request = read_request(alloc, cursor)?;
     Ok(Body::Request { id, request })
 }
 
-fn read_answered(
-    alloc: Global,
-    n: u8,
-    own: Rank,
-    cursor: &mut Cursor<'_>,
-) -> Result<Body, MsgRefused>
-    ensures { Reads (λ x. x) result cursor.new (body_at n own Kind.Reply cursor.old) }
+fn read_answered(alloc: Global, cursor: &mut Cursor<'_>) -> Result<Body, MsgRefused>
+    ensures { (n own : ℕ) → Reads (λ x. x) result cursor.new (body_at n own Kind.Reply cursor.old) }
 {
     let id = read_count(cursor)?;
     let reply = read_reply(alloc, cursor)?;
@@ -199,7 +179,7 @@ pub(crate) fn read_body(
 {
     match kind {
         Kind::Probe => Ok(Body::Probe),
-        Kind::ProbeReply => read_probe_reply(n, own, cursor),
+        Kind::ProbeReply => read_probe_reply(n, cursor),
         Kind::Propose => Ok(Body::Propose {
             table: read_table(alloc, n, own, cursor)?,
         }),
@@ -207,27 +187,27 @@ pub(crate) fn read_body(
         Kind::Victory => Ok(Body::Victory {
             quorum: read_set(n, cursor)?,
         }),
-        Kind::Collect => read_collect(n, own, cursor),
-        Kind::Last => read_last(alloc, n, own, cursor),
-        Kind::Begin => read_begin(alloc, n, own, cursor),
-        Kind::Accept => read_accept(n, own, cursor),
-        Kind::Commit => read_commit(alloc, n, own, cursor),
+        Kind::Collect => read_collect(cursor),
+        Kind::Last => read_last(alloc, cursor),
+        Kind::Begin => read_begin(alloc, cursor),
+        Kind::Accept => read_accept(cursor),
+        Kind::Commit => read_commit(alloc, cursor),
         Kind::Lease => Ok(Body::Lease {
             last: read_number(cursor)?,
         }),
         Kind::LeaseAck => Ok(Body::LeaseAck {
             last: read_number(cursor)?,
         }),
-        Kind::Forward => read_forward(alloc, n, own, cursor),
-        Kind::Route => read_route(n, own, cursor),
+        Kind::Forward => read_forward(alloc, cursor),
+        Kind::Route => read_route(cursor),
         Kind::GetCookieFull => Ok(Body::GetCookieFull),
         Kind::GetCookieRecent => Ok(Body::GetCookieRecent {
             last: read_number(cursor)?,
         }),
-        Kind::Cookie => read_granted(n, own, cursor),
-        Kind::GetChunk => read_get_chunk(alloc, n, own, cursor),
-        Kind::Chunk => read_chunk(alloc, n, own, cursor),
-        Kind::LastChunk => read_last_chunk(alloc, n, own, cursor),
+        Kind::Cookie => read_granted(cursor),
+        Kind::GetChunk => read_get_chunk(alloc, cursor),
+        Kind::Chunk => read_chunk(alloc, cursor),
+        Kind::LastChunk => read_last_chunk(alloc, cursor),
         Kind::NoCookie => Ok(Body::NoCookie {
             cookie: read_cookie(cursor)?,
         }),
@@ -237,7 +217,7 @@ pub(crate) fn read_body(
         Kind::PingReply => Ok(Body::PingReply {
             table: read_table(alloc, n, own, cursor)?,
         }),
-        Kind::Request => read_asked(alloc, n, own, cursor),
-        Kind::Reply => read_answered(alloc, n, own, cursor),
+        Kind::Request => read_asked(alloc, cursor),
+        Kind::Reply => read_answered(alloc, cursor),
     }
 }
