@@ -19,9 +19,9 @@ use Rattle.mon_plan.specs.Inputs.{row}
 use Rattle.mon_plan.specs.Plans.{act, done, entered, Does, Plans, PlansAct, PlansRow}
 use Rattle.mon_plan.specs.Seen.{IsMet, IsSeen}
 use Rattle.mon_plan.proofs.Standing.{readings-after}
-use Rattle.mon_core.specs.Acts.{Acts, KeepsAll}
+use Rattle.mon_core.specs.Acts.{Acts, Carried, KeepsAll}
 use Rattle.mon_core.specs.Rows.{AnswersRow, IsReady}
-use Rattle.mon_event.specs.Events.{Goes, IsCarried, IsUnderWay, Reaches}
+use Rattle.mon_event.specs.Events.{Goes, IsCarried, IsUnderWay, Reaches, remembering}
 use Rattle.mon_event.specs.State.{state_of}
 use Rattle.mon_event.specs.declared.event.Event.{Event}
 
@@ -97,7 +97,8 @@ module _ {S : Type 0} (me : Me) (now : ℕ) (m : Store) (is : S → Course → C
 pub rests : (me : Me) (m : Store) (e : Event) → IsReady me e → IsUnderWay (readings_of m) e (at_rest (readings_of m) (state_of e.state))
 rests me m e r = record { readings = refl; fit = tt; spelled = r.unwritten; out = r.unsent; state = refl }
 
-module _ {S : Type 0} (me : Me) (now : ℕ) (m : Store) (is : S → Course → Course) (role_in : State → S)
+-- the role that sets its state by `put` plans the row
+module _ {S : Type 0} (put : S → State → State) (role_in : State → S) (me : Me) (now : ℕ) (m : Store)
     (e : Event) (r : IsReady me e) (came : Input) (view : View) (seen : IsSeen me now (readings_of m) (state_of e.state) view) where
   abbrev Before : Course → Type 0
   Before = IsMet me now (readings_of m) view role_in (role_in (state_of e.state))
@@ -111,10 +112,12 @@ module _ {S : Type 0} (me : Me) (now : ℕ) (m : Store) (is : S → Course → C
   met : Before begins
   met = record { readings = refl; role = refl; seen = seen }
 
-  pub row_fails : (new : Event) (why : RoleStop) → PlansRow me now is Before wanted (Err why) → AnswersRow me m now e came new (Err why)
-  row_fails new why h = fails me now is Before (λ x. x) wanted (readings_of m) begins met new why h
+  pub row_fails : (new : Event) (why : RoleStop) (result : Result Unit RoleStop) → result ≡ Err why
+      → PlansRow me now (remembering put) Before wanted (Err why) → AnswersRow me m now e came new result
+  row_fails new why result is h =
+      subst (λ (x : Result Unit RoleStop). AnswersRow me m now e came new x) (sym is) (fails me now (remembering put) Before (λ x. x) wanted (readings_of m) begins met new why h)
 
-  pub row_goes_on : (p : Plan S) → Does me now is Before (λ x. x) wanted p → (c : Event) (n : Next) → IsCarried is e p c n
-      → (new : Event) (result : Result Unit RoleStop) → Acts me m now c n new result → AnswersRow me m now e came new result
-  row_goes_on p d c n k new result f =
-      goes_on me now is Before (λ x. x) wanted (readings_of m) begins met p d e (rests me m e r) c n k new result f
+  pub row_goes_on : (p : Plan S) → Does me now (remembering put) Before (λ x. x) wanted p → (new : Event) (result : Result Unit RoleStop)
+      → Carried put me m now e p new result → AnswersRow me m now e came new result
+  row_goes_on p d new result f =
+      subst (λ (x : Result Course Which). Reaches (readings_of m) x new result) (sym (d.row begins met)) (f d.changes d.fit d.spelled begins (rests me m e r))

@@ -1,20 +1,23 @@
 -- The acts that plans name, and what they need of the event in which they are done.
+use Rattle.std.specs.List.{AllByRecursion}
 use Rattle.std.specs.Prelude.{◌≡◌, ℕ, true, false, nat_lt, List, Result, []}
-use Rattle.mon_msg.specs.Protocol.Changes.{Change}
+use Rattle.mon_msg.specs.Protocol.Changes.{Change, spelled}
 use Rattle.mon_msg.specs.Protocol.Course.{Course}
 use Rattle.mon_msg.specs.Protocol.Phases.{phase_of}
+use Rattle.mon_msg.specs.Protocol.Played.{Fits}
 use Rattle.mon_msg.specs.Protocol.Readings.{readings_of}
 use Rattle.mon_msg.specs.Protocol.Records.{may_begin}
 use Rattle.mon_msg.specs.Protocol.State.{State}
 use Rattle.mon_msg.specs.declared.plan.Next.TheVariants as next
 use Rattle.mon_msg.specs.declared.plan.Next.{Next}
+use Rattle.mon_msg.specs.declared.plan.Plan.{Plan}
 use Rattle.mon_msg.specs.declared.plan.RoleStop.{RoleStop}
 use Rattle.mon_msg.specs.declared.view.Me.{Me}
 use Rattle.mon_tx.specs.Map.{Store, apply}
 use Rattle.mon_tx.specs.declared.op.Op.{Op}
-use Rattle.mon_plan.specs.Plans.{act, changed, stands}
+use Rattle.mon_plan.specs.Plans.{act, done}
 use Rattle.mon_wire.specs.declared.phase.Phase.TheVariants as phase
-use Rattle.mon_event.specs.Events.{IsUnderWay, Reaches, remembering}
+use Rattle.mon_event.specs.Events.{IsCarried, IsUnderWay, Reaches, remembering}
 use Rattle.mon_event.specs.declared.event.Event.{Event}
 
 -- what the store's readers return after these changes is what they returned before, except for the epoch and the count of
@@ -44,12 +47,6 @@ Leads s = s.phase ≡ phase_of s.leader.stage
 abbrev pub LeadsOn : {S : Type 0} → (put : S → State → State) → Type 0
 LeadsOn {S} put = (x : S) (s : State) → s.phase ≡ phase.Active → Leads s → Leads (put x s)
 
--- What a role has taken out of what its monitor remembers isn't missed: a plan puts in what the role remembers then,
--- wherever the monitor stands by then and whatever it has written.
-abbrev pub Regains : {S : Type 0} → (put : S → State → State) → (whole left : State) → Type 0
-Regains {S} put whole left = (s : S) (n : Next) (cs : List Change) (x : Course) → x.state ≡ whole →
-    remembering put s (changed cs (stands n (record x { state = left }))) ≡ remembering put s (changed cs (stands n x))
-
 -- after which no other act comes in the same event
 abbrev pub IsLast : Next → Type 0
 IsLast next.Stay = Unit {0}
@@ -66,3 +63,14 @@ IsLast (next.Begin value o) = ⊥
 abbrev pub Acts : Me → Store → (now : ℕ) → (old : Event) → Next → (new : Event) → Result Unit RoleStop → Type 0
 Acts me m now old n new result = (x : Course) → IsUnderWay (readings_of m) old x →
     Reaches (readings_of m) (act me now n x) new result
+
+-- a plan leaves what the act that it names needs, however it is carried out
+abbrev pub MayCarry : {S : Type 0} → (put : S → State → State) → Me → Store → (old : Event) → Plan S → Type 0
+MayCarry put me m old p = (e : Event) (n : Next) → IsCarried (remembering put) old p e n → MayAct me m e n
+
+-- a plan is carried out, and then the act that it names is done, whichever changes the plan's transaction encodes
+abbrev pub Carried : {S : Type 0} → (put : S → State → State) → Me → Store → (now : ℕ) → (old : Event) → Plan S →
+    (new : Event) → Result Unit RoleStop → Type 0
+Carried put me m now old p new result = (cs : List Change) → AllByRecursion Fits cs → p.tx ≡ spelled cs →
+    (x : Course) → IsUnderWay (readings_of m) old x →
+    Reaches (readings_of m) (act me now p.next (done (remembering put) cs p x)) new result

@@ -9,14 +9,12 @@ use Rattle.mon_msg.specs.declared.plan.RoleStop.TheVariants as stop
 use Rattle.mon_msg.specs.declared.plan.RoleStop.{RoleStop}
 use Rattle.mon_msg.specs.declared.plan.Sent.TheVariants as sent
 use Rattle.mon_msg.specs.declared.plan.Sent.{Sent}
-use Rattle.mon_msg.specs.declared.view.Me.{Me}
 use Rattle.mon_tx.specs.Map.{Store, apply}
 use Rattle.mon_wire.specs.declared.request.Service.{Service}
 use Rattle.svc_core.specs.Cache.{Follows, known, known_after}
 use Rattle.mon_core.specs.Core.{Monitor}
 use Rattle.mon_core.specs.Known.{known_by_then}
 use Rattle.mon_core.specs.declared.reaction.Reaction.{Reaction}
-use Rattle.mon_event.specs.declared.event.Event.{Event}
 
 -- the entries of a store in a message are named as they must be
 abbrev pub TellsNamed : Sent → Type 0
