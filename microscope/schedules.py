@@ -7,7 +7,7 @@ from __future__ import annotations
 import re
 from typing import Callable, Iterator, NamedTuple
 
-MOST_BYTES, MOST_EVENTS = 16_777_216, 200_000
+MOST_SCHEDULE, MOST_EVENTS = 16_777_216, 200_000
 MOST_NUMBER, MOST_MESSAGE, MOST_CLIENT, MOST_MONITORS = 2**62, 2**64 - 1, 2**32 - 1, 15
 # The kinds of timers, in the order in which the definitions list them.
 TIMERS = 'probe election collect accept renew leaseack lease sync step propose ping'.split()
@@ -128,8 +128,8 @@ def fault_of_header(line: str) -> Fault | None:
 
 def faults_of(octets: bytes) -> Iterator[Fault]:
     """The faults of a schedule, one a line. The first is the one with which the program refuses it."""
-    if len(octets) > MOST_BYTES:
-        yield Fault(0, 'TooLong', 0, 0, None, f'at most {MOST_BYTES} bytes')
+    if len(octets) > MOST_SCHEDULE:
+        yield Fault(0, 'TooLong', 0, 0, None, f'at most {MOST_SCHEDULE} bytes')
         return
     *lines, rest = octets.decode('latin-1').split('\n')
     no_end = Fault(len(lines) + 1, 'End', len(rest), len(rest) + 1, None, 'a line feed at the end of the last line')

@@ -19,7 +19,7 @@ use std::alloc::Global;
 use trace_text::{end_line, header_line, trace_line};
 
 /// Why a replay stopped before its end.
-#[derive(Clone, Copy, Debug, PartialEq, Eq)]
+#[derive(Clone, Copy, PartialEq, Eq)]
 pub enum ReplayStop {
     /// Standard output couldn't be written.
     WriteFault,

@@ -27,7 +27,7 @@ use stopped_stores::StoreText;
 use task_words::{Task, WordsStop, read_words};
 
 /// One more byte than a schedule may have, to distinguish one that is too long.
-const MOST_READ: usize = 16_777_217;
+const MOST_SCHEDULE_READ: usize = 16_777_217;
 
 /// The schedule that the bytes encode, or the status that says why there is none.
 fn schedule_of(alloc: Global, bytes: &[u8]) -> Result<Schedule, Status>
@@ -48,7 +48,7 @@ fn run_replay<S: Source, K: Sink>(alloc: Global, source: &mut S, sink: &mut K) -
         (record { left = S.left source.new; held = K.held sink.new; read_faults = S.faults source.new; write_faults = K.faults sink.new })
         result }
 {
-    let bytes = match read_all(alloc, source, MOST_READ) {
+    let bytes = match read_all(alloc, source, MOST_SCHEDULE_READ) {
         Ok(bytes) => bytes,
         Err(Stop::Failed) => return Status::ReadFault,
         Err(Stop::OutOfMemory) => return Status::OutOfMemory,

@@ -11,7 +11,7 @@ pub const HALF_LIFE: u64 = 43_200;
 
 /// What one monitor says of its connections to the others. Of two copies of a monitor's row the newer one has the
 /// greater pair of boot count and count of updates.
-#[derive(Clone, Copy, Debug, PartialEq, Eq)]
+#[derive(Clone, Copy, PartialEq, Eq)]
 pub struct Row {
     /// How many times the monitor had started when it made this row.
     pub boot: u64,

@@ -6,7 +6,7 @@ use mon_types::Rank;
 
 /// What a monitor knows of the connections among all monitors: its own row, and of each other monitor the newest row
 /// that it received.
-#[derive(Clone, Copy, Debug, PartialEq, Eq)]
+#[derive(Clone, Copy, PartialEq, Eq)]
 pub struct Scores {
     /// The monitor's own rank.
     pub own: Rank,

@@ -14,7 +14,7 @@ use mon_msg::ShownMap;
 use std::alloc::Global;
 
 /// Why incrementals weren't applied.
-#[derive(Clone, Copy, Debug)]
+#[derive(Clone, Copy)]
 pub(crate) enum Unapplied {
     /// The bytes at this place aren't an incremental.
     Bad { index: u64 },

@@ -1,7 +1,7 @@
 use mon_types::Version;
 
 /// What a reply was for a follower.
-#[derive(Clone, Copy, Debug, PartialEq, Eq)]
+#[derive(Clone, Copy, PartialEq, Eq)]
 pub enum Took {
     /// The copy is now at this version.
     Newer { version: Version },

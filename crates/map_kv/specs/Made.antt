@@ -5,7 +5,7 @@ use Rattle.mon_bytes.specs.declared.command.Command.{Command}
 use Rattle.mon_bytes.specs.declared.command.Command.TheVariants as command
 use Rattle.mon_bytes.specs.declared.command.CommandRefused.{CommandRefused}
 use Rattle.mon_bytes.specs.declared.command.CommandRefused.TheVariants.{NoSuch, TooLong, MapFull}
-use Rattle.map_kv.specs.declared.command.TheConstants.{MOST_MAP, MOST_VALUE}
+use Rattle.map_kv.specs.declared.command.TheConstants.{MOST_KV_MAP, MOST_KV_VALUE}
 use Rattle.map_kv.specs.Map.{Kv}
 use Rattle.map_kv.specs.Text.{map_text}
 use Rattle.map_kv.specs.declared.inc.KvInc.{KvInc}
@@ -20,7 +20,7 @@ IsOfKv (command.Log text) = ⊥
 -- a value that isn't too long, after which the map isn't; a key that is there
 abbrev pub made : Kv → Command → Result KvInc CommandRefused
 made m (command.Set key value) =
-    if nat_lt MOST_VALUE (length value) then Err (TooLong (length value) MOST_VALUE) else (
-    if nat_lt MOST_MAP (length (map_text (insert m key value))) then Err (MapFull (length (map_text (insert m key value)))) else Ok (Set key value))
+    if nat_lt MOST_KV_VALUE (length value) then Err (TooLong (length value) MOST_KV_VALUE) else (
+    if nat_lt MOST_KV_MAP (length (map_text (insert m key value))) then Err (MapFull (length (map_text (insert m key value)))) else Ok (Set key value))
 made m (command.Remove key) = if contains_key m key then Ok (Remove key) else Err NoSuch
 made m (command.Log text) = Err NoSuch

@@ -10,24 +10,24 @@ use mon_bytes::{Command, CommandRefused, Name, Text};
 use std::alloc::Global;
 
 /// The most bytes of a value.
-pub const MOST_VALUE: u64 = 65536;
+pub const MOST_KV_VALUE: u64 = 65536;
 
 /// The most bytes of an encoded map.
-pub const MOST_MAP: u64 = 393216;
+pub const MOST_KV_MAP: u64 = 393216;
 
 fn set(alloc: Global, map: &KvMap, key: &Name, value: &Text) -> Result<KvInc, CommandRefused>
     ensures made { Makes result (made map.now (Set key.now value.now)) }
     ensures form { IfOk result IncFits }
 {
     let len = value.as_slice().len() as u64;
-    if len > MOST_VALUE {
+    if len > MOST_KV_VALUE {
         return Err(CommandRefused::TooLong {
             len,
-            most: MOST_VALUE,
+            most: MOST_KV_VALUE,
         });
     }
     let would_be = map.size_with(key, value);
-    if would_be > MOST_MAP {
+    if would_be > MOST_KV_MAP {
         return Err(CommandRefused::MapFull { would_be });
     }
     Ok(KvInc::Set {

@@ -4,7 +4,7 @@ use mon_bytes::{Name, OutOfMemory, Text};
 use std::alloc::Global;
 
 /// A change of the key-value map.
-#[derive(Debug, Drop)]
+#[derive(Drop)]
 pub enum KvInc {
     /// The key has this value.
     Set { key: Name, value: Text },

@@ -7,7 +7,7 @@ mod inc;
 mod map;
 mod reading;
 
-pub use command::{MOST_MAP, MOST_VALUE, make};
+pub use command::{MOST_KV_MAP, MOST_KV_VALUE, make};
 pub use inc::KvInc;
 pub use map::KvMap;
 pub use mon_bytes::Decode;

@@ -19,7 +19,7 @@ use std::marker::Model;
 use std::str;
 
 /// A map from names to texts, in ascending order of key.
-#[derive(Debug, Drop)]
+#[derive(Drop)]
 pub struct KvMap {
     alloc: Global,
     entries: BTreeMap<String, Text>,

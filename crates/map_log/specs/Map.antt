@@ -1,12 +1,12 @@
 -- The cluster log's map is the list of its entries. The step that an entry takes on it.
 use Rattle.std.specs.Prelude.{Bool, List, [], ◌∷◌, ◌++◌, length, nat_lt, ◌||◌, if◌then◌else◌}
 use Rattle.map_log.specs.Text.{map_text}
-use Rattle.map_log.specs.declared.surplus.TheConstants.{MOST_ENTRIES, MOST_MAP}
+use Rattle.map_log.specs.declared.surplus.TheConstants.{MOST_ENTRIES, MOST_LOG_MAP}
 use Rattle.map_log.specs.declared.inc.LogInc.{LogInc}
 
 -- too many entries, or too long a text
 abbrev pub is_above : List LogInc → Bool
-is_above es = nat_lt MOST_ENTRIES (length es) || nat_lt MOST_MAP (length (map_text es))
+is_above es = nat_lt MOST_ENTRIES (length es) || nat_lt MOST_LOG_MAP (length (map_text es))
 
 -- the entries without those dropped from the front
 abbrev pub trimmed : List LogInc → List LogInc

@@ -5,7 +5,7 @@ use mon_types::Rank;
 use std::alloc::Global;
 
 /// An entry of the cluster log, which is also its incremental.
-#[derive(Debug, Drop)]
+#[derive(Drop)]
 pub struct LogInc {
     /// The monitor that was asked.
     pub rank: Rank,

@@ -12,4 +12,4 @@ pub use command::{MOST_TEXT, make};
 pub use inc::LogInc;
 pub use map::LogMap;
 pub use mon_bytes::Decode;
-pub use surplus::{MOST_ENTRIES, MOST_MAP};
+pub use surplus::{MOST_ENTRIES, MOST_LOG_MAP};

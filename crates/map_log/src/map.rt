@@ -11,7 +11,7 @@ use std::alloc::Global;
 use std::marker::Model;
 
 /// The entries of the cluster log, the oldest first.
-#[derive(Debug, Drop)]
+#[derive(Drop)]
 pub struct LogMap {
     alloc: Global,
     entries: Vec<LogInc>,

@@ -9,7 +9,7 @@ use crate::inc::LogInc;
 pub const MOST_ENTRIES: usize = 500;
 
 /// The most bytes of the encoded map.
-pub const MOST_MAP: u64 = 12288;
+pub const MOST_LOG_MAP: u64 = 12288;
 
 /// How many bytes an entry takes in the map's text.
 pub(crate) fn inc_size(inc: &LogInc) -> u64
@@ -32,7 +32,7 @@ pub(crate) fn surplus(entries: &[LogInc], size: u64) -> (usize, u64)
 {
     let mut size = size;
     for (i, inc) in entries.iter().enumerate() {
-        if entries.len() - i <= MOST_ENTRIES && size <= MOST_MAP {
+        if entries.len() - i <= MOST_ENTRIES && size <= MOST_LOG_MAP {
             return (i, size);
         }
         size -= inc_size(inc);

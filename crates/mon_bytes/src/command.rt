@@ -8,7 +8,7 @@ use std::alloc::Global;
 use thiserror::Error;
 
 /// A change that a client asks of a service.
-#[derive(Debug, Drop)]
+#[derive(Drop)]
 pub enum Command {
     /// Sets a key of the key-value map.
     Set { key: Name, value: Text },

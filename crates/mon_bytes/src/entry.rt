@@ -6,7 +6,7 @@ use crate::word::{Name, Prefix};
 use std::alloc::Global;
 
 /// What a map holds at a key.
-#[derive(Debug, Drop)]
+#[derive(Drop)]
 pub struct Entry {
     pub prefix: Prefix,
     pub key: Name,
@@ -27,7 +27,7 @@ impl Entry {
 }
 
 /// A place among the keys of a map, in order of prefix and then key.
-#[derive(Debug, Drop)]
+#[derive(Drop)]
 pub enum KeyPlace {
     /// Before every key.
     Start,

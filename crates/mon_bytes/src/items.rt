@@ -26,7 +26,7 @@ impl TryCopy for Entry {
 }
 
 /// Items in order. Contracts see their list.
-#[derive(Debug, Drop)]
+#[derive(Drop)]
 pub struct Items<T: Drop> {
     items: Vec<T>,
 }

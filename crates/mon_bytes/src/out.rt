@@ -7,7 +7,7 @@ use std::alloc::Global;
 use std::marker::Model;
 
 /// A buffer of bytes, to which numbers are appended with the lowest byte first. A call that fails leaves it unchanged.
-#[derive(Debug, Drop)]
+#[derive(Drop)]
 pub struct Out {
     bytes: Vec<u8>,
 }

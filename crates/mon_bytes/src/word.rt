@@ -33,7 +33,7 @@ fn graphic_text(bytes: Vec<u8>) -> String
 }
 
 /// 1 to `MOST` graphic bytes, each from 0x21 to 0x7E.
-#[derive(Debug, Drop)]
+#[derive(Drop)]
 pub struct Word<const MOST: usize> {
     text: String,
 }

@@ -4,7 +4,7 @@ ghost use Rattle.std.specs.Prelude.{◌≡◌, ◌<◌, [], ◌∷◌, IfOk};
 ghost use Rattle.mon_msg.specs.Protocol.Commands.{most_text, text_length, is_too_long, too_long};
 ghost use Rattle.mon_msg.specs.declared.plan.Next.TheVariants as next;
 
-use map_kv::MOST_VALUE;
+use map_kv::MOST_KV_VALUE;
 use map_log::MOST_TEXT;
 use mon_bytes::{Command, Items, OutOfMemory};
 use mon_msg::plan::Sent;
@@ -37,7 +37,7 @@ fn most_text(command: &Command) -> u64
     ensures { result ≡ most_text command.now }
 {
     match command {
-        Command::Set { .. } => MOST_VALUE,
+        Command::Set { .. } => MOST_KV_VALUE,
         Command::Remove { .. } => 0,
         Command::Log { .. } => MOST_TEXT,
     }

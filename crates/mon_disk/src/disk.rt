@@ -8,7 +8,7 @@ use mon_bytes::Bytes;
 use mon_types::Stop;
 
 /// A call that changes what a crash may leave.
-#[derive(Debug, Drop)]
+#[derive(Drop)]
 pub enum DiskCall {
     /// These bytes were written from that place on.
     Write { at: u64, bytes: Bytes },

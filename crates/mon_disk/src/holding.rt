@@ -10,7 +10,7 @@ use std::alloc::Global;
 use std::marker::Model;
 
 /// How many writes and syncs are done before one fails, and the image that the disk then settles to.
-#[derive(Clone, Copy, Debug)]
+#[derive(Clone, Copy)]
 pub(crate) struct Countdown {
     pub(crate) left: u64,
     pub(crate) image: u8,

@@ -6,7 +6,7 @@ ghost use Rattle.mon_event.specs.Roles.{hearer, woken_by};
 use mon_msg::{Body, Timer};
 
 /// The roles of a monitor.
-#[derive(Clone, Copy, Debug, PartialEq, Eq)]
+#[derive(Clone, Copy, PartialEq, Eq)]
 pub enum Role {
     /// Finds the others, and calls an election or copies a store.
     Prober,

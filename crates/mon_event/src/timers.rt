@@ -10,7 +10,7 @@ use mon_types::Moment;
 use std::marker::Model;
 
 /// For each kind of timer, in their order, the time for which it is armed.
-#[derive(Clone, Copy, Debug, PartialEq, Eq)]
+#[derive(Clone, Copy, PartialEq, Eq)]
 pub struct Timers {
     ends: [Option<Moment>; Timer::COUNT],
 }

@@ -6,7 +6,7 @@ use Rattle.mon_bytes.specs.Reading.{Reading, number}
 use Rattle.mon_bytes.specs.Answers.{◌>>=◌, at_fault}
 use Rattle.mon_frag.specs.declared.cutting.TheConstants.{DATAGRAM}
 use Rattle.mon_frag.specs.declared.header.Header.{Header}
-use Rattle.mon_frag.specs.declared.header.TheConstants.{PART, HEADER, PIECE}
+use Rattle.mon_frag.specs.declared.header.TheConstants.{PART, PIECE_HEADER, PIECE}
 use Rattle.mon_frag.specs.declared.refused.FragRefused.{FragRefused}
 use Rattle.mon_frag.specs.declared.refused.FragRefused.TheVariants.{Cut, Form}
 
@@ -49,4 +49,4 @@ formed count h =
     else Ok h
 
 abbrev pub header_of : List ℕ → Result Header FragRefused
-header_of datagram = fields_of datagram >>= λ h. formed (length (drop HEADER datagram)) h
+header_of datagram = fields_of datagram >>= λ h. formed (length (drop PIECE_HEADER datagram)) h

@@ -8,7 +8,7 @@ use Rattle.mon_bytes.specs.Answers.{◌>>=◌}
 use Rattle.mon_frag.specs.declared.assembly.TheConstants.{MOST_OF_MONITOR, MOST_OF_CLIENT, MOST_OF_CLIENTS}
 use Rattle.mon_frag.specs.declared.cutting.TheConstants.{DATAGRAM}
 use Rattle.mon_frag.specs.declared.header.Header.{Header}
-use Rattle.mon_frag.specs.declared.header.TheConstants.{PART, HEADER}
+use Rattle.mon_frag.specs.declared.header.TheConstants.{PART, PIECE_HEADER}
 use Rattle.mon_frag.specs.declared.partial.Partial.{Partial}
 use Rattle.mon_frag.specs.declared.partial.Joined.{Joined}
 use Rattle.mon_frag.specs.declared.partial.Joined.TheVariants as joined
@@ -111,7 +111,7 @@ piece_taken from bytes kept h = at_found from h bytes kept (position (is_of from
 abbrev pub taken : List Partial → Peer → List ℕ → Outcome
 taken kept from datagram =
     if nat_lt DATAGRAM (length datagram) then Err TooLong
-    else if is_piece datagram then header_of datagram >>= piece_taken from (drop HEADER datagram) kept
+    else if is_piece datagram then header_of datagram >>= piece_taken from (drop PIECE_HEADER datagram) kept
     else Ok (record { answer = Some datagram; kept = kept })
 
 -- What a call returned and kept, if it should have taken `wanted`. A refusal changes nothing, and memory runs out only if

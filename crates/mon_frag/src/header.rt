@@ -1,5 +1,5 @@
 ghost use Rattle.std.specs.Prelude.{◌≡◌, ◌<◌, drop, IfOk};
-ghost use Rattle.mon_frag.specs.declared.header.TheConstants.{HEADER};
+ghost use Rattle.mon_frag.specs.declared.header.TheConstants.{PIECE_HEADER};
 ghost use Rattle.mon_frag.specs.Headers.{fields_of, formed, header_of};
 
 use crate::cutting::DATAGRAM;
@@ -10,7 +10,7 @@ use mon_types::GREATEST;
 /// The byte with which a piece begins. No message begins with it.
 pub(crate) const PIECE: u8 = 2;
 
-pub(crate) const HEADER: usize = 28;
+pub(crate) const PIECE_HEADER: usize = 28;
 
 /// The most bytes of a message that a piece has.
 pub(crate) const PART: u32 = 59_000;
@@ -96,9 +96,9 @@ fn check(count: usize, header: Header) -> Result<Header, FragRefused>
 
 #[tactic(auto, using(std::proofs::lemmas::List::drop_min))]
 pub(crate) fn behind_header(datagram: &[u8]) -> &[u8]
-    ensures { result.now ≡ drop HEADER datagram.now }
+    ensures { result.now ≡ drop PIECE_HEADER datagram.now }
 {
-    let (_, bytes) = datagram.split_at(HEADER.min(datagram.len()));
+    let (_, bytes) = datagram.split_at(PIECE_HEADER.min(datagram.len()));
     bytes
 }
 

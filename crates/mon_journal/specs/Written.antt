@@ -7,6 +7,7 @@ use Rattle.mon_types.specs.declared.member.Member.{Member}
 use Rattle.mon_journal.specs.declared.journal.Form.{Form}
 use Rattle.mon_journal.specs.declared.journal.Form.TheVariants.{First, Second}
 use Rattle.mon_journal.specs.declared.journal.Journal.{Journal}
+use Rattle.mon_journal.specs.declared.journal.TheConstants.{HEADER}
 use Rattle.mon_journal.specs.Fields.{Owner, first_word, second_word}
 use Rattle.mon_journal.specs.Content.{Header}
 
@@ -51,7 +52,7 @@ owner_of member = record { rank = member.rank; monitors = member.monitors }
 
 -- the journal of a new file
 abbrev pub created : Member → ℕ → Option (List ℕ) → Journal
-created member generation first = record { member = member; generation = generation; next_gate = 25 + length (first_record first); form = Second }
+created member generation first = record { member = member; generation = generation; next_gate = HEADER + length (first_record first); form = Second }
 
 -- ---- a whole file
 

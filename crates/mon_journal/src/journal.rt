@@ -10,7 +10,7 @@ pub const RECORD_HEAD: u64 = 5;
 pub const FIRST_PAYLOAD: u64 = HEADER + RECORD_HEAD;
 
 /// Which of the two headers a file has. Either is read, and the second is written.
-#[derive(Clone, Copy, Debug, PartialEq, Eq)]
+#[derive(Clone, Copy, PartialEq, Eq)]
 pub enum Form {
     /// That of `CEPHMON1`, which is read alone.
     First,
@@ -20,7 +20,7 @@ pub enum Form {
 
 /// What is kept of a store's file: whose it is, which of the store's two files is the newer, and where its first
 /// closed gate is. Its payloads are on the disk alone.
-#[derive(Clone, Copy, Debug, PartialEq, Eq)]
+#[derive(Clone, Copy, PartialEq, Eq)]
 pub struct Journal {
     /// Whose store it is.
     pub member: Member,

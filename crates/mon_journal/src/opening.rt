@@ -15,7 +15,7 @@ use mon_types::Stop;
 use std::alloc::Global;
 
 /// What a disk was found to hold.
-#[derive(Debug, Drop)]
+#[derive(Drop)]
 pub enum Opened {
     /// At most one byte, or a file whose header gate isn't open.
     Closed { len: u64 },

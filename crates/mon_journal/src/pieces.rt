@@ -11,7 +11,7 @@ use std::alloc::Global;
 use std::marker::Model;
 
 /// How many bytes are read at once, unless more are asked for.
-const PIECE: usize = 65536;
+const MOST_READ: usize = 65536;
 
 fn zeros(alloc: Global, len: usize) -> Result<Vec<u8>, OutOfMemory>
     ensures { IfOk result (λ bytes. length bytes.items ≡ len) }
@@ -43,7 +43,7 @@ fn part<D: Disk>(alloc: Global, disk: &mut D, at: u64, count: usize) -> Result<V
 }
 
 /// The piece of a file that was read last, and the file's length.
-#[derive(Debug, Drop)]
+#[derive(Drop)]
 pub struct Piece {
     alloc: Global,
     end: u64,
@@ -113,7 +113,7 @@ impl Piece {
         if self.has(at, count) {
             return Ok(());
         }
-        let most = (self.end - at).min(PIECE as u64) as usize;
+        let most = (self.end - at).min(MOST_READ as u64) as usize;
         self.bytes = Vec::new(self.alloc);
         self.bytes = part(self.alloc, disk, at, count.max(most))?;
         self.at = at;
@@ -137,7 +137,7 @@ impl Piece {
             (λ file. bytes.items ≡ take count (drop at file))) }
         ensures outside { IfErr result IsOutside }
     {
-        if count > PIECE {
+        if count > MOST_READ {
             return part(self.alloc, disk, at, count);
         }
         self.reach(disk, at, count)?;

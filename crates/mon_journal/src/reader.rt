@@ -14,7 +14,7 @@ use std::alloc::Global;
 
 /// The payloads of a file that are left to be read. It needs memory for at most 65,536 bytes of the file. Each payload
 /// belongs to the caller.
-#[derive(Debug, Drop)]
+#[derive(Drop)]
 pub struct Reader {
     piece: Piece,
     gate: u64,

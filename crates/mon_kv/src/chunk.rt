@@ -15,7 +15,7 @@ use mon_bytes::{Entry, KeyPlace, OutOfMemory, Prefix};
 use std::alloc::Global;
 
 /// A run of shared entries, in order.
-#[derive(Debug, Drop)]
+#[derive(Drop)]
 pub struct KeyRun {
     pub entries: Vec<Entry>,
     /// Whether no shared entry follows.

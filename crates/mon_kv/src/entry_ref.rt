@@ -1,5 +1,5 @@
 /// An entry of a map, borrowed.
-#[derive(Clone, Copy, Debug)]
+#[derive(Clone, Copy)]
 pub struct EntryRef<'a> {
     pub prefix: &'a [u8],
     pub key: &'a [u8],

@@ -9,7 +9,7 @@ pub const LENGTH: u64 = 5_000;
 
 /// A lease to read: either none, or one that is valid until its end. It ends by the clock of the monitor that holds
 /// it.
-#[derive(Clone, Copy, Debug, PartialEq, Eq)]
+#[derive(Clone, Copy, PartialEq, Eq)]
 pub struct Lease {
     end: Option<Moment>,
 }

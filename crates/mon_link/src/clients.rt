@@ -6,7 +6,7 @@ use std::collections::HashMap;
 use std::net::SocketAddr;
 
 /// How many clients are known at a time.
-const MOST: usize = 1024;
+const MOST_CLIENTS: usize = 1024;
 
 /// The addresses of the newest 1,024 clients, each at its number. A new one takes the number of the oldest.
 #[derive(Drop)]
@@ -38,7 +38,7 @@ impl Clients {
             return Ok(number);
         }
         let count = self.addresses.len();
-        if count < MOST {
+        if count < MOST_CLIENTS {
             self.addresses.push(address)?;
             self.numbers.insert(address, count as u32)?;
             return Ok(count as u32);
@@ -46,7 +46,7 @@ impl Clients {
         let number = self.oldest;
         let _ = self.numbers.remove(&self.addresses[number]);
         self.addresses[number] = address;
-        self.oldest = (number + 1) % MOST;
+        self.oldest = (number + 1) % MOST_CLIENTS;
         self.numbers.insert(address, number as u32)?;
         Ok(number as u32)
     }

@@ -11,7 +11,7 @@ pub enum Peer {
 }
 
 /// What came.
-#[derive(Debug, Drop)]
+#[derive(Drop)]
 pub enum Got {
     Datagram { from: Peer, bytes: Bytes },
     /// Nothing came in time.
@@ -21,7 +21,7 @@ pub enum Got {
 }
 
 /// A datagram that was to be sent.
-#[derive(Debug, Drop)]
+#[derive(Drop)]
 pub struct Outgoing {
     pub to: Peer,
     pub bytes: Bytes,

@@ -37,7 +37,7 @@ const PASSING_PAUSE: u64 = 10;
 const ENOBUFS: i32 = 105;
 
 /// The address at which a monitor listens.
-#[derive(Clone, Copy, Debug, PartialEq, Eq)]
+#[derive(Clone, Copy, PartialEq, Eq)]
 pub struct Address {
     pub host: [u8; 4],
     pub port: u16,

@@ -6,7 +6,7 @@ use mon_wire::{Items, Session, TryCopy};
 use std::alloc::Global;
 
 /// A command that waits at the leader until it is proposed.
-#[derive(Debug, Drop)]
+#[derive(Drop)]
 pub struct Waiting {
     pub command: Command,
     pub origin: Origin,
@@ -31,7 +31,7 @@ impl TryCopy for Waiting {
 }
 
 /// A client of a peon that waits for the leader's answer to the command with that number.
-#[derive(Clone, Copy, Debug, PartialEq, Eq)]
+#[derive(Clone, Copy, PartialEq, Eq)]
 pub struct Asked {
     pub seq: u64,
     pub session: Session,

@@ -2,7 +2,7 @@ use election_rules::Scores;
 use mon_types::{Moment, Rank, RankSet};
 
 /// What a monitor remembers of elections.
-#[derive(Clone, Copy, Debug, PartialEq, Eq)]
+#[derive(Clone, Copy, PartialEq, Eq)]
 pub struct Elector {
     /// Whether it is a candidate.
     pub candidate: bool,
@@ -19,7 +19,7 @@ pub struct Elector {
 }
 
 /// What a monitor remembers while it probes.
-#[derive(Clone, Copy, Debug, PartialEq, Eq)]
+#[derive(Clone, Copy, PartialEq, Eq)]
 pub struct Prober {
     /// Itself, and who answered that it is in no quorum.
     pub outside: RankSet,

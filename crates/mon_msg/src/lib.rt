@@ -16,12 +16,12 @@ pub use clients::{Asked, Clients, Waiting};
 pub use election::{Elector, Prober};
 pub use laws::{law_changes, law_due, law_joined, law_longest, law_readings};
 pub use limits::{
-    FULL_EVERY, MOST_REPLAYED, MOST_REPLAYED_BYTES, MOST_TOLD_BYTES, MOST_VALUE, MOST_WAITING,
+    FULL_EVERY, MOST_PROPOSED, MOST_REPLAYED, MOST_REPLAYED_BYTES, MOST_TOLD_BYTES, MOST_WAITING,
     PAXOS_DUE, PAXOS_GOES, PAXOS_KEEPS, SERVICE_DUE, SERVICE_GOES, SERVICE_KEEPS,
 };
 pub use mon_wire::{
-    Body, Cookie, Items, MOST_BYTES, MOST_ITEMS, Message, Phase, Place, Reply, Request, ScoreTable,
-    Service, Session, ShownMap, Timer, Told,
+    Body, Cookie, Items, MOST_ITEMS, MOST_MESSAGE, Message, Phase, Place, Reply, Request,
+    ScoreTable, Service, Session, ShownMap, Timer, Told,
 };
 pub use paxos::{Found, Leader, LeaderStage, Peon};
 pub use plan::{Arming, Next, Origin, Plan, RoleStop};

@@ -1,5 +1,5 @@
 /// The longest value that is proposed, in bytes.
-pub const MOST_VALUE: usize = 524_288;
+pub const MOST_PROPOSED: usize = 524_288;
 
 /// The most versions that a step of a replay learns.
 pub const MOST_REPLAYED: u64 = 64;

@@ -7,7 +7,7 @@ use mon_tx::Transaction;
 use mon_types::{Pn, Rank, RankSet, Version};
 
 /// What a peon remembers.
-#[derive(Clone, Copy, Debug, PartialEq, Eq)]
+#[derive(Clone, Copy, PartialEq, Eq)]
 pub struct Peon {
     pub leader: Rank,
     pub quorum: RankSet,
@@ -15,7 +15,7 @@ pub struct Peon {
 }
 
 /// What a leader is about.
-#[derive(Clone, Copy, Debug, PartialEq, Eq)]
+#[derive(Clone, Copy, PartialEq, Eq)]
 pub enum LeaderStage {
     /// It gathers what its quorum accepted.
     Collecting,
@@ -28,7 +28,7 @@ pub enum LeaderStage {
 }
 
 /// A pending value that a leader found while it collected: of the greatest version, and then of the greatest number.
-#[derive(Debug, Drop)]
+#[derive(Drop)]
 pub struct Found {
     pub version: Version,
     pub pn: Pn,

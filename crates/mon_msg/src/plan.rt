@@ -14,7 +14,7 @@ pub enum Sent {
 }
 
 /// What is done with a timer.
-#[derive(Clone, Copy, Debug, PartialEq, Eq)]
+#[derive(Clone, Copy, PartialEq, Eq)]
 pub enum Arming {
     /// It is set for the time `end`, whenever it was to fire before. `Propose` isn't set if no command waits, and
     /// `LeaseAck` keeps the time that it has.
@@ -24,7 +24,7 @@ pub enum Arming {
 }
 
 /// Who waits for a command's answer.
-#[derive(Clone, Copy, Debug, PartialEq, Eq)]
+#[derive(Clone, Copy, PartialEq, Eq)]
 pub enum Origin {
     /// A client of this monitor.
     Session(Session),

@@ -6,7 +6,7 @@ use mon_wire::{Cookie, Place};
 use std::alloc::Global;
 
 /// What a monitor remembers of those that synchronize from it.
-#[derive(Clone, Copy, Debug, PartialEq, Eq)]
+#[derive(Clone, Copy, PartialEq, Eq)]
 pub struct Provider {
     /// The cookie of each of them.
     pub cookies: [Option<Cookie>; 15],
@@ -15,7 +15,7 @@ pub struct Provider {
 }
 
 /// How far a monitor is that synchronizes.
-#[derive(Clone, Copy, Debug, PartialEq, Eq)]
+#[derive(Clone, Copy, PartialEq, Eq)]
 pub enum SyncStage {
     /// It waits for its cookie.
     Cookie,
@@ -26,7 +26,7 @@ pub enum SyncStage {
 }
 
 /// What a monitor remembers that synchronizes.
-#[derive(Debug, Drop)]
+#[derive(Drop)]
 pub struct Requester {
     /// From whom it takes.
     pub provider: Rank,

@@ -3,14 +3,14 @@ use mon_types::{Member, Rank, RankSet};
 use mon_wire::Phase;
 
 /// Who a monitor is, and by which rule its map elects.
-#[derive(Clone, Copy, Debug, PartialEq, Eq)]
+#[derive(Clone, Copy, PartialEq, Eq)]
 pub struct Me {
     pub member: Member,
     pub rule: Rule,
 }
 
 /// What the other roles of a monitor know.
-#[derive(Clone, Copy, Debug, PartialEq, Eq)]
+#[derive(Clone, Copy, PartialEq, Eq)]
 pub struct View {
     /// The phase of the monitor.
     pub phase: Phase,

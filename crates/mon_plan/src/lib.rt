@@ -12,7 +12,7 @@ mod writers;
 pub use here::Here;
 pub use join::joined;
 pub use plans::{armed, disarmed, message, planned, stay};
-pub use records::{MOST_VALUE, Run};
+pub use records::{MOST_PROPOSED, Run};
 pub use sends::{answer, members, others, send_each};
 pub use stored::Stored;
 pub use writers::{

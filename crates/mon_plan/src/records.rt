@@ -11,14 +11,14 @@ ghost use Rattle.mon_plan.specs.Runs.{run_within, where_room};
 
 use crate::stored::Stored;
 use mon_bytes::{Items, OutOfMemory};
-pub use mon_msg::MOST_VALUE;
-use mon_msg::{Found, MOST_BYTES, MOST_ITEMS};
+pub use mon_msg::MOST_PROPOSED;
+use mon_msg::{Found, MOST_ITEMS, MOST_MESSAGE};
 use mon_tx::{Transaction, TxRefused, decode, is_text};
 use mon_types::Version;
 use std::alloc::Global;
 
 /// The longest text of a value of which a BEGIN may be sent, in bytes: that of a message without what it takes besides.
-const MOST_BEGUN: usize = MOST_BYTES - 32;
+const MOST_BEGUN: usize = MOST_MESSAGE - 32;
 
 /// The value that the bytes encode, if a BEGIN may carry it. Longer ones aren't decoded.
 fn value_in(alloc: Global, bytes: &[u8]) -> Result<Option<Transaction>, OutOfMemory>
@@ -63,14 +63,14 @@ fn value_fitting(
 fn counts(value: &[u8]) -> bool
     ensures { (v pn : ℕ) → result ≡ is_some (found_as v pn (transaction_in (Some value.now))) }
 {
-    if value.len() > MOST_VALUE {
+    if value.len() > MOST_PROPOSED {
         return false;
     }
     is_text(value)
 }
 
 /// Values of consecutive versions, and how many bytes they take in a list of a message.
-#[derive(Debug, Drop)]
+#[derive(Drop)]
 pub struct Run {
     pub values: Items<Transaction>,
     pub bytes: usize,
@@ -82,7 +82,7 @@ fn room_at(is_last: bool, plain: usize, at_end: usize, bytes: usize) -> usize
     ensures { result ≡ MOST_MESSAGE - (if is_last then at_end else plain) - bytes }
 {
     let besides = if is_last { at_end } else { plain };
-    MOST_BYTES.saturating_sub(besides).saturating_sub(bytes)
+    MOST_MESSAGE.saturating_sub(besides).saturating_sub(bytes)
 }
 
 impl<'a> Stored<'a> {

@@ -13,7 +13,7 @@ use std::alloc::Global;
 use std::marker::Model;
 
 /// A quorum has no more monitors.
-const MOST: usize = 15;
+const MOST_PEERS: usize = 15;
 
 /// The newest datagrams to each monitor that aren't answered.
 #[derive(Drop)]
@@ -92,7 +92,7 @@ impl Copies {
             return place;
         }
         let count = self.boxes.len();
-        if count >= MOST {
+        if count >= MOST_PEERS {
             return None;
         }
         self.boxes.push(Outbox::new(self.alloc, rank)).ok()?;

@@ -1,11 +1,11 @@
 //! How long a peer takes to answer.
 
 /// The least and the greatest time until a copy goes, and that to a peer which wasn't measured yet, in milliseconds.
-const LEAST: u64 = 3;
+const LEAST_TIME: u64 = 3;
 
 const FIRST: u64 = 500;
 
-const MOST: u64 = 2_000;
+const MOST_TIME: u64 = 2_000;
 
 /// The parts of a millisecond in which times are smoothed.
 const PARTS: u64 = 1_000;
@@ -30,7 +30,7 @@ impl Measure {
     /// After an answer that came this many milliseconds after its message went last. If the message went more than once it
     /// may answer an earlier copy, which makes the time too short: such an answer counts only if it is later than usual.
     pub(crate) fn after(self, time: u64, went_again: bool) -> Measure {
-        let time = time.min(MOST).saturating_mul(PARTS);
+        let time = time.min(MOST_TIME).saturating_mul(PARTS);
         if went_again && self.known && time <= self.smoothed {
             return self;
         }
@@ -41,8 +41,8 @@ impl Measure {
                 variation: time / 2,
             };
         }
-        let smoothed = self.smoothed.min(MOST * PARTS);
-        let variation = self.variation.min(MOST * PARTS);
+        let smoothed = self.smoothed.min(MOST_TIME * PARTS);
+        let variation = self.variation.min(MOST_TIME * PARTS);
         Measure {
             known: true,
             smoothed: (7 * smoothed + time) / 8,
@@ -58,6 +58,6 @@ impl Measure {
         self.smoothed
             .saturating_add(self.variation.saturating_mul(4))
             .div_ceil(PARTS)
-            .clamp(LEAST, MOST)
+            .clamp(LEAST_TIME, MOST_TIME)
     }
 }

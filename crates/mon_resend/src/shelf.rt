@@ -11,9 +11,9 @@ use std::marker::Model;
 
 /// How many datagrams are kept for a monitor, and how many bytes of them: 64 requests of the greatest length, in two pieces
 /// each, and a COMMIT and a BEGIN of the greatest length.
-const MOST: usize = 160;
+const MOST_KEPT: usize = 160;
 
-const MOST_BYTES: usize = 6_291_456;
+const MOST_KEPT_BYTES: usize = 6_291_456;
 
 /// A datagram, and what is noted of it.
 #[derive(Drop)]
@@ -71,8 +71,8 @@ impl Shelf {
 
     /// Whether there is room for this many datagrams more, of this many bytes in all.
     pub(crate) fn has_room(&self, datagrams: usize, bytes: usize) -> bool {
-        self.kept.len().saturating_add(datagrams) <= MOST
-            && self.bytes.saturating_add(bytes) <= MOST_BYTES
+        self.kept.len().saturating_add(datagrams) <= MOST_KEPT
+            && self.bytes.saturating_add(bytes) <= MOST_KEPT_BYTES
     }
 
     /// Takes one more, if there is room and memory.
@@ -81,7 +81,7 @@ impl Shelf {
         ensures { self.new ≡ (if result then self.old ++ out ∷ [] else self.old) }
     {
         let bytes = self.bytes.saturating_add(out.bytes.as_slice().len());
-        if self.kept.len() >= MOST || bytes > MOST_BYTES {
+        if self.kept.len() >= MOST_KEPT || bytes > MOST_KEPT_BYTES {
             return false;
         }
         if self.kept.push(Kept { out, note }).is_err() {

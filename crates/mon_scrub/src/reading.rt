@@ -8,7 +8,7 @@ use crate::unread::Unread;
 use mon_types::{GREATEST, Member, Rank};
 
 /// The most bytes that two reports are read from.
-const MOST_BYTES: usize = 4096;
+const MOST_REPORT: usize = 4096;
 
 #[tactic(auto, unfolding(crate::specs::Reading::part_at))]
 fn part_at(unread: &mut Unread<'_>, line: u32, name: &[u8]) -> Result<Part, ReportRefused>
@@ -94,7 +94,7 @@ fn two_at(bytes: &[u8]) -> Result<(Report, Report), ReportRefused>
 fn read(bytes: &[u8]) -> Result<(Report, Report), ReportRefused>
     ensures { Is (λ x. (fields_of x.0, fields_of x.1)) result (reports_at bytes.now) }
 {
-    if bytes.len() > MOST_BYTES {
+    if bytes.len() > MOST_REPORT {
         return Err(ReportRefused::Report { line: 0 });
     }
     two_at(bytes)

@@ -2,7 +2,7 @@
 use Rattle.std.specs.Prelude.{ℕ, Bool, true, false, List, ◌∷◌, ◌++◌, length, nat_lt, if◌then◌else◌}
 use Rattle.std.specs.List.{flat_map, list_any}
 use Rattle.byteorder.specs.Endian.{little_bytes}
-use Rattle.mon_tx.specs.declared.encode.TheConstants.{MOST_BYTES}
+use Rattle.mon_tx.specs.declared.encode.TheConstants.{MOST_TRANSACTION}
 use Rattle.mon_tx.specs.declared.kinds.TheConstants.{PUT, ERASE, ERASE_PREFIX, ERASE_RANGE}
 use Rattle.mon_tx.specs.declared.op.Op.{Op}
 use Rattle.mon_tx.specs.declared.op.Op.TheVariants.{Put, Erase, ErasePrefix, EraseRange}
@@ -34,7 +34,7 @@ text ops = format ops ∷ little_bytes 4 (length ops) ++ flat_map op_text ops
 
 -- the longest text
 abbrev pub most : ℕ
-most = MOST_BYTES
+most = MOST_TRANSACTION
 
 -- a range goes upward
 abbrev pub is_upward : Op → Bool

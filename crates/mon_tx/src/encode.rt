@@ -12,7 +12,7 @@ use std::alloc::Global;
 use thiserror::Error;
 
 /// The most bytes that a transaction's text may have.
-pub const MOST_BYTES: u64 = 4194304;
+pub const MOST_TRANSACTION: u64 = 4194304;
 
 /// Why a transaction has no text.
 #[derive(Clone, Copy, Debug, PartialEq, Eq, Error)]
@@ -175,7 +175,7 @@ impl Transaction {
             → result ≡ Err (EncodeRefused.TooLong (min (length (text self.now)) (2 ^ 64 - 1))) }
     {
         let len = self.text_len();
-        if len > MOST_BYTES {
+        if len > MOST_TRANSACTION {
             return Err(EncodeRefused::TooLong { len });
         }
         match text_of(self.allocator(), len as usize, self.ops()) {

@@ -6,7 +6,7 @@ use mon_bytes::{Name, OutOfMemory, Prefix};
 use std::alloc::Global;
 
 /// A part of a monitor's map, which is a prefix of its keys.
-#[derive(Clone, Copy, Debug, PartialEq, Eq)]
+#[derive(Clone, Copy, PartialEq, Eq)]
 pub enum Area {
     /// The log of committed versions, and the monitor's own numbers of Paxos.
     Paxos,
@@ -21,7 +21,7 @@ pub enum Area {
 }
 
 /// What a key of an area holds.
-#[derive(Clone, Copy, Debug, PartialEq, Eq)]
+#[derive(Clone, Copy, PartialEq, Eq)]
 pub enum Key {
     /// The first version that is kept.
     FirstCommitted,

@@ -16,7 +16,7 @@ mod spelled;
 mod spelled_ops;
 mod transaction;
 
-pub use encode::{EncodeRefused, MOST_BYTES};
+pub use encode::{EncodeRefused, MOST_TRANSACTION};
 pub use key::{Area, Key};
 pub use law::{law_last_decides, law_no_prefix, law_one_spelling, law_range, law_reading};
 pub use op::Op;

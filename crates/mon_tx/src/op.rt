@@ -5,7 +5,7 @@ use mon_types::Version;
 use std::alloc::Global;
 
 /// One change of a map.
-#[derive(Debug, Drop)]
+#[derive(Drop)]
 pub enum Op {
     /// Sets the value of a key.
     Put {

@@ -6,7 +6,7 @@ ghost use Rattle.mon_tx.specs.Text.{text, is_upward};
 ghost use Rattle.mon_tx.specs.Fields.{Reads, Gives};
 ghost use Rattle.mon_tx.specs.Decode.{op_at, ops_at, ops_of, transaction_of, HasText};
 
-use crate::encode::{MOST_BYTES, has_range};
+use crate::encode::{MOST_TRANSACTION, has_range};
 use crate::fields::format_at;
 use crate::op::Op;
 use crate::refusal::TxRefused;
@@ -63,7 +63,7 @@ fn ops_of(alloc: Global, cursor: &mut Cursor<'_>) -> Result<Transaction, TxRefus
 fn read(alloc: Global, bytes: &[u8]) -> Result<Transaction, TxRefused>
     ensures { Gives (λ tx. tx) result (transaction_of bytes.now) }
 {
-    if bytes.len() as u64 > MOST_BYTES {
+    if bytes.len() as u64 > MOST_TRANSACTION {
         return Err(TxRefused::TooLong { len: bytes.len() });
     }
     let mut cursor = Cursor::new(bytes);

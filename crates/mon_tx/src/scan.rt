@@ -5,7 +5,7 @@ ghost use Rattle.mon_tx.specs.Fields.{Scans};
 ghost use Rattle.mon_tx.specs.Decode.{ops_of, is_text};
 ghost use Rattle.mon_tx.specs.Spelled.{range_at, ranges_at};
 
-use crate::encode::MOST_BYTES;
+use crate::encode::MOST_TRANSACTION;
 use crate::fields::format_at;
 use crate::refusal::TxRefused;
 use crate::spelled::op_at;
@@ -56,7 +56,7 @@ fn is_whole(cursor: &mut Cursor<'_>) -> bool
 pub fn is_text(bytes: &[u8]) -> bool
     ensures { result ≡ is_text bytes.now }
 {
-    if bytes.len() as u64 > MOST_BYTES {
+    if bytes.len() as u64 > MOST_TRANSACTION {
         return false;
     }
     let mut cursor = Cursor::new(bytes);

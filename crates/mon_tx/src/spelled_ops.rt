@@ -5,7 +5,7 @@ ghost use Rattle.mon_bytes.specs.Answers.{Gives};
 ghost use Rattle.mon_tx.specs.Decode.{transaction_of, OpFits};
 ghost use Rattle.mon_tx.specs.Spelled.{change, rest_of, GoesOn};
 
-use crate::encode::MOST_BYTES;
+use crate::encode::MOST_TRANSACTION;
 use crate::fields::format_at;
 use crate::refusal::TxRefused;
 use crate::spelled::{Spelled, op_at};
@@ -29,7 +29,7 @@ impl<'a> SpelledOps<'a> {
         ensures ok { IfOk result (λ ops. rest_of ops ≡ transaction_of text.now) }
         ensures err { IfErr result (λ e. transaction_of text.now ≡ Err e) }
     {
-        if text.len() as u64 > MOST_BYTES {
+        if text.len() as u64 > MOST_TRANSACTION {
             return Err(TxRefused::TooLong { len: text.len() });
         }
         let mut cursor = Cursor::new(text);

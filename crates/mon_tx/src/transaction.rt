@@ -10,7 +10,7 @@ use std::marker::Model;
 
 /// A list of changes that are made together, in order. Each range in it goes upward. Calls that append changes take
 /// no allocator: a transaction has its own.
-#[derive(Debug, Drop)]
+#[derive(Drop)]
 pub struct Transaction {
     ops: Vec<Op>,
 }

@@ -7,7 +7,7 @@ use std::marker::{Model, PhantomData};
 pub const GREATEST: u64 = 1 << 62;
 
 /// A number from 0 to 2^62, of the kind that the marker `K` names.
-#[derive(Clone, Copy, Debug, PartialEq, Eq, PartialOrd, Ord)]
+#[derive(Clone, Copy, PartialEq, Eq, PartialOrd, Ord)]
 pub struct Number<K: Copy> {
     number: u64,
     kind: PhantomData<K>,
@@ -75,19 +75,19 @@ impl<K: Copy> Number<K> {
 }
 
 /// Marks a version.
-#[derive(Clone, Copy, Debug, PartialEq, Eq, PartialOrd, Ord)]
+#[derive(Clone, Copy, PartialEq, Eq, PartialOrd, Ord)]
 pub struct OfVersion;
 
 /// Marks a proposal number.
-#[derive(Clone, Copy, Debug, PartialEq, Eq, PartialOrd, Ord)]
+#[derive(Clone, Copy, PartialEq, Eq, PartialOrd, Ord)]
 pub struct OfPn;
 
 /// Marks an epoch.
-#[derive(Clone, Copy, Debug, PartialEq, Eq, PartialOrd, Ord)]
+#[derive(Clone, Copy, PartialEq, Eq, PartialOrd, Ord)]
 pub struct OfEpoch;
 
 /// Marks a point in time.
-#[derive(Clone, Copy, Debug, PartialEq, Eq, PartialOrd, Ord)]
+#[derive(Clone, Copy, PartialEq, Eq, PartialOrd, Ord)]
 pub struct OfMoment;
 
 /// A version of the log or of a service.

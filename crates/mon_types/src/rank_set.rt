@@ -115,7 +115,7 @@ impl RankSet {
 }
 
 /// The ranks of a set that are still to come, in ascending order.
-#[derive(Debug, Drop)]
+#[derive(Drop)]
 pub struct Ranks {
     set: RankSet,
     next: u8,

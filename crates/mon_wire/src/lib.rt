@@ -25,7 +25,7 @@ pub use body::Body;
 pub use kind::Kind;
 pub use laws::law_length;
 pub use message::Message;
-pub use mon_bytes::{Items, MOST_MESSAGE as MOST_BYTES, TryCopy};
+pub use mon_bytes::{Items, MOST_MESSAGE, TryCopy};
 pub use parts::{Cookie, Place, Told};
 pub use phase::{Phase, Timer};
 pub use refusal::{MsgKind, MsgRefused};

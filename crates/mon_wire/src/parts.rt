@@ -7,7 +7,7 @@ use std::alloc::Global;
 
 /// A pending value that a peon sends its leader: one that it accepted under this number and doesn't know as
 /// committed.
-#[derive(Debug, Drop)]
+#[derive(Drop)]
 pub struct Told {
     pub pn: Pn,
     pub value: Transaction,
@@ -26,7 +26,7 @@ impl Told {
 }
 
 /// How far a synchronization has come: the last version that was given, and the place among the shared keys.
-#[derive(Debug, Drop)]
+#[derive(Drop)]
 pub struct Place {
     pub version: Version,
     pub key: KeyPlace,
@@ -45,7 +45,7 @@ impl Place {
 }
 
 /// What names a synchronization: the provider's boot count, and a number that it gives once in that boot.
-#[derive(Clone, Copy, Debug, PartialEq, Eq)]
+#[derive(Clone, Copy, PartialEq, Eq)]
 pub struct Cookie {
     pub boot: u64,
     pub seq: u64,

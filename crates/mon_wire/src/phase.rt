@@ -2,7 +2,7 @@ ghost use Rattle.std.specs.Prelude.{◌≡◌};
 ghost use Rattle.mon_wire.specs.Phases.{is_leading, is_member, is_peon, votes};
 
 /// The phase of a monitor.
-#[derive(Clone, Copy, Debug, PartialEq, Eq)]
+#[derive(Clone, Copy, PartialEq, Eq)]
 pub enum Phase {
     /// Not started yet.
     Booting,
@@ -58,7 +58,7 @@ impl Phase {
 }
 
 /// A timer of a monitor. Timers that are due together go in the order of their variants.
-#[derive(Clone, Copy, Debug, PartialEq, Eq)]
+#[derive(Clone, Copy, PartialEq, Eq)]
 pub enum Timer {
     /// The others are probed again.
     Probe,

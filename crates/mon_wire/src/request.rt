@@ -5,14 +5,14 @@ use mon_types::Version;
 use std::alloc::Global;
 
 /// A client's request: the client, and the number that it gave the request.
-#[derive(Clone, Copy, Debug, PartialEq, Eq)]
+#[derive(Clone, Copy, PartialEq, Eq)]
 pub struct Session {
     pub client: u32,
     pub id: u64,
 }
 
 /// A service that the monitors keep.
-#[derive(Clone, Copy, Debug, PartialEq, Eq)]
+#[derive(Clone, Copy, PartialEq, Eq)]
 pub enum Service {
     /// The key-value map.
     Kv,
@@ -21,7 +21,7 @@ pub enum Service {
 }
 
 /// What a client asks of a monitor.
-#[derive(Debug, Drop)]
+#[derive(Drop)]
 pub enum Request {
     /// Sets a key of the key-value map.
     Set { key: Name, value: Text },

@@ -13,6 +13,7 @@ ghost use Rattle.mon_tx.specs.Map.{apply};
 ghost use Rattle.mon_tx.specs.Text.{text, most};
 ghost use Rattle.mon_wire.specs.declared.phase.Phase.TheVariants as phases;
 ghost use Rattle.mon_wire.specs.declared.phase.Phase.{Phase};
+ghost use Rattle.mon_wire.specs.declared.write_lists.TheConstants.{MOST_ITEMS};
 ghost use Rattle.mon_plan.specs.Leaves.{Leaves};
 ghost use Rattle.mon_plan.specs.Learned.{Learns, learned};
 ghost use Rattle.paxos_leader.specs.Drafts.{ActsOn, GoesOn, IsAsking};
@@ -26,7 +27,7 @@ use crate::seen::Act;
 use crate::sets::are_within;
 use mon_bytes::OutOfMemory;
 use mon_msg::{Found, Leader, Next, Plan, RoleStop, Told};
-use mon_plan::{Here, MOST_VALUE, Stored, learn, planned, stay};
+use mon_plan::{Here, MOST_PROPOSED, Stored, learn, planned, stay};
 use mon_tx::Transaction;
 use mon_types::{Pn, Rank, Version, Which};
 
@@ -70,7 +71,7 @@ fn found_with(found: Option<Found>, last: Version, told: &Told) -> Result<Option
     ensures notes { NotesFound found last (Some told.now) result }
     ensures short { IfOk result (λ new. may_begin_found new ≡ true) }
 {
-    if told.value.text_len() > MOST_VALUE as u64 {
+    if told.value.text_len() > MOST_PROPOSED as u64 {
         return Ok(found);
     }
     let Some(version) = last.plus_one() else {
@@ -212,7 +213,7 @@ fn behind(mut tx: Transaction, mut plan: Plan<Leader>) -> Result<Plan<Leader>, O
 /// The values of an answer above the last version are learned.
 fn learn_news(tx: &mut Transaction, own: Version, answer: &Answer<'_>) -> Result<(), RoleStop>
     requires short { AllByRecursion (λ ops. length (text ops) ≤ most) answer.now.values.now }
-    requires few { length answer.now.values.now ≤ 65535 }
+    requires few { length answer.now.values.now ≤ MOST_ITEMS }
     ensures act { Learns (news_from own answer.now.start) (news own answer.now.start answer.now.values.now) result }
     ensures changes { OnOk result (tx.new ≡ tx.old ++ spelled (learned (news_from own answer.now.start)
         (news own answer.now.start answer.now.values.now))) }
@@ -233,7 +234,7 @@ fn hear_answer(
     answer: &Answer<'_>,
 ) -> Result<Plan<Leader>, RoleStop>
     requires short { AllByRecursion (λ ops. length (text ops) ≤ most) answer.now.values.now }
-    requires few { length answer.now.values.now ≤ 65535 }
+    requires few { length answer.now.values.now ≤ MOST_ITEMS }
     requires found { may_begin_found state.found ≡ true }
     requires told { may_begin_told answer.now.pending.now ≡ true }
     ensures plans { (e : ℕ) →
@@ -271,7 +272,7 @@ pub(crate) fn hear_last(
     answer: &Answer<'_>,
 ) -> Result<Plan<Leader>, RoleStop>
     requires short { AllByRecursion (λ ops. length (text ops) ≤ most) answer.now.values.now }
-    requires few { length answer.now.values.now ≤ 65535 }
+    requires few { length answer.now.values.now ≤ MOST_ITEMS }
     requires found { may_begin_found state.found ≡ true }
     requires told { may_begin_told answer.now.pending.now ≡ true }
     ensures plans { (e : ℕ) →

@@ -11,7 +11,7 @@ ghost use Rattle.mon_wire.specs.declared.write_lists.TheConstants.{MOST_ITEMS};
 ghost use Rattle.paxos_peon.specs.declared.answer.TheConstants.{BESIDES};
 
 use mon_bytes::{Items, OutOfMemory};
-use mon_msg::{Body, Found, MOST_BYTES, Told};
+use mon_msg::{Body, Found, MOST_MESSAGE, Told};
 use mon_plan::{Run, Stored};
 use mon_tx::Transaction;
 use mon_types::{Pn, Version};
@@ -77,7 +77,7 @@ fn told_len(told: &Option<Told>) -> usize
 fn has_room(bytes: usize, told: &Option<Told>) -> bool
     ensures { result ≡ nat_le (BESIDES + bytes + told_length told.now) MOST_MESSAGE }
 {
-    told_len(told).saturating_add(bytes).saturating_add(BESIDES) <= MOST_BYTES
+    told_len(told).saturating_add(bytes).saturating_add(BESIDES) <= MOST_MESSAGE
 }
 
 /// The answer that has these values, and perhaps not all that the leader lacks.

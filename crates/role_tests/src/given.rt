@@ -8,7 +8,7 @@ use election_rules::Rule;
 use mon_bytes::{Bytes, Items};
 use mon_kv::Kv;
 use mon_msg::input::Input;
-use mon_msg::{Body, MOST_BYTES, Me, Message, Phase, View};
+use mon_msg::{Body, MOST_MESSAGE, Me, Message, Phase, View};
 use mon_tx::{Area, Key, Transaction};
 use mon_types::{GREATEST, Member, Number, Rank, RankSet};
 use std::alloc::Global;
@@ -44,7 +44,7 @@ pub(crate) fn view(phase: Phase, leader: Rank, quorum: u16) -> View {
 fn may_be_sent(message: &Message) -> bool
     ensures { IsTrue result → IsTrue (fits message.now.monitors message.now.body) }
 {
-    if message.len() > MOST_BYTES {
+    if message.len() > MOST_MESSAGE {
         return false;
     }
     match &message.body {

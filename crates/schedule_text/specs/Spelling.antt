@@ -12,7 +12,7 @@ use Rattle.schedule_text.specs.declared.event.Plain.TheVariants.{Start, Deliver,
 use Rattle.schedule_text.specs.declared.event.Event.{Event}
 use Rattle.schedule_text.specs.declared.event.Event.TheVariants as event
 use Rattle.schedule_text.specs.declared.schedule.Schedule.{Schedule}
-use Rattle.schedule_text.specs.declared.schedule.TheConstants.{MOST_BYTES, MOST_EVENTS}
+use Rattle.schedule_text.specs.declared.schedule.TheConstants.{MOST_SCHEDULE, MOST_EVENTS}
 use Rattle.schedule_text.specs.Words.{printable, service_text, side_text, timer_text}
 use Rattle.schedule_text.specs.Fields.{within}
 use Rattle.schedule_text.specs.Ranks.{behind, ranks_text, below}
@@ -101,7 +101,7 @@ abbrev pub most_events : ℕ
 most_events = MOST_EVENTS
 
 abbrev pub most_bytes : ℕ
-most_bytes = MOST_BYTES
+most_bytes = MOST_SCHEDULE
 
 -- what has a text that is read
 pub record HasText (s : Schedule) : Type 0 where

@@ -2,7 +2,7 @@ use mon_types::{Moment, Rank, Side};
 use mon_wire::{Request, Session};
 
 /// What happens to a monitor from outside.
-#[derive(Debug, Drop)]
+#[derive(Drop)]
 pub enum Plain {
     /// The monitor is stopped, if it is up, and starts.
     Start {
@@ -30,7 +30,7 @@ pub enum Plain {
 }
 
 /// One event of a schedule.
-#[derive(Debug, Drop)]
+#[derive(Drop)]
 pub enum Event {
     Plain(Plain),
     /// The event happens, and the monitor stops at this call of this disk, counted from 1. The image says what the

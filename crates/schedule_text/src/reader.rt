@@ -8,7 +8,7 @@ use crate::fields::cut;
 use crate::header::header_at;
 use crate::line::event_at;
 use crate::refusal::{LineRefused, ScheduleKind, ScheduleRefused};
-use crate::schedule::{MOST_BYTES, MOST_EVENTS, Schedule};
+use crate::schedule::{MOST_EVENTS, MOST_SCHEDULE, Schedule};
 use election_rules::Rule;
 use memchr::memchr_iter;
 use mon_bytes::{Items, OutOfMemory};
@@ -111,7 +111,7 @@ fn whole(alloc: Global, bytes: &[u8]) -> Result<Schedule, ScheduleRefused>
 fn read(alloc: Global, bytes: &[u8]) -> Result<Schedule, ScheduleRefused>
     ensures { Gives (λ s. s) result (schedule_at bytes.now) }
 {
-    if bytes.len() > MOST_BYTES {
+    if bytes.len() > MOST_SCHEDULE {
         return Err(at(0, ScheduleKind::TooLong));
     }
     whole(alloc, bytes)

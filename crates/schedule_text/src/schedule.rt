@@ -16,13 +16,13 @@ use mon_types::{GREATEST, Moment, Rank, RankSet};
 use mon_wire::{Request, Session};
 
 /// The most bytes of a schedule's text.
-pub const MOST_BYTES: usize = 16777216;
+pub const MOST_SCHEDULE: usize = 16777216;
 
 /// The most events of a schedule with a text.
 pub const MOST_EVENTS: u32 = 200000;
 
 /// A quorum's monitors, how they rank one another, and the events that happen to them.
-#[derive(Debug, Drop)]
+#[derive(Drop)]
 pub struct Schedule {
     /// How many monitors there are.
     pub monitors: u8,
@@ -44,7 +44,7 @@ impl Schedule {
             && rule_fits(self.monitors, self.rule)
             && all_fit(self.monitors, events)
             && events.len() <= MOST_EVENTS as usize
-            && text_len(self) <= MOST_BYTES as u64
+            && text_len(self) <= MOST_SCHEDULE as u64
     }
 }
 

@@ -18,7 +18,7 @@ use Rattle.store_tool.specs.declared.importing.ImportEnd.TheVariants as import
 use Rattle.store_tool.specs.declared.refusal.ExportRefused.TheVariants as refused
 use Rattle.stopped_stores.specs.Reading.{OfRead, ReadAll}
 use Rattle.stopped_stores.specs.Texts.{Stream}
-use Rattle.stopped_stores.specs.declared.importing.TheConstants.{MOST_READ}
+use Rattle.stopped_stores.specs.declared.importing.TheConstants.{MOST_EXPORT_READ}
 use Rattle.stopped_stores.specs.declared.end.ToolEnd.{ToolEnd}
 use Rattle.stopped_stores.specs.declared.end.ToolEnd.TheVariants as end
 
@@ -34,13 +34,13 @@ pub record IsExportOf (member : Member) (bytes : List ℕ) : Type 0 where
 
 -- What reading a member's export gives: its map; or the end that comes instead.
 abbrev pub ReadsMap : Member → Stream → Stream → Result Store ToolEnd → Type 0
-ReadsMap member before after (Ok m) = ReadAll MOST_READ before after (IsExport member m)
-ReadsMap member before after (Err end.ReadFault) = Rose before.faults after.faults × ConsumesFront MOST_READ before.bytes after.bytes
-ReadsMap member before after (Err (end.Export at)) = OfRead MOST_READ before after (λ bytes. export_of bytes ≡ Err (refused.At at))
-ReadsMap member before after (Err (end.Full would_be)) = OfRead MOST_READ before after (λ bytes. export_of bytes ≡ Err (refused.Full would_be))
+ReadsMap member before after (Ok m) = ReadAll MOST_EXPORT_READ before after (IsExport member m)
+ReadsMap member before after (Err end.ReadFault) = Rose before.faults after.faults × ConsumesFront MOST_EXPORT_READ before.bytes after.bytes
+ReadsMap member before after (Err (end.Export at)) = OfRead MOST_EXPORT_READ before after (λ bytes. export_of bytes ≡ Err (refused.At at))
+ReadsMap member before after (Err (end.Full would_be)) = OfRead MOST_EXPORT_READ before after (λ bytes. export_of bytes ≡ Err (refused.Full would_be))
 ReadsMap member before after (Err (end.Stranger kept asked)) =
-    (asked ≡ member) × ¬ (owner_of kept ≡ owner_of member) × ReadAll MOST_READ before after (IsExportOf kept)
-ReadsMap member before after (Err end.OutOfMemory) = ConsumesFront MOST_READ before.bytes after.bytes
+    (asked ≡ member) × ¬ (owner_of kept ≡ owner_of member) × ReadAll MOST_EXPORT_READ before after (IsExportOf kept)
+ReadsMap member before after (Err end.OutOfMemory) = ConsumesFront MOST_EXPORT_READ before.bytes after.bytes
 ReadsMap member before after (Err other) = ⊥
 
 module _ {D : Type 0} (state : D → DiskState) (member : Member) (old new : NodeDisks D) where
@@ -68,7 +68,7 @@ module _ {D : Type 0} (state : D → DiskState) (member : Member) (old new : Nod
 
   -- the member's export was read, and importing its map ended so
   abbrev pub ReadThenImports : Stream → Stream → ImportEnd → Type 0
-  ReadThenImports before after e = ReadAll MOST_READ before after (IsImported e)
+  ReadThenImports before after e = ReadAll MOST_EXPORT_READ before after (IsImported e)
 
   -- The cause of each end: an import of the map that was read; or what came instead of the map, when the disks were left alone.
   abbrev pub ImportsExport : Stream → Stream → ToolEnd → Type 0

@@ -8,7 +8,7 @@ use Rattle.mon_scrub.specs.declared.refusal.ReportRefused.TheVariants as refused
 use Rattle.mon_scrub.specs.declared.report.Report.{Report}
 use Rattle.mon_types.specs.Faults.{Rose}
 use Rattle.stopped_stores.specs.Texts.{Stream}
-use Rattle.stopped_stores.specs.declared.comparing.TheConstants.{MOST_READ}
+use Rattle.stopped_stores.specs.declared.comparing.TheConstants.{MOST_REPORTS_READ}
 use Rattle.stopped_stores.specs.declared.end.ToolEnd.{ToolEnd}
 use Rattle.stopped_stores.specs.declared.end.ToolEnd.TheVariants as end
 
@@ -34,16 +34,16 @@ pub record HaveReports (fact : Report → Report → Type 0) (bytes : List ℕ) 
 
 -- two reports were read, and they have this fact
 abbrev pub ReadReports : Stream → Stream → (Report → Report → Type 0) → Type 0
-ReadReports before after fact = ReadAll MOST_READ before after (HaveReports fact)
+ReadReports before after fact = ReadAll MOST_REPORTS_READ before after (HaveReports fact)
 
 -- The cause of each end of a comparison: the source had two reports, and what is written is where they differ, whole or a prefix; or the
 -- first line at fault has this number; or reading failed.
 abbrev pub Compares : (source_before source_after sink_before sink_after : Stream) → ToolEnd → Type 0
 Compares before after old new end.Done = ReadReports before after (λ a b. Appends old.bytes new.bytes (compared a b))
-Compares before after old new (end.Report line) = OfRead MOST_READ before after (λ bytes. reports_at bytes ≡ Err (refused.Report line)) × (new ≡ old)
-Compares before after old new end.ReadFault = Rose before.faults after.faults × ConsumesFront MOST_READ before.bytes after.bytes × (new ≡ old)
+Compares before after old new (end.Report line) = OfRead MOST_REPORTS_READ before after (λ bytes. reports_at bytes ≡ Err (refused.Report line)) × (new ≡ old)
+Compares before after old new end.ReadFault = Rose before.faults after.faults × ConsumesFront MOST_REPORTS_READ before.bytes after.bytes × (new ≡ old)
 Compares before after old new end.WriteFault =
     Rose old.faults new.faults × ReadReports before after (λ a b. AppendsFront old.bytes new.bytes (compared a b))
 Compares before after old new end.OutOfMemory =
-    (ConsumesFront MOST_READ before.bytes after.bytes × (new ≡ old)) ⊎ ReadReports before after (λ a b. AppendsFront old.bytes new.bytes (compared a b))
+    (ConsumesFront MOST_REPORTS_READ before.bytes after.bytes × (new ≡ old)) ⊎ ReadReports before after (λ a b. AppendsFront old.bytes new.bytes (compared a b))
 Compares before after old new other = ⊥

@@ -10,7 +10,7 @@ use mon_scrub::{Report, ReportRefused, compare, parse};
 use std::alloc::Global;
 
 /// One more byte than two reports are read from.
-pub const MOST_READ: usize = 4097;
+pub const MOST_REPORTS_READ: usize = 4097;
 
 fn read_and_compare<S: Source, K: Sink>(alloc: Global, source: &mut S, sink: &mut K) -> ToolEnd
     ensures { Compares
@@ -19,7 +19,7 @@ fn read_and_compare<S: Source, K: Sink>(alloc: Global, source: &mut S, sink: &mu
         (record { bytes = K.held sink.old; faults = K.faults sink.old })
         (record { bytes = K.held sink.new; faults = K.faults sink.new }) result }
 {
-    let bytes = match read_all(alloc, source, MOST_READ) {
+    let bytes = match read_all(alloc, source, MOST_REPORTS_READ) {
         Ok(bytes) => bytes,
         Err(stop) => return ToolEnd::of_reading(stop),
     };

@@ -14,7 +14,7 @@ use std::alloc::Global;
 use store_tool::{ExportRefused, import, read_export};
 
 /// One more byte than an export may have.
-pub const MOST_READ: usize = 268_435_472;
+pub const MOST_EXPORT_READ: usize = 268_435_472;
 
 fn is_same(a: &Member, b: &Member) -> bool
     ensures same { result ≡ true → owner_of a.now ≡ owner_of b.now }
@@ -29,7 +29,7 @@ fn read_map<S: Source>(alloc: Global, source: &mut S, member: &Member) -> Result
         (record { bytes = S.left source.old; faults = S.faults source.old })
         (record { bytes = S.left source.new; faults = S.faults source.new }) result }
 {
-    let bytes = match read_all(alloc, source, MOST_READ) {
+    let bytes = match read_all(alloc, source, MOST_EXPORT_READ) {
         Ok(bytes) => bytes,
         Err(stop) => return Err(ToolEnd::of_reading(stop)),
     };

@@ -17,7 +17,7 @@ use std::alloc::Global;
 use store_tool::{dump_keys, dump_paxos, export};
 
 /// A text of a store's map.
-#[derive(Clone, Copy, Debug, PartialEq, Eq)]
+#[derive(Clone, Copy, PartialEq, Eq)]
 pub enum StoreText {
     /// The report of what the monitor shares with the others.
     Report,

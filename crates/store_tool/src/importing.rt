@@ -16,7 +16,7 @@ use mon_types::{Member, Side, Stop};
 use std::alloc::Global;
 
 /// How an import ended.
-#[derive(Clone, Copy, Debug, PartialEq, Eq)]
+#[derive(Clone, Copy, PartialEq, Eq)]
 pub enum ImportEnd {
     /// The store is there.
     Done,

@@ -4,7 +4,7 @@ use Rattle.mon_bytes.specs.declared.command.Command.{Command}
 use Rattle.mon_bytes.specs.declared.command.CommandRefused.{CommandRefused}
 use Rattle.mon_bytes.specs.declared.command.CommandRefused.TheVariants as refused
 use Rattle.map_kv.specs.Made as kv_made
-use Rattle.map_kv.specs.declared.command.TheConstants.{MOST_MAP, MOST_VALUE}
+use Rattle.map_kv.specs.declared.command.TheConstants.{MOST_KV_MAP, MOST_KV_VALUE}
 use Rattle.map_kv.specs.declared.inc.KvInc.{KvInc}
 use Rattle.mon_msg.specs.Protocol.Parts.{map_text}
 use Rattle.mon_wire.specs.declared.reply.ShownMap.{ShownMap}
@@ -19,7 +19,7 @@ use Rattle.svc_core.specs.declared.made.Draft.{Draft}
 
 -- the longest incremental: a set of the longest key to the longest value
 abbrev pub most_incremental : ℕ
-most_incremental = MOST_VALUE + 261
+most_incremental = MOST_KV_VALUE + 261
 
 -- the incremental that a command makes of a key-value map
 abbrev pub kv_incremental : ShownMap → Command → Result KvInc CommandRefused
@@ -36,7 +36,7 @@ drafted due (Err e) = Err e
 -- no longer than an incremental may be, and than a map's text may be
 pub record IsShort (d : Draft) : Type 0 where
   pub incremental : length d.incremental ≤ most_incremental
-  pub text : length d.text ≤ MOST_MAP
+  pub text : length d.text ≤ MOST_KV_MAP
 
 -- the value that makes the next version of a service by an incremental and a map's text that are no longer than they
 -- may be
@@ -45,4 +45,4 @@ pub record IsShortValue (w : Readings) (s : Service) (ops : List Op) : Type 0 wh
   pub text : List ℕ
   pub is : ops ≡ value_ops w.first w.last (area_of s) (suc (service_last w s)) (service_first w s) incremental text
   pub short_incremental : length incremental ≤ most_incremental
-  pub short_text : length text ≤ MOST_MAP
+  pub short_text : length text ≤ MOST_KV_MAP

@@ -4,7 +4,7 @@ ghost use Rattle.std.specs.Prelude.{◌≡◌, ℕ, ◌≤◌, length, [], true,
 ghost use Rattle.map_kv.specs.Made.{IsOfKv};
 ghost use Rattle.map_kv.specs.Map as kv_map;
 ghost use Rattle.map_kv.specs.Text as kv_text;
-ghost use Rattle.map_kv.specs.declared.command.TheConstants.{MOST_MAP};
+ghost use Rattle.map_kv.specs.declared.command.TheConstants.{MOST_KV_MAP};
 ghost use Rattle.map_log.specs.Map as log_map;
 ghost use Rattle.map_log.specs.Text as log_text;
 ghost use Rattle.mon_bytes.specs.Makes.{Makes};
@@ -16,7 +16,7 @@ ghost use Rattle.svc_core.specs.Drafts.{drafted, kv_incremental, IsShort};
 
 use crate::reading::{read_kv, read_log};
 use crate::room::is_within;
-use map_kv::{KvInc, KvMap, MOST_MAP, MOST_VALUE, make as make_kv};
+use map_kv::{KvInc, KvMap, MOST_KV_MAP, MOST_KV_VALUE, make as make_kv};
 use map_log::{LogInc, LogMap, make as make_log};
 use mon_bytes::{Bytes, Command, CommandRefused, OutOfMemory, Text};
 use mon_kv::Kv;
@@ -55,12 +55,12 @@ fn sure_set(alloc: Global, kv: &Kv, command: &Command) -> Result<Option<KvInc>, 
         return Ok(None);
     };
     let len = value.as_slice().len() as u64;
-    if len > MOST_VALUE {
+    if len > MOST_KV_VALUE {
         return Ok(None);
     }
     // An entry has its key's length in one byte and its value's in four.
     let longer = key.as_slice().len() as u64 + len + 5;
-    if !is_within(alloc, kv, MOST_MAP - longer)? {
+    if !is_within(alloc, kv, MOST_KV_MAP - longer)? {
         return Ok(None);
     }
     Ok(Some(KvInc::Set {

@@ -4,7 +4,7 @@ ghost use Rattle.std.specs.Prelude.{◌≡◌, ◌+◌, ◌-◌, ◌≤◌, ◌^
 ghost use Rattle.std.specs.Option.{option_map};
 ghost use Rattle.map_kv.specs.Decode as kv_decode;
 ghost use Rattle.map_kv.specs.Text as kv_text;
-ghost use Rattle.map_kv.specs.declared.command.TheConstants.{MOST_MAP};
+ghost use Rattle.map_kv.specs.declared.command.TheConstants.{MOST_KV_MAP};
 ghost use Rattle.map_log.specs.Decode as log_decode;
 ghost use Rattle.mon_msg.specs.Protocol.Maps.{empty_map, if_ok, spelled_map};
 ghost use Rattle.mon_msg.specs.Protocol.Services.{service_last, full_latest, full_map, read_on, read_map};
@@ -194,7 +194,7 @@ pub fn read(alloc: Global, kv: &Kv, service: Service) -> Result<ShownMap, OutOfM
 /// Reads the key-value map.
 pub(crate) fn read_kv(alloc: Global, kv: &Kv) -> Result<KvMap, OutOfMemory>
     ensures map { IfOk result (λ map. read_map (readings_of kv.now) Service.Kv ≡ ShownMap.Kv map) }
-    ensures short { IfOk result (λ map. length (kv_text.map_text map) ≤ MOST_MAP) }
+    ensures short { IfOk result (λ map. length (kv_text.map_text map) ≤ MOST_KV_MAP) }
 {
     match read(alloc, kv, Service::Kv)? {
         ShownMap::Kv(map) => Ok(map),

@@ -16,8 +16,8 @@ pub(crate) fn most_map(service: Service) -> u64
     ensures { result ≡ most_map service }
 {
     match service {
-        Service::Kv => map_kv::MOST_MAP,
-        Service::Log => map_log::MOST_MAP,
+        Service::Kv => map_kv::MOST_KV_MAP,
+        Service::Log => map_log::MOST_LOG_MAP,
     }
 }
 

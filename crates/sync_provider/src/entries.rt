@@ -13,7 +13,7 @@ ghost use Rattle.sync_provider.specs.Taken.{IsTaken, IsGiven};
 
 use mon_bytes::{Entry, KeyPlace, OutOfMemory};
 use mon_kv::{KeyRun, Kv};
-use mon_msg::{MOST_BYTES, MOST_ITEMS, Place};
+use mon_msg::{MOST_ITEMS, MOST_MESSAGE, Place};
 
 /// How many bytes a CHUNK takes besides its place, its values and its entries.
 pub(crate) const BESIDES: usize = 33;
@@ -72,7 +72,7 @@ fn are_last(entries: &[Entry], bytes: usize) -> bool
     entries_len(entries)
         .saturating_add(bytes)
         .saturating_add(BESIDES_LAST)
-        <= MOST_BYTES
+        <= MOST_MESSAGE
 }
 
 /// A run without its last entry, so that this one is left after it.
@@ -93,7 +93,7 @@ fn without_last(run: KeyRun) -> KeyRun
 fn longest_entries(kv: &Kv, place: &Place, bytes: usize) -> Result<KeyRun, OutOfMemory>
     ensures { IfOk result (IsTaken (left_after kv.now place.now.key) bytes) }
 {
-    let room = MOST_BYTES.saturating_sub(BESIDES).saturating_sub(bytes);
+    let room = MOST_MESSAGE.saturating_sub(BESIDES).saturating_sub(bytes);
     let found = kv.chunk_from(&place.key, room, MOST_ITEMS)?;
     if !found.done {
         return Ok(found);

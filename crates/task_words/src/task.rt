@@ -6,7 +6,7 @@ use mon_wire::Service;
 use thiserror::Error;
 
 /// What the program is to do.
-#[derive(Debug, Drop)]
+#[derive(Drop)]
 pub enum Task {
     /// Runs the schedule that the source has.
     Replay,

@@ -69,7 +69,7 @@ impl Replies {
 }
 
 /// The state of a monitor after an event.
-#[derive(Clone, Copy, Debug, PartialEq, Eq)]
+#[derive(Clone, Copy, PartialEq, Eq)]
 pub struct StateLine {
     pub phase: Phase,
     pub epoch: Epoch,
@@ -78,7 +78,7 @@ pub struct StateLine {
 }
 
 /// What became of an event.
-#[derive(Clone, Copy, Debug, PartialEq, Eq)]
+#[derive(Clone, Copy, PartialEq, Eq)]
 pub enum Outcome {
     /// The monitor took it.
     Ran,

@@ -1,6 +1,6 @@
 -- The rows of clients' commands, at the leader and by way of a peon.
 use Rattle.std.specs.Prelude.{ℕ, suc, Bool, not, ◌&&◌, ◌==◌, nat_le, nat_lt, List, Result, Ok, if◌then◌else◌, [], ◌∷◌, ◌++◌, filter, map, length, slice_set, slice_index_or}
-use Rattle.map_kv.specs.declared.command.TheConstants.{MOST_VALUE}
+use Rattle.map_kv.specs.declared.command.TheConstants.{MOST_KV_VALUE}
 use Rattle.map_log.specs.declared.command.TheConstants.{MOST_TEXT}
 use Rattle.mon_bytes.specs.declared.command.Command.TheVariants as command
 use Rattle.mon_bytes.specs.declared.command.Command.{Command}
@@ -30,7 +30,7 @@ use Rattle.mon_types.specs.declared.names.Which.{Which}
 
 -- the longest value or text of a command, in bytes, and that of the command
 abbrev pub most_text : Command → ℕ
-most_text (command.Set key value) = MOST_VALUE
+most_text (command.Set key value) = MOST_KV_VALUE
 most_text (command.Remove key) = 0
 most_text (command.Log text) = MOST_TEXT
 

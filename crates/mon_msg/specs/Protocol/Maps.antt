@@ -24,8 +24,8 @@ empty_map Log = map.Log []
 
 -- the longest text of a service's map, in bytes
 abbrev pub most_map : Service → ℕ
-most_map Kv = of_kv.MOST_MAP
-most_map Log = of_log.MOST_MAP
+most_map Kv = of_kv.MOST_KV_MAP
+most_map Log = of_log.MOST_LOG_MAP
 
 abbrev pub short_map : Service → ShownMap → Option ShownMap
 short_map s m = if nat_le (length (map_text m)) (most_map s) then Some m else None

@@ -1,7 +1,7 @@
 -- The records of versions, the pending value, and runs of records.
 use Rattle.std.specs.Option.{option_map, option_and_then}
 use Rattle.std.specs.Prelude.{◌≡◌, ℕ, suc, ◌<◌, Bool, true, false, ◌==◌, nat_le, List, Option, Some, None, Result, Ok, if◌then◌else◌, [], ◌∷◌, ◌++◌, Err, zero, ◌-◌, length, take}
-use Rattle.mon_msg.specs.declared.limits.TheConstants.{MOST_VALUE}
+use Rattle.mon_msg.specs.declared.limits.TheConstants.{MOST_PROPOSED}
 use Rattle.mon_msg.specs.Protocol.Length.{fits}
 use Rattle.mon_msg.specs.Protocol.Readings.{Readings}
 use Rattle.mon_wire.specs.declared.body.Body.TheVariants as body
@@ -14,7 +14,7 @@ use Rattle.mon_tx.specs.declared.refusal.TxRefused.{TxRefused}
 
 -- the longest value that is proposed, in bytes
 abbrev pub most_value : ℕ
-most_value = MOST_VALUE
+most_value = MOST_PROPOSED
 
 -- whether a BEGIN with the value may be sent
 abbrev pub may_begin : List Op → Bool

@@ -6,15 +6,15 @@ use Rattle.map_log.specs.Text.{size_of}
 use Rattle.map_log.proofs.Lengths.{trimmed-within, trimmed-above, drop_first}
 use Rattle.map_log.proofs.surplus.surplus.Goals as goal
 
-pub returns-then-size-le-MOST_MAP-clause-left : goal.returns-then-size-le-MOST_MAP-clause-left
-returns-then-size-le-MOST_MAP-clause-left c =
+pub returns-then-size-le-MOST_LOG_MAP-clause-left : goal.returns-then-size-le-MOST_LOG_MAP-clause-left
+returns-then-size-le-MOST_LOG_MAP-clause-left c =
     let left = drop c.loop-i.i c.args.entries.now in
-    sym (trimmed-within left (omega (arith, length-drop c.loop-i.i c.args.entries.now, c.if-entries-i-le-MOST_ENTRIES.true)) (omega (arith, c.loop-i.invariant.1, c.if-size-le-MOST_MAP.true))) ∙ c.loop-i.invariant.0
+    sym (trimmed-within left (omega (arith, length-drop c.loop-i.i c.args.entries.now, c.if-entries-i-le-MOST_ENTRIES.true)) (omega (arith, c.loop-i.invariant.1, c.if-size-le-MOST_LOG_MAP.true))) ∙ c.loop-i.invariant.0
 
-pub returns-then-size-le-MOST_MAP-clause-size : goal.returns-then-size-le-MOST_MAP-clause-size
-returns-then-size-le-MOST_MAP-clause-size c =
+pub returns-then-size-le-MOST_LOG_MAP-clause-size : goal.returns-then-size-le-MOST_LOG_MAP-clause-size
+returns-then-size-le-MOST_LOG_MAP-clause-size c =
     let left = drop c.loop-i.i c.args.entries.now in
-    let within = trimmed-within left (omega (arith, length-drop c.loop-i.i c.args.entries.now, c.if-entries-i-le-MOST_ENTRIES.true)) (omega (arith, c.loop-i.invariant.1, c.if-size-le-MOST_MAP.true)) in
+    let within = trimmed-within left (omega (arith, length-drop c.loop-i.i c.args.entries.now, c.if-entries-i-le-MOST_ENTRIES.true)) (omega (arith, c.loop-i.invariant.1, c.if-size-le-MOST_LOG_MAP.true)) in
     c.loop-i.invariant.1 ∙ ap (λ es. 4 + size_of es) (sym within ∙ c.loop-i.invariant.0)
 
 pub loop-i-preserved : goal.loop-i-preserved

@@ -13,5 +13,5 @@ returns-clause-made c =
     let same_key = ap length c.as_slice-2.ensures.value in
     let same_value = ap length c.as_slice.ensures.value in
     rw (c.in-Set.is, c.in_ok-copy.ensures, c.in_ok-copy-2.ensures)
-    (set_fits (read_map (readings_of c.args.kv.now) service.Kv) c.in-Set.key c.in-Set.value room (omega (arith, same_value, c.if-len-gt-MOST_VALUE.false)) (omega (arith, key, same_key, same_value, c.if-len-gt-MOST_VALUE.false))
+    (set_fits (read_map (readings_of c.args.kv.now) service.Kv) c.in-Set.key c.in-Set.value room (omega (arith, same_value, c.if-len-gt-MOST_KV_VALUE.false)) (omega (arith, key, same_key, same_value, c.if-len-gt-MOST_KV_VALUE.false))
     (c.in_ok-is_within.ensures c.if-not-branch.false))
