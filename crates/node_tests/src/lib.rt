@@ -9,3 +9,5 @@ mod maps;
 mod rig;
 #[cfg(test)]
 mod stepping_down;
+#[cfg(test)]
+mod trims;

@@ -1,15 +1,15 @@
 //! What a monitor takes.
 
 use crate::given::{number, value, values};
-use mon_bytes::{Bytes, Entry, Items, KeyPlace};
+use mon_bytes::{Bytes, Command, Entry, Items, KeyPlace, Text};
 use mon_msg::input::Input;
-use mon_msg::{Body, Cookie, Me, Message, Place, Timer};
+use mon_msg::{Body, Cookie, Me, Message, Place, Reply, Request, Session, Timer};
 use mon_tx::{Area, Key, Transaction};
 use mon_types::{Epoch, Rank, RankSet};
 use std::alloc::Global;
 use std::test::Fail;
 
-/// What comes to a monitor: a message of another one, with its numbers as a trace has them, or a timer.
+/// What comes to a monitor: a message of another one, with its numbers as a trace has them, a timer, or a client's request.
 #[derive(Clone, Copy)]
 pub(crate) enum Comes {
     Probe,
@@ -17,8 +17,12 @@ pub(crate) enum Comes {
     ProbeReply(u16, u64, u64),
     /// A number, and the first and the last version.
     Collect(u64, u64, u64),
+    /// A number, and the last version: an answer that is whole, without records and without a pending value.
+    Last(u64, u64),
     /// A number, and a version.
     Begin(u64, u64),
+    /// A number, and a version.
+    Accept(u64, u64),
     /// The first version, and how many there are.
     Commit(u64, u64),
     Lease(u64),
@@ -30,6 +34,12 @@ pub(crate) enum Comes {
     Chunk,
     /// Its end: version 13 erases `kv/5`, and 14 puts `kv/10`.
     LastChunk,
+    /// A command to log one byte, under this number.
+    Forward(u64),
+    /// The acknowledgement of version 1, for this number.
+    Route(u64),
+    /// A client asks to log a text of this length.
+    Logs(usize),
     Rings(Timer),
 }
 
@@ -125,6 +135,30 @@ fn commit(alloc: Global, from: u64, count: u64) -> Result<Body, Fail> {
     })
 }
 
+fn last(alloc: Global, pn: u64, last: u64) -> Body {
+    Body::Last {
+        pn: number(pn),
+        first: number(last.min(1)),
+        last: number(last),
+        whole: true,
+        from: number(last.saturating_add(1)),
+        values: Items::new(alloc),
+        pending: None,
+    }
+}
+
+fn text(alloc: Global, length: usize) -> Result<Text, Fail> {
+    Ok(Text::new(vec![in alloc; b't'; length]?).ok_or("a text")?)
+}
+
+fn forward(alloc: Global, seq: u64) -> Result<Body, Fail> {
+    let text = text(alloc, 1)?;
+    Ok(Body::Forward {
+        seq,
+        command: Command::Log { text },
+    })
+}
+
 /// What another monitor says.
 fn body(alloc: Global, comes: Comes) -> Result<Body, Fail> {
     match comes {
@@ -139,7 +173,12 @@ fn body(alloc: Global, comes: Comes) -> Result<Body, Fail> {
             first: number(first),
             last: number(last),
         }),
+        Comes::Last(pn, at) => Ok(last(alloc, pn, at)),
         Comes::Begin(pn, version) => begin(alloc, pn, version),
+        Comes::Accept(pn, version) => Ok(Body::Accept {
+            pn: number(pn),
+            version: number(version),
+        }),
         Comes::Commit(from, count) => commit(alloc, from, count),
         Comes::Lease(last) => Ok(Body::Lease { last: number(last) }),
         Comes::GetCookieFull => Ok(Body::GetCookieFull),
@@ -151,7 +190,12 @@ fn body(alloc: Global, comes: Comes) -> Result<Body, Fail> {
         }),
         Comes::Chunk => chunk(alloc),
         Comes::LastChunk => last_chunk(alloc),
-        Comes::Rings(_) => Err("a message".into()),
+        Comes::Forward(seq) => forward(alloc, seq),
+        Comes::Route(seq) => Ok(Body::Route {
+            seq,
+            reply: Reply::Done { version: number(1) },
+        }),
+        Comes::Rings(_) | Comes::Logs(_) => Err("a message".into()),
     }
 }
 
@@ -165,6 +209,10 @@ pub(crate) fn input(
 ) -> Result<Input, Fail> {
     if let Comes::Rings(timer) = comes {
         return Ok(Input::Timer(timer));
+    }
+    if let Comes::Logs(length) = comes {
+        let text = text(alloc, length)?;
+        return Ok(Input::Client(Session { client: 5, id: 6 }, Request::Log { text }));
     }
     let body = body(alloc, comes)?;
     Ok(Input::Deliver(Message {

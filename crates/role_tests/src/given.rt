@@ -8,7 +8,7 @@ use election_rules::Rule;
 use mon_bytes::{Bytes, Items};
 use mon_kv::Kv;
 use mon_msg::input::Input;
-use mon_msg::{Body, MOST_MESSAGE, Me, Message, Phase, View};
+use mon_msg::{Body, MOST_ITEMS, MOST_MESSAGE, Me, Message, Phase, Reply, View};
 use mon_tx::{Area, Key, Transaction};
 use mon_types::{GREATEST, Member, Number, Rank, RankSet};
 use std::alloc::Global;
@@ -48,19 +48,27 @@ fn may_be_sent(message: &Message) -> bool
         return false;
     }
     match &message.body {
-        Body::Collect { .. } | Body::Begin { .. } | Body::Lease { .. } | Body::Cookie { .. } =>
-            true,
-        Body::Commit { values, .. } => values.len() <= 65_535,
+        Body::Collect { .. }
+        | Body::Begin { .. }
+        | Body::Accept { .. }
+        | Body::Lease { .. }
+        | Body::Forward { .. }
+        | Body::Route {
+            reply: Reply::Done { .. },
+            ..
+        }
+        | Body::Cookie { .. } => true,
+        Body::Last { values, .. } | Body::Commit { values, .. } => values.len() <= MOST_ITEMS,
         Body::Chunk {
             values,
             entries,
             ..
-        } => values.len() <= 65_535 && entries.len() <= 65_535,
+        } => values.len() <= MOST_ITEMS && entries.len() <= MOST_ITEMS,
         Body::LastChunk {
             values,
             entries,
             ..
-        } => values.len() <= 65_535 && entries.len() <= 65_535,
+        } => values.len() <= MOST_ITEMS && entries.len() <= MOST_ITEMS,
         _ => false,
     }
 }

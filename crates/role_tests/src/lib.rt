@@ -2,9 +2,13 @@
 #![tactic(auto)]
 
 #[cfg(test)]
+mod client;
+#[cfg(test)]
 mod comes;
 #[cfg(test)]
 mod given;
+#[cfg(test)]
+mod leader;
 #[cfg(test)]
 mod peon;
 #[cfg(test)]

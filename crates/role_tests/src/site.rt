@@ -100,6 +100,19 @@ fn carried_on<R: Role>(alloc: Global, site: &mut Site<R>, plan: Plan<R>) -> Resu
     Ok(text)
 }
 
+/// A plan of a monitor that was in this role before is carried out; `wanted` is what is expected of it.
+pub(crate) fn done<R: Role>(
+    rt: &impl Abort,
+    alloc: Global,
+    mut site: Site<R>,
+    plan: Plan<R>,
+    wanted: &str,
+) -> Result<Site<R>, Fail> {
+    let found = carried_on(alloc, &mut site, plan)?;
+    assert_eq!(rt; found.as_str(), wanted);
+    Ok(site)
+}
+
 /// What is done at one input.
 fn heard<R: Role>(
     alloc: Global,

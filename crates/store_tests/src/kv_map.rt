@@ -3,13 +3,16 @@ use mon_bytes::{Name, Text};
 use std::alloc::Global;
 use std::test::Fail;
 
-/// Puts the longest value under a key.
+/// Puts the longest value under a key, by a copy of the incremental.
 fn put(alloc: Global, map: &mut KvMap, key: &[u8]) -> Result<(), Fail> {
     let value = Text::new(vec![in alloc; 120u8; 65_536]?).ok_or("a text")?;
     let key = Name::new(key.to_vec(alloc)?).ok_or("a name")?;
     let inc = KvInc::Set { key, value };
-    let done = map.apply(&inc);
+    let copy = inc.copy(alloc);
     drop(inc);
+    let copy = copy?;
+    let done = map.apply(&copy);
+    drop(copy);
     Ok(done?)
 }
 
