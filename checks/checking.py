@@ -1,12 +1,13 @@
 """What the checks of this folder share: how a check is named, run and reported, and how the built program is run.
 
-A script of this folder is called as checks/NAME [--only TEXT] PROGRAM. It prints a line for each check, and its status is 0 if and only if all
-passed. --only takes the checks whose names have the text, of which there must be one.
+A script of this folder is called as checks/NAME [--only TEXT] PROGRAM. It prints a line for each check, and its status is 0 if and only if none
+failed. --only takes the checks whose names have the text, of which there must be one.
 """
 from __future__ import annotations
 
 import argparse
 import os
+import re
 import subprocess
 import sys
 import tempfile
@@ -15,10 +16,23 @@ import traceback
 TOP = os.path.dirname(os.path.dirname(os.path.abspath(__file__)))
 EXAMPLES = os.path.join(TOP, 'examples')
 sys.path[:0] = [EXAMPLES, os.path.join(TOP, 'bench')]
+# The lines that `node` and `follow` write on standard error because of the machine or of other monitors, each in the form of its beginning.
+ROOM = rb'link: room for \d+ bytes, less than a long message takes: raise net\.core\.rmem_max\n'
+PEER = rb'monitor \d+ [^\n]*\n'
+ASIDE = re.compile(b'^(?:' + b'|'.join([ROOM, PEER]) + b')', re.MULTILINE)
 
 
 class Failed(Exception):
     """A check failed, for this reason."""
+
+
+class Skipped(Exception):
+    """A check can't be made on this machine, for this reason."""
+
+
+def without_asides(errors: bytes) -> bytes:
+    """What a monitor or a client that follows wrote on standard error, without the lines that depend on the machine or on other monitors."""
+    return ASIDE.sub(b'', errors)
 
 
 def equal(found, wanted, what=''):
@@ -44,14 +58,18 @@ class Checks:
     """Runs checks, one after the other, each in a line."""
 
     def __init__(self, only: str | None):
-        self.only, self.passed, self.failed = only, 0, 0
+        self.only, self.passed, self.failed, self.skipped = only, 0, 0, 0
 
     def __call__(self, name: str, check, *words):
-        """Runs a check, which fails if it raises anything or returns False."""
+        """Runs a check, which fails if it raises anything but Skipped, or returns False."""
         if self.only is not None and self.only not in name:
             return
         try:
             good, why = check(*words) is not False, ''
+        except Skipped as reason:
+            self.skipped += 1
+            print(f'skipped: {name}: {reason}', flush=True)
+            return
         except (Failed, OSError, subprocess.SubprocessError) as error:
             good, why = False, str(error)
         except Exception:
@@ -61,9 +79,10 @@ class Checks:
         print(f'ok: {name}' if good else f'FAILED: {name}' + f'\n    {why}' * bool(why), flush=True)
 
     def status(self) -> int:
-        if self.passed + self.failed == 0:
+        if self.passed + self.failed + self.skipped == 0:
             print(f'FAILED: no check is named {self.only}', flush=True)
-        return 0 if self.passed and not self.failed else 1
+            return 1
+        return 1 if self.failed else 0
 
 
 class Ended:
@@ -82,7 +101,8 @@ class Program:
     def run(self, *words, schedule=b'', **how) -> Ended:
         """Runs the program on these arguments and this standard input."""
         done = subprocess.run([self.path, *words], input=schedule, stdout=subprocess.PIPE, stderr=subprocess.PIPE, timeout=120, **how)
-        return Ended(done.returncode, done.stdout, done.stderr)
+        has_socket = words[:1] in (('node',), ('follow',))
+        return Ended(done.returncode, done.stdout, without_asides(done.stderr) if has_socket else done.stderr)
 
     def replay(self, schedule: bytes) -> bytes:
         """The trace of a schedule, which must be replayed to its end."""
