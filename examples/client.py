@@ -43,14 +43,13 @@ import errno
 import json
 import math
 import os
-import random
 import socket
 import sys
 import time
 from typing import Iterator
 
-from wire import (LOG, MOST_MESSAGE, MOST_NUMBER, REMOVE, SERVICES, SET, SHOW, SINCE, Assembly, Malformed, Reply, datagrams, key_field, number_field,
-                  reply_of, request_message, service_field, text_field)
+from wire import (LOG, MOST_MESSAGE, MOST_NUMBER, REMOVE, SERVICES, SET, SHOW, SINCE, Assembly, Malformed, Reply, datagrams, key_field, new_number,
+                  number_field, reply_of, request_message, service_field, text_field)
 
 # The name in the usage: that of the call, without the folder of an installed command.
 NAME = os.path.basename(sys.argv[0]) if os.path.isabs(sys.argv[0]) else sys.argv[0]
@@ -102,8 +101,7 @@ class Client:
         self.timeout, self.patience, self.once = timeout, patience, once
         self.tries, self.reply = 0, None
         self.assembly = Assembly()
-        # What comes for an earlier client of this port has another number.
-        self.boot, self.number = random.randrange(MOST_NUMBER), random.randrange(MOST_NUMBER // 2)
+        self.boot, self.numbers = new_number(), []
         self.socket = socket.socket(socket.AF_INET, socket.SOCK_DGRAM)
         # The pieces of the longest reply come all at once.
         self.socket.setsockopt(socket.SOL_SOCKET, socket.SO_RCVBUF, 4 * MOST_MESSAGE)
@@ -170,13 +168,13 @@ class Client:
     def ask(self, request: bytes) -> dict:
         """Sends an encoded request until a monitor serves it, and returns the fields of its reply."""
         end = time.monotonic() + self.timeout
-        first, outcomes, self.tries, self.reply = self.number + 1, {}, 0, None
+        outcomes, self.tries, self.reply, self.numbers = {}, 0, None, []
         while time.monotonic() < end and not (self.once and self.tries):
             if self.tries:
                 time.sleep(min(PAUSE, max(0.0, end - time.monotonic())))
             self.tries += 1
             self.send(request)
-            reply = self.answer(first, min(end, time.monotonic() + self.patience))
+            reply = self.answer(min(end, time.monotonic() + self.patience))
             self.reply = reply or self.reply
             if reply and reply.kind in SERVED:
                 return reply.fields
@@ -193,16 +191,16 @@ class Client:
 
     def send(self, request: bytes):
         """Sends a try of a request, under an ID of its own, to the monitor that is asked now."""
-        self.number += 1
-        message = request_message(len(self.addresses), self.number, request)
+        self.numbers.append(new_number())
+        message = request_message(len(self.addresses), self.numbers[-1], request)
         try:
-            for datagram in datagrams(message, self.boot, self.number):
+            for datagram in datagrams(message, self.boot, self.numbers[-1]):
                 self.socket.sendto(datagram, self.addresses[self.asked])
         except OSError:
             # What can't be sent is like what is lost.
             pass
 
-    def answer(self, first: int, end: float) -> Reply | None:
+    def answer(self, end: float) -> Reply | None:
         """The reply to the last try, or a late one that serves an earlier try of the same request, if one comes in time."""
         while (left := end - time.monotonic()) > 0:
             self.socket.settimeout(left)
@@ -215,7 +213,7 @@ class Client:
                 reply = reply_of(message or b'', len(self.addresses))
             except Malformed:
                 continue
-            if reply.number == self.number or first <= reply.number < self.number and reply.kind in SERVED:
+            if reply.number == self.numbers[-1] or reply.number in self.numbers and reply.kind in SERVED:
                 return reply
         return None
 

@@ -1,9 +1,13 @@
-"""Requests and replies as bytes, as docs/FORMATS.md specifies them: what a client of the monitors sends and receives.
+"""Requests, replies and hellos as bytes, as docs/FORMATS.md specifies them: what a client of the monitors sends and receives. Also the frame of
+datagrams between monitors, for tools that see those.
 
-Nothing here uses a socket. A function that makes bytes raises ValueError for what has no encoding; one that reads them raises Malformed.
+Nothing here sends or receives. A function that makes bytes raises ValueError for what has no encoding; one that reads them raises Malformed.
 """
 from __future__ import annotations
 
+import hashlib
+import secrets
+import socket
 import struct
 from typing import NamedTuple
 
@@ -15,6 +19,12 @@ SET, REMOVE, LOG, SHOW, SINCE = range(1, 6)
 SERVICES = {'kv': 1, 'log': 2}
 # Messages of which not all pieces came yet, at most.
 MOST_PARTIAL = 16
+# The first bytes of a framed datagram and of a hello; the bytes of a frame; and the most bytes of a quorum's name and of a program's version.
+FRAME, HELLO = 3, 4
+FRAME_HEADER = 9
+MOST_QUORUM_NAME, MOST_VERSION, MOST_MONITORS = 255, 32, 15
+RULES = ['classic', 'disallow', 'connectivity']
+RULES_BY_CODE = dict(enumerate(RULES))
 
 
 class Malformed(Exception):
@@ -103,6 +113,11 @@ def service_field(service: str) -> bytes:
     return bytes([SERVICES[service]])
 
 
+def new_number() -> int:
+    """A number for a request or a long message. Nobody can guess it, so nobody who doesn't see the request can forge a reply to it."""
+    return secrets.randbelow(MOST_NUMBER)
+
+
 def request_message(monitors: int, number: int, request: bytes) -> bytes:
     return struct.pack('<4BQ', 1, REQUEST, 0, monitors, 0) + number_field(number) + request
 
@@ -113,6 +128,85 @@ def datagrams(message: bytes, boot: int, seq: int) -> list[bytes]:
         return [message]
     head = b'\2\0\0\0' + number_field(boot) + number_field(seq) + struct.pack('<I', len(message))
     return [head + struct.pack('<I', place) + message[place:place + PIECE] for place in range(0, len(message), PIECE)]
+
+
+def rule_field(rule: str) -> bytes:
+    """A rule as the program takes it: a byte for its kind, and for all but `classic` the ranks that never lead, bit r of two bytes for rank r."""
+    kind, _, ranks = rule.partition('=')
+    if kind not in RULES:
+        raise ValueError(f'a rule is {", ".join(RULES)}')
+    never = sum(1 << int(rank) for rank in ranks.split(',') if rank)
+    return bytes([RULES.index(kind)]) + (b'' if kind == 'classic' else struct.pack('<H', never))
+
+
+def quorum_field(name: str, monitors: int, rule: str) -> bytes:
+    """What names a quorum: its name, how many monitors it has, and its rule."""
+    octets = encoded(name)
+    if len(octets) > MOST_QUORUM_NAME:
+        raise ValueError(f'the name of a quorum has at most {MOST_QUORUM_NAME} bytes')
+    return bytes([len(octets)]) + octets + bytes([monitors]) + rule_field(rule)
+
+
+def tag_of(name: str, monitors: int, rule: str) -> bytes:
+    """The tag in the frame of this quorum's datagrams."""
+    return hashlib.sha256(quorum_field(name, monitors, rule)).digest()[:FRAME_HEADER - 1]
+
+
+def framed(datagram: bytes, tag: bytes | None) -> bytes:
+    """A datagram as one monitor sends it to another: in the frame of this tag, or without one if there is no tag."""
+    return datagram if tag is None else bytes([FRAME]) + tag + datagram
+
+
+def unframed(datagram: bytes) -> tuple[bytes | None, bytes]:
+    """The tag of a datagram between monitors and what is in its frame; no tag and the datagram itself if it has no frame."""
+    if datagram[:1] != bytes([FRAME]) or len(datagram) < FRAME_HEADER:
+        return None, datagram
+    return datagram[1:FRAME_HEADER], datagram[FRAME_HEADER:]
+
+
+class Hello(NamedTuple):
+    """What a monitor says of itself: the version of its program, its quorum, its rank, and the addresses that it has for all monitors."""
+    version: str
+    name: str
+    monitors: int
+    rule: str
+    rank: int
+    addresses: list[tuple[str, int]]
+
+    def encode(self) -> bytes:
+        version = encoded(self.version)
+        head = bytes([HELLO, len(version)]) + version + quorum_field(self.name, self.monitors, self.rule) + bytes([self.rank])
+        return head + b''.join(socket.inet_aton(host) + struct.pack('<H', port) for host, port in self.addresses)
+
+
+def greeting(addresses: list[tuple[str, int]]) -> bytes:
+    """A hello with which a client asks a monitor for its own. What it says of a quorum doesn't matter."""
+    return Hello('client', '', len(addresses), 'classic', 0, addresses).encode()
+
+
+def rule_of(reader: Reader) -> str:
+    kind = reader.choice(RULES_BY_CODE)
+    if kind == 'classic':
+        return kind
+    never = reader.unsigned(2)
+    if never >> MOST_MONITORS:
+        raise Malformed(f'a rank above {MOST_MONITORS - 1} before {reader.at}')
+    ranks = ','.join(str(rank) for rank in range(MOST_MONITORS) if never >> rank & 1)
+    return f'{kind}={ranks}' if ranks else kind
+
+
+def hello_of(datagram: bytes) -> Hello:
+    """The hello that is this datagram. Raises Malformed if it is none."""
+    reader = Reader(datagram)
+    if reader.take(1) != bytes([HELLO]):
+        raise Malformed('no hello')
+    version, name = reader.key(), reader.decoded(reader.take(reader.unsigned(1)), 'utf-8')
+    monitors, rule, rank = reader.unsigned(1), rule_of(reader), reader.unsigned(1)
+    if not 1 <= len(version) <= MOST_VERSION or not rank < monitors <= MOST_MONITORS:
+        raise Malformed(f'{version!r}, {rank} of {monitors}')
+    addresses = [(socket.inet_ntoa(reader.take(4)), reader.unsigned(2)) for _ in range(monitors)]
+    reader.end()
+    return Hello(version, name, monitors, rule, rank, addresses)
 
 
 class Assembly:
