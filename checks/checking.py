@@ -19,7 +19,8 @@ sys.path[:0] = [EXAMPLES, os.path.join(TOP, 'bench')]
 # The lines that `node` and `follow` write on standard error because of the machine or of other monitors, each in the form of its beginning.
 ROOM = rb'link: room for \d+ bytes, less than a long message takes: raise net\.core\.rmem_max\n'
 PEER = rb'monitor \d+ [^\n]*\n'
-ASIDE = re.compile(b'^(?:' + b'|'.join([ROOM, PEER]) + b')', re.MULTILINE)
+STOOD = rb'the machine stood still for more than \d+ s: [^\n]*\n'
+ASIDE = re.compile(b'^(?:' + b'|'.join([ROOM, PEER, STOOD]) + b')', re.MULTILINE)
 
 
 class Failed(Exception):

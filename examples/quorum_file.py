@@ -3,13 +3,14 @@
 It is an INI file with one section, `quorum`:
 
     [quorum]
+    name = lab
     rule = classic
     addresses = 10.0.0.1:4000, 10.0.0.2:4000, 10.0.0.3:4000
     folder = /var/lib/cephmon/{rank}
     program = /usr/local/bin/cephmon
 
-or a JSON object with the same names, in which `addresses` may be a list. `addresses` are those of all monitors in order of rank. `rule` is
-`classic` if it isn't given. `folder` holds the files `a` and `b` of a monitor's store. `{rank}` in it is the monitor's rank, and if
+or a JSON object with the same names, in which `addresses` may be a list. `name` is the quorum's: monitors of quorums with different names don't
+hear each other, whatever their addresses. `addresses` are those of all monitors in order of rank. `rule` is `classic` if it isn't given. `folder` holds the files `a` and `b` of a monitor's store. `{rank}` in it is the monitor's rank, and if
 there is none, the monitors must be on different machines. `folder` and `program` are for `examples/monitor` alone.
 """
 from __future__ import annotations
@@ -20,10 +21,13 @@ import re
 import socket
 from typing import NamedTuple
 
-MOST_MONITORS = 15
+from wire import MOST_MONITORS, MOST_QUORUM_NAME
+
 # The longest argument of the program, in bytes.
 MOST_ARGUMENT = 4_096
-NAMES = ['addresses', 'rule', 'folder', 'program']
+NAMES = ['addresses', 'name', 'rule', 'folder', 'program']
+# The environment variable by which the program takes the name of its quorum. No name is the empty one.
+VARIABLE = 'CEPHMON_QUORUM'
 RULE = re.compile(r'(classic|connectivity)|(disallow|connectivity)=(.*)')
 
 
@@ -38,6 +42,7 @@ class Faulty(Exception):
 class QuorumFile(NamedTuple):
     """What the file says, with the numeric addresses of all monitors in order of rank."""
     addresses: list[tuple[str, int]]
+    name: str | None
     rule: str
     folder: str | None
     program: str | None
@@ -71,6 +76,15 @@ def fields_of(path: str) -> dict:
             raise Faulty([f'it must have one section, [quorum], and has {parser.sections() or "none"}'])
         found = dict(parser['quorum'])
     return found
+
+
+def fault_of_name(name: str) -> str | None:
+    """What is wrong with the name of a quorum, if anything is."""
+    if len(name.encode('utf-8', 'surrogatepass')) > MOST_QUORUM_NAME:
+        return f'name: it has more than {MOST_QUORUM_NAME} bytes'
+    if not name.isprintable() or name != name.strip():
+        return 'name: it has characters that are not printed, or begins or ends with a space'
+    return None
 
 
 def fault_of_rule(rule: str, monitors: int) -> str | None:
@@ -134,9 +148,11 @@ def read(path: str) -> QuorumFile:
     if 'addresses' not in found:
         raise Faulty([*faults, 'addresses: they are missing'])
     addresses = addresses_in(found['addresses'], faults)
-    rule = found.get('rule', 'classic')
+    name, rule = found.get('name'), found.get('rule', 'classic')
+    if isinstance(name, str) and name:
+        faults += [fault for fault in [fault_of_name(name)] if fault]
     if addresses and isinstance(rule, str) and rule:
         faults += [fault for fault in [fault_of_rule(rule, len(addresses))] if fault]
     if faults:
         raise Faulty(faults)
-    return QuorumFile(addresses, rule, found.get('folder'), found.get('program'))
+    return QuorumFile(addresses, name, rule, found.get('folder'), found.get('program'))
