@@ -1,0 +1,3 @@
+pub mod Frames
+pub mod Lives
+pub mod Numbers

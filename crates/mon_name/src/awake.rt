@@ -1,0 +1,65 @@
+ghost use Rattle.std.specs.Prelude.{◌≡◌, true, false, None, Ok};
+ghost use Rattle.mon_link.specs.declared.link.Got.TheVariants.{Closed};
+ghost use Rattle.mon_name.specs.Awake.{NextAwake, SendAwake};
+
+use crate::gaps::Gaps;
+use mon_link::{Clock, Got, Link, Peer};
+use mon_types::Stop;
+
+/// A link whose monitor may stand still: it reads a clock at each call. Once more time than a bound passed between two
+/// readings, nothing more is sent, and the link is closed for good.
+#[derive(Drop)]
+pub struct Awake<L: Link + Drop, C: Clock + Drop> {
+    pub inner: L,
+    gaps: Gaps<C>,
+}
+
+impl<L: Link + Drop, C: Clock + Drop> Awake<L, C> {
+    /// A link over this one, which may stand still for `most` milliseconds. The clock is first read at the first call.
+    pub fn new(inner: L, clock: C, most: u64) -> Awake<L, C>
+        ensures inner { result.inner ≡ inner }
+        ensures gaps { result.gaps ≡ record { left = C.left clock; most = most; last = None; stood = false } }
+    {
+        Awake {
+            inner,
+            gaps: Gaps::new(clock, most),
+        }
+    }
+
+    /// Whether it stood still for longer.
+    pub fn stood(&self) -> bool
+        ensures { result ≡ self.now.gaps.stood }
+    {
+        self.gaps.stood()
+    }
+}
+
+impl<L: Link + Drop, C: Clock + Drop> Link for Awake<L, C> {
+    ghost state = { λ r. record { told = None; faults = (L.state r.inner).faults; losses = (L.state r.inner).losses } };
+
+    /// Reads the clock, asks the link below once for what comes, and reads the clock again. After a gap the link is closed:
+    /// the one below isn't asked, and what it gave is dropped.
+    fn next(&mut self, wait: u64) -> Result<Got, Stop>
+        ensures next { NextAwake wait result self.old.gaps self.new.gaps (L.state self.old.inner) (L.state self.new.inner) }
+        ensures stays { self.old.gaps.stood ≡ true → (self.new.gaps.stood ≡ true) × (self.new.inner ≡ self.old.inner) × (result ≡ Ok Closed) }
+    {
+        if self.gaps.reads() {
+            return Ok(Got::Closed);
+        }
+        let gave = self.inner.next(wait);
+        let stood = self.gaps.reads();
+        let got = gave?;
+        Ok(if stood { Got::Closed } else { got })
+    }
+
+    /// Reads the clock, and sends a datagram. After a gap nothing is sent, and the answer is that nothing failed.
+    fn send(&mut self, to: Peer, bytes: &[u8]) -> Result<(), Stop>
+        ensures send { SendAwake to bytes.now result self.old.gaps self.new.gaps (L.state self.old.inner) (L.state self.new.inner) }
+        ensures stays { self.old.gaps.stood ≡ true → (self.new.gaps.stood ≡ true) × (self.new.inner ≡ self.old.inner) }
+    {
+        if self.gaps.reads() {
+            return Ok(());
+        }
+        self.inner.send(to, bytes)
+    }
+}

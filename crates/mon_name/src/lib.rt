@@ -1,0 +1,19 @@
+//! Links below a monitor's: one whose datagrams name a quorum and whose pieces have the number of a life, and one that is
+//! closed once the machine stood still.
+#![tactic(auto)]
+
+mod awake;
+mod boot_clock;
+mod frame;
+mod gaps;
+mod law;
+mod life;
+mod named;
+mod renumber;
+
+pub use awake::Awake;
+pub use boot_clock::BootClock;
+pub use gaps::Gaps;
+pub use law::{law_frame, law_lives_apart, law_renumber};
+pub use life::{Life, OfLife, life_of, new_life};
+pub use named::Named;
