@@ -15,9 +15,17 @@ use std::io::{Error, ErrorKind};
 use std::os::unix::fs::{FileExt, MetadataExt, OpenOptionsExt};
 use std::path::Path;
 
-/// The file of a name. From its first call on it is locked. A call fails if the name is gone by then, or names another
-/// file. After a call that failed each later one fails too: the system may have lost what was written before and then
-/// answer that all is well.
+/// A file, and which one it is: while it is open, no other file gets its inode on its device.
+#[derive(Drop)]
+struct OpenedFile<F> {
+    file: F,
+    device: u64,
+    inode: u64,
+}
+
+/// The file of a name. From its first call on it is locked. A sync fails if, after the system's sync, the name is gone
+/// or names another file. After a call that failed each later one fails too: the system may have lost what was written
+/// before and then answer that all is well.
 #[derive(Drop)]
 pub struct FileDisk<R: Files + Copy>
 where
@@ -25,7 +33,7 @@ where
 {
     rt: R,
     path: String,
-    file: Option<R::File>,
+    file: Option<OpenedFile<R::File>>,
     failure: Option<Error>,
     known: u64,
     faults: u64,
@@ -57,7 +65,7 @@ where
         self.failure.as_ref()
     }
 
-    /// Opens the file, unless it is open; then its name has to be its own still.
+    /// Opens the file, unless it is open.
     // A call that lends the file out can't say what it leaves of the rest, so each caller looks at it again.
     fn open(&mut self) -> io::Result<()>
         ensures known { self.new.known ≡ self.old.known }
@@ -67,8 +75,8 @@ where
         if self.failure.is_some() {
             return Err(ErrorKind::Other.into());
         }
-        if let Some(file) = &self.file {
-            return has_name(&self.rt, file, self.path.as_str());
+        if self.file.is_some() {
+            return Ok(());
         }
         let file = settled(&self.rt, self.path.as_str())?;
         keep_name(&self.rt, *self.path.allocator(), self.path.as_str())?;
@@ -98,7 +106,7 @@ where
     {
         self.open()?;
         match &self.file {
-            Some(file) => Ok(file.metadata()?.len()),
+            Some(opened) => Ok(opened.file.metadata()?.len()),
             None => Err(ErrorKind::NotFound.into()),
         }
     }
@@ -111,7 +119,7 @@ where
     {
         self.open()?;
         match &self.file {
-            Some(file) => file.read_exact_at(into, at),
+            Some(opened) => opened.file.read_exact_at(into, at),
             None => Err(ErrorKind::NotFound.into()),
         }
     }
@@ -123,11 +131,13 @@ where
     {
         self.open()?;
         match &self.file {
-            Some(file) => file.write_all_at(bytes, at),
+            Some(opened) => opened.file.write_all_at(bytes, at),
             None => Err(ErrorKind::NotFound.into()),
         }
     }
 
+    /// Syncs the file, and then looks at its name: a file that lost its name before the system's sync returned is
+    /// noticed before its caller answers or sends anything.
     fn keep(&mut self) -> io::Result<()>
         ensures known { self.new.known ≡ self.old.known }
         ensures faults { self.new.faults ≡ self.old.faults }
@@ -135,7 +145,10 @@ where
     {
         self.open()?;
         match &self.file {
-            Some(file) => file.sync_data(),
+            Some(opened) => {
+                opened.file.sync_data()?;
+                has_name(&self.rt, opened, self.path.as_str())
+            }
             None => Err(ErrorKind::NotFound.into()),
         }
     }
@@ -143,7 +156,7 @@ where
 
 /// The file of a name, opened for this process alone. A read gives what is on the device: a sync of an earlier process
 /// that failed leaves the system's copies other than that.
-fn settled<R: Files>(rt: &R, path: &str) -> io::Result<R::File>
+fn settled<R: Files>(rt: &R, path: &str) -> io::Result<OpenedFile<R::File>>
 where
     R::File: DeviceFile,
 {
@@ -151,20 +164,24 @@ where
     options.read(true).write(true).create(true);
     options.mode(0o600);
     let file = options.open(rt, path)?.claim()?;
-    if !file.metadata()?.is_file() {
+    let found = file.metadata()?;
+    if !found.is_file() {
         return Err(Error::new(ErrorKind::Unsupported, "not a regular file"));
     }
     file.sync_all()?;
     file.forget_pages()?;
-    Ok(file)
+    Ok(OpenedFile {
+        file,
+        device: found.dev(),
+        inode: found.ino(),
+    })
 }
 
 /// Whether the name still names this open file. What is written to a file that was removed or replaced is lost when
 /// the file is closed.
-fn has_name<R: Files>(rt: &R, file: &R::File, path: &str) -> io::Result<()> {
+fn has_name<R: Files>(rt: &R, opened: &OpenedFile<R::File>, path: &str) -> io::Result<()> {
     let named = metadata(rt, path)?;
-    let open = file.metadata()?;
-    if named.dev() == open.dev() && named.ino() == open.ino() {
+    if named.dev() == opened.device && named.ino() == opened.inode {
         return Ok(());
     }
     Err(Error::new(ErrorKind::NotFound, "the file was replaced"))

@@ -318,13 +318,13 @@ fn a_file_is_synced_and_so_is_its_folder(rt: HostRuntime) -> Result<(), Fail> {
         given_up,
     } = run_on_file(rt.alloc(), 0)?;
     assert!(rt; done && !given_up);
-    assert!(rt; asked.calls.starts_with(b"ocmsfpOSmnmwwnmdnmmnmrr") && asked.count == 23);
+    assert!(rt; asked.calls.starts_with(b"ocmsfpOSmwwdnmrr") && asked.count == 16);
     Ok(())
 }
 
 #[test]
 fn after_each_call_that_fails_the_file_is_given_up(rt: HostRuntime) -> Result<(), Fail> {
-    for failing in 1usize..=23 {
+    for failing in 1usize..=16 {
         let went = run_on_file(rt.alloc(), failing)?;
         assert!(rt; !went.done && went.given_up, "call {failing}");
     }
