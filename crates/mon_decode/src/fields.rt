@@ -108,13 +108,14 @@ pub(crate) fn read_word<const MOST: usize>(
     }
     let at = cursor.at();
     let bytes = cursor.take_bytes(length)?;
-    if !Word::<MOST>::is_form(bytes) {
-        return Err(MsgRefused::At {
+    let bytes = Vec::from_slice(alloc, bytes).map_err(OutOfMemory::from)?;
+    match Word::new(bytes) {
+        Some(word) => Ok(word),
+        None => Err(MsgRefused::At {
             at,
             kind: MsgKind::Value,
-        });
+        }),
     }
-    Ok(Word::from_slice(alloc, bytes)?)
 }
 
 /// A transaction's encoding after its length.

@@ -1,6 +1,6 @@
 //! The bodies of messages, read from left to right.
 
-ghost use Rattle.std.specs.Prelude.{◌≡◌, ℕ, ◌≤◌};
+ghost use Rattle.std.specs.Prelude.{◌≡◌, ℕ, ◌≤◌, true, false};
 ghost use Rattle.mon_wire.specs.Message.Format.{Reads};
 ghost use Rattle.mon_wire.specs.Message.Bodies.{body_at};
 
@@ -116,13 +116,28 @@ fn read_get_chunk(alloc: Global, cursor: &mut Cursor<'_>) -> Result<Body, MsgRef
     Ok(Body::GetChunk { cookie, place })
 }
 
-fn read_chunk(alloc: Global, cursor: &mut Cursor<'_>) -> Result<Body, MsgRefused>
-    ensures { (n own : ℕ) → Reads (λ x. x) result cursor.new (body_at n own Kind.Chunk cursor.old) }
+/// What follows a place. A CHUNK ends with whether the entries are at their end, and a LAST_CHUNK with the provider's
+/// last version.
+fn read_chunk(alloc: Global, is_last: bool, cursor: &mut Cursor<'_>) -> Result<Body, MsgRefused>
+    ensures chunk { is_last ≡ false →
+        (n own : ℕ) → Reads (λ x. x) result cursor.new (body_at n own Kind.Chunk cursor.old) }
+    ensures last_chunk { is_last ≡ true →
+        (n own : ℕ) → Reads (λ x. x) result cursor.new (body_at n own Kind.LastChunk cursor.old) }
 {
     let cookie = read_cookie(cursor)?;
     let place = read_place(alloc, cursor)?;
     let values = read_list(alloc, cursor)?;
     let entries = read_list(alloc, cursor)?;
+    if is_last {
+        let last = read_number(cursor)?;
+        return Ok(Body::LastChunk {
+            cookie,
+            place,
+            values,
+            entries,
+            last,
+        });
+    }
     let done = read_flag(cursor)?;
     Ok(Body::Chunk {
         cookie,
@@ -130,23 +145,6 @@ fn read_chunk(alloc: Global, cursor: &mut Cursor<'_>) -> Result<Body, MsgRefused
         values,
         entries,
         done,
-    })
-}
-
-fn read_last_chunk(alloc: Global, cursor: &mut Cursor<'_>) -> Result<Body, MsgRefused>
-    ensures { (n own : ℕ) → Reads (λ x. x) result cursor.new (body_at n own Kind.LastChunk cursor.old) }
-{
-    let cookie = read_cookie(cursor)?;
-    let place = read_place(alloc, cursor)?;
-    let values = read_list(alloc, cursor)?;
-    let entries = read_list(alloc, cursor)?;
-    let last = read_number(cursor)?;
-    Ok(Body::LastChunk {
-        cookie,
-        place,
-        values,
-        entries,
-        last,
     })
 }
 
@@ -206,8 +204,8 @@ pub(crate) fn read_body(
         }),
         Kind::Cookie => read_granted(cursor),
         Kind::GetChunk => read_get_chunk(alloc, cursor),
-        Kind::Chunk => read_chunk(alloc, cursor),
-        Kind::LastChunk => read_last_chunk(alloc, cursor),
+        Kind::Chunk => read_chunk(alloc, false, cursor),
+        Kind::LastChunk => read_chunk(alloc, true, cursor),
         Kind::NoCookie => Ok(Body::NoCookie {
             cookie: read_cookie(cursor)?,
         }),

@@ -1,4 +1,4 @@
-use Rattle.std.proofs.Common.{◌≡◌, ℕ, Result, sym, subst}
+use Rattle.std.proofs.Common.{◌≡◌, ℕ, Result, refl, sym, subst}
 use Rattle.mon_wire.specs.Message.Bodies.{body_at}
 use Rattle.mon_bytes.specs.Reading.{Reading}
 use Rattle.mon_wire.specs.Message.Format.{Reads}
@@ -44,10 +44,10 @@ pub returns-in-GetChunk : goal.returns-in-GetChunk
 returns-in-GetChunk c = as_kind c.args.n c.args.own c.args.kind kind.GetChunk c.in-GetChunk.is c.read_get_chunk.result c.read_get_chunk.new.cursor c.args.cursor.now (c.read_get_chunk.ensures c.args.n c.args.own)
 
 pub returns-in-Chunk : goal.returns-in-Chunk
-returns-in-Chunk c = as_kind c.args.n c.args.own c.args.kind kind.Chunk c.in-Chunk.is c.read_chunk.result c.read_chunk.new.cursor c.args.cursor.now (c.read_chunk.ensures c.args.n c.args.own)
+returns-in-Chunk c = as_kind c.args.n c.args.own c.args.kind kind.Chunk c.in-Chunk.is c.read_chunk.result c.read_chunk.new.cursor c.args.cursor.now (c.read_chunk.ensures.chunk refl c.args.n c.args.own)
 
 pub returns-in-LastChunk : goal.returns-in-LastChunk
-returns-in-LastChunk c = as_kind c.args.n c.args.own c.args.kind kind.LastChunk c.in-LastChunk.is c.read_last_chunk.result c.read_last_chunk.new.cursor c.args.cursor.now (c.read_last_chunk.ensures c.args.n c.args.own)
+returns-in-LastChunk c = as_kind c.args.n c.args.own c.args.kind kind.LastChunk c.in-LastChunk.is c.read_chunk-in-LastChunk.result c.read_chunk-in-LastChunk.new.cursor c.args.cursor.now (c.read_chunk-in-LastChunk.ensures.last_chunk refl c.args.n c.args.own)
 
 pub returns-in-Request : goal.returns-in-Request
 returns-in-Request c = as_kind c.args.n c.args.own c.args.kind kind.Request c.in-Request.is c.read_asked.result c.read_asked.new.cursor c.args.cursor.now (c.read_asked.ensures c.args.n c.args.own)
