@@ -202,7 +202,7 @@ def hello_of(datagram: bytes) -> Hello:
         raise Malformed('no hello')
     version, name = reader.key(), reader.decoded(reader.take(reader.unsigned(1)), 'utf-8')
     monitors, rule, rank = reader.unsigned(1), rule_of(reader), reader.unsigned(1)
-    if not 1 <= len(version) <= MOST_VERSION or not rank < monitors <= MOST_MONITORS:
+    if not 1 <= len(version) <= MOST_VERSION or not all('!' <= letter <= '~' for letter in version) or not rank < monitors <= MOST_MONITORS:
         raise Malformed(f'{version!r}, {rank} of {monitors}')
     addresses = [(socket.inet_ntoa(reader.take(4)), reader.unsigned(2)) for _ in range(monitors)]
     reader.end()
