@@ -105,6 +105,11 @@ class Program:
         has_socket = words[:1] in (('node',), ('follow',))
         return Ended(done.returncode, done.stdout, without_asides(done.stderr) if has_socket else done.stderr)
 
+    def ended(self, running: subprocess.Popen, seconds: float) -> Ended:
+        """How a monitor or a client that follows ends in time, which was started before."""
+        output, errors = running.communicate(timeout=seconds)
+        return Ended(running.returncode, output or b'', without_asides(errors))
+
     def replay(self, schedule: bytes) -> bytes:
         """The trace of a schedule, which must be replayed to its end."""
         ended = self.run('replay', schedule=schedule)
