@@ -10,7 +10,8 @@ abbrev pub FrameComesOff : Type 0
 FrameComesOff = (tag : ℕ) (datagram : List ℕ) → tag < 2 ^ 64 → unframed tag (framed tag datagram) ≡ Some datagram
 
 abbrev pub TagsApart : Type 0
-TagsApart = (tag other : ℕ) (datagram : List ℕ) → tag < 2 ^ 64 → (tag ≡ other → ⊥) → unframed other (framed tag datagram) ≡ None
+TagsApart =
+    (tag other : ℕ) (datagram : List ℕ) → tag < 2 ^ 64 → (tag ≡ other → ⊥) → unframed other (framed tag datagram) ≡ None
 
 abbrev pub PiecesRenumbered : Type 0
 PiecesRenumbered =
@@ -21,7 +22,8 @@ PiecesRenumbered =
 abbrev pub IsPiece : List ℕ → Header → Type 0
 IsPiece bytes h = (is_piece bytes ≡ true) × (header_of bytes ≡ Ok h)
 
--- Two lives sent these pieces, made of any datagrams. If the lives have different numbers, the pieces differ in number or seq.
+-- Two lives send these pieces, of whatever they were given. If the lives have different numbers, the pieces don't share
+-- both of theirs.
 abbrev pub LivesApart : Type 0
 LivesApart =
     (life other : ℕ) (a b : List ℕ) (h k : Header) → life < 2 ^ 64 → other < 2 ^ 64 → (life ≡ other → ⊥)

@@ -37,11 +37,13 @@ impl<L: Link + Drop, C: Clock + Drop> Awake<L, C> {
 impl<L: Link + Drop, C: Clock + Drop> Link for Awake<L, C> {
     ghost state = { λ r. record { told = None; faults = (L.state r.inner).faults; losses = (L.state r.inner).losses } };
 
-    /// Reads the clock, asks the link below once for what comes, and reads the clock again. After a gap the link is closed:
-    /// the one below isn't asked, and what it gave is dropped.
+    /// Reads the clock, asks the link below once for what comes, and reads the clock again. After a gap it is closed, and
+    /// doesn't ask the link below. What that gave before a gap was seen is dropped.
     fn next(&mut self, wait: u64) -> Result<Got, Stop>
-        ensures next { NextAwake wait result self.old.gaps self.new.gaps (L.state self.old.inner) (L.state self.new.inner) }
-        ensures stays { self.old.gaps.stood ≡ true → (self.new.gaps.stood ≡ true) × (self.new.inner ≡ self.old.inner) × (result ≡ Ok Closed) }
+        ensures next { NextAwake wait result self.old.gaps self.new.gaps
+            (L.state self.old.inner) (L.state self.new.inner) }
+        ensures stays { self.old.gaps.stood ≡ true
+            → (self.new.gaps.stood ≡ true) × (self.new.inner ≡ self.old.inner) × (result ≡ Ok Closed) }
     {
         if self.gaps.reads() {
             return Ok(Got::Closed);
@@ -54,8 +56,10 @@ impl<L: Link + Drop, C: Clock + Drop> Link for Awake<L, C> {
 
     /// Reads the clock, and sends a datagram. After a gap nothing is sent, and the answer is that nothing failed.
     fn send(&mut self, to: Peer, bytes: &[u8]) -> Result<(), Stop>
-        ensures send { SendAwake to bytes.now result self.old.gaps self.new.gaps (L.state self.old.inner) (L.state self.new.inner) }
-        ensures stays { self.old.gaps.stood ≡ true → (self.new.gaps.stood ≡ true) × (self.new.inner ≡ self.old.inner) }
+        ensures send { SendAwake to bytes.now result self.old.gaps self.new.gaps
+            (L.state self.old.inner) (L.state self.new.inner) }
+        ensures stays { self.old.gaps.stood ≡ true
+            → (self.new.gaps.stood ≡ true) × (self.new.inner ≡ self.old.inner) }
     {
         if self.gaps.reads() {
             return Ok(());

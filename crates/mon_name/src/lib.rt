@@ -1,5 +1,5 @@
-//! Links below a monitor's: one whose datagrams name a quorum and whose pieces have the number of a life, and one that is
-//! closed once the machine stood still.
+//! Two links over another one. The datagrams of one name a quorum, and its pieces of long messages have the number of a
+//! life. The other one is closed once the machine stood still.
 #![tactic(auto)]
 
 mod awake;

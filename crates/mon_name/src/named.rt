@@ -13,9 +13,9 @@ use mon_link::{Got, Link, Peer};
 use mon_types::{Rank, Stop};
 use std::alloc::Global;
 
-/// A link whose datagrams between monitors are in the frame of a quorum's tag. In pieces of long messages, to monitors and
-/// to clients, the number of a life replaces the sender's boot. What a monitor's address sends without this frame is
-/// dropped.
+/// A link whose datagrams between monitors are in the frame of a quorum's tag. What comes from a monitor's address without
+/// this frame is dropped. In pieces of long messages, to monitors and to clients, the number of a life replaces the boot
+/// of the sender.
 #[derive(Drop)]
 pub struct Named<L: Link + Drop> {
     pub inner: L,
@@ -88,8 +88,8 @@ impl<L: Link + Drop> Link for Named<L> {
 
     ghost state = { λ r. record { told = None; faults = (L.state r.inner).faults; losses = (L.state r.inner).losses } };
 
-    /// Asks the link below once for what comes, for as long. What comes from a monitor's address without this tag's frame is
-    /// Idle.
+    /// Asks the link below once for what comes, for as long. The answer is Idle if a monitor's address sent bytes without
+    /// this tag's frame.
     fn next(&mut self, wait: u64) -> Result<Got, Stop>
         ensures asks { Unframes self.old.tag wait result (L.state self.old.inner) (L.state self.new.inner) }
         ensures tag { self.new.tag ≡ self.old.tag }
@@ -104,7 +104,8 @@ impl<L: Link + Drop> Link for Named<L> {
 
     /// Asks the link below once to send the datagram, with the number of the life, and framed if it goes to a monitor.
     fn send(&mut self, to: Peer, bytes: &[u8]) -> Result<(), Stop>
-        ensures sends { CallsSend to (wired self.old.tag self.old.life to bytes.now) result (L.state self.old.inner) (L.state self.new.inner) }
+        ensures sends { CallsSend to (wired self.old.tag self.old.life to bytes.now) result
+            (L.state self.old.inner) (L.state self.new.inner) }
         ensures tag { self.new.tag ≡ self.old.tag }
         ensures life { self.new.life ≡ self.old.life }
     {
