@@ -1,3 +1,4 @@
+pub mod Clients
 pub mod Clocks
 pub mod Links
 pub mod Memory

@@ -1,5 +1,5 @@
 -- What can be seen of a link, and what each call does to it.
-use Rattle.std.specs.Prelude.{◌≡◌, ℕ, List, [], ◌∷◌, ◌++◌, length, Option, IfSome, option_map, Result, Ok, Err, if◌then◌else◌}
+use Rattle.std.specs.Prelude.{◌≡◌, ℕ, List, [], ◌∷◌, ◌++◌, length, Option, None, IfSome, option_map, Result, Ok, Err, if◌then◌else◌}
 use Rattle.mon_types.specs.Faults.{risen}
 use Rattle.mon_types.specs.declared.names.Stop.{Stop}
 use Rattle.mon_types.specs.declared.names.Stop.TheVariants.{Failed, OutOfMemory}
@@ -24,6 +24,10 @@ pub record LinkState : Type 0 where
   pub told : Option Told
   pub faults : ℕ
   pub losses : ℕ
+
+-- a link of which its counts alone can be seen
+abbrev pub unseen : (faults losses : ℕ) → LinkState
+unseen faults losses = record { told = None; faults = faults; losses = losses }
 
 -- a count that rises if and only if a call fails
 abbrev pub count_after : {T : Type 0} → Result T Stop → ℕ → ℕ

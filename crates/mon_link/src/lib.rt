@@ -9,6 +9,7 @@ mod link;
 mod memory;
 mod memory_link;
 mod outside;
+mod passing;
 mod run_clock;
 mod udp;
 mod whole;

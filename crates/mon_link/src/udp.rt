@@ -1,10 +1,13 @@
 //! Datagrams of the system. Contracts see nothing of what is received or sent, only whether a call failed.
 
-ghost use Rattle.std.specs.Prelude.{◌≡◌, None, Some, ◌≤◌, IfOk, option_map, vec_len};
+ghost use Rattle.std.specs.Prelude.{◌≡◌, IsTrue, None, Some, ◌≤◌, IfOk, option_map, vec_len};
+ghost use Rattle.mon_link.specs.Clients.{Recognizes, KnowsSender, is_datagram};
+ghost use Rattle.mon_link.specs.Links.{CallsNext, unseen};
 
 use crate::clients::Clients;
 use crate::link::{Got, Link, Peer};
 use crate::outside::raised;
+use crate::passing::Passing;
 use libc::net::{POLLIN, POLLOUT, SO_RCVBUF, SOL_SOCKET, getsockopt, poll, setsockopt};
 use libc::types::pollfd;
 use mon_bytes::{Bytes, OutOfMemory};
@@ -28,9 +31,7 @@ const LONG_MESSAGE: u32 = 1_700_000;
 /// How long a datagram waits until the system has room to send it, in milliseconds.
 const SEND_WAIT: u64 = 200;
 
-/// How many receives in a row may fail for a passing reason, and the longest pause after each, in milliseconds.
-const MOST_PASSING: u32 = 16;
-
+/// The longest pause after a receive that failed for a passing reason, in milliseconds.
 const PASSING_PAUSE: u64 = 10;
 
 /// The system's number for a lack of buffers. It has no `ErrorKind`.
@@ -60,7 +61,7 @@ pub struct UdpLink<R: Net + Copy> {
     socket: Option<UdpSocket>,
     room: Vec<u8>,
     failure: Option<Error>,
-    passing: u32,
+    passing: Passing,
     faults: u64,
     losses: u64,
 }
@@ -104,7 +105,7 @@ impl<R: Net + Copy> UdpLink<R> {
             socket: None,
             room: Vec::new(alloc),
             failure: None,
-            passing: 0,
+            passing: Passing::new(),
             faults: 0,
             losses: 0,
         }
@@ -152,6 +153,7 @@ impl<R: Net + Copy> UdpLink<R> {
 
     /// Binds the socket, unless it is bound. None of its calls waits by itself.
     fn open(&mut self) -> io::Result<()>
+        ensures clients { self.new.clients ≡ self.old.clients }
         ensures failure { self.new.failure ≡ self.old.failure }
         ensures faults { self.new.faults ≡ self.old.faults }
         ensures losses { self.new.losses ≡ self.old.losses }
@@ -168,6 +170,7 @@ impl<R: Net + Copy> UdpLink<R> {
 
     /// Makes the buffer into which datagrams are received, unless it is there.
     fn make_room(&mut self) -> Result<(), OutOfMemory>
+        ensures clients { self.new.clients ≡ self.old.clients }
         ensures faults { self.new.faults ≡ self.old.faults }
         ensures losses { self.new.losses ≡ self.old.losses }
     {
@@ -179,6 +182,7 @@ impl<R: Net + Copy> UdpLink<R> {
 
     /// Receives into the buffer. The system is asked to wait only if nothing is there.
     fn receive(&mut self, wait: u64) -> io::Result<(usize, SocketAddr)>
+        ensures clients { self.new.clients ≡ self.old.clients }
         ensures faults { self.new.faults ≡ self.old.faults }
         ensures losses { self.new.losses ≡ self.old.losses }
         ensures bound { IfOk result (λ r. r.0 ≤ vec_len self.new.room) }
@@ -207,18 +211,17 @@ impl<R: Net + Copy> UdpLink<R> {
 
     /// Whether a receive that failed may be tried again: it failed for a passing reason, and few before it did in a row.
     fn passes(&mut self, said: &Error) -> bool
+        ensures clients { self.new.clients ≡ self.old.clients }
         ensures faults { self.new.faults ≡ self.old.faults }
         ensures losses { self.new.losses ≡ self.old.losses }
     {
-        if !is_passing(said) || self.passing >= MOST_PASSING {
-            return false;
-        }
-        self.passing += 1;
-        true
+        is_passing(said) && self.passing.allows()
     }
 
     /// Who is at an address.
     fn peer_at(&mut self, sender: SocketAddr) -> Result<Peer, OutOfMemory>
+        ensures sender { IfOk result (λ peer. Recognizes peer sender self.old.clients self.new.clients) }
+        ensures passing { self.new.passing ≡ self.old.passing }
         ensures faults { self.new.faults ≡ self.old.faults }
         ensures losses { self.new.losses ≡ self.old.losses }
     {
@@ -318,15 +321,19 @@ fn is_passing(said: &Error) -> bool {
 }
 
 impl<R: Net + Copy> Link for UdpLink<R> {
-    ghost state = { λ l. record { told = None; faults = l.faults; losses = l.losses } };
+    ghost state = { λ l. unseen l.faults l.losses };
 
-    fn next(&mut self, wait: u64) -> Result<Got, Stop> {
+    fn next(&mut self, wait: u64) -> Result<Got, Stop>
+        ensures calls { CallsNext wait result (unseen self.old.faults self.old.losses) (unseen self.new.faults self.new.losses) }
+        ensures sender { IfOk result (λ got. KnowsSender got self.old.clients self.new.clients) }
+        ensures passing { IfOk result (λ got. IsTrue (is_datagram got) → self.new.passing.count ≡ 0) }
+    {
         if self.make_room().is_err() {
             return Err(Stop::OutOfMemory);
         }
         match self.receive(wait) {
             Ok((count, sender)) => {
-                self.passing = 0;
+                self.passing = Passing::new();
                 let Ok(bytes) = self.received(count) else {
                     return Err(Stop::OutOfMemory);
                 };
@@ -337,7 +344,7 @@ impl<R: Net + Copy> Link for UdpLink<R> {
             }
             Err(said) => {
                 if is_idle(said.kind()) {
-                    self.passing = 0;
+                    self.passing = Passing::new();
                     return Ok(Got::Idle);
                 }
                 if self.passes(&said) {
