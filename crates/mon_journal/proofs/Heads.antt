@@ -31,14 +31,14 @@ pub past_end : (at : ℕ) (file : List ℕ) → length file ≤ at → records_a
 past_end at file le = ap (λ (bytes : List ℕ). records_at (from at bytes)) (drop_all at file le) ∙ nothing_at at
 
 -- the first of the bytes from a place on
-pub first_byte : (at gate : ℕ) (file bytes : List ℕ) → bytes ≡ take 1 (drop at file) → length bytes ≡ 1 → gate ≡ get_or bytes 0 gate → drop at file ≡ gate ∷ drop (at + 1) file
+pub first_byte : (at gate : ℕ) (file bytes : List ℕ) → bytes ≡ take 1 (drop at file) → length bytes ≡ 1 → gate ≡ get_or bytes 0 0 → drop at file ≡ gate ∷ drop (at + 1) file
 first_byte at gate file bytes is one value = by (drop at file) refl
   where
     by : (rest : List ℕ) → drop at file ≡ rest → drop at file ≡ gate ∷ drop (at + 1) file
     by [] same = absurd (omega (arith, one, ap length is, ap (λ (l : List ℕ). length (take 1 l)) same))
     by (byte ∷ rest) same =
         let only : bytes ≡ byte ∷ [] = is ∙ ap (λ (l : List ℕ). take 1 l) same in
-        let gate_is : gate ≡ byte = value ∙ ap (λ (l : List ℕ). get_or l 0 gate) only in
+        let gate_is : gate ≡ byte = value ∙ ap (λ (l : List ℕ). get_or l 0 0) only in
         let behind : drop (at + 1) file ≡ rest = sym (drop-drop 1 at file) ∙ ap (λ (l : List ℕ). drop 1 l) same in
         same ∙ ap (λ (g : ℕ). g ∷ rest) (sym gate_is) ∙ ap (λ (l : List ℕ). gate ∷ l) (sym behind)
 
@@ -114,7 +114,7 @@ module _ (s : Option (List ℕ)) (end at : ℕ) where
   pub past : Long → end ≤ at → Answers (Err (NotAStore at))
   past long le = each_file s (λ file. end ≡ length file) (λ file. HeadAt (Err (NotAStore at)) (left_at at file)) (λ file is. past_end at file (omega (arith, is, le))) long
 
-  module _ (bytes : List ℕ) (gate : ℕ) (value : gate ≡ get_or bytes 0 gate) (one : length bytes ≡ 1) (read : IfSome s (λ file. bytes ≡ take 1 (drop at file))) where
+  module _ (bytes : List ℕ) (gate : ℕ) (value : gate ≡ get_or bytes 0 0) (one : length bytes ≡ 1) (read : IfSome s (λ file. bytes ≡ take 1 (drop at file))) where
     pub shut : gate ≢ 1 → Answers (Ok None)
     shut closed = each_file s (λ file. bytes ≡ take 1 (drop at file)) (λ file. HeadAt (Ok None) (left_at at file)) (λ file is. shut_at at gate file (first_byte at gate file bytes is one value) closed) read
 

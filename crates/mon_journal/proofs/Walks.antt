@@ -1,16 +1,16 @@
 -- The payloads of a store's file, read one after the other.
-use Rattle.std.proofs.Common.{◌≡◌, ℕ, ◌+◌, List, [], ◌∷◌, length, take, drop, Option, Some, None, Result, Ok, Err, refl, sym, ap, ◌∙◌, subst, arith}
+use Rattle.std.proofs.Common.{◌≡◌, ℕ, ◌+◌, List, [], ◌∷◌, take, drop, Option, Some, None, Result, Ok, Err, sym, ap, ◌∙◌}
 use Rattle.std.specs.Prelude.{IfSome}
 use Rattle.std.proofs.lemmas.List.{drop-drop}
-use Rattle.mon_bytes.specs.Reading.{Reading, moved}
+use Rattle.mon_bytes.specs.Reading.{Reading}
 use Rattle.mon_bytes.proofs.Fields.{ok_is}
 use Rattle.mon_journal.specs.declared.stop.JournalStop.{JournalStop}
 use Rattle.mon_journal.specs.declared.stop.JournalStop.TheVariants.{DiskFault, NotAStore, OutOfMemory}
 use Rattle.mon_journal.specs.declared.journal.Journal.{Journal}
-use Rattle.mon_journal.specs.Content.{Header, Held, with_front, header_at, records_at, payloads_in, payloads_of, content, held_by, Holds, Fails, IsStore, IsLeft, IsNext, HeadAt, NextIs}
+use Rattle.mon_journal.specs.Content.{with_front, header_at, records_at, payloads_in, payloads_of, held_by, Holds, Fails, IsStore, IsLeft, IsNext, HeadAt, NextIs}
 use Rattle.mon_journal.specs.Pieces.{left_at}
 use Rattle.mon_journal.proofs.Local.{from, bind_ok}
-use Rattle.mon_journal.proofs.RecordParts.{Found, one_found}
+use Rattle.mon_journal.proofs.RecordParts.{one_found}
 use Rattle.mon_journal.proofs.Files.{held_with, held_open, held_found, opened_file}
 use Rattle.mon_journal.specs.Steps.{IsOutside}
 use Rattle.mon_journal.proofs.Steady.{header_steady}

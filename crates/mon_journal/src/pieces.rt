@@ -89,18 +89,20 @@ impl Piece {
         count <= self.bytes.len() - (at - self.at) as usize
     }
 
-    /// The bytes of the file at a place.
-    fn get(&self, at: u64, count: usize) -> &[u8]
+    /// The bytes of the file at a place, which the piece has.
+    pub fn get(&self, at: u64, count: usize) -> &[u8]
         requires from { self.now.at ≤ at }
         requires to { at + count ≤ self.now.at + length self.now.bytes }
-        ensures { result.now ≡ take count (drop (at - self.now.at) self.now.bytes) }
+        ensures length { length result.now ≡ count }
+        ensures bytes { result.now ≡ take count (drop (at - self.now.at) self.now.bytes) }
     {
         let from = (at - self.at) as usize;
         &self.bytes[from..from + count]
     }
 
-    /// Reads on, unless the piece has these bytes of the file. The old piece is released before the new one is made.
-    fn reach<D: Disk>(&mut self, disk: &mut D, at: u64, count: usize) -> Result<(), JournalStop>
+    /// Reads on, unless the piece has these bytes of the file. The old piece is released before the new one is made, which
+    /// needs memory for the bytes, or for at most 65,536 bytes if they are fewer.
+    pub fn reach<D: Disk>(&mut self, disk: &mut D, at: u64, count: usize) -> Result<(), JournalStop>
         requires within { at + count ≤ self.old.end }
         requires on { IsPieceOf (D.state disk.old) self.old }
         ensures disk { OnlyReads (stop_in result) (D.state disk.old) (D.state disk.new) }
@@ -120,7 +122,7 @@ impl Piece {
         Ok(())
     }
 
-    /// The bytes of the file at a place. It needs memory for them, and for at most 65,536 other bytes.
+    /// A copy of the bytes of the file at a place. It needs memory for them, and for at most 65,536 other bytes.
     pub fn bytes<D: Disk>(
         &mut self,
         disk: &mut D,

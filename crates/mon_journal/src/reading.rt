@@ -3,7 +3,7 @@
 ghost use Rattle.std.specs.Prelude.{◌≡◌, ℕ, ◌≤◌, ◌<◌, ◌^◌, List, IfOk, IfErr, ◌==◌};
 ghost use Rattle.std.specs.List.{list_all};
 ghost use Rattle.std.specs.Str.{bytes_eq};
-ghost use Rattle.mon_journal.specs.Fields.{first_word, second_word, form_at, owner_at, zeros_at, generation_at, payload_at, Reads};
+ghost use Rattle.mon_journal.specs.Fields.{first_word, second_word, form_at, owner_at, zeros_at, generation_at, Reads};
 ghost use Rattle.mon_journal.specs.Content.{header_of, header_at, IsOfForm};
 
 use crate::journal::{Form, Journal};
@@ -110,14 +110,4 @@ pub fn header_at(cursor: &mut Cursor<'_>) -> Result<Journal, JournalStop>
         next_gate: cursor.at() as u64,
         form,
     })
-}
-
-/// A record's length and its payload.
-#[tactic(auto, unfolding(crate::specs::Fields::payload_at))]
-pub fn payload_at<'a>(cursor: &mut Cursor<'a>) -> Result<&'a [u8], JournalStop>
-    ensures payload { Reads (λ payload. payload.now) result cursor.new (payload_at cursor.old) }
-    ensures form { IfErr result IsOfForm }
-{
-    let length = cursor.take_u32()?;
-    Ok(cursor.take_bytes(length as usize)?)
 }

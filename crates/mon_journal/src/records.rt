@@ -31,16 +31,16 @@ pub fn length_at<D: Disk>(
     if at >= piece.end() {
         return Err(JournalStop::NotAStore { at });
     }
-    let gate = piece.bytes(disk, at, 1)?;
-    if gate[0] != 1 {
+    piece.reach(disk, at, 1)?;
+    if piece.get(at, 1)[0] != 1 {
         return Ok(None);
     }
     let left = piece.end() - at - 1;
     if left < 4 {
         return Err(JournalStop::NotAStore { at: at + 1 });
     }
-    let number = piece.bytes(disk, at + 1, 4)?;
-    let length = LittleEndian::read_u32(&number);
+    piece.reach(disk, at + 1, 4)?;
+    let length = LittleEndian::read_u32(piece.get(at + 1, 4));
     if length as u64 > left - 4 {
         return Err(JournalStop::NotAStore { at: at + 5 });
     }
@@ -95,11 +95,12 @@ pub fn held_on<D: Disk>(piece: &mut Piece, disk: &mut D) -> Result<Option<Journa
     ensures within { IfOk result (λ found. IfSome found (λ journal. journal.next_gate < piece.old.end)) }
 {
     let count = piece.end().min(HEADER) as usize;
-    let head = piece.bytes(disk, 0, count)?;
-    if is_closed(&head) {
+    piece.reach(disk, 0, count)?;
+    let head = piece.get(0, count);
+    if is_closed(head) {
         return Ok(None);
     }
-    let journal = header_in(&head)?;
+    let journal = header_in(head)?;
     let next_gate = gate_behind(piece, disk)?;
     Ok(Some(Journal {
         member: journal.member,

@@ -1,6 +1,4 @@
 use Rattle.std.proofs.Common.{arith}
-use Rattle.mon_journal.specs.Steps.{IsOutside}
-use Rattle.mon_journal.specs.declared.stop.JournalStop.TheVariants.{NotAStore}
 use Rattle.mon_journal.proofs.Finds.{not_short}
 use Rattle.mon_journal.proofs.Walks.{all_left_on}
 use Rattle.mon_journal.proofs.reader.Reader.of.Goals as goal
