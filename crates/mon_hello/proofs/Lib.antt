@@ -1,0 +1,4 @@
+pub mod Fields
+pub mod InTurn
+pub mod Lengths
+pub mod Whole

@@ -1,0 +1,4 @@
+pub mod Formats
+pub mod Greets
+pub mod Laws
+pub mod Names

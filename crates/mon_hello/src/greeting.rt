@@ -1,0 +1,108 @@
+//! A link whose monitors greet one another.
+
+ghost use Rattle.std.specs.Prelude.{◌≡◌};
+ghost use Rattle.mon_link.specs.Links.{CallsSend, count_after};
+ghost use Rattle.mon_hello.specs.Greets.{AsksOnce, passed};
+
+use crate::heard::Heard;
+use crate::hello::is_hello;
+use crate::lines::Say;
+use crate::own::Own;
+use crate::sending::greet;
+use mon_link::{Clock, Got, Link, Peer};
+use mon_types::Stop;
+
+/// How long it is from one round of hellos to the next, in milliseconds.
+pub const INTERVAL: u64 = 10_000;
+
+/// A link that sends what a monitor says of itself to each other monitor, at its first call that receives and then every
+/// 10 s, and to each client that greets. It takes what others say of themselves, and says how they differ.
+#[derive(Drop)]
+pub struct Greeting<L: Link + Drop, C: Clock + Drop, S: Say + Drop> {
+    pub inner: L,
+    pub clock: C,
+    pub say: S,
+    pub own: Own,
+    pub heard: Heard,
+    /// When the next round of hellos is due, in milliseconds of the clock.
+    pub due: u64,
+    pub losses: u64,
+}
+
+/// What is handed on of what came.
+fn passed(got: Got) -> Got
+    ensures { result ≡ passed got }
+{
+    match got {
+        Got::Datagram { from, bytes } => {
+            if is_hello(bytes.as_slice()) {
+                return Got::Idle;
+            }
+            Got::Datagram { from, bytes }
+        }
+        Got::Idle => Got::Idle,
+        Got::Closed => Got::Closed,
+    }
+}
+
+impl<L: Link + Drop, C: Clock + Drop, S: Say + Drop> Greeting<L, C, S> {
+    /// A link over this one, which has sent nothing yet.
+    pub fn new(inner: L, clock: C, say: S, own: Own, heard: Heard) -> Greeting<L, C, S>
+        ensures inner { result.inner ≡ inner }
+        ensures clock { result.clock ≡ clock }
+        ensures own { result.own ≡ own }
+        ensures due { result.due ≡ 0 }
+        ensures losses { result.losses ≡ 0 }
+    {
+        Greeting {
+            inner,
+            clock,
+            say,
+            own,
+            heard,
+            due: 0,
+            losses: 0,
+        }
+    }
+}
+
+impl<L: Link + Drop, C: Clock + Drop, S: Say + Drop> Link for Greeting<L, C, S> {
+    ghost use Rattle.std.specs.Prelude.{None};
+
+    ghost state = { λ r. record { told = None; faults = (L.state r.inner).faults; losses = r.losses } };
+
+    /// Asks the link once for what comes. Then hellos may go.
+    #[tactic(auto, using(crate::proofs::InTurn::faults_stay))]
+    fn next(&mut self, wait: u64) -> Result<Got, Stop>
+        ensures asks { AsksOnce self.old.own.member self.old.own.datagram self.old.due self.new.due (C.left self.old.clock)
+            wait result (L.state self.old.inner) (L.state self.new.inner) }
+        ensures own { self.new.own ≡ self.old.own }
+        ensures losses { self.new.losses ≡ self.old.losses }
+    {
+        let got = self.inner.next(wait)?;
+        let now = self.clock.now().get();
+        let Ok(asker) = self.heard.takes(&self.own, &got, now, &mut self.say) else {
+            return Err(Stop::OutOfMemory);
+        };
+        let due = self.due <= now;
+        if due {
+            self.due = now + INTERVAL;
+        }
+        greet(&mut self.inner, &self.own, asker, due);
+        Ok(passed(got))
+    }
+
+    /// Sends a datagram as it is.
+    fn send(&mut self, to: Peer, bytes: &[u8]) -> Result<(), Stop>
+        ensures sends { CallsSend to bytes.now result (L.state self.old.inner) (L.state self.new.inner) }
+        ensures own { self.new.own ≡ self.old.own }
+        ensures due { self.new.due ≡ self.old.due }
+        ensures losses { self.new.losses ≡ count_after result self.old.losses }
+    {
+        let sent = self.inner.send(to, bytes);
+        if let Err(Stop::Failed) = sent {
+            self.losses = self.losses.saturating_add(1);
+        }
+        sent
+    }
+}

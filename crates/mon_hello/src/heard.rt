@@ -1,0 +1,192 @@
+ghost use Rattle.std.specs.Prelude.{◌≡◌, IfOk};
+ghost use Rattle.mon_hello.specs.Greets.{asked_by, asker};
+ghost use Rattle.mon_hello.specs.Formats.{hello_of};
+
+use crate::hello::{Hello, is_hello};
+use crate::lines::{Reason, Say, line_of, unnamed_line};
+use crate::own::Own;
+use mon_bytes::{Bytes, Decode, MapRefused, OutOfMemory};
+use mon_link::{Got, Peer};
+use mon_types::Rank;
+use std::alloc::Global;
+
+/// How many lines are said in an interval at most, and how long it is, in milliseconds.
+const MOST_LINES: u32 = 20;
+
+const LINES_INTERVAL: u64 = 10_000;
+
+/// What is known of a monitor.
+#[derive(Drop)]
+pub struct Known {
+    /// Its newest hello.
+    pub hello: Option<Hello>,
+    /// When that came, in milliseconds of the link's clock.
+    pub heard: u64,
+    /// What was said of it since it last agreed, by reason.
+    said: [bool; 6],
+}
+
+/// What other monitors said of themselves, in order of rank, and what was said of them.
+#[derive(Drop)]
+pub struct Heard {
+    pub known: Vec<Known>,
+    /// The bytes with which each framed datagram of one's own quorum begins.
+    frame: Bytes,
+    /// The lines of the interval that began at that time.
+    lines: u32,
+    begun: u64,
+    alloc: Global,
+}
+
+impl Heard {
+    /// Nothing was heard of this number of monitors. The frame of an empty datagram is how each one of the quorum begins.
+    pub fn new(alloc: Global, monitors: u8, frame: Bytes) -> Result<Heard, OutOfMemory> {
+        let mut known = Vec::new(alloc);
+        for _ in 0..monitors {
+            known.push(Known {
+                hello: None,
+                heard: 0,
+                said: [false; 6],
+            })?;
+        }
+        Ok(Heard {
+            known,
+            frame,
+            lines: 0,
+            begun: 0,
+            alloc,
+        })
+    }
+
+    /// Counts a line, if one more may be said.
+    fn counts(&mut self, now: u64) -> bool {
+        if now >= self.begun.saturating_add(LINES_INTERVAL) {
+            self.begun = now;
+            self.lines = 0;
+        }
+        if self.lines >= MOST_LINES {
+            return false;
+        }
+        self.lines += 1;
+        true
+    }
+
+    /// Whether a line of a monitor was said for this reason since it last agreed. If there is no such monitor, it was.
+    fn was_said(&self, from: Rank, reason: Reason) -> bool {
+        match self.known.get(usize::from(from.get())) {
+            Some(known) => known.said[reason.place()],
+            None => true,
+        }
+    }
+
+    fn set_said(&mut self, from: Rank, reason: Reason, said: bool) {
+        if let Some(known) = self.known.get_mut(usize::from(from.get())) {
+            known.said[reason.place()] = said;
+        }
+    }
+
+    /// Says a line, unless it was said since the monitor last agreed. It agrees if the line is empty.
+    fn says<S: Say>(&mut self, from: Rank, reason: Reason, line: &str, now: u64, say: &mut S) {
+        if line.is_empty() {
+            self.set_said(from, reason, false);
+        } else if !self.was_said(from, reason) && self.counts(now) {
+            self.set_said(from, reason, true);
+            say.say(line);
+        }
+    }
+
+    fn compares<S: Say>(
+        &mut self,
+        from: Rank,
+        theirs: &Hello,
+        ours: &Hello,
+        now: u64,
+        say: &mut S,
+    ) {
+        for reason in Reason::IN_HELLO {
+            if let Ok(line) = line_of(self.alloc, reason, from, theirs, ours) {
+                self.says(from, reason, line.as_str(), now, say);
+            }
+        }
+    }
+
+    /// Takes a monitor's hello, and says how it differs from one's own.
+    fn hears<S: Say>(&mut self, from: Rank, theirs: Hello, ours: &Hello, now: u64, say: &mut S) {
+        self.compares(from, &theirs, ours, now, say);
+        if let Some(known) = self.known.get_mut(usize::from(from.get())) {
+            known.hello = Some(theirs);
+            known.heard = now;
+        }
+    }
+
+    /// Takes that a monitor's datagram was in the frame of one's own quorum, or wasn't.
+    fn frames<S: Say>(&mut self, from: Rank, framed: bool, now: u64, say: &mut S) {
+        if framed {
+            self.set_said(from, Reason::Unnamed, false);
+        } else if !self.was_said(from, Reason::Unnamed)
+            && let Ok(line) = unnamed_line(self.alloc, from)
+        {
+            self.says(from, Reason::Unnamed, line.as_str(), now, say);
+        }
+    }
+
+    /// Takes what a monitor sent.
+    fn came<S: Say>(
+        &mut self,
+        own: &Own,
+        from: Rank,
+        bytes: &[u8],
+        now: u64,
+        say: &mut S,
+    ) -> Result<(), OutOfMemory> {
+        if !is_hello(bytes) {
+            let framed = bytes.starts_with(self.frame.as_slice());
+            self.frames(from, framed, now, say);
+            return Ok(());
+        }
+        match Hello::decode(self.alloc, bytes) {
+            Ok(theirs) => {
+                self.hears(from, theirs, &own.hello, now, say);
+                Ok(())
+            }
+            Err(MapRefused::Form { .. }) => Ok(()),
+            Err(MapRefused::OutOfMemory) => Err(OutOfMemory),
+        }
+    }
+
+    /// Takes what came, and says how its sender differs. Returns the client that sent a hello, if one did.
+    pub(crate) fn takes<S: Say>(
+        &mut self,
+        own: &Own,
+        got: &Got,
+        now: u64,
+        say: &mut S,
+    ) -> Result<Option<u32>, OutOfMemory>
+        ensures { IfOk result (λ x. x ≡ asker got.now) }
+    {
+        match got {
+            Got::Datagram { from, bytes } => match from {
+                Peer::Client(client) => asked(self.alloc, *client, bytes.as_slice()),
+                Peer::Monitor(rank) => {
+                    self.came(own, *rank, bytes.as_slice(), now, say)?;
+                    Ok(None)
+                }
+            },
+            Got::Idle | Got::Closed => Ok(None),
+        }
+    }
+}
+
+/// The client, if what it sent is a hello.
+fn asked(alloc: Global, client: u32, bytes: &[u8]) -> Result<Option<u32>, OutOfMemory>
+    ensures { IfOk result (λ x. x ≡ asked_by client (hello_of bytes.now)) }
+{
+    match Hello::decode(alloc, bytes) {
+        Ok(hello) => {
+            drop(hello);
+            Ok(Some(client))
+        }
+        Err(MapRefused::Form { .. }) => Ok(None),
+        Err(MapRefused::OutOfMemory) => Err(OutOfMemory),
+    }
+}
