@@ -22,6 +22,8 @@ pub struct Copies {
     boxes: Vec<Outbox>,
     /// The greatest epoch of a message that went to a monitor or came from one.
     epoch: u64,
+    /// The epoch of the last message that went to a monitor, or 0 if that was a PROBE: then the monitor is in no quorum.
+    own: u64,
     ghost most: { vec_len boxes ≤ 15 },
 }
 
@@ -44,6 +46,7 @@ impl Copies {
             alloc,
             boxes: Vec::new(alloc),
             epoch: 0,
+            own: 0,
         }
     }
 
@@ -126,12 +129,24 @@ impl Copies {
         }
     }
 
+    /// Notes the epoch of a message that goes to any monitor.
+    fn is_in(&mut self, header: Header)
+        ensures { self.new ≡ self.old }
+    {
+        if header.kind == Kind::Probe {
+            self.own = 0;
+        } else if header.kind.is_of_epoch() {
+            self.own = header.epoch;
+        }
+    }
+
     /// Drops what a message that goes to any monitor ends of the copies for all of them.
     #[tactic(auto, using(crate::proofs::Parts::through))]
     fn ends(&mut self, header: Header, now: u64)
         ensures { AreOf self.old self.new }
     {
         self.rises(header, now);
+        self.is_in(header);
         match header.kind {
             Kind::Probe => self.apply(Event::Left, now),
             Kind::Ack => self.apply(Event::Deferred, now),
@@ -197,6 +212,29 @@ impl Copies {
         }
     }
 
+    fn drops_at(&mut self, place: usize, header: Header, now: u64) -> bool
+        ensures { self.new ≡ self.old }
+    {
+        if place >= self.boxes.len() {
+            return false;
+        }
+        let own = self.own;
+        self.boxes[place].drops(header, own, now)
+    }
+
+    /// Whether a message that came is a PROPOSE that isn't handed up.
+    fn drops(&mut self, from: Rank, header: Header, now: u64) -> bool
+        ensures { self.new ≡ self.old }
+    {
+        if header.kind != Kind::Propose {
+            return false;
+        }
+        match self.place_of(from.get()) {
+            Some(place) => self.drops_at(place, header, now),
+            None => false,
+        }
+    }
+
     fn comes_at(&mut self, place: usize, header: Header, bytes: &[u8], now: u64) -> bool
         ensures { AreOf self.old self.new }
     {
@@ -232,7 +270,8 @@ impl Copies {
         }
     }
 
-    /// Notes what came from a monitor. Whether the copy of an answer alone answers it. Of a long message no piece answers
+    /// Notes what came from a monitor. Whether it isn't handed up: the copy of an answer alone answers it, or it is a PROPOSE
+    /// that is dropped. Of a long message no piece answers
     /// anything: another one may be missing.
     #[tactic(auto, using(crate::proofs::Parts::same, crate::proofs::Parts::through))]
     pub(crate) fn comes(&mut self, from: Rank, bytes: &[u8], now: u64) -> bool
@@ -241,7 +280,7 @@ impl Copies {
         match part_of(bytes) {
             Some(Part::Whole(header)) => {
                 self.rises(header, now);
-                self.hears(from, header, bytes, now)
+                self.drops(from, header, now) || self.hears(from, header, bytes, now)
             }
             Some(Part::First(header, _)) => match header.kind {
                 Kind::Begin | Kind::Forward => self.hears(from, header, bytes, now),

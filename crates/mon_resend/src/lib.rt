@@ -1,6 +1,7 @@
 //! A link that sends again what a monitor sent to another one and what wasn't answered.
 #![tactic(auto)]
 
+mod calls;
 mod copies;
 mod header;
 mod measure;

@@ -10,12 +10,17 @@ const MOST_TIME: u64 = 2_000;
 /// The parts of a millisecond in which times are smoothed.
 const PARTS: u64 = 1_000;
 
+/// How many answers in a row that come soon after the first copy show that the peer is faster than it was.
+const MOST_SOON: u8 = 3;
+
 /// The smoothed time of a peer's answers and its variation, in parts of a millisecond, once there was one.
 #[derive(Clone, Copy)]
 pub(crate) struct Measure {
     known: bool,
     smoothed: u64,
     variation: u64,
+    /// How many answers in a row came soon after the first copy, at most `MOST_SOON`.
+    soon: u8,
 }
 
 impl Measure {
@@ -24,22 +29,27 @@ impl Measure {
             known: false,
             smoothed: 0,
             variation: 0,
+            soon: 0,
         }
     }
 
-    /// After an answer that came this many milliseconds after its message went last. If the message went more than once it
-    /// may answer an earlier copy, which makes the time too short: such an answer counts only if it is later than usual.
-    pub(crate) fn after(self, time: u64, went_again: bool) -> Measure {
+    /// After an answer that came this many milliseconds after its message went last, as a copy for this many times. After a
+    /// copy it may answer an earlier one, which makes the time too short: such an answer counts if it is later than usual.
+    pub(crate) fn after(self, time: u64, copies: u8) -> Measure {
         let time = time.min(MOST_TIME).saturating_mul(PARTS);
-        if went_again && self.known && time <= self.smoothed {
-            return self;
-        }
         if !self.known {
             return Measure {
                 known: true,
                 smoothed: time,
                 variation: time / 2,
+                soon: 0,
             };
+        }
+        if copies == 1 && time <= self.smoothed / 4 {
+            return self.after_soon();
+        }
+        if copies > 0 && time <= self.smoothed {
+            return Measure { soon: 0, ..self };
         }
         let smoothed = self.smoothed.min(MOST_TIME * PARTS);
         let variation = self.variation.min(MOST_TIME * PARTS);
@@ -47,6 +57,24 @@ impl Measure {
             known: true,
             smoothed: (7 * smoothed + time) / 8,
             variation: (3 * variation + smoothed.abs_diff(time)) / 4,
+            soon: 0,
+        }
+    }
+
+    /// After an answer that came in less than a quarter of the usual time after the first copy. It rarely answers the message
+    /// itself. After some in a row the usual time is halved by each.
+    fn after_soon(self) -> Measure {
+        if self.soon.saturating_add(1) < MOST_SOON {
+            return Measure {
+                soon: self.soon.saturating_add(1),
+                ..self
+            };
+        }
+        Measure {
+            known: true,
+            smoothed: self.smoothed / 2,
+            variation: self.variation / 2,
+            soon: self.soon,
         }
     }
 

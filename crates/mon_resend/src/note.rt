@@ -8,9 +8,6 @@ const TIMES: u8 = 16;
 /// The longest time between two copies, unless the first one took longer, in milliseconds.
 const LONGEST: u64 = 1_000;
 
-/// How long a LEASE is repeated, in milliseconds. The leader sends a new one each 3 seconds.
-const LEASE_TIME: u64 = 2_500;
-
 /// The least time until a request for a copy of the store goes again, and until one for a chunk does, in milliseconds. A
 /// second request for a copy ends the first one, and a chunk takes long to read and to send.
 const LEAST_OF_COOKIE: u64 = 2_000;
@@ -53,8 +50,7 @@ pub(crate) struct Note {
     pub(crate) header: Header,
     /// How many datagrams its message is.
     pub(crate) pieces: u64,
-    /// When it went first and last, when it goes again, and how long after that once more.
-    pub(crate) sent: u64,
+    /// When it went last, when it goes again, and how long after that once more.
     pub(crate) last: u64,
     pub(crate) due: u64,
     every: u64,
@@ -81,7 +77,6 @@ impl Note {
         Note {
             header,
             pieces,
-            sent: now,
             last: now,
             due: if held || header.kind.answers() {
                 u64::MAX
@@ -153,13 +148,9 @@ impl Note {
         is_its && kept.first == came.first
     }
 
-    /// Whether it went often enough, or long enough.
+    /// Whether it went often enough.
     fn is_spent(&self, now: u64) -> bool {
-        if self.due > now {
-            return false;
-        }
-        self.times >= TIMES
-            || (self.header.kind == Kind::Lease && now.saturating_sub(self.sent) > LEASE_TIME)
+        self.due <= now && self.times >= TIMES
     }
 
     /// Whether an event ends it: then it is kept no longer.
@@ -194,7 +185,6 @@ impl Note {
     /// What is noted when it is to go.
     fn called(self, now: u64) -> Note {
         Note {
-            sent: now,
             last: now,
             due: now,
             times: 0,

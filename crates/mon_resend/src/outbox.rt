@@ -4,6 +4,7 @@ ghost use Rattle.std.specs.Prelude.{◌≡◌, ◌++◌, ◌∷◌, [], length, 
 ghost use Rattle.mon_resend.specs.Copied.{AreOf, datagram};
 ghost use Rattle.mon_link.specs.declared.link.Peer.TheVariants.{Monitor};
 
+use crate::calls::{Acknowledged, Earlier};
 use crate::header::{BEFORE, Header, Kind, Number, PART, Piece};
 use crate::measure::Measure;
 use crate::note::{Event, Note};
@@ -39,6 +40,9 @@ pub(crate) struct Outbox {
     /// GET_CHUNK follows it.
     heard: Option<Number>,
     past: Option<Number>,
+    /// Its PROPOSEs that may not be handed up.
+    earlier: Earlier,
+    acknowledged: Acknowledged,
     /// No copy goes before this time.
     due: u64,
 }
@@ -65,6 +69,8 @@ impl Outbox {
             asked: Vec::new(alloc),
             heard: None,
             past: None,
+            earlier: Earlier::none(),
+            acknowledged: Acknowledged::none(),
             due: u64::MAX,
         }
     }
@@ -134,8 +140,10 @@ impl Outbox {
         ensures { AreOf self.old self.new }
     {
         self.under_way = UnderWay::Nothing;
-        if header.kind == Kind::GetChunk {
-            self.past = self.heard;
+        match header.kind {
+            Kind::GetChunk => self.past = self.heard,
+            Kind::Ack => self.acknowledged = self.acknowledged.in_epoch(header.epoch, now),
+            _ => {}
         }
         self.apply(Event::Sent(header), now);
     }
@@ -260,7 +268,7 @@ impl Outbox {
                 )
                 && note.is_answered_by(came)
             {
-                measured = measured.after(now.saturating_sub(note.last), note.times > 0);
+                measured = measured.after(now.saturating_sub(note.last), note.times);
             }
         }
         self.measure = measured;
@@ -309,6 +317,35 @@ impl Outbox {
     {
         self.measures(came, now);
         self.apply(Event::Came(came), now);
+    }
+
+    /// Whether a PROPOSE isn't handed up, given the epoch of the last message that went to any monitor, or 0 after a PROBE. One
+    /// of an earlier epoch than that of a quorum rests after the one before it. One that was acknowledged isn't handed up if
+    /// its monitor hears no acknowledgement.
+    pub(crate) fn drops(&mut self, call: Header, own: u64, now: u64) -> bool
+        ensures { self.new ≡ self.old }
+    {
+        if call.epoch < own && own % 2 == 0 {
+            return self.drops_earlier(now);
+        }
+        if call.epoch == own && call.epoch == self.acknowledged.epoch() {
+            self.acknowledged = self.acknowledged.after(now);
+            return self.acknowledged.drops(now);
+        }
+        false
+    }
+
+    /// Whether a PROPOSE of an earlier epoch than that of the own quorum isn't handed up.
+    fn drops_earlier(&mut self, now: u64) -> bool
+        ensures { self.new ≡ self.old }
+    {
+        match self.earlier.after(now) {
+            Some(earlier) => {
+                self.earlier = earlier;
+                false
+            }
+            None => true,
+        }
     }
 
     /// Notes that a message came. Whether the copy of its answer alone answers it, and not the monitor. A BEGIN would be
