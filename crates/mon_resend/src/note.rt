@@ -105,8 +105,8 @@ impl Note {
         }
     }
 
-    /// Whether a message that came from the peer answers this one. A PROPOSE of the same epoch is no answer to a PROPOSE: the
-    /// peer may have proposed itself because it dropped this one while it probed. What a copier of the store asks next shows
+    /// Whether a message that came from the peer answers this one. A PROBE or PROPOSE of the same epoch is no answer to a PROPOSE:
+    /// the peer drops this one while it probes, and then proposes itself. What a copier of the store asks next shows
     /// that the CHUNK before it arrived. Nothing that comes answers a copier's own question: it may answer an earlier one, and
     /// the next question follows at once if it doesn't.
     pub(crate) fn is_answered_by(&self, came: Header) -> bool {
@@ -115,7 +115,7 @@ impl Note {
             Kind::Propose => {
                 came.kind.is_of_epoch()
                     && (came.epoch > kept.epoch
-                        || (came.epoch == kept.epoch && came.kind != Kind::Propose))
+                        || (came.epoch == kept.epoch && came.kind == Kind::Ack))
             }
             Kind::Victory => matches!(came.kind, Kind::Last | Kind::Accept | Kind::LeaseAck),
             Kind::Collect => came.kind == Kind::Last && came.first >= kept.first,
