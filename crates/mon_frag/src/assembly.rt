@@ -1,12 +1,13 @@
-ghost use Rattle.std.specs.Prelude.{◌≡◌, ◌<◌, nat_lt, if◌then◌else◌, None, ◌≤◌, ◌++◌, [], ◌∷◌, IfOk, IfSome, OnOk, OnErr, Some, length, slice_get};
+ghost use Rattle.std.specs.Prelude.{◌≡◌, ◌<◌, nat_lt, not, ◌&&◌, if◌then◌else◌, None, ◌≤◌, ◌++◌, [], ◌∷◌, IfOk, IfSome, OnOk, OnErr, Some, length, slice_get};
 ghost use Rattle.std.specs.List.{position};
 ghost use Rattle.mon_frag.specs.declared.assembly.TheConstants.{MOST_OF_CLIENTS};
+ghost use Rattle.mon_frag.specs.declared.cutting.TheConstants.{DATAGRAM};
 ghost use Rattle.mon_frag.specs.Headers.{is_piece};
 ghost use Rattle.mon_frag.specs.Keeping.{Takes, taken, piece_taken, at_found, joined_with, first_of, oldest_against, is_client, is_of, same_peer, without};
 
 use crate::cutting::DATAGRAM;
 use crate::header::{Header, PART, PIECE, behind_header, read_header};
-use crate::partial::{Joined, Partial, is_same};
+use crate::partial::{Joined, Partial};
 use crate::refused::FragRefused;
 use mon_bytes::{Bytes, OutOfMemory};
 use mon_link::Peer;
@@ -42,14 +43,14 @@ impl Model for Assembly {
 fn place_from(kept: &[Partial], from: &Peer) -> Option<usize>
     ensures { result ≡ position (λ p. same_peer from.now p.from) kept.now }
 {
-    kept.iter().position(|p| is_same(from, &p.from))
+    kept.iter().position(|p| *from == p.from)
 }
 
 /// The place of the first one from a peer, if there are `most` of them.
 fn first_from(kept: &[Partial], from: &Peer, most: usize) -> Option<usize>
     ensures { result ≡ first_of most (λ p. same_peer from.now p.from) kept.now }
 {
-    if kept.iter().filter(|p| is_same(from, &p.from)).count() < most {
+    if kept.iter().filter(|p| *from == p.from).count() < most {
         return None;
     }
     place_from(kept, from)
@@ -199,7 +200,7 @@ impl Assembly {
         if datagram.len() > DATAGRAM {
             return Err(FragRefused::TooLong);
         }
-        if !begins_a_piece(datagram) {
+        if is_whole(datagram) {
             return Ok(Some(copied(alloc, datagram)?));
         }
         let header = read_header(datagram)?;
@@ -211,6 +212,14 @@ fn copied(alloc: Global, bytes: &[u8]) -> Result<Bytes, OutOfMemory>
     ensures { IfOk result (λ x. x ≡ bytes.now) }
 {
     Ok(Bytes::new(Vec::from_slice(alloc, bytes)?))
+}
+
+/// Whether a datagram is a message by itself: it isn't too long, and it is no piece. `take` returns a copy of such a
+/// datagram and keeps nothing of it, so a caller may read it without `take`.
+pub fn is_whole(datagram: &[u8]) -> bool
+    ensures { result ≡ (not (nat_lt DATAGRAM (length datagram.now)) && not (is_piece datagram.now)) }
+{
+    datagram.len() <= DATAGRAM && !begins_a_piece(datagram)
 }
 
 fn begins_a_piece(datagram: &[u8]) -> bool

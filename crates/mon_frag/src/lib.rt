@@ -8,7 +8,7 @@ mod law;
 mod partial;
 mod refused;
 
-pub use assembly::Assembly;
+pub use assembly::{Assembly, is_whole};
 pub use cutting::{DATAGRAM, pieces};
 pub use law::law_whole;
 pub use refused::FragRefused;

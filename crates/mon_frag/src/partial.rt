@@ -47,12 +47,6 @@ pub enum Joined {
     Whole(Bytes),
 }
 
-pub(crate) fn is_same(a: &Peer, b: &Peer) -> bool
-    ensures { result ≡ same_peer a.now b.now }
-{
-    *a == *b
-}
-
 fn append(whole: &mut Vec<u8>, parts: &[Option<Bytes>]) -> Result<(), OutOfMemory>
     ensures { OnOk result (whole.new.items ≡ whole.old.items ++ flat_map (λ part. unwrap_or part []) parts.now) }
 {
@@ -94,14 +88,20 @@ impl Parts {
         are_there(front) && are_there(back)
     }
 
-    /// The bytes of the parts, with these at a place.
-    fn around(&self, alloc: Global, at: usize, bytes: &[u8]) -> Result<Vec<u8>, OutOfMemory>
+    /// The bytes of the parts, with these at a place. They are `total`, and so much room is made for them at first.
+    fn around(
+        &self,
+        alloc: Global,
+        total: u32,
+        at: usize,
+        bytes: &[u8],
+    ) -> Result<Vec<u8>, OutOfMemory>
         requires { at < length self.now }
         ensures { IfOk result (λ whole. whole.items ≡ flat_map (λ part. unwrap_or part []) (take at self.now) ++ bytes.now ++ flat_map (λ part. unwrap_or part []) (drop (at + 1) self.now)) }
     {
         let (front, _) = self.parts.split_at(at);
         let (_, back) = self.parts.split_at(at + 1);
-        let mut whole = Vec::new(alloc);
+        let mut whole = Vec::with_capacity(alloc, total as usize)?;
         append(&mut whole, front)?;
         whole.extend_from_slice(bytes)?;
         append(&mut whole, back)?;
@@ -110,20 +110,32 @@ impl Parts {
 
     /// The result of a part at a place that is still empty: the message, if no other part is missing.
     #[tactic(auto, using(crate::proofs::Lists::grown_more, crate::proofs::Lists::grown_whole))]
-    fn grow(&self, alloc: Global, at: usize, bytes: &[u8]) -> Result<Joined, OutOfMemory>
+    fn grow(
+        &self,
+        alloc: Global,
+        total: u32,
+        at: usize,
+        bytes: &[u8],
+    ) -> Result<Joined, OutOfMemory>
         requires { at < length self.now }
         ensures { IfOk result (λ joined. joined ≡ grown (slice_set self.now at (Some bytes.now))) }
     {
         if !self.are_others_there(at) {
             return Ok(Joined::More);
         }
-        let whole = self.around(alloc, at, bytes)?;
+        let whole = self.around(alloc, total, at, bytes)?;
         Ok(Joined::Whole(Bytes::new(whole)))
     }
 
-    /// What comes of a part at a place.
+    /// What comes of a part at a place of a message of `total` bytes.
     #[tactic(auto, using(crate::proofs::Lists::grown_is))]
-    fn join(&self, alloc: Global, at: usize, bytes: &[u8]) -> Result<Joined, OutOfMemory>
+    fn join(
+        &self,
+        alloc: Global,
+        total: u32,
+        at: usize,
+        bytes: &[u8],
+    ) -> Result<Joined, OutOfMemory>
         ensures joined { IfOk result (λ joined. joined ≡ joined_at self.now at bytes.now (slice_get self.now at)) }
         ensures room { IfOk result (λ joined. joined ≡ Joined.More → at < length self.now) }
         ensures last { OnErr result (joined_at self.now at bytes.now (slice_get self.now at) ≢ Joined.Clash) }
@@ -139,7 +151,7 @@ impl Parts {
                     Ok(Joined::Clash)
                 }
             }
-            None => self.grow(alloc, at, bytes),
+            None => self.grow(alloc, total, at, bytes),
         }
     }
 
@@ -177,7 +189,7 @@ impl Partial {
     pub fn is_of(&self, from: &Peer, boot: u64, seq: u64) -> bool
         ensures { result ≡ is_of from.now boot seq self.now }
     {
-        is_same(from, &self.from) && boot == self.boot && seq == self.seq
+        *from == self.from && boot == self.boot && seq == self.seq
     }
 
     /// What a piece does to it.
@@ -189,7 +201,7 @@ impl Partial {
         if self.total != header.total {
             return Ok(Joined::Clash);
         }
-        self.parts
-            .join(alloc, (header.place / PART) as usize, bytes)
+        let at = (header.place / PART) as usize;
+        self.parts.join(alloc, self.total, at, bytes)
     }
 }
