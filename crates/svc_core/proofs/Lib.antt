@@ -6,8 +6,10 @@ pub mod Fulls
 pub mod Kindly
 pub mod MapSizes
 pub mod Onwards
+pub mod Outlines
 pub mod Rooms
 pub mod Rows
+pub mod Scans
 pub mod ShortValues
 pub mod Starts
 pub mod Steps

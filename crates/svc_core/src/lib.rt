@@ -6,11 +6,13 @@ mod cache;
 mod changed;
 mod made;
 pub mod mon_trim;
+mod outline;
 mod proposal;
 mod reading;
 mod room;
 mod row;
 mod rules;
+mod scan;
 mod step;
 mod turn;
 

@@ -1,19 +1,20 @@
 //! What a command makes of a service's map.
 
-ghost use Rattle.std.specs.Prelude.{◌≡◌, ℕ, ◌≤◌, length, [], true, false, Ok, IfOk, IfSome};
+ghost use Rattle.std.specs.Prelude.{◌≡◌, ℕ, ◌≤◌, length, [], true, false, Ok, IfOk, IfErr, IfSome};
 ghost use Rattle.map_kv.specs.Made.{IsOfKv};
 ghost use Rattle.map_kv.specs.Map as kv_map;
 ghost use Rattle.map_kv.specs.Text as kv_text;
 ghost use Rattle.map_kv.specs.declared.command.TheConstants.{MOST_KV_MAP};
 ghost use Rattle.map_log.specs.Map as log_map;
 ghost use Rattle.map_log.specs.Text as log_text;
-ghost use Rattle.mon_bytes.specs.Makes.{Makes};
+ghost use Rattle.mon_bytes.specs.Makes.{Makes, Refuses};
 ghost use Rattle.mon_bytes.specs.declared.command.Command.TheVariants as command;
 ghost use Rattle.mon_msg.specs.Protocol.Services.{read_map};
 ghost use Rattle.mon_msg.specs.Protocol.Value.{made, service_of};
 ghost use Rattle.mon_msg.specs.Protocol.Readings.{readings_of};
 ghost use Rattle.svc_core.specs.Drafts.{drafted, kv_incremental, IsShort};
 
+use crate::outline::holds;
 use crate::reading::{read_kv, read_log};
 use crate::room::is_within;
 use map_kv::{KvInc, KvMap, MOST_KV_MAP, MOST_KV_VALUE, make as make_kv};
@@ -69,14 +70,41 @@ fn sure_set(alloc: Global, kv: &Kv, command: &Command) -> Result<Option<KvInc>, 
     }))
 }
 
+/// The incremental of a removal, or `None` if whether the key is there can't be known without building the map.
+#[tactic(auto, using(crate::proofs::Outlines::removal, crate::proofs::Outlines::no_removal))]
+fn sure_remove(alloc: Global, kv: &Kv, command: &Command) -> Result<Option<KvInc>, CommandRefused>
+    ensures made { IfOk result
+        (λ made. IfSome made (λ inc. kv_incremental (read_map (readings_of kv.now) Service.Kv) command.now ≡
+        Ok inc)) }
+    ensures form { IfOk result (λ made. IfSome made kv_text.IncFits) }
+    ensures refused { IfErr result
+        (λ e. Refuses e (kv_incremental (read_map (readings_of kv.now) Service.Kv) command.now)) }
+{
+    let Command::Remove { key } = command else {
+        return Ok(None);
+    };
+    let Some(held) = holds(alloc, kv, key.as_slice())? else {
+        return Ok(None);
+    };
+    if !held {
+        return Err(CommandRefused::NoSuch);
+    }
+    Ok(Some(KvInc::Remove {
+        key: key.copy(alloc)?,
+    }))
+}
+
 /// The incremental of a command over the map that is read.
 fn kv_incremental(alloc: Global, kv: &Kv, command: &Command) -> Result<KvInc, CommandRefused>
     requires { IsOfKv command.now }
     ensures made { Makes result (kv_incremental (read_map (readings_of kv.now) Service.Kv) command.now) }
     ensures form { IfOk result kv_text.IncFits }
 {
-    // Reading the map is dear, so a set that surely fits is made without it.
+    // Building the map is dear, so a set that surely fits and most removals are made without it.
     if let Some(inc) = sure_set(alloc, kv, command)? {
+        return Ok(inc);
+    }
+    if let Some(inc) = sure_remove(alloc, kv, command)? {
         return Ok(inc);
     }
     let map = read_kv(alloc, kv)?;
@@ -133,7 +161,8 @@ fn kv_full(alloc: Global, kv: &Kv, command: &Command) -> Result<Draft, CommandRe
     Ok(kv_draft(alloc, map, inc)?)
 }
 
-/// What a command makes of the key-value map. The map is read if a full map is due, and if a set doesn't surely fit.
+/// What a command makes of the key-value map. The map is built if a full map is due, and if the incremental can't be
+/// known without it.
 fn kv_made(alloc: Global, kv: &Kv, command: &Command, due: bool) -> Result<Draft, CommandRefused>
     requires { IsOfKv command.now }
     ensures made { (asked : ℕ) →

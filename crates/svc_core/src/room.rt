@@ -19,7 +19,7 @@ use std::alloc::Global;
 const EMPTY: u64 = 4;
 
 /// How many bytes there are.
-fn length(bytes: &[u8]) -> u64
+pub(crate) fn length(bytes: &[u8]) -> u64
     ensures value { result ≡ length bytes.now }
     ensures bytes { IsBytes bytes.now }
 {
