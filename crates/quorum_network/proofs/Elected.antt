@@ -1,15 +1,14 @@
 -- Three processes, of which two elect a leader. One datagram comes twice, some never come, and one comes late. The third
 -- process is killed in its start, when it has sent one of two datagrams, and is started again. Each has a clock of its
 -- own: when the first one's election ends by its timer, the second one's timer isn't due.
-use Rattle.std.proofs.Common.{◌≡◌, ℕ, ◌<◌, ◌≤◌, ◌^◌, lit≤, Bool, true, false, List, [], ◌∷◌, ◌++◌, length, map, take, Option, Some, None, Ok, refl, sym, ap, subst, ◌∙◌, arith}
+use Rattle.std.proofs.Common.{◌≡◌, ℕ, ◌<◌, ◌≤◌, lit≤, true, false, List, [], ◌∷◌, ◌++◌, length, map, take, Option, Some, None, Ok, refl, sym, ap, subst, ◌∙◌, arith, inl, inr}
 use Rattle.std.proofs.lemmas.List.{append-nil}
 use Rattle.std.specs.FinMap.{empty}
-use Rattle.std.specs.List.{AllByRecursion}
+use Rattle.std.specs.List.{AllByRecursion, Contains}
 use Rattle.calm_quorum.proofs.Rows.{probe_row, propose_row, reply_enough, start_row}
-use Rattle.calm_quorum.proofs.States.{born, born_is, electing, led, led_is, me_at, probing, promised, promised_is, reacts, says, served, served_is, tells}
+use Rattle.calm_quorum.proofs.States.{born, born_is, electing, led, led_is, probing, promised, promised_is, reacts, served, served_is, tells}
 use Rattle.calm_quorum.proofs.Stores.{born_small, born_told, empty_told, led_small, led_told, promised_small, promised_told, served_small, served_told, unborn}
 use Rattle.mon_bytes.specs.declared.entry.Entry.{Entry}
-use Rattle.mon_bytes.specs.Format.{u16_bytes}
 use Rattle.std.specs.Prelude.{nat_lt}
 use Rattle.mon_msg.specs.Joined.{joined}
 use Rattle.mon_msg.specs.Protocol.Answers.{answer_of}
@@ -33,118 +32,26 @@ use Rattle.mon_msg.specs.declared.input.Input.TheVariants as input
 use Rattle.mon_msg.specs.declared.plan.Sent.{Sent}
 use Rattle.mon_msg.specs.declared.paxos.LeaderStage.TheVariants as stage
 use Rattle.mon_msg.specs.declared.view.Me.{Me}
-use Rattle.mon_node.specs.Hearing.{due_by, is_request}
+use Rattle.mon_node.specs.Hearing.{due_by}
 use Rattle.mon_node.specs.Posting.{letters}
 use Rattle.mon_node.specs.Turns.{Turn}
 use Rattle.mon_tx.specs.Map.{Store, apply}
-use Rattle.mon_types.specs.Ranks.{no_ranks, with_rank}
-use Rattle.mon_wire.specs.Message.Bodies.{spelled as body_spelled}
-use Rattle.mon_wire.specs.Message.Fields.{number_bytes, set_bytes}
-use Rattle.mon_wire.specs.Message.Whole.{HasText, text}
+use Rattle.mon_types.specs.Ranks.{no_ranks}
+use Rattle.mon_wire.specs.Message.Whole.{text}
 use Rattle.mon_wire.specs.declared.body.Body.TheVariants as body
-use Rattle.mon_wire.specs.declared.body.Body.{Body}
 use Rattle.mon_wire.specs.declared.message.Message.{Message}
 use Rattle.mon_wire.specs.declared.phase.Phase.TheVariants as phase
 use Rattle.mon_wire.specs.declared.phase.Timer.TheVariants as timer
 use Rattle.quorum_model.proofs.Members.{me_is}
-use Rattle.quorum_model.specs.Monitors.{Monitors, classic, me_of}
-use Rattle.quorum_network.specs.Network.{AllMay, Begins, Down, Kept, Left, Network, Posted, Step, Whole, after_step, first_network, if_made, left_by, made_by, map_of, network, posted, turn_of, with_left}
+use Rattle.quorum_model.specs.Monitors.{me_of}
+use Rattle.quorum_network.specs.Network.{AllMay, Begins, Down, Kept, Network, Posted, Step, Whole, after_step, first_network, if_made, left_by, made_by, map_of, network, posted, turn_of, with_left, Doing, entered, number_of, under}
 use Rattle.quorum_network.specs.Promises.{Leads}
 use Rattle.quorum_network.proofs.Lives.{other_rank}
-use Rattle.quorum_network.proofs.Played.{Comes, Play, Starts, Waits, all_may, comes, datagram_at, if_sent, network_is, played, played_on, step_of, steps_of, store_with, to_monitor}
+use Rattle.quorum_network.proofs.Played.{Comes, Play, Starts, Waits, all_may, comes, datagram_at, if_sent, network_is, played, played_on, step_of, steps_of, store_with, to_monitor, AreNew}
 use Rattle.quorum_network.proofs.Playing.{Goes, IsShort, IsSmall, Sits, dies, hears, left_as, moves, rings, serving_with, stays}
-
-abbrev three : Monitors
-three = classic 3 (lit≤ tt)
-
-abbrev me : (i : ℕ) → nat_lt i 3 ≡ true → Me
-me i lt = me_at 3 i (lit≤ tt) lt
-
-abbrev me_0 : Me
-me_0 = me 0 refl
-
-abbrev me_1 : Me
-me_1 = me 1 refl
-
-abbrev me_2 : Me
-me_2 = me 2 refl
-
--- ---- the messages
-
-record IsMail (j : ℕ) (m : Message) : Type 0 where
-  has : HasText m
-  short : length (text m) ≤ 60000
-  from : m.from ≡ j
-  count : m.monitors ≡ 3
-  tells : is_request m.body ≡ false
-
-mail : (j e : ℕ) (b : Body) → j < 3 → e ≤ 2 ^ 62 → is_request b ≡ false → ((body_spelled 3 j b).tag ≡ 24 → ⊥) → (body_spelled 3 j b).Form → length (text (says 3 j e b)) ≤ 60000 → IsMail j (says 3 j e b)
-mail j e b lt le asks_nothing other form short = record {
-  has = record { form = record { sender = lt; monitors = lit≤ tt; epoch = le; asks = λ is. absurd (other is); body = form }; short = omega (arith, short) };
-  short = short;
-  from = refl;
-  count = refl;
-  tells = asks_nothing;
-}
-
-abbrev both : List Bool
-both = with_rank (only 0) 1
-
-abbrev probe : ℕ → Message
-probe i = says 3 i 1 body.Probe
-
-abbrev answer : ℕ → Message
-answer i = says 3 i 1 (body.ProbeReply no_ranks 0 0)
-
-abbrev propose : ℕ → Message
-propose i = says 3 i 1 (body.Propose None)
-
-abbrev ack : Message
-ack = says 3 1 1 body.Ack
-
-abbrev victory : Message
-victory = says 3 0 2 (body.Victory both)
-
-abbrev collects : Message
-collects = says 3 0 2 (body.Collect 100 0 0)
-
-abbrev last : Message
-last = says 3 1 2 (body.Last 100 0 0 true 1 [] None)
-
-abbrev lease : Message
-lease = says 3 0 2 (body.Lease 0)
-
-probe_mail : (i : ℕ) → i < 3 → IsMail i (probe i)
-unfolding number_bytes
-probe_mail i lt = mail i 1 body.Probe lt (lit≤ tt) refl (λ e. absurd (omega (arith, e))) tt (lit≤ tt)
-
-answer_mail : (i : ℕ) → i < 3 → IsMail i (answer i)
-unfolding number_bytes set_bytes
-answer_mail i lt = mail i 1 (body.ProbeReply no_ranks 0 0) lt (lit≤ tt) refl (λ e. absurd (omega (arith, e))) ((refl, lit≤ tt), (lit≤ tt, lit≤ tt)) (lit≤ tt)
-
-propose_mail : (i : ℕ) → i < 3 → IsMail i (propose i)
-unfolding number_bytes
-propose_mail i lt = mail i 1 (body.Propose None) lt (lit≤ tt) refl (λ e. absurd (omega (arith, e))) tt (lit≤ tt)
-
-ack_mail : IsMail 1 ack
-unfolding number_bytes
-ack_mail = mail 1 1 body.Ack (lit≤ tt) (lit≤ tt) refl (λ e. absurd (omega (arith, e))) tt (lit≤ tt)
-
-victory_mail : IsMail 0 victory
-unfolding number_bytes set_bytes
-victory_mail = mail 0 2 (body.Victory both) (lit≤ tt) (lit≤ tt) refl (λ e. absurd (omega (arith, e))) (refl, lit≤ tt) (lit≤ tt)
-
-collect_mail : IsMail 0 collects
-unfolding number_bytes
-collect_mail = mail 0 2 (body.Collect 100 0 0) (lit≤ tt) (lit≤ tt) refl (λ e. absurd (omega (arith, e))) (lit≤ tt, (lit≤ tt, lit≤ tt)) (lit≤ tt)
-
-last_mail : IsMail 1 last
-unfolding number_bytes u16_bytes
-last_mail = mail 1 2 (body.Last 100 0 0 true 1 [] None) (lit≤ tt) (lit≤ tt) refl (λ e. absurd (omega (arith, e))) (lit≤ tt, (lit≤ tt, (lit≤ tt, (tt, (lit≤ tt, ((lit≤ tt, tt), tt)))))) (lit≤ tt)
-
-lease_short : length (text lease) ≤ 60000
-unfolding number_bytes
-lease_short = lit≤ tt
+use Rattle.quorum_network.specs.Lives.{Alone}
+use Rattle.quorum_network.proofs.Assembled.{contains_cases}
+use Rattle.quorum_network.proofs.Mails.{three, me, me_0, me_1, IsMail, both, probe, answer, propose, ack, victory, collects, last, lease, probe_mail, answer_mail, propose_mail, ack_mail, victory_mail, collect_mail, last_mail, lease_short}
 
 -- ---- the maps
 
@@ -272,26 +179,29 @@ module _ (i : ℕ) (lt : nat_lt i 3 ≡ true) (net : Network) (kv : Store) (w : 
 abbrev probed : (i : ℕ) (lt : nat_lt i 3 ≡ true) → List Sent
 probed i lt = map (message_to (me i lt) 1 body.Probe) (others (me i lt))
 
-module _ (i : ℕ) (lt : nat_lt i 3 ≡ true) (net : Network) (fresh : map_of (net.process i) ≡ empty) (short : AllByRecursion IsShort (letters (me i lt) born (probed i lt))) where
-  starts : Goes net (on net (Starts i Whole)) i born (probing i (only i)) (map (posted i) (letters (me i lt) born (probed i lt)))
-  starts = moves three i (me i lt) (me_is three i lt) empty unborn empty_told (booting i) (reacts (Boot 1 ∷ Epoch 1 ∷ []) (probed i lt) (probing i (only i))) born born_is born_small short
-      (store_with me_0.member (map_of (net.process i))) fresh (record { input = input.Start; at = 0 }) (start_row 3 (lit≤ tt) (shared_entries empty) i lt (lit≤ tt)) net (Begins (store_with me_0.member (map_of (net.process i))) None None 0) refl
+module _ (i number : ℕ) (lt : nat_lt i 3 ≡ true) (net : Network) (fresh : map_of (net.process i) ≡ empty) (short : AllByRecursion IsShort (letters (me i lt) born (probed i lt))) where
+  abbrev begins : Doing
+  begins = Begins number (store_with me_0.member (map_of (net.process i))) None None 0
 
-  start_killed : (k : ℕ) → on net (Starts i (Kept k)) ≡ with_left net i (left_as (Down born) (take k (letters (me i lt) born (probed i lt))))
+  starts : Goes net (on net (Starts i number Whole)) i born (probing i (only i)) (map (posted i) (letters (me i lt) born (probed i lt)))
+  starts = moves three i (me i lt) (me_is three i lt) empty unborn empty_told (booting i) (reacts (Boot 1 ∷ Epoch 1 ∷ []) (probed i lt) (probing i (only i))) born born_is born_small short
+      (store_with me_0.member (map_of (net.process i))) fresh (record { input = input.Start; at = 0 }) (start_row 3 (lit≤ tt) (shared_entries empty) i lt (lit≤ tt)) net begins refl
+
+  start_killed : (k : ℕ) → on net (Starts i number (Kept k)) ≡ with_left (entered net i begins) i (left_as (Down born) (take k (letters (me i lt) born (probed i lt))))
   start_killed k = dies three i (me i lt) (me_is three i lt) empty unborn empty_told (booting i) (reacts (Boot 1 ∷ Epoch 1 ∷ []) (probed i lt) (probing i (only i))) born born_is born_small short
-      (store_with me_0.member (map_of (net.process i))) fresh (record { input = input.Start; at = 0 }) (start_row 3 (lit≤ tt) (shared_entries empty) i lt (lit≤ tt)) net (Begins (store_with me_0.member (map_of (net.process i))) None None 0) k refl
+      (store_with me_0.member (map_of (net.process i))) fresh (record { input = input.Start; at = 0 }) (start_row 3 (lit≤ tt) (shared_entries empty) i lt (lit≤ tt)) net begins k refl
 
 probe_short : (i : ℕ) → i < 3 → length (text (probe i)) ≤ 60000
 probe_short i lt = (probe_mail i lt).short
 
 abbrev net_1 : Network
-net_1 = on first_network (Starts 0 Whole)
+net_1 = on first_network (Starts 0 7 Whole)
 
 abbrev net_2 : Network
-net_2 = on net_1 (Starts 1 Whole)
+net_2 = on net_1 (Starts 1 7 Whole)
 
 abbrev net_3 : Network
-net_3 = on net_2 (Starts 2 (Kept 1))
+net_3 = on net_2 (Starts 2 9 (Kept 1))
 
 -- the datagrams 0 to 4
 abbrev sent_2 : List Posted
@@ -301,10 +211,10 @@ abbrev sent_3 : List Posted
 sent_3 = sent_2 ++ to_monitor 2 0 (text (probe 2)) ∷ []
 
 start_0 : Goes first_network net_1 0 born (probes 0) (to_monitor 0 1 (text (probe 0)) ∷ to_monitor 0 2 (text (probe 0)) ∷ [])
-start_0 = starts 0 refl first_network refl (probe_short 0 (lit≤ tt), (probe_short 0 (lit≤ tt), tt))
+start_0 = starts 0 7 refl first_network refl (probe_short 0 (lit≤ tt), (probe_short 0 (lit≤ tt), tt))
 
 start_1 : Goes net_1 net_2 1 born (probes 1) (to_monitor 1 0 (text (probe 1)) ∷ to_monitor 1 2 (text (probe 1)) ∷ [])
-start_1 = starts 1 refl net_1 (ap map_of (start_0.others 1 refl)) (probe_short 1 (lit≤ tt), (probe_short 1 (lit≤ tt), tt))
+start_1 = starts 1 7 refl net_1 (ap map_of (start_0.others 1 refl)) (probe_short 1 (lit≤ tt), (probe_short 1 (lit≤ tt), tt))
 
 scene_2 : Scene net_2 born (probes 0) born (probes 1) sent_2
 scene_2 = record {
@@ -317,7 +227,7 @@ scene_2 = record {
 scene_3 : Scene net_3 born (probes 0) born (probes 1) sent_3
 scene_3 =
     let S = scene_2 in
-    let killed = start_killed 2 refl net_2 (ap map_of (start_1.others 2 refl ∙ start_0.others 2 refl)) (probe_short 2 (lit≤ tt), (probe_short 2 (lit≤ tt), tt)) 1 in
+    let killed = start_killed 2 9 refl net_2 (ap map_of (start_1.others 2 refl ∙ start_0.others 2 refl)) (probe_short 2 (lit≤ tt), (probe_short 2 (lit≤ tt), tt)) 1 in
     subst (λ (net : Network). Scene net born (probes 0) born (probes 1) sent_3) (sym killed) (record {
       first = record { stood = S.first.stood; map = S.first.map; up = S.first.up };
       second = record { stood = S.second.stood; map = S.second.map; up = S.second.up };
@@ -425,10 +335,13 @@ module _ (net : Network) where
 -- ---- all of it
 
 -- the newest first
+abbrev begun : List Play
+begun = Starts 2 9 (Kept 1) ∷ Starts 1 7 Whole ∷ Starts 0 7 Whole ∷ []
+
 abbrev until_elected : List Play
 until_elected =
     Comes 15 5000 Whole ∷ Comes 14 4000 Whole ∷ Comes 13 4000 Whole ∷ Waits 0 5000 Whole ∷ Comes 12 0 Whole ∷ Comes 10 0 Whole ∷ Comes 5 0 Whole ∷ Comes 7 0 Whole ∷ Comes 2 0 Whole
-    ∷ Comes 0 0 Whole ∷ Comes 0 0 Whole ∷ Starts 2 (Kept 1) ∷ Starts 1 Whole ∷ Starts 0 Whole ∷ []
+    ∷ Comes 0 0 Whole ∷ Comes 0 0 Whole ∷ begun
 
 abbrev at : List Play → Network
 at ps = played three me_0.member ps
@@ -465,30 +378,40 @@ sent_more net s = by (me_of three s.rank)
   where
     made : (m : Me) (t : Option Turn) → (more : List Posted) × ((if_made m net s t).sent ≡ net.sent ++ more)
     made m None = ([], sym (append-nil net.sent))
-    made m (Some t) = (map (posted s.rank) (left_by m t s.up_to).sends, refl)
+    made m (Some t) = (map (posted s.rank) (map (under (number_of (entered net s.rank s.doing).lives s.rank)) (left_by m t s.up_to).sends), refl)
 
     by : (x : Option Me) → (more : List Posted) × ((made_by net s x).sent ≡ net.sent ++ more)
     by None = ([], sym (append-nil net.sent))
     by (Some m) = made m (turn_of m (net.process s.rank) s.doing)
 
--- The third process is started again, and datagram 1, which was sent to it before it was killed, comes to it.
+-- The third process is started again, with another number, and datagram 1, which was sent to it before it was killed,
+-- comes to it.
 abbrev pub plays : List Play
-plays = Comes 1 5000 Whole ∷ Starts 2 Whole ∷ until_elected
+plays = Comes 1 5000 Whole ∷ Starts 2 4 Whole ∷ until_elected
+
+no_number : (number : ℕ) → ¬ Contains [] number
+no_number number c = absurd (omega (arith, c.1))
+
+another_number : ¬ Contains {X = ℕ} (9 ∷ []) 4
+another_number c = elim (contains_cases 9 [] 4 c) [ inl nine ↦ absurd (omega (arith, nine)) | inr later ↦ no_number 4 later ]
+
+begun_new : AreNew begun
+begun_new = (((tt, (lit≤ tt, no_number 7)), (lit≤ tt, no_number 7)), (lit≤ tt, no_number 9))
 
 pub is_played : AllMay three (steps_of three me_0.member plays)
-is_played = all_may three me_0.member plays
+is_played = all_may three me_0.member plays (((((((((((((begun_new, tt), tt), tt), tt), tt), tt), tt), tt), tt), tt), tt), (lit≤ tt, another_number)), tt)
 
 pub one_leads : Leads (network three (steps_of three me_0.member plays)) 0 2
 one_leads =
     let S = elected in
-    let again : Network = at (Starts 2 Whole ∷ until_elected) in
-    let more = sent_more (at until_elected) (step_of me_0.member (at until_elected) (Starts 2 Whole)) in
+    let again : Network = at (Starts 2 4 Whole ∷ until_elected) in
+    let more = sent_more (at until_elected) (step_of me_0.member (at until_elected) (Starts 2 4 Whole)) in
     let comes_to_it : datagram_at again.sent 1 ≡ Some (to_monitor 0 2 (text (probe 0))) = ap (λ (ds : List Posted). datagram_at ds 1) (more.1 ∙ ap (λ (ds : List Posted). ds ++ more.0) S.wire) in
     let is : step_of me_0.member again (Comes 1 5000 Whole) ≡ comes 0 2 (text (probe 0)) 5000 Whole = ap (λ (o : Option Posted). if_sent o 5000 Whole) comes_to_it in
     let untouched : (at plays).process 0 ≡ (at until_elected).process 0 =
     ap (λ (s : Step). (after_step three again s).process 0) is
-    ∙ ap (λ (l : Left). l.process) (other_rank three 0 me_0 (me_is three 0 refl) again (comes 0 2 (text (probe 0)) 5000 Whole) refl)
-    ∙ ap (λ (l : Left). l.process) (other_rank three 0 me_0 (me_is three 0 refl) (at until_elected) (step_of me_0.member (at until_elected) (Starts 2 Whole)) refl) in
+    ∙ ap (λ (a : Alone). a.process) (other_rank three 0 again (comes 0 2 (text (probe 0)) 5000 Whole) refl)
+    ∙ ap (λ (a : Alone). a.process) (other_rank three 0 (at until_elected) (step_of me_0.member (at until_elected) (Starts 2 4 Whole)) refl) in
     subst (λ (net : Network). Leads net 0 2) (sym (network_is three me_0.member plays)) (record {
       serving = serving_with S.first.stood leads;
       up = untouched ∙ S.first.up;

@@ -1,14 +1,12 @@
 -- Facts of the table and of the model, each proved in a file of its own.
-use Rattle.std.proofs.Common.{◌≡◌, ℕ, ◌<◌, List, Some, Ok}
+use Rattle.std.proofs.Common.{◌≡◌, ℕ, List, Some, Ok}
 use Rattle.std.specs.List.{AllByRecursion, Contains}
 use Rattle.mon_bounds.specs.Fitting.{IsNamed, entries_in}
 use Rattle.mon_msg.specs.Protocol.Reaction.{Reaction, reaction}
 use Rattle.mon_msg.specs.Protocol.State.{State, booting}
 use Rattle.mon_msg.specs.declared.view.Me.{Me}
-use Rattle.mon_tx.specs.Map.{apply}
 use Rattle.mon_msg.specs.declared.input.Input.TheVariants as input
 use Rattle.mon_msg.specs.declared.input.Input.{Input}
-use Rattle.mon_node.specs.Posting.{boot_in}
 use Rattle.quorum_model.specs.Events.{AllFit, PlainFits}
 use Rattle.quorum_model.specs.Meets.{arrival}
 use Rattle.quorum_model.specs.Monitors.{Monitors}
@@ -24,13 +22,6 @@ pub record Reach (ms : Monitors) (w : World) : Type 0 where
   pub ran : ran_from ms first_world events ≡ ended w
 
 pub record Facts (ms : Monitors) : Type 0 where
-  -- a start counts the boots up
-  pub starts : (w : World) (i at : ℕ) (me : Me) (r : Reaction) → Reach ms w → reaction me at (w.store i) (booting me.member.rank) input.Start ≡ Ok r
-      → boot_in (w.store i) < boot_in (apply r.transaction (w.store i))
-  -- and nothing else does
-  pub runs : (w : World) (p : Plain) (i at : ℕ) (came : Input) (me : Me) (s : State) (r : Reaction) → Reach ms w → PlainFits ms.count p
-      → arrival w p ≡ Some (record { rank = i; at = at; input = came }) → w.state i ≡ Some s → (came ≡ input.Start → ⊥) → reaction me at (w.store i) s came ≡ Ok r
-      → boot_in (apply r.transaction (w.store i)) ≡ boot_in (w.store i)
   -- a message names its sender
   pub started_own : (w : World) (i at : ℕ) (me : Me) (r : Reaction) → Reach ms w → reaction me at (w.store i) (booting me.member.rank) input.Start ≡ Ok r → AllByRecursion (IsOwn me) r.sends
   pub own : (w : World) (p : Plain) (i at : ℕ) (came : Input) (me : Me) (s : State) (r : Reaction) → Reach ms w → PlainFits ms.count p

@@ -7,7 +7,6 @@ use Rattle.mon_link.specs.declared.link.Peer.TheVariants.{Monitor, Client}
 use Rattle.mon_msg.specs.Protocol.State.{State}
 use Rattle.mon_msg.specs.declared.view.Me.{Me}
 use Rattle.mon_node.specs.Nodes.{Serving}
-use Rattle.mon_node.specs.Posting.{boot_in}
 use Rattle.mon_tx.specs.Map.{Store}
 use Rattle.mon_wire.specs.Message.Whole.{text, HasText}
 use Rattle.mon_wire.specs.declared.message.Message.{Message}
@@ -15,7 +14,7 @@ use Rattle.quorum_model.specs.Events.{PlainFits}
 use Rattle.quorum_model.specs.Happens.{happens}
 use Rattle.quorum_model.specs.Monitors.{Monitors, me_of}
 use Rattle.quorum_model.specs.World.{Asked, World, Plain, Comes, Envelope, Replied}
-use Rattle.quorum_network.specs.Network.{Network, Posted, Process, Up, Down, map_of}
+use Rattle.quorum_network.specs.Network.{Network, Posted, Process, Up, Down, map_of, newest, number_of}
 use Rattle.quorum_network.specs.Requests.{Acknowledgement, Leadership}
 use Rattle.quorum_network.specs.Running.{answer_of}
 use Rattle.quorum_network.proofs.Adding.{Adds}
@@ -33,30 +32,38 @@ Says count i es rs (Client c) bytes =
 abbrev pub IsSaid : (count : ℕ) → World → Letter → Peer → Type 0
 IsSaid count w l to = Says count l.by w.messages w.replied to l.bytes
 
+-- a process that is up has a number
+abbrev pub IsAlive : List ℕ → Process → Type 0
+IsAlive lives (Up s) = Contains lives (newest lives)
+IsAlive lives (Down m) = Unit {0}
+
 module _ (A : Assembly) (ms : Monitors) where
   -- a process that is up
-  pub record IsUp (ls : List Letter) (i : ℕ) (st : Option State) (s : Serving) : Type 0 where
+  pub record IsUp (ls : List Letter) (life i : ℕ) (st : Option State) (s : Serving) : Type 0 where
     pub state : st ≡ Some s.node.state
     pub parts : A.Keeps ls i s.outside.parts
-    pub next : (l : Letter) → Contains ls l → IsLong l → l.by ≡ i → l.boot ≡ boot_in s.node.store.kv → l.seq < s.node.next
+    pub next : (l : Letter) → Contains ls l → IsLong l → l.by ≡ i → l.boot ≡ life → l.seq < s.node.next
     pub most : s.node.next ≤ 2 ^ 62 + 1
     pub remembers : (me : Me) → me_of ms i ≡ Some me → MayRemember me s.node.state
 
-  abbrev pub IfUp : List Letter → ℕ → Option State → Process → Type 0
-  IfUp ls i st (Up s) = IsUp ls i st s
-  IfUp ls i st (Down m) = Unit {0}
+  abbrev pub IfUp : List Letter → (life i : ℕ) → Option State → Process → Type 0
+  IfUp ls life i st (Up s) = IsUp ls life i st s
+  IfUp ls life i st (Down m) = Unit {0}
 
-  pub record Mine (ls : List Letter) (i : ℕ) (p : Process) (m : Store) (st : Option State) : Type 0 where
+  pub record Mine (ls : List Letter) (life i : ℕ) (p : Process) (m : Store) (st : Option State) : Type 0 where
     pub map : map_of p ≡ m
-    pub up : IfUp ls i st p
+    pub up : IfUp ls life i st p
 
   pub record Inv (net : Network) (w : World) : Type 0 where
     pub ls : List Letter
-    pub mine : (j : ℕ) → j < ms.count → Mine ls j (net.process j) (w.store j) (w.state j)
+    pub mine : (j : ℕ) → j < ms.count → Mine ls (number_of net.lives j) j (net.process j) (w.store j) (w.state j)
     pub posted : AllByRecursion (IsPosted ls) net.sent
     pub letters : AreLetters ls
     pub said : (l : Letter) → Contains ls l → IsSaid ms.count w l l.to
-    pub boots : (l : Letter) → Contains ls l → l.boot ≤ boot_in (map_of (net.process l.by))
+    -- a letter is of a life
+    pub known : (l : Letter) → Contains ls l → Contains (net.lives l.by) l.boot
+    pub alive : (j : ℕ) → j < ms.count → IsAlive (net.lives j) (net.process j)
+    pub numbers : (j : ℕ) → number_of net.lives j ≤ 2 ^ 62
 
   -- one event more, which adds no more than these requests, acknowledgements and leaders, and the datagrams after these
   pub record Moves (asks : List Asked) (acks : List Acknowledgement) (leads : List Leadership) (before : List Posted) (ls : List Letter) (net : Network) (w : World) : Type 0 where

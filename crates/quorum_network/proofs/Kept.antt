@@ -9,6 +9,7 @@ use Rattle.mon_bounds.proofs.Table.{reaction_ok}
 use Rattle.mon_bounds.specs.Fitting.{MayCome, IsNamed, IsBounded, entries_in}
 use Rattle.mon_bounds.specs.Remembered.{IsNumber, MayRemember}
 use Rattle.mon_frag.proofs.Lists.{all_append}
+use Rattle.mon_core.specs.Reacts.{TellsNamed}
 use Rattle.mon_kv.specs.Readers.{size_of, most_size, epoch}
 use Rattle.mon_link.specs.declared.link.Outgoing.{Outgoing}
 use Rattle.mon_link.specs.declared.link.Peer.{Peer}
@@ -39,15 +40,16 @@ use Rattle.quorum_model.specs.Happens.{happens, is_active, moved}
 use Rattle.quorum_model.specs.Meets.{Reacts, meets, arrival, state_at}
 use Rattle.quorum_model.specs.Monitors.{Monitors, me_of}
 use Rattle.quorum_model.specs.World.{Asked, World, Plain, Event, Comes, Envelope, Replied, first_world, plain_of}
-use Rattle.quorum_network.specs.Network.{Network, Process, Up, Down, map_of, with_left, Posted, posted}
+use Rattle.quorum_network.specs.Network.{Network, Process, Up, Down, map_of, with_left, Posted, posted, number_of, under}
+use Rattle.quorum_network.proofs.Under.{Under, all_before, all_under, under_datagrams}
 use Rattle.quorum_network.specs.Requests.{acknowledged_in, led_in}
 use Rattle.quorum_network.proofs.Adding.{AllLater, IsLater, all_numbered, given_same, noted_as, noted_same, replied_at}
 use Rattle.quorum_network.proofs.Assembling.{Assembly, IsLabelled}
 use Rattle.quorum_network.proofs.Events.{ran_more, reacts_moves, meets_it, IsMe, known}
 use Rattle.quorum_network.proofs.Facts.{Facts, Reach}
-use Rattle.quorum_network.proofs.Invariant.{Says, IsSaid, IfUp, Mine, Moves, Inv}
+use Rattle.quorum_network.proofs.Invariant.{IsAlive, Says, IsSaid, IfUp, Mine, Moves, Inv}
 use Rattle.quorum_network.proofs.Letters.{Letter, IsLong, labelled, IsPosted, CanBeCut, Numbered}
-use Rattle.quorum_network.proofs.Sends.{IsOwn, says_more, says_behind, SentHasText, TellsNamed, have_texts, IsCuttable, all_cuttable, SaysOf, all_say, label_of, posted_more, posted_behind}
+use Rattle.quorum_network.proofs.Sends.{IsOwn, says_more, says_behind, SentHasText, have_texts, IsCuttable, all_cuttable, SaysOf, all_say, label_of, posted_more, posted_behind}
 
 abbrev Named : Envelope → Type 0
 Named e = AllByRecursion IsNamed (entries_in e.message.body)
@@ -84,30 +86,27 @@ new_replied w p i r q c = Contains-append_right w.replied (replies_of (suc w.eve
 not_eq : (j i : ℕ) → eqb j i ≡ false → j ≡ i → ⊥
 not_eq j i e is = grind (arith, nat_tests)
 
-boot_short : (m : Store) → boot_in m ≤ 2 ^ 62
-boot_short m = number_short (cell m area.Monitor key.BootCount)
-
 epoch_by : (c : Cell) → unwrap_or (option_map (λ (bytes : List ℕ). number_in (Some bytes)) c) 1 ≤ 2 ^ 62
 epoch_by None = omega arith
 epoch_by (Some bytes) = number_short (Some bytes)
 
-epoch_short : (m : Store) → epoch m ≤ 2 ^ 62
+pub epoch_short : (m : Store) → epoch m ≤ 2 ^ 62
 epoch_short m = epoch_by (cell m area.Monitor key.ElectionEpoch)
 
 -- what others keep when monitor i sends letters
 module _ (A : Assembly) (ms : Monitors) (i : ℕ) (ls ks : List Letter) (by : (l : Letter) → Contains ks l → l.by ≡ i) where
-  if_up_more : (j : ℕ) (st : Option State) (p : Process) → (j ≡ i → ⊥) → IfUp A ms ls j st p → IfUp A ms (ls ++ ks) j st p
-  if_up_more j st (Up s) ne u = record {
+  if_up_more : (life j : ℕ) (st : Option State) (p : Process) → (j ≡ i → ⊥) → IfUp A ms ls life j st p → IfUp A ms (ls ++ ks) life j st p
+  if_up_more life j st (Up s) ne u = record {
     state = u.state;
     parts = A.more ls ks j s.outside.parts u.parts;
     next = λ l c long own boot. elim (Contains-append_cases ls ks l c) [ inl old ↦ u.next l old long own boot | inr new ↦ absurd (ne (sym own ∙ by l new)) ];
     most = u.most;
     remembers = u.remembers;
   }
-  if_up_more j st (Down m) ne u = tt
+  if_up_more life j st (Down m) ne u = tt
 
-  mine_more : (j : ℕ) (p : Process) (m : Store) (st : Option State) → (j ≡ i → ⊥) → Mine A ms ls j p m st → Mine A ms (ls ++ ks) j p m st
-  mine_more j p m st ne k = record { map = k.map; up = if_up_more j st p ne k.up }
+  mine_more : (life j : ℕ) (p : Process) (m : Store) (st : Option State) → (j ≡ i → ⊥) → Mine A ms ls life j p m st → Mine A ms (ls ++ ks) life j p m st
+  mine_more life j p m st ne k = record { map = k.map; up = if_up_more life j st p ne k.up }
 
 module _ (A : Assembly) (ms : Monitors) (F : Facts ms) (net : Network) (w : World) (R : Reach ms w) (I : Inv A ms net w) (i : ℕ) (me : Me) (is : me_of ms i ≡ Some me)
     (n : Node) (at : ℕ) (came : Input) (p : Plain) (fits : PlainFits ms.count p) (there : arrival w p ≡ Some (record { rank = i; at = at; input = came }))
@@ -148,10 +147,10 @@ module _ (A : Assembly) (ms : Monitors) (F : Facts ms) (net : Network) (w : Worl
     -- the letters, and their numbers
     module _ (outs : List Outgoing) (among : (P : Outgoing → Type 0) → AllByRecursion P (letters me (map_after n r) r.sends) → AllByRecursion P outs)
         (most : n.next ≤ 2 ^ 62 + 1) (last : next_after n.next outs ≤ 2 ^ 62 + 1)
-        (low : boot_in n.store.kv ≤ boot_in (map_after n r))
-        (fresh : (l : Letter) → Contains I.ls l → IsLong l → l.by ≡ i → l.boot ≡ boot_in (map_after n r) → l.seq < n.next) where
+        (fresh : (l : Letter) → Contains I.ls l → IsLong l → l.by ≡ i → l.boot ≡ number_of net.lives i → l.seq < n.next)
+        (alive : Contains (net.lives i) (number_of net.lives i)) where
       abbrev boot : ℕ
-      boot = boot_in (map_after n r)
+      boot = number_of net.lives i
 
       abbrev pub new : List Letter
       new = labelled i boot n.next outs
@@ -176,9 +175,12 @@ module _ (A : Assembly) (ms : Monitors) (F : Facts ms) (net : Network) (w : Worl
             (subst (λ (k : ℕ). Says ms.count k (messages_of r.sends) (replies_of (suc w.events) i (model.map_after w i r) r.sends) l.to l.bytes) (sym (labels.by l now).0) (says_new l now))
       ]
 
+      all_cut : AllByRecursion (λ (o : Outgoing). IsCuttable o.bytes) outs
+      all_cut = among (λ o. IsCuttable o.bytes) (all_cuttable me (map_after n r) r.sends (texts (epoch_short (map_after n r))))
+
       cuttable : (l : Letter) → Contains new l → IsCuttable l.bytes
       cuttable l c = label_of (λ to bytes. IsCuttable bytes) i boot n.next outs
-          (among (λ o. IsCuttable o.bytes) (all_cuttable me (map_after n r) r.sends (texts (epoch_short (map_after n r))))) l c
+          all_cut l c
 
       cut_now : (l : Letter) → Contains (I.ls ++ new) l → CanBeCut l
       cut_now l c = elim (Contains-append_cases I.ls new l c) [
@@ -186,7 +188,7 @@ module _ (A : Assembly) (ms : Monitors) (F : Facts ms) (net : Network) (w : Worl
         | inr now ↦
             let k = cuttable l now in
             let b = labels.by l now in
-            let short = boot_short (map_after n r) in
+            let short = I.numbers i in
             record { most = k.most; boot = omega (arith, b.1, short); seq = omega (arith, b.3, last); no_piece = k.no_piece }
       ]
 
@@ -216,38 +218,49 @@ module _ (A : Assembly) (ms : Monitors) (F : Facts ms) (net : Network) (w : Worl
       ]
 
       -- ---- the network then
-      module _ (q : Process) (ds : List Outgoing) (front : (P : Posted → Type 0) → AllByRecursion P (map (posted i) (datagrams boot n.next outs)) → AllByRecursion P (map (posted i) ds))
-          (q_map : map_of q ≡ map_after n r) (q_up : IfUp A ms (I.ls ++ new) i (Some r.state) q) where
+      module _ (q : Process) (ds : List Outgoing) (front : (P : Posted → Type 0) → AllByRecursion P (map (posted i) (datagrams (boot_in (map_after n r)) n.next outs)) → AllByRecursion P (map (posted i) ds))
+          (q_map : map_of q ≡ map_after n r) (q_up : IfUp A ms (I.ls ++ new) boot i (Some r.state) q) where
         abbrev pub then_net : Network
         then_net = with_left net i (record { process = q; sends = ds })
 
-        mine_now : (j : ℕ) → j < ms.count → Mine A ms (I.ls ++ new) j (then_net.process j) (v.store j) (v.state j)
+        mine_now : (j : ℕ) → j < ms.count → Mine A ms (I.ls ++ new) (number_of net.lives j) j (then_net.process j) (v.store j) (v.state j)
         unfolding moved
         mine_now j lt = mine_by (eqb j i) refl
           where
-            mine_by : (b : Bool) → eqb j i ≡ b → Mine A ms (I.ls ++ new) j (cond b q (net.process j)) (cond b (model.map_after w i r) (w.store j)) (cond b (Some r.state) (w.state j))
-            mine_by true e = subst (λ (k : ℕ). Mine A ms (I.ls ++ new) k q (model.map_after w i r) (Some r.state)) (sym (eqb-true j i e)) (record { map = q_map ∙ same_map; up = q_up })
-            mine_by false e = mine_more A ms i I.ls new (λ l c. (labels.by l c).0) j (net.process j) (w.store j) (w.state j) (not_eq j i e) (I.mine j lt)
+            mine_by : (b : Bool) → eqb j i ≡ b → Mine A ms (I.ls ++ new) (number_of net.lives j) j (cond b q (net.process j)) (cond b (model.map_after w i r) (w.store j)) (cond b (Some r.state) (w.state j))
+            mine_by true e = subst (λ (k : ℕ). Mine A ms (I.ls ++ new) (number_of net.lives k) k q (model.map_after w i r) (Some r.state)) (sym (eqb-true j i e)) (record { map = q_map ∙ same_map; up = q_up })
+            mine_by false e = mine_more A ms i I.ls new (λ l c. (labels.by l c).0) (number_of net.lives j) j (net.process j) (w.store j) (w.state j) (not_eq j i e) (I.mine j lt)
 
-        boots_now : (l : Letter) → Contains (I.ls ++ new) l → l.boot ≤ boot_in (map_of (then_net.process l.by))
-        boots_now l c = boots_by (eqb l.by i) refl
+        known_now : (l : Letter) → Contains (I.ls ++ new) l → Contains (net.lives l.by) l.boot
+        known_now l c = elim (Contains-append_cases I.ls new l c) [
+          | inl old ↦ I.known l old
+          | inr now ↦
+              let b = labels.by l now in
+              subst (λ (k : ℕ). Contains (net.lives k) l.boot) (sym b.0) (subst (λ (k : ℕ). Contains (net.lives i) k) (sym b.1) alive)
+        ]
+
+        alive_now : (j : ℕ) → j < ms.count → IsAlive (net.lives j) (then_net.process j)
+        alive_now j lt = alive_by (eqb j i) refl
           where
-            old_here : l.by ≡ i → Contains I.ls l → l.boot ≤ boot_in (map_of q)
-            old_here e old =
-                let b : l.boot ≤ boot_in (map_of (net.process i)) = subst (λ (k : ℕ). l.boot ≤ boot_in (map_of (net.process k))) e (I.boots l old) in
-                let h : l.boot ≤ boot_in n.store.kv = subst (λ (m : Store). l.boot ≤ boot_in m) ((I.mine i M.below).map ∙ sym kv) b in
-                subst (λ (m : Store). l.boot ≤ boot_in m) (sym q_map) (omega (arith, h, low))
+            of_process : (p : Process) → IsAlive (net.lives i) p
+            of_process (Up s) = alive
+            of_process (Down m) = tt
 
-            new_here : Contains new l → l.boot ≤ boot_in (map_of q)
-            new_here now = let b = labels.by l now in subst (λ (m : Store). l.boot ≤ boot_in m) (sym q_map) (omega (arith, b.1))
+            alive_by : (b : Bool) → eqb j i ≡ b → IsAlive (net.lives j) (cond b q (net.process j))
+            alive_by true e = subst (λ (k : ℕ). IsAlive (net.lives k) q) (sym (eqb-true j i e)) (of_process q)
+            alive_by false e = I.alive j lt
 
-            boots_by : (b : Bool) → eqb l.by i ≡ b → l.boot ≤ boot_in (map_of (cond b q (net.process l.by)))
-            boots_by true e = elim (Contains-append_cases I.ls new l c) [ inl old ↦ old_here (eqb-true l.by i e) old | inr now ↦ new_here now ]
-            boots_by false e = elim (Contains-append_cases I.ls new l c) [ inl old ↦ I.boots l old | inr now ↦ absurd (not_eq l.by i e (labels.by l now).0) ]
+        -- as it goes over the wire
+        abbrev wire : List Posted
+        wire = map (posted i) (map (under boot) ds)
+
+        wire_front : (P : Posted → Type 0) → AllByRecursion P (map (posted i) (datagrams boot n.next outs)) → AllByRecursion P wire
+        wire_front P all = all_under P i boot ds (front (Under boot P) (all_before P i boot (datagrams (boot_in (map_after n r)) n.next outs)
+            (subst (λ (xs : List Outgoing). AllByRecursion P (map (posted i) xs)) (sym (under_datagrams boot (boot_in (map_after n r)) n.next outs all_cut)) all)))
 
         -- what it sends are datagrams of letters of its own
-        posted_new : AllByRecursion (IsPosted new) (map (posted i) ds)
-        posted_new = front (IsPosted new) (A.pieces i boot n.next outs)
+        posted_new : AllByRecursion (IsPosted new) wire
+        posted_new = wire_front (IsPosted new) (A.pieces i boot n.next outs)
 
         later_new : AllLater ms.count w.events v new
         later_new l c = is_later l.to (says_new l c)
@@ -266,7 +279,7 @@ module _ (A : Assembly) (ms : Monitors) (F : Facts ms) (net : Network) (w : Worl
           world = v;
           fits = fits;
           next = happens_so;
-          sent = map (posted i) ds;
+          sent = wire;
           wire = refl;
           adds = record {
             asked = asked;
@@ -284,11 +297,13 @@ module _ (A : Assembly) (ms : Monitors) (F : Facts ms) (net : Network) (w : Worl
           inv = record {
             ls = I.ls ++ new;
             mine = mine_now;
-            posted = all_append (IsPosted (I.ls ++ new)) net.sent (map (posted i) ds) (posted_more I.ls new net.sent I.posted)
-                (front (IsPosted (I.ls ++ new)) (posted_behind I.ls new (map (posted i) (datagrams boot n.next outs)) (A.pieces i boot n.next outs)));
+            posted = all_append (IsPosted (I.ls ++ new)) net.sent wire (posted_more I.ls new net.sent I.posted)
+                (wire_front (IsPosted (I.ls ++ new)) (posted_behind I.ls new (map (posted i) (datagrams boot n.next outs)) (A.pieces i boot n.next outs)));
             letters = record { cut = cut_now; numbered = numbered_now };
             said = said_now;
-            boots = boots_now;
+            known = known_now;
+            alive = alive_now;
+            numbers = I.numbers;
           };
           old = λ l c. Contains-append_left I.ls new l c;
           new = λ l c. Contains-append_right I.ls new l c;

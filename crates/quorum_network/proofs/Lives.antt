@@ -2,7 +2,7 @@
 use Rattle.std.proofs.Common.{◌≡◌, ℕ, eqb, Bool, true, false, cond, List, [], ◌∷◌, ◌++◌, map, Option, Some, None, Result, Ok, Err, refl, sym, ap, subst, ◌∙◌, append_assoc, arith}
 use Rattle.std.proofs.lemmas.Bool.{eqb-true, eq-eqb}
 use Rattle.std.proofs.lemmas.Bool.Decides.{nat_tests}
-use Rattle.std.proofs.lemmas.List.{append-nil}
+use Rattle.std.proofs.lemmas.List.{append-nil, map-append}
 use Rattle.std.specs.Option.{option_map}
 use Rattle.mon_bytes.specs.Answers.{◌>>=◌}
 use Rattle.mon_link.specs.Clocks.{Readings}
@@ -15,15 +15,15 @@ use Rattle.mon_msg.specs.declared.view.Me.{Me}
 use Rattle.mon_node.specs.Hearing.{Given, answer_came, clock_read, due_by, heard_by, link_asked, wait_until}
 use Rattle.mon_node.specs.Nodes.{Outside, Serving, unstarted}
 use Rattle.mon_node.specs.Posting.{and_sent}
-use Rattle.mon_node.specs.Turns.{Turn, ended_turn, turn, start, last_turn, served}
+use Rattle.mon_node.specs.Turns.{Turn, ended_turn, turn, start, last_turn}
 use Rattle.mon_node.specs.declared.end.NodeEnd.{NodeEnd}
 use Rattle.mon_store.specs.Stood.{Stood}
 use Rattle.mon_types.specs.declared.names.Stop.{Stop}
 use Rattle.mon_types.specs.declared.names.Stop.TheVariants as stop
 use Rattle.mon_wire.specs.declared.phase.Timer.{Timer}
 use Rattle.quorum_model.specs.Monitors.{Monitors, me_of}
-use Rattle.quorum_network.specs.Lives.{IsSent, alone, left_at, life, own, sent_in, sent_of}
-use Rattle.quorum_network.specs.Network.{Network, Posted, Process, Up, Turns, Until, Whole, Step, Left, turn_of, left_by, posted, if_made, made_by, after_step, network}
+use Rattle.quorum_network.specs.Lives.{Alone, IsSent, alone, left_at, life, lives_then, own, sent_in, sent_of}
+use Rattle.quorum_network.specs.Network.{Network, Posted, Process, Up, Doing, Begins, Turns, Until, Whole, Step, Left, entered, newest, turn_of, left_by, posted, if_made, made_by, after_step, network, number_of, under, with_left}
 use Rattle.quorum_network.proofs.Ends.{ended_link, up_is}
 
 -- ---- one of several
@@ -51,43 +51,71 @@ other_sent i j e (d ∷ ds) = ap (λ (b : Bool). sent_by b) e ∙ other_sent i j
     sent_by : Bool → List Outgoing
     sent_by b = cond b (d ∷ sent_of i (map (posted j) ds)) (sent_of i (map (posted j) ds))
 
+turned_round : (i j : ℕ) → eqb j i ≡ false → eqb i j ≡ false
+turned_round i j e = grind (arith, nat_tests)
+
 -- what there is of monitor i
-abbrev pub of_rank : ℕ → Network → Left
-of_rank i net = record { process = net.process i; sends = sent_of i net.sent }
+abbrev pub of_rank : ℕ → Network → Alone
+of_rank i net = record { process = net.process i; lives = net.lives i; sends = sent_of i net.sent }
+
+-- what is left of it, and of another one
+own_left : (i : ℕ) (net : Network) (j : ℕ) (l : Left) → j ≡ i
+    → of_rank i (with_left net j l) ≡ record { process = l.process; lives = net.lives i; sends = sent_of i net.sent ++ map (under (number_of net.lives i)) l.sends }
+own_left i net j l e =
+    let out : List Outgoing = map (under (number_of net.lives j)) l.sends in
+    let process : cond (eqb i j) l.process (net.process i) ≡ l.process = ap (λ (b : Bool). cond b l.process (net.process i)) (eq-eqb i j (sym e)) in
+    let sends : sent_of i (net.sent ++ map (posted j) out) ≡ sent_of i net.sent ++ map (under (number_of net.lives i)) l.sends =
+    sent_more i net.sent (map (posted j) out) ∙ ap (λ (xs : List Outgoing). sent_of i net.sent ++ xs) (own_sent i j (eq-eqb j i e) out)
+    ∙ ap (λ (k : ℕ). sent_of i net.sent ++ map (under (number_of net.lives k)) l.sends) e in
+    λ k. record { process = process k; lives = net.lives i; sends = sends k }
+
+other_left : (i : ℕ) (net : Network) (j : ℕ) (l : Left) → eqb j i ≡ false → of_rank i (with_left net j l) ≡ of_rank i net
+other_left i net j l e =
+    let out : List Outgoing = map (under (number_of net.lives j)) l.sends in
+    let process : cond (eqb i j) l.process (net.process i) ≡ net.process i = ap (λ (b : Bool). cond b l.process (net.process i)) (turned_round i j e) in
+    let sends : sent_of i (net.sent ++ map (posted j) out) ≡ sent_of i net.sent =
+    sent_more i net.sent (map (posted j) out) ∙ ap (λ (xs : List Outgoing). sent_of i net.sent ++ xs) (other_sent i j e out) ∙ append-nil (sent_of i net.sent) in
+    λ k. record { process = process k; lives = net.lives i; sends = sends k }
+
+-- and of the numbers of its lives
+own_entered : (i : ℕ) (net : Network) (j : ℕ) (doing : Doing) → j ≡ i → of_rank i (entered net j doing) ≡ record (of_rank i net) { lives = lives_then doing (net.lives i) }
+own_entered i net j (Begins number stood clock link first) e =
+    let lives : cond (eqb i j) (number ∷ net.lives j) (net.lives i) ≡ number ∷ net.lives i =
+    ap (λ (b : Bool). cond b (number ∷ net.lives j) (net.lives i)) (eq-eqb i j (sym e)) ∙ ap (λ (k : ℕ). number ∷ net.lives k) e in
+    λ k. record { process = net.process i; lives = lives k; sends = sent_of i net.sent }
+own_entered i net j (Turns g) e = refl
+
+other_entered : (i : ℕ) (net : Network) (j : ℕ) (doing : Doing) → eqb j i ≡ false → of_rank i (entered net j doing) ≡ of_rank i net
+other_entered i net j (Begins number stood clock link first) e =
+    let lives : cond (eqb i j) (number ∷ net.lives j) (net.lives i) ≡ net.lives i = ap (λ (b : Bool). cond b (number ∷ net.lives j) (net.lives i)) (turned_round i j e) in
+    λ k. record { process = net.process i; lives = lives k; sends = sent_of i net.sent }
+other_entered i net j (Turns g) e = refl
+
+pub other_rank : (ms : Monitors) (i : ℕ) (net : Network) (s : Step) → eqb s.rank i ≡ false → of_rank i (after_step ms net s) ≡ of_rank i net
+other_rank ms i net s e = by (me_of ms s.rank)
+  where
+    made : (m : Me) (t : Option Turn) → of_rank i (if_made m net s t) ≡ of_rank i net
+    made m None = refl
+    made m (Some t) = other_left i (entered net s.rank s.doing) s.rank (left_by m t s.up_to) e ∙ other_entered i net s.rank s.doing e
+
+    by : (x : Option Me) → of_rank i (made_by net s x) ≡ of_rank i net
+    by None = refl
+    by (Some m) = made m (turn_of m (net.process s.rank) s.doing)
 
 module _ (ms : Monitors) (i : ℕ) (me : Me) (is : me_of ms i ≡ Some me) where
-  same_rank : (net : Network) (s : Step) → s.rank ≡ i → of_rank i (after_step ms net s) ≡ left_at me s.up_to (of_rank i net) (turn_of me (net.process i) s.doing)
+  same_rank : (net : Network) (s : Step) → s.rank ≡ i → of_rank i (after_step ms net s) ≡ left_at me s (of_rank i net) (turn_of me (net.process i) s.doing)
   same_rank net s e =
       ap (λ (x : Option Me). of_rank i (made_by net s x)) (ap (me_of ms) e ∙ is)
       ∙ (ap (λ (k : ℕ). of_rank i (if_made me net s (turn_of me (net.process k) s.doing))) e ∙ by (turn_of me (net.process i) s.doing))
     where
-      by : (t : Option Turn) → of_rank i (if_made me net s t) ≡ left_at me s.up_to (of_rank i net) t
+      leaves : Left → Alone → Alone
+      leaves l a = record { process = l.process; lives = a.lives; sends = a.sends ++ map (under (newest a.lives)) l.sends }
+
+      by : (t : Option Turn) → of_rank i (if_made me net s t) ≡ left_at me s (of_rank i net) t
       by None = refl
       by (Some t) =
           let l : Left = left_by me t s.up_to in
-          let process : cond (eqb i s.rank) l.process (net.process i) ≡ l.process = ap (λ (b : Bool). cond b l.process (net.process i)) (eq-eqb i s.rank (sym e)) in
-          let sends : sent_of i (net.sent ++ map (posted s.rank) l.sends) ≡ sent_of i net.sent ++ l.sends =
-          sent_more i net.sent (map (posted s.rank) l.sends) ∙ ap (λ (xs : List Outgoing). sent_of i net.sent ++ xs) (own_sent i s.rank (eq-eqb s.rank i e) l.sends) in
-          λ k. record { process = process k; sends = sends k }
-
-  pub other_rank : (net : Network) (s : Step) → eqb s.rank i ≡ false → of_rank i (after_step ms net s) ≡ of_rank i net
-  other_rank net s e = by (me_of ms s.rank)
-    where
-      not_it : eqb i s.rank ≡ false
-      not_it = grind (arith, nat_tests)
-
-      made : (m : Me) (t : Option Turn) → of_rank i (if_made m net s t) ≡ of_rank i net
-      made m None = refl
-      made m (Some t) =
-          let l : Left = left_by m t s.up_to in
-          let process : cond (eqb i s.rank) l.process (net.process i) ≡ net.process i = ap (λ (b : Bool). cond b l.process (net.process i)) not_it in
-          let sends : sent_of i (net.sent ++ map (posted s.rank) l.sends) ≡ sent_of i net.sent =
-          sent_more i net.sent (map (posted s.rank) l.sends) ∙ ap (λ (xs : List Outgoing). sent_of i net.sent ++ xs) (other_sent i s.rank e l.sends) ∙ append-nil (sent_of i net.sent) in
-          λ k. record { process = process k; sends = sends k }
-
-      by : (x : Option Me) → of_rank i (made_by net s x) ≡ of_rank i net
-      by None = refl
-      by (Some m) = made m (turn_of m (net.process s.rank) s.doing)
+          own_left i (entered net s.rank s.doing) s.rank l e ∙ ap (leaves l) (own_entered i net s.rank s.doing e)
 
   pub rank_alone : (steps : List Step) → of_rank i (network ms steps) ≡ alone me (own i steps)
   unfolding network alone
@@ -95,14 +123,17 @@ module _ (ms : Monitors) (i : ℕ) (me : Me) (is : me_of ms i ≡ Some me) where
   rank_alone (s ∷ earlier) = by (eqb s.rank i) refl (rank_alone earlier)
     where
       by : (b : Bool) → eqb s.rank i ≡ b → of_rank i (network ms earlier) ≡ alone me (own i earlier) → of_rank i (after_step ms (network ms earlier) s) ≡ alone me (cond b (s ∷ own i earlier) (own i earlier))
-      by true e ih = same_rank (network ms earlier) s (eqb-true s.rank i e) ∙ ap (λ (l : Left). left_at me s.up_to l (turn_of me l.process s.doing)) ih
-      by false e ih = other_rank (network ms earlier) s e ∙ ih
+      by true e ih = same_rank (network ms earlier) s (eqb-true s.rank i e) ∙ ap (λ (a : Alone). left_at me s a (turn_of me a.process s.doing)) ih
+      by false e ih = other_rank ms i (network ms earlier) s e ∙ ih
 
   pub process_alone : (steps : List Step) → (network ms steps).process i ≡ (alone me (own i steps)).process
-  process_alone steps = ap (λ (l : Left). l.process) (rank_alone steps)
+  process_alone steps = ap (λ (a : Alone). a.process) (rank_alone steps)
+
+  pub lives_alone : (steps : List Step) → (network ms steps).lives i ≡ (alone me (own i steps)).lives
+  lives_alone steps = ap (λ (a : Alone). a.lives) (rank_alone steps)
 
   pub sends_alone : (steps : List Step) → sent_of i (network ms steps).sent ≡ (alone me (own i steps)).sends
-  sends_alone steps = ap (λ (l : Left). l.sends) (rank_alone steps)
+  sends_alone steps = ap (λ (a : Alone). a.sends) (rank_alone steps)
 
 -- ---- what a link was asked to send
 
@@ -147,18 +178,19 @@ turn_sent me g s =
 
 -- ---- the iterations of `serve`
 
-module _ (i : ℕ) (me : Me) (stood : Stood) (clock : Option Readings) (link : Option Told) (first : ℕ) (earlier : List Step) where
+module _ (i : ℕ) (me : Me) (number : ℕ) (stood : Stood) (clock : Option Readings) (link : Option Told) (first : ℕ) (earlier : List Step) where
   abbrev begun : Serving
   begun = unstarted me.member.rank stood clock link
 
-  abbrev lives : List Given → Until → Left
-  lives given u = alone me (life i stood clock link first given u earlier)
+  abbrev lived : List Given → Until → Alone
+  lived given u = alone me (life i number stood clock link first given u earlier)
 
   -- a life whose last iteration is this one
   pub record LastIs (given : List Given) (u : Until) (t : Turn) : Type 0 where
-    pub process : (lives given u).process ≡ (left_by me t u).process
+    pub process : (lived given u).process ≡ (left_by me t u).process
+    pub number_is : newest (lived given u).lives ≡ number
     pub before : List Outgoing
-    pub sends : (lives given u).sends ≡ (alone me earlier).sends ++ (before ++ (left_by me t u).sends)
+    pub sends : (lived given u).sends ≡ (alone me earlier).sends ++ map (under number) (before ++ (left_by me t u).sends)
     pub told : IsSent before link t.serving.outside.link
 
   turn_behind : (r : Result Serving NodeEnd) (g : Given) (t : Turn) → (r >>= λ now. Ok (turn me g now)) ≡ Ok t → (now : Serving) × (r ≡ Ok now) × (turn me g now ≡ t)
@@ -171,23 +203,29 @@ module _ (i : ℕ) (me : Me) (stood : Stood) (clock : Option Readings) (link : O
 
   started : (u : Until) → LastIs [] u (start first begun)
   unfolding alone
-  started u = record { process = refl; before = []; sends = refl; told = sent_nothing link }
+  started u = record { process = refl; number_is = refl; before = []; sends = refl; told = sent_nothing link }
 
   -- one more iteration
   next_turn : (given : List Given) (g : Given) (u : Until) (t : Turn) (now : Serving) → ended_turn me t ≡ Ok now → LastIs given Whole t → LastIs (g ∷ given) u (turn me g now)
   unfolding alone
   next_turn given g u t now e L =
       let whole = up_is me t now e in
-      let up : (lives given Whole).process ≡ Up now = L.process ∙ ap (λ (l : Left). l.process) whole in
-      let all : (lives given Whole).sends ≡ (alone me earlier).sends ++ (L.before ++ (left_by me t Whole).sends) = L.sends in
+      let up : (lived given Whole).process ≡ Up now = L.process ∙ ap (λ (l : Left). l.process) whole in
+      let all : (lived given Whole).sends ≡ (alone me earlier).sends ++ map (under number) (L.before ++ (left_by me t Whole).sends) = L.sends in
       let last : List Outgoing = (left_by me (turn me g now) u).sends in
       let before : List Outgoing = L.before ++ (left_by me t Whole).sends in
-      let step : lives (g ∷ given) u ≡ record { process = (left_by me (turn me g now) u).process; sends = (lives given Whole).sends ++ last } =
-      ap (λ (p : Process). left_at me u (lives given Whole) (turn_of me p (Turns g))) up in
+      let step : lived (g ∷ given) u
+      ≡ record { process = (left_by me (turn me g now) u).process; lives = (lived given Whole).lives; sends = (lived given Whole).sends ++ map (under (newest (lived given Whole).lives)) last } =
+      ap (λ (p : Process). left_at me (record { rank = i; doing = Turns g; up_to = u }) (lived given Whole) (turn_of me p (Turns g))) up in
       record {
-        process = ap (λ (l : Left). l.process) step;
+        process = ap (λ (a : Alone). a.process) step;
+        number_is = ap (λ (a : Alone). newest a.lives) step ∙ L.number_is;
         before = before;
-        sends = ap (λ (l : Left). l.sends) step ∙ ap (λ (xs : List Outgoing). xs ++ last) all ∙ append_assoc (alone me earlier).sends before last;
+        sends = ap (λ (a : Alone). a.sends) step
+            ∙ ap (λ (n : ℕ). (lived given Whole).sends ++ map (under n) last) L.number_is
+            ∙ ap (λ (xs : List Outgoing). xs ++ map (under number) last) all
+            ∙ append_assoc (alone me earlier).sends (map (under number) before) (map (under number) last)
+            ∙ ap (λ (xs : List Outgoing). (alone me earlier).sends ++ xs) (sym (map-append (under number) before last));
         told = sent_both L.before (left_by me t Whole).sends link t.serving.outside.link (turn me g now).serving.outside.link L.told
             (turn_sent me g now ∙ sent_now (left_by me t Whole).sends t.serving.outside.link now.outside.link
             (ended_link me t now e ∙ ap (λ (l : Left). option_map (and_sent l.sends) t.serving.outside.link) (sym whole)));
@@ -199,7 +237,3 @@ module _ (i : ℕ) (me : Me) (stood : Stood) (clock : Option Readings) (link : O
       let b = turn_behind (last_turn me first begun given >>= ended_turn me) g t e in
       let c = ended_behind (last_turn me first begun given) b.0 b.1 in
       subst (LastIs (g ∷ given) u) b.2 (next_turn given g u c.0 b.0 c.2 (last_is given Whole c.0 c.1))
-
-  -- and after whole iterations it is up
-  pub served_is : (given : List Given) (now : Serving) → served me first begun given ≡ Ok now → (lives given Whole).process ≡ Up now
-  served_is given now e = let c = ended_behind (last_turn me first begun given) now e in (last_is given Whole c.0 c.1).process ∙ ap (λ (l : Left). l.process) (up_is me c.0 now c.2)

@@ -1,6 +1,7 @@
--- That the laws' premise can be met: in any order processes begin, and datagrams that were sent come to whom they were
+-- That the laws' premise can be met: in any order processes begin, with numbers that their ranks didn't have, and datagrams that were sent come to whom they were
 -- sent, or never do, or do so again and late; and a process may be killed in each of its turns.
-use Rattle.std.proofs.Common.{◌≡◌, ℕ, zero, suc, List, [], ◌∷◌, ◌++◌, Option, Some, None, Ok, refl, sym, ap, subst, arith}
+use Rattle.std.proofs.Common.{◌≡◌, ℕ, ◌≤◌, ◌^◌, zero, suc, eqb, Bool, true, false, cond, List, [], ◌∷◌, ◌++◌, Option, Some, None, Ok, refl, sym, ap, subst, inl, inr, arith}
+use Rattle.std.proofs.lemmas.Bool.{eqb-true, eq-eqb}
 use Rattle.std.proofs.lemmas.List.Elements.{Contains-append_left}
 use Rattle.std.specs.FinMap.{empty}
 use Rattle.std.specs.List.{Contains}
@@ -8,14 +9,18 @@ use Rattle.mon_link.specs.declared.link.Got.TheVariants.{Datagram, Idle}
 use Rattle.mon_link.specs.declared.link.Peer.{Peer}
 use Rattle.mon_link.specs.declared.link.Peer.TheVariants.{Monitor, Client}
 use Rattle.mon_msg.specs.Protocol.Timers.{due}
+use Rattle.mon_msg.specs.declared.view.Me.{Me}
 use Rattle.mon_node.specs.Hearing.{due_by}
+use Rattle.mon_node.specs.Turns.{Turn}
 use Rattle.mon_store.specs.Pair.{Create}
 use Rattle.mon_store.specs.Stood.{Stood, standing_of}
 use Rattle.mon_tx.specs.Map.{Store}
 use Rattle.mon_types.specs.declared.member.Member.{Member}
 use Rattle.mon_wire.specs.declared.phase.Timer.{Timer}
-use Rattle.quorum_model.specs.Monitors.{Monitors}
-use Rattle.quorum_network.specs.Network.{AllMay, Begins, Down, IsAsked, May, Network, Posted, Process, Step, Turns, Until, Up, Whole, after_step, first_network, map_of, network}
+use Rattle.quorum_model.specs.Monitors.{Monitors, me_of}
+use Rattle.quorum_network.specs.Lives.{lives_then}
+use Rattle.quorum_network.specs.Network.{AllMay, Begins, Doing, Down, IsAsked, IsNew, May, Network, Posted, Process, Step, Turns, Until, Up, Whole, after_step, first_network, if_made, lives_after, made_by, map_of, network, turn_of}
+use Rattle.quorum_network.proofs.Assembled.{contains_cases, contains_first, contains_later}
 use Rattle.quorum_network.proofs.Promised.{one_log}
 
 -- ---- a datagram
@@ -50,8 +55,8 @@ comes_again ms later earlier j i bytes clock may was = comes_late ms (comes j i 
 -- ---- any play
 
 pub data Play : Type 0 where
-  -- a process begins on the map that the last one of its rank left
-  Starts : (rank : ℕ) → Until → Play
+  -- a process begins on the map that the last one of its rank left, in a life with this number
+  Starts : (rank number : ℕ) → Until → Play
   -- the datagram with this number, counted from 0 as they were sent, comes to the monitor to whom it was sent, whose clock
   -- shows this
   Comes : (datagram clock : ℕ) → Until → Play
@@ -79,7 +84,7 @@ abbrev pub store_with : Member → Store → Stood
 store_with member m = record (standing_of member Create empty) { kv = m }
 
 abbrev pub step_of : Member → Network → Play → Step
-step_of member net (Starts i u) = record { rank = i; doing = Begins (store_with member (map_of (net.process i))) None None 0; up_to = u }
+step_of member net (Starts i number u) = record { rank = i; doing = Begins number (store_with member (map_of (net.process i))) None None 0; up_to = u }
 step_of member net (Comes k clock u) = if_sent (datagram_at net.sent k) clock u
 step_of member net (Waits i now u) = idle i now u
 
@@ -96,11 +101,59 @@ datagram_among [] k d e = absurd cc
 datagram_among (x ∷ ds) zero d e = let same : x ≡ d = cc (e) in (0, omega arith, same)
 datagram_among (x ∷ ds) (suc k) d e = let c = datagram_among ds k d e in (suc c.0, omega (arith, c.1), c.2)
 
+-- ---- the numbers of lives
+
+abbrev and_its_number : Play → ℕ → List ℕ → List ℕ
+and_its_number (Starts rank number u) i older = cond (eqb rank i) (number ∷ older) older
+and_its_number (Comes datagram clock u) i older = older
+and_its_number (Waits rank clock u) i older = older
+
+-- with which a rank begins in these plays, the newest first
+abbrev numbers_in : ℕ → List Play → List ℕ
+numbers_in i [] = []
+numbers_in i (p ∷ earlier) = and_its_number p i (numbers_in i earlier)
+
+-- no rank begins twice with one number
+abbrev IsNewIn : List Play → Play → Type 0
+IsNewIn earlier (Starts rank number u) = (number ≤ 2 ^ 62) × ¬ Contains (numbers_in rank earlier) number
+IsNewIn earlier (Comes datagram clock u) = Unit {0}
+IsNewIn earlier (Waits rank clock u) = Unit {0}
+
+abbrev pub AreNew : List Play → Type 0
+AreNew [] = Unit {0}
+AreNew (p ∷ earlier) = AreNew earlier × IsNewIn earlier p
+
+-- what a step leaves of the lives of a rank
+module _ (ms : Monitors) (net : Network) (s : Step) (i : ℕ) (P : List ℕ → Type 0) (old : P (net.lives i)) (new : s.rank ≡ i → P (lives_then s.doing (net.lives i))) where
+  begins_so : (doing : Doing) → (s.rank ≡ i → P (lives_then doing (net.lives i))) → P (lives_after net.lives s.rank doing i)
+  begins_so (Turns g) h = old
+  begins_so (Begins number stood clock link first) h = by (eqb i s.rank) refl
+    where
+      by : (b : Bool) → eqb i s.rank ≡ b → P (cond b (number ∷ net.lives s.rank) (net.lives i))
+      by true e = let same : i ≡ s.rank = eqb-true i s.rank e in subst (λ (k : ℕ). P (number ∷ net.lives k)) same (h (sym same))
+      by false e = old
+
+  lives_left : P ((after_step ms net s).lives i)
+  lives_left = by (me_of ms s.rank)
+    where
+      made : (m : Me) (t : Option Turn) → P ((if_made m net s t).lives i)
+      made m None = old
+      made m (Some t) = begins_so s.doing new
+
+      by : (x : Option Me) → P ((made_by net s x).lives i)
+      by None = old
+      by (Some m) = made m (turn_of m (net.process s.rank) s.doing)
+
+abbrev IfNew : Network → Play → Type 0
+IfNew net (Starts i number u) = IsNew net i number
+IfNew net (Comes k clock u) = Unit {0}
+IfNew net (Waits i now u) = Unit {0}
+
 -- each play may happen
-may_play : (member : Member) (net : Network) (p : Play) → May net (step_of member net p).rank (net.process (step_of member net p).rank) (step_of member net p).doing
-may_play member net (Starts i u) = refl
-may_play member net (Waits i now u) = idle_may net i now u (net.process i)
-may_play member net (Comes k clock u) = by (datagram_at net.sent k) refl
+may_play : (member : Member) (net : Network) (p : Play) → IfNew net p → May net (step_of member net p).rank (net.process (step_of member net p).rank) (step_of member net p).doing
+may_play member net (Starts i number u) new = (refl, new)
+may_play member net (Waits i now u) new = idle_may net i now u (net.process i)
+may_play member net (Comes k clock u) new = by (datagram_at net.sent k) refl
   where
     to_it : (d : Posted) → Contains net.sent d → (to : Peer) → d.datagram.to ≡ to
         → May net (comes_to to d.by d.datagram.bytes clock u).rank (net.process (comes_to to d.by d.datagram.bytes clock u).rank) (comes_to to d.by d.datagram.bytes clock u).doing
@@ -130,9 +183,52 @@ module _ (ms : Monitors) (member : Member) where
   network_is [] = refl
   network_is (p ∷ earlier) = ap (λ (net : Network). after_step ms net (step_of member (played earlier) p)) (network_is earlier)
 
-  pub all_may : (ps : List Play) → AllMay ms (steps_of ps)
+  -- each life of a rank was begun with a number of these
+  module _ (i number : ℕ) where
+    still_among : (p : Play) (older : List ℕ) → Contains older number → Contains (and_its_number p i older) number
+    still_among (Starts rank other u) older c = by (eqb rank i)
+      where
+        by : (b : Bool) → Contains (cond b (other ∷ older) older) number
+        by true = contains_later other older number c
+        by false = c
+    still_among (Comes k clock u) older c = c
+    still_among (Waits rank clock u) older c = c
+
+    -- a play that begins nothing
+    if_turned : (o : Option Posted) (clock : ℕ) (u : Until) (lives : List ℕ) → Contains (lives_then (if_sent o clock u).doing lives) number → Contains lives number
+    if_turned (Some d) clock u lives c = by d.datagram.to c
+      where
+        by : (to : Peer) → Contains (lives_then (comes_to to d.by d.datagram.bytes clock u).doing lives) number → Contains lives number
+        by (Monitor j) c = c
+        by (Client j) c = c
+    if_turned None clock u lives c = c
+
+    begun_among : (net : Network) (p : Play) (older : List ℕ) → (Contains (net.lives i) number → Contains older number) → (step_of member net p).rank ≡ i
+        → Contains (lives_then (step_of member net p).doing (net.lives i)) number → Contains (and_its_number p i older) number
+    begun_among net (Starts rank other u) older h e c =
+        subst (λ (b : Bool). Contains (cond b (other ∷ older) older) number) (sym (eq-eqb rank i e))
+        (elim (contains_cases other (net.lives i) number c) [
+          | inl first ↦ subst (Contains (other ∷ older)) first (contains_first other older)
+          | inr later ↦ contains_later other older number (h later)
+        ])
+    begun_among net (Comes k clock u) older h e c = h (if_turned (datagram_at net.sent k) clock u (net.lives i) c)
+    begun_among net (Waits rank clock u) older h e c = h c
+
+    lives_among : (ps : List Play) → Contains ((played ps).lives i) number → Contains (numbers_in i ps) number
+    lives_among [] c = c
+    lives_among (p ∷ earlier) c =
+        let net : Network = played earlier in
+        lives_left ms net (step_of member net p) i (λ (lives : List ℕ). Contains lives number → Contains (and_its_number p i (numbers_in i earlier)) number)
+        (λ c. still_among p (numbers_in i earlier) (lives_among earlier c)) (begun_among net p (numbers_in i earlier) (lives_among earlier)) c
+
+  if_new : (p : Play) (earlier : List Play) → IsNewIn earlier p → IfNew (played earlier) p
+  if_new (Starts i number u) earlier new = (new.0, λ c. new.1 (lives_among i number earlier c))
+  if_new (Comes k clock u) earlier new = tt
+  if_new (Waits i now u) earlier new = tt
+
+  pub all_may : (ps : List Play) → AreNew ps → AllMay ms (steps_of ps)
   unfolding AllMay steps_of
-  all_may [] = tt
-  all_may (p ∷ earlier) =
+  all_may [] new = tt
+  all_may (p ∷ earlier) new =
       let s : Step = step_of member (played earlier) p in
-      (all_may earlier, subst (λ (net : Network). May net s.rank (net.process s.rank) s.doing) (sym (network_is earlier)) (may_play member (played earlier) p))
+      (all_may earlier new.0, subst (λ (net : Network). May net s.rank (net.process s.rank) s.doing) (sym (network_is earlier)) (may_play member (played earlier) p (if_new p earlier new.1)))

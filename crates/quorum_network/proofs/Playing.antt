@@ -9,10 +9,11 @@ use Rattle.mon_frag.specs.Keeping.{Outcome}
 use Rattle.mon_frag.specs.Pieces.{pieces_of}
 use Rattle.mon_frag.specs.Whole as frag
 use Rattle.mon_frag.specs.Whole.{answer_in, kept_in}
-use Rattle.mon_kv.specs.Readers.{most_size, size_of}
+use Rattle.mon_bounds.specs.Fitting.{answer_in as reply_in}
+use Rattle.mon_kv.specs.Readers.{epoch, most_size, size_of}
 use Rattle.mon_link.specs.declared.link.Got.TheVariants.{Datagram, Idle}
 use Rattle.mon_link.specs.declared.link.Outgoing.{Outgoing}
-use Rattle.mon_link.specs.declared.link.Peer.TheVariants.{Monitor}
+use Rattle.mon_link.specs.declared.link.Peer.TheVariants.{Client, Monitor}
 use Rattle.mon_msg.specs.Protocol.Reaction.{Reaction, any_reaction, reaction}
 use Rattle.mon_msg.specs.Protocol.Readings.{Readings, readings_of, shared_entries}
 use Rattle.mon_msg.specs.Protocol.State.{State}
@@ -20,6 +21,8 @@ use Rattle.mon_msg.specs.Protocol.Table.{react}
 use Rattle.mon_msg.specs.Protocol.Timers.{due}
 use Rattle.mon_msg.specs.declared.input.Input.TheVariants as input
 use Rattle.mon_msg.specs.declared.input.Input.{Input}
+use Rattle.mon_msg.specs.declared.plan.Sent.TheVariants as sent
+use Rattle.mon_msg.specs.declared.plan.Sent.{Sent}
 use Rattle.mon_msg.specs.declared.view.Me.{Me}
 use Rattle.mon_node.proofs.Sending.{all_numbered}
 use Rattle.mon_node.specs.Hearing.{Given, Heard, at_moment, due_by, heard_by, input_in, input_read, is_request, wait_until}
@@ -38,7 +41,7 @@ use Rattle.mon_wire.specs.declared.message.Message.{Message}
 use Rattle.mon_wire.specs.declared.refusal.MsgRefused.{MsgRefused}
 use Rattle.mon_wire.specs.declared.phase.Timer.{Timer}
 use Rattle.quorum_model.specs.Monitors.{Monitors, me_of}
-use Rattle.quorum_network.specs.Network.{Doing, Down, Kept, Left, Network, Posted, Process, Turns, Until, Up, Whole, after_step, down, if_made, left_by, made_by, posted, turn_of, with_left}
+use Rattle.quorum_network.specs.Network.{Doing, Down, Kept, Left, Network, Posted, Process, Turns, Until, Up, Whole, after_step, down, entered, if_made, left_by, made_by, number_of, posted, turn_of, under, with_left}
 use Rattle.quorum_network.proofs.Ends.{up_is}
 use Rattle.quorum_network.proofs.Played.{comes, idle}
 use Rattle.quorum_network.proofs.Steps.{kept_kv}
@@ -68,6 +71,12 @@ short_datagrams boot next (o ∷ os) h =
     ap (λ (pieces : List (List ℕ)). map (to_peer o.to) pieces ++ datagrams boot (next_behind next (length o.bytes)) os) (short_pieces boot next o h.0)
     ∙ ap (λ (n : ℕ). o ∷ datagrams boot n os) (short_behind next o h.0)
     ∙ ap (λ (xs : List Outgoing). o ∷ xs) (short_datagrams boot next os h.1)
+
+-- they are sent whole, with no number
+under_letters : (number : ℕ) (me : Me) (m : Store) (sends : List Sent) → map (under number) (letters me m sends) ≡ letters me m sends
+under_letters number me m [] = refl
+under_letters number me m (sent.Message to x ∷ sends) = ap (λ (os : List Outgoing). to_peer (Monitor to) (text x) ∷ os) (under_letters number me m sends)
+under_letters number me m (sent.Reply to r ∷ sends) = ap (λ (os : List Outgoing). to_peer (Client to.client) (text (reply_in me (epoch m) to r)) ∷ os) (under_letters number me m sends)
 
 -- ---- a process that joins nothing
 
@@ -144,15 +153,16 @@ module _ (ms : Monitors) (i : ℕ) (me : Me) (is : me_of ms i ≡ Some me) where
         ap (down me s.node k) (ap (of_input None (λ (q : Reaction). cond (nat_lt most_size (size_of (map_after s.node q))) None (Some q))) reacts ∙ ap (λ (b : Bool). cond b None (Some r)) small)
         ∙ ap (λ (ds : List Outgoing). left_as (Down (apply r.transaction stood.kv)) (take k ds)) numbered
 
-  step_is : (net : Network) (doing : Doing) (u : Until) (t : Turn) → turn_of me (net.process i) doing ≡ Some t → after_step ms net (record { rank = i; doing = doing; up_to = u }) ≡ with_left net i (left_by me t u)
+  step_is : (net : Network) (doing : Doing) (u : Until) (t : Turn) → turn_of me (net.process i) doing ≡ Some t → after_step ms net (record { rank = i; doing = doing; up_to = u }) ≡ with_left (entered net i doing) i (left_by me t u)
   step_is net doing u t e =
       ap (made_by net (record { rank = i; doing = doing; up_to = u })) is ∙ ap (if_made me net (record { rank = i; doing = doing; up_to = u })) e
 
-  goes : (net next : Network) (stood : Stood) (st : State) (outs : List Outgoing) (kv : Store) → next ≡ with_left net i (left_as (Up (serving_with stood st)) outs) → stood.kv ≡ kv → Goes net next i kv st (map (posted i) outs)
-  goes net next stood st outs kv e same = subst (λ (n : Network). Goes net n i kv st (map (posted i) outs)) (sym e) (record {
+  goes : (net next : Network) (doing : Doing) (stood : Stood) (st : State) (outs : List Outgoing) (kv : Store) → next ≡ with_left (entered net i doing) i (left_as (Up (serving_with stood st)) outs) → stood.kv ≡ kv
+      → ((number : ℕ) → map (under number) outs ≡ outs) → Goes net next i kv st (map (posted i) outs)
+  goes net next doing stood st outs kv e same plain = subst (λ (n : Network). Goes net n i kv st (map (posted i) outs)) (sym e) (record {
     sits = record { stood = stood; map = same; up = ap (λ (b : Bool). cond b (Up (serving_with stood st)) (net.process i)) (eq-eqb i i refl) };
     others = λ j ne. ap (λ (b : Bool). cond b (Up (serving_with stood st)) (net.process j)) ne;
-    wire = refl;
+    wire = ap (λ (ds : List Outgoing). net.sent ++ map (posted i) ds) (plain (number_of (entered net i doing).lives i));
   })
 
   -- what the core does by what it reads of the map
@@ -174,16 +184,16 @@ module _ (ms : Monitors) (i : ℕ) (me : Me) (is : me_of ms i ≡ Some me) where
       pub moves : (net : Network) (doing : Doing) → turn_of me (net.process i) doing ≡ Some (record { came = Ok (Some it); serving = serving_with stood st })
           → Goes net (after_step ms net (record { rank = i; doing = doing; up_to = Whole })) i kept_is r.state (map (posted i) (letters me kept_is r.sends))
       moves net doing e =
-          goes net (after_step ms net (record { rank = i; doing = doing; up_to = Whole })) (kept r.transaction stood) r.state (letters me kept_is r.sends) kept_is
+          goes net (after_step ms net (record { rank = i; doing = doing; up_to = Whole })) doing (kept r.transaction stood) r.state (letters me kept_is r.sends) kept_is
           (step_is net doing Whole (record { came = Ok (Some it); serving = serving_with stood st }) e
-          ∙ ap (with_left net i) (whole stood st it r reacts_so small_so short_so ∙ ap (λ (m : Store). left_as (Up (serving_with (kept r.transaction stood) r.state)) (letters me m r.sends)) then_is))
-          (kept_kv r.transaction stood ∙ then_is)
+          ∙ ap (with_left (entered net i doing) i) (whole stood st it r reacts_so small_so short_so ∙ ap (λ (m : Store). left_as (Up (serving_with (kept r.transaction stood) r.state)) (letters me m r.sends)) then_is))
+          (kept_kv r.transaction stood ∙ then_is) (λ number. under_letters number me kept_is r.sends)
 
       pub dies : (net : Network) (doing : Doing) (k : ℕ) → turn_of me (net.process i) doing ≡ Some (record { came = Ok (Some it); serving = serving_with stood st })
-          → after_step ms net (record { rank = i; doing = doing; up_to = Kept k }) ≡ with_left net i (left_as (Down kept_is) (take k (letters me kept_is r.sends)))
+          → after_step ms net (record { rank = i; doing = doing; up_to = Kept k }) ≡ with_left (entered net i doing) i (left_as (Down kept_is) (take k (letters me kept_is r.sends)))
       dies net doing k e =
           step_is net doing (Kept k) (record { came = Ok (Some it); serving = serving_with stood st }) e
-          ∙ ap (with_left net i) (killed stood st it r reacts_so small_so short_so k ∙ ap (λ (m : Store). left_as (Down m) (take k (letters me m r.sends))) then_is)
+          ∙ ap (with_left (entered net i doing) i) (killed stood st it r reacts_so small_so short_so k ∙ ap (λ (m : Store). left_as (Down m) (take k (letters me m r.sends))) then_is)
 
     -- a message comes to it
     module _ (net : Network) (S : Sits net i kv st) (j : ℕ) (m : Message) (has : HasText m) (fits : length (text m) ≤ 60000) (from : m.from ≡ j) (count : m.monitors ≡ me.member.monitors)

@@ -5,9 +5,10 @@ use Rattle.std.proofs.lemmas.List.Elements.{Contains-append_left, Contains-appen
 use Rattle.std.specs.List.{AllByRecursion, Contains}
 use Rattle.std.specs.Option.{option_map, unwrap_or}
 use Rattle.mon_bounds.proofs.Texts.{has_text}
-use Rattle.mon_bounds.specs.Fitting.{MaySend, IsNamed, entries_in, answer_in}
+use Rattle.mon_bounds.specs.Fitting.{MaySend, answer_in}
 use Rattle.mon_bounds.specs.Remembered.{IsNumber}
 use Rattle.mon_bytes.specs.declared.limits.TheConstants.{MOST_MESSAGE}
+use Rattle.mon_core.specs.Reacts.{TellsNamed}
 use Rattle.mon_frag.specs.Headers.{is_piece}
 use Rattle.mon_kv.specs.Readers.{epoch}
 use Rattle.mon_link.specs.declared.link.Outgoing.{Outgoing}
@@ -65,10 +66,6 @@ abbrev pub IsOwn : Me → Sent → Type 0
 IsOwn me (sent.Message to m) = m.from ≡ me.member.rank
 IsOwn me (sent.Reply to r) = Unit {0}
 
-abbrev pub TellsNamed : Sent → Type 0
-TellsNamed (sent.Message to m) = AllByRecursion IsNamed (entries_in m.body)
-TellsNamed (sent.Reply to r) = Unit {0}
-
 pub have_texts : (me : Me) (e : ℕ) (sends : List Sent) → IsNumber e → AllByRecursion (MaySend me) sends → AllByRecursion TellsNamed sends → AllByRecursion (SentHasText me e) sends
 have_texts me e [] n may named = tt
 have_texts me e (sent.Message to m ∷ sends) n may named = ((has_text m).1 (may.0.1.form named.0, may.0.1.fits), have_texts me e sends n may.1 named.1)
@@ -80,7 +77,7 @@ pub record IsCuttable (bytes : List ℕ) : Type 0 where
   pub most : length bytes ≤ MOST_MESSAGE
   pub no_piece : is_piece bytes ≡ false
 
-text_cuttable : (m : Message) → HasText m → IsCuttable (text m)
+pub text_cuttable : (m : Message) → HasText m → IsCuttable (text m)
 text_cuttable m has = record { most = has.short; no_piece = refl }
 
 pub all_cuttable : (me : Me) (m : Store) (sends : List Sent) → AllByRecursion (SentHasText me (epoch m)) sends → AllByRecursion (λ (o : Outgoing). IsCuttable o.bytes) (letters me m sends)

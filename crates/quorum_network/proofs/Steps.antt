@@ -1,6 +1,6 @@
 -- Each step of a network keeps what holds, with at most one event.
 use Rattle.std.proofs.Common.{◌∷◌, ◌≡◌, ℕ, ◌+◌, ◌^◌, ◌<◌, ◌≤◌, nat_lt, eqb, Bool, true, false, cond, List, [], ◌++◌, take, Option, Some, None, Result, Ok, Err, refl, sym, ap, subst, ◌∙◌, arith}
-use Rattle.std.proofs.lemmas.Bool.{eqb-true, ltb-false}
+use Rattle.std.proofs.lemmas.Bool.{eqb-true, eq-eqb, ltb-false}
 use Rattle.std.specs.List.{AllByRecursion, Contains}
 use Rattle.mon_bounds.proofs.Table.{boot_ok}
 use Rattle.mon_bounds.specs.Fitting.{MayCome}
@@ -11,7 +11,7 @@ use Rattle.mon_link.specs.Clocks.{Readings}
 use Rattle.mon_link.specs.Links.{Told}
 use Rattle.mon_link.specs.declared.link.Outgoing.{Outgoing}
 use Rattle.mon_msg.specs.Protocol.Reaction.{Reaction, reaction}
-use Rattle.mon_msg.specs.Protocol.State.{booting}
+use Rattle.mon_msg.specs.Protocol.State.{State, booting}
 use Rattle.mon_msg.specs.Protocol.Timers.{due}
 use Rattle.mon_msg.specs.declared.input.Input.TheVariants as input
 use Rattle.mon_msg.specs.declared.input.Input.{Input}
@@ -43,12 +43,14 @@ use Rattle.quorum_model.specs.Happens.{moved}
 use Rattle.quorum_model.specs.Meets.{Arrival, arrival, message_at, state_at}
 use Rattle.quorum_model.specs.Monitors.{Monitors, me_of}
 use Rattle.quorum_model.specs.World.{Asked, Client, Deliver, Envelope, Plain, Ring, Start, World}
-use Rattle.quorum_network.specs.Network.{Network, Process, Up, Down, map_of, Doing, Begins, Turns, Until, Whole, Lost, Kept, Step, Left, turn_of, kept_reaction, down, at_end, left_by, with_left, if_made, made_by, after_step, IsAsked, May}
+use Rattle.quorum_network.specs.Network.{Network, Process, Up, Down, map_of, Doing, Begins, Turns, Until, Whole, Lost, Kept, Step, Left, turn_of, kept_reaction, down, at_end, left_by, with_left, if_made, made_by, after_step, IsAsked, May, newest, number_of}
+use Rattle.quorum_model.specs.Happens.{put_at}
+use Rattle.quorum_network.proofs.Assembled.{contains_first, contains_later}
 use Rattle.quorum_network.proofs.Assembling.{Assembly}
 use Rattle.quorum_network.proofs.Events.{IsMe, known}
 use Rattle.quorum_network.proofs.Facts.{Facts, Reach}
 use Rattle.quorum_network.proofs.Inputs.{CameFine, HeardFine, heard_fine}
-use Rattle.quorum_network.proofs.Invariant.{IsUp, IfUp, Mine, Inv, Next, Still, Moved}
+use Rattle.quorum_network.proofs.Invariant.{IsAlive, IsUp, IfUp, Mine, Inv, Next, Still, Moved}
 use Rattle.quorum_network.proofs.Kept.{moves, next_now, bounded, new}
 use Rattle.quorum_network.proofs.Letters.{Letter, IsLong, IsPosted}
 use Rattle.quorum_network.proofs.Sends.{IsOwn, all_with_number, numbers_within, posted_front}
@@ -88,26 +90,28 @@ module _ (A : Assembly) (ms : Monitors) (F : Facts ms) (net : Network) (w : Worl
   M = known ms i me is
 
   -- a process that sends nothing, and keeps its map
-  still_holds : (q : Process) → map_of q ≡ map_of (net.process i) → IfUp A ms I.ls i (w.state i) q → (J : Inv A ms (with_left net i (record { process = q; sends = [] })) w) × (J.ls ≡ I.ls)
-  still_holds q e u = (
+  still_holds : (q : Process) → map_of q ≡ map_of (net.process i) → IfUp A ms I.ls (number_of net.lives i) i (w.state i) q → IsAlive (net.lives i) q → (J : Inv A ms (with_left net i (record { process = q; sends = [] })) w) × (J.ls ≡ I.ls)
+  still_holds q e u a = (
     record {
       ls = I.ls;
       mine = λ j lt. mine_by j lt (eqb j i) refl;
       posted = all_append (IsPosted I.ls) net.sent [] I.posted tt;
       letters = I.letters;
       said = I.said;
-      boots = λ l c. boots_by l c (eqb l.by i) refl;
+      known = I.known;
+      alive = λ j lt. alive_by j lt (eqb j i) refl;
+      numbers = I.numbers;
     },
     refl,
   )
     where
-      mine_by : (j : ℕ) → j < ms.count → (b : Bool) → eqb j i ≡ b → Mine A ms I.ls j (cond b q (net.process j)) (w.store j) (w.state j)
-      mine_by j lt true k = subst (λ (x : ℕ). Mine A ms I.ls x q (w.store x) (w.state x)) (sym (eqb-true j i k)) (record { map = e ∙ (I.mine i M.below).map; up = u })
+      mine_by : (j : ℕ) → j < ms.count → (b : Bool) → eqb j i ≡ b → Mine A ms I.ls (number_of net.lives j) j (cond b q (net.process j)) (w.store j) (w.state j)
+      mine_by j lt true k = subst (λ (x : ℕ). Mine A ms I.ls (number_of net.lives x) x q (w.store x) (w.state x)) (sym (eqb-true j i k)) (record { map = e ∙ (I.mine i M.below).map; up = u })
       mine_by j lt false k = I.mine j lt
 
-      boots_by : (l : Letter) → Contains I.ls l → (b : Bool) → eqb l.by i ≡ b → l.boot ≤ boot_in (map_of (cond b q (net.process l.by)))
-      boots_by l c true k = subst (λ (m : Store). l.boot ≤ boot_in m) (sym e) (subst (λ (x : ℕ). l.boot ≤ boot_in (map_of (net.process x))) (eqb-true l.by i k) (I.boots l c))
-      boots_by l c false k = I.boots l c
+      alive_by : (j : ℕ) → j < ms.count → (b : Bool) → eqb j i ≡ b → IsAlive (net.lives j) (cond b q (net.process j))
+      alive_by j lt true k = subst (λ (x : ℕ). IsAlive (net.lives x) q) (sym (eqb-true j i k)) a
+      alive_by j lt false k = I.alive j lt
 
   -- ---- what is so of an iteration
 
@@ -118,13 +122,12 @@ module _ (A : Assembly) (ms : Monitors) (F : Facts ms) (net : Network) (w : Worl
     pub there : arrival w plain ≡ Some (record { rank = i; at = it.at; input = it.input })
     pub up : state_at i (w.state i) it.input ≡ Some n.state
     pub may : MayCome it.input
-    pub low : (r : Reaction) → reaction_to me n it ≡ Ok r → boot_in n.store.kv ≤ boot_in (map_after n r)
     pub own : (r : Reaction) → reaction_to me n it ≡ Ok r → AllByRecursion (IsOwn me) r.sends
-    pub fresh : (r : Reaction) → reaction_to me n it ≡ Ok r → (l : Letter) → Contains I.ls l → IsLong l → l.by ≡ i → l.boot ≡ boot_in (map_after n r) → l.seq < n.next
+    pub fresh : (l : Letter) → Contains I.ls l → IsLong l → l.by ≡ i → l.boot ≡ number_of net.lives i → l.seq < n.next
 
   abbrev pub CameSo : Serving → Result (Option TimedInput) NodeEnd → Type 0
   CameSo s (Ok (Some it)) = EventFine s.node it
-  CameSo s (Ok None) = IsUp A ms I.ls i (w.state i) s
+  CameSo s (Ok None) = IsUp A ms I.ls (number_of net.lives i) i (w.state i) s
   CameSo s (Err e) = Unit {0}
 
   pub record TurnFine (came : Result (Option TimedInput) NodeEnd) (s : Serving) : Type 0 where
@@ -132,17 +135,18 @@ module _ (A : Assembly) (ms : Monitors) (F : Facts ms) (net : Network) (w : Worl
     pub parts : A.Keeps I.ls i s.outside.parts
     pub most : s.node.next ≤ 2 ^ 62 + 1
     pub remembers : MayRemember me s.node.state
+    pub alive : Contains (net.lives i) (number_of net.lives i)
     pub so : CameSo s came
 
   abbrev NextOf : List Asked → List Acknowledgement → List Leadership → Left → Type 0
   NextOf olds acks leads l = Next A ms olds acks leads net.sent I.ls (with_left net i l) w
 
   -- nothing is kept, and nothing is sent
-  unkept : (olds : List Asked) (q : Process) → map_of q ≡ map_of (net.process i) → IfUp A ms I.ls i (w.state i) q → NextOf olds [] [] (record { process = q; sends = [] })
-  unkept olds q e u = let holds = still_holds q e u in Still (append-nil net.sent) refl refl holds.0 holds.1
+  unkept : (olds : List Asked) (q : Process) → map_of q ≡ map_of (net.process i) → IfUp A ms I.ls (number_of net.lives i) i (w.state i) q → IsAlive (net.lives i) q → NextOf olds [] [] (record { process = q; sends = [] })
+  unkept olds q e u a = let holds = still_holds q e u a in Still (append-nil net.sent) refl refl holds.0 holds.1
 
   still_down : (olds : List Asked) (came : Result (Option TimedInput) NodeEnd) (s : Serving) → TurnFine came s → NextOf olds [] [] (record { process = Down s.node.store.kv; sends = [] })
-  still_down olds came s T = unkept olds (Down s.node.store.kv) T.kv tt
+  still_down olds came s T = unkept olds (Down s.node.store.kv) T.kv tt tt
 
   -- ---- an iteration with an input
   module _ (s : Serving) (it : TimedInput) (T : TurnFine (Ok (Some it)) s) where
@@ -167,7 +171,7 @@ module _ (A : Assembly) (ms : Monitors) (F : Facts ms) (net : Network) (w : Worl
     down_next k r e small =
         let outs : List Outgoing = with_number n.next (letters me (map_after n r) r.sends) in
         Moved (moves A ms F net w R I i me is n it.at it.input E.plain E.fits E.there here E.up E.may T.remembers r e (E.own r e) small
-        outs (λ P all. all_with_number P n.next (letters me (map_after n r) r.sends) all) T.most (numbers_within n.next (letters me (map_after n r) r.sends) T.most) (E.low r e) (E.fresh r e)
+        outs (λ P all. all_with_number P n.next (letters me (map_after n r) r.sends) all) T.most (numbers_within n.next (letters me (map_after n r) r.sends) T.most) E.fresh T.alive
         (Down (map_after n r)) (take k (numbered_by me n r)) (λ P all. posted_front P i k (datagrams (boot_in (map_after n r)) n.next outs) all) refl tt
         (asks_in i it.input) (asked_so w E.plain i it.at it.input r E.there))
 
@@ -190,17 +194,17 @@ module _ (A : Assembly) (ms : Monitors) (F : Facts ms) (net : Network) (w : Worl
         let outs : List Outgoing = letters me (map_after n r) r.sends in
         let last : next_after n.next outs ≤ 2 ^ 62 + 1 = ltb-false _ _ few in
         let same : (done me s r).node.store.kv ≡ map_after n r = kept_kv r.transaction n.store in
-        let labels : List Letter = new A ms F net w R I i me is n it.at it.input E.plain E.fits E.there here E.up E.may T.remembers r e (E.own r e) small outs (λ P all. all) T.most last (E.low r e) (E.fresh r e) in
-        let u : IsUp A ms (I.ls ++ labels) i (Some r.state) (done me s r) = record {
+        let labels : List Letter = new A ms F net w R I i me is n it.at it.input E.plain E.fits E.there here E.up E.may T.remembers r e (E.own r e) small outs (λ P all. all) T.most last E.fresh T.alive in
+        let u : IsUp A ms (I.ls ++ labels) (number_of net.lives i) i (Some r.state) (done me s r) = record {
           state = refl;
           parts = A.more I.ls labels i s.outside.parts T.parts;
-          next = λ l c long own boot. next_now A ms F net w R I i me is n it.at it.input E.plain E.fits E.there here E.up E.may T.remembers r e (E.own r e) small outs (λ P all. all) T.most last (E.low r e) (E.fresh r e) l c long own (boot ∙ ap boot_in same);
+          next = λ l c long own boot. next_now A ms F net w R I i me is n it.at it.input E.plain E.fits E.there here E.up E.may T.remembers r e (E.own r e) small outs (λ P all. all) T.most last E.fresh T.alive l c long own boot;
           most = last;
           remembers = λ other o. let one : Some me ≡ Some other = sym is ∙ o in let both : me ≡ other = cc in
               subst (λ (x : Me). MayRemember x r.state) both (bounded A ms F net w R I i me is n it.at it.input E.plain E.fits E.there here E.up E.may T.remembers r e (E.own r e) small).state;
         } in
         Moved (moves A ms F net w R I i me is n it.at it.input E.plain E.fits E.there here E.up E.may T.remembers r e (E.own r e) small
-        outs (λ P all. all) T.most last (E.low r e) (E.fresh r e) (Up (done me s r)) (sent_by me n r) (λ P all. all) same u
+        outs (λ P all. all) T.most last E.fresh T.alive (Up (done me s r)) (sent_by me n r) (λ P all. all) same u
         (asks_in i it.input) (asked_so w E.plain i it.at it.input r E.there))
 
     -- all of them find a number
@@ -229,29 +233,30 @@ module _ (A : Assembly) (ms : Monitors) (F : Facts ms) (net : Network) (w : Worl
   turn_next came s Lost T = still_down (came_in i came) came s T
   turn_next (Err e) s Whole T = still_down [] (Err e) s T
   turn_next (Err e) s (Kept k) T = still_down [] (Err e) s T
-  turn_next (Ok None) s Whole T = unkept [] (Up s) T.kv T.so
+  turn_next (Ok None) s Whole T = unkept [] (Up s) T.kv T.so T.alive
   turn_next (Ok None) s (Kept k) T = still_down [] (Ok None) s T
   turn_next (Ok (Some it)) s Whole T = whole_next s it T (reaction_to me s.node it) refl
   turn_next (Ok (Some it)) s (Kept k) T = kept_next s it T k (reaction_to me s.node it) refl
 
   -- ---- which turn it is
 
-  begins_fine : (stood : Stood) (clock : Option Readings) (link : Option Told) (first : ℕ) → stood.kv ≡ map_of (net.process i)
+  begins_fine : (stood : Stood) (clock : Option Readings) (link : Option Told) (first : ℕ) → stood.kv ≡ map_of (net.process i) → Contains (net.lives i) (number_of net.lives i)
+      → ((l : Letter) → Contains I.ls l → l.by ≡ i → l.boot ≡ number_of net.lives i → ⊥)
       → TurnFine (start first (unstarted me.member.rank stood clock link)).came (start first (unstarted me.member.rank stood clock link)).serving
-  begins_fine stood clock link first kv = record {
+  begins_fine stood clock link first kv alive none = record {
     kv = kv;
     parts = A.nothing I.ls i;
     most = omega arith;
     remembers = boot_ok me;
+    alive = alive;
     so = record {
       plain = Start i first;
       fits = M.below;
       there = refl;
       up = started_up;
       may = tt;
-      low = λ r e. let up = counts r e in omega (arith, up);
       own = λ r e. F.started_own w i first me r R (subst (λ (m : Store). reaction me first m (booting me.member.rank) input.Start ≡ Ok r) here e);
-      fresh = λ r e l c long own boot. let up = counts r e in let old = I.boots l c in absurd (too_old r e l c own boot);
+      fresh = λ l c long own boot. absurd (none l c own boot);
     };
   }
     where
@@ -264,20 +269,8 @@ module _ (A : Assembly) (ms : Monitors) (F : Facts ms) (net : Network) (w : Worl
       started_up : Some (booting i) ≡ Some (booting me.member.rank)
       started_up = ap (λ (k : ℕ). Some (booting k)) (sym M.rank)
 
-      counts : (r : Reaction) → reaction_to me (record { state = booting me.member.rank; store = stood; next = 1 }) (record { input = input.Start; at = first }) ≡ Ok r → boot_in stood.kv < boot_in (apply r.transaction stood.kv)
-      counts r e = subst (λ (m : Store). boot_in m < boot_in (apply r.transaction m)) (sym here)
-          (F.starts w i first me r R (subst (λ (m : Store). reaction me first m (booting me.member.rank) input.Start ≡ Ok r) here e))
-
-      too_old : (r : Reaction) → reaction_to me (record { state = booting me.member.rank; store = stood; next = 1 }) (record { input = input.Start; at = first }) ≡ Ok r
-          → (l : Letter) → Contains I.ls l → l.by ≡ i → l.boot ≡ boot_in (apply r.transaction stood.kv) → ⊥
-      too_old r e l c own boot =
-          let up = counts r e in
-          let old : l.boot ≤ boot_in (map_of (net.process i)) = subst (λ (k : ℕ). l.boot ≤ boot_in (map_of (net.process k))) own (I.boots l c) in
-          let older : l.boot ≤ boot_in stood.kv = subst (λ (m : Store). l.boot ≤ boot_in m) (sym kv) old in
-          omega (arith, up, older, boot)
-
   -- a process that is up
-  module _ (s : Serving) (here : net.process i ≡ Up s) (u : IsUp A ms I.ls i (w.state i) s) where
+  module _ (s : Serving) (here : net.process i ≡ Up s) (u : IsUp A ms I.ls (number_of net.lives i) i (w.state i) s) (alive : Contains (net.lives i) (number_of net.lives i)) where
     map_here : s.node.store.kv ≡ map_of (net.process i)
     map_here = ap map_of (sym here)
 
@@ -293,14 +286,9 @@ module _ (A : Assembly) (ms : Monitors) (F : Facts ms) (net : Network) (w : Worl
       there = c.there;
       up = c.running ∙ u.state;
       may = c.may;
-      low = λ r e. let same = still r e in omega (arith, same);
       own = λ r e. F.own w c.plain i it.at it.input me s.node.state r R c.fits c.there u.state c.other (subst (λ (m : Store). reaction me it.at m s.node.state it.input ≡ Ok r) store_here e);
-      fresh = λ r e l k long own boot. u.next l k long own (boot ∙ still r e);
+      fresh = u.next;
     }
-      where
-        still : (r : Reaction) → reaction_to me s.node it ≡ Ok r → boot_in (map_after s.node r) ≡ boot_in s.node.store.kv
-        still r e = subst (λ (m : Store). boot_in (apply r.transaction m) ≡ boot_in m) (sym store_here)
-            (F.runs w c.plain i it.at it.input me s.node.state r R c.fits c.there u.state c.other (subst (λ (m : Store). reaction me it.at m s.node.state it.input ≡ Ok r) store_here e))
 
     turns_fine : (g : Given) → IsAsked net i (due_by g.began (due s.node.state.timers)) g.answer → TurnFine (turn me g s).came (turn me g s).serving
     unfolding turn
@@ -308,24 +296,100 @@ module _ (A : Assembly) (ms : Monitors) (F : Facts ms) (net : Network) (w : Worl
         let next = due s.node.state.timers in
         let h : Heard = heard me.member.monitors next g s.outside in
         let f : HeardFine A ms w i M.below I.ls I.said h = heard_fine A ms w i M.below I.ls I.said net I.posted I.letters (due_by g.began next) me.member.monitors (wait_until g.began next) g (clock_read s.outside) u.parts asked in
-        record { kv = map_here; parts = f.parts; most = u.most; remembers = u.remembers me is; so = so_heard h h.came f.came f.parts }
+        record { kv = map_here; parts = f.parts; most = u.most; remembers = u.remembers me is; alive = alive; so = so_heard h h.came f.came f.parts }
 
-  made_next : (p : Process) (doing : Doing) (u : Until) → net.process i ≡ p → May net i p doing → IfUp A ms I.ls i (w.state i) p
-      → Next A ms (asked_in_turn i (turn_of me p doing)) (acknowledged_in_turn me u (turn_of me p doing)) (led_in_turn i me u (turn_of me p doing)) net.sent I.ls (if_made me net (record { rank = i; doing = doing; up_to = u }) (turn_of me p doing)) w
-  made_next p (Begins stood clock link first) u e may up =
-      let t : Turn = start first (unstarted me.member.rank stood clock link) in
-      turn_next t.came t.serving u (begins_fine stood clock link first (may ∙ ap map_of (sym e)))
-  made_next (Up s) (Turns g) u e may up =
-      let t : Turn = turn me g s in
-      turn_next t.came t.serving u (turns_fine s e up g may)
-  made_next (Down m) (Turns g) u e may up = Still refl refl refl I refl
+  turns_next : (s : Serving) (g : Given) (u : Until) → net.process i ≡ Up s → IsAsked net i (due_by g.began (due s.node.state.timers)) g.answer → IfUp A ms I.ls (number_of net.lives i) i (w.state i) (Up s) → IsAlive (net.lives i) (Up s)
+      → Next A ms (asked_in_turn i (Some (turn me g s))) (acknowledged_in_turn me u (Some (turn me g s))) (led_in_turn i me u (Some (turn me g s))) net.sent I.ls (with_left net i (left_by me (turn me g s) u)) w
+  turns_next s g u e may up alive = let t : Turn = turn me g s in turn_next t.came t.serving u (turns_fine s e up alive g may)
+
+  begins_next : (stood : Stood) (clock : Option Readings) (link : Option Told) (first : ℕ) (u : Until) → stood.kv ≡ map_of (net.process i) → Contains (net.lives i) (number_of net.lives i)
+      → ((l : Letter) → Contains I.ls l → l.by ≡ i → l.boot ≡ number_of net.lives i → ⊥) → (t : Turn) → t ≡ start first (unstarted me.member.rank stood clock link)
+      → Next A ms (asked_in_turn i (Some t)) (acknowledged_in_turn me u (Some t)) (led_in_turn i me u (Some t)) net.sent I.ls (with_left net i (left_by me t u)) w
+  begins_next stood clock link first u kv alive none t is_start =
+      let s : Turn = start first (unstarted me.member.rank stood clock link) in
+      subst (λ (t : Turn). Next A ms (asked_in_turn i (Some t)) (acknowledged_in_turn me u (Some t)) (led_in_turn i me u (Some t)) net.sent I.ls (with_left net i (left_by me t u)) w) (sym is_start)
+      (turn_next s.came s.serving u (begins_fine stood clock link first kv alive none))
+
+-- ---- a life begins
+
+module _ (A : Assembly) (ms : Monitors) (net : Network) (w : World) (I : Inv A ms net w) (i life : ℕ) (small : life ≤ 2 ^ 62) (new_one : Contains (net.lives i) life → ⊥) where
+  abbrev then_lives : ℕ → List ℕ
+  then_lives = put_at net.lives i (life ∷ net.lives i)
+
+  abbrev lives_by : Bool → ℕ → List ℕ
+  lives_by b j = cond b (life ∷ net.lives i) (net.lives j)
+
+  -- no letter has its number yet
+  pub none_has : (l : Letter) → Contains I.ls l → l.by ≡ i → l.boot ≡ life → ⊥
+  none_has l c own boot = new_one (subst (λ (x : ℕ). Contains (net.lives i) x) boot (subst (λ (x : ℕ). Contains (net.lives x) l.boot) own (I.known l c)))
+
+  entered_up : (j : ℕ) (st : Option State) (p : Process) → j ≡ i → IfUp A ms I.ls (number_of net.lives j) j st p → IfUp A ms I.ls life j st p
+  entered_up j st (Down m) e u = tt
+  entered_up j st (Up s) e u = record { state = u.state; parts = u.parts; next = λ l c long own boot. absurd (none_has l c (own ∙ e) boot); most = u.most; remembers = u.remembers }
+
+  entered_alive : (p : Process) → IsAlive (life ∷ net.lives i) p
+  entered_alive (Up s) = contains_first life (net.lives i)
+  entered_alive (Down m) = tt
+
+  pub entered_holds : (J : Inv A ms (record { process = net.process; lives = put_at net.lives i (life ∷ net.lives i); sent = net.sent }) w) × (J.ls ≡ I.ls)
+  entered_holds = (
+    record {
+      ls = I.ls;
+      mine = λ j lt. mine_by j lt (eqb j i) refl;
+      posted = I.posted;
+      letters = I.letters;
+      said = I.said;
+      known = λ l c. known_by l c (eqb l.by i) refl;
+      alive = λ j lt. alive_by j lt (eqb j i) refl;
+      numbers = λ j. numbers_by j (eqb j i);
+    },
+    refl,
+  )
+    where
+      mine_by : (j : ℕ) → j < ms.count → (b : Bool) → eqb j i ≡ b → Mine A ms I.ls (newest (lives_by b j)) j (net.process j) (w.store j) (w.state j)
+      mine_by j lt true e = record { map = (I.mine j lt).map; up = entered_up j (w.state j) (net.process j) (eqb-true j i e) (I.mine j lt).up }
+      mine_by j lt false e = I.mine j lt
+
+      known_by : (l : Letter) → Contains I.ls l → (b : Bool) → eqb l.by i ≡ b → Contains (lives_by b l.by) l.boot
+      known_by l c true e = contains_later life (net.lives i) l.boot (subst (λ (x : ℕ). Contains (net.lives x) l.boot) (eqb-true l.by i e) (I.known l c))
+      known_by l c false e = I.known l c
+
+      alive_by : (j : ℕ) → j < ms.count → (b : Bool) → eqb j i ≡ b → IsAlive (lives_by b j) (net.process j)
+      alive_by j lt true e = entered_alive (net.process j)
+      alive_by j lt false e = I.alive j lt
+
+      numbers_by : (j : ℕ) (b : Bool) → newest (lives_by b j) ≤ 2 ^ 62
+      numbers_by j true = small
+      numbers_by j false = I.numbers j
 
 -- ---- a step
 
 module _ (A : Assembly) (ms : Monitors) (F : Facts ms) (net : Network) (w : World) (R : Reach ms w) (I : Inv A ms net w) where
+  newest_here : (i life : ℕ) (b : Bool) → b ≡ true → newest (cond b (life ∷ net.lives i) (net.lives i)) ≡ life
+  newest_here i life true e = refl
+  newest_here i life false e = absurd cc
+
+  has_here : (i life : ℕ) (b : Bool) → b ≡ true → Contains (cond b (life ∷ net.lives i) (net.lives i)) (newest (cond b (life ∷ net.lives i) (net.lives i)))
+  has_here i life true e = contains_first life (net.lives i)
+  has_here i life false e = absurd cc
+
+  made_next : (i : ℕ) (me : Me) → me_of ms i ≡ Some me → (p : Process) (doing : Doing) (u : Until) → net.process i ≡ p → May net i p doing → IfUp A ms I.ls (number_of net.lives i) i (w.state i) p → IsAlive (net.lives i) p
+      → Next A ms (asked_in_turn i (turn_of me p doing)) (acknowledged_in_turn me u (turn_of me p doing)) (led_in_turn i me u (turn_of me p doing)) net.sent I.ls (if_made me net (record { rank = i; doing = doing; up_to = u }) (turn_of me p doing)) w
+  made_next i me is p (Begins life stood clock link first) u e may up alive =
+      let t : Turn = start first (unstarted me.member.rank stood clock link) in
+      let then_net : Network = record { process = net.process; lives = put_at net.lives i (life ∷ net.lives i); sent = net.sent } in
+      let J = entered_holds A ms net w I i life may.1.0 may.1.1 in
+      let one : eqb i i ≡ true = eq-eqb i i refl in
+      let none : (l : Letter) → Contains J.0.ls l → l.by ≡ i → l.boot ≡ number_of then_net.lives i → ⊥ =
+      λ l c own boot. none_has A ms net w I i life may.1.0 may.1.1 l (subst (λ (ls : List Letter). Contains ls l) J.1 c) own (boot ∙ newest_here i life (eqb i i) one) in
+      subst (λ (ls : List Letter). Next A ms (asked_in_turn i (Some t)) (acknowledged_in_turn me u (Some t)) (led_in_turn i me u (Some t)) net.sent ls (with_left then_net i (left_by me t u)) w) J.1
+      (begins_next A ms F then_net w R J.0 i me is stood clock link first u (may.0 ∙ ap map_of (sym e)) (has_here i life (eqb i i) one) none t refl)
+  made_next i me is (Up s) (Turns g) u e may up alive = turns_next A ms F net w R I i me is s g u e may up alive
+  made_next i me is (Down m) (Turns g) u e may up alive = Still refl refl refl I refl
+
   pub step_next : (s : Step) → May net s.rank (net.process s.rank) s.doing → Next A ms (asked_by net s (me_of ms s.rank)) (acknowledged_at net s (me_of ms s.rank)) (led_at net s (me_of ms s.rank)) net.sent I.ls (after_step ms net s) w
   step_next s may = by (me_of ms s.rank) refl
     where
       by : (x : Option Me) → me_of ms s.rank ≡ x → Next A ms (asked_by net s x) (acknowledged_at net s x) (led_at net s x) net.sent I.ls (made_by net s x) w
       by None e = Still refl refl refl I refl
-      by (Some me) e = made_next A ms F net w R I s.rank me e (net.process s.rank) s.doing s.up_to refl may (I.mine s.rank (known ms s.rank me e).below).up
+      by (Some me) e = made_next s.rank me e (net.process s.rank) s.doing s.up_to refl may (I.mine s.rank (known ms s.rank me e).below).up (I.alive s.rank (known ms s.rank me e).below)

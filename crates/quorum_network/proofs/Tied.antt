@@ -162,14 +162,14 @@ module _ (me : Me) (t : Turn) (x : Stood) (link : Option Told) where
 
 -- ---- a life
 
-module _ (i : ℕ) (me : Me) (stood : Stood) (clock : Option Readings) (link : Option Told) (first : ℕ) (given : List Given) (earlier : List Step) (left_link : Option Told) (x y : List ℕ) where
+module _ (i : ℕ) (me : Me) (number : ℕ) (stood : Stood) (clock : Option Readings) (link : Option Told) (first : ℕ) (given : List Given) (earlier : List Step) (left_link : Option Told) (x y : List ℕ) where
   abbrev start : Serving
   start = unstarted me.member.rank stood clock link
 
   -- a life whose last turn leaves this
-  life_is : (t : Turn) (m : Store) → last_turn me first start given ≡ Ok t → EndOf me t m left_link → IsLife i me stood clock link first given earlier m left_link
+  life_is : (t : Turn) (m : Store) → last_turn me first start given ≡ Ok t → EndOf me t m left_link → IsLife i me number stood clock link first given earlier m left_link
   life_is t m is E =
-      let L = last_is i me stood clock link first earlier given E.up_to t is in
+      let L = last_is i me number stood clock link first earlier given E.up_to t is in
       record {
         up_to = E.up_to;
         map_is = E.map ∙ ap map_of (sym L.process);
@@ -180,12 +180,12 @@ module _ (i : ℕ) (me : Me) (stood : Stood) (clock : Option Readings) (link : O
 
   module _ (member : Member) (s : Stood) (opens : opens_as member x y ≡ Ok s) where
     abbrev Lived : Type 0
-    Lived = IsLife i me stood clock link first given earlier s.kv left_link
+    Lived = IsLife i me number stood clock link first given earlier s.kv left_link
 
     pub killed : (t : Turn) → last_turn me first start given ≡ Ok t → On (IsLeft me t end.OutOfMemory left_link) x y → Lived
     killed t is on =
         let z = on_opens (IsLeft me t end.OutOfMemory left_link) member x y s on opens in
-        subst (λ (m : Store). IsLife i me stood clock link first given earlier m left_link) (sym z.2) (life_is t z.0.kv is (stopped me t z.0 left_link z.1))
+        subst (λ (m : Store). IsLife i me number stood clock link first given earlier m left_link) (sym z.2) (life_is t z.0.kv is (stopped me t z.0 left_link z.1))
 
     pub ends_so : (turns begun : ℕ) (e : NodeEnd) (left_clock : Option Readings) → Serves me start turns e begun left_clock left_link first given
         → Has (last_turn me first start given) (λ t. On (IsLeft me t e left_link) x y) → Lived
@@ -194,5 +194,5 @@ module _ (i : ℕ) (me : Me) (stood : Stood) (clock : Option Readings) (link : O
         by : (r : Result Turn NodeEnd) → last_turn me first start given ≡ r → Has r (λ t. EndsAfter me turns begun t e left_clock left_link) → Has r (λ t. On (IsLeft me t e left_link) x y) → Lived
         by (Ok t) is h on =
             let z = on_opens (IsLeft me t e left_link) member x y s on opens in
-            subst (λ (m : Store). IsLife i me stood clock link first given earlier m left_link) (sym z.2) (life_is t z.0.kv is (end_is me t z.0 left_link turns begun e left_clock h z.1))
+            subst (λ (m : Store). IsLife i me number stood clock link first given earlier m left_link) (sym z.2) (life_is t z.0.kv is (end_is me t z.0 left_link turns begun e left_clock h z.1))
         by (Err r) is h on = absurd h

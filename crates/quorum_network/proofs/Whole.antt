@@ -15,12 +15,12 @@ use Rattle.quorum_network.specs.Requests.{Acknowledgement, Leadership, acknowled
 use Rattle.std.proofs.lemmas.List.Elements.{Contains-append_left, Contains-append_right}
 use Rattle.quorum_model.specs.Runs.{Ran, run, ran_from}
 use Rattle.quorum_model.specs.World.{Acknowledged, Asked, World, Plain, Event, Comes, first_world, plain_of}
-use Rattle.quorum_network.specs.Network.{Network, Step, AllMay, Posted, network, first_network, after_step}
+use Rattle.quorum_network.specs.Network.{Network, Step, AllMay, Posted, network, first_network, after_step, number_of}
 use Rattle.quorum_network.specs.Running.{IsOfRun, IsTold, DoesARun}
 use Rattle.quorum_network.proofs.Adding.{Adds, IsBy, given, noted_as}
 use Rattle.quorum_network.proofs.Assembled.{all_self, all_through, assembly}
 use Rattle.quorum_network.proofs.Assembling.{Assembly}
-use Rattle.quorum_network.proofs.Boots.{starts, runs, started_own, running_own}
+use Rattle.quorum_network.proofs.Senders.{running_own, started_own}
 use Rattle.quorum_network.proofs.Named.{named}
 use Rattle.quorum_network.proofs.Events.{ran_more}
 use Rattle.quorum_network.proofs.Facts.{Facts, Reach}
@@ -119,7 +119,9 @@ stands_first A ms = record {
     posted = tt;
     letters = record { cut = λ l c. absurd (omega (arith, c.1)); numbered = λ l k c d. absurd (omega (arith, c.1)) };
     said = λ l c. absurd (omega (arith, c.1));
-    boots = λ l c. absurd (omega (arith, c.1));
+    known = λ l c. absurd (omega (arith, c.1));
+    alive = λ j lt. tt;
+    numbers = λ j. omega arith;
   };
   asked = tt;
   given_are = refl;
@@ -154,14 +156,12 @@ all_told count w ls (d ∷ ds) said h =
 pub of_run : (A : Assembly) (ms : Monitors) (net : Network) (w : World) → Inv A ms net w → IsOfRun ms net w
 of_run A ms net w I = record {
   maps = λ i lt. (I.mine i lt).map;
-  states = λ i s lt e. (subst (IfUp A ms I.ls i (w.state i)) e (I.mine i lt).up).state;
+  states = λ i s lt e. (subst (IfUp A ms I.ls (number_of net.lives i) i (w.state i)) e (I.mine i lt).up).state;
   told = all_told ms.count w I.ls net.sent I.said I.posted;
 }
 
 pub facts : (ms : Monitors) → Facts ms
 facts ms = record {
-  starts = λ w i at me r R e. starts ms w R i at me r e;
-  runs = λ w p i at came me s r R F there up other e. runs ms w R me i at came p s r F there up other e;
   started_own = λ w i at me r R e. started_own ms w R i at me r e;
   own = λ w p i at came me s r R F there up other e. running_own ms w R me i at came p s r F there up other e;
   named = named ms;

@@ -1,5 +1,5 @@
 -- One process alone: its own steps, and how they follow from what `serve` and `Store::open` promise.
-use Rattle.std.specs.Prelude.{◌≡◌, ◌⊎◌, ℕ, ◌==◌, List, [], ◌∷◌, ◌++◌, Option, Some, None, Ok, if◌then◌else◌}
+use Rattle.std.specs.Prelude.{◌≡◌, ◌⊎◌, ℕ, ◌==◌, List, [], ◌∷◌, ◌++◌, map, Option, Some, None, Ok, if◌then◌else◌}
 use Rattle.std.specs.FinMap.{empty}
 use Rattle.std.specs.List.{Contains}
 use Rattle.std.specs.Option.{option_map}
@@ -12,7 +12,7 @@ use Rattle.mon_node.specs.Turns.{Turn}
 use Rattle.mon_store.specs.Stood.{Stood, opens_as}
 use Rattle.mon_tx.specs.Map.{Store}
 use Rattle.mon_types.specs.declared.member.Member.{Member}
-use Rattle.quorum_network.specs.Network.{Down, Begins, Turns, Until, Whole, Lost, Kept, Posted, Step, Left, map_of, turn_of, left_by}
+use Rattle.quorum_network.specs.Network.{Process, Down, Doing, Begins, Turns, Until, Whole, Lost, Kept, Posted, Step, map_of, newest, turn_of, left_by, under}
 
 -- the steps of monitor i
 abbrev pub own_if : Step → ℕ → List Step → List Step
@@ -30,22 +30,37 @@ abbrev pub sent_of : ℕ → List Posted → List Outgoing
 sent_of i [] = []
 sent_of i (d ∷ later) = sent_if d i (sent_of i later)
 
--- a process after steps of its own, and all that it ever sent
-abbrev pub left_at : Me → Until → Left → Option Turn → Left
-left_at me u l None = l
-left_at me u l (Some t) = record { process = (left_by me t u).process; sends = l.sends ++ (left_by me t u).sends }
+-- A process after steps of its own; the numbers of its lives, the newest first; and all that it ever sent, each datagram
+-- with the number of its life.
+pub record Alone : Type 0 where
+  pub process : Process
+  pub lives : List ℕ
+  pub sends : List Outgoing
 
-unfoldable pub alone : Me → List Step → Left
-alone me [] = record { process = Down empty; sends = [] }
-alone me (s ∷ earlier) = left_at me s.up_to (alone me earlier) (turn_of me (alone me earlier).process s.doing)
+abbrev pub lives_then : Doing → List ℕ → List ℕ
+lives_then (Begins number stood clock link first) lives = number ∷ lives
+lives_then (Turns g) lives = lives
 
--- The steps of a life: the process is started and makes these iterations, the newest first. `u` is how far the last of
--- them gets, or the start if there is none.
-abbrev pub life : ℕ → Stood → Option Readings → Option Told → (first : ℕ) → List Given → Until → List Step → List Step
-life i stood clock link first [] u earlier =
-    record { rank = i; doing = Begins stood clock link first; up_to = u } ∷ earlier
-life i stood clock link first (g ∷ given) u earlier =
-    record { rank = i; doing = Turns g; up_to = u } ∷ life i stood clock link first given Whole earlier
+abbrev pub left_at : Me → Step → Alone → Option Turn → Alone
+left_at me s a None = a
+left_at me s a (Some t) = record {
+  process = (left_by me t s.up_to).process;
+  lives = lives_then s.doing a.lives;
+  sends = a.sends ++ map (under (newest (lives_then s.doing a.lives))) (left_by me t s.up_to).sends;
+}
+
+unfoldable pub alone : Me → List Step → Alone
+alone me [] = record { process = Down empty; lives = []; sends = [] }
+alone me (s ∷ earlier) = left_at me s (alone me earlier) (turn_of me (alone me earlier).process s.doing)
+
+-- The steps of the life with this number: the process is started and makes these iterations, the newest first. `u` is how
+-- far the last of them gets, or the start if there is none.
+abbrev pub life : ℕ → (number : ℕ) → Stood → Option Readings → Option Told → (first : ℕ) → List Given → Until
+    → List Step → List Step
+life i number stood clock link first [] u earlier =
+    record { rank = i; doing = Begins number stood clock link first; up_to = u } ∷ earlier
+life i number stood clock link first (g ∷ given) u earlier =
+    record { rank = i; doing = Turns g; up_to = u } ∷ life i number stood clock link first given Whole earlier
 
 -- ---- what a process leaves
 
@@ -64,11 +79,12 @@ sent_in link = option_map (λ t. t.sent) link
 abbrev pub IsSent : List Outgoing → Option Told → Option Told → Type 0
 IsSent ds old new = sent_in new ≡ option_map (λ sent. sent ++ ds) (sent_in old)
 
--- Such a life leaves this map, and sends what the link was asked to send.
-pub record IsLife (i : ℕ) (me : Me) (stood : Stood) (clock : Option Readings) (link : Option Told) (first : ℕ)
-    (given : List Given) (earlier : List Step) (map : Store) (told : Option Told) : Type 0 where
+-- Such a life leaves this map. What the link was asked to send goes out with the number of the life.
+pub record IsLife (i : ℕ) (me : Me) (number : ℕ) (stood : Stood) (clock : Option Readings) (link : Option Told)
+    (first : ℕ) (given : List Given) (earlier : List Step) (left_map : Store) (told : Option Told) : Type 0 where
   pub up_to : Until
-  pub map_is : map ≡ map_of (alone me (life i stood clock link first given up_to earlier)).process
+  pub map_is : left_map ≡ map_of (alone me (life i number stood clock link first given up_to earlier)).process
   pub sends : List Outgoing
-  pub sends_are : (alone me (life i stood clock link first given up_to earlier)).sends ≡ (alone me earlier).sends ++ sends
+  pub sends_are : (alone me (life i number stood clock link first given up_to earlier)).sends
+      ≡ (alone me earlier).sends ++ map (under number) sends
   pub told_is : IsSent sends link told

@@ -1,5 +1,5 @@
 -- The processes of a map's monitors, and the datagrams that they send.
-use Rattle.std.specs.Prelude.{◌≡◌, ℕ, List, [], ◌∷◌, ◌++◌, map, take, Option, Some, None, Result, Ok, Err}
+use Rattle.std.specs.Prelude.{◌≡◌, ℕ, ◌^◌, ◌≤◌, List, [], ◌∷◌, ◌++◌, map, take, Option, Some, None, Result, Ok, Err}
 use Rattle.std.specs.FinMap.{empty}
 use Rattle.std.specs.List.{Contains}
 use Rattle.mon_bytes.specs.Reading.{IsBytes}
@@ -18,6 +18,7 @@ use Rattle.mon_node.specs.Nodes.{Node, Serving, unstarted}
 use Rattle.mon_node.specs.Serving.{of_kept, sends_of}
 use Rattle.mon_node.specs.Turns.{Turn, map_after, numbered_by, start, turn, ended_turn}
 use Rattle.mon_node.specs.declared.end.NodeEnd.{NodeEnd}
+use Rattle.mon_name.specs.Numbers.{renumbered}
 use Rattle.mon_store.specs.Stood.{Stood}
 use Rattle.mon_tx.specs.Map.{Store}
 use Rattle.mon_types.specs.declared.names.Stop.{Stop}
@@ -38,14 +39,17 @@ pub record Posted : Type 0 where
   pub by : ℕ
   pub datagram : Outgoing
 
--- the process of each rank, and all datagrams that were ever sent, in order
+-- The process of each rank; the numbers of each rank's lives, the newest first; and all datagrams that were ever sent,
+-- in order. Each is listed as a link that names the quorum hands it on at its receiver: without the frame, and with the
+-- number of its sender's life.
 pub record Network : Type 0 where
   pub process : ℕ → Process
+  pub lives : ℕ → List ℕ
   pub sent : List Posted
 
 -- all maps are empty, and no process was begun
 abbrev pub first_network : Network
-first_network = record { process = λ _. Down empty; sent = [] }
+first_network = record { process = λ _. Down empty; lives = λ _. []; sent = [] }
 
 abbrev pub map_of : Process → Store
 map_of (Up s) = s.node.store.kv
@@ -53,10 +57,10 @@ map_of (Down m) = m
 
 -- ---- what happens
 
--- A process is started on a store, with a clock and a link, at a reading of the clock. A process of its rank that is
--- still up ends then. Or a process makes an iteration.
+-- A process is started: a life of its rank begins, with a number. It has a store, a clock and a link, and begins at a
+-- reading of the clock. A process of its rank that is still up ends then. Or a process makes an iteration.
 pub data Doing : Type 0 where
-  Begins : (stood : Stood) → (clock : Option Readings) → (link : Option Told) → (first : ℕ) → Doing
+  Begins : (number : ℕ) → (stood : Stood) → (clock : Option Readings) → (link : Option Told) → (first : ℕ) → Doing
   Turns : (given : Given) → Doing
 
 -- How far the start or the iteration gets. It is completed. Or the process ends or is killed in it: before the
@@ -75,7 +79,7 @@ pub record Step : Type 0 where
 
 -- the iteration that it is; a process that is down makes none
 abbrev pub turn_of : Me → Process → Doing → Option Turn
-turn_of me p (Begins stood clock link first) = Some (start first (unstarted me.member.rank stood clock link))
+turn_of me p (Begins number stood clock link first) = Some (start first (unstarted me.member.rank stood clock link))
 turn_of me (Up s) (Turns g) = Some (turn me g s)
 turn_of me (Down m) (Turns g) = None
 
@@ -103,18 +107,39 @@ left_by me t Whole = at_end me t (ended_turn me t)
 left_by me t Lost = record { process = Down t.serving.node.store.kv; sends = [] }
 left_by me t (Kept k) = down me t.serving.node k (kept_reaction me t)
 
+-- the number of a rank's newest life
+abbrev pub newest : List ℕ → ℕ
+newest [] = 0
+newest (number ∷ older) = number
+
+abbrev pub number_of : (ℕ → List ℕ) → ℕ → ℕ
+number_of lives i = newest (lives i)
+
+-- a datagram that is sent in the life with this number
+abbrev pub under : (number : ℕ) → Outgoing → Outgoing
+under number d = record { to = d.to; bytes = renumbered number d.bytes }
+
 abbrev pub posted : ℕ → Outgoing → Posted
 posted i d = record { by = i; datagram = d }
 
 abbrev pub with_left : Network → ℕ → Left → Network
 with_left net i l = record {
   process = put_at net.process i l.process;
-  sent = net.sent ++ map (posted i) l.sends;
+  lives = net.lives;
+  sent = net.sent ++ map (posted i) (map (under (number_of net.lives i)) l.sends);
 }
+
+-- a start is a new life of its rank
+abbrev pub lives_after : (ℕ → List ℕ) → ℕ → Doing → ℕ → List ℕ
+lives_after lives i (Begins number stood clock link first) = put_at lives i (number ∷ lives i)
+lives_after lives i (Turns g) = lives
+
+abbrev pub entered : Network → ℕ → Doing → Network
+entered net i doing = record { process = net.process; lives = lives_after net.lives i doing; sent = net.sent }
 
 abbrev pub if_made : Me → Network → Step → Option Turn → Network
 if_made me net s None = net
-if_made me net s (Some t) = with_left net s.rank (left_by me t s.up_to)
+if_made me net s (Some t) = with_left (entered net s.rank s.doing) s.rank (left_by me t s.up_to)
 
 abbrev pub made_by : Network → Step → Option Me → Network
 made_by net s None = net
@@ -147,9 +172,14 @@ abbrev pub IsAsked : Network → ℕ → Option Timer → Result Got Stop → Ty
 IsAsked net i (Some t) answer = Unit {0}
 IsAsked net i None answer = IsAnswer net i answer
 
--- A process begins on the map that its disks keep. An iteration of one that is up is given what came to it.
+-- a number that no life of this rank had before
+abbrev pub IsNew : Network → ℕ → (number : ℕ) → Type 0
+IsNew net i number = (number ≤ 2 ^ 62) × ¬ Contains (net.lives i) number
+
+-- A process begins on the map that its disks keep, with a new number. An iteration of one that is up is given what came
+-- to it.
 abbrev pub May : Network → ℕ → Process → Doing → Type 0
-May net i p (Begins stood clock link first) = stood.kv ≡ map_of p
+May net i p (Begins number stood clock link first) = (stood.kv ≡ map_of p) × IsNew net i number
 May net i (Up s) (Turns g) = IsAsked net i (due_by g.began (due s.node.state.timers)) g.answer
 May net i (Down m) (Turns g) = Unit {0}
 

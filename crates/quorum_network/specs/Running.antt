@@ -19,9 +19,9 @@ use Rattle.quorum_network.specs.Network.{Network, Posted, Up, map_of}
 abbrev pub answer_of : (count : ℕ) → Replied → Message
 answer_of count r = record { from = r.rank; monitors = count; epoch = r.epoch; body = body.Reply r.session.id r.reply }
 
--- bytes are a datagram of a message with this text
+-- bytes are a datagram of a message with this text, sent in some life
 abbrev pub IsPiece : List ℕ → List ℕ → Type 0
-IsPiece whole bytes = (boot seq : ℕ) × Contains (pieces_of whole boot seq) bytes
+IsPiece whole bytes = (life seq : ℕ) × Contains (pieces_of whole life seq) bytes
 
 -- To a monitor goes a message of the run, by its sender. To a client goes a reply of the run, by this monitor and in a
 -- session of this client.

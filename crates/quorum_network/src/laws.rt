@@ -1,10 +1,17 @@
 ghost use Rattle.std.specs.FinMap.{empty};
 ghost use Rattle.std.specs.List.{AllByRecursion, Contains};
-ghost use Rattle.std.specs.Prelude.{◌≡◌, ℕ, ◌<◌, ◌≤◌, List, [], ◌++◌, take, Option, Some, Ok};
+ghost use Rattle.std.specs.Prelude.{◌≡◌, ℕ, ◌<◌, ◌≤◌, ◌^◌, List, [], ◌∷◌, ◌++◌, take, Option, Some, Ok, Result};
+ghost use Rattle.mon_core.specs.Core.{Monitor as Core};
+ghost use Rattle.mon_core.specs.Reacts.{IsReaction};
+ghost use Rattle.mon_core.specs.declared.reaction.Reaction.{Reaction};
 ghost use Rattle.mon_link.specs.Clocks.{Readings};
 ghost use Rattle.mon_link.specs.Links.{Told};
+ghost use Rattle.mon_link.specs.declared.link.Got.{Got};
+ghost use Rattle.mon_link.specs.declared.link.Peer.TheVariants.{Monitor, Client};
 ghost use Rattle.mon_msg.specs.Protocol.Timers.{due};
 ghost use Rattle.mon_msg.specs.declared.view.Me.{Me};
+ghost use Rattle.mon_name.specs.Frames.{framed};
+ghost use Rattle.mon_name.specs.Naming.{wired};
 ghost use Rattle.mon_node.specs.Hearing.{Given};
 ghost use Rattle.mon_node.specs.Lasting.{IsLeft, IsWithinTurn, On, stood_kept};
 ghost use Rattle.mon_node.specs.Nodes.{Serving, unstarted};
@@ -12,27 +19,32 @@ ghost use Rattle.mon_node.specs.Serving.{EndsAfter, Has, OfInput, Serves, sends_
 ghost use Rattle.mon_node.specs.Turns.{Turn, ended_turn, last_turn, turn};
 ghost use Rattle.mon_node.specs.declared.end.NodeEnd.TheVariants as end;
 ghost use Rattle.mon_node.specs.declared.end.NodeEnd.{NodeEnd};
+ghost use Rattle.mon_node.specs.declared.hearing.TimedInput.{TimedInput};
 ghost use Rattle.mon_store.specs.Moments.{EachPair, WhileOpening};
 ghost use Rattle.mon_store.specs.Opening.{Alike};
 ghost use Rattle.mon_store.specs.Stood.{Stood, opens_as};
 ghost use Rattle.mon_tx.specs.Map.{Store};
 ghost use Rattle.mon_types.specs.declared.member.Member.{Member};
+ghost use Rattle.mon_types.specs.declared.names.Stop.{Stop};
 ghost use Rattle.mon_wire.specs.declared.phase.Timer.{Timer};
 ghost use Rattle.quorum_model.specs.Monitors.{Monitors, me_of};
+ghost use Rattle.quorum_network.specs.AnyDisk.{AllMayAnyhow, AreNamed, ClientsJoinWhole, JoinsWhole, mailed};
 ghost use Rattle.quorum_network.specs.EachTurn.{IsAskedInTime, IsKeptFirst, IsOfReaction, Takes};
 ghost use Rattle.quorum_network.specs.Lives.{alone, life, own, sent_of, IsLeftBy, IsLife, OpensWith};
-ghost use Rattle.quorum_network.specs.Network.{AllMay, Begins, Kept, May, Step, Until, left_by, map_of, network};
+ghost use Rattle.quorum_network.specs.Network.{AllMay, Begins, IsAnswer, Kept, May, Network, Step, Until, left_by, map_of, network, under};
 ghost use Rattle.quorum_network.specs.Promises.{AgreeWith, HaveOneLog, Leads};
 ghost use Rattle.quorum_network.specs.Requests.{Leadership, leaderships, requests};
 ghost use Rattle.quorum_network.specs.Running.{DoesARun};
+ghost use Rattle.quorum_network.specs.Wire.{CameOver, HandsOn, IsOverWire};
 
 use mon_disk::{Disk, NodeDisks};
 
 /// Whatever processes do, a run of the model does it too. The monitors of a map are processes that all began with empty
 /// stores. Their network loses, repeats and delays datagrams. Each process may end, be killed and be started again at
-/// any point. Whatever happens, there is a run of the model that has the map of each store, what each process that is
-/// up remembers, and each message and reply of which a datagram was sent. In it clients ask nothing but the requests
-/// that came to processes, and it is safe.
+/// any point, on the map that its disks keep. Each start begins a life, with a number that its rank didn't have before.
+/// Whatever happens, there is a run of the model that has the map of each store, what each process that is up remembers,
+/// and each message and reply of which a datagram was sent. In it clients ask nothing but the requests that came to
+/// processes, and it is safe.
 pub fn law_network()
     ensures runs { (ms : Monitors) (steps : List Step) → AllMay ms steps
         → DoesARun ms (requests ms steps) (network ms steps) }
@@ -67,13 +79,48 @@ pub fn law_one_log()
         → Leads (network ms earlier) i e → Leads (network ms (later ++ earlier)) j e → i ≡ j }
 {}
 
+/// What goes over the wire. A link that names the quorum hands on what the network's steps may be given: from a monitor
+/// a datagram that it sent to this one, with the number of its life, or nothing. At the address of a monitor may come,
+/// beside its datagrams, any bytes at all that aren't framed with this quorum's tag: datagrams of other quorums, and
+/// datagrams that begin with another byte than a frame's. What such a link asks the link below to send is what the
+/// network's steps send, framed if it goes to a monitor.
+pub fn law_wire()
+    ensures comes { (tag : ℕ) → tag < 2 ^ 64 → (net : Network) (i : ℕ) (gave result : Result Got Stop)
+        → IsOverWire tag net i gave → HandsOn tag gave result → IsAnswer net i result }
+    ensures others { (tag other : ℕ) → other < 2 ^ 64 → ¬ (other ≡ tag) → (net : Network) (i j : ℕ) (bytes : List ℕ)
+        → CameOver tag net i (Monitor j) (framed other bytes) }
+    ensures unframed { (tag mark : ℕ) → ¬ (mark ≡ 3) → (net : Network) (i j : ℕ) (bytes : List ℕ)
+        → CameOver tag net i (Monitor j) (mark ∷ bytes) }
+    ensures to_monitor { (tag number j : ℕ) (bytes : List ℕ) → wired tag number (Monitor j) bytes
+        ≡ framed tag (under number (record { to = Monitor j; bytes = bytes })).bytes }
+    ensures to_client { (tag number c : ℕ) (bytes : List ℕ) → wired tag number (Client c) bytes
+        ≡ (under number (record { to = Client c; bytes = bytes })).bytes }
+{}
+
+/// Whatever became of the disks. Let processes begin on any stores at all: of disks that were lost, that are old copies,
+/// or that are another monitor's. No two lives of a rank have one number. Then what a process joins of the datagrams of a
+/// monitor, whichever of them are lost, repeated or late, is a whole message that this monitor sent to it in one of its
+/// lives. The same holds of what a client joins. So no message is ever made of pieces of two.
+///
+/// The premise says of each reaction that is kept that the entries of its store in its messages are named as they must
+/// be. `Core::react` ensures that of each reaction.
+pub fn law_any_disk()
+    ensures monitors { (ms : Monitors) (steps : List Step) → AllMayAnyhow ms steps
+        → (i : ℕ) → JoinsWhole (network ms steps) (mailed ms steps) i ((network ms steps).process i) }
+    ensures clients { (ms : Monitors) (steps : List Step) → AllMayAnyhow ms steps
+        → ClientsJoinWhole (network ms steps) (mailed ms steps) }
+    ensures named { (me : Me) (s : Serving) (it : TimedInput) (u : Until) (old new : Core) (r : Reaction)
+        → old.me ≡ me → old.state ≡ s.node.state → IsReaction old new s.node.store.kv it.at it.input r
+        → AreNamed me u (Some (record { came = Ok (Some it); serving = s })) }
+{}
+
 /// The steps of a process on a network are those that `serve` and `Store::open` promise. What a process does and sends
 /// depends on its own steps alone.
 ///
 /// Let a node serve as `Serves` and `StandsThrough` say, to whatever end, and let its disks be opened after a crash.
 /// Then its iterations are the steps of a life: their map is the one that is opened, and they send what the link was
-/// asked to send. So a process may begin on that store. A step that was kept sends a prefix of what its iteration
-/// sends, and one that was lost sends nothing.
+/// asked to send, with the number of the life. So a process may begin on that store, with a number that its rank didn't
+/// have before. A step that was kept sends a prefix of what its iteration sends, and one that was lost sends nothing.
 ///
 /// Let a node be killed in an iteration, and leave what `serve` says of one that runs out of memory there: it sent
 /// nothing yet, or it kept the iteration's transaction and sent a prefix of its datagrams. Then its iterations are the
@@ -82,35 +129,38 @@ pub fn law_one_log()
 pub fn law_lives()
     ensures process { (ms : Monitors) (i : ℕ) (me : Me) → me_of ms i ≡ Some me → (steps : List Step)
         → (network ms steps).process i ≡ (alone me (own i steps)).process }
+    ensures lives { (ms : Monitors) (i : ℕ) (me : Me) → me_of ms i ≡ Some me → (steps : List Step)
+        → (network ms steps).lives i ≡ (alone me (own i steps)).lives }
     ensures sends { (ms : Monitors) (i : ℕ) (me : Me) → me_of ms i ≡ Some me → (steps : List Step)
         → sent_of i (network ms steps).sent ≡ (alone me (own i steps)).sends }
     ensures begins { (ms : Monitors) (i : ℕ) (me : Me) → me_of ms i ≡ Some me → (steps : List Step)
-        → (s : Stood) (clock : Option Readings) (link : Option Told) (first : ℕ)
+        → (number : ℕ) (s : Stood) (clock : Option Readings) (link : Option Told) (first : ℕ)
         → s.kv ≡ map_of (alone me (own i steps)).process
-        → May (network ms steps) i ((network ms steps).process i) (Begins s clock link first) }
-    ensures last { (i : ℕ) (me : Me) (stood : Stood) (clock : Option Readings) (link : Option Told) (first : ℕ)
-        (earlier : List Step) (given : List Given) (u : Until) (t : Turn)
+        → number ≤ 2 ^ 62 → ¬ Contains (alone me (own i steps)).lives number
+        → May (network ms steps) i ((network ms steps).process i) (Begins number s clock link first) }
+    ensures last { (i : ℕ) (me : Me) (number : ℕ) (stood : Stood) (clock : Option Readings) (link : Option Told)
+        (first : ℕ) (earlier : List Step) (given : List Given) (u : Until) (t : Turn)
         → last_turn me first (unstarted me.member.rank stood clock link) given ≡ Ok t
-        → (alone me (life i stood clock link first given u earlier)).process ≡ (left_by me t u).process }
+        → (alone me (life i number stood clock link first given u earlier)).process ≡ (left_by me t u).process }
     ensures cut { (me : Me) (t : Turn) (k : ℕ) → (left_by me t (Kept k)).sends ≡ take k (sends_of me t) }
 
     // An end, and a crash after it. `StandsThrough` says it of the two images that a crash leaves then.
-    ensures ends { (i : ℕ) (me : Me) (stood : Stood) (clock : Option Readings) (link : Option Told) (first : ℕ)
-        (given : List Given) (earlier : List Step) (turns begun : ℕ) (e : NodeEnd) (left_clock : Option Readings)
-        (left_link : Option Told) (x y : List ℕ)
+    ensures ends { (i : ℕ) (me : Me) (number : ℕ) (stood : Stood) (clock : Option Readings) (link : Option Told)
+        (first : ℕ) (given : List Given) (earlier : List Step) (turns begun : ℕ) (e : NodeEnd)
+        (left_clock : Option Readings) (left_link : Option Told) (x y : List ℕ)
         → Serves me (unstarted me.member.rank stood clock link) turns e begun left_clock left_link first given
         → Has (last_turn me first (unstarted me.member.rank stood clock link) given)
         (λ t. On (IsLeft me t e left_link) x y)
         → (member : Member) (s : Stood) → opens_as member x y ≡ Ok s
-        → IsLife i me stood clock link first given earlier s.kv left_link }
+        → IsLife i me number stood clock link first given earlier s.kv left_link }
 
     // A kill in an iteration, between two calls to the disks and the link.
-    ensures killed { (i : ℕ) (me : Me) (stood : Stood) (clock : Option Readings) (link : Option Told) (first : ℕ)
-        (given : List Given) (earlier : List Step) (t : Turn) (left_link : Option Told) (x y : List ℕ)
+    ensures killed { (i : ℕ) (me : Me) (number : ℕ) (stood : Stood) (clock : Option Readings) (link : Option Told)
+        (first : ℕ) (given : List Given) (earlier : List Step) (t : Turn) (left_link : Option Told) (x y : List ℕ)
         → last_turn me first (unstarted me.member.rank stood clock link) given ≡ Ok t
         → On (IsLeft me t end.OutOfMemory left_link) x y
         → (member : Member) (s : Stood) → opens_as member x y ≡ Ok s
-        → IsLife i me stood clock link first given earlier s.kv left_link }
+        → IsLife i me number stood clock link first given earlier s.kv left_link }
 
     // A crash within a call to a disk. `StandsThrough` says for each point of which images its disks may have then.
     ensures within { (me : Me) (t : Turn) (member : Member) (x y : List ℕ) (s : Stood) → On (IsWithinTurn me t) x y

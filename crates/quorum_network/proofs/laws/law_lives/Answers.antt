@@ -1,20 +1,23 @@
-use Rattle.std.proofs.Common.{sym, ap, ◌∙◌}
+use Rattle.std.proofs.Common.{List, ℕ, sym, subst, ap, ◌∙◌}
+use Rattle.std.specs.List.{Contains}
 use Rattle.quorum_network.specs.Network.{map_of}
 use Rattle.quorum_network.proofs.Ends.{cut_sends}
-use Rattle.quorum_network.proofs.Lives.{last_is, process_alone, sends_alone}
+use Rattle.quorum_network.proofs.Lives.{last_is, lives_alone, process_alone, sends_alone}
 use Rattle.quorum_network.proofs.Tied.{ends_so, killed, within_opens}
 use Rattle.quorum_network.proofs.laws.law_lives.Goals as goal
 
 pub returns : goal.returns
 returns c = record {
   process = process_alone;
+  lives = lives_alone;
   sends = sends_alone;
-  begins = λ ms i me is steps stood clock link first kv. kv ∙ sym (ap map_of (process_alone ms i me is steps));
-  last = λ i me stood clock link first earlier given u t e. (last_is i me stood clock link first earlier given u t e).process;
+  begins = λ ms i me is steps number stood clock link first kv small new.
+      (kv ∙ sym (ap map_of (process_alone ms i me is steps)), (small, subst (λ (lives : List ℕ). ¬ Contains lives number) (sym (lives_alone ms i me is steps)) new));
+  last = λ i me number stood clock link first earlier given u t e. (last_is i me number stood clock link first earlier given u t e).process;
   cut = cut_sends;
-  ends = λ i me stood clock link first given earlier turns begun e left_clock left_link x y S left member s opens.
-      ends_so i me stood clock link first given earlier left_link x y member s opens turns begun e left_clock S left;
-  killed = λ i me stood clock link first given earlier t left_link x y is on member s opens.
-      killed i me stood clock link first given earlier left_link x y member s opens t is on;
+  ends = λ i me number stood clock link first given earlier turns begun e left_clock left_link x y S left member s opens.
+      ends_so i me number stood clock link first given earlier left_link x y member s opens turns begun e left_clock S left;
+  killed = λ i me number stood clock link first given earlier t left_link x y is on member s opens.
+      killed i me number stood clock link first given earlier left_link x y member s opens t is on;
   within = within_opens;
 }

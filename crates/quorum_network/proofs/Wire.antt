@@ -1,0 +1,43 @@
+-- What is handed on of what comes over the wire came from its sender.
+use Rattle.std.proofs.Common.{◌≡◌, ℕ, ◌<◌, ◌^◌, eqb, Bool, true, false, cond, List, ◌∷◌, Option, None, Result, Ok, Err, refl, sym, ap, subst, ◌∙◌, inl, inr}
+use Rattle.std.proofs.lemmas.Bool.{eqb-true}
+use Rattle.mon_bytes.proofs.Fields.{byte_found}
+use Rattle.mon_bytes.specs.Reading.{number}
+use Rattle.mon_link.specs.declared.link.Got.{Got}
+use Rattle.mon_link.specs.declared.link.Got.TheVariants.{Datagram, Idle, Closed}
+use Rattle.mon_link.specs.declared.link.Peer.{Peer}
+use Rattle.mon_link.specs.declared.link.Peer.TheVariants.{Monitor, Client}
+use Rattle.mon_types.specs.declared.names.Stop.{Stop}
+use Rattle.mon_name.proofs.Frames.{comes_off}
+use Rattle.mon_name.specs.Frames.{of_mark, of_tag, unframed}
+use Rattle.mon_name.specs.Naming.{if_framed, taken_off, without_frame}
+use Rattle.quorum_network.specs.Network.{Network, IsAnswer}
+use Rattle.quorum_network.specs.Wire.{CameOver, IsOverWire, HandsOn}
+
+module _ (tag : ℕ) (lt : tag < 2 ^ 64) (net : Network) (i : ℕ) where
+  taken : (from : Peer) (bytes : List ℕ) → CameOver tag net i from bytes → IsAnswer net i (Ok (taken_off tag from bytes))
+  taken (Monitor j) bytes (inl own) =
+      subst (λ (o : Option (List ℕ)). IsAnswer net i (Ok (if_framed (Monitor j) o))) (sym (ap (unframed tag) own.2 ∙ comes_off tag own.0 lt)) own.1
+  taken (Monitor j) bytes (inr other) = subst (λ (o : Option (List ℕ)). IsAnswer net i (Ok (if_framed (Monitor j) o))) (sym other) tt
+  taken (Client c) bytes came = came
+
+  whole : (gave : Result Got Stop) → IsOverWire tag net i gave → IsAnswer net i (without_frame tag gave)
+  whole (Ok (Datagram from bytes)) came = taken from bytes came
+  whole (Ok Idle) came = tt
+  whole (Ok Closed) came = tt
+  whole (Err e) came = tt
+
+  pub handed_on : (gave result : Result Got Stop) → IsOverWire tag net i gave → HandsOn tag gave result → IsAnswer net i result
+  handed_on gave result came (inl is) = subst (IsAnswer net i) (sym is) (whole gave came)
+  handed_on gave result came (inr none) = subst (IsAnswer net i) (sym none.0) tt
+
+-- a datagram that begins with another byte isn't framed
+pub unmarked : (tag mark : ℕ) (bytes : List ℕ) → (mark ≡ 3 → ⊥) → unframed tag (mark ∷ bytes) ≡ None
+unfolding unframed
+unmarked tag mark bytes ne =
+    let found = byte_found (record { at = 0; rest = mark ∷ bytes }) mark bytes refl in
+    ap (of_mark tag) found.2 ∙ by (eqb mark 3) refl (of_tag tag (number 8 found.0))
+  where
+    by : (b : Bool) → eqb mark 3 ≡ b → (inside : Option (List ℕ)) → cond b inside None ≡ None
+    by true e inside = absurd (ne (eqb-true mark 3 e))
+    by false e inside = refl

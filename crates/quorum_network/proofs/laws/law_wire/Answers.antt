@@ -1,0 +1,13 @@
+use Rattle.std.proofs.Common.{inr, refl}
+use Rattle.mon_name.proofs.Frames.{apart}
+use Rattle.quorum_network.proofs.Wire.{handed_on, unmarked}
+use Rattle.quorum_network.proofs.laws.law_wire.Goals as goal
+
+pub returns : goal.returns
+returns c = record {
+  comes = λ tag lt net i gave result came hands. handed_on tag lt net i gave result came hands;
+  others = λ tag other lt ne net i j bytes. inr (apart other tag bytes lt ne);
+  unframed = λ tag mark ne net i j bytes. inr (unmarked tag mark bytes ne);
+  to_monitor = λ tag number j bytes. refl;
+  to_client = λ tag number k bytes. refl;
+}
