@@ -1,6 +1,6 @@
 -- The messages of three monitors that elect a leader.
 use Rattle.std.proofs.Common.{◌≡◌, ℕ, ◌<◌, ◌≤◌, ◌^◌, lit≤, Bool, true, false, List, [], length, None, refl, arith}
-use Rattle.calm_quorum.proofs.States.{me_at, says, tells}
+use Rattle.calm_quorum.proofs.States.{me_at, says}
 use Rattle.mon_bytes.specs.Format.{u16_bytes}
 use Rattle.std.specs.Prelude.{nat_lt}
 use Rattle.mon_msg.specs.Protocol.Sets.{only}
