@@ -10,6 +10,8 @@ mod links;
 #[cfg(test)]
 mod made;
 #[cfg(test)]
+mod naming;
+#[cfg(test)]
 mod rules;
 #[cfg(test)]
 mod schedule;
