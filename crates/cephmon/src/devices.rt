@@ -1,16 +1,14 @@
 //! The devices of the system that arguments name.
 
+use crate::naming::{FIRST_MOST, MonitorLink, greeting, lives, new_life};
 use cephmon_run::Status;
+use election_rules::Rule;
 use mon_bytes::{Items, Text};
 use mon_disk::{FileDisk, NodeDisks};
-use mon_link::{Address, RunClock, UdpLink};
-use mon_resend::Resending;
-use mon_types::Rank;
+use mon_link::{Address, UdpLink};
+use mon_types::{Member, Rank};
 use std::alloc::Global;
 use task_words::{Task, WordsStop, read_words};
-
-/// The link of a monitor.
-pub type MonitorLink = Resending<UdpLink<HostRuntime>, RunClock<HostRuntime>>;
 
 /// The disks in two files.
 pub type FileDisks = NodeDisks<FileDisk<HostRuntime>>;
@@ -18,7 +16,7 @@ pub type FileDisks = NodeDisks<FileDisk<HostRuntime>>;
 /// A link to monitors.
 #[derive(Drop)]
 pub enum Channel {
-    /// That of a monitor, which sends some datagrams again.
+    /// That of a monitor, which names its quorum and sends some datagrams again.
     Monitor(MonitorLink),
     /// That of a client, on a port that the system chooses.
     Client(UdpLink<HostRuntime>),
@@ -41,7 +39,7 @@ fn path(alloc: Global, name: &Text) -> Result<String, Status> {
 }
 
 /// The addresses of all monitors, as a link takes them.
-fn peers(alloc: Global, addresses: &Items<Address>) -> Result<Vec<Address>, Status> {
+pub fn peers(alloc: Global, addresses: &Items<Address>) -> Result<Vec<Address>, Status> {
     match addresses.as_slice().to_vec(alloc) {
         Ok(peers) => Ok(peers),
         Err(_) => Err(Status::OutOfMemory),
@@ -66,9 +64,17 @@ fn no_disks(rt: &HostRuntime) -> FileDisks {
     }
 }
 
-fn monitor_channel(rt: &HostRuntime, own: Rank, addresses: Vec<Address>) -> Channel {
-    let link = UdpLink::named(rt, own, addresses);
-    Channel::Monitor(Resending::new(rt.alloc(), link, RunClock::new(rt)))
+/// The link of a monitor to those at these addresses.
+// The number of the process comes first: where a call can fail, nothing larger than it is to be dropped.
+fn monitor_channel(
+    rt: &HostRuntime,
+    member: Member,
+    rule: Rule,
+    addresses: &Items<Address>,
+) -> Result<Channel, Status> {
+    let life = new_life(rt)?;
+    let link = greeting(rt, member, rule, addresses)?;
+    Ok(Channel::Monitor(lives(rt, link, life, FIRST_MOST)))
 }
 
 fn client_channel(rt: &HostRuntime, addresses: Vec<Address>) -> Channel {
@@ -80,20 +86,18 @@ fn no_channel(rt: &HostRuntime) -> Channel {
 }
 
 /// The devices of a monitor whose store is in two files.
-// The list of addresses comes first: where a call can fail, nothing larger than it is to be dropped.
+// The disks come first: where a call can fail, nothing larger than they are is to be dropped.
 fn monitor_devices(
     rt: &HostRuntime,
-    own: Rank,
+    member: Member,
+    rule: Rule,
     addresses: &Items<Address>,
     disk_a: &Text,
     disk_b: &Text,
 ) -> Result<Devices, Status> {
-    let addresses = peers(rt.alloc(), addresses)?;
     let disks = disks_in(rt, disk_a, disk_b)?;
-    Ok(Devices {
-        disks,
-        channel: monitor_channel(rt, own, addresses),
-    })
+    let channel = monitor_channel(rt, member, rule, addresses)?;
+    Ok(Devices { disks, channel })
 }
 
 /// The devices of a client.
@@ -127,11 +131,12 @@ fn devices_for(rt: &HostRuntime, task: &Task) -> Result<Devices, Status> {
     match task {
         Task::Node {
             member,
+            rule,
             addresses,
             disk_a,
             disk_b,
             ..
-        } => monitor_devices(rt, member.rank, addresses, disk_a, disk_b),
+        } => monitor_devices(rt, *member, *rule, addresses, disk_a, disk_b),
         Task::Follow { addresses, .. } => client_devices(rt, addresses),
         Task::Scrub { disk_a, disk_b, .. } => store_devices(rt, disk_a, disk_b),
         Task::DumpKeys { disk_a, disk_b, .. } => store_devices(rt, disk_a, disk_b),

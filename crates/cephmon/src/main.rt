@@ -2,12 +2,15 @@
 #![tactic(auto)]
 
 mod devices;
+mod naming;
 mod words;
 
-use crate::devices::{Channel, Devices, FileDisks, MonitorLink, devices_of};
+use crate::devices::{Channel, Devices, FileDisks, devices_of};
+use crate::naming::{FIRST_MOST, MonitorLink, lives, new_life, socket_of, tell_stood};
 use crate::words::words_of;
-use cephmon_run::{Status, run};
-use mon_link::{Link, RunClock, StdinSource, StdoutSink, UdpLink};
+use cephmon_run::{Ended, Status, run};
+use mon_disk::FileDisk;
+use mon_link::{Clock, Link, RunClock, StdinSource, StdoutSink, UdpLink};
 use std::process::ExitCode;
 
 fn main(rt: HostRuntime) -> ExitCode {
@@ -38,18 +41,32 @@ fn run_on_devices(rt: &HostRuntime, words: &[String], devices: Devices) -> Statu
     }
 }
 
-/// Serves as a monitor over this link.
+/// Serves as a monitor over this link, and anew each time that the machine stood still.
 fn run_as_monitor(
     rt: &HostRuntime,
     words: &[String],
     disks: FileDisks,
     mut link: MonitorLink,
 ) -> Status {
-    tell_short_room(rt, &mut link.inner);
-    let status = run_over(rt, words, disks, &mut link);
-    tell_link_failure(rt, &link.inner);
+    tell_short_room(rt, socket_of(&mut link));
+    let mut most = FIRST_MOST;
+    let mut ended = ended_over(rt, words, disks, &mut link);
+    for _ in 0..u64::MAX {
+        if !link.inner.stood() {
+            break;
+        }
+        most = tell_stood(rt, most, link.clock.now().get());
+        let Ok(life) = new_life(rt) else {
+            ended.status = Status::LinkFault;
+            break;
+        };
+        let Ended { disks, .. } = ended;
+        link = lives(rt, link.inner.inner.inner, life, most);
+        ended = ended_over(rt, words, disks, &mut link);
+    }
+    tell_link_failure(rt, socket_of(&mut link));
     drop(link);
-    status
+    status_of(rt, ended)
 }
 
 /// Follows as a client over this link.
@@ -79,12 +96,17 @@ fn run_alone(
     status
 }
 
-/// Does what the arguments ask for over this link, and says on standard error which disk failed.
-fn run_over<L: Link>(rt: &HostRuntime, words: &[String], disks: FileDisks, link: &mut L) -> Status {
+/// Does what the arguments ask for over this link.
+fn ended_over<L: Link>(
+    rt: &HostRuntime,
+    words: &[String],
+    disks: FileDisks,
+    link: &mut L,
+) -> Ended<FileDisk<HostRuntime>> {
     let mut source = StdinSource::new(rt);
     let mut sink = StdoutSink::new(rt);
     let mut clock = RunClock::new(rt);
-    let ended = run(
+    run(
         rt.alloc(),
         words,
         &mut source,
@@ -92,11 +114,21 @@ fn run_over<L: Link>(rt: &HostRuntime, words: &[String], disks: FileDisks, link:
         disks,
         link,
         &mut clock,
-    );
+    )
+}
+
+/// Says on standard error which disk failed. Returns how the program ends.
+fn status_of(rt: &HostRuntime, ended: Ended<FileDisk<HostRuntime>>) -> Status {
     tell_disk_failures(rt, &ended.disks);
     let status = ended.status;
     drop(ended);
     status
+}
+
+/// Does what the arguments ask for over this link, and says on standard error which disk failed.
+fn run_over<L: Link>(rt: &HostRuntime, words: &[String], disks: FileDisks, link: &mut L) -> Status {
+    let ended = ended_over(rt, words, disks, link);
+    status_of(rt, ended)
 }
 
 /// Says on standard error, before a monitor serves or a client follows, that its socket may lose a part of a long message.

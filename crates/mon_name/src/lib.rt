@@ -13,6 +13,7 @@ mod renumber;
 
 pub use awake::Awake;
 pub use boot_clock::BootClock;
+pub use frame::framed;
 pub use gaps::Gaps;
 pub use law::{law_frame, law_lives_apart, law_renumber};
 pub use life::{Life, OfLife, life_of, new_life};

@@ -1,0 +1,152 @@
+//! The link of a monitor: it names its quorum, numbers its life, and is closed after its machine stood still.
+
+use crate::devices::peers;
+use cephmon_run::Status;
+use election_rules::Rule;
+use mon_bytes::{Items, OutOfMemory};
+use mon_hello::{Greeting, Heard, MOST_QUORUM_NAME, Own, QuorumName, Say};
+use mon_link::{Address, Clock, RunClock, UdpLink};
+use mon_name::{Awake, BootClock, Life, Named, framed};
+use mon_resend::Resending;
+use mon_types::Member;
+use std::env::{Env, FillError};
+
+/// The environment variable with the name of a monitor's quorum.
+const QUORUM: &str = "CEPHMON_QUORUM";
+
+/// How long a monitor may stand still at first, and at most, in milliseconds.
+pub const FIRST_MOST: u64 = 10_000;
+
+const LAST_MOST: u64 = 120_000;
+
+/// A socket whose monitors greet one another.
+pub type GreetingLink = Greeting<UdpLink<HostRuntime>, RunClock<HostRuntime>, StandardError>;
+
+/// The link of a monitor.
+pub type MonitorLink = Resending<Awake<Named<GreetingLink>, BootClock>, RunClock<HostRuntime>>;
+
+/// Lines on standard error. One that can't be written is left out.
+#[derive(Clone, Copy)]
+pub struct StandardError {
+    rt: HostRuntime,
+}
+
+impl Say for StandardError {
+    fn say(&mut self, line: &str) {
+        let _ = eprintln!(self.rt; "{line}");
+    }
+}
+
+/// The name of the quorum in the environment; empty if there is none.
+fn quorum_name(rt: &HostRuntime) -> Result<QuorumName, Status> {
+    let mut bytes = [0; MOST_QUORUM_NAME];
+    let count = match rt.var(QUORUM, &mut bytes) {
+        Ok(count) => count,
+        Err(FillError::TooLong) => return Err(Status::Words),
+        Err(FillError::NotPresent) => 0,
+    };
+    let Ok(name) = Vec::from_slice(rt.alloc(), &bytes[..count]) else {
+        return Err(Status::OutOfMemory);
+    };
+    match QuorumName::new(name) {
+        Some(name) => Ok(name),
+        None => Err(Status::Words),
+    }
+}
+
+/// The name of the quorum. One that is refused is said on standard error.
+fn named_quorum(rt: &HostRuntime) -> Result<QuorumName, Status> {
+    let name = quorum_name(rt);
+    if let Err(Status::Words) = &name {
+        let _ = eprintln!(rt; "{QUORUM}: more than {MOST_QUORUM_NAME} bytes, or not UTF-8");
+    }
+    name
+}
+
+/// The number of a new life. That the system gives none is said on standard error.
+pub fn new_life(rt: &HostRuntime) -> Result<Life, Status> {
+    match mon_name::new_life(rt) {
+        Ok(life) => Ok(life),
+        Err(said) => {
+            let _ = eprintln!(rt; "link: no random bits and no time: {said}");
+            Err(Status::LinkFault)
+        }
+    }
+}
+
+/// What a monitor says of itself.
+fn own(
+    rt: &HostRuntime,
+    member: Member,
+    rule: Rule,
+    addresses: &Items<Address>,
+) -> Result<Own, Status> {
+    let name = named_quorum(rt)?;
+    let addresses = Items::from_vec(peers(rt.alloc(), addresses)?);
+    match Own::new(rt.alloc(), member, name, rule, addresses) {
+        Ok(own) => Ok(own),
+        Err(OutOfMemory) => Err(Status::OutOfMemory),
+    }
+}
+
+/// What a monitor hears of the others of its quorum.
+fn heard(rt: &HostRuntime, monitors: u8, tag: u64) -> Result<Heard, OutOfMemory> {
+    let frame = framed(rt.alloc(), tag, &[])?;
+    Heard::new(rt.alloc(), monitors, frame)
+}
+
+/// The socket of a monitor, over which the monitors greet one another.
+pub fn greeting(
+    rt: &HostRuntime,
+    member: Member,
+    rule: Rule,
+    addresses: &Items<Address>,
+) -> Result<GreetingLink, Status> {
+    let (rank, monitors) = (member.rank, member.monitors);
+    let own = own(rt, member, rule, addresses)?;
+    let Ok(heard) = heard(rt, monitors, own.tag) else {
+        drop(own);
+        return Err(Status::OutOfMemory);
+    };
+    let Ok(addresses) = peers(rt.alloc(), addresses) else {
+        drop(own);
+        drop(heard);
+        return Err(Status::OutOfMemory);
+    };
+    let socket = UdpLink::named(rt, rank, addresses);
+    let lines = StandardError { rt: *rt };
+    Ok(Greeting::new(socket, RunClock::new(rt), lines, own, heard))
+}
+
+/// A life over a socket, which may stand still for at most this many milliseconds.
+pub fn lives(rt: &HostRuntime, link: GreetingLink, life: Life, most: u64) -> MonitorLink {
+    let tag = link.own.tag;
+    let named = Named::new(link, tag, life, rt.alloc());
+    let awake = Awake::new(named, BootClock::new(), most);
+    Resending::new(rt.alloc(), awake, RunClock::new(rt))
+}
+
+/// The socket of a link.
+pub fn socket_of(link: &mut MonitorLink) -> &mut UdpLink<HostRuntime> {
+    &mut link.inner.inner.inner.inner
+}
+
+/// How long a life that begins now may stand still, after one that stood still for more than `most` milliseconds when
+/// it was `lived` old. It is twice as long if that one ended soon: then each iteration may be slower than the bound.
+fn next_most(most: u64, lived: u64) -> u64 {
+    if lived < LAST_MOST {
+        most.saturating_mul(2).min(LAST_MOST)
+    } else {
+        FIRST_MOST
+    }
+}
+
+/// Says on standard error that a machine stood still. Returns how long the next life may.
+pub fn tell_stood(rt: &HostRuntime, most: u64, lived: u64) -> u64 {
+    let next = next_most(most, lived);
+    let (seconds, then) = (most / 1000, next / 1000);
+    let _ = eprintln!(rt;
+        "the machine stood still for more than {seconds} s: serving anew, with a bound of {then} s"
+    );
+    next
+}
