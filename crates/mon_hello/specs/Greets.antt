@@ -1,7 +1,7 @@
 -- What a link that greets asks of the link below, and makes of what that gives.
-use Rattle.std.specs.Prelude.{◌≡◌, ◌⊎◌, ℕ, zero, suc, ◌+◌, nat_le, ◌==◌, Bool, false, List, [], ◌∷◌, ◌++◌, Option, Some, None, IfSome, Result, Ok, Err, if◌then◌else◌}
-use Rattle.mon_link.specs.Clocks.{Readings, reading}
-use Rattle.mon_link.specs.Links.{LinkState, CallsNext, CallsSend, count_after}
+use Rattle.std.specs.Prelude.{◌≡◌, ◌⊎◌, ℕ, zero, suc, ◌+◌, nat_le, ◌==◌, Bool, false, List, [], ◌∷◌, ◌++◌, Option, Some, None, IfSome, option_map, Result, Ok, Err, if◌then◌else◌}
+use Rattle.mon_link.specs.Clocks.{Readings, reading, after}
+use Rattle.mon_link.specs.Links.{LinkState, CallsNext, CallsSend}
 use Rattle.mon_link.specs.declared.link.Got.{Got}
 use Rattle.mon_link.specs.declared.link.Got.TheVariants.{Datagram, Idle, Closed}
 use Rattle.mon_link.specs.declared.link.Outgoing.{Outgoing}
@@ -9,7 +9,7 @@ use Rattle.mon_link.specs.declared.link.Peer.{Peer}
 use Rattle.mon_link.specs.declared.link.Peer.TheVariants.{Monitor, Client}
 use Rattle.mon_types.specs.declared.member.Member.{Member}
 use Rattle.mon_types.specs.declared.names.Stop.{Stop}
-use Rattle.mon_types.specs.declared.names.Stop.TheVariants.{OutOfMemory}
+use Rattle.mon_types.specs.declared.names.Stop.TheVariants.{Failed, OutOfMemory}
 use Rattle.mon_bytes.specs.declared.command.MapRefused.{MapRefused}
 use Rattle.mon_hello.specs.declared.hello.Hello.{Hello}
 use Rattle.mon_hello.specs.declared.hello.TheConstants.{MARK}
@@ -55,43 +55,79 @@ abbrev pub round : ℕ → ℕ → List ℕ → List Outgoing
 round own zero bytes = []
 round own (suc k) bytes = round own k bytes ++ to_other own k bytes
 
-abbrev pub round_if : Bool → ℕ → ℕ → List ℕ → List Outgoing
-round_if due own n bytes = if due then round own n bytes else []
+-- When the next round of hellos is due, and the readings of the clock to come, if they are known.
+pub record Rounds : Type 0 where
+  pub due : ℕ
+  pub left : Option Readings
 
--- a link was asked once to send this
-pub record SendsOne (out : Outgoing) (old new : LinkState) : Type 0 where
-  pub answered : Result (Unit {0}) Stop
-  pub sends : CallsSend out.to out.bytes answered old new
+abbrev pub rounds : ℕ → Option Readings → Rounds
+rounds due left = record { due = due; left = left }
 
--- a link was asked for nothing but to send these, one after the other
-abbrev pub SendsAll : List Outgoing → LinkState → LinkState → Type 0
-SendsAll [] old new = new ≡ old
-SendsAll (out ∷ outs) old new = (between : LinkState) × SendsOne out old between × SendsAll outs between new
+-- whether a round is due at this time
+abbrev pub is_due : ℕ → Rounds → Bool
+is_due now r = nat_le r.due now
+
+-- What goes when this came at that time: an answer to a client that sent a hello, and a hello to each other monitor if a
+-- round is due.
+abbrev pub hellos : Member → List ℕ → Rounds → (now : ℕ) → Got → List Outgoing
+hellos member bytes r now got =
+    answer bytes (asker got) ++ (if is_due now r then round member.rank member.monitors bytes else [])
+
+-- A datagram that failed is followed by the next one. Once memory ran out nothing more is sent, and that is the result.
+abbrev pub Follows : (answered : Result (Unit {0}) Stop) → (Result (Unit {0}) Stop → LinkState → LinkState → Type 0)
+    → (result : Result (Unit {0}) Stop) → (old new : LinkState) → Type 0
+Follows (Ok x) Rest result old new = Rest result old new
+Follows (Err Failed) Rest result old new = Rest result old new
+Follows (Err OutOfMemory) Rest result old new = (result ≡ Err OutOfMemory) × (new ≡ old)
+
+-- The link was asked once to send each of these, in order, up to one for which it had no memory.
+abbrev pub SendsAll : List Outgoing → (result : Result (Unit {0}) Stop) → (old new : LinkState) → Type 0
+SendsAll [] result old new = (result ≡ Ok tt) × (new ≡ old)
+SendsAll (out ∷ outs) result old new =
+    (answered : Result (Unit {0}) Stop) × (between : LinkState)
+    × CallsSend out.to out.bytes answered old between × Follows answered (SendsAll outs) result between new
 
 -- ---- a call of `next`
 
-abbrev pub IsGiven : Result Got Stop → Type 0
-IsGiven (Ok got) = Unit {0}
-IsGiven (Err e) = ⊥
+-- what came is handed on once all was sent
+abbrev pub handed : Got → Result (Unit {0}) Stop → Result Got Stop
+handed got (Ok x) = Ok (passed got)
+handed got (Err e) = Err e
 
--- The link below gave this. A hello of a client is answered, and each other monitor is greeted if that is due.
-pub record Greets (member : Member) (bytes : List ℕ) (due next_due : ℕ) (clock : Option Readings) (got : Got) (old new : LinkState) : Type 0 where
+-- a round that went is followed by one 10 s later
+abbrev pub due_after : Result (Unit {0}) Stop → Rounds → (now : ℕ) → ℕ
+due_after (Ok x) r now = if is_due now r then now + INTERVAL else r.due
+due_after (Err e) r now = r.due
+
+-- The link below gave this. The clock is read once, and what is to go at the time that it shows is sent.
+pub record Greets (member : Member) (bytes : List ℕ) (got : Got) (result : Result Got Stop) (r after_it : Rounds)
+    (old new : LinkState) : Type 0 where
   pub now : ℕ
-  pub shows : IfSome clock (λ r. now ≡ reading r)
-  pub sends : SendsAll (answer bytes (asker got) ++ round_if (nat_le due now) member.rank member.monitors bytes) old new
-  pub next : next_due ≡ (if nat_le due now then now + INTERVAL else due)
+  pub shows : IfSome r.left (λ left. now ≡ reading left)
+  pub reads : after_it.left ≡ option_map after r.left
+  pub went : Result (Unit {0}) Stop
+  pub sends : SendsAll (hellos member bytes r now got) went old new
+  pub hands : result ≡ handed got went
+  pub due : after_it.due ≡ due_after went r now
 
--- What it gave ended the call, or was passed on after greeting.
-abbrev pub Passes : (member : Member) (bytes : List ℕ) (due next_due : ℕ) (clock : Option Readings) → Result Got Stop → Result Got Stop → LinkState → LinkState → Type 0
-Passes member bytes due next_due clock (Err e) result old new = (result ≡ Err e) × (new ≡ old) × (next_due ≡ due)
-Passes member bytes due next_due clock (Ok got) result old new =
-    ((result ≡ Ok (passed got)) × Greets member bytes due next_due clock got old new)
-    ⊎ ((result ≡ Err OutOfMemory) × (new ≡ old) × (next_due ≡ due))
+-- Memory ran out before any hello went: the one answer without a cause. A round that is due stays so.
+pub record FindsNoMemory (result : Result Got Stop) (r after_it : Rounds) (old new : LinkState) : Type 0 where
+  pub reads : after_it.left ≡ option_map after r.left
+  pub answer : result ≡ Err OutOfMemory
+  pub due : after_it.due ≡ r.due
+  pub below : new ≡ old
+
+-- What the link below gave is greeted and handed on. An error is returned as it is, and nothing is done.
+abbrev pub Passes : Member → List ℕ → (gave result : Result Got Stop) → (r after_it : Rounds) → (old new : LinkState)
+    → Type 0
+Passes member bytes (Err e) result r after_it old new = (result ≡ Err e) × (after_it ≡ r) × (new ≡ old)
+Passes member bytes (Ok got) result r after_it old new =
+    Greets member bytes got result r after_it old new ⊎ FindsNoMemory result r after_it old new
 
 -- The link below was asked once, for as long, and then only to send hellos.
-pub record AsksOnce (member : Member) (bytes : List ℕ) (due next_due : ℕ) (clock : Option Readings) (wait : ℕ) (result : Result Got Stop) (old new : LinkState) : Type 0 where
+pub record AsksOnce (member : Member) (bytes : List ℕ) (wait : ℕ) (result : Result Got Stop) (r after_it : Rounds)
+    (old new : LinkState) : Type 0 where
   pub gave : Result Got Stop
   pub between : LinkState
   pub asks : CallsNext wait gave old between
-  pub passes : Passes member bytes due next_due clock gave result between new
-  pub faults : new.faults ≡ count_after result old.faults
+  pub passes : Passes member bytes gave result r after_it between new

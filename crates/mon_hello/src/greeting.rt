@@ -2,7 +2,7 @@
 
 ghost use Rattle.std.specs.Prelude.{◌≡◌};
 ghost use Rattle.mon_link.specs.Links.{CallsSend, count_after};
-ghost use Rattle.mon_hello.specs.Greets.{AsksOnce, passed};
+ghost use Rattle.mon_hello.specs.Greets.{AsksOnce, passed, rounds};
 
 use crate::heard::Heard;
 use crate::hello::is_hello;
@@ -71,11 +71,13 @@ impl<L: Link + Drop, C: Clock + Drop, S: Say + Drop> Link for Greeting<L, C, S> 
 
     ghost state = { λ r. record { told = None; faults = (L.state r.inner).faults; losses = r.losses } };
 
-    /// Asks the link once for what comes. Then hellos may go.
-    #[tactic(auto, using(crate::proofs::InTurn::faults_stay))]
+    /// Asks the link once for what comes. Then a client that sent a hello is answered, and each other monitor is greeted
+    /// if a round is due. A hello whose send fails is left out. If memory runs out, that is the answer, what came is
+    /// dropped, and a round that was due stays so.
     fn next(&mut self, wait: u64) -> Result<Got, Stop>
-        ensures asks { AsksOnce self.old.own.member self.old.own.datagram self.old.due self.new.due (C.left self.old.clock)
-            wait result (L.state self.old.inner) (L.state self.new.inner) }
+        ensures asks { AsksOnce self.old.own.member self.old.own.datagram wait result
+            (rounds self.old.due (C.left self.old.clock)) (rounds self.new.due (C.left self.new.clock))
+            (L.state self.old.inner) (L.state self.new.inner) }
         ensures own { self.new.own ≡ self.old.own }
         ensures losses { self.new.losses ≡ self.old.losses }
     {
@@ -85,10 +87,10 @@ impl<L: Link + Drop, C: Clock + Drop, S: Say + Drop> Link for Greeting<L, C, S> 
             return Err(Stop::OutOfMemory);
         };
         let due = self.due <= now;
+        greet(&mut self.inner, &self.own, asker, due)?;
         if due {
             self.due = now + INTERVAL;
         }
-        greet(&mut self.inner, &self.own, asker, due);
         Ok(passed(got))
     }
 
@@ -96,6 +98,7 @@ impl<L: Link + Drop, C: Clock + Drop, S: Say + Drop> Link for Greeting<L, C, S> 
     fn send(&mut self, to: Peer, bytes: &[u8]) -> Result<(), Stop>
         ensures sends { CallsSend to bytes.now result (L.state self.old.inner) (L.state self.new.inner) }
         ensures own { self.new.own ≡ self.old.own }
+        ensures clock { self.new.clock ≡ self.old.clock }
         ensures due { self.new.due ≡ self.old.due }
         ensures losses { self.new.losses ≡ count_after result self.old.losses }
     {

@@ -1,52 +1,75 @@
-//! Sending hellos. Whether they go isn't known: a lost one is followed by the next.
+//! Sending hellos. One that failed isn't sent again: the next round follows.
 
-ghost use Rattle.std.specs.Prelude.{◌≡◌, ◌++◌};
-ghost use Rattle.mon_hello.specs.Greets.{SendsAll, answer, round, round_if, to_other};
+ghost use Rattle.std.specs.Prelude.{◌≡◌, ◌++◌, ◌∷◌, [], if◌then◌else◌};
+ghost use Rattle.mon_hello.specs.Greets.{SendsAll, answer, outgoing, round, to_other};
 
 use crate::own::Own;
 use mon_link::{Link, Peer};
-use mon_types::{Member, Rank};
+use mon_types::{Member, Rank, Stop};
+
+/// Sends a hello.
+fn send_one<L: Link>(link: &mut L, to: Peer, bytes: &[u8]) -> Result<(), Stop>
+    ensures { SendsAll (outgoing to bytes.now ∷ []) result (L.state link.old) (L.state link.new) }
+{
+    match link.send(to, bytes) {
+        Ok(()) | Err(Stop::Failed) => Ok(()),
+        Err(Stop::OutOfMemory) => Err(Stop::OutOfMemory),
+    }
+}
 
 /// Greets a monitor, unless it is one's own.
-fn greet_one<L: Link>(link: &mut L, own: Rank, to: Rank, bytes: &[u8])
-    ensures { SendsAll (to_other own to bytes.now) (L.state link.old) (L.state link.new) }
+fn greet_one<L: Link>(link: &mut L, own: Rank, to: Rank, bytes: &[u8]) -> Result<(), Stop>
+    ensures { SendsAll (to_other own to bytes.now) result (L.state link.old) (L.state link.new) }
 {
-    if to != own {
-        let _ = link.send(Peer::Monitor(to), bytes);
+    if to == own {
+        return Ok(());
     }
+    send_one(link, Peer::Monitor(to), bytes)
 }
 
 /// Greets each other monitor.
-fn greet_all<L: Link>(link: &mut L, member: Member, bytes: &[u8])
-    ensures { SendsAll (round member.rank member.monitors bytes.now) (L.state link.old) (L.state link.new) }
+fn greet_all<L: Link>(link: &mut L, member: Member, bytes: &[u8]) -> Result<(), Stop>
+    ensures { SendsAll (round member.rank member.monitors bytes.now) result (L.state link.old) (L.state link.new) }
 {
     for rank in 0..member.monitors {
-        greet_one(link, member.rank, Rank::known(rank), bytes);
+        greet_one(link, member.rank, Rank::known(rank), bytes)?;
     }
+    Ok(())
 }
 
 /// Answers a client, if one asked.
-fn answer_one<L: Link>(link: &mut L, own: &Own, asker: Option<u32>)
-    ensures { SendsAll (answer own.now.datagram asker) (L.state link.old) (L.state link.new) }
+fn answer_one<L: Link>(link: &mut L, asker: Option<u32>, bytes: &[u8]) -> Result<(), Stop>
+    ensures { SendsAll (answer bytes.now asker) result (L.state link.old) (L.state link.new) }
 {
-    if let Some(client) = asker {
-        let _ = link.send(Peer::Client(client), own.datagram.as_slice());
+    match asker {
+        Some(client) => send_one(link, Peer::Client(client), bytes),
+        None => Ok(()),
     }
 }
 
-fn greet_if<L: Link>(link: &mut L, own: &Own, due: bool)
-    ensures { SendsAll (round_if due own.now.member.rank own.now.member.monitors own.now.datagram) (L.state link.old) (L.state link.new) }
-{
-    if due {
-        greet_all(link, own.member, own.datagram.as_slice());
-    }
-}
-
-/// Answers a client, if one asked, and greets each other monitor, if that is due.
-pub(crate) fn greet<L: Link>(link: &mut L, own: &Own, asker: Option<u32>, due: bool)
-    ensures { SendsAll (answer own.now.datagram asker ++ round_if due own.now.member.rank own.now.member.monitors own.now.datagram)
+fn greet_if<L: Link>(link: &mut L, own: &Own, due: bool) -> Result<(), Stop>
+    ensures { SendsAll (if due then round own.now.member.rank own.now.member.monitors own.now.datagram else []) result
         (L.state link.old) (L.state link.new) }
 {
-    answer_one(link, own, asker);
-    greet_if(link, own, due);
+    if due {
+        greet_all(link, own.member, own.datagram.as_slice())
+    } else {
+        Ok(())
+    }
+}
+
+/// Answers a client, if one asked, and greets each other monitor, if that is due. The error is that memory ran out.
+pub(crate) fn greet<L: Link>(
+    link: &mut L,
+    own: &Own,
+    asker: Option<u32>,
+    due: bool,
+) -> Result<(), Stop>
+    ensures { SendsAll
+        (answer own.now.datagram asker
+        ++ (if due then round own.now.member.rank own.now.member.monitors own.now.datagram else []))
+        result (L.state link.old) (L.state link.new) }
+{
+    answer_one(link, asker, own.datagram.as_slice())?;
+    greet_if(link, own, due)
 }
