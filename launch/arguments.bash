@@ -1,21 +1,123 @@
-# The rule on cephmon's arguments, which ./cephmon and ./preview source. It only says sooner, and in a sentence, what is wrong: the program judges all
-# arguments itself.
+# The commands of cephmon and the rule on their arguments. ./cephmon, ./preview, ./install and the installed command source this. The rule only says
+# sooner, and in a sentence, what is wrong: the program judges all arguments itself.
 
-# The commands, and what each of them takes, in order.
-declare -A FORMS=(
-    [replay]=''
-    [made]='NUMBER EVENTS'
-    [node]='RANK MONITORS RULE ADDRESSES DISK_A DISK_B TURNS'
-    [follow]='SERVICE ADDRESSES TURNS'
-    [scrub]='RANK MONITORS DISK_A DISK_B'
-    [scrub-compare]=''
-    [dump-keys]='RANK MONITORS DISK_A DISK_B'
-    [dump-paxos]='RANK MONITORS DISK_A DISK_B FROM TO'
-    [store-export]='RANK MONITORS DISK_A DISK_B'
-    [store-import]='RANK MONITORS DISK_A DISK_B'
-)
-readonly GREATEST=4611686018427387904      # 2^62
-readonly MOST_FOLLOWED=2305843009213693952 # 2^61
+# The commands, a line each: the name, the arguments in order, the standard streams, what it works on, and what it does. Help, manual page, preview and
+# the check of arguments are made from this table and the next.
+readonly COMMANDS='
+node          | RANK MONITORS RULE ADDRESSES DISK_A DISK_B TURNS |               | network | serves as one monitor of a quorum, over UDP, until it has made TURNS iterations
+follow        | SERVICE ADDRESSES TURNS                          |               | network | follows the map of a service of a running quorum, and writes a line for each newer version
+scrub         | RANK MONITORS DISK_A DISK_B                      | > REPORT      | store   | writes a report of what a stopped monitor shares with the others
+scrub-compare |                                                  | < TWO_REPORTS | streams | reads two reports, one after the other, and writes where they differ
+dump-keys     | RANK MONITORS DISK_A DISK_B                      |               | store   | writes a line for each key of a stopped monitor
+dump-paxos    | RANK MONITORS DISK_A DISK_B FROM TO              |               | store   | writes its committed versions from FROM to TO, and the changes of each
+store-export  | RANK MONITORS DISK_A DISK_B                      | > EXPORT      | store   | writes its whole store as one file
+store-import  | RANK MONITORS DISK_A DISK_B                      | < EXPORT      | store   | makes a store of an export, in two files that are empty or not there
+replay        |                                                  | < SCHEDULE    | streams | replays a schedule of 1 to 15 monitors, and writes its trace
+made          | NUMBER EVENTS                                    |               | streams | replays the generated schedule of NUMBER, with EVENTS events, and writes a summary in one line of JSON
+'
+# The arguments, a line each: the name, the bounds of a number, and what it is. With a command and a colon before the name, the bounds are those of
+# that command.
+readonly ARGUMENTS='
+RANK         | 0 MONITORS-1          | the rank of the monitor, below MONITORS
+MONITORS     | 1 15                  | the number of monitors
+RULE         |                       | who may lead, and whether scores count: classic, disallow=RANKS, connectivity or connectivity=RANKS
+SERVICE      |                       | the service: kv or log
+ADDRESSES    |                       | an address for each monitor in order of rank, joined by commas, as 127.0.0.1:6789,127.0.0.1:6790,127.0.0.1:6791
+DISK_A       |                       | one of the two files of the store; a new one is created
+DISK_B       |                       | the other one
+TURNS        | 1 4611686018427387904 | the number of iterations, or never
+follow:TURNS | 1 2305843009213693952 |
+FROM         | 0 TO                  | the first version, not above TO
+TO           | 0 4611686018427387904 | the last version
+NUMBER       | 0 4611686018427387904 | the number of a generated schedule
+EVENTS       | 1 100000              | the number of its events
+'
+readonly STATUSES='Status: 0 done, 2 arguments refused, 3 schedule refused, 4 to 7 an I/O error of input, output, a disk or the link, 8 not a store,
+9 another monitor'\''s store or export, 10 a number is exhausted, 11 all iterations made, 12 out of memory, 13 store full, 14 not two reports,
+15 a file is not empty, 16 not an export'
+
+# The columns of both tables by name.
+declare -A FORMS=() STREAMS=() WORKS_ON=() DOES=() BOUNDS=() MEANS=()
+COMMAND_NAMES=() ARGUMENT_NAMES=()
+
+# trimmed TEXT: without blanks around it, in REPLY
+trimmed() {
+    REPLY=${1#"${1%%[! ]*}"}
+    REPLY=${REPLY%"${REPLY##*[! ]}"}
+}
+
+# read_tables: fills the columns
+read_tables() {
+    local line name form streams works_on does bounds means
+    while IFS='|' read -r name form streams works_on does; do
+        [ -n "$name" ] || continue
+        trimmed "$name" && name=$REPLY && COMMAND_NAMES+=("$name")
+        trimmed "$form" && FORMS[$name]=$REPLY
+        trimmed "$streams" && STREAMS[$name]=$REPLY
+        trimmed "$works_on" && WORKS_ON[$name]=$REPLY
+        trimmed "$does" && DOES[$name]=$REPLY
+    done <<<"$COMMANDS"
+    while IFS='|' read -r name bounds means; do
+        [ -n "$name" ] || continue
+        trimmed "$name" && name=$REPLY
+        trimmed "$bounds" && BOUNDS[$name]=$REPLY
+        trimmed "$means" && MEANS[$name]=$REPLY
+        [[ $name = *:* ]] || ARGUMENT_NAMES+=("$name")
+    done <<<"$ARGUMENTS"
+}
+read_tables
+
+# bounds_of COMMAND NAME: the least and the greatest number, in words of the table, or nothing
+bounds_of() { printf '%s' "${BOUNDS[$1:$2]-${BOUNDS[$2]-}}"; }
+
+# meaning_of NAME: what an argument is, with its bounds
+meaning_of() {
+    local least most text=${MEANS[$1]} key
+    read -r least most <<<"${BOUNDS[$1]}"
+    # bounds by another argument are in the text already
+    [[ ! $most =~ ^[0-9]+$ ]] || text+=": $least to $most"
+    for key in "${!BOUNDS[@]}"; do
+        [[ $key != *:"$1" ]] || text+=", of ${key%%:*} ${BOUNDS[$key]/ / to }"
+    done
+    printf '%s' "$text"
+}
+
+# help_of CALL [WORKS_ON]: the usage of the commands, all or those that work on this, and their arguments
+help_of() {
+    local name used=' '
+    printf 'usage: %s COMMAND ARGUMENT..\n' "$1"
+    for name in "${COMMAND_NAMES[@]}"; do
+        [ "${2-${WORKS_ON[$name]}}" = "${WORKS_ON[$name]}" ] || continue
+        trimmed "$name ${FORMS[$name]}"
+        trimmed "$REPLY ${STREAMS[$name]}"
+        printf '\n  %s\n      %s' "$REPLY" "${DOES[$name]}"
+        used+="${FORMS[$name]} "
+    done
+    printf '\n\n'
+    for name in "${ARGUMENT_NAMES[@]}"; do
+        [[ $used != *" $name "* ]] || printf '  %-9s  %s\n' "$name" "$(meaning_of "$name")"
+    done
+}
+
+# version_of FILE PROGRAM: the version that the file has, and the digest of the program, by which builds are told apart
+version_of() {
+    local digest
+    printf 'cephmon %s\n' "$(cat "$1")"
+    [ ! -f "$2" ] || { digest=$(sha256sum <"$2") && printf 'sha256 of the program %s\n' "${digest%% *}"; }
+}
+
+# taken ARGUMENT..: the arguments as the program takes them, in the array TAKEN: its TURNS are a number
+taken() {
+    local names at least most
+    TAKEN=("$@")
+    [ -n "${1-}" ] || return 0
+    read -ra names <<<"${FORMS[${1-}]-}"
+    for at in "${!names[@]}"; do
+        [ "${names[at]}:${TAKEN[at + 1]-}" = TURNS:never ] || continue
+        read -r least most <<<"$(bounds_of "$1" TURNS)"
+        TAKEN[at + 1]=$most
+    done
+}
 
 # is_within LEAST ARGUMENT MOST: the argument is a decimal number without a leading zero, within these bounds
 is_within() {
@@ -68,26 +170,34 @@ fault_of_addresses() {
     fi
 }
 
+# fault_of_number COMMAND NAME ARGUMENT MONITORS TO: what is wrong with a number, or nothing
+fault_of_number() {
+    local least most more=
+    [ "$2:$3" != TURNS:never ] || return 0
+    read -r least most <<<"$(bounds_of "$1" "$2")"
+    case $most in
+    MONITORS-1) most=$(($4 - 1)) more=', below MONITORS' ;;
+    TO) most=$5 more=', and not above TO' ;;
+    esac
+    [ "$2" != TURNS ] || more=', or never'
+    is_within "$least" "$3" "$most" || printf 'it must be a number from %s to %s%s' "$least" "$most" "$more"
+}
+
 # fault_of COMMAND NAME ARGUMENT MONITORS TO: what is wrong with the argument of this name, or nothing
 fault_of() {
-    case $1:$2 in
-    *:NUMBER) is_within 0 "$3" "$GREATEST" || printf 'it must be a number from 0 to %s' "$GREATEST" ;;
-    *:EVENTS) is_within 1 "$3" 100000 || printf 'it must be a number from 1 to 100000' ;;
-    follow:TURNS) is_within 1 "$3" "$MOST_FOLLOWED" || printf 'it must be a number from 1 to %s, which never ends' "$MOST_FOLLOWED" ;;
-    *:TURNS) is_within 1 "$3" "$GREATEST" || printf 'it must be a number from 1 to %s, which never ends' "$GREATEST" ;;
-    *:MONITORS) is_within 1 "$3" 15 || printf 'it must be a number from 1 to 15' ;;
-    *:RANK) is_within 0 "$3" $(($4 - 1)) || printf 'it must be a number from 0 to %d, below MONITORS' $(($4 - 1)) ;;
-    *:RULE) is_rule "$3" "$4" || printf 'it must be classic, disallow=RANKS, connectivity or connectivity=RANKS, with ascending ranks below %d joined by commas' "$4" ;;
-    *:SERVICE) [ "$3" = kv ] || [ "$3" = log ] || printf 'it must be kv or log' ;;
-    *:ADDRESSES) fault_of_addresses "$1" "$3" "$4" ;;
-    *:FROM) is_within 0 "$3" "$5" || printf 'it must be a number from 0 to %s, and not above TO' "$5" ;;
-    *:TO) is_within 0 "$3" "$GREATEST" || printf 'it must be a number from 0 to %s' "$GREATEST" ;;
+    case $2 in
+    RULE) is_rule "$3" "$4" || printf 'it must be classic, disallow=RANKS, connectivity or connectivity=RANKS, with ascending ranks below %d joined by commas' "$4" ;;
+    SERVICE) [ "$3" = kv ] || [ "$3" = log ] || printf 'it must be kv or log' ;;
+    ADDRESSES) fault_of_addresses "$1" "$3" "$4" ;;
+    DISK_A | DISK_B) ;;
+    *) fault_of_number "$@" ;;
     esac
 }
 
 # explained ARGUMENT..: what is wrong with the arguments, in a sentence, or nothing
 explained() {
-    local LC_ALL=C argument command=${1-} names name fault monitors=15 to=$GREATEST at=0
+    local LC_ALL=C argument command=${1-} names name fault monitors=15 to at=0
+    read -r fault to <<<"${BOUNDS[TO]}"
     [ $# != 0 ] || { printf 'a command is missing'; return; }
     for argument; do
         [ -n "$argument" ] || { printf 'an argument is empty'; return; }
@@ -107,7 +217,7 @@ explained() {
     for name in "${names[@]}"; do
         at=$((at + 1))
         if [ "$name" = MONITORS ] && is_within 1 "${!at}" 15; then monitors=${!at}; fi
-        if [ "$name" = TO ] && is_within 0 "${!at}" "$GREATEST"; then to=${!at}; fi
+        if [ "$name" = TO ] && is_within 0 "${!at}" "$to"; then to=${!at}; fi
     done
     for name in "${names[@]}"; do
         fault=$(fault_of "$command" "$name" "$1" "$monitors" "$to")
