@@ -1,4 +1,4 @@
-"""The file that describes a quorum, which `examples/monitor` and `examples/status` read.
+"""The file that describes a quorum, which the tools of this folder read.
 
 It is an INI file with one section, `quorum`:
 
@@ -7,11 +7,11 @@ It is an INI file with one section, `quorum`:
     rule = classic
     addresses = 10.0.0.1:4000, 10.0.0.2:4000, 10.0.0.3:4000
     folder = /var/lib/cephmon/{rank}
-    program = /usr/local/bin/cephmon
+    program = /usr/local/lib/cephmon/cephmon
 
 or a JSON object with the same names, in which `addresses` may be a list. `name` is the quorum's: monitors of quorums with different names don't
 hear each other, whatever their addresses. `addresses` are those of all monitors in order of rank. `rule` is `classic` if it isn't given. `folder` holds the files `a` and `b` of a monitor's store. `{rank}` in it is the monitor's rank, and if
-there is none, the monitors must be on different machines. `folder` and `program` are for `examples/monitor` alone.
+there is none, the monitors must be on different machines. `folder` and `program` are for the tools that start a monitor or read its store.
 """
 from __future__ import annotations
 
@@ -25,6 +25,8 @@ from wire import MOST_MONITORS, MOST_QUORUM_NAME
 
 # The longest argument of the program, in bytes.
 MOST_ARGUMENT = 4_096
+# Where an installed quorum has its file.
+DEFAULT = '/etc/cephmon/quorum.ini'
 NAMES = ['addresses', 'name', 'rule', 'folder', 'program']
 # The environment variable by which the program takes the name of its quorum. No name is the empty one.
 VARIABLE = 'CEPHMON_QUORUM'
