@@ -1,32 +1,38 @@
 #!/usr/bin/env python3
 """Asks monitors over UDP, with what Python itself brings.
 
-usage: examples/client.py [--monitor R] [--timeout SECONDS] [--once] [--verbose] ADDRESSES COMMAND
+usage: examples/client.py [--config FILE] [--monitor R] [--timeout SECONDS] [--once] [--verbose] [ADDRESSES] COMMAND
 
     set KEY VALUE             sets a key, and prints the version that did it
+    set KEY --file FILE       sets it to the bytes of a file, or of standard input if FILE is -
     remove KEY                removes a key, and prints the version that did it
     log TEXT                  adds a text to the cluster log, and prints the version that did it
-    get KEY                   prints the value of a key
+    log --file FILE           adds the text of a file, or of standard input if FILE is -
+    get [--raw] KEY           prints the value of a key; with --raw its bytes and nothing else
+    keys [--raw] [PREFIX]     prints the names of all keys, or of those with this prefix; with --raw a line for each
     show SERVICE              prints the map of a service, kv or log
     since SERVICE VERSION     prints what changed it after its version VERSION, or all of it if that is no longer kept
     watch SERVICE [VERSION]   prints the map, and then each change as it is made, until it is stopped; with VERSION, the changes after it
 
 ADDRESSES are the addresses of all monitors in order of rank, as the monitors have them: 127.0.0.1:4000,127.0.0.1:4001,127.0.0.1:4002.
-A monitor drops a request that names another number of monitors. A monitor that is silent, Busy, Unavailable or NotReadable is left for
-the next one, until one serves the request or the timeout ends. The options stand before ADDRESSES. A KEY, VALUE or TEXT that begins
-with a hyphen stands after `--`, as in `set -- -key value`.
+Without them they are those of the file of the quorum, which --config names, or of /etc/cephmon/quorum.ini. A monitor drops a request that names
+another number of monitors, and the client says so if it is that. A monitor that is silent, Busy, Unavailable or NotReadable is left for the next
+one, until one serves the request or the timeout ends. The options stand before ADDRESSES and COMMAND. A KEY, VALUE or TEXT that begins with a hyphen
+stands after `--`, as in `set -- -key value`.
 
-An answer is one line of JSON. The status is
+An answer is one line of JSON, but for --raw. The status is
     0    the request was served
-    1    the monitors refuse it: no such key, too long, or the map is full. Nothing was changed
-    2    the arguments are faulty. Nothing was asked
+    1    the monitors refuse it: no such key, too long, or the map is full. This try changed nothing. The monitor that refuses knows the keys as of
+         a map that it would show, which may be as old as such a map
+    2    the arguments are faulty, or the file can't be read. Nothing was asked
     3    no monitor served it in time. A change may have been made, and may still be made
     4    it was served, but standard output failed. A change was made; standard error names its version
     130  it was interrupted (ctrl-C). A change may have been made
 
-A change without an answer is asked for again and may be made twice. Setting or removing twice leaves the same map, unless another
-client came between. A removal that was already made is then refused as "no such key", and a text stands in the log twice. To exclude
-that, use --once, and look before you ask again. A network that duplicates a datagram may still make a change twice.
+A change without an answer is asked for again and may be made twice; a line on standard error says so if it may have happened. Setting or removing
+twice leaves the same map, unless another client came between. A removal that was already made is then refused as "no such key", and a text stands
+in the log twice. To exclude that, use --once: the request is sent once, and status 3 means that it may have been made once. Look then, and ask again
+only if it wasn't. A network that duplicates a datagram may still make a change twice.
 
 As a module:
 
@@ -48,11 +54,14 @@ import sys
 import time
 from typing import Iterator
 
-from wire import (LOG, MOST_MESSAGE, MOST_NUMBER, REMOVE, SERVICES, SET, SHOW, SINCE, Assembly, Malformed, Reply, datagrams, key_field, new_number,
-                  number_field, reply_of, request_message, service_field, text_field)
+import quorum_file
+from wire import (HELLO, LOG, MOST_MESSAGE, MOST_NUMBER, REMOVE, SERVICES, SET, SHOW, SINCE, Assembly, Malformed, Reply, datagrams, greeting, hello_of, key_field,
+                  new_number, number_field, reply_of, request_message, service_field, text_field)
 
 # The name in the usage: that of the call, without the folder of an installed command.
 NAME = os.path.basename(sys.argv[0]) if os.path.isabs(sys.argv[0]) else sys.argv[0]
+# A file of a value that is longer is not asked for. Monitors refuse values that are longer than they take.
+MOST_FILE = 1_000_000
 # Seconds between two tries, between two looks for changes, and for a request if nothing else is said.
 PAUSE, LOOK, TIMEOUT = 0.1, 0.25, 30.0
 # The replies that serve a request, what a monitor is said to do that is silent, and the replies that refuse for good.
@@ -72,7 +81,8 @@ class Refused(Exception):
 class NotServed(Exception):
     """No monitor served the request in time. A change may have been made, and may still be made.
 
-    `outcomes` has the last outcome of each monitor that was asked, by its rank: `no answer`, `Unavailable`, `NotReadable` or `Busy`."""
+    `outcomes` has the last outcome of each monitor that was asked, by its rank: `no answer`, `Unavailable`, `NotReadable`, `Busy`, or a sentence if
+    it drops these requests, since it is one of another number of monitors."""
 
     def __init__(self, seconds: float, outcomes: dict[int, str]):
         self.outcomes = outcomes
@@ -88,8 +98,8 @@ class Client:
     """Asks the monitors, one after the other until one serves the request.
 
     Every request raises Refused if the monitors refuse it, NotServed if none serves it in time, and ValueError, before anything is
-    sent, if it has no encoding. `tries` says how often the last request was sent, and `reply` is the last reply to it, or None. A
-    client is for one thread; give each thread its own."""
+    sent, if it has no encoding. `tries` says how often the last request was sent, `silent` how many of these tries had no answer, each of which may
+    make a change once more, and `reply` is the last reply to it, or None. A client is for one thread; give each thread its own."""
 
     def __init__(self, addresses, monitor=None, first=0, timeout=TIMEOUT, patience=1.0, once=False):
         """`addresses` are pairs of a host and a port, of all monitors in order of rank. If `monitor` is given, that one alone is asked;
@@ -99,7 +109,9 @@ class Client:
         self.monitor = monitor
         self.asked = first if monitor is None else monitor
         self.timeout, self.patience, self.once = timeout, patience, once
-        self.tries, self.reply = 0, None
+        self.tries, self.silent, self.reply = 0, 0, None
+        # How many monitors there are, as those say that were silent.
+        self.sizes = {}
         self.assembly = Assembly()
         self.boot, self.numbers = new_number(), []
         self.socket = socket.socket(socket.AF_INET, socket.SOCK_DGRAM)
@@ -136,6 +148,10 @@ class Client:
             raise Refused(REFUSALS['NoSuch'])
         return found[name]
 
+    def keys(self, prefix: str = '') -> list[str]:
+        """The names of the keys with this prefix, in ascending order."""
+        return sorted(key for key in self.show('kv')['map'] if key.startswith(prefix))
+
     def show(self, service: str) -> dict:
         """The map of a service at its `version`, as of version `paxos` of the log of all changes."""
         return self.ask(bytes([SHOW]) + service_field(service))
@@ -167,27 +183,49 @@ class Client:
 
     def ask(self, request: bytes) -> dict:
         """Sends an encoded request until a monitor serves it, and returns the fields of its reply."""
-        end = time.monotonic() + self.timeout
-        outcomes, self.tries, self.reply, self.numbers = {}, 0, None, []
-        while time.monotonic() < end and not (self.once and self.tries):
-            if self.tries:
-                time.sleep(min(PAUSE, max(0.0, end - time.monotonic())))
+        began = time.monotonic()
+        end = began + self.timeout
+        outcomes, self.tries, self.silent, self.reply, self.numbers = {}, 0, 0, None, []
+        while time.monotonic() < end and not (self.once and self.tries) and not self.is_elsewhere():
             self.tries += 1
             self.send(request)
-            reply = self.answer(min(end, time.monotonic() + self.patience))
+            reply = self.answer(min(end, time.monotonic() + self.patience)) or self.late_answer(end)
             self.reply = reply or self.reply
+            self.silent += not reply
             if reply and reply.kind in SERVED:
                 return reply.fields
             if reply and reply.kind in REFUSALS:
                 raise Refused(REFUSALS[reply.kind].format(**reply.fields))
             if reply or time.monotonic() < end:
-                outcomes[self.asked] = reply.kind if reply else NO_ANSWER
+                outcomes[self.asked] = reply.kind if reply else self.silence()
             else:
                 # A last try that was cut short says nothing of a monitor that answered before.
                 outcomes.setdefault(self.asked, NO_ANSWER)
             if self.monitor is None:
                 self.asked = (self.asked + 1) % len(self.addresses)
-        raise NotServed(self.timeout, outcomes)
+            if reply and not self.once:
+                time.sleep(min(PAUSE, max(0.0, end - time.monotonic())))
+        raise NotServed(round(time.monotonic() - began, 1) if self.is_elsewhere() else self.timeout, outcomes)
+
+    def is_elsewhere(self) -> bool:
+        """Whether all who may be asked say that they are monitors of another number, and so drop each request."""
+        asked = range(len(self.addresses)) if self.monitor is None else [self.monitor]
+        return all(self.sizes.get(rank, len(self.addresses)) != len(self.addresses) for rank in asked)
+
+    def silence(self) -> str:
+        """Why the monitor that was asked gave no answer, as far as it says."""
+        size, count = self.sizes.get(self.asked), len(self.addresses)
+        if size in (None, count):
+            return NO_ANSWER
+        return f'it is one of {size} monitors, and drops requests to one of {count}; give the addresses of all {size}'
+
+    def late_answer(self, end: float) -> Reply | None:
+        """Asks a silent monitor who it is, and waits a little for that, or for a reply that comes late after all."""
+        try:
+            self.socket.sendto(greeting(self.addresses), self.addresses[self.asked])
+        except OSError:
+            pass
+        return self.answer(min(end, time.monotonic() + PAUSE))
 
     def send(self, request: bytes):
         """Sends a try of a request, under an ID of its own, to the monitor that is asked now."""
@@ -209,6 +247,9 @@ class Client:
             except OSError:
                 continue
             try:
+                if peer in self.addresses and datagram[:1] == bytes([HELLO]):
+                    self.sizes[self.addresses.index(peer)] = hello_of(datagram).monitors
+                    continue
                 message = self.assembly.take(peer, datagram) if peer in self.addresses else None
                 reply = reply_of(message or b'', len(self.addresses))
             except Malformed:
@@ -257,44 +298,103 @@ COMMANDS = {
     'remove': ['key'],
     'log': ['text'],
     'get': ['key'],
+    'keys': ['prefix'],
     'show': ['service'],
     'since': ['service', 'version'],
     'watch': ['service', 'version'],
 }
+CHANGES = 'set', 'remove', 'log'
+# What may be left out: a value or a text that is a file's, and what has a default.
+OPTIONAL = [('set', 'value'), ('log', 'text'), ('keys', 'prefix'), ('watch', 'version')]
 
 
-def arguments() -> argparse.Namespace:
+def command_parser() -> argparse.ArgumentParser:
+    parser = argparse.ArgumentParser(prog=NAME, usage=f'{NAME} [OPTIONS] [ADDRESSES] COMMAND', add_help=False)
+    commands = parser.add_subparsers(dest='command', required=True, metavar='COMMAND')
+    for name, fields in COMMANDS.items():
+        command = commands.add_parser(name, prog=f'{NAME} [OPTIONS] [ADDRESSES] {name}')
+        for field in fields:
+            how = {'choices': SERVICES} if field == 'service' else {'type': number} if field == 'version' else {}
+            command.add_argument(field, nargs='?' if (name, field) in OPTIONAL else None, **how)
+        if name in ('set', 'log'):
+            command.add_argument('--file', metavar='FILE', help=f'take the {fields[-1]} from this file, or from standard input if it is -')
+        if name in ('get', 'keys'):
+            command.add_argument('--raw', action='store_true', help='print no JSON, but the value alone' if name == 'get' else 'print no JSON, but a line for each key')
+    return parser
+
+
+def option_parser() -> argparse.ArgumentParser:
     text = __doc__.split('\nAs a module')[0]
     line = text.split('usage: ')[1].split('\n')[0]
     parser = argparse.ArgumentParser(usage=line.replace('examples/client.py', NAME), description=text.replace(f'usage: {line}\n\n', ''),
                                      formatter_class=argparse.RawDescriptionHelpFormatter)
+    parser.add_argument('--config', metavar='FILE', help=f'take the addresses from the file of the quorum ({quorum_file.DEFAULT})')
     parser.add_argument('--monitor', type=int, metavar='R', help='ask this monitor alone')
     parser.add_argument('--timeout', type=seconds, default=TIMEOUT, metavar='SECONDS', help=f'how long a request may take in all ({TIMEOUT:g})')
-    parser.add_argument('--once', action='store_true', help='send the request once, to one monitor')
+    parser.add_argument('--once', action='store_true', help='send the request once, to one monitor, so that a change is not made twice')
     parser.add_argument('--verbose', action='store_true', help='print on standard error who answered, in which epoch, and how long it took')
-    parser.add_argument('addresses', type=addresses_of, metavar='ADDRESSES', help='HOST:PORT,.. of all monitors in order of rank')
-    commands = parser.add_subparsers(dest='command', required=True, metavar='COMMAND', help='see above; COMMAND --help has its arguments')
-    for name, fields in COMMANDS.items():
-        command = commands.add_parser(name, prog=f'examples/client.py [OPTIONS] ADDRESSES {name}')
-        for field in fields:
-            how = {'choices': SERVICES} if field == 'service' else {'type': number} if field == 'version' else {}
-            command.add_argument(field, nargs='?' if name == 'watch' and field == 'version' else None, **how)
+    parser.add_argument('rest', nargs=argparse.REMAINDER, metavar='[ADDRESSES] COMMAND', help='HOST:PORT,.. of all monitors, and one of the commands above')
+    return parser
+
+
+def addresses_given(parser: argparse.ArgumentParser, found: argparse.Namespace) -> list[tuple[str, int]]:
+    """The addresses, which are taken from the arguments that are left, or are those of the file."""
+    if found.rest and found.rest[0] not in COMMANDS:
+        if found.config is not None:
+            parser.error(f"'{found.rest[0]}' is no command; with --config there are no ADDRESSES")
+        given = found.rest.pop(0)
+        try:
+            return addresses_of(given)
+        except argparse.ArgumentTypeError as why:
+            parser.error(str(why) if ':' in given else f'{why}, and no command')
+    if not found.rest:
+        parser.error('ADDRESSES and a COMMAND are missing')
+    if found.config is None and not os.path.exists(quorum_file.DEFAULT):
+        parser.error(f'there are neither ADDRESSES nor --config, and there is no {quorum_file.DEFAULT}')
+    config = found.config or quorum_file.DEFAULT
+    try:
+        return quorum_file.read(config).addresses
+    except quorum_file.Faulty as why:
+        parser.error(f'{config}: {why}')
+
+
+def from_file(path: str) -> bytes:
+    """The bytes of a value. Raises ValueError if the file can't be read or is too long."""
+    try:
+        with open(0 if path == '-' else path, 'rb', closefd=path != '-') as file:
+            found = file.read(MOST_FILE + 1)
+    except OSError as why:
+        raise ValueError(f"the file '{path}' can't be read: {why.strerror}") from None
+    if len(found) > MOST_FILE:
+        raise ValueError(f"the file '{path}' has more than {MOST_FILE} bytes")
+    return found
+
+
+def arguments() -> argparse.Namespace:
+    parser = option_parser()
     found = parser.parse_args()
+    found.addresses = addresses_given(parser, found)
+    command_parser().parse_args(found.rest, found)
     if found.monitor is not None and not 0 <= found.monitor < len(found.addresses):
         parser.error(f'--monitor is {found.monitor}, and there are the monitors 0 to {len(found.addresses) - 1}')
+    last = COMMANDS[found.command][-1]
+    if found.command in ('set', 'log') and (getattr(found, last) is None) == (found.file is None):
+        parser.error(f'{found.command} takes either the {last} or --file FILE')
     return found
 
 
 def answers(client: Client, asked: argparse.Namespace) -> Iterator:
     """What a command prints, line by line."""
     # Keys, values and texts are passed on as the bytes that were given, whatever the locale is.
-    fields = [os.fsencode(value) if field in ('key', 'value', 'text') else value
+    fields = [os.fsencode(value) if field in ('key', 'value', 'text') and value is not None else value
               for field, value in ((field, getattr(asked, field)) for field in COMMANDS[asked.command])]
+    if getattr(asked, 'file', None) is not None:
+        fields[-1] = from_file(asked.file)
     if asked.command == 'watch':
         for version, change in client.watch(*fields):
             yield {'version': version, **change}
     else:
-        yield getattr(client, asked.command)(*fields)
+        yield getattr(client, asked.command)(*(field for field in fields if field is not None))
 
 
 def explained(client: Client, began: float) -> str:
@@ -311,11 +411,22 @@ def say(text: str):
         pass
 
 
-def put(answer):
+def put(answer, raw: bool):
     """Prints an answer. Raises OSError if standard output can't be written."""
     if sys.stdout is None:
         raise OSError(errno.EBADF, 'it is closed')
-    print(json.dumps(answer), flush=True)
+    if not raw:
+        print(json.dumps(answer), flush=True)
+        return
+    text = answer if isinstance(answer, str) else ''.join(f'{key}\n' for key in answer)
+    sys.stdout.buffer.write(text.encode())
+    sys.stdout.buffer.flush()
+
+
+def warn_of_doubles(client: Client, asked: argparse.Namespace):
+    """Says if a change was sent more than once, and each of these may be made."""
+    if asked.command in CHANGES and client.silent and client.tries > 1:
+        say(f'{client.tries} tries were sent, and {client.silent} had no answer, so this may be made more than once; --once sends one')
 
 
 def main() -> int:
@@ -326,11 +437,13 @@ def main() -> int:
             for answer in answers(client, asked):
                 if asked.verbose:
                     say(explained(client, began))
-                put(answer)
+                warn_of_doubles(client, asked)
+                put(answer, getattr(asked, 'raw', False))
         except (Refused, NotServed, ValueError) as why:
             if asked.verbose and client.tries:
                 say(explained(client, began))
             say(str(why))
+            warn_of_doubles(client, asked)
             return {Refused: 1, NotServed: 3}.get(type(why), 2)
         except OSError as why:
             # The answer is known, so it is the output that failed. Nothing more may be written there, not even at the end.
