@@ -13,6 +13,7 @@ use Rattle.mon_wire.specs.Message.Client.{a_request, a_reply, a_routed}
 use Rattle.mon_wire.specs.Message.Scores.{table}
 use Rattle.mon_wire.specs.Message.Bodies.{probe_reply, scored, collect, last, begin, accept, commit, forward, route, granted, asked, chunk, last_chunk, request, reply, spelled, body_at}
 use Rattle.mon_bytes.proofs.Formats.{IsLawful, nothing-lawful, list-lawful, some-lawful, TakesVariant, variant_takes}
+use Rattle.mon_decode.specs.Headers.{kind_byte, kind_in}
 use Rattle.mon_decode.proofs.FieldLaws.{numeral-lawful, flag-lawful, value-lawful}
 use Rattle.mon_decode.proofs.PartLaws.{then-lawful, optional-lawful, cookie-lawful, told-lawful, place-lawful, entry-lawful, a_command-lawful}
 use Rattle.mon_decode.proofs.ClientLaws.{a_request-lawful, a_reply-lawful, a_routed-lawful}
@@ -81,33 +82,6 @@ reply-lawful = then-lawful numeral a_reply numeral-lawful a_reply-lawful
 
 -- ---- by kind
 
-abbrev pub kind_byte : Kind → ℕ
-kind_byte kind.Probe = 1
-kind_byte kind.ProbeReply = 2
-kind_byte kind.Propose = 3
-kind_byte kind.Ack = 4
-kind_byte kind.Victory = 5
-kind_byte kind.Collect = 6
-kind_byte kind.Last = 7
-kind_byte kind.Begin = 8
-kind_byte kind.Accept = 9
-kind_byte kind.Commit = 10
-kind_byte kind.Lease = 11
-kind_byte kind.LeaseAck = 12
-kind_byte kind.Forward = 13
-kind_byte kind.Route = 14
-kind_byte kind.GetCookieFull = 15
-kind_byte kind.GetCookieRecent = 16
-kind_byte kind.Cookie = 17
-kind_byte kind.GetChunk = 18
-kind_byte kind.Chunk = 19
-kind_byte kind.LastChunk = 20
-kind_byte kind.NoCookie = 21
-kind_byte kind.Ping = 22
-kind_byte kind.PingReply = 23
-kind_byte kind.Request = 24
-kind_byte kind.Reply = 25
-
 pub body_takes : (n own : ℕ) → n ≤ 15 → (k : Kind) → TakesVariant (spelled n own) (kind_byte k, body_at n own k)
 body_takes n own few kind.Probe = variant_takes (spelled n own) 1 nothing (λ x. body.Probe) nothing-lawful (λ a. refl) (λ a. refl) (λ a h. h)
 body_takes n own few kind.ProbeReply = variant_takes (spelled n own) 2 (probe_reply n) (λ p. body.ProbeReply p.0 p.1.0 p.1.1) (probe_reply-lawful n few) (λ a. refl) (λ a. refl) (λ a h. h)
@@ -134,33 +108,6 @@ body_takes n own few kind.Ping = variant_takes (spelled n own) 22 (scored n own)
 body_takes n own few kind.PingReply = variant_takes (spelled n own) 23 (scored n own) (λ t. body.PingReply t) (scored-lawful n own few) (λ a. refl) (λ a. refl) (λ a h. h)
 body_takes n own few kind.Request = variant_takes (spelled n own) 24 request (λ p. body.Request p.0 p.1) request-lawful (λ a. refl) (λ a. refl) (λ a h. h)
 body_takes n own few kind.Reply = variant_takes (spelled n own) 25 reply (λ p. body.Reply p.0 p.1) reply-lawful (λ a. refl) (λ a. refl) (λ a h. h)
-
-abbrev pub kind_in : Body → Kind
-kind_in body.Probe = kind.Probe
-kind_in (body.ProbeReply quorum first last) = kind.ProbeReply
-kind_in (body.Propose t) = kind.Propose
-kind_in body.Ack = kind.Ack
-kind_in (body.Victory quorum) = kind.Victory
-kind_in (body.Collect pn first last) = kind.Collect
-kind_in (body.Last pn first l whole from values pending) = kind.Last
-kind_in (body.Begin pn version v) = kind.Begin
-kind_in (body.Accept pn version) = kind.Accept
-kind_in (body.Commit from values) = kind.Commit
-kind_in (body.Lease l) = kind.Lease
-kind_in (body.LeaseAck l) = kind.LeaseAck
-kind_in (body.Forward seq command) = kind.Forward
-kind_in (body.Route seq reply) = kind.Route
-kind_in body.GetCookieFull = kind.GetCookieFull
-kind_in (body.GetCookieRecent l) = kind.GetCookieRecent
-kind_in (body.Cookie full k l) = kind.Cookie
-kind_in (body.GetChunk k at) = kind.GetChunk
-kind_in (body.Chunk k at values entries done) = kind.Chunk
-kind_in (body.LastChunk k at values entries l) = kind.LastChunk
-kind_in (body.NoCookie k) = kind.NoCookie
-kind_in (body.Ping t) = kind.Ping
-kind_in (body.PingReply t) = kind.PingReply
-kind_in (body.Request id r) = kind.Request
-kind_in (body.Reply id r) = kind.Reply
 
 pub tag-is : (n own : ℕ) (b : Body) → (spelled n own b).tag ≡ kind_byte (kind_in b)
 tag-is n own body.Probe = refl

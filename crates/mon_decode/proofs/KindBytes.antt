@@ -3,7 +3,7 @@ use Rattle.std.proofs.Common.{◌≡◌, ℕ, zero, suc, ◌+◌, ◌-◌, ◌�
 use Rattle.mon_wire.specs.declared.kind.Kind.{Kind}
 use Rattle.mon_wire.specs.declared.kind.Kind.TheVariants as kind
 use Rattle.mon_wire.specs.Message.Whole.{kinds, kind_of}
-use Rattle.mon_decode.proofs.BodyLaws.{kind_byte}
+use Rattle.mon_decode.specs.Headers.{kind_byte}
 
 -- ---- kinds and their bytes
 

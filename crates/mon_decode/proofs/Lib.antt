@@ -6,3 +6,4 @@ pub mod BodyLaws
 pub mod KindBytes
 pub mod PaddedLoop
 pub mod WholeLaws
+pub mod HeaderLaws

@@ -16,8 +16,9 @@ use Rattle.mon_wire.specs.Message.Bodies.{spelled, body_at}
 use Rattle.mon_wire.specs.Message.Length.{most_message}
 use Rattle.mon_wire.specs.Message.Whole.{asking, kind_of, text, IsMessage, HasText, format_at, kind_at, sender_at, epoch_at, message_at, ended, whole_at, message_of}
 use Rattle.mon_bytes.proofs.Formats.{bind_ok, at_fault_ok, not_zero, above_zero}
+use Rattle.mon_decode.specs.Headers.{kind_byte, kind_in}
 use Rattle.mon_decode.proofs.FieldLaws.{numeral-lawful}
-use Rattle.mon_decode.proofs.BodyLaws.{kind_byte, body_takes, kind_in, tag-is, body_found}
+use Rattle.mon_decode.proofs.BodyLaws.{body_takes, tag-is, body_found}
 use Rattle.mon_decode.proofs.KindBytes.{byte_of_kind, kind_of_byte, kind_low, kind_high}
 
 -- ---- the header
@@ -150,11 +151,11 @@ message_is_found bytes (Err e) fits h = tt
 
 -- ---- the whole, encoded
 
-format_found : (c : Reading) (rest : List ℕ) → c.rest ≡ 1 ∷ rest → Found (format_at c) 1 rest
+pub format_found : (c : Reading) (rest : List ℕ) → c.rest ≡ 1 ∷ rest → Found (format_at c) 1 rest
 unfolding format_at
 format_found c rest e = let a = byte_found c 1 rest e in (a.0, a.1, rw a.2 refl)
 
-kind_found : (c : Reading) (n : ℕ) (rest : List ℕ) → c.rest ≡ n ∷ rest → 1 ≤ n → n ≤ 25 → Found (kind_at c) n rest
+pub kind_found : (c : Reading) (n : ℕ) (rest : List ℕ) → c.rest ≡ n ∷ rest → 1 ≤ n → n ≤ 25 → Found (kind_at c) n rest
 unfolding kind_at
 kind_found c n rest e low high =
     let a = byte_found c n rest e in
@@ -162,7 +163,7 @@ kind_found c n rest e low high =
     let few : ltb 25 n ≡ false = le-ltb _ _ high in
     (a.0, a.1, rw (a.2, some, few) refl)
 
-sender_found : (kind : ℕ) (c : Reading) (rank n : ℕ) (rest : List ℕ) → c.rest ≡ rank ∷ n ∷ rest → rank < n → n ≤ 15 → (kind ≡ asking → rank ≡ 0) → Found (sender_at kind c) (rank, n) rest
+pub sender_found : (kind : ℕ) (c : Reading) (rank n : ℕ) (rest : List ℕ) → c.rest ≡ rank ∷ n ∷ rest → rank < n → n ≤ 15 → (kind ≡ asking → rank ≡ 0) → Found (sender_at kind c) (rank, n) rest
 unfolding sender_at
 sender_found kind c rank n rest e low high asks =
     let a = byte_found c rank (n ∷ rest) e in
@@ -171,7 +172,7 @@ sender_found kind c rank n rest e low high asks =
     let few : ltb 15 n ≡ false = le-ltb _ _ high in
     (b.0, b.1, rw (a.2, b.2, above, few, not_asking kind rank asks) refl)
 
-epoch_found : (kind : ℕ) (c : Reading) (n : ℕ) (rest : List ℕ) → c.rest ≡ number_bytes n ++ rest → n ≤ 2 ^ 62 → (kind ≡ asking → n ≡ 0) → Found (epoch_at kind c) n rest
+pub epoch_found : (kind : ℕ) (c : Reading) (n : ℕ) (rest : List ℕ) → c.rest ≡ number_bytes n ++ rest → n ≤ 2 ^ 62 → (kind ≡ asking → n ≡ 0) → Found (epoch_at kind c) n rest
 unfolding epoch_at
 epoch_found kind c n rest e le asks =
     let a = numeral-lawful.found c n rest e le in

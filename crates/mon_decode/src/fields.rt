@@ -1,8 +1,8 @@
 //! The fields of messages, read from left to right.
 
-ghost use Rattle.std.specs.Prelude.{◌≡◌, ℕ, ◌≤◌, ◌<◌, ◌^◌, length, IsTrue, IfOk};
+ghost use Rattle.std.specs.Prelude.{◌≡◌, ℕ, ◌≤◌, ◌<◌, ◌^◌, false, length, IsTrue, IfErr, IfOk};
 ghost use Rattle.mon_bytes.specs.Texts.{is_word};
-ghost use Rattle.mon_wire.specs.Message.Format.{Reads};
+ghost use Rattle.mon_wire.specs.Message.Format.{Reads, no_memory};
 ghost use Rattle.mon_wire.specs.Message.Fields.{number_at, flag_at, set_at, blob_at, text_at, word_at, value_at, service_at};
 
 use mon_bytes::{Bytes, Cursor, Name, OutOfMemory, Prefix, Text, Word};
@@ -14,7 +14,8 @@ use std::alloc::Global;
 /// A number of at most 2^62.
 #[tactic(auto, unfolding(mon_wire::specs::Message::Fields::number_at))]
 pub(crate) fn read_number<K: Copy>(cursor: &mut Cursor<'_>) -> Result<Number<K>, MsgRefused>
-    ensures { Reads (λ x. x) result cursor.new (number_at cursor.old) }
+    ensures reads { Reads (λ x. x) result cursor.new (number_at cursor.old) }
+    ensures known { IfErr result (λ e. no_memory e ≡ false) }
 {
     let at = cursor.at();
     let number = cursor.take_u64()?;
@@ -31,6 +32,7 @@ pub(crate) fn read_number<K: Copy>(cursor: &mut Cursor<'_>) -> Result<Number<K>,
 pub(crate) fn read_count(cursor: &mut Cursor<'_>) -> Result<u64, MsgRefused>
     ensures number { Reads (λ x. x) result cursor.new (number_at cursor.old) }
     ensures most { IfOk result (λ n. n ≤ 2 ^ 62) }
+    ensures known { IfErr result (λ e. no_memory e ≡ false) }
 {
     match read_number::<OfVersion>(cursor) {
         Ok(number) => Ok(number.get()),

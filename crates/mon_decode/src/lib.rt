@@ -3,6 +3,7 @@
 #![tactic(auto)]
 
 mod fields;
+mod header;
 mod read_body;
 mod read_client;
 mod read_lists;
@@ -10,5 +11,6 @@ mod read_parts;
 mod read_scores;
 mod reading;
 
+pub use header::{Header, law_header, read_header, same_kind};
 pub use mon_wire::{MsgKind, MsgRefused};
 pub use reading::decode;

@@ -1,8 +1,8 @@
 //! Messages from their bytes.
 
-ghost use Rattle.std.specs.Prelude.{◌≡◌, ℕ, ◌≤◌, List, IfOk, Ok};
+ghost use Rattle.std.specs.Prelude.{◌≡◌, ℕ, ◌≤◌, false, List, IfErr, IfOk, Ok};
 ghost use Rattle.mon_wire.specs.declared.message.Message.{Message as Said};
-ghost use Rattle.mon_wire.specs.Message.Format.{Reads, Gives};
+ghost use Rattle.mon_wire.specs.Message.Format.{Reads, Gives, no_memory};
 ghost use Rattle.mon_wire.specs.Message.Whole.{text, HasText, kind_of, format_at, kind_at, sender_at, epoch_at, message_at, ended, whole_at, message_of};
 
 use crate::fields::read_number;
@@ -44,7 +44,7 @@ const KINDS: [Kind; 25] = [
     Kind::Reply,
 ];
 
-fn kind_of(byte: u8) -> Kind
+pub(crate) fn kind_of(byte: u8) -> Kind
     requires low { 1 ≤ byte }
     requires high { byte ≤ 25 }
     ensures { result ≡ kind_of byte }
@@ -53,8 +53,9 @@ fn kind_of(byte: u8) -> Kind
 }
 
 #[tactic(auto, unfolding(mon_wire::specs::Message::Whole::format_at))]
-fn read_format(cursor: &mut Cursor<'_>) -> Result<u8, MsgRefused>
-    ensures { Reads (λ x. x) result cursor.new (format_at cursor.old) }
+pub(crate) fn read_format(cursor: &mut Cursor<'_>) -> Result<u8, MsgRefused>
+    ensures reads { Reads (λ x. x) result cursor.new (format_at cursor.old) }
+    ensures known { IfErr result (λ e. no_memory e ≡ false) }
 {
     let at = cursor.at();
     let format = cursor.take_u8()?;
@@ -68,8 +69,9 @@ fn read_format(cursor: &mut Cursor<'_>) -> Result<u8, MsgRefused>
 }
 
 #[tactic(auto, unfolding(mon_wire::specs::Message::Whole::kind_at))]
-fn read_kind(cursor: &mut Cursor<'_>) -> Result<u8, MsgRefused>
+pub(crate) fn read_kind(cursor: &mut Cursor<'_>) -> Result<u8, MsgRefused>
     ensures byte { Reads (λ x. x) result cursor.new (kind_at cursor.old) }
+    ensures known { IfErr result (λ e. no_memory e ≡ false) }
     ensures low { IfOk result (λ byte. 1 ≤ byte) }
     ensures high { IfOk result (λ byte. byte ≤ 25) }
 {
@@ -85,8 +87,9 @@ fn read_kind(cursor: &mut Cursor<'_>) -> Result<u8, MsgRefused>
 }
 
 #[tactic(auto, unfolding(mon_wire::specs::Message::Whole::sender_at))]
-fn read_sender(kind: u8, cursor: &mut Cursor<'_>) -> Result<Member, MsgRefused>
-    ensures { Reads (λ m. (m.rank, m.monitors)) result cursor.new (sender_at kind cursor.old) }
+pub(crate) fn read_sender(kind: u8, cursor: &mut Cursor<'_>) -> Result<Member, MsgRefused>
+    ensures reads { Reads (λ m. (m.rank, m.monitors)) result cursor.new (sender_at kind cursor.old) }
+    ensures known { IfErr result (λ e. no_memory e ≡ false) }
 {
     let at = cursor.at();
     let byte = cursor.take_u8()?;
@@ -110,8 +113,9 @@ fn read_sender(kind: u8, cursor: &mut Cursor<'_>) -> Result<Member, MsgRefused>
 }
 
 #[tactic(auto, unfolding(mon_wire::specs::Message::Whole::epoch_at))]
-fn read_epoch(kind: u8, cursor: &mut Cursor<'_>) -> Result<Epoch, MsgRefused>
-    ensures { Reads (λ x. x) result cursor.new (epoch_at kind cursor.old) }
+pub(crate) fn read_epoch(kind: u8, cursor: &mut Cursor<'_>) -> Result<Epoch, MsgRefused>
+    ensures reads { Reads (λ x. x) result cursor.new (epoch_at kind cursor.old) }
+    ensures known { IfErr result (λ e. no_memory e ≡ false) }
 {
     let at = cursor.at();
     let epoch: Epoch = read_number(cursor)?;
