@@ -8,16 +8,18 @@ use mon_bytes::{Cursor, MOST_MESSAGE};
 use mon_types::GREATEST;
 
 /// The byte with which a piece begins. No message begins with it.
-pub(crate) const PIECE: u8 = 2;
+pub const PIECE: u8 = 2;
 
-pub(crate) const PIECE_HEADER: usize = 28;
+/// How many bytes of a piece come before those of its message.
+pub const PIECE_HEADER: usize = 28;
 
 /// The most bytes of a message that a piece has.
-pub(crate) const PART: u32 = 59_000;
+pub const PART: u32 = 59_000;
 
 /// The least bytes of a message that is cut.
 const LEAST: u32 = DATAGRAM as u32 + 1;
 
+/// The header of a piece: of the message that these two numbers name, which has `total` bytes, it has those from `place` on.
 #[derive(Clone, Copy)]
 pub struct Header {
     pub zero_1: u8,
@@ -94,15 +96,17 @@ fn check(count: usize, header: Header) -> Result<Header, FragRefused>
     Ok(header)
 }
 
+/// The bytes of its message that a piece has.
 #[tactic(auto, using(std::proofs::lemmas::List::drop_min))]
-pub(crate) fn behind_header(datagram: &[u8]) -> &[u8]
+pub fn behind_header(datagram: &[u8]) -> &[u8]
     ensures { result.now ≡ drop PIECE_HEADER datagram.now }
 {
     let (_, bytes) = datagram.split_at(PIECE_HEADER.min(datagram.len()));
     bytes
 }
 
-pub(crate) fn read_header(datagram: &[u8]) -> Result<Header, FragRefused>
+/// The header of a piece. Refused with the first field that doesn't fit or isn't as it is in a piece.
+pub fn read_header(datagram: &[u8]) -> Result<Header, FragRefused>
     ensures header { result ≡ header_of datagram.now }
     ensures within { IfOk result (λ h. h.place < h.total) }
 {
