@@ -104,6 +104,8 @@ def fault_of_rule(rule: str, monitors: int) -> str | None:
         return f'rule: it names rank {max(numbers)}, and the ranks are 0 to {monitors - 1}'
     if any(one >= other for one, other in zip(numbers, numbers[1:])):
         return f"rule: the ranks '{match[3]}' must be ascending"
+    if len(numbers) == monitors:
+        return f"rule: it names all {monitors} ranks, so no monitor may lead"
     return None
 
 

@@ -126,6 +126,12 @@ def fault_of_header(line: str) -> Fault | None:
     return None if len(known) == len(found) and known == sorted(set(known)) else fault(at, len(line), 'RULE', allowed)
 
 
+def allows_nobody(header: str) -> bool:
+    """Whether the rule of a first line without a fault lets no monitor lead."""
+    _, monitors, rule = header.split(' ')
+    return '=' in rule and len(rule.partition('=')[2].split(',')) == int(monitors)
+
+
 def faults_of(octets: bytes) -> Iterator[Fault]:
     """The faults of a schedule, one a line. The first is the one with which the program refuses it."""
     if len(octets) > MOST_SCHEDULE:
