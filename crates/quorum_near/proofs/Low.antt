@@ -82,9 +82,9 @@ behind end first w above low k = let p = pending_next w.pending_v w.pending_pn w
     by p (inl u) = let z = u.1 in omega arith
     by p (inr l) = omega arith
 
--- ---- what is told
+-- ---- what an answer to PROBE has
 
--- the log that is told of begins far below its end, if not at its first version
+-- its first version is far below its last one, or the first of the log
 abbrev pub TellsLow : Body → Type 0
 TellsLow (body.ProbeReply quorum first last) = (first ≤ 1) ⊎ (first + 501 ≤ last)
 TellsLow other = Unit {0}

@@ -46,7 +46,7 @@ use Rattle.std.specs.Prelude.{IfOk}
 abbrev pub EnvelopeLow : Envelope → Type 0
 EnvelopeLow e = TellsLow e.message.body
 
--- each monitor's floor is low, and each answer to a PROBE tells of a first version that is low
+-- each monitor's floor is low, and each answer to PROBE has a first version that is low
 pub record AllLow (w : World) : Type 0 where
   pub stores : (i : ℕ) → IsLow (length w.log) (readings_of (w.store i))
   pub sent : AllByRecursion EnvelopeLow w.messages
@@ -147,7 +147,7 @@ module _ (ms : Monitors) (w : World) (H : LogHolds ms w) (L : AllLow w) where
     writes : Writes (readings_of m) d.by.came d.y.changes d.y.out
     writes = (subst (Then (WritesAs (readings_of m) d.by.came)) d.is (reacts_as me (shared_entries m) d.by.at (readings_of m) d.by.state d.by.came)).holds
 
-    -- what it was told reaches no further than the log
+    -- the first version that another monitor reported is far below the end of the log
     told_low : (B : IsBehind (readings_of m) d.by.came) → B.first + 501 ≤ length w.log
     told_low B = by (subst (ToldOf Told rank) B.is d.by.told)
       where

@@ -1,4 +1,4 @@
--- The acts begin no full synchronization, and send no answer to a PROBE.
+-- The acts begin no full synchronization, and send no answer to PROBE.
 use Rattle.election_rules.specs.Ranking.{allows}
 use Rattle.mon_msg.specs.Protocol.Changes.{Change, Epoch, Last, Mark, Numbers, Vote}
 use Rattle.mon_msg.specs.Protocol.Collecting.{begin_found, collect, collect_with, commits_to, commits_with, missed, reign, settle}

@@ -1,4 +1,4 @@
--- The rows begin no full synchronization, and send no answer to a PROBE: all but the two of probing.
+-- The rows begin no full synchronization, and send no answer to PROBE: all but the two of probing.
 use Rattle.election_rules.specs.declared.scores.Scores.{Scores}
 use Rattle.mon_bytes.specs.declared.command.Command.{Command}
 use Rattle.mon_bytes.specs.declared.command.Command.TheVariants as command

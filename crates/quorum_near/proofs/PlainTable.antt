@@ -1,5 +1,5 @@
--- What an event writes and sends: a mark only where an answer to a PROBE tells of a log that begins above the last version, and
--- an answer to a PROBE only with the first and the last version.
+-- What an event writes and sends: a mark only at an answer to PROBE whose first version is above the own last one, and an answer to
+-- PROBE only with the first and the last version.
 use Rattle.mon_bytes.specs.declared.entry.Entry.{Entry}
 use Rattle.mon_msg.specs.Protocol.Changes.{Boot, Change, Epoch, Mark}
 use Rattle.mon_msg.specs.Protocol.Course.{Course, change, change_if, disarm, prober_is}
@@ -38,7 +38,7 @@ use Rattle.std.specs.Prelude.{is_some}
 
 -- ---- what is written and sent
 
--- an answer to a PROBE tells what is read
+-- an answer to PROBE has the versions that are read
 abbrev pub AnswersAs : Readings → Body → Type 0
 AnswersAs w (body.ProbeReply quorum first last) = (w.marked ≡ false) × (first ≡ w.first) × (last ≡ w.last)
 AnswersAs w other = Unit {0}
@@ -47,7 +47,7 @@ abbrev pub SaysAs : Readings → Sent → Type 0
 SaysAs w (sent.Message to m) = AnswersAs w m.body
 SaysAs w (sent.Reply to r) = Unit {0}
 
--- an answer to a PROBE tells of a log that begins above the last version
+-- an answer to PROBE has a first version above the own last one
 pub record IsBehind (w : Readings) (came : Input) : Type 0 where
   pub message : Message
   pub is : came ≡ input.Deliver message
