@@ -1,0 +1,69 @@
+"""What somebody on a network does who has no key: called by checks/network within a network namespace of its own.
+
+usage: checks/stranger.py record INTERFACE SECONDS FILE    writes each frame that passes, the length in 4 bytes before it
+       checks/stranger.py repeat INTERFACE FILE            sends these frames once more
+       checks/stranger.py forge FROM TO NAME MONITORS RANK EPOCH
+                                                           sends a call for an election, as the monitor of this rank would, from one HOST:PORT to another
+"""
+import socket
+import struct
+import sys
+import time
+
+import checking  # noqa: F401, adds the folder of the next one
+from wire import framed, number_field, tag_of
+
+ALL_FRAMES, PROPOSE = 3, 3
+
+
+def record(interface, seconds, path):
+    with socket.socket(socket.AF_PACKET, socket.SOCK_RAW, socket.htons(ALL_FRAMES)) as link, open(path, 'wb') as file:
+        link.bind((interface, 0))
+        # promiscuous, as whoever listens on a wire
+        link.setsockopt(263, 1, struct.pack('iHH8s', socket.if_nametoindex(interface), 1, 0, b''))
+        print('recording', flush=True)
+        end = time.monotonic() + float(seconds)
+        while (left := end - time.monotonic()) > 0:
+            link.settimeout(left)
+            try:
+                frame = link.recv(65_536)
+            except OSError:
+                continue
+            file.write(struct.pack('<I', len(frame)) + frame)
+
+
+def frames(path):
+    with open(path, 'rb') as file:
+        octets = file.read()
+    at = 0
+    while at < len(octets):
+        length = int.from_bytes(octets[at:at + 4], 'little')
+        yield octets[at + 4:at + 4 + length]
+        at += 4 + length
+
+
+def repeat(interface, path):
+    with socket.socket(socket.AF_PACKET, socket.SOCK_RAW) as link:
+        link.bind((interface, 0))
+        for frame in frames(path):
+            try:
+                link.send(frame)
+            except OSError:
+                # longer than this interface sends
+                continue
+
+
+def address(word):
+    host, _, port = word.rpartition(':')
+    return host, int(port)
+
+
+def forge(source, target, name, monitors, rank, epoch):
+    message = bytes([1, PROPOSE, int(rank), int(monitors)]) + number_field(int(epoch)) + b'\0'
+    with socket.socket(socket.AF_INET, socket.SOCK_DGRAM) as link:
+        link.bind(address(source))
+        link.sendto(framed(message, tag_of(name, int(monitors), 'classic')), address(target))
+
+
+if __name__ == '__main__':
+    {'record': record, 'repeat': repeat, 'forge': forge}[sys.argv[1]](*sys.argv[2:])
