@@ -1,0 +1,81 @@
+-- What an event says, whatever is known of the ROUTEs that come.
+use Rattle.mon_bytes.specs.declared.command.Command.{Command}
+use Rattle.mon_msg.specs.Protocol.Course.{Course}
+use Rattle.mon_msg.specs.Protocol.Phases.{same_phase}
+use Rattle.mon_msg.specs.Protocol.Readings.{Readings, epoch_of, readings_of, shared_entries}
+use Rattle.mon_msg.specs.Protocol.State.{State}
+use Rattle.mon_msg.specs.Protocol.Value.{value}
+use Rattle.mon_msg.specs.declared.clients.Waiting.{Waiting}
+use Rattle.mon_msg.specs.declared.input.Input.TheVariants as input
+use Rattle.mon_msg.specs.declared.input.Input.{Input}
+use Rattle.mon_msg.specs.declared.plan.Origin.{Origin}
+use Rattle.mon_msg.specs.declared.view.Me.{Me}
+use Rattle.mon_tx.specs.Text.{text}
+use Rattle.mon_tx.specs.declared.op.Op.{Op}
+use Rattle.mon_wire.specs.declared.body.Body.TheVariants as body
+use Rattle.mon_wire.specs.declared.body.Body.{Body}
+use Rattle.mon_wire.specs.declared.message.Message.{Message}
+use Rattle.mon_wire.specs.declared.phase.Phase.TheVariants as phase
+use Rattle.mon_wire.specs.declared.reply.Reply.{Reply}
+use Rattle.mon_wire.specs.declared.request.Request.TheVariants as request
+use Rattle.mon_wire.specs.declared.request.Request.{Request}
+use Rattle.quorum_agreement.proofs.Lone.{active_is}
+use Rattle.quorum_answers.proofs.Rows.{BodyKnown, InputKnown, RequestKnown, reacts}
+use Rattle.quorum_answers.proofs.Saying as saying
+use Rattle.quorum_history.proofs.History.{Accepted}
+use Rattle.quorum_history.proofs.Holds.{BodyHolds, HasSource, InPhase, core_of}
+use Rattle.quorum_history.proofs.Rows.{InputHolds}
+use Rattle.quorum_history.proofs.RowsClients as clients
+use Rattle.quorum_laws.proofs.Events.{Does, member_of}
+use Rattle.quorum_laws.proofs.Invariant.{InvWith}
+use Rattle.quorum_model.specs.Monitors.{Monitors}
+use Rattle.quorum_model.specs.World.{Asked, Envelope, World}
+use Rattle.quorum_walk.proofs.Sparing.{own_of}
+use Rattle.quorum_walk.proofs.Walk.{Then}
+use Rattle.std.proofs.Common.{List, refl, subst, true, ℕ, ◌≡◌}
+use Rattle.std.specs.List.{AllByRecursion}
+
+module _ (ms : Monitors) (w : World) (asked : List Asked) (J : InvWith ms w asked) (On : Envelope → Type 0) (d : Does ms w On asked J) where
+  abbrev pub me : Me
+  me = member_of ms d.by.rank d.by.lt
+
+  abbrev pub s : State
+  s = d.by.state
+
+  abbrev pub w0 : Readings
+  w0 = readings_of (w.store d.by.rank)
+
+  -- a command that a client asked here, or that was handed on
+  abbrev pub From : ℕ → Command → Origin → Type 0
+  From e c o = HasSource J.g d.by.rank e c o
+
+  abbrev pub Voted : (f pn v : ℕ) → Type 0
+  Voted f pn v = (x : List Op) × Accepted J.g f v pn x
+
+  module _ (Routed : (f e seq : ℕ) → Reply → Type 0) (routes : (m : Message) → d.by.came ≡ input.Deliver m → (seq : ℕ) (r : Reply) → m.body ≡ body.Route seq r → Routed m.from m.epoch seq r) where
+    abbrev pub Says : Course → Type 0
+    Says = saying.Outcome me d.by.at w0 s d.by.came From Routed Voted
+
+    queued : same_phase s.phase phase.Active ≡ true → AllByRecursion (λ (q : Waiting). From (epoch_of w0) q.command q.origin) s.clients.queue
+    queued t = let k = subst (InPhase ms.count J.g d.by.rank (core_of (own_of w0) s)) (active_is s.phase t) d.by.on in k.0.reigns.queue
+
+    known : (came : Input) → d.by.came ≡ came → InputHolds me J.g came → InputKnown me d.by.at w0 s d.by.came From Routed Voted came
+    known (input.Deliver e) is h = by e.body refl
+      where
+        by : (b : Body) → e.body ≡ b → BodyKnown me d.by.at w0 s d.by.came From Routed Voted e.from e.epoch b
+        by (body.Forward seq c) q = subst (BodyHolds J.g e.from d.by.rank e.epoch) q h.1.body
+        by (body.Route seq r) q = routes e is seq r q
+        by (body.Accept pn v) q = let B = subst (BodyHolds J.g e.from d.by.rank e.epoch) q h.1.body in (B.1, B.2)
+        by b q = tt
+    known (input.Client t r) is h = by r h
+      where
+        by : (r : Request) → clients.IsAsked J.g d.by.rank t r → RequestKnown me d.by.at w0 s d.by.came From Routed Voted t r
+        by (request.Set key value) h = h
+        by (request.Remove key) h = h
+        by (request.Log text) h = h
+        by (request.Show v) h = tt
+        by (request.Since v z) h = tt
+    known other is h = tt
+
+    pub outcome : Says d.y
+    outcome = (subst (Then Says) d.is (reacts me d.by.at w0 s d.by.came From Routed Voted queued (shared_entries (w.store d.by.rank)) (known d.by.came refl d.by.holds))).holds

@@ -1,0 +1,15 @@
+pub mod Replies
+pub mod Ordering
+pub mod Saying
+pub mod Leading
+pub mod Hearing
+pub mod Rows
+pub mod Event
+pub mod Own
+pub mod Marks
+pub mod Epochs
+pub mod Whole
+pub mod Reached
+pub mod Over
+pub mod Refusals
+pub mod Answers

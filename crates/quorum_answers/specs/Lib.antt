@@ -1,0 +1,3 @@
+pub mod Linear
+pub mod Reads
+pub mod Refused

@@ -1,0 +1,41 @@
+-- The acknowledged writes and the reads of one epoch are linearizable.
+use Rattle.std.specs.Prelude.{◌≡◌, ℕ, ◌<◌, ◌≤◌}
+use Rattle.std.specs.List.{Contains}
+use Rattle.quorum_model.specs.Kept.{Kept}
+use Rattle.quorum_model.specs.Shown.{Shown}
+use Rattle.quorum_model.specs.World.{World, Acknowledged, Replied}
+use Rattle.quorum_answers.specs.Reads.{Shows}
+
+-- a write that was acknowledged, or a reply that may show something
+pub data Operation : Type 0 where
+  Write : (write : Acknowledged) → Operation
+  Read : (read : Replied) → Operation
+
+-- It was completed. A refused command shows nothing and is no read.
+abbrev pub Completed : World → Operation → Type 0
+Completed w (Write a) = Contains w.acknowledged a
+Completed w (Read r) = Contains w.replied r × Shows r.reply
+
+-- The event in which it takes effect: the leader acknowledges the write, or the monitor replies to the read. Its client asked in that
+-- event or before it, and has its answer in that event or after it.
+abbrev pub its_event : Operation → ℕ
+its_event (Write a) = a.event
+its_event (Read r) = r.event
+
+abbrev pub its_epoch : Operation → ℕ
+its_epoch (Write a) = a.epoch
+its_epoch (Read r) = r.epoch
+
+-- The order of the log: a write has its version, and a read follows the last version that it shows.
+abbrev pub Precedes : Operation → Operation → Type 0
+Precedes (Write a) (Write b) = a.version < b.version
+Precedes (Write a) (Read r) = a.version ≤ r.last
+Precedes (Read r) (Write a) = r.last < a.version
+Precedes (Read q) (Read r) = q.last ≤ r.last
+
+-- Each write is a version of the one log, and each read shows what the versions up to its last one make. In one epoch, which
+-- may have any monitors, the order of events is the order of that log.
+pub record Linearizable (n : ℕ) (w : World) : Type 0 where
+  pub writes : Kept n w
+  pub reads : Shown w
+  pub order : (x y : Operation) → Completed w x → Completed w y → its_epoch x ≡ its_epoch y → its_event x < its_event y → Precedes x y

@@ -1,0 +1,30 @@
+-- What is shown later isn't older.
+use Rattle.std.specs.Prelude.{◌≡◌, ◌≤◌}
+use Rattle.std.specs.List.{AllByRecursion}
+use Rattle.mon_wire.specs.declared.reply.Reply.{Reply}
+use Rattle.mon_wire.specs.declared.reply.Reply.TheVariants as reply
+use Rattle.quorum_model.specs.World.{World, Replied}
+
+-- A reply that shows a map, or lists its changes. Each kind of reply is named, so that whoever adds one decides what is promised of it.
+abbrev pub Shows : Reply → Type 0
+Shows (reply.Shown s paxos version map) = Unit {0}
+Shows (reply.Since s from told more) = Unit {0}
+Shows (reply.Done v) = ⊥
+Shows reply.NoSuch = ⊥
+Shows (reply.TooLong len most) = ⊥
+Shows (reply.MapFull would_be) = ⊥
+Shows reply.Unavailable = ⊥
+Shows (reply.NotReadable has lease) = ⊥
+Shows (reply.Busy waiting) = ⊥
+
+-- if both show something and b isn't of an earlier event, then b isn't of an older version
+abbrev pub NoOlder : Replied → Replied → Type 0
+NoOlder a b = Shows a.reply → Shows b.reply → a.event ≤ b.event → a.last ≤ b.last
+
+-- in one epoch, whichever monitors reply
+abbrev pub EpochsOnward : World → Type 0
+EpochsOnward w = AllByRecursion (λ a. AllByRecursion (λ b. a.epoch ≡ b.epoch → NoOlder a b) w.replied) w.replied
+
+-- at one monitor, in whatever epochs, and wherever it crashed in between
+abbrev pub EachOnward : World → Type 0
+EachOnward w = AllByRecursion (λ a. AllByRecursion (λ b. a.rank ≡ b.rank → NoOlder a b) w.replied) w.replied

@@ -1,0 +1,49 @@
+-- A refusal is the one that the service gives over the log, to a command that was asked.
+use Rattle.std.specs.Prelude.{◌≡◌, ℕ, ◌≤◌, ◌⊎◌, length, Some, Err}
+use Rattle.std.specs.List.{AllByRecursion, Contains}
+use Rattle.log_model.specs.LogOfValues.{view_at}
+use Rattle.mon_bytes.specs.declared.command.Command.{Command}
+use Rattle.mon_bytes.specs.declared.command.CommandRefused.{CommandRefused}
+use Rattle.mon_msg.specs.Protocol.Proposing.{refusal}
+use Rattle.mon_msg.specs.Protocol.Value.{value}
+use Rattle.mon_wire.specs.declared.reply.Reply.{Reply}
+use Rattle.mon_wire.specs.declared.reply.Reply.TheVariants as reply
+use Rattle.mon_wire.specs.declared.request.Session.{Session}
+use Rattle.quorum_model.specs.Clients.{command_of}
+use Rattle.quorum_model.specs.World.{World, Asked}
+
+-- A reply that refuses a command for good. Each kind of reply is named, so that whoever adds one decides what is promised of it.
+abbrev pub Refuses : Reply → Type 0
+Refuses reply.NoSuch = Unit {0}
+Refuses (reply.TooLong len most) = Unit {0}
+Refuses (reply.MapFull would_be) = Unit {0}
+Refuses (reply.Done v) = ⊥
+Refuses (reply.Shown s paxos version map) = ⊥
+Refuses (reply.Since s from told more) = ⊥
+Refuses reply.Unavailable = ⊥
+Refuses (reply.NotReadable has lease) = ⊥
+Refuses (reply.Busy waiting) = ⊥
+
+-- no higher version was acknowledged by then in that epoch
+abbrev pub CoversAll : World → (epoch version : ℕ) → Type 0
+CoversAll w epoch version = AllByRecursion (λ a. a.epoch ≡ epoch → a.version ≤ version) w.acknowledged
+
+-- Session t asked a command of monitor i, and the command's service refuses it so over the versions of the log up to this one. If it
+-- wasn't asked before, these include all that had been acknowledged before in that epoch.
+pub record IsRefused (before w : World) (i : ℕ) (t : Session) (e : ℕ) (r : Reply) : Type 0 where
+  pub asked : Asked
+  pub was_asked : Contains w.asked asked
+  pub rank : asked.rank ≡ i
+  pub session : asked.session ≡ t
+  pub command : Command
+  pub is : command_of asked.request ≡ Some command
+  pub version : ℕ
+  pub within : version ≤ length w.log
+  pub why : CommandRefused
+  pub refused : value (view_at w.log version) command i ≡ Err why
+  pub says : r ≡ refusal why
+  pub since : Contains before.asked asked ⊎ CoversAll before e version
+
+-- of a world, and of one before it in the same run
+abbrev pub AllRefused : (before w : World) → Type 0
+AllRefused before w = AllByRecursion (λ r. Refuses r.reply → IsRefused before w r.rank r.session r.epoch r.reply) w.replied
