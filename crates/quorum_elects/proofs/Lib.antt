@@ -1,0 +1,15 @@
+pub mod Can
+pub mod Elected
+pub mod Majorities
+pub mod Moving
+pub mod Probing
+pub mod Ranking
+pub mod Ranks
+pub mod Rows
+pub mod Standing
+pub mod Steps
+pub mod Stores
+pub mod Values
+pub mod VoteRows
+pub mod Voting
+pub mod Walking

@@ -1,0 +1,338 @@
+-- The members of a majority start, ask one another, and stand for election.
+use Rattle.election_rules.specs.declared.scores.Scores.{Scores}
+use Rattle.mon_msg.specs.Protocol.Phases.{same_phase}
+use Rattle.mon_msg.specs.Protocol.Readings.{Readings, readings_of, shared_entries}
+use Rattle.mon_msg.specs.Protocol.Sets.{only}
+use Rattle.mon_msg.specs.Protocol.State.{State, booting, quorum_of}
+use Rattle.mon_msg.specs.Protocol.Table.{react}
+use Rattle.mon_msg.specs.declared.input.Input.TheVariants as input
+use Rattle.mon_tx.specs.Map.{Store}
+use Rattle.mon_types.specs.Ranks.{count_of, has, is_majority, no_ranks, with_rank}
+use Rattle.mon_wire.specs.declared.body.Body.TheVariants as body
+use Rattle.mon_wire.specs.declared.phase.Phase.TheVariants as phase
+use Rattle.quorum_elects.proofs.Can.{Can, New, Onward, Sane, Scope, for_each, new_stays, rests, then, weaker}
+use Rattle.quorum_elects.proofs.Majorities.{Majority, epoch_at, scope}
+use Rattle.quorum_elects.proofs.Moving.{Did, Sound}
+use Rattle.quorum_elects.proofs.Ranking.{FullIf}
+use Rattle.quorum_elects.proofs.Ranks.{count_more, from_on, has_self, in_or_out, one_counts, same_or_not, up_to}
+use Rattle.quorum_elects.proofs.Rows.{Answers, Fitting, Hears, Starts, odd_from, probed, replied, starts}
+use Rattle.quorum_elects.proofs.Standing.{Close, CloseAt, Is, IsCandidate, IsProbing, letter}
+use Rattle.quorum_elects.proofs.Steps.{deliver, is_now, is_stays, start}
+use Rattle.quorum_elects.proofs.Walking.{Surely}
+use Rattle.quorum_laws.specs.Accepting.{IsMajorityOf, readings_at}
+use Rattle.quorum_model.proofs.Members.{member_of}
+use Rattle.quorum_model.specs.Monitors.{Monitors}
+use Rattle.quorum_model.specs.World.{World}
+use Rattle.quorum_walk.proofs.Ranks.{has_only, has_only_is, has_with}
+use Rattle.std.proofs.Common.{Bool, List, Option, Some, ap, arith, false, inl, inr, length, ltb, refl, subst, suc, sym, true, ℕ, ◌*◌, ◌<◌, ◌∙◌, ◌≡◌, ◌≤◌, ◌⊎◌}
+use Rattle.std.proofs.lemmas.Bool.{cases_lt, false≢true, le-ltb, lt-ltb, ltb-false, ltb-true}
+use Rattle.std.proofs.lemmas.List.{length-set}
+use Rattle.std.specs.Prelude.{unwrap_or}
+
+module _ (G : Majority) where
+  abbrev ms : Monitors
+  ms = G.ms
+
+  abbrev n : ℕ
+  n = G.ms.count
+
+  abbrev several : 1 < n
+  several = G.several
+
+  abbrev q : List Bool
+  q = G.q
+
+  abbrev M : IsMajorityOf n q
+  M = G.major
+
+  abbrev c : ℕ
+  c = G.c
+
+  abbrev Us : Scope
+  Us = scope G
+
+  abbrev sent : ℕ
+  sent = length G.from.messages
+
+  abbrev e0 : ℕ → ℕ
+  e0 f = epoch_at G f
+
+  abbrev Can1 : ℕ → (World → Type 0) → World → Type 0
+  Can1 k P w = Can Us k P w
+
+  abbrev On : World → World → Type 0
+  On w v = Onward Us w v
+
+  abbrev Room : World → Type 0
+  Room w = Sane (scope G) w
+
+  pub lt_of : (f : ℕ) → has q f ≡ true → ltb f n ≡ true
+  lt_of f h = lt-ltb f n (M.below f h)
+
+  -- ---- messages that wait
+
+  abbrev Probes : ℕ → World → Type 0
+  Probes f w = (g : ℕ) → g < n → (g ≡ f → ⊥) → (at : ℕ) × New sent w (record { to = g; message = letter n f at body.Probe })
+
+  pub record Calls (f e : ℕ) (w : World) : Type 0 where
+    pub table : Option Scores
+    pub fits : Fitting ms.rule table
+    pub full : FullIf table
+    pub sent_to : (g : ℕ) → g < n → (g ≡ f → ⊥) → New sent w (record { to = g; message = letter n f e (body.Propose table) })
+
+  probes_stay : (f : ℕ) (w v : World) → On w v → Probes f w → Probes f v
+  probes_stay f w v o k g lt ne = let p = k g lt ne in (p.0, new_stays Us o p.1)
+
+  pub calls_stay : (f e : ℕ) (w v : World) → On w v → Calls f e w → Calls f e v
+  calls_stay f e w v o k = record { table = k.table; fits = k.fits; full = k.full; sent_to = λ g lt ne. new_stays Us o (k.sent_to g lt ne) }
+
+  -- ---- one that waits for answers, and a candidate
+
+  abbrev pub Waits : ℕ → World → Type 0
+  Waits f w = Is (IsProbing c (e0 f) (only f)) w f × Probes f w
+
+  abbrev pub Stands : ℕ → World → Type 0
+  Stands f w = Is (IsCandidate c (odd_from (e0 f)) (only f)) w f × Calls f (odd_from (e0 f)) w
+
+  -- ---- all start
+
+  pub record Started (k : ℕ) (w : World) : Type 0 where
+    pub room : Room w
+    pub done : (f : ℕ) → f < k → has q f ≡ true → Waits f w
+    pub left : (f : ℕ) → k ≤ f → has q f ≡ true → w.store f ≡ G.from.store f
+
+  pub start_one : (k : ℕ) (w : World) → k < n → Started k w → Can1 1 (Started (suc k)) w
+  start_one k w lt K = by (in_or_out (has q k))
+    where
+      skip : has q k ≡ false → Started (suc k) w
+      skip out = record { room = K.room; done = λ f low h. elim (up_to f k low) [ inl e ↦ absurd (false≢true (sym out ∙ subst (λ (x : ℕ). has q x ≡ true) e h)) | inr less ↦ K.done f less h ]; left = λ f high h. K.left f (omega arith) h }
+
+      after : (there : has q k ≡ true) (v : World) → On w v → Did Us (Starts ms several c k (lt_of k there) (shared_entries (w.store k)) 0 (e0 k)) w k v → Started (suc k) v
+      after there v o D = record { room = o.sane K.room; done = λ f low h. elim (up_to f k low) [ inl e ↦ subst (λ (x : ℕ). Waits x v) (sym e) new | inr less ↦ old f less h ]; left = λ f high h. (D.moved.others f (λ e. omega arith)).1 ∙ K.left f (omega arith) h }
+        where
+          new : Waits k v
+          new = (is_now Us (IsProbing c (e0 k) (only k)) w v k D.y D.moved D.did.stands, λ g low ne. (D.did.at, D.moved.says g (letter n k D.did.at body.Probe) (D.did.says g low ne)))
+
+          old : (f : ℕ) → f < k → has q f ≡ true → Waits f v
+          old f less h = let z = K.done f less h in (is_stays (IsProbing c (e0 f) (only f)) w v f (D.moved.others f (λ e. omega arith)) z.0, probes_stay f w v o z.1)
+
+      by : (has q k ≡ true) ⊎ (has q k ≡ false) → Can1 1 (Started (suc k)) w
+      by (inr out) = rests Us (skip out)
+      by (inl there) = weaker Us (omega arith) (after there) (start Us w K.room k (lt_of k there) there (Starts ms several c k (lt_of k there) (shared_entries (w.store k)) 0 (e0 k)) (subst (λ (m : Store). Starting m) (sym (K.left k (omega arith) there)) first))
+        where
+          Starting : Store → Type 0
+          Starting m = Surely (λ y. Sound (readings_of m) y × Starts ms several c k (lt_of k there) (shared_entries m) 0 (e0 k) y) (react (member_of ms k (lt_of k there)) (shared_entries m) 0 (readings_of m) (booting k) input.Start)
+
+          first : Starting (G.from.store k)
+          first = let N = G.numbers k there in let e = N.epoch in starts ms several c k (lt_of k there) (shared_entries (G.from.store k)) 0 (readings_at G.from k) (G.close k there) (N.number, N.promise) N.boot (omega arith)
+
+  -- ---- each asks the others, and becomes a candidate
+
+  -- those below k stand, and the others wait
+  pub record Probed (k : ℕ) (w : World) : Type 0 where
+    pub room : Room w
+    pub done : (f : ℕ) → f < k → has q f ≡ true → Stands f w
+    pub left : (f : ℕ) → k ≤ f → has q f ≡ true → Waits f w
+
+  pub started_probed : (w : World) → Started n w → Probed 0 w
+  started_probed w K = record { room = K.room; done = λ f low h. absurd (omega arith); left = λ f high h. K.done f (M.below f h) h }
+
+  -- k itself waits, and heard all below j, which are no majority
+  pub record HubWaits (k j : ℕ) (w : World) : Type 0 where
+    pub outside : List Bool
+    pub long : length outside ≡ 15
+    pub waits : Is (IsProbing c (e0 k) outside) w k
+    pub probes : Probes k w
+    pub self : has outside k ≡ true
+    pub heard : (f : ℕ) → f < j → has q f ≡ true → has outside f ≡ true
+    pub few : is_majority n outside ≡ false
+
+  pub record Probing (k j : ℕ) (w : World) : Type 0 where
+    pub room : Room w
+    pub done : (f : ℕ) → f < k → has q f ≡ true → Stands f w
+    pub left : (f : ℕ) → suc k ≤ f → has q f ≡ true → Waits f w
+    pub hub : Stands k w ⊎ HubWaits k j w
+
+  -- one that waits or stands is near, and up
+  record IsThere (w : World) (j : ℕ) : Type 0 where
+    state : State
+    up : w.state j ≡ Some state
+    close : Close c (readings_at w j)
+    runs : same_phase state.phase phase.Booting ≡ false
+
+  there_waits : (w : World) (j : ℕ) → Waits j w → IsThere w j
+  there_waits w j k = let z = k.0 in let h = z.holds in record { state = z.state; up = z.up; close = h.close; runs = ap (λ p. same_phase p phase.Booting) h.phase }
+
+  there_stands : (w : World) (j : ℕ) → Stands j w → IsThere w j
+  there_stands w j k = let z = k.0 in let h = z.holds in record { state = z.state; up = z.up; close = h.close; runs = ap (λ p. same_phase p phase.Booting) h.phase }
+
+  waits_stay : (w v : World) (f : ℕ) → On w v → (v.state f ≡ w.state f) × (v.store f ≡ w.store f) → Waits f w → Waits f v
+  waits_stay w v f o same k = (is_stays (IsProbing c (e0 f) (only f)) w v f same k.0, probes_stay f w v o k.1)
+
+  pub stands_stay : (w v : World) (f : ℕ) → On w v → (v.state f ≡ w.state f) × (v.store f ≡ w.store f) → Stands f w → Stands f v
+  stands_stay w v f o same k = (is_stays (IsCandidate c (odd_from (e0 f)) (only f)) w v f same k.0, calls_stay f (odd_from (e0 f)) w v o k.1)
+
+  module _ (k : ℕ) (mine : has q k ≡ true) where
+    few_k : k < 15
+    few_k = let z = M.below k mine in let m = G.ms.most in omega arith
+
+    -- another one answers, and nothing else changes
+    record Answered (j : ℕ) (w v : World) : Type 0 where
+      close : Close c (readings_at w j)
+      at : ℕ
+      quorum : List Bool
+      first : ℕ
+      last : ℕ
+      first_is : (readings_at w j).first ≡ first
+      last_is : (readings_at w j).last ≡ last
+      waits : New sent v (record { to = k; message = letter n j at (body.ProbeReply quorum first last) })
+      probing : Probing k j v
+
+    asks_one : (j : ℕ) (w : World) → j < n → (j ≡ k → ⊥) → (there : has q j ≡ true) → Probing k j w → HubWaits k j w → IsThere w j → Can1 1 (Answered j w) w
+    asks_one j w lt ne there P H T =
+        let m = H.probes j lt ne in
+        weaker Us (omega arith) after
+        (deliver Us w P.room j (lt_of j there) there (Answers ms several c j (lt_of j there) (shared_entries (w.store j)) 0 (readings_at w j) T.state k) (letter n k m.0 body.Probe) m.1 T.state T.up
+        (probed ms several c j (lt_of j there) (shared_entries (w.store j)) 0 (readings_at w j) T.state k m.0 (λ e. ne (sym e)) T.close T.runs))
+      where
+        after : (v : World) → On w v → Did Us (Answers ms several c j (lt_of j there) (shared_entries (w.store j)) 0 (readings_at w j) T.state k) w j v → Answered j w v
+        after v o D = record {
+          close = T.close;
+          at = D.did.at;
+          quorum = quorum_of T.state;
+          first = (readings_at w j).first;
+          last = (readings_at w j).last;
+          first_is = refl;
+          last_is = refl;
+          waits = D.moved.says k (letter n j D.did.at (body.ProbeReply (quorum_of T.state) (readings_at w j).first (readings_at w j).last)) D.did.says;
+          probing = record { room = o.sane P.room; done = λ f low h. done f low h (same_or_not f j); left = λ f high h. left f high h (same_or_not f j); hub = hub };
+        }
+          where
+            -- it stands as it did
+            again : (R : Readings → State → Type 0) → Is R w j → Is R v j
+            again R z = record {
+              state = T.state;
+              up = D.moved.up ∙ ap Some D.did.same;
+              holds = subst (λ (r : Readings). R r T.state) (sym (D.moved.reads ∙ D.did.reads)) (subst (R (readings_at w j)) (some_is z.state T.state (sym z.up ∙ T.up)) z.holds);
+            }
+              where
+                some_is : (a b : State) → ◌≡◌ {A = Option State} (Some a) (Some b) → a ≡ b
+                some_is a b e = ap (λ (o : Option State). unwrap_or o a) e
+
+            done : (f : ℕ) → f < k → has q f ≡ true → (f ≡ j) ⊎ (f ≡ j → ⊥) → Stands f v
+            done f low h (inr other) = stands_stay w v f o (D.moved.others f other) (P.done f low h)
+            done f low h (inl e) = subst (λ (x : ℕ). Stands x v) (sym e) (let z = subst (λ (x : ℕ). Stands x w) e (P.done f low h) in (again (IsCandidate c (odd_from (e0 j)) (only j)) z.0, calls_stay j (odd_from (e0 j)) w v o z.1))
+
+            left : (f : ℕ) → suc k ≤ f → has q f ≡ true → (f ≡ j) ⊎ (f ≡ j → ⊥) → Waits f v
+            left f high h (inr other) = waits_stay w v f o (D.moved.others f other) (P.left f high h)
+            left f high h (inl e) = subst (λ (x : ℕ). Waits x v) (sym e) (let z = subst (λ (x : ℕ). Waits x w) e (P.left f high h) in (again (IsProbing c (e0 j) (only j)) z.0, probes_stay j w v o z.1))
+
+            hub : Stands k v ⊎ HubWaits k j v
+            hub = inr (record { outside = H.outside; long = H.long; waits = is_stays (IsProbing c (e0 k) H.outside) w v k (D.moved.others k (λ e. ne (sym e))) H.waits; probes = probes_stay k w v o H.probes; self = H.self; heard = H.heard; few = H.few })
+
+    hears_one : (j : ℕ) (w0 w : World) → j < n → (j ≡ k → ⊥) → (there : has q j ≡ true) → Answered j w0 w → Stands k w ⊎ HubWaits k j w → Can1 1 (Probing k (suc j)) w
+    hears_one j w0 w lt ne there A (inl Z) = let P = A.probing in rests Us (record { room = P.room; done = P.done; left = P.left; hub = inl Z })
+    hears_one j w0 w lt ne there A (inr H) =
+        weaker Us (omega arith) after
+        (deliver Us w P.room k (lt_of k mine) mine (Hears ms several c k (lt_of k mine) (shared_entries (w.store k)) 0 (e0 k) H.outside j) (letter n j A.at (body.ProbeReply A.quorum A.first A.last)) A.waits W.state W.up
+        (replied ms several c k (lt_of k mine) (shared_entries (w.store k)) 0 (readings_at w k) W.state (e0 k) H.outside W.holds j A.at A.quorum A.first A.last (readings_at w0 j).marked ne close))
+      where
+        P : Probing k j w
+        P = A.probing
+
+        W : Is (IsProbing c (e0 k) H.outside) w k
+        W = H.waits
+
+        close : CloseAt c (readings_at w0 j).marked A.first A.last
+        close = subst (λ (x : ℕ). CloseAt c (readings_at w0 j).marked x A.last) A.first_is (subst (λ (x : ℕ). CloseAt c (readings_at w0 j).marked (readings_at w0 j).first x) A.last_is A.close)
+
+        after : (v : World) → On w v → Did Us (Hears ms several c k (lt_of k mine) (shared_entries (w.store k)) 0 (e0 k) H.outside j) w k v → Probing k (suc j) v
+        after v o D = record {
+          room = o.sane P.room;
+          done = λ f low h. stands_stay w v f o (D.moved.others f (λ e. omega arith)) (P.done f low h);
+          left = λ f high h. waits_stay w v f o (D.moved.others f (λ e. omega arith)) (P.left f high h);
+          hub = by D.did;
+        }
+          where
+            by : Hears ms several c k (lt_of k mine) (shared_entries (w.store k)) 0 (e0 k) H.outside j D.y → Stands k v ⊎ HubWaits k (suc j) v
+            by (inl E) = inl (is_now Us (IsCandidate c (odd_from (e0 k)) (only k)) w v k D.y D.moved E.stands, record { table = E.table; fits = E.fits; full = E.full; sent_to = λ g low other. D.moved.says g (letter n k (odd_from (e0 k)) (body.Propose E.table)) (E.says g low other) })
+            by (inr E) = inr (record {
+              outside = with_rank H.outside j;
+              long = length-set H.outside j true ∙ H.long;
+              waits = is_now Us (IsProbing c (e0 k) (with_rank H.outside j)) w v k D.y D.moved E.0;
+              probes = probes_stay k w v o H.probes;
+              self = has_with H.outside j k H.self;
+              heard = λ f low h. elim (up_to f j low) [
+                | inl e ↦ subst (λ (x : ℕ). has (with_rank H.outside j) x ≡ true) (sym e) (has_self H.outside j (let z = H.long in omega arith))
+                | inr less ↦ has_with H.outside j f (H.heard f less h)
+              ];
+              few = E.1;
+            })
+
+    probe_one : (j : ℕ) (w : World) → j < n → Probing k j w → Can1 2 (Probing k (suc j)) w
+    probe_one j w lt P = by P.hub
+      where
+        passes : (H : HubWaits k j w) → (has q j ≡ true → has H.outside j ≡ true) → Can1 2 (Probing k (suc j)) w
+        passes H in_it = rests Us (record {
+          room = P.room;
+          done = P.done;
+          left = P.left;
+          hub = inr (record {
+            outside = H.outside;
+            long = H.long;
+            waits = H.waits;
+            probes = H.probes;
+            self = H.self;
+            heard = λ f low h. elim (up_to f j low) [ inl e ↦ subst (λ (x : ℕ). has H.outside x ≡ true) (sym e) (in_it (subst (λ (x : ℕ). has q x ≡ true) e h)) | inr less ↦ H.heard f less h ];
+            few = H.few;
+          });
+        })
+
+        there_of : has q j ≡ true → (j ≡ k → ⊥) → IsThere w j
+        there_of h ne = elim (cases_lt j k) [ inl less ↦ there_stands w j (P.done j less h) | inr ge ↦ there_waits w j (P.left j (elim (from_on j k ge) [ inl e ↦ absurd (ne e) | inr more ↦ more ]) h) ]
+
+        goes : (H : HubWaits k j w) → (h : has q j ≡ true) → (j ≡ k → ⊥) → Can1 2 (Probing k (suc j)) w
+        goes H h ne = then Us (asks_one j w lt ne h P H (there_of h ne)) (λ v o A. let R = A.probing in hears_one j w v lt ne h A R.hub)
+
+        by : Stands k w ⊎ HubWaits k j w → Can1 2 (Probing k (suc j)) w
+        by (inl Z) = rests Us (record { room = P.room; done = P.done; left = P.left; hub = inl Z })
+        by (inr H) = elim (in_or_out (has q j)) [
+          | inr out ↦ passes H (λ h. absurd (false≢true (sym out ∙ h)))
+          | inl h ↦ elim (same_or_not j k) [ inl e ↦ passes H (λ _. subst (λ (x : ℕ). has H.outside x ≡ true) (sym e) H.self) | inr ne ↦ goes H h ne ]
+        ]
+
+    -- once it heard all of the majority, it stands
+    probes_end : (w : World) → Probing k n w → Probed (suc k) w
+    probes_end w P = record { room = P.room; done = λ f low h. elim (up_to f k low) [ inl e ↦ subst (λ (x : ℕ). Stands x w) (sym e) (by P.hub) | inr less ↦ P.done f less h ]; left = P.left }
+      where
+        by : Stands k w ⊎ HubWaits k n w → Stands k w
+        by (inl Z) = Z
+        by (inr H) =
+            let more = count_more q H.outside (λ f h. H.heard f (M.below f h) h) in
+            let major = ltb-true n (2 * count_of q) M.major in
+            let few = ltb-false n (2 * count_of H.outside) H.few in
+            absurd (omega arith)
+
+  pub probe_all : (k : ℕ) (w : World) → k < n → Probed k w → Can1 (2 * n) (Probed (suc k)) w
+  probe_all k w lt P = by (in_or_out (has q k))
+    where
+      by : (has q k ≡ true) ⊎ (has q k ≡ false) → Can1 (2 * n) (Probed (suc k)) w
+      by (inr out) = rests Us (record {
+        room = P.room;
+        done = λ f low h. elim (up_to f k low) [ inl e ↦ absurd (false≢true (sym out ∙ subst (λ (x : ℕ). has q x ≡ true) e h)) | inr less ↦ P.done f less h ];
+        left = λ f high h. P.left f (omega arith) h;
+      })
+      by (inl mine) = weaker Us (omega arith) (λ v o p. probes_end k mine v p) (for_each Us n 2 (Probing k) (probe_one k mine) n 0 (omega arith) w (record {
+        room = P.room;
+        done = P.done;
+        left = λ f high h. P.left f (omega arith) h;
+        hub = inr (let z = P.left k (omega arith) mine in record {
+          outside = only k;
+          long = length-set no_ranks k true;
+          waits = z.0;
+          probes = z.1;
+          self = has_only k (let l = M.below k mine in omega arith);
+          heard = λ f low h. absurd (omega arith);
+          few = le-ltb n (2 * count_of (only k)) (let f = one_counts (only k) k (λ m h. has_only_is k m h) in omega arith);
+        });
+      }))

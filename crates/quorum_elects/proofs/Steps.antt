@@ -1,0 +1,77 @@
+-- Single events at a monitor of which something is known.
+use Rattle.mon_bytes.specs.declared.command.Command.{Command}
+use Rattle.mon_msg.specs.Protocol.Course.{Course}
+use Rattle.mon_msg.specs.Protocol.Readings.{Readings, readings_of, shared_entries}
+use Rattle.mon_msg.specs.Protocol.State.{State, booting}
+use Rattle.mon_msg.specs.Protocol.Table.{react}
+use Rattle.mon_msg.specs.declared.input.Input.TheVariants as input
+use Rattle.mon_tx.specs.Map.{Store}
+use Rattle.mon_types.specs.Ranks.{has}
+use Rattle.mon_wire.specs.declared.message.Message.{Message}
+use Rattle.mon_wire.specs.declared.phase.Timer.{Timer}
+use Rattle.mon_wire.specs.declared.request.Request.{Request}
+use Rattle.mon_wire.specs.declared.request.Session.{Session}
+use Rattle.quorum_elects.proofs.Can.{Can, New, Sane, Scope}
+use Rattle.quorum_elects.proofs.Moving.{Did, Moved, Sound, comes}
+use Rattle.quorum_elects.proofs.Standing.{Is}
+use Rattle.quorum_elects.proofs.Walking.{Surely}
+use Rattle.quorum_elects.specs.Ways.{IsAskedBy, IsStep}
+use Rattle.quorum_model.proofs.Members.{member_of}
+use Rattle.quorum_model.specs.CalmSchedule.{request_of}
+use Rattle.quorum_model.specs.Events.{AllFit, PlainFits, RequestFits}
+use Rattle.quorum_model.specs.Meets.{Arrival}
+use Rattle.quorum_model.specs.World.{Client, Comes, Crash, Deliver, Envelope, Event, Ring, Start, World, plain_of}
+use Rattle.std.proofs.Common.{Bool, IfSome, List, None, Option, Some, [], ap, arith, ltb, refl, subst, suc, sym, true, ℕ, ◌<◌, ◌∙◌, ◌∷◌, ◌≡◌}
+use Rattle.std.proofs.lemmas.Bool.{ltb-true}
+use Rattle.std.specs.List.{AllByRecursion}
+use Rattle.std.specs.Option.{option_map}
+
+-- ---- who remembers what
+
+pub is_stays : (R : Readings → State → Type 0) (w next : World) (i : ℕ) → (next.state i ≡ w.state i) × (next.store i ≡ w.store i) → Is R w i → Is R next i
+is_stays R w next i same k = record { state = k.state; up = same.0 ∙ k.up; holds = subst (λ (m : Store). R (readings_of m) k.state) (sym same.1) k.holds }
+
+pub is_now : (S : Scope) (R : Readings → State → Type 0) (w next : World) (i : ℕ) (y : Course) → Moved S w next i y → R y.readings y.state → Is R next i
+is_now S R w next i y M h = record { state = y.state; up = M.up; holds = subst (λ (r : Readings). R r y.state) (sym M.reads) h }
+
+-- ---- events
+
+module _ (S : Scope) (w : World) (sane : Sane S w) (i : ℕ) (lt : ltb i S.ms.count ≡ true) (inside : has S.q i ≡ true) (R : Course → Type 0) where
+  pub start : Surely (λ y. Sound (readings_of (w.store i)) y × R y) (react (member_of S.ms i lt) (shared_entries (w.store i)) 0 (readings_of (w.store i)) (booting i) input.Start) → Can S 1 (Did S R w i) w
+  start T = comes S w sane (Start i 0) i lt 0 input.Start (booting i) refl refl inside inside (ltb-true i S.ms.count lt) R T
+
+  pub deliver : (m : Message) → New S.sent w (record { to = i; message = m }) → (s : State) → w.state i ≡ Some s
+      → Surely (λ y. Sound (readings_of (w.store i)) y × R y) (react (member_of S.ms i lt) (shared_entries (w.store i)) 0 (readings_of (w.store i)) s (input.Deliver m)) → Can S 1 (Did S R w i) w
+  deliver m N s up T = comes S w sane (Deliver (suc N.index) 0) i lt 0 (input.Deliver m) s (ap (option_map arrives) N.there) up (let z = N.since in omega arith) inside tt R T
+    where
+      arrives : Envelope → Arrival
+      arrives e = record { rank = e.to; at = 0; input = input.Deliver e.message }
+
+  pub ring : (t : Timer) → (s : State) → w.state i ≡ Some s
+      → Surely (λ y. Sound (readings_of (w.store i)) y × R y) (react (member_of S.ms i lt) (shared_entries (w.store i)) 0 (readings_of (w.store i)) s (input.Timer t)) → Can S 1 (Did S R w i) w
+  ring t s up T = comes S w sane (Ring i t 0) i lt 0 (input.Timer t) s refl up inside inside (ltb-true i S.ms.count lt) R T
+
+  pub ask : (session : Session) (r : Request) → IsAskedBy S.asks session r → RequestFits r → (s : State) → w.state i ≡ Some s
+      → Surely (λ y. Sound (readings_of (w.store i)) y × R y) (react (member_of S.ms i lt) (shared_entries (w.store i)) 0 (readings_of (w.store i)) s (input.Client session r)) → Can S 1 (Did S R w i) w
+  ask session r may form s up T = comes S w sane (Client i 0 session r) i lt 0 (input.Client session r) s refl up (inside, may) inside (ltb-true i S.ms.count lt, form) R T
+
+-- the requests that they may be asked have their form
+abbrev pub AsksFit : Option (Session × Command) → Type 0
+AsksFit asks = IfSome asks (λ a. RequestFits (request_of a.1))
+
+-- such events are those of a run
+module _ (n : ℕ) (q : List Bool) (sent : ℕ) (below : (m : ℕ) → has q m ≡ true → m < n) where
+  asked_fits : (asks : Option (Session × Command)) → AsksFit asks → (s : Session) (r : Request) → IsAskedBy asks s r → RequestFits r
+  asked_fits None F s r k = absurd k
+  asked_fits (Some a) F s r k = subst RequestFits (sym k.1) F
+
+  step_fits : (asks : Option (Session × Command)) → AsksFit asks → (e : Event) → IsStep q sent asks e → PlainFits n (plain_of e)
+  step_fits asks F (Comes (Start rank at)) k = below rank k
+  step_fits asks F (Comes (Deliver message at)) k = tt
+  step_fits asks F (Comes (Ring rank timer at)) k = below rank k
+  step_fits asks F (Comes (Client rank at session r)) k = (below rank k.0, asked_fits asks F session r k.1)
+  step_fits asks F (Crash p kept) k = absurd k
+
+  pub steps_fit : (asks : Option (Session × Command)) → AsksFit asks → (es : List Event) → AllByRecursion (IsStep q sent asks) es → AllFit n es
+  steps_fit asks F [] s = tt
+  steps_fit asks F (e ∷ es) s = (step_fits asks F e s.0, steps_fit asks F es s.1)

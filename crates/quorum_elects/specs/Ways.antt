@@ -1,0 +1,43 @@
+-- Ways on: further events of some monitors alone.
+use Rattle.mon_bytes.specs.declared.command.Command.{Command}
+use Rattle.mon_types.specs.Ranks.{has}
+use Rattle.mon_wire.specs.declared.request.Request.{Request}
+use Rattle.mon_wire.specs.declared.request.Session.{Session}
+use Rattle.quorum_model.specs.CalmSchedule.{request_of}
+use Rattle.quorum_model.specs.Events.{AllFit}
+use Rattle.quorum_model.specs.Monitors.{Monitors}
+use Rattle.quorum_model.specs.Runs.{ran, run}
+use Rattle.quorum_model.specs.World.{Client, Comes, Crash, Deliver, Event, Ring, Start, World}
+use Rattle.std.specs.List.{AllByRecursion}
+use Rattle.std.specs.Prelude.{Bool, List, None, Option, Some, false, length, true, ℕ, ◌++◌, ◌<◌, ◌≡◌, ◌≤◌}
+
+-- the request is this session's command, if there is one
+abbrev pub IsAskedBy : Option (Session × Command) → Session → Request → Type 0
+IsAskedBy None s r = ⊥
+IsAskedBy (Some (by, command)) s r = (s ≡ by) × (r ≡ request_of command)
+
+-- A step of the monitors of q: one of them starts, a timer of one fires, one is asked the request, or a message comes that
+-- wasn't among the first `sent`. Nothing crashes.
+abbrev pub IsStep : List Bool → (sent : ℕ) → Option (Session × Command) → Event → Type 0
+IsStep q sent asks (Comes (Start rank at)) = has q rank ≡ true
+IsStep q sent asks (Comes (Deliver message at)) = sent < message
+IsStep q sent asks (Comes (Ring rank timer at)) = has q rank ≡ true
+IsStep q sent asks (Comes (Client rank at session r)) = (has q rank ≡ true) × IsAskedBy asks session r
+IsStep q sent asks (Crash p kept) = ⊥
+
+-- the monitors outside of q are as they were
+abbrev pub OthersRest : List Bool → (before after : World) → Type 0
+OthersRest q before after =
+    (i : ℕ) → has q i ≡ false → (after.state i ≡ before.state i) × (after.store i ≡ before.store i)
+
+-- At most this many further events, each a step of the monitors of q since the run ended. None of them stops the run. They lead
+-- from the one world to the other.
+pub record HasWay (ms : Monitors) (events : List Event) (q : List Bool) (asks : Option (Session × Command)) (most : ℕ)
+    (Leads : World → World → Type 0) : Type 0 where
+  pub more : List Event
+  pub few : length more ≤ most
+  pub steps : AllByRecursion (IsStep q (length (run ms events).messages) asks) more
+  pub fits : AllFit ms.count more
+  pub goes_on : (ran ms (events ++ more)).stop ≡ None
+  pub rest : OthersRest q (run ms events) (run ms (events ++ more))
+  pub leads : Leads (run ms events) (run ms (events ++ more))

@@ -1,0 +1,18 @@
+ghost use Rattle.std.specs.Prelude.{◌≡◌, ℕ, ◌+◌, ◌*◌, ◌<◌, Bool, List, None};
+ghost use Rattle.quorum_elects.specs.Leading.{HasLeader};
+ghost use Rattle.quorum_elects.specs.Ready.{AllNear, IsReady};
+ghost use Rattle.quorum_elects.specs.Ways.{HasWay};
+ghost use Rattle.quorum_laws.specs.Accepting.{IsMajorityOf};
+ghost use Rattle.quorum_model.specs.Events.{AllFit};
+ghost use Rattle.quorum_model.specs.Monitors.{Monitors};
+ghost use Rattle.quorum_model.specs.Runs.{ran, run};
+ghost use Rattle.quorum_model.specs.World.{Event};
+
+/// A majority that is near the whole log and ready to serve can elect a leader, under any rule, whatever the run was before and
+/// whoever else is dead. It takes at most 2n² + 4n + 2 further events at its monitors alone.
+pub fn law_near_majority_elects()
+    ensures { (ms : Monitors) → 1 < ms.count → (events : List Event) → AllFit ms.count events
+        → (ran ms events).stop ≡ None → (q : List Bool) → IsMajorityOf ms.count q
+        → AllNear q (run ms events) → IsReady ms q (run ms events)
+        → HasWay ms events q None (2 * ms.count * ms.count + 4 * ms.count + 2) (HasLeader ms.count q) }
+{}
