@@ -1,0 +1,278 @@
+-- Members that lack a version get it, and a value is accepted and committed.
+use Rattle.log_model.proofs.Records.{IsVersion}
+use Rattle.mon_msg.specs.Protocol.Course.{Course}
+use Rattle.mon_msg.specs.Protocol.Readings.{Readings, shared_entries}
+use Rattle.mon_msg.specs.Protocol.Sets.{are_within, only}
+use Rattle.mon_msg.specs.Protocol.State.{State}
+use Rattle.mon_msg.specs.Protocol.Value.{value}
+use Rattle.mon_msg.specs.declared.plan.Origin.{Origin}
+use Rattle.mon_msg.specs.declared.plan.Origin.TheVariants as origin
+use Rattle.mon_tx.specs.declared.op.Op.{Op}
+use Rattle.mon_types.specs.Ranks.{has, no_ranks, with_rank}
+use Rattle.mon_wire.specs.declared.body.Body.{Body}
+use Rattle.mon_wire.specs.declared.body.Body.TheVariants as body
+use Rattle.mon_wire.specs.declared.phase.Phase.{Phase}
+use Rattle.mon_wire.specs.declared.phase.Phase.TheVariants as phase
+use Rattle.mon_wire.specs.declared.reply.Reply.TheVariants as reply
+use Rattle.mon_wire.specs.declared.request.Session.{Session}
+use Rattle.quorum_elects.proofs.Can.{Can, New, Onward, Scope, for_each, new_stays, rests, then, weaker}
+use Rattle.quorum_elects.proofs.Majorities.{Majority, scope}
+use Rattle.quorum_elects.proofs.Moving.{Did, HasReply}
+use Rattle.quorum_elects.proofs.Ranks.{has_self, in_or_out, same_or_not, up_to}
+use Rattle.quorum_elects.proofs.Standing.{Is, letter}
+use Rattle.quorum_elects.proofs.Steps.{deliver, is_now, is_stays}
+use Rattle.quorum_laws.specs.Accepting.{readings_at}
+use Rattle.quorum_model.specs.Monitors.{Monitors}
+use Rattle.quorum_model.specs.World.{World}
+use Rattle.quorum_recovers.proofs.Known.{message_tells, value_fine, within_log}
+use Rattle.quorum_recovers.proofs.Leaders as leaders
+use Rattle.quorum_recovers.proofs.States.{IsActive, IsHearing, IsProposing}
+use Rattle.quorum_recovers.proofs.Terms.{Term}
+use Rattle.quorum_recovers.proofs.Terms as terms
+use Rattle.quorum_recovers.proofs.ValueRows.{Accepts, Commits, accepts, counts_accept, learns}
+use Rattle.quorum_walk.proofs.FineCourses.{Val}
+use Rattle.quorum_walk.proofs.Ranks.{has_only, has_with}
+use Rattle.std.proofs.Common.{Bool, List, Option, Some, [], arith, false, inl, inr, length, ltb, subst, suc, sym, true, ℕ, ◌*◌, ◌<◌, ◌^◌, ◌∙◌, ◌∷◌, ◌≡◌, ◌≤◌, ◌⊎◌}
+use Rattle.std.proofs.lemmas.Bool.{cases_lt, false≢true, lt-ltb}
+use Rattle.std.proofs.lemmas.List.{length-set}
+
+module _ (G : Majority) (Q : Term G) where
+  abbrev ms : Monitors
+  ms = G.ms
+
+  abbrev n : ℕ
+  n = G.ms.count
+
+  abbrev several : 1 < n
+  several = G.several
+
+  abbrev q : List Bool
+  q = G.q
+
+  abbrev Us : Scope
+  Us = scope G
+
+  abbrev sent : ℕ
+  sent = length G.from.messages
+
+  abbrev c : ℕ
+  c = G.c
+
+  abbrev r : ℕ
+  r = Q.r
+
+  abbrev e : ℕ
+  e = Q.e
+
+  abbrev a : List Bool
+  a = Q.a
+
+  abbrev mine : has a r ≡ true
+  mine = Q.mine
+
+  abbrev within : (f : ℕ) → has a f ≡ true → has q f ≡ true
+  within = Q.within
+
+  abbrev T : ℕ → ℕ
+  T = Q.T
+
+  abbrev Can1 : ℕ → (World → Type 0) → World → Type 0
+  Can1 k P w = Can Us k P w
+
+  abbrev On : World → World → Type 0
+  On w v = Onward Us w v
+
+  abbrev Mail : ℕ → ℕ → Body → World → Type 0
+  Mail f g b w = New sent w (record { to = g; message = letter n f e b })
+
+  below : (f : ℕ) → has a f ≡ true → f < n
+  below f h = terms.below G Q f h
+
+  lt_of : (f : ℕ) → has a f ≡ true → ltb f n ≡ true
+  lt_of f h = lt-ltb f n (below f h)
+
+  abbrev Fit : World → Type 0
+  Fit w = leaders.Fit G Q w
+
+  -- ---- who lacks the version gets it
+
+  module _ (Hub : Readings → State → Type 0) (Post : World → Type 0) (post_on : (w v : World) → On w v → Post w → Post v) (l pn : ℕ) (room : l ≤ 2 ^ 62) (U : ℕ → ℕ) (top : (f : ℕ) → has a f ≡ true → U f ≤ l) (lag : (f : ℕ) → has a f ≡ true → l ≤ suc (U f)) (value : List Op) (fine : 1 ≤ l → Val value) where
+    pub record Catching (k : ℕ) (w : World) : Type 0 where
+      pub fit : Fit w
+      pub hub : Is Hub w r
+      pub post : Post w
+      pub commits : (f : ℕ) → f < n → has a f ≡ true → (f ≡ r → ⊥) → U f < l → Mail r f (body.Commit l (value ∷ [])) w
+      pub done : (f : ℕ) → f < k → has a f ≡ true → (f ≡ r → ⊥) → Is (IsHearing r e a l pn) w f
+      pub left : (f : ℕ) → k ≤ f → has a f ≡ true → (f ≡ r → ⊥) → Is (IsHearing r e a (U f) pn) w f
+
+    catch_one : (k : ℕ) (w : World) → k < n → Catching k w → Can1 1 (Catching (suc k)) w
+    catch_one k w lt C = by (in_or_out (has a k)) (same_or_not k r)
+      where
+        skip : ((f : ℕ) → f ≡ k → has a f ≡ true → (f ≡ r → ⊥) → Is (IsHearing r e a l pn) w f) → Can1 1 (Catching (suc k)) w
+        skip this = rests Us (record {
+          fit = C.fit;
+          hub = C.hub;
+          post = C.post;
+          commits = C.commits;
+          done = λ f low h ne. elim (up_to f k low) [ inl z ↦ this f z h ne | inr less ↦ C.done f less h ne ];
+          left = λ f high h ne. C.left f (omega arith) h ne;
+        })
+
+        goes : (there : has a k ≡ true) → (k ≡ r → ⊥) → U k < l → Can1 1 (Catching (suc k)) w
+        goes there other less =
+            let Z : Is (IsHearing r e a (U k) pn) w k = C.left k (omega arith) there other in
+            let next : suc (U k) ≡ l = (let g = lag k there in omega arith) in
+            weaker Us (omega arith) after
+            (deliver Us w (let F = C.fit in F.room) k (lt_of k there) (within k there) Goal (letter n r e (body.Commit (suc (U k)) (value ∷ []))) (subst (λ (x : ℕ). Mail r k (body.Commit x (value ∷ [])) w) (sym next) (C.commits k lt there other less)) Z.state Z.up
+            (learns ms several k (lt_of k there) (shared_entries (w.store k)) 0 (readings_at w k) Z.state r e a (U k) pn Z.holds (λ x. other (sym x)) value (fine (omega arith)) (omega arith)))
+          where
+            Goal : Course → Type 0
+            Goal y = IsHearing r e a (suc (U k)) pn y.readings y.state
+
+            after : (v : World) → On w v → Did Us Goal w k v → Catching (suc k) v
+            after v o D = record {
+              fit = leaders.fit_on G Q Goal w v k o D C.fit;
+              hub = is_stays Hub w v r (D.moved.others r (λ x. other (sym x))) C.hub;
+              post = post_on w v o C.post;
+              commits = λ f few h ne low. new_stays Us o (C.commits f few h ne low);
+              done = λ f low h ne. elim (up_to f k low) [
+                | inl z ↦ subst (λ (x : ℕ). Is (IsHearing r e a l pn) v x) (sym z) (subst (λ (x : ℕ). Is (IsHearing r e a x pn) v k) (let g = lag k there in omega arith) (is_now Us (IsHearing r e a (suc (U k)) pn) w v k D.y D.moved D.did))
+                | inr low ↦ is_stays (IsHearing r e a l pn) w v f (D.moved.others f (λ x. omega arith)) (C.done f low h ne)
+              ];
+              left = λ f high h ne. is_stays (IsHearing r e a (U f) pn) w v f (D.moved.others f (λ x. omega arith)) (C.left f (omega arith) h ne);
+            }
+
+        by : (has a k ≡ true) ⊎ (has a k ≡ false) → (k ≡ r) ⊎ (k ≡ r → ⊥) → Can1 1 (Catching (suc k)) w
+        by (inr out) z = skip (λ f x h ne. absurd (false≢true (sym out ∙ subst (λ (y : ℕ). has a y ≡ true) x h)))
+        by (inl there) (inl same) = skip (λ f x h ne. absurd (ne (x ∙ same)))
+        by (inl there) (inr other) = elim (cases_lt (U k) l) [
+          | inl less ↦ goes there other less
+          | inr ge ↦ skip (λ f x h ne. subst (λ (y : ℕ). Is (IsHearing r e a l pn) w y) (sym x) (subst (λ (y : ℕ). Is (IsHearing r e a y pn) w k) (let t = top k there in omega arith) (C.left k (omega arith) there other)))
+        ]
+
+    pub catch_all : (w : World) → Catching 0 w → Can1 (1 * n) (Catching n) w
+    catch_all w C = for_each Us n 1 Catching catch_one n 0 (omega arith) w C
+
+  abbrev pub Level : (l pn : ℕ) → World → Type 0
+  Level l pn w = (f : ℕ) → has a f ≡ true → (f ≡ r → ⊥) → Is (IsHearing r e a l pn) w f
+
+  -- ---- a value under way
+
+  module _ (ph : Phase) (which_phase : (ph ≡ phase.Previous) ⊎ (ph ≡ phase.Updating)) (o : Option Origin) (l pn : ℕ) (value : List Op) where
+    pub record Committed (w : World) : Type 0 where
+      pub hub : Is (IsActive r e a (suc l) pn 0) w r
+      pub commits : (g : ℕ) → g < n → has a g ≡ true → (g ≡ r → ⊥) → Mail r g (body.Commit (suc l) (value ∷ [])) w
+      pub fine : Val value
+      pub within : suc l ≤ length w.log
+      pub version : IsVersion w.log (suc l) value
+      pub replied : (session : Session) → o ≡ Some (origin.Session session) → HasReply w r session (reply.Done (suc l))
+
+    pub record Voting (k : ℕ) (w : World) : Type 0 where
+      pub fit : Fit w
+      pub begins : (g : ℕ) → g < n → has a g ≡ true → (g ≡ r → ⊥) → Mail r g (body.Begin pn (suc l) value) w
+      pub peons : Level l pn w
+      pub hub : Committed w ⊎ ((A : List Bool) × Is (IsProposing ph r e a l pn A value o) w r × (are_within n a A ≡ false) × (length A ≡ 15) × (has A r ≡ true) × ((f : ℕ) → f < k → has a f ≡ true → has A f ≡ true))
+
+    abbrev Proposer : List Bool → World → Type 0
+    Proposer A w = Is (IsProposing ph r e a l pn A value o) w r
+
+    -- one accepts, and the leader counts it
+    count_one : (k : ℕ) (there : has a k ≡ true) → (k ≡ r → ⊥) → (A : List Bool) (v : World) → Fit v → ((g : ℕ) → g < n → has a g ≡ true → (g ≡ r → ⊥) → Mail r g (body.Begin pn (suc l) value) v) → Level l pn v → Proposer A v → length A ≡ 15 → has A r ≡ true
+        → ((f : ℕ) → f < k → has a f ≡ true → has A f ≡ true) → Mail k r (body.Accept pn (suc l)) v → Can1 1 (Voting (suc k)) v
+    count_one k there other A v FV begins peons Z long self covers mail =
+        weaker Us (omega arith) after
+        (deliver Us v FV.room r (lt_of r mine) (within r mine) Goal (letter n k e (body.Accept pn (suc l))) mail Z.state Z.up
+        (counts_accept ms several r (lt_of r mine) (shared_entries (v.store r)) 0 (readings_at v r) Z.state ph e a l pn A value o Z.holds which_phase fine k there other))
+      where
+        H : IsProposing ph r e a l pn A value o (readings_at v r) Z.state
+        H = Z.holds
+
+        fine : Val value
+        fine = value_fine ms several v FV.holds r Z.state Z.up value H.proposes
+
+        Goal : Course → Type 0
+        Goal y = IsProposing ph r e a l pn (with_rank A k) value o y.readings y.state × (are_within n a (with_rank A k) ≡ false) ⊎ Commits ms several r (lt_of r mine) (shared_entries (v.store r)) 0 e a l pn value o y
+
+        after : (u : World) → On v u → Did Us Goal v r u → Voting (suc k) u
+        after u o2 D = record {
+          fit = leaders.fit_on G Q Goal v u r o2 D FV;
+          begins = λ g few h ne. new_stays Us o2 (begins g few h ne);
+          peons = λ f h ne. is_stays (IsHearing r e a l pn) v u f (D.moved.others f ne) (peons f h ne);
+          hub = go D.did;
+        }
+          where
+            go : Goal D.y → Committed u ⊎ ((A : List Bool) × Proposer A u × (are_within n a A ≡ false) × (length A ≡ 15) × (has A r ≡ true) × ((f : ℕ) → f < suc k → has a f ≡ true → has A f ≡ true))
+            go (inl S) = inr (
+              with_rank A k,
+              is_now Us (IsProposing ph r e a l pn (with_rank A k) value o) v u r D.y D.moved S.0,
+              S.1,
+              length-set A k true ∙ long,
+              has_with A k r self,
+              λ f low h. elim (up_to f k low) [
+                | inl z ↦ subst (λ (x : ℕ). has (with_rank A k) x ≡ true) (sym z) (has_self A k (let b = below k there in omega arith))
+                | inr less ↦ has_with A k f (covers f less h)
+              ],
+            )
+            go (inr S) =
+                let FU : Fit u = leaders.fit_on G Q Goal v u r o2 D FV in
+                let hub : Is (IsActive r e a (suc l) pn 0) u r = is_now Us (IsActive r e a (suc l) pn 0) v u r D.y D.moved S.stands in
+                let V : IsActive r e a (suc l) pn 0 (readings_at u r) hub.state = hub.holds in
+                inl (record {
+                  hub = hub;
+                  commits = λ g few h ne. D.moved.says g (letter n r e (body.Commit (suc l) (value ∷ []))) (S.commits g few h ne);
+                  fine = fine;
+                  within = (let z = within_log ms several u FU.holds r (below r mine) V.unmarked in let y = V.last in omega arith);
+                  version = (message_tells ms several u FU.holds (D.moved.says k (letter n r e (body.Commit (suc l) (value ∷ []))) (S.commits k (below k there) there other))).0;
+                  replied = λ session is. D.moved.replies session (reply.Done (suc l)) (S.answers session is);
+                })
+
+    vote_one : (k : ℕ) (w : World) → k < n → Voting k w → Can1 2 (Voting (suc k)) w
+    vote_one k w lt V = by V.hub
+      where
+        stays : Committed w ⊎ ((A : List Bool) × Proposer A w × (are_within n a A ≡ false) × (length A ≡ 15) × (has A r ≡ true) × ((f : ℕ) → f < suc k → has a f ≡ true → has A f ≡ true)) → Can1 2 (Voting (suc k)) w
+        stays h = rests Us (record { fit = V.fit; begins = V.begins; peons = V.peons; hub = h })
+
+        goes : (A : List Bool) (Z : Proposer A w) → length A ≡ 15 → has A r ≡ true → ((f : ℕ) → f < k → has a f ≡ true → has A f ≡ true) → (there : has a k ≡ true) → (k ≡ r → ⊥) → Can1 2 (Voting (suc k)) w
+        goes A Z long self covers there other =
+            let Y : Is (IsHearing r e a l pn) w k = V.peons k there other in
+            let H = Z.holds in
+            then Us (deliver Us w (let F = V.fit in F.room) k (lt_of k there) (within k there) Goal (letter n r e (body.Begin pn (suc l) value)) (V.begins k lt there other) Y.state Y.up
+            (accepts ms several k (lt_of k there) (shared_entries (w.store k)) 0 (readings_at w k) Y.state r e a l pn Y.holds (λ x. other (sym x)) H.short H.room value (let V = value_fine ms several w (let F = V.fit in F.holds) r Z.state Z.up value H.proposes in V.short))) after
+          where
+            Goal : Course → Type 0
+            Goal y = Accepts ms several k (lt_of k there) (shared_entries (w.store k)) 0 r e a l pn y
+
+            after : (v : World) → On w v → Did Us Goal w k v → Can1 1 (Voting (suc k)) v
+            after v o2 D = let S = D.did in count_one k there other A v (leaders.fit_on G Q Goal w v k o2 D V.fit) (λ g few h ne. new_stays Us o2 (V.begins g few h ne)) (λ f h ne. peons f h ne (same_or_not f k))
+                (is_stays (IsProposing ph r e a l pn A value o) w v r (D.moved.others r (λ x. other (sym x))) Z) long self covers (D.moved.says r (letter n k e (body.Accept pn (suc l))) S.says)
+              where
+                peons : (f : ℕ) → has a f ≡ true → (f ≡ r → ⊥) → (f ≡ k) ⊎ (f ≡ k → ⊥) → Is (IsHearing r e a l pn) v f
+                peons f h ne (inl z) = subst (λ (x : ℕ). Is (IsHearing r e a l pn) v x) (sym z) (let S = D.did in is_now Us (IsHearing r e a l pn) w v k D.y D.moved S.stands)
+                peons f h ne (inr nk) = is_stays (IsHearing r e a l pn) w v f (D.moved.others f nk) (V.peons f h ne)
+
+        by : Committed w ⊎ ((A : List Bool) × Proposer A w × (are_within n a A ≡ false) × (length A ≡ 15) × (has A r ≡ true) × ((f : ℕ) → f < k → has a f ≡ true → has A f ≡ true)) → Can1 2 (Voting (suc k)) w
+        by (inl C) = stays (inl C)
+        by (inr Y) = elim (in_or_out (has a k)) [
+          | inr out ↦ passes (λ h. absurd (false≢true (sym out ∙ h)))
+          | inl there ↦ elim (same_or_not k r) [ inl z ↦ passes (λ _. subst (λ (x : ℕ). has Y.0 x ≡ true) (sym z) Y.4) | inr other ↦ goes Y.0 Y.1 Y.3 Y.4 Y.5 there other ]
+        ]
+          where
+            passes : (has a k ≡ true → has Y.0 k ≡ true) → Can1 2 (Voting (suc k)) w
+            passes in_it = stays (inr (Y.0, Y.1, Y.2, Y.3, Y.4, λ f low h. elim (up_to f k low) [ inl z ↦ subst (λ (x : ℕ). has Y.0 x ≡ true) (sym z) (in_it (subst (λ (x : ℕ). has a x ≡ true) z h)) | inr less ↦ Y.5 f less h ]))
+
+    pub record Made (w : World) : Type 0 where
+      pub fit : Fit w
+      pub peons : Level l pn w
+      pub committed : Committed w
+
+    pub vote_all : (w : World) → Fit w → ((g : ℕ) → g < n → has a g ≡ true → (g ≡ r → ⊥) → Mail r g (body.Begin pn (suc l) value) w) → Level l pn w → Proposer (only r) w → Can1 (2 * n) Made w
+    vote_all w F begins peons Z =
+        weaker Us (omega arith) after
+        (for_each Us n 2 Voting vote_one n 0 (omega arith) w (record { fit = F; begins = begins; peons = peons; hub = inr (only r, Z, (terms.only_open G Q), length-set no_ranks r true, has_only r (terms.few_r G Q), λ f low h. absurd (omega arith)) }))
+      where
+        after : (v : World) → On w v → Voting n v → Made v
+        after v o2 V = record { fit = V.fit; peons = V.peons; committed = go V.hub }
+          where
+            go : Committed v ⊎ ((A : List Bool) × Proposer A v × (are_within n a A ≡ false) × (length A ≡ 15) × (has A r ≡ true) × ((f : ℕ) → f < n → has a f ≡ true → has A f ≡ true)) → Committed v
+            go (inl C) = C
+            go (inr Y) = absurd (false≢true (sym Y.2 ∙ terms.all_within n a Y.0 Y.5))

@@ -1,0 +1,14 @@
+pub mod Asked
+pub mod CollectRows
+pub mod Committing
+pub mod Known
+pub mod LastAnswers
+pub mod Leaders
+pub mod Lone
+pub mod LoneServed
+pub mod Rounds
+pub mod Served
+pub mod Serving
+pub mod States
+pub mod Terms
+pub mod ValueRows

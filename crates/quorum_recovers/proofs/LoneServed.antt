@@ -1,0 +1,240 @@
+-- A map of one monitor serves, in every run.
+use Rattle.calm_sizes.specs.Sizes.{AllShort, longest}
+use Rattle.election_rules.specs.Ranking.{allows}
+use Rattle.election_rules.specs.declared.rule.Rule.{Rule}
+use Rattle.log_copies.proofs.Telling.{record_there}
+use Rattle.log_copies.specs.Versions.{HasVersions}
+use Rattle.log_model.specs.LogOfValues.{IsCommand}
+use Rattle.log_model.specs.Windows.{Keeps}
+use Rattle.mon_bytes.specs.declared.command.Command.{Command}
+use Rattle.mon_msg.specs.Fold.{entry}
+use Rattle.mon_msg.specs.Protocol.Changes.{Learn}
+use Rattle.mon_msg.specs.Protocol.Commands.{is_too_long}
+use Rattle.mon_msg.specs.Protocol.Course.{Course}
+use Rattle.mon_msg.specs.Protocol.Played.{play}
+use Rattle.mon_msg.specs.Protocol.Proposing.{refusal}
+use Rattle.mon_msg.specs.Protocol.Readings.{Readings, shared_entries}
+use Rattle.mon_msg.specs.Protocol.Value.{service_of, value}
+use Rattle.mon_tx.specs.Keys.{number}
+use Rattle.mon_tx.specs.Text.{text}
+use Rattle.mon_tx.specs.declared.key.Area.TheVariants as area
+use Rattle.mon_tx.specs.declared.key.Key.TheVariants as key
+use Rattle.mon_types.specs.Ranks.{has}
+use Rattle.mon_wire.specs.declared.reply.Reply.TheVariants as reply
+use Rattle.mon_wire.specs.declared.request.Session.{Session}
+use Rattle.quorum_agreement.proofs.Grown.{first_is}
+use Rattle.quorum_agreement.proofs.LoneWorlds.{IsWhole, LoneHolds, OfLone}
+use Rattle.quorum_agreement.proofs.Runs.{lone_run}
+use Rattle.quorum_elects.proofs.Can.{Can, Onward, Reached, Sane, Scope, then, weaker}
+use Rattle.quorum_elects.proofs.Moving.{Did}
+use Rattle.quorum_elects.proofs.Standing.{Is}
+use Rattle.quorum_elects.proofs.Steps.{ask, is_now, start, steps_fit}
+use Rattle.quorum_elects.proofs.Stores.{versions_short}
+use Rattle.quorum_elects.specs.Ready.{AllNear, IsReady}
+use Rattle.quorum_elects.specs.Ways.{HasWay, OthersRest}
+use Rattle.quorum_laws.specs.Accepting.{IsMajorityOf, readings_at}
+use Rattle.quorum_model.proofs.Continuing.{at, ran_on}
+use Rattle.quorum_model.specs.Agree.{IsAsked}
+use Rattle.quorum_model.specs.CalmSchedule.{request_of}
+use Rattle.quorum_model.specs.Events.{AllFit}
+use Rattle.quorum_model.specs.Monitors.{Monitors}
+use Rattle.quorum_model.specs.Runs.{Ran, ran, run}
+use Rattle.quorum_model.specs.World.{Event, World, first_world}
+use Rattle.quorum_near.proofs.Low.{first_low}
+use Rattle.quorum_recovers.proofs.Asked.{asked_at, asked_is, keeps, last_is, learned_is, request_fits, service_room, value_val}
+use Rattle.quorum_recovers.proofs.Known.{record_read}
+use Rattle.quorum_recovers.proofs.Lone.{Commits, IsAlone, Refuses, answers_alone, lone, starts_alone}
+use Rattle.quorum_recovers.specs.Serving.{IsServed}
+use Rattle.std.proofs.Common.{Bool, Err, List, None, Option, Some, [], ap, arith, false, inl, inr, length, max, refl, subst, suc, sym, true, unwrap_or, ℕ, ◌*◌, ◌++◌, ◌+◌, ◌<◌, ◌^◌, ◌∙◌, ◌∷◌, ◌≡◌, ◌≤◌, ◌⊎◌}
+
+module _ (most : 1 ≤ 15) (rule : Rule) (events : List Event) (F : AllFit 1 events) (on : (ran (lone most rule) events).stop ≡ None) (q : List Bool) (M : IsMajorityOf 1 q) (ready : IsReady (lone most rule) q (run (lone most rule) events))
+    (session : Session) (cmd : Command) (form : IsCommand cmd) (brief : is_too_long cmd ≡ false) where
+  abbrev ms : Monitors
+  ms = lone most rule
+
+  abbrev w0 : World
+  w0 = run (lone most rule) events
+
+  abbrev Us : Scope
+  Us = record { ms = lone most rule; q = q; sent = length (run (lone most rule) events).messages; asks = Some (session, cmd) }
+
+  abbrev l : ℕ
+  l = length (run (lone most rule) events).log
+
+  -- it is the one member, and may lead
+  leader_is : ready.leader ≡ 0
+  leader_is = let z = M.below ready.leader ready.among in omega arith
+
+  inside : has q 0 ≡ true
+  inside = subst (λ (x : ℕ). has q x ≡ true) leader_is ready.among
+
+  may_lead : allows rule 0 ≡ true
+  may_lead = subst (λ (x : ℕ). allows rule x ≡ true) leader_is ready.may_lead
+
+  there : ran (lone most rule) events ≡ at (run (lone most rule) events)
+  there = λ j. record { world = run (lone most rule) events; stop = on j }
+
+  -- ---- what every run says of it
+
+  lone_holds : (v : World) → Reached (lone most rule) v → LoneHolds (lone most rule) v
+  lone_holds v R = subst (LoneHolds (lone most rule)) (ap (λ (r : Ran). r.world) R.is) (lone_run (lone most rule) refl R.events R.fit)
+
+  first_reached : Reached (lone most rule) (run (lone most rule) events)
+  first_reached = record { events = events; fit = F; is = there }
+
+  whole : (v : World) → LoneHolds (lone most rule) v → IsWhole v.log (v.store 0)
+  whole v H = let O = H.1 in O.stores 0 (omega arith)
+
+  read : (v : World) → LoneHolds (lone most rule) v → (readings_at v 0).last ≡ length v.log
+  read v H = let O = H.1 in let W = whole v H in last_is v.log O.short O.values (v.store 0) (length v.log) W.versions
+
+  sane : Sane (record { ms = lone most rule; q = q; sent = length (run (lone most rule) events).messages; asks = Some (session, cmd) }) (run (lone most rule) events)
+  sane = record {
+    since = omega arith;
+    reached = first_reached;
+    short = λ i h. (let z = M.below i h in subst (λ (x : ℕ). AllShort longest ((run (lone most rule) events).store x)) (let e : 0 ≡ i = omega arith in e) first_short);
+  }
+    where
+      first_short : AllShort longest ((run (lone most rule) events).store 0)
+      first_short =
+          let H = lone_holds (run (lone most rule) events) first_reached in
+          let O = H.1 in
+          let W = whole (run (lone most rule) events) H in
+          let R = ready.monitors 0 inside in
+          versions_short (run (lone most rule) events).log O.short O.values (length (run (lone most rule) events).log) ((run (lone most rule) events).store 0) W.versions R.store
+
+  -- ---- it starts, and is asked
+
+  abbrev Up : Course → Type 0
+  Up y = IsAlone (length (run (lone most rule) events).log) y.readings y.state
+
+  starts : Can Us 1 (Did Us Up w0 0) w0
+  starts =
+      let H = lone_holds w0 first_reached in
+      let W = whole w0 H in
+      let R = ready.monitors 0 inside in
+      start Us w0 sane 0 refl inside Up (starts_alone most rule (shared_entries (w0.store 0)) 0 (readings_at w0 0) l may_lead W.unmarked (read w0 H) W.settled R.numbers)
+
+  module _ (v : World) (o : Onward Us w0 v) (D : Did Us Up w0 0 v) where
+    sane_v : Sane Us v
+    sane_v = o.sane sane
+
+    H : LoneHolds (lone most rule) v
+    H = lone_holds v sane_v.reached
+
+    O : OfLone (lone most rule) v v.asked
+    O = H.1
+
+    V : HasVersions v.log (length v.log) (v.store 0)
+    V = let W = whole v H in W.versions
+
+    Z : Is (IsAlone l) v 0
+    Z = is_now Us (IsAlone l) w0 v 0 D.y D.moved D.did
+
+    same : length v.log ≡ l
+    same = let A = Z.holds in sym (read v H) ∙ A.last
+
+    room : suc (length v.log) ≤ 2 ^ 62
+    room = let e = same in let z = ready.log in omega arith
+
+    abbrev Goal : Course → Type 0
+    Goal y = Commits most rule (shared_entries (v.store 0)) 0 (readings_at v 0) l cmd session y ⊎ Refuses most rule (shared_entries (v.store 0)) 0 (readings_at v 0) cmd session y
+
+    asks : Can Us 1 (Did Us Goal v 0) v
+    asks = ask Us v sane_v 0 refl inside Goal session (request_of cmd) (refl, refl) (request_fits cmd form) Z.state Z.up
+        (answers_alone most rule (shared_entries (v.store 0)) 0 (readings_at v 0) Z.state l Z.holds (let e = same in let z = room in omega arith) session cmd brief
+        (service_room v.log O.short O.values (v.store 0) (length v.log) V room (service_of cmd)) (value_val v.log O.short O.values (v.store 0) (length v.log) V room cmd form 0 (omega arith)))
+
+    module _ (u : World) (o2 : Onward Us v u) (K : Did Us Goal v 0 u) where
+      later : (e : ℕ) → u.events ≤ e → w0.events < e
+      later e le = let a = o.elapsed in let b = K.moved.elapses in omega arith
+
+      Hu : LoneHolds (lone most rule) u
+      Hu = let S : Sane Us u = o2.sane sane_v in lone_holds u S.reached
+
+      Ou : OfLone (lone most rule) u u.asked
+      Ou = Hu.1
+
+      Vu : HasVersions u.log (length u.log) (u.store 0)
+      Vu = let W = whole u Hu in W.versions
+
+      module _ (C : Commits most rule (shared_entries (v.store 0)) 0 (readings_at v 0) l cmd session K.y) where
+        long : length u.log ≡ suc l
+        long = sym (read u Hu) ∙ ap (λ (r : Readings). r.last) K.moved.reads ∙ C.last
+
+        low : max 1 (number (u.store 0) area.Paxos key.FirstCommitted) ≤ suc l
+        low =
+            let f = first_is (u.store 0) in
+            let e = long in
+            let r = read u Hu in
+            elim (first_low u.log (readings_at u 0) (subst (λ (c : ℕ). Keeps u.log c (readings_at u 0)) (sym r) (keeps u.log Ou.short Ou.values (u.store 0) (length u.log) Vu))) [ inl few ↦ (omega arith) | inr far ↦ (omega arith) ]
+
+        spells : entry u.log (suc (length v.log)) ≡ text C.value_is
+        spells =
+            ap (λ (k : ℕ). entry u.log (suc k)) same
+            ∙ ap (λ (o : Option (List ℕ)). unwrap_or o []) (sym (record_read (u.store 0) (suc l) ∙ record_there u.log Ou.short Ou.values (length u.log) (u.store 0) Vu (suc l) low (let e = long in omega arith))
+            ∙ ap (λ (r : Readings). r.record_of (suc l)) K.moved.reads ∙ C.kept
+            ∙ subst (λ (k : ℕ). (play (Learn (suc k) C.value_is) (readings_at v 0)).record_of (suc k) ≡ Some (text C.value_is)) same (learned_is v.log O.short O.values (v.store 0) (length v.log) V refl room cmd form 0 (omega arith) C.value_is C.made))
+
+        done : IsServed 1 session cmd w0 u
+        done = let R = K.moved.replies session (reply.Done (suc l)) C.says in record {
+          by = R.told;
+          among = R.among;
+          later = later R.told.event R.since;
+          session = R.session_is;
+          answer = inl (record {
+            v = l;
+            done = R.reply_is;
+            new = omega arith;
+            near = omega arith;
+            within = (let e = long in omega arith);
+            made = subst (λ (x : ℕ). IsAsked 1 (record { rank = x; session = session; request = request_of cmd } ∷ []) u.log l) (sym R.rank_is)
+                (subst (λ (k : ℕ). IsAsked 1 (asked_at 0 session cmd ∷ []) u.log k) same (asked_is v.log O.short O.values (v.store 0) (length v.log) V refl room cmd form 0 (omega arith) C.value_is C.made 1 (omega arith) session u.log o2.fronts spells));
+          });
+        }
+
+      after : IsServed 1 session cmd w0 u
+      after = by K.did
+        where
+          by : Goal K.y → IsServed 1 session cmd w0 u
+          by (inl C) = done C
+          by (inr P) = let R = K.moved.replies session (refusal P.why) P.says in record {
+            by = R.told;
+            among = R.among;
+            later = later R.told.event R.since;
+            session = R.session_is;
+            answer = inr (record { why = P.why; made = subst (λ (x : ℕ). value (readings_at u x) cmd x ≡ Err P.why) (sym R.rank_is) (subst (λ (x : Readings). value x cmd 0 ≡ Err P.why) (sym (K.moved.reads ∙ P.reads)) P.is); refused = R.reply_is });
+          }
+
+  alone_served : Can Us 2 (IsServed 1 session cmd w0) w0
+  alone_served = then Us {l = 1} starts (λ v o D. weaker Us (omega arith) (λ u o2 K. after v o D u o2 K) (asks v o D))
+
+  pub lone_way : HasWay (lone most rule) events q (Some (session, cmd)) (2 * 1 * 1 + 14 * 1 + 5) (IsServed 1 session cmd)
+  lone_way = record {
+    more = C.events;
+    few = (let z = C.few in omega arith);
+    steps = C.steps;
+    fits = steps_fit 1 q (length w0.messages) M.below (Some (session, cmd)) (request_fits cmd form) C.events C.steps;
+    goes_on = ap (λ (r : Ran). r.stop) further;
+    rest = subst (λ (r : Ran). OthersRest q w0 r.world) (sym further) (let o = C.onward in o.rest);
+    leads = subst (λ (r : Ran). IsServed 1 session cmd w0 r.world) (sym further) C.there;
+  }
+    where
+      C : Can Us 2 (IsServed 1 session cmd w0) w0
+      C = alone_served
+
+      further : ran (lone most rule) (events ++ C.events) ≡ at C.next
+      further = ran_on (lone most rule) first_world w0 events C.events there ∙ C.goes
+
+-- ---- any map of one monitor
+
+abbrev Serves : Rule → ℕ → Type 0
+Serves rule k = (most : k ≤ 15) → (let ms : Monitors = record { count = k; most = most; rule = rule } in
+    (events : List Event) → AllFit k events → (ran ms events).stop ≡ None → (q : List Bool) → IsMajorityOf k q → IsReady ms q (run ms events) → (s : Session) (c : Command) → IsCommand c → is_too_long c ≡ false
+    → HasWay ms events q (Some (s, c)) (2 * k * k + 14 * k + 5) (IsServed k s c))
+
+pub lone_serves : (ms : Monitors) → ms.count ≡ 1 → (events : List Event) → AllFit ms.count events → (ran ms events).stop ≡ None
+    → (q : List Bool) → IsMajorityOf ms.count q → AllNear q (run ms events) → IsReady ms q (run ms events) → (s : Session) (c : Command) → IsCommand c → is_too_long c ≡ false
+    → HasWay ms events q (Some (s, c)) (2 * ms.count * ms.count + 14 * ms.count + 5) (IsServed ms.count s c)
+lone_serves ms one events F on q M near ready s c form brief =
+    (subst (Serves ms.rule) (sym one) (λ most events F on q M ready s c form brief. lone_way most ms.rule events F on q M ready s c form brief)) ms.most events F on q M ready s c form brief
