@@ -9,6 +9,7 @@ What an antt record, constructor or tuple is in Python stands in antt.py: `x.d` 
 arguments. `fn` names a definition, and `app` and `apps` apply one.
 """
 import collections
+import copy
 import json
 import os
 import struct
@@ -276,6 +277,7 @@ def fn(p, n):
 for name in ('fold', 'incrementals', 'map_of_log'):
     antt.MEMO['mon_msg.specs.Fold.' + name] = 10 ** 6
 antt.MEMO[PR + 'Readings.readings_of'] = 32
+antt.MEMO['mon_tx.specs.Keys.shared'] = 32
 # where a named key stands
 PLACES = {}
 
@@ -305,6 +307,16 @@ def reaction(me, now, m, st, inp):
 
 
 N[PR + 'Reaction.reaction'] = nat(5)(reaction)
+
+
+def reload(changes={}, constants={}):
+    """reads the definitions anew under changed rules, see antt.py"""
+    antt.reload(changes, constants)
+    PLACES.clear()
+    VALUES.clear()
+    LAST[:] = [None, None]
+
+
 N['mon_kv.specs.Readers.size_of'] = nat(1)(lambda m: sum(len(k[0]) + len(k[1]) + len(v) + 16 for k, v in m.d.items()))
 antt.STD.update({
  'ltb-true': nat(3)(lambda *a: TT), 'refl': TT,
@@ -504,6 +516,12 @@ class Play:
         # what each monitor's events wrote, which is nothing where it reacted to none
         self.writes = [[] for _ in range(self.n)]
 
+    def copy(self):
+        """another play that goes on from here, whose trace begins here"""
+        other = copy.copy(self)
+        other.trace, other.writes = [], [list(writes) for writes in self.writes]
+        return other
+
     def take(self, line):
         """plays an event; whether the run goes on"""
         event = event_of(line)
@@ -597,6 +615,21 @@ def entry(log, v):
     return apps(fn('mon_msg.specs.Fold', 'entry'), log, v)
 
 
+# the encodings of the values of commands over logs
+VALUES = {}
+
+
+def spelled_value(log, c, r):
+    """the value of a command that monitor r was asked over a log, encoded; or None if it is refused"""
+    key = log, c, r
+    if key not in VALUES:
+        if len(VALUES) > 20000:
+            VALUES.clear()
+        value = apps(fn(PR + 'Value', 'value'), apps(fn('log_model.specs.LogOfValues', 'view_at'), log, len(log)), c, r)
+        VALUES[key] = tx_text(value.a[0]) if value.n == 'Ok' else None
+    return VALUES[key]
+
+
 def unsafe(w, n, writes):
     """what of a world isn't safe, in which the monitors' events wrote these transactions"""
     d = w.d
@@ -621,12 +654,10 @@ def unsafe(w, n, writes):
         if c.n == 'Some':
             asked[(c.a[0], a.d['rank'] if c.a[0].n == 'Log' else 0)] = (c.a[0], a.d['rank'], B(apps(incremental, a.d['rank'], c.a[0])))
     for v in range(len(log)):
-        view = apps(fn('log_model.specs.LogOfValues', 'view_at'), log, v)
         spelled = B(entry(log, v + 1))
         # the commands whose incremental stands in the entry come first
         tried = sorted(asked.values(), key=lambda c: c[2] not in spelled)
-        values = (apps(fn(PR + 'Value', 'value'), view, c, r) for c, r, _ in tried)
-        if not any(x.n == 'Ok' and tx_text(x.a[0]) == spelled for x in values):
+        if not any(spelled_value(log[:v], c, r) == spelled for c, r, _ in tried):
             bad.append(('asked', v))
     put_in = lambda s, v: apps(fn('mon_msg.specs.Fold', 'put_in'), s, app(fn('mon_tx.specs.Decode', 'ops_in'), entry(log, v)))
     active = fn(QM + 'Happens', 'is_active')
