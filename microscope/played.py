@@ -27,14 +27,30 @@ class Refused(Exception):
     """The text is no schedule, or the definitions stop at one of its events."""
 
 
+class Drop(NamedTuple):
+    """A row that dropped its input or did no more with it: its name, how it ended, the part of its test that decided so, and whether that holds."""
+    row: str
+    how: str
+    test: str
+    holds: bool
+
+    def __str__(self):
+        return f'{self.row} {ENDS[self.how]}, since {self.test} {"holds" if self.holds else "fails"}'
+
+
 class Step(NamedTuple):
-    """An event: its number, its lines in the trace, its changes as (monitor, part, before, after), the reasons for which rows dropped its
-    input, and what each monitor then remembers and keeps."""
+    """An event: its number, its lines in the trace, its changes as (monitor, part, before, after), the rows that dropped its input, what each
+    monitor then remembers and keeps, and the run after it."""
     number: int
     lines: list[str]
     changes: list[tuple[int, str, str, str]]
-    reasons: list[str]
+    drops: list[Drop]
     looks: list[dict[str, str]]
+    play: run.Play
+
+    @property
+    def reasons(self) -> list[str]:
+        return [str(drop) for drop in self.drops]
 
     def is_idle(self) -> bool:
         """Whether the event sent, wrote and changed nothing."""
@@ -95,25 +111,29 @@ def lines_of(octets: bytes) -> list[str]:
     return octets.decode('ascii').splitlines()
 
 
+def after(play: run.Play, line: str, before: list[dict[str, str]] | None = None) -> Step:
+    """The event of a line, after a run that stays as it is. `before` are its looks, if they are known. Raises Refused if a number runs out, where the
+    program stops too."""
+    before, play, number = before or looks(play), play.copy(), play.events + 1
+    antt.DROPS.clear()
+    if not play.take(line):
+        raise Refused(f'line {number + 1}, {line}: the run stops there, {shown(play.stop)}')
+    now = looks(play)
+    changes = [(rank, part, before[rank].get(part, '-'), now[rank].get(part, '-'))
+               for rank in range(play.n) for part in {**before[rank], **now[rank]} if before[rank].get(part) != now[rank].get(part)]
+    # A crash in no event is written as one in a timer that isn't set. That such a timer is dropped explains nothing.
+    is_crash = any(it.startswith('  crashed ') for it in play.trace)
+    drops = [Drop(*drop) for drop in dict.fromkeys(antt.DROPS) if not (is_crash and drop[0] == 'take_timer')]
+    return Step(number, play.trace, changes, drops, now, play)
+
+
 def steps(schedule: list[str]) -> Iterator[Step]:
-    """The events of a schedule, run one after the other. Raises Refused if a number runs out in one, where the program stops too."""
-    play = run.Play(schedule[0])
-    before = looks(play)
-    for number, line in enumerate(schedule[1:], 1):
-        at = len(play.trace)
-        antt.DROPS.clear()
-        if not play.take(line):
-            raise Refused(f'line {number + 1}, {line}: the run stops there, {shown(play.stop)}')
-        now = looks(play)
-        changes = [(rank, part, before[rank].get(part, '-'), now[rank].get(part, '-'))
-                   for rank in range(play.n) for part in {**before[rank], **now[rank]} if before[rank].get(part) != now[rank].get(part)]
-        lines = play.trace[at:]
-        # A crash in no event is written as one in a timer that isn't set. That such a timer is dropped explains nothing.
-        is_crash = any(it.startswith('  crashed ') for it in lines)
-        drops = [drop for drop in dict.fromkeys(antt.DROPS) if not (is_crash and drop[0] == 'take_timer')]
-        reasons = [f'{row} {ENDS[how]}, since {test} {"holds" if holds else "fails"}' for row, how, test, holds in drops]
-        yield Step(number, lines, changes, reasons, now)
-        before = now
+    """The events of a schedule, run one after the other. Raises Refused if the run stops in one."""
+    play, before = run.Play(schedule[0]), None
+    for line in schedule[1:]:
+        step = after(play, line, before)
+        yield step
+        play, before = step.play, step.looks
 
 
 def trace_of(lines: list[str]) -> str:

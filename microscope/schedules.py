@@ -68,7 +68,9 @@ REST = 'VALUE', 'TEXT'
 VALUE, TEXT = (Field(name, 'a space, and then the rest of the line, which may be empty', lambda _: None) for name in REST)
 COMMANDS = {'set': [KEY, VALUE], 'remove': [KEY], 'log': [TEXT], 'show': [SERVICE], 'since': [SERVICE, number('V', 'a version', 0, MOST_NUMBER)]}
 PLAIN = 'start', 'deliver', 'timer', 'client'
-UPSET = [word('DISK', 'a', 'b'), number('CALL', 'the number of a write or sync', 1, 1_000), number('IMAGE', 'what is kept of a write', 0, 3)]
+# How many images a disk may keep of a write.
+IMAGES = 4
+UPSET = [word('DISK', 'a', 'b'), number('CALL', 'the number of a write or sync', 1, 1_000), number('IMAGE', 'what is kept of a write', 0, IMAGES - 1)]
 
 
 def fields_after(first: str, monitors: int) -> list[Field]:

@@ -1,0 +1,297 @@
+"""Scenarios, and their runs by the proved definitions: messages take time, are lost, late or repeated, and timers fire by themselves."""
+from __future__ import annotations
+
+import heapq
+import itertools
+import random
+import re
+from typing import NamedTuple
+
+from played import app, quorum_file, run
+from schedules import IMAGES, MOST_EVENTS, TIMERS, Fault, fault_of_event, fault_of_header, is_within
+
+# The actions at a time, each with its form, and a request, which ends with a value or a text, and what is before that.
+FORMS = {
+    'start': 'start R or start all', 'kill': 'kill R', 'tear': 'tear R DISK CALL IMAGE', 'client': 'client R C ID COMMAND', 'cut': 'cut SIDES, cut A>B,.. or cut -',
+    'latency': 'latency L [A>B]', 'loss': 'loss PERCENT [A>B]', 'repeat': 'repeat PERCENT [A>B]', 'delay': 'delay PERCENT L [A>B]',
+    'lose': 'lose KIND [A>B] [COUNT]', 'twice': 'twice KIND [A>B] [COUNT]', 'late': 'late KIND L [A>B] [COUNT]',
+}
+REQUEST = re.compile(r'(\s*at\s+\S+\s+client\s+\S+\s+\S+\s+\S+\s+(?:set\s+\S+|log))(?:\s(.*))?')
+COMMENT = re.compile(r'(?:^|\s)#.*')
+LINK = re.compile(r'(\d+)>(\d+)')
+KINDS = frozenset(run.NAMES.values())
+MOST_LATENCY = 2**32
+
+
+class Faulty(Exception):
+    """The scenario is faulty, for this reason."""
+
+
+class Named(NamedTuple):
+    """What becomes of the next messages of a kind on a link, or on all: `lose`, `twice` or `late`; how much later; and how many of them."""
+    what: str
+    kind: str
+    link: tuple[int, int] | None
+    later: int
+    count: int
+
+
+def numbered(word: str, most: int, what: str, least: int = 0) -> int:
+    if not (word.isascii() and word.isdigit() and is_within(word, least, most)):
+        raise Faulty(f"'{word}' is no {what}: a number from {least} to {most}")
+    return int(word)
+
+
+def refuse(fault: Fault | None):
+    """Raises Faulty if there is a fault."""
+    if fault:
+        raise Faulty(f'{f"field {fault.field}: " if fault.field else ""}expected {fault.allowed}')
+
+
+def words_of(line: str) -> list[str]:
+    """The words of a line without its comment. The value or text at the end of a request is one word."""
+    if line.lstrip().startswith('#'):
+        return []
+    if request := REQUEST.fullmatch(line):
+        return request[1].split() + ([] if request[2] is None else [request[2]])
+    return COMMENT.sub('', line).split()
+
+
+def link_of(word: str, monitors: int) -> tuple[int, int]:
+    match = LINK.fullmatch(word)
+    if not match:
+        raise Faulty(f"'{word}' is no link: A>B")
+    ends = numbered(match[1], monitors - 1, 'rank'), numbered(match[2], monitors - 1, 'rank')
+    if ends[0] == ends[1]:
+        raise Faulty(f"'{word}' is no link: a monitor sends itself nothing")
+    return ends
+
+
+def links_cut(word: str, monitors: int) -> set[tuple[int, int]]:
+    """The links of a cut: those that it names, each in one direction, or those between its sides."""
+    if word == '-':
+        return set()
+    if '>' in word:
+        return {link_of(link, monitors) for link in word.split(',')}
+    found = {}
+    for side, ranks in enumerate(word.split('|')):
+        for rank in ranks.split(','):
+            number = numbered(rank, monitors - 1, 'rank')
+            if number in found:
+                raise Faulty(f'monitor {number} is on two sides')
+            found[number] = side
+    if len(found) < monitors:
+        raise Faulty(f'the sides must name all {monitors} monitors')
+    return {(a, b) for a in found for b in found if found[a] != found[b]}
+
+
+class Scenario:
+    """The commands of a scenario: its header, its seed, what happens at which time, and its end."""
+
+    def __init__(self, lines):
+        self.header, self.seed, self.events, self.until = None, 0, [], None
+        for number, line in enumerate(lines, 1):
+            words = words_of(line)
+            if not words:
+                continue
+            try:
+                self.take(words)
+            except Faulty as why:
+                raise Faulty(f'line {number}: {why}') from None
+        if self.until is None:
+            raise Faulty('the last command must be `until TIME`')
+
+    def take(self, words: list[str]):
+        if self.header is None:
+            self.begin(words)
+        elif self.until is not None:
+            raise Faulty('nothing comes after `until`')
+        elif words[0] == 'until' and len(words) == 2:
+            self.until = self.later(words[1])
+        elif words[0] == 'seed' and len(words) == 2:
+            self.seed = numbered(words[1], 2**62, 'seed')
+        elif words[0] in ('latency', 'loss', 'repeat', 'delay'):
+            self.action(self.events[-1][0] if self.events else 0, words)
+        elif words[0] == 'at' and len(words) > 2:
+            self.action(self.later(words[1]), words[2:])
+        else:
+            raise Faulty(f"'{words[0]}' is no command: at, latency, loss, repeat, delay, seed or until")
+
+    def begin(self, words: list[str]):
+        self.header = ' '.join(words)
+        if words[0] != 'monitors' or len(words) != 3:
+            raise Faulty('the first command must be `monitors N RULE`')
+        self.monitors = numbered(words[1], 15, 'number of monitors', 1)
+        if fault := quorum_file.fault_of_rule(words[2], self.monitors):
+            raise Faulty(fault)
+        refuse(fault_of_header(self.header))
+
+    def later(self, word: str) -> int:
+        time = numbered(word, 2**62, 'time')
+        if self.events and time < self.events[-1][0]:
+            raise Faulty(f'the time {time} is before {self.events[-1][0]}')
+        return time
+
+    def action(self, time: int, words: list[str]):
+        name, *rest = words
+        if name not in FORMS:
+            raise Faulty(f"'{' '.join(words)}' is none of {', '.join(FORMS)}")
+        given = getattr(self, f'of_{name}', self.of_network)(time, name, rest)
+        if given is None:
+            raise Faulty(f"'{' '.join(words)}' isn't {FORMS[name]}")
+        self.events.append((time, name, given))
+
+    def rank(self, word: str) -> int:
+        return numbered(word, self.monitors - 1, 'rank')
+
+    def of_start(self, _time, _name, rest):
+        return [*range(self.monitors)] if rest == ['all'] else [self.rank(rest[0])] if len(rest) == 1 else None
+
+    def of_kill(self, _time, _name, rest):
+        return [self.rank(rest[0])] if len(rest) == 1 else None
+
+    def of_client(self, time, _name, rest):
+        if len(rest) < 4:
+            return None
+        rank, request = self.rank(rest[0]), ' '.join(rest[1:])
+        refuse(fault_of_event(0, f'client {rank} {time} {request}', self.monitors))
+        return [rank, request]
+
+    def of_tear(self, _time, _name, rest):
+        if len(rest) != 4 or rest[1] not in ('a', 'b'):
+            return None
+        return [self.rank(rest[0]), f'crash {rest[1]} {numbered(rest[2], 1000, "call", 1)} {numbered(rest[3], IMAGES - 1, "image")}']
+
+    def of_cut(self, _time, _name, rest):
+        return [links_cut(rest[0], self.monitors)] if len(rest) == 1 else None
+
+    def of_network(self, _time, name, rest):
+        """What is so of a link or of all from then on, or of the next messages of a kind."""
+        link = next((word for word in rest if '>' in word), None)
+        rest, ends = [word for word in rest if word != link], None if link is None else link_of(link, self.monitors)
+        if name in ('lose', 'twice', 'late'):
+            late = name == 'late'
+            if not 1 + late <= len(rest) <= 2 + late:
+                return None
+            if rest[0] not in KINDS:
+                raise Faulty(f"'{rest[0]}' is no kind of message: {', '.join(sorted(KINDS))}")
+            later = numbered(rest[1], MOST_LATENCY, 'time') if late else 0
+            return [Named(name, rest[0], ends, later, numbered(rest[1 + late], 1_000_000, 'count', 1) if len(rest) == 2 + late else 1)]
+        if len(rest) != 1 + (name == 'delay'):
+            return None
+        first = numbered(rest[0], MOST_LATENCY if name == 'latency' else 100, 'latency' if name == 'latency' else 'percentage')
+        return [ends, (first, numbered(rest[1], MOST_LATENCY, 'latency')) if name == 'delay' else first]
+
+
+class Simulation:
+    """A run of a scenario by the definitions. The next thing that happens is the earliest; commands come before messages, and these before
+    timers."""
+
+    def __init__(self, scenario: Scenario):
+        self.scenario, self.play = scenario, run.Play(scenario.header)
+        self.schedule = [scenario.header]
+        self.now, self.cut, self.dead, self.tears, self.named = 0, set(), set(), {}, []
+        # What is so of a link, or of all links for the key None.
+        self.network = {'latency': {None: 1}, 'loss': {None: 0}, 'repeat': {None: 0}, 'delay': {None: (0, 0)}}
+        self.chance, self.wire, self.seen, self.order = random.Random(scenario.seed), [], 0, itertools.count()
+
+    def world(self):
+        return self.play.scene.d['world'].d
+
+    def of_link(self, what: str, link: tuple[int, int]):
+        return self.network[what].get(link, self.network[what][None])
+
+    def happens(self, percent: int) -> bool:
+        return percent > 0 and self.chance.random() * 100 < percent
+
+    def next_of(self, kind: str, link: tuple[int, int]) -> Named | None:
+        """What was asked for the next message of this kind, which then is asked for one less."""
+        for place, it in enumerate(self.named):
+            if it.kind == kind and it.link in (None, link):
+                self.named[place:place + 1] = [it._replace(count=it.count - 1)] if it.count > 1 else []
+                return it
+        return None
+
+    def send(self, number: int, message):
+        """Puts a message on the wire, once for each time that it arrives."""
+        link = message.d['message'].d['from'], message.d['to']
+        named = self.next_of(run.NAMES[message.d['message'].d['body'].n], link)
+        is_lost = self.happens(self.of_link('loss', link)) or named is not None and named.what == 'lose'
+        if link in self.cut or is_lost:
+            return
+        percent, longer = self.of_link('delay', link)
+        takes = self.of_link('latency', link) + (longer if self.happens(percent) else 0) + (named.later if named else 0)
+        times = 1 + (self.happens(self.of_link('repeat', link)) or named is not None and named.what == 'twice')
+        for copy in range(1, times + 1):
+            heapq.heappush(self.wire, (self.now + takes * copy, next(self.order), number, message.d['to']))
+
+    def take(self, line: str, rank: int):
+        """Adds a line to the schedule, and puts what its event sends on the wire. A tear that waits for the monitor is in it, if the event writes."""
+        if len(self.schedule) > MOST_EVENTS:
+            raise Faulty(f'the schedule has more than {MOST_EVENTS} events')
+        before, at = self.play.copy() if rank in self.tears else None, len(self.play.trace)
+        if not self.play.take(line):
+            raise Faulty(f"the definitions refuse '{line}'")
+        if before is not None and any(it.startswith('  store ') for it in self.play.trace[at:]):
+            self.play, line = before, f'{self.tears.pop(rank)} {line}'
+            self.play.take(line)
+            self.dead.add(rank)
+        self.schedule.append(line)
+        messages = self.world()['messages']
+        for message in messages[self.seen:]:
+            self.seen += 1
+            self.send(self.seen, message)
+
+    def next_timer(self):
+        """The time, rank and name of the timer that fires next."""
+        found = []
+        for rank in range(self.play.n):
+            state = app(self.world()['state'], rank)
+            if rank not in self.dead and state.n != 'None':
+                timers = zip(TIMERS, state.a[0].d['timers'])
+                found += [(timer.a[0], rank, name) for name, timer in timers if timer.n == 'Some']
+        return min(found, default=None)
+
+    def act(self, name: str, rest: list):
+        if name == 'start':
+            for rank in rest:
+                self.dead.discard(rank)
+                self.take(f'start {rank} {self.now}', rank)
+        elif name == 'kill':
+            self.take(f'crash a 1 0 timer {rest[0]} step {self.now}', -1)
+            self.dead.add(rest[0])
+        elif name == 'tear':
+            self.tears[rest[0]] = rest[1]
+        elif name == 'cut':
+            self.cut = rest[0]
+        elif name in self.network:
+            self.network[name] = {None: rest[1]} if rest[0] is None else {**self.network[name], rest[0]: rest[1]}
+        elif name in ('lose', 'twice', 'late'):
+            self.named.append(rest[0])
+        elif rest[0] not in self.dead:
+            self.take(f'client {rest[0]} {self.now} {rest[1]}', rest[0])
+
+    def run(self) -> list[str]:
+        events = iter(self.scenario.events)
+        event = next(events, None)
+        while True:
+            timer = self.next_timer()
+            times = [(it[0], place) for place, it in enumerate([event, self.wire[0] if self.wire else None, timer]) if it]
+            if not times or max(self.now, min(times)[0]) > self.scenario.until:
+                return self.schedule
+            time, place = min(times)
+            self.now = max(self.now, time)
+            if place == 0:
+                self.act(*event[1:])
+                event = next(events, None)
+            elif place == 1:
+                _, _, number, receiver = heapq.heappop(self.wire)
+                if receiver not in self.dead:
+                    self.take(f'deliver {number} {self.now}', receiver)
+            else:
+                self.take(f'timer {timer[1]} {timer[2]} {self.now}', timer[1])
+
+
+def scheduled(lines: list[str]) -> list[str]:
+    """The schedule of a scenario. Raises Faulty at its first fault."""
+    return Simulation(Scenario(lines)).run()
