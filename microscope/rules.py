@@ -39,7 +39,7 @@ RULES = [
          {PROTOCOL + 'Leading': [('      ▸ arm now timer.Accept\n', '      ▸ arm now timer.Accept\n      ▸ answer_any me o (reply.Done v)\n')]}),
     Rule('any_votes', 'a candidate wins when its time is over, whatever votes it has', 'it needs a majority',
          'Two candidates win one epoch, each alone.',
-         {PROTOCOL + 'Elections': [(' && is_majority me.member.monitors elector.acked in', ' in')]}),
+         {PROTOCOL + 'Elections': [(' && is_majority me.member.monitors elector.acked in', ' in')]}, opening='election'),
     Rule('first_reported', 'a leader that collects keeps the first value that it finds', 'the value of the greatest version and number replaces it',
          'An older value that nobody else accepted takes the place of one that was acknowledged.',
          {PROTOCOL + 'Found': [('= nat_lt found.version v || (v == found.version && nat_lt found.pn pn)', '= false'), ('Bool, true,', 'Bool, true, false,')]},
@@ -78,7 +78,7 @@ def of_patch(path: str) -> Rule:
                 raise Refused(f"{path}: '{line[:40]}' is none of file:, old: and new:, in this order")
     if not changes:
         raise Refused(f'{path} changes nothing')
-    return Rule(os.path.basename(path), 'as the file says', 'the definitions as they are', '', changes)
+    return Rule(os.path.basename(path), 'as the file says', 'the definitions as they are', '', changes, opening='any')
 
 
 def add_arguments(parser):

@@ -1,0 +1,279 @@
+"""A search for a run that isn't safe, under a changed rule: random runs that go on from an opening.
+
+There are two kinds of runs. A *walk* delivers, drops and doubles messages, fires timers, stops and starts monitors, and asks, as chance has it. In a run of
+*parts* a majority of the monitors, and nobody else, hears each other until one of them leads. It takes a value, of which some messages arrive, and then
+another majority is by itself. That is how values under way meet.
+"""
+from __future__ import annotations
+
+import itertools
+import random
+import time
+from typing import Callable, Iterator, NamedTuple
+
+import safety
+from played import TIMERS, app, run
+
+LEADS = 'Active', 'Updating'
+# The kinds of messages in a quorum, of which one is slow.
+SLOW = 'BEGIN', 'ACCEPT', 'COMMIT', 'LEASE', 'LEASE_ACK'
+# Events of a walk, and of a part of a run at most.
+STEPS, PART = 45, 160
+
+
+class Course:
+    """A run that goes on by chance: its lines, the messages that have not arrived, and the time."""
+
+    def __init__(self, header: str):
+        self.play, self.lines, self.now, self.waiting, self.asked = run.Play(header), [header], 0, [], 0
+
+    def copy(self) -> Course:
+        other = Course.__new__(Course)
+        other.play, other.lines, other.now, other.waiting, other.asked = self.play.copy(), list(self.lines), self.now, list(self.waiting), self.asked
+        return other
+
+    def take(self, line: str) -> list[str]:
+        """Goes on by an event, and returns its lines in the trace. A number that runs out ends the run, which no search gets to."""
+        at, seen = len(self.play.trace), len(self.messages())
+        if not self.play.take(line):
+            raise LookupError(line)
+        self.lines.append(line)
+        self.waiting += [(number, it.d['message'].d['from'], it.d['to'], run.NAMES[it.d['message'].d['body'].n])
+                         for number, it in enumerate(self.messages()[seen:], seen + 1)]
+        return self.play.trace[at:]
+
+    def messages(self):
+        return self.play.scene.d['world'].d['messages']
+
+    def state(self, rank: int):
+        return app(self.play.scene.d['world'].d['state'], rank)
+
+    def up(self) -> list[int]:
+        return [rank for rank in range(self.play.n) if self.state(rank).n == 'Some']
+
+    def leaders(self) -> list[int]:
+        return [rank for rank in self.up() if self.state(rank).a[0].d['phase'].n in LEADS]
+
+    def timers(self, ranks) -> list[tuple[int, int, str]]:
+        """The end, rank and name of each timer of these monitors."""
+        return sorted((timer.a[0], rank, name) for rank in ranks if self.state(rank).n == 'Some'
+                      for name, timer in zip(TIMERS, self.state(rank).a[0].d['timers']) if timer.n == 'Some')
+
+    def deliver(self, place: int) -> list[str]:
+        return self.take(f'deliver {self.waiting.pop(place)[0]} {self.now}')
+
+    def ask(self, rank: int, command: str) -> list[str]:
+        self.asked += 1
+        return self.take(f'client {rank} {self.now} 1 {self.asked} {command}')
+
+    def write(self, rank: int) -> list[str]:
+        return self.ask(rank, f'set k v{self.asked + 1}')
+
+
+# ---- parts
+
+def part(course: Course, group: tuple[int, ...], restarted: tuple[int, ...], still: tuple[int, ...] = ()) -> int | None:
+    """A group hears each other alone until one of it leads, and returns it. First some are restarted. The timers of those that are still don't fire."""
+    course.waiting.clear()
+    course.now += 1
+    for rank in group:
+        if rank in restarted or course.state(rank).n == 'None':
+            course.take(f'start {rank} {course.now}')
+    before = epochs(course)
+    for _ in range(PART):
+        leading = [rank for rank in course.leaders() if rank in group and is_of(course, rank, group) and epochs(course)[rank] > before[rank]]
+        if leading:
+            return leading[0]
+        within(course, group)
+        if course.waiting:
+            course.deliver(0)
+            continue
+        due = course.timers([rank for rank in group if rank not in still])
+        if not due:
+            return None
+        course.now = max(course.now, due[0][0])
+        course.take(f'timer {due[0][1]} {due[0][2]} {course.now}')
+    return None
+
+
+def within(course: Course, group: tuple[int, ...]):
+    """What a group doesn't send itself is lost."""
+    course.waiting = [it for it in course.waiting if it[1] in group and it[2] in group]
+
+
+def epochs(course: Course) -> list[int]:
+    return [run.epoch_of(app(course.play.scene.d['world'].d['store'], rank)) for rank in range(course.play.n)]
+
+
+def is_of(course: Course, rank: int, group: tuple[int, ...]) -> bool:
+    quorum = course.state(rank).a[0].d['leader'].d['quorum']
+    return all(member in group for member, is_in in enumerate(quorum) if is_in)
+
+
+def write_in(course: Course, leader: int, group: tuple[int, ...], delivered: int):
+    """The leader takes a value, of which so many messages arrive within the group."""
+    course.waiting.clear()
+    course.write(leader)
+    within(course, group)
+    for _ in range(delivered):
+        if not course.waiting:
+            return
+        course.deliver(0)
+        within(course, group)
+
+
+def majorities(monitors: int) -> list[tuple[int, ...]]:
+    return [group for count in range(monitors // 2 + 1, monitors + 1) for group in itertools.combinations(range(monitors), count)]
+
+
+def parts(course: Course, chance: random.Random) -> Iterator[Course]:
+    """A run of parts, as it is where it is worth to be judged."""
+    groups, last = majorities(course.play.n), None
+    for _ in range(4):
+        group = chance.choice([it for it in groups if it != last])
+        last = group
+        leader = part(course, group, tuple(rank for rank in group if chance.random() < 0.6))
+        yield course
+        if leader is None:
+            continue
+        if chance.random() < 0.85:
+            write_in(course, leader, group, chance.choice([0, len(group) - 1, len(group) - 1, 2 * len(group)]))
+        else:
+            course.ask(leader, 'show kv')
+        yield course
+
+
+# ---- walks
+
+def walk(course: Course, chance: random.Random, is_calm: bool = True) -> Iterator[Course]:
+    """A walk, as it is where it is worth to be judged. One kind of message is slow on its way to one monitor, and the others are so rarely. If the walk is
+    calm, no monitor stops, and no timer fires but those that renew leases."""
+    slow = chance.choice(SLOW if is_calm else [*SLOW, 'PROPOSE', 'ACK', 'VICTORY', 'COLLECT', 'LAST']), chance.randrange(course.play.n)
+    for _ in range(STEPS):
+        trace = step(course, chance, is_calm, slow)
+        if any(line.startswith(('  reply', '  is active')) for line in trace):
+            yield course
+        if any(' done ' in line for line in trace):
+            yield from readers(course)
+    yield course
+
+
+def readers(course: Course) -> Iterator[Course]:
+    """The run, if a client now reads at one of the monitors."""
+    for rank in course.up():
+        other = course.copy()
+        other.ask(rank, 'show kv')
+        yield other
+
+
+def wild(course: Course, chance: random.Random) -> Iterator[Course]:
+    return walk(course, chance, False)
+
+
+def next_of(course: Course, chance: random.Random, slow: tuple[str, int]) -> int:
+    """The place of the message that arrives next."""
+    quick = [place for place, it in enumerate(course.waiting) if (it[3], it[2]) != slow]
+    return chance.randrange(len(course.waiting)) if chance.random() < 0.15 or not quick else quick[0]
+
+
+def step(course: Course, chance: random.Random, is_calm: bool, slow: tuple[str, int]) -> list[str]:
+    """An event of a walk. The likelier ones keep a quorum at work."""
+    draw, up = chance.random(), course.up()
+    course.now += chance.choice([0, 1, 1, 5])
+    if draw < 0.70 and course.waiting:
+        place = next_of(course, chance, slow)
+        if chance.random() < 0.03:
+            course.waiting.append(course.waiting[place])
+        return course.deliver(place)
+    if draw < 0.72 and course.waiting:
+        course.waiting.pop(next_of(course, chance, slow))
+        return []
+    if draw < 0.88:
+        idle = [rank for rank in course.leaders() if course.state(rank).a[0].d['phase'].n == 'Active']
+        return course.write(chance.choice(idle)) if idle else []
+    if draw < 0.91 and up:
+        return course.ask(chance.choice(up), 'show kv')
+    timers = [it for it in course.timers(up) if not is_calm or it[2] == 'renew']
+    if draw < 0.98 and timers:
+        end, rank, name = chance.choice(timers)
+        # A timer that fires early is allowed, and keeps the leases.
+        course.now = course.now if name == 'renew' else max(course.now, end)
+        return course.take(f'timer {rank} {name} {course.now}')
+    return [] if is_calm else course.take(f'start {chance.randrange(course.play.n)} {course.now}')
+
+
+# ---- openings
+
+def elections(course: Course):
+    """All monitors start, and each hears that the others are there."""
+    for rank in range(course.play.n):
+        course.take(f'start {rank} 0')
+    for _ in range(2 * course.play.n):
+        course.deliver(0)
+
+
+def quorum(course: Course):
+    """All monitors are in one quorum, and a write is acknowledged."""
+    group = tuple(range(course.play.n))
+    leader = part(course, group, group)
+    write_in(course, leader, group, 40)
+
+
+def rival(course: Course):
+    """The leader leads a majority anew, and stores a value that nobody else hears of."""
+    quorum(course)
+    group = tuple(range(course.play.n // 2 + 1))
+    write_in(course, part(course, group, (0,)), group, 0)
+
+
+def copied(course: Course):
+    """The last monitor misses so many writes that it lacks just what is trimmed. It still promises a number to a leader, which then stores a value
+    that nobody else hears of."""
+    quorum(course)
+    leader = part(course, (0, 1), (0,))
+    for _ in range(4):
+        write_in(course, leader, (0, 1), 40)
+    write_in(course, part(course, (1, 2), (1,), still=(2,)), (1, 2), 0)
+
+
+OPENINGS: dict[str, tuple[Callable[[Course], None], list]] = {
+    'quorum': (quorum, [walk]), 'election': (elections, [wild]), 'rival': (rival, [parts]), 'copied': (copied, [parts]), 'any': (quorum, [walk, parts, wild]),
+}
+
+
+class Found(NamedTuple):
+    """A schedule after which a clause of `Safe` doesn't hold: its lines up to the first such event, that clause, what is wrong, and how many runs of how many
+    events it took."""
+    lines: list[str]
+    clause: str
+    what: str
+    runs: int
+    events: int
+
+
+def search(opening: str, seed: int, seconds: float, header: str = 'monitors 3 classic') -> Found | None:
+    """The first unsafe run that is found in so many seconds of a processor."""
+    begin, kinds = OPENINGS[opening]
+    base, end, events = Course(header), time.process_time() + seconds, 0
+    begin(base)
+    for number in itertools.count(1):
+        chance, course = random.Random(f'{seed} {number}'), base.copy()
+        for reached in kinds[number % len(kinds)](course, chance):
+            if broken := safety.broken(reached.play):
+                return first_of(reached.lines, broken, number, events + course.play.events - base.play.events)
+            if time.process_time() > end:
+                return None
+        events += course.play.events - base.play.events
+        run.antt.forget()
+
+
+def first_of(lines: list[str], broken: dict[str, str], runs: int, events: int) -> Found:
+    """The shortest beginning that isn't safe."""
+    play = run.Play(lines[0])
+    for at, line in enumerate(lines[1:], 2):
+        play.take(line)
+        if early := safety.broken(play):
+            lines, broken = lines[:at], early
+            break
+    clause, what = next(iter(broken.items()))
+    return Found(lines, clause, what, runs, events)
