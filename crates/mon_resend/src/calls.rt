@@ -1,40 +1,47 @@
 //! Which PROPOSEs of a monitor aren't handed up.
 
-/// How long none of an earlier epoch is handed up after one that was, in milliseconds: at first, and at most.
-const FIRST_REST: u64 = 10_000;
+ghost use Rattle.std.specs.Prelude.{◌≡◌};
+ghost use Rattle.mon_resend.specs.Calls.{no_earlier, rested, unacknowledged, acknowledged_in, drops, counted};
 
-const MOST_REST: u64 = 60_000;
+/// How long none of an earlier epoch is handed up after one that was, in milliseconds: at first, and at most.
+pub(crate) const FIRST_REST: u64 = 10_000;
+
+pub(crate) const MOST_REST: u64 = 60_000;
 
 /// For how long after the end of such a time the next one is longer, in milliseconds.
-const REMEMBERED: u64 = 60_000;
+pub(crate) const REMEMBERED: u64 = 60_000;
 
 /// The least and the greatest time between two PROPOSEs that follow each other as copies do, in milliseconds.
-const LEAST_APART: u64 = 500;
+pub(crate) const LEAST_APART: u64 = 500;
 
-const MOST_APART: u64 = 2_500;
+pub(crate) const MOST_APART: u64 = 2_500;
 
 /// How many such copies of an acknowledged PROPOSE show that the acknowledgements don't arrive.
-const MOST_UNHEARD: u8 = 10;
+pub(crate) const MOST_UNHEARD: u8 = 10;
 
 /// How long a monitor that hears no acknowledgement isn't heard, in milliseconds: two elections, and something more. The
 /// others wait for the end of the one that is under way, and then hold theirs.
-const UNHEARD_REST: u64 = 12_000;
+pub(crate) const UNHEARD_REST: u64 = 12_000;
 
 /// What is noted of a monitor's PROPOSEs of an earlier epoch than that of one's own quorum. Each that is handed up ends the
 /// quorum.
 #[derive(Clone, Copy)]
-pub(crate) struct Earlier {
-    until: u64,
-    rest: u64,
+pub struct Earlier {
+    pub until: u64,
+    pub rest: u64,
 }
 
 impl Earlier {
-    pub(crate) fn none() -> Earlier {
+    pub(crate) fn none() -> Earlier
+        ensures { result ≡ no_earlier }
+    {
         Earlier { until: 0, rest: 0 }
     }
 
     /// What is noted after one that is handed up, or nothing if it isn't.
-    pub(crate) fn after(self, now: u64) -> Option<Earlier> {
+    pub(crate) fn after(self, now: u64) -> Option<Earlier>
+        ensures { result ≡ rested now self }
+    {
         if now < self.until {
             return None;
         }
@@ -53,15 +60,17 @@ impl Earlier {
 /// What is noted of a monitor's PROPOSEs of the epoch in which its PROPOSE was acknowledged. A link repeats a PROPOSE until
 /// it hears the acknowledgement, so copies that go on show that none arrives.
 #[derive(Clone, Copy)]
-pub(crate) struct Acknowledged {
-    epoch: u64,
-    last: u64,
-    times: u8,
-    until: u64,
+pub struct Acknowledged {
+    pub epoch: u64,
+    pub last: u64,
+    pub times: u8,
+    pub until: u64,
 }
 
 impl Acknowledged {
-    pub(crate) fn none() -> Acknowledged {
+    pub(crate) fn none() -> Acknowledged
+        ensures { result ≡ unacknowledged }
+    {
         Acknowledged {
             epoch: 0,
             last: 0,
@@ -70,12 +79,10 @@ impl Acknowledged {
         }
     }
 
-    pub(crate) fn epoch(self) -> u64 {
-        self.epoch
-    }
-
     /// What is noted after an acknowledgement in this epoch.
-    pub(crate) fn in_epoch(self, epoch: u64, now: u64) -> Acknowledged {
+    pub(crate) fn in_epoch(self, epoch: u64, now: u64) -> Acknowledged
+        ensures { result ≡ acknowledged_in epoch now self }
+    {
         if epoch == self.epoch {
             return self;
         }
@@ -88,12 +95,16 @@ impl Acknowledged {
     }
 
     /// Whether one that comes now isn't handed up.
-    pub(crate) fn drops(self, now: u64) -> bool {
+    pub(crate) fn drops(self, now: u64) -> bool
+        ensures { result ≡ drops now self }
+    {
         now < self.until
     }
 
     /// What is noted after one that came.
-    pub(crate) fn after(self, now: u64) -> Acknowledged {
+    pub(crate) fn after(self, now: u64) -> Acknowledged
+        ensures { result ≡ counted now self }
+    {
         let apart = now.saturating_sub(self.last);
         if self.drops(now) || apart < LEAST_APART {
             return self;

@@ -4,11 +4,14 @@ ghost use Rattle.std.specs.Prelude.{◌≡◌, ◌≤◌, ◌++◌, ◌∷◌, [
 ghost use Rattle.mon_resend.specs.Copied.{AreOf, IsOneOf, all_of, datagram};
 ghost use Rattle.mon_link.specs.declared.link.Peer.TheVariants.{Monitor};
 
-use crate::header::{Header, Kind, Part, Piece, part_of};
+use crate::datagram::{Part, Piece, part_of};
 use crate::note::Event;
 use crate::outbox::Outbox;
+use crate::rows::is_of_epoch;
+use mon_decode::{Header, same_kind};
 use mon_link::Outgoing;
 use mon_types::Rank;
+use mon_wire::Kind;
 use std::alloc::Global;
 use std::marker::Model;
 
@@ -123,7 +126,7 @@ impl Copies {
     fn rises(&mut self, header: Header, now: u64)
         ensures { AreOf self.old self.new }
     {
-        if header.kind.is_of_epoch() && header.epoch > self.epoch {
+        if is_of_epoch(header.kind) && header.epoch > self.epoch {
             self.epoch = header.epoch;
             self.apply(Event::Rose(header.epoch), now);
         }
@@ -133,9 +136,9 @@ impl Copies {
     fn is_in(&mut self, header: Header)
         ensures { self.new ≡ self.old }
     {
-        if header.kind == Kind::Probe {
+        if same_kind(header.kind, Kind::Probe) {
             self.own = 0;
-        } else if header.kind.is_of_epoch() {
+        } else if is_of_epoch(header.kind) {
             self.own = header.epoch;
         }
     }
@@ -147,10 +150,10 @@ impl Copies {
     {
         self.rises(header, now);
         self.is_in(header);
-        match header.kind {
-            Kind::Probe => self.apply(Event::Left, now),
-            Kind::Ack => self.apply(Event::Deferred, now),
-            _ => {}
+        if same_kind(header.kind, Kind::Probe) {
+            self.apply(Event::Left, now);
+        } else if same_kind(header.kind, Kind::Ack) {
+            self.apply(Event::Deferred, now);
         }
     }
 
@@ -226,7 +229,7 @@ impl Copies {
     fn drops(&mut self, from: Rank, header: Header, now: u64) -> bool
         ensures { self.new ≡ self.old }
     {
-        if header.kind != Kind::Propose {
+        if !same_kind(header.kind, Kind::Propose) {
             return false;
         }
         match self.place_of(from.get()) {
@@ -251,6 +254,17 @@ impl Copies {
             Some(place) => self.comes_at(place, header, bytes, now),
             None => false,
         }
+    }
+
+    /// Notes that the first piece of a long message came, which may ask again what was answered.
+    #[tactic(auto, using(crate::proofs::Parts::same))]
+    fn asks(&mut self, from: Rank, header: Header, bytes: &[u8], now: u64) -> bool
+        ensures { AreOf self.old self.new }
+    {
+        if same_kind(header.kind, Kind::Begin) || same_kind(header.kind, Kind::Forward) {
+            return self.hears(from, header, bytes, now);
+        }
+        false
     }
 
     fn hears_piece_at(&mut self, place: usize, piece: Piece, now: u64)
@@ -282,10 +296,7 @@ impl Copies {
                 self.rises(header, now);
                 self.drops(from, header, now) || self.hears(from, header, bytes, now)
             }
-            Some(Part::First(header, _)) => match header.kind {
-                Kind::Begin | Kind::Forward => self.hears(from, header, bytes, now),
-                _ => false,
-            },
+            Some(Part::First(header, _)) => self.asks(from, header, bytes, now),
             Some(Part::Later(piece)) => {
                 self.hears_piece(from, piece, now);
                 false
@@ -308,7 +319,9 @@ impl Copies {
     pub(crate) fn passes_at(&mut self, place: usize, now: u64)
         ensures { AreOf self.old self.new }
     {
-        self.apply_at(place, Event::Passed, now);
+        if place < self.boxes.len() {
+            self.boxes[place].ends_spent(now);
+        }
     }
 
     /// How long until the next one is due, and at most `wait`.

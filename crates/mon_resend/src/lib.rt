@@ -3,12 +3,14 @@
 
 mod calls;
 mod copies;
-mod header;
+mod datagram;
 mod measure;
 mod note;
 mod outbox;
 mod resending;
+mod rows;
 mod shelf;
 
 pub use copies::Copies;
+pub use datagram::{Part, Piece, part_of};
 pub use resending::Resending;

@@ -1,30 +1,35 @@
 //! How long a peer takes to answer.
 
+ghost use Rattle.std.specs.Prelude.{◌≡◌};
+ghost use Rattle.mon_resend.specs.Measures.{unmeasured, measured, measured_soon, waits};
+
 /// The least and the greatest time until a copy goes, and that to a peer which wasn't measured yet, in milliseconds.
-const LEAST_TIME: u64 = 3;
+pub(crate) const LEAST_TIME: u64 = 3;
 
-const FIRST: u64 = 500;
+pub(crate) const FIRST: u64 = 500;
 
-const MOST_TIME: u64 = 2_000;
+pub(crate) const MOST_TIME: u64 = 2_000;
 
 /// The parts of a millisecond in which times are smoothed.
-const PARTS: u64 = 1_000;
+pub(crate) const PARTS: u64 = 1_000;
 
 /// How many answers in a row that come soon after the first copy show that the peer is faster than it was.
-const MOST_SOON: u8 = 3;
+pub(crate) const MOST_SOON: u8 = 3;
 
 /// The smoothed time of a peer's answers and its variation, in parts of a millisecond, once there was one.
 #[derive(Clone, Copy)]
-pub(crate) struct Measure {
-    known: bool,
-    smoothed: u64,
-    variation: u64,
+pub struct Measure {
+    pub known: bool,
+    pub smoothed: u64,
+    pub variation: u64,
     /// How many answers in a row came soon after the first copy, at most `MOST_SOON`.
-    soon: u8,
+    pub soon: u8,
 }
 
 impl Measure {
-    pub(crate) fn none() -> Measure {
+    pub(crate) fn none() -> Measure
+        ensures { result ≡ unmeasured }
+    {
         Measure {
             known: false,
             smoothed: 0,
@@ -35,7 +40,9 @@ impl Measure {
 
     /// After an answer that came this many milliseconds after its message went last, as a copy for this many times. After a
     /// copy it may answer an earlier one, which makes the time too short: such an answer counts if it is later than usual.
-    pub(crate) fn after(self, time: u64, copies: u8) -> Measure {
+    pub(crate) fn after(self, time: u64, copies: u8) -> Measure
+        ensures { result ≡ measured time copies self }
+    {
         let time = time.min(MOST_TIME).saturating_mul(PARTS);
         if !self.known {
             return Measure {
@@ -63,7 +70,9 @@ impl Measure {
 
     /// After an answer that came in less than a quarter of the usual time after the first copy. It rarely answers the message
     /// itself. After some in a row the usual time is halved by each.
-    fn after_soon(self) -> Measure {
+    fn after_soon(self) -> Measure
+        ensures { result ≡ measured_soon self }
+    {
         if self.soon.saturating_add(1) < MOST_SOON {
             return Measure {
                 soon: self.soon.saturating_add(1),
@@ -79,7 +88,9 @@ impl Measure {
     }
 
     /// How many milliseconds to wait for an answer.
-    pub(crate) fn wait(self) -> u64 {
+    pub(crate) fn wait(self) -> u64
+        ensures { result ≡ waits self }
+    {
         if !self.known {
             return FIRST;
         }

@@ -5,15 +5,26 @@ ghost use Rattle.mon_resend.specs.Copied.{AreOf, datagram};
 ghost use Rattle.mon_link.specs.declared.link.Peer.TheVariants.{Monitor};
 
 use crate::calls::{Acknowledged, Earlier};
-use crate::header::{BEFORE, Header, Kind, Number, PART, Piece};
+use crate::datagram::Piece;
 use crate::measure::Measure;
 use crate::note::{Event, Note};
+use crate::rows::{Way, is_answered, is_asked_again, is_measured, way_of};
 use crate::shelf::Shelf;
 use mon_bytes::Bytes;
+use mon_decode::{Header, same_kind};
+use mon_frag::{PART, PIECE_HEADER};
 use mon_link::{Outgoing, Peer};
 use mon_types::Rank;
+use mon_wire::Kind;
 use std::alloc::Global;
 use std::marker::Model;
+
+/// What distinguishes a long message from the others of its sender.
+#[derive(Clone, Copy, PartialEq, Eq)]
+struct Number {
+    boot: u64,
+    seq: u64,
+}
 
 /// The long message whose first piece, or a later one, was the last datagram.
 #[derive(Clone, Copy)]
@@ -111,7 +122,7 @@ impl Outbox {
     fn turn(&self) -> Option<u64> {
         for at in 0..self.shelf.len() {
             if let Some(note) = self.shelf.note(at)
-                && note.header.kind == Kind::Forward
+                && same_kind(note.header.kind, Kind::Forward)
             {
                 return if note.held {
                     Some(note.header.first)
@@ -127,7 +138,7 @@ impl Outbox {
     fn has_forward(&self) -> bool {
         for at in 0..self.shelf.len() {
             if let Some(note) = self.shelf.note(at)
-                && note.header.kind == Kind::Forward
+                && same_kind(note.header.kind, Kind::Forward)
             {
                 return true;
             }
@@ -140,12 +151,13 @@ impl Outbox {
         ensures { AreOf self.old self.new }
     {
         self.under_way = UnderWay::Nothing;
-        match header.kind {
-            Kind::GetChunk => self.past = self.heard,
-            Kind::Ack => self.acknowledged = self.acknowledged.in_epoch(header.epoch, now),
-            _ => {}
+        if same_kind(header.kind, Kind::GetChunk) {
+            self.past = self.heard;
         }
-        self.apply(Event::Sent(header), now);
+        if same_kind(header.kind, Kind::Ack) {
+            self.acknowledged = self.acknowledged.in_epoch(header.epoch, now);
+        }
+        self.apply(Event::Sent(header.kind), now);
     }
 
     /// What is noted of a message of this many bytes, given that this datagram has this many of them.
@@ -155,13 +167,13 @@ impl Outbox {
         } else {
             total.div_ceil(PART)
         };
-        let held = header.kind == Kind::Forward && self.has_forward();
+        let held = same_kind(header.kind, Kind::Forward) && self.has_forward();
         Note::new(header, u64::from(pieces), held, self.measure.wait(), now)
     }
 
     /// Whether there is room for the whole of a message.
     fn fits(&self, note: &Note, total: u32) -> bool {
-        let before = note.pieces.saturating_mul(u64::from(BEFORE));
+        let before = note.pieces.saturating_mul(PIECE_HEADER as u64);
         let bytes = u64::from(total).saturating_add(before);
         self.shelf.has_room(note.pieces as usize, bytes as usize)
     }
@@ -215,7 +227,7 @@ impl Outbox {
         ensures { AreOf (self.old ++ datagram (Monitor to) bytes.now ∷ []) self.new }
     {
         self.ends(header, now);
-        if !header.kind.is_kept() {
+        if way_of(header.kind) == Way::Never {
             return true;
         }
         let note = self.note_of(header, total, bytes.len(), now);
@@ -262,11 +274,8 @@ impl Outbox {
         for at in 0..self.shelf.len() {
             if let Some(note) = self.shelf.note(at)
                 && note.pieces == 1
-                && matches!(
-                    note.header.kind,
-                    Kind::Begin | Kind::Collect | Kind::Forward
-                )
-                && note.is_answered_by(came)
+                && is_measured(note.header.kind)
+                && is_answered(&note.header, &came)
             {
                 measured = measured.after(now.saturating_sub(note.last), note.times);
             }
@@ -278,7 +287,7 @@ impl Outbox {
     fn knows(&self, came: Header) -> bool {
         for at in 0..self.shelf.len() {
             if let Some(note) = self.shelf.note(at)
-                && note.answers(came)
+                && is_asked_again(&note.header, &came)
             {
                 return true;
             }
@@ -328,7 +337,7 @@ impl Outbox {
         if call.epoch < own && own % 2 == 0 {
             return self.drops_earlier(now);
         }
-        if call.epoch == own && call.epoch == self.acknowledged.epoch() {
+        if call.epoch == own && call.epoch == self.acknowledged.epoch {
             self.acknowledged = self.acknowledged.after(now);
             return self.acknowledged.drops(now);
         }
@@ -354,18 +363,18 @@ impl Outbox {
     pub(crate) fn comes(&mut self, came: Header, bytes: &[u8], now: u64) -> bool
         ensures { AreOf self.old self.new }
     {
-        match came.kind {
-            Kind::Begin => self.answers(came, now),
-            Kind::GetChunk if self.asks_the_same(bytes) => self.answers(came, now),
-            Kind::Forward => {
-                self.answers(came, now);
-                false
-            }
-            _ => {
-                self.hears(came, now);
-                false
-            }
+        if same_kind(came.kind, Kind::Begin) {
+            return self.answers(came, now);
         }
+        if same_kind(came.kind, Kind::GetChunk) && self.asks_the_same(bytes) {
+            return self.answers(came, now);
+        }
+        if same_kind(came.kind, Kind::Forward) {
+            self.answers(came, now);
+            return false;
+        }
+        self.hears(came, now);
+        false
     }
 
     /// Notes that a later piece came. It says nothing of the CHUNK that is asked for if it is of the one before, which came
@@ -374,7 +383,10 @@ impl Outbox {
     pub(crate) fn hears_piece(&mut self, piece: Piece, now: u64)
         ensures { AreOf self.old self.new }
     {
-        self.heard = Some(piece.number);
+        self.heard = Some(Number {
+            boot: piece.boot,
+            seq: piece.seq,
+        });
         if self.heard != self.past {
             self.apply(
                 Event::Piece {
@@ -383,6 +395,18 @@ impl Outbox {
                 now,
             );
         }
+    }
+
+    /// Drops those that went often enough, and lets the next FORWARD go.
+    #[tactic(auto, using(crate::proofs::Parts::through))]
+    pub(crate) fn ends_spent(&mut self, now: u64)
+        ensures { AreOf self.old self.new }
+    {
+        self.shelf.ends(now);
+        if let Some(seq) = self.turn() {
+            self.shelf.apply(Event::Turn(seq), now);
+        }
+        self.due = self.shelf.due();
     }
 
     /// Whether the datagram at a place goes now. One that went before goes only if `again` allows it.

@@ -116,10 +116,10 @@ impl Shelf {
         let Some(note) = self.note(at).copied() else {
             return;
         };
-        if note.is_ended(event, now) {
+        if note.is_ended(event) {
             self.remove(at);
-        } else if let Some(changed) = note.after(event, now) {
-            self.set_note(at, changed);
+        } else {
+            self.set_note(at, note.after(event, now));
         }
     }
 
@@ -128,6 +128,26 @@ impl Shelf {
     {
         for at in (0..self.kept.len()).rev() {
             self.apply_at(at, event, now);
+        }
+    }
+
+    /// Drops those that went often enough.
+    pub(crate) fn ends(&mut self, now: u64)
+        ensures { AreOf self.old self.new }
+    {
+        for at in (0..self.kept.len()).rev() {
+            self.end_at(at, now);
+        }
+    }
+
+    #[tactic(auto, using(crate::proofs::Parts::same))]
+    fn end_at(&mut self, at: usize, now: u64)
+        ensures { AreOf self.old self.new }
+    {
+        if let Some(note) = self.note(at).copied()
+            && note.is_spent(now)
+        {
+            self.remove(at);
         }
     }
 

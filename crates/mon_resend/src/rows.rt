@@ -1,0 +1,242 @@
+//! Which messages are kept, and what ends them.
+
+ghost use Rattle.std.specs.Prelude.{◌≡◌};
+ghost use Rattle.mon_resend.specs.Rows.{ends, is_answered, is_asked_again, is_chunk, is_copying, is_measured, is_of_epoch, way_of};
+
+use mon_decode::{Header, same_kind};
+use mon_wire::Kind;
+
+/// How a message is sent again.
+#[derive(Clone, Copy, PartialEq, Eq)]
+pub enum Way {
+    /// It isn't kept.
+    Never,
+    /// After a time, since its answer may be missing.
+    ByTime,
+    /// When its question arrives again.
+    WhenAsked,
+}
+
+/// How a message of this kind is sent again.
+pub(crate) fn way_of(kind: Kind) -> Way
+    ensures { result ≡ way_of kind }
+{
+    match kind {
+        Kind::Propose
+        | Kind::Victory
+        | Kind::Collect
+        | Kind::Begin
+        | Kind::Commit
+        | Kind::Lease
+        | Kind::Forward
+        | Kind::GetCookieFull
+        | Kind::GetCookieRecent
+        | Kind::GetChunk => Way::ByTime,
+        Kind::Accept | Kind::Route | Kind::Chunk | Kind::LastChunk => Way::WhenAsked,
+        Kind::Probe
+        | Kind::ProbeReply
+        | Kind::Ack
+        | Kind::Last
+        | Kind::LeaseAck
+        | Kind::Cookie
+        | Kind::NoCookie
+        | Kind::Ping
+        | Kind::PingReply
+        | Kind::Request
+        | Kind::Reply => Way::Never,
+    }
+}
+
+/// Whether the epoch of a message of this kind counts.
+pub(crate) fn is_of_epoch(kind: Kind) -> bool
+    ensures { result ≡ is_of_epoch kind }
+{
+    match kind {
+        Kind::Probe
+        | Kind::Propose
+        | Kind::Ack
+        | Kind::Victory
+        | Kind::Collect
+        | Kind::Last
+        | Kind::Begin
+        | Kind::Accept
+        | Kind::Commit
+        | Kind::Lease
+        | Kind::LeaseAck
+        | Kind::Forward
+        | Kind::Route => true,
+        Kind::ProbeReply
+        | Kind::GetCookieFull
+        | Kind::GetCookieRecent
+        | Kind::Cookie
+        | Kind::GetChunk
+        | Kind::Chunk
+        | Kind::LastChunk
+        | Kind::NoCookie
+        | Kind::Ping
+        | Kind::PingReply
+        | Kind::Request
+        | Kind::Reply => false,
+    }
+}
+
+fn is_copying(kind: Kind) -> bool
+    ensures { result ≡ is_copying kind }
+{
+    same_kind(kind, Kind::GetCookieFull)
+        || same_kind(kind, Kind::GetCookieRecent)
+        || same_kind(kind, Kind::GetChunk)
+}
+
+fn is_chunk(kind: Kind) -> bool
+    ensures { result ≡ is_chunk kind }
+{
+    same_kind(kind, Kind::Chunk) || same_kind(kind, Kind::LastChunk)
+}
+
+/// Whether a message of a kind that begins to go to a monitor ends the copies of one of another kind to it.
+pub(crate) fn ends(sent: Kind, kept: Kind) -> bool
+    ensures { result ≡ ends sent kept }
+{
+    match sent {
+        Kind::Collect => {
+            same_kind(kept, Kind::Collect)
+                || same_kind(kept, Kind::Begin)
+                || same_kind(kept, Kind::Commit)
+                || same_kind(kept, Kind::Lease)
+        }
+        Kind::Begin => {
+            same_kind(kept, Kind::Begin)
+                || same_kind(kept, Kind::Collect)
+                || same_kind(kept, Kind::Lease)
+        }
+        Kind::Commit => {
+            same_kind(kept, Kind::Commit)
+                || same_kind(kept, Kind::Begin)
+                || same_kind(kept, Kind::Lease)
+        }
+        Kind::GetCookieFull | Kind::GetCookieRecent | Kind::GetChunk => is_copying(kept),
+        Kind::Chunk | Kind::LastChunk => is_chunk(kept),
+        Kind::Forward => false,
+        Kind::Propose
+        | Kind::Victory
+        | Kind::Accept
+        | Kind::Lease
+        | Kind::Route
+        | Kind::Probe
+        | Kind::ProbeReply
+        | Kind::Ack
+        | Kind::Last
+        | Kind::LeaseAck
+        | Kind::Cookie
+        | Kind::NoCookie
+        | Kind::Ping
+        | Kind::PingReply
+        | Kind::Request
+        | Kind::Reply => same_kind(kept, sent),
+    }
+}
+
+/// Whether a message that arrived from a monitor ends the copies of one to it. A PROBE or PROPOSE of the same epoch is no
+/// answer to a PROPOSE: the monitor drops this one while it probes, and then proposes itself. What a copier of the store asks
+/// next shows that the CHUNK before it arrived. Nothing that arrives ends a copier's own question: it may answer an earlier
+/// one, and the next question follows at once if it doesn't.
+pub(crate) fn is_answered(kept: &Header, came: &Header) -> bool
+    ensures { result ≡ is_answered kept.now came.now }
+{
+    match kept.kind {
+        Kind::Propose => {
+            is_of_epoch(came.kind)
+                && (kept.epoch < came.epoch
+                    || (came.epoch == kept.epoch && same_kind(came.kind, Kind::Ack)))
+        }
+        Kind::Victory => {
+            same_kind(came.kind, Kind::Last)
+                || same_kind(came.kind, Kind::Accept)
+                || same_kind(came.kind, Kind::LeaseAck)
+        }
+        Kind::Collect => same_kind(came.kind, Kind::Last) && kept.first <= came.first,
+        Kind::Begin => {
+            same_kind(came.kind, Kind::Accept)
+                && came.first == kept.first
+                && came.second == kept.second
+        }
+        Kind::Commit => {
+            (same_kind(came.kind, Kind::LeaseAck) && kept.second <= came.first)
+                || (same_kind(came.kind, Kind::Accept) && kept.second < came.second)
+        }
+        Kind::Lease => same_kind(came.kind, Kind::LeaseAck) && came.first == kept.first,
+        Kind::Forward => same_kind(came.kind, Kind::Route) && came.first == kept.first,
+        Kind::Chunk | Kind::LastChunk => {
+            is_copying(came.kind) || same_kind(came.kind, Kind::Probe)
+        }
+        Kind::Probe
+        | Kind::ProbeReply
+        | Kind::Ack
+        | Kind::Last
+        | Kind::Accept
+        | Kind::LeaseAck
+        | Kind::Route
+        | Kind::GetCookieFull
+        | Kind::GetCookieRecent
+        | Kind::Cookie
+        | Kind::GetChunk
+        | Kind::NoCookie
+        | Kind::Ping
+        | Kind::PingReply
+        | Kind::Request
+        | Kind::Reply => false,
+    }
+}
+
+/// Whether what arrived is the question that this one answers.
+pub(crate) fn is_asked_again(kept: &Header, came: &Header) -> bool
+    ensures { result ≡ is_asked_again kept.now came.now }
+{
+    match kept.kind {
+        Kind::Accept => {
+            same_kind(came.kind, Kind::Begin)
+                && came.epoch == kept.epoch
+                && came.first == kept.first
+                && came.second == kept.second
+        }
+        Kind::Route => {
+            same_kind(came.kind, Kind::Forward)
+                && came.epoch == kept.epoch
+                && came.first == kept.first
+        }
+        Kind::Chunk | Kind::LastChunk => {
+            same_kind(came.kind, Kind::GetChunk)
+                && came.first == kept.first
+                && came.second == kept.second
+        }
+        Kind::Probe
+        | Kind::ProbeReply
+        | Kind::Propose
+        | Kind::Ack
+        | Kind::Victory
+        | Kind::Collect
+        | Kind::Last
+        | Kind::Begin
+        | Kind::Commit
+        | Kind::Lease
+        | Kind::LeaseAck
+        | Kind::Forward
+        | Kind::GetCookieFull
+        | Kind::GetCookieRecent
+        | Kind::Cookie
+        | Kind::GetChunk
+        | Kind::NoCookie
+        | Kind::Ping
+        | Kind::PingReply
+        | Kind::Request
+        | Kind::Reply => false,
+    }
+}
+
+/// Whether the answer to such a message is measured. It is one whose answer is made at once, or after a sync.
+pub(crate) fn is_measured(kind: Kind) -> bool
+    ensures { result ≡ is_measured kind }
+{
+    same_kind(kind, Kind::Begin) || same_kind(kind, Kind::Collect) || same_kind(kind, Kind::Forward)
+}
