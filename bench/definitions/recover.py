@@ -1,16 +1,18 @@
 """Tries in the definitions that a majority finds back to service: the way that docs/PROTOCOL.md describes (The way back), after random runs.
 
-usage: recover.py FIRST_SEED COUNT EVENTS
+usage: recover.py FIRST_SEED COUNT EVENTS [PROGRAM]
 
 A run of fuzz.py is played. Then a majority whose monitors are near the whole log goes on by itself, and a command is asked. It must get its
-reply within 2n² + 14n + 5 events, none of which delivers a message that was sent before. A run that ends early, or after which each such majority
-lacks a member that may lead, is counted apart. The status is 0 if every other run got its reply, and 1 otherwise.
+reply within 2n² + 14n + 5 events, none of which delivers a message that was sent before. If a program is given, its trace of all of these events must
+be the same. A run that ends early, or after which the majority lacks a member that may lead, is counted apart. The status is 0 if every other
+run got its reply, and 1 otherwise.
 """
 from __future__ import annotations
 
 import collections
 import itertools
 import random
+import subprocess
 import sys
 
 import fuzz
@@ -27,7 +29,7 @@ class Way:
         self.play, self.majority = play, majority
         self.leader = min(rank for rank in majority if rank in allowed)
         self.before = len(self.messages())
-        self.events = 0
+        self.lines = []
 
     # What the world is.
 
@@ -61,7 +63,7 @@ class Way:
     # What is done.
 
     def take(self, line: str):
-        self.events += 1
+        self.lines.append(line)
         if not self.play.take(line):
             raise ValueError(f'the run stops at {line!r}')
 
@@ -152,7 +154,7 @@ def allowed_in(play: run.Play) -> list[int]:
     return [rank for rank in range(play.n) if rule.n == 'Classic' or not rule.a[0][rank]]
 
 
-def outcome(seed: int, events: int) -> str:
+def outcome(seed: int, events: int, program: str | None) -> str:
     schedule, play = fuzz.schedule_of(seed, events, 'small')
     if play.stop:
         return 'stopped'
@@ -169,16 +171,22 @@ def outcome(seed: int, events: int) -> str:
         way.go()
     except ValueError as why:
         return f'WRONG: seed {seed}, {majority} of {play.n}: {why}'
-    if not way.replied() or way.events > most:
-        return f'WRONG: seed {seed}, {majority} of {play.n}: {way.events} events of at most {most}, and {"a" if way.replied() else "no"} reply'
+    if not way.replied() or len(way.lines) > most:
+        return f'WRONG: seed {seed}, {majority} of {play.n}: {len(way.lines)} events of at most {most}, and {"a" if way.replied() else "no"} reply'
+    if program:
+        whole = schedule + '\n'.join(way.lines) + '\n'
+        if subprocess.run([program, 'replay'], input=whole.encode('latin-1'), stdout=subprocess.PIPE).stdout.decode('latin-1') != play.ended():
+            return f'WRONG: seed {seed}, {majority} of {play.n}: the program has another trace'
     return 'served'
 
 
 def main(words: list[str]) -> int:
-    first, count, events = map(int, words)
+    first, count, events = map(int, words[:3])
+    program = words[3] if len(words) > 3 else None
     found = collections.Counter()
     for seed in range(first, first + count):
-        result = outcome(seed, events)
+        result = outcome(seed, events, program)
+        run.antt.forget()
         found[result.split(':')[0]] += 1
         if result.startswith('WRONG'):
             print(result, flush=True)
