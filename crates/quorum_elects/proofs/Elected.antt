@@ -1,9 +1,7 @@
 -- A majority that is near the whole log elects a leader, in every run.
 use Rattle.election_rules.specs.Ranking.{allows}
 use Rattle.mon_bytes.specs.declared.command.Command.{Command}
-use Rattle.mon_kv.specs.Readers.{is_marked}
-use Rattle.mon_msg.specs.Protocol.Readings.{epoch_of, readings_of}
-use Rattle.mon_tx.specs.Map.{Store}
+use Rattle.mon_msg.specs.Protocol.Readings.{epoch_of}
 use Rattle.mon_types.specs.Ranks.{has}
 use Rattle.mon_wire.specs.declared.request.Session.{Session}
 use Rattle.quorum_agreement.proofs.Invariant.{LogHolds}
@@ -28,20 +26,12 @@ use Rattle.quorum_model.specs.Monitors.{Monitors}
 use Rattle.quorum_model.specs.Runs.{Ran, ran, run}
 use Rattle.quorum_model.specs.World.{Event, World, first_world}
 use Rattle.quorum_near.proofs.LowWorlds.{AllLow, first_of}
-use Rattle.quorum_near.proofs.Whole.{Holds}
+use Rattle.quorum_near.proofs.Whole.{Holds, last_read, mark_read}
 use Rattle.quorum_near.specs.Near.{HasPending, IsNear}
 use Rattle.std.proofs.Common.{Bool, List, None, Option, ap, arith, false, inl, inr, length, refl, subst, suc, sym, true, ℕ, ◌*◌, ◌++◌, ◌+◌, ◌<◌, ◌∙◌, ◌≡◌, ◌≤◌, ◌⊎◌}
 use Rattle.std.proofs.lemmas.Bool.{cases_order}
 
 -- ---- a monitor that is near
-
-last_read : (m : Store) → (readings_of m).last ≡ last_of m
-unfolding readings_of
-last_read m = refl
-
-mark_read : (m : Store) → (readings_of m).marked ≡ is_marked m
-unfolding readings_of
-mark_read m = refl
 
 pub near_close : (ms : Monitors) (w : World) (H : LogHolds ms w) → AllLow w → (i : ℕ) → i < ms.count → IsNear w i → Close (length w.log) (readings_at w i)
 near_close ms w H L i lt N = by N.near

@@ -13,7 +13,7 @@ use Rattle.mon_msg.specs.Protocol.Readings.{Readings, epoch_of, or_zero, promise
 use Rattle.mon_msg.specs.Protocol.Sending.{members, message_to}
 use Rattle.mon_msg.specs.Protocol.State.{State}
 use Rattle.mon_msg.specs.Protocol.Table.{at_rest, react}
-use Rattle.mon_msg.specs.Protocol.Timers.{armed, is_armed, only_ping}
+use Rattle.mon_msg.specs.Protocol.Timers.{is_armed, only_ping}
 use Rattle.mon_msg.specs.declared.input.Input.TheVariants as input
 use Rattle.mon_msg.specs.declared.plan.Sent.TheVariants as send
 use Rattle.mon_msg.specs.declared.view.Me.{Me}

@@ -86,11 +86,11 @@ all_major n some = record { below = all_below n; major = lt-ltb n (2 * count_of 
 
 -- ---- one that is near
 
-last_read : (m : Store) → (readings_of m).last ≡ last_of m
+pub last_read : (m : Store) → (readings_of m).last ≡ last_of m
 unfolding readings_of
 last_read m = refl
 
-mark_read : (m : Store) → (readings_of m).marked ≡ is_marked m
+pub mark_read : (m : Store) → (readings_of m).marked ≡ is_marked m
 unfolding readings_of
 mark_read m = refl
 

@@ -1,6 +1,5 @@
 -- The rows by which a leader asks what was accepted, if no member lacks more than one version.
 use Rattle.mon_bytes.specs.declared.entry.Entry.{Entry}
-use Rattle.mon_lease.specs.Lease.{stands}
 use Rattle.mon_msg.specs.Protocol.Answers.{last_answer}
 use Rattle.mon_msg.specs.Protocol.Changes.{Last, Learn, Numbers, Promise, Vote}
 use Rattle.mon_msg.specs.Protocol.Collecting.{begin_found, collect, collect_with, commits_to, commits_with, missed, settle}
@@ -20,7 +19,6 @@ use Rattle.mon_msg.specs.Protocol.Sending.{members, message_to}
 use Rattle.mon_msg.specs.Protocol.Sets.{are_within, only}
 use Rattle.mon_msg.specs.Protocol.State.{State}
 use Rattle.mon_msg.specs.Protocol.Table.{at_rest, react}
-use Rattle.mon_msg.specs.Protocol.Value.{value}
 use Rattle.mon_msg.specs.declared.input.Input.TheVariants as input
 use Rattle.mon_msg.specs.declared.paxos.Found.{Found}
 use Rattle.mon_msg.specs.declared.plan.Sent.{Sent}

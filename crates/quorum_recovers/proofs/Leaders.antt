@@ -7,7 +7,6 @@ use Rattle.mon_msg.specs.Protocol.Played.{play}
 use Rattle.mon_msg.specs.Protocol.Readings.{Readings, shared_entries}
 use Rattle.mon_msg.specs.Protocol.Records.{most_value, record_at}
 use Rattle.mon_msg.specs.Protocol.Sets.{are_within, only}
-use Rattle.mon_msg.specs.Protocol.Value.{value}
 use Rattle.mon_msg.specs.declared.plan.Sent.TheVariants as send
 use Rattle.mon_tx.specs.Text.{text}
 use Rattle.mon_tx.specs.declared.op.Op.{Op}
@@ -15,7 +14,6 @@ use Rattle.mon_types.specs.Ranks.{has, no_ranks, with_rank}
 use Rattle.mon_wire.specs.declared.body.Body.{Body}
 use Rattle.mon_wire.specs.declared.body.Body.TheVariants as body
 use Rattle.mon_wire.specs.declared.phase.Phase.TheVariants as phase
-use Rattle.quorum_agreement.proofs.Others.{others}
 use Rattle.quorum_elects.proofs.Can.{Can, New, Onward, Sane, Scope, new_stays, reached_holds, then, weaker}
 use Rattle.quorum_elects.proofs.Majorities.{Majority, scope}
 use Rattle.quorum_elects.proofs.Moving.{Did}

@@ -23,7 +23,7 @@ use Rattle.quorum_recovers.proofs.States.{IsAsking, IsHearing}
 use Rattle.quorum_recovers.proofs.Terms.{Term}
 use Rattle.quorum_recovers.proofs.Terms as terms
 use Rattle.quorum_walk.proofs.Ranks.{has_only, has_only_is, has_with}
-use Rattle.std.proofs.Common.{Bool, List, ap, arith, false, inl, inr, length, ltb, max, subst, suc, sym, true, ℕ, ◌*◌, ◌+◌, ◌<◌, ◌^◌, ◌∙◌, ◌≡◌, ◌≤◌, ◌⊎◌}
+use Rattle.std.proofs.Common.{Bool, List, ap, arith, inl, inr, length, ltb, max, subst, suc, sym, true, ℕ, ◌*◌, ◌+◌, ◌<◌, ◌^◌, ◌∙◌, ◌≡◌, ◌≤◌, ◌⊎◌}
 use Rattle.std.proofs.lemmas.Bool.{cases_lt, false≢true, lt-ltb}
 use Rattle.std.proofs.lemmas.List.{length-set}
 

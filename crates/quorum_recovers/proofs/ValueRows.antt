@@ -12,7 +12,6 @@ use Rattle.mon_msg.specs.Protocol.Hearing.{hear_client, is_heard}
 use Rattle.mon_msg.specs.Protocol.Leader.{commit_any, hear_accept, is_one_of, of_member}
 use Rattle.mon_msg.specs.Protocol.Leading.{be_active, begin, begin_with, commit, extend, has_queue, is_alone}
 use Rattle.mon_msg.specs.Protocol.Learning.{learn}
-use Rattle.mon_msg.specs.Protocol.Length.{fits}
 use Rattle.mon_msg.specs.Protocol.Peon.{hear_begin, hear_commit, of_leader}
 use Rattle.mon_msg.specs.Protocol.Phases.{is_leading, is_peon, same_phase}
 use Rattle.mon_msg.specs.Protocol.Proposing.{begin_made, propose, refusal}

@@ -15,7 +15,7 @@ use Rattle.quorum_model.specs.Monitors.{Monitors}
 use Rattle.quorum_model.specs.Runs.{run}
 use Rattle.quorum_model.specs.World.{Asked, Event, Replied, World}
 use Rattle.std.specs.List.{Contains}
-use Rattle.std.specs.Prelude.{Bool, Err, List, Option, Some, [], length, suc, ℕ, ◌+◌, ◌<◌, ◌∷◌, ◌≡◌, ◌≤◌, ◌⊎◌}
+use Rattle.std.specs.Prelude.{Bool, Err, List, Option, [], length, suc, ℕ, ◌+◌, ◌<◌, ◌∷◌, ◌≡◌, ◌≤◌, ◌⊎◌}
 
 -- What was asked is version v + 1 of the log. The log didn't have that version before, and it had all versions before it, or all but one.
 pub record IsDone (n : ℕ) (before after : World) (asked : Asked) (r : Reply) : Type 0 where
