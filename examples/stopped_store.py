@@ -105,8 +105,8 @@ class Export(NamedTuple):
         return read_export(before + place + epoch.to_bytes(8, 'little') + after[8:])
 
 
-def counted(count: int, name: str) -> str:
-    return f'{count} {name}' if count == 1 else f'{count} {name}s'
+def counted(count: int, name: str, names: str | None = None) -> str:
+    return f'{count} {name}' if count == 1 else f'{count} {names or name + "s"}'
 
 
 def surplus_dropped(texts: list) -> list:
