@@ -7,7 +7,7 @@ import random
 import re
 from typing import NamedTuple
 
-from played import app, quorum_file, run
+from played import Refused, app, lines_of, quorum_file, run
 from schedules import IMAGES, MOST_EVENTS, TIMERS, Fault, fault_of_event, fault_of_header, is_within
 
 # The actions at a time, each with its form, and a request, which ends with a value or a text, and what is before that.
@@ -163,7 +163,7 @@ class Scenario:
         return [self.rank(rest[0]), f'crash {rest[1]} {numbered(rest[2], 1000, "call", 1)} {numbered(rest[3], IMAGES - 1, "image")}']
 
     def of_cut(self, _time, _name, rest):
-        return [links_cut(rest[0], self.monitors)] if len(rest) == 1 else None
+        return [links_cut(rest[0], self.monitors), rest[0]] if len(rest) == 1 else None
 
     def of_network(self, _time, name, rest):
         """What is so of a link or of all from then on, or of the next messages of a kind."""
@@ -189,7 +189,7 @@ class Simulation:
 
     def __init__(self, scenario: Scenario):
         self.scenario, self.play = scenario, run.Play(scenario.header)
-        self.schedule = [scenario.header]
+        self.schedule, self.marks = [scenario.header], {}
         self.now, self.cut, self.dead, self.tears, self.named = 0, set(), set(), {}, []
         # What is so of a link, or of all links for the key None.
         self.network = {'latency': {None: 1}, 'loss': {None: 0}, 'repeat': {None: 0}, 'delay': {None: (0, 0)}}
@@ -252,7 +252,20 @@ class Simulation:
                 found += [(timer.a[0], rank, name) for name, timer in timers if timer.n == 'Some']
         return min(found, default=None)
 
+    def mark(self, name: str, rest: list):
+        """Notes what becomes of the network, before the next event."""
+        if name == 'cut':
+            said = f'cut {rest[1]}' if rest[0] else 'the network is whole'
+        elif name in ('lose', 'twice', 'late'):
+            it = rest[0]
+            said = f'{it.count} {it.kind}{f" {it.link[0]}>{it.link[1]}" if it.link else ""}: {it.what}{f" by {it.later} ms" if it.later else ""}'
+        else:
+            said = f'{name} {rest[1]}{f" {rest[0][0]}>{rest[0][1]}" if rest[0] else ""}'
+        self.marks.setdefault(len(self.schedule), []).append(f'{said}, at {self.now} ms')
+
     def act(self, name: str, rest: list):
+        if name in ('cut', 'lose', 'twice', 'late') or name in self.network and self.now > 0:
+            self.mark(name, rest)
         if name == 'start':
             for rank in rest:
                 self.dead.discard(rank)
@@ -292,6 +305,15 @@ class Simulation:
                 self.take(f'timer {timer[1]} {timer[2]} {self.now}', timer[1])
 
 
-def scheduled(lines: list[str]) -> list[str]:
-    """The schedule of a scenario. Raises Faulty at its first fault."""
-    return Simulation(Scenario(lines)).run()
+def read_schedule(octets: bytes) -> tuple[list[str], dict[int, list[str]]]:
+    """The lines of a schedule, or those of a scenario's, with what becomes of its network before which events. Raises Refused."""
+    try:
+        return lines_of(octets), {}
+    except Refused as why:
+        if not re.search(rb'^until ', octets, re.MULTILINE):
+            raise
+        try:
+            simulation = Simulation(Scenario(octets.decode('utf-8', 'surrogateescape').split('\n')))
+            return simulation.run(), simulation.marks
+        except Faulty as other:
+            raise Refused(f'this is neither a schedule ({why}) nor a scenario ({other})') from None

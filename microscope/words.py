@@ -68,6 +68,8 @@ TESTS = [
     ('of_provider', False, "the message isn't from the monitor that is copied"),
     ('is_cookie', False, "the message is of another copy"),
 ]
+# Values of a monitor that starts which say nothing.
+PLAIN = '-', '0', '{}', '[]', 'no', 'off'
 SEND = re.compile(r'  send (\d+) (\d+)>(\d+) (\S+) e=(\d+) ?(.*)')
 UPSET = re.compile(r'(crash|fail) ([ab]) (\d+) (\d) (.*)')
 IMAGES = ['nothing', 'all', 'the first half', 'other bytes']
@@ -122,6 +124,27 @@ def paragraph_of(row: str) -> tuple[str, str]:
             points = [more for at, more in enumerate(points, 1) if (re.search(r'[Dd]rop', more) if chosen is None else at in chosen)]
             return section, ' '.join(' '.join([block, *points]).split()).replace('*', '').replace('`', '')
     raise LookupError(f'docs/PROTOCOL.md has no paragraph that begins with {begin}')
+
+
+def changes_of(step: Step) -> list[str]:
+    """What an event changed, a line for each part. All that a monitor begins with is a line, and so is all that it forgets."""
+    began = {rank for rank, part, _, after in step.changes if (part, after) == ('up', 'yes')}
+    ended = {rank for rank, part, _, after in step.changes if (part, after) == ('up', 'no')}
+    lines = []
+    for rank in sorted(began):
+        values = [f'{part} {after}' for of, part, before, after in step.changes
+                  if of == rank and before == '-' and part != 'up' and not part.startswith('store ') and not is_plain(after)]
+        lines.append(f'monitor {rank} begins with: {", ".join(values)}')
+    lines += [f'monitor {rank} forgets all but its store' for rank in sorted(ended)]
+    for rank, part, before, after in step.changes:
+        if not (rank in began | ended and (part == 'up' or not part.startswith('store '))):
+            lines.append(f'monitor {rank}: {part}: {before} -> {after}')
+    return lines
+
+
+def is_plain(value: str) -> bool:
+    """Whether a first value says nothing, or is a list of such values."""
+    return value in PLAIN or value.startswith('[') and all(part in PLAIN for part in value[1:-1].split(', '))
 
 
 class Story:
