@@ -80,10 +80,10 @@ Brings before w g to e other = Unit {0}
 abbrev pub Back : (before w : World) → Ghost → Envelope → Type 0
 Back before w g x = Brings before w g x.to x.message.epoch x.message.body
 
-abbrev pub OneRefused : (before w : World) → Replied → Type 0
-OneRefused before w r = Refuses r.reply → IsRefused before w r.rank r.session r.epoch r.reply
+abbrev pub IsKnown : (before w : World) → Replied → Type 0
+IsKnown before w r = Refuses r.reply → IsRefused before w r.rank r.session r.epoch r.reply
 
-pub record Right (before w : World) (g : Ghost) : Type 0 where
+pub record Refusals (before w : World) (g : Ghost) : Type 0 where
   pub known : AllByRecursion (λ (a : Acknowledged). Among a w.acknowledged) before.acknowledged
   pub back : AllByRecursion (Back before w g) w.messages
   pub refused : AllRefused before w
@@ -119,11 +119,11 @@ module _ (before w next : World) (asked : (a : Asked) → Contains w.asked a →
         by other k = tt
 
     -- nothing is said
-    right_lasts : next.messages ≡ w.messages → next.replied ≡ w.replied → next.acknowledged ≡ w.acknowledged → Right before w g → Right before next h
-    right_lasts m r a k = record {
+    refusals_last : next.messages ≡ w.messages → next.replied ≡ w.replied → next.acknowledged ≡ w.acknowledged → Refusals before w g → Refusals before next h
+    refusals_last m r a k = record {
       known = subst (λ (xs : List Acknowledged). AllByRecursion (λ (b : Acknowledged). Among b xs) before.acknowledged) (sym a) k.known;
       back = subst (AllByRecursion (Back before next h)) (sym m) (all_map _ _ back_lasts w.messages k.back);
-      refused = subst (AllByRecursion (OneRefused before next)) (sym r) (all_map (OneRefused before w) (OneRefused before next) (λ x z u. refusal_lasts x.rank x.session x.epoch x.reply (z u)) w.replied k.refused);
+      refused = subst (AllByRecursion (IsKnown before next)) (sym r) (all_map (IsKnown before w) (IsKnown before next) (λ x z u. refusal_lasts x.rank x.session x.epoch x.reply (z u)) w.replied k.refused);
     }
 
 -- what was asked by now was asked before what comes next
@@ -144,11 +144,11 @@ module _ (before w : World) where
     since = inl k.was_asked;
   }
 
-  pub right_now : (g : Ghost) → Right before w g → Right w w g
-  right_now g k = record {
+  pub refusals_now : (g : Ghost) → Refusals before w g → Refusals w w g
+  refusals_now g k = record {
     known = all_there w.acknowledged;
     back = all_map _ _ (λ x z. by x.to x.message.epoch x.message.body z) w.messages k.back;
-    refused = all_map (OneRefused before w) (OneRefused w w) (λ x z u. refusal_old x.rank x.session x.epoch x.reply (z u)) w.replied k.refused;
+    refused = all_map (IsKnown before w) (IsKnown w w) (λ x z u. refusal_old x.rank x.session x.epoch x.reply (z u)) w.replied k.refused;
   }
     where
       by : (to e : ℕ) (b : Body) → Brings before w g to e b → Brings w w g to e b
@@ -173,7 +173,7 @@ module _ (ms : Monitors) (w : World) (R : Reached ms w) where
 
 -- ---- an event
 
-module _ (ms : Monitors) (before w : World) (R : Reached ms w) (I : InvOf ms w) (O : Right before w I.g) (asked : List Asked) (still_asked : (a : Asked) → Contains w.asked a → Contains asked a) (J : InvWith ms w asked) (up : Further I.g J.g) (d : Does ms w (Back before w I.g) asked J) where
+module _ (ms : Monitors) (before w : World) (R : Reached ms w) (I : InvOf ms w) (O : Refusals before w I.g) (asked : List Asked) (still_asked : (a : Asked) → Contains w.asked a → Contains asked a) (J : InvWith ms w asked) (up : Further I.g J.g) (d : Does ms w (Back before w I.g) asked J) where
   abbrev rank : ℕ
   rank = d.by.rank
 
@@ -305,20 +305,20 @@ module _ (ms : Monitors) (before w : World) (R : Reached ms w) (I : InvOf ms w) 
 
     -- ---- what is said now
 
-    new_refused : AllByRecursion (OneRefused before next) (replies_of next.events rank m d.y.out)
+    new_refused : AllByRecursion (IsKnown before next) (replies_of next.events rank m d.y.out)
     new_refused = by (saying.calm me d.by.at w0 s d.by.came From Routed Voted d.y outcome)
       where
-        none : (out : List Sent) → AllByRecursion NoRefusal out → AllByRecursion (OneRefused before next) (replies_of next.events rank m out)
+        none : (out : List Sent) → AllByRecursion NoRefusal out → AllByRecursion (IsKnown before next) (replies_of next.events rank m out)
         none [] k = tt
         none (sent.Message to x ∷ out) k = none out k.1
         none (sent.Reply t r ∷ out) k = ((λ u. absurd (k.0 u)), none out k.1)
 
-        some : epoch_of (readings_of m) ≡ epoch_of w0 → (out : List Sent) → AllByRecursion Founded out → AllByRecursion (OneRefused before next) (replies_of next.events rank m out)
+        some : epoch_of (readings_of m) ≡ epoch_of w0 → (out : List Sent) → AllByRecursion Founded out → AllByRecursion (IsKnown before next) (replies_of next.events rank m out)
         some e [] k = tt
         some e (sent.Message to x ∷ out) k = some e out k.1
         some e (sent.Reply t r ∷ out) k = ((λ u. subst (λ (f : ℕ). IsRefused before next rank t f r) (sym e) (elim (k.0 u) [ inl D ↦ decided_here t r D | inr H ↦ brought t r u H ])), some e out k.1)
 
-        by : saying.Calm me d.by.at w0 s d.by.came From Routed Voted d.y → AllByRecursion (OneRefused before next) (replies_of next.events rank m d.y.out)
+        by : saying.Calm me d.by.at w0 s d.by.came From Routed Voted d.y → AllByRecursion (IsKnown before next) (replies_of next.events rank m d.y.out)
         by (inl k) = none d.y.out k
         by (inr same) = some (ap epoch_of read ∙ same) d.y.out (saying.founded me d.by.at w0 s d.by.came From Routed Voted d.y outcome)
 
@@ -337,18 +337,18 @@ module _ (ms : Monitors) (before w : World) (R : Reached ms w) (I : InvOf ms w) 
 -- ---- runs
 
 abbrev pub Holds : Monitors → (before w : World) → Type 0
-Holds ms before w = (I : InvOf ms w) × Right before w I.g
+Holds ms before w = (I : InvOf ms w) × Refusals before w I.g
 
 -- if its log goes on
-abbrev Goes : Monitors → (before w next : World) → Type 0
-Goes ms before w next = Fronts w.log next.log → Holds ms before next
+abbrev GoesOn : Monitors → (before w next : World) → Type 0
+GoesOn ms before w next = Fronts w.log next.log → Holds ms before next
 
-keeps : (ms : Monitors) (before w : World) (R : Reached ms w) (I : InvOf ms w) (O : Right before w I.g) (p : Plain) (J : InvWith ms w (with_asked p w.asked)) → Further I.g J.g → Keeps ms w (Back before w I.g) p J (Goes ms before w)
+keeps : (ms : Monitors) (before w : World) (R : Reached ms w) (I : InvOf ms w) (O : Refusals before w I.g) (p : Plain) (J : InvWith ms w (with_asked p w.asked)) → Further I.g J.g → Keeps ms w (Back before w I.g) p J (GoesOn ms before w)
 unfolding unmoved moved kept_only lost
 keeps ms before w R I O p J up = record {
-  nothing = λ f. (let A = K.nothing in (A.0, right_lasts before w (unmoved w p) (still_among p w.asked) f I.g A.0.g (further_trans I.g J.g A.0.g up A.1) refl refl refl O));
-  loses = λ i lt f. (let A = K.loses i lt in (A.0, right_lasts before w (lost w p i) (still_among p w.asked) f I.g A.0.g (further_trans I.g J.g A.0.g up A.1) refl refl refl O));
-  goes_down = λ d f. (let A = K.goes_down d in (A.0, right_lasts before w (kept_only w p d.by.rank (reaction_of d.y)) (still_among p w.asked) f I.g A.0.g (further_trans I.g J.g A.0.g up A.1) refl refl refl O));
+  nothing = λ f. (let A = K.nothing in (A.0, refusals_last before w (unmoved w p) (still_among p w.asked) f I.g A.0.g (further_trans I.g J.g A.0.g up A.1) refl refl refl O));
+  loses = λ i lt f. (let A = K.loses i lt in (A.0, refusals_last before w (lost w p i) (still_among p w.asked) f I.g A.0.g (further_trans I.g J.g A.0.g up A.1) refl refl refl O));
+  goes_down = λ d f. (let A = K.goes_down d in (A.0, refusals_last before w (kept_only w p d.by.rank (reaction_of d.y)) (still_among p w.asked) f I.g A.0.g (further_trans I.g J.g A.0.g up A.1) refl refl refl O));
   goes_on = λ d f. (
       let A = K.goes_on d in
       let next = moved w p d.by.rank (reaction_of d.y) in
@@ -358,7 +358,7 @@ keeps ms before w R I O p J up = record {
         record {
           known = all_map (λ (a : Acknowledged). Among a w.acknowledged) _ (λ a k. among_left a w.acknowledged _ k) before.acknowledged O.known;
           back = all_append (Back before next A.0.g) w.messages (messages_of d.y.out) (all_map _ _ (back_lasts before w next (still_among p w.asked) f I.g A.0.g (further_trans I.g J.g A.0.g up A.1)) w.messages O.back) B;
-          refused = all_append (OneRefused before next) w.replied _ (all_map (OneRefused before w) (OneRefused before next) (λ x z u. refusal_lasts before w next (still_among p w.asked) f x.rank x.session x.epoch x.reply (z u)) w.replied O.refused) N;
+          refused = all_append (IsKnown before next) w.replied _ (all_map (IsKnown before w) (IsKnown before next) (λ x z u. refusal_lasts before w next (still_among p w.asked) f x.rank x.session x.epoch x.reply (z u)) w.replied O.refused) N;
         },
       ));
 }
@@ -366,8 +366,8 @@ keeps ms before w R I O p J up = record {
     K : Keeps ms w (Back before w I.g) p J (After ms w (with_asked p w.asked) J)
     K = each_keeps ms w (Back before w I.g) p J
 
-follows : (ms : Monitors) (before w : World) (e : Event) → Reached ms w → PlainFits ms.count (plain_of e) → Holds ms before w → IfOk (happens ms w e) (Goes ms before w)
-follows ms before w e R F h = let O = h.1 in each_event ms w (Back before w h.0.g) h.0 (Goes ms before w) O.back e F (λ J up. keeps ms before w R h.0 h.1 (plain_of e) J up)
+follows : (ms : Monitors) (before w : World) (e : Event) → Reached ms w → PlainFits ms.count (plain_of e) → Holds ms before w → IfOk (happens ms w e) (GoesOn ms before w)
+follows ms before w e R F h = let O = h.1 in each_event ms w (Back before w h.0.g) h.0 (GoesOn ms before w) O.back e F (λ J up. keeps ms before w R h.0 h.1 (plain_of e) J up)
 
 at_start : (ms : Monitors) → Holds ms first_world first_world
 at_start ms = (at_first ms, record { known = tt; back = tt; refused = tt })
@@ -376,16 +376,16 @@ at_start ms = (at_first ms, record { known = tt; back = tt; refused = tt })
 module _ (ms : Monitors) where
   -- of a world that a run reaches
   from_now : (w : World) (later : List Event) → AllFit ms.count later → Reached ms w → Holds ms first_world w → AllRefused w (run_from ms w later)
-  from_now w later F R h = let O = (runs_on ms (Holds ms w) (follows ms w) w later F R (h.0, right_now first_world w h.0.g h.1)).1 in O.refused
+  from_now w later F R h = let O = (runs_on ms (Holds ms w) (follows ms w) w later F R (h.0, refusals_now first_world w h.0.g h.1)).1 in O.refused
 
   both : (w : World) (earlier later : List Event) → AllFit ms.count (earlier ++ later) → Reached ms w → Holds ms first_world w → AllRefused (run_from ms w earlier) (run_from ms w (earlier ++ later))
   unfolding ran_from
   both w [] later F R h = from_now w later F R h
   both w (e ∷ es) later F R h = by (happens ms w e) refl (follows ms first_world w e R F.0 h) (λ next S. both next es later F.1 S)
     where
-      by : (r : Result World Stop) → happens ms w e ≡ r → IfOk r (Goes ms first_world w) → ((next : World) → Reached ms next → Holds ms first_world next → AllRefused (run_from ms next es) (run_from ms next (es ++ later))) → AllRefused (goes_on w (λ next. ran_from ms next es) r).world (goes_on w (λ next. ran_from ms next (es ++ later)) r).world
+      by : (r : Result World Stop) → happens ms w e ≡ r → IfOk r (GoesOn ms first_world w) → ((next : World) → Reached ms next → Holds ms first_world next → AllRefused (run_from ms next es) (run_from ms next (es ++ later))) → AllRefused (goes_on w (λ next. ran_from ms next es) r).world (goes_on w (λ next. ran_from ms next (es ++ later)) r).world
       by (Ok next) q k ih = ih next (reached_next ms w next e F.0 q R) (k (fronts_next ms w next e F.0 q R))
-      by (Err stop) q k ih = let O = (right_now first_world w h.0.g h.1) in O.refused
+      by (Err stop) q k ih = let O = (refusals_now first_world w h.0.g h.1) in O.refused
 
   pub all_refused : (earlier later : List Event) → AllFit ms.count (earlier ++ later) → AllRefused (run ms earlier) (run ms (earlier ++ later))
   all_refused earlier later F = both first_world earlier later F (reached_first ms) (at_start ms)

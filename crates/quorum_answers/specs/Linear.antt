@@ -16,8 +16,8 @@ abbrev pub Completed : World → Operation → Type 0
 Completed w (Write a) = Contains w.acknowledged a
 Completed w (Read r) = Contains w.replied r × Shows r.reply
 
--- The event in which it takes effect: the leader acknowledges the write, or the monitor replies to the read. Its client asked in that
--- event or before it, and has its answer in that event or after it.
+-- The event in which it takes effect: the leader acknowledges the write, or the monitor replies to the read. Its client
+-- asked in that event or before it, and gets its answer in that event or after it.
 abbrev pub its_event : Operation → ℕ
 its_event (Write a) = a.event
 its_event (Read r) = r.event
@@ -33,9 +33,11 @@ Precedes (Write a) (Read r) = a.version ≤ r.last
 Precedes (Read r) (Write a) = r.last < a.version
 Precedes (Read q) (Read r) = q.last ≤ r.last
 
--- Each write is a version of the one log, and each read shows what the versions up to its last one make. In one epoch, which
--- may have any monitors, the order of events is the order of that log.
+-- Each write is a version of the one log, and each read shows what the versions up to its last one make. In one epoch,
+-- whichever monitors reply, the order of events is the order of that log. That includes the order of time: if a client has
+-- the answer to x before another asks y, then the event of x is earlier.
 pub record Linearizable (n : ℕ) (w : World) : Type 0 where
   pub writes : Kept n w
   pub reads : Shown w
-  pub order : (x y : Operation) → Completed w x → Completed w y → its_epoch x ≡ its_epoch y → its_event x < its_event y → Precedes x y
+  pub order : (x y : Operation) → Completed w x → Completed w y → its_epoch x ≡ its_epoch y
+      → its_event x < its_event y → Precedes x y

@@ -5,7 +5,8 @@ use Rattle.mon_wire.specs.declared.reply.Reply.{Reply}
 use Rattle.mon_wire.specs.declared.reply.Reply.TheVariants as reply
 use Rattle.quorum_model.specs.World.{World, Replied}
 
--- A reply that shows a map, or lists its changes. Each kind of reply is named, so that whoever adds one decides what is promised of it.
+-- A reply that shows a map, or lists its changes. Each kind of reply is named, so that whoever adds one decides what is
+-- promised of it.
 abbrev pub Shows : Reply → Type 0
 Shows (reply.Shown s paxos version map) = Unit {0}
 Shows (reply.Since s from told more) = Unit {0}

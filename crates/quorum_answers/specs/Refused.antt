@@ -12,7 +12,8 @@ use Rattle.mon_wire.specs.declared.request.Session.{Session}
 use Rattle.quorum_model.specs.Clients.{command_of}
 use Rattle.quorum_model.specs.World.{World, Asked}
 
--- A reply that refuses a command for good. Each kind of reply is named, so that whoever adds one decides what is promised of it.
+-- A reply by which a service refuses a command. Each kind of reply is named, so that whoever adds one decides what is
+-- promised of it.
 abbrev pub Refuses : Reply → Type 0
 Refuses reply.NoSuch = Unit {0}
 Refuses (reply.TooLong len most) = Unit {0}
@@ -28,8 +29,9 @@ Refuses (reply.Busy waiting) = ⊥
 abbrev pub CoversAll : World → (epoch version : ℕ) → Type 0
 CoversAll w epoch version = AllByRecursion (λ a. a.epoch ≡ epoch → a.version ≤ version) w.acknowledged
 
--- Session t asked a command of monitor i, and the command's service refuses it so over the versions of the log up to this one. If it
--- wasn't asked before, these include all that had been acknowledged before in that epoch.
+-- Session t asked a command of monitor i, and the command's service refuses it so over the versions of the log up to this
+-- one. If it wasn't asked before, these include all that had been acknowledged before in that epoch. A request that a
+-- session repeats on one monitor is asked when it is asked first.
 pub record IsRefused (before w : World) (i : ℕ) (t : Session) (e : ℕ) (r : Reply) : Type 0 where
   pub asked : Asked
   pub was_asked : Contains w.asked asked
@@ -46,4 +48,5 @@ pub record IsRefused (before w : World) (i : ℕ) (t : Session) (e : ℕ) (r : R
 
 -- of a world, and of one before it in the same run
 abbrev pub AllRefused : (before w : World) → Type 0
-AllRefused before w = AllByRecursion (λ r. Refuses r.reply → IsRefused before w r.rank r.session r.epoch r.reply) w.replied
+AllRefused before w =
+    AllByRecursion (λ r. Refuses r.reply → IsRefused before w r.rank r.session r.epoch r.reply) w.replied

@@ -7,18 +7,22 @@ ghost use Rattle.quorum_answers.specs.Linear.{Linearizable};
 ghost use Rattle.quorum_answers.specs.Reads.{EachOnward, EpochsOnward};
 ghost use Rattle.quorum_answers.specs.Refused.{AllRefused};
 
-/// The acknowledged writes and the reads of one epoch are linearizable, in every run of any monitors under any rule, whatever is lost,
-/// repeated or late and wherever monitors crash. What is shown in an epoch, by whichever monitors, is never older than what was
-/// shown before in that epoch. What one monitor shows is never older than what it showed before, in whatever epochs.
+/// The acknowledged writes and the reads of one epoch are linearizable, in every run of any monitors under any rule,
+/// whatever is lost, repeated or late and wherever monitors crash. What is shown in an epoch, by whichever monitors, is
+/// never older than what was shown before in that epoch. What one monitor shows is never older than what it showed
+/// before, in whatever epochs.
 pub fn law_reads()
-    ensures linear { (ms : Monitors) (events : List Event) → AllFit ms.count events → Linearizable ms.count (run ms events) }
-    ensures epochs { (ms : Monitors) (events : List Event) → AllFit ms.count events → EpochsOnward (run ms events) }
-    ensures each { (ms : Monitors) (events : List Event) → AllFit ms.count events → EachOnward (run ms events) }
+    ensures linear { (ms : Monitors) (events : List Event) → AllFit ms.count events
+        → Linearizable ms.count (run ms events) }
+    ensures epochs { (ms : Monitors) (events : List Event) → AllFit ms.count events
+        → EpochsOnward (run ms events) }
+    ensures each { (ms : Monitors) (events : List Event) → AllFit ms.count events
+        → EachOnward (run ms events) }
 {}
 
-/// Each NoSuch, TooLong and MapFull answers a command that its session asked of its monitor, in every run of any monitors. It is the
-/// refusal of the command's service over the versions of the one log up to some version. That version isn't below any that was
-/// acknowledged in the monitor's epoch before the command was asked.
+/// Each NoSuch, TooLong and MapFull answers a command that its session asked of its monitor, in every run of any
+/// monitors. It is the refusal of the command's service over the versions of the one log up to some version. That
+/// version isn't below any that was acknowledged in the monitor's epoch before the command was asked.
 pub fn law_refusals()
     ensures { (ms : Monitors) (before after : List Event) → AllFit ms.count (before ++ after)
         → AllRefused (run ms before) (run ms (before ++ after)) }

@@ -1,4 +1,5 @@
-//! What an answer promises beside `Safe`: reads and writes of one epoch are linearizable, and a refusal is the service's.
+//! What answers promise beside `Safe`: reads and writes of one epoch are linearizable, and refusals are those of the
+//! services over the log.
 #![tactic(auto)]
 
 mod laws;
