@@ -2,6 +2,12 @@
 #![tactic(auto)]
 
 #[cfg(test)]
+mod again;
+#[cfg(test)]
+mod again_calls;
+#[cfg(test)]
+mod again_copies;
+#[cfg(test)]
 mod digits;
 #[cfg(test)]
 mod frag;
