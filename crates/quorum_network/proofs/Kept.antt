@@ -136,7 +136,7 @@ module _ (A : Assembly) (ms : Monitors) (F : Facts ms) (net : Network) (w : Worl
     pub bounded : IsBounded me r
     bounded = subst (λ (x : Result Reaction Which). IfOk x (IsBounded me)) reacts (reaction_ok me at n.store.kv n.state came remembers may)
 
-    named : AllByRecursion TellsNamed r.sends
+    pub named : AllByRecursion TellsNamed r.sends
     named = named_sends r.sends (λ e c. F.named (moved w p i r) reach e (subst (λ (es : List Envelope). Contains es e) (sym (messages_moved w p i r)) (Contains-append_right w.messages (messages_of r.sends) e c)))
 
     texts : IsNumber (epoch (map_after n r)) → AllByRecursion (SentHasText me (epoch (map_after n r))) r.sends

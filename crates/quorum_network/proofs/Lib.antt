@@ -1,5 +1,6 @@
 pub mod Adding
 pub mod AnyDisk
+pub mod Anyhow
 pub mod Assembled
 pub mod Assembling
 pub mod EachTurn
@@ -8,6 +9,7 @@ pub mod Ends
 pub mod Events
 pub mod Facts
 pub mod Heeded
+pub mod History
 pub mod Inputs
 pub mod Invariant
 pub mod Joined

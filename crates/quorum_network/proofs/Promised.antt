@@ -310,7 +310,7 @@ module _ (ms : Monitors) (asks : List Asked) (net : Network) (es : List Event) (
 -- ---- at two points of time
 
 module _ (ms : Monitors) (asks : List Asked) (acks : List Acknowledgement) (leads : List Leadership) (net : Network) (S : Stands assembly ms asks acks leads net) where
-  abbrev world : World
+  abbrev pub world : World
   world = run ms S.reach.events
 
   world_is : world ≡ S.w
@@ -325,7 +325,7 @@ module _ (ms : Monitors) (asks : List Asked) (acks : List Acknowledgement) (lead
   asked_so : AllByRecursion (λ a. Contains asks a) world.asked
   asked_so = subst (λ (w : World). AllByRecursion (λ a. Contains asks a) w.asked) (sym world_is) S.asked
 
-  stands_log : IsLogOf ms asks acks net world.log
+  pub stands_log : IsLogOf ms asks acks net world.log
   stands_log = subst (λ (xs : List Acknowledgement). IsLogOf ms asks xs net world.log) acks_are
       (is_log ms asks net S.reach.events S.reach.fits runs_so asked_so S.inv.ls S.inv.letters (λ l c. subst (λ (w : World). IsSaid ms.count w l l.to) (sym world_is) (S.inv.said l c)) S.inv.posted)
 

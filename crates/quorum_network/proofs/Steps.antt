@@ -240,7 +240,7 @@ module _ (A : Assembly) (ms : Monitors) (F : Facts ms) (net : Network) (w : Worl
 
   -- ---- which turn it is
 
-  begins_fine : (stood : Stood) (clock : Option Readings) (link : Option Told) (first : ℕ) → stood.kv ≡ map_of (net.process i) → Contains (net.lives i) (number_of net.lives i)
+  pub begins_fine : (stood : Stood) (clock : Option Readings) (link : Option Told) (first : ℕ) → stood.kv ≡ map_of (net.process i) → Contains (net.lives i) (number_of net.lives i)
       → ((l : Letter) → Contains I.ls l → l.by ≡ i → l.boot ≡ number_of net.lives i → ⊥)
       → TurnFine (start first (unstarted me.member.rank stood clock link)).came (start first (unstarted me.member.rank stood clock link)).serving
   begins_fine stood clock link first kv alive none = record {
@@ -290,7 +290,7 @@ module _ (A : Assembly) (ms : Monitors) (F : Facts ms) (net : Network) (w : Worl
       fresh = u.next;
     }
 
-    turns_fine : (g : Given) → IsAsked net i (due_by g.began (due s.node.state.timers)) g.answer → TurnFine (turn me g s).came (turn me g s).serving
+    pub turns_fine : (g : Given) → IsAsked net i (due_by g.began (due s.node.state.timers)) g.answer → TurnFine (turn me g s).came (turn me g s).serving
     unfolding turn
     turns_fine g asked =
         let next = due s.node.state.timers in
@@ -365,11 +365,11 @@ module _ (A : Assembly) (ms : Monitors) (net : Network) (w : World) (I : Inv A m
 -- ---- a step
 
 module _ (A : Assembly) (ms : Monitors) (F : Facts ms) (net : Network) (w : World) (R : Reach ms w) (I : Inv A ms net w) where
-  newest_here : (i life : ℕ) (b : Bool) → b ≡ true → newest (cond b (life ∷ net.lives i) (net.lives i)) ≡ life
+  pub newest_here : (i life : ℕ) (b : Bool) → b ≡ true → newest (cond b (life ∷ net.lives i) (net.lives i)) ≡ life
   newest_here i life true e = refl
   newest_here i life false e = absurd cc
 
-  has_here : (i life : ℕ) (b : Bool) → b ≡ true → Contains (cond b (life ∷ net.lives i) (net.lives i)) (newest (cond b (life ∷ net.lives i) (net.lives i)))
+  pub has_here : (i life : ℕ) (b : Bool) → b ≡ true → Contains (cond b (life ∷ net.lives i) (net.lives i)) (newest (cond b (life ∷ net.lives i) (net.lives i)))
   has_here i life true e = contains_first life (net.lives i)
   has_here i life false e = absurd cc
 

@@ -129,7 +129,7 @@ stands_first A ms = record {
   active = refl;
 }
 
-pub stands : (A : Assembly) (ms : Monitors) → Facts ms → (steps : List Step) → AllMay ms steps → Stands A ms (requests ms steps) (acknowledgements ms steps) (leaderships ms steps) (network ms steps)
+unfoldable pub stands : (A : Assembly) (ms : Monitors) → Facts ms → (steps : List Step) → AllMay ms steps → Stands A ms (requests ms steps) (acknowledgements ms steps) (leaderships ms steps) (network ms steps)
 unfolding network AllMay requests acknowledgements leaderships
 stands A ms F [] may = stands_first A ms
 stands A ms F (s ∷ earlier) may =

@@ -1,5 +1,6 @@
 pub mod AnyDisk
 pub mod EachTurn
+pub mod History
 pub mod Lives
 pub mod Network
 pub mod Promises

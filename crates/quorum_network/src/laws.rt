@@ -30,6 +30,7 @@ ghost use Rattle.mon_wire.specs.declared.phase.Timer.{Timer};
 ghost use Rattle.quorum_model.specs.Monitors.{Monitors, me_of};
 ghost use Rattle.quorum_network.specs.AnyDisk.{AllMayAnyhow, AreNamed, ClientsJoinWhole, JoinsWhole, mailed};
 ghost use Rattle.quorum_network.specs.EachTurn.{IsAskedInTime, IsKeptFirst, IsOfReaction, Takes};
+ghost use Rattle.quorum_network.specs.History.{HaveHistory};
 ghost use Rattle.quorum_network.specs.Lives.{alone, life, own, sent_of, IsLeftBy, IsLife, OpensWith};
 ghost use Rattle.quorum_network.specs.Network.{AllMay, Begins, IsAnswer, Kept, May, Network, Step, Until, left_by, map_of, network, under};
 ghost use Rattle.quorum_network.specs.Promises.{AgreeWith, HaveOneLog, Leads};
@@ -79,6 +80,12 @@ pub fn law_one_log()
         → Leads (network ms earlier) i e → Leads (network ms (later ++ earlier)) j e → i ≡ j }
 {}
 
+/// There is one log for a whole history of a network, which only grows: after each list of steps all maps and all answers
+/// are of its log, as `law_one_log` says, and after later steps it begins with the log from before them.
+pub fn law_history()
+    ensures { (ms : Monitors) → HaveHistory ms }
+{}
+
 /// What goes over the wire. A link that names the quorum hands on what the network's steps may be given: from a monitor
 /// a datagram that it sent to this one, with the number of its life, or nothing. At the address of a monitor may come,
 /// beside its datagrams, any bytes at all that aren't framed with this quorum's tag: datagrams of other quorums, and
@@ -103,12 +110,13 @@ pub fn law_wire()
 /// lives. The same holds of what a client joins. So no message is ever made of pieces of two.
 ///
 /// The premise says of each reaction that is kept that the entries of its store in its messages are named as they must
-/// be. `Core::react` ensures that of each reaction.
+/// be. `Core::react` ensures that of each reaction. Steps of a network whose disks keep their maps meet the premise.
 pub fn law_any_disk()
     ensures monitors { (ms : Monitors) (steps : List Step) → AllMayAnyhow ms steps
         → (i : ℕ) → JoinsWhole (network ms steps) (mailed ms steps) i ((network ms steps).process i) }
     ensures clients { (ms : Monitors) (steps : List Step) → AllMayAnyhow ms steps
         → ClientsJoinWhole (network ms steps) (mailed ms steps) }
+    ensures met { (ms : Monitors) (steps : List Step) → AllMay ms steps → AllMayAnyhow ms steps }
     ensures named { (me : Me) (s : Serving) (it : TimedInput) (u : Until) (old new : Core) (r : Reaction)
         → old.me ≡ me → old.state ≡ s.node.state → IsReaction old new s.node.store.kv it.at it.input r
         → AreNamed me u (Some (record { came = Ok (Some it); serving = s })) }
