@@ -1,5 +1,5 @@
 -- What a link that names a quorum and numbers a life asks of the link below, and makes of what that gives.
-use Rattle.std.specs.Prelude.{◌≡◌, ◌⊎◌, ℕ, List, Option, Some, None, Result, Ok, Err}
+use Rattle.std.specs.Prelude.{◌≡◌, ◌⊎◌, ℕ, zero, suc, Bool, true, false, not, List, Option, Some, None, is_some, Result, Ok, Err}
 use Rattle.mon_link.specs.Links.{LinkState, CallsNext}
 use Rattle.mon_link.specs.declared.link.Got.{Got}
 use Rattle.mon_link.specs.declared.link.Got.TheVariants.{Datagram, Idle, Closed}
@@ -9,6 +9,7 @@ use Rattle.mon_types.specs.declared.names.Stop.{Stop}
 use Rattle.mon_types.specs.declared.names.Stop.TheVariants.{OutOfMemory}
 use Rattle.mon_name.specs.Frames.{framed, unframed}
 use Rattle.mon_name.specs.Numbers.{renumbered}
+use Rattle.mon_name.specs.declared.named.TheConstants.{MOST_FOREIGN}
 
 -- a datagram as it goes over the wire
 abbrev pub wired : (tag life : ℕ) → Peer → List ℕ → List ℕ
@@ -34,12 +35,41 @@ abbrev pub without_frame : (tag : ℕ) → Result Got Stop → Result Got Stop
 without_frame tag (Ok got) = Ok (off_got tag got)
 without_frame tag (Err e) = Err e
 
+-- whether this is a foreign datagram: one from a monitor's address, not in the frame of this tag
+abbrev pub is_foreign_from : (tag : ℕ) → Peer → List ℕ → Bool
+is_foreign_from tag (Monitor j) bytes = not (is_some (unframed tag bytes))
+is_foreign_from tag (Client c) bytes = false
+
+abbrev pub is_foreign : (tag : ℕ) → Result Got Stop → Bool
+is_foreign tag (Ok (Datagram from bytes)) = is_foreign_from tag from bytes
+is_foreign tag (Ok Idle) = false
+is_foreign tag (Ok Closed) = false
+is_foreign tag (Err e) = false
+
+-- After an answer: what happens after a foreign datagram, or else nothing more, and that is the last answer.
+abbrev pub Unless : (foreign : Bool) → (Again : Result Got Stop → LinkState → LinkState → Type 0)
+    → (answer last : Result Got Stop) → (old new : LinkState) → Type 0
+Unless true Again answer last old new = Again last old new
+Unless false Again answer last old new = (last ≡ answer) × (new ≡ old)
+
+-- The link below was asked for this long. After each foreign datagram it was asked again without waiting, at most this
+-- often. This was its last answer.
+unfoldable pub AsksPast : (most : ℕ) → (tag wait : ℕ) → (last : Result Got Stop) → (old new : LinkState) → Type 0
+AsksPast zero tag wait last old new = CallsNext wait last old new
+AsksPast (suc most) tag wait last old new =
+    (answer : Result Got Stop) × (between : LinkState) × CallsNext wait answer old between
+    × Unless (is_foreign tag answer) (AsksPast most tag 0) answer last between new
+
 abbrev pub IsGiven : Result Got Stop → Type 0
 IsGiven (Ok got) = Unit {0}
 IsGiven (Err e) = ⊥
 
--- The link below was asked once, for as long. What it gave is returned without its frame, unless memory ran out.
+-- What the link below gave is handed on without its frame, unless memory ran out.
+abbrev pub HandsOn : (tag : ℕ) → (gave result : Result Got Stop) → Type 0
+HandsOn tag gave result = (result ≡ without_frame tag gave) ⊎ ((result ≡ Err OutOfMemory) × IsGiven gave)
+
+-- The link below was asked past foreign datagrams, and its last answer is handed on.
 pub record Unframes (tag wait : ℕ) (result : Result Got Stop) (old new : LinkState) : Type 0 where
   pub gave : Result Got Stop
-  pub asks : CallsNext wait gave old new
-  pub hands : (result ≡ without_frame tag gave) ⊎ ((result ≡ Err OutOfMemory) × IsGiven gave)
+  pub asks : AsksPast MOST_FOREIGN tag wait gave old new
+  pub hands : HandsOn tag gave result

@@ -1,9 +1,9 @@
-ghost use Rattle.std.specs.Prelude.{◌≡◌, ◌⊎◌, IfOk, Err};
+ghost use Rattle.std.specs.Prelude.{◌≡◌, IfOk, Ok};
 ghost use Rattle.mon_link.specs.Links.{CallsSend};
 ghost use Rattle.mon_link.specs.declared.link.Peer.TheVariants.{Monitor};
 ghost use Rattle.mon_name.specs.Frames.{framed};
 ghost use Rattle.mon_name.specs.Numbers.{renumbered};
-ghost use Rattle.mon_name.specs.Naming.{Unframes, off_got, taken_off, wired};
+ghost use Rattle.mon_name.specs.Naming.{AsksPast, Unframes, is_foreign, off_got, taken_off, wired};
 
 use crate::frame::{framed, unframed};
 use crate::life::Life;
@@ -13,9 +13,12 @@ use mon_link::{Got, Link, Peer};
 use mon_types::{Rank, Stop};
 use std::alloc::Global;
 
+/// How often the link below is asked again after a foreign datagram at one call.
+const MOST_FOREIGN: usize = 64;
+
 /// A link whose datagrams between monitors are in the frame of a quorum's tag. What comes from a monitor's address without
-/// this frame is dropped. In pieces of long messages, to monitors and to clients, the number of a life replaces the boot
-/// of the sender.
+/// this frame is foreign, and is dropped. In pieces of long messages, to monitors and to clients, the number of a life
+/// replaces the boot of the sender.
 #[derive(Drop)]
 pub struct Named<L: Link + Drop> {
     pub inner: L,
@@ -50,6 +53,19 @@ fn came(alloc: Global, tag: u64, rank: Rank, bytes: &[u8]) -> Result<Got, OutOfM
     }
 }
 
+/// Whether this is a foreign datagram.
+fn is_foreign(tag: u64, got: &Got) -> bool
+    ensures { result ≡ is_foreign tag (Ok got.now) }
+{
+    match got {
+        Got::Datagram { from, bytes } => match from {
+            Peer::Monitor(_) => unframed(tag, bytes.as_slice()).is_none(),
+            Peer::Client(_) => false,
+        },
+        Got::Idle | Got::Closed => false,
+    }
+}
+
 /// What was given, without its frame.
 fn without_frame(alloc: Global, tag: u64, got: Got) -> Result<Got, OutOfMemory>
     ensures { IfOk result (λ x. x ≡ off_got tag got) }
@@ -81,6 +97,24 @@ impl<L: Link + Drop> Named<L> {
             alloc,
         }
     }
+
+    /// Asks the link below for this long, and again without waiting after each foreign datagram.
+    fn asks_past(&mut self, wait: u64) -> Result<Got, Stop>
+        ensures asks { AsksPast MOST_FOREIGN self.old.tag wait result (L.state self.old.inner) (L.state self.new.inner) }
+        ensures tag { self.new.tag ≡ self.old.tag }
+        ensures life { self.new.life ≡ self.old.life }
+    {
+        let mut rest = wait;
+        for _ in 0..MOST_FOREIGN {
+            let got = self.inner.next(rest)?;
+            if !is_foreign(self.tag, &got) {
+                return Ok(got);
+            }
+            drop(got);
+            rest = 0;
+        }
+        self.inner.next(rest)
+    }
 }
 
 impl<L: Link + Drop> Link for Named<L> {
@@ -88,14 +122,15 @@ impl<L: Link + Drop> Link for Named<L> {
 
     ghost state = { λ r. record { told = None; faults = (L.state r.inner).faults; losses = (L.state r.inner).losses } };
 
-    /// Asks the link below once for what comes, for as long. The answer is Idle if a monitor's address sent bytes without
-    /// this tag's frame.
+    /// Asks the link below for what comes, for as long. After a foreign datagram it is asked again at once, without
+    /// waiting, at most 64 times. Foreign ones are dropped, and its last answer is handed on. If that is a foreign
+    /// datagram too, the answer is Idle.
     fn next(&mut self, wait: u64) -> Result<Got, Stop>
         ensures asks { Unframes self.old.tag wait result (L.state self.old.inner) (L.state self.new.inner) }
         ensures tag { self.new.tag ≡ self.old.tag }
         ensures life { self.new.life ≡ self.old.life }
     {
-        let got = self.inner.next(wait)?;
+        let got = self.asks_past(wait)?;
         match without_frame(self.alloc, self.tag, got) {
             Ok(came) => Ok(came),
             Err(_) => Err(Stop::OutOfMemory),

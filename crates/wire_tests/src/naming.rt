@@ -47,31 +47,34 @@ fn next_of<L: Link>(alloc: Global, link: &mut L) -> Result<String, Fail> {
     Ok(name.to_string(alloc)?)
 }
 
-/// What comes from the address of a monitor, or else of a client, and what the link gives.
+/// A datagram in the frame of the tag.
+const OWN: &str = "030102030405060708aa";
+
+/// What comes from the address of a monitor, or else of a client, and what the link gives: nothing, if it is foreign.
 const CAME: &[(bool, &str, &str)] = &[
-    (true, "", "idle"),
-    (true, "03", "idle"),
-    (true, "0301", "idle"),
-    (true, "030102", "idle"),
-    (true, "03010203", "idle"),
-    (true, "0301020304", "idle"),
-    (true, "030102030405", "idle"),
-    (true, "03010203040506", "idle"),
-    (true, "0301020304050607", "idle"),
+    (true, "", "foreign"),
+    (true, "03", "foreign"),
+    (true, "0301", "foreign"),
+    (true, "030102", "foreign"),
+    (true, "03010203", "foreign"),
+    (true, "0301020304", "foreign"),
+    (true, "030102030405", "foreign"),
+    (true, "03010203040506", "foreign"),
+    (true, "0301020304050607", "foreign"),
     (true, "030102030405060708", ""),
     (true, "030102030405060708ff", "ff"),
-    (true, "030102030405060709ff", "idle"),
-    (true, "030002030405060708ff", "idle"),
-    (true, "030000000000000000ff", "idle"),
-    (true, "03ffffffffffffffffff", "idle"),
-    (true, "020102030405060708ff", "idle"),
-    (true, "01010102", "idle"),
+    (true, "030102030405060709ff", "foreign"),
+    (true, "030002030405060708ff", "foreign"),
+    (true, "030000000000000000ff", "foreign"),
+    (true, "03ffffffffffffffffff", "foreign"),
+    (true, "020102030405060708ff", "foreign"),
+    (true, "01010102", "foreign"),
     (
         true,
         "030102030405060708030102030405060708ff",
         "030102030405060708ff",
     ),
-    (true, "030807060504030201030102030405060708ff", "idle"),
+    (true, "030807060504030201030102030405060708ff", "foreign"),
     (false, "030102030405060708ff", "030102030405060708ff"),
     (false, "030807060504030201ff", "030807060504030201ff"),
     (false, "ff", "ff"),
@@ -82,13 +85,75 @@ const CAME: &[(bool, &str, &str)] = &[
 fn a_frame_comes_off_and_nothing_else_comes(rt: HostRuntime) -> Result<(), Fail> {
     let alloc = rt.alloc();
     for (monitor, came, wanted) in CAME {
-        let from = peer(*monitor);
-        let below = giving(alloc, from, &[*came])?;
+        let below = giving(alloc, peer(*monitor), &[*came, OWN])?;
         let mut link = Named::new(below, TAG, life_of([9; 8]), alloc);
-        let given = next_of(alloc, &mut link)?;
-        assert!(rt; given.as_str() == *wanted, "{came}: {given}");
-        assert!(rt; next_of(alloc, &mut link)?.as_str() == "closed");
-        assert!(rt; link.inner.waits() == [5, 5].as_slice());
+        let foreign = *wanted == "foreign";
+        if !foreign {
+            let given = next_of(alloc, &mut link)?;
+            assert!(rt; given.as_str() == *wanted, "{came}: {given}");
+        }
+        let last = if *monitor { "aa" } else { OWN };
+        assert!(rt; next_of(alloc, &mut link)?.as_str() == last, "{came}");
+        let waits = if foreign { [5, 0] } else { [5, 5] };
+        assert!(rt; link.inner.waits() == waits.as_slice(), "{came}");
+        drop(link);
+    }
+    Ok(())
+}
+
+/// How many foreign datagrams come before one in the frame, and how many calls give nothing before it is given.
+const FLOODS: &[(usize, usize)] = &[
+    (0, 0),
+    (1, 0),
+    (64, 0),
+    (65, 1),
+    (129, 1),
+    (130, 2),
+    (1000, 15),
+];
+
+#[test]
+fn foreign_datagrams_are_passed_without_waiting(rt: HostRuntime) -> Result<(), Fail> {
+    let alloc = rt.alloc();
+    for (foreign, idle) in FLOODS {
+        let mut came = Vec::new(alloc);
+        for _ in 0..*foreign {
+            came.push("030102030405060709ff")?;
+        }
+        came.push(OWN)?;
+        let below = giving(alloc, peer(true), came.as_slice())?;
+        let mut link = Named::new(below, TAG, life_of([9; 8]), alloc);
+        for _ in 0..*idle {
+            assert!(rt; next_of(alloc, &mut link)?.as_str() == "idle", "{foreign}");
+        }
+        assert!(rt; next_of(alloc, &mut link)?.as_str() == "aa", "{foreign}");
+        for (place, wait) in link.inner.waits().iter().enumerate() {
+            assert!(rt;
+                *wait == if place % 65 == 0 { 5 } else { 0 },
+                "{foreign} {place}"
+            );
+        }
+        assert!(rt; link.inner.waits().len() == foreign + 1);
+        drop(link);
+    }
+    Ok(())
+}
+
+#[test]
+fn what_follows_a_foreign_datagram_is_the_answer(rt: HostRuntime) -> Result<(), Fail> {
+    let alloc = rt.alloc();
+    for (failing, wanted) in [(1, "failed"), (2, "failed"), (3, "closed")] {
+        let bytes = Bytes::new(decode(alloc, "030102030405060709ff")?);
+        let mut got = Vec::new(alloc);
+        got.push(Got::Datagram {
+            from: peer(true),
+            bytes,
+        })?;
+        let mut fails = Vec::new(alloc);
+        fails.push(failing)?;
+        let below = MemoryLink::new(alloc, got, fails, Vec::new(alloc));
+        let mut link = Named::new(below, TAG, life_of([9; 8]), alloc);
+        assert!(rt; next_of(alloc, &mut link)?.as_str() == wanted);
         drop(link);
     }
     Ok(())
