@@ -10,9 +10,9 @@ use Rattle.mon_link.specs.declared.link.Peer.TheVariants.{Monitor, Client}
 use Rattle.mon_types.specs.declared.names.Stop.{Stop}
 use Rattle.mon_name.proofs.Frames.{comes_off}
 use Rattle.mon_name.specs.Frames.{of_mark, of_tag, unframed}
-use Rattle.mon_name.specs.Naming.{if_framed, taken_off, without_frame}
+use Rattle.mon_name.specs.Naming.{HandsOn, if_framed, taken_off, without_frame}
 use Rattle.quorum_network.specs.Network.{Network, IsAnswer}
-use Rattle.quorum_network.specs.Wire.{CameOver, IsOverWire, HandsOn}
+use Rattle.quorum_network.specs.Wire.{CameOver, IsOverWire}
 
 module _ (tag : ℕ) (lt : tag < 2 ^ 64) (net : Network) (i : ℕ) where
   taken : (from : Peer) (bytes : List ℕ) → CameOver tag net i from bytes → IsAnswer net i (Ok (taken_off tag from bytes))

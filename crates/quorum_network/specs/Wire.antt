@@ -6,9 +6,7 @@ use Rattle.mon_link.specs.declared.link.Got.TheVariants.{Datagram, Idle, Closed}
 use Rattle.mon_link.specs.declared.link.Peer.{Peer}
 use Rattle.mon_link.specs.declared.link.Peer.TheVariants.{Monitor, Client}
 use Rattle.mon_types.specs.declared.names.Stop.{Stop}
-use Rattle.mon_types.specs.declared.names.Stop.TheVariants.{OutOfMemory}
 use Rattle.mon_name.specs.Frames.{framed, unframed}
-use Rattle.mon_name.specs.Naming.{IsGiven, without_frame}
 use Rattle.quorum_network.specs.Network.{Network, CameFrom}
 
 -- What comes over the wire to monitor i. From the address of a monitor: a datagram that it sent to this one in any of its
@@ -23,7 +21,3 @@ IsOverWire tag net i (Ok (Datagram from bytes)) = CameOver tag net i from bytes
 IsOverWire tag net i (Ok Idle) = Unit {0}
 IsOverWire tag net i (Ok Closed) = Unit {0}
 IsOverWire tag net i (Err e) = Unit {0}
-
--- what a link that names the quorum hands on of it: all but the frame, unless memory runs out
-abbrev pub HandsOn : (tag : ℕ) → (gave result : Result Got Stop) → Type 0
-HandsOn tag gave result = (result ≡ without_frame tag gave) ⊎ ((result ≡ Err OutOfMemory) × IsGiven gave)

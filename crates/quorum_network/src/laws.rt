@@ -1,17 +1,18 @@
 ghost use Rattle.std.specs.FinMap.{empty};
 ghost use Rattle.std.specs.List.{AllByRecursion, Contains};
-ghost use Rattle.std.specs.Prelude.{◌≡◌, ℕ, ◌<◌, ◌≤◌, ◌^◌, List, [], ◌∷◌, ◌++◌, take, Option, Some, Ok, Result};
+ghost use Rattle.std.specs.Prelude.{◌≡◌, ℕ, ◌<◌, ◌≤◌, ◌^◌, List, [], ◌∷◌, ◌++◌, take, false, Option, Some, Ok, Result};
 ghost use Rattle.mon_core.specs.Core.{Monitor as Core};
 ghost use Rattle.mon_core.specs.Reacts.{IsReaction};
 ghost use Rattle.mon_core.specs.declared.reaction.Reaction.{Reaction};
 ghost use Rattle.mon_link.specs.Clocks.{Readings};
 ghost use Rattle.mon_link.specs.Links.{Told};
+ghost use Rattle.mon_link.specs.declared.link.Got.TheVariants.{Datagram};
 ghost use Rattle.mon_link.specs.declared.link.Got.{Got};
 ghost use Rattle.mon_link.specs.declared.link.Peer.TheVariants.{Monitor, Client};
 ghost use Rattle.mon_msg.specs.Protocol.Timers.{due};
 ghost use Rattle.mon_msg.specs.declared.view.Me.{Me};
 ghost use Rattle.mon_name.specs.Frames.{framed};
-ghost use Rattle.mon_name.specs.Naming.{wired};
+ghost use Rattle.mon_name.specs.Naming.{HandsOn, is_foreign, wired};
 ghost use Rattle.mon_node.specs.Hearing.{Given};
 ghost use Rattle.mon_node.specs.Lasting.{IsLeft, IsWithinTurn, On, stood_kept};
 ghost use Rattle.mon_node.specs.Nodes.{Serving, unstarted};
@@ -36,7 +37,7 @@ ghost use Rattle.quorum_network.specs.Network.{AllMay, Begins, IsAnswer, Kept, M
 ghost use Rattle.quorum_network.specs.Promises.{AgreeWith, HaveOneLog, Leads};
 ghost use Rattle.quorum_network.specs.Requests.{Leadership, leaderships, requests};
 ghost use Rattle.quorum_network.specs.Running.{DoesARun};
-ghost use Rattle.quorum_network.specs.Wire.{CameOver, HandsOn, IsOverWire};
+ghost use Rattle.quorum_network.specs.Wire.{CameOver, IsOverWire};
 
 use mon_disk::{Disk, NodeDisks};
 
@@ -89,8 +90,9 @@ pub fn law_history()
 /// What goes over the wire. A link that names the quorum hands on what the network's steps may be given: from a monitor
 /// a datagram that it sent to this one, with the number of its life, or nothing. At the address of a monitor may come,
 /// beside its datagrams, any bytes at all that aren't framed with this quorum's tag: datagrams of other quorums, and
-/// datagrams that begin with another byte than a frame's. What such a link asks the link below to send is what the
-/// network's steps send, framed if it goes to a monitor.
+/// datagrams that begin with another byte than a frame's. These are foreign: such a link drops them, asks the link below
+/// again, and hands its last answer on. A datagram in the frame of this quorum's tag is never foreign. What such a link
+/// asks the link below to send is what the network's steps send, framed if it goes to a monitor.
 pub fn law_wire()
     ensures comes { (tag : ℕ) → tag < 2 ^ 64 → (net : Network) (i : ℕ) (gave result : Result Got Stop)
         → IsOverWire tag net i gave → HandsOn tag gave result → IsAnswer net i result }
@@ -98,6 +100,8 @@ pub fn law_wire()
         → CameOver tag net i (Monitor j) (framed other bytes) }
     ensures unframed { (tag mark : ℕ) → ¬ (mark ≡ 3) → (net : Network) (i j : ℕ) (bytes : List ℕ)
         → CameOver tag net i (Monitor j) (mark ∷ bytes) }
+    ensures never_dropped { (tag : ℕ) → tag < 2 ^ 64 → (j : ℕ) (datagram : List ℕ)
+        → is_foreign tag (Ok (Datagram (Monitor j) (framed tag datagram))) ≡ false }
     ensures to_monitor { (tag number j : ℕ) (bytes : List ℕ) → wired tag number (Monitor j) bytes
         ≡ framed tag (under number (record { to = Monitor j; bytes = bytes })).bytes }
     ensures to_client { (tag number c : ℕ) (bytes : List ℕ) → wired tag number (Client c) bytes
