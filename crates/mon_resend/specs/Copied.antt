@@ -1,6 +1,5 @@
 -- What is sent again.
 use Rattle.std.specs.Prelude.{◌≡◌, ℕ, ◌≤◌, List, [], ◌∷◌, ◌++◌, ◌⊎◌, Result, Ok, Err, option_map}
-use Rattle.std.specs.List.{flat_map}
 use Rattle.mon_link.specs.Links.{LinkState, Told, CallsNext}
 use Rattle.mon_link.specs.declared.link.Got.{Got}
 use Rattle.mon_link.specs.declared.link.Got.TheVariants.{Datagram, Idle, Closed}
@@ -48,9 +47,3 @@ pub record AsksOnce (wait : ℕ) (kept : List Outgoing) (result : Result Got Sto
   pub asks : CallsNext slice gave old between
   pub hands : (gave ≡ result) ⊎ ((result ≡ Ok Idle) × IsGiven gave)
   pub repeats : RepeatsOnly kept between new
-
--- ---- what is kept
-
--- what is kept for all monitors, one after the other
-abbrev pub all_of : List (List Outgoing) → List Outgoing
-all_of kept = flat_map (λ outs. outs) kept

@@ -1,140 +1,96 @@
 //! The copies for all monitors.
 
-ghost use Rattle.std.specs.Prelude.{◌≡◌, ◌≤◌, ◌++◌, ◌∷◌, [], vec_len, IfSome};
-ghost use Rattle.mon_resend.specs.Copied.{AreOf, IsOneOf, all_of, datagram};
+ghost use Rattle.std.specs.Prelude.{◌≡◌, ◌<◌, ◌-◌, length, min};
+ghost use Rattle.mon_resend.specs.Copied.{datagram};
+ghost use Rattle.mon_resend.specs.World.{all_passed, arrived, began, begins_at, box_of, called_at, due_of, each, first_came, fresh, goes_now, in_epoch, is_dropped_at, is_first_known, is_taken, is_whole_known, left, risen, sent, whole_came, with_box, with_event};
+ghost use Rattle.mon_resend.specs.Again.{passed};
 ghost use Rattle.mon_link.specs.declared.link.Peer.TheVariants.{Monitor};
 
-use crate::datagram::{Part, Piece, part_of};
-use crate::note::Event;
-use crate::outbox::Outbox;
+use crate::datagram::{Part, part_of};
+use crate::note::{Event, NEVER};
+use crate::outbox::{Answer, Outbox};
 use crate::rows::is_of_epoch;
+use crate::shelf::Kept;
 use mon_decode::{Header, same_kind};
-use mon_link::Outgoing;
 use mon_types::Rank;
 use mon_wire::Kind;
 use std::alloc::Global;
-use std::marker::Model;
-
-/// A quorum has no more monitors.
-const MOST_PEERS: usize = 15;
 
 /// The newest datagrams to each monitor that aren't answered.
 #[derive(Drop)]
 pub struct Copies {
-    alloc: Global,
-    boxes: Vec<Outbox>,
+    /// By rank.
+    pub boxes: [Outbox; 15],
     /// The greatest epoch of a message that went to a monitor or came from one.
-    epoch: u64,
+    pub epoch: u64,
     /// The epoch of the last message that went to a monitor, or 0 if that was a PROBE: then the monitor is in no quorum.
-    own: u64,
-    ghost most: { vec_len boxes ≤ 15 },
-}
-
-impl Model for Copies {
-    ghost use Rattle.std.specs.Prelude.{List};
-    ghost use Rattle.mon_link.specs.declared.link.Outgoing.{Outgoing};
-    ghost use Rattle.mon_resend.specs.Copied.{all_of};
-
-    ghost Value = { List Outgoing };
-
-    ghost view = { λ c. all_of c.boxes.items };
+    pub own: u64,
 }
 
 impl Copies {
     /// Nothing was sent yet. It takes no memory.
     pub fn new(alloc: Global) -> Copies
-        ensures { result ≡ [] }
+        ensures { result ≡ fresh }
     {
         Copies {
-            alloc,
-            boxes: Vec::new(alloc),
+            boxes: [
+                Outbox::new(alloc),
+                Outbox::new(alloc),
+                Outbox::new(alloc),
+                Outbox::new(alloc),
+                Outbox::new(alloc),
+                Outbox::new(alloc),
+                Outbox::new(alloc),
+                Outbox::new(alloc),
+                Outbox::new(alloc),
+                Outbox::new(alloc),
+                Outbox::new(alloc),
+                Outbox::new(alloc),
+                Outbox::new(alloc),
+                Outbox::new(alloc),
+                Outbox::new(alloc),
+            ],
             epoch: 0,
             own: 0,
         }
     }
 
-    /// How many monitors copies were kept for.
-    pub(crate) fn len(&self) -> usize {
-        self.boxes.len()
-    }
-
-    pub(crate) fn len_at(&self, place: usize) -> usize {
-        match self.boxes.get(place) {
-            Some(outbox) => outbox.len(),
-            None => 0,
-        }
-    }
-
-    /// When the next copy at a place goes, if one does.
-    pub(crate) fn due_at(&self, place: usize) -> u64 {
-        match self.boxes.get(place) {
-            Some(outbox) => outbox.due(),
-            None => u64::MAX,
-        }
-    }
-
-    #[tactic(auto, using(crate::proofs::Parts::found))]
-    pub(crate) fn copy_at(&self, place: usize, at: usize) -> Option<&Outgoing>
-        ensures { IfSome result (λ out. IsOneOf self.now out.now) }
+    /// What is kept for a monitor.
+    pub(crate) fn kept(&self, place: usize) -> &[Kept]
+        requires { place < 15 }
+        ensures { result.now ≡ (box_of place self.now).shelf }
     {
-        self.boxes.get(place)?.out(at)
-    }
-
-    fn place_of(&self, rank: u8) -> Option<usize> {
-        for place in 0..self.boxes.len() {
-            if self.boxes[place].rank() == rank {
-                return Some(place);
-            }
-        }
-        None
-    }
-
-    /// The index of a monitor's copies, which are made if there are none yet.
-    fn made_place_of(&mut self, rank: u8) -> Option<usize>
-        ensures { self.new ≡ self.old }
-    {
-        let place = self.place_of(rank);
-        if place.is_some() {
-            return place;
-        }
-        let count = self.boxes.len();
-        if count >= MOST_PEERS {
-            return None;
-        }
-        self.boxes.push(Outbox::new(self.alloc, rank)).ok()?;
-        Some(count)
-    }
-
-    fn apply_at(&mut self, place: usize, event: Event, now: u64)
-        ensures { AreOf self.old self.new }
-    {
-        if place < self.boxes.len() {
-            self.boxes[place].apply(event, now);
-        }
+        self.boxes[place].shelf.kept()
     }
 
     fn apply(&mut self, event: Event, now: u64)
-        ensures { AreOf self.old self.new }
+        ensures { self.new ≡ each event now self.old }
     {
-        for place in 0..self.boxes.len() {
+        for place in 0..15 {
             self.apply_at(place, event, now);
         }
     }
 
-    /// Drops what is of an epoch before that of a message.
-    #[tactic(auto, using(crate::proofs::Parts::same))]
-    fn rises(&mut self, header: Header, now: u64)
-        ensures { AreOf self.old self.new }
+    fn apply_at(&mut self, place: usize, event: Event, now: u64)
+        requires { place < 15 }
+        ensures { self.new ≡ with_box place (with_event event now (box_of place self.old)) self.old }
     {
-        if is_of_epoch(header.kind) && header.epoch > self.epoch {
+        self.boxes[place].apply(event, now);
+    }
+
+    /// Drops what is of an epoch before that of a message.
+    fn rises(&mut self, header: &Header, now: u64)
+        ensures { self.new ≡ risen header.now now self.old }
+    {
+        if is_of_epoch(header.kind) && self.epoch < header.epoch {
             self.epoch = header.epoch;
             self.apply(Event::Rose(header.epoch), now);
         }
     }
 
     /// Notes the epoch of a message that goes to any monitor.
-    fn is_in(&mut self, header: Header)
-        ensures { self.new ≡ self.old }
+    fn is_in(&mut self, header: &Header)
+        ensures { self.new ≡ in_epoch header.now self.old }
     {
         if same_kind(header.kind, Kind::Probe) {
             self.own = 0;
@@ -144,12 +100,9 @@ impl Copies {
     }
 
     /// Drops what a message that goes to any monitor ends of the copies for all of them.
-    #[tactic(auto, using(crate::proofs::Parts::through))]
-    fn ends(&mut self, header: Header, now: u64)
-        ensures { AreOf self.old self.new }
+    fn leaves(&mut self, header: &Header, now: u64)
+        ensures { self.new ≡ left header.now now self.old }
     {
-        self.rises(header, now);
-        self.is_in(header);
         if same_kind(header.kind, Kind::Probe) {
             self.apply(Event::Left, now);
         } else if same_kind(header.kind, Kind::Ack) {
@@ -157,181 +110,147 @@ impl Copies {
         }
     }
 
-    fn begins_at(
+    fn begins(
         &mut self,
-        place: usize,
+        alloc: Global,
         to: Rank,
         header: Header,
-        total: u32,
+        total: u64,
         bytes: &[u8],
         now: u64,
-    ) -> bool
-        ensures { AreOf (self.old ++ datagram (Monitor to) bytes.now ∷ []) self.new }
+    ) -> Answer
+        ensures after { self.new ≡ began result.has_memory to (datagram (Monitor to) bytes.now) header total now self.old }
+        ensures goes { result.yes ≡ begins_at to header total (length bytes.now) now self.old }
     {
-        if place >= self.boxes.len() {
-            return true;
-        }
-        self.boxes[place].begins(to, header, total, bytes, now)
-    }
-
-    fn goes_on_at(&mut self, place: usize, to: Rank, bytes: &[u8]) -> bool
-        ensures { AreOf (self.old ++ datagram (Monitor to) bytes.now ∷ []) self.new }
-    {
-        if place >= self.boxes.len() {
-            return true;
-        }
-        self.boxes[place].goes_on(to, bytes)
-    }
-
-    fn begins(&mut self, to: Rank, header: Header, total: u32, bytes: &[u8], now: u64) -> bool
-        ensures { AreOf (self.old ++ datagram (Monitor to) bytes.now ∷ []) self.new }
-    {
-        self.ends(header, now);
-        match self.made_place_of(to.get()) {
-            Some(place) => self.begins_at(place, to, header, total, bytes, now),
-            None => true,
-        }
+        self.rises(&header, now);
+        self.is_in(&header);
+        self.leaves(&header, now);
+        self.boxes[usize::from(to.get())].begins(alloc, to, header, total, bytes, now)
     }
 
     /// Notes that a datagram is to go to a monitor. Whether it goes now; else it waits for an earlier one.
-    #[tactic(auto, using(crate::proofs::Parts::more))]
-    pub(crate) fn sends(&mut self, to: Rank, bytes: &[u8], now: u64) -> bool
-        ensures { AreOf (self.old ++ datagram (Monitor to) bytes.now ∷ []) self.new }
+    pub(crate) fn sends(&mut self, alloc: Global, to: Rank, bytes: &[u8], now: u64) -> Answer
+        ensures after { self.new ≡ sent result.has_memory to bytes.now now self.old }
+        ensures goes { result.yes ≡ goes_now to bytes.now now self.old }
     {
         match part_of(bytes) {
             Some(Part::Whole(header)) => self.begins(
+                alloc,
                 to,
                 header,
-                u32::try_from(bytes.len()).unwrap_or(u32::MAX),
+                bytes.len() as u64,
                 bytes,
                 now,
             ),
-            Some(Part::First(header, total)) => self.begins(to, header, total, bytes, now),
-            Some(Part::Later(_)) => match self.place_of(to.get()) {
-                Some(place) => self.goes_on_at(place, to, bytes),
-                None => true,
-            },
-            None => true,
+            Some(Part::First(header, total)) => self.begins(
+                alloc,
+                to,
+                header,
+                u64::from(total),
+                bytes,
+                now,
+            ),
+            Some(Part::Later(_)) => self.boxes[usize::from(to.get())].goes_on(alloc, to, bytes),
+            None => Answer::yes(),
         }
-    }
-
-    fn drops_at(&mut self, place: usize, header: Header, now: u64) -> bool
-        ensures { self.new ≡ self.old }
-    {
-        if place >= self.boxes.len() {
-            return false;
-        }
-        let own = self.own;
-        self.boxes[place].drops(header, own, now)
     }
 
     /// Whether a message that came is a PROPOSE that isn't handed up.
-    fn drops(&mut self, from: Rank, header: Header, now: u64) -> bool
-        ensures { self.new ≡ self.old }
+    fn drops(&mut self, from: Rank, header: &Header, now: u64) -> bool
+        ensures after { self.new ≡ called_at from header.now now self.old }
+        ensures drops { result ≡ is_dropped_at from header.now now self.old }
     {
         if !same_kind(header.kind, Kind::Propose) {
             return false;
         }
-        match self.place_of(from.get()) {
-            Some(place) => self.drops_at(place, header, now),
-            None => false,
-        }
+        let own = self.own;
+        self.boxes[usize::from(from.get())].drops(header.epoch, own, now)
     }
 
-    fn comes_at(&mut self, place: usize, header: Header, bytes: &[u8], now: u64) -> bool
-        ensures { AreOf self.old self.new }
+    fn comes_whole(
+        &mut self,
+        alloc: Global,
+        from: Rank,
+        header: &Header,
+        bytes: &[u8],
+        now: u64,
+    ) -> Answer
+        ensures after { self.new ≡ whole_came result.has_memory from header.now bytes.now now self.old }
+        ensures known { result.yes ≡ is_whole_known from header.now bytes.now now self.old }
     {
-        if place >= self.boxes.len() {
-            return false;
+        self.rises(header, now);
+        if self.drops(from, header, now) {
+            return Answer::yes();
         }
-        self.boxes[place].comes(header, bytes, now)
-    }
-
-    fn hears(&mut self, from: Rank, header: Header, bytes: &[u8], now: u64) -> bool
-        ensures { AreOf self.old self.new }
-    {
-        match self.place_of(from.get()) {
-            Some(place) => self.comes_at(place, header, bytes, now),
-            None => false,
-        }
-    }
-
-    /// Notes that the first piece of a long message came, which may ask again what was answered.
-    #[tactic(auto, using(crate::proofs::Parts::same))]
-    fn asks(&mut self, from: Rank, header: Header, bytes: &[u8], now: u64) -> bool
-        ensures { AreOf self.old self.new }
-    {
-        if same_kind(header.kind, Kind::Begin) || same_kind(header.kind, Kind::Forward) {
-            return self.hears(from, header, bytes, now);
-        }
-        false
-    }
-
-    fn hears_piece_at(&mut self, place: usize, piece: Piece, now: u64)
-        ensures { AreOf self.old self.new }
-    {
-        if place < self.boxes.len() {
-            self.boxes[place].hears_piece(piece, now);
-        }
-    }
-
-    #[tactic(auto, using(crate::proofs::Parts::same))]
-    fn hears_piece(&mut self, from: Rank, piece: Piece, now: u64)
-        ensures { AreOf self.old self.new }
-    {
-        if let Some(place) = self.place_of(from.get()) {
-            self.hears_piece_at(place, piece, now);
-        }
+        self.boxes[usize::from(from.get())].comes(alloc, header, bytes, now)
     }
 
     /// Notes what came from a monitor. Whether it isn't handed up: the copy of an answer alone answers it, or it is a PROPOSE
-    /// that is dropped. Of a long message no piece answers
-    /// anything: another one may be missing.
-    #[tactic(auto, using(crate::proofs::Parts::same, crate::proofs::Parts::through))]
-    pub(crate) fn comes(&mut self, from: Rank, bytes: &[u8], now: u64) -> bool
-        ensures { AreOf self.old self.new }
+    /// that is dropped. Of a long message no piece answers anything: another one may be missing.
+    pub(crate) fn comes(&mut self, alloc: Global, from: Rank, bytes: &[u8], now: u64) -> Answer
+        ensures after { self.new ≡ arrived result.has_memory from bytes.now now self.old }
+        ensures known { result.yes ≡ is_taken from bytes.now now self.old }
     {
         match part_of(bytes) {
-            Some(Part::Whole(header)) => {
-                self.rises(header, now);
-                self.drops(from, header, now) || self.hears(from, header, bytes, now)
-            }
-            Some(Part::First(header, _)) => self.asks(from, header, bytes, now),
+            Some(Part::Whole(header)) => self.comes_whole(alloc, from, &header, bytes, now),
+            Some(Part::First(header, _)) => self.comes_first(alloc, from, &header, bytes, now),
             Some(Part::Later(piece)) => {
-                self.hears_piece(from, piece, now);
-                false
+                self.boxes[usize::from(from.get())].hears_piece(piece, now);
+                Answer::no()
             }
-            None => false,
+            None => Answer::no(),
         }
     }
 
-    /// Whether a datagram at a place goes now. One that went before goes only if `again` allows it.
-    pub(crate) fn goes(&mut self, place: usize, at: usize, again: bool, now: u64) -> bool
-        ensures { self.new ≡ self.old }
+    fn comes_first(
+        &mut self,
+        alloc: Global,
+        from: Rank,
+        header: &Header,
+        bytes: &[u8],
+        now: u64,
+    ) -> Answer
+        ensures after { self.new ≡ first_came result.has_memory from header.now bytes.now now self.old }
+        ensures known { result.yes ≡ is_first_known from header.now bytes.now self.old }
     {
-        if place >= self.boxes.len() {
-            return false;
+        if same_kind(header.kind, Kind::Begin) || same_kind(header.kind, Kind::Forward) {
+            return self.boxes[usize::from(from.get())].comes(alloc, header, bytes, now);
         }
-        self.boxes[place].goes(at, again, now)
+        Answer::no()
     }
 
-    /// Drops at a place those that went often enough.
-    pub(crate) fn passes_at(&mut self, place: usize, now: u64)
-        ensures { AreOf self.old self.new }
+    /// Notes that what goes now went, and drops what went often enough. What went before goes again only if `again` allows it.
+    pub(crate) fn passes(&mut self, again: bool, now: u64)
+        ensures { self.new ≡ all_passed again now self.old }
     {
-        if place < self.boxes.len() {
-            self.boxes[place].ends_spent(now);
+        for place in 0..15 {
+            self.pass_at(place, again, now);
         }
     }
 
-    /// How long until the next one is due, and at most `wait`.
+    fn pass_at(&mut self, place: usize, again: bool, now: u64)
+        requires { place < 15 }
+        ensures { self.new ≡ with_box place (passed again now (box_of place self.old)) self.old }
+    {
+        self.boxes[place].passes(again, now);
+    }
+
+    /// When the next one goes.
+    #[tactic(auto, using(crate::proofs::Dues::boxes_next))]
+    fn due(&self) -> u64
+        ensures { result ≡ due_of self.now }
+    {
+        let mut due = NEVER;
+        for place in 0..15 {
+            due = due.min(self.boxes[place].shelf.due());
+        }
+        due
+    }
+
+    /// How long until the next one goes, and at most `wait`.
     pub(crate) fn rests(&self, now: u64, wait: u64) -> u64
-        ensures { result ≤ wait }
+        ensures { result ≡ min wait (due_of self.now - now) }
     {
-        let mut rest = wait;
-        for outbox in &self.boxes {
-            rest = rest.min(outbox.due().saturating_sub(now));
-        }
-        rest.min(wait)
+        wait.min(self.due().saturating_sub(now))
     }
 }

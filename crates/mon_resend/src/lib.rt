@@ -4,6 +4,7 @@
 mod calls;
 mod copies;
 mod datagram;
+mod laws;
 mod measure;
 mod note;
 mod outbox;
@@ -13,4 +14,5 @@ mod shelf;
 
 pub use copies::Copies;
 pub use datagram::{Part, Piece, part_of};
+pub use laws::law_within;
 pub use resending::Resending;

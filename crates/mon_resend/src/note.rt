@@ -1,6 +1,7 @@
 //! When a copy goes, and when it is kept no longer.
 
 ghost use Rattle.std.specs.Prelude.{◌≡◌};
+ghost use Rattle.mon_resend.specs.Shelves.{if_gone};
 ghost use Rattle.mon_resend.specs.Notes.{noted, least_of, is_ended, called, after, goes, gone, is_spent, plus};
 
 use crate::rows::{Way, ends, is_answered, is_asked_again, is_of_epoch, way_of};
@@ -213,6 +214,17 @@ impl Note {
             every,
             times: self.times.saturating_add(1),
             ..self
+        }
+    }
+
+    /// What is noted after the time at which it goes, if it does.
+    pub(crate) fn passed(self, again: bool, now: u64) -> Note
+        ensures { result ≡ if_gone again now self }
+    {
+        if self.goes(again, now) {
+            self.gone(now)
+        } else {
+            self
         }
     }
 }

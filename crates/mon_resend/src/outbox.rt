@@ -1,7 +1,9 @@
 //! What is kept for one monitor, by the messages that go to it and come from it.
 
-ghost use Rattle.std.specs.Prelude.{◌≡◌, ◌++◌, ◌∷◌, [], length, slice_get, option_map};
-ghost use Rattle.mon_resend.specs.Copied.{AreOf, datagram};
+ghost use Rattle.std.specs.Prelude.{◌≡◌, true, false, if◌then◌else◌, [], find, is_some, length, not, option_map};
+ghost use Rattle.std.specs.List.{list_any};
+ghost use Rattle.mon_resend.specs.Copied.{datagram};
+ghost use Rattle.mon_resend.specs.Again.{nothing, first_forward, happened, turn_of, turned, cleared, note_of, under_way_of, fits, with_copy, begun, begins_now, went_on, goes_on_now, measured_by, heard, knows, answered, answered_one, received, is_known, called, is_dropped, is_past, piece_came, passed};
 ghost use Rattle.mon_link.specs.declared.link.Peer.TheVariants.{Monitor};
 
 use crate::calls::{Acknowledged, Earlier};
@@ -9,7 +11,7 @@ use crate::datagram::Piece;
 use crate::measure::Measure;
 use crate::note::{Event, Note};
 use crate::rows::{Way, is_answered, is_asked_again, is_measured, way_of};
-use crate::shelf::Shelf;
+use crate::shelf::{Kept, Shelf};
 use mon_bytes::Bytes;
 use mon_decode::{Header, same_kind};
 use mon_frag::{PART, PIECE_HEADER};
@@ -17,18 +19,10 @@ use mon_link::{Outgoing, Peer};
 use mon_types::Rank;
 use mon_wire::Kind;
 use std::alloc::Global;
-use std::marker::Model;
 
-/// What distinguishes a long message from the others of its sender.
-#[derive(Clone, Copy, PartialEq, Eq)]
-struct Number {
-    boot: u64,
-    seq: u64,
-}
-
-/// The long message whose first piece, or a later one, was the last datagram.
+/// The long message of which a piece was the last datagram to the monitor.
 #[derive(Clone, Copy)]
-enum UnderWay {
+pub enum UnderWay {
     /// There is none, or no copy of it is kept.
     Nothing,
     /// Copies are kept of its pieces.
@@ -37,118 +31,117 @@ enum UnderWay {
     Lost,
 }
 
-/// The copies for one monitor.
-#[derive(Drop)]
-pub(crate) struct Outbox {
-    alloc: Global,
-    rank: u8,
-    shelf: Shelf,
-    measure: Measure,
-    under_way: UnderWay,
-    /// The last GET_CHUNK that came. The CHUNK that is kept answers it.
-    asked: Vec<u8>,
-    /// The long message of which a later piece came last, and which one that was when the last GET_CHUNK began to go: that
-    /// GET_CHUNK follows it.
-    heard: Option<Number>,
-    past: Option<Number>,
-    /// Its PROPOSEs that may not be handed up.
-    earlier: Earlier,
-    acknowledged: Acknowledged,
-    /// No copy goes before this time.
-    due: u64,
+/// What distinguishes a long message from the others of its sender.
+#[derive(Clone, Copy)]
+pub struct Number {
+    pub boot: u64,
+    pub seq: u64,
 }
 
-impl Model for Outbox {
-    ghost use Rattle.std.specs.Prelude.{List};
-    ghost use Rattle.mon_link.specs.declared.link.Outgoing.{Outgoing};
+/// An answer, and whether memory sufficed for what was to be kept.
+#[derive(Clone, Copy)]
+pub struct Answer {
+    pub yes: bool,
+    pub has_memory: bool,
+}
 
-    ghost Value = { List Outgoing };
+impl Answer {
+    pub(crate) fn yes() -> Answer
+        ensures { result ≡ record { yes = true; has_memory = true } }
+    {
+        Answer {
+            yes: true,
+            has_memory: true,
+        }
+    }
 
-    ghost view = { λ b. b.shelf };
+    pub(crate) fn no() -> Answer
+        ensures { result ≡ record { yes = false; has_memory = true } }
+    {
+        Answer {
+            yes: false,
+            has_memory: true,
+        }
+    }
+}
+
+/// The copies for one monitor.
+#[derive(Drop)]
+pub struct Outbox {
+    pub shelf: Shelf,
+    pub measure: Measure,
+    pub under_way: UnderWay,
+    /// The last GET_CHUNK that came. The CHUNK that is kept answers it.
+    pub asked: Bytes,
+    /// The long message of which a later piece came last, and which one that was when the last GET_CHUNK began to go: that
+    /// GET_CHUNK follows it.
+    pub heard: Option<Number>,
+    pub past: Option<Number>,
+    /// Its PROPOSEs that may not be handed up.
+    pub earlier: Earlier,
+    pub acknowledged: Acknowledged,
 }
 
 impl Outbox {
-    pub(crate) fn new(alloc: Global, rank: u8) -> Outbox
-        ensures { result ≡ [] }
+    pub(crate) fn new(alloc: Global) -> Outbox
+        ensures { result ≡ nothing }
     {
         Outbox {
-            alloc,
-            rank,
             shelf: Shelf::new(alloc),
             measure: Measure::none(),
             under_way: UnderWay::Nothing,
-            asked: Vec::new(alloc),
+            asked: Bytes::new(Vec::new(alloc)),
             heard: None,
             past: None,
             earlier: Earlier::none(),
             acknowledged: Acknowledged::none(),
-            due: u64::MAX,
         }
     }
 
-    pub(crate) fn rank(&self) -> u8 {
-        self.rank
-    }
-
-    pub(crate) fn due(&self) -> u64 {
-        self.due
-    }
-
-    pub(crate) fn len(&self) -> usize
-        ensures { result ≡ length self.now }
+    /// The first FORWARD. The others wait for its ROUTE.
+    fn first_forward(&self) -> Option<&Kept>
+        ensures { option_map (λ k. k.now) result ≡ first_forward self.now.shelf }
     {
-        self.shelf.len()
-    }
-
-    pub(crate) fn out(&self, at: usize) -> Option<&Outgoing>
-        ensures { option_map (λ out. out.now) result ≡ slice_get self.now at }
-    {
-        self.shelf.out(at)
-    }
-
-    /// Does what an event does to the copies, and lets the next FORWARD go if none before it waits for its ROUTE.
-    #[tactic(auto, using(crate::proofs::Parts::through))]
-    pub(crate) fn apply(&mut self, event: Event, now: u64)
-        ensures { AreOf self.old self.new }
-    {
-        self.shelf.apply(event, now);
-        if let Some(seq) = self.turn() {
-            self.shelf.apply(Event::Turn(seq), now);
-        }
-        self.due = self.shelf.due();
+        self.shelf
+            .kept()
+            .iter()
+            .find(|kept| same_kind(kept.note.header.kind, Kind::Forward))
     }
 
     /// The number of the first FORWARD, if it is held.
-    fn turn(&self) -> Option<u64> {
-        for at in 0..self.shelf.len() {
-            if let Some(note) = self.shelf.note(at)
-                && same_kind(note.header.kind, Kind::Forward)
-            {
-                return if note.held {
-                    Some(note.header.first)
-                } else {
-                    None
-                };
-            }
+    fn turn(&self) -> Option<u64>
+        ensures { result ≡ turn_of self.now.shelf }
+    {
+        let Some(kept) = self.first_forward() else {
+            return None;
+        };
+        if kept.note.held {
+            Some(kept.note.header.first)
+        } else {
+            None
         }
-        None
     }
 
-    /// Whether a FORWARD waits for its ROUTE.
-    fn has_forward(&self) -> bool {
-        for at in 0..self.shelf.len() {
-            if let Some(note) = self.shelf.note(at)
-                && same_kind(note.header.kind, Kind::Forward)
-            {
-                return true;
-            }
+    /// Lets the first FORWARD go if it is held.
+    fn turns(&mut self, now: u64)
+        ensures { self.new ≡ record self.old { shelf = turned now self.old.shelf } }
+    {
+        if let Some(seq) = self.turn() {
+            self.shelf.apply(Event::Turn(seq), now);
         }
-        false
     }
 
-    /// Drops what a message that begins to go ends.
-    fn ends(&mut self, header: Header, now: u64)
-        ensures { AreOf self.old self.new }
+    /// Does what an event does to the copies, and lets the next FORWARD go if none before it waits for its ROUTE.
+    pub(crate) fn apply(&mut self, event: Event, now: u64)
+        ensures { self.new ≡ record self.old { shelf = happened event now self.old.shelf } }
+    {
+        self.shelf.apply(event, now);
+        self.turns(now);
+    }
+
+    /// Does what a message that begins to go does to what is kept before it.
+    fn clears(&mut self, header: &Header, now: u64)
+        ensures { self.new ≡ cleared header.now now self.old }
     {
         self.under_way = UnderWay::Nothing;
         if same_kind(header.kind, Kind::GetChunk) {
@@ -160,234 +153,248 @@ impl Outbox {
         self.apply(Event::Sent(header.kind), now);
     }
 
-    /// What is noted of a message of this many bytes, given that this datagram has this many of them.
-    fn note_of(&self, header: Header, total: u32, length: usize, now: u64) -> Note {
-        let pieces = if total as usize == length {
+    /// What is noted of a message of this many bytes, of which the first datagram has this many.
+    fn note_of(&self, header: Header, total: u64, length: u64, now: u64) -> Note
+        ensures { result ≡ note_of header total length now self.now }
+    {
+        let pieces = if total == length {
             1
         } else {
-            total.div_ceil(PART)
+            total.div_ceil(u64::from(PART))
         };
-        let held = same_kind(header.kind, Kind::Forward) && self.has_forward();
-        Note::new(header, u64::from(pieces), held, self.measure.wait(), now)
+        let held = same_kind(header.kind, Kind::Forward) && self.first_forward().is_some();
+        Note::new(header, pieces, held, self.measure.wait(), now)
     }
 
     /// Whether there is room for the whole of a message.
-    fn fits(&self, note: &Note, total: u32) -> bool {
+    fn fits(&self, note: &Note, total: u64) -> bool
+        ensures { result ≡ fits note.now total self.now.shelf }
+    {
         let before = note.pieces.saturating_mul(PIECE_HEADER as u64);
-        let bytes = u64::from(total).saturating_add(before);
-        self.shelf.has_room(note.pieces as usize, bytes as usize)
+        self.shelf
+            .has_room(note.pieces, total.saturating_add(before))
     }
 
-    /// Notes whether later pieces of the message come.
-    fn starts(&mut self, note: Note, fits: bool)
-        ensures { self.new ≡ self.old }
+    /// Keeps a copy, if there is room and memory. Whether there was memory.
+    fn keep(&mut self, alloc: Global, to: Rank, bytes: &[u8], note: Note) -> bool
+        ensures { self.new ≡ record self.old { shelf = with_copy result (datagram (Monitor to) bytes.now) note self.old.shelf } }
     {
-        self.under_way = if note.pieces <= 1 {
-            UnderWay::Nothing
-        } else if fits {
-            UnderWay::Kept(note)
-        } else if note.held {
-            UnderWay::Lost
-        } else {
-            UnderWay::Nothing
-        };
-    }
-
-    #[tactic(auto, using(crate::proofs::Parts::more))]
-    fn keep_if(&mut self, fits: bool, to: Rank, bytes: &[u8], note: Note)
-        ensures { AreOf (self.old ++ datagram (Monitor to) bytes.now ∷ []) self.new }
-    {
-        if fits {
-            self.keep(to, bytes, note);
-        }
-    }
-
-    /// Keeps a copy of the first datagram of a message. Whether it goes now.
-    fn keeps(&mut self, to: Rank, bytes: &[u8], note: Note, total: u32) -> bool
-        ensures { AreOf (self.old ++ datagram (Monitor to) bytes.now ∷ []) self.new }
-    {
-        let fits = self.fits(&note, total);
-        self.starts(note, fits);
-        self.keep_if(fits, to, bytes, note);
-        !note.held
-    }
-
-    /// Keeps a copy of a message that begins to go, if there is room for the whole of it. Whether its first datagram goes
-    /// now. A FORWARD waits until the one before it is answered: its leader takes none after a later one. One for which
-    /// there is no room then is lost.
-    #[tactic(auto, using(crate::proofs::Parts::wider))]
-    pub(crate) fn begins(
-        &mut self,
-        to: Rank,
-        header: Header,
-        total: u32,
-        bytes: &[u8],
-        now: u64,
-    ) -> bool
-        ensures { AreOf (self.old ++ datagram (Monitor to) bytes.now ∷ []) self.new }
-    {
-        self.ends(header, now);
-        if way_of(header.kind) == Way::Never {
+        if !self.shelf.has_room(1, bytes.len() as u64) {
             return true;
         }
-        let note = self.note_of(header, total, bytes.len(), now);
-        self.keeps(to, bytes, note, total)
-    }
-
-    /// Keeps a copy of a later piece, if that of the first one is kept. Whether it goes now.
-    #[tactic(auto, using(crate::proofs::Parts::more))]
-    pub(crate) fn goes_on(&mut self, to: Rank, bytes: &[u8]) -> bool
-        ensures { AreOf (self.old ++ datagram (Monitor to) bytes.now ∷ []) self.new }
-    {
-        match self.under_way {
-            UnderWay::Kept(note) => {
-                self.keep(to, bytes, note);
-                !note.held
-            }
-            UnderWay::Lost => false,
-            UnderWay::Nothing => true,
-        }
-    }
-
-    /// Keeps a copy, if there is room and memory.
-    #[tactic(auto, using(crate::proofs::Parts::longer, crate::proofs::Parts::more, crate::proofs::Parts::same))]
-    fn keep(&mut self, to: Rank, bytes: &[u8], note: Note)
-        ensures { AreOf (self.old ++ datagram (Monitor to) bytes.now ∷ []) self.new }
-    {
-        let Ok(bytes) = Vec::from_slice(self.alloc, bytes) else {
-            return;
+        let Ok(bytes) = Vec::from_slice(alloc, bytes) else {
+            return false;
         };
         let out = Outgoing {
             to: Peer::Monitor(to),
             bytes: Bytes::new(bytes),
         };
-        if self.shelf.push(out, note) {
-            self.due = self.due.min(note.due);
-        }
+        self.shelf.push(out, note)
     }
 
-    /// Measures the peer by what it answers.
-    fn measures(&mut self, came: Header, now: u64)
-        ensures { self.new ≡ self.old }
+    /// Keeps a copy of a message that begins to go, if there is room for the whole of it. Whether its first datagram goes
+    /// now. A FORWARD waits until the one before it is answered: its leader takes none after a later one. One for which
+    /// there is no room then is lost.
+    pub(crate) fn begins(
+        &mut self,
+        alloc: Global,
+        to: Rank,
+        header: Header,
+        total: u64,
+        bytes: &[u8],
+        now: u64,
+    ) -> Answer
+        ensures after { self.new ≡ begun result.has_memory (datagram (Monitor to) bytes.now) header total now self.old }
+        ensures goes { result.yes ≡ begins_now header total (length bytes.now) now self.old }
     {
-        let mut measured = self.measure;
-        for at in 0..self.shelf.len() {
-            if let Some(note) = self.shelf.note(at)
-                && note.pieces == 1
-                && is_measured(note.header.kind)
-                && is_answered(&note.header, &came)
-            {
-                measured = measured.after(now.saturating_sub(note.last), note.times);
+        self.clears(&header, now);
+        if way_of(header.kind) == Way::Never {
+            return Answer::yes();
+        }
+        let note = self.note_of(header, total, bytes.len() as u64, now);
+        let yes = !note.held;
+        let fits = self.fits(&note, total);
+        self.under_way = under_way_of(note, fits);
+        if !fits {
+            return Answer {
+                yes,
+                has_memory: true,
+            };
+        }
+        let has_memory = self.keep(alloc, to, bytes, note);
+        Answer { yes, has_memory }
+    }
+
+    /// Keeps a copy of a later piece, if that of the first one is kept. Whether it goes now.
+    pub(crate) fn goes_on(&mut self, alloc: Global, to: Rank, bytes: &[u8]) -> Answer
+        ensures after { self.new ≡ went_on result.has_memory (datagram (Monitor to) bytes.now) self.old }
+        ensures goes { result.yes ≡ goes_on_now self.old.under_way }
+    {
+        match self.under_way {
+            UnderWay::Kept(note) => {
+                let has_memory = self.keep(alloc, to, bytes, note);
+                Answer {
+                    yes: !note.held,
+                    has_memory,
+                }
             }
+            UnderWay::Lost => Answer::no(),
+            UnderWay::Nothing => Answer::yes(),
         }
-        self.measure = measured;
     }
 
-    /// Whether what came is answered by a message that is kept.
-    fn knows(&self, came: Header) -> bool {
-        for at in 0..self.shelf.len() {
-            if let Some(note) = self.shelf.note(at)
-                && is_asked_again(&note.header, &came)
-            {
-                return true;
-            }
-        }
-        false
-    }
-
-    /// Whether a GET_CHUNK is the one that came last.
-    fn asks_the_same(&mut self, bytes: &[u8]) -> bool
-        ensures { self.new ≡ self.old }
+    /// What is kept, was answered by what arrived, and is measured.
+    fn answered(&self, came: &Header) -> Option<&Kept>
+        ensures { option_map (λ k. k.now) result ≡ answered_one came.now self.now.shelf }
     {
-        if self.asked.as_slice() == bytes {
-            return true;
-        }
-        self.asked.clear();
-        let _ = self.asked.extend_from_slice(bytes);
-        false
+        self.shelf.kept().iter().find(|kept| {
+            kept.note.pieces == 1
+                && is_measured(kept.note.header.kind)
+                && is_answered(&kept.note.header, came)
+        })
     }
 
-    /// Notes that a question came: the answer that is kept goes again. Whether there is one.
-    #[tactic(auto, using(crate::proofs::Parts::same))]
-    fn answers(&mut self, came: Header, now: u64) -> bool
-        ensures { AreOf self.old self.new }
+    /// The measure after what arrived, which may be an answer that is measured.
+    fn measured(&self, came: &Header, now: u64) -> Measure
+        ensures { result ≡ measured_by came.now now self.now }
     {
-        let known = self.knows(came);
-        if known {
-            self.apply(Event::Asked(came), now);
+        match self.answered(came) {
+            Some(kept) => self
+                .measure
+                .after(now.saturating_sub(kept.note.last), kept.note.times),
+            None => self.measure,
         }
-        known
     }
 
     /// Notes that a message came that isn't answered by a copy: what it answers is kept no longer.
-    #[tactic(auto, using(crate::proofs::Parts::through))]
-    fn hears(&mut self, came: Header, now: u64)
-        ensures { AreOf self.old self.new }
+    fn hears(&mut self, came: &Header, now: u64)
+        ensures { self.new ≡ heard came.now now self.old }
     {
-        self.measures(came, now);
-        self.apply(Event::Came(came), now);
+        self.measure = self.measured(came, now);
+        self.apply(Event::Came(*came), now);
+    }
+
+    /// Whether the answer to a question is kept.
+    fn has_answer(&self, came: &Header) -> bool
+        ensures { result ≡ knows came.now self.now.shelf }
+    {
+        self.shelf
+            .kept()
+            .iter()
+            .any(|kept| is_asked_again(&kept.note.header, came))
+    }
+
+    /// Notes that a question came: the answer that is kept goes again. Whether there is one.
+    fn answers(&mut self, came: &Header, now: u64) -> bool
+        ensures after { self.new ≡ answered came.now now self.old }
+        ensures knows { result ≡ knows came.now self.old.shelf }
+    {
+        if !self.has_answer(came) {
+            return false;
+        }
+        self.apply(Event::Asked(*came), now);
+        true
+    }
+
+    /// Notes that a message came. Whether the copy of its answer alone answers it, and not the monitor. A BEGIN would be
+    /// synced once more, and a CHUNK that is made anew has pieces that don't complete those of the one before.
+    pub(crate) fn comes(&mut self, alloc: Global, came: &Header, bytes: &[u8], now: u64) -> Answer
+        ensures after { self.new ≡ received result.has_memory came.now bytes.now now self.old }
+        ensures known { result.yes ≡ is_known came.now bytes.now self.old }
+    {
+        if same_kind(came.kind, Kind::Begin) {
+            return self.knows(came, now);
+        }
+        if same_kind(came.kind, Kind::Forward) {
+            self.answers(came, now);
+            return Answer::no();
+        }
+        if !same_kind(came.kind, Kind::GetChunk) {
+            self.hears(came, now);
+            return Answer::no();
+        }
+        if self.asked.as_slice() == bytes {
+            return self.knows(came, now);
+        }
+        let has_memory = self.is_asked(alloc, bytes);
+        self.hears(came, now);
+        Answer {
+            yes: false,
+            has_memory,
+        }
+    }
+
+    /// Notes that a question came which only the copy of its answer answers.
+    fn knows(&mut self, came: &Header, now: u64) -> Answer
+        ensures after { self.new ≡ answered came.now now self.old }
+        ensures knows { result.yes ≡ knows came.now self.old.shelf }
+    {
+        let yes = self.answers(came, now);
+        Answer {
+            yes,
+            has_memory: true,
+        }
+    }
+
+    /// Keeps the last GET_CHUNK that came. Whether there was memory.
+    fn is_asked(&mut self, alloc: Global, bytes: &[u8]) -> bool
+        ensures { self.new ≡ record self.old { asked = if result then bytes.now else [] } }
+    {
+        match Vec::from_slice(alloc, bytes) {
+            Ok(bytes) => {
+                self.asked = Bytes::new(bytes);
+                true
+            }
+            Err(_) => {
+                self.asked = Bytes::new(Vec::new(alloc));
+                false
+            }
+        }
     }
 
     /// Whether a PROPOSE isn't handed up, given the epoch of the last message that went to any monitor, or 0 after a PROBE. One
     /// of an earlier epoch than that of a quorum rests after the one before it. One that was acknowledged isn't handed up if
     /// its monitor hears no acknowledgement.
-    pub(crate) fn drops(&mut self, call: Header, own: u64, now: u64) -> bool
-        ensures { self.new ≡ self.old }
+    pub(crate) fn drops(&mut self, epoch: u64, own: u64, now: u64) -> bool
+        ensures after { self.new ≡ called epoch own now self.old }
+        ensures drops { result ≡ is_dropped epoch own now self.old }
     {
-        if call.epoch < own && own % 2 == 0 {
-            return self.drops_earlier(now);
+        if epoch < own && own % 2 == 0 {
+            return match self.earlier.after(now) {
+                Some(earlier) => {
+                    self.earlier = earlier;
+                    false
+                }
+                None => true,
+            };
         }
-        if call.epoch == own && call.epoch == self.acknowledged.epoch {
+        if epoch == own && epoch == self.acknowledged.epoch {
             self.acknowledged = self.acknowledged.after(now);
             return self.acknowledged.drops(now);
         }
         false
     }
 
-    /// Whether a PROPOSE of an earlier epoch than that of the own quorum isn't handed up.
-    fn drops_earlier(&mut self, now: u64) -> bool
-        ensures { self.new ≡ self.old }
+    /// Whether a piece is of the long message that the last GET_CHUNK follows.
+    fn is_past(&self, piece: Piece) -> bool
+        ensures { result ≡ is_past piece self.now.past }
     {
-        match self.earlier.after(now) {
-            Some(earlier) => {
-                self.earlier = earlier;
-                false
-            }
-            None => true,
+        match self.past {
+            Some(past) => past.boot == piece.boot && past.seq == piece.seq,
+            None => false,
         }
-    }
-
-    /// Notes that a message came. Whether the copy of its answer alone answers it, and not the monitor. A BEGIN would be
-    /// synced once more, and a CHUNK that is made anew has pieces that don't complete those of the one before.
-    #[tactic(auto, using(crate::proofs::Parts::same))]
-    pub(crate) fn comes(&mut self, came: Header, bytes: &[u8], now: u64) -> bool
-        ensures { AreOf self.old self.new }
-    {
-        if same_kind(came.kind, Kind::Begin) {
-            return self.answers(came, now);
-        }
-        if same_kind(came.kind, Kind::GetChunk) && self.asks_the_same(bytes) {
-            return self.answers(came, now);
-        }
-        if same_kind(came.kind, Kind::Forward) {
-            self.answers(came, now);
-            return false;
-        }
-        self.hears(came, now);
-        false
     }
 
     /// Notes that a later piece came. It says nothing of the CHUNK that is asked for if it is of the one before, which came
     /// again.
-    #[tactic(auto, using(crate::proofs::Parts::same))]
     pub(crate) fn hears_piece(&mut self, piece: Piece, now: u64)
-        ensures { AreOf self.old self.new }
+        ensures { self.new ≡ piece_came piece now self.old }
     {
         self.heard = Some(Number {
             boot: piece.boot,
             seq: piece.seq,
         });
-        if self.heard != self.past {
+        if !self.is_past(piece) {
             self.apply(
                 Event::Piece {
                     is_last: piece.is_last,
@@ -397,29 +404,26 @@ impl Outbox {
         }
     }
 
-    /// Drops those that went often enough, and lets the next FORWARD go.
-    #[tactic(auto, using(crate::proofs::Parts::through))]
-    pub(crate) fn ends_spent(&mut self, now: u64)
-        ensures { AreOf self.old self.new }
+    /// Notes that what goes now went. What went before goes again only if `again` allows it.
+    pub(crate) fn passes(&mut self, again: bool, now: u64)
+        ensures { self.new ≡ passed again now self.old }
     {
-        self.shelf.ends(now);
-        if let Some(seq) = self.turn() {
-            self.shelf.apply(Event::Turn(seq), now);
-        }
-        self.due = self.shelf.due();
+        self.shelf.went(again, now);
+        self.turns(now);
     }
+}
 
-    /// Whether the datagram at a place goes now. One that went before goes only if `again` allows it.
-    pub(crate) fn goes(&mut self, at: usize, again: bool, now: u64) -> bool
-        ensures { self.new ≡ self.old }
-    {
-        let Some(note) = self.shelf.note(at).copied() else {
-            return false;
-        };
-        if !note.goes(again, now) {
-            return false;
-        }
-        self.shelf.set_note(at, note.gone(now));
-        true
+/// What is under way after the first datagram of a message that has room, or none.
+fn under_way_of(note: Note, fits: bool) -> UnderWay
+    ensures { result ≡ under_way_of note fits }
+{
+    if note.pieces <= 1 {
+        UnderWay::Nothing
+    } else if fits {
+        UnderWay::Kept(note)
+    } else if note.held {
+        UnderWay::Lost
+    } else {
+        UnderWay::Nothing
     }
 }

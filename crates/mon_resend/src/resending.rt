@@ -1,17 +1,22 @@
 //! A link that sends again.
 
-ghost use Rattle.std.specs.Prelude.{IsTrue, ◌≡◌, ◌≤◌, ◌++◌, ◌∷◌, ◌⊎◌, [], None, Ok};
-ghost use Rattle.mon_resend.specs.Copied.{AreOf, AsksOnce, IsDatagram, RepeatsOnly, datagram};
-ghost use Rattle.mon_link.specs.declared.link.Peer.TheVariants.{Monitor};
+ghost use Rattle.std.specs.Prelude.{◌≡◌, ◌<◌, ◌++◌, ◌∷◌, ◌⊎◌, [], Ok, slice_get, option_map};
+ghost use Rattle.mon_resend.specs.Copied.{AreOf, AsksOnce, datagram};
+ghost use Rattle.mon_resend.specs.Sending.{Receives, Sends, SendsEach, isnt_handed_up, may_go, outs, run_after, with_got};
+ghost use Rattle.mon_resend.specs.Shelves.{going, going_at};
+ghost use Rattle.mon_resend.specs.World.{all_going, all_passed, box_of, fresh, goes_now, sent};
+ghost use Rattle.mon_link.specs.Clocks.{after};
 ghost use Rattle.mon_link.specs.Links.{CallsSend, count_after};
+ghost use Rattle.mon_link.specs.declared.link.Peer.TheVariants.{Monitor};
 
 use crate::copies::Copies;
+use crate::outbox::Answer;
 use mon_link::{Clock, Got, Link, Peer};
 use mon_types::{Rank, Stop};
 use std::alloc::Global;
 
 /// How many datagrams are taken one after the other before copies go although more may wait.
-const RUN: u64 = 64;
+pub(crate) const RUN: u64 = 64;
 
 /// A link, and copies of what it was given to send to monitors: for each monitor at most 160 datagrams of 6 MiB in all.
 #[derive(Drop)]
@@ -21,13 +26,14 @@ pub struct Resending<L: Link + Drop, C: Clock + Drop> {
     pub copies: Copies,
     pub losses: u64,
     pub run: u64,
+    alloc: Global,
 }
 
 impl<L: Link + Drop, C: Clock + Drop> Resending<L, C> {
     /// Nothing is kept yet.
     pub fn new(alloc: Global, inner: L, clock: C) -> Resending<L, C>
         ensures inner { result.inner ≡ inner }
-        ensures copies { result.copies ≡ [] }
+        ensures copies { result.copies ≡ fresh }
         ensures losses { result.losses ≡ 0 }
     {
         Resending {
@@ -36,58 +42,46 @@ impl<L: Link + Drop, C: Clock + Drop> Resending<L, C> {
             copies: Copies::new(alloc),
             losses: 0,
             run: 0,
+            alloc,
         }
     }
 
-    /// Sends one of the datagrams that are kept at a place, if it is due.
+    /// Sends one of the datagrams that are kept for a monitor, if it goes now.
     fn repeat_one(&mut self, place: usize, at: usize, again: bool, now: u64)
-        ensures repeats { RepeatsOnly self.old.copies (L.state self.old.inner) (L.state self.new.inner) }
-        ensures kept { self.new.copies ≡ self.old.copies }
-        ensures losses { self.new.losses ≡ self.old.losses }
+        requires { place < 15 }
+        ensures sends { SendsEach (going_at again now (slice_get (box_of place self.old.copies).shelf at)) (L.state self.old.inner) (L.state self.new.inner) }
+        ensures others { (self.new.copies ≡ self.old.copies) × (self.new.losses ≡ self.old.losses) × (self.new.run ≡ self.old.run) }
     {
-        if self.copies.goes(place, at, again, now)
-            && let Some(out) = self.copies.copy_at(place, at)
-        {
-            let _ = self.inner.send(out.to, out.bytes.as_slice());
-        }
-    }
-
-    /// Sends what is due of the datagrams that are kept at a place.
-    #[tactic(auto, using(crate::proofs::Parts::same))]
-    fn repeat_at(&mut self, place: usize, again: bool, now: u64)
-        ensures repeats { RepeatsOnly self.old.copies (L.state self.old.inner) (L.state self.new.inner) }
-        ensures kept { AreOf self.old.copies self.new.copies }
-        ensures losses { self.new.losses ≡ self.old.losses }
-    {
-        if self.copies.due_at(place) > now {
+        let Some(kept) = self.copies.kept(place).get(at) else {
+            return;
+        };
+        if !kept.note.goes(again, now) {
             return;
         }
-        for at in 0..self.copies.len_at(place) {
+        let _ = self.inner.send(kept.out.to, kept.out.bytes.as_slice());
+    }
+
+    /// Sends those of the datagrams that are kept for a monitor that go now.
+    fn repeat_at(&mut self, place: usize, again: bool, now: u64)
+        requires { place < 15 }
+        ensures sends { SendsEach (going again now (box_of place self.old.copies).shelf) (L.state self.old.inner) (L.state self.new.inner) }
+        ensures others { (self.new.copies ≡ self.old.copies) × (self.new.losses ≡ self.old.losses) × (self.new.run ≡ self.old.run) }
+    {
+        for at in 0..self.copies.kept(place).len() {
             self.repeat_one(place, at, again, now);
         }
-        self.copies.passes_at(place, now);
     }
 
-    /// Sends what is due.
-    #[tactic(auto, using(crate::proofs::Parts::same))]
+    /// Sends what goes now, monitor by monitor.
     fn repeat(&mut self, again: bool, now: u64)
-        ensures repeats { RepeatsOnly self.old.copies (L.state self.old.inner) (L.state self.new.inner) }
-        ensures kept { AreOf self.old.copies self.new.copies }
-        ensures losses { self.new.losses ≡ self.old.losses }
+        ensures sends { SendsEach (all_going again now self.old.copies) (L.state self.old.inner) (L.state self.new.inner) }
+        ensures kept { self.new.copies ≡ all_passed again now self.old.copies }
+        ensures others { (self.new.losses ≡ self.old.losses) × (self.new.run ≡ self.old.run) }
     {
-        for place in 0..self.copies.len() {
+        for place in 0..15 {
             self.repeat_at(place, again, now);
         }
-    }
-
-    /// Keeps a copy of what is to be sent. Whether it goes now.
-    fn keeps(&mut self, to: Rank, bytes: &[u8]) -> bool
-        ensures inner { self.new.inner ≡ self.old.inner }
-        ensures kept { AreOf (self.old.copies ++ datagram (Monitor to) bytes.now ∷ []) self.new.copies }
-        ensures losses { self.new.losses ≡ self.old.losses }
-    {
-        let now = self.clock.now().get();
-        self.copies.sends(to, bytes, now)
+        self.copies.passes(again, now);
     }
 
     fn passes(&mut self, to: Peer, bytes: &[u8]) -> Result<(), Stop>
@@ -105,9 +99,8 @@ impl<L: Link + Drop, C: Clock + Drop> Resending<L, C> {
     /// Counts the datagrams that came in a row. Whether copies may go of what went before: an answer to it may be among
     /// the datagrams that wait in the link.
     fn counts(&mut self, got: &Got) -> bool
-        ensures inner { self.new.inner ≡ self.old.inner }
-        ensures kept { self.new.copies ≡ self.old.copies }
-        ensures losses { self.new.losses ≡ self.old.losses }
+        ensures may { result ≡ may_go got.now self.old.run }
+        ensures run { self.new ≡ record self.old { run = run_after got.now self.old.run } }
     {
         if let Got::Datagram { .. } = got {
             self.run = self.run.saturating_add(1);
@@ -119,21 +112,26 @@ impl<L: Link + Drop, C: Clock + Drop> Resending<L, C> {
         true
     }
 
-    /// Notes what came. Whether it was answered before.
-    #[tactic(auto, using(crate::proofs::Parts::same))]
-    fn note(&mut self, got: &Got, now: u64) -> bool
-        ensures inner { self.new.inner ≡ self.old.inner }
-        ensures kept { AreOf self.old.copies self.new.copies }
-        ensures losses { self.new.losses ≡ self.old.losses }
-        ensures is { IsTrue result → IsDatagram got.now }
+    /// Notes what came. Whether it isn't handed up.
+    fn note(&mut self, got: &Got, now: u64) -> Answer
+        ensures kept { self.new ≡ record self.old { copies = with_got result.has_memory got.now now self.old.copies } }
+        ensures known { result.yes ≡ isnt_handed_up got.now now self.old.copies }
     {
         match got {
             Got::Datagram { from, bytes } => match from {
-                Peer::Monitor(rank) => self.copies.comes(*rank, bytes.as_slice(), now),
-                Peer::Client(_) => false,
+                Peer::Monitor(rank) => self.copies.comes(self.alloc, *rank, bytes.as_slice(), now),
+                Peer::Client(_) => Answer::no(),
             },
-            Got::Idle | Got::Closed => false,
+            Got::Idle | Got::Closed => Answer::no(),
         }
+    }
+
+    /// Keeps a copy of what is to be sent. Whether it goes now.
+    fn keeps(&mut self, to: Rank, bytes: &[u8], now: u64) -> Answer
+        ensures kept { self.new ≡ record self.old { copies = sent result.has_memory to bytes.now now self.old.copies } }
+        ensures goes { result.yes ≡ goes_now to bytes.now now self.old.copies }
+    {
+        self.copies.sends(self.alloc, to, bytes, now)
     }
 }
 
@@ -144,8 +142,9 @@ impl<L: Link + Drop, C: Clock + Drop> Link for Resending<L, C> {
 
     /// Asks the link once for what comes, and waits no longer than until a copy is due. Then copies may go.
     fn next(&mut self, wait: u64) -> Result<Got, Stop>
-        ensures asks { AsksOnce wait self.old.copies result (L.state self.old.inner) (L.state self.new.inner) }
-        ensures kept { AreOf self.old.copies self.new.copies }
+        ensures exactly { Receives wait (C.left self.old.clock) self.old.run self.old.copies (L.state self.old.inner) result self.new.run self.new.copies (L.state self.new.inner) }
+        ensures asks { AsksOnce wait (outs self.old.copies) result (L.state self.old.inner) (L.state self.new.inner) }
+        ensures kept { AreOf (outs self.old.copies) (outs self.new.copies) }
         ensures losses { self.new.losses ≡ self.old.losses }
     {
         let before = self.clock.now().get();
@@ -155,7 +154,7 @@ impl<L: Link + Drop, C: Clock + Drop> Link for Resending<L, C> {
         let again = self.counts(&got);
         let known = self.note(&got, now);
         self.repeat(again, now);
-        if known {
+        if known.yes {
             return Ok(Got::Idle);
         }
         Ok(got)
@@ -163,14 +162,16 @@ impl<L: Link + Drop, C: Clock + Drop> Link for Resending<L, C> {
 
     /// Sends a datagram, or keeps it until what went to that monitor before is answered.
     fn send(&mut self, to: Peer, bytes: &[u8]) -> Result<(), Stop>
+        ensures exactly { Sends to bytes.now (C.left self.old.clock) self.old.copies (L.state self.old.inner) result self.new.copies (L.state self.new.inner) }
         ensures sends { (CallsSend to bytes.now result (L.state self.old.inner) (L.state self.new.inner))
             ⊎ ((result ≡ Ok tt) × (self.new.inner ≡ self.old.inner)) }
-        ensures kept { AreOf (self.old.copies ++ datagram to bytes.now ∷ []) self.new.copies }
+        ensures kept { AreOf (outs self.old.copies ++ datagram to bytes.now ∷ []) (outs self.new.copies) }
         ensures losses { self.new.losses ≡ count_after result self.old.losses }
     {
         match to {
             Peer::Monitor(rank) => {
-                if !self.keeps(rank, bytes) {
+                let now = self.clock.now().get();
+                if !self.keeps(rank, bytes, now).yes {
                     return Ok(());
                 }
                 self.passes(Peer::Monitor(rank), bytes)

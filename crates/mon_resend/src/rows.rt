@@ -1,6 +1,6 @@
 //! Which messages are kept, and what ends them.
 
-ghost use Rattle.std.specs.Prelude.{◌≡◌, ◌==◌, ◌&&◌};
+ghost use Rattle.std.specs.Prelude.{◌≡◌};
 ghost use Rattle.mon_resend.specs.Rows.{ends, is_answered, is_asked_again, is_chunk, is_copying, is_measured, is_of_epoch, way_of};
 
 use mon_decode::{Header, same_kind};
@@ -94,12 +94,6 @@ fn is_chunk(kind: Kind) -> bool
     same_kind(kind, Kind::Chunk) || same_kind(kind, Kind::LastChunk)
 }
 
-fn has_numbers(kept: &Header, came: &Header) -> bool
-    ensures { result ≡ (came.now.first == kept.now.first && came.now.second == kept.now.second) }
-{
-    came.first == kept.first && came.second == kept.second
-}
-
 /// Whether a message of a kind that begins to go to a monitor ends the copies of one of another kind to it.
 pub(crate) fn ends(sent: Kind, kept: Kind) -> bool
     ensures { result ≡ ends sent kept }
@@ -162,7 +156,11 @@ pub(crate) fn is_answered(kept: &Header, came: &Header) -> bool
                 || same_kind(came.kind, Kind::LeaseAck)
         }
         Kind::Collect => same_kind(came.kind, Kind::Last) && kept.first <= came.first,
-        Kind::Begin => same_kind(came.kind, Kind::Accept) && has_numbers(kept, came),
+        Kind::Begin => {
+            same_kind(came.kind, Kind::Accept)
+                && came.first == kept.first
+                && came.second == kept.second
+        }
         Kind::Commit => {
             (same_kind(came.kind, Kind::LeaseAck) && kept.second <= came.first)
                 || (same_kind(came.kind, Kind::Accept) && kept.second < came.second)
@@ -197,7 +195,10 @@ pub(crate) fn is_asked_again(kept: &Header, came: &Header) -> bool
 {
     match kept.kind {
         Kind::Accept => {
-            same_kind(came.kind, Kind::Begin) && came.epoch == kept.epoch && has_numbers(kept, came)
+            same_kind(came.kind, Kind::Begin)
+                && came.epoch == kept.epoch
+                && came.first == kept.first
+                && came.second == kept.second
         }
         Kind::Route => {
             same_kind(came.kind, Kind::Forward)
@@ -205,7 +206,9 @@ pub(crate) fn is_asked_again(kept: &Header, came: &Header) -> bool
                 && came.first == kept.first
         }
         Kind::Chunk | Kind::LastChunk => {
-            same_kind(came.kind, Kind::GetChunk) && has_numbers(kept, came)
+            same_kind(came.kind, Kind::GetChunk)
+                && came.first == kept.first
+                && came.second == kept.second
         }
         Kind::Probe
         | Kind::ProbeReply

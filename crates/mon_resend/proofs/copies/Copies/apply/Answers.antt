@@ -1,8 +1,7 @@
-use Rattle.mon_resend.proofs.Parts.{same, through}
+use Rattle.std.proofs.Common.{arith}
+use Rattle.mon_resend.specs.World.{with_event}
+use Rattle.mon_resend.proofs.Boxes.{box_next}
 use Rattle.mon_resend.proofs.copies.Copies.apply.Goals as goal
 
-pub loop-place-init : goal.loop-place-init
-loop-place-init c = record { kept = same _ }
-
 pub loop-place-preserved : goal.loop-place-preserved
-loop-place-preserved c = record { kept = through _ _ _ c.loop-place.invariant.kept c.apply_at.ensures }
+loop-place-preserved c = box_next (λ b. with_event c.args.event c.args.now b) c.loop-place.place c.args.self.now c.loop-place.self c.apply_at.new.self c.loop-place.invariant c.apply_at.ensures

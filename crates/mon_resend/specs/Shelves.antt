@@ -1,0 +1,45 @@
+-- The copies that are kept for one monitor, in the order in which their messages began to go.
+use Rattle.std.specs.Prelude.{ℕ, ◌+◌, ◌-◌, ◌^◌, min, Bool, ◌&&◌, not, nat_le, List, [], ◌∷◌, ◌++◌, length, map, filter, Option, None, Some, if◌then◌else◌}
+use Rattle.std.specs.List.{sum_by}
+use Rattle.mon_link.specs.declared.link.Outgoing.{Outgoing}
+use Rattle.mon_resend.specs.declared.note.Event.{Event}
+use Rattle.mon_resend.specs.declared.note.Note.{Note}
+use Rattle.mon_resend.specs.declared.note.TheConstants.{NEVER}
+use Rattle.mon_resend.specs.declared.shelf.Kept.{Kept}
+use Rattle.mon_resend.specs.declared.shelf.TheConstants.{MOST_KEPT, MOST_KEPT_BYTES}
+use Rattle.mon_resend.specs.Notes.{plus, is_ended, after, goes, gone, is_spent}
+
+abbrev pub bytes_of : List Kept → ℕ
+bytes_of kept = min (sum_by (λ k. length k.out.bytes) kept) (2 ^ 64 - 1)
+
+abbrev pub has_room : (datagrams bytes : ℕ) → List Kept → Bool
+has_room datagrams bytes kept = nat_le (plus (length kept) datagrams) MOST_KEPT && nat_le (plus (bytes_of kept) bytes) MOST_KEPT_BYTES
+
+abbrev pub with_note : Note → Kept → Kept
+with_note n k = record k { note = n }
+
+-- an event ends some and changes others
+abbrev pub applied : Event → ℕ → List Kept → List Kept
+applied event now kept = map (λ k. with_note (after event now k.note) k) (filter (λ k. not (is_ended event k.note)) kept)
+
+-- ---- time
+
+-- when the next one goes
+abbrev pub first_due : List Kept → ℕ
+first_due [] = NEVER
+first_due (k ∷ kept) = min k.note.due (first_due kept)
+
+-- the datagrams that go now
+abbrev pub going : Bool → ℕ → List Kept → List Outgoing
+going again now kept = map (λ k. k.out) (filter (λ k. goes again now k.note) kept)
+
+abbrev pub going_at : Bool → ℕ → Option Kept → List Outgoing
+going_at again now None = []
+going_at again now (Some k) = if goes again now k.note then k.out ∷ [] else []
+
+abbrev pub if_gone : Bool → ℕ → Note → Note
+if_gone again now n = if goes again now n then gone now n else n
+
+-- They went. Those that went often enough before are kept no longer.
+abbrev pub went : Bool → ℕ → List Kept → List Kept
+went again now kept = map (λ k. with_note (if_gone again now k.note) k) (filter (λ k. not (is_spent now k.note)) kept)
