@@ -1,7 +1,7 @@
 -- What is kept after each step is some of what was kept before it, or what was to be sent.
-use Rattle.std.specs.Prelude.{◌≡◌, ℕ, Bool, true, false, List, [], ◌∷◌, ◌++◌, map, filter}
+use Rattle.std.specs.Prelude.{ℕ, Bool, true, false, List, [], ◌∷◌, ◌++◌, map, filter}
 use Rattle.std.specs.List.{AllByRecursion, flat_map}
-use Rattle.std.proofs.Common.{cond, inl, inr, subst, sym}
+use Rattle.std.proofs.Common.{cond, inr, subst, sym}
 use Rattle.std.proofs.lemmas.List.{map-append}
 use Rattle.mon_link.specs.declared.link.Got.{Got}
 use Rattle.mon_link.specs.declared.link.Got.TheVariants.{Datagram, Idle, Closed}
@@ -16,8 +16,8 @@ use Rattle.mon_resend.specs.Notes.{goes}
 use Rattle.mon_resend.specs.Sending.{outs, with_got}
 use Rattle.mon_resend.specs.Shelves.{going, with_note}
 use Rattle.mon_resend.specs.World.{sent, all_passed, all_going}
-use Rattle.mon_resend.proofs.Parts.{same, through, more, both, one_left, one_right}
-use Rattle.mon_resend.proofs.Steps.{Lasts, Grows, AllKeep, of_sent, of_arrived, of_all_passed}
+use Rattle.mon_resend.proofs.Parts.{same, more, both, one_left, one_right}
+use Rattle.mon_resend.proofs.Steps.{Lasts, Grows, of_sent, of_arrived, of_all_passed}
 
 abbrev outs_on : List Kept → List Outgoing
 outs_on kept = map (λ k. k.out) kept

@@ -1,8 +1,7 @@
 -- When the first of some copies goes.
-use Rattle.std.specs.Prelude.{◌≡◌, ℕ, zero, suc, ◌+◌, ◌<◌, ◌≤◌, min, List, [], ◌∷◌, length, take, refl}
-use Rattle.std.proofs.Common.{ap, arith, subst}
+use Rattle.std.specs.Prelude.{◌≡◌, ℕ, zero, suc, ◌+◌, ◌<◌, min, List, [], ◌∷◌, length, take, refl}
+use Rattle.std.proofs.Common.{arith, subst}
 use Rattle.std.proofs.Math.ListN.{get_or}
-use Rattle.mon_resend.specs.declared.note.TheConstants.{NEVER}
 use Rattle.mon_resend.specs.declared.outbox.Outbox.{Outbox}
 use Rattle.mon_resend.specs.declared.shelf.Kept.{Kept}
 use Rattle.mon_resend.specs.Again.{nothing}

@@ -1,17 +1,16 @@
 -- What the link asks of the one below it is some of what was kept.
 use Rattle.std.specs.Prelude.{◌≡◌, ℕ, ◌≤◌, ◌-◌, min, Bool, true, false, not, List, [], ◌∷◌, ◌++◌, ◌⊎◌, Option, Some, None, option_map, Result, Ok, Err, refl}
-use Rattle.std.proofs.Common.{cond, inl, inr, ap, sym, subst, ◌∙◌, arith}
+use Rattle.std.proofs.Common.{cond, inl, inr, sym, subst, ◌∙◌, arith}
 use Rattle.mon_link.specs.Clocks.{Readings, reading, after}
 use Rattle.mon_link.specs.Links.{LinkState, CallsNext, CallsSend}
 use Rattle.mon_link.specs.declared.link.Got.{Got}
 use Rattle.mon_link.specs.declared.link.Got.TheVariants.{Datagram, Idle, Closed}
-use Rattle.mon_link.specs.declared.link.Outgoing.{Outgoing}
 use Rattle.mon_link.specs.declared.link.Peer.{Peer}
 use Rattle.mon_link.specs.declared.link.Peer.TheVariants.{Monitor, Client}
 use Rattle.mon_types.specs.declared.names.Stop.{Stop}
 use Rattle.mon_resend.specs.declared.copies.Copies.{Copies}
-use Rattle.mon_resend.specs.Copied.{AreOf, AsksOnce, IsDatagram, RepeatsOnly, datagram}
-use Rattle.mon_resend.specs.Sending.{outs, Shows, ShowsThen, may_go, with_got, isnt_handed_up, run_after, Gave, AfterNext, Receives, SendsEach, SendsNow, Keeps, Sends}
+use Rattle.mon_resend.specs.Copied.{AreOf, AsksOnce, IsDatagram, datagram}
+use Rattle.mon_resend.specs.Sending.{outs, Shows, ShowsThen, may_go, with_got, isnt_handed_up, run_after, AfterNext, Receives, SendsEach, SendsNow, Keeps, Sends}
 use Rattle.mon_resend.specs.World.{all_going, all_passed, due_of, goes_now, sent}
 use Rattle.mon_resend.proofs.Among.{sent_among, got_among, all_passed_among, goes_among}
 use Rattle.mon_resend.proofs.Parts.{same, through, more, repeats}

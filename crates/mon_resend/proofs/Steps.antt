@@ -26,7 +26,7 @@ use Rattle.mon_resend.specs.Again.{nothing, turned_by, turned, turn_of, happened
 use Rattle.mon_resend.specs.Calls.{rested, counted}
 use Rattle.mon_resend.specs.Copied.{datagram}
 use Rattle.mon_resend.specs.Datagrams.{part_of}
-use Rattle.mon_resend.specs.Notes.{is_ended, after, goes, is_spent}
+use Rattle.mon_resend.specs.Notes.{is_ended, after, is_spent}
 use Rattle.mon_resend.specs.Rows.{way_of, is_of_epoch}
 use Rattle.mon_resend.specs.Shelves.{applied, went, has_room, if_gone, with_note}
 use Rattle.mon_resend.specs.World.{box_of, with_box, with_event, each, risen, in_epoch, left, begins, began, sent_part, sent, called_at, is_dropped_at, came_at, asks, part_came, arrived, all_passed}

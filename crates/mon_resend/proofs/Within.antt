@@ -1,5 +1,5 @@
 -- What is kept for each monitor stays within its bounds.
-use Rattle.std.specs.Prelude.{◌≡◌, ℕ, ◌+◌, ◌≤◌, ◌^◌, min, ◌-◌, Bool, true, false, ◌&&◌, refl, List, [], ◌∷◌, ◌++◌, length, map, filter}
+use Rattle.std.specs.Prelude.{◌≡◌, ℕ, ◌+◌, ◌≤◌, ◌^◌, min, ◌-◌, Bool, true, false, ◌&&◌, refl, List, [], ◌∷◌, length, map, filter}
 use Rattle.std.specs.List.{sum_by}
 use Rattle.std.proofs.Common.{cond, leb, arith}
 use Rattle.std.proofs.lemmas.Bool.Decides.{nat_tests}
@@ -8,9 +8,9 @@ use Rattle.std.proofs.lemmas.List.Sums.{sum_by-cons, sum_by-append}
 use Rattle.mon_link.specs.declared.link.Outgoing.{Outgoing}
 use Rattle.mon_resend.specs.declared.note.Note.{Note}
 use Rattle.mon_resend.specs.declared.shelf.Kept.{Kept}
-use Rattle.mon_resend.specs.Bounds.{IsWithin, AreWithin, StaysWithin}
+use Rattle.mon_resend.specs.Bounds.{IsWithin, StaysWithin}
 use Rattle.mon_resend.specs.Copied.{datagram}
-use Rattle.mon_resend.specs.Shelves.{has_room, with_note}
+use Rattle.mon_resend.specs.Shelves.{with_note}
 use Rattle.mon_resend.proofs.Steps.{Lasts, Grows, of_sent, of_arrived, of_all_passed}
 use Rattle.mon_link.specs.declared.link.Peer.TheVariants.{Monitor}
 

@@ -1,5 +1,5 @@
 -- What is kept for one monitor, and what becomes of it when a message is sent to it, when one arrives, and when time passes.
-use Rattle.std.specs.Prelude.{ℕ, ◌+◌, ◌-◌, ◌%◌, Bool, true, false, ◌&&◌, ◌||◌, not, ◌==◌, nat_le, nat_lt, List, [], ◌∷◌, ◌++◌, length, find, Option, Some, None, is_some, if◌then◌else◌}
+use Rattle.std.specs.Prelude.{ℕ, ◌-◌, ◌%◌, Bool, true, false, ◌&&◌, not, ◌==◌, nat_le, nat_lt, List, [], ◌∷◌, ◌++◌, length, find, Option, Some, None, is_some, if◌then◌else◌}
 use Rattle.std.specs.Int.{div_ceil}
 use Rattle.std.specs.List.{list_any}
 use Rattle.std.specs.Str.{bytes_eq}
@@ -7,7 +7,6 @@ use Rattle.mon_decode.specs.declared.header.Header.{Header}
 use Rattle.mon_decode.specs.Headers.{same_kind}
 use Rattle.mon_frag.specs.declared.header.TheConstants.{PART, PIECE_HEADER}
 use Rattle.mon_link.specs.declared.link.Outgoing.{Outgoing}
-use Rattle.mon_resend.specs.declared.calls.Acknowledged.{Acknowledged}
 use Rattle.mon_resend.specs.declared.calls.Earlier.{Earlier}
 use Rattle.mon_resend.specs.declared.datagram.Piece.{Piece as Part}
 use Rattle.mon_resend.specs.declared.measure.Measure.{Measure}
@@ -26,7 +25,6 @@ use Rattle.mon_resend.specs.Measures.{unmeasured, measured, waits}
 use Rattle.mon_resend.specs.Notes.{plus, times, noted}
 use Rattle.mon_resend.specs.Rows.{way_of, is_answered, is_asked_again, is_measured}
 use Rattle.mon_resend.specs.Shelves.{applied, has_room, went}
-use Rattle.mon_wire.specs.declared.kind.Kind.{Kind}
 use Rattle.mon_wire.specs.declared.kind.Kind.TheVariants as kind
 
 abbrev pub nothing : Outbox

@@ -1,5 +1,5 @@
 -- Which PROPOSEs of a monitor aren't handed up.
-use Rattle.std.specs.Prelude.{ℕ, ◌+◌, ◌-◌, ◌^◌, min, Bool, true, false, ◌||◌, ◌==◌, nat_le, nat_lt, Option, Some, None, if◌then◌else◌}
+use Rattle.std.specs.Prelude.{ℕ, ◌+◌, ◌-◌, min, Bool, ◌||◌, ◌==◌, nat_le, nat_lt, Option, Some, None, if◌then◌else◌}
 use Rattle.mon_resend.specs.declared.calls.Earlier.{Earlier}
 use Rattle.mon_resend.specs.declared.calls.Acknowledged.{Acknowledged}
 use Rattle.mon_resend.specs.declared.calls.TheConstants.{FIRST_REST, MOST_REST, REMEMBERED, LEAST_APART, MOST_APART, MOST_UNHEARD, UNHEARD_REST}

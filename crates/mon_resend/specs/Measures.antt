@@ -1,5 +1,5 @@
 -- How long a monitor takes to answer.
-use Rattle.std.specs.Prelude.{ℕ, ◌+◌, ◌*◌, ◌/◌, ◌^◌, ◌-◌, min, max, Bool, true, false, ◌&&◌, not, ◌==◌, nat_le, nat_lt, if◌then◌else◌}
+use Rattle.std.specs.Prelude.{ℕ, ◌+◌, ◌*◌, ◌/◌, min, max, true, false, ◌&&◌, not, ◌==◌, nat_le, nat_lt, if◌then◌else◌}
 use Rattle.std.specs.Int.{div_ceil, abs_diff}
 use Rattle.mon_resend.specs.declared.measure.Measure.{Measure}
 use Rattle.mon_resend.specs.declared.measure.TheConstants.{LEAST_TIME, FIRST, MOST_TIME, PARTS, MOST_SOON}

@@ -1,5 +1,5 @@
 -- Which messages are kept, how they are sent again, and what ends them.
-use Rattle.std.specs.Prelude.{ℕ, Bool, true, false, ◌&&◌, ◌||◌, ◌==◌, nat_le, nat_lt}
+use Rattle.std.specs.Prelude.{Bool, true, false, ◌&&◌, ◌||◌, ◌==◌, nat_le, nat_lt}
 use Rattle.mon_decode.specs.declared.header.Header.{Header}
 use Rattle.mon_decode.specs.Headers.{same_kind}
 use Rattle.mon_resend.specs.declared.rows.Way.{Way}

@@ -1,5 +1,5 @@
 -- What the link asks of the one below it, and what it keeps then.
-use Rattle.std.specs.Prelude.{◌≡◌, ℕ, ◌+◌, ◌-◌, ◌^◌, min, Bool, true, false, nat_lt, List, [], ◌∷◌, map, Result, Ok, Err, if◌then◌else◌, Option, IfSome}
+use Rattle.std.specs.Prelude.{◌≡◌, ℕ, ◌-◌, min, Bool, true, false, nat_lt, List, [], ◌∷◌, map, Result, Ok, Err, if◌then◌else◌, Option, IfSome}
 use Rattle.std.specs.List.{flat_map}
 use Rattle.mon_link.specs.Clocks.{Readings, reading, after}
 use Rattle.mon_link.specs.Links.{LinkState, CallsNext, CallsSend}

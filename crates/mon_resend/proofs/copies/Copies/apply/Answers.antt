@@ -1,4 +1,3 @@
-use Rattle.std.proofs.Common.{arith}
 use Rattle.mon_resend.specs.World.{with_event}
 use Rattle.mon_resend.proofs.Boxes.{box_next}
 use Rattle.mon_resend.proofs.copies.Copies.apply.Goals as goal

@@ -1,4 +1,3 @@
-use Rattle.std.proofs.Common.{arith}
 use Rattle.mon_resend.specs.Again.{passed}
 use Rattle.mon_resend.proofs.Boxes.{box_next}
 use Rattle.mon_resend.proofs.copies.Copies.passes.Goals as goal

@@ -1,4 +1,4 @@
-use Rattle.std.proofs.Common.{◌≡◌, ◌∙◌, sym, subst, take}
+use Rattle.std.proofs.Common.{◌∙◌, sym, subst, take}
 use Rattle.std.specs.List.{flat_map}
 use Rattle.mon_resend.specs.Sending.{SendsEach}
 use Rattle.mon_resend.specs.Shelves.{going}

@@ -1,4 +1,4 @@
-use Rattle.std.proofs.Common.{◌≡◌, ◌∙◌, sym, subst, ap, length, arith, slice_get, take}
+use Rattle.std.proofs.Common.{◌∙◌, sym, subst, ap, length, arith, slice_get, take}
 use Rattle.mon_resend.specs.Sending.{SendsEach}
 use Rattle.mon_resend.specs.Shelves.{going, going_at}
 use Rattle.mon_resend.specs.World.{box_of}

@@ -1,4 +1,4 @@
-use Rattle.std.proofs.Common.{rules, get_or, ◌≡◌, not, filter, length, sym, ap, arith, ◌∙◌}
+use Rattle.std.proofs.Common.{rules, get_or, ◌≡◌, not, filter, arith}
 use Rattle.std.proofs.lemmas.Fn.{filter_same}
 use Rattle.mon_resend.specs.Notes.{is_spent}
 use Rattle.mon_resend.specs.Shelves.{if_gone, with_note}
