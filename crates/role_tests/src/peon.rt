@@ -74,6 +74,16 @@ fn following(kv: Kv) -> Site<Peon> {
     }
 }
 
+#[test]
+fn a_cancelled_lease_is_none(rt: HostRuntime) -> Result<(), Fail> {
+    let mut lease = Lease::none();
+    lease.extend(Moment::known(0));
+    assert!(rt; lease.standing(Moment::known(4_999)));
+    lease.cancel();
+    assert!(rt; lease == Lease::none() && !lease.standing(Moment::known(0)));
+    Ok(())
+}
+
 /// A store in epoch 2 that promised 100.
 fn promised(alloc: Global) -> Result<Kv, Fail> {
     let numbers = [
