@@ -13,7 +13,7 @@ use crate::end::NodeEnd;
 use crate::reading::read;
 use mon_bytes::OutOfMemory;
 use mon_core::Input;
-use mon_frag::{Assembly, FragRefused};
+use mon_frag::{Assembly, FragRefused, is_whole};
 use mon_link::{Clock, Got, Link, Peer};
 use mon_msg::Timer;
 use mon_types::{Moment, Stop};
@@ -68,6 +68,9 @@ fn brought(
     ensures kept { OnOk result (assembly.new ≡ kept_in assembly.old (taken assembly.old from.now datagram.now)) }
     ensures comes { IfOk result (λ came. IfSome came MayCome) }
 {
+    if is_whole(datagram) {
+        return read(alloc, monitors, from, datagram);
+    }
     match assembly.take(*from, datagram) {
         Ok(Some(bytes)) => read(alloc, monitors, from, bytes.as_slice()),
         Err(FragRefused::OutOfMemory) => Err(OutOfMemory),

@@ -12,7 +12,7 @@ ghost use Rattle.mon_node.specs.Posting.{Posts, to_peer, letter, letters, next_b
 
 use crate::end::NodeEnd;
 use mon_bounds::law_message_fits;
-use mon_bytes::{Bytes, OutOfMemory};
+use mon_bytes::{Bytes, Items, OutOfMemory};
 use mon_frag::{DATAGRAM, pieces};
 use mon_kv::Kv;
 use mon_link::{Link, Outgoing, Peer};
@@ -81,16 +81,7 @@ fn send_letter<L: Link>(
     Ok(())
 }
 
-/// The bytes of a message.
-fn text_of(alloc: Global, message: &Message) -> Result<Bytes, OutOfMemory>
-    requires { HasText message.now }
-    ensures text { IfOk result (λ bytes. bytes ≡ text message.now) }
-    ensures short { IfOk result (λ bytes. length bytes ≤ MOST_MESSAGE) }
-{
-    Ok(Bytes::new(message.encode(alloc)?))
-}
-
-/// The bytes of a message that is used up.
+/// The bytes of a message, which is used up.
 fn into_text(alloc: Global, message: Message) -> Result<Bytes, OutOfMemory>
     requires { HasText message }
     ensures text { IfOk result (λ bytes. bytes ≡ text message) }
@@ -101,43 +92,43 @@ fn into_text(alloc: Global, message: Message) -> Result<Bytes, OutOfMemory>
     text
 }
 
-/// The message that brings a client its answer.
-fn answer_in(
-    alloc: Global,
-    me: &Me,
-    epoch: Epoch,
-    id: u64,
-    reply: &Reply,
-) -> Result<Message, OutOfMemory>
-    ensures { IfOk result (λ m. m ≡
-        record { from = me.now.member.rank; monitors = me.now.member.monitors; epoch = epoch; body = body.Reply id reply.now }) }
+/// The bytes of a message.
+fn text_of(alloc: Global, message: &Message) -> Result<Bytes, OutOfMemory>
+    requires { HasText message.now }
+    ensures text { IfOk result (λ bytes. bytes ≡ text message.now) }
+    ensures short { IfOk result (λ bytes. length bytes ≤ MOST_MESSAGE) }
 {
-    Ok(Message {
+    Ok(Bytes::new(message.encode(alloc)?))
+}
+
+/// The message that brings a client its answer.
+fn answer_in(me: &Me, epoch: Epoch, id: u64, reply: Reply) -> Message
+    ensures { result ≡
+        record { from = me.now.member.rank; monitors = me.now.member.monitors; epoch = epoch; body = body.Reply id reply } }
+{
+    Message {
         from: me.member.rank,
         monitors: me.member.monitors,
         epoch,
-        body: Body::Reply {
-            id,
-            reply: reply.copy(alloc)?,
-        },
-    })
+        body: Body::Reply { id, reply },
+    }
 }
 
 /// What is sent, with the bytes of its message.
-fn letter(alloc: Global, me: &Me, epoch: Epoch, sent: &Sent) -> Result<Outgoing, OutOfMemory>
-    requires may { MaySend me.now sent.now }
-    requires named { TellsNamed sent.now }
-    ensures letter { IfOk result (λ l. l ≡ letter me.now epoch sent.now) }
+fn letter(alloc: Global, me: &Me, epoch: Epoch, sent: Sent) -> Result<Outgoing, OutOfMemory>
+    requires may { MaySend me.now sent }
+    requires named { TellsNamed sent }
+    ensures letter { IfOk result (λ l. l ≡ letter me.now epoch sent) }
     ensures short { IfOk result (λ l. length l.bytes ≤ MOST_MESSAGE) }
 {
     law_message_fits();
     match sent {
         Sent::Message { to, message } => Ok(Outgoing {
-            to: Peer::Monitor(*to),
-            bytes: text_of(alloc, message)?,
+            to: Peer::Monitor(to),
+            bytes: into_text(alloc, message)?,
         }),
         Sent::Reply { to, reply } => {
-            let message = answer_in(alloc, me, epoch, to.id, reply)?;
+            let message = answer_in(me, epoch, to.id, reply);
             Ok(Outgoing {
                 to: Peer::Client(to.client),
                 bytes: into_text(alloc, message)?,
@@ -154,20 +145,20 @@ pub(crate) fn send_all<L: Link>(
     me: &Me,
     kv: &Kv,
     next: &mut u64,
-    out: &[Sent],
+    out: Items<Sent>,
 ) -> Result<(), NodeEnd>
-    requires may { AllByRecursion (MaySend me.now) out.now }
-    requires named { AllByRecursion TellsNamed out.now }
+    requires may { AllByRecursion (MaySend me.now) out }
+    requires named { AllByRecursion TellsNamed out }
     requires next { next.old ≤ 2 ^ 62 + 1 }
-    ensures posts { Posts (datagrams (boot_in kv.now) next.old (with_number next.old (letters me.now kv.now out.now)))
+    ensures posts { Posts (datagrams (boot_in kv.now) next.old (with_number next.old (letters me.now kv.now out)))
         result (L.state link.old) (L.state link.new) }
-    ensures behind { OnOk result (next.new ≡ next_after next.old (letters me.now kv.now out.now)) }
+    ensures behind { OnOk result (next.new ≡ next_after next.old (letters me.now kv.now out)) }
     ensures most { OnOk result (next.new ≤ 2 ^ 62 + 1) }
-    ensures spent { IfErr result (IsSpent (next_after next.old (letters me.now kv.now out.now))) }
+    ensures spent { IfErr result (IsSpent (next_after next.old (letters me.now kv.now out))) }
 {
     let epoch = Epoch::known(kv.epoch());
     let boot = kv.boot_count();
-    for sent in out {
+    for sent in out.into_vec() {
         let letter = letter(alloc, me, epoch, sent)?;
         send_letter(alloc, link, boot, next, &letter)?;
     }

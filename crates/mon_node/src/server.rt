@@ -17,11 +17,13 @@ use crate::end::{NodeEnd, Served};
 use crate::hearing::hear;
 use crate::keeping::keep;
 use crate::posting::send_all;
-use mon_core::{Core, Input};
+use mon_bytes::Items;
+use mon_core::{Core, Input, Reaction};
 use mon_disk::Disk;
 use mon_frag::Assembly;
 use mon_link::{Clock, Link};
 use mon_msg::Me;
+use mon_msg::plan::Sent;
 use mon_store::Store;
 use mon_types::Moment;
 use std::alloc::Global;
@@ -36,6 +38,15 @@ pub(crate) struct Server<D> {
     core: Core,
     assembly: Assembly,
     next: u64,
+}
+
+/// What a reaction sends. Its transaction is dropped.
+fn sent_by(reaction: Reaction) -> Items<Sent>
+    ensures { result ≡ reaction.out }
+{
+    let Reaction { tx, out } = reaction;
+    drop(tx);
+    out
 }
 
 impl<D: Disk> Server<D> {
@@ -86,13 +97,14 @@ impl<D: Disk> Server<D> {
     {
         let reaction = self.core.react(self.alloc, self.store.kv(), input, now)?;
         keep(&mut self.store, &reaction.tx)?;
+        let out = sent_by(reaction);
         send_all(
             self.alloc,
             link,
             &self.me,
             self.store.kv(),
             &mut self.next,
-            reaction.out.as_slice(),
+            out,
         )?;
         Ok(())
     }

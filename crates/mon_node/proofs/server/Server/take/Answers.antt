@@ -39,7 +39,7 @@ pub send_all-requires-clause-may : goal.send_all-requires-clause-may
 send_all-requires-clause-may g c =
     let s = c.args.self.now in
     let r = c.in_ok-reaction.reaction in
-    subst (λ (xs : List Sent). AllByRecursion (MaySend s.me) xs) (sym c.as_slice.ensures)
+    subst (λ (xs : List Sent). AllByRecursion (MaySend s.me) xs) (sym c.sent_by-out.ensures)
     (may_go s.core c.react.new.self (stood_of s.store) c.args.now c.args.input.now s.me c.requires.in_use.own r (subst (λ (x : Store). Reacts s.core c.react.new.self x c.args.now c.args.input.now (Ok r)) c.kv.ensures c.in_ok-reaction.ensures))
 
 pub returns-in_err-send_all-clause-ends : goal.returns-in_err-send_all-clause-ends
@@ -53,8 +53,8 @@ returns-in_err-send_all-clause-ends g c = λ clock.
     let p = err_from_is_err_and c.from_residual-in_err-send_all.result c.from_residual-in_err-send_all.ensures.1 in
     let h = subst (λ (x : Store). Reacts s.core c.react.new.self x c.args.now c.args.input.now (Ok r)) c.kv.ensures c.in_ok-reaction.ensures in
     let reacts = reacts_so s.core c.react.new.self (stood_of s.store) c.args.now c.args.input.now s.me c.requires.in_use.own r s.next h in
-    let why = sent_as (λ (x : Store) (xs : List Sent). IsSpent (next_after s.next (letters s.me x xs)) e) c.kv-2.result.now m c.as_slice.result.now r.out c.kv-2.ensures c.as_slice.ensures c.in_err-send_all.ensures.spent in
-    let front = sent_as (λ (x : Store) (xs : List Sent). SendsFront (datagrams (boot_in x) s.next (with_number s.next (letters s.me x xs))) told now) c.kv-2.result.now m c.as_slice.result.now r.out c.kv-2.ensures c.as_slice.ensures c.in_err-send_all.ensures.posts.told in
+    let why = sent_as (λ (x : Store) (xs : List Sent). IsSpent (next_after s.next (letters s.me x xs)) e) c.kv-2.result.now m c.sent_by-out.result r.out c.kv-2.ensures c.sent_by-out.ensures c.in_err-send_all.ensures.spent in
+    let front = sent_as (λ (x : Store) (xs : List Sent). SendsFront (datagrams (boot_in x) s.next (with_number s.next (letters s.me x xs))) told now) c.kv-2.result.now m c.sent_by-out.result r.out c.kv-2.ensures c.sent_by-out.ensures c.in_err-send_all.ensures.posts.told in
     rw (p.1, p.2)
     (not_sent s.me (serving_of s clock told) (at_moment c.args.now c.args.input.now) _ reacts m c.in_ok-keep.ensures.keeps.1 c.in_ok-keep.ensures.keeps.0 e now why front)
 
@@ -68,8 +68,8 @@ returns-clause-ends g c = λ clock.
     let now = (g.L.Link.state c.send_all.new.link).told in
     let h = subst (λ (x : Store). Reacts s.core c.react.new.self x c.args.now c.args.input.now (Ok r)) c.kv.ensures c.in_ok-reaction.ensures in
     let reacts = reacts_so s.core c.react.new.self (stood_of s.store) c.args.now c.args.input.now s.me c.requires.in_use.own r s.next h in
-    let behind = sent_as (λ (x : Store) (xs : List Sent). next ≡ next_after s.next (letters s.me x xs)) c.kv-2.result.now m c.as_slice.result.now r.out c.kv-2.ensures c.as_slice.ensures c.in_ok-send_all.ensures.behind in
-    let sent = sent_as (λ (x : Store) (xs : List Sent). SendsAll (datagrams (boot_in x) s.next (with_number s.next (letters s.me x xs))) told now) c.kv-2.result.now m c.as_slice.result.now r.out c.kv-2.ensures c.as_slice.ensures c.in_ok-send_all.ensures.posts.told in
+    let behind = sent_as (λ (x : Store) (xs : List Sent). next ≡ next_after s.next (letters s.me x xs)) c.kv-2.result.now m c.sent_by-out.result r.out c.kv-2.ensures c.sent_by-out.ensures c.in_ok-send_all.ensures.behind in
+    let sent = sent_as (λ (x : Store) (xs : List Sent). SendsAll (datagrams (boot_in x) s.next (with_number s.next (letters s.me x xs))) told now) c.kv-2.result.now m c.sent_by-out.result r.out c.kv-2.ensures c.sent_by-out.ensures c.in_ok-send_all.ensures.posts.told in
     all_sent s.me (serving_of s clock told) (at_moment c.args.now c.args.input.now) _ reacts m c.in_ok-keep.ensures.keeps.1 c.in_ok-keep.ensures.keeps.0 (stood_of c.keep.new.store) next now c.in_ok-keep.ensures.stands behind c.in_ok-send_all.ensures.most sent
 
 pub returns-in_err-reaction-clause-passes : goal.returns-in_err-reaction-clause-passes
@@ -109,8 +109,8 @@ returns-in_err-send_all-clause-passes g c = λ clock both.
     let h = subst (λ (x : Store). Reacts s.core c.react.new.self x c.args.now c.args.input.now (Ok r)) c.kv.ensures c.in_ok-reaction.ensures in
     let reacts = reacts_so s.core c.react.new.self (stood_of s.store) c.args.now c.args.input.now s.me c.requires.in_use.own r s.next h in
     let now = (g.L.Link.state c.send_all.new.link).told in
-    let why = sent_as (λ (x : Store) (xs : List Sent). IsSpent (next_after s.next (letters s.me x xs)) e) c.kv-2.result.now n.kv c.as_slice.result.now r.out c.kv-2.ensures c.as_slice.ensures c.in_err-send_all.ensures.spent in
-    let front = sent_as (λ (x : Store) (xs : List Sent). SendsFront (datagrams (boot_in x) s.next (with_number s.next (letters s.me x xs))) told now) c.kv-2.result.now n.kv c.as_slice.result.now r.out c.kv-2.ensures c.as_slice.ensures c.in_err-send_all.ensures.posts.told in
+    let why = sent_as (λ (x : Store) (xs : List Sent). IsSpent (next_after s.next (letters s.me x xs)) e) c.kv-2.result.now n.kv c.sent_by-out.result r.out c.kv-2.ensures c.sent_by-out.ensures c.in_err-send_all.ensures.spent in
+    let front = sent_as (λ (x : Store) (xs : List Sent). SendsFront (datagrams (boot_in x) s.next (with_number s.next (letters s.me x xs))) told now) c.kv-2.result.now n.kv c.sent_by-out.result r.out c.kv-2.ensures c.sent_by-out.ensures c.in_err-send_all.ensures.posts.told in
     rw (p.1, p.2)
     (unsent_pass s.me (serving_of s clock told) (at_moment c.args.now c.args.input.now) _ reacts c.in_ok-keep.ensures.keeps.0 (disks_of state s.store) (disks_of state n) (c.keep.ensures.passes both)
     (Unit {0}) _ e clock now (stood_of n) c.in_err-send_all.ensures.spent
