@@ -20,7 +20,7 @@ use Rattle.mon_store.specs.Pair.{Create, found}
 use Rattle.quorum_model.specs.Files.{Files, no_files}
 use Rattle.mon_site.specs.Calm.{IsRead}
 use Rattle.mon_site.specs.Disks.{content, files_in}
-use Rattle.mon_site.specs.Falls.{OpensMap, Rests}
+use Rattle.mon_site.specs.Faults.{OpensMap, Rests}
 use Rattle.mon_site.proofs.Found.{has_a, has_b}
 use Rattle.mon_site.proofs.Opened.{place_of, new_opens}
 use Rattle.mon_site.proofs.Openings.{unfailing}

@@ -30,7 +30,7 @@ use Rattle.quorum_model.specs.Files.{Files, live_side, after_append}
 use Rattle.quorum_model.specs.Upsets.{same_side, opens_gate}
 use Rattle.mon_site.specs.Disks.{file_in, content}
 use Rattle.mon_site.specs.Upset.{IsUpset, Leaves, files_on}
-use Rattle.mon_site.specs.Falls.{Settles}
+use Rattle.mon_site.specs.Faults.{Settles}
 use Rattle.mon_site.proofs.Checkpointing.{Ends, files_seen, stands_seen, seen_other, nothing_begun, whole_begun, cut_checkpoint}
 use Rattle.mon_site.proofs.Gates.{append_writes, create_writes}
 use Rattle.mon_site.proofs.Keeping.{goes_of, left, late, opens_late}

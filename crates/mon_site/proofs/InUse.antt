@@ -37,7 +37,7 @@ use Rattle.quorum_model.specs.Files.{File, Files, is_created, after_opening, aft
 use Rattle.mon_site.specs.Calm.{Runs, Changes, Renews, Applies}
 use Rattle.mon_site.specs.Disks.{file_in, files_in, content}
 use Rattle.mon_site.specs.Ending.{IsKept, IsMemory}
-use Rattle.mon_site.specs.Falls.{Settles, Rests}
+use Rattle.mon_site.specs.Faults.{Settles, Rests}
 use Rattle.mon_site.specs.Upset.{files_on}
 use Rattle.mon_site.proofs.Checkpointing.{files_seen, stands_seen}
 use Rattle.mon_site.proofs.Ending.{files_grow}

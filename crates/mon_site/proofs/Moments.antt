@@ -29,7 +29,7 @@ use Rattle.mon_tx.specs.Text.{text}
 use Rattle.quorum_model.specs.Files.{Files}
 use Rattle.mon_site.specs.Calm.{Runs}
 use Rattle.mon_site.specs.Disks.{content}
-use Rattle.mon_site.specs.Falls.{OpensMap, Rests}
+use Rattle.mon_site.specs.Faults.{OpensMap, Rests}
 use Rattle.mon_site.specs.Moments.{OpensEither}
 
 -- ---- opening

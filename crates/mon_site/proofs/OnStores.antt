@@ -29,7 +29,7 @@ use Rattle.mon_site.specs.declared.finishing.Kept.TheVariants.{Whole, Cut}
 use Rattle.mon_site.specs.declared.upset.Upset.{Upset}
 use Rattle.mon_site.specs.Disks.{content}
 use Rattle.mon_site.specs.Ending.{IsKept, Keeps, on_live, is_beyond}
-use Rattle.mon_site.specs.Falls.{IsFalling, Settles}
+use Rattle.mon_site.specs.Faults.{HasFault, Settles}
 use Rattle.mon_site.specs.Upset.{IsUpset, files_on}
 use Rattle.mon_site.proofs.Ending.{Either, OnLive, OnOther, either, live_now, files_grow, uncut_by, live_cut, due_cut, due_beyond, due_whole, none_due}
 use Rattle.mon_site.proofs.Openings.{unfailing}
@@ -54,12 +54,12 @@ not_late n h = grind (arith, nat_tests)
 
 -- ---- a transaction
 
-module _ (u : Upset) (member : Member) (m : Store) (f : Files) (ops : List Op) (old new : Held) (falling : IsFalling u.disk u.call u.image member m f old) (side : new.side ≡ old.side) (other : new.other ≡ old.other) where
+module _ (u : Upset) (member : Member) (m : Store) (f : Files) (ops : List Op) (old new : Held) (faulty : HasFault u.disk u.call u.image member m f old) (side : new.side ≡ old.side) (other : new.other ≡ old.other) where
   which : Either u.call u.image u.disk old.side old.live old.other
-  which = either u.call u.image u.disk old.side old.live old.other falling.upset falling.calm
+  which = either u.call u.image u.disk old.side old.live old.other faulty.upset faulty.calm
 
   live_is : live_side f ≡ old.side
-  live_is = ap live_side (sym falling.files) ∙ live_now old.side old.live old.other old.journal old.kv old.live.known falling.sound
+  live_is = ap live_side (sym faulty.files) ∙ live_now old.side old.live old.other old.journal old.kv old.live.known faulty.sound
 
   on_it : on_live u f ≡ same_side u.disk old.side
   on_it = ap (λ (s : Side). same_side u.disk s) live_is
@@ -74,22 +74,22 @@ module _ (u : Upset) (member : Member) (m : Store) (f : Files) (ops : List Op) (
   whole unbroken sound journal small map made =
       let here : Sound new.journal new.kv new.live.known (content new.live) (content old.other) = subst (λ (o : MemoryState). Sound new.journal new.kv new.live.known (content new.live) (content o)) other sound in (
         uncut which,
-        subst (λ (n : Store). size_of (apply ops n) ≤ most_size) falling.map small,
+        subst (λ (n : Store). size_of (apply ops n) ≤ most_size) faulty.map small,
         record {
           unbroken = unbroken;
           sound = sound;
-          form = ap (λ (j : Journal). j.form) journal ∙ after_form old.journal ops ∙ falling.form;
-          owner = ap (λ (j : Journal). owner_of j.member) journal ∙ after_owner old.journal ops ∙ falling.owner;
-          map = map ∙ ap (λ (n : Store). apply ops n) falling.map;
+          form = ap (λ (j : Journal). j.form) journal ∙ after_form old.journal ops ∙ faulty.form;
+          owner = ap (λ (j : Journal). owner_of j.member) journal ∙ after_owner old.journal ops ∙ faulty.owner;
+          map = map ∙ ap (λ (n : Store). apply ops n) faulty.map;
           files = by_names (λ a b. files_on a b ≡ after_append ops f)
-              (files_grow old.side old.live old.other old.journal old.kv old.live.known falling.sound new.live new.journal new.kv new.live.known ops here journal ∙ ap (after_append ops) falling.files);
+              (files_grow old.side old.live old.other old.journal old.kv old.live.known faulty.sound new.live new.journal new.kv new.live.known ops here journal ∙ ap (after_append ops) faulty.files);
           other = others which;
         },
       )
     where
       uncut : Either u.call u.image u.disk old.side old.live old.other → (on_live u f && not (is_beyond u ops)) ≡ false
       uncut (OnLive same up calm) =
-          let beyond : is_beyond u ops ≡ true = uncut_by old.side old.live old.other old.journal old.kv old.live.known falling.sound ops u.call u.image new.live up made in
+          let beyond : is_beyond u ops ≡ true = uncut_by old.side old.live old.other old.journal old.kv old.live.known faulty.sound ops u.call u.image new.live up made in
           ap (λ (b : Bool). on_live u f && not b) beyond ∙ neither (on_live u f)
       uncut (OnOther apart up calm) = ap (λ (b : Bool). b && not (is_beyond u ops)) (on_it ∙ apart)
 
@@ -104,15 +104,15 @@ module _ (u : Upset) (member : Member) (m : Store) (f : Files) (ops : List Op) (
       let here : BeforeOrAfter old.side old.journal old.kv ops (settled (of_a old.side new.live old.other).life) (settled (of_b old.side new.live old.other).life) =
       subst (λ (o : MemoryState). BeforeOrAfter old.side old.journal old.kv ops (settled (of_a old.side new.live o).life) (settled (of_b old.side new.live o).life)) other
       (subst (λ (s : Side). BeforeOrAfter old.side old.journal old.kv ops (settled (of_a s new.live new.other).life) (settled (of_b s new.live new.other).life)) side before) in
-      let r = live_cut old.side old.live old.other old.journal old.kv old.live.known falling.sound member ops u.call u.image u.disk new.live which made here falling.owner falling.form in
+      let r = live_cut old.side old.live old.other old.journal old.kv old.live.known faulty.sound member ops u.call u.image u.disk new.live which made here faulty.owner faulty.form in
       let late : nat_lt 4 u.call ≡ false = not_late u.call r.2 in (
         on_it ∙ r.0,
         ap (λ (b : Bool). b || is_empty ops) late ∙ r.1,
-        subst (λ (n : Store). size_of (apply ops n) ≤ most_size) falling.map small,
+        subst (λ (n : Store). size_of (apply ops n) ≤ most_size) faulty.map small,
         r.3,
         by_names (λ a b. Settles member (if test then apply ops m else m) (if test then after_append ops f else f) a b)
-            (subst (λ (n : Store). Settles member (if test then apply ops n else n) (if test then after_append ops f else f) (of_a old.side new.live old.other) (of_b old.side new.live old.other)) falling.map
-            (subst (λ (g : Files). Settles member (if test then apply ops old.kv else old.kv) (if test then after_append ops g else g) (of_a old.side new.live old.other) (of_b old.side new.live old.other)) falling.files r.4)),
+            (subst (λ (n : Store). Settles member (if test then apply ops n else n) (if test then after_append ops f else f) (of_a old.side new.live old.other) (of_b old.side new.live old.other)) faulty.map
+            (subst (λ (g : Files). Settles member (if test then apply ops old.kv else old.kv) (if test then after_append ops g else g) (of_a old.side new.live old.other) (of_b old.side new.live old.other)) faulty.files r.4)),
       )
 
 -- ---- a checkpoint

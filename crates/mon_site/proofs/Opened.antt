@@ -31,7 +31,7 @@ use Rattle.quorum_model.specs.Cuts.{opening_cut}
 use Rattle.quorum_model.specs.Files.{File, Files, first_file, is_created}
 use Rattle.quorum_model.specs.Upsets.{opening_count, opens_gate, closes_gate}
 use Rattle.mon_site.specs.Disks.{file_of, file_in, files_in, content}
-use Rattle.mon_site.specs.Falls.{OpensMap, IsReady, Settles}
+use Rattle.mon_site.specs.Faults.{OpensMap, IsReady, Settles}
 use Rattle.mon_site.proofs.Guarded.{guarded, cut_short}
 use Rattle.mon_site.proofs.Gates.{is_opened, create_writes, create_gate}
 use Rattle.mon_site.proofs.Openings.{one_more, on, on_a, on_b, Broken, AtSync, Behind, walks}

@@ -9,7 +9,7 @@ use Rattle.mon_disk.proofs.Following.{now}
 use Rattle.mon_tx.specs.Map.{Store}
 use Rattle.quorum_model.specs.Files.{Files}
 use Rattle.mon_site.specs.Disks.{IsCalm, content, files_in}
-use Rattle.mon_site.specs.Falls.{OpensMap, IsReady, Rests}
+use Rattle.mon_site.specs.Faults.{OpensMap, IsReady, Rests}
 use Rattle.mon_site.specs.Upset.{IsUpset}
 
 module _ (old new : MemoryState) (call image : ℕ) (calm : IsCalm old) (is : new ≡ upset_by call image old) (seen : seen_of new.life ≡ seen_of old.life) (leaves : LeavesOnly (content old) (content new) (images (content old))) where

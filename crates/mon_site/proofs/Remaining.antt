@@ -27,7 +27,7 @@ use Rattle.quorum_model.specs.Files.{File, Files, first_file, is_created, after_
 use Rattle.quorum_model.specs.Upsets.{opening_count}
 use Rattle.mon_site.specs.Disks.{file_in, content}
 use Rattle.mon_site.specs.Upset.{IsUpset, files_on}
-use Rattle.mon_site.specs.Falls.{OpensMap, IsReady}
+use Rattle.mon_site.specs.Faults.{OpensMap, IsReady}
 use Rattle.mon_site.proofs.Checkpointing.{files_seen}
 use Rattle.mon_site.proofs.Found.{Content, files_with, open_writes, writes_a, Finds, IsNew, WasThere, finds, on_disk_a, on_disk_b, counts_a, counts_b}
 use Rattle.mon_site.proofs.Guarded.{guarded}

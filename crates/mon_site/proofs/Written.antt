@@ -14,7 +14,7 @@ use Rattle.mon_site.specs.declared.upset.Upset.{Upset}
 use Rattle.mon_store.specs.declared.stop.StoreStop.{StoreStop}
 use Rattle.mon_store.specs.declared.stop.StoreStop.TheVariants as stop
 use Rattle.mon_site.specs.Ending.{StopsAt, IsMemory, Writes, on_live, is_beyond}
-use Rattle.mon_site.specs.Falls.{Settles}
+use Rattle.mon_site.specs.Faults.{Settles}
 
 module _ (u : Upset) (member : Member) (m : Store) (f : Files) (ops : List Op) (a b : MemoryState) (small : size_of (apply ops m) ≤ most_size) where
   kept_by : (x empty late : Bool) → (x && not (late || empty)) ≡ false → (if empty then true else if x then (late || (nat_le 3 u.call && u.image == 1)) else true) ≡ true

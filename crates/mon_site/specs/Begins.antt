@@ -12,7 +12,7 @@ use Rattle.quorum_model.specs.Upsets.{opening_count}
 use Rattle.mon_site.specs.declared.opening.Begun.{Begun}
 use Rattle.mon_site.specs.declared.opening.Begun.TheVariants.{Open, Failed}
 use Rattle.mon_site.specs.declared.upset.Upset.{Upset}
-use Rattle.mon_site.specs.Falls.{IsFalling, Settles}
+use Rattle.mon_site.specs.Faults.{HasFault, Settles}
 
 -- a member opens a store on two disks as they read
 abbrev pub Opens : Member → MemoryState → MemoryState → Type 0
@@ -23,7 +23,7 @@ Opens member a b = (s : Stood) × (opens_as member (seen_of a.life) (seen_of b.l
 abbrev pub Begins : Upset → Member → Store → Files → Result Begun OutOfMemory → Type 0
 Begins u member m f (Ok (Open store)) =
     (opening_count u.disk f < u.call) ×
-    IsFalling u.disk (u.call - opening_count u.disk f) u.image member m (after_opening f) store
+    HasFault u.disk (u.call - opening_count u.disk f) u.image member m (after_opening f) store
 Begins u member m f (Ok (Failed disks)) =
     (u.call ≤ opening_count u.disk f) × Settles member m (opening_cut f u.disk u.call u.image) disks.a disks.b
 Begins u member m f (Err e) = Unit {0}

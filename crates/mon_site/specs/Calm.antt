@@ -17,7 +17,7 @@ use Rattle.quorum_model.specs.Cuts.{after_checkpoint}
 use Rattle.quorum_model.specs.Files.{Files, after_opening, after_append}
 use Rattle.mon_site.specs.Disks.{IsCalm, content}
 use Rattle.mon_site.specs.Ending.{StopsAt, IsMemory}
-use Rattle.mon_site.specs.Falls.{Rests}
+use Rattle.mon_site.specs.Faults.{Rests}
 use Rattle.mon_site.specs.Upset.{files_on}
 
 -- two disks rest, with some map and some files

@@ -23,7 +23,7 @@ use Rattle.mon_site.specs.declared.finishing.Kept.{Kept}
 use Rattle.mon_site.specs.declared.finishing.Kept.TheVariants.{Whole, Cut}
 use Rattle.mon_site.specs.declared.upset.Upset.{Upset}
 use Rattle.mon_site.specs.Disks.{content}
-use Rattle.mon_site.specs.Falls.{Settles}
+use Rattle.mon_site.specs.Faults.{Settles}
 use Rattle.mon_site.specs.Upset.{IsUpset, files_on}
 
 -- The live disk failed in none of its calls, or in none so far; the other one may still fail.

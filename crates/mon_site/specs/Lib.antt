@@ -1,6 +1,6 @@
 pub mod Disks
 pub mod Upset
-pub mod Falls
+pub mod Faults
 pub mod Moments
 pub mod Begins
 pub mod Ending

@@ -5,7 +5,7 @@ use Rattle.mon_disk.specs.MemoryDisk.{MemoryState}
 use Rattle.mon_store.specs.Moments as store
 use Rattle.mon_tx.specs.Map.{Store}
 use Rattle.mon_site.specs.Disks.{content}
-use Rattle.mon_site.specs.Falls.{OpensMap}
+use Rattle.mon_site.specs.Faults.{OpensMap}
 
 -- A member opens a store on two images, with one map or with another: that from before a transaction or from after it.
 abbrev pub OpensEither : Member → (before after : Store) → List ℕ → List ℕ → Type 0

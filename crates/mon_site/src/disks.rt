@@ -4,7 +4,7 @@ ghost use Rattle.std.specs.Prelude.{◌≡◌, ◌≤◌, None, IfOk};
 ghost use Rattle.mon_tx.specs.Map.{Store as Map};
 ghost use Rattle.mon_types.specs.declared.member.Member.{Member};
 ghost use Rattle.quorum_model.specs.Files.{Files};
-ghost use Rattle.mon_site.specs.Falls.{IsReady, Rests, Settles};
+ghost use Rattle.mon_site.specs.Faults.{IsReady, Rests, Settles};
 
 use crate::upset::Upset;
 use mon_bytes::OutOfMemory;

@@ -9,7 +9,7 @@ ghost use Rattle.quorum_model.specs.declared.calls.TheConstants.{APPEND};
 ghost use Rattle.quorum_model.specs.Files.{Files};
 ghost use Rattle.quorum_model.specs.Upsets.{last_write};
 ghost use Rattle.mon_site.specs.Ending.{IsKept, Keeps, Checkpoints, Writes, Finishes};
-ghost use Rattle.mon_site.specs.Falls.{IsFalling};
+ghost use Rattle.mon_site.specs.Faults.{HasFault};
 
 use crate::upset::Upset;
 use mon_disk::{MemoryDisk, NodeDisks};
@@ -25,7 +25,7 @@ enum Kept {
     Cut { kept: bool },
 }
 
-/// What is left of a monitor in whose event a disk failed. The disks aren't settled yet.
+/// What remains of a monitor in whose event a disk failed. The disks aren't settled yet.
 #[derive(Drop)]
 pub struct Ended {
     pub disks: NodeDisks<MemoryDisk>,
@@ -33,7 +33,7 @@ pub struct Ended {
     pub kept: bool,
 }
 
-/// Whether a gate is opened that an append's last write opens and that isn't synced.
+/// Whether the failing disk keeps the open gate: the append's last write was begun, and image 1 keeps it.
 fn opens_gate(upset: Upset) -> bool
     ensures { result ≡ (nat_le (last_write APPEND) upset.call && upset.image == 1) }
 {
@@ -48,7 +48,7 @@ fn keep(store: &mut Store<MemoryDisk>, tx: &Transaction, upset: Upset) -> Result
     ensures sound { IsSound state_of store.new }
     ensures unbroken { result ≡ Ok Kept.Whole → store.new.broken ≡ false }
     ensures keeps { (member : Member) (m : Map) (f : Files) →
-        IsFalling upset.disk upset.call upset.image member m f store.old →
+        HasFault upset.disk upset.call upset.image member m f store.old →
         Keeps upset member m f tx.now store.new result }
 {
     match store.apply(tx) {
@@ -74,13 +74,16 @@ fn checkpoint(store: &mut Store<MemoryDisk>) -> Result<(), StoreStop>
     }
 }
 
-/// Makes a transaction's changes, and then the checkpoint that is due, if one is, as far as the disks let it. The
-/// answer is whether the transaction is kept.
-fn write(store: &mut Store<MemoryDisk>, tx: &Transaction, upset: Upset) -> Result<bool, StoreStop>
+/// Applies the transaction and the due checkpoint until the injected fault. Returns whether the transaction survives.
+fn apply_until_fault(
+    store: &mut Store<MemoryDisk>,
+    tx: &Transaction,
+    upset: Upset,
+) -> Result<bool, StoreStop>
     requires unbroken { store.old.broken ≡ false }
     requires sound { IsSound state_of store.old }
     ensures { (member : Member) (m : Map) (f : Files) →
-        IsFalling upset.disk upset.call upset.image member m f store.old →
+        HasFault upset.disk upset.call upset.image member m f store.old →
         Writes upset member m f tx.now (disk_a store.new) (disk_b store.new) result }
 {
     match keep(store, tx, upset) {
@@ -103,10 +106,10 @@ pub fn finish(
 ) -> Result<Ended, StoreStop>
     requires unbroken { store.broken ≡ false }
     requires sound { IsSound state_of store }
-    ensures { (member : Member) (m : Map) (f : Files) → IsFalling upset.disk upset.call upset.image member m f store →
+    ensures { (member : Member) (m : Map) (f : Files) → HasFault upset.disk upset.call upset.image member m f store →
         Finishes upset member m f tx.now result }
 {
-    match write(&mut store, tx, upset) {
+    match apply_until_fault(&mut store, tx, upset) {
         Ok(kept) => Ok(Ended {
             disks: store.close(),
             kept,

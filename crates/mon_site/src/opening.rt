@@ -3,7 +3,7 @@
 ghost use Rattle.mon_tx.specs.Map.{Store as Map};
 ghost use Rattle.quorum_model.specs.Files.{Files};
 ghost use Rattle.mon_site.specs.Begins.{Opens, Begins};
-ghost use Rattle.mon_site.specs.Falls.{IsReady};
+ghost use Rattle.mon_site.specs.Faults.{IsReady};
 
 use crate::upset::Upset;
 use mon_bytes::OutOfMemory;

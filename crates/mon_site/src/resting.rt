@@ -9,7 +9,7 @@ ghost use Rattle.mon_tx.specs.Map.{Store as Map};
 ghost use Rattle.quorum_model.specs.Files.{Files, no_files};
 ghost use Rattle.quorum_model.specs.Upsets.{opening_count};
 ghost use Rattle.mon_site.specs.Calm.{IsRead};
-ghost use Rattle.mon_site.specs.Falls.{Rests};
+ghost use Rattle.mon_site.specs.Faults.{Rests};
 
 use mon_bytes::OutOfMemory;
 use mon_disk::{Disk, MemoryDisk, NodeDisks};

@@ -9,7 +9,7 @@ ghost use Rattle.mon_store.specs.Whole.{IsSound, disk_a, disk_b, disk_of};
 ghost use Rattle.mon_tx.specs.Map.{Store as Map, apply};
 ghost use Rattle.quorum_model.specs.Files.{Files, is_created};
 ghost use Rattle.mon_site.specs.Calm.{Rest, Runs, Starts, Changes, Renews, Applies};
-ghost use Rattle.mon_site.specs.Falls.{OpensMap, Rests};
+ghost use Rattle.mon_site.specs.Faults.{OpensMap, Rests};
 ghost use Rattle.mon_site.specs.Moments.{Meanwhile, OpensEither, WhileOpening};
 
 use mon_bytes::OutOfMemory;

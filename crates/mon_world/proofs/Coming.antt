@@ -18,7 +18,7 @@ use Rattle.schedule_text.specs.declared.event.Plain.{Plain}
 use Rattle.schedule_text.specs.declared.event.Plain.TheVariants as plain
 use Rattle.mon_world.specs.Events.{plain_event, scheduled_of}
 use Rattle.mon_types.specs.declared.names.Side.{Side}
-use Rattle.mon_world.specs.Falls.{MayBe}
+use Rattle.mon_world.specs.Crashes.{MayBe}
 use Rattle.mon_world.specs.Stands.{Fits, FitsPlain, FitsUpset, MayArrive}
 
 -- ---- events

@@ -5,7 +5,7 @@ use Rattle.mon_msg.specs.Protocol.Reaction.{Reaction}
 use Rattle.mon_msg.specs.declared.input.Input.{Input}
 use Rattle.mon_msg.specs.declared.input.Input.TheVariants as input
 use Rattle.mon_site.specs.Begins.{Begins}
-use Rattle.mon_site.specs.Falls.{IsFalling, Rests}
+use Rattle.mon_site.specs.Faults.{HasFault, Rests}
 use Rattle.mon_site.specs.declared.opening.Begun.TheVariants.{Open}
 use Rattle.mon_site.specs.declared.upset.Upset.{Upset}
 use Rattle.mon_store.specs.declared.store.Store as kept
@@ -18,9 +18,9 @@ use Rattle.quorum_model.specs.declared.calls.TheConstants.{FIRST_OPENING}
 use Rattle.quorum_model.specs.Cuts.{opening_cut}
 use Rattle.quorum_model.specs.Files.{File, Files, after_opening}
 use Rattle.quorum_model.specs.Upsets.{opening_count, writes_nothing}
-use Rattle.mon_world.specs.declared.crash.Fallen.{Fallen}
+use Rattle.mon_world.specs.declared.crash.Remains.{Remains}
 use Rattle.mon_world.specs.declared.stop.WorldStop.{WorldStop}
-use Rattle.mon_world.specs.Falls.{Ends, Falls, IsLeft, counted}
+use Rattle.mon_world.specs.Crashes.{Ends, Crashes, IsLeft, counted}
 use Rattle.mon_world.proofs.Deciding.{behind, counted_behind, ended, failed, fails_at_start}
 
 few_by_files : (side : Side) (a b : Option File) → opening_count side (record { a = a; b = b }) ≤ FIRST_OPENING
@@ -73,11 +73,11 @@ module _ (u : Upset) (member : Member) (m : Store) (f : Files) (came : Input) (n
   opens_first late = let e : n ≡ opening_count from.disk f = is ∙ sym same_count in omega arith
 
   -- a store that is open stops after them
-  pub opens_falling : (store : kept.Store MemoryState) → Begins from member m f (Ok (Open store)) → IsFalling from.disk (from.call - n) from.image member m (after_opening f) store
-  opens_falling store h = subst (λ (k : ℕ). IsFalling from.disk (from.call - k) from.image member m (after_opening f) store) (sym (is ∙ sym same_count)) h.1
+  pub opens_faulty : (store : kept.Store MemoryState) → Begins from member m f (Ok (Open store)) → HasFault from.disk (from.call - n) from.image member m (after_opening f) store
+  opens_faulty store h = subst (λ (k : ℕ). HasFault from.disk (from.call - k) from.image member m (after_opening f) store) (sym (is ∙ sym same_count)) h.1
 
   module _ (first : 1 ≤ u.call) where
-    pub ended_so : (r : Result Reaction Which) (result : Result Fallen WorldStop) → opening_count from.disk f < from.call → Ends (behind from n) member m (after_opening f) r result → Falls u member m f came r result
+    pub ended_so : (r : Result Reaction Which) (result : Result Remains WorldStop) → opening_count from.disk f < from.call → Ends (behind from n) member m (after_opening f) r result → Crashes u member m f came r result
     ended_so r result late h =
         let later : opening_count u.disk f < (counted u came n).call = omega (arith, late, same_count, same_call) in
         let b = counted_behind u f came n first is later in
@@ -85,12 +85,12 @@ module _ (u : Upset) (member : Member) (m : Store) (f : Files) (came : Input) (n
         (subst (λ (v : Upset). Ends v member m (after_opening f) r result) (ap (λ (v : Upset). behind v n) counts ∙ b.same) h)
 
     -- a start that fails at opening loses what it would write
-    pub failed_so : (r : Result Reaction Which) (fallen : Fallen) → (came ≡ input.Start → writes_nothing r ≡ false) → from.call ≤ opening_count from.disk f
-        → fallen.kept ≡ None → Rests member m (opening_cut f from.disk from.call from.image) fallen.disks.a fallen.disks.b → IsLeft u member m f came r fallen
-    failed_so r fallen writes early none rests =
+    pub failed_so : (r : Result Reaction Which) (remains : Remains) → (came ≡ input.Start → writes_nothing r ≡ false) → from.call ≤ opening_count from.disk f
+        → remains.kept ≡ None → Rests member m (opening_cut f from.disk from.call from.image) remains.disks.a remains.disks.b → IsLeft u member m f came r remains
+    failed_so r remains writes early none rests =
         let sooner : (counted u came n).call ≤ opening_count u.disk f = omega (arith, early, same_count, same_call) in
         let s = fails_at_start u f came n first is sooner in
         let same : from ≡ u = counts ∙ ap (λ (came : Input). counted u came n) s.start in
-        subst (λ (came : Input). IsLeft u member m f came r fallen) (sym s.start)
-        (failed u member m f r fallen s.early (writes s.start) none
-        (subst (λ (v : Upset). Rests member m (opening_cut f v.disk v.call v.image) fallen.disks.a fallen.disks.b) same rests))
+        subst (λ (came : Input). IsLeft u member m f came r remains) (sym s.start)
+        (failed u member m f r remains s.early (writes s.start) none
+        (subst (λ (v : Upset). Rests member m (opening_cut f v.disk v.call v.image) remains.disks.a remains.disks.b) same rests))

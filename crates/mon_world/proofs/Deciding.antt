@@ -17,12 +17,12 @@ use Rattle.quorum_model.specs.Happens.{unless_stopped}
 use Rattle.quorum_model.specs.Scenes.{opening_of}
 use Rattle.quorum_model.specs.Upsets.{crash_keeps, opening_count, opens_gate, same_side, stops, writes_nothing}
 use Rattle.quorum_model.specs.Scenes.{ops_of}
-use Rattle.mon_site.specs.Falls.{Rests}
+use Rattle.mon_site.specs.Faults.{Rests}
 use Rattle.mon_types.specs.declared.member.Member.{Member}
-use Rattle.mon_world.specs.declared.crash.Fallen.{Fallen}
+use Rattle.mon_world.specs.declared.crash.Remains.{Remains}
 use Rattle.mon_world.specs.declared.stop.WorldStop.{WorldStop}
 use Rattle.mon_world.specs.declared.stop.WorldStop.TheVariants.{OutOfMemory, Spent, Full}
-use Rattle.mon_world.specs.Falls.{Ends, Falls, IsLeft, Settled, StopsKept, counted, files_left, keeps, map_left, upset_of, written_if}
+use Rattle.mon_world.specs.Crashes.{Ends, Crashes, IsLeft, Settled, StopsKept, counted, files_left, keeps, map_left, upset_of, written_if}
 use Rattle.mon_world.specs.Stops.{Stops}
 
 -- creating a store leaves disk a live
@@ -89,16 +89,16 @@ module _ (u : Upset) (m : Store) (f : Files) (opening : ℕ) (late : opening < u
 -- ---- a monitor whose disk fails
 
 module _ (u : Upset) (member : Member) (m : Store) (f : Files) (came : Input) (later : opening_of came u.disk f < u.call) where
-  left : (x : Reaction) (fallen : Fallen) → Settled (behind u (opening_of came u.disk f)) member m (after_opening f) x.transaction fallen → IsLeft u member m f came (Ok x) fallen
+  left : (x : Reaction) (remains : Remains) → Settled (behind u (opening_of came u.disk f)) member m (after_opening f) x.transaction remains → IsLeft u member m f came (Ok x) remains
   unfolding keeps map_left files_left
-  left x fallen s =
+  left x remains s =
       let same = kept_so u m f (opening_of came u.disk f) later x s.room in
       let files = files_so u m f (opening_of came u.disk f) later x.transaction in record {
         goes_on = λ _. goes_on u m f (opening_of came u.disk f) later x s.room;
         kept = s.kept ∙ ap (λ (k : Bool). written_if k (apply x.transaction m)) (sym same);
         rests =
-            subst (λ (k : Bool). Rests member (if k then apply x.transaction m else m) (files_left u m f came (Ok x)) fallen.disks.a fallen.disks.b) (sym same)
-            (subst (λ (g : Files). Rests member (if is_kept (behind u (opening_of came u.disk f)) (after_opening f) x.transaction then apply x.transaction m else m) g fallen.disks.a fallen.disks.b) (sym files) s.rests);
+            subst (λ (k : Bool). Rests member (if k then apply x.transaction m else m) (files_left u m f came (Ok x)) remains.disks.a remains.disks.b) (sym same)
+            (subst (λ (g : Files). Rests member (if is_kept (behind u (opening_of came u.disk f)) (after_opening f) x.transaction then apply x.transaction m else m) g remains.disks.a remains.disks.b) (sym files) s.rests);
       }
 
   stopped : (e : WorldStop) (r : Result Reaction Which) → Stops e (unless_stopped m r) → StopsKept e (keeps u m f came r) (unless_stopped m r)
@@ -107,8 +107,8 @@ module _ (u : Upset) (member : Member) (m : Store) (f : Files) (came : Input) (l
   stopped (Spent which) r h = (stop_kept u m f (opening_of came u.disk f) later r (ap is_err h), h)
   stopped (Full would_be) r h = (stop_kept u m f (opening_of came u.disk f) later r (ap is_err h), h)
 
-  pub ended : (r : Result Reaction Which) (result : Result Fallen WorldStop) → Ends (behind u (opening_of came u.disk f)) member m (after_opening f) r result → Falls u member m f came r result
-  ended r (Ok fallen) h = subst (λ (r : Result Reaction Which). IsLeft u member m f came r fallen) (sym h.1) (left h.0 fallen h.2)
+  pub ended : (r : Result Reaction Which) (result : Result Remains WorldStop) → Ends (behind u (opening_of came u.disk f)) member m (after_opening f) r result → Crashes u member m f came r result
+  ended r (Ok remains) h = subst (λ (r : Result Reaction Which). IsLeft u member m f came r remains) (sym h.1) (left h.0 remains h.2)
   ended r (Err e) h = stopped e r h
 
 -- a start whose opening failed loses what it would write
@@ -126,16 +126,16 @@ lost u m f r early writes =
     by false true never none writes = rw (writes, none) refl
     by false false never none writes = rw (writes, never) refl
 
-pub failed : (u : Upset) (member : Member) (m : Store) (f : Files) (r : Result Reaction Which) (fallen : Fallen) → u.call ≤ opening_count u.disk f → writes_nothing r ≡ false
-    → fallen.kept ≡ None → Rests member m (opening_cut f u.disk u.call u.image) fallen.disks.a fallen.disks.b → IsLeft u member m f input.Start r fallen
+pub failed : (u : Upset) (member : Member) (m : Store) (f : Files) (r : Result Reaction Which) (remains : Remains) → u.call ≤ opening_count u.disk f → writes_nothing r ≡ false
+    → remains.kept ≡ None → Rests member m (opening_cut f u.disk u.call u.image) remains.disks.a remains.disks.b → IsLeft u member m f input.Start r remains
 unfolding keeps map_left files_left
-failed u member m f r fallen early writes none rests =
+failed u member m f r remains early writes none rests =
     let is = lost u m f r early writes in
     let files : files_left u m f input.Start r ≡ opening_cut f u.disk u.call u.image =
     let first : nat_le u.call (opening_count u.disk f) ≡ true = le-leb u.call (opening_count u.disk f) early in rw first refl in record {
       goes_on = λ k. absurd (let e : true ≡ false = sym k ∙ is in cc);
       kept = none ∙ ap (λ (k : Bool). written_if k (apply (ops_of r) m)) (sym is);
       rests =
-          subst (λ (k : Bool). Rests member (if k then apply (ops_of r) m else m) (files_left u m f input.Start r) fallen.disks.a fallen.disks.b) (sym is)
-          (subst (λ (g : Files). Rests member m g fallen.disks.a fallen.disks.b) (sym files) rests);
+          subst (λ (k : Bool). Rests member (if k then apply (ops_of r) m else m) (files_left u m f input.Start r) remains.disks.a remains.disks.b) (sym is)
+          (subst (λ (g : Files). Rests member m g remains.disks.a remains.disks.b) (sym files) rests);
     }

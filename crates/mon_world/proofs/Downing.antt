@@ -9,7 +9,7 @@ use Rattle.mon_msg.specs.Protocol.Readings.{readings_of}
 use Rattle.mon_msg.specs.Protocol.State.{State}
 use Rattle.mon_msg.specs.declared.input.Input.{Input}
 use Rattle.mon_msg.specs.declared.view.Me.{Me}
-use Rattle.mon_site.specs.Falls.{OpensMap, Rests}
+use Rattle.mon_site.specs.Faults.{OpensMap, Rests}
 use Rattle.mon_site.specs.declared.upset.Upset.{Upset}
 use Rattle.mon_store.specs.Pair.{Refusal}
 use Rattle.mon_store.specs.Stood.{Stood}
@@ -22,12 +22,12 @@ use Rattle.quorum_model.specs.Meets.{state_at}
 use Rattle.quorum_model.specs.Scenes.{ops_of}
 use Rattle.svc_core.specs.Cache.{Follows}
 use Rattle.svc_core.specs.declared.cache.Cache.{Cache}
-use Rattle.mon_world.specs.declared.crash.Fallen.{Fallen}
+use Rattle.mon_world.specs.declared.crash.Remains.{Remains}
 use Rattle.mon_world.specs.declared.crash.Written.{Written}
 use Rattle.mon_world.specs.declared.monitor.Kept.TheVariants.{Down}
 use Rattle.mon_world.specs.declared.monitor.Monitor.{Monitor}
 use Rattle.mon_world.specs.declared.stop.WorldStop.{WorldStop}
-use Rattle.mon_world.specs.Falls.{Falls, IsDown, IsLeft, files_left, keeps, map_left, marked_if, written, written_if}
+use Rattle.mon_world.specs.Crashes.{Crashes, IsDown, IsLeft, files_left, keeps, map_left, marked_if, written, written_if}
 use Rattle.mon_world.specs.Monitor.{Holds, Stands, remembered}
 use Rattle.mon_world.proofs.Remembering.{remembered_so, same_state}
 
@@ -51,19 +51,19 @@ pub remembers : (me : Me) (s : Option State) (came : Input) (before now to : Sta
 remembers me s came before now to is forgets at =
     same_state now to (sym forgets ∙ (ap (λ (x : State). state_at me.member.rank (Some x) came) is ∙ remembered_so me s came to at))
 
--- it falls as its monitor does
-pub falls_as : (u : Upset) (m : Store) (f : Files) (came : Input) (now : ℕ) (result : Result Fallen WorldStop) (core : Core) (me : Me) (to : State) → core.me ≡ me → core.state ≡ to
-    → Falls u me.member m f came (reaction core.me now m core.state came) result → Falls u me.member m f came (reaction me now m to came) result
-falls_as u m f came now result core me to me_is state_is h =
-    subst (λ (x : State). Falls u me.member m f came (reaction me now m x came) result) state_is
-    (subst (λ (k : Me). Falls u me.member m f came (reaction k now m core.state came) result) me_is h)
+-- it crashes as its monitor does
+pub crashes_as : (u : Upset) (m : Store) (f : Files) (came : Input) (now : ℕ) (result : Result Remains WorldStop) (core : Core) (me : Me) (to : State) → core.me ≡ me → core.state ≡ to
+    → Crashes u me.member m f came (reaction core.me now m core.state came) result → Crashes u me.member m f came (reaction me now m to came) result
+crashes_as u m f came now result core me to me_is state_is h =
+    subst (λ (x : State). Crashes u me.member m f came (reaction me now m x came) result) state_is
+    (subst (λ (k : Me). Crashes u me.member m f came (reaction k now m core.state came) result) me_is h)
 
 -- and as it knows itself
-pub falls_itself : (u : Upset) (m : Store) (s : Option State) (f : Files) (came : Input) (now : ℕ) (result : Result Fallen WorldStop) (monitor : Monitor) (me : Me) (to : State) → Stands me m s f monitor → state_at me.member.rank s came ≡ Some to
-    → (Holds monitor.me m s f monitor.kept → state_at monitor.me.member.rank s came ≡ Some to → Falls u monitor.me.member m f came (reaction monitor.me now m to came) result)
-    → Falls u me.member m f came (reaction me now m to came) result
-falls_itself u m s f came now result monitor me to stands at h =
-    subst (λ (k : Me). Falls u k.member m f came (reaction k now m to came) result) stands.me_is
+pub crashes_itself : (u : Upset) (m : Store) (s : Option State) (f : Files) (came : Input) (now : ℕ) (result : Result Remains WorldStop) (monitor : Monitor) (me : Me) (to : State) → Stands me m s f monitor → state_at me.member.rank s came ≡ Some to
+    → (Holds monitor.me m s f monitor.kept → state_at monitor.me.member.rank s came ≡ Some to → Crashes u monitor.me.member m f came (reaction monitor.me now m to came) result)
+    → Crashes u me.member m f came (reaction me now m to came) result
+crashes_itself u m s f came now result monitor me to stands at h =
+    subst (λ (k : Me). Crashes u k.member m f came (reaction k now m to came) result) stands.me_is
     (h (subst (λ (k : Me). Holds k m s f monitor.kept) (sym stands.me_is) stands.holds) (subst (λ (k : Me). state_at k.member.rank s came ≡ Some to) (sym stands.me_is) at))
 
 -- ---- a monitor that is down
@@ -71,7 +71,7 @@ falls_itself u m s f came now result monitor me to stands at h =
 some_written : (x y : Written) → ◌≡◌ {A = Option Written} (Some x) (Some y) → x ≡ y
 some_written x y e = cc
 
-module _ (u : Upset) (me : Me) (m : Store) (f : Files) (came : Input) (r : Result Reaction Which) (fallen : Fallen) (left : IsLeft u me.member m f came r fallen) (new : Monitor) (me_is : new.me ≡ me) (down : new.kept ≡ Down fallen.disks) where
+module _ (u : Upset) (me : Me) (m : Store) (f : Files) (came : Input) (r : Result Reaction Which) (remains : Remains) (left : IsLeft u me.member m f came r remains) (new : Monitor) (me_is : new.me ≡ me) (down : new.kept ≡ Down remains.disks) where
   holds : Holds me (map_left u m f came r) None (files_left u m f came r) new.kept
   holds = subst (Holds me (map_left u m f came r) None (files_left u m f came r)) (sym down) left.rests
 
@@ -80,7 +80,7 @@ module _ (u : Upset) (me : Me) (m : Store) (f : Files) (came : Input) (r : Resul
   left_is k so = ap (λ (k : Bool). if k then apply (ops_of r) m else m) so
 
   -- its transaction is kept
-  pub down_kept : (w : Written) → fallen.kept ≡ Some w → new.last ≡ w.last → IsDown u me m f came r (Some w.marked) new
+  pub down_kept : (w : Written) → remains.kept ≡ Some w → new.last ≡ w.last → IsDown u me m f came r (Some w.marked) new
   down_kept w some last = by (keeps u m f came r) refl
     where
       by : (k : Bool) → keeps u m f came r ≡ k → IsDown u me m f came r (Some w.marked) new
@@ -97,7 +97,7 @@ module _ (u : Upset) (me : Me) (m : Store) (f : Files) (came : Input) (r : Resul
       by false so = absurd (let e : ◌≡◌ {A = Option Written} (Some w) None = sym some ∙ (left.kept ∙ ap (λ (k : Bool). written_if k (apply (ops_of r) m)) so) in cc)
 
   -- or lost
-  pub down_lost : fallen.kept ≡ None → new.last ≡ last_of m → IsDown u me m f came r None new
+  pub down_lost : remains.kept ≡ None → new.last ≡ last_of m → IsDown u me m f came r None new
   down_lost none last = by (keeps u m f came r) refl
     where
       by : (k : Bool) → keeps u m f came r ≡ k → IsDown u me m f came r None new

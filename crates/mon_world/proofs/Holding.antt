@@ -9,7 +9,7 @@ use Rattle.mon_msg.specs.Protocol.State.{State, booting}
 use Rattle.mon_msg.specs.declared.input.Input.{Input}
 use Rattle.mon_msg.specs.declared.view.Me.{Me}
 use Rattle.mon_site.specs.Calm.{Runs}
-use Rattle.mon_site.specs.Falls.{Rests}
+use Rattle.mon_site.specs.Faults.{Rests}
 use Rattle.mon_store.specs.declared.store.Store as kept
 use Rattle.mon_tx.specs.Map.{Store}
 use Rattle.quorum_model.specs.Files.{Files, after_opening}

@@ -17,7 +17,7 @@ pub mod Placing
 pub mod Standing
 pub mod Arriving
 pub mod Stepping
-pub mod Falling
+pub mod Crashing
 pub mod Remembering
 pub mod Holding
 pub mod Passing

@@ -10,7 +10,7 @@ use Rattle.mon_msg.specs.Protocol.State.{State}
 use Rattle.mon_msg.specs.declared.input.Input.{Input}
 use Rattle.mon_msg.specs.declared.view.Me.{Me}
 use Rattle.mon_site.specs.Disks.{content}
-use Rattle.mon_site.specs.Falls.{OpensMap, Rests}
+use Rattle.mon_site.specs.Faults.{OpensMap, Rests}
 use Rattle.mon_site.specs.Moments.{OpensEither}
 use Rattle.mon_site.proofs.InUse.{rests}
 use Rattle.mon_store.specs.Moments.{Lasts, Meanwhile, WhileOpening}

@@ -120,15 +120,15 @@ module _ (w : World) (p : model.Plain) where
   crashes false i came how r = goes_down i (how false)
 
 module _ (c : Scene) (p : model.Plain) (u : Upset) (how : Bool → Outcome) where
-  falls : (met : Meeting) → TellsIn c.world (upset_line c u how met) (after_meeting c.world (Crash p (kept_at c u met)) met)
-  falls (Reacts i came r) = crashes c.world p (kept_at c u (Reacts i came r)) i came how r
-  falls NoMessage = not_there c.world p outcome.NoMessage
-  falls Down = not_there c.world p outcome.Down
+  faulted : (met : Meeting) → TellsIn c.world (upset_line c u how met) (after_meeting c.world (Crash p (kept_at c u met)) met)
+  faulted (Reacts i came r) = crashes c.world p (kept_at c u (Reacts i came r)) i came how r
+  faulted NoMessage = not_there c.world p outcome.NoMessage
+  faulted Down = not_there c.world p outcome.Down
 
 tells_event : (ms : Monitors) (c : Scene) (e : Event) → TellsIn c.world (line_of c e (meets ms c.world (scheduled_of e).plain)) (happens ms c.world (event_in ms c (scheduled_of e)))
 tells_event ms c (events.Plain p) = comes c.world (plain_event p) (meets ms c.world (plain_event p))
-tells_event ms c (events.Crash disk call image p) = falls c (plain_event p) (record { disk = disk; call = call; image = image }) outcome.Crashed (meets ms c.world (plain_event p))
-tells_event ms c (events.Fail disk call image p) = falls c (plain_event p) (record { disk = disk; call = call; image = image }) outcome.Failed (meets ms c.world (plain_event p))
+tells_event ms c (events.Crash disk call image p) = faulted c (plain_event p) (record { disk = disk; call = call; image = image }) outcome.Crashed (meets ms c.world (plain_event p))
+tells_event ms c (events.Fail disk call image p) = faulted c (plain_event p) (record { disk = disk; call = call; image = image }) outcome.Failed (meets ms c.world (plain_event p))
 
 -- ---- what is reported of a run
 

@@ -2,7 +2,7 @@ pub mod Events
 pub mod Stops
 pub mod Monitor
 pub mod Moments
-pub mod Falls
+pub mod Crashes
 pub mod Step
 pub mod Meeting
 pub mod Stands

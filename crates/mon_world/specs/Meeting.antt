@@ -14,11 +14,11 @@ use Rattle.quorum_model.specs.Happens.{unless_stopped}
 use Rattle.quorum_model.specs.Meets.{state_at}
 use Rattle.quorum_model.specs.Scenes.{files_at}
 use Rattle.trace_text.specs.declared.step.StateLine.{StateLine}
-use Rattle.mon_world.specs.declared.meeting.Fall.{Fall}
+use Rattle.mon_world.specs.declared.meeting.Crash.{Crash}
 use Rattle.mon_world.specs.declared.meeting.Turn.{Turn}
 use Rattle.mon_world.specs.declared.monitor.Monitor.{Monitor}
 use Rattle.mon_world.specs.declared.stop.WorldStop.{WorldStop}
-use Rattle.mon_world.specs.Falls.{IsDown, StopsKept, keeps, map_left}
+use Rattle.mon_world.specs.Crashes.{IsDown, StopsKept, keeps, map_left}
 use Rattle.mon_world.specs.Monitor.{IsDone, Stands, does, files_kept}
 use Rattle.mon_world.specs.Step.{state_before, state_of, told}
 use Rattle.mon_world.specs.Stops.{Stops}
@@ -51,17 +51,17 @@ Meets me now m s f came new (Err e) =
 -- ---- where a disk fails
 
 -- it is down, and what it wrote is kept or lost
-pub record IsFall (u : Upset) (me : Me) (m : Store) (f : Files) (came : Input) (r : Result Reaction Which) (fall : Fall)
+pub record IsCrash (u : Upset) (me : Me) (m : Store) (f : Files) (came : Input) (r : Result Reaction Which) (crash : Crash)
     (new : Monitor) : Type 0 where
-  pub down : IsDown u me m f came r fall.kept new
-  pub last : fall.last ≡ last_of (map_left u m f came r)
+  pub down : IsDown u me m f came r crash.kept new
+  pub last : crash.last ≡ last_of (map_left u m f came r)
 
-abbrev pub MeetsFall : Upset → Me → (now : ℕ) → Store → Option State → Files → Input → Monitor →
-    Result (Option Fall) WorldStop → Type 0
-MeetsFall u me now m s f came new (Ok None) = (state_at me.member.rank s came ≡ None) × Stands me m s f new
-MeetsFall u me now m s f came new (Ok (Some fall)) =
+abbrev pub MeetsFault : Upset → Me → (now : ℕ) → Store → Option State → Files → Input → Monitor →
+    Result (Option Crash) WorldStop → Type 0
+MeetsFault u me now m s f came new (Ok None) = (state_at me.member.rank s came ≡ None) × Stands me m s f new
+MeetsFault u me now m s f came new (Ok (Some crash)) =
     (before : State) × (state_at me.member.rank s came ≡ Some before) ×
-    IsFall u me m f came (reaction me now m before came) fall new
-MeetsFall u me now m s f came new (Err e) =
+    IsCrash u me m f came (reaction me now m before came) crash new
+MeetsFault u me now m s f came new (Err e) =
     (before : State) × (state_at me.member.rank s came ≡ Some before)
     × StopsKept e (keeps u m f came (reaction me now m before came)) (unless_stopped m (reaction me now m before came))

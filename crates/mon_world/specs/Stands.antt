@@ -25,8 +25,8 @@ use Rattle.mon_world.specs.declared.monitor.Monitor.{Monitor}
 use Rattle.mon_world.specs.declared.stop.WorldStop.{WorldStop}
 use Rattle.mon_world.specs.declared.world.Arrival.{Arrival}
 use Rattle.mon_world.specs.declared.sending.Envelope.{Envelope}
-use Rattle.mon_world.specs.declared.world.Upshot.{Upshot}
-use Rattle.mon_world.specs.declared.world.Upshot.TheVariants as upshot
+use Rattle.mon_world.specs.declared.world.FaultOutcome.{FaultOutcome}
+use Rattle.mon_world.specs.declared.world.FaultOutcome.TheVariants as fault_outcome
 use Rattle.mon_world.specs.declared.world.World.{World}
 use Rattle.mon_world.specs.Events.{scheduled_of}
 use Rattle.mon_world.specs.Monitor.{Stands}
@@ -102,17 +102,17 @@ abbrev pub Does : Monitors → Result StepLine WorldStop → World → Result (S
 Does ms result new wanted = Leads (StandsFor ms new) result wanted
 
 -- the result of what was met, if a disk is to fail
-abbrev pub upshot_at : Scene → Upset → Meeting → Upshot
-upshot_at c u (Reacts i came result) = upshot.Stopped (kept_at c u (Reacts i came result))
-upshot_at c u NoMessage = upshot.NoMessage
-upshot_at c u Down = upshot.Down
+abbrev pub fault_outcome_at : Scene → Upset → Meeting → FaultOutcome
+fault_outcome_at c u (Reacts i came result) = fault_outcome.Stopped (kept_at c u (Reacts i came result))
+fault_outcome_at c u NoMessage = fault_outcome.NoMessage
+fault_outcome_at c u Down = fault_outcome.Down
 
 -- the scene after an input, if a disk fails
 abbrev pub upset_step : Monitors → Scene → Upset → model.Plain → Result Scene happens.Stop
 upset_step ms c u p = scene_after ms c (record { plain = p; upset = Some u })
 
-abbrev pub DoesUpset : Monitors → Result Upshot WorldStop → World → Scene → Upset → model.Plain → Type 0
+abbrev pub DoesUpset : Monitors → Result FaultOutcome WorldStop → World → Scene → Upset → model.Plain → Type 0
 DoesUpset ms (Ok told) new c u p =
-    (next : Scene) × (upset_step ms c u p ≡ Ok next) × (told ≡ upshot_at c u (meets ms c.world p)) ×
+    (next : Scene) × (upset_step ms c u p ≡ Ok next) × (told ≡ fault_outcome_at c u (meets ms c.world p)) ×
     StandsFor ms new next
 DoesUpset ms (Err e) new c u p = Stops e (upset_step ms c u p)

@@ -11,12 +11,12 @@ use Rattle.schedule_text.specs.declared.event.Plain.{Plain}
 use Rattle.trace_text.specs.declared.step.Outcome.{Outcome}
 use Rattle.trace_text.specs.declared.step.Outcome.TheVariants as outcome
 use Rattle.trace_text.specs.declared.step.StepLine.{StepLine}
-use Rattle.mon_world.specs.declared.meeting.Fall.{Fall}
+use Rattle.mon_world.specs.declared.meeting.Crash.{Crash}
 use Rattle.mon_world.specs.declared.meeting.Turn.{Turn}
 use Rattle.mon_world.specs.declared.world.Fault.{Fault}
 use Rattle.mon_world.specs.declared.world.Fault.TheVariants as fault
-use Rattle.mon_world.specs.declared.world.Upshot.{Upshot}
-use Rattle.mon_world.specs.declared.world.Upshot.TheVariants as upshot
+use Rattle.mon_world.specs.declared.world.FaultOutcome.{FaultOutcome}
+use Rattle.mon_world.specs.declared.world.FaultOutcome.TheVariants as fault_outcome
 use Rattle.mon_world.specs.declared.world.World.{World}
 use Rattle.mon_world.specs.Stands.{envelope_of}
 use Rattle.mon_world.specs.Step.{log_after, numbered, replied}
@@ -41,10 +41,10 @@ pub record Tells (rank : ℕ) (t : Turn) (old new : World) (line : StepLine) : T
 -- ---- where a disk fails
 
 -- the outcome, if that of a monitor that stopped is this one
-abbrev pub outcome_of : (Bool → Outcome) → Upshot → Outcome
-outcome_of how upshot.NoMessage = outcome.NoMessage
-outcome_of how upshot.Down = outcome.Down
-outcome_of how (upshot.Stopped kept) = how kept
+abbrev pub outcome_of : (Bool → Outcome) → FaultOutcome → Outcome
+outcome_of how fault_outcome.NoMessage = outcome.NoMessage
+outcome_of how fault_outcome.Down = outcome.Down
+outcome_of how (fault_outcome.Stopped kept) = how kept
 
 -- how a monitor is to end: what is reported if it stopped, and the event that says so
 abbrev pub stopped_as : Fault → Bool → Outcome
@@ -61,8 +61,8 @@ GrowsIf None last old new = new ≡ old
 GrowsIf (Some marked) last old new = (m : Store) → last ≡ last_of m → marked ≡ is_marked m → new ≡ log_after old m
 
 -- nothing else comes of it
-pub record Leaves (fall : Fall) (old new : World) (told : Upshot) : Type 0 where
+pub record Leaves (crash : Crash) (old new : World) (told : FaultOutcome) : Type 0 where
   pub monitors : new.monitors.items ≡ old.monitors.items
   pub messages : new.messages.items ≡ old.messages.items
-  pub log : GrowsIf fall.kept fall.last old.log new.log
-  pub told_is : told ≡ upshot.Stopped (is_some fall.kept)
+  pub log : GrowsIf crash.kept crash.last old.log new.log
+  pub told_is : told ≡ fault_outcome.Stopped (is_some crash.kept)

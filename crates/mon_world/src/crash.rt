@@ -6,7 +6,7 @@ ghost use Rattle.mon_msg.specs.Protocol.Reaction.{reaction};
 ghost use Rattle.mon_msg.specs.Protocol.Readings.{readings_of};
 ghost use Rattle.mon_msg.specs.declared.input.Input.TheVariants.{Start};
 ghost use Rattle.mon_site.specs.Calm.{Rest};
-ghost use Rattle.mon_site.specs.Falls.{IsFalling, Rests};
+ghost use Rattle.mon_site.specs.Faults.{HasFault, Rests};
 ghost use Rattle.mon_tx.specs.Map.{Store as Map, apply};
 ghost use Rattle.mon_tx.specs.Text.{text, most};
 ghost use Rattle.mon_types.specs.declared.member.Member.{Member};
@@ -14,7 +14,7 @@ ghost use Rattle.mon_wire.specs.declared.phase.Phase.TheVariants.{Booting};
 ghost use Rattle.quorum_model.specs.declared.calls.TheConstants.{FIRST_OPENING};
 ghost use Rattle.quorum_model.specs.Files.{Files};
 ghost use Rattle.svc_core.specs.Cache.{Follows};
-ghost use Rattle.mon_world.specs.Falls.{Ends, EndsWith, Falling, Falls, MayBe, counted, written};
+ghost use Rattle.mon_world.specs.Crashes.{Ends, EndsWith, WithFault, Crashes, MayBe, counted, written};
 
 use crate::stop::{WorldStop, stop_of};
 use mon_bytes::OutOfMemory;
@@ -34,9 +34,9 @@ pub(crate) struct Written {
     pub(crate) marked: bool,
 }
 
-/// What is left of a monitor that stopped in an event: its disks, and what its transaction left, if that was kept.
+/// What remains of a monitor that stopped in an event: its disks, and what its transaction left, if that was kept.
 #[derive(Drop)]
-pub(crate) struct Fallen {
+pub(crate) struct Remains {
     pub(crate) disks: NodeDisks<MemoryDisk>,
     pub(crate) kept: Option<Written>,
 }
@@ -64,15 +64,15 @@ fn end_with(
     store: Store<MemoryDisk>,
     tx: &Transaction,
     upset: Upset,
-) -> Result<Fallen, WorldStop>
-    requires falls { Falling upset store }
+) -> Result<Remains, WorldStop>
+    requires fault { WithFault upset store }
     requires short { length (text tx.now) ≤ most }
-    ensures { (member : Member) (m : Map) (f : Files) → IsFalling upset.disk upset.call upset.image member m f store
+    ensures { (member : Member) (m : Map) (f : Files) → HasFault upset.disk upset.call upset.image member m f store
         → EndsWith upset member m f tx.now result }
 {
     let written = written_by(alloc, &store, tx)?;
     match finish(store, tx, upset) {
-        Ok(Ended { disks, kept }) => Ok(Fallen {
+        Ok(Ended { disks, kept }) => Ok(Remains {
             disks: settle_both(disks)?,
             kept: kept.then_some(written),
         }),
@@ -89,11 +89,11 @@ fn end(
     upset: Upset,
     input: &Input,
     now: Moment,
-) -> Result<Fallen, WorldStop>
-    requires falls { Falling upset store }
+) -> Result<Remains, WorldStop>
+    requires fault { WithFault upset store }
     requires follows { Follows core.old.cache (readings_of store.kv) }
     requires comes { MayCome input.now }
-    ensures { (m : Map) (f : Files) → IsFalling upset.disk upset.call upset.image core.old.me.member m f store
+    ensures { (m : Map) (f : Files) → HasFault upset.disk upset.call upset.image core.old.me.member m f store
         → Ends upset core.old.me.member m f (reaction core.old.me now m core.old.state input.now) result }
 {
     let reaction = core.react(alloc, store.kv(), input, now)?;
@@ -117,8 +117,8 @@ fn counted_from(upset: Upset, input: &Input, opening: u64) -> Upset
     }
 }
 
-/// A monitor's disk fails in the event of this input, and then its disks settle.
-pub(crate) fn fall(
+/// Lets a disk of a monitor fail while the monitor takes this input. Then its disks settle.
+pub(crate) fn crash(
     alloc: Global,
     member: Member,
     mut disks: NodeDisks<MemoryDisk>,
@@ -126,7 +126,7 @@ pub(crate) fn fall(
     upset: Upset,
     input: &Input,
     now: Moment,
-) -> Result<Fallen, WorldStop>
+) -> Result<Remains, WorldStop>
     requires member { core.old.me.member ≡ member }
     requires rests { Rest member disks.a disks.b }
     requires follows { (m : Map) (f : Files) → Rests member m f disks.a disks.b →
@@ -135,7 +135,7 @@ pub(crate) fn fall(
     requires starts { input.now ≡ Start → core.old.state.phase ≡ Booting }
     requires may { MayBe upset }
     ensures { (m : Map) (f : Files) → Rests member m f disks.a disks.b
-        → Falls upset member m f input.now (reaction core.old.me now m core.old.state input.now) result }
+        → Crashes upset member m f input.now (reaction core.old.me now m core.old.state input.now) result }
 {
     let opening = opening_count(&mut disks, upset.disk)?;
     let from = counted_from(upset, input, opening);
@@ -148,7 +148,7 @@ pub(crate) fn fall(
             };
             end(alloc, store, core, behind, input, now)
         }
-        Begun::Failed(disks) => Ok(Fallen {
+        Begun::Failed(disks) => Ok(Remains {
             disks: settle_both(disks)?,
             kept: None,
         }),

@@ -1,4 +1,4 @@
-//! What comes of an input at a monitor that may be down.
+//! What a monitor does at an input. It may be down.
 
 ghost use Rattle.std.specs.Prelude.{◌≡◌, ◌↔◌, Option, None, Some, IfOk, IsTrue};
 ghost use Rattle.mon_bounds.specs.Fitting.{MayCome};
@@ -8,8 +8,8 @@ ghost use Rattle.mon_msg.specs.declared.view.Me.{Me};
 ghost use Rattle.mon_site.specs.Moments.{OpensEither};
 ghost use Rattle.mon_tx.specs.Map.{Store as Map, apply};
 ghost use Rattle.quorum_model.specs.Files.{Files, after_opening};
-ghost use Rattle.mon_world.specs.Falls.{MayBe};
-ghost use Rattle.mon_world.specs.Meeting.{Meets, MeetsFall, Turns};
+ghost use Rattle.mon_world.specs.Crashes.{MayBe};
+ghost use Rattle.mon_world.specs.Meeting.{Meets, MeetsFault, Turns};
 ghost use Rattle.mon_world.specs.Moments.{PassesAt, PassesTurn};
 ghost use Rattle.mon_world.specs.Monitor.{Standing, StandingUp, Stands};
 
@@ -33,9 +33,9 @@ pub(crate) struct Turn {
     pub(crate) marked: bool,
 }
 
-/// What is left of a monitor that fell: one in whose event a disk failed.
+/// What remains of a monitor in whose event a disk failed.
 #[derive(Clone, Copy)]
-pub(crate) struct Fall {
+pub(crate) struct Crash {
     /// Whether its map is marked then, if its transaction is kept.
     pub(crate) kept: Option<bool>,
     /// The last committed version of its map then.
@@ -77,7 +77,7 @@ fn take_turn(
     })
 }
 
-/// A monitor starts, and does what it does then.
+/// Opens the store, boots a new core, and lets it react to the start.
 fn start(monitor: &mut Monitor, input: &Input, at: Moment) -> Result<Turn, WorldStop>
     requires stands { Standing monitor.old }
     requires start { input.now ≡ Start }
@@ -112,24 +112,24 @@ pub(crate) fn meet(
     }
 }
 
-/// A disk fails in the event of an input at a monitor. Nothing happens if the monitor is down and doesn't start.
-pub(crate) fn meet_upset(
+/// Lets a disk fail while the monitor takes an input. It returns `None` if the monitor is down and doesn't start.
+pub(crate) fn fail_disk(
     monitor: &mut Monitor,
     upset: Upset,
     input: &Input,
     at: Moment,
-) -> Result<Option<Fall>, WorldStop>
+) -> Result<Option<Crash>, WorldStop>
     requires stands { Standing monitor.old }
     requires comes { MayCome input.now }
     requires may { MayBe upset }
     ensures { (me : Me) (m : Map) (s : Option State) (f : Files) → Stands me m s f monitor.old
-        → MeetsFall upset me at m s f input.now monitor.new result }
+        → MeetsFault upset me at m s f input.now monitor.new result }
 {
     if !is_start(input) && monitor.state().is_none() {
         return Ok(None);
     }
-    let kept = monitor.fall(upset, input, at)?;
-    Ok(Some(Fall {
+    let kept = monitor.crash(upset, input, at)?;
+    Ok(Some(Crash {
         kept,
         last: monitor.last(),
     }))

@@ -9,7 +9,7 @@ ghost use Rattle.mon_msg.specs.Protocol.Readings.{Readings};
 ghost use Rattle.mon_msg.specs.Protocol.State.{State, booting};
 ghost use Rattle.mon_msg.specs.declared.view.Me.{Me};
 ghost use Rattle.mon_site.specs.Calm.{Runs};
-ghost use Rattle.mon_site.specs.Falls.{OpensMap, Rests};
+ghost use Rattle.mon_site.specs.Faults.{OpensMap, Rests};
 ghost use Rattle.mon_site.specs.Moments.{OpensEither};
 ghost use Rattle.mon_store.specs.Whole.{disk_a, disk_b};
 ghost use Rattle.mon_tx.specs.Map.{Store as Map, apply};
@@ -19,12 +19,12 @@ ghost use Rattle.quorum_model.specs.Files.{Files, after_opening, no_files};
 ghost use Rattle.quorum_model.specs.Growth.{last_of};
 ghost use Rattle.quorum_model.specs.Meets.{state_at};
 ghost use Rattle.svc_core.specs.Cache.{Follows};
-ghost use Rattle.mon_world.specs.Falls.{Falls, FallsDown, MayBe};
+ghost use Rattle.mon_world.specs.Crashes.{Crashes, CrashesDown, MayBe};
 ghost use Rattle.mon_world.specs.Monitor.{Holds, InUse, IsHeld, IsRunning, IsUp, Keeps, Reacts, Standing, StandingUp, Stands, StandsAfter, Takes};
 ghost use Rattle.mon_world.specs.Moments.{Passes, PassesAt, a_of, b_of};
 ghost use Rattle.mon_world.specs.Step.{state_if_up, state_of};
 
-use crate::crash::{Fallen, fall};
+use crate::crash::{Remains, crash};
 use crate::stop::{WorldStop, stop_of};
 use mon_bytes::OutOfMemory;
 use mon_core::{Core, Input, Reaction};
@@ -89,7 +89,7 @@ fn take(alloc: Global, me: &Me, kept: &mut Kept) -> Taken
     }
 }
 
-/// The core to which an input comes: that of a monitor that starts has forgotten all.
+/// The core that takes an input. A monitor that starts has a new one.
 fn core_at(alloc: Global, me: &Me, core: Core, input: &Input) -> Core
     requires { core.me ≡ me.now }
     ensures me { result.me ≡ me.now }
@@ -105,27 +105,28 @@ fn core_at(alloc: Global, me: &Me, core: Core, input: &Input) -> Core
     }
 }
 
-/// What is left of a monitor in whose event of an input a disk fails. Two empty disks are left in its place.
-fn fallen(
+/// Takes the monitor's disks and core, and lets a disk fail while the core takes an input. Two empty disks are left in
+/// their place.
+fn crash_within(
     alloc: Global,
     me: &Me,
     kept: &mut Kept,
     upset: Upset,
     input: &Input,
     now: Moment,
-) -> Result<Fallen, WorldStop>
+) -> Result<Remains, WorldStop>
     requires held { IsHeld me.now kept.old }
     requires comes { MayCome input.now }
     requires may { MayBe upset }
     ensures { (m : Map) (s : Option State) (t : State) (f : Files) → Holds me.now m s f kept.old
         → state_at me.now.member.rank s input.now ≡ Some t
-        → Falls upset me.now.member m f input.now (reaction me.now now m t input.now) result }
+        → Crashes upset me.now.member m f input.now (reaction me.now now m t input.now) result }
 {
     let Taken { disks, core } = take(alloc, me, kept);
     let mut core = core_at(alloc, me, core, input);
-    let left = fall(alloc, me.member, disks, &mut core, upset, input, now);
+    let remains = crash(alloc, me.member, disks, &mut core, upset, input, now);
     drop(core);
-    left
+    remains
 }
 
 /// A monitor keeps something else from then on.
@@ -269,9 +270,9 @@ impl Monitor {
         }
     }
 
-    /// A disk fails in the event of this input, and the monitor is down. It returns whether its map is marked, if its
-    /// transaction is kept.
-    pub(crate) fn fall(
+    /// Lets a disk fail while the monitor takes this input. The monitor is down then. It returns whether its map is
+    /// marked, if its transaction is kept.
+    pub(crate) fn crash(
         &mut self,
         upset: Upset,
         input: &Input,
@@ -282,9 +283,9 @@ impl Monitor {
         requires may { MayBe upset }
         ensures { (me : Me) (m : Map) (s : Option State) (t : State) (f : Files) → Stands me m s f self.old
             → state_at me.member.rank s input.now ≡ Some t
-            → FallsDown upset me m f input.now (reaction me now m t input.now) self.new result }
+            → CrashesDown upset me m f input.now (reaction me now m t input.now) self.new result }
     {
-        let Fallen { disks, kept } = fallen(
+        let Remains { disks, kept } = crash_within(
             self.alloc,
             &self.me,
             &mut self.kept,

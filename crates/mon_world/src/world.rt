@@ -20,8 +20,8 @@ ghost use Rattle.quorum_model.specs.World as model;
 ghost use Rattle.schedule_text.specs.declared.event.Event.TheVariants as events;
 ghost use Rattle.schedule_text.specs.declared.event.Plain.{Plain};
 ghost use Rattle.mon_world.specs.Events.{plain_event};
-ghost use Rattle.mon_world.specs.Falls.{MayBe, upset_of};
-ghost use Rattle.mon_world.specs.Meeting.{Meets, MeetsFall};
+ghost use Rattle.mon_world.specs.Crashes.{MayBe, upset_of};
+ghost use Rattle.mon_world.specs.Meeting.{Meets, MeetsFault};
 ghost use Rattle.mon_world.specs.Moments.{EachPasses, PassesTurn};
 ghost use Rattle.mon_world.specs.Monitor.{Standing, Stands};
 ghost use Rattle.mon_world.specs.Stands.{Does, DoesUpset, Fits, FitsPlain, IsWorld, Leads, StandsFor, StandsForRun};
@@ -30,7 +30,7 @@ ghost use Rattle.mon_world.specs.Step.{log_after, step};
 ghost use Rattle.mon_world.specs.Telling.{Leaves, Tells, faulty_event};
 
 use crate::lines::still;
-use crate::meeting::{Fall, Turn, meet, meet_upset};
+use crate::meeting::{Crash, Turn, fail_disk, meet};
 use crate::monitor::Monitor;
 use crate::sending::{Envelope, Gone, send};
 use crate::stop::WorldStop;
@@ -44,7 +44,7 @@ use schedule_text::{Event, Plain};
 use std::alloc::Global;
 use trace_text::{Outcome, StepLine};
 
-/// What comes to a monitor, and when.
+/// An input that arrives at a monitor, and when.
 #[derive(Drop)]
 struct Arrival {
     rank: Rank,
@@ -52,7 +52,7 @@ struct Arrival {
     input: Input,
 }
 
-/// What is to become of a monitor of which a disk fails.
+/// The event that injects the disk failure.
 #[derive(Clone, Copy)]
 enum Fault {
     Crash,
@@ -61,25 +61,25 @@ enum Fault {
 
 /// The outcome of an event with an injected disk failure.
 #[derive(Clone, Copy)]
-enum Upshot {
+enum FaultOutcome {
     NoMessage,
     Down,
-    /// Its monitor stopped, and what that wrote is kept or lost.
+    /// The monitor stopped. Its transaction is kept or lost.
     Stopped { kept: bool },
 }
 
-impl Upshot {
+impl FaultOutcome {
     ghost use Rattle.std.specs.Prelude.{◌≡◌};
     ghost use Rattle.mon_world.specs.Telling.{outcome_of, stopped_as};
 
-    /// What the trace reports of it.
-    fn told(self, fault: Fault) -> Outcome
+    /// The outcome that the trace reports.
+    fn outcome(self, fault: Fault) -> Outcome
         ensures { result ≡ outcome_of (stopped_as fault) self }
     {
         match self {
-            Upshot::NoMessage => Outcome::NoMessage,
-            Upshot::Down => Outcome::Down,
-            Upshot::Stopped { kept } => match fault {
+            FaultOutcome::NoMessage => Outcome::NoMessage,
+            FaultOutcome::Down => Outcome::Down,
+            FaultOutcome::Stopped { kept } => match fault {
                 Fault::Crash => Outcome::Crashed { kept },
                 Fault::Fail => Outcome::Failed { kept },
             },
@@ -128,7 +128,7 @@ fn delivered(
     }))
 }
 
-/// What comes by an event, unless it is a message that wasn't sent.
+/// The arrival that an event brings. It is `None` for a message that wasn't sent.
 fn arriving(
     alloc: Global,
     messages: &[Envelope],
@@ -193,14 +193,14 @@ fn meet_at(
     meet(&mut monitors[rank.get() as usize], input, at)
 }
 
-/// A disk of the monitor of a rank fails in the event of an input.
-fn meet_upset_at(
+/// Lets a disk of the monitor of a rank fail while the monitor takes an input.
+fn fail_disk_at(
     monitors: &mut Vec<Monitor>,
     rank: Rank,
     upset: Upset,
     input: &Input,
     at: Moment,
-) -> Result<Option<Fall>, WorldStop>
+) -> Result<Option<Crash>, WorldStop>
     requires within { rank < length monitors.old.items }
     requires stands { (monitor : Monitor) → slice_get monitors.old.items rank ≡ Some monitor → Standing monitor }
     requires comes { MayCome input.now }
@@ -210,9 +210,9 @@ fn meet_upset_at(
     ensures meets { (old new : Monitor) → slice_get monitors.old.items rank ≡ Some old →
         slice_get monitors.new.items rank ≡ Some new
         → (me : Me) (m : Map) (s : Option State) (f : Files) → Stands me m s f old →
-        MeetsFall upset me at m s f input.now new result }
+        MeetsFault upset me at m s f input.now new result }
 {
-    meet_upset(&mut monitors[rank.get() as usize], upset, input, at)
+    fail_disk(&mut monitors[rank.get() as usize], upset, input, at)
 }
 
 /// A monitor of a map, which is down, with empty disks.
@@ -292,8 +292,8 @@ impl World {
         })
     }
 
-    /// What comes to a monitor of the quorum map, and its lines of the trace.
-    fn come(&mut self, arrival: &Arrival) -> Result<StepLine, WorldStop>
+    /// Delivers an arrival to its monitor and returns the trace lines.
+    fn deliver(&mut self, arrival: &Arrival) -> Result<StepLine, WorldStop>
         requires world { IsWorld self.old }
         requires within { arrival.now.rank < length self.old.monitors.items }
         requires comes { MayCome arrival.now.input }
@@ -322,26 +322,30 @@ impl World {
         match arriving(self.alloc, self.messages.as_slice(), event)? {
             None => Ok(still(self.alloc, Outcome::NoMessage)),
             Some(arrival) => {
-                let line = self.come(&arrival);
+                let line = self.deliver(&arrival);
                 drop(arrival);
                 line
             }
         }
     }
 
-    /// What is left of a monitor that fell.
-    fn left(&mut self, fall: Fall) -> Upshot
-        ensures { Leaves fall self.old self.new result }
+    /// Records the log's new length, and returns whether the transaction survived.
+    fn note_crash(&mut self, crash: Crash) -> FaultOutcome
+        ensures { Leaves crash self.old self.new result }
     {
-        let Some(marked) = fall.kept else {
-            return Upshot::Stopped { kept: false };
+        let Some(marked) = crash.kept else {
+            return FaultOutcome::Stopped { kept: false };
         };
-        self.log = grown(self.log, fall.last, marked);
-        Upshot::Stopped { kept: true }
+        self.log = grown(self.log, crash.last, marked);
+        FaultOutcome::Stopped { kept: true }
     }
 
-    /// What comes to a monitor of the quorum map, one of whose disks fails.
-    fn fall(&mut self, arrival: &Arrival, upset: Upset) -> Result<Upshot, WorldStop>
+    /// Delivers an arrival to its monitor, one of whose disks fails, and returns the outcome.
+    fn deliver_with_fault(
+        &mut self,
+        arrival: &Arrival,
+        upset: Upset,
+    ) -> Result<FaultOutcome, WorldStop>
         requires world { IsWorld self.old }
         requires within { arrival.now.rank < length self.old.monitors.items }
         requires comes { MayCome arrival.now.input }
@@ -350,7 +354,7 @@ impl World {
             meets.arrival c.world p ≡ Some (arrival_of arrival.now)
             → DoesUpset ms result self.new c (upset_of upset) p }
     {
-        let Some(fall) = meet_upset_at(
+        let Some(crash) = fail_disk_at(
             &mut self.monitors,
             arrival.rank,
             upset,
@@ -358,13 +362,13 @@ impl World {
             arrival.at,
         )?
         else {
-            return Ok(Upshot::Down);
+            return Ok(FaultOutcome::Down);
         };
-        Ok(self.left(fall))
+        Ok(self.note_crash(crash))
     }
 
-    /// An event in which a disk fails.
-    fn upset(&mut self, event: &Plain, upset: Upset) -> Result<Upshot, WorldStop>
+    /// Lets an event happen in which a disk of its monitor fails, and returns the outcome.
+    fn inject(&mut self, event: &Plain, upset: Upset) -> Result<FaultOutcome, WorldStop>
         requires world { IsWorld self.old }
         requires fits { FitsPlain (length self.old.monitors.items) event.now }
         requires may { MayBe upset }
@@ -372,25 +376,30 @@ impl World {
             DoesUpset ms result self.new c (upset_of upset) (plain_event event.now) }
     {
         match arriving(self.alloc, self.messages.as_slice(), event)? {
-            None => Ok(Upshot::NoMessage),
+            None => Ok(FaultOutcome::NoMessage),
             Some(arrival) => {
-                let upshot = self.fall(&arrival, upset);
+                let fault_outcome = self.deliver_with_fault(&arrival, upset);
                 drop(arrival);
-                upshot
+                fault_outcome
             }
         }
     }
 
-    /// An event in which a disk of its monitor fails, and its lines of the trace.
-    fn faulty(&mut self, event: &Plain, upset: Upset, fault: Fault) -> Result<StepLine, WorldStop>
+    /// Lets an event happen in which a disk of its monitor fails, and returns the trace lines.
+    fn run_with_fault(
+        &mut self,
+        event: &Plain,
+        upset: Upset,
+        fault: Fault,
+    ) -> Result<StepLine, WorldStop>
         requires world { IsWorld self.old }
         requires fits { FitsPlain (length self.old.monitors.items) event.now }
         requires may { MayBe upset }
         ensures { (ms : Monitors) (c : Scene) → StandsFor ms self.old c →
             Does ms result self.new (step ms c (faulty_event fault upset event.now)) }
     {
-        let upshot = self.upset(event, upset)?;
-        Ok(still(self.alloc, upshot.told(fault)))
+        let fault_outcome = self.inject(event, upset)?;
+        Ok(still(self.alloc, fault_outcome.outcome(fault)))
     }
 
     /// Makes an event of a schedule happen, and returns its lines of the trace. It is apart from `step`, so that `step`
@@ -411,13 +420,13 @@ impl World {
                 call,
                 image,
                 event,
-            } => self.faulty(event, upset_at(*disk, *call, *image), Fault::Crash),
+            } => self.run_with_fault(event, upset_at(*disk, *call, *image), Fault::Crash),
             Event::Fail {
                 disk,
                 call,
                 image,
                 event,
-            } => self.faulty(event, upset_at(*disk, *call, *image), Fault::Fail),
+            } => self.run_with_fault(event, upset_at(*disk, *call, *image), Fault::Fail),
         }
     }
 

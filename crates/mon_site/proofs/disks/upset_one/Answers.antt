@@ -1,7 +1,7 @@
 use Rattle.std.proofs.Common.{sym, subst}
 use Rattle.mon_types.specs.declared.names.Side.{Side}
 use Rattle.mon_disk.specs.MemoryDisk.{MemoryState}
-use Rattle.mon_site.specs.Falls.{IsReady}
+use Rattle.mon_site.specs.Faults.{IsReady}
 use Rattle.mon_site.proofs.Readying.{ready_a, ready_b}
 use Rattle.mon_site.proofs.disks.upset_one.Goals as goal
 use Rattle.mon_site.proofs.disks.upset_one.Goals.{in-A, in-B}

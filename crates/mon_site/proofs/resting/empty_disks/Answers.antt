@@ -2,7 +2,7 @@ use Rattle.std.proofs.Common.{sym, subst}
 use Rattle.std.specs.FinMap.{empty}
 use Rattle.mon_disk.specs.MemoryDisk.{MemoryState}
 use Rattle.quorum_model.specs.Files.{no_files}
-use Rattle.mon_site.specs.Falls.{Rests}
+use Rattle.mon_site.specs.Faults.{Rests}
 use Rattle.mon_site.proofs.AtRest.{empty_disk, empty_rests}
 use Rattle.mon_site.proofs.resting.empty_disks.Goals as goal
 

@@ -1,7 +1,7 @@
 use Rattle.std.proofs.Common.{sym, subst}
 use Rattle.mon_disk.specs.MemoryDisk.{MemoryState}
 use Rattle.mon_store.specs.Whole.{disk_a}
-use Rattle.mon_site.specs.Falls.{Rests}
+use Rattle.mon_site.specs.Faults.{Rests}
 use Rattle.mon_site.proofs.InUse.{rests}
 use Rattle.mon_site.proofs.running.close.Goals as goal
 

@@ -7,7 +7,7 @@ use Rattle.mon_world.specs.Monitor.{Stands}
 use Rattle.mon_world.proofs.Holding.{holds_itself, started}
 use Rattle.mon_disk.specs.MemoryDisk.{MemoryState}
 use Rattle.mon_msg.specs.declared.view.Me.{Me}
-use Rattle.mon_site.specs.Falls.{OpensMap}
+use Rattle.mon_site.specs.Faults.{OpensMap}
 use Rattle.mon_store.specs.Whole.{disk_a, disk_b}
 use Rattle.mon_world.specs.Moments.{Passes, PassesAt, a_of, b_of}
 use Rattle.mon_world.proofs.Passing.{opening_passes}

@@ -14,14 +14,14 @@ returns-in-None-clause-does c = λ ms d s.
     let is = sym (c.in_ok-arriving.ensures d.world (ap (map envelope_of) c.as_slice.ensures.value ∙ s.messages)) ∙ ap (option_map arrival_of) c.in-None.is in
     subst (λ (line : StepLine). Does ms (Ok line) c.args.self.now (step ms d (events.Plain c.args.event.now))) (sym c.still.ensures) (none_met ms c.args.self.now d c.args.event.now s is)
 
-pub come-line-requires-clause-within : goal.come-line-requires-clause-within
-come-line-requires-clause-within c =
+pub deliver-line-requires-clause-within : goal.deliver-line-requires-clause-within
+deliver-line-requires-clause-within c =
     let w = c.requires.world in
     let is = sym (c.in_ok-arriving.ensures w.1.world (ap (map envelope_of) c.as_slice.ensures.value ∙ w.2.messages)) ∙ ap (option_map arrival_of) c.in-Some.is in
     (arrives w.0 c.args.self.now w.1 c.args.event.now (arrival_of c.in-Some.arrival) w.2 c.requires.fits is).0
 
-pub come-line-requires-clause-comes : goal.come-line-requires-clause-comes
-come-line-requires-clause-comes c =
+pub deliver-line-requires-clause-comes : goal.deliver-line-requires-clause-comes
+deliver-line-requires-clause-comes c =
     let w = c.requires.world in
     let is = sym (c.in_ok-arriving.ensures w.1.world (ap (map envelope_of) c.as_slice.ensures.value ∙ w.2.messages)) ∙ ap (option_map arrival_of) c.in-Some.is in
     (arrives w.0 c.args.self.now w.1 c.args.event.now (arrival_of c.in-Some.arrival) w.2 c.requires.fits is).1
@@ -29,10 +29,10 @@ come-line-requires-clause-comes c =
 pub returns-in-Some-clause-does : goal.returns-in-Some-clause-does
 returns-in-Some-clause-does c = λ ms d s.
     let is = sym (c.in_ok-arriving.ensures d.world (ap (map envelope_of) c.as_slice.ensures.value ∙ s.messages)) ∙ ap (option_map arrival_of) c.in-Some.is in
-    c.come-line.ensures.does ms d c.args.event.now s is
+    c.deliver-line.ensures.does ms d c.args.event.now s is
 
 pub returns-in-None-clause-any_moment : goal.returns-in-None-clause-any_moment
 returns-in-None-clause-any_moment c = λ ms d next s t. none_passes ms c.args.self.now c.args.self.now d next s t refl
 
 pub returns-in-Some-clause-any_moment : goal.returns-in-Some-clause-any_moment
-returns-in-Some-clause-any_moment c = λ ms d next s t. c.come-line.ensures.any_moment ms d next s t
+returns-in-Some-clause-any_moment c = λ ms d next s t. c.deliver-line.ensures.any_moment ms d next s t

@@ -3,8 +3,8 @@ use Rattle.std.proofs.lemmas.Result.{err_from_is_err_and}
 use Rattle.mon_msg.specs.Protocol.State.{State}
 use Rattle.quorum_model.specs.Meets.{state_at}
 use Rattle.mon_world.proofs.Standing.{as_it_stands, is_down, may_go_on, may_start, no_start}
-use Rattle.mon_world.proofs.meeting.meet_upset.Goals as goal
-use Rattle.mon_world.proofs.meeting.meet_upset.Goals.{else-not-is_start-via-then-not-is_start+else-is_none, else-not-is_start-via-else-not-is_start}
+use Rattle.mon_world.proofs.meeting.fail_disk.Goals as goal
+use Rattle.mon_world.proofs.meeting.fail_disk.Goals.{else-not-is_start-via-then-not-is_start+else-is_none, else-not-is_start-via-else-not-is_start}
 
 pub returns-then-is_none : goal.returns-then-is_none
 returns-then-is_none c = λ me m s f h. (

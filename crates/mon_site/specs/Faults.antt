@@ -36,7 +36,7 @@ pub record IsReady (disk : Side) (call image : ℕ) (member : Member) (m : Store
   pub files : files_on a b ≡ f
 
 -- The store that is on them.
-pub record IsFalling (disk : Side) (call image : ℕ) (member : Member) (m : Store) (f : Files)
+pub record HasFault (disk : Side) (call image : ℕ) (member : Member) (m : Store) (f : Files)
     (store : kept.Store MemoryState) : Type 0 where
   pub unbroken : store.broken ≡ false
   pub sound : Sound store.journal store.kv store.live.known (content store.live) (content store.other)

@@ -7,7 +7,7 @@ use Rattle.mon_msg.specs.declared.input.Input.{Input}
 use Rattle.mon_msg.specs.declared.input.Input.TheVariants as input
 use Rattle.mon_msg.specs.declared.view.Me.{Me}
 use Rattle.mon_site.specs.Ending.{is_kept}
-use Rattle.mon_site.specs.Falls.{IsFalling, Rests}
+use Rattle.mon_site.specs.Faults.{HasFault, Rests}
 use Rattle.mon_site.specs.declared.upset.Upset.{Upset}
 use Rattle.mon_store.specs.declared.store.Store as kept
 use Rattle.mon_tx.specs.Map.{Store, apply}
@@ -21,7 +21,7 @@ use Rattle.quorum_model.specs.Happens.{Stop, unless_stopped}
 use Rattle.quorum_model.specs.Scenes.{opening_of, ops_of}
 use Rattle.quorum_model.specs.Upsets as model
 use Rattle.quorum_model.specs.Upsets.{crash_keeps}
-use Rattle.mon_world.specs.declared.crash.Fallen.{Fallen}
+use Rattle.mon_world.specs.declared.crash.Remains.{Remains}
 use Rattle.mon_world.specs.declared.crash.Written.{Written}
 use Rattle.mon_world.specs.declared.monitor.Monitor.{Monitor}
 use Rattle.mon_world.specs.declared.stop.WorldStop.{WorldStop}
@@ -52,24 +52,24 @@ abbrev pub written_if : Bool → Store → Option Written
 written_if kept m = if kept then Some (written m) else None
 
 -- a store that is open, and of which this disk fails at that call
-abbrev pub Falling : Upset → kept.Store MemoryState → Type 0
-Falling u store = (member : Member) × (m : Store) × (f : Files) × IsFalling u.disk u.call u.image member m f store
+abbrev pub WithFault : Upset → kept.Store MemoryState → Type 0
+WithFault u store = (member : Member) × (m : Store) × (f : Files) × HasFault u.disk u.call u.image member m f store
 
 -- It has room, and it is kept or lost. The disks settle.
 pub record Settled (u : Upset) (member : Member) (m : Store) (f : Files) (ops : List Op)
-    (fallen : Fallen) : Type 0 where
+    (remains : Remains) : Type 0 where
   pub room : size_of (apply ops m) ≤ most_size
-  pub kept : fallen.kept ≡ written_if (is_kept u f ops) (apply ops m)
+  pub kept : remains.kept ≡ written_if (is_kept u f ops) (apply ops m)
   pub rests : Rests member (if is_kept u f ops then apply ops m
-      else m) (append_cut f m u.disk u.call u.image ops) fallen.disks.a fallen.disks.b
+      else m) (append_cut f m u.disk u.call u.image ops) remains.disks.a remains.disks.b
 
-abbrev pub EndsWith : Upset → Member → Store → Files → List Op → Result Fallen WorldStop → Type 0
-EndsWith u member m f ops (Ok fallen) = Settled u member m f ops fallen
+abbrev pub EndsWith : Upset → Member → Store → Files → List Op → Result Remains WorldStop → Type 0
+EndsWith u member m f ops (Ok remains) = Settled u member m f ops remains
 EndsWith u member m f ops (Err e) = IsntKept ops m e
 
 -- what a monitor does, over a store that is open, is kept or lost
-abbrev pub Ends : Upset → Member → Store → Files → Result Reaction Which → Result Fallen WorldStop → Type 0
-Ends u member m f r (Ok fallen) = (x : Reaction) × (r ≡ Ok x) × Settled u member m f x.transaction fallen
+abbrev pub Ends : Upset → Member → Store → Files → Result Reaction Which → Result Remains WorldStop → Type 0
+Ends u member m f r (Ok remains) = (x : Reaction) × (r ≡ Ok x) × Settled u member m f x.transaction remains
 Ends u member m f r (Err e) = Stops e (unless_stopped m r)
 
 -- ---- as the model says, if the monitor's reaction to an input is this
@@ -91,10 +91,10 @@ GoesOn u m f came r = keeps u m f came r ≡ true → is_err (unless_stopped m r
 
 -- and the disks settle
 pub record IsLeft (u : Upset) (member : Member) (m : Store) (f : Files) (came : Input) (r : Result Reaction Which)
-    (fallen : Fallen) : Type 0 where
+    (remains : Remains) : Type 0 where
   pub goes_on : GoesOn u m f came r
-  pub kept : fallen.kept ≡ written_if (keeps u m f came r) (apply (ops_of r) m)
-  pub rests : Rests member (map_left u m f came r) (files_left u m f came r) fallen.disks.a fallen.disks.b
+  pub kept : remains.kept ≡ written_if (keeps u m f came r) (apply (ops_of r) m)
+  pub rests : Rests member (map_left u m f came r) (files_left u m f came r) remains.disks.a remains.disks.b
 
 -- what stops the run counts as kept
 abbrev pub StopsKept : WorldStop → Bool → Result Reaction Stop → Type 0
@@ -102,9 +102,9 @@ StopsKept OutOfMemory kept wanted = Unit {0}
 StopsKept (Spent which) kept wanted = (kept ≡ true) × Stops (Spent which) wanted
 StopsKept (Full would_be) kept wanted = (kept ≡ true) × Stops (Full would_be) wanted
 
-abbrev pub Falls : Upset → Member → Store → Files → Input → Result Reaction Which → Result Fallen WorldStop → Type 0
-Falls u member m f came r (Ok fallen) = IsLeft u member m f came r fallen
-Falls u member m f came r (Err e) = StopsKept e (keeps u m f came r) (unless_stopped m r)
+abbrev pub Crashes : Upset → Member → Store → Files → Input → Result Reaction Which → Result Remains WorldStop → Type 0
+Crashes u member m f came r (Ok remains) = IsLeft u member m f came r remains
+Crashes u member m f came r (Err e) = StopsKept e (keeps u m f came r) (unless_stopped m r)
 
 -- whether the map is marked then, if the transaction is kept
 abbrev pub marked_if : Bool → Store → Option Bool
@@ -117,7 +117,7 @@ pub record IsDown (u : Upset) (me : Me) (m : Store) (f : Files) (came : Input) (
   pub told_is : told ≡ marked_if (keeps u m f came r) (apply (ops_of r) m)
   pub stands : Stands me (map_left u m f came r) None (files_left u m f came r) new
 
-abbrev pub FallsDown : Upset → Me → Store → Files → Input → Result Reaction Which → Monitor →
+abbrev pub CrashesDown : Upset → Me → Store → Files → Input → Result Reaction Which → Monitor →
     Result (Option Bool) WorldStop → Type 0
-FallsDown u me m f came r new (Ok told) = IsDown u me m f came r told new
-FallsDown u me m f came r new (Err e) = StopsKept e (keeps u m f came r) (unless_stopped m r)
+CrashesDown u me m f came r new (Ok told) = IsDown u me m f came r told new
+CrashesDown u me m f came r new (Err e) = StopsKept e (keeps u m f came r) (unless_stopped m r)

@@ -2,7 +2,7 @@ use Rattle.std.proofs.Common.{◌-◌, ◌≤◌, Ok, refl, sym, subst, arith}
 use Rattle.mon_msg.specs.Protocol.Reaction.{reaction}
 use Rattle.mon_msg.specs.Protocol.Readings.{readings_of}
 use Rattle.mon_site.specs.Begins.{Begins}
-use Rattle.mon_site.specs.Falls.{IsFalling}
+use Rattle.mon_site.specs.Faults.{HasFault}
 use Rattle.mon_site.specs.declared.opening.Begun.{Begun}
 use Rattle.mon_site.specs.declared.upset.Upset.{Upset}
 use Rattle.mon_tx.specs.Map.{Store}
@@ -10,11 +10,11 @@ use Rattle.mon_types.specs.declared.member.Member.{Member}
 use Rattle.quorum_model.specs.Cuts.{opening_cut}
 use Rattle.quorum_model.specs.Files.{after_opening}
 use Rattle.svc_core.specs.Cache.{Follows}
-use Rattle.mon_world.specs.Falls.{Ends}
-use Rattle.mon_world.proofs.Counting.{ended_so, failed_so, few_calls, first_counted, image_counted, opens_falling, opens_first}
+use Rattle.mon_world.specs.Crashes.{Ends}
+use Rattle.mon_world.proofs.Counting.{ended_so, failed_so, few_calls, first_counted, image_counted, opens_faulty, opens_first}
 use Rattle.mon_world.proofs.Deciding.{behind}
 use Rattle.mon_world.proofs.Starting.{start_writes}
-use Rattle.mon_world.proofs.crash.fall.Goals as goal
+use Rattle.mon_world.proofs.crash.crash.Goals as goal
 
 pub counted_from-from-requires-clause-opening : goal.counted_from-from-requires-clause-opening
 counted_from-from-requires-clause-opening c =
@@ -50,14 +50,14 @@ overflow_sub-behind c =
     let b = subst (λ (b : Begun). Begins from c.args.member x.0 x.1 (Ok b)) c.in-Open.is (c.in_ok-store.ensures x.0 x.1 ready) in
     opens_first c.args.upset c.args.member x.0 x.1 c.args.input.now c.in_ok-opening.opening is from c.counted_from-from.ensures b.0
 
-pub end-requires-clause-falls : goal.end-requires-clause-falls
-end-requires-clause-falls c =
+pub end-requires-clause-fault : goal.end-requires-clause-fault
+end-requires-clause-fault c =
     let x = c.requires.rests in
     let is = c.in_ok-opening.ensures.count c.args.member x.0 x.1 x.2 in
     let ready = c.upset_one.ensures c.args.member x.0 x.1 (c.opening_count.ensures.rests c.args.member x.0 x.1 x.2) in
     let from = c.counted_from-from.result in
     let b = subst (λ (b : Begun). Begins from c.args.member x.0 x.1 (Ok b)) c.in-Open.is (c.in_ok-store.ensures x.0 x.1 ready) in
-    (c.args.member, x.0, after_opening x.1, opens_falling c.args.upset c.args.member x.0 x.1 c.args.input.now c.in_ok-opening.opening is from c.counted_from-from.ensures c.in-Open.store b)
+    (c.args.member, x.0, after_opening x.1, opens_faulty c.args.upset c.args.member x.0 x.1 c.args.input.now c.in_ok-opening.opening is from c.counted_from-from.ensures c.in-Open.store b)
 
 pub end-requires-clause-follows : goal.end-requires-clause-follows
 end-requires-clause-follows c =
@@ -75,11 +75,11 @@ returns-in-Open c m f rests =
     let is = c.in_ok-opening.ensures.count member m f rests in
     let from = c.counted_from-from.result in
     let b = subst (λ (b : Begun). Begins from member m f (Ok b)) c.in-Open.is (c.in_ok-store.ensures m f (c.upset_one.ensures member m f (c.opening_count.ensures.rests member m f rests))) in
-    let falling = opens_falling c.args.upset member m f c.args.input.now opening is from c.counted_from-from.ensures c.in-Open.store b in
+    let faulty = opens_faulty c.args.upset member m f c.args.input.now opening is from c.counted_from-from.ensures c.in-Open.store b in
     let r = reaction core.me c.args.now m core.state c.args.input.now in
     ended_so c.args.upset member m f c.args.input.now opening is from c.counted_from-from.ensures c.requires.may.first r c.end.result b.0
     (subst (λ (member : Member). Ends (behind from opening) member m (after_opening f) r c.end.result) c.requires.member
-    (c.end.ensures m (after_opening f) (subst (λ (member : Member). IsFalling from.disk (from.call - opening) from.image member m (after_opening f) c.in-Open.store) (sym c.requires.member) falling)))
+    (c.end.ensures m (after_opening f) (subst (λ (member : Member). HasFault from.disk (from.call - opening) from.image member m (after_opening f) c.in-Open.store) (sym c.requires.member) faulty)))
 
 pub returns-in_ok-settle_both-in-Failed : goal.returns-in_ok-settle_both-in-Failed
 returns-in_ok-settle_both-in-Failed c m f rests =

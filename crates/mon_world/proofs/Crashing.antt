@@ -23,20 +23,20 @@ use Rattle.schedule_text.specs.declared.event.Plain as schedule
 use Rattle.trace_text.specs.declared.step.Outcome.{Outcome}
 use Rattle.trace_text.specs.declared.step.Outcome.TheVariants as outcome
 use Rattle.trace_text.specs.declared.step.StepLine.{StepLine}
-use Rattle.mon_world.specs.declared.meeting.Fall.{Fall}
+use Rattle.mon_world.specs.declared.meeting.Crash as meeting
 use Rattle.mon_world.specs.declared.monitor.Monitor.{Monitor}
 use Rattle.mon_world.specs.declared.stop.WorldStop.{WorldStop}
 use Rattle.mon_world.specs.declared.stop.WorldStop.TheVariants.{OutOfMemory, Spent, Full}
 use Rattle.mon_world.specs.declared.world.Fault.{Fault}
 use Rattle.mon_world.specs.declared.world.Fault.TheVariants as fault
-use Rattle.mon_world.specs.declared.world.Upshot.{Upshot}
-use Rattle.mon_world.specs.declared.world.Upshot.TheVariants as upshot
+use Rattle.mon_world.specs.declared.world.FaultOutcome.{FaultOutcome}
+use Rattle.mon_world.specs.declared.world.FaultOutcome.TheVariants as fault_outcome
 use Rattle.mon_world.specs.declared.world.World.{World}
 use Rattle.mon_world.specs.Events.{plain_event}
-use Rattle.mon_world.specs.Falls.{StopsKept, files_left, keeps, map_left, marked_if, upset_of}
-use Rattle.mon_world.specs.Meeting.{MeetsFall}
+use Rattle.mon_world.specs.Crashes.{StopsKept, files_left, keeps, map_left, marked_if, upset_of}
+use Rattle.mon_world.specs.Meeting.{MeetsFault}
 use Rattle.mon_world.specs.Monitor.{Stands}
-use Rattle.mon_world.specs.Stands.{Does, DoesUpset, StandsAt, StandsFor, envelope_of, upset_step, upshot_at}
+use Rattle.mon_world.specs.Stands.{Does, DoesUpset, StandsAt, StandsFor, envelope_of, upset_step, fault_outcome_at}
 use Rattle.mon_world.specs.Step.{log_after, step, still_line, upset_line, with_line}
 use Rattle.mon_world.specs.Stops.{Stops}
 use Rattle.mon_world.specs.Telling.{GrowsIf, Leaves, faulty_event, outcome_of, stopped_as}
@@ -53,10 +53,10 @@ upset_met : (ms : Monitors) (c : Scene) (u : Upset) (p : Plain) (met : Meeting) 
 upset_met ms c u p met is = ap (upset_at c u p) is
 
 -- if its monitor doesn't react
-pub none_fell : (ms : Monitors) (world : World) (c : Scene) (u : Upset) (p : Plain) → StandsFor ms world c → arrival c.world p ≡ None → DoesUpset ms (Ok upshot.NoMessage) world c u p
-none_fell ms world c u p s none =
+pub none_crashed : (ms : Monitors) (world : World) (c : Scene) (u : Upset) (p : Plain) → StandsFor ms world c → arrival c.world p ≡ None → DoesUpset ms (Ok fault_outcome.NoMessage) world c u p
+none_crashed ms world c u p s none =
     let met = meets_none ms c.world p none in
-    (after_none c p, upset_met ms c u p NoMessage met, sym (ap (upshot_at c u) met), unmoved_stands ms world world c p s refl s.each refl refl)
+    (after_none c p, upset_met ms c u p NoMessage met, sym (ap (fault_outcome_at c u) met), unmoved_stands ms world world c p s refl s.each refl refl)
 
 module _ (c : Scene) (u : Upset) (p : Plain) (i : ℕ) (came : Input) (r : Result Reaction Which) where
   abbrev files_left_at : Files
@@ -88,11 +88,11 @@ module _ (c : Scene) (u : Upset) (p : Plain) (i : ℕ) (came : Input) (r : Resul
   stop_step : (stop : happens.Stop) → kept_at c u (Reacts i came r) ≡ true → unless_stopped (c.world.store i) r ≡ Err stop → upset_at c u p (Reacts i came r) ≡ Err stop
   stop_step stop is h = ap upset_by is ∙ ap kept_by h
 
-  stop_fell : (ms : Monitors) (e : WorldStop) → meets ms c.world p ≡ Reacts i came r
+  stop_crashed : (ms : Monitors) (e : WorldStop) → meets ms c.world p ≡ Reacts i came r
       → StopsKept e (kept_at c u (Reacts i came r)) (unless_stopped (c.world.store i) r) → Stops e (upset_step ms c u p)
-  stop_fell ms OutOfMemory met h = tt
-  stop_fell ms (Spent which) met h = upset_met ms c u p (Reacts i came r) met ∙ stop_step (happens.Spent which) h.0 h.1
-  stop_fell ms (Full would_be) met h = upset_met ms c u p (Reacts i came r) met ∙ stop_step (happens.Full would_be) h.0 h.1
+  stop_crashed ms OutOfMemory met h = tt
+  stop_crashed ms (Spent which) met h = upset_met ms c u p (Reacts i came r) met ∙ stop_step (happens.Spent which) h.0 h.1
+  stop_crashed ms (Full would_be) met h = upset_met ms c u p (Reacts i came r) met ∙ stop_step (happens.Full would_be) h.0 h.1
 
   -- ---- the world then
 
@@ -127,10 +127,10 @@ module _ (c : Scene) (u : Upset) (p : Plain) (i : ℕ) (came : Input) (r : Resul
 -- ---- what is left of what a monitor does
 
 -- what meets an arrival at the monitor of its rank, if a disk fails
-abbrev pub FallsAt : site.Upset → List Monitor → List Monitor → Arrival → Result (Option Fall) WorldStop → Type 0
-FallsAt u old new a r =
+abbrev pub CrashesAt : site.Upset → List Monitor → List Monitor → Arrival → Result (Option meeting.Crash) WorldStop → Type 0
+CrashesAt u old new a r =
     (before after : Monitor) → slice_get old a.rank ≡ Some before → slice_get new a.rank ≡ Some after
-    → (me : Me) (m : Store) (s : Option State) (f : Files) → Stands me m s f before → MeetsFall u me a.at m s f a.input after r
+    → (me : Me) (m : Store) (s : Option State) (f : Files) → Stands me m s f before → MeetsFault u me a.at m s f a.input after r
 
 is_lost : (b : Bool) (m : Store) → None ≡ marked_if b m → b ≡ false
 is_lost true m e = absurd cc
@@ -146,40 +146,40 @@ reacted (Err stop) h = absurd cc
 
 module _ (ms : Monitors) (old mid : World) (c : Scene) (u : site.Upset) (p : Plain) (a : Arrival) (s : StandsFor ms old c) (r : Reaches ms old.monitors.items c a)
     (comes : arrival c.world p ≡ Some a) (count : length mid.monitors.items ≡ length old.monitors.items) where
-  fell : (result : Result (Option Fall) WorldStop) → FallsAt u old.monitors.items mid.monitors.items a result
+  crashed : (result : Result (Option meeting.Crash) WorldStop) → CrashesAt u old.monitors.items mid.monitors.items a result
       → (monitor : Monitor) × (slice_get mid.monitors.items a.rank ≡ Some monitor)
-      × MeetsFall u r.me a.at (c.world.store a.rank) (c.world.state a.rank) (c.files a.rank) a.input monitor result
-  fell result h =
+      × MeetsFault u r.me a.at (c.world.store a.rank) (c.world.state a.rank) (c.files a.rank) a.input monitor result
+  crashed result h =
       let found = new_found ms old.monitors.items mid.monitors.items c a r count in
       (found.0, found.1, h r.monitor found.0 r.found found.1 r.me (c.world.store a.rank) (c.world.state a.rank) (c.files a.rank) r.stands)
 
   reacts : State → Result Reaction Which
   reacts before = reaction r.me a.at (c.world.store a.rank) before a.input
 
-  pub fell_stop : (e : WorldStop) → FallsAt u old.monitors.items mid.monitors.items a (Err e) → Stops e (upset_step ms c (upset_of u) p)
+  pub crashed_stop : (e : WorldStop) → CrashesAt u old.monitors.items mid.monitors.items a (Err e) → Stops e (upset_step ms c (upset_of u) p)
   unfolding keeps
-  fell_stop e h =
-      let m = (fell (Err e) h).2 in
-      stop_fell c (upset_of u) p a.rank a.input (reaction r.me a.at (c.world.store a.rank) m.0 a.input) ms e
+  crashed_stop e h =
+      let m = (crashed (Err e) h).2 in
+      stop_crashed c (upset_of u) p a.rank a.input (reaction r.me a.at (c.world.store a.rank) m.0 a.input) ms e
       (meets_up ms c.world p a r.me comes r.itself r.rank_is m.0 m.1) m.2
 
   module _ (others : (j : ℕ) → j ≢ a.rank → slice_get mid.monitors.items j ≡ slice_get old.monitors.items j) (messages : mid.messages.items ≡ old.messages.items) where
-    pub fell_down : FallsAt u old.monitors.items mid.monitors.items a (Ok None) → mid.log ≡ old.log → DoesUpset ms (Ok upshot.Down) mid c (upset_of u) p
-    fell_down h log =
-        let m = fell (Ok None) h in
+    pub crashed_down : CrashesAt u old.monitors.items mid.monitors.items a (Ok None) → mid.log ≡ old.log → DoesUpset ms (Ok fault_outcome.Down) mid c (upset_of u) p
+    crashed_down h log =
+        let m = crashed (Ok None) h in
         let met = meets_down ms c.world p a r.me comes r.itself r.rank_is m.2.0 in
         let here = stands_at ms mid.monitors.items a.rank (c.world.store a.rank) (c.world.state a.rank) (c.files a.rank) r.me m.0 r.itself m.1 m.2.1 in (
           after_none c p,
           upset_met ms c (upset_of u) p Down met,
-          sym (ap (upshot_at c (upset_of u)) met),
+          sym (ap (fault_outcome_at c (upset_of u)) met),
           unmoved_stands ms old mid c p s count (still_each ms old.monitors.items mid.monitors.items c a r s.each count others here) messages log,
         )
 
-    fell_lost : (fall : Fall) → fall.kept ≡ None → FallsAt u old.monitors.items mid.monitors.items a (Ok (Some fall)) → mid.log ≡ old.log
-        → DoesUpset ms (Ok (upshot.Stopped false)) mid c (upset_of u) p
+    crashed_lost : (crash : meeting.Crash) → crash.kept ≡ None → CrashesAt u old.monitors.items mid.monitors.items a (Ok (Some crash)) → mid.log ≡ old.log
+        → DoesUpset ms (Ok (fault_outcome.Stopped false)) mid c (upset_of u) p
     unfolding keeps map_left files_left
-    fell_lost fall none h log =
-        let m = fell (Ok (Some fall)) h in
+    crashed_lost crash none h log =
+        let m = crashed (Ok (Some crash)) h in
         let x : Result Reaction Which = reaction r.me a.at (c.world.store a.rank) m.2.0 a.input in
         let down = m.2.2.down in
         let met = meets_up ms c.world p a r.me comes r.itself r.rank_is m.2.0 m.2.1 in
@@ -188,17 +188,17 @@ module _ (ms : Monitors) (old mid : World) (c : Scene) (u : site.Upset) (p : Pla
         let stands = subst (λ (b : Bool). Stands r.me (if b then apply (ops_of x) (c.world.store a.rank) else c.world.store a.rank) None files m.0) not down.stands in (
           after_lost c (upset_of u) p a.rank a.input x,
           upset_met ms c (upset_of u) p (Reacts a.rank a.input x) met ∙ lost_step c (upset_of u) p a.rank a.input x not,
-          sym (ap (upshot_at c (upset_of u)) met ∙ ap upshot.Stopped not),
+          sym (ap (fault_outcome_at c (upset_of u)) met ∙ ap fault_outcome.Stopped not),
           lost_stands c (upset_of u) p a.rank a.input x ms old mid s count others messages
               (stands_at ms mid.monitors.items a.rank (c.world.store a.rank) None files r.me m.0 r.itself m.1 stands) log,
         )
 
-    fell_kept : (fall : Fall) (marked : Bool) → fall.kept ≡ Some marked → FallsAt u old.monitors.items mid.monitors.items a (Ok (Some fall))
-        → ((m : Store) → fall.last ≡ last_of m → marked ≡ is_marked m → mid.log ≡ log_after old.log m)
-        → DoesUpset ms (Ok (upshot.Stopped true)) mid c (upset_of u) p
+    crashed_kept : (crash : meeting.Crash) (marked : Bool) → crash.kept ≡ Some marked → CrashesAt u old.monitors.items mid.monitors.items a (Ok (Some crash))
+        → ((m : Store) → crash.last ≡ last_of m → marked ≡ is_marked m → mid.log ≡ log_after old.log m)
+        → DoesUpset ms (Ok (fault_outcome.Stopped true)) mid c (upset_of u) p
     unfolding keeps map_left files_left
-    fell_kept fall marked some h log =
-        let m = fell (Ok (Some fall)) h in
+    crashed_kept crash marked some h log =
+        let m = crashed (Ok (Some crash)) h in
         let y : Result Reaction Which = reaction r.me a.at (c.world.store a.rank) m.2.0 a.input in
         let down = m.2.2.down in
         let met = meets_up ms c.world p a r.me comes r.itself r.rank_is m.2.0 m.2.1 in
@@ -214,21 +214,21 @@ module _ (ms : Monitors) (old mid : World) (c : Scene) (u : site.Upset) (p : Pla
         let stands = subst (λ (z : Store). Stands r.me z None files m.0) left down.stands in (
           after_kept c (upset_of u) p a.rank a.input y x,
           upset_met ms c (upset_of u) p (Reacts a.rank a.input y) met ∙ kept_step c (upset_of u) p a.rank a.input y x told.0 goes_on.1,
-          sym (ap (upshot_at c (upset_of u)) met ∙ ap upshot.Stopped told.0),
+          sym (ap (fault_outcome_at c (upset_of u)) met ∙ ap fault_outcome.Stopped told.0),
           kept_stands c (upset_of u) p a.rank a.input y ms old mid s count others messages x
               (stands_at ms mid.monitors.items a.rank store None files r.me m.0 r.itself m.1 stands)
               (log store (m.2.2.last ∙ ap last_of left) (told.1 ∙ ap is_marked same)),
         )
 
--- it fell, and what it wrote is kept or lost
-pub fell_so : (ms : Monitors) (old mid new : World) (c : Scene) (u : site.Upset) (p : Plain) (a : Arrival) (fall : Fall) (told : Upshot) → StandsFor ms old c → Reaches ms old.monitors.items c a
+-- it crashed, and what it wrote is kept or lost
+pub crashed_so : (ms : Monitors) (old mid new : World) (c : Scene) (u : site.Upset) (p : Plain) (a : Arrival) (crash : meeting.Crash) (told : FaultOutcome) → StandsFor ms old c → Reaches ms old.monitors.items c a
     → arrival c.world p ≡ Some a
     → length mid.monitors.items ≡ length old.monitors.items
     → ((j : ℕ) → j ≢ a.rank → slice_get mid.monitors.items j ≡ slice_get old.monitors.items j)
     → mid.messages.items ≡ old.messages.items → mid.log ≡ old.log
-    → FallsAt u old.monitors.items mid.monitors.items a (Ok (Some fall)) → Leaves fall mid new told
+    → CrashesAt u old.monitors.items mid.monitors.items a (Ok (Some crash)) → Leaves crash mid new told
     → DoesUpset ms (Ok told) new c (upset_of u) p
-fell_so ms old mid new c u p a fall told s r comes count others messages log h leaves = by fall.kept refl leaves.log leaves.told_is
+crashed_so ms old mid new c u p a crash told s r comes count others messages log h leaves = by crash.kept refl leaves.log leaves.told_is
   where
     new_count : length new.monitors.items ≡ length old.monitors.items
     new_count = ap length leaves.monitors ∙ count
@@ -236,22 +236,22 @@ fell_so ms old mid new c u p a fall told s r comes count others messages log h l
     new_others : (j : ℕ) → j ≢ a.rank → slice_get new.monitors.items j ≡ slice_get old.monitors.items j
     new_others j n = ap (λ (l : List Monitor). slice_get l j) leaves.monitors ∙ others j n
 
-    falls : FallsAt u old.monitors.items new.monitors.items a (Ok (Some fall))
-    falls = subst (λ (l : List Monitor). FallsAt u old.monitors.items l a (Ok (Some fall))) (sym leaves.monitors) h
+    crashes : CrashesAt u old.monitors.items new.monitors.items a (Ok (Some crash))
+    crashes = subst (λ (l : List Monitor). CrashesAt u old.monitors.items l a (Ok (Some crash))) (sym leaves.monitors) h
 
-    by : (k : Option Bool) → fall.kept ≡ k → GrowsIf k fall.last mid.log new.log → told ≡ upshot.Stopped (is_some k) → DoesUpset ms (Ok told) new c (upset_of u) p
+    by : (k : Option Bool) → crash.kept ≡ k → GrowsIf k crash.last mid.log new.log → told ≡ fault_outcome.Stopped (is_some k) → DoesUpset ms (Ok told) new c (upset_of u) p
     by None e grows is =
-        subst (λ (t : Upshot). DoesUpset ms (Ok t) new c (upset_of u) p) (sym is)
-        (fell_lost ms old new c u p a s r comes new_count new_others (leaves.messages ∙ messages) fall e falls (grows ∙ log))
+        subst (λ (t : FaultOutcome). DoesUpset ms (Ok t) new c (upset_of u) p) (sym is)
+        (crashed_lost ms old new c u p a s r comes new_count new_others (leaves.messages ∙ messages) crash e crashes (grows ∙ log))
     by (Some marked) e grows is =
-        subst (λ (t : Upshot). DoesUpset ms (Ok t) new c (upset_of u) p) (sym is)
-        (fell_kept ms old new c u p a s r comes new_count new_others (leaves.messages ∙ messages) fall marked e falls
+        subst (λ (t : FaultOutcome). DoesUpset ms (Ok t) new c (upset_of u) p) (sym is)
+        (crashed_kept ms old new c u p a s r comes new_count new_others (leaves.messages ∙ messages) crash marked e crashes
         (λ m last mark. grows m last mark ∙ ap (λ (n : ℕ). log_after n m) log))
 
 -- ---- what is reported of it
 
 module _ (c : Scene) (u : Upset) (how : Bool → Outcome) where
-  line_at : (met : Meeting) → upset_line c u how met ≡ still_line (outcome_of how (upshot_at c u met))
+  line_at : (met : Meeting) → upset_line c u how met ≡ still_line (outcome_of how (fault_outcome_at c u met))
   line_at NoMessage = refl
   line_at Down = refl
   line_at (Reacts i came r) = refl
@@ -260,11 +260,11 @@ module _ (c : Scene) (u : Upset) (how : Bool → Outcome) where
   abbrev upset_told : Monitors → Plain → Result (Scene × StepLine) happens.Stop
   upset_told ms p = with_line (upset_line c u how (meets ms c.world p)) (upset_step ms c u p)
 
-  told : (ms : Monitors) (new : World) (p : Plain) (up : Upshot) → DoesUpset ms (Ok up) new c u p → Does ms (Ok (still_line (outcome_of how up))) new (upset_told ms p)
+  told : (ms : Monitors) (new : World) (p : Plain) (up : FaultOutcome) → DoesUpset ms (Ok up) new c u p → Does ms (Ok (still_line (outcome_of how up))) new (upset_told ms p)
   told ms new p up d = (
     d.0,
     ap (with_line (upset_line c u how (meets ms c.world p))) d.1
-        ∙ ap {B = Result (Scene × StepLine) happens.Stop} (λ (l : StepLine). Ok (d.0, l)) (line_at (meets ms c.world p) ∙ sym (ap (λ (v : Upshot). still_line (outcome_of how v)) d.2)),
+        ∙ ap {B = Result (Scene × StepLine) happens.Stop} (λ (l : StepLine). Ok (d.0, l)) (line_at (meets ms c.world p) ∙ sym (ap (λ (v : FaultOutcome). still_line (outcome_of how v)) d.2)),
     d.3,
   )
 
@@ -274,7 +274,7 @@ module _ (c : Scene) (u : Upset) (how : Bool → Outcome) where
   stops_told ms p (Full would_be) h = ap (with_line (upset_line c u how (meets ms c.world p))) h
 
 -- by what is to become of the monitor
-pub told_as : (way : Fault) (c : Scene) (u : site.Upset) (ms : Monitors) (new : World) (p : schedule.Plain) (up : Upshot) → DoesUpset ms (Ok up) new c (upset_of u) (plain_event p)
+pub told_as : (way : Fault) (c : Scene) (u : site.Upset) (ms : Monitors) (new : World) (p : schedule.Plain) (up : FaultOutcome) → DoesUpset ms (Ok up) new c (upset_of u) (plain_event p)
     → Does ms (Ok (still_line (outcome_of (stopped_as way) up))) new (step ms c (faulty_event way u p))
 told_as fault.Crash c u ms new p up d = told c (upset_of u) outcome.Crashed ms new (plain_event p) up d
 told_as fault.Fail c u ms new p up d = told c (upset_of u) outcome.Failed ms new (plain_event p) up d

@@ -9,7 +9,7 @@ use Rattle.mon_world.specs.Step.{step}
 use Rattle.mon_world.proofs.Arriving.{reaches, standing_at}
 use Rattle.mon_world.proofs.Stepping.{MeetsAt, met_down, met_short, met_stop, met_turn}
 use Rattle.mon_world.proofs.Passing.{down_passes, turn_passes}
-use Rattle.mon_world.proofs.world.World.come.Goals as goal
+use Rattle.mon_world.proofs.world.World.deliver.Goals as goal
 
 pub meet_at-requires-clause-stands : goal.meet_at-requires-clause-stands
 meet_at-requires-clause-stands c =
