@@ -12,6 +12,8 @@ mod digits;
 #[cfg(test)]
 mod frag;
 #[cfg(test)]
+mod hellos;
+#[cfg(test)]
 mod links;
 #[cfg(test)]
 mod made;
