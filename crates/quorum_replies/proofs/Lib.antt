@@ -1,0 +1,4 @@
+pub mod Spending
+pub mod Acts
+pub mod Rows
+pub mod Runs
