@@ -54,7 +54,7 @@ use Rattle.quorum_walk.proofs.Lists.{all_append, all_map, all_of}
 use Rattle.quorum_walk.proofs.Sparing.{Own, learned_own, own_of}
 use Rattle.quorum_walk.proofs.Walk.{Then}
 use Rattle.std.proofs.Common.{Bool, List, None, Some, [], ap, arith, cond, eqb, false, inl, inr, refl, subst, suc, sym, true, ℕ, ◌++◌, ◌<◌, ◌||◌, ◌∙◌, ◌∷◌, ◌≡◌, ◌≤◌, ◌⊎◌}
-use Rattle.std.proofs.lemmas.Bool.{eq-eqb, eqb-true}
+use Rattle.std.proofs.lemmas.Bool.{eqb-true}
 use Rattle.std.specs.List.{AllByRecursion, filter}
 
 -- ---- what must not be known
@@ -109,9 +109,6 @@ pub record Onward (n : ℕ) (w : World) : Type 0 where
 
 abbrev level_of : Store → ℕ
 level_of z = level_in (own_of (readings_of z))
-
-pub put_same : {A : Type 0} (f : ℕ → A) (i : ℕ) (a : A) → put_at f i a i ≡ a
-put_same f i a = rw (eq-eqb i i refl) refl
 
 -- ---- what lasts
 

@@ -59,20 +59,6 @@ has_answers phase.Active = true
 has_answers phase.Updating = true
 has_answers other = false
 
-pub peon_leads_not : (p : Phase) → is_peon p ≡ true → is_leading p ≡ false
-peon_leads_not p e = ap is_leading (peon_is_peon p e)
-
-pub sync_leads_not : (p : Phase) → same_phase p phase.Synchronizing ≡ true → is_leading p ≡ false
-sync_leads_not phase.Synchronizing t = refl
-sync_leads_not phase.Booting t = refl
-sync_leads_not phase.Probing t = refl
-sync_leads_not phase.Electing t = refl
-sync_leads_not phase.Collecting t = no t
-sync_leads_not phase.Previous t = no t
-sync_leads_not phase.Active t = no t
-sync_leads_not phase.Updating t = no t
-sync_leads_not phase.Peon t = refl
-
 pub all_left : {A : Type 0} (P : A → Type 0) (xs ys : List A) → AllByRecursion P (xs ++ ys) → AllByRecursion P xs × AllByRecursion P ys
 all_left P [] ys h = (tt, h)
 all_left P (x ∷ xs) ys h = let t = all_left P xs ys h.1 in ((h.0, t.0), t.1)
@@ -359,34 +345,19 @@ module _ (me : Me) (now : ℕ) (w : Readings) (s : State) (came : Input) (From :
   gathers_more cs more e (inl k) = inl (k.0, same_more cs more e k.1)
   gathers_more cs more e (inr k) = inr k
 
-  -- who is no leader and no peon holds nothing
-  pub odd_lead : (p : Phase) (cs : List Change) (e v : ℕ) (z : Option ℕ) → is_leading p ≡ false → is_peon p ≡ false → Lead p cs e v z
-  odd_lead phase.Collecting cs e v z t k = no (sym t)
-  odd_lead phase.Previous cs e v z t k = no (sym t)
-  odd_lead phase.Updating cs e v z t k = no (sym t)
-  odd_lead phase.Active cs e v z t k = no (sym t)
-  odd_lead phase.Peon cs e v z t k = no (sym k)
-  odd_lead phase.Booting cs e v z t k = tt
-  odd_lead phase.Probing cs e v z t k = tt
-  odd_lead phase.Synchronizing cs e v z t k = tt
-  odd_lead phase.Electing cs e v z t k = tt
-
   pub peon_lead : (p : Phase) (cs : List Change) (e v : ℕ) (z : Option ℕ) → is_peon p ≡ true → (is_some z ≡ true → Leased cs e v) → Lead p cs e v z
   peon_lead p cs e v z t k = subst (λ (q : Phase). Lead q cs e v z) (sym (peon_is_peon p t)) k
 
   pub sync_lead : (p : Phase) (cs : List Change) (e v : ℕ) (z : Option ℕ) → same_phase p phase.Synchronizing ≡ true → Lead p cs e v z
-  sync_lead p cs e v z t = odd_lead p cs e v z (sync_leads_not p t) (by p t)
-    where
-      by : (p : Phase) → same_phase p phase.Synchronizing ≡ true → is_peon p ≡ false
-      by phase.Peon t = no t
-      by phase.Collecting t = refl
-      by phase.Previous t = refl
-      by phase.Updating t = refl
-      by phase.Active t = refl
-      by phase.Booting t = refl
-      by phase.Probing t = refl
-      by phase.Synchronizing t = refl
-      by phase.Electing t = refl
+  sync_lead phase.Synchronizing cs e v z t = tt
+  sync_lead phase.Booting cs e v z t = tt
+  sync_lead phase.Probing cs e v z t = tt
+  sync_lead phase.Electing cs e v z t = tt
+  sync_lead phase.Collecting cs e v z t = no t
+  sync_lead phase.Previous cs e v z t = no t
+  sync_lead phase.Active cs e v z t = no t
+  sync_lead phase.Updating cs e v z t = no t
+  sync_lead phase.Peon cs e v z t = no t
 
   pub rest_lead : (p : Phase) → s.phase ≡ p → Lead p [] (epoch_of w) w.last s.peon.lease
   rest_lead phase.Collecting e = inl (ap is_gathering e, λ F. refl)

@@ -14,11 +14,12 @@ use Rattle.mon_wire.specs.declared.phase.Phase.TheVariants as phase
 use Rattle.quorum_agreement.proofs.Acknowledging.{NoShowSent}
 use Rattle.quorum_agreement.proofs.Held.{Still, last_is, level_at}
 use Rattle.quorum_agreement.proofs.Kept.{accepted_keeps}
+use Rattle.quorum_agreement.proofs.SafeWorlds.{put_same}
 use Rattle.quorum_answers.proofs.Epochs.{mark_goes, mark_now, sent_now, up_now}
 use Rattle.quorum_answers.proofs.Marks.{Lasts, Mark, PhaseMark, Reads, reads, SentMark, StateMark, leader_has, led_unmarked, mark_lasts, phase_lasts, sent_lasts}
 use Rattle.quorum_answers.proofs.Ordering.{AllPairs, Covered, Dated, NewRead, NewWrite, Ordered, ReadRead, ReadWrite, WriteWrite, all_there, ordered_then}
 use Rattle.quorum_answers.proofs.Own as own
-use Rattle.quorum_answers.proofs.Own.{IsBelow, IsHad, Onward, Quiet, answers_vote, member_votes, more_replies, put_same, same_replies}
+use Rattle.quorum_answers.proofs.Own.{IsBelow, IsHad, Onward, Quiet, answers_vote, member_votes, more_replies, same_replies}
 use Rattle.quorum_answers.proofs.Replies.{shows_not}
 use Rattle.quorum_answers.proofs.Saying.{has_answers}
 use Rattle.quorum_answers.specs.Reads.{Shows}
