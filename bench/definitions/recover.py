@@ -1,14 +1,11 @@
 """Tries in the definitions that a majority finds back to service: the way that docs/PROTOCOL.md describes (The way back), after random runs.
 
 usage: recover.py FIRST_SEED COUNT EVENTS [PROGRAM]
-       recover.py file SCHEDULE
 
 A run of fuzz.py is played. Then a majority whose monitors are near the whole log goes on by itself, and a command is asked. It must get its
 reply within 2n² + 14n + 5 events, none of which delivers a message that was sent before. If a program is given, its trace of all of these events must
 be the same. A run that ends early, or after which the majority lacks a member that may lead, is counted apart. The status is 0 if every other
 run got its reply, and 1 otherwise.
-
-With `file` a schedule is played, and printed with the events of the way after it. All monitors that are near take part.
 """
 from __future__ import annotations
 
@@ -183,23 +180,7 @@ def outcome(seed: int, events: int, program: str | None) -> str:
     return 'served'
 
 
-def continued(path: str) -> int:
-    """Prints a schedule, and then the way of all monitors that are near."""
-    with open(path, encoding='latin-1', newline='') as file:
-        lines = file.read().splitlines()
-    play = run.Play(lines[0])
-    if not all(play.take(line) for line in lines[1:]):
-        print('recover: the schedule stops', file=sys.stderr)
-        return 1
-    way = Way(play, [rank for rank in range(play.n) if is_near(play, rank)], allowed_in(play))
-    way.go()
-    print(*lines, *way.lines, sep='\n')
-    return 0
-
-
 def main(words: list[str]) -> int:
-    if words[0] == 'file':
-        return continued(words[1])
     first, count, events = map(int, words[:3])
     program = words[3] if len(words) > 3 else None
     found = collections.Counter()
