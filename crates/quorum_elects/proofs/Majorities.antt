@@ -33,7 +33,7 @@ scope G = record { ms = G.ms; q = G.q; sent = length G.from.messages; asks = G.a
 abbrev pub epoch_at : Majority → ℕ → ℕ
 epoch_at G f = epoch_of (readings_at G.from f)
 
--- Rank r is to lead: it may, and is before all others. E is the greatest epoch in which one of them stands.
+-- Rank r is to lead: it may, and is before all others. E is the greatest epoch in which one of them becomes a candidate.
 pub record Candidacy (G : Majority) : Type 0 where
   pub r : ℕ
   pub mine : has G.q r ≡ true

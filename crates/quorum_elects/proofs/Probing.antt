@@ -1,4 +1,4 @@
--- The members of a majority start, ask one another, and stand for election.
+-- The members of a majority start, ask one another, and become candidates.
 use Rattle.election_rules.specs.declared.scores.Scores.{Scores}
 use Rattle.mon_msg.specs.Protocol.Phases.{same_phase}
 use Rattle.mon_msg.specs.Protocol.Readings.{Readings, readings_of, shared_entries}
@@ -128,7 +128,7 @@ module _ (G : Majority) where
 
   -- ---- each asks the others, and becomes a candidate
 
-  -- those below k stand, and the others wait
+  -- those below k are candidates, and the others wait for answers
   pub record Probed (k : ℕ) (w : World) : Type 0 where
     pub room : Room w
     pub done : (f : ℕ) → f < k → has q f ≡ true → Stands f w
@@ -137,7 +137,7 @@ module _ (G : Majority) where
   pub started_probed : (w : World) → Started n w → Probed 0 w
   started_probed w K = record { room = K.room; done = λ f low h. absurd (omega arith); left = λ f high h. K.done f (M.below f h) h }
 
-  -- k itself waits, and heard all below j, which are no majority
+  -- k itself waits for answers, and heard all below j, which are no majority
   pub record HubWaits (k j : ℕ) (w : World) : Type 0 where
     pub outside : List Bool
     pub long : length outside ≡ 15
@@ -153,7 +153,7 @@ module _ (G : Majority) where
     pub left : (f : ℕ) → suc k ≤ f → has q f ≡ true → Waits f w
     pub hub : Stands k w ⊎ HubWaits k j w
 
-  -- one that waits or stands is near, and up
+  -- one that waits for answers, or is a candidate, is near and up
   record IsThere (w : World) (j : ℕ) : Type 0 where
     state : State
     up : w.state j ≡ Some state
@@ -208,7 +208,7 @@ module _ (G : Majority) where
           probing = record { room = o.sane P.room; done = λ f low h. done f low h (same_or_not f j); left = λ f high h. left f high h (same_or_not f j); hub = hub };
         }
           where
-            -- it stands as it did
+            -- what held of it still does
             again : (R : Readings → State → Type 0) → Is R w j → Is R v j
             again R z = record {
               state = T.state;
@@ -301,7 +301,7 @@ module _ (G : Majority) where
           | inl h ↦ elim (same_or_not j k) [ inl e ↦ passes H (λ _. subst (λ (x : ℕ). has H.outside x ≡ true) (sym e) H.self) | inr ne ↦ goes H h ne ]
         ]
 
-    -- once it heard all of the majority, it stands
+    -- once it heard all of the majority, it is a candidate
     probes_end : (w : World) → Probing k n w → Probed (suc k) w
     probes_end w P = record { room = P.room; done = λ f low h. elim (up_to f k low) [ inl e ↦ subst (λ (x : ℕ). Stands x w) (sym e) (by P.hub) | inr less ↦ P.done f less h ]; left = P.left }
       where

@@ -49,6 +49,7 @@ pub record Is (R : Readings → State → Type 0) (w : World) (i : ℕ) : Type 0
   pub holds : R (readings_at w i) state
 
 module _ (c : ℕ) where
+  -- it probes in epoch e, and heard those of o
   pub record IsProbing (e : ℕ) (o : List Bool) (w : Readings) (s : State) : Type 0 where
     pub close : Close c w
     pub numbers : HasNumbers w
@@ -59,6 +60,7 @@ module _ (c : ℕ) where
     pub timers : 1 < length s.timers
     pub scores : IsFull s.elector.scores
 
+  -- a candidate of epoch e, to which those of a deferred
   pub record IsCandidate (e : ℕ) (a : List Bool) (w : Readings) (s : State) : Type 0 where
     pub close : Close c w
     pub numbers : HasNumbers w
@@ -74,12 +76,14 @@ module _ (c : ℕ) where
     pub clients : s.clients ≡ no_clients
     pub scores : IsFull s.elector.scores
 
+  -- it votes in epoch e
   pub record IsVoter (e : ℕ) (w : Readings) (s : State) : Type 0 where
     pub close : Close c w
     pub numbers : HasNumbers w
     pub epoch : epoch_of w ≡ e
     pub phase : s.phase ≡ phase.Electing
 
+  -- monitor i leads the quorum q in epoch e, and asks under pn; nobody else answered yet
   pub record IsCollector (i e : ℕ) (q : List Bool) (pn first last : ℕ) (w : Readings) (s : State) : Type 0 where
     pub close : Close c w
     pub epoch : epoch_of w ≡ e
@@ -96,6 +100,7 @@ module _ (c : ℕ) where
     pub long : length s.leader.lasts ≡ 15
     pub queue : s.clients.queue ≡ []
 
+  -- a peon of the quorum q in epoch e
   pub record IsPeon (e by : ℕ) (q : List Bool) (w : Readings) (s : State) : Type 0 where
     pub close : Close c w
     pub numbers : HasNumbers w

@@ -56,7 +56,7 @@ module _ (ms : Monitors) (several : 1 < ms.count) (c : ℕ) (i : ℕ) (lt : ltb 
 
   -- ---- proposals
 
-  -- one that is before the other is deferred to, and the other isn't
+  -- a monitor defers to one that is before it, and to no other
   before_it : (table : Scores) (r : ℕ) → IsFull table → r < n → IsBefore ms.rule r i → (is_allowed me r && stands_before me table r i) ≡ true
   before_it table r F less B = λ j. B.may_lead j && before_is ms.rule table F n r i ms.most less (ltb-true i n lt) B j
 
@@ -77,7 +77,7 @@ module _ (ms : Monitors) (several : 1 < ms.count) (c : ℕ) (i : ℕ) (lt : ltb 
     pub stands : IsVoter c e y.readings y.state
     pub says : Among (send.Message r (letter n i e body.Ack)) y.out
 
-  -- a candidate defers to one before it that stands in the same epoch or a later one
+  -- a candidate defers to one that is before it, of the same epoch or a later one
   pub defers : (w : Readings) (s : State) (own : ℕ) (a : List Bool) → IsCandidate c own a w s → (r e : ℕ) → r < n → (r ≡ i → ⊥) → IsBefore ms.rule r i → (table : Option Scores) → Fitting ms.rule table → FullIf table → is_even e ≡ false → e ≤ 2 ^ 62 → own ≤ e
       → Surely (And w (Defers r e)) (react me sh now w s (input.Deliver (letter n r e (body.Propose table))))
   unfolding hear_propose adopt
@@ -109,7 +109,7 @@ module _ (ms : Monitors) (several : 1 < ms.count) (c : ℕ) (i : ℕ) (lt : ltb 
       same : ltb (epoch_of w) e ≡ false → epoch_of w ≡ e
       same late = let q = ltb-false (epoch_of w) e late in let p = P.epoch in omega arith
 
-  -- a later epoch of one behind it makes it stand too
+  -- a PROPOSE of a later epoch makes a monitor that is before its sender a candidate of that epoch
   pub calls : (w : Readings) (s : State) (own : ℕ) (a : List Bool) → IsCandidate c own a w s → (r e : ℕ) → r < n → (r ≡ i → ⊥) → IsBefore ms.rule i r → (table : Option Scores) → Fitting ms.rule table → FullIf table → is_even e ≡ false → e + 8 ≤ 2 ^ 62 → own < e
       → Surely (And w (Elects e)) (react me sh now w s (input.Deliver (letter n r e (body.Propose table))))
   unfolding hear_propose adopt

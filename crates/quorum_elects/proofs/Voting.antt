@@ -1,4 +1,4 @@
--- The lowest rank of a majority stands in the greatest epoch, and is elected.
+-- The member that is to lead becomes a candidate of the greatest epoch, and is elected.
 use Rattle.mon_msg.specs.Protocol.Course.{Course}
 use Rattle.mon_msg.specs.Protocol.Entering.{is_even}
 use Rattle.mon_msg.specs.Protocol.Readings.{shared_entries}
@@ -89,9 +89,9 @@ module _ (G : Majority) (K : Candidacy G) where
   abbrev Collects : List Bool → (pn first last : ℕ) → World → Type 0
   Collects a pn first last w = (g : ℕ) → g < n → has a g ≡ true → (g ≡ r → ⊥) → New sent w (record { to = g; message = letter n r (suc E) (body.Collect pn first last) })
 
-  -- ---- it stands in the greatest epoch, and the others vote for it
+  -- ---- it is a candidate of the greatest epoch, and the others vote for it
 
-  -- it stands in this epoch, and these deferred to it
+  -- it is a candidate of this epoch, to which those of a deferred
   abbrev Leads : List Bool → World → Type 0
   Leads a w = Is (IsCandidate c E a) w r
 
@@ -101,7 +101,7 @@ module _ (G : Majority) (K : Candidacy G) where
   votes_stay : (w v : World) (f : ℕ) → On w v → (v.state f ≡ w.state f) × (v.store f ≡ w.store f) → Votes f w → Votes f v
   votes_stay w v f o same k = (is_stays (IsVoter c E) w v f same k.0, new_stays Us o k.1)
 
-  -- those below k voted for r, and the others stand
+  -- those below k voted for r, and the others are candidates
   pub record Voted (k : ℕ) (w : World) : Type 0 where
     pub room : Room w
     pub leads : Leads (only r) w

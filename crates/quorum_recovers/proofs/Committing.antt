@@ -155,7 +155,7 @@ module _ (G : Majority) (Q : Term G) where
   abbrev pub Level : (l pn : ℕ) → World → Type 0
   Level l pn w = (f : ℕ) → has a f ≡ true → (f ≡ r → ⊥) → Is (IsHearing r e a l pn) w f
 
-  -- ---- a value under way
+  -- ---- a value in progress
 
   module _ (ph : Phase) (which_phase : (ph ≡ phase.Previous) ⊎ (ph ≡ phase.Updating)) (o : Option Origin) (l pn : ℕ) (value : List Op) where
     pub record Committed (w : World) : Type 0 where

@@ -146,6 +146,7 @@ module _ (G : Majority) (Q : Term G) where
 
   -- ---- the leader asks
 
+  -- The leader had la versions when it asked, and has l now. Those of A answered. No member promised more than its number.
   pub record Asking (A : List Bool) (la : ℕ) (w : World) : Type 0 where
     pub pn : ℕ
     pub room : pn + 200 * (suc c - la) ≤ 2 ^ 62
@@ -164,7 +165,7 @@ module _ (G : Majority) (Q : Term G) where
     pub self : has A r ≡ true
     pub long : length A ≡ 15
 
-  -- it asks anew, and nobody has a version more
+  -- it asks again, and no member has a further version
   pub record Fresh (w : World) : Type 0 where
     pub la : ℕ
     pub asking : Asking (only r) la w
@@ -173,7 +174,7 @@ module _ (G : Majority) (Q : Term G) where
   abbrev pub Goes : (l pn : ℕ) → World → Type 0
   Goes l pn w = Is (IsActive r e a l pn 0) w r ⊎ ((value : List Op) × Is (IsProposing phase.Previous r e a l pn (only r) value None) w r × ((g : ℕ) → g < n → has a g ≡ true → (g ≡ r → ⊥) → Mail r g (body.Begin pn (suc l) value) w))
 
-  -- it heard all
+  -- It heard all of its quorum. Members that lack its last version get it, and a value that was found is proposed.
   pub record Settled (w : World) : Type 0 where
     pub l : ℕ
     pub pn : ℕ
@@ -192,7 +193,7 @@ module _ (G : Majority) (Q : Term G) where
   own_value w F zero u is = ([], (λ some. absurd (omega arith)), (λ some. absurd (omega arith)))
   own_value w F (suc l) u is = let t = value_there ms several w F.holds r (below r mine) u l is in (t.value, (λ some. (t.is, (let V = t.fine in V.short))), (λ some. t.fine))
 
-  -- what comes of an answer
+  -- after the answer of k
   pub record After (k la : ℕ) (A : List Bool) (v : World) : Type 0 where
     pub fit : Fit v
     pub comes : Settled v ⊎ (Asking (with_rank A k) la v ⊎ (Fresh v × (T k ≡ suc la)))
@@ -241,7 +242,7 @@ module _ (G : Majority) (Q : Term G) where
       lag : (l : ℕ) → l ≤ c → (g : ℕ) → has a g ≡ true → l ≤ suc (T g)
       lag l le g h = let z = Q.least g h in omega arith
 
-      -- who is in the larger set, and what each promised
+      -- what each peon promised
       peons_then : (u : World) → ((j : ℕ) → (j ≡ r → ⊥) → (u.state j ≡ v.state j) × (u.store j ≡ v.store j)) → (f : ℕ) → has a f ≡ true → (f ≡ r → ⊥) → (p : ℕ) × Is (IsHearing r e a (T f) p) u f × (p ≤ X.pn) × (has (with_rank A k) f ≡ true → p ≡ X.pn)
       peons_then u same f h ne = by (same_or_not f k)
         where
@@ -321,7 +322,7 @@ module _ (G : Majority) (Q : Term G) where
           kept : (g : ℕ) → has a g ≡ true → D.y.readings.first ≤ suc (T g)
           kept g h = subst (λ (w : Readings). w.first ≤ suc (T g)) D.moved.reads (let H = at.holds in let z = Q.least g h in let y = H.last in elim (low_of ms several u FU.holds r (below r mine) H.unmarked) [ inl few ↦ (omega arith) | inr far ↦ (omega arith) ])
 
-      -- what the leader makes of the answer
+      -- the leader hears the answer
       hears_it : Can1 1 (After k la A) v
       hears_it = by (cases_lt (T k) (suc la))
         where
@@ -331,7 +332,7 @@ module _ (G : Majority) (Q : Term G) where
           sh : List Entry
           sh = shared_entries (v.store r)
 
-          -- it keeps a window
+          -- the versions that the peon keeps begin low enough
           kept : ltb (suc (readings_at v r).last) R.first ≡ false
           kept = let z = Hv.last in let y = X.above in le-ltb (suc (readings_at v r).last) R.first (elim R.low [ inl few ↦ (omega arith) | inr far ↦ (omega arith) ])
 

@@ -1,4 +1,4 @@
--- A leader that a majority follows commits what was under way, and answers a client.
+-- A leader that a majority follows commits what was in progress, and answers a client.
 use Rattle.log_copies.proofs.Unmarked.{OnLog}
 use Rattle.log_model.specs.LogOfValues.{IsCommand}
 use Rattle.mon_bytes.specs.declared.command.Command.{Command}
@@ -184,7 +184,7 @@ module _ (G : Majority) (Q : Term G) where
       weaker Us (omega arith) (λ v o C. record { fit = C.fit; l = l; pn = pn; short = short; hub = C.hub; peons = λ f h ne. C.done f (below f h) h ne; low = low; high = high })
       (committing.catch_all G Q (IsActive r e a l pn 0) (λ v. Unit {0}) (λ v u o k. tt) l pn room U top lag value fine w (record { fit = F; hub = hub; post = tt; commits = commits; done = λ f less h ne. absurd (omega arith); left = λ f more h ne. peons f h ne }))
 
-  -- what was under way is committed first
+  -- what was in progress is committed first
   rests_first : (w : World) → Ready w → Can1 (1 * n + (2 * n + 1 * n)) Resting w
   rests_first w Y = let S = Y.settled in by S.goes
     where
