@@ -101,8 +101,10 @@ def take(rule: Rule | None, is_true: bool = False):
     run.reload({} if rule is None or is_true else rule.changes, {} if rule is None else rule.constants)
     if rule is not None and not is_true:
         for module in rule.changes:
+            file = os.path.join(antt.ROOT, *module.split('.')) + '.antt'
+            if not os.path.isfile(file):
+                raise Refused(f'{file} is not there')
             try:
-                if antt.module_of(module) is None:
-                    raise Refused(f'crates/{module.replace(".", "/")}.antt is not there')
+                antt.module_of(module)
             except ValueError as why:
                 raise Refused(os.path.relpath(str(why), TOP)) from None
