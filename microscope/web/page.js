@@ -1,6 +1,7 @@
 const picture = document.querySelector('#picture'), svg = picture.querySelector('svg'), panel = document.querySelector('#event');
 const here = svg.querySelector('#here'), names = [...document.querySelectorAll('.names span')];
 const wide = svg.viewBox.baseVal.width;
+const NOTES = 320;
 let now = 0, only = null, zoom = 0;
 
 function element(name, text, kind) {
@@ -78,9 +79,9 @@ function show(at) {
   history.replaceState(null, '', `#${at + 1}`);
 }
 
-// The chart is as wide as its place, but no letter is smaller than it can be read; a step of zoom is a fifth.
+// The chart with its shorter notes is as wide as its place, but no letter is smaller than it can be read; a step of zoom is a fifth.
 function size() {
-  const fit = Math.min(1.35, Math.max(0.62, (picture.clientWidth - 2) / wide)), scale = fit * 1.2 ** zoom;
+  const fit = Math.min(1.35, Math.max(0.62, (picture.clientWidth - 2) / Math.min(wide, COLUMNS[COLUMNS.length - 1] + NOTES))), scale = fit * 1.2 ** zoom;
   svg.style.width = `${wide * scale}px`;
   names.forEach((name, rank) => { name.style.left = `${COLUMNS[rank] * scale}px`; });
 }
