@@ -72,6 +72,8 @@ def fields_of(path: str) -> dict:
         parser = configparser.ConfigParser(interpolation=None)
         try:
             parser.read_string(text)
+        except configparser.MissingSectionHeaderError as why:
+            raise Faulty([f'line {why.lineno} is before any section, and the file must begin with [quorum]']) from None
         except configparser.Error as why:
             raise Faulty([f'it is no INI file: {" ".join(why.message.split())}']) from None
         if parser.sections() != ['quorum']:
@@ -114,6 +116,9 @@ def resolved(rank: int, address: str, faults: list[str]) -> tuple[str, int]:
     host, _, port = address.rpartition(':')
     if not host or not re.fullmatch('[1-9][0-9]{0,4}', port) or int(port) > 65_535:
         faults.append(f"addresses: monitor {rank} has '{address}', which is no HOST:PORT with a port from 1 to 65535")
+        return '', 0
+    if ':' in host:
+        faults.append(f"addresses: monitor {rank} has '{address}', and monitors have IPv4 addresses alone")
         return '', 0
     try:
         number = socket.gethostbyname(host)
