@@ -8,6 +8,7 @@ from __future__ import annotations
 import argparse
 import os
 import re
+import shutil
 import subprocess
 import sys
 import tempfile
@@ -29,6 +30,12 @@ class Failed(Exception):
 
 class Skipped(Exception):
     """A check can't be made on this machine, for this reason."""
+
+
+def needs(tool: str):
+    """Skips the check if this machine doesn't have a tool."""
+    if shutil.which(tool) is None:
+        raise Skipped(f'there is no {tool}')
 
 
 def without_asides(errors: bytes) -> bytes:
