@@ -10,10 +10,10 @@ import re
 import time
 from typing import NamedTuple
 
+import exercises
 import rules
 import safety
 from cards import card, shortened, value_of
-from exercises import exercise
 from played import Refused, Step, after, lines_of, run
 from schedules import MOST_EVENTS, fault_of_event
 from words import Sent, Story, paragraph_of, sends_of, time_of, why
@@ -53,7 +53,7 @@ class Game:
     """The acts so far, and how many of them are done. The others can be done again."""
 
     def __init__(self, header: str):
-        self.rule, self.exercise, self.latency, self.loss = None, None, 10, 0
+        self.rule, self.exercise, self.folder, self.latency, self.loss = None, None, exercises.FOLDER, 10, 0
         self.chance, self.branch, self.since_forgotten = random.Random(1), 0, 0
         self.begin(header)
 
@@ -148,6 +148,8 @@ class Game:
         elif kind == 'go':
             self.go(int(asked['event']))
         elif kind == 'next':
+            if self.due() is None:
+                raise Refused('no message is under way, and no timer is set: start a monitor')
             self.run(None, 1)
         elif kind == 'run':
             self.run(max(0, min(60_000, int(asked['milliseconds']))), MOST_AT_ONCE)
@@ -275,7 +277,7 @@ class Game:
     def judged(self) -> dict | None:
         if self.exercise is None:
             return None
-        found = exercise(self.exercise)
+        found = exercises.exercise(self.exercise, self.folder)
         judged = found.judged(self.lines(), '\n'.join(self.trace()) + '\n')
         return {'name': self.exercise, 'question': found.question, 'hints': found.hints, 'answer': found.answer, 'demands': judged}
 

@@ -168,7 +168,7 @@ class Story:
         line = step.lines[0].split(' ', 1)[1]
         upset = UPSET.fullmatch(line)
         if not upset:
-            return self.plain(line.split(' '), line)
+            return self.plain(line.split(' '), line) + (', and is down: it is lost' if step.lines[1:] == ['  down'] else '')
         words = upset[5].split(' ')
         kept = [it.split()[1] for it in step.lines[1:] if it.startswith(('  crashed', '  failed'))]
         if words[0] == 'timer' and upset[1] == 'crash' and kept and (int(words[1]), 'up', 'yes', 'no') in step.changes and 'store' not in str(step.changes):

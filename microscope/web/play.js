@@ -183,7 +183,7 @@ function drawCards() {
     phase.textContent = it.marked ? `${it.phase}, taking a full copy` : it.phase;
     card.querySelector('dl').replaceChildren(...facts(it, rank).flatMap(([key, value]) => [element('dt', '', key), element('dd', '', value)]));
     card.querySelector('.start').hidden = it.up;
-    for (const name of ['.kill', '.asking', '.tear']) card.querySelector(name).hidden = !it.up;
+    for (const name of ['.kill', '.asking', '.tear', '.show']) card.querySelector(name).hidden = !it.up;
     card.querySelector('.tear').value = it.tear || '';
   });
 }
