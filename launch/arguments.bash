@@ -99,7 +99,7 @@ help_of() {
     done
 }
 
-# version_of FILE PROGRAM: the version that the file has, and the digest of the program, by which builds are told apart
+# version_of FILE PROGRAM: the version that the file has, and the digest of the program, another one for each build
 version_of() {
     local digest
     printf 'cephmon %s\n' "$(cat "$1")"
