@@ -1,0 +1,90 @@
+-- What a link that watches asks of the link below, and makes of what that gives.
+use Rattle.std.specs.Prelude.{◌≡◌, ◌⊎◌, ℕ, List, Option, Some, None, IfSome, IsSome, Result, Ok, Err, if◌then◌else◌}
+use Rattle.serde_json.specs.Written.{compact_text}
+use Rattle.mon_link.specs.Clocks.{Readings, reading}
+use Rattle.mon_link.specs.Links.{LinkState, CallsNext, CallsSend, count_after}
+use Rattle.mon_link.specs.declared.link.Got.{Got}
+use Rattle.mon_link.specs.declared.link.Got.TheVariants.{Datagram, Idle, Closed}
+use Rattle.mon_link.specs.declared.link.Peer.TheVariants.{Monitor, Client}
+use Rattle.mon_types.specs.declared.member.Member.{Member}
+use Rattle.mon_types.specs.declared.names.Stop.{Stop}
+use Rattle.mon_types.specs.declared.names.Stop.TheVariants.{Failed, OutOfMemory}
+use Rattle.mon_bytes.specs.declared.command.MapRefused.{MapRefused}
+use Rattle.mon_watch.specs.declared.notes.Notes.{Notes}
+use Rattle.mon_watch.specs.declared.request.Asker.{Asker}
+use Rattle.mon_watch.specs.declared.times.DiskTimes.{DiskTimes}
+use Rattle.mon_watch.specs.Reports.{report_data}
+use Rattle.mon_watch.specs.Requests.{answer_text, is_watch, request_of}
+use Rattle.mon_watch.specs.Traffic.{notes_got}
+
+-- nothing came in place of a datagram of the watch
+abbrev pub passed : Got → Got
+passed (Datagram from bytes) = if is_watch bytes then Idle else Datagram from bytes
+passed Idle = Idle
+passed Closed = Closed
+
+-- ---- who asked
+
+abbrev pub asked_by : ℕ → Result ℕ MapRefused → Option Asker
+asked_by c (Ok id) = Some (record { client = c; id = id })
+asked_by c (Err e) = None
+
+-- the client that asked, and the number of its request
+abbrev pub asker : Got → Option Asker
+asker (Datagram (Client c) bytes) = asked_by c (request_of bytes)
+asker (Datagram (Monitor j) bytes) = None
+asker Idle = None
+asker Closed = None
+
+-- what the call of `next` answers after a send: one that failed is lost, and no memory is an error
+abbrev pub after_send : Result (Unit {0}) Stop → Result (Unit {0}) Stop
+after_send (Ok x) = Ok tt
+after_send (Err Failed) = Ok tt
+after_send (Err OutOfMemory) = Err OutOfMemory
+
+-- what the monitor answers: what is noted, and what was counted of its disks
+unfoldable pub answer : Member → Notes → (id : ℕ) → (a b : DiskTimes) → List ℕ
+answer m n id a b = answer_text id (compact_text (report_data (record { member = m; notes = n; a = a; b = b })))
+
+-- a link was asked for nothing but to send this to a client
+abbrev pub SendsTo : (client : ℕ) → List ℕ → (went : Result (Unit {0}) Stop) → (old new : LinkState) → Type 0
+SendsTo client bytes went old new =
+    (answered : Result (Unit {0}) Stop) × CallsSend (Client client) bytes answered old new × (went ≡ after_send answered)
+
+-- A link was asked for nothing but to send the answer to who asked.
+abbrev pub SendsAnswer : Option Asker → Member → Notes → (went : Result (Unit {0}) Stop) → (old new : LinkState) → Type 0
+SendsAnswer None m n went old new = (went ≡ Ok tt) × (new ≡ old)
+SendsAnswer (Some asker) m n went old new =
+    (a : DiskTimes) × (b : DiskTimes) × SendsTo asker.client (answer m n asker.id a b) went old new
+
+-- ---- a call of `next`
+
+-- what came is handed on, unless there was no memory for the answer
+abbrev pub handed : Got → Result (Unit {0}) Stop → Result Got Stop
+handed got (Ok x) = Ok (passed got)
+handed got (Err e) = Err e
+
+-- The link below gave this. The clock is read once, it is noted, and an answer goes to who asked.
+pub record Answers (m : Member) (clock : Option Readings) (got : Got) (result : Result Got Stop) (before after : Notes)
+    (old new : LinkState) : Type 0 where
+  pub now : ℕ
+  pub shows : IfSome clock (λ r. now ≡ reading r)
+  pub notes : after ≡ notes_got now (passed got) before
+  pub went : Result (Unit {0}) Stop
+  pub sends : SendsAnswer (asker got) m after went old new
+      ⊎ (IsSome (asker got) × (went ≡ Err OutOfMemory) × (new ≡ old))
+  pub hands : result ≡ handed got went
+
+-- What it gave ended the call, or was passed on after answering.
+abbrev pub Passes : (m : Member) → Option Readings → Result Got Stop → Result Got Stop → (before after : Notes) → LinkState → LinkState → Type 0
+Passes m clock (Err e) result before after old new = (result ≡ Err e) × (after ≡ before) × (new ≡ old)
+Passes m clock (Ok got) result before after old new = Answers m clock got result before after old new
+
+-- The link below was asked once, for as long, and then only to send an answer.
+pub record AsksOnce (m : Member) (clock : Option Readings) (wait : ℕ) (result : Result Got Stop) (before after : Notes)
+    (old new : LinkState) : Type 0 where
+  pub gave : Result Got Stop
+  pub between : LinkState
+  pub asks : CallsNext wait gave old between
+  pub passes : Passes m clock gave result before after between new
+  pub faults : new.faults ≡ count_after result old.faults

@@ -1,0 +1,7 @@
+pub mod Answering
+pub mod Rations
+pub mod Reports
+pub mod Requests
+pub mod Seen
+pub mod Times
+pub mod Traffic

@@ -1,0 +1,120 @@
+//! Lines in one form, at most twenty in ten seconds.
+
+use crate::lines::Tell;
+use crate::ration::Ration;
+use mon_link::Clock;
+use std::alloc::{AllocError, Global};
+use std::cell::RefCell;
+use std::fmt::Write;
+use std::rc::Rc;
+
+/// Writes lines in one form: the milliseconds since the start, ` ms: `, and what is told.
+#[derive(Drop)]
+pub struct Journal<W: Tell + Drop, C: Clock + Drop> {
+    out: W,
+    clock: C,
+    ration: Ration,
+    alloc: Global,
+}
+
+fn dated(alloc: Global, now: u64, line: &str) -> Result<String, AllocError> {
+    let mut text = String::new(alloc);
+    write!(text, "{now} ms: {line}")?;
+    Ok(text)
+}
+
+fn left_out_line(alloc: Global, count: u64) -> Result<String, AllocError> {
+    let mut text = String::new(alloc);
+    write!(text, "{count} lines were left out")?;
+    Ok(text)
+}
+
+impl<W: Tell + Drop, C: Clock + Drop> Journal<W, C> {
+    /// Nothing was told yet.
+    pub fn new(out: W, clock: C, alloc: Global) -> Journal<W, C> {
+        Journal {
+            out,
+            clock,
+            ration: Ration::from_now(0),
+            alloc,
+        }
+    }
+
+    /// Writes a line. If there is no memory for it, it is left out.
+    fn writes(&mut self, now: u64, line: &str) {
+        if let Ok(text) = dated(self.alloc, now, line) {
+            self.out.tell(text.as_str());
+        }
+    }
+
+    /// Says how many lines were left out, if the interval is over.
+    fn renews(&mut self, now: u64) {
+        let left_out = self.ration.renews(now);
+        if left_out > 0
+            && let Ok(line) = left_out_line(self.alloc, left_out)
+        {
+            self.writes(now, line.as_str());
+        }
+    }
+
+    fn tells(&mut self, line: &str) {
+        let now = self.clock.now().get();
+        self.renews(now);
+        if self.ration.counts() {
+            self.writes(now, line);
+        }
+    }
+
+    fn rests(&mut self) {
+        let now = self.clock.now().get();
+        self.renews(now);
+    }
+}
+
+/// A journal that several share; or none, where no line is wanted.
+#[derive(Drop)]
+pub struct Shared<W: Tell + Drop, C: Clock + Drop> {
+    journal: Option<Rc<RefCell<Journal<W, C>>>>,
+}
+
+impl<W: Tell + Drop, C: Clock + Drop> Shared<W, C> {
+    /// One that writes to this journal.
+    pub fn new(alloc: Global, journal: Journal<W, C>) -> Result<Shared<W, C>, AllocError> {
+        Ok(Shared {
+            journal: Some(Rc::new(alloc, RefCell::new(journal))?),
+        })
+    }
+
+    /// One that writes nothing.
+    pub fn silent() -> Shared<W, C> {
+        Shared { journal: None }
+    }
+
+    /// One that writes to the same journal.
+    pub fn share(&self) -> Result<Shared<W, C>, AllocError> {
+        match &self.journal {
+            Some(journal) => Ok(Shared {
+                journal: Some(journal.clone()?),
+            }),
+            None => Ok(Shared::silent()),
+        }
+    }
+}
+
+impl<W: Tell + Drop, C: Clock + Drop> Tell for Shared<W, C> {
+    fn tell(&mut self, line: &str) {
+        if let Some(journal) = &self.journal
+            && let Ok(mut journal) = journal.try_borrow_mut()
+        {
+            journal.tells(line);
+        }
+    }
+
+    fn rest(&mut self) {
+        if let Some(journal) = &self.journal
+            && let Ok(mut journal) = journal.try_borrow_mut()
+        {
+            journal.rests();
+        }
+    }
+}

@@ -1,0 +1,215 @@
+//! The lines about what the notes show.
+
+ghost use Rattle.std.specs.Prelude.{◌≡◌, ◌≤◌};
+
+use crate::notes::Notes;
+use crate::seen::Seen;
+use crate::times::DiskTimes;
+use crate::watched::Watch;
+use mon_types::Rank;
+use mon_wire::Phase;
+use std::alloc::{AllocError, Global};
+use std::fmt::Write;
+
+/// How often it is looked whether a monitor is silent, in milliseconds.
+const LOOK: u64 = 1000;
+
+/// What lines are told to.
+pub trait Tell {
+    /// Tells a line, which is given without its end.
+    fn tell(&mut self, line: &str);
+
+    /// Time passed.
+    fn rest(&mut self);
+}
+
+/// What a monitor is seen to do.
+#[derive(Clone, Copy, PartialEq, Eq)]
+enum Standing {
+    Unknown,
+    Probes,
+    Elects,
+    Copies(u8),
+    Leads(u64),
+    Follows(u8, u64),
+}
+
+impl Standing {
+    fn of(seen: &Seen) -> Standing {
+        match (seen.phase, seen.leader, seen.source) {
+            (Phase::Probing, _, _) => Standing::Probes,
+            (Phase::Electing, _, _) => Standing::Elects,
+            (Phase::Synchronizing, _, Some(source)) => Standing::Copies(source),
+            (Phase::Collecting | Phase::Active, _, _) => Standing::Leads(seen.epoch),
+            (Phase::Peon, Some(leader), _) => Standing::Follows(leader, seen.epoch),
+            _ => Standing::Unknown,
+        }
+    }
+}
+
+/// What was told last.
+#[derive(Clone, Copy)]
+pub(crate) struct Told {
+    standing: Standing,
+    source: Option<u8>,
+    /// Since when each monitor is silent, of those about which a line says so.
+    silent: [Option<u64>; 15],
+    slow_a: u64,
+    slow_b: u64,
+    /// When it is next looked who is silent.
+    due: u64,
+}
+
+fn put_ranks(line: &mut String, bits: u64) -> Result<(), AllocError> {
+    let mut first = true;
+    for rank in 0..15_u8 {
+        if bits >> rank & 1 == 1 {
+            if !first {
+                line.push_str(",")?;
+            }
+            write!(line, "{rank}")?;
+            first = false;
+        }
+    }
+    Ok(())
+}
+
+fn put_quorum(line: &mut String, bits: u64) -> Result<(), AllocError> {
+    if bits != 0 {
+        line.push_str(" with ")?;
+        put_ranks(line, bits)?;
+    }
+    Ok(())
+}
+
+fn standing_line(alloc: Global, standing: Standing, quorum: u64) -> Result<String, AllocError> {
+    let mut line = String::new(alloc);
+    match standing {
+        Standing::Unknown => {}
+        Standing::Probes => line.push_str("asks the other monitors how far they are")?,
+        Standing::Elects => line.push_str("takes part in an election")?,
+        Standing::Copies(source) => write!(line, "copies the store of monitor {source}")?,
+        Standing::Leads(epoch) => {
+            write!(line, "leads epoch {epoch}")?;
+            put_quorum(&mut line, quorum)?;
+        }
+        Standing::Follows(leader, epoch) => {
+            write!(line, "follows monitor {leader} in epoch {epoch}")?;
+            put_quorum(&mut line, quorum)?;
+        }
+    }
+    Ok(line)
+}
+
+fn slow_line(alloc: Global, disk: &str, time: u64) -> Result<String, AllocError> {
+    let mut line = String::new(alloc);
+    write!(line, "a sync of disk {disk} took {time} ms")?;
+    Ok(line)
+}
+
+fn silent_line(alloc: Global, rank: u8) -> Result<String, AllocError> {
+    let mut line = String::new(alloc);
+    write!(line, "monitor {rank} is silent")?;
+    Ok(line)
+}
+
+fn heard_line(alloc: Global, rank: u8, time: u64) -> Result<String, AllocError> {
+    let mut line = String::new(alloc);
+    write!(line, "monitor {rank} answers again after {time} ms")?;
+    Ok(line)
+}
+
+/// Tells a line, if there was memory for it.
+fn tell_if<S: Tell>(lines: &mut S, line: Result<String, AllocError>) {
+    if let Ok(line) = line {
+        lines.tell(line.as_str());
+    }
+}
+
+impl Told {
+    /// Nothing was told yet.
+    pub(crate) fn new() -> Told {
+        Told {
+            standing: Standing::Unknown,
+            source: None,
+            silent: [None; 15],
+            slow_a: 0,
+            slow_b: 0,
+            due: 0,
+        }
+    }
+
+    /// Tells what the monitor does, if that changed.
+    pub(crate) fn changes<S: Tell + Drop>(&mut self, watch: &mut Watch<S>, notes: &Notes)
+        ensures { watch.new.member ≡ watch.old.member }
+    {
+        let seen = &notes.seen;
+        if self.source.is_some() && seen.source.is_none() {
+            watch.lines.tell("is whole again");
+        }
+        self.source = seen.source;
+        let standing = Standing::of(seen);
+        if standing != self.standing {
+            self.standing = standing;
+            tell_if(
+                &mut watch.lines,
+                standing_line(watch.alloc, standing, seen.quorum()),
+            );
+        }
+    }
+
+    /// Tells of a monitor that became silent, or was heard again.
+    fn looks_at<S: Tell>(&mut self, alloc: Global, lines: &mut S, rank: Rank, notes: &Notes) {
+        let place = usize::from(rank.get());
+        let contact = notes.seen.contacts[place];
+        match self.silent[place] {
+            None => {
+                if contact.is_silent(notes.now) {
+                    self.silent[place] = contact.asked;
+                    tell_if(lines, silent_line(alloc, rank.get()));
+                }
+            }
+            Some(since) => {
+                if !contact.is_silent(notes.now) {
+                    self.silent[place] = None;
+                    let time = notes.now.saturating_sub(since);
+                    tell_if(lines, heard_line(alloc, rank.get(), time));
+                }
+            }
+        }
+    }
+
+    /// Tells of slow syncs.
+    fn looks_at_disks<S: Tell>(
+        &mut self,
+        alloc: Global,
+        lines: &mut S,
+        a: DiskTimes,
+        b: DiskTimes,
+    ) {
+        if a.slow != self.slow_a {
+            self.slow_a = a.slow;
+            tell_if(lines, slow_line(alloc, "a", a.last_slow));
+        }
+        if b.slow != self.slow_b {
+            self.slow_b = b.slow;
+            tell_if(lines, slow_line(alloc, "b", b.last_slow));
+        }
+    }
+
+    /// Tells what changed with time, once a second.
+    pub(crate) fn passes<S: Tell + Drop>(&mut self, watch: &mut Watch<S>, notes: &Notes)
+        ensures { watch.new.member ≡ watch.old.member }
+    {
+        if notes.now < self.due {
+            return;
+        }
+        self.due = notes.now.saturating_add(LOOK);
+        let alloc = watch.alloc;
+        self.looks_at_disks(alloc, &mut watch.lines, watch.a.get(), watch.b.get());
+        for rank in 0..watch.member.monitors {
+            self.looks_at(alloc, &mut watch.lines, Rank::known(rank), notes);
+        }
+        watch.lines.rest();
+    }
+}

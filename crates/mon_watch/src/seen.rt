@@ -1,0 +1,304 @@
+//! What is known of a monitor from the headers of its messages.
+
+ghost use Rattle.std.specs.Prelude.{◌≡◌, slice_index_or};
+ghost use Rattle.mon_watch.specs.Seen.{after_came, after_header, after_sent, after_told, awaits, contact_after, heard_at, elections_after, later_of, leader_after, led_by, named, no_contact, nothing_seen, phase_after, quorum_of, shown, source_after, taken_from, victory_after, with_contact};
+
+use crate::contact::Contact;
+use mon_decode::Header;
+use mon_link::Peer;
+use mon_types::Rank;
+use mon_wire::{Kind, Phase};
+
+/// A victory that a monitor announced: its rank, the epoch, and the quorum with bit r for rank r.
+#[derive(Clone, Copy)]
+pub struct Victory {
+    pub leader: u8,
+    pub epoch: u64,
+    pub quorum: u64,
+}
+
+/// What is known of a monitor.
+#[derive(Clone, Copy)]
+pub struct Seen {
+    /// The phase that the kinds of its messages show.
+    pub phase: Phase,
+    /// The epoch of its last message to a monitor.
+    pub epoch: u64,
+    /// The rank that leads its quorum.
+    pub leader: Option<u8>,
+    /// The rank from which it takes a store, until it is in a quorum.
+    pub source: Option<u8>,
+    /// The victory of the latest epoch.
+    pub victory: Option<Victory>,
+    /// The last version that it named.
+    pub version: u64,
+    /// How many elections began.
+    pub elections: u64,
+    /// Each monitor, by rank.
+    pub contacts: [Contact; 15],
+}
+
+/// The phase of a monitor that sends such a message to another one.
+fn shown(kind: Kind) -> Option<Phase>
+    ensures { result ≡ shown kind }
+{
+    match kind {
+        Kind::Probe => Some(Phase::Probing),
+        Kind::Propose | Kind::Ack => Some(Phase::Electing),
+        Kind::Victory | Kind::Collect => Some(Phase::Collecting),
+        Kind::Lease => Some(Phase::Active),
+        Kind::Last | Kind::Accept | Kind::LeaseAck => Some(Phase::Peon),
+        Kind::GetCookieFull | Kind::GetCookieRecent => Some(Phase::Synchronizing),
+        _ => None,
+    }
+}
+
+fn phase_after(shown: Option<Phase>, old: Phase) -> Phase
+    ensures { result ≡ phase_after shown old }
+{
+    match shown {
+        Some(phase) => phase,
+        None => old,
+    }
+}
+
+fn led_by(own: u8, to: u8, phase: Phase) -> Option<u8>
+    ensures { result ≡ led_by own to phase }
+{
+    match phase {
+        Phase::Collecting | Phase::Active => Some(own),
+        Phase::Peon => Some(to),
+        _ => None,
+    }
+}
+
+fn leader_after(own: u8, to: u8, shown: Option<Phase>, old: Option<u8>) -> Option<u8>
+    ensures { result ≡ leader_after own to shown old }
+{
+    match shown {
+        Some(phase) => led_by(own, to, phase),
+        None => old,
+    }
+}
+
+fn taken_from(to: u8, phase: Phase, old: Option<u8>) -> Option<u8>
+    ensures { result ≡ taken_from to phase old }
+{
+    match phase {
+        Phase::Synchronizing => Some(to),
+        _ => { if phase.is_member() { None } else { old } }
+    }
+}
+
+fn source_after(to: u8, shown: Option<Phase>, old: Option<u8>) -> Option<u8>
+    ensures { result ≡ source_after to shown old }
+{
+    match shown {
+        Some(phase) => taken_from(to, phase, old),
+        None => old,
+    }
+}
+
+/// The sender's last version, if the message names it, and otherwise 0.
+fn named(kind: Kind, first: u64, second: u64) -> u64
+    ensures { result ≡ named kind first second }
+{
+    match kind {
+        Kind::Lease | Kind::LeaseAck => first,
+        Kind::Commit => second,
+        _ => 0,
+    }
+}
+
+fn later_of(victory: Victory, old: Option<Victory>) -> Option<Victory>
+    ensures { result ≡ later_of victory old }
+{
+    match old {
+        None => Some(victory),
+        Some(known) => {
+            if known.epoch <= victory.epoch {
+                Some(victory)
+            } else {
+                Some(known)
+            }
+        }
+    }
+}
+
+/// Whether a monitor that is well answers each message of this kind.
+fn awaits(kind: Kind) -> bool
+    ensures { result ≡ awaits kind }
+{
+    matches!(
+        kind,
+        Kind::Probe
+            | Kind::Collect
+            | Kind::Begin
+            | Kind::Lease
+            | Kind::Forward
+            | Kind::GetCookieFull
+            | Kind::GetCookieRecent
+            | Kind::GetChunk
+            | Kind::Ping
+    )
+}
+
+fn contact_after(now: u64, header: Option<Header>, contact: Contact) -> Contact
+    ensures { result ≡ contact_after now header contact }
+{
+    match header {
+        Some(header) => {
+            if awaits(header.kind) {
+                contact.asked_at(now)
+            } else {
+                contact
+            }
+        }
+        None => contact,
+    }
+}
+
+fn victory_after(
+    leader: u8,
+    kind: Kind,
+    epoch: u64,
+    quorum: u64,
+    old: Option<Victory>,
+) -> Option<Victory>
+    ensures { result ≡ victory_after leader kind epoch quorum old }
+{
+    match kind {
+        Kind::Victory => later_of(
+            Victory {
+                leader,
+                epoch,
+                quorum,
+            },
+            old,
+        ),
+        _ => old,
+    }
+}
+
+impl Seen {
+    /// Nothing is known yet.
+    pub fn new() -> Seen
+        ensures { result ≡ nothing_seen }
+    {
+        Seen {
+            phase: Phase::Booting,
+            epoch: 0,
+            leader: None,
+            source: None,
+            victory: None,
+            version: 0,
+            elections: 0,
+            contacts: [Contact::none(); 15],
+        }
+    }
+
+    /// The quorum, with bit r for rank r: 0 if it isn't known.
+    pub fn quorum(&self) -> u64
+        ensures { result ≡ quorum_of self.now.leader self.now.epoch self.now.victory }
+    {
+        match (self.leader, self.victory) {
+            (Some(leader), Some(victory)) => {
+                if victory.leader == leader && victory.epoch == self.epoch {
+                    victory.quorum
+                } else {
+                    0
+                }
+            }
+            _ => 0,
+        }
+    }
+
+    fn elections_after(&self, epoch: u64, shown: Option<Phase>) -> u64
+        ensures { result ≡ elections_after epoch shown self.now }
+    {
+        match shown {
+            Some(Phase::Electing) => {
+                if self.phase == Phase::Electing && epoch <= self.epoch {
+                    self.elections
+                } else {
+                    self.elections.saturating_add(1)
+                }
+            }
+            _ => self.elections,
+        }
+    }
+
+    /// The monitor of rank `own` sends a message of this header.
+    fn says(&mut self, own: u8, to: u8, header: Option<Header>)
+        ensures { self.new ≡ after_header own to header self.old }
+    {
+        let Some(header) = header else {
+            return;
+        };
+        let shown = shown(header.kind);
+        self.elections = self.elections_after(header.epoch, shown);
+        self.phase = phase_after(shown, self.phase);
+        self.epoch = header.epoch;
+        self.leader = leader_after(own, to, shown, self.leader);
+        self.source = source_after(to, shown, self.source);
+        self.victory = victory_after(own, header.kind, header.epoch, header.first, self.victory);
+        self.version = self
+            .version
+            .max(named(header.kind, header.first, header.second));
+    }
+
+    /// The monitor of rank `from` sent a message of this header.
+    fn told(&mut self, from: u8, header: Option<Header>)
+        ensures { self.new ≡ after_told from header self.old }
+    {
+        if let Some(header) = header {
+            self.victory = victory_after(
+                from,
+                header.kind,
+                header.epoch,
+                header.first,
+                self.victory,
+            );
+        }
+    }
+
+    fn asks(&mut self, to: Rank, header: Option<Header>, now: u64)
+        ensures { self.new ≡ with_contact to (contact_after now header (slice_index_or self.old.contacts to no_contact)) self.old }
+    {
+        let place = usize::from(to.get());
+        let asked = contact_after(now, header, self.contacts[place]);
+        self.contacts[place] = asked;
+    }
+
+    fn hears(&mut self, from: Rank, now: u64)
+        ensures { self.new ≡ with_contact from (heard_at now) self.old }
+    {
+        self.contacts[usize::from(from.get())] = Contact::heard_at(now);
+    }
+
+    /// The monitor of rank `own` sends a datagram of this header.
+    pub(crate) fn sends(&mut self, own: Rank, to: Peer, header: Option<Header>, now: u64)
+        ensures { self.new ≡ after_sent own now to header self.old }
+    {
+        match to {
+            Peer::Monitor(rank) => {
+                self.says(own.get(), rank.get(), header);
+                self.asks(rank, header, now);
+            }
+            Peer::Client(_) => {}
+        }
+    }
+
+    /// A datagram of this header came.
+    pub(crate) fn gets(&mut self, from: Peer, header: Option<Header>, now: u64)
+        ensures { self.new ≡ after_came now from header self.old }
+    {
+        match from {
+            Peer::Monitor(rank) => {
+                self.told(rank.get(), header);
+                self.hears(rank, now);
+            }
+            Peer::Client(_) => {}
+        }
+    }
+}

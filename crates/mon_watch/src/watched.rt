@@ -1,0 +1,209 @@
+//! A link that watches its monitor.
+
+ghost use Rattle.std.specs.Prelude.{◌≡◌, ◌⊎◌, Some, Err, IfErr, IfOk, IsSome};
+ghost use Rattle.mon_link.specs.Links.{CallsSend, count_after};
+ghost use Rattle.mon_types.specs.declared.names.Stop.TheVariants.{OutOfMemory as no_memory};
+ghost use Rattle.mon_watch.specs.Answering.{AsksOnce, SendsAnswer, SendsTo, after_send, answer, asked_by, asker, passed};
+ghost use Rattle.mon_watch.specs.Requests.{request_of};
+ghost use Rattle.mon_watch.specs.Traffic.{no_notes, notes_got, notes_sent};
+
+use crate::lines::{Tell, Told};
+use crate::notes::Notes;
+use crate::report::{Report, report_text};
+use crate::request::{Asker, answer_of, is_watch, read_status_request};
+use crate::times::DiskTimes;
+use mon_bytes::{Bytes, OutOfMemory};
+use mon_link::{Clock, Got, Link, Peer};
+use mon_types::{Member, Stop};
+use std::alloc::Global;
+use std::cell::Cell;
+use std::rc::Rc;
+
+/// Who is watched, what is counted of its disks, and where lines about it go.
+#[derive(Drop)]
+pub struct Watch<S: Tell + Drop> {
+    pub member: Member,
+    pub a: Rc<Cell<DiskTimes>>,
+    pub b: Rc<Cell<DiskTimes>>,
+    pub lines: S,
+    pub alloc: Global,
+}
+
+/// A link that changes nothing of what goes over it. It notes the headers of what its monitor sends and gets, tells lines
+/// about what they show, and answers clients that ask for it.
+#[derive(Drop)]
+pub struct Watched<L: Link + Drop, C: Clock + Drop, S: Tell + Drop> {
+    pub inner: L,
+    pub clock: C,
+    pub watch: Watch<S>,
+    pub notes: Notes,
+    pub losses: u64,
+    told: Told,
+}
+
+/// What is handed on of what came.
+fn passed(got: Got) -> Got
+    ensures { result ≡ passed got }
+{
+    match got {
+        Got::Datagram { from, bytes } => {
+            if is_watch(bytes.as_slice()) {
+                return Got::Idle;
+            }
+            Got::Datagram { from, bytes }
+        }
+        Got::Idle => Got::Idle,
+        Got::Closed => Got::Closed,
+    }
+}
+
+fn asked_by(client: u32, bytes: &[u8]) -> Option<Asker>
+    ensures { result ≡ asked_by client (request_of bytes.now) }
+{
+    match read_status_request(bytes) {
+        Ok(id) => Some(Asker { client, id }),
+        Err(_) => None,
+    }
+}
+
+/// The client that asked, and the number of its request.
+fn asker(got: &Got) -> Option<Asker>
+    ensures { result ≡ asker got.now }
+{
+    match got {
+        Got::Datagram { from, bytes } => match from {
+            Peer::Client(client) => asked_by(*client, bytes.as_slice()),
+            Peer::Monitor(_) => None,
+        },
+        Got::Idle | Got::Closed => None,
+    }
+}
+
+/// What is answered after a send: one that failed is lost.
+fn after_send(sent: Result<(), Stop>) -> Result<(), Stop>
+    ensures after { result ≡ after_send sent }
+    ensures memory { IfErr result (λ e. e ≡ no_memory) }
+{
+    match sent {
+        Ok(()) | Err(Stop::Failed) => Ok(()),
+        Err(Stop::OutOfMemory) => Err(Stop::OutOfMemory),
+    }
+}
+
+/// The datagram that answers the request of this number.
+#[tactic(auto, unfolding(crate::specs::Answering::answer))]
+fn answer_to(alloc: Global, id: u64, report: &Report) -> Result<Bytes, OutOfMemory>
+    ensures { IfOk result (λ bytes. bytes ≡ answer report.now.member report.now.notes id report.now.a report.now.b) }
+{
+    let text = report_text(alloc, report)?;
+    answer_of(alloc, id, text.as_bytes())
+}
+
+impl<L: Link + Drop, C: Clock + Drop, S: Tell + Drop> Watched<L, C, S> {
+    /// A link over this one, of which nothing is noted yet.
+    pub fn new(inner: L, clock: C, watch: Watch<S>) -> Watched<L, C, S>
+        ensures inner { result.inner ≡ inner }
+        ensures clock { result.clock ≡ clock }
+        ensures member { result.watch.member ≡ watch.member }
+        ensures notes { result.notes ≡ no_notes }
+        ensures losses { result.losses ≡ 0 }
+    {
+        Watched {
+            inner,
+            clock,
+            watch,
+            notes: Notes::new(),
+            losses: 0,
+            told: Told::new(),
+        }
+    }
+
+    /// Sends this to a client. What couldn't be sent is lost.
+    fn sends_to(&mut self, client: u32, bytes: &[u8]) -> Result<(), Stop>
+        ensures sends { SendsTo client bytes.now result (L.state self.old.inner) (L.state self.new.inner) }
+        ensures kept { (self.new.notes ≡ self.old.notes) × (self.new.watch.member ≡ self.old.watch.member) × (self.new.losses ≡ self.old.losses) }
+        ensures memory { IfErr result (λ e. e ≡ no_memory) }
+        ensures faults { (L.state self.new.inner).faults ≡ (L.state self.old.inner).faults }
+    {
+        after_send(self.inner.send(Peer::Client(client), bytes))
+    }
+
+    /// Sends the answer to who asked.
+    fn answers(&mut self, asker: Asker) -> Result<(), Stop>
+        ensures sends { SendsAnswer (Some asker) self.old.watch.member self.old.notes result (L.state self.old.inner) (L.state self.new.inner)
+            ⊎ ((result ≡ Err no_memory) × (L.state self.new.inner ≡ L.state self.old.inner)) }
+        ensures kept { (self.new.notes ≡ self.old.notes) × (self.new.watch.member ≡ self.old.watch.member) × (self.new.losses ≡ self.old.losses) }
+        ensures memory { IfErr result (λ e. e ≡ no_memory) }
+        ensures faults { (L.state self.new.inner).faults ≡ (L.state self.old.inner).faults }
+    {
+        let report = Report {
+            member: self.watch.member,
+            notes: self.notes,
+            a: self.watch.a.get(),
+            b: self.watch.b.get(),
+        };
+        let alloc = self.watch.alloc;
+        let Ok(datagram) = answer_to(alloc, asker.id, &report) else {
+            return Err(Stop::OutOfMemory);
+        };
+        self.sends_to(asker.client, datagram.as_slice())
+    }
+
+    /// Sends the answer, if somebody asked.
+    fn answers_if(&mut self, asker: Option<Asker>) -> Result<(), Stop>
+        ensures sends { SendsAnswer asker self.old.watch.member self.old.notes result (L.state self.old.inner) (L.state self.new.inner)
+            ⊎ (IsSome asker × (result ≡ Err no_memory) × (L.state self.new.inner ≡ L.state self.old.inner)) }
+        ensures kept { (self.new.notes ≡ self.old.notes) × (self.new.watch.member ≡ self.old.watch.member) × (self.new.losses ≡ self.old.losses) }
+        ensures memory { IfErr result (λ e. e ≡ no_memory) }
+        ensures faults { (L.state self.new.inner).faults ≡ (L.state self.old.inner).faults }
+    {
+        match asker {
+            Some(asker) => self.answers(asker),
+            None => Ok(()),
+        }
+    }
+}
+
+impl<L: Link + Drop, C: Clock + Drop, S: Tell + Drop> Link for Watched<L, C, S> {
+    ghost use Rattle.std.specs.Prelude.{None};
+
+    ghost state = { λ r. record { told = None; faults = (L.state r.inner).faults; losses = r.losses } };
+
+    /// Asks the link once for what comes, for as long. Then an answer may go.
+    fn next(&mut self, wait: u64) -> Result<Got, Stop>
+        ensures asks { AsksOnce self.old.watch.member (C.left self.old.clock) wait result self.old.notes self.new.notes
+            (L.state self.old.inner) (L.state self.new.inner) }
+        ensures member { self.new.watch.member ≡ self.old.watch.member }
+        ensures losses { self.new.losses ≡ self.old.losses }
+    {
+        let got = self.inner.next(wait)?;
+        let now = self.clock.now().get();
+        let asker = asker(&got);
+        let got = passed(got);
+        self.notes.gets(&got, now);
+        self.told.passes(&mut self.watch, &self.notes);
+        match self.answers_if(asker) {
+            Ok(()) => Ok(got),
+            Err(stop) => {
+                drop(got);
+                Err(stop)
+            }
+        }
+    }
+
+    /// Sends a datagram as it is.
+    fn send(&mut self, to: Peer, bytes: &[u8]) -> Result<(), Stop>
+        ensures sends { CallsSend to bytes.now result (L.state self.old.inner) (L.state self.new.inner) }
+        ensures notes { self.new.notes ≡ notes_sent self.old.watch.member.rank to bytes.now self.old.notes }
+        ensures member { self.new.watch.member ≡ self.old.watch.member }
+        ensures losses { self.new.losses ≡ count_after result self.old.losses }
+    {
+        self.notes.sends(self.watch.member.rank, &to, bytes);
+        let sent = self.inner.send(to, bytes);
+        self.told.changes(&mut self.watch, &self.notes);
+        if let Err(Stop::Failed) = sent {
+            self.losses = self.losses.saturating_add(1);
+        }
+        sent
+    }
+}
