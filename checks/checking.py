@@ -17,11 +17,11 @@ import traceback
 TOP = os.path.dirname(os.path.dirname(os.path.abspath(__file__)))
 EXAMPLES = os.path.join(TOP, 'examples')
 sys.path[:0] = [EXAMPLES, os.path.join(TOP, 'bench')]
-# The lines that `node` and `follow` write on standard error because of the machine or of other monitors, each in the form of its beginning.
-ROOM = rb'link: room for \d+ bytes, less than a long message takes: raise net\.core\.rmem_max\n'
-PEER = rb'monitor \d+ [^\n]*\n'
-STOOD = rb'the machine stood still for more than \d+ s: [^\n]*\n'
-ASIDE = re.compile(b'^(?:' + b'|'.join([ROOM, PEER, STOOD]) + b')', re.MULTILINE)
+# The lines that `node` and `follow` write on standard error because of the machine or of other monitors, each in the form of its beginning. Those of a
+# `node` have the milliseconds since its start.
+ROOM = rb'(?:\d+ ms: )?link: room for \d+ bytes, less than a long message takes: raise net\.core\.rmem_max\n'
+SEEN = rb'\d+ ms: [^\n]*\n'
+ASIDE = re.compile(b'^(?:' + b'|'.join([ROOM, SEEN]) + b')', re.MULTILINE)
 
 
 class Failed(Exception):

@@ -38,7 +38,8 @@ def is_free(port: int) -> bool:
 
 
 class Quorum:
-    """Monitors that are started and killed by their ranks. At its end all are killed, also where a signal ends the script."""
+    """Monitors that are started and killed by their ranks, without lines of theirs unless CEPHMON_LOG has another value. At its end all are killed, also
+    where a signal ends the script."""
 
     def __init__(self, program: str, folder: str, monitors: int = 3, rule: str = 'classic'):
         self.program, self.folder, self.rule = program, folder, rule
@@ -65,7 +66,7 @@ class Quorum:
         return [self.program, 'node', str(rank), str(len(self.addresses)), self.rule, addresses, *self.files(rank), turns]
 
     def start(self, rank: int):
-        self.running[rank] = subprocess.Popen(self.words(rank), stdin=subprocess.DEVNULL)
+        self.running[rank] = subprocess.Popen(self.words(rank), stdin=subprocess.DEVNULL, env={'CEPHMON_LOG': 'off', **os.environ})
 
     def start_all(self):
         for rank in self.ranks():

@@ -1,17 +1,22 @@
 //! The devices of the system that arguments name.
 
 use crate::naming::{FIRST_MOST, MonitorLink, greeting, lives, new_life};
+use crate::watching::{Times, lines_of, share, watch};
 use cephmon_run::Status;
 use election_rules::Rule;
 use mon_bytes::{Items, Text};
 use mon_disk::{FileDisk, NodeDisks};
-use mon_link::{Address, UdpLink};
+use mon_link::{Address, RunClock, UdpLink};
 use mon_types::{Member, Rank};
+use mon_watch::Timed;
 use std::alloc::Global;
 use task_words::{Task, WordsStop, read_words};
 
+/// A disk in a file, whose calls are counted.
+pub type CountedDisk = Timed<FileDisk<HostRuntime>, RunClock<HostRuntime>>;
+
 /// The disks in two files.
-pub type FileDisks = NodeDisks<FileDisk<HostRuntime>>;
+pub type FileDisks = NodeDisks<CountedDisk>;
 
 /// A link to monitors.
 #[derive(Drop)]
@@ -46,35 +51,43 @@ pub fn peers(alloc: Global, addresses: &Items<Address>) -> Result<Vec<Address>, 
     }
 }
 
+/// The disks in two files, whose calls are counted for these times.
+fn counted_disks(rt: &HostRuntime, a: String, b: String, times: Times) -> FileDisks {
+    NodeDisks {
+        a: Timed::new(FileDisk::named(rt, a), RunClock::new(rt), times.a),
+        b: Timed::new(FileDisk::named(rt, b), RunClock::new(rt), times.b),
+    }
+}
+
 /// The disks in these two files.
 fn disks_in(rt: &HostRuntime, disk_a: &Text, disk_b: &Text) -> Result<FileDisks, Status> {
     let a = path(rt.alloc(), disk_a)?;
     let b = path(rt.alloc(), disk_b)?;
-    Ok(NodeDisks {
-        a: FileDisk::named(rt, a),
-        b: FileDisk::named(rt, b),
-    })
+    let times = Times::new(rt)?;
+    Ok(counted_disks(rt, a, b, times))
 }
 
 /// Disks that nothing calls.
-fn no_disks(rt: &HostRuntime) -> FileDisks {
-    NodeDisks {
-        a: FileDisk::named(rt, String::new(rt.alloc())),
-        b: FileDisk::named(rt, String::new(rt.alloc())),
-    }
+fn no_disks(rt: &HostRuntime) -> Result<FileDisks, Status> {
+    let times = Times::new(rt)?;
+    let (a, b) = (String::new(rt.alloc()), String::new(rt.alloc()));
+    Ok(counted_disks(rt, a, b, times))
 }
 
-/// The link of a monitor to those at these addresses.
+/// The link of a monitor to those at these addresses, which answers with these times.
 // The number of the process comes first: where a call can fail, nothing larger than it is to be dropped.
 fn monitor_channel(
     rt: &HostRuntime,
     member: Member,
     rule: Rule,
     addresses: &Items<Address>,
+    times: Times,
 ) -> Result<Channel, Status> {
     let life = new_life(rt)?;
-    let link = greeting(rt, member, rule, addresses)?;
-    Ok(Channel::Monitor(lives(rt, link, life, FIRST_MOST)))
+    let lines = lines_of(rt)?;
+    let watch = watch(rt, member, times, share(&lines)?);
+    let link = greeting(rt, member, rule, addresses, lines)?;
+    Ok(Channel::Monitor(lives(rt, link, life, FIRST_MOST, watch)))
 }
 
 fn client_channel(rt: &HostRuntime, addresses: Vec<Address>) -> Channel {
@@ -86,7 +99,7 @@ fn no_channel(rt: &HostRuntime) -> Channel {
 }
 
 /// The devices of a monitor whose store is in two files.
-// The disks come first: where a call can fail, nothing larger than they are is to be dropped.
+// Paths and times come first: where a call can fail, nothing larger than they are is to be dropped.
 fn monitor_devices(
     rt: &HostRuntime,
     member: Member,
@@ -95,16 +108,20 @@ fn monitor_devices(
     disk_a: &Text,
     disk_b: &Text,
 ) -> Result<Devices, Status> {
-    let disks = disks_in(rt, disk_a, disk_b)?;
-    let channel = monitor_channel(rt, member, rule, addresses)?;
+    let a = path(rt.alloc(), disk_a)?;
+    let b = path(rt.alloc(), disk_b)?;
+    let times = Times::new(rt)?;
+    let channel = monitor_channel(rt, member, rule, addresses, times.share()?)?;
+    let disks = counted_disks(rt, a, b, times);
     Ok(Devices { disks, channel })
 }
 
 /// The devices of a client.
 fn client_devices(rt: &HostRuntime, addresses: &Items<Address>) -> Result<Devices, Status> {
+    let disks = no_disks(rt)?;
     let addresses = peers(rt.alloc(), addresses)?;
     Ok(Devices {
-        disks: no_disks(rt),
+        disks,
         channel: client_channel(rt, addresses),
     })
 }
@@ -119,11 +136,12 @@ fn store_devices(rt: &HostRuntime, disk_a: &Text, disk_b: &Text) -> Result<Devic
 }
 
 /// Devices that nothing calls.
-fn no_devices(rt: &HostRuntime) -> Devices {
-    Devices {
-        disks: no_disks(rt),
+fn no_devices(rt: &HostRuntime) -> Result<Devices, Status> {
+    let disks = no_disks(rt)?;
+    Ok(Devices {
+        disks,
         channel: no_channel(rt),
-    }
+    })
 }
 
 /// The devices that a task names; or that memory ran out.
@@ -143,7 +161,7 @@ fn devices_for(rt: &HostRuntime, task: &Task) -> Result<Devices, Status> {
         Task::DumpPaxos { disk_a, disk_b, .. } => store_devices(rt, disk_a, disk_b),
         Task::StoreExport { disk_a, disk_b, .. } => store_devices(rt, disk_a, disk_b),
         Task::StoreImport { disk_a, disk_b, .. } => store_devices(rt, disk_a, disk_b),
-        Task::Replay | Task::Made { .. } | Task::ScrubCompare => Ok(no_devices(rt)),
+        Task::Replay | Task::Made { .. } | Task::ScrubCompare => no_devices(rt),
     }
 }
 
@@ -155,7 +173,7 @@ pub fn devices_of(rt: &HostRuntime, words: &[String]) -> Result<Devices, Status>
             drop(task);
             devices
         }
-        Err(WordsStop::Refused) => Ok(no_devices(rt)),
+        Err(WordsStop::Refused) => no_devices(rt),
         Err(WordsStop::OutOfMemory) => Err(Status::OutOfMemory),
     }
 }

@@ -3,14 +3,15 @@
 
 mod devices;
 mod naming;
+mod watching;
 mod words;
 
-use crate::devices::{Channel, Devices, FileDisks, devices_of};
-use crate::naming::{FIRST_MOST, MonitorLink, lives, new_life, socket_of, tell_stood};
+use crate::devices::{Channel, CountedDisk, Devices, FileDisks, devices_of};
+use crate::naming::{FIRST_MOST, MonitorLink, lives, new_life, socket_of, tell_room, tell_stood};
 use crate::words::words_of;
 use cephmon_run::{Ended, Status, run};
-use mon_disk::FileDisk;
 use mon_link::{Clock, Link, RunClock, StdinSource, StdoutSink, UdpLink};
+use mon_watch::Watched;
 use std::process::ExitCode;
 
 fn main(rt: HostRuntime) -> ExitCode {
@@ -48,20 +49,22 @@ fn run_as_monitor(
     disks: FileDisks,
     mut link: MonitorLink,
 ) -> Status {
-    tell_short_room(rt, socket_of(&mut link));
+    tell_room(&mut link);
     let mut most = FIRST_MOST;
     let mut ended = ended_over(rt, words, disks, &mut link);
     for _ in 0..u64::MAX {
-        if !link.inner.stood() {
+        if !link.inner.inner.stood() {
             break;
         }
-        most = tell_stood(rt, most, link.clock.now().get());
+        let lived = link.clock.now().get();
+        most = tell_stood(&mut link.watch.lines, rt.alloc(), most, lived);
         let Ok(life) = new_life(rt) else {
             ended.status = Status::LinkFault;
             break;
         };
         let Ended { disks, .. } = ended;
-        link = lives(rt, link.inner.inner.inner, life, most);
+        let Watched { inner, watch, .. } = link;
+        link = lives(rt, inner.inner.inner.inner, life, most, watch);
         ended = ended_over(rt, words, disks, &mut link);
     }
     tell_link_failure(rt, socket_of(&mut link));
@@ -102,7 +105,7 @@ fn ended_over<L: Link>(
     words: &[String],
     disks: FileDisks,
     link: &mut L,
-) -> Ended<FileDisk<HostRuntime>> {
+) -> Ended<CountedDisk> {
     let mut source = StdinSource::new(rt);
     let mut sink = StdoutSink::new(rt);
     let mut clock = RunClock::new(rt);
@@ -118,7 +121,7 @@ fn ended_over<L: Link>(
 }
 
 /// Says on standard error which disk failed. Returns how the program ends.
-fn status_of(rt: &HostRuntime, ended: Ended<FileDisk<HostRuntime>>) -> Status {
+fn status_of(rt: &HostRuntime, ended: Ended<CountedDisk>) -> Status {
     tell_disk_failures(rt, &ended.disks);
     let status = ended.status;
     drop(ended);
@@ -131,7 +134,7 @@ fn run_over<L: Link>(rt: &HostRuntime, words: &[String], disks: FileDisks, link:
     status_of(rt, ended)
 }
 
-/// Says on standard error, before a monitor serves or a client follows, that its socket may lose a part of a long message.
+/// Says on standard error, before a client follows, that its socket may lose a part of a long message.
 fn tell_short_room(rt: &HostRuntime, link: &mut UdpLink<HostRuntime>) {
     if let Some(room) = link.short_room() {
         let _ = eprintln!(rt;
@@ -142,10 +145,10 @@ fn tell_short_room(rt: &HostRuntime, link: &mut UdpLink<HostRuntime>) {
 
 /// Says on standard error what the system said to the first call of each disk that failed.
 fn tell_disk_failures(rt: &HostRuntime, disks: &FileDisks) {
-    if let Some(said) = disks.a.failure() {
+    if let Some(said) = disks.a.inner.failure() {
         let _ = eprintln!(rt; "disk a: {said}");
     }
-    if let Some(said) = disks.b.failure() {
+    if let Some(said) = disks.b.inner.failure() {
         let _ = eprintln!(rt; "disk b: {said}");
     }
 }

@@ -1,15 +1,19 @@
 //! The link of a monitor: it names its quorum, numbers its life, and is closed after its machine stood still.
 
 use crate::devices::peers;
+use crate::watching::Lines;
 use cephmon_run::Status;
 use election_rules::Rule;
 use mon_bytes::{Items, OutOfMemory};
-use mon_hello::{Greeting, Heard, MOST_QUORUM_NAME, Own, QuorumName, Say};
+use mon_hello::{Greeting, Heard, MOST_QUORUM_NAME, Own, QuorumName};
 use mon_link::{Address, Clock, RunClock, UdpLink};
 use mon_name::{Awake, BootClock, Life, Named, framed};
 use mon_resend::Resending;
 use mon_types::Member;
+use mon_watch::{Tell, Watch, Watched};
+use std::alloc::{AllocError, Global};
 use std::env::{Env, FillError};
+use std::fmt::Write;
 
 /// The environment variable with the name of a monitor's quorum.
 const QUORUM: &str = "CEPHMON_QUORUM";
@@ -20,22 +24,13 @@ pub const FIRST_MOST: u64 = 10_000;
 const LAST_MOST: u64 = 120_000;
 
 /// A socket whose monitors greet one another.
-pub type GreetingLink = Greeting<UdpLink<HostRuntime>, RunClock<HostRuntime>, StandardError>;
+pub type GreetingLink = Greeting<UdpLink<HostRuntime>, RunClock<HostRuntime>, Lines>;
+
+/// A link whose datagrams name the quorum, and go again if they seem lost.
+pub type NamedLink = Resending<Awake<Named<GreetingLink>, BootClock>, RunClock<HostRuntime>>;
 
 /// The link of a monitor.
-pub type MonitorLink = Resending<Awake<Named<GreetingLink>, BootClock>, RunClock<HostRuntime>>;
-
-/// Lines on standard error. One that can't be written is left out.
-#[derive(Clone, Copy)]
-pub struct StandardError {
-    rt: HostRuntime,
-}
-
-impl Say for StandardError {
-    fn say(&mut self, line: &str) {
-        let _ = eprintln!(self.rt; "{line}");
-    }
-}
+pub type MonitorLink = Watched<NamedLink, RunClock<HostRuntime>, Lines>;
 
 /// The name of the quorum in the environment; empty if there is none.
 fn quorum_name(rt: &HostRuntime) -> Result<QuorumName, Status> {
@@ -101,6 +96,7 @@ pub fn greeting(
     member: Member,
     rule: Rule,
     addresses: &Items<Address>,
+    lines: Lines,
 ) -> Result<GreetingLink, Status> {
     let (rank, monitors) = (member.rank, member.monitors);
     let own = own(rt, member, rule, addresses)?;
@@ -114,21 +110,27 @@ pub fn greeting(
         return Err(Status::OutOfMemory);
     };
     let socket = UdpLink::named(rt, rank, addresses);
-    let lines = StandardError { rt: *rt };
     Ok(Greeting::new(socket, RunClock::new(rt), lines, own, heard))
 }
 
-/// A life over a socket, which may stand still for at most this many milliseconds.
-pub fn lives(rt: &HostRuntime, link: GreetingLink, life: Life, most: u64) -> MonitorLink {
+/// A life over a socket, which may stand still for at most this many milliseconds, and is watched.
+pub fn lives(
+    rt: &HostRuntime,
+    link: GreetingLink,
+    life: Life,
+    most: u64,
+    watch: Watch<Lines>,
+) -> MonitorLink {
     let tag = link.own.tag;
     let named = Named::new(link, tag, life, rt.alloc());
     let awake = Awake::new(named, BootClock::new(), most);
-    Resending::new(rt.alloc(), awake, RunClock::new(rt))
+    let resending = Resending::new(rt.alloc(), awake, RunClock::new(rt));
+    Watched::new(resending, RunClock::new(rt), watch)
 }
 
 /// The socket of a link.
 pub fn socket_of(link: &mut MonitorLink) -> &mut UdpLink<HostRuntime> {
-    &mut link.inner.inner.inner.inner
+    &mut link.inner.inner.inner.inner.inner
 }
 
 /// How long a life that begins now may stand still, after one that stood still for more than `most` milliseconds when
@@ -141,12 +143,40 @@ fn next_most(most: u64, lived: u64) -> u64 {
     }
 }
 
-/// Says on standard error that a machine stood still. Returns how long the next life may.
-pub fn tell_stood(rt: &HostRuntime, most: u64, lived: u64) -> u64 {
-    let next = next_most(most, lived);
+fn stood_line(alloc: Global, most: u64, next: u64) -> Result<String, AllocError> {
     let (seconds, then) = (most / 1000, next / 1000);
-    let _ = eprintln!(rt;
+    let mut line = String::new(alloc);
+    write!(
+        line,
         "the machine stood still for more than {seconds} s: serving anew, with a bound of {then} s"
-    );
+    )?;
+    Ok(line)
+}
+
+/// Tells that the machine stood still. Returns how long the next life may.
+pub fn tell_stood(lines: &mut Lines, alloc: Global, most: u64, lived: u64) -> u64 {
+    let next = next_most(most, lived);
+    if let Ok(line) = stood_line(alloc, most, next) {
+        lines.tell(line.as_str());
+    }
     next
+}
+
+fn room_line(alloc: Global, room: u32) -> Result<String, AllocError> {
+    let mut line = String::new(alloc);
+    write!(
+        line,
+        "link: room for {room} bytes, less than a long message takes: raise net.core.rmem_max"
+    )?;
+    Ok(line)
+}
+
+/// Tells, before a monitor serves, that its socket may lose a part of a long message.
+pub fn tell_room(link: &mut MonitorLink) {
+    let room = socket_of(link).short_room();
+    if let Some(room) = room
+        && let Ok(line) = room_line(link.watch.alloc, room)
+    {
+        link.watch.lines.tell(line.as_str());
+    }
 }

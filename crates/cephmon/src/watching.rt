@@ -1,0 +1,147 @@
+//! What is counted of a monitor's disks, and the lines that it writes.
+
+use cephmon_run::Status;
+use libc::net::{POLLOUT, poll};
+use libc::types::pollfd;
+use mon_hello::Say;
+use mon_link::RunClock;
+use mon_types::Member;
+use mon_watch::{DiskTimes, Journal, Shared, Tell, Watch};
+use std::cell::Cell;
+use std::env::Env;
+use std::rc::Rc;
+
+/// The environment variable that silences a monitor's lines, and its value.
+const LOG: &str = "CEPHMON_LOG";
+
+const OFF: &[u8] = b"off";
+
+/// Lines on standard error. One that can't be written, or would have to wait for its reader, is left out.
+#[derive(Clone, Copy)]
+pub struct StandardError {
+    rt: HostRuntime,
+}
+
+/// Whether standard error takes a line at once.
+fn takes_at_once() -> bool {
+    let mut streams = [pollfd {
+        fd: 2,
+        events: POLLOUT,
+        revents: 0,
+    }];
+    let _ = poll(&mut streams, 0);
+    streams[0].revents & POLLOUT != 0
+}
+
+impl Tell for StandardError {
+    fn tell(&mut self, line: &str) {
+        if takes_at_once() {
+            let _ = eprintln!(self.rt; "{line}");
+        }
+    }
+
+    fn rest(&mut self) {}
+}
+
+/// The lines of a monitor, which several of its parts share.
+#[derive(Drop)]
+pub struct Lines {
+    shared: Shared<StandardError, RunClock<HostRuntime>>,
+}
+
+impl Tell for Lines {
+    fn tell(&mut self, line: &str) {
+        self.shared.tell(line);
+    }
+
+    fn rest(&mut self) {
+        self.shared.rest();
+    }
+}
+
+impl Say for Lines {
+    fn say(&mut self, line: &str) {
+        self.shared.tell(line);
+    }
+}
+
+/// Whether the environment silences the lines.
+fn is_off(rt: &HostRuntime) -> bool {
+    let mut bytes = [0; 8];
+    match rt.var(LOG, &mut bytes) {
+        Ok(count) => &bytes[..count] == OFF,
+        Err(_) => false,
+    }
+}
+
+/// The lines of a monitor that starts now.
+pub fn lines_of(rt: &HostRuntime) -> Result<Lines, Status> {
+    if is_off(rt) {
+        return Ok(Lines {
+            shared: Shared::silent(),
+        });
+    }
+    let journal = Journal::new(StandardError { rt: *rt }, RunClock::new(rt), rt.alloc());
+    match Shared::new(rt.alloc(), journal) {
+        Ok(shared) => Ok(Lines { shared }),
+        Err(_) => Err(Status::OutOfMemory),
+    }
+}
+
+/// The same lines once more.
+pub fn share(lines: &Lines) -> Result<Lines, Status> {
+    match lines.shared.share() {
+        Ok(shared) => Ok(Lines { shared }),
+        Err(_) => Err(Status::OutOfMemory),
+    }
+}
+
+/// What is counted of two disks, for whoever shares it.
+#[derive(Drop)]
+pub struct Times {
+    pub a: Rc<Cell<DiskTimes>>,
+    pub b: Rc<Cell<DiskTimes>>,
+}
+
+fn new_times(rt: &HostRuntime) -> Result<Rc<Cell<DiskTimes>>, Status> {
+    match Rc::new(rt.alloc(), Cell::new(DiskTimes::new())) {
+        Ok(times) => Ok(times),
+        Err(_) => Err(Status::OutOfMemory),
+    }
+}
+
+fn shared_times(times: &Rc<Cell<DiskTimes>>) -> Result<Rc<Cell<DiskTimes>>, Status> {
+    match times.clone() {
+        Ok(times) => Ok(times),
+        Err(_) => Err(Status::OutOfMemory),
+    }
+}
+
+impl Times {
+    /// Nothing was counted yet.
+    pub fn new(rt: &HostRuntime) -> Result<Times, Status> {
+        Ok(Times {
+            a: new_times(rt)?,
+            b: new_times(rt)?,
+        })
+    }
+
+    /// The same times once more.
+    pub fn share(&self) -> Result<Times, Status> {
+        Ok(Times {
+            a: shared_times(&self.a)?,
+            b: shared_times(&self.b)?,
+        })
+    }
+}
+
+/// What watches a monitor.
+pub fn watch(rt: &HostRuntime, member: Member, times: Times, lines: Lines) -> Watch<Lines> {
+    Watch {
+        member,
+        a: times.a,
+        b: times.b,
+        lines,
+        alloc: rt.alloc(),
+    }
+}
