@@ -2,17 +2,9 @@
 #![tactic(auto)]
 
 #[cfg(test)]
-mod again;
-#[cfg(test)]
-mod again_calls;
-#[cfg(test)]
-mod again_copies;
-#[cfg(test)]
 mod digits;
 #[cfg(test)]
 mod frag;
-#[cfg(test)]
-mod hellos;
 #[cfg(test)]
 mod links;
 #[cfg(test)]
