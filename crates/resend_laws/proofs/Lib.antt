@@ -1,0 +1,6 @@
+mod Walk
+mod Unchanged
+mod Each
+mod Answered
+mod Gone
+mod Older

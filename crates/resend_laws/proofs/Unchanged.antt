@@ -1,0 +1,76 @@
+-- What an event leaves of a note.
+use Rattle.std.specs.Prelude.{◌≡◌, ℕ, Bool, true, false, ◌&&◌, ◌==◌, refl}
+use Rattle.std.proofs.Common.{cond}
+use Rattle.mon_decode.specs.declared.header.Header.{Header}
+use Rattle.mon_decode.specs.Headers.{same_kind}
+use Rattle.mon_resend.specs.declared.note.Event.{Event}
+use Rattle.mon_resend.specs.declared.note.Event.TheVariants.{Sent, Came, Piece, Asked, Rose, Deferred, Left, Turn}
+use Rattle.mon_resend.specs.declared.note.Note.{Note}
+use Rattle.mon_resend.specs.declared.rows.Way.TheVariants as way
+use Rattle.mon_resend.specs.Notes.{after, called, plus}
+use Rattle.mon_resend.specs.Rows.{way_of, is_asked_as, is_asked_again}
+use Rattle.mon_wire.specs.declared.kind.Kind.{Kind}
+use Rattle.mon_wire.specs.declared.kind.Kind.TheVariants as kind
+
+-- ---- its header stays
+
+same_header : (x n : Note) (b : Bool) → x.header ≡ n.header → (cond b x n).header ≡ n.header
+same_header x n true e = e
+same_header x n false e = refl
+
+pub header_stays : (event : Event) (now : ℕ) (n : Note) → (after event now n).header ≡ n.header
+header_stays (Asked h) now n = same_header (called now n) n (is_asked_again n.header h) refl
+header_stays (Turn seq) now n = same_header (called now n) n (n.held && (n.header.first == seq)) refl
+header_stays (Piece is_last) now n = same_header (record n { due = plus now (cond is_last 20 n.every) }) n (same_kind n.header.kind kind.GetChunk) refl
+header_stays (Sent sent) now n = refl
+header_stays (Came h) now n = refl
+header_stays (Rose epoch) now n = refl
+header_stays Deferred now n = refl
+header_stays Left now n = refl
+
+-- ---- nothing changes one that goes by time, waits for none and is no GET_CHUNK
+
+not_asked : (k : Kind) (kept came : Header) → way_of k ≡ way.ByTime → is_asked_as k kept came ≡ false
+not_asked kind.Accept kept came e = absurd cc
+not_asked kind.Route kept came e = absurd cc
+not_asked kind.Chunk kept came e = absurd cc
+not_asked kind.LastChunk kept came e = absurd cc
+not_asked kind.Probe kept came e = refl
+not_asked kind.ProbeReply kept came e = refl
+not_asked kind.Propose kept came e = refl
+not_asked kind.Ack kept came e = refl
+not_asked kind.Victory kept came e = refl
+not_asked kind.Collect kept came e = refl
+not_asked kind.Last kept came e = refl
+not_asked kind.Begin kept came e = refl
+not_asked kind.Commit kept came e = refl
+not_asked kind.Lease kept came e = refl
+not_asked kind.LeaseAck kept came e = refl
+not_asked kind.Forward kept came e = refl
+not_asked kind.GetCookieFull kept came e = refl
+not_asked kind.GetCookieRecent kept came e = refl
+not_asked kind.Cookie kept came e = refl
+not_asked kind.GetChunk kept came e = refl
+not_asked kind.NoCookie kept came e = refl
+not_asked kind.Ping kept came e = refl
+not_asked kind.PingReply kept came e = refl
+not_asked kind.Request kept came e = refl
+not_asked kind.Reply kept came e = refl
+
+unless : (x n : Note) (b : Bool) → b ≡ false → cond b x n ≡ n
+unless x n true e = absurd cc
+unless x n false e = refl
+
+not_both : (a b : Bool) → a ≡ false → (a && b) ≡ false
+not_both true b e = absurd cc
+not_both false b e = refl
+
+pub unchanged : (event : Event) (now : ℕ) (n : Note) → way_of n.header.kind ≡ way.ByTime → same_kind n.header.kind kind.GetChunk ≡ false → n.held ≡ false → after event now n ≡ n
+unchanged (Asked h) now n w g e = unless (called now n) n (is_asked_again n.header h) (not_asked n.header.kind n.header h w)
+unchanged (Turn seq) now n w g e = unless (called now n) n (n.held && (n.header.first == seq)) (not_both n.held (n.header.first == seq) e)
+unchanged (Piece is_last) now n w g e = unless (record n { due = plus now (cond is_last 20 n.every) }) n (same_kind n.header.kind kind.GetChunk) g
+unchanged (Sent sent) now n w g e = refl
+unchanged (Came h) now n w g e = refl
+unchanged (Rose epoch) now n w g e = refl
+unchanged Deferred now n w g e = refl
+unchanged Left now n w g e = refl

@@ -1,0 +1,37 @@
+//! The laws, over every list of steps.
+
+ghost use Rattle.std.specs.Prelude.{◌≡◌, ℕ, ◌<◌, ◌≤◌, Bool, true, false, List, Some, ◌||◌};
+ghost use Rattle.mon_decode.specs.Headers.{same_kind};
+ghost use Rattle.mon_decode.specs.declared.header.Header.{Header};
+ghost use Rattle.mon_link.specs.declared.link.Outgoing.{Outgoing};
+ghost use Rattle.mon_resend.specs.declared.copies.Copies.{Copies};
+ghost use Rattle.mon_resend.specs.declared.datagram.Part.TheVariants.{Whole};
+ghost use Rattle.mon_resend.specs.Datagrams.{part_of};
+ghost use Rattle.mon_resend.specs.Rows.{is_answered};
+ghost use Rattle.mon_resend.specs.World.{arrived, asks, is_taken};
+ghost use Rattle.mon_wire.specs.declared.kind.Kind.TheVariants.{GetChunk};
+ghost use Rattle.resend_laws.specs.Copies.{EachAt, IsNotSent, IsOver, IsTried, IsUpTo, StaysOver};
+ghost use Rattle.resend_laws.specs.Runs.{IsInOrder, Step, rounds, run};
+
+/// Nothing that goes by time is kept for ever. Let a copy wait at most `wait` milliseconds, a second or more. It is kept no
+/// longer once copies could go 17 times, each at least `wait` after the one before, whatever else is sent and arrives.
+pub fn law_gone()
+    ensures { (c : Copies) (rank : ℕ) (x : Outgoing) (wait since : ℕ) (steps : List Step) → 1000 ≤ wait
+        → EachAt rank x (IsTried wait since) c → IsNotSent x steps → IsInOrder since steps
+        → 16 < rounds wait since steps → IsOver rank x (run steps c) }
+{}
+
+/// A message that was answered isn't sent again, whatever is sent and arrives later, until it is sent anew. The answer has to
+/// be handed up, and no BEGIN, FORWARD or GET_CHUNK: such a question may only repeat an earlier one.
+pub fn law_answered()
+    ensures { (c : Copies) (memory : Bool) (rank : ℕ) (bytes : List ℕ) (now : ℕ) (h : Header) (x : Outgoing)
+        → part_of bytes ≡ Some (Whole h) → is_taken rank bytes now c ≡ false
+        → (asks h || same_kind h.kind GetChunk) ≡ false
+        → EachAt rank x (λ n. is_answered n.header h ≡ true) c → StaysOver rank x (arrived memory rank bytes now c) }
+{}
+/// No copy of a quorum's message outlasts its epoch. Once a message of a greater epoch than all before went or arrived, what
+/// was kept before is over, until it is sent anew.
+pub fn law_older()
+    ensures { (c : Copies) (rank : ℕ) (x : Outgoing) (steps : List Step) → EachAt rank x (IsUpTo c.epoch) c
+        → IsNotSent x steps → c.epoch < (run steps c).epoch → IsOver rank x (run steps c) }
+{}

@@ -1,0 +1,6 @@
+//! The laws of what is sent again.
+#![tactic(auto)]
+
+mod laws;
+
+pub use laws::{law_answered, law_gone, law_older};
