@@ -4,3 +4,4 @@ mod Each
 mod Answered
 mod Gone
 mod Older
+mod Tried

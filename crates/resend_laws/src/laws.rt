@@ -6,8 +6,11 @@ ghost use Rattle.mon_decode.specs.declared.header.Header.{Header};
 ghost use Rattle.mon_link.specs.declared.link.Outgoing.{Outgoing};
 ghost use Rattle.mon_resend.specs.declared.copies.Copies.{Copies};
 ghost use Rattle.mon_resend.specs.declared.datagram.Part.TheVariants.{Whole};
+ghost use Rattle.mon_resend.specs.declared.outbox.Outbox.{Outbox};
+ghost use Rattle.mon_resend.specs.declared.rows.Way.TheVariants.{ByTime};
+ghost use Rattle.mon_resend.specs.Again.{note_of};
 ghost use Rattle.mon_resend.specs.Datagrams.{part_of};
-ghost use Rattle.mon_resend.specs.Rows.{is_answered};
+ghost use Rattle.mon_resend.specs.Rows.{is_answered, way_of};
 ghost use Rattle.mon_resend.specs.World.{arrived, asks, is_taken};
 ghost use Rattle.mon_wire.specs.declared.kind.Kind.TheVariants.{GetChunk};
 ghost use Rattle.resend_laws.specs.Copies.{EachAt, IsNotSent, IsOver, IsTried, IsUpTo, StaysOver};
@@ -21,6 +24,13 @@ pub fn law_gone()
         → 16 < rounds wait since steps → IsOver rank x (run steps c) }
 {}
 
+/// A message in one datagram that goes now, by time, and is no GET_CHUNK, waits at most 2 seconds each time. So its copy is
+/// kept no longer once copies could go 17 times, 2 seconds apart.
+pub fn law_tried()
+    ensures { (h : Header) (length now : ℕ) (b : Outbox) → way_of h.kind ≡ ByTime → same_kind h.kind GetChunk ≡ false
+        → (note_of h length length now b).held ≡ false → IsTried 2000 now (note_of h length length now b) }
+{}
+
 /// A message that was answered isn't sent again, whatever is sent and arrives later, until it is sent anew. The answer has to
 /// be handed up, and no BEGIN, FORWARD or GET_CHUNK: such a question may only repeat an earlier one.
 pub fn law_answered()
@@ -29,6 +39,7 @@ pub fn law_answered()
         → (asks h || same_kind h.kind GetChunk) ≡ false
         → EachAt rank x (λ n. is_answered n.header h ≡ true) c → StaysOver rank x (arrived memory rank bytes now c) }
 {}
+
 /// No copy of a quorum's message outlasts its epoch. Once a message of a greater epoch than all before went or arrived, what
 /// was kept before is over, until it is sent anew.
 pub fn law_older()
