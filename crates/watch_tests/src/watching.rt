@@ -150,6 +150,7 @@ fn a_victory_is_noted(rt: HostRuntime) -> Result<(), Fail> {
     let seen = &link.notes.seen;
     assert!(rt; seen.leader == Some(0) && seen.epoch == 4 && seen.quorum() == 3);
     assert!(rt; link.watch.lines.last.get() == "leads epoch 4 with 0,1".len());
+    assert!(rt; link.inner.sent().len() == 1);
     assert!(rt; encode(alloc, link.inner.sent()[0].bytes.as_slice())?.as_str() == VICTORY);
     drop(link);
     Ok(())
