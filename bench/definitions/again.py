@@ -1,0 +1,108 @@
+"""The link that sends again, by its definitions in crates/mon_resend/specs: what it keeps of the datagrams that go and come, and what goes again.
+
+A `Link` is that of one monitor. Its datagrams are bytes, as they go between monitors without the frame of a quorum. Its times are milliseconds. The
+definitions read each datagram themselves. `cases` are those that the tests of the link have, and `wrong_step` plays one.
+"""
+import os
+import re
+import sys
+
+sys.path.insert(0, os.path.dirname(os.path.abspath(__file__)))
+import antt
+from antt import Con, app, apps, nat, resolve
+
+WORLD, SENDING = 'mon_resend.specs.World', 'mon_resend.specs.Sending'
+NEVER = 2 ** 64 - 1
+IDLE = Con('Idle')
+
+antt.NATIVE['byteorder.specs.Endian.little_number'] = nat(2)(lambda n, octets: int.from_bytes(bytes(octets[:n]), 'little'))
+# a step asks several times what its datagram is
+antt.MEMO['mon_resend.specs.Datagrams.part_of'] = 64
+
+
+class Link:
+    """what a monitor's link keeps, and the steps of it"""
+
+    def __init__(self):
+        self.copies, self.run = resolve(WORLD, 'fresh'), 0
+
+    def sent(self, now, to, datagram):
+        """a datagram is to go to a monitor; whether it goes now"""
+        goes = apps(resolve(WORLD, 'goes_now'), to, datagram, now, self.copies)
+        self.copies = apps(resolve(WORLD, 'sent'), True, to, datagram, now, self.copies)
+        return goes
+
+    def arrived(self, now, sender, datagram):
+        """a datagram arrives from a monitor; whether it is handed up, and what goes then, as pairs of a monitor and a datagram"""
+        return self.took(now, Con('Datagram', (Con('Monitor', (sender,)), datagram)))
+
+    def rested(self, now):
+        """nothing arrives; what goes then"""
+        return self.took(now, IDLE)[1]
+
+    def took(self, now, got):
+        is_kept = apps(resolve(SENDING, 'isnt_handed_up'), got, now, self.copies)
+        again = apps(resolve(SENDING, 'may_go'), got, self.run)
+        after = apps(resolve(SENDING, 'with_got'), True, got, now, self.copies)
+        going = apps(resolve(WORLD, 'all_going'), again, now, after)
+        self.copies = apps(resolve(WORLD, 'all_passed'), again, now, after)
+        self.run = apps(resolve(SENDING, 'run_after'), got, self.run)
+        return got.n == 'Datagram' and not is_kept, [(out.d['to'].a[0], out.d['bytes']) for out in going]
+
+    def due(self):
+        """when the next copy goes, or None"""
+        due = app(resolve(WORLD, 'due_of'), self.copies)
+        return None if due == NEVER else due
+
+    def kept(self, rank):
+        """the datagrams that are kept for a monitor, each with its note"""
+        shelf = apps(resolve(WORLD, 'box_of'), rank, self.copies).d['shelf']
+        return [(kept.d['out'].d['bytes'], kept.d['note'].d) for kept in shelf]
+
+
+# ---- the cases of the tests, in crates/wire_tests/src
+
+BYTE = re.compile(r'const (\w+): u8 = (\d+);')
+CASE = re.compile(r'const (\w+): &\[Step\] = &\[\n(.*?)^\];', re.M | re.S)
+STEP = re.compile(r'\((\w+), (Sends|SendsToAnother|Hears|Rests), (\w+), (\w+), (\w+), (\w+), (true|false)\)')
+
+
+def cases():
+    """for each case of the tests its name and its steps: a time, what is done, a message's kind, epoch and number, how many datagrams go out then,
+    and whether what comes is handed up"""
+    texts = [open(os.path.join(antt.ROOT, 'wire_tests', 'src', name)).read() for name in ('again.rt', 'again_calls.rt', 'again_copies.rt')]
+    bytes_of = {name: int(byte) for text in texts for name, byte in BYTE.findall(text)}
+
+    def number(word):
+        return bytes_of[word] if word in bytes_of else int(word.replace('_', '').replace('u64', '').replace('usize', ''))
+
+    found = {}
+    for text in texts:
+        for name, steps in CASE.findall(text):
+            read = STEP.findall(steps)
+            if len(read) != steps.count('\n'):
+                raise ValueError(f'{name} has {steps.count(chr(10))} lines, and {len(read)} of them are steps')
+            found[name] = [(number(time), does, *map(number, numbers), is_up == 'true') for time, does, *numbers, is_up in read]
+    return found
+
+
+def message(kind, epoch, number):
+    """the beginning of a message of monitor 0 of 3, whose body begins with this number twice"""
+    return bytes([1, kind, 0, 3]) + b''.join(part.to_bytes(8, 'little') for part in (epoch, number, number))
+
+
+def wrong_step(steps):
+    """the first step of a case that the definitions don't take as it says, with how many datagrams go and whether what comes is handed up; or None"""
+    link = Link()
+    for step in steps:
+        time, does, kind, epoch, number, sent, is_up = step
+        if does == 'Rests':
+            found = len(link.rested(time)), False
+        elif does == 'Hears':
+            handed_up, going = link.arrived(time, 1, message(kind, epoch, number))
+            found = len(going), handed_up
+        else:
+            found = int(link.sent(time, 2 if does == 'SendsToAnother' else 1, message(kind, epoch, number))), False
+        if found != (sent, is_up):
+            return step, found
+    return None
