@@ -7,6 +7,7 @@ import random
 import re
 from typing import NamedTuple
 
+from copying import Carried, Copying
 from played import Refused, app, lines_of, quorum_file, run
 from schedules import IMAGES, MOST_EVENTS, TIMERS, Fault, fault_of_event, fault_of_header, is_within
 
@@ -86,10 +87,10 @@ def links_cut(word: str, monitors: int) -> set[tuple[int, int]]:
 
 
 class Scenario:
-    """The commands of a scenario: its header, its seed, what happens at which time, and its end."""
+    """The commands of a scenario: its header, its seed, whether messages are sent again, what happens at which time, and its end."""
 
     def __init__(self, lines):
-        self.header, self.seed, self.events, self.until = None, 0, [], None
+        self.header, self.seed, self.copies, self.events, self.until = None, 0, False, [], None
         for number, line in enumerate(lines, 1):
             words = words_of(line)
             if not words:
@@ -110,12 +111,14 @@ class Scenario:
             self.until = self.later(words[1])
         elif words[0] == 'seed' and len(words) == 2:
             self.seed = numbered(words[1], 2**62, 'seed')
+        elif words == ['copies']:
+            self.copies = True
         elif words[0] in ('latency', 'loss', 'repeat', 'delay'):
             self.action(self.events[-1][0] if self.events else 0, words)
         elif words[0] == 'at' and len(words) > 2:
             self.action(self.later(words[1]), words[2:])
         else:
-            raise Faulty(f"'{words[0]}' is no command: at, latency, loss, repeat, delay, seed or until")
+            raise Faulty(f"'{words[0]}' is no command: at, copies, latency, loss, repeat, delay, seed or until")
 
     def begin(self, words: list[str]):
         self.header = ' '.join(words)
@@ -184,8 +187,8 @@ class Scenario:
 
 
 class Simulation:
-    """A run of a scenario by the definitions. The next thing that happens is the earliest; commands come before messages, and these before
-    timers."""
+    """A run of a scenario by the definitions. The next thing that happens is the earliest; commands come before messages, these before copies, and
+    these before timers."""
 
     def __init__(self, scenario: Scenario):
         self.scenario, self.play = scenario, run.Play(scenario.header)
@@ -194,6 +197,7 @@ class Simulation:
         # What is so of a link, or of all links for the key None.
         self.network = {'latency': {None: 1}, 'loss': {None: 0}, 'repeat': {None: 0}, 'delay': {None: (0, 0)}}
         self.chance, self.wire, self.seen, self.order = random.Random(scenario.seed), [], 0, itertools.count()
+        self.copying = Copying(self.play.n) if scenario.copies else None
 
     def world(self):
         return self.play.scene.d['world'].d
@@ -212,10 +216,22 @@ class Simulation:
                 return it
         return None
 
-    def send(self, number: int, message):
-        """Puts a message on the wire, once for each time that it arrives."""
-        link = message.d['message'].d['from'], message.d['to']
-        named = self.next_of(run.NAMES[message.d['message'].d['body'].n], link)
+    def send(self, number: int):
+        """A monitor sends the message of this number."""
+        message = self.world()['messages'][number - 1].d
+        if self.copying:
+            self.put_all(self.copying.sends(self.now, number, message['message'], message['to']))
+        else:
+            self.put(Carried(message['message'].d['from'], message['to'], number, b''))
+
+    def put_all(self, going: list[Carried]):
+        for carried in going:
+            self.put(carried)
+
+    def put(self, carried: Carried):
+        """Puts a message, or a datagram of it, on the wire, once for each time that it arrives."""
+        link = carried.sender, carried.to
+        named = self.next_of(run.NAMES[self.world()['messages'][carried.number - 1].d['message'].d['body'].n], link)
         is_lost = self.happens(self.of_link('loss', link)) or named is not None and named.what == 'lose'
         if link in self.cut or is_lost:
             return
@@ -223,7 +239,7 @@ class Simulation:
         takes = self.of_link('latency', link) + (longer if self.happens(percent) else 0) + (named.later if named else 0)
         times = 1 + (self.happens(self.of_link('repeat', link)) or named is not None and named.what == 'twice')
         for copy in range(1, times + 1):
-            heapq.heappush(self.wire, (self.now + takes * copy, next(self.order), number, message.d['to']))
+            heapq.heappush(self.wire, (self.now + takes * copy, next(self.order), carried))
 
     def take(self, line: str, rank: int):
         """Adds a line to the schedule, and puts what its event sends on the wire. A tear that waits for the monitor is in it, if the event writes."""
@@ -237,10 +253,9 @@ class Simulation:
             self.play.take(line)
             self.dead.add(rank)
         self.schedule.append(line)
-        messages = self.world()['messages']
-        for message in messages[self.seen:]:
+        while self.seen < len(self.world()['messages']):
             self.seen += 1
-            self.send(self.seen, message)
+            self.send(self.seen)
 
     def next_timer(self):
         """The time, rank and name of the timer that fires next."""
@@ -251,6 +266,20 @@ class Simulation:
                 timers = zip(TIMERS, state.a[0].d['timers'])
                 found += [(timer.a[0], rank, name) for name, timer in timers if timer.n == 'Some']
         return min(found, default=None)
+
+    def next_copies(self):
+        """When copies go next, and of which monitor."""
+        due = [(self.copying.due(rank), rank) for rank in range(self.play.n) if rank not in self.dead] if self.copying else []
+        return min((it for it in due if it[0] is not None), default=None)
+
+    def deliver(self, carried: Carried):
+        """A message arrives, or a datagram of one."""
+        if carried.to in self.dead:
+            return
+        is_up, going = self.copying.arrives(self.now, carried) if self.copying else (True, [])
+        self.put_all(going)
+        if is_up:
+            self.take(f'deliver {carried.number} {self.now}', carried.to)
 
     def mark(self, name: str, rest: list):
         """Notes what becomes of the network, before the next event."""
@@ -269,6 +298,8 @@ class Simulation:
         if name == 'start':
             for rank in rest:
                 self.dead.discard(rank)
+                if self.copying:
+                    self.copying.starts(rank)
                 self.take(f'start {rank} {self.now}', rank)
         elif name == 'kill':
             self.take(f'crash a 1 0 timer {rest[0]} step {self.now}', -1)
@@ -288,8 +319,8 @@ class Simulation:
         events = iter(self.scenario.events)
         event = next(events, None)
         while True:
-            timer = self.next_timer()
-            times = [(it[0], place) for place, it in enumerate([event, self.wire[0] if self.wire else None, timer]) if it]
+            copies, timer = self.next_copies(), self.next_timer()
+            times = [(it[0], place) for place, it in enumerate([event, self.wire[0] if self.wire else None, copies, timer]) if it]
             if not times or max(self.now, min(times)[0]) > self.scenario.until:
                 return self.schedule
             time, place = min(times)
@@ -298,9 +329,9 @@ class Simulation:
                 self.act(*event[1:])
                 event = next(events, None)
             elif place == 1:
-                _, _, number, receiver = heapq.heappop(self.wire)
-                if receiver not in self.dead:
-                    self.take(f'deliver {number} {self.now}', receiver)
+                self.deliver(heapq.heappop(self.wire)[2])
+            elif place == 2:
+                self.put_all(self.copying.rests(self.now, copies[1]))
             else:
                 self.take(f'timer {timer[1]} {timer[2]} {self.now}', timer[1])
 

@@ -1,0 +1,92 @@
+"""What carries the messages of a simulation that takes copies: a link of each monitor that sends again, by the executed definitions."""
+from __future__ import annotations
+
+from typing import NamedTuple
+
+from played import antt, app
+from antt import apps, nat, resolve
+import again
+
+HEADERS, PIECES = 'mon_decode.specs.Headers', 'mon_frag.specs.Pieces'
+antt.NATIVE['byteorder.specs.Endian.little_bytes'] = nat(2)(lambda octets, number: (number % 256**octets).to_bytes(octets, 'little'))
+# How many bytes the two numbers take with which the body of a kind begins, if these aren't 8 each.
+SHORT = {'Victory': (2, 8), 'Commit': (8, 2)}
+
+
+class Carried(NamedTuple):
+    """A datagram on its way: from and to which monitor, the number of its message in the run, and its bytes."""
+    sender: int
+    to: int
+    number: int
+    datagram: bytes
+
+
+def encoded(message, same: int) -> bytes:
+    """Bytes with the header, the first numbers and the length of a message, in which `same` names those that are equal to it. Nothing that is sent
+    again depends on more of a body."""
+    heading = app(resolve(HEADERS, 'heading'), message).d
+    kind, first, second = heading['kind'], heading['first'], heading['second']
+    if kind.n == 'Commit':
+        second += 1 - first
+    head = bytes([1, app(resolve(HEADERS, 'kind_byte'), kind), heading['from'], heading['monitors']]) + heading['epoch'].to_bytes(8, 'little')
+    numbers = b''.join(number.to_bytes(octets, 'little') for number, octets in zip((first, second), SHORT.get(kind.n, (8, 8))))
+    length = apps(resolve('mon_wire.specs.Message.Length', 'message_length'), heading['monitors'], message.d['body'])
+    return (head + numbers + same.to_bytes(8, 'little')).ljust(length, b'\0')[:length]
+
+
+class Copying:
+    """The links of all monitors. Each call has a monitor and a time, and returns what goes on the wire then."""
+
+    def __init__(self, monitors: int):
+        self.links, self.lives, self.long = [again.Link() for _ in range(monitors)], [0] * monitors, 0
+        # When a datagram came last, the numbers of messages that are equal, those of datagrams, and which pieces of a message arrived.
+        self.last, self.equal, self.numbers, self.arrived_of = [0] * monitors, {}, {}, {}
+
+    def starts(self, rank: int):
+        """A monitor starts: it keeps nothing of before."""
+        self.links[rank], self.lives[rank] = again.Link(), self.lives[rank] + 1
+
+    def sends(self, now: int, number: int, message, to: int) -> list[Carried]:
+        """A message is to go, which has this number in the run."""
+        sender, same = message.d['from'], self.equal.setdefault(message, len(self.equal))
+        whole = encoded(message, same)
+        self.long += len(whole) > 60_000
+        found = []
+        for datagram in apps(resolve(PIECES, 'pieces_of'), whole, self.lives[sender], self.long):
+            datagram = bytes(datagram)
+            self.numbers[sender, to, datagram] = number
+            if self.links[sender].sent(now, to, datagram):
+                found.append(Carried(sender, to, number, datagram))
+        return found
+
+    def named(self, sender: int, going: list[tuple[int, bytes]]) -> list[Carried]:
+        return [Carried(sender, to, self.numbers[sender, to, datagram], datagram) for to, datagram in going]
+
+    def arrives(self, now: int, carried: Carried) -> tuple[bool, list[Carried]]:
+        """A datagram arrives. Whether its message is whole and handed up, and what goes then."""
+        _, rank, number, datagram = carried
+        if now > self.last[rank]:
+            self.links[rank].run, self.last[rank] = 0, now
+        is_up, going = self.links[rank].arrived(now, carried.sender, datagram)
+        return is_up and self.is_whole(carried), self.named(rank, going)
+
+    def is_whole(self, carried: Carried) -> bool:
+        """Whether a message is whole with this datagram. Its pieces are those from then on again."""
+        sender, to, number, datagram = carried
+        if datagram[0] != 2:
+            return True
+        total = int.from_bytes(datagram[20:24], 'little')
+        arrived = self.arrived_of.setdefault((to, self.lives[to], number), set())
+        arrived.add(datagram)
+        if len(arrived) < app(resolve(PIECES, 'piece_count'), total):
+            return False
+        arrived.clear()
+        return True
+
+    def rests(self, now: int, rank: int) -> list[Carried]:
+        """Nothing arrives."""
+        return self.named(rank, self.links[rank].rested(now))
+
+    def due(self, rank: int) -> int | None:
+        """When a monitor's next copy goes."""
+        return self.links[rank].due()
