@@ -20,6 +20,11 @@ antt.NATIVE['byteorder.specs.Endian.little_number'] = nat(2)(lambda n, octets: i
 antt.MEMO['mon_resend.specs.Datagrams.part_of'] = 64
 
 
+def part_of(datagram):
+    """what a datagram is of its message, or None: a constructor Whole, First or Later, the first two with the message's header"""
+    return app(resolve('mon_resend.specs.Datagrams', 'part_of'), datagram)
+
+
 class Link:
     """what a monitor's link keeps, and the steps of it"""
 
