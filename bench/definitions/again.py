@@ -65,7 +65,7 @@ class Link:
         return [(kept.d['out'].d['bytes'], kept.d['note'].d) for kept in shelf]
 
 
-# ---- the cases of the tests, in crates/wire_tests/src
+# ---- the cases of the tests, in crates/resend_tests/src
 
 BYTE = re.compile(r'const (\w+): u8 = (\d+);')
 CASE = re.compile(r'const (\w+): &\[Step\] = &\[\n(.*?)^\];', re.M | re.S)
@@ -75,7 +75,7 @@ STEP = re.compile(r'\((\w+), (Sends|SendsToAnother|Hears|Rests), (\w+), (\w+), (
 def cases():
     """for each case of the tests its name and its steps: a time, what is done, a message's kind, epoch and number, how many datagrams go out then,
     and whether what comes is handed up"""
-    texts = [open(os.path.join(antt.ROOT, 'wire_tests', 'src', name)).read() for name in ('again.rt', 'again_calls.rt', 'again_copies.rt')]
+    texts = [open(os.path.join(antt.ROOT, 'resend_tests', 'src', name)).read() for name in ('again.rt', 'again_calls.rt', 'again_copies.rt')]
     bytes_of = {name: int(byte) for text in texts for name, byte in BYTE.findall(text)}
 
     def number(word):
