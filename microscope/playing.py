@@ -131,7 +131,15 @@ class Game:
         elif kind == 'kill':
             self.take(f'crash a 1 0 timer {int(asked["rank"])} step {now}')
         elif kind == 'ask':
-            self.take(f'client {int(asked["rank"])} {now} {int(asked.get("client", 1))} {self.here.play.events + 1} {asked["command"]}')
+            client = int(asked.get('client', 1))
+            request = max((request for request, _ in self.requests(client)), default=0) + 1
+            self.take(f'client {int(asked["rank"])} {now} {client} {request} {asked["command"]}')
+        elif kind == 'again':
+            client = int(asked.get('client', 1))
+            if not (found := self.requests(client)):
+                raise Refused(f'client {client} has asked for nothing yet')
+            request, command = found[-1]
+            self.take(f'client {int(asked["rank"])} {now} {client} {request} {command}')
         elif kind in ('drop', 'delay', 'back'):
             self.hold(kind, int(asked['number']), int(asked.get('by', 0)))
         elif kind == 'tear':
@@ -155,6 +163,11 @@ class Game:
             self.run(max(0, min(60_000, int(asked['milliseconds']))), MOST_AT_ONCE)
         else:
             raise ValueError(kind)
+
+    def requests(self, client: int) -> list[tuple[int, str]]:
+        """The requests of a client so far: their numbers and commands."""
+        lines = (UPSET.sub('', moment.line).lstrip() for moment in self.moments[:self.at + 1] if moment.line and 'client ' in moment.line)
+        return [(int(words[4]), words[5]) for words in (line.split(' ', 5) for line in lines) if words[3] == str(client)]
 
     def hold(self, kind: str, number: int, by: int):
         """Drops a message, takes one up again that was dropped, or delays one."""

@@ -183,7 +183,7 @@ function drawCards() {
     phase.textContent = it.marked ? `${it.phase}, taking a full copy` : it.phase;
     card.querySelector('dl').replaceChildren(...facts(it, rank).flatMap(([key, value]) => [element('dt', '', key), element('dd', '', value)]));
     card.querySelector('.start').hidden = it.up;
-    for (const name of ['.kill', '.asking', '.tear', '.show']) card.querySelector(name).hidden = !it.up;
+    for (const name of ['.kill', '.asking', '.tear', '.show', '.again']) card.querySelector(name).hidden = !it.up;
     card.querySelector('.tear').value = it.tear || '';
   });
 }
@@ -223,7 +223,9 @@ function newCard(rank) {
   start.classList.add('start');
   const show = button('Show', 'A client reads the map', () => act('ask', {rank, command: 'show kv', client: 2}));
   show.classList.add('show');
-  return element('article', 'card', element('h3', '', element('span'), element('span')), element('dl'), form, element('div', 'buttons', start, kill, show, tear));
+  const again = button('Again', 'The last request of client 1 comes here once more, with the same number', () => act('again', {rank}));
+  again.classList.add('again');
+  return element('article', 'card', element('h3', '', element('span'), element('span')), element('dl'), form, element('div', 'buttons', start, kill, show, again, tear));
 }
 
 // ---- messages, the last event, the log, the schedule, the exercise
