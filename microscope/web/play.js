@@ -234,7 +234,7 @@ function drawWire() {
   const lanes = new Map(), late = state.wire.filter(it => !isUnderWay(it)).slice(-6).reverse();
   for (const it of state.wire.filter(isUnderWay)) lanes.set(`${it.from} → ${it.to}`, [...(lanes.get(`${it.from} → ${it.to}`) || []), it]);
   const parts = [...lanes].map(([lane, found]) => element('div', 'lane', element('b', '', `monitor ${lane}`), ...found.map(message)));
-  if (!parts.length) parts.push(element('p', 'quiet', 'None is under way.'));
+  if (!parts.length) parts.push(element('p', 'quiet', state.monitors.some(it => it.up) ? 'None is under way.' : 'None is under way. Start a monitor, or see Help.'));
   if (late.length) parts.push(element('h2', '', 'Arrived or dropped'), ...late.map(message));
   at('wire').replaceChildren(...parts);
 }
