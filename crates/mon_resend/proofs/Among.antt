@@ -17,7 +17,7 @@ use Rattle.mon_resend.specs.Sending.{outs, with_got}
 use Rattle.mon_resend.specs.Shelves.{going, with_note}
 use Rattle.mon_resend.specs.World.{sent, all_passed, all_going}
 use Rattle.mon_resend.proofs.Parts.{same, more, both, one_left, one_right}
-use Rattle.mon_resend.proofs.Steps.{Lasts, Grows, of_sent, of_arrived, of_all_passed}
+use Rattle.mon_resend.proofs.Walk.{Thins, Grows, of_sent, of_arrived, of_all_passed}
 
 abbrev outs_on : List Kept → List Outgoing
 outs_on kept = map (λ k. k.out) kept
@@ -34,7 +34,7 @@ if_first : (f : Note → Note) (those : List Outgoing) (k : Kept) (kept : List K
 if_first f those k kept true one a = both those (k.out ∷ []) (outs_on (map (λ k. with_note (f k.note) k) kept)) one a
 if_first f those k kept false one a = a
 
-lasts_among : (those : List Outgoing) → Lasts (IsAmong those)
+lasts_among : (those : List Outgoing) → Thins (IsAmong those)
 lasts_among those f p [] h = h
 lasts_among those f p (k ∷ kept) h =
     if_first f those k (filter p kept) (p k) (record { each = λ x g. h.each x (one_left (k.out ∷ []) (outs_on kept) x g) })

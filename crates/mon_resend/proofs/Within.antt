@@ -11,7 +11,7 @@ use Rattle.mon_resend.specs.declared.shelf.Kept.{Kept}
 use Rattle.mon_resend.specs.Bounds.{IsWithin, StaysWithin}
 use Rattle.mon_resend.specs.Copied.{datagram}
 use Rattle.mon_resend.specs.Shelves.{with_note}
-use Rattle.mon_resend.proofs.Steps.{Lasts, Grows, of_sent, of_arrived, of_all_passed}
+use Rattle.mon_resend.proofs.Walk.{Thins, Grows, of_sent, of_arrived, of_all_passed}
 use Rattle.mon_link.specs.declared.link.Peer.TheVariants.{Monitor}
 
 abbrev bytes_in : List Kept → ℕ
@@ -36,7 +36,7 @@ less : (f : Note → Note) (p : Kept → Bool) (kept : List Kept) → IsLess kep
 less f p [] = record { datagrams = omega arith; bytes = omega arith }
 less f p (k ∷ kept) = if_less f k kept (filter p kept) (p k) (less f p kept)
 
-lasts_within : Lasts IsWithin
+lasts_within : Thins IsWithin
 lasts_within f p kept h =
     let l = less f p kept in
     record { datagrams = omega (arith, l.datagrams, h.datagrams); bytes = omega (arith, l.bytes, h.bytes) }

@@ -37,7 +37,21 @@ nothing = record {
   past = None;
   earlier = no_earlier;
   acknowledged = unacknowledged;
+  unkept = 0;
 }
+
+-- ---- memory
+
+-- There is room for a copy, and no memory.
+abbrev pub is_refused : (memory : Bool) → Outgoing → List Kept → Bool
+is_refused memory out kept = has_room 1 (length out.bytes) kept && not memory
+
+-- how often memory was refused, after once more or not
+abbrev pub unkept_if : Bool → Outbox → ℕ
+unkept_if refused b = if refused then plus b.unkept 1 else b.unkept
+
+abbrev pub counted_if : Bool → Outbox → Outbox → Outbox
+counted_if refused old b = record b { unkept = unkept_if refused old }
 
 -- ---- FORWARDs go one after the other
 
@@ -92,15 +106,22 @@ under_way_of n has_room =
 abbrev pub with_copy : (memory : Bool) → Outgoing → Note → List Kept → List Kept
 with_copy memory out n kept = if has_room 1 (length out.bytes) kept && memory then kept ++ record { out = out; note = n } ∷ [] else kept
 
+-- It is kept, or counted.
+abbrev pub copied : (memory : Bool) → Outgoing → Note → Outbox → Outbox
+copied memory out n b = counted_if (is_refused memory out b.shelf) b (record b { shelf = with_copy memory out n b.shelf })
+
 abbrev pub first_kept : (memory : Bool) → Outgoing → Note → (total : ℕ) → Outbox → Outbox
 first_kept memory out n total b =
     if fits n total b.shelf then record b { under_way = under_way_of n true; shelf = with_copy memory out n b.shelf }
     else record b { under_way = under_way_of n false }
 
+abbrev pub first_copied : (memory : Bool) → Outgoing → Note → (total : ℕ) → Outbox → Outbox
+first_copied memory out n total b = counted_if (fits n total b.shelf && is_refused memory out b.shelf) b (first_kept memory out n total b)
+
 abbrev pub begun_as : Way → (memory : Bool) → Outgoing → Header → (total now : ℕ) → Outbox → Outbox
 begun_as way.Never memory out h total now b = b
-begun_as way.ByTime memory out h total now b = first_kept memory out (note_of h total (length out.bytes) now b) total b
-begun_as way.WhenAsked memory out h total now b = first_kept memory out (note_of h total (length out.bytes) now b) total b
+begun_as way.ByTime memory out h total now b = first_copied memory out (note_of h total (length out.bytes) now b) total b
+begun_as way.WhenAsked memory out h total now b = first_copied memory out (note_of h total (length out.bytes) now b) total b
 
 -- its first datagram is to go
 abbrev pub begun : (memory : Bool) → Outgoing → Header → (total now : ℕ) → Outbox → Outbox
@@ -117,7 +138,7 @@ begins_now h total len now b = begins_as (way_of h.kind) (note_of h total len no
 
 -- a later piece is to go
 abbrev pub went_on_with : UnderWay → (memory : Bool) → Outgoing → Outbox → Outbox
-went_on_with (under_way.Kept n) memory out b = record b { shelf = with_copy memory out n b.shelf }
+went_on_with (under_way.Kept n) memory out b = copied memory out n b
 went_on_with under_way.Lost memory out b = b
 went_on_with under_way.Nothing memory out b = b
 
@@ -152,13 +173,17 @@ knows h kept = list_any (λ k. is_asked_again k.note.header h) kept
 abbrev pub answered : Header → ℕ → Outbox → Outbox
 answered h now b = if knows h b.shelf then record b { shelf = happened (Asked h) now b.shelf } else b
 
+-- It is to be kept, since it asks for another chunk than the last one.
+abbrev pub is_to_keep : Header → List ℕ → Outbox → Bool
+is_to_keep h bytes b = same_kind h.kind kind.GetChunk && not (bytes_eq b.asked bytes)
+
 abbrev pub received : (memory : Bool) → Header → List ℕ → ℕ → Outbox → Outbox
-received memory h bytes now b =
+received memory h bytes now b = counted_if (is_to_keep h bytes b && not memory) b (
     if same_kind h.kind kind.Begin then answered h now b
     else if same_kind h.kind kind.Forward then answered h now b
     else if not (same_kind h.kind kind.GetChunk) then heard h now b
     else if bytes_eq b.asked bytes then answered h now b
-    else heard h now (record b { asked = if memory then bytes else [] })
+    else heard h now (record b { asked = if memory then bytes else [] }))
 
 -- The copy of its answer alone answers it.
 abbrev pub is_known : Header → List ℕ → Outbox → Bool

@@ -1,6 +1,6 @@
 -- What is kept for all monitors, and what becomes of it.
-use Rattle.std.specs.Prelude.{ℕ, min, Bool, true, false, ◌&&◌, ◌||◌, nat_lt, List, [], ◌∷◌, length, map, take, get_or, slice_set, Option, Some, None, if◌then◌else◌}
-use Rattle.std.specs.List.{flat_map}
+use Rattle.std.specs.Prelude.{ℕ, ◌-◌, ◌^◌, min, Bool, true, false, ◌&&◌, ◌||◌, nat_lt, List, [], ◌∷◌, length, map, take, get_or, slice_set, Option, Some, None, if◌then◌else◌}
+use Rattle.std.specs.List.{flat_map, sum_by}
 use Rattle.mon_decode.specs.declared.header.Header.{Header}
 use Rattle.mon_decode.specs.Headers.{same_kind}
 use Rattle.mon_link.specs.declared.link.Outgoing.{Outgoing}
@@ -32,6 +32,10 @@ box_of rank c = get_or c.boxes rank nothing
 
 abbrev pub with_box : (rank : ℕ) → Outbox → Copies → Copies
 with_box rank b c = record c { boxes = slice_set c.boxes rank b }
+
+-- how often memory was refused for what was to be kept
+abbrev pub unkept_of : Copies → ℕ
+unkept_of c = min (sum_by (λ b. b.unkept) (take 15 c.boxes)) (2 ^ 64 - 1)
 
 abbrev pub with_event : Event → ℕ → Outbox → Outbox
 with_event event now b = record b { shelf = happened event now b.shelf }

@@ -2,7 +2,7 @@
 
 ghost use Rattle.std.specs.Prelude.{◌≡◌, ◌<◌, ◌-◌, length, min};
 ghost use Rattle.mon_resend.specs.Copied.{datagram};
-ghost use Rattle.mon_resend.specs.World.{all_passed, arrived, began, begins_at, box_of, called_at, due_of, each, first_came, fresh, goes_now, in_epoch, is_dropped_at, is_first_known, is_taken, is_whole_known, left, risen, sent, whole_came, with_box, with_event};
+ghost use Rattle.mon_resend.specs.World.{all_passed, arrived, began, begins_at, box_of, called_at, due_of, each, first_came, fresh, goes_now, in_epoch, is_dropped_at, is_first_known, is_taken, is_whole_known, left, risen, sent, unkept_of, whole_came, with_box, with_event};
 ghost use Rattle.mon_resend.specs.Again.{passed};
 ghost use Rattle.mon_link.specs.declared.link.Peer.TheVariants.{Monitor};
 
@@ -53,6 +53,18 @@ impl Copies {
             epoch: 0,
             own: 0,
         }
+    }
+
+    /// How often memory was refused for what was to be kept, for all monitors together, and at most `u64::MAX`. What is
+    /// counted is each copy that isn't kept although there is room for it, and each GET_CHUNK that came and isn't kept.
+    pub fn unkept(&self) -> u64
+        ensures { result ≡ unkept_of self.now }
+    {
+        let mut unkept: u64 = 0;
+        for outbox in &self.boxes {
+            unkept = unkept.saturating_add(outbox.unkept);
+        }
+        unkept
     }
 
     /// What is kept for a monitor.
@@ -151,7 +163,7 @@ impl Copies {
                 now,
             ),
             Some(Part::Later(_)) => self.boxes[usize::from(to.get())].goes_on(alloc, to, bytes),
-            None => Answer::yes(),
+            None => Answer::of(true),
         }
     }
 
@@ -180,7 +192,7 @@ impl Copies {
     {
         self.rises(header, now);
         if self.drops(from, header, now) {
-            return Answer::yes();
+            return Answer::of(true);
         }
         self.boxes[usize::from(from.get())].comes(alloc, header, bytes, now)
     }
@@ -196,9 +208,9 @@ impl Copies {
             Some(Part::First(header, _)) => self.comes_first(alloc, from, &header, bytes, now),
             Some(Part::Later(piece)) => {
                 self.boxes[usize::from(from.get())].hears_piece(piece, now);
-                Answer::no()
+                Answer::of(false)
             }
-            None => Answer::no(),
+            None => Answer::of(false),
         }
     }
 
@@ -216,7 +228,7 @@ impl Copies {
         if same_kind(header.kind, Kind::Begin) || same_kind(header.kind, Kind::Forward) {
             return self.boxes[usize::from(from.get())].comes(alloc, header, bytes, now);
         }
-        Answer::no()
+        Answer::of(false)
     }
 
     /// Notes that what goes now went, and drops what went often enough. What went before goes again only if `again` allows it.

@@ -3,7 +3,7 @@
 ghost use Rattle.std.specs.Prelude.{◌≡◌, true, false, if◌then◌else◌, [], find, is_some, length, not, option_map};
 ghost use Rattle.std.specs.List.{list_any};
 ghost use Rattle.mon_resend.specs.Copied.{datagram};
-ghost use Rattle.mon_resend.specs.Again.{nothing, first_forward, happened, turn_of, turned, cleared, note_of, under_way_of, fits, with_copy, begun, begins_now, went_on, goes_on_now, measured_by, heard, knows, answered, answered_one, received, is_known, called, is_dropped, is_past, piece_came, passed};
+ghost use Rattle.mon_resend.specs.Again.{nothing, first_forward, happened, turn_of, turned, cleared, note_of, under_way_of, fits, copied, counted_if, begun, begins_now, went_on, goes_on_now, measured_by, heard, knows, answered, answered_one, received, is_known, called, is_dropped, is_past, piece_came, passed};
 ghost use Rattle.mon_link.specs.declared.link.Peer.TheVariants.{Monitor};
 
 use crate::calls::{Acknowledged, Earlier};
@@ -15,7 +15,7 @@ use crate::shelf::{Kept, Shelf};
 use mon_bytes::Bytes;
 use mon_decode::{Header, same_kind};
 use mon_frag::{PART, PIECE_HEADER};
-use mon_link::{Outgoing, Peer};
+use mon_link::Peer;
 use mon_types::Rank;
 use mon_wire::Kind;
 use std::alloc::Global;
@@ -46,20 +46,12 @@ pub struct Answer {
 }
 
 impl Answer {
-    pub(crate) fn yes() -> Answer
-        ensures { result ≡ record { yes = true; has_memory = true } }
+    /// One for which nothing was to be kept.
+    pub(crate) fn of(yes: bool) -> Answer
+        ensures { result ≡ record { yes = yes; has_memory = true } }
     {
         Answer {
-            yes: true,
-            has_memory: true,
-        }
-    }
-
-    pub(crate) fn no() -> Answer
-        ensures { result ≡ record { yes = false; has_memory = true } }
-    {
-        Answer {
-            yes: false,
+            yes,
             has_memory: true,
         }
     }
@@ -80,6 +72,8 @@ pub struct Outbox {
     /// Its PROPOSEs that may not be handed up.
     pub earlier: Earlier,
     pub acknowledged: Acknowledged,
+    /// How often memory was refused for what was to be kept: a copy, or the last GET_CHUNK that came. At most `u64::MAX`.
+    pub unkept: u64,
 }
 
 impl Outbox {
@@ -95,6 +89,7 @@ impl Outbox {
             past: None,
             earlier: Earlier::none(),
             acknowledged: Acknowledged::none(),
+            unkept: 0,
         }
     }
 
@@ -175,21 +170,25 @@ impl Outbox {
             .has_room(note.pieces, total.saturating_add(before))
     }
 
-    /// Keeps a copy, if there is room and memory. Whether there was memory.
+    /// Counts what wasn't kept, if memory was refused for it.
+    fn counts(&mut self, has_memory: bool)
+        ensures { self.new ≡ counted_if (not has_memory) self.old self.old }
+    {
+        if !has_memory {
+            self.unkept = self.unkept.saturating_add(1);
+        }
+    }
+
+    /// Keeps a copy if there is room and memory, and counts it if memory is refused. Whether there was memory.
     fn keep(&mut self, alloc: Global, to: Rank, bytes: &[u8], note: Note) -> bool
-        ensures { self.new ≡ record self.old { shelf = with_copy result (datagram (Monitor to) bytes.now) note self.old.shelf } }
+        ensures { self.new ≡ copied result (datagram (Monitor to) bytes.now) note self.old }
     {
         if !self.shelf.has_room(1, bytes.len() as u64) {
             return true;
         }
-        let Ok(bytes) = Vec::from_slice(alloc, bytes) else {
-            return false;
-        };
-        let out = Outgoing {
-            to: Peer::Monitor(to),
-            bytes: Bytes::new(bytes),
-        };
-        self.shelf.push(out, note)
+        let has_memory = self.shelf.push(alloc, Peer::Monitor(to), bytes, note);
+        self.counts(has_memory);
+        has_memory
     }
 
     /// Keeps a copy of a message that begins to go, if there is room for the whole of it. Whether its first datagram goes
@@ -209,17 +208,14 @@ impl Outbox {
     {
         self.clears(&header, now);
         if way_of(header.kind) == Way::Never {
-            return Answer::yes();
+            return Answer::of(true);
         }
         let note = self.note_of(header, total, bytes.len() as u64, now);
         let yes = !note.held;
         let fits = self.fits(&note, total);
         self.under_way = under_way_of(note, fits);
         if !fits {
-            return Answer {
-                yes,
-                has_memory: true,
-            };
+            return Answer::of(yes);
         }
         let has_memory = self.keep(alloc, to, bytes, note);
         Answer { yes, has_memory }
@@ -238,8 +234,8 @@ impl Outbox {
                     has_memory,
                 }
             }
-            UnderWay::Lost => Answer::no(),
-            UnderWay::Nothing => Answer::yes(),
+            UnderWay::Lost => Answer::of(false),
+            UnderWay::Nothing => Answer::of(true),
         }
     }
 
@@ -303,18 +299,18 @@ impl Outbox {
         ensures known { result.yes ≡ is_known came.now bytes.now self.old }
     {
         if same_kind(came.kind, Kind::Begin) {
-            return self.knows(came, now);
+            return Answer::of(self.answers(came, now));
         }
         if same_kind(came.kind, Kind::Forward) {
             self.answers(came, now);
-            return Answer::no();
+            return Answer::of(false);
         }
         if !same_kind(came.kind, Kind::GetChunk) {
             self.hears(came, now);
-            return Answer::no();
+            return Answer::of(false);
         }
         if self.asked.as_slice() == bytes {
-            return self.knows(came, now);
+            return Answer::of(self.answers(came, now));
         }
         let has_memory = self.is_asked(alloc, bytes);
         self.hears(came, now);
@@ -324,32 +320,16 @@ impl Outbox {
         }
     }
 
-    /// Notes that a question came which only the copy of its answer answers.
-    fn knows(&mut self, came: &Header, now: u64) -> Answer
-        ensures after { self.new ≡ answered came.now now self.old }
-        ensures knows { result.yes ≡ knows came.now self.old.shelf }
-    {
-        let yes = self.answers(came, now);
-        Answer {
-            yes,
-            has_memory: true,
-        }
-    }
-
-    /// Keeps the last GET_CHUNK that came. Whether there was memory.
+    /// Keeps the last GET_CHUNK that came, and counts it if memory is refused. Whether there was memory.
     fn is_asked(&mut self, alloc: Global, bytes: &[u8]) -> bool
-        ensures { self.new ≡ record self.old { asked = if result then bytes.now else [] } }
+        ensures { self.new ≡ counted_if (not result) self.old
+            (record self.old { asked = if result then bytes.now else [] }) }
     {
-        match Vec::from_slice(alloc, bytes) {
-            Ok(bytes) => {
-                self.asked = Bytes::new(bytes);
-                true
-            }
-            Err(_) => {
-                self.asked = Bytes::new(Vec::new(alloc));
-                false
-            }
-        }
+        let asked = Vec::from_slice(alloc, bytes);
+        let has_memory = asked.is_ok();
+        self.asked = Bytes::new(asked.unwrap_or(Vec::new(alloc)));
+        self.counts(has_memory);
+        has_memory
     }
 
     /// Whether a PROPOSE isn't handed up, given the epoch of the last message that went to any monitor, or 0 after a PROBE. One

@@ -120,9 +120,9 @@ impl<L: Link + Drop, C: Clock + Drop> Resending<L, C> {
         match got {
             Got::Datagram { from, bytes } => match from {
                 Peer::Monitor(rank) => self.copies.comes(self.alloc, *rank, bytes.as_slice(), now),
-                Peer::Client(_) => Answer::no(),
+                Peer::Client(_) => Answer::of(false),
             },
-            Got::Idle | Got::Closed => Answer::no(),
+            Got::Idle | Got::Closed => Answer::of(false),
         }
     }
 

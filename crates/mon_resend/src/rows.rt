@@ -1,6 +1,7 @@
 //! Which messages are kept, and what ends them.
 
-ghost use Rattle.std.specs.Prelude.{◌≡◌};
+ghost use Rattle.std.specs.Prelude.{◌≡◌, ◌||◌, ◌&&◌, ◌==◌};
+ghost use Rattle.mon_decode.specs.Headers.{same_kind};
 ghost use Rattle.mon_resend.specs.Rows.{ends, is_answered, is_asked_again, is_chunk, is_copying, is_measured, is_of_epoch, way_of};
 
 use mon_decode::{Header, same_kind};
@@ -80,18 +81,22 @@ pub(crate) fn is_of_epoch(kind: Kind) -> bool
     }
 }
 
+fn is_either(kind: Kind, one: Kind, other: Kind) -> bool
+    ensures { result ≡ (same_kind kind one || same_kind kind other) }
+{
+    same_kind(kind, one) || same_kind(kind, other)
+}
+
 fn is_copying(kind: Kind) -> bool
     ensures { result ≡ is_copying kind }
 {
-    same_kind(kind, Kind::GetCookieFull)
-        || same_kind(kind, Kind::GetCookieRecent)
-        || same_kind(kind, Kind::GetChunk)
+    is_either(kind, Kind::GetCookieFull, Kind::GetCookieRecent) || same_kind(kind, Kind::GetChunk)
 }
 
 fn is_chunk(kind: Kind) -> bool
     ensures { result ≡ is_chunk kind }
 {
-    same_kind(kind, Kind::Chunk) || same_kind(kind, Kind::LastChunk)
+    is_either(kind, Kind::Chunk, Kind::LastChunk)
 }
 
 /// Whether a message of a kind that begins to go to a monitor ends the copies of one of another kind to it.
@@ -100,20 +105,14 @@ pub(crate) fn ends(sent: Kind, kept: Kind) -> bool
 {
     match sent {
         Kind::Collect => {
-            same_kind(kept, Kind::Collect)
-                || same_kind(kept, Kind::Begin)
-                || same_kind(kept, Kind::Commit)
-                || same_kind(kept, Kind::Lease)
+            is_either(kept, Kind::Collect, Kind::Begin)
+                || is_either(kept, Kind::Commit, Kind::Lease)
         }
         Kind::Begin => {
-            same_kind(kept, Kind::Begin)
-                || same_kind(kept, Kind::Collect)
-                || same_kind(kept, Kind::Lease)
+            is_either(kept, Kind::Begin, Kind::Collect) || same_kind(kept, Kind::Lease)
         }
         Kind::Commit => {
-            same_kind(kept, Kind::Commit)
-                || same_kind(kept, Kind::Begin)
-                || same_kind(kept, Kind::Lease)
+            is_either(kept, Kind::Commit, Kind::Begin) || same_kind(kept, Kind::Lease)
         }
         Kind::GetCookieFull | Kind::GetCookieRecent | Kind::GetChunk => is_copying(kept),
         Kind::Chunk | Kind::LastChunk => is_chunk(kept),
@@ -137,6 +136,12 @@ pub(crate) fn ends(sent: Kind, kept: Kind) -> bool
     }
 }
 
+fn same_numbers(kept: &Header, came: &Header) -> bool
+    ensures { result ≡ (came.now.first == kept.now.first && came.now.second == kept.now.second) }
+{
+    came.first == kept.first && came.second == kept.second
+}
+
 /// Whether a message that arrived from a monitor ends the copies of one to it. A PROBE or PROPOSE of the same epoch is no
 /// answer to a PROPOSE: the monitor drops this one while it probes, and then proposes itself. What a copier of the store asks
 /// next shows that the CHUNK before it arrived. Nothing that arrives ends a copier's own question: it may answer an earlier
@@ -151,16 +156,10 @@ pub(crate) fn is_answered(kept: &Header, came: &Header) -> bool
                     || (came.epoch == kept.epoch && same_kind(came.kind, Kind::Ack)))
         }
         Kind::Victory => {
-            same_kind(came.kind, Kind::Last)
-                || same_kind(came.kind, Kind::Accept)
-                || same_kind(came.kind, Kind::LeaseAck)
+            is_either(came.kind, Kind::Last, Kind::Accept) || same_kind(came.kind, Kind::LeaseAck)
         }
         Kind::Collect => same_kind(came.kind, Kind::Last) && kept.first <= came.first,
-        Kind::Begin => {
-            same_kind(came.kind, Kind::Accept)
-                && came.first == kept.first
-                && came.second == kept.second
-        }
+        Kind::Begin => same_kind(came.kind, Kind::Accept) && same_numbers(kept, came),
         Kind::Commit => {
             (same_kind(came.kind, Kind::LeaseAck) && kept.second <= came.first)
                 || (same_kind(came.kind, Kind::Accept) && kept.second < came.second)
@@ -197,8 +196,7 @@ pub(crate) fn is_asked_again(kept: &Header, came: &Header) -> bool
         Kind::Accept => {
             same_kind(came.kind, Kind::Begin)
                 && came.epoch == kept.epoch
-                && came.first == kept.first
-                && came.second == kept.second
+                && same_numbers(kept, came)
         }
         Kind::Route => {
             same_kind(came.kind, Kind::Forward)
@@ -206,9 +204,7 @@ pub(crate) fn is_asked_again(kept: &Header, came: &Header) -> bool
                 && came.first == kept.first
         }
         Kind::Chunk | Kind::LastChunk => {
-            same_kind(came.kind, Kind::GetChunk)
-                && came.first == kept.first
-                && came.second == kept.second
+            same_kind(came.kind, Kind::GetChunk) && same_numbers(kept, came)
         }
         Kind::Probe
         | Kind::ProbeReply

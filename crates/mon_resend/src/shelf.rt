@@ -1,10 +1,12 @@
 //! The copies for one monitor, each with a note.
 
 ghost use Rattle.std.specs.Prelude.{◌≡◌, ◌≤◌, ◌++◌, ◌∷◌, [], vec_len, if◌then◌else◌};
+ghost use Rattle.mon_resend.specs.Copied.{datagram};
 ghost use Rattle.mon_resend.specs.Shelves.{applied, bytes_of, first_due, has_room, went};
 
 use crate::note::{Event, NEVER, Note};
-use mon_link::Outgoing;
+use mon_bytes::Bytes;
+use mon_link::{Outgoing, Peer};
 use std::alloc::Global;
 use std::marker::Model;
 
@@ -71,13 +73,21 @@ impl Shelf {
             && (self.bytes() as u64).saturating_add(bytes) <= MOST_KEPT_BYTES as u64
     }
 
-    /// Takes one more, if there is room and memory.
-    pub(crate) fn push(&mut self, out: Outgoing, note: Note) -> bool
-        ensures { self.new ≡ (if result then self.old ++ record { out = out; note = note } ∷ [] else self.old) }
+    /// Takes a copy of one more, if there is room and memory. Whether it did.
+    pub(crate) fn push(&mut self, alloc: Global, to: Peer, bytes: &[u8], note: Note) -> bool
+        ensures { self.new ≡ (if result then self.old ++ record { out = datagram to bytes.now; note = note } ∷ []
+            else self.old) }
     {
         if self.kept.len() >= MOST_KEPT {
             return false;
         }
+        let Ok(bytes) = Vec::from_slice(alloc, bytes) else {
+            return false;
+        };
+        let out = Outgoing {
+            to,
+            bytes: Bytes::new(bytes),
+        };
         self.kept.push(Kept { out, note }).is_ok()
     }
 

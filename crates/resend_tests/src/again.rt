@@ -5,6 +5,10 @@ use crate::again_copies::{
     ACCEPTED, ACKNOWLEDGED, ANSWERED, BEGUN, COLLECTED, COMMITTED, COMMITTED_BEFORE, COPIED,
     DEFERRED, FORWARDED, GIVEN_UP, LEASED, LEFT_BEHIND, NOT_SOONER, OUTVOTED, ROUTED, SOONER, WON,
 };
+use crate::again_rows::{
+    ACCEPTED_NEXT, ANSWERED_BEFORE, COLLECTED_ANEW, COMMITTED_LATER, COPIED_SINCE, DOUBLED,
+    IN_PIECES, LEASED_BEFORE, OUTVOTED_LATER, SOONEST, WON_OTHERWISE,
+};
 use mon_bytes::Bytes;
 use mon_link::{Got, Link, ListClock, MemoryLink, Peer};
 use mon_resend::Resending;
@@ -57,11 +61,47 @@ pub(crate) const ROUTE: u8 = 14;
 
 pub(crate) const GET_COOKIE: u8 = 15;
 
+pub(crate) const GET_COOKIE_RECENT: u8 = 16;
+
+pub(crate) const COOKIE: u8 = 17;
+
 pub(crate) const GET_CHUNK: u8 = 18;
 
 pub(crate) const CHUNK: u8 = 19;
 
+pub(crate) const LAST_CHUNK: u8 = 20;
+
+/// No kind of a message: the second piece of a long message with this number, of three.
+pub(crate) const PIECE: u8 = 101;
+
+/// The third piece.
+pub(crate) const LAST_PIECE: u8 = 102;
+
+/// How many bytes a piece has of its message, and how many such a message has.
+const PART: u32 = 59_000;
+
+const LONG: u32 = 118_001;
+
+fn piece(alloc: Global, number: u64, place: u32) -> Result<Vec<u8>, Fail> {
+    let mut bytes = Vec::from_slice(alloc, &[2, 0, 0, 0])?;
+    for field in [number, number] {
+        bytes.extend_from_slice(&field.to_le_bytes())?;
+    }
+    for field in [LONG, place] {
+        bytes.extend_from_slice(&field.to_le_bytes())?;
+    }
+    for _ in place..LONG.min(place.saturating_add(PART)) {
+        bytes.push(0)?;
+    }
+    Ok(bytes)
+}
+
 fn message(alloc: Global, kind: u8, epoch: u64, number: u64) -> Result<Vec<u8>, Fail> {
+    match kind {
+        PIECE => return piece(alloc, number, PART),
+        LAST_PIECE => return piece(alloc, number, 2 * PART),
+        _ => {}
+    }
     let mut bytes = Vec::from_slice(alloc, &[1, kind, 0, 3])?;
     for field in [epoch, number, number] {
         bytes.extend_from_slice(&field.to_le_bytes())?;
@@ -182,6 +222,17 @@ const CASES: &[(&str, &[Step])] = &[
     ("answered", ANSWERED),
     ("left behind", LEFT_BEHIND),
     ("given up", GIVEN_UP),
+    ("doubled", DOUBLED),
+    ("soonest", SOONEST),
+    ("outvoted later", OUTVOTED_LATER),
+    ("won otherwise", WON_OTHERWISE),
+    ("collected anew", COLLECTED_ANEW),
+    ("committed later", COMMITTED_LATER),
+    ("leased before", LEASED_BEFORE),
+    ("copied since", COPIED_SINCE),
+    ("in pieces", IN_PIECES),
+    ("accepted next", ACCEPTED_NEXT),
+    ("answered before", ANSWERED_BEFORE),
 ];
 
 #[test]

@@ -7,3 +7,5 @@ mod again;
 mod again_calls;
 #[cfg(test)]
 mod again_copies;
+#[cfg(test)]
+mod again_rows;
