@@ -21,7 +21,7 @@ use Rattle.mon_wire.specs.declared.kind.Kind.TheVariants as kind
 use Rattle.resend_laws.specs.Copies.{EachOf, EachAt, IsOver, StaysOver}
 use Rattle.resend_laws.proofs.Each.{IsStable, each_changed, each_lasts, no_not, over_lasts, stays_over}
 use Rattle.resend_laws.proofs.Unchanged.{header_stays}
-use Rattle.resend_laws.proofs.Walk.{of_turned, risen_at, called_at_at, put_self}
+use Rattle.mon_resend.proofs.Walk.{of_turned, risen_at, called_at_at, put_self}
 
 abbrev IsAnswered : Header → Note → Type 0
 IsAnswered h n = is_answered n.header h ≡ true

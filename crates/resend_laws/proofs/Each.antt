@@ -1,5 +1,5 @@
 -- What is noted of each copy of a datagram after a step.
-use Rattle.std.specs.Prelude.{◌≡◌, ℕ, Bool, true, false, not, refl, List, [], ◌∷◌, map, filter}
+use Rattle.std.specs.Prelude.{◌≡◌, ℕ, Bool, true, false, not, refl, List, [], ◌∷◌, ◌++◌, map, filter}
 use Rattle.std.proofs.Common.{cond}
 use Rattle.mon_link.specs.declared.link.Outgoing.{Outgoing}
 use Rattle.mon_link.specs.declared.link.Peer.TheVariants.{Monitor}
@@ -12,7 +12,7 @@ use Rattle.mon_resend.specs.Notes.{after, is_ended, is_spent}
 use Rattle.mon_resend.specs.Shelves.{with_note, if_gone, went}
 use Rattle.resend_laws.specs.Copies.{EachOf, IsOver, IsOther, StaysOver}
 use Rattle.resend_laws.specs.Runs.{Step, Sends, Hears, Passes, step}
-use Rattle.resend_laws.proofs.Walk.{Lasts, Grows, sent_at, arrived_at, passed_at}
+use Rattle.mon_resend.proofs.Walk.{Lasts, Grows, sent_at, arrived_at, passed_at}
 
 if_first : (x : Outgoing) (G : Note → Type 0) (f : Note → Note) (k : Kept) (those : List Kept) (b : Bool) → (b ≡ true → k.out ≡ x → G (f k.note))
     → EachOf x G (map (λ k. with_note (f k.note) k) those) → EachOf x G (map (λ k. with_note (f k.note) k) (cond b (k ∷ those) those))
@@ -25,9 +25,12 @@ pub each_changed : (x : Outgoing) (F G : Note → Type 0) (f : Note → Note) (p
 each_changed x F G f p a [] h = tt
 each_changed x F G f p a (k ∷ kept) h = if_first x G f k (filter p kept) (p k) (λ e o. a k e (h.0 o)) (each_changed x F G f p a kept h.1)
 
+each_more : (x : Outgoing) (F : Note → Type 0) (out : Outgoing) → (out ≡ x → ⊥) → (n : Note) (kept : List Kept) → EachOf x F kept → EachOf x F (kept ++ record { out = out; note = n } ∷ [])
+each_more x F out other n [] h = (λ e. absurd (other e), tt)
+each_more x F out other n (k ∷ kept) h = (h.0, each_more x F out other n kept h.1)
+
 pub each_grows : (x : Outgoing) (F : Note → Type 0) (out : Outgoing) → (out ≡ x → ⊥) → Grows (EachOf x F) out
-each_grows x F out other n [] h = (λ e. absurd (other e), tt)
-each_grows x F out other n (k ∷ kept) h = (h.0, each_grows x F out other n kept h.1)
+each_grows x F out other n kept room h = each_more x F out other n kept h
 
 -- what an event leaves
 abbrev pub IsStable : (Note → Type 0) → Type 0

@@ -18,7 +18,7 @@ use Rattle.resend_laws.specs.Copies.{EachOf, EachAt, IsOver, IsNotSent, IsTried}
 use Rattle.resend_laws.specs.Runs.{Step, Sends, Hears, Passes, step, run, IsInOrder, rounds}
 use Rattle.resend_laws.proofs.Each.{IsStable, each_changed, each_grows, each_is, each_lasts}
 use Rattle.resend_laws.proofs.Unchanged.{unchanged}
-use Rattle.resend_laws.proofs.Walk.{sent_at, arrived_at, passed_at}
+use Rattle.mon_resend.proofs.Walk.{sent_at, arrived_at, passed_at}
 
 -- It went j times at least, and is due soon after `since`; or it went once more since then.
 record IsAt (wait j since now : ℕ) (n : Note) : Type 0 where

@@ -1,7 +1,9 @@
-mod Walk
 mod Unchanged
 mod Each
 mod Answered
 mod Gone
 mod Older
 mod Tried
+mod Lines
+mod Forwards
+mod Turn

@@ -15,16 +15,16 @@ use Rattle.mon_resend.specs.declared.note.Note.{Note}
 use Rattle.mon_resend.specs.Again.{called}
 use Rattle.mon_resend.specs.Copied.{datagram}
 use Rattle.mon_resend.specs.Datagrams.{part_of}
-use Rattle.mon_resend.specs.Notes.{after, gone, goes, is_ended, is_spent, is_when_asked}
-use Rattle.mon_resend.specs.Rows.{is_of_epoch, way_of}
+use Rattle.mon_resend.specs.Notes.{after, is_ended, is_spent}
+use Rattle.mon_resend.specs.Rows.{is_of_epoch}
 use Rattle.mon_resend.specs.Shelves.{applied, if_gone}
 use Rattle.mon_resend.specs.World.{began, begins, box_of, called_at, came_at, asks, each, in_epoch, is_dropped_at, part_came, risen, sent_part, whole_came, with_box, with_event}
 use Rattle.mon_wire.specs.declared.kind.Kind.TheVariants as kind
 use Rattle.resend_laws.specs.Copies.{EachOf, EachAt, IsOver, IsOther, IsNotSent, IsUpTo}
 use Rattle.resend_laws.specs.Runs.{Step, Sends, Hears, Passes, step, run}
 use Rattle.resend_laws.proofs.Each.{IsStable, each_changed, each_grows, each_lasts, over_lasts, over_step, no_not}
-use Rattle.resend_laws.proofs.Unchanged.{header_stays}
-use Rattle.resend_laws.proofs.Walk.{of_turned, each_at, began_at, went_on_at, whole_came_at, part_came_at, passed_at}
+use Rattle.resend_laws.proofs.Unchanged.{header_stays, passes_header}
+use Rattle.mon_resend.proofs.Walk.{of_turned, each_at, began_at, went_on_at, whole_came_at, part_came_at, passed_at}
 
 same_up_to : (e : ℕ) (m n : Note) → m.header ≡ n.header → IsUpTo e n → IsUpTo e m
 same_up_to e m n same h = record { counts = subst (λ k. is_of_epoch k.kind ≡ true) (sym same) h.counts; epoch = subst (λ k. k.epoch ≤ e) (sym same) h.epoch }
@@ -32,16 +32,8 @@ same_up_to e m n same h = record { counts = subst (λ k. is_of_epoch k.kind ≡ 
 stable : (e : ℕ) → IsStable (IsUpTo e)
 stable e event now n h = same_up_to e (after event now n) n (header_stays event now n) h
 
-either_header : (x y n : Note) (b : Bool) → x.header ≡ n.header → y.header ≡ n.header → (cond b x y).header ≡ n.header
-either_header x y n true e f = e
-either_header x y n false e f = f
-
-gone_header : (now : ℕ) (n : Note) → (gone now n).header ≡ n.header
-gone_header now n =
-    either_header _ _ n (is_when_asked (way_of n.header.kind)) refl (either_header _ _ n n.held refl refl)
-
 passes_up_to : (e : ℕ) (again : Bool) (now : ℕ) (n : Note) → IsUpTo e n → IsUpTo e (if_gone again now n)
-passes_up_to e again now n h = same_up_to e (if_gone again now n) n (either_header (gone now n) n n (goes again now n) (gone_header now n) refl) h
+passes_up_to e again now n h = same_up_to e (if_gone again now n) n (passes_header again now n) h
 
 -- ---- epochs
 

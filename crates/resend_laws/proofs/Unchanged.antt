@@ -1,14 +1,16 @@
 -- What an event leaves of a note.
 use Rattle.std.specs.Prelude.{◌≡◌, ℕ, Bool, true, false, ◌&&◌, ◌==◌, refl}
-use Rattle.std.proofs.Common.{cond}
+use Rattle.std.proofs.Common.{cond, sym, subst}
 use Rattle.mon_decode.specs.declared.header.Header.{Header}
 use Rattle.mon_decode.specs.Headers.{same_kind}
 use Rattle.mon_resend.specs.declared.note.Event.{Event}
 use Rattle.mon_resend.specs.declared.note.Event.TheVariants.{Sent, Came, Piece, Asked, Rose, Deferred, Left, Turn}
 use Rattle.mon_resend.specs.declared.note.Note.{Note}
 use Rattle.mon_resend.specs.declared.rows.Way.TheVariants as way
-use Rattle.mon_resend.specs.Notes.{after, called, plus}
+use Rattle.mon_resend.specs.Notes.{after, called, gone, goes, is_when_asked, plus}
 use Rattle.mon_resend.specs.Rows.{way_of, is_asked_as, is_asked_again}
+use Rattle.mon_resend.specs.Shelves.{if_gone}
+use Rattle.mon_resend.proofs.Steps.{is_turn}
 use Rattle.mon_wire.specs.declared.kind.Kind.{Kind}
 use Rattle.mon_wire.specs.declared.kind.Kind.TheVariants as kind
 
@@ -65,12 +67,69 @@ not_both : (a b : Bool) → a ≡ false → (a && b) ≡ false
 not_both true b e = absurd cc
 not_both false b e = refl
 
+pub not_turned : (event : Event) (now : ℕ) (n : Note) → is_turn event ≡ false → way_of n.header.kind ≡ way.ByTime → same_kind n.header.kind kind.GetChunk ≡ false → after event now n ≡ n
+not_turned (Asked h) now n t w g = unless (called now n) n (is_asked_again n.header h) (not_asked n.header.kind n.header h w)
+not_turned (Turn seq) now n t w g = absurd cc
+not_turned (Piece is_last) now n t w g = unless (record n { due = plus now (cond is_last 20 n.every) }) n (same_kind n.header.kind kind.GetChunk) g
+not_turned (Sent sent) now n t w g = refl
+not_turned (Came h) now n t w g = refl
+not_turned (Rose epoch) now n t w g = refl
+not_turned Deferred now n t w g = refl
+not_turned Left now n t w g = refl
+
 pub unchanged : (event : Event) (now : ℕ) (n : Note) → way_of n.header.kind ≡ way.ByTime → same_kind n.header.kind kind.GetChunk ≡ false → n.held ≡ false → after event now n ≡ n
-unchanged (Asked h) now n w g e = unless (called now n) n (is_asked_again n.header h) (not_asked n.header.kind n.header h w)
 unchanged (Turn seq) now n w g e = unless (called now n) n (n.held && (n.header.first == seq)) (not_both n.held (n.header.first == seq) e)
-unchanged (Piece is_last) now n w g e = unless (record n { due = plus now (cond is_last 20 n.every) }) n (same_kind n.header.kind kind.GetChunk) g
+unchanged (Asked h) now n w g e = not_turned (Asked h) now n refl w g
+unchanged (Piece is_last) now n w g e = not_turned (Piece is_last) now n refl w g
 unchanged (Sent sent) now n w g e = refl
 unchanged (Came h) now n w g e = refl
 unchanged (Rose epoch) now n w g e = refl
 unchanged Deferred now n w g e = refl
 unchanged Left now n w g e = refl
+
+-- ---- a FORWARD is such a message
+
+by_kind : (k : Kind) → same_kind k kind.Forward ≡ true → k ≡ kind.Forward
+by_kind kind.Probe e = absurd cc
+by_kind kind.ProbeReply e = absurd cc
+by_kind kind.Propose e = absurd cc
+by_kind kind.Ack e = absurd cc
+by_kind kind.Victory e = absurd cc
+by_kind kind.Collect e = absurd cc
+by_kind kind.Last e = absurd cc
+by_kind kind.Begin e = absurd cc
+by_kind kind.Accept e = absurd cc
+by_kind kind.Commit e = absurd cc
+by_kind kind.Lease e = absurd cc
+by_kind kind.LeaseAck e = absurd cc
+by_kind kind.Forward e = refl
+by_kind kind.Route e = absurd cc
+by_kind kind.GetCookieFull e = absurd cc
+by_kind kind.GetCookieRecent e = absurd cc
+by_kind kind.Cookie e = absurd cc
+by_kind kind.GetChunk e = absurd cc
+by_kind kind.Chunk e = absurd cc
+by_kind kind.LastChunk e = absurd cc
+by_kind kind.NoCookie e = absurd cc
+by_kind kind.Ping e = absurd cc
+by_kind kind.PingReply e = absurd cc
+by_kind kind.Request e = absurd cc
+by_kind kind.Reply e = absurd cc
+
+pub forward_by_time : (k : Kind) → same_kind k kind.Forward ≡ true → way_of k ≡ way.ByTime
+forward_by_time k e = subst (λ k. way_of k ≡ way.ByTime) (sym (by_kind k e)) refl
+
+pub forward_no_chunk : (k : Kind) → same_kind k kind.Forward ≡ true → same_kind k kind.GetChunk ≡ false
+forward_no_chunk k e = subst (λ k. same_kind k kind.GetChunk ≡ false) (sym (by_kind k e)) refl
+
+-- ---- nor does its header change when it goes
+
+either_header : (x y n : Note) (b : Bool) → x.header ≡ n.header → y.header ≡ n.header → (cond b x y).header ≡ n.header
+either_header x y n true e f = e
+either_header x y n false e f = f
+
+gone_header : (now : ℕ) (n : Note) → (gone now n).header ≡ n.header
+gone_header now n = either_header _ _ n (is_when_asked (way_of n.header.kind)) refl (either_header _ _ n n.held refl refl)
+
+pub passes_header : (again : Bool) (now : ℕ) (n : Note) → (if_gone again now n).header ≡ n.header
+passes_header again now n = either_header (gone now n) n n (goes again now n) (gone_header now n) refl

@@ -1,6 +1,8 @@
 //! The laws, over every list of steps.
 
-ghost use Rattle.std.specs.Prelude.{◌≡◌, ℕ, ◌<◌, ◌≤◌, Bool, true, false, List, Some, ◌||◌};
+ghost use Rattle.std.specs.Prelude.{◌≡◌, ℕ, ◌<◌, ◌≤◌, Bool, true, false, List, [], ◌∷◌, ◌++◌, Some, ◌||◌};
+ghost use Rattle.std.specs.List.{AllByRecursion};
+ghost use Rattle.std.specs.List.Sorted.{IsNonDecreasing};
 ghost use Rattle.mon_decode.specs.Headers.{same_kind};
 ghost use Rattle.mon_decode.specs.declared.header.Header.{Header};
 ghost use Rattle.mon_link.specs.declared.link.Outgoing.{Outgoing};
@@ -8,12 +10,15 @@ ghost use Rattle.mon_resend.specs.declared.copies.Copies.{Copies};
 ghost use Rattle.mon_resend.specs.declared.datagram.Part.TheVariants.{Whole};
 ghost use Rattle.mon_resend.specs.declared.outbox.Outbox.{Outbox};
 ghost use Rattle.mon_resend.specs.declared.rows.Way.TheVariants.{ByTime};
-ghost use Rattle.mon_resend.specs.Again.{note_of};
+ghost use Rattle.mon_resend.specs.declared.shelf.Kept.{Kept};
+ghost use Rattle.mon_resend.specs.Again.{first_forward, note_of};
 ghost use Rattle.mon_resend.specs.Datagrams.{part_of};
+ghost use Rattle.mon_resend.specs.Notes.{goes};
 ghost use Rattle.mon_resend.specs.Rows.{is_answered, way_of};
-ghost use Rattle.mon_resend.specs.World.{arrived, asks, is_taken};
+ghost use Rattle.mon_resend.specs.World.{all_passed, arrived, asks, box_of, is_taken};
 ghost use Rattle.mon_wire.specs.declared.kind.Kind.TheVariants.{GetChunk};
 ghost use Rattle.resend_laws.specs.Copies.{EachAt, IsNotSent, IsOver, IsTried, IsUpTo, StaysOver};
+ghost use Rattle.resend_laws.specs.Forwards.{IsBeforeEnd, IsLeast, begun, kept_for, leave, leave_in};
 ghost use Rattle.resend_laws.specs.Runs.{IsInOrder, Step, rounds, run};
 
 /// Nothing that goes by time is kept for ever. Let a copy wait at most `wait` milliseconds, a second or more. It is kept no
@@ -45,4 +50,23 @@ pub fn law_answered()
 pub fn law_older()
     ensures { (c : Copies) (rank : ℕ) (x : Outgoing) (steps : List Step) → EachAt rank x (IsUpTo c.epoch) c
         → IsNotSent x steps → c.epoch < (run steps c).epoch → IsOver rank x (run steps c) }
+{}
+
+/// FORWARDs go in order. Let none be kept for a monitor, and let the numbers of those that begin to go to it never fall.
+/// Then the numbers of those of which a datagram leaves for it never fall, later pieces and copies included. When one leaves,
+/// none of a lesser number is kept: it was answered or given up, a greater epoch or a PROBE ended it, or it had no copy.
+pub fn law_forwards()
+    ensures in_order { (c : Copies) (rank : ℕ) (steps : List Step) → kept_for rank c ≡ []
+        → IsNonDecreasing (begun rank steps) → IsBeforeEnd steps → IsNonDecreasing (leave rank steps c) }
+    ensures one_by_one { (c : Copies) (rank : ℕ) (steps : List Step) (s : Step) → kept_for rank c ≡ []
+        → IsNonDecreasing (begun rank (steps ++ s ∷ [])) → IsBeforeEnd (steps ++ s ∷ [])
+        → AllByRecursion (λ q. IsLeast rank q (run (steps ++ s ∷ []) c)) (leave_in rank s (run steps c)) }
+{}
+
+/// The next FORWARD goes once none before it is kept. After copies could go, the first one that is kept went already, or it
+/// goes when copies can go again.
+pub fn law_turn()
+    ensures { (c : Copies) (rank : ℕ) (before again : Bool) (since now : ℕ) (k : Kept)
+        → first_forward (box_of rank (all_passed before since c)).shelf ≡ Some k → k.note.held ≡ true → since ≤ now
+        → goes again now k.note ≡ true }
 {}
