@@ -1,4 +1,5 @@
 pub mod Answering
+pub mod Kinds
 pub mod Rations
 pub mod Reports
 pub mod Requests

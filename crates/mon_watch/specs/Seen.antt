@@ -1,6 +1,6 @@
 -- What is known of a monitor from the headers of the messages that it sends and gets. Where they don't show what its core knows, less is
 -- known.
-use Rattle.std.specs.Prelude.{ℕ, max, ◌+◌, ◌==◌, ◌&&◌, Bool, true, false, nat_le, Option, Some, None, slice_set, slice_index_or, replicate, if◌then◌else◌}
+use Rattle.std.specs.Prelude.{ℕ, max, ◌+◌, ◌==◌, ◌&&◌, Bool, true, false, nat_le, List, Option, Some, None, is_some, slice_set, slice_index_or, replicate, if◌then◌else◌}
 use Rattle.mon_types.specs.Faults.{risen}
 use Rattle.mon_link.specs.declared.link.Peer.{Peer}
 use Rattle.mon_link.specs.declared.link.Peer.TheVariants.{Monitor, Client}
@@ -9,6 +9,7 @@ use Rattle.mon_wire.specs.declared.kind.Kind.{Kind}
 use Rattle.mon_wire.specs.declared.kind.Kind.TheVariants as kind
 use Rattle.mon_wire.specs.declared.phase.Phase.{Phase}
 use Rattle.mon_wire.specs.declared.phase.Phase.TheVariants as phase
+use Rattle.mon_decode.specs.Headers.{header_of}
 use Rattle.mon_decode.specs.declared.header.Header.{Header}
 use Rattle.mon_watch.specs.declared.contact.Contact.{Contact}
 use Rattle.mon_watch.specs.declared.contact.TheConstants.{SILENCE}
@@ -57,9 +58,13 @@ shown kind.GetCookieFull = Some phase.Synchronizing
 shown kind.GetCookieRecent = Some phase.Synchronizing
 shown k = None
 
-abbrev pub phase_after : Option Phase → Phase → Phase
-phase_after (Some p) old = p
-phase_after None old = old
+abbrev pub shows : Option Kind → Bool
+shows (Some k) = is_some (shown k)
+shows None = false
+
+-- The header of a message that is sent is read if its kind shows a phase.
+abbrev pub header_read : Option Kind → List ℕ → Option Header
+header_read k bytes = if shows k then header_of bytes else None
 
 -- who leads the quorum of a monitor of this rank that sends to `to` in such a phase
 abbrev pub led_by : (own to : ℕ) → Phase → Option ℕ
@@ -68,31 +73,22 @@ led_by own to phase.Active = Some own
 led_by own to phase.Peon = Some to
 led_by own to p = None
 
-abbrev pub leader_after : (own to : ℕ) → Option Phase → Option ℕ → Option ℕ
-leader_after own to (Some p) old = led_by own to p
-leader_after own to None old = old
-
 -- from whom it takes a store, until it is in a quorum
 abbrev pub taken_from : (to : ℕ) → Phase → Option ℕ → Option ℕ
 taken_from to phase.Synchronizing old = Some to
 taken_from to p old = if is_member p then None else old
 
-abbrev pub source_after : (to : ℕ) → Option Phase → Option ℕ → Option ℕ
-source_after to (Some p) old = taken_from to p old
-source_after to None old = old
-
 -- an election begins, or begins anew in a later epoch
-abbrev pub elections_after : (epoch : ℕ) → Option Phase → Seen → ℕ
-elections_after epoch (Some phase.Electing) s =
+abbrev pub elections_after : (epoch : ℕ) → Phase → Seen → ℕ
+elections_after epoch phase.Electing s =
     if same_phase s.phase phase.Electing && nat_le epoch s.epoch then s.elections else risen s.elections
 elections_after epoch p s = s.elections
 
 -- the sender's last version, if the message names it
-abbrev pub named : Kind → (first second : ℕ) → ℕ
-named kind.Lease first second = first
-named kind.LeaseAck first second = first
-named kind.Commit first second = second
-named k first second = 0
+abbrev pub named : Kind → (first : ℕ) → ℕ
+named kind.Lease first = first
+named kind.LeaseAck first = first
+named k first = 0
 
 -- ---- victories
 
@@ -101,7 +97,7 @@ abbrev pub later_of : Victory → Option Victory → Option Victory
 later_of v None = Some v
 later_of v (Some w) = if nat_le w.epoch v.epoch then Some v else Some w
 
--- what a message of this monitor tells of a victory
+-- the victory that is known after a message of this monitor
 abbrev pub victory_after : (leader : ℕ) → Kind → (epoch quorum : ℕ) → Option Victory → Option Victory
 victory_after leader kind.Victory epoch quorum old = later_of (record { leader = leader; epoch = epoch; quorum = quorum }) old
 victory_after leader k epoch quorum old = old
@@ -125,19 +121,24 @@ nothing_seen = record {
   contacts = replicate 15 no_contact;
 }
 
--- The monitor of rank `own` sent a message of this header to the monitor `to`. Without a header nothing is known but that.
-abbrev pub after_header : (own to : ℕ) → Option Header → Seen → Seen
-after_header own to None s = s
-after_header own to (Some h) s = record {
-  phase = phase_after (shown h.kind) s.phase;
+-- The monitor of rank `own` sent a message of this header to the monitor `to`, which shows this phase.
+abbrev pub after_phase : (own to : ℕ) → Header → Option Phase → Seen → Seen
+after_phase own to h None s = s
+after_phase own to h (Some p) s = record {
+  phase = p;
   epoch = h.epoch;
-  leader = leader_after own to (shown h.kind) s.leader;
-  source = source_after to (shown h.kind) s.source;
+  leader = led_by own to p;
+  source = taken_from to p s.source;
   victory = victory_after own h.kind h.epoch h.first s.victory;
-  version = max s.version (named h.kind h.first h.second);
-  elections = elections_after h.epoch (shown h.kind) s;
+  version = max s.version (named h.kind h.first);
+  elections = elections_after h.epoch p s;
   contacts = s.contacts;
 }
+
+-- Without a header nothing more is known.
+abbrev pub after_header : (own to : ℕ) → Option Header → Seen → Seen
+after_header own to None s = s
+after_header own to (Some h) s = after_phase own to h (shown h.kind) s
 
 -- whether a monitor that is well answers each message of this kind
 abbrev pub awaits : Kind → Bool
@@ -152,24 +153,35 @@ awaits kind.GetChunk = true
 awaits kind.Ping = true
 awaits k = false
 
-abbrev pub contact_after : (now : ℕ) → Option Header → Contact → Contact
-contact_after now (Some h) c = if awaits h.kind then asked_at now c else c
+abbrev pub contact_after : (now : ℕ) → Option Kind → Contact → Contact
+contact_after now (Some k) c = if awaits k then asked_at now c else c
 contact_after now None c = c
 
 abbrev pub with_contact : ℕ → Contact → Seen → Seen
 with_contact j c s = record s { contacts = slice_set s.contacts j c }
 
--- a datagram of this header went out at this time
-abbrev pub after_sent : (own now : ℕ) → Peer → Option Header → Seen → Seen
-after_sent own now (Monitor to) h s = with_contact to (contact_after now h (slice_index_or s.contacts to no_contact)) (after_header own to h s)
-after_sent own now (Client c) h s = s
+-- a datagram of a message of this kind, or of none, went out at this time
+abbrev pub after_sent : (own now : ℕ) → Peer → Option Kind → List ℕ → Seen → Seen
+after_sent own now (Monitor to) k bytes s =
+    with_contact to (contact_after now k (slice_index_or s.contacts to no_contact)) (after_header own to (header_read k bytes) s)
+after_sent own now (Client c) k bytes s = s
 
--- what a message of the monitor `from` tells
-abbrev pub after_told : (from : ℕ) → Option Header → Seen → Seen
-after_told from None s = s
-after_told from (Some h) s = record s { victory = victory_after from h.kind h.epoch h.first s.victory }
+-- ---- a message that comes
 
--- a datagram of this header came at this time
-abbrev pub after_came : (now : ℕ) → Peer → Option Header → Seen → Seen
-after_came now (Monitor from) h s = with_contact from (heard_at now) (after_told from h s)
-after_came now (Client c) h s = s
+-- The header of a message that comes is read if it announces a victory.
+abbrev pub announces : Option Kind → Bool
+announces (Some kind.Victory) = true
+announces k = false
+
+abbrev pub header_heard : Option Kind → List ℕ → Option Header
+header_heard k bytes = if announces k then header_of bytes else None
+
+-- a message of this header came from the monitor `from`
+abbrev pub after_heard : (from : ℕ) → Option Header → Seen → Seen
+after_heard from None s = s
+after_heard from (Some h) s = record s { victory = victory_after from h.kind h.epoch h.first s.victory }
+
+-- a datagram of a message of this kind, or of none, came at this time
+abbrev pub after_came : (now : ℕ) → Peer → Option Kind → List ℕ → Seen → Seen
+after_came now (Monitor from) k bytes s = with_contact from (heard_at now) (after_heard from (header_heard k bytes) s)
+after_came now (Client c) k bytes s = s

@@ -5,15 +5,16 @@ use Rattle.mon_link.specs.declared.link.Got.{Got}
 use Rattle.mon_link.specs.declared.link.Got.TheVariants.{Datagram, Idle, Closed}
 use Rattle.mon_link.specs.declared.link.Peer.{Peer}
 use Rattle.mon_frag.specs.Headers.{is_piece}
-use Rattle.mon_decode.specs.Headers.{header_of, kind_byte}
-use Rattle.mon_decode.specs.declared.header.Header.{Header}
+use Rattle.mon_decode.specs.Headers.{kind_byte}
+use Rattle.mon_wire.specs.declared.kind.Kind.{Kind}
+use Rattle.mon_watch.specs.Kinds.{kind_named}
 use Rattle.mon_watch.specs.declared.notes.Notes.{Notes}
 use Rattle.mon_watch.specs.declared.traffic.Traffic.{Traffic}
 use Rattle.mon_watch.specs.Seen.{after_sent, after_came, nothing_seen}
 
--- where a datagram counts: at the byte of its message's kind, or at 0 if it is a piece of a long message
-abbrev pub place : List ℕ → Option Header → Option ℕ
-place bytes (Some h) = Some (kind_byte h.kind)
+-- where a datagram counts: at the byte of the kind that it names, or at 0 if it is a piece of a long message
+abbrev pub place : List ℕ → Option Kind → Option ℕ
+place bytes (Some k) = Some (kind_byte k)
 place bytes None = if is_piece bytes then Some 0 else None
 
 abbrev pub no_traffic : Traffic
@@ -38,10 +39,14 @@ no_notes = record { seen = nothing_seen; traffic = no_traffic; now = 0 }
 
 -- The monitor of rank `own` sent a datagram. It counts as sent when the link last gave something.
 abbrev pub notes_sent : (own : ℕ) → Peer → List ℕ → Notes → Notes
-notes_sent own to bytes n = record n { seen = after_sent own n.now to (header_of bytes) n.seen; traffic = with_sent (place bytes (header_of bytes)) n.traffic }
+notes_sent own to bytes n =
+    let k = kind_named bytes in
+    record n { seen = after_sent own n.now to k bytes n.seen; traffic = with_sent (place bytes k) n.traffic }
 
 abbrev pub notes_came : Peer → List ℕ → Notes → Notes
-notes_came from bytes n = record n { seen = after_came n.now from (header_of bytes) n.seen; traffic = with_received (place bytes (header_of bytes)) n.traffic }
+notes_came from bytes n =
+    let k = kind_named bytes in
+    record n { seen = after_came n.now from k bytes n.seen; traffic = with_received (place bytes k) n.traffic }
 
 -- the link gave this at a time
 abbrev pub notes_got : (now : ℕ) → Got → Notes → Notes

@@ -8,7 +8,7 @@ use std::cell::RefCell;
 use std::fmt::Write;
 use std::rc::Rc;
 
-/// Writes lines in one form: the milliseconds since the start, ` ms: `, and what is told.
+/// Writes lines in one form: the milliseconds since the start, ` ms: `, and the line.
 #[derive(Drop)]
 pub struct Journal<W: Tell + Drop, C: Clock + Drop> {
     out: W,
@@ -30,7 +30,7 @@ fn left_out_line(alloc: Global, count: u64) -> Result<String, AllocError> {
 }
 
 impl<W: Tell + Drop, C: Clock + Drop> Journal<W, C> {
-    /// Nothing was told yet.
+    /// A journal without a line.
     pub fn new(out: W, clock: C, alloc: Global) -> Journal<W, C> {
         Journal {
             out,
@@ -57,7 +57,7 @@ impl<W: Tell + Drop, C: Clock + Drop> Journal<W, C> {
         }
     }
 
-    fn tells(&mut self, line: &str) {
+    fn takes(&mut self, line: &str) {
         let now = self.clock.now().get();
         self.renews(now);
         if self.ration.counts() {
@@ -106,7 +106,7 @@ impl<W: Tell + Drop, C: Clock + Drop> Tell for Shared<W, C> {
         if let Some(journal) = &self.journal
             && let Ok(mut journal) = journal.try_borrow_mut()
         {
-            journal.tells(line);
+            journal.takes(line);
         }
     }
 

@@ -4,6 +4,7 @@
 
 mod contact;
 mod journal;
+mod kinds;
 mod lines;
 mod notes;
 mod ration;

@@ -14,9 +14,9 @@ use std::fmt::Write;
 /// How often it is looked whether a monitor is silent, in milliseconds.
 const LOOK: u64 = 1000;
 
-/// What lines are told to.
+/// What takes lines.
 pub trait Tell {
-    /// Tells a line, which is given without its end.
+    /// Takes a line, which is given without its end.
     fn tell(&mut self, line: &str);
 
     /// Time passed.
@@ -47,9 +47,9 @@ impl Standing {
     }
 }
 
-/// What was told last.
+/// What the last lines said.
 #[derive(Clone, Copy)]
-pub(crate) struct Told {
+pub(crate) struct Said {
     standing: Standing,
     source: Option<u8>,
     /// Since when each monitor is silent, of those about which a line says so.
@@ -119,17 +119,17 @@ fn heard_line(alloc: Global, rank: u8, time: u64) -> Result<String, AllocError> 
     Ok(line)
 }
 
-/// Tells a line, if there was memory for it.
-fn tell_if<S: Tell>(lines: &mut S, line: Result<String, AllocError>) {
+/// Writes a line, if there was memory for it.
+fn write_if<S: Tell>(lines: &mut S, line: Result<String, AllocError>) {
     if let Ok(line) = line {
         lines.tell(line.as_str());
     }
 }
 
-impl Told {
-    /// Nothing was told yet.
-    pub(crate) fn new() -> Told {
-        Told {
+impl Said {
+    /// No line was written yet.
+    pub(crate) fn new() -> Said {
+        Said {
             standing: Standing::Unknown,
             source: None,
             silent: [None; 15],
@@ -139,7 +139,7 @@ impl Told {
         }
     }
 
-    /// Tells what the monitor does, if that changed.
+    /// Says what the monitor does, if that changed.
     pub(crate) fn changes<S: Tell + Drop>(&mut self, watch: &mut Watch<S>, notes: &Notes)
         ensures { watch.new.member ≡ watch.old.member }
     {
@@ -151,14 +151,14 @@ impl Told {
         let standing = Standing::of(seen);
         if standing != self.standing {
             self.standing = standing;
-            tell_if(
+            write_if(
                 &mut watch.lines,
                 standing_line(watch.alloc, standing, seen.quorum()),
             );
         }
     }
 
-    /// Tells of a monitor that became silent, or was heard again.
+    /// Names a monitor that became silent, or was heard again.
     fn looks_at<S: Tell>(&mut self, alloc: Global, lines: &mut S, rank: Rank, notes: &Notes) {
         let place = usize::from(rank.get());
         let contact = notes.seen.contacts[place];
@@ -166,20 +166,20 @@ impl Told {
             None => {
                 if contact.is_silent(notes.now) {
                     self.silent[place] = contact.asked;
-                    tell_if(lines, silent_line(alloc, rank.get()));
+                    write_if(lines, silent_line(alloc, rank.get()));
                 }
             }
             Some(since) => {
                 if !contact.is_silent(notes.now) {
                     self.silent[place] = None;
                     let time = notes.now.saturating_sub(since);
-                    tell_if(lines, heard_line(alloc, rank.get(), time));
+                    write_if(lines, heard_line(alloc, rank.get(), time));
                 }
             }
         }
     }
 
-    /// Tells of slow syncs.
+    /// Names slow syncs.
     fn looks_at_disks<S: Tell>(
         &mut self,
         alloc: Global,
@@ -189,15 +189,15 @@ impl Told {
     ) {
         if a.slow != self.slow_a {
             self.slow_a = a.slow;
-            tell_if(lines, slow_line(alloc, "a", a.last_slow));
+            write_if(lines, slow_line(alloc, "a", a.last_slow));
         }
         if b.slow != self.slow_b {
             self.slow_b = b.slow;
-            tell_if(lines, slow_line(alloc, "b", b.last_slow));
+            write_if(lines, slow_line(alloc, "b", b.last_slow));
         }
     }
 
-    /// Tells what changed with time, once a second.
+    /// Says what changed with time, once a second.
     pub(crate) fn passes<S: Tell + Drop>(&mut self, watch: &mut Watch<S>, notes: &Notes)
         ensures { watch.new.member ≡ watch.old.member }
     {

@@ -1,9 +1,11 @@
 ghost use Rattle.std.specs.Prelude.{◌≡◌};
+ghost use Rattle.mon_watch.specs.Kinds.{kind_named};
+ghost use Rattle.mon_watch.specs.Seen.{shows};
 ghost use Rattle.mon_watch.specs.Traffic.{no_notes, notes_came, notes_got, notes_sent};
 
-use crate::seen::Seen;
+use crate::kinds::kind_named;
+use crate::seen::{Seen, shows};
 use crate::traffic::Traffic;
-use mon_decode::read_header;
 use mon_link::{Got, Peer};
 use mon_types::Rank;
 
@@ -27,21 +29,23 @@ impl Notes {
         }
     }
 
-    /// The monitor of rank `own` sends this.
-    pub(crate) fn sends(&mut self, own: Rank, to: &Peer, bytes: &[u8])
-        ensures { self.new ≡ notes_sent own to.now bytes.now self.old }
+    /// The monitor of rank `own` sends this. Returns whether it may show another phase than before.
+    pub(crate) fn sends(&mut self, own: Rank, to: &Peer, bytes: &[u8]) -> bool
+        ensures notes { self.new ≡ notes_sent own to.now bytes.now self.old }
+        ensures shows { result ≡ shows (kind_named bytes.now) }
     {
-        let header = read_header(bytes);
-        self.seen.sends(own, *to, header, self.now);
-        self.traffic.sends(bytes, header);
+        let kind = kind_named(bytes);
+        self.seen.sends(own, *to, kind, bytes, self.now);
+        self.traffic.sends(bytes, kind);
+        shows(kind)
     }
 
     fn comes(&mut self, from: Peer, bytes: &[u8])
         ensures { self.new ≡ notes_came from bytes.now self.old }
     {
-        let header = read_header(bytes);
-        self.seen.gets(from, header, self.now);
-        self.traffic.gets(bytes, header);
+        let kind = kind_named(bytes);
+        self.seen.gets(from, kind, bytes, self.now);
+        self.traffic.gets(bytes, kind);
     }
 
     /// The link gives this.

@@ -1,10 +1,10 @@
 //! What is known of a monitor from the headers of its messages.
 
 ghost use Rattle.std.specs.Prelude.{◌≡◌, slice_index_or};
-ghost use Rattle.mon_watch.specs.Seen.{after_came, after_header, after_sent, after_told, awaits, contact_after, heard_at, elections_after, later_of, leader_after, led_by, named, no_contact, nothing_seen, phase_after, quorum_of, shown, source_after, taken_from, victory_after, with_contact};
+ghost use Rattle.mon_watch.specs.Seen.{after_came, after_header, after_heard, after_phase, after_sent, announces, awaits, contact_after, elections_after, header_heard, header_read, heard_at, later_of, led_by, named, no_contact, nothing_seen, quorum_of, shown, shows, taken_from, victory_after, with_contact};
 
 use crate::contact::Contact;
-use mon_decode::Header;
+use mon_decode::{Header, read_header};
 use mon_link::Peer;
 use mon_types::Rank;
 use mon_wire::{Kind, Phase};
@@ -22,7 +22,7 @@ pub struct Victory {
 pub struct Seen {
     /// The phase that the kinds of its messages show.
     pub phase: Phase,
-    /// The epoch of its last message to a monitor.
+    /// The epoch of its last message to a monitor whose kind shows a phase.
     pub epoch: u64,
     /// The rank that leads its quorum.
     pub leader: Option<u8>,
@@ -53,13 +53,24 @@ fn shown(kind: Kind) -> Option<Phase>
     }
 }
 
-fn phase_after(shown: Option<Phase>, old: Phase) -> Phase
-    ensures { result ≡ phase_after shown old }
+/// Whether a message of this kind shows the phase of its sender.
+pub(crate) fn shows(kind: Option<Kind>) -> bool
+    ensures { result ≡ shows kind }
 {
-    match shown {
-        Some(phase) => phase,
-        None => old,
+    match kind {
+        Some(kind) => shown(kind).is_some(),
+        None => false,
     }
+}
+
+/// The header of a message that is sent, if its kind shows a phase.
+fn header_read(kind: Option<Kind>, bytes: &[u8]) -> Option<Header>
+    ensures { result ≡ header_read kind bytes.now }
+{
+    if shows(kind) {
+        return read_header(bytes);
+    }
+    None
 }
 
 fn led_by(own: u8, to: u8, phase: Phase) -> Option<u8>
@@ -72,15 +83,6 @@ fn led_by(own: u8, to: u8, phase: Phase) -> Option<u8>
     }
 }
 
-fn leader_after(own: u8, to: u8, shown: Option<Phase>, old: Option<u8>) -> Option<u8>
-    ensures { result ≡ leader_after own to shown old }
-{
-    match shown {
-        Some(phase) => led_by(own, to, phase),
-        None => old,
-    }
-}
-
 fn taken_from(to: u8, phase: Phase, old: Option<u8>) -> Option<u8>
     ensures { result ≡ taken_from to phase old }
 {
@@ -90,22 +92,12 @@ fn taken_from(to: u8, phase: Phase, old: Option<u8>) -> Option<u8>
     }
 }
 
-fn source_after(to: u8, shown: Option<Phase>, old: Option<u8>) -> Option<u8>
-    ensures { result ≡ source_after to shown old }
-{
-    match shown {
-        Some(phase) => taken_from(to, phase, old),
-        None => old,
-    }
-}
-
 /// The sender's last version, if the message names it, and otherwise 0.
-fn named(kind: Kind, first: u64, second: u64) -> u64
-    ensures { result ≡ named kind first second }
+fn named(kind: Kind, first: u64) -> u64
+    ensures { result ≡ named kind first }
 {
     match kind {
         Kind::Lease | Kind::LeaseAck => first,
-        Kind::Commit => second,
         _ => 0,
     }
 }
@@ -143,12 +135,12 @@ fn awaits(kind: Kind) -> bool
     )
 }
 
-fn contact_after(now: u64, header: Option<Header>, contact: Contact) -> Contact
-    ensures { result ≡ contact_after now header contact }
+fn contact_after(now: u64, kind: Option<Kind>, contact: Contact) -> Contact
+    ensures { result ≡ contact_after now kind contact }
 {
-    match header {
-        Some(header) => {
-            if awaits(header.kind) {
+    match kind {
+        Some(kind) => {
+            if awaits(kind) {
                 contact.asked_at(now)
             } else {
                 contact
@@ -156,6 +148,23 @@ fn contact_after(now: u64, header: Option<Header>, contact: Contact) -> Contact
         }
         None => contact,
     }
+}
+
+/// Whether a message of this kind announces a victory.
+fn announces(kind: Option<Kind>) -> bool
+    ensures { result ≡ announces kind }
+{
+    matches!(kind, Some(Kind::Victory))
+}
+
+/// The header of a message that comes, if it announces a victory.
+fn header_heard(kind: Option<Kind>, bytes: &[u8]) -> Option<Header>
+    ensures { result ≡ header_heard kind bytes.now }
+{
+    if announces(kind) {
+        return read_header(bytes);
+    }
+    None
 }
 
 fn victory_after(
@@ -213,11 +222,11 @@ impl Seen {
         }
     }
 
-    fn elections_after(&self, epoch: u64, shown: Option<Phase>) -> u64
-        ensures { result ≡ elections_after epoch shown self.now }
+    fn elections_after(&self, epoch: u64, phase: Phase) -> u64
+        ensures { result ≡ elections_after epoch phase self.now }
     {
-        match shown {
-            Some(Phase::Electing) => {
+        match phase {
+            Phase::Electing => {
                 if self.phase == Phase::Electing && epoch <= self.epoch {
                     self.elections
                 } else {
@@ -228,28 +237,33 @@ impl Seen {
         }
     }
 
+    /// The monitor of rank `own` sends a message of this header, which shows this phase.
+    fn shows(&mut self, own: u8, to: u8, header: Header, phase: Phase)
+        ensures { self.new ≡ after_phase own to header (Some phase) self.old }
+    {
+        self.elections = self.elections_after(header.epoch, phase);
+        self.phase = phase;
+        self.epoch = header.epoch;
+        self.leader = led_by(own, to, phase);
+        self.source = taken_from(to, phase, self.source);
+        self.victory = victory_after(own, header.kind, header.epoch, header.first, self.victory);
+        self.version = self.version.max(named(header.kind, header.first));
+    }
+
     /// The monitor of rank `own` sends a message of this header.
     fn says(&mut self, own: u8, to: u8, header: Option<Header>)
         ensures { self.new ≡ after_header own to header self.old }
     {
-        let Some(header) = header else {
-            return;
-        };
-        let shown = shown(header.kind);
-        self.elections = self.elections_after(header.epoch, shown);
-        self.phase = phase_after(shown, self.phase);
-        self.epoch = header.epoch;
-        self.leader = leader_after(own, to, shown, self.leader);
-        self.source = source_after(to, shown, self.source);
-        self.victory = victory_after(own, header.kind, header.epoch, header.first, self.victory);
-        self.version = self
-            .version
-            .max(named(header.kind, header.first, header.second));
+        if let Some(header) = header
+            && let Some(phase) = shown(header.kind)
+        {
+            self.shows(own, to, header, phase);
+        }
     }
 
     /// The monitor of rank `from` sent a message of this header.
-    fn told(&mut self, from: u8, header: Option<Header>)
-        ensures { self.new ≡ after_told from header self.old }
+    fn hears_of(&mut self, from: u8, header: Option<Header>)
+        ensures { self.new ≡ after_heard from header self.old }
     {
         if let Some(header) = header {
             self.victory = victory_after(
@@ -262,11 +276,11 @@ impl Seen {
         }
     }
 
-    fn asks(&mut self, to: Rank, header: Option<Header>, now: u64)
-        ensures { self.new ≡ with_contact to (contact_after now header (slice_index_or self.old.contacts to no_contact)) self.old }
+    fn asks(&mut self, to: Rank, kind: Option<Kind>, now: u64)
+        ensures { self.new ≡ with_contact to (contact_after now kind (slice_index_or self.old.contacts to no_contact)) self.old }
     {
         let place = usize::from(to.get());
-        let asked = contact_after(now, header, self.contacts[place]);
+        let asked = contact_after(now, kind, self.contacts[place]);
         self.contacts[place] = asked;
     }
 
@@ -276,26 +290,26 @@ impl Seen {
         self.contacts[usize::from(from.get())] = Contact::heard_at(now);
     }
 
-    /// The monitor of rank `own` sends a datagram of this header.
-    pub(crate) fn sends(&mut self, own: Rank, to: Peer, header: Option<Header>, now: u64)
-        ensures { self.new ≡ after_sent own now to header self.old }
+    /// The monitor of rank `own` sends a datagram of a message of this kind, or of none.
+    pub(crate) fn sends(&mut self, own: Rank, to: Peer, kind: Option<Kind>, bytes: &[u8], now: u64)
+        ensures { self.new ≡ after_sent own now to kind bytes.now self.old }
     {
         match to {
             Peer::Monitor(rank) => {
-                self.says(own.get(), rank.get(), header);
-                self.asks(rank, header, now);
+                self.says(own.get(), rank.get(), header_read(kind, bytes));
+                self.asks(rank, kind, now);
             }
             Peer::Client(_) => {}
         }
     }
 
-    /// A datagram of this header came.
-    pub(crate) fn gets(&mut self, from: Peer, header: Option<Header>, now: u64)
-        ensures { self.new ≡ after_came now from header self.old }
+    /// A datagram of a message of this kind, or of none, came.
+    pub(crate) fn gets(&mut self, from: Peer, kind: Option<Kind>, bytes: &[u8], now: u64)
+        ensures { self.new ≡ after_came now from kind bytes.now self.old }
     {
         match from {
             Peer::Monitor(rank) => {
-                self.told(rank.get(), header);
+                self.hears_of(rank.get(), header_heard(kind, bytes));
                 self.hears(rank, now);
             }
             Peer::Client(_) => {}

@@ -3,12 +3,11 @@ ghost use Rattle.mon_decode.specs.Headers.{kind_byte};
 ghost use Rattle.mon_frag.specs.Headers.{is_piece};
 ghost use Rattle.mon_watch.specs.Traffic.{counted_at, no_traffic, place, with_received, with_sent};
 
-use mon_decode::Header;
 use mon_frag::PIECE;
 use mon_wire::Kind;
 
-/// How many datagrams were sent and came: at the byte of its kind each that is a message, at 0 the pieces of long
-/// messages, and how many of those that came are neither.
+/// How many datagrams were sent and came: at the byte of its kind each that names one, at 0 the pieces of long messages,
+/// and how many of those that came are neither.
 #[derive(Clone, Copy)]
 pub struct Traffic {
     pub sent: [u64; 26],
@@ -59,12 +58,12 @@ fn is_piece(bytes: &[u8]) -> bool
     }
 }
 
-fn place(bytes: &[u8], header: Option<Header>) -> Option<usize>
-    ensures place { result ≡ place bytes.now header }
+fn place(bytes: &[u8], kind: Option<Kind>) -> Option<usize>
+    ensures place { result ≡ place bytes.now kind }
     ensures most { IfSome result (λ k. k ≤ 25) }
 {
-    match header {
-        Some(header) => Some(byte_of(header.kind)),
+    match kind {
+        Some(kind) => Some(byte_of(kind)),
         None => { if is_piece(bytes) { Some(0) } else { None } }
     }
 }
@@ -88,20 +87,20 @@ impl Traffic {
         }
     }
 
-    /// A datagram of this header is sent.
-    pub(crate) fn sends(&mut self, bytes: &[u8], header: Option<Header>)
-        ensures { self.new ≡ with_sent (place bytes.now header) self.old }
+    /// A datagram of this kind is sent.
+    pub(crate) fn sends(&mut self, bytes: &[u8], kind: Option<Kind>)
+        ensures { self.new ≡ with_sent (place bytes.now kind) self.old }
     {
-        if let Some(place) = place(bytes, header) {
+        if let Some(place) = place(bytes, kind) {
             count(place, &mut self.sent);
         }
     }
 
-    /// A datagram of this header came.
-    pub(crate) fn gets(&mut self, bytes: &[u8], header: Option<Header>)
-        ensures { self.new ≡ with_received (place bytes.now header) self.old }
+    /// A datagram of this kind came.
+    pub(crate) fn gets(&mut self, bytes: &[u8], kind: Option<Kind>)
+        ensures { self.new ≡ with_received (place bytes.now kind) self.old }
     {
-        match place(bytes, header) {
+        match place(bytes, kind) {
             Some(place) => count(place, &mut self.received),
             None => self.refused = self.refused.saturating_add(1),
         }

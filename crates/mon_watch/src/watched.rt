@@ -7,7 +7,7 @@ ghost use Rattle.mon_watch.specs.Answering.{AsksOnce, SendsAnswer, SendsTo, afte
 ghost use Rattle.mon_watch.specs.Requests.{request_of};
 ghost use Rattle.mon_watch.specs.Traffic.{no_notes, notes_got, notes_sent};
 
-use crate::lines::{Tell, Told};
+use crate::lines::{Said, Tell};
 use crate::notes::Notes;
 use crate::report::{Report, report_text};
 use crate::request::{Asker, answer_of, is_watch, read_status_request};
@@ -29,8 +29,8 @@ pub struct Watch<S: Tell + Drop> {
     pub alloc: Global,
 }
 
-/// A link that changes nothing of what goes over it. It notes the headers of what its monitor sends and gets, tells lines
-/// about what they show, and answers clients that ask for it.
+/// A link that changes nothing of what goes over it. It notes the headers of what its monitor sends and gets, writes
+/// lines about what they show, and answers clients that ask for it.
 #[derive(Drop)]
 pub struct Watched<L: Link + Drop, C: Clock + Drop, S: Tell + Drop> {
     pub inner: L,
@@ -38,7 +38,7 @@ pub struct Watched<L: Link + Drop, C: Clock + Drop, S: Tell + Drop> {
     pub watch: Watch<S>,
     pub notes: Notes,
     pub losses: u64,
-    told: Told,
+    said: Said,
 }
 
 /// What is handed on of what came.
@@ -114,7 +114,7 @@ impl<L: Link + Drop, C: Clock + Drop, S: Tell + Drop> Watched<L, C, S> {
             watch,
             notes: Notes::new(),
             losses: 0,
-            told: Told::new(),
+            said: Said::new(),
         }
     }
 
@@ -181,7 +181,7 @@ impl<L: Link + Drop, C: Clock + Drop, S: Tell + Drop> Link for Watched<L, C, S> 
         let asker = asker(&got);
         let got = passed(got);
         self.notes.gets(&got, now);
-        self.told.passes(&mut self.watch, &self.notes);
+        self.said.passes(&mut self.watch, &self.notes);
         match self.answers_if(asker) {
             Ok(()) => Ok(got),
             Err(stop) => {
@@ -198,9 +198,11 @@ impl<L: Link + Drop, C: Clock + Drop, S: Tell + Drop> Link for Watched<L, C, S> 
         ensures member { self.new.watch.member ≡ self.old.watch.member }
         ensures losses { self.new.losses ≡ count_after result self.old.losses }
     {
-        self.notes.sends(self.watch.member.rank, &to, bytes);
+        let shows = self.notes.sends(self.watch.member.rank, &to, bytes);
         let sent = self.inner.send(to, bytes);
-        self.told.changes(&mut self.watch, &self.notes);
+        if shows {
+            self.said.changes(&mut self.watch, &self.notes);
+        }
         if let Err(Stop::Failed) = sent {
             self.losses = self.losses.saturating_add(1);
         }

@@ -1,5 +1,5 @@
 use Rattle.std.proofs.Common.{◌≡◌}
-use Rattle.mon_watch.proofs.lines.Told.passes.Given as goal
+use Rattle.mon_watch.proofs.lines.Said.passes.Given as goal
 
 abbrev pub invariant-loop-rank : goal.invariant-loop-rank
 invariant-loop-rank g l = l.watch.member ≡ l.fn.watch.member
