@@ -1,0 +1,6 @@
+//! That what a link that watches shows of its monitor is so.
+#![tactic(auto)]
+
+mod laws;
+
+pub use laws::{law_lag, law_watch};
