@@ -1,5 +1,5 @@
 -- What an event adds to the world: requests, acknowledgements, leaders, and the letters of its replies.
-use Rattle.std.proofs.Common.{◌≡◌, ℕ, zero, suc, ◌<◌, ◌≤◌, Bool, true, false, cond, List, [], ◌∷◌, ◌++◌, map, Option, Some, None, refl, sym, ap, arith}
+use Rattle.std.proofs.Common.{◌≡◌, ℕ, suc, ◌<◌, ◌≤◌, Bool, true, false, cond, List, [], ◌∷◌, ◌++◌, map, Option, Some, None, refl, ap}
 use Rattle.std.specs.List.{AllByRecursion, Contains, cons_option}
 use Rattle.std.specs.Option.{option_map}
 use Rattle.mon_link.specs.declared.link.Peer.{Peer}
@@ -8,7 +8,7 @@ use Rattle.mon_msg.specs.Protocol.State.{State}
 use Rattle.mon_msg.specs.declared.plan.Sent.TheVariants as sent
 use Rattle.mon_msg.specs.declared.plan.Sent.{Sent}
 use Rattle.mon_tx.specs.Map.{Store}
-use Rattle.mon_wire.specs.Message.Whole.{text}
+use Rattle.mon_wire.specs.Message.Whole.{HasText, text}
 use Rattle.quorum_model.specs.Acknowledging.{acknowledgement, acknowledgements_of, done_by}
 use Rattle.quorum_model.specs.Clients.{replies_of}
 use Rattle.quorum_model.specs.World.{Acknowledged, Asked, Replied, World}
@@ -21,7 +21,7 @@ use Rattle.quorum_network.proofs.Letters.{Letter, IsPosted}
 abbrev pub IsLater : (count event : ℕ) → World → (by : ℕ) → Peer → List ℕ → Type 0
 IsLater count e w i (Monitor j) bytes = Unit {0}
 IsLater count e w i (Client c) bytes =
-    (r : Replied) × Contains w.replied r × (e < r.event) × (r.rank ≡ i) × (r.session.client ≡ c) × (bytes ≡ text (answer_of count r))
+    (r : Replied) × Contains w.replied r × (e < r.event) × HasText (answer_of count r) × (r.rank ≡ i) × (r.session.client ≡ c) × (bytes ≡ text (answer_of count r))
 
 abbrev pub AllLater : (count event : ℕ) → World → List Letter → Type 0
 AllLater count e w ls = (l : Letter) → Contains ls l → IsLater count e w l.by l.to l.bytes
@@ -33,6 +33,15 @@ given a = record { version = a.version; pn = a.pn; epoch = a.epoch }
 abbrev pub IsBy : ℕ → Acknowledged → Type 0
 IsBy e a = a.event ≤ e
 
+abbrev pub IsAt : ℕ → Acknowledged → Type 0
+IsAt e a = a.event ≡ e
+
+abbrev pub IsRepliedBy : ℕ → Replied → Type 0
+IsRepliedBy e r = r.event ≤ e
+
+abbrev pub IsRepliedAt : ℕ → Replied → Type 0
+IsRepliedAt e r = r.event ≡ e
+
 -- an active leader, as the model notes it
 abbrev pub noted_as : Leadership → ℕ × ℕ
 noted_as l = (l.epoch, l.rank)
@@ -43,8 +52,10 @@ pub record Adds (count : ℕ) (asks : List Asked) (acks : List Acknowledgement) 
   pub new : List Acknowledged
   pub acknowledged : v.acknowledged ≡ w.acknowledged ++ new
   pub given_are : map given new ≡ acks
-  pub numbered : AllByRecursion (IsBy (suc w.events)) new
-  pub replied : (r : Replied) → Contains w.replied r → Contains v.replied r
+  pub numbered : AllByRecursion (IsAt (suc w.events)) new
+  pub replies : List Replied
+  pub replied : v.replied ≡ w.replied ++ replies
+  pub answered : AllByRecursion (IsRepliedAt (suc w.events)) replies
   pub active : v.active ≡ w.active ++ map noted_as leads
   -- the letters of these datagrams
   pub letters : List Letter
@@ -63,21 +74,20 @@ module _ (e : ℕ) (m : Store) (s : State) where
   given_same [] = refl
   given_same (x ∷ sends) = given_by (done_by s x) (acknowledgements_of e m s sends) (acknowledged_in m s sends) (given_same sends)
 
-  numbered_by : (o : Option ℕ) (xs : List Acknowledged) → AllByRecursion (IsBy e) xs → AllByRecursion (IsBy e) (cons_option (option_map (acknowledgement e m s) o) xs)
+  numbered_by : (o : Option ℕ) (xs : List Acknowledged) → AllByRecursion (IsAt e) xs → AllByRecursion (IsAt e) (cons_option (option_map (acknowledgement e m s) o) xs)
   numbered_by None xs h = h
-  numbered_by (Some v) xs h = (omega arith, h)
+  numbered_by (Some v) xs h = (refl, h)
 
-  pub all_numbered : (sends : List Sent) → AllByRecursion (IsBy e) (acknowledgements_of e m s sends)
+  pub all_numbered : (sends : List Sent) → AllByRecursion (IsAt e) (acknowledgements_of e m s sends)
   all_numbered [] = tt
   all_numbered (x ∷ sends) = numbered_by (done_by s x) (acknowledgements_of e m s sends) (all_numbered sends)
 
 -- ---- replies
 
-pub replied_at : (e i : ℕ) (m : Store) (sends : List Sent) (r : Replied) → Contains (replies_of e i m sends) r → r.event ≡ e
-replied_at e i m [] r (k, lt, is) = absurd (omega (arith, lt))
-replied_at e i m (sent.Message to x ∷ sends) r c = replied_at e i m sends r c
-replied_at e i m (sent.Reply to x ∷ sends) r (zero, lt, is) = ap (λ (q : Replied). q.event) (sym is)
-replied_at e i m (sent.Reply to x ∷ sends) r (suc k, lt, is) = replied_at e i m sends r (k, omega (arith, lt), is)
+pub all_replied : (e i : ℕ) (m : Store) (sends : List Sent) → AllByRecursion (IsRepliedAt e) (replies_of e i m sends)
+all_replied e i m [] = tt
+all_replied e i m (sent.Message to x ∷ sends) = all_replied e i m sends
+all_replied e i m (sent.Reply to x ∷ sends) = (refl, all_replied e i m sends)
 
 -- ---- leaders
 

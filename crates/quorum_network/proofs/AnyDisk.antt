@@ -486,10 +486,10 @@ joins_whole ms steps may i =
     joins_so assembly ms (network ms steps) (mailed ms steps) I i ((network ms steps).process i) (I.up i)
 
 -- a letter to a client is its mail
-to_client : (mails : List Mailed) (c : ℕ) (l : Letter) → Contains mails (mail l.by (record { to = l.to; bytes = l.bytes })) → l.to ≡ Client c → IsMailTo mails c (Monitor l.by) l.bytes
+to_client : (mails : List Mailed) (c : ℕ) (l : Letter) → Contains mails (mail l.by (record { to = l.to; bytes = l.bytes })) → l.to ≡ Client c → IsMailTo mails l.by c l.bytes
 to_client mails c l has to = subst (λ (p : Peer). Contains mails (mail l.by (record { to = p; bytes = l.bytes }))) to has
 
 pub clients_join_whole : (ms : Monitors) (steps : List Step) → AllMayAnyhow ms steps → ClientsJoinWhole (network ms steps) (mailed ms steps)
-clients_join_whole ms steps may = λ c came all.
+clients_join_whole ms steps may =
     let I = all_fine assembly ms steps may in
-    joins I.ls I.letters (network ms steps).sent I.posted c (IsMailTo (mailed ms steps) c) (λ x bytes. tt) (λ l k to. to_client (mailed ms steps) c l (I.mails_are l k) to) came all
+    joins I.ls I.letters (network ms steps).sent I.posted (IsMailTo (mailed ms steps)) (λ l k c to. to_client (mailed ms steps) c l (I.mails_are l k) to)

@@ -26,7 +26,7 @@ abbrev pub Says : (count i : ℕ) → List Envelope → List Replied → Peer �
 Says count i es rs (Monitor j) bytes =
     (m : Message) × Contains es (record { to = j; message = m }) × HasText m × (m.from ≡ i) × (bytes ≡ text m)
 Says count i es rs (Client c) bytes =
-    (r : Replied) × Contains rs r × (r.rank ≡ i) × (r.session.client ≡ c) × (bytes ≡ text (answer_of count r))
+    (r : Replied) × Contains rs r × HasText (answer_of count r) × (r.rank ≡ i) × (r.session.client ≡ c) × (bytes ≡ text (answer_of count r))
 
 -- a letter says it of the world
 abbrev pub IsSaid : (count : ℕ) → World → Letter → Peer → Type 0

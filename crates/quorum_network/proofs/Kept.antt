@@ -26,6 +26,7 @@ use Rattle.mon_node.specs.Posting.{letters, datagrams, next_after, boot_in}
 use Rattle.mon_node.specs.Turns.{map_after}
 use Rattle.std.specs.Option.{option_map, unwrap_or}
 use Rattle.log_copies.proofs.UnderWay.{number_short}
+use Rattle.log_model.proofs.Lists.{of_all}
 use Rattle.mon_tx.specs.Decision.{Cell}
 use Rattle.mon_tx.specs.Keys.{cell}
 use Rattle.mon_tx.specs.Map.{Store, apply, number_in}
@@ -43,7 +44,7 @@ use Rattle.quorum_model.specs.World.{Asked, World, Plain, Event, Comes, Envelope
 use Rattle.quorum_network.specs.Network.{Network, Process, Up, Down, map_of, with_left, Posted, posted, number_of, under}
 use Rattle.quorum_network.proofs.Under.{Under, all_before, all_under, under_datagrams}
 use Rattle.quorum_network.specs.Requests.{acknowledged_in, led_in}
-use Rattle.quorum_network.proofs.Adding.{AllLater, IsLater, all_numbered, given_same, noted_as, noted_same, replied_at}
+use Rattle.quorum_network.proofs.Adding.{AllLater, IsLater, IsRepliedAt, all_numbered, all_replied, given_same, noted_as, noted_same}
 use Rattle.quorum_network.proofs.Assembling.{Assembly, IsLabelled}
 use Rattle.quorum_network.proofs.Events.{ran_more, reacts_moves, meets_it, IsMe, known}
 use Rattle.quorum_network.proofs.Facts.{Facts, Reach}
@@ -75,9 +76,9 @@ active_moved : (w : World) (p : Plain) (i : ℕ) (r : Reaction) → (moved w p i
 unfolding moved
 active_moved w p i r = ap (λ (xs : List (ℕ × ℕ)). w.active ++ xs) (noted_same i (epoch_of (readings_of (model.map_after w i r))) (is_active r.state.phase))
 
-old_replied : (w : World) (p : Plain) (i : ℕ) (r : Reaction) (q : Replied) → Contains w.replied q → Contains (moved w p i r).replied q
+replied_moved : (w : World) (p : Plain) (i : ℕ) (r : Reaction) → (moved w p i r).replied ≡ w.replied ++ replies_of (suc w.events) i (model.map_after w i r) r.sends
 unfolding moved
-old_replied w p i r q c = Contains-append_left w.replied (replies_of (suc w.events) i (model.map_after w i r) r.sends) q c
+replied_moved w p i r = refl
 
 new_replied : (w : World) (p : Plain) (i : ℕ) (r : Reaction) (q : Replied) → Contains (replies_of (suc w.events) i (model.map_after w i r) r.sends) q → Contains (moved w p i r).replied q
 unfolding moved
@@ -268,8 +269,8 @@ module _ (A : Assembly) (ms : Monitors) (F : Facts ms) (net : Network) (w : Worl
             is_later : (to : Peer) → Says ms.count i (messages_of r.sends) (replies_of (suc w.events) i (model.map_after w i r) r.sends) to l.bytes → IsLater ms.count w.events v l.by to l.bytes
             is_later (Monitor j) says = tt
             is_later (Client k) says =
-                let event = replied_at (suc w.events) i (model.map_after w i r) r.sends says.0 says.1 in
-                (says.0, new_replied w p i r says.0 says.1, omega (arith, event), says.2 ∙ sym (labels.by l c).0, says.3, says.4)
+                let event = of_all (IsRepliedAt (suc w.events)) (replies_of (suc w.events) i (model.map_after w i r) r.sends) (all_replied (suc w.events) i (model.map_after w i r) r.sends) says.0 says.1 in
+                (says.0, new_replied w p i r says.0 says.1, omega (arith, event), says.2, says.3 ∙ sym (labels.by l c).0, says.4, says.5)
 
         -- the world moves, and it holds then
         pub moves : (asks : List Asked) → v.asked ≡ w.asked ++ asks
@@ -288,7 +289,9 @@ module _ (A : Assembly) (ms : Monitors) (F : Facts ms) (net : Network) (w : Worl
             acknowledged = acknowledged_moved w p i r;
             given_are = given_same (suc w.events) (model.map_after w i r) r.state r.sends ∙ ap (λ (m : Store). acknowledged_in m r.state r.sends) (sym same_map);
             numbered = all_numbered (suc w.events) (model.map_after w i r) r.state r.sends;
-            replied = old_replied w p i r;
+            replies = replies_of (suc w.events) i (model.map_after w i r) r.sends;
+            replied = replied_moved w p i r;
+            answered = all_replied (suc w.events) i (model.map_after w i r) r.sends;
             active = subst (λ (m : Store). v.active ≡ w.active ++ map noted_as (led_in i m r.state)) (sym same_map) (active_moved w p i r);
             letters = new;
             posted = posted_new;

@@ -8,6 +8,7 @@ pub mod Elected
 pub mod Ends
 pub mod Events
 pub mod Facts
+pub mod Going
 pub mod Heeded
 pub mod History
 pub mod Inputs

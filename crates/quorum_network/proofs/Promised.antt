@@ -1,6 +1,6 @@
 -- One log, of which all maps and all answers of a network are, now and later.
-use Rattle.std.proofs.Common.{◌≡◌, ◌⊎◌, inl, inr, ℕ, zero, suc, ◌<◌, ◌≤◌, List, [], ◌∷◌, ◌++◌, length, length-append, map, Option, Some, refl, sym, ap, subst, ◌∙◌, arith, true, append_assoc}
-use Rattle.std.proofs.lemmas.List.{append-nil, get_or_append_left}
+use Rattle.std.proofs.Common.{◌≡◌, ◌⊎◌, inl, inr, ℕ, zero, suc, ◌<◌, ◌≤◌, List, [], ◌∷◌, ◌++◌, length, length-append, map, Option, Some, refl, sym, ap, subst, ◌∙◌, arith, true}
+use Rattle.std.proofs.lemmas.List.{get_or_append_left}
 use Rattle.std.specs.List.{AllByRecursion, Contains}
 use Rattle.log_model.proofs.Logs.{Fronts, entry_stays, fold_stays}
 use Rattle.mon_kv.specs.Readers.{is_marked}
@@ -8,7 +8,7 @@ use Rattle.mon_link.specs.declared.link.Peer.{Peer}
 use Rattle.mon_link.specs.declared.link.Peer.TheVariants.{Monitor, Client}
 use Rattle.mon_msg.specs.Fold.{entry, fold, map_of_log, put_in, version_of_log}
 use Rattle.mon_tx.specs.Map.{Store}
-use Rattle.mon_wire.specs.Message.Whole.{text}
+use Rattle.mon_wire.specs.Message.Whole.{HasText, text}
 use Rattle.mon_tx.specs.Decode.{ops_in}
 use Rattle.mon_wire.specs.declared.request.Request.TheVariants as request
 use Rattle.mon_wire.specs.declared.request.Service.{Service}
@@ -16,7 +16,7 @@ use Rattle.mon_wire.specs.declared.request.Session.{Session}
 use Rattle.quorum_model.specs.Clients.{made_by}
 use Rattle.mon_wire.specs.declared.reply.Reply.{Reply}
 use Rattle.mon_wire.specs.declared.reply.Reply.TheVariants as reply
-use Rattle.quorum_agreement.proofs.Every.{agrees, grows}
+use Rattle.quorum_agreement.proofs.Every.{agrees}
 use Rattle.quorum_agreement.proofs.SafeWorlds.{safe}
 use Rattle.log_model.proofs.Lists.{of_all}
 use Rattle.quorum_model.specs.Agree.{Agrees, IsAsked}
@@ -25,120 +25,26 @@ use Rattle.quorum_model.specs.Growth.{last_of}
 use Rattle.quorum_model.specs.Kept as model
 use Rattle.quorum_model.specs.Kept.{DoneIsAnswered, IsAnswered}
 use Rattle.quorum_model.specs.Monitors.{Monitors, me_of}
-use Rattle.quorum_network.specs.Requests.{Acknowledgement, Leadership, acknowledged_at, acknowledgements, asked_by, leaderships, led_at, requests}
+use Rattle.quorum_network.specs.Requests.{Acknowledgement, Leadership, acknowledgements, leaderships, led_at, requests}
 use Rattle.quorum_model.specs.Safe.{OneActive, Safe}
 use Rattle.mon_msg.specs.Protocol.Readings.{epoch_of, readings_of}
 use Rattle.quorum_model.specs.Runs.{Ran, run}
 use Rattle.quorum_model.specs.Shown.{AskedFor, Fence, IsFenced, IsShown, ShowsLog, WasAskedFor}
-use Rattle.quorum_model.specs.World.{Acknowledged, Asked, Comes, Event, Replied, World}
-use Rattle.quorum_network.specs.Network.{AllMay, Down, Network, Posted, Process, Step, Up, after_step, map_of, network}
-use Rattle.quorum_network.specs.Promises.{AcknowledgedOnce, AgreeWith, AreAnswers, HaveOneLog, IfToClient, IsDone, IsJoined, IsKept, IsLogOf, IsNoOlder, IsOfLog, IsReply, LeaderHas, Leads, Requested}
+use Rattle.quorum_model.specs.World.{Acknowledged, Asked, Event, Replied, World}
+use Rattle.quorum_network.specs.Network.{AllMay, Down, Network, Posted, Process, Step, Up, map_of, network}
+use Rattle.quorum_network.specs.Promises.{AcknowledgedOnce, AgreeWith, AreAnswers, HaveOneLog, IsDone, IsKept, IsLogOf, IsNoOlder, IsOfLog, IsReply, LeaderHas, Leads, Requested}
 use Rattle.quorum_network.specs.Running.{IsOfRun, answer_of}
 use Rattle.quorum_network.proofs.Adding.{AllLater, IsBy, IsLater, given, noted_as}
 use Rattle.quorum_network.proofs.Assembled.{all_self, assembly}
-use Rattle.quorum_network.proofs.Joined.{joins}
+use Rattle.quorum_network.proofs.Going.{goes_on, grown_log}
+use Rattle.quorum_network.proofs.Joined.{letters_answer}
 use Rattle.quorum_network.proofs.Letters.{AreLetters, IsPosted, Letter}
-use Rattle.quorum_network.proofs.Sends.{posted_behind, posted_more}
-use Rattle.quorum_network.proofs.Assembling.{Assembly}
-use Rattle.quorum_network.proofs.Facts.{Facts}
-use Rattle.quorum_network.proofs.Invariant.{IsSaid, Moved, Next, Still}
-use Rattle.quorum_network.proofs.Leading.{IsNoted, Stays, noted, stays_then}
-use Rattle.quorum_network.proofs.Steps.{step_next}
-use Rattle.quorum_network.proofs.Whole.{Stands, facts, of_run, reach_more, stands, stands_next}
+use Rattle.quorum_network.proofs.Invariant.{IsSaid}
+use Rattle.quorum_network.proofs.Leading.{IsNoted, noted}
+use Rattle.quorum_network.proofs.Whole.{Stands, facts, of_run, stands}
 use Rattle.quorum_walk.proofs.Lists.{all_map}
-use Rattle.mon_frag.proofs.Lists.{all_append}
 use Rattle.mon_msg.specs.Protocol.State.{State}
-use Rattle.std.proofs.lemmas.List.Elements.{Contains-append_cases, Contains-append_left}
-
--- ---- a run of later steps goes on from one of earlier ones
-
-record GoesOn (A : Assembly) (ms : Monitors) (before_asks after_asks : List Asked) (before_acks after_acks : List Acknowledgement) (before_leads after_leads : List Leadership) (earlier later : Network) : Type 0 where
-  before : Stands A ms before_asks before_acks before_leads earlier
-  after : Stands A ms after_asks after_acks after_leads later
-  more : List Event
-  stays : Stays before.w after.w
-  is : after.reach.events ≡ before.reach.events ++ more
-  -- what is sent in the later steps are datagrams of letters that are later replies
-  sent : List Posted
-  wire : later.sent ≡ earlier.sent ++ sent
-  letters : List Letter
-  posted : AllByRecursion (IsPosted letters) sent
-  later_replies : AllLater ms.count before.w.events after.w letters
-  among : (l : Letter) → Contains letters l → Contains after.inv.ls l
-  events : before.w.events ≤ after.w.events
-  acknowledged : (a : Acknowledged) → Contains before.w.acknowledged a → Contains after.w.acknowledged a
-
-later_again : (count e f : ℕ) (w v : World) → e ≤ f → ((r : Replied) → Contains w.replied r → Contains v.replied r) → (i : ℕ) (to : Peer) (bytes : List ℕ) → IsLater count f w i to bytes → IsLater count e v i to bytes
-later_again count e f w v le stay i (Monitor j) bytes k = tt
-later_again count e f w v le stay i (Client c) bytes (r, among, event, rank, client, is) = (r, stay r among, omega (arith, le, event), rank, client, is)
-
-module _ (A : Assembly) (ms : Monitors) (olds bs asks : List Asked) (old_acks acks added : List Acknowledgement) (old_leads leads led : List Leadership) (old between net : Network)
-    (G : GoesOn A ms olds bs old_acks acks old_leads leads old between) where
-  abbrev T : Stands A ms bs acks leads between
-  T = G.after
-
-  one_more : Next A ms asks added led between.sent T.inv.ls net T.w → GoesOn A ms olds (bs ++ asks) old_acks (acks ++ added) old_leads (leads ++ led) old net
-  unfolding reach_more stands_next
-  one_more (Still same none nobody I letters) = record {
-    before = G.before;
-    after = stands_next A ms bs asks acks added leads led between.sent between net T (Still same none nobody I letters);
-    more = G.more;
-    stays = G.stays;
-    is = G.is;
-    sent = G.sent;
-    wire = same ∙ G.wire;
-    letters = G.letters;
-    posted = G.posted;
-    later_replies = G.later_replies;
-    among = λ l c. subst (λ (ls : List Letter). Contains ls l) (sym letters) (G.among l c);
-    events = G.events;
-    acknowledged = G.acknowledged;
-  }
-  one_more (Moved M) = record {
-    before = G.before;
-    after = stands_next A ms bs asks acks added leads led between.sent between net T (Moved M);
-    more = G.more ++ Comes M.plain ∷ [];
-    stays = λ x c. stays_then ms T.w (noted ms T.w T.reach) (Comes M.plain) M.world M.next x (G.stays x c);
-    is = ap (λ (es : List Event). es ++ Comes M.plain ∷ []) G.is ∙ append_assoc G.before.reach.events G.more (Comes M.plain ∷ []);
-    sent = G.sent ++ M.sent;
-    wire = M.wire ∙ ap (λ (xs : List Posted). xs ++ M.sent) G.wire ∙ append_assoc old.sent G.sent M.sent;
-    letters = G.letters ++ M.adds.letters;
-    posted = all_append (IsPosted (G.letters ++ M.adds.letters)) G.sent M.sent (posted_more G.letters M.adds.letters G.sent G.posted) (posted_behind G.letters M.adds.letters M.sent M.adds.posted);
-    later_replies = λ l c. elim (Contains-append_cases G.letters M.adds.letters l c) [
-      | inl before ↦ later_again ms.count G.before.w.events G.before.w.events T.w M.world (omega arith) M.adds.replied l.by l.to l.bytes (G.later_replies l before)
-      | inr now ↦ later_again ms.count G.before.w.events T.w.events M.world M.world G.events (λ r k. k) l.by l.to l.bytes (M.adds.later l now)
-    ];
-    among = λ l c. elim (Contains-append_cases G.letters M.adds.letters l c) [ inl before ↦ M.old l (G.among l before) | inr now ↦ M.new l now ];
-    events = let le = G.events in let now = M.adds.events in omega (arith, le, now);
-    acknowledged = λ a c. subst (λ (xs : List Acknowledged). Contains xs a) (sym M.adds.acknowledged) (Contains-append_left T.w.acknowledged M.adds.new a (G.acknowledged a c));
-  }
-
-goes_on : (A : Assembly) (ms : Monitors) → Facts ms → (later earlier : List Step) → AllMay ms (later ++ earlier)
-    → GoesOn A ms (requests ms earlier) (requests ms (later ++ earlier)) (acknowledgements ms earlier) (acknowledgements ms (later ++ earlier)) (leaderships ms earlier) (leaderships ms (later ++ earlier)) (network ms earlier) (network ms (later ++ earlier))
-unfolding network AllMay requests acknowledgements leaderships
-goes_on A ms F [] earlier may =
-    let S = stands A ms F earlier may in
-    record {
-      before = S;
-      after = S;
-      more = [];
-      stays = λ x c. c;
-      is = sym (append-nil S.reach.events);
-      sent = [];
-      wire = sym (append-nil (network ms earlier).sent);
-      letters = [];
-      posted = tt;
-      later_replies = λ l c. absurd (omega (arith, c.1));
-      among = λ l c. absurd (omega (arith, c.1));
-      events = omega arith;
-      acknowledged = λ a c. c;
-    }
-goes_on A ms F (s ∷ later) earlier may =
-    let now : Network = network ms (later ++ earlier) in
-    let G = goes_on A ms F later earlier may.0 in
-    let T = G.after in
-    one_more A ms (requests ms earlier) (requests ms (later ++ earlier)) (asked_by now s (me_of ms s.rank)) (acknowledgements ms earlier) (acknowledgements ms (later ++ earlier)) (acknowledged_at now s (me_of ms s.rank)) (leaderships ms earlier) (leaderships ms (later ++ earlier)) (led_at now s (me_of ms s.rank)) (network ms earlier) now (after_step ms now s) G
-    (step_next A ms F now T.w T.reach T.inv s may.1)
+use Rattle.std.proofs.lemmas.List.Elements.{Contains-append_left}
 
 -- ---- what a run says of its log
 
@@ -177,15 +83,15 @@ AreBelow before r = (a : Acknowledged) → Contains before a → a.event < r.eve
 -- if it goes to a client, a letter is a reply, after all of these
 abbrev IsReplied : (count : ℕ) → World → List Acknowledged → Letter → Peer → Type 0
 IsReplied count w before l (Monitor j) = Unit {0}
-IsReplied count w before l (Client c) = (r : Replied) × Contains w.replied r × AreBelow before r × (r.rank ≡ l.by) × (r.session.client ≡ c) × (l.bytes ≡ text (answer_of count r))
+IsReplied count w before l (Client c) = (r : Replied) × Contains w.replied r × AreBelow before r × HasText (answer_of count r) × (r.rank ≡ l.by) × (r.session.client ≡ c) × (l.bytes ≡ text (answer_of count r))
 
 later_replied : (count since : ℕ) (w : World) (before : List Acknowledged) → ((a : Acknowledged) → Contains before a → a.event ≤ since) → (l : Letter) (to : Peer) → IsLater count since w l.by to l.bytes → IsReplied count w before l to
 later_replied count since w before early l (Monitor j) t = tt
-later_replied count since w before early l (Client c) t = (t.0, t.1, (λ a k. let e = early a k in let later = t.2 in omega (arith, e, later)), t.3, t.4, t.5)
+later_replied count since w before early l (Client c) t = (t.0, t.1, (λ a k. let e = early a k in let later = t.2 in omega (arith, e, later)), t.3, t.4, t.5, t.6)
 
 said_replied : (count : ℕ) (w : World) (l : Letter) (to : Peer) → IsSaid count w l to → IsReplied count w [] l to
 said_replied count w l (Monitor j) t = tt
-said_replied count w l (Client c) t = (t.0, t.1, (λ a k. absurd (omega (arith, k.1))), t.2, t.3, t.4)
+said_replied count w l (Client c) t = (t.0, t.1, (λ a k. absurd (omega (arith, k.1))), t.2, t.3, t.4, t.5)
 
 module _ (n : ℕ) (asks : List Asked) (w : World) (asked : AllByRecursion (λ a. Contains asks a) w.asked) (before : List Acknowledged) (were : Were w before) (r : Replied) where
   abbrev acks : List Acknowledgement
@@ -256,13 +162,14 @@ module _ (ms : Monitors) (asks : List Asked) (net : Network) (es : List Event) (
         let answered = of_all (λ r. DoneIsAnswered w r r.reply) w.replied S.kept.answered r c in
         reply_of_log ms.count asks w asked before were r S.fence c below r.reply S.kept.each shown.within shown.shows shown.asked answered (fenced_by ms.count asks w asked before were r S.fence c below)
 
-    reply_is : (i c : ℕ) (bytes : List ℕ) (r : Replied) → Contains w.replied r → AreBelow before r → r.rank ≡ i → r.session.client ≡ c → bytes ≡ text (answer_of ms.count r)
+    reply_is : (i c : ℕ) (bytes : List ℕ) (r : Replied) → Contains w.replied r → AreBelow before r → HasText (answer_of ms.count r) → r.rank ≡ i → r.session.client ≡ c → bytes ≡ text (answer_of ms.count r)
         → IsReply ms.count asks all_acks (map given before) w.log i c bytes
-    reply_is i c bytes r among below rank client is = subst (λ (k : ℕ). IsReply ms.count asks all_acks (map given before) w.log k c bytes) rank (record {
+    reply_is i c bytes r among below has rank client is = subst (λ (k : ℕ). IsReply ms.count asks all_acks (map given before) w.log k c bytes) rank (record {
       session = r.session;
       epoch = r.epoch;
       reply = r.reply;
       client = client;
+      has_text = has;
       is_text = is;
       of_log = replied_is r among below;
     })
@@ -270,17 +177,10 @@ module _ (ms : Monitors) (asks : List Asked) (net : Network) (es : List Event) (
     -- datagrams of letters that are replies are answers
     module _ (ls : List Letter) (A : AreLetters ls) (replied : (l : Letter) → Contains ls l → IsReplied ms.count w before l l.to) (sent : List Posted) (posted : AllByRecursion (IsPosted ls) sent) where
       letter_is : (l : Letter) → Contains ls l → (c : ℕ) → l.to ≡ Client c → IsReply ms.count asks all_acks (map given before) w.log l.by c l.bytes
-      letter_is l k c e = let t = subst (IsReplied ms.count w before l) e (replied l k) in reply_is l.by c l.bytes t.0 t.1 t.2 t.3 t.4 t.5
+      letter_is l k c e = let t = subst (IsReplied ms.count w before l) e (replied l k) in reply_is l.by c l.bytes t.0 t.1 t.2 t.3 t.4 t.5 t.6
 
-      datagram_is : (d : Posted) → IsPosted ls d → (to : Peer) → d.datagram.to ≡ to → IfToClient ms.count asks all_acks (map given before) w.log d.by to d.datagram.bytes
-      datagram_is d p (Monitor j) e = tt
-      datagram_is d p (Client c) e = (p.0.bytes, subst (λ (k : ℕ). IsReply ms.count asks all_acks (map given before) w.log k c p.0.bytes) p.2 (letter_is p.0 p.1 c (p.3 ∙ e)), (p.0.boot, p.0.seq, p.4))
-
-      pub are_answers : AreAnswers ms.count asks all_acks (map given before) w.log sent
-      are_answers = record {
-        each = all_map (IsPosted ls) (λ (d : Posted). IfToClient ms.count asks all_acks (map given before) w.log d.by d.datagram.to d.datagram.bytes) (λ d p. datagram_is d p d.datagram.to refl) sent posted;
-        joined = λ c came all. joins ls A sent posted c (λ (p : Peer) (bytes : List ℕ). IsJoined ms.count asks all_acks (map given before) w.log c p bytes) (λ x bytes. tt) (λ l k e. letter_is l k c e) came all;
-      }
+      pub are_answers : AreAnswers (IsReply ms.count asks all_acks (map given before) w.log) sent
+      are_answers = letters_answer ls A sent posted (IsReply ms.count asks all_acks (map given before) w.log) letter_is
 
   value_asked : (v : ℕ) → IsAsked ms.count w.asked w.log v → IsAsked ms.count asks w.log v
   value_asked v A = record { by = A.by; was_asked = of_all (λ a. Contains asks a) w.asked asked A.by A.was_asked; rank = A.rank; command = A.command; is = A.is; form = A.form; ops = A.ops; made = A.made; has_text = A.has_text; spells = A.spells }
@@ -313,7 +213,7 @@ module _ (ms : Monitors) (asks : List Asked) (acks : List Acknowledgement) (lead
   abbrev pub world : World
   world = run ms S.reach.events
 
-  world_is : world ≡ S.w
+  pub world_is : world ≡ S.w
   world_is = ap (λ (r : Ran). r.world) S.reach.ran
 
   acks_are : map given world.acknowledged ≡ acks
@@ -329,8 +229,12 @@ module _ (ms : Monitors) (asks : List Asked) (acks : List Acknowledgement) (lead
   stands_log = subst (λ (xs : List Acknowledgement). IsLogOf ms asks xs net world.log) acks_are
       (is_log ms asks net S.reach.events S.reach.fits runs_so asked_so S.inv.ls S.inv.letters (λ l c. subst (λ (w : World). IsSaid ms.count w l l.to) (sym world_is) (S.inv.said l c)) S.inv.posted)
 
+  pub stands_replied : (r : Replied) → Contains world.replied r → IsOfLog asks acks [] world.log r.rank r.epoch r.session r.reply
+  stands_replied r c = subst (λ (xs : List Acknowledgement). IsOfLog asks xs [] world.log r.rank r.epoch r.session r.reply) acks_are
+      (replied_is ms asks net S.reach.events S.reach.fits runs_so asked_so [] (λ a k. absurd (omega (arith, k.1))) r c (λ a k. absurd (omega (arith, k.1))))
+
   -- some of the letters
-  some_letters : (ls : List Letter) → ((l : Letter) → Contains ls l → Contains S.inv.ls l) → AreLetters ls
+  pub some_letters : (ls : List Letter) → ((l : Letter) → Contains ls l → Contains S.inv.ls l) → AreLetters ls
   some_letters ls among = record {
     cut = λ l c. S.inv.letters.cut l (among l c);
     numbered = λ l k c d long longer by boots seqs. S.inv.letters.numbered l k (among l c) (among k d) long longer by boots seqs;
@@ -338,8 +242,8 @@ module _ (ms : Monitors) (asks : List Asked) (acks : List Acknowledgement) (lead
 
   -- what is sent after an earlier point of time
   stands_fenced : (since : ℕ) (before : List Acknowledged) (sent : List Posted) (ls : List Letter) → Were S.w before → ((a : Acknowledged) → Contains before a → a.event ≤ since) → ((l : Letter) → Contains ls l → Contains S.inv.ls l)
-      → AllLater ms.count since S.w ls → AllByRecursion (IsPosted ls) sent → AreAnswers ms.count asks acks (map given before) world.log sent
-  stands_fenced since before sent ls were early among later posted = subst (λ (xs : List Acknowledgement). AreAnswers ms.count asks xs (map given before) world.log sent) acks_are
+      → AllLater ms.count since S.w ls → AllByRecursion (IsPosted ls) sent → AreAnswers (IsReply ms.count asks acks (map given before) world.log) sent
+  stands_fenced since before sent ls were early among later posted = subst (λ (xs : List Acknowledgement). AreAnswers (IsReply ms.count asks xs (map given before) world.log) sent) acks_are
       (are_answers ms asks net S.reach.events S.reach.fits runs_so asked_so before (subst (λ (w : World). Were w before) (sym world_is) were) ls (some_letters ls among)
       (λ l c. later_replied ms.count since world before early l l.to (subst (λ (w : World). IsLater ms.count since w l.by l.to l.bytes) (sym world_is) (later l c))) sent posted)
 
@@ -349,23 +253,22 @@ one_log ms later earlier may =
     let acks : List Acknowledgement = acknowledgements ms (later ++ earlier) in
     let leads : List Leadership = leaderships ms (later ++ earlier) in
     let net : Network = network ms (later ++ earlier) in
-    let G = goes_on assembly ms (facts ms) later earlier may in
-    let B = G.before in
-    let T = G.after in
-    let old = B.reach.events in
-    let fit : AllFit ms.count (old ++ G.more) = subst (AllFit ms.count) G.is T.reach.fits in
-    let up = grows ms old G.more fit in
-    let is : (run ms T.reach.events).log ≡ (run ms old).log ++ up.more = ap (λ (es : List Event). (run ms es).log) G.is ∙ up.is in
+    let went = goes_on assembly ms (facts ms) later earlier may in
+    let G = went.1 in
+    let B = stands assembly ms (facts ms) earlier went.0 in
+    let T = stands assembly ms (facts ms) (later ++ earlier) may in
+    let up = grown_log assembly ms (requests ms earlier) asks (acknowledgements ms earlier) acks (leaderships ms earlier) leads (network ms earlier) net B T G in
+    let log = (run ms B.reach.events).log in
     record {
-      log = (run ms old).log;
+      log = log;
       more = up.more;
       before = stands_log ms (requests ms earlier) (acknowledgements ms earlier) (leaderships ms earlier) (network ms earlier) B;
-      after = subst (IsLogOf ms asks acks net) is (stands_log ms asks acks leads net T);
+      after = subst (IsLogOf ms asks acks net) up.is (stands_log ms asks acks leads net T);
       sent = G.sent;
       wire = G.wire;
-      fenced = subst (λ (xs : List Acknowledgement). AreAnswers ms.count asks acks xs ((run ms old).log ++ up.more) G.sent) B.given_are
-          (subst (λ (log : List (List ℕ)). AreAnswers ms.count asks acks (map given B.w.acknowledged) log G.sent) is
-          (stands_fenced ms asks acks leads net T B.w.events B.w.acknowledged G.sent G.letters G.acknowledged (λ a c. of_all (IsBy B.w.events) B.w.acknowledged B.numbered a c) G.among G.later_replies G.posted));
+      fenced = subst (λ (xs : List Acknowledgement). AreAnswers (IsReply ms.count asks acks xs (log ++ up.more)) G.sent) B.given_are
+          (subst (λ (all : List (List ℕ)). AreAnswers (IsReply ms.count asks acks (map given B.w.acknowledged) all) G.sent) up.is
+          (stands_fenced ms asks acks leads net T B.w.events B.w.acknowledged G.sent G.letters (λ a c. subst (λ (xs : List Acknowledged). Contains xs a) (sym G.acknowledged) (Contains-append_left B.w.acknowledged G.writes a c)) (λ a c. of_all (IsBy B.w.events) B.w.acknowledged B.numbered a c) G.among G.later_replies G.posted));
     }
 
 -- ---- two maps

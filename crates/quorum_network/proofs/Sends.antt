@@ -40,11 +40,11 @@ use Rattle.quorum_network.proofs.Letters.{Letter, labelled, IsPosted}
 
 pub says_more : (count i : ℕ) (es fs : List Envelope) (rs qs : List Replied) (to : Peer) (bytes : List ℕ) → Says count i es rs to bytes → Says count i (es ++ fs) (rs ++ qs) to bytes
 says_more count i es fs rs qs (Monitor j) bytes (m, c, has, own, e) = (m, Contains-append_left es fs _ c, has, own, e)
-says_more count i es fs rs qs (Client j) bytes (r, c, by, to, e) = (r, Contains-append_left rs qs r c, by, to, e)
+says_more count i es fs rs qs (Client j) bytes (r, c, has, by, to, e) = (r, Contains-append_left rs qs r c, has, by, to, e)
 
 pub says_behind : (count i : ℕ) (es fs : List Envelope) (rs qs : List Replied) (to : Peer) (bytes : List ℕ) → Says count i fs qs to bytes → Says count i (es ++ fs) (rs ++ qs) to bytes
 says_behind count i es fs rs qs (Monitor j) bytes (m, c, has, own, e) = (m, Contains-append_right es fs _ c, has, own, e)
-says_behind count i es fs rs qs (Client j) bytes (r, c, by, to, e) = (r, Contains-append_right rs qs r c, by, to, e)
+says_behind count i es fs rs qs (Client j) bytes (r, c, has, by, to, e) = (r, Contains-append_right rs qs r c, has, by, to, e)
 
 -- ---- texts
 
@@ -111,7 +111,7 @@ module _ (me : Me) (m : Store) (count event i : ℕ) (rank : me.member.rank ≡ 
   )
   all_say (sent.Reply to r ∷ sends) h own =
       let q : Replied = record { event = event; rank = i; epoch = epoch_of (readings_of m); last = last_of m; session = to; reply = r } in (
-        (q, contains_first q (replies_of event i m sends), refl, refl, ap text (answer_same to r)),
+        (q, contains_first q (replies_of event i m sends), subst HasText (answer_same to r) h.0, refl, refl, ap text (answer_same to r)),
         all_behind count i (messages_of sends) [] (replies_of event i m sends) (q ∷ []) (letters me m sends) (all_say sends h.1 own.1),
       )
 

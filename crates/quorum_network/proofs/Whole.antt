@@ -14,10 +14,10 @@ use Rattle.quorum_model.specs.Monitors.{Monitors, me_of}
 use Rattle.quorum_network.specs.Requests.{Acknowledgement, Leadership, acknowledged_at, acknowledgements, asked_by, leaderships, led_at, requests}
 use Rattle.std.proofs.lemmas.List.Elements.{Contains-append_left, Contains-append_right}
 use Rattle.quorum_model.specs.Runs.{Ran, run, ran_from}
-use Rattle.quorum_model.specs.World.{Acknowledged, Asked, World, Plain, Event, Comes, first_world, plain_of}
+use Rattle.quorum_model.specs.World.{Acknowledged, Asked, Replied, World, Plain, Event, Comes, first_world, plain_of}
 use Rattle.quorum_network.specs.Network.{Network, Step, AllMay, Posted, network, first_network, after_step, number_of}
 use Rattle.quorum_network.specs.Running.{IsOfRun, IsTold, DoesARun}
-use Rattle.quorum_network.proofs.Adding.{Adds, IsBy, given, noted_as}
+use Rattle.quorum_network.proofs.Adding.{Adds, IsAt, IsBy, IsRepliedAt, IsRepliedBy, given, noted_as}
 use Rattle.quorum_network.proofs.Assembled.{all_self, all_through, assembly}
 use Rattle.quorum_network.proofs.Assembling.{Assembly}
 use Rattle.quorum_network.proofs.Senders.{running_own, started_own}
@@ -35,6 +35,7 @@ pub record Stands (A : Assembly) (ms : Monitors) (asks : List Asked) (acks : Lis
   pub asked : AllByRecursion (λ a. Contains asks a) w.asked
   pub given_are : map given w.acknowledged ≡ acks
   pub numbered : AllByRecursion (IsBy w.events) w.acknowledged
+  pub dated : AllByRecursion (IsRepliedBy w.events) w.replied
   pub active : w.active ≡ map noted_as leads
 
 unfoldable pub reach_more : (ms : Monitors) (w v : World) (p : Plain) → Reach ms w → PlainFits ms.count p → happens ms w (Comes p) ≡ Ok v → Reach ms v
@@ -61,7 +62,7 @@ pub asked_now : (olds more : List Asked) (w v : World) → v.asked ≡ w.asked +
 asked_now olds more w v e h = subst (λ (asked : List Asked). AllByRecursion (λ a. Contains (olds ++ more) a) asked) (sym e) (asked_more olds more w.asked h)
 
 -- what was acknowledged before, and what is acknowledged now
-given_more : (xs ys : List Acknowledged) → map given (xs ++ ys) ≡ map given xs ++ map given ys
+pub given_more : (xs ys : List Acknowledged) → map given (xs ++ ys) ≡ map given xs ++ map given ys
 given_more [] ys = refl
 given_more (x ∷ xs) ys = ap (λ (zs : List Acknowledgement). given x ∷ zs) (given_more xs ys)
 
@@ -71,6 +72,9 @@ noted_more (x ∷ xs) ys = ap (λ (zs : List (ℕ × ℕ)). noted_as x ∷ zs) (
 
 by_later : (e f : ℕ) → e ≤ f → (a : Acknowledged) → IsBy e a → IsBy f a
 by_later e f le a h = omega (arith, le, h)
+
+replied_later : (e f : ℕ) → e ≤ f → (r : Replied) → IsRepliedBy e r → IsRepliedBy f r
+replied_later e f le r h = omega (arith, le, h)
 
 module _ (A : Assembly) (ms : Monitors) (olds more : List Asked) (acks added : List Acknowledgement) (leads led : List Leadership) (before : List Posted) (old net : Network) (S : Stands A ms olds acks leads old) where
   module _ (v : World) (ds : List Posted) (D : Adds ms.count more added led ds S.w v) where
@@ -83,7 +87,15 @@ module _ (A : Assembly) (ms : Monitors) (olds more : List Asked) (acks added : L
     numbered_now =
         subst (λ (e : ℕ). AllByRecursion (IsBy e) v.acknowledged) (sym D.events)
         (subst (AllByRecursion (IsBy (suc S.w.events))) (sym D.acknowledged)
-        (all_append (IsBy (suc S.w.events)) S.w.acknowledged D.new (all_through (IsBy S.w.events) (IsBy (suc S.w.events)) (by_later S.w.events (suc S.w.events) (omega arith)) S.w.acknowledged S.numbered) D.numbered))
+        (all_append (IsBy (suc S.w.events)) S.w.acknowledged D.new (all_through (IsBy S.w.events) (IsBy (suc S.w.events)) (by_later S.w.events (suc S.w.events) (omega arith)) S.w.acknowledged S.numbered)
+        (all_through (IsAt (suc S.w.events)) (IsBy (suc S.w.events)) (λ a at. omega (arith, at)) D.new D.numbered)))
+
+    pub dated_now : AllByRecursion (IsRepliedBy v.events) v.replied
+    dated_now =
+        subst (λ (e : ℕ). AllByRecursion (IsRepliedBy e) v.replied) (sym D.events)
+        (subst (AllByRecursion (IsRepliedBy (suc S.w.events))) (sym D.replied)
+        (all_append (IsRepliedBy (suc S.w.events)) S.w.replied D.replies (all_through (IsRepliedBy S.w.events) (IsRepliedBy (suc S.w.events)) (replied_later S.w.events (suc S.w.events) (omega arith)) S.w.replied S.dated)
+        (all_through (IsRepliedAt (suc S.w.events)) (IsRepliedBy (suc S.w.events)) (λ r at. omega (arith, at)) D.replies D.answered)))
 
     pub active_now : v.active ≡ map noted_as (leads ++ led)
     active_now = D.active ∙ ap (λ (xs : List (ℕ × ℕ)). xs ++ map noted_as led) S.active ∙ sym (noted_more leads led)
@@ -96,6 +108,7 @@ module _ (A : Assembly) (ms : Monitors) (olds more : List Asked) (acks added : L
     asked = asked_still olds more S.w.asked S.asked;
     given_are = S.given_are ∙ sym (append-nil acks) ∙ ap (λ (xs : List Acknowledgement). acks ++ xs) (sym none);
     numbered = S.numbered;
+    dated = S.dated;
     active = S.active ∙ ap (map noted_as) (sym (append-nil leads) ∙ ap (λ (xs : List Leadership). leads ++ xs) (sym nobody));
   }
   stands_next (Moved M) = record {
@@ -105,6 +118,7 @@ module _ (A : Assembly) (ms : Monitors) (olds more : List Asked) (acks added : L
     asked = asked_now olds more S.w M.world M.adds.asked S.asked;
     given_are = given_now M.world M.sent M.adds;
     numbered = numbered_now M.world M.sent M.adds;
+    dated = dated_now M.world M.sent M.adds;
     active = active_now M.world M.sent M.adds;
   }
 
@@ -126,6 +140,7 @@ stands_first A ms = record {
   asked = tt;
   given_are = refl;
   numbered = tt;
+  dated = tt;
   active = refl;
 }
 
@@ -142,7 +157,7 @@ stands A ms F (s ∷ earlier) may =
 told_by : (count : ℕ) (w : World) (l : Letter) (by : ℕ) (to : Peer) (bytes : List ℕ) → Says count l.by w.messages w.replied to l.bytes → l.by ≡ by → Contains (pieces_of l.bytes l.boot l.seq) bytes
     → IsTold count w by to bytes
 told_by count w l by (Monitor j) bytes (m, c, has, from, e) own piece = (m, c, from ∙ own, (l.boot, l.seq, subst (λ (x : List ℕ). Contains (pieces_of x l.boot l.seq) bytes) e piece))
-told_by count w l by (Client j) bytes (r, c, rank, to, e) own piece = (r, c, rank ∙ own, to, (l.boot, l.seq, subst (λ (x : List ℕ). Contains (pieces_of x l.boot l.seq) bytes) e piece))
+told_by count w l by (Client j) bytes (r, c, has, rank, to, e) own piece = (r, c, rank ∙ own, to, (l.boot, l.seq, subst (λ (x : List ℕ). Contains (pieces_of x l.boot l.seq) bytes) e piece))
 
 all_told : (count : ℕ) (w : World) (ls : List Letter) (ds : List Posted) → ((l : Letter) → Contains ls l → Says count l.by w.messages w.replied l.to l.bytes) → AllByRecursion (IsPosted ls) ds
     → AllByRecursion (λ (d : Posted). IsTold count w d.by d.datagram.to d.datagram.bytes) ds

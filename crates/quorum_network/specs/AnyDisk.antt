@@ -5,7 +5,6 @@ use Rattle.mon_core.specs.Reacts.{TellsNamed}
 use Rattle.mon_frag.specs.Keeping.{taken}
 use Rattle.mon_frag.specs.Whole.{FromPeer, answer_in, answered}
 use Rattle.mon_link.specs.declared.link.Outgoing.{Outgoing}
-use Rattle.mon_link.specs.declared.link.Peer.{Peer}
 use Rattle.mon_link.specs.declared.link.Peer.TheVariants.{Monitor, Client}
 use Rattle.mon_msg.specs.Protocol.Reaction.{Reaction}
 use Rattle.mon_msg.specs.Protocol.Timers.{due}
@@ -16,7 +15,7 @@ use Rattle.mon_node.specs.Posting.{letters}
 use Rattle.mon_node.specs.Turns.{Turn, map_after}
 use Rattle.quorum_model.specs.Monitors.{Monitors, me_of}
 use Rattle.quorum_network.specs.Network.{Network, Process, Up, Down, Doing, Begins, Turns, Until, Step, CameFrom, IsAsked, IsNew, network, turn_of}
-use Rattle.quorum_network.specs.Promises.{ReachesClient}
+use Rattle.quorum_network.specs.Promises.{IsJoined, Numbers, ReachesClient}
 use Rattle.quorum_network.specs.Requests.{kept_by}
 
 -- ---- the whole messages that were sent
@@ -84,13 +83,13 @@ JoinsWhole net mails i (Up s) =
 JoinsWhole net mails i (Down m) = Unit {0}
 
 -- the same of a client
-abbrev pub IsMailTo : List Mailed → (c : ℕ) → Peer → List ℕ → Type 0
-IsMailTo mails c (Monitor j) bytes = Contains mails (record { by = j; whole = record { to = Client c; bytes = bytes } })
-IsMailTo mails c (Client other) bytes = Unit {0}
+abbrev pub IsMailTo : List Mailed → (j c : ℕ) → List ℕ → Type 0
+IsMailTo mails j c bytes = Contains mails (record { by = j; whole = record { to = Client c; bytes = bytes } })
 
--- What client c joins of monitors' datagrams, whichever of them come and in whatever order, are whole messages of theirs
+-- What a client joins of monitors' datagrams, whichever of them come and in whatever order, are whole messages of theirs
 -- to it.
 abbrev pub ClientsJoinWhole : Network → List Mailed → Type 0
 ClientsJoinWhole net mails =
-    (c : ℕ) (came : List FromPeer) → AllByRecursion (λ (d : FromPeer). ReachesClient net.sent c d.from d.bytes) came
-    → AllByRecursion (λ (d : FromPeer). IsMailTo mails c d.from d.bytes) (answered [] came)
+    (numbers : Numbers) (came : List FromPeer)
+    → AllByRecursion (λ (d : FromPeer). ReachesClient net.sent numbers d.from d.bytes) came
+    → AllByRecursion (λ (d : FromPeer). IsJoined (IsMailTo mails) numbers d.from d.bytes) (answered [] came)

@@ -1,5 +1,5 @@
 -- What processes promise: there is one log that only grows, and all maps and all answers on the wire are of it.
-use Rattle.std.specs.Prelude.{◌≡◌, ◌⊎◌, ℕ, ◌<◌, ◌≤◌, max, true, List, [], ◌∷◌, ◌++◌, length, Some}
+use Rattle.std.specs.Prelude.{◌≡◌, ◌⊎◌, ℕ, ◌<◌, ◌≤◌, max, Bool, true, List, [], ◌∷◌, ◌++◌, length, Some}
 use Rattle.std.specs.List.{AllByRecursion, Contains}
 use Rattle.mon_frag.specs.Whole.{FromPeer, answered}
 use Rattle.mon_kv.specs.Readers.{is_marked}
@@ -13,8 +13,7 @@ use Rattle.mon_tx.specs.Keys.{cell, number, shared}
 use Rattle.mon_tx.specs.Map.{Store}
 use Rattle.mon_tx.specs.declared.key.Area.TheVariants as area
 use Rattle.mon_tx.specs.declared.key.Key.TheVariants as key
-use Rattle.mon_wire.specs.Message.Whole.{text}
-use Rattle.mon_wire.specs.declared.body.Body.TheVariants as body
+use Rattle.mon_wire.specs.Message.Whole.{HasText, text}
 use Rattle.mon_wire.specs.declared.reply.Reply.{Reply}
 use Rattle.mon_wire.specs.declared.reply.Reply.TheVariants as reply
 use Rattle.mon_wire.specs.declared.request.Request.{Request}
@@ -30,7 +29,7 @@ use Rattle.quorum_model.specs.Shown.{AreAfter}
 use Rattle.quorum_model.specs.World.{Asked}
 use Rattle.quorum_network.specs.Network.{Network, Posted, Process, Up, Down, Step, map_of, network}
 use Rattle.quorum_network.specs.Requests.{Acknowledgement, requests, acknowledgements}
-use Rattle.quorum_network.specs.Running.{IsPiece}
+use Rattle.quorum_network.specs.Running.{IsPiece, reply_message}
 
 -- ---- what a client learns
 
@@ -58,7 +57,8 @@ abbrev pub IsNoOlder : List Acknowledgement → (epoch : ℕ) → (v : ℕ) → 
 IsNoOlder before epoch v = AllByRecursion (λ (a : Acknowledgement). a.epoch ≡ epoch → a.version ≤ v) before
 
 -- What monitor i replies in a session is the log's, and was asked for: a map up to a version, the changes after one, or
--- that a command is in a version. A map and changes are no older than what was acknowledged before in their epoch.
+-- that a command is in a version. A map and changes are no older than what was acknowledged before in their epoch. Each kind
+-- of reply is named, so that whoever adds one decides what is promised of it.
 abbrev pub IsOfLog : List Asked → (acks before : List Acknowledgement) → List (List ℕ) → (i epoch : ℕ) → Session
     → Reply → Type 0
 IsOfLog requests acks before log i epoch session (reply.Shown s paxos version map) =
@@ -69,7 +69,12 @@ IsOfLog requests acks before log i epoch session (reply.Since s from told more) 
     (v : ℕ) × (v ≤ length log) × AreAfter (incrementals s log v) from told more
     × Requested requests i session (request.Since s from) × IsNoOlder before epoch v
 IsOfLog requests acks before log i epoch session (reply.Done v) = IsDone requests acks log i session v
-IsOfLog requests acks before log i epoch session other = Unit {0}
+IsOfLog requests acks before log i epoch session reply.NoSuch = Unit {0}
+IsOfLog requests acks before log i epoch session (reply.TooLong len most) = Unit {0}
+IsOfLog requests acks before log i epoch session (reply.MapFull would_be) = Unit {0}
+IsOfLog requests acks before log i epoch session reply.Unavailable = Unit {0}
+IsOfLog requests acks before log i epoch session (reply.NotReadable has lease) = Unit {0}
+IsOfLog requests acks before log i epoch session (reply.Busy waiting) = Unit {0}
 
 -- Bytes are a REPLY of monitor i of n, in a session of client c, and the reply is the log's.
 pub record IsReply (n : ℕ) (requests : List Asked) (acks before : List Acknowledgement) (log : List (List ℕ))
@@ -78,37 +83,41 @@ pub record IsReply (n : ℕ) (requests : List Asked) (acks before : List Acknowl
   pub epoch : ℕ
   pub reply : Reply
   pub client : session.client ≡ c
-  pub is_text : bytes ≡ text (record { from = i; monitors = n; epoch = epoch; body = body.Reply session.id reply })
+  pub has_text : HasText (reply_message n i epoch session reply)
+  pub is_text : bytes ≡ text (reply_message n i epoch session reply)
   pub of_log : IsOfLog requests acks before log i epoch session reply
 
--- Bytes that were sent to a client are a datagram of such a REPLY.
-abbrev pub IfToClient : (n : ℕ) → List Asked → (acks before : List Acknowledgement) → List (List ℕ) → (i : ℕ) → Peer
-    → List ℕ → Type 0
-IfToClient n requests acks before log i (Monitor j) bytes = Unit {0}
-IfToClient n requests acks before log i (Client c) bytes =
-    (whole : List ℕ) × IsReply n requests acks before log i c whole × IsPiece whole bytes
+-- ---- what goes to a client, and what it joins
 
--- ---- what a client joins
+-- Bytes that were sent to a client are a datagram of a message that its monitor may send to this client.
+abbrev pub IfToClient : (MaySend : (i c : ℕ) → List ℕ → Type 0) → (i : ℕ) → Peer → List ℕ → Type 0
+IfToClient MaySend i (Monitor j) bytes = Unit {0}
+IfToClient MaySend i (Client c) bytes = (whole : List ℕ) × MaySend i c whole × IsPiece whole bytes
 
--- What client c takes as a datagram of monitor i was sent by it to this client. What comes from others are any bytes.
-abbrev pub ReachesClient : List Posted → (c : ℕ) → Peer → List ℕ → Type 0
-ReachesClient sent c (Monitor i) bytes =
-    Contains sent (record { by = i; datagram = record { to = Client c; bytes = bytes } })
-ReachesClient sent c (Client other) bytes = Unit {0}
+-- Whether a monitor knew a client by a number. Each monitor numbers clients by itself, anew in each of its lives.
+abbrev pub Numbers : Type 0
+Numbers = (monitor number : ℕ) → Bool
 
--- a message that it joined, if it is a monitor's, is a whole REPLY of that monitor
-abbrev pub IsJoined : (n : ℕ) → List Asked → (acks before : List Acknowledgement) → List (List ℕ) → (c : ℕ) → Peer
-    → List ℕ → Type 0
-IsJoined n requests acks before log c (Monitor i) bytes = IsReply n requests acks before log i c bytes
-IsJoined n requests acks before log c (Client other) bytes = Unit {0}
+-- What a client takes as a datagram of monitor i was sent by it to a number of this client. What comes from others are any
+-- bytes.
+abbrev pub ReachesClient : List Posted → Numbers → Peer → List ℕ → Type 0
+ReachesClient sent numbers (Monitor i) bytes =
+    (c : ℕ) × (numbers i c ≡ true)
+    × Contains sent (record { by = i; datagram = record { to = Client c; bytes = bytes } })
+ReachesClient sent numbers (Client other) bytes = Unit {0}
 
--- Each of these datagrams that went to a client is one of a REPLY that is the log's. A client that joins them, however
--- often and in whatever order they come, joins whole REPLYs.
-pub record AreAnswers (n : ℕ) (requests : List Asked) (acks before : List Acknowledgement) (log : List (List ℕ))
-    (sent : List Posted) : Type 0 where
-  pub each : AllByRecursion (λ (d : Posted). IfToClient n requests acks before log d.by d.datagram.to d.datagram.bytes) sent
-  pub joined : (c : ℕ) (came : List FromPeer) → AllByRecursion (λ (d : FromPeer). ReachesClient sent c d.from d.bytes) came
-      → AllByRecursion (λ (d : FromPeer). IsJoined n requests acks before log c d.from d.bytes) (answered [] came)
+-- a message that it joined, if it is a monitor's, is one that this monitor may send to a number of this client
+abbrev pub IsJoined : (MaySend : (i c : ℕ) → List ℕ → Type 0) → Numbers → Peer → List ℕ → Type 0
+IsJoined MaySend numbers (Monitor i) bytes = (c : ℕ) × (numbers i c ≡ true) × MaySend i c bytes
+IsJoined MaySend numbers (Client other) bytes = Unit {0}
+
+-- Each of these datagrams that went to a client is one of a message that its monitor may send. A client that joins them,
+-- however often and in whatever order they come, joins such messages whole.
+pub record AreAnswers (MaySend : (i c : ℕ) → List ℕ → Type 0) (sent : List Posted) : Type 0 where
+  pub each : AllByRecursion (λ (d : Posted). IfToClient MaySend d.by d.datagram.to d.datagram.bytes) sent
+  pub joined : (numbers : Numbers) (came : List FromPeer)
+      → AllByRecursion (λ (d : FromPeer). ReachesClient sent numbers d.from d.bytes) came
+      → AllByRecursion (λ (d : FromPeer). IsJoined MaySend numbers d.from d.bytes) (answered [] came)
 
 -- ---- what is acknowledged lasts
 
@@ -140,7 +149,7 @@ pub record IsLogOf (ms : Monitors) (requests : List Asked) (acks : List Acknowle
     (log : List (List ℕ)) : Type 0 where
   pub values : (v : ℕ) → v < length log → IsAsked ms.count requests log v
   pub maps : (i : ℕ) → i < ms.count → ¬ (is_marked (map_of (net.process i)) ≡ true) → Agrees log (map_of (net.process i))
-  pub answers : AreAnswers ms.count requests acks [] log net.sent
+  pub answers : AreAnswers (IsReply ms.count requests acks [] log) net.sent
   pub kept : AllByRecursion (IsKept ms.count net log) acks
   pub once : AcknowledgedOnce acks
 
@@ -153,8 +162,8 @@ pub record HaveOneLog (ms : Monitors) (earlier later : List Step) : Type 0 where
   pub after : IsLogOf ms (requests ms later) (acknowledgements ms later) (network ms later) (log ++ more)
   pub sent : List Posted
   pub wire : (network ms later).sent ≡ (network ms earlier).sent ++ sent
-  pub fenced : AreAnswers ms.count (requests ms later) (acknowledgements ms later) (acknowledgements ms earlier)
-      (log ++ more) sent
+  pub fenced : AreAnswers
+      (IsReply ms.count (requests ms later) (acknowledgements ms later) (acknowledgements ms earlier) (log ++ more)) sent
 
 -- ---- two maps
 

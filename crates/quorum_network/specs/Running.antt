@@ -8,6 +8,8 @@ use Rattle.mon_node.specs.Nodes.{Serving}
 use Rattle.mon_wire.specs.Message.Whole.{text}
 use Rattle.mon_wire.specs.declared.body.Body.TheVariants as body
 use Rattle.mon_wire.specs.declared.message.Message.{Message}
+use Rattle.mon_wire.specs.declared.reply.Reply.{Reply}
+use Rattle.mon_wire.specs.declared.request.Session.{Session}
 use Rattle.quorum_model.specs.Events.{AllFit}
 use Rattle.quorum_model.specs.Monitors.{Monitors}
 use Rattle.quorum_model.specs.Runs.{run}
@@ -15,9 +17,13 @@ use Rattle.quorum_model.specs.Safe.{Safe}
 use Rattle.quorum_model.specs.World.{Asked, World, Event, Replied}
 use Rattle.quorum_network.specs.Network.{Network, Posted, Up, map_of}
 
+-- the message by which monitor i of n replies in a session
+abbrev pub reply_message : (n i epoch : ℕ) → Session → Reply → Message
+reply_message n i epoch session r = record { from = i; monitors = n; epoch = epoch; body = body.Reply session.id r }
+
 -- the message that brings a client this reply
 abbrev pub answer_of : (count : ℕ) → Replied → Message
-answer_of count r = record { from = r.rank; monitors = count; epoch = r.epoch; body = body.Reply r.session.id r.reply }
+answer_of count r = reply_message count r.rank r.epoch r.session r.reply
 
 -- bytes are a datagram of a message with this text, sent in some life
 abbrev pub IsPiece : List ℕ → List ℕ → Type 0

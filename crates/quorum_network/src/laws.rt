@@ -56,7 +56,7 @@ pub fn law_network()
 /// full synchronization, and so is every datagram that ever went to a client, a piece of a REPLY: what is shown is the
 /// log up to a version, and was asked for; and the command that is said to be done is in it. Each entry is the value of
 /// a command that a client asked. A client that joins the pieces of long REPLYs, whatever of them is lost, repeated or
-/// late, joins whole REPLYs, of which all this holds.
+/// late and whatever numbers monitors give the client, joins whole REPLYs, of which all this holds.
 ///
 /// No version is acknowledged twice. Each active leader with a proposal number of at least that of an acknowledgement
 /// has its version. What is shown after an acknowledgement, in its epoch, is no older.
