@@ -1,4 +1,4 @@
--- The acts of a monitor hand no command on, and leave its clients as they were or forget them.
+-- The acts of a monitor hand no command on, refuse none, and leave its clients as they were or forget them.
 use Rattle.election_rules.specs.Ranking.{allows}
 use Rattle.mon_bytes.specs.declared.entry.Entry.{Entry}
 use Rattle.mon_msg.specs.Protocol.Answers.{answer_of, last_answer, tells_all, told_of, told_values}
@@ -32,8 +32,9 @@ use Rattle.mon_wire.specs.declared.parts.Place.{Place as ChunkPlace}
 use Rattle.mon_wire.specs.declared.phase.Phase.TheVariants as phase
 use Rattle.mon_wire.specs.declared.reply.Reply.{Reply}
 use Rattle.quorum_agreement.proofs.Accepting.{then_map}
+use Rattle.quorum_commands.specs.Unmade.{AcknowledgesNone}
 use Rattle.quorum_history.proofs.Phases.{no}
-use Rattle.quorum_walk.proofs.Lists.{all_append, all_flat_map, all_of}
+use Rattle.quorum_walk.proofs.Lists.{all_append, all_flat_map, all_map, all_of}
 use Rattle.quorum_walk.proofs.Walk.{Then, and_then, by_test, done, where_fits}
 use Rattle.std.proofs.Common.{Bool, List, None, Ok, Option, Some, [], ap, eqb, false, length, ltb, map, max, not, refl, subst, suc, sym, true, ℕ, ◌&&◌, ◌++◌, ◌+◌, ◌∙◌, ◌∷◌, ◌≡◌}
 use Rattle.std.proofs.lemmas.Bool.{cond_both}
@@ -42,17 +43,38 @@ use Rattle.std.specs.Prelude.{slice_index_or}
 
 -- ---- what is sent
 
--- no command is handed on
+-- no command is handed on, and only an acknowledgement is handed back
 abbrev pub HandsNone : Body → Type 0
 HandsNone (body.Forward seq c) = ⊥
+HandsNone (body.Route seq r) = ¬ AcknowledgesNone r
 HandsNone other = Unit {0}
 
 abbrev pub IsOther : Sent → Type 0
 IsOther (sent.Message to m) = HandsNone m.body
-IsOther (sent.Reply t r) = Unit {0}
+IsOther (sent.Reply t r) = ¬ AcknowledgesNone r
 
 abbrev pub AllOther : List Sent → Type 0
 AllOther sends = AllByRecursion IsOther sends
+
+-- it refuses nothing
+abbrev pub IsCalmBody : Body → Type 0
+IsCalmBody (body.Route seq r) = ¬ AcknowledgesNone r
+IsCalmBody other = Unit {0}
+
+abbrev pub IsCalm : Sent → Type 0
+IsCalm (sent.Message to m) = IsCalmBody m.body
+IsCalm (sent.Reply t r) = ¬ AcknowledgesNone r
+
+pub others_calm : (sends : List Sent) → AllOther sends → AllByRecursion IsCalm sends
+others_calm sends k = all_map IsOther IsCalm by sends k
+  where
+    calm_body : (b : Body) → HandsNone b → IsCalmBody b
+    calm_body (body.Route seq r) k = k
+    calm_body other k = tt
+
+    by : (x : Sent) → IsOther x → IsCalm x
+    by (sent.Message to m) o = calm_body m.body o
+    by (sent.Reply t r) o = o
 
 pub answer_none : (n : ℕ) (r : Readings) (from : ℕ) → HandsNone (last_answer n r from)
 unfolding answer_of
@@ -102,10 +124,10 @@ module _ (me : Me) where
   pub to_each : (e : ℕ) (b : Body) → HandsNone b → (tos : List ℕ) → AllOther (map (message_to me e b) tos)
   to_each e b k tos = all_of IsOther (message_to me e b) (λ to. k) tos
 
-  pub answers_none : (e : ℕ) (o : Option Origin) (r : Reply) → AllOther (answers_to me e o r)
-  answers_none e None r = tt
-  answers_none e (Some (origin.Session t)) r = (tt, tt)
-  answers_none e (Some (origin.Forwarded f seq)) r = (tt, tt)
+  pub answers_none : (e : ℕ) (o : Option Origin) (r : Reply) → ¬ AcknowledgesNone r → AllOther (answers_to me e o r)
+  answers_none e None r k = tt
+  answers_none e (Some (origin.Session t)) r k = (k, tt)
+  answers_none e (Some (origin.Forwarded f seq)) r k = (k, tt)
 
   module _ (now : ℕ) where
     -- ---- leading

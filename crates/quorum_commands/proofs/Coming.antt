@@ -1,9 +1,13 @@
 -- What comes by an event, and what a monitor does with it.
+use Rattle.log_copies.proofs.Standing.{Agrees}
+use Rattle.log_copies.proofs.Telling.{monitor_keeps, read_last}
+use Rattle.log_model.specs.Windows.{Keeps}
 use Rattle.mon_msg.proofs.Changed.{readings-joined}
 use Rattle.mon_msg.specs.Joined.{joined}
 use Rattle.mon_msg.specs.Protocol.Changes.{spelled}
 use Rattle.mon_msg.specs.Protocol.Course.{Course}
-use Rattle.mon_msg.specs.Protocol.Reaction.{Reaction, any_reaction, reaction_of}
+use Rattle.mon_msg.specs.Protocol.Phases.{is_leading}
+use Rattle.mon_msg.specs.Protocol.Reaction.{any_reaction, reaction_of}
 use Rattle.mon_msg.specs.Protocol.Readings.{readings_of, shared_entries}
 use Rattle.mon_msg.specs.Protocol.State.{State, booting}
 use Rattle.mon_msg.specs.Protocol.Table.{at_rest, react}
@@ -14,7 +18,11 @@ use Rattle.mon_tx.specs.Map.{Store, apply}
 use Rattle.mon_types.specs.declared.names.Which.{Which}
 use Rattle.mon_wire.specs.declared.request.Request.TheVariants as request
 use Rattle.mon_wire.specs.declared.request.Request.{Request}
+use Rattle.quorum_agreement.proofs.Invariant.{remembers}
+use Rattle.quorum_agreement.proofs.Result.{OneLog}
+use Rattle.quorum_agreement.proofs.Step.{copy_marked}
 use Rattle.quorum_history.proofs.Holds.{InPhase, core_of}
+use Rattle.quorum_history.proofs.Phases.{no, votes_unmarked}
 use Rattle.quorum_laws.proofs.Events.{member_of, unless_full}
 use Rattle.quorum_laws.proofs.Invariant.{EnvelopeFine, EnvelopeHolds, InvOf, OnState, StateFits}
 use Rattle.quorum_laws.proofs.Values.{made, sharing}
@@ -29,7 +37,8 @@ use Rattle.quorum_walk.proofs.FineTable.{ComesFine, react_fine}
 use Rattle.quorum_walk.proofs.Lists.{all_get}
 use Rattle.quorum_walk.proofs.Sparing.{own_of}
 use Rattle.quorum_walk.proofs.Walk.{Then}
-use Rattle.std.proofs.Common.{Bool, Err, IfSome, None, Ok, Option, Result, Some, [], ap, arith, false, inl, inr, ltb, refl, slice_get, subst, suc, sym, true, zero, ℕ, ◌++◌, ◌∙◌, ◌∷◌, ◌≡◌, ◌⊎◌}
+use Rattle.std.proofs.Common.{Bool, Err, IfSome, None, Ok, Option, Result, Some, [], ap, arith, false, inl, inr, length, ltb, refl, slice_get, subst, suc, sym, true, zero, ℕ, ◌++◌, ◌∙◌, ◌∷◌, ◌≡◌, ◌≤◌, ◌⊎◌}
+use Rattle.std.proofs.lemmas.Bool.{ltb-true}
 use Rattle.std.specs.List.{AllByRecursion}
 use Rattle.std.specs.Option.{option_map}
 use Rattle.std.specs.Prelude.{IfOk}
@@ -160,3 +169,24 @@ module _ (ms : Monitors) (w : World) (I : InvOf ms w) (p : Plain) (d : Does ms w
   -- what its store's readers return then
   pub tells : readings_of next ≡ d.y.readings
   tells = readings-joined d.y.changes (fit_fits d.y.changes ended.fits) m ∙ sym ended.tells
+
+  -- ---- what a leader has
+
+  pub leads_unmarked : is_leading d.state.phase ≡ true → (readings_of m).marked ≡ false
+  leads_unmarked t = votes_unmarked ms.count I.g d.rank (core_of (own_of (readings_of m)) d.state) d.state.phase (rw t refl) phase_holds
+
+  module _ (L : OneLog ms w) where
+    pub record Versions : Type 0 where
+      pub within : (readings_of m).last ≤ length w.log
+      pub keeps : Keeps w.log (readings_of m).last (readings_of m)
+
+    pub versions : (readings_of m).marked ≡ false → Versions
+    versions u = by (L.stores d.rank (ltb-true d.rank ms.count d.lt))
+      where
+        by : Agrees w.log m (remembers d.rank (w.state d.rank)) → Versions
+        by (inl V) =
+            let h = V.versions in
+            let e = read_last w.log L.short L.values V.last m h in
+            let k = monitor_keeps w.log L.short L.values V.last m h in
+            record { within = (let l = h.within in omega arith); keeps = subst (λ (c : ℕ). Keeps w.log c (readings_of m)) (sym e) k }
+        by (inr C) = no (sym u ∙ copy_marked w.log m (remembers d.rank (w.state d.rank)) C)

@@ -15,7 +15,7 @@ use Rattle.mon_msg.specs.Protocol.Leader.{all_accepted, all_answered, commit_any
 use Rattle.mon_msg.specs.Protocol.Leading.{be_active, commit, extend}
 use Rattle.mon_msg.specs.Protocol.Learning.{learn, news, news_from}
 use Rattle.mon_msg.specs.Protocol.Peon.{cancel, hear_begin, hear_collect, hear_commit, hear_lease, of_leader, promise}
-use Rattle.mon_msg.specs.Protocol.Phases.{is_leading, same_phase, votes}
+use Rattle.mon_msg.specs.Protocol.Phases.{is_leading, is_peon, same_phase, votes}
 use Rattle.mon_msg.specs.Protocol.Pings.{hear_ping, hear_ping_reply, measure, ping}
 use Rattle.mon_msg.specs.Protocol.Places.{is_after, is_cookie, no_cookie, same_cookie}
 use Rattle.mon_msg.specs.Protocol.Probing.{hear_probe, hear_probe_reply, lag}
@@ -26,7 +26,7 @@ use Rattle.mon_msg.specs.Protocol.Replay.{replay_any, replay_step, step_in, step
 use Rattle.mon_msg.specs.Protocol.Sending.{members, message_to, others}
 use Rattle.mon_msg.specs.Protocol.State.{State, no_clients, quorum_of}
 use Rattle.mon_msg.specs.Protocol.Synchronizing.{full_sync, recent_sync}
-use Rattle.mon_msg.specs.Protocol.Table.{at_rest, before_start, first_elector, start, timer_comes}
+use Rattle.mon_msg.specs.Protocol.Table.{at_rest, first_elector, start, timer_comes}
 use Rattle.mon_msg.specs.Protocol.Value.{value}
 use Rattle.mon_msg.specs.declared.clients.Asked.{Asked}
 use Rattle.mon_msg.specs.declared.clients.Clients.{Clients}
@@ -50,15 +50,17 @@ use Rattle.mon_wire.specs.declared.phase.Timer.TheVariants as timer
 use Rattle.mon_wire.specs.declared.phase.Timer.{Timer}
 use Rattle.mon_wire.specs.declared.reply.Reply.TheVariants as reply
 use Rattle.mon_wire.specs.declared.reply.Reply.{Reply}
+use Rattle.mon_wire.specs.declared.request.Session.{Session}
 use Rattle.quorum_agreement.proofs.Accepting.{begun, begun_is, then_map}
 use Rattle.quorum_history.proofs.Phases.{collecting_is, no}
-use Rattle.quorum_walk.proofs.Lists.{all_of}
+use Rattle.quorum_walk.proofs.Lists.{Among, all_map}
 use Rattle.quorum_walk.proofs.Walk.{Then, and_then, and_three, by_test, done, or_three, where_fits}
-use Rattle.std.proofs.Common.{Bool, List, None, Ok, Option, Some, [], ap, arith, eqb, false, inl, inr, leb, length, ltb, not, refl, subst, suc, sym, true, ℕ, ◌&&◌, ◌+◌, ◌-◌, ◌||◌, ◌∙◌, ◌∷◌, ◌≡◌, ◌⊎◌}
-use Rattle.std.proofs.lemmas.Bool.{ltb-false, not-false}
-use Rattle.std.specs.List.{filter}
+use Rattle.std.proofs.Common.{Bool, List, None, Ok, Option, Some, [], ap, arith, eqb, false, inl, inr, leb, length, ltb, map, not, refl, subst, suc, sym, true, ℕ, ◌&&◌, ◌+◌, ◌-◌, ◌||◌, ◌∙◌, ◌∷◌, ◌≡◌, ◌⊎◌}
+use Rattle.std.proofs.lemmas.Bool.{cond_both, eqb-true, ltb-false, not-false}
+use Rattle.std.specs.List.{AllByRecursion, filter}
 use Rattle.std.specs.Prelude.{is_some, slice_index_or}
-use Rattle.quorum_commands.proofs.Acts.{AllOther, Anew, Called, Goes, IsOther, Unpending, answer_none, answers_none, bootstraps, chunk_none, collects, elects, learns, more, settles, to_each, wins}
+use Rattle.quorum_commands.specs.Unmade.{AcknowledgesNone}
+use Rattle.quorum_commands.proofs.Acts.{AllOther, Anew, Called, Goes, HandsNone, IsOther, Unpending, answer_none, answers_none, bootstraps, chunk_none, collects, elects, learns, more, settles, to_each, wins}
 
 -- ---- which input may bring a command
 
@@ -85,7 +87,23 @@ same_clients a b e = (ap (λ (c : Clients). c.queue) e, ap (λ (c : Clients). c.
 
 -- ---- an event, from what the store's readers returned and what was remembered before it
 
-module _ (me : Me) (now : ℕ) (w : Readings) (s : State) where
+-- Settled says that a session may be given any reply.
+module _ (me : Me) (now : ℕ) (w : Readings) (s : State) (Settled : Session → Type 0) where
+  -- it hands no command on, and refuses only a session that is settled
+  abbrev pub IsFair : Sent → Type 0
+  IsFair (sent.Message to m) = HandsNone m.body
+  IsFair (sent.Reply t r) = AcknowledgesNone r → Settled t
+
+  abbrev pub AllFair : List Sent → Type 0
+  AllFair sends = AllByRecursion IsFair sends
+
+  pub all_fair : (sends : List Sent) → AllOther sends → AllFair sends
+  all_fair sends k = all_map IsOther IsFair by sends k
+    where
+      by : (x : Sent) → IsOther x → IsFair x
+      by (sent.Message to m) o = o
+      by (sent.Reply t r) o = λ u. absurd (o u)
+
   -- it is alone in its map, with no value pending and nothing to replay
   pub record Alone : Type 0 where
     pub one : me.member.monitors ≡ 1
@@ -97,7 +115,7 @@ module _ (me : Me) (now : ℕ) (w : Readings) (s : State) where
   Leads c = ((is_leading s.phase ≡ true) × SameClients c s.clients) ⊎ (((votes s.phase ≡ true) × (is_even (epoch_of w) ≡ false)) ⊎ ((same_phase s.phase phase.Electing ≡ true) ⊎ (ltb 1 me.member.monitors ≡ false)))
 
   pub record Idle (y : Course) : Type 0 where
-    pub out : AllOther y.out
+    pub out : AllFair y.out
     pub clients : SameClients y.state.clients s.clients ⊎ (y.state.clients ≡ no_clients)
     pub leads : is_leading y.state.phase ≡ true → Leads y.state.clients
     pub last : Alone → y.readings.last ≡ w.last
@@ -105,33 +123,36 @@ module _ (me : Me) (now : ℕ) (w : Readings) (s : State) where
   -- ---- what that is in an event
 
   -- nothing more is pending than before, and no version is new
-  abbrev Settled : Course → Type 0
-  Settled x = Alone → (pending x.readings ≡ None) × (x.readings.last ≡ w.last)
+  abbrev NothingNew : Course → Type 0
+  NothingNew x = Alone → (pending x.readings ≡ None) × (x.readings.last ≡ w.last)
 
   at_first : Alone → (pending w ≡ None) × (w.last ≡ w.last)
   at_first a = (a.none, refl)
 
-  anew : (x : Course) → AllOther x.out → Settled x → Then Idle (bootstrap me now x)
-  anew x O S = then_map (Anew me now x) Idle (bootstrap me now x) (λ y A. record { out = A.out; clients = inr A.clients; leads = λ t. inr (inr (inr (A.leads t))); last = λ a. A.last (S a).0 ∙ (S a).1 }) (bootstraps me now x O)
+  anew : (x : Course) → AllOther x.out → NothingNew x → Then Idle (bootstrap me now x)
+  anew x O S = then_map (Anew me now x) Idle (bootstrap me now x) (λ y A. record { out = all_fair y.out A.out; clients = inr A.clients; leads = λ t. inr (inr (inr (A.leads t))); last = λ a. A.last (S a).0 ∙ (S a).1 }) (bootstraps me now x O)
 
-  called : (x : Course) → AllOther x.out → Settled x → Then Idle (elect me now x)
-  called x O S = then_map (Called x) Idle (elect me now x) (λ y C. record { out = C.out; clients = inr C.clients; leads = λ t. no (sym (ap is_leading C.in_phase) ∙ t); last = λ a. C.last ∙ (S a).1 }) (elects me now x O)
+  called : (x : Course) → AllOther x.out → NothingNew x → Then Idle (elect me now x)
+  called x O S = then_map (Called x) Idle (elect me now x) (λ y C. record { out = all_fair y.out C.out; clients = inr C.clients; leads = λ t. no (sym (ap is_leading C.in_phase) ∙ t); last = λ a. C.last ∙ (S a).1 }) (elects me now x O)
 
-  won : (q : List Bool) (x : Course) → x.state.clients ≡ s.clients → AllOther x.out → Settled x → ((votes s.phase ≡ true) × (is_even (epoch_of w) ≡ false)) ⊎ (same_phase s.phase phase.Electing ≡ true) → Then Idle (win me now q x)
+  won : (q : List Bool) (x : Course) → x.state.clients ≡ s.clients → AllOther x.out → NothingNew x → ((votes s.phase ≡ true) × (is_even (epoch_of w) ≡ false)) ⊎ (same_phase s.phase phase.Electing ≡ true) → Then Idle (win me now q x)
   won q x same O S how = then_map (Goes x (Unpending x)) Idle (win me now q x)
-      (λ y G. record { out = G.out; clients = inl (same_clients y.state.clients s.clients (G.clients ∙ same)); leads = λ t. inr (by how); last = λ a. G.last (S a).0 ∙ (S a).1 }) (wins me now q x O)
+      (λ y G. record { out = all_fair y.out G.out; clients = inl (same_clients y.state.clients s.clients (G.clients ∙ same)); leads = λ t. inr (by how); last = λ a. G.last (S a).0 ∙ (S a).1 }) (wins me now q x O)
     where
       by : ((votes s.phase ≡ true) × (is_even (epoch_of w) ≡ false)) ⊎ (same_phase s.phase phase.Electing ≡ true) → ((votes s.phase ≡ true) × (is_even (epoch_of w) ≡ false)) ⊎ ((same_phase s.phase phase.Electing ≡ true) ⊎ (ltb 1 me.member.monitors ≡ false))
       by (inl k) = inl k
       by (inr k) = inr (inl k)
 
   -- its phase and its clients are what they were
+  fairly : (y : Course) → AllFair y.out → y.state.phase ≡ s.phase → SameClients y.state.clients s.clients → (Alone → y.readings.last ≡ w.last) → Then Idle (Ok y)
+  fairly y O same c last = done (record { out = O; clients = inl c; leads = λ t. inl (sym (ap is_leading same) ∙ t, c); last = last })
+
   quiet : (y : Course) → AllOther y.out → y.state.phase ≡ s.phase → SameClients y.state.clients s.clients → (Alone → y.readings.last ≡ w.last) → Then Idle (Ok y)
-  quiet y O same c last = done (record { out = O; clients = inl c; leads = λ t. inl (sym (ap is_leading same) ∙ t, c); last = last })
+  quiet y O same c last = fairly y (all_fair y.out O) same c last
 
   -- it doesn't lead
   follows : (y : Course) → AllOther y.out → is_leading y.state.phase ≡ false → SameClients y.state.clients s.clients → (Alone → y.readings.last ≡ w.last) → Then Idle (Ok y)
-  follows y O not_leading c last = done (record { out = O; clients = inl c; leads = λ t. no (sym not_leading ∙ t); last = last })
+  follows y O not_leading c last = done (record { out = all_fair y.out O; clients = inl c; leads = λ t. no (sym not_leading ∙ t); last = last })
 
   abbrev x0 : Course
   x0 = at_rest w s
@@ -139,10 +160,10 @@ module _ (me : Me) (now : ℕ) (w : Readings) (s : State) where
   pub rests : Then Idle (Ok x0)
   rests = quiet x0 tt refl (refl, refl) (λ a. refl)
 
-  pub says : (sends : List Sent) → AllOther sends → Then Idle (Ok (record x0 { out = sends }))
-  says sends O = quiet _ O refl (refl, refl) (λ a. refl)
+  pub says : (sends : List Sent) → AllFair sends → Then Idle (Ok (record x0 { out = sends }))
+  says sends O = fairly _ O refl (refl, refl) (λ a. refl)
 
-  starts : Then Idle (start me now x0)
+  pub starts : Then Idle (start me now x0)
   unfolding start
   starts = where_fits Idle which.Boot (suc w.boot) _ (λ _. by (not (is_some w.epoch)))
     where
@@ -189,11 +210,14 @@ module _ (me : Me) (now : ℕ) (w : Readings) (s : State) where
   rings timer.Propose o = no (sym o)
   rings timer.Ping o = quiet _ (to_each me (epoch_of w) (body.Ping (own_table me (elector_is (measure me now s.elector) x0))) tt (others me)) refl (refl, refl) (λ a. refl)
 
-  pub before : (came : Input) → Then Idle (before_start me now came x0)
-  before input.Start = starts
-  before (input.Deliver m) = rests
-  before (input.Timer t) = rests
-  before (input.Client t r) = says (sent.Reply t reply.Unavailable ∷ []) (tt, tt)
+  -- what comes back to a session that waits under this number settles it
+  abbrev pub Returns : (e seq : ℕ) → Reply → Type 0
+  Returns e seq r = AcknowledgesNone r → is_peon s.phase ≡ true → e ≡ epoch_of w → (a : Asked) → Among a s.clients.sessions → a.seq ≡ seq → Settled a.session
+
+  -- what is known of what comes back
+  abbrev pub BodyReturns : (e : ℕ) → Body → Type 0
+  BodyReturns e (body.Route seq r) = Returns e seq r
+  BodyReturns e other = Unit {0}
 
   -- ---- what another monitor says
 
@@ -215,11 +239,11 @@ module _ (me : Me) (now : ℕ) (w : Readings) (s : State) where
         by_test (ltb 0 (count_of q)) (λ _. called x0 tt among) (λ _.
         by_test (is_majority me.member.monitors (with_rank s.prober.outside f)) (λ _. called _ tt among) (λ _. quiet _ tt refl (refl, refl) among))))))
 
-    weighs : (table : Scores) (f : ℕ) (x : Course) → Idle x → Then Idle (weigh me now table f x)
-    weighs table f x K =
+    weighs : (table : Scores) (f : ℕ) (x : Course) → AllOther x.out → Idle x → Then Idle (weigh me now table f x)
+    weighs table f x O K =
         by_test (is_allowed me f && stands_before me table f me.member.rank) (λ _. by_test (may_defer me table f x.state.elector.deferred)
-        (λ _. done (record { out = more x.out (message_to me (epoch_of x.readings) body.Ack f ∷ []) K.out (tt, tt); clients = K.clients; leads = K.leads; last = K.last })) (λ _. done K))
-        (λ _. by_test (not (is_some x.state.elector.deferred) && not x.state.elector.candidate) (λ _. called x K.out among) (λ _. done K))
+        (λ _. done (record { out = all_fair _ (more x.out (message_to me (epoch_of x.readings) body.Ack f ∷ []) O (tt, tt)); clients = K.clients; leads = K.leads; last = K.last })) (λ _. done K))
+        (λ _. by_test (not (is_some x.state.elector.deferred) && not x.state.elector.candidate) (λ _. called x O among) (λ _. done K))
 
     proposed : (f e : ℕ) (table : Option Scores) → Then Idle (hear_propose me now f e table x0)
     unfolding hear_propose adopt
@@ -227,8 +251,8 @@ module _ (me : Me) (now : ℕ) (w : Readings) (s : State) where
         by_test (not (votes s.phase) || is_even e) (λ _. rests) (λ _.
         by_test (ltb e (epoch_of w)) (λ _. by_test (is_even (epoch_of w) && not (has (quorum_of s) f)) (λ _. called x0 tt among) (λ _. rests)) (λ _.
         by_test (ltb (epoch_of w) e)
-        (λ _. weighs (table_or table s.elector.scores) f (merge table (adopt now e x0)) (record { out = tt; clients = inr refl; leads = λ t. no t; last = among }))
-        (λ _. weighs (table_or table s.elector.scores) f (merge table x0) (record { out = tt; clients = inl (refl, refl); leads = λ t. inl (t, (refl, refl)); last = among }))))
+        (λ _. weighs (table_or table s.elector.scores) f (merge table (adopt now e x0)) tt (record { out = tt; clients = inr refl; leads = λ t. no t; last = among }))
+        (λ _. weighs (table_or table s.elector.scores) f (merge table x0) tt (record { out = tt; clients = inl (refl, refl); leads = λ t. inl (t, (refl, refl)); last = among }))))
 
     acked : (f e : ℕ) → Then Idle (hear_ack me now f e x0)
     unfolding hear_ack adopt
@@ -264,7 +288,7 @@ module _ (me : Me) (now : ℕ) (w : Readings) (s : State) where
     -- what is remembered and sent is the same
     as_before : (y : Course) → y.state ≡ s → y.out ≡ [] → Idle y
     as_before y same out = record {
-      out = subst AllOther (sym out) tt;
+      out = subst AllFair (sym out) tt;
       clients = inl (same_clients y.state.clients s.clients (ap (λ (z : State). z.clients) same));
       leads = λ t. inl (sym (ap (λ (z : State). is_leading z.phase) same) ∙ t, same_clients y.state.clients s.clients (ap (λ (z : State). z.clients) same));
       last = among;
@@ -283,7 +307,7 @@ module _ (me : Me) (now : ℕ) (w : Readings) (s : State) where
 
     -- it led, and its clients are the same
     leading : is_leading s.phase ≡ true → (x y : Course) (U : Type 0) → x.state.clients ≡ s.clients → Goes x U y → Idle y
-    leading t x y U same G = let c = same_clients y.state.clients s.clients (G.clients ∙ same) in record { out = G.out; clients = inl c; leads = λ _. inl (t, c); last = among }
+    leading t x y U same G = let c = same_clients y.state.clients s.clients (G.clients ∙ same) in record { out = all_fair y.out G.out; clients = inl c; leads = λ _. inl (t, c); last = among }
 
     abbrev Noted : Course → Course → Type 0
     Noted y z = (z.out ≡ y.out) × (z.state.clients ≡ y.state.clients)
@@ -335,8 +359,8 @@ module _ (me : Me) (now : ℕ) (w : Readings) (s : State) where
         commits t value = and_then (λ y. (y.state ≡ (counted f).state) × (y.out ≡ [])) Idle (learn (suc w.last) (value ∷ []) (counted f)) _ (learns (suc w.last) (value ∷ []) (counted f)) (λ y K.
             let c = same_clients y.state.clients s.clients (ap (λ (z : State). z.clients) K.0) in
             done (record {
-              out = more _ _ (more _ _ (more y.out _ (subst AllOther (sym K.1) tt) (to_each me (epoch_of y.readings) (body.Commit (suc w.last) (value ∷ [])) tt (members me y.state.leader.quorum)))
-                  (to_each me (epoch_of y.readings) (body.Lease y.readings.last) tt (members me y.state.leader.quorum))) (answers_none me (epoch_of y.readings) y.state.leader.origin (reply.Done (suc w.last)));
+              out = all_fair _ (more _ _ (more _ _ (more y.out _ (subst AllOther (sym K.1) tt) (to_each me (epoch_of y.readings) (body.Commit (suc w.last) (value ∷ [])) tt (members me y.state.leader.quorum)))
+                  (to_each me (epoch_of y.readings) (body.Lease y.readings.last) tt (members me y.state.leader.quorum))) (answers_none me (epoch_of y.readings) y.state.leader.origin (reply.Done (suc w.last)) (λ z. z)));
               clients = inl c;
               leads = λ _. inl (t, c);
               last = among;
@@ -350,10 +374,18 @@ module _ (me : Me) (now : ℕ) (w : Readings) (s : State) where
     unfolding hear_lease_ack
     lease_ack_heard f e last = by_test (not (of_member (phase.Active ∷ []) f e x0 && eqb last w.last)) (λ _. rests) (λ _. quiet _ tt refl (refl, refl) among)
 
-    route_heard : (f e seq : ℕ) (r : Reply) → Then Idle (hear_route f e seq r x0)
+    route_heard : (f e seq : ℕ) (r : Reply) → Returns e seq r → Then Idle (hear_route f e seq r x0)
     unfolding hear_route
-    route_heard f e seq r = by_test (not (of_leader f e x0)) (λ _. rests)
-        (λ _. quiet _ (all_of IsOther (λ (a : Asked). sent.Reply a.session r) (λ a. tt) (filter (λ (a : Asked). eqb a.seq seq) s.clients.sessions)) refl (refl, refl) among)
+    route_heard f e seq r K = by_test (not (of_leader f e x0)) (λ _. rests) (λ heard.
+        let t = and_three (is_peon s.phase) (eqb e (epoch_of w)) (eqb f s.peon.leader) (not-false _ heard) in
+        fairly _ (each t.0 (eqb-true e (epoch_of w) t.1) s.clients.sessions (λ a k. k)) refl (refl, refl) among)
+      where
+        each : is_peon s.phase ≡ true → e ≡ epoch_of w → (xs : List Asked) → ((a : Asked) → Among a xs → Among a s.clients.sessions) → AllFair (map (λ (a : Asked). sent.Reply a.session r) (filter (λ (a : Asked). eqb a.seq seq) xs))
+        each p n [] k = tt
+        each p n (a ∷ xs) k =
+            cond_both (eqb a.seq seq) (a ∷ filter (λ (b : Asked). eqb b.seq seq) xs) (filter (λ (b : Asked). eqb b.seq seq) xs) (λ (ys : List Asked). AllFair (map (λ (b : Asked). sent.Reply b.session r) ys))
+            (λ q. ((λ u. K u p n a (k a (inl refl)) (eqb-true a.seq seq q)), each p n xs (λ b o. k b (inr o))))
+            (λ q. each p n xs (λ b o. k b (inr o)))
 
     -- ---- synchronization
 
@@ -415,29 +447,29 @@ module _ (me : Me) (now : ℕ) (w : Readings) (s : State) where
     ping_answered f (Some table) = quiet _ tt refl (refl, refl) among
 
     -- a message but for one that hands a command on
-    pub hears : (shared : List Entry) (f e : ℕ) (b : Body) → body_brings b ≡ false → Then Idle (hear me shared now f e b x0)
-    hears shared f e body.Probe k = probed f
-    hears shared f e (body.ProbeReply q first last) k = probe_answered f q first last
-    hears shared f e (body.Propose table) k = proposed f e table
-    hears shared f e body.Ack k = acked f e
-    hears shared f e (body.Victory q) k = victory f e q
-    hears shared f e (body.Collect pn first last) k = collect_heard f e pn first last
-    hears shared f e (body.Last pn first last whole from values told) k = last_heard f e pn first last whole from values told
-    hears shared f e (body.Begin pn v value) k = begin_heard f e pn v value
-    hears shared f e (body.Accept pn v) k = accept_heard f e pn v
-    hears shared f e (body.Commit from values) k = commit_heard f e from values
-    hears shared f e (body.Lease last) k = lease_heard f e last
-    hears shared f e (body.LeaseAck last) k = lease_ack_heard f e last
-    hears shared f e (body.Forward seq c) k = no (sym k)
-    hears shared f e (body.Route seq r) k = route_heard f e seq r
-    hears shared f e body.GetCookieFull k = full_cookie f
-    hears shared f e (body.GetCookieRecent last) k = recent_cookie f last
-    hears shared f e (body.Cookie full c last) k = cookie_heard f full c last
-    hears shared f e (body.GetChunk c p) k = chunk_asked shared f c p
-    hears shared f e (body.Chunk c p values es end) k = chunk_heard f c p values es end
-    hears shared f e (body.LastChunk c p values es last) k = last_chunk_heard f c p values es last
-    hears shared f e (body.NoCookie c) k = no_cookie_heard f c
-    hears shared f e (body.Ping table) k = ping_heard f table
-    hears shared f e (body.PingReply table) k = ping_answered f table
-    hears shared f e (body.Request id r) k = rests
-    hears shared f e (body.Reply id r) k = rests
+    pub hears : (shared : List Entry) (f e : ℕ) (b : Body) → body_brings b ≡ false → BodyReturns e b → Then Idle (hear me shared now f e b x0)
+    hears shared f e body.Probe k z = probed f
+    hears shared f e (body.ProbeReply q first last) k z = probe_answered f q first last
+    hears shared f e (body.Propose table) k z = proposed f e table
+    hears shared f e body.Ack k z = acked f e
+    hears shared f e (body.Victory q) k z = victory f e q
+    hears shared f e (body.Collect pn first last) k z = collect_heard f e pn first last
+    hears shared f e (body.Last pn first last whole from values told) k z = last_heard f e pn first last whole from values told
+    hears shared f e (body.Begin pn v value) k z = begin_heard f e pn v value
+    hears shared f e (body.Accept pn v) k z = accept_heard f e pn v
+    hears shared f e (body.Commit from values) k z = commit_heard f e from values
+    hears shared f e (body.Lease last) k z = lease_heard f e last
+    hears shared f e (body.LeaseAck last) k z = lease_ack_heard f e last
+    hears shared f e (body.Forward seq c) k z = no (sym k)
+    hears shared f e (body.Route seq r) k z = route_heard f e seq r z
+    hears shared f e body.GetCookieFull k z = full_cookie f
+    hears shared f e (body.GetCookieRecent last) k z = recent_cookie f last
+    hears shared f e (body.Cookie full c last) k z = cookie_heard f full c last
+    hears shared f e (body.GetChunk c p) k z = chunk_asked shared f c p
+    hears shared f e (body.Chunk c p values es end) k z = chunk_heard f c p values es end
+    hears shared f e (body.LastChunk c p values es last) k z = last_chunk_heard f c p values es last
+    hears shared f e (body.NoCookie c) k z = no_cookie_heard f c
+    hears shared f e (body.Ping table) k z = ping_heard f table
+    hears shared f e (body.PingReply table) k z = ping_answered f table
+    hears shared f e (body.Request id r) k z = rests
+    hears shared f e (body.Reply id r) k z = rests

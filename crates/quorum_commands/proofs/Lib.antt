@@ -1,5 +1,8 @@
 pub mod Acts
+pub mod Answered
+pub mod Basis
 pub mod Coming
+pub mod Exchange
 pub mod Idle
 pub mod Places
 pub mod Repeating
@@ -7,4 +10,5 @@ pub mod Runs
 pub mod Sources
 pub mod Steps
 pub mod Taking
+pub mod Unmade
 pub mod Worlds

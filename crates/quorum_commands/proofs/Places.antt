@@ -18,7 +18,7 @@ use Rattle.quorum_laws.specs.Accepting.{AcceptedIn}
 use Rattle.quorum_laws.specs.Commands.{WasAsked}
 use Rattle.quorum_model.specs.Agree.{IsAsked}
 use Rattle.quorum_model.specs.World.{Asked, Envelope}
-use Rattle.std.proofs.Common.{Bool, List, None, Option, Some, [], ap, arith, cond, eqb, false, inl, inr, length, refl, slice_get, slice_index_or, subst, suc, sym, true, zero, ℕ, ◌++◌, ◌<◌, ◌∙◌, ◌∷◌, ◌≡◌, ◌≤◌, ◌⊎◌}
+use Rattle.std.proofs.Common.{Bool, List, None, Option, Some, [], ap, arith, cond, eqb, false, inl, inr, length, refl, slice_get, slice_index_or, subst, suc, sym, true, zero, ℕ, ◌++◌, ◌+◌, ◌<◌, ◌∙◌, ◌∷◌, ◌≡◌, ◌≤◌, ◌⊎◌}
 use Rattle.std.proofs.lemmas.Bool.{eq-eqb, eqb-true}
 use Rattle.std.specs.List.{AllByRecursion}
 
@@ -62,6 +62,15 @@ pub record LoggedAt (n : ℕ) (asked : List Asked) (log : List (List ℕ)) (plac
   pub by : Asked
   pub at : slice_get asked k ≡ Some by
   pub made : IsAsked n (by ∷ []) log v
+
+-- A request of this session of monitor i is no version's, and never will be: it was made, and isn't under way.
+pub record IsSettled (asked : List Asked) (places : Places) (i : ℕ) (t : Session) : Type 0 where
+  pub k : ℕ
+  pub by : Asked
+  pub at : slice_get asked k ≡ Some by
+  pub rank : by.rank ≡ i
+  pub session : by.session ≡ t
+  pub place : places k ≡ Nowhere
 
 module _ (n : ℕ) (asked : List Asked) (places : Places) where
   -- a command has a request of its own
@@ -152,6 +161,11 @@ pub get_pushed : {A : Type 0} (xs : List A) (x : A) → slice_get (xs ++ x ∷ [
 get_pushed [] x = refl
 get_pushed (z ∷ xs) x = get_pushed xs x
 
+pub get_contained : {A : Type 0} (xs : List A) (k : ℕ) (x : A) → k < length xs → slice_index_or xs k x ≡ x → slice_get xs k ≡ Some x
+get_contained [] k x lt e = absurd (omega arith)
+get_contained (z ∷ xs) zero x lt e = ap Some e
+get_contained (z ∷ xs) (suc k) x lt e = get_contained xs k x (omega arith) e
+
 -- more is asked
 abbrev pub StillAt : List Asked → List Asked → Type 0
 StillAt asked more = (k : ℕ) (a : Asked) → slice_get asked k ≡ Some a → slice_get more k ≡ Some a
@@ -170,3 +184,10 @@ module _ (n : ℕ) (asked more : List Asked) (still : StillAt asked more) where
     pub wait_last : (i t : ℕ) (xs : List Waiting) → ((u : ℕ) → t ≤ u → Queued i u ≡ from → ⊥) → AllWait n asked places i t xs → AllWait n more after i t xs
     wait_last i t [] apart h = tt
     wait_last i t (x ∷ xs) apart h = (own_lasts (Queued i t) (asker i x.origin) x.command (apart t (omega arith)) h.0, wait_last i (suc t) xs (λ u le. apart u (omega arith)) h.1)
+
+-- ---- one more waits
+
+pub wait_push : (n : ℕ) (asked : List Asked) (places : Places) (i t : ℕ) (xs : List Waiting) (x : Waiting) → AllWait n asked places i t xs → HasOwn n asked places (Queued i (t + length xs)) (asker i x.origin) x.command → AllWait n asked places i t (xs ++ x ∷ [])
+wait_push n asked places i t [] x h k = (subst (λ (u : ℕ). HasOwn n asked places (Queued i u) (asker i x.origin) x.command) (let e : t + 0 ≡ t = omega arith in e) k, tt)
+wait_push n asked places i t (z ∷ xs) x h k =
+    (h.0, wait_push n asked places i (suc t) xs x h.1 (subst (λ (u : ℕ). HasOwn n asked places (Queued i u) (asker i x.origin) x.command) (let e : t + suc (length xs) ≡ suc t + length xs = omega arith in e) k))

@@ -6,34 +6,30 @@ use Rattle.mon_msg.specs.Protocol.Reaction.{reaction_of}
 use Rattle.mon_msg.specs.Protocol.Readings.{epoch_of, readings_of}
 use Rattle.mon_msg.specs.Protocol.State.{State}
 use Rattle.mon_tx.specs.Map.{Store}
-use Rattle.quorum_agreement.proofs.Beginning.{at_first}
+use Rattle.mon_wire.specs.declared.request.Session.{Session}
 use Rattle.quorum_agreement.proofs.Grown.{GrowsByOne}
-use Rattle.quorum_agreement.proofs.Invariant.{EnvelopeTells, LogHolds}
-use Rattle.quorum_agreement.proofs.LoneWorlds.{IsWhole, LoneHolds, lone_asking, lone_at_first, lone_follows}
-use Rattle.quorum_agreement.proofs.Result.{OneLog, entries_chosen, lone_log, several_log}
-use Rattle.quorum_agreement.proofs.Worlds.{all_follow, asking}
+use Rattle.quorum_agreement.proofs.LoneWorlds.{IsWhole}
+use Rattle.quorum_commands.proofs.Basis.{Basis, basis}
 use Rattle.quorum_commands.proofs.Coming.{Does, each_event, next}
 use Rattle.quorum_commands.proofs.Places.{Begun, Lasts, Nowhere, Place, Places, Tickets}
-use Rattle.quorum_commands.proofs.Sources.{asks_longer, asks_more}
-use Rattle.quorum_commands.proofs.Steps.{Here}
-use Rattle.quorum_commands.proofs.Worlds.{after, asked_more, fewer, goes_last, goes_on}
+use Rattle.quorum_commands.proofs.Sources.{Anybody, SettledBy, anybody, asks_longer, asks_more}
+use Rattle.quorum_commands.proofs.Steps.{Here, Leaves, leaves}
+use Rattle.quorum_commands.proofs.Worlds.{asked_more, fewer, goes_last, goes_on}
 use Rattle.quorum_commands.specs.Once.{CommittedOnce, IsOf}
 use Rattle.quorum_agreement.proofs.SafeWorlds.{put_same}
 use Rattle.quorum_laws.proofs.Events as laws
 use Rattle.quorum_laws.proofs.Events.{event_holds}
 use Rattle.quorum_laws.proofs.Invariant.{InvOf}
 use Rattle.quorum_laws.proofs.Later.{Later, Stays}
-use Rattle.quorum_laws.specs.Accepting.{AcceptedIn, HasAccepted}
-use Rattle.quorum_laws.specs.Values.{IsChosen}
+use Rattle.quorum_laws.specs.Accepting.{AcceptedIn}
 use Rattle.quorum_model.specs.Clients.{messages_of, with_asked}
 use Rattle.quorum_model.specs.Events.{AllFit, PlainFits}
 use Rattle.quorum_model.specs.Happens.{Stop, happens, kept_only, lost, moved, put_at, unmoved}
 use Rattle.quorum_model.specs.Monitors.{Monitors}
 use Rattle.quorum_model.specs.Runs.{goes_on as goes_on_from, ran_from, run, run_from}
 use Rattle.quorum_model.specs.World.{Asked, Envelope, Event, Plain, World, first_world, plain_of}
-use Rattle.quorum_walk.proofs.Ranks.{majorities}
 use Rattle.std.proofs.Common.{Bool, Err, List, None, Ok, Option, Result, Some, [], ap, arith, cond, eqb, false, inl, inr, length, refl, subst, suc, sym, true, ℕ, ◌++◌, ◌<◌, ◌∙◌, ◌∷◌, ◌≡◌, ◌≤◌, ◌⊎◌}
-use Rattle.std.proofs.lemmas.Bool.{cases_lt, cases_order, eq-eqb, eqb-false, ltb-true}
+use Rattle.std.proofs.lemmas.Bool.{cases_lt, eqb-false, ltb-true}
 use Rattle.std.proofs.lemmas.Option.{slice_get_within}
 use Rattle.std.specs.List.{AllByRecursion}
 use Rattle.std.specs.Prelude.{IfOk}
@@ -41,23 +37,23 @@ use Rattle.std.specs.Prelude.{IfOk}
 -- ---- what is put at one place
 
 -- if nothing is put, nothing is
-none_put : (f g : ℕ → Option State) (i : ℕ) → ((j : ℕ) → (j ≡ i → ⊥) → g j ≡ f j) → (j : ℕ) (s : State) → put_at f i None j ≡ Some s → g j ≡ Some s
+pub none_put : (f g : ℕ → Option State) (i : ℕ) → ((j : ℕ) → (j ≡ i → ⊥) → g j ≡ f j) → (j : ℕ) (s : State) → put_at f i None j ≡ Some s → g j ≡ Some s
 none_put f g i same j s = by (eqb j i) refl
   where
     by : (b : Bool) → eqb j i ≡ b → cond b None (f j) ≡ Some s → g j ≡ Some s
     by true t e = absurd cc
     by false t e = same j (eqb-false j i t) ∙ e
 
-front : (P : Envelope → Type 0) (xs ys : List Envelope) → AllByRecursion P (xs ++ ys) → AllByRecursion P xs
+pub front : (P : Envelope → Type 0) (xs ys : List Envelope) → AllByRecursion P (xs ++ ys) → AllByRecursion P xs
 front P [] ys h = tt
 front P (x ∷ xs) ys h = (h.0, front P xs ys h.1)
 
 -- of two facts a third
-if_both : {A E : Type 0} (P Q R : A → Type 0) → ((x : A) → P x → Q x → R x) → (r : Result A E) → IfOk r P → IfOk r Q → IfOk r R
+pub if_both : {A E : Type 0} (P Q R : A → Type 0) → ((x : A) → P x → Q x → R x) → (r : Result A E) → IfOk r P → IfOk r Q → IfOk r R
 if_both P Q R f (Ok x) p q = f x p q
 if_both P Q R f (Err e) p q = tt
 
-abbrev TicketsIn : Monitors → Places → World → Type 0
+abbrev pub TicketsIn : Monitors → Places → World → Type 0
 TicketsIn ms places w = Tickets ms.count places w.store w.state w.transactions w.messages w.asked w.log
 
 -- what is known of requests in a world that follows on another one
@@ -76,57 +72,59 @@ and_on ms u v w places a b = record { after = b.after; tickets = b.tickets; last
 abbrev Both : Monitors → World → World → Type 0
 Both ms w next = (places : Places) × TicketsIn ms places w × Has ms w next places
 
-first_tickets : (ms : Monitors) → TicketsIn ms (λ k. Nowhere) first_world
+pub first_tickets : (ms : Monitors) → TicketsIn ms (λ k. Nowhere) first_world
 first_tickets ms = record { free = λ k le. refl; waits = λ i. tt; forwards = tt; begun = λ k v bytes e. absurd cc; accepted = λ several i v q bytes a. absurd (nothing_accepted v q bytes a); logged = λ v lt. absurd (omega arith) }
   where
     nothing_accepted : (v q : ℕ) (bytes : List ℕ) → AcceptedIn [] v q bytes → ⊥
     nothing_accepted v q bytes a = let lt = a.among.1 in omega arith
 
 -- what one request began is for one version
-abbrev version_of : Place → ℕ
+abbrev pub version_of : Place → ℕ
 version_of (Begun v bytes) = v
 version_of other = 0
 
 -- ---- one event, over whatever is known of the log
 
-module _ (ms : Monitors) (Base : World → Type 0) (inv : (w : World) → Base w → InvOf ms w) (one : (w : World) → Base w → OneLog ms w) (whole : (w : World) → Base w → ms.count ≡ 1 → (i : ℕ) → i < ms.count → IsWhole w.log (w.store i))
-    (somebody : (w : World) → Base w → 1 < ms.count → (v : ℕ) → v < length w.log → (j : ℕ) × (q : ℕ) × HasAccepted w j (suc v) q (entry w.log (suc v)))
-    (step : (w : World) (e : Event) → PlainFits ms.count (plain_of e) → Base w → IfOk (happens ms w e) (λ next. Base next × GrowsByOne w.log next.log)) where
+module _ (ms : Monitors) (D : Basis ms) where
   abbrev n : ℕ
   n = ms.count
 
-  abbrev Follows : World → World → Type 0
-  Follows w next = (Base next × GrowsByOne w.log next.log) × Later w next
+  abbrev pub Follows : World → World → Type 0
+  Follows w next = (D.holds next × GrowsByOne w.log next.log) × Later w next
 
-  module _ (w : World) (p : Plain) (B : Base w) (places : Places) (T : TicketsIn ms places w) where
-    abbrev I : InvOf ms w
-    I = inv w B
-
+  -- what is known of requests after an event
+  module _ (w : World) (p : Plain) (B : D.holds w) (I : InvOf ms w) (places : Places) (T : TicketsIn ms places w) where
     abbrev asked : List Asked
     asked = with_asked p w.asked
 
     more : Tickets n places w.store w.state w.transactions w.messages asked w.log
-    more = let L = one w B in asked_more n places w.store w.state w.transactions w.messages w.asked asked w.log L.short L.values (asks_more p w.asked) (asks_longer p w.asked) T
+    more = let L = D.one w B in asked_more n places w.store w.state w.transactions w.messages w.asked asked w.log L.short L.values (asks_more p w.asked) (asks_longer p w.asked) T
 
-    more_lasts : Lasts n w.asked asked w.log w.log places places
-    more_lasts v lt a = (lt, record { k = a.k; place = a.place; by = a.by; at = asks_more p w.asked a.k a.by a.at; made = a.made }, refl)
+    pub same_lasts : Lasts n w.asked asked w.log w.log places places
+    same_lasts v lt a = (lt, record { k = a.k; place = a.place; by = a.by; at = asks_more p w.asked a.k a.by a.at; made = a.made }, refl)
 
-    nothing : Has ms w (unmoved w p) places
+    pub nothing : TicketsIn ms places (unmoved w p)
     unfolding unmoved
-    nothing = record { after = places; tickets = more; lasts = more_lasts }
+    nothing = more
 
-    loses : (i : ℕ) → Has ms w (lost w p i) places
+    pub loses : (i : ℕ) → TicketsIn ms places (lost w p i)
     unfolding lost
-    loses i = record { after = places; lasts = more_lasts; tickets = fewer n places w.store w.state (put_at w.state i None) w.transactions w.messages w.messages asked w.log (none_put w.state w.state i (λ j ne. refl)) (λ P h. h) more }
+    loses i = fewer n places w.store w.state (put_at w.state i None) w.transactions w.messages w.messages asked w.log (none_put w.state w.state i (λ j ne. refl)) (λ P h. h) more
 
-    module _ (d : Does ms w p) where
+    module _ (d : Does ms w p) (Settled : Session → Type 0) (S : SettledBy ms w p I places T d Settled d.came) where
       abbrev i : ℕ
       i = d.rank
 
       abbrev m : Store
       m = next ms w I p d
 
-      goes : Follows w (moved w p d.rank (reaction_of d.y)) → Has ms w (moved w p d.rank (reaction_of d.y)) places
+      abbrev E : Leaves ms w p I (D.one w B) (D.whole w B) places T d Settled S
+      E = leaves ms w p I (D.one w B) (D.whole w B) places T d Settled S
+
+      abbrev Up : Option State → Type 0
+      Up now = (s : State) → now ≡ Some s → (d.y.state ≡ s) × Here ms w p I (D.one w B) (D.whole w B) places T d Settled S
+
+      pub goes : Follows w (moved w p d.rank (reaction_of d.y)) → TicketsIn ms E.after (moved w p d.rank (reaction_of d.y)) × Lasts n w.asked asked w.log (moved w p d.rank (reaction_of d.y)).log places E.after
       unfolding moved
       goes k =
           let next = moved w p d.rank (reaction_of d.y) in
@@ -135,56 +133,77 @@ module _ (ms : Monitors) (Base : World → Type 0) (inv : (w : World) → Base w
           let stays : Stays (readings_of (w.store i)) (w.state i) (readings_of m) (Some d.y.state) =
           subst (λ (u : Store). Stays (readings_of (w.store i)) (w.state i) (readings_of u) (Some d.y.state)) same
           (subst (λ (o : Option State). Stays (readings_of (w.store i)) (w.state i) (readings_of (put_at w.store i m i)) o) (put_same w.state i (Some d.y.state)) here) in
-          let up : (s : State) → Some d.y.state ≡ Some s → (d.y.state ≡ s) × Here ms w p I (one w B) (whole w B) places T d = λ s q. ((let z : d.y.state ≡ s = cc in z), stays) in
-          let L = one next k.0.0 in
-          let W : n ≡ 1 → IsWhole next.log m = λ single. subst (IsWhole next.log) same (whole next k.0.0 single i (ltb-true d.rank ms.count d.lt)) in
-          record {
-            after = after ms w p I (one w B) (whole w B) places T d (Some d.y.state) stays.epoch up;
-            tickets = goes_on ms w p I (one w B) (whole w B) places T d (Some d.y.state) stays.epoch up next.log k.0.1 L.short L.values W (somebody next k.0.0);
-            lasts = goes_last ms w p I (one w B) (whole w B) places T d (Some d.y.state) stays.epoch up next.log k.0.1 L.short L.values W (somebody next k.0.0);
-          }
+          let up : Up (Some d.y.state) = λ s q. ((let z : d.y.state ≡ s = cc in z), stays) in
+          let L = D.one next k.0.0 in
+          let W : n ≡ 1 → IsWhole next.log m = λ single. subst (IsWhole next.log) same (D.whole next k.0.0 single i (ltb-true d.rank ms.count d.lt)) in (
+            goes_on ms w p I (D.one w B) (D.whole w B) places T d Settled S (Some d.y.state) stays.epoch up next.log k.0.1 L.short L.values W (D.somebody next k.0.0),
+            goes_last ms w p I (D.one w B) (D.whole w B) places T d Settled S (Some d.y.state) stays.epoch up next.log k.0.1 L.short L.values W (D.somebody next k.0.0),
+          )
 
-      falls : Follows w (kept_only w p d.rank (reaction_of d.y)) → Has ms w (kept_only w p d.rank (reaction_of d.y)) places
+      pub falls : Follows w (kept_only w p d.rank (reaction_of d.y)) → TicketsIn ms E.after (kept_only w p d.rank (reaction_of d.y)) × Lasts n w.asked asked w.log (kept_only w p d.rank (reaction_of d.y)).log places E.after
       unfolding kept_only
       falls k =
           let next = kept_only w p d.rank (reaction_of d.y) in
           let same = put_same w.store i m in
           let rises = subst (λ (u : Store). epoch_of (readings_of (w.store i)) ≤ epoch_of (readings_of u)) same (let L = k.1 in let s = L.each i in s.epoch) in
-          let up : (s : State) → None ≡ Some s → (d.y.state ≡ s) × Here ms w p I (one w B) (whole w B) places T d = λ s q. absurd cc in
-          let L = one next k.0.0 in
-          let W : n ≡ 1 → IsWhole next.log m = λ single. subst (IsWhole next.log) same (whole next k.0.0 single i (ltb-true d.rank ms.count d.lt)) in
-          let then = after ms w p I (one w B) (whole w B) places T d None rises up in
-          record {
-            after = then;
-            tickets = fewer n then (put_at w.store i m) (put_at w.state i None) (put_at w.state i None) (put_at w.transactions i (w.transactions i ++ joined (spelled d.y.changes) ∷ [])) (w.messages ++ messages_of d.y.out) w.messages asked next.log (λ j s q. q)
-                (λ P h. front P w.messages (messages_of d.y.out) h) (goes_on ms w p I (one w B) (whole w B) places T d None rises up next.log k.0.1 L.short L.values W (somebody next k.0.0));
-            lasts = goes_last ms w p I (one w B) (whole w B) places T d None rises up next.log k.0.1 L.short L.values W (somebody next k.0.0);
-          }
+          let up : Up None = λ s q. absurd cc in
+          let L = D.one next k.0.0 in
+          let W : n ≡ 1 → IsWhole next.log m = λ single. subst (IsWhole next.log) same (D.whole next k.0.0 single i (ltb-true d.rank ms.count d.lt)) in (
+            fewer n E.after (put_at w.store i m) (put_at w.state i None) (put_at w.state i None) (put_at w.transactions i (w.transactions i ++ joined (spelled d.y.changes) ∷ [])) (w.messages ++ messages_of d.y.out) w.messages asked next.log (λ j s q. q)
+                (λ P h. front P w.messages (messages_of d.y.out) h) (goes_on ms w p I (D.one w B) (D.whole w B) places T d Settled S None rises up next.log k.0.1 L.short L.values W (D.somebody next k.0.0)),
+            goes_last ms w p I (D.one w B) (D.whole w B) places T d Settled S None rises up next.log k.0.1 L.short L.values W (D.somebody next k.0.0),
+          )
 
-  event : (w : World) (e : Event) → PlainFits ms.count (plain_of e) → Base w → (places : Places) → TicketsIn ms places w → IfOk (happens ms w e) (λ next. Base next × Has ms w next places)
+  -- an event that goes on from what is known, and leaves this of requests
+  pub follows : (Q : (w next : World) → Type 0) (w : World) (e : Event) → PlainFits ms.count (plain_of e) → D.holds w → IfOk (happens ms w e) (λ next. Follows w next → Q w next) → IfOk (happens ms w e) (λ next. D.holds next × Q w next)
+  follows Q w e F B k =
+      if_both (λ (next : World). D.holds next × GrowsByOne w.log next.log) (λ (next : World). (Follows w next → Q w next) × Later w next) (λ (next : World). D.holds next × Q w next) (λ next a b. (a.0, b.0 (a, b.1))) (happens ms w e) (D.step w e F B)
+      (if_both (λ (next : World). Follows w next → Q w next) (laws.After ms w w.asked (D.inv w B)) (λ (next : World). (Follows w next → Q w next) × Later w next) (λ next a b. (a, b.2)) (happens ms w e) k (event_holds ms w e F (D.inv w B)))
+
+  module _ (w : World) (p : Plain) (B : D.holds w) (places : Places) (T : TicketsIn ms places w) where
+    leaves_all : Has ms w (unmoved w p) places
+    unfolding unmoved
+    leaves_all = record { after = places; tickets = nothing w p B (D.inv w B) places T; lasts = same_lasts w p B (D.inv w B) places T }
+
+    forgets : (i : ℕ) → Has ms w (lost w p i) places
+    unfolding lost
+    forgets i = record { after = places; tickets = loses w p B (D.inv w B) places T i; lasts = same_lasts w p B (D.inv w B) places T }
+
+    module _ (d : Does ms w p) where
+      abbrev any : SettledBy ms w p (D.inv w B) places T d Anybody d.came
+      any = anybody ms w p (D.inv w B) places T d
+
+      moves : Follows w (moved w p d.rank (reaction_of d.y)) → Has ms w (moved w p d.rank (reaction_of d.y)) places
+      unfolding moved
+      moves k = let z = goes w p B (D.inv w B) places T d Anybody any k in record { after = (leaves ms w p (D.inv w B) (D.one w B) (D.whole w B) places T d Anybody any).after; tickets = z.0; lasts = z.1 }
+
+      keeps : Follows w (kept_only w p d.rank (reaction_of d.y)) → Has ms w (kept_only w p d.rank (reaction_of d.y)) places
+      unfolding kept_only
+      keeps k = let z = falls w p B (D.inv w B) places T d Anybody any k in record { after = (leaves ms w p (D.inv w B) (D.one w B) (D.whole w B) places T d Anybody any).after; tickets = z.0; lasts = z.1 }
+
+  event : (w : World) (e : Event) → PlainFits ms.count (plain_of e) → D.holds w → (places : Places) → TicketsIn ms places w → IfOk (happens ms w e) (λ next. D.holds next × Has ms w next places)
   event w e F B places T =
       let p = plain_of e in
-      if_both (λ (next : World). Base next × GrowsByOne w.log next.log) (λ (next : World). (Follows w next → Has ms w next places) × Later w next) (λ (next : World). Base next × Has ms w next places) (λ next a b. (a.0, b.0 (a, b.1))) (happens ms w e) (step w e F B)
-      (if_both (λ (next : World). Follows w next → Has ms w next places) (laws.After ms w w.asked (inv w B)) (λ (next : World). (Follows w next → Has ms w next places) × Later w next) (λ next a b. (a, b.2)) (happens ms w e)
-      (each_event ms w (λ (next : World). Follows w next → Has ms w next places) e F (λ k. nothing w p B places T) (λ i k. loses w p B places T i) (λ d. goes w p B places T d) (λ d. falls w p B places T d)) (event_holds ms w e F (inv w B)))
+      follows (λ w next. Has ms w next places) w e F B
+      (each_event ms w (λ (next : World). Follows w next → Has ms w next places) e F (λ k. leaves_all w p B places T) (λ i k. forgets w p B places T i) (λ d. moves w p B places T d) (λ d. keeps w p B places T d))
 
   -- ---- runs
 
-  run_has : (w : World) (es : List Event) → AllFit ms.count es → Base w → (places : Places) → TicketsIn ms places w → Has ms w (run_from ms w es) places
+  run_has : (w : World) (es : List Event) → AllFit ms.count es → D.holds w → (places : Places) → TicketsIn ms places w → Has ms w (run_from ms w es) places
   unfolding ran_from
   run_has w [] F B places T = itself ms w places T
   run_has w (e ∷ es) F B places T = by (happens ms w e) (event w e F.0 B places T) (λ next. run_has next es F.1)
     where
-      by : (r : Result World Stop) → IfOk r (λ next. Base next × Has ms w next places) → ((next : World) → Base next → (more : Places) → TicketsIn ms more next → Has ms next (run_from ms next es) more) → Has ms w (goes_on_from w (λ next. ran_from ms next es) r).world places
+      by : (r : Result World Stop) → IfOk r (λ next. D.holds next × Has ms w next places) → ((next : World) → D.holds next → (more : Places) → TicketsIn ms more next → Has ms next (run_from ms next es) more) → Has ms w (goes_on_from w (λ next. ran_from ms next es) r).world places
       by (Ok next) k ih = and_on ms w next (run_from ms next es) places k.1 (ih next k.0 k.1.after k.1.tickets)
       by (Err stop) k ih = itself ms w places T
 
-  both : (w : World) (before es : List Event) → AllFit ms.count (before ++ es) → Base w → (places : Places) → TicketsIn ms places w → Both ms (run_from ms w before) (run_from ms w (before ++ es))
+  both : (w : World) (before es : List Event) → AllFit ms.count (before ++ es) → D.holds w → (places : Places) → TicketsIn ms places w → Both ms (run_from ms w before) (run_from ms w (before ++ es))
   unfolding ran_from
   both w [] es F B places T = (places, T, run_has w es F B places T)
   both w (e ∷ before) es F B places T = by (happens ms w e) (event w e F.0 B places T) (λ next. both next before es F.1)
     where
-      by : (r : Result World Stop) → IfOk r (λ next. Base next × Has ms w next places) → ((next : World) → Base next → (more : Places) → TicketsIn ms more next → Both ms (run_from ms next before) (run_from ms next (before ++ es)))
+      by : (r : Result World Stop) → IfOk r (λ next. D.holds next × Has ms w next places) → ((next : World) → D.holds next → (more : Places) → TicketsIn ms more next → Both ms (run_from ms next before) (run_from ms next (before ++ es)))
           → Both ms (goes_on_from w (λ next. ran_from ms next before) r).world (goes_on_from w (λ next. ran_from ms next (before ++ es)) r).world
       by (Ok next) k ih = ih next k.0 k.1.after k.1.tickets
       by (Err stop) k ih = (places, T, itself ms w places T)
@@ -198,28 +217,8 @@ module _ (ms : Monitors) (before events : List Event) (F : AllFit ms.count (befo
   abbrev now : World
   now = run ms (before ++ events)
 
-  accepted : (w : World) (v : ℕ) (bytes : List ℕ) → IsChosen ms.count w v bytes → (j : ℕ) × (q : ℕ) × HasAccepted w j v q bytes
-  accepted w v bytes c = let M = c.major in let s = majorities ms.count c.by c.by M.major M.major M.below M.below in (s.0, c.pn, c.all s.0 s.1)
-
-  several : ((i : ℕ) → i < ms.count → 1 < ms.count) → Both ms was now
-  several more =
-      both ms (LogHolds ms) (λ w b. b.0) (several_log ms) (λ w b one i lt. let m = more i lt in absurd (omega arith)) (λ w b m v lt. accepted w (suc v) (entry w.log (suc v)) (entries_chosen ms w b.0 b.1 v lt))
-      (λ w e fits b. laws.each_event ms w (EnvelopeTells w.log) b.0 (λ next. LogHolds ms next × GrowsByOne w.log next.log) b.1.sent e fits (λ J up. all_follow ms more w (plain_of e) J (asking ms w (plain_of e) b.0 b.1 J)))
-      first_world before events F (at_first ms) (λ k. Nowhere) (first_tickets ms)
-
-  single : ms.count ≡ 1 → Both ms was now
-  single is =
-      both ms (LoneHolds ms) (λ w b. b.0) (lone_log ms) (λ w b one. b.1.stores) (λ w b m v lt. absurd (omega arith))
-      (λ w e fits b. laws.each_event ms w (EnvelopeTells w.log) b.0 (λ next. LoneHolds ms next × GrowsByOne w.log next.log) b.1.sent e fits (λ J up. lone_follows ms is w (plain_of e) J (lone_asking ms w (plain_of e) b.1)))
-      first_world before events F (lone_at_first ms) (λ k. Nowhere) (first_tickets ms)
-
   runs : Both ms was now
-  runs = by (cases_order 1 ms.count)
-    where
-      by : (1 ≡ ms.count) ⊎ ((1 < ms.count) ⊎ (ms.count < 1)) → Both ms was now
-      by (inl e) = single (sym e)
-      by (inr (inl more)) = several (λ i lt. more)
-      by (inr (inr none)) = several (λ i lt. absurd (omega arith))
+  runs = let D = basis ms in both ms D first_world before events F D.first (λ k. Nowhere) (first_tickets ms)
 
   abbrev places : Places
   places = runs.2.after

@@ -2,7 +2,7 @@
 use Rattle.mon_bytes.specs.declared.command.Command.TheVariants as command
 use Rattle.mon_bytes.specs.declared.command.Command.{Command}
 use Rattle.log_model.specs.LogOfValues.{IsCommand}
-use Rattle.mon_msg.specs.Protocol.Phases.{is_leading}
+use Rattle.mon_msg.specs.Protocol.Phases.{is_leading, same_phase}
 use Rattle.mon_msg.specs.Protocol.Readings.{Readings, epoch_of, readings_of, shared_entries}
 use Rattle.mon_msg.specs.Protocol.State.{State, booting}
 use Rattle.mon_msg.specs.Protocol.Value.{value}
@@ -16,26 +16,33 @@ use Rattle.mon_tx.specs.Text.{text}
 use Rattle.mon_wire.specs.declared.body.Body.TheVariants as body
 use Rattle.mon_wire.specs.declared.body.Body.{Body}
 use Rattle.mon_wire.specs.declared.message.Message.{Message}
+use Rattle.mon_wire.specs.declared.phase.Phase.TheVariants as phase
 use Rattle.mon_wire.specs.declared.phase.Timer.TheVariants as timer
 use Rattle.mon_wire.specs.declared.phase.Timer.{Timer}
 use Rattle.mon_wire.specs.declared.request.Request.TheVariants as request
 use Rattle.mon_wire.specs.declared.request.Request.{Request}
 use Rattle.mon_wire.specs.declared.request.Session.{Session}
 use Rattle.quorum_agreement.proofs.Answered.{asker}
-use Rattle.quorum_commands.proofs.Coming.{Brought, Does, me}
-use Rattle.quorum_commands.proofs.Places.{AllWait, AskedAt, BodyForwards, Forwards, IsAt, IsForwarded, Place, Places, Nowhere, Handed, Queued, StillAt, Tickets, Waits, WaitsIn, asked_still, get_more, get_pushed}
+use Rattle.quorum_agreement.proofs.Lone.{active_is}
+use Rattle.quorum_commands.proofs.Coming.{Brought, Does, me, phase_holds}
+use Rattle.quorum_commands.proofs.Idle.{BodyReturns}
+use Rattle.quorum_commands.proofs.Places.{AllWait, AskedAt, BodyForwards, Forwards, IsAt, IsForwarded, IsSettled, Place, Places, Nowhere, Handed, Queued, StillAt, Tickets, Waits, WaitsIn, asked_still, get_contained, get_more, get_pushed}
 use Rattle.quorum_commands.proofs.Taking.{BodyKnown, InputKnown, Outcome, RequestKnown, TimerKnown, takes}
-use Rattle.quorum_history.proofs.Holds.{MessageHolds}
+use Rattle.quorum_history.proofs.History.{Handed as HandedOn}
+use Rattle.quorum_history.proofs.Holds.{ActsIn, BodyHolds, HasSource, InPhase, MessageHolds, Waits as HeldAs, core_of}
 use Rattle.quorum_history.proofs.Phases.{no}
 use Rattle.quorum_laws.proofs.Invariant.{EnvelopeFine, EnvelopeHolds, InvOf}
+use Rattle.quorum_laws.specs.Commands.{WasAsked}
 use Rattle.quorum_model.specs.Clients.{command_of, with_asked}
 use Rattle.quorum_model.specs.Monitors.{Monitors}
 use Rattle.quorum_model.specs.World.{Asked, Client, Deliver, Envelope, Plain, Ring, Start, World}
 use Rattle.quorum_walk.proofs.FineCourses.{MessageFine}
 use Rattle.quorum_walk.proofs.Lists.{all_get}
+use Rattle.quorum_walk.proofs.Sparing.{own_of}
 use Rattle.quorum_walk.proofs.Walk.{Then}
 use Rattle.std.proofs.Common.{IfSome, List, Option, Some, [], ap, arith, get_or-set_other, get_or-set_same, inl, inr, length, length-append, length-set, ltb, refl, slice_get, slice_index_or, slice_set, subst, suc, sym, true, ℕ, ◌<◌, ◌∙◌, ◌∷◌, ◌≡◌, ◌≤◌, ◌⊎◌}
 use Rattle.std.proofs.lemmas.Bool.{cases_eq, ltb-true}
+use Rattle.std.specs.List.{AllByRecursion}
 
 -- ---- how places are distinguished
 
@@ -63,6 +70,10 @@ asks_longer (Client rank at t r) asked = let l = length-append asked (record { r
 asks_longer (Start rank at) asked = omega arith
 asks_longer (Deliver m at) asked = omega arith
 asks_longer (Ring rank t at) asked = omega arith
+
+-- any session may be answered
+abbrev pub Anybody : Session → Type 0
+Anybody t = Unit {0}
 
 -- ---- an event
 
@@ -106,6 +117,31 @@ module _ (ms : Monitors) (w : World) (p : Plain) (I : InvOf ms w) (places : Plac
 
   -- ---- where a command comes from
 
+  -- a request of this session asked the command of monitor j
+  pub record AskedBy (j : ℕ) (t : Session) (c : Command) : Type 0 where
+    pub k : ℕ
+    pub asks : AskedAt n asked k j c
+    pub session : asks.session ≡ t
+
+  -- the session that it was asked by, of this monitor or of the peon that handed it on
+  abbrev pub HasAsker : Origin → Command → Type 0
+  HasAsker (origin.Session t) c = AskedBy i t c
+  HasAsker (origin.Forwarded f seq) c = (t : Session) × HandedOn I.g f (epoch_of w0) seq t c × AskedBy f t c
+
+  asked_by : (j : ℕ) (t : Session) (c : Command) → WasAsked n w.asked j t c → AskedBy j t c
+  asked_by j t c W = record {
+    k = W.among.0;
+    asks = record { by = W.by; at = still W.among.0 W.by (get_contained w.asked W.among.0 W.by W.among.1 W.among.2); session = t; was = record { by = W.by; among = (0, omega arith, refl); at = W.at; below = W.below; session = W.session; command = W.command; form = W.form } };
+    session = refl;
+  }
+
+  handed_by : (f seq : ℕ) (t : Session) (c : Command) → HandedOn I.g f (epoch_of w0) seq t c → HasAsker (origin.Forwarded f seq) c
+  handed_by f seq t c h = let hands = I.glob.hands in (t, h, asked_by f t c (I.asks f t c (hands.asked f (epoch_of w0) seq t c h)))
+
+  has_asker : (c : Command) (o : Origin) → HasSource I.g i (epoch_of w0) c o → HasAsker o c
+  has_asker c (origin.Session t) h = asked_by i t c (I.asks i t c h)
+  has_asker c (origin.Forwarded f seq) h = handed_by f seq h.0 c h.1
+
   -- a request whose command it is, which isn't one of those that wait besides, nor one that may still come of a peon
   pub record Source (c : Command) (o : Origin) (others : List Waiting) (taken : List ℕ) : Type 0 where
     pub k : ℕ
@@ -115,13 +151,15 @@ module _ (ms : Monitors) (w : World) (p : Plain) (I : InvOf ms w) (places : Plac
     pub asks : AskedAt n asked k (asker i o) c
     pub long : length taken ≡ 15
     pub ticket : ℕ
+    pub tie : HasAsker o c
+    pub fresh : from ≡ Nowhere → k ≡ length w.asked
     pub wait : AllWait n w.asked places i ticket others
     pub apart : (u : ℕ) → ticket ≤ u → Queued i u ≡ from → ⊥
     pub open_still : (f seq : ℕ) → slice_index_or taken f 0 < seq → (slice_index_or d.state.clients.taken f 0 < seq) × (Handed f i (epoch_of w0) seq ≡ from → ⊥)
 
   -- the newest request asks a command of this monitor
   abbrev pub Asks : Session → Command → Type 0
-  Asks t c = (places (length w.asked) ≡ Nowhere) × AskedAt n asked (length w.asked) i c
+  Asks t c = (places (length w.asked) ≡ Nowhere) × (a : AskedAt n asked (length w.asked) i c) × (a.session ≡ t)
 
   from_client : (t : Session) (c : Command) → Asks t c → Source c (origin.Session t) d.state.clients.queue d.state.clients.taken
   from_client t c A = let q = waited in record {
@@ -130,6 +168,8 @@ module _ (ms : Monitors) (w : World) (p : Plain) (I : InvOf ms w) (places : Plac
     place = A.0;
     at = tt;
     asks = A.1;
+    tie = record { k = length w.asked; asks = A.1; session = A.2 };
+    fresh = λ e. refl;
     long = q.0;
     ticket = q.1;
     wait = q.2;
@@ -137,17 +177,12 @@ module _ (ms : Monitors) (w : World) (p : Plain) (I : InvOf ms w) (places : Plac
     open_still = λ f seq lt. (lt, λ e. absurd cc);
   }
 
-  request_known : (t : Session) (r : Request) → ((c : Command) → command_of r ≡ Some c → Asks t c) → RequestKnown self d.at w0 d.state Source Asks t r
-  request_known t (request.Set key value) k = let A = k (command.Set key value) refl in (from_client t (command.Set key value) A, A)
-  request_known t (request.Remove key) k = let A = k (command.Remove key) refl in (from_client t (command.Remove key) A, A)
-  request_known t (request.Log text) k = let A = k (command.Log text) refl in (from_client t (command.Log text) A, A)
-  request_known t (request.Show v) k = tt
-  request_known t (request.Since v m) k = tt
-
   -- the first of those that wait
-  first_known : (x : Waiting) (xs : List Waiting) → d.state.clients.queue ≡ x ∷ xs → Source x.command x.origin xs d.state.clients.taken
-  first_known x xs e =
+  first_known : same_phase d.state.phase phase.Active ≡ true → (x : Waiting) (xs : List Waiting) → d.state.clients.queue ≡ x ∷ xs → Source x.command x.origin xs d.state.clients.taken
+  first_known active x xs e =
       let q = waited in
+      let leads : ActsIn n I.g i (core_of (own_of w0) d.state) = subst (InPhase n I.g i (core_of (own_of w0) d.state)) (active_is d.state.phase active) (phase_holds ms w I p d) in
+      let source = subst (AllByRecursion (HeldAs I.g i (epoch_of w0))) e leads.0.reigns.queue in
       let h = subst (AllWait n w.asked places i q.1) e q.2 in
       record {
         k = h.0.k;
@@ -155,6 +190,8 @@ module _ (ms : Monitors) (w : World) (p : Plain) (I : InvOf ms w) (places : Plac
         place = h.0.place;
         at = refl;
         asks = asked_still n w.asked asked still h.0.k (asker i x.origin) x.command h.0.of;
+        tie = has_asker x.command x.origin source.0;
+        fresh = λ z. absurd cc;
         long = q.0;
         ticket = suc q.1;
         wait = h.1;
@@ -162,14 +199,10 @@ module _ (ms : Monitors) (w : World) (p : Plain) (I : InvOf ms w) (places : Plac
         open_still = λ f seq lt. (lt, λ z. absurd cc);
       }
 
-  timer_known : (t : Timer) → TimerKnown self d.at w0 d.state Source Asks t
-  timer_known timer.Propose = first_known
-  timer_known other = tt
-
   -- a command that a peon hands on, and that wasn't taken
-  forward_known : (f e seq : ℕ) (c : Command) → ((f ≡ i → ⊥) → IsForwarded n w.asked places (w.store i) (w.state i) f i e seq c) → f < n → (f ≡ i → ⊥) → is_leading d.state.phase ≡ true → e ≡ epoch_of w0 → ltb (slice_index_or d.state.clients.taken f 0) seq ≡ true
+  forward_known : (f e seq : ℕ) (c : Command) → ((f ≡ i → ⊥) → IsForwarded n w.asked places (w.store i) (w.state i) f i e seq c) → (s : Session) × HandedOn I.g f e seq s c → f < n → (f ≡ i → ⊥) → is_leading d.state.phase ≡ true → e ≡ epoch_of w0 → ltb (slice_index_or d.state.clients.taken f 0) seq ≡ true
       → Source c (origin.Forwarded f seq) d.state.clients.queue (slice_set d.state.clients.taken f seq)
-  forward_known f e seq c F lt apart leads now_is fresh =
+  forward_known f e seq c F B lt apart leads now_is fresh =
       let q = waited in
       let new = ltb-true (slice_index_or d.state.clients.taken f 0) seq fresh in
       let h = (F apart).own d.state (was_up leads) leads (sym now_is) new in
@@ -179,6 +212,8 @@ module _ (ms : Monitors) (w : World) (p : Plain) (I : InvOf ms w) (places : Plac
         place = h.place;
         at = refl;
         asks = asked_still n w.asked asked still h.k f c h.of;
+        tie = handed_by f seq B.0 c (subst (λ (z : ℕ). HandedOn I.g f z seq B.0 c) now_is B.1);
+        fresh = λ z. absurd cc;
         long = length-set d.state.clients.taken f seq ∙ q.0;
         ticket = q.1;
         wait = q.2;
@@ -194,9 +229,8 @@ module _ (ms : Monitors) (w : World) (p : Plain) (I : InvOf ms w) (places : Plac
           (subst (λ (j : ℕ). slice_index_or d.state.clients.taken j 0 < s) (sym z) (omega arith), λ u. (let same = ap seq_of u in omega arith))
       by g s (inr ne) less new within = (let is = get_or-set_other d.state.clients.taken f g seq 0 ne in omega arith, λ u. ne (ap from_of u))
 
-  body_known : (f e : ℕ) (b : Body) → BodyForwards n w.asked places (w.store i) (w.state i) f i e b → f < n → BodyKnown self d.at w0 d.state Source Asks f e b
-  body_known f e (body.Forward seq c) F lt = forward_known f e seq c F lt
-  body_known f e other F lt = tt
+  newest_at : (t : Session) (r : Request) → Brought ms w p i (input.Client t r) → slice_get asked (length w.asked) ≡ Some (record { rank = i; session = t; request = r })
+  newest_at t r b = subst (λ (xs : List Asked). slice_get xs (length w.asked) ≡ Some (record { rank = i; session = t; request = r })) (sym b.0) (get_pushed w.asked (record { rank = i; session = t; request = r }))
 
   -- a request that comes is the newest
   newest : (t : Session) (r : Request) (c : Command) → command_of r ≡ Some c → Brought ms w p i (input.Client t r) → Asks t c
@@ -204,14 +238,19 @@ module _ (ms : Monitors) (w : World) (p : Plain) (I : InvOf ms w) (places : Plac
     T.free (length w.asked) (omega arith),
     record {
       by = one;
-      at = subst (λ (xs : List Asked). slice_get xs (length w.asked) ≡ Some one) (sym b.0) (get_pushed w.asked one);
+      at = newest_at t r b;
       session = t;
       was = record { by = one; among = (0, omega arith, refl); at = refl; below = in_map; session = refl; command = is; form = subst (λ (o : Option Command). IfSome o IsCommand) is b.1 };
     },
+    refl,
   )
     where
       one : Asked
       one = record { rank = i; session = t; request = r }
+
+  -- it isn't under way yet
+  pub newest_settled : (t : Session) (r : Request) → Brought ms w p i (input.Client t r) → IsSettled asked places i t
+  newest_settled t r b = record { k = length w.asked; by = record { rank = i; session = t; request = r }; at = newest_at t r b; rank = refl; session = refl; place = T.free (length w.asked) (omega arith) }
 
   -- what is known of a message that comes
   pub said : (m : Message) → Brought ms w p i (input.Deliver m) → ((m.from < n) × MessageHolds I.g i m) × MessageFine m
@@ -220,13 +259,52 @@ module _ (ms : Monitors) (w : World) (p : Plain) (I : InvOf ms w) (places : Plac
     subst (λ (o : Option Envelope). IfSome o EnvelopeFine) b.1 (all_get EnvelopeFine w.messages b.0 I.sizes),
   )
 
-  input_known : (came : Input) → Brought ms w p i came → InputKnown self d.at w0 d.state Source Asks came
-  input_known input.Start b = tt
-  input_known (input.Deliver m) b =
-      let lt = (said m b).0.0 in
-      (lt, body_known m.from m.epoch m.body (subst (λ (o : Option Envelope). IfSome o (Forwards n w.asked places w.store w.state)) b.1 (all_get (Forwards n w.asked places w.store w.state) w.messages b.0 T.forwards)) lt)
-  input_known (input.Timer t) b = timer_known t
-  input_known (input.Client t r) b = request_known t r (λ c is. newest t r c is b)
+  -- ---- what comes
 
-  pub outcome : Outcome self d.at w0 d.state Source Asks d.came d.y
-  outcome = (subst (Then (Outcome self d.at w0 d.state Source Asks d.came)) d.is (takes self d.at w0 d.state Source Asks (shared_entries (w.store i)) d.came (input_known d.came d.brought))).holds
+  -- the sessions that an input may answer are settled
+  abbrev pub SettledBy : (Session → Type 0) → Input → Type 0
+  SettledBy Settled (input.Client t r) = Settled t
+  SettledBy Settled (input.Deliver m) = BodyReturns self d.at w0 d.state Settled m.epoch m.body
+  SettledBy Settled other = Unit {0}
+
+  pub anybody : SettledBy Anybody d.came
+  anybody = by d.came
+    where
+      returns : (e : ℕ) (b : Body) → BodyReturns self d.at w0 d.state Anybody e b
+      returns e (body.Route seq r) = λ u p now_is a among same. tt
+      returns e other = tt
+
+      by : (came : Input) → SettledBy Anybody came
+      by input.Start = tt
+      by (input.Deliver m) = returns m.epoch m.body
+      by (input.Timer t) = tt
+      by (input.Client t r) = tt
+
+  module _ (Settled : Session → Type 0) (S : SettledBy Settled d.came) where
+    request_known : (t : Session) (r : Request) → ((c : Command) → command_of r ≡ Some c → Asks t c) → RequestKnown self d.at w0 d.state Source Asks Settled t r
+    request_known t (request.Set key value) k = let A = k (command.Set key value) refl in (from_client t (command.Set key value) A, A)
+    request_known t (request.Remove key) k = let A = k (command.Remove key) refl in (from_client t (command.Remove key) A, A)
+    request_known t (request.Log text) k = let A = k (command.Log text) refl in (from_client t (command.Log text) A, A)
+    request_known t (request.Show v) k = tt
+    request_known t (request.Since v m) k = tt
+
+    timer_known : (t : Timer) → TimerKnown self d.at w0 d.state Source Asks Settled t
+    timer_known timer.Propose = first_known
+    timer_known other = tt
+
+    body_known : (f e : ℕ) (b : Body) → BodyForwards n w.asked places (w.store i) (w.state i) f i e b → BodyHolds I.g f i e b → f < n → BodyReturns self d.at w0 d.state Settled e b → BodyKnown self d.at w0 d.state Source Asks Settled f e b
+    body_known f e (body.Forward seq c) F B lt K = forward_known f e seq c F B lt
+    body_known f e (body.Route seq r) F B lt K = K
+    body_known f e other F B lt K = tt
+
+    input_known : (came : Input) → Brought ms w p i came → SettledBy Settled came → InputKnown self d.at w0 d.state Source Asks Settled came
+    input_known input.Start b K = tt
+    input_known (input.Deliver m) b K =
+        let z = said m b in
+        let lt = z.0.0 in
+        (lt, body_known m.from m.epoch m.body (subst (λ (o : Option Envelope). IfSome o (Forwards n w.asked places w.store w.state)) b.1 (all_get (Forwards n w.asked places w.store w.state) w.messages b.0 T.forwards)) z.0.1.body lt K)
+    input_known (input.Timer t) b K = timer_known t
+    input_known (input.Client t r) b K = (request_known t r (λ c is. newest t r c is b), K)
+
+    pub outcome : Outcome self d.at w0 d.state Source Asks Settled d.came d.y
+    outcome = (subst (Then (Outcome self d.at w0 d.state Source Asks Settled d.came)) d.is (takes self d.at w0 d.state Source Asks Settled (shared_entries (w.store i)) d.came (input_known d.came d.brought S))).holds

@@ -1,13 +1,11 @@
 -- What an event of a monitor does to the requests that are under way there.
-use Rattle.log_copies.proofs.Standing.{Agrees}
-use Rattle.log_copies.proofs.Telling.{monitor_keeps, read_last}
-use Rattle.log_model.specs.Windows.{Keeps}
 use Rattle.mon_bytes.specs.declared.command.Command.{Command}
 use Rattle.mon_msg.specs.Protocol.Changes.{Change, Last, Learn, Vote}
 use Rattle.mon_msg.specs.Protocol.Phases.{is_leading, is_member, votes}
 use Rattle.mon_msg.specs.Protocol.Proposing.{asked_of}
 use Rattle.mon_msg.specs.Protocol.Readings.{Readings, epoch_of, readings_of, shared_entries}
 use Rattle.mon_msg.specs.Protocol.Records.{found_as, pending_of, record_at}
+use Rattle.mon_msg.specs.Protocol.Sending.{answer_to}
 use Rattle.mon_msg.specs.Protocol.State.{State, booting, no_clients}
 use Rattle.mon_msg.specs.Protocol.Table.{at_rest}
 use Rattle.mon_msg.specs.Protocol.Value.{value}
@@ -15,6 +13,7 @@ use Rattle.mon_msg.specs.declared.clients.Clients.{Clients}
 use Rattle.mon_msg.specs.declared.clients.Waiting.{Waiting}
 use Rattle.mon_msg.specs.declared.input.Input.TheVariants as input
 use Rattle.mon_msg.specs.declared.input.Input.{Input}
+use Rattle.mon_msg.specs.declared.plan.Origin.TheVariants as origin
 use Rattle.mon_msg.specs.declared.plan.Origin.{Origin}
 use Rattle.mon_msg.specs.declared.plan.Sent.TheVariants as sent
 use Rattle.mon_msg.specs.declared.plan.Sent.{Sent}
@@ -25,25 +24,24 @@ use Rattle.mon_tx.specs.declared.op.Op.{Op}
 use Rattle.mon_wire.specs.declared.body.Body.TheVariants as body
 use Rattle.mon_wire.specs.declared.body.Body.{Body}
 use Rattle.mon_wire.specs.declared.phase.Phase.TheVariants as phase
+use Rattle.mon_wire.specs.declared.reply.Reply.{Reply}
 use Rattle.mon_wire.specs.declared.request.Session.{Session}
 use Rattle.quorum_agreement.proofs.Answered.{asker, asker_is}
 use Rattle.quorum_agreement.proofs.Answering.{peon_leads_not}
-use Rattle.quorum_agreement.proofs.Invariant.{remembers}
 use Rattle.quorum_agreement.proofs.LoneWorlds.{IsWhole}
 use Rattle.quorum_agreement.proofs.Premises.{requests_in}
 use Rattle.quorum_agreement.proofs.Result.{OneLog}
-use Rattle.quorum_agreement.proofs.Step.{copy_marked}
-use Rattle.quorum_commands.proofs.Coming.{Brought, Does, me, next, phase_holds}
-use Rattle.quorum_commands.proofs.Acts.{AllOther, HandsNone, IsOther}
-use Rattle.quorum_commands.proofs.Idle.{Alone, Idle, Leads, SameClients, brings}
-use Rattle.quorum_commands.proofs.Places.{AllWait, AskedAt, HasOwn, IsAt, IsForwarded, MadeAt, MadeOf, Moves, Place, Places, Nowhere, Handed, Queued, Begun, StillAt, Tickets, Waits, is_moved, moved_to, moves, own_lasts, wait_last, was_there}
+use Rattle.quorum_commands.proofs.Coming.{Brought, Does, leads_unmarked, me, next, phase_holds, versions}
+use Rattle.quorum_commands.proofs.Acts.{AllOther, HandsNone, IsCalm, IsOther, others_calm}
+use Rattle.quorum_commands.proofs.Idle.{AllFair, Alone, Idle, IsFair, Leads, SameClients, brings}
+use Rattle.quorum_commands.proofs.Places.{AllWait, AskedAt, HasOwn, IsAt, IsForwarded, MadeAt, MadeOf, Moves, Place, Places, Nowhere, Handed, Queued, Begun, StillAt, Tickets, Waits, is_moved, moved_to, moves, own_lasts, wait_last, wait_push, was_there}
 use Rattle.quorum_commands.proofs.Repeating.{AllKnown, FitsIn, repeats}
 use Rattle.quorum_commands.proofs.Sources as sources
-use Rattle.quorum_commands.proofs.Sources.{asks_longer, asks_more}
+use Rattle.quorum_commands.proofs.Sources.{HasAsker, SettledBy, asks_longer, asks_more}
 use Rattle.quorum_commands.proofs.Taking.{Becomes, Commits, Hands, Outcome, Proposes, Takes, TakesNone}
 use Rattle.quorum_history.proofs.History.{ext_refl}
 use Rattle.quorum_history.proofs.Holds.{Core, FollowsIn, Good, InPhase, StageHolds, core_of}
-use Rattle.quorum_history.proofs.Phases.{electing_is, no, peon_is_peon, votes_in_odd, votes_unmarked}
+use Rattle.quorum_history.proofs.Phases.{electing_is, no, peon_is_peon, votes_in_odd}
 use Rattle.quorum_history.proofs.Rows.{InputHolds}
 use Rattle.quorum_history.proofs.Steps.{tied_refl}
 use Rattle.quorum_laws.proofs.Invariant.{InvOf}
@@ -59,13 +57,6 @@ use Rattle.std.proofs.lemmas.Bool.{ltb-true, ltb-false, ne_eqb}
 use Rattle.std.proofs.lemmas.Option.{slice_get_within}
 use Rattle.std.specs.List.{AllByRecursion}
 
--- ---- lists of those that wait
-
-wait_push : (n : ℕ) (asked : List Asked) (places : Places) (i t : ℕ) (xs : List Waiting) (x : Waiting) → AllWait n asked places i t xs → HasOwn n asked places (Queued i (t + length xs)) (asker i x.origin) x.command → AllWait n asked places i t (xs ++ x ∷ [])
-wait_push n asked places i t [] x h k = (subst (λ (u : ℕ). HasOwn n asked places (Queued i u) (asker i x.origin) x.command) (let e : t + 0 ≡ t = omega arith in e) k, tt)
-wait_push n asked places i t (z ∷ xs) x h k =
-    (h.0, wait_push n asked places i (suc t) xs x h.1 (subst (λ (u : ℕ). HasOwn n asked places (Queued i u) (asker i x.origin) x.command) (let e : t + suc (length xs) ≡ suc t + length xs = omega arith in e) k))
-
 -- if a change puts what it votes for
 abbrev vote_place : Change → Place
 vote_place (Vote v q x) = Begun v (text x)
@@ -74,7 +65,7 @@ vote_place other = Nowhere
 -- ---- an event
 
 module _ (ms : Monitors) (w : World) (p : Plain) (I : InvOf ms w) (L : OneLog ms w) (W : ms.count ≡ 1 → (i : ℕ) → i < ms.count → IsWhole w.log (w.store i)) (places : Places)
-    (T : Tickets ms.count places w.store w.state w.transactions w.messages w.asked w.log) (d : Does ms w p) where
+    (T : Tickets ms.count places w.store w.state w.transactions w.messages w.asked w.log) (d : Does ms w p) (Settled : Session → Type 0) (S0 : SettledBy ms w p I places T d Settled d.came) where
   abbrev n : ℕ
   n = ms.count
 
@@ -134,6 +125,22 @@ module _ (ms : Monitors) (w : World) (p : Plain) (I : InvOf ms w) (L : OneLog ms
     pub changes : d.y.changes ≡ Learn (suc w0.last) ops ∷ Last (suc w0.last) ∷ []
     pub last : d.y.readings.last ≡ suc w0.last
 
+  -- it refuses this request's command, which isn't under way any more
+  pub record Refuses (after : Places) : Type 0 where
+    pub k : ℕ
+    pub command : Command
+    pub origin : Origin
+    pub reply : Reply
+    pub place : after k ≡ Nowhere
+    pub apart : (j : ℕ) → j < length w.asked → places j ≡ Nowhere → j ≡ k → ⊥
+    pub asks : AskedAt n asked k (asker i origin) command
+    pub tie : HasAsker ms w p I places T d origin command
+    pub out : d.y.out ≡ answer_to self (epoch_of w0) origin reply ∷ []
+
+  -- it refuses a command, or nothing; or it moves none, and refuses only sessions that are settled
+  abbrev pub Says : Places → Type 0
+  Says after = Refuses after ⊎ (AllByRecursion IsCalm d.y.out ⊎ (((k : ℕ) → after k ≡ places k) × AllFair self d.at w0 d.state Settled d.y.out))
+
   -- one request goes to another place at most, and all others stay
   pub record Leaves : Type 0 where
     pub from : Place
@@ -145,6 +152,8 @@ module _ (ms : Monitors) (w : World) (p : Plain) (I : InvOf ms w) (L : OneLog ms
     pub waits : Waits n asked after i d.y.state.clients.queue d.y.state.clients.taken
     pub opens : Opens after
     pub sends : AllByRecursion (SendsOwn after) d.y.out
+    pub says : Says after
+    pub settled : (k : ℕ) → k < length w.asked → places k ≡ Nowhere → after k ≡ Nowhere
     pub votes : 1 < n → (v q : ℕ) (x : List Op) → Among (Vote v q x) d.y.changes → (k : ℕ) × (after k ≡ Begun v (text x))
     pub lone : n ≡ 1 → (d.y.readings.last ≡ w0.last) ⊎ CommitsOwn after
 
@@ -165,6 +174,17 @@ module _ (ms : Monitors) (w : World) (p : Plain) (I : InvOf ms w) (L : OneLog ms
       by (sent.Message to m) o = other_body after m.from to m.epoch m.body o
       by (sent.Reply t r) o = tt
 
+  fair_sent : (after : Places) (sends : List Sent) → AllFair self d.at w0 d.state Settled sends → AllByRecursion (SendsOwn after) sends
+  fair_sent after sends k = all_map (IsFair self d.at w0 d.state Settled) (SendsOwn after) by sends k
+    where
+      by : (x : Sent) → IsFair self d.at w0 d.state Settled x → SendsOwn after x
+      by (sent.Message to m) o = other_body after m.from to m.epoch m.body o
+      by (sent.Reply t r) o = tt
+
+  answer_sent : (after : Places) (o : Origin) (r : Reply) → AllByRecursion (SendsOwn after) (answer_to self (epoch_of w0) o r ∷ [])
+  answer_sent after (origin.Session t) r = (tt, tt)
+  answer_sent after (origin.Forwarded f seq) r = (tt, tt)
+
   -- those that waited here
   waited : Waits n w.asked places i d.state.clients.queue d.state.clients.taken
   waited = sources.waited ms w p I places T d
@@ -176,30 +196,12 @@ module _ (ms : Monitors) (w : World) (p : Plain) (I : InvOf ms w) (L : OneLog ms
   free_still : (k : ℕ) → length asked ≤ k → places k ≡ Nowhere
   free_still k le = T.free k (let l = longer in omega arith)
 
-  -- ---- what a leader has
-
-  leads_unmarked : is_leading d.state.phase ≡ true → w0.marked ≡ false
-  leads_unmarked t = votes_unmarked n I.g i (core_of (own_of w0) d.state) d.state.phase (rw t refl) K
-
-  record Versions : Type 0 where
-    within : w0.last ≤ length w.log
-    keeps : Keeps w.log w0.last w0
-
-  versions : w0.marked ≡ false → Versions
-  versions u = by (L.stores i in_map)
-    where
-      by : Agrees w.log (w.store i) (remembers i (w.state i)) → Versions
-      by (inl V) =
-          let h = V.versions in
-          let e = read_last w.log L.short L.values V.last (w.store i) h in
-          let k = monitor_keeps w.log L.short L.values V.last (w.store i) h in
-          record { within = (let l = h.within in omega arith); keeps = subst (λ (c : ℕ). Keeps w.log c w0) (sym e) k }
-      by (inr C) = no (sym u ∙ copy_marked w.log (w.store i) (remembers i (w.state i)) C)
+  -- ---- what a request makes
 
   -- the value of a command that a request asked
   made_over : is_leading d.state.phase ≡ true → (k : ℕ) (c : Command) (o : Origin) (ops : List Op) → AskedAt n asked k (asker i o) c → value w0 c (asked_of self o) ≡ Ok ops → MadeOf n asked w.log k (suc w0.last) ops
   made_over t k c o ops a e =
-      let V = versions (leads_unmarked t) in
+      let V = versions ms w I p d L (leads_unmarked ms w I p d t) in
       record {
         by = a.by;
         at = a.at;
@@ -225,8 +227,8 @@ module _ (ms : Monitors) (w : World) (p : Plain) (I : InvOf ms w) (L : OneLog ms
   abbrev Asks : Session → Command → Type 0
   Asks = sources.Asks ms w p I places T d
 
-  outcome : Outcome self d.at w0 d.state Source Asks d.came d.y
-  outcome = sources.outcome ms w p I places T d
+  outcome : Outcome self d.at w0 d.state Source Asks Settled d.came d.y
+  outcome = sources.outcome ms w p I places T d Settled S0
 
   -- ---- where nothing is written
 
@@ -278,7 +280,7 @@ module _ (ms : Monitors) (w : World) (p : Plain) (I : InvOf ms w) (L : OneLog ms
     repeated : brings d.came ≡ false → (v q : ℕ) (x : List Op) → Among (Vote v q x) d.y.changes → Known v x
     repeated none = (subst (Then (AllKnown self d.at I.g Known w0 d.state good)) d.is (repeats self d.at I.g Known w0 d.state good several (shared_entries (w.store i)) d.came none (input_holds d.came d.brought none) (I.mine i).fine.records (fits_in d.came d.brought))).holds
 
-  alone : n ≡ 1 → Alone self d.at w0 d.state
+  alone : n ≡ 1 → Alone self d.at w0 d.state Settled
   unfolding pending_of
   alone one = record {
     one = one;
@@ -304,17 +306,17 @@ module _ (ms : Monitors) (w : World) (p : Plain) (I : InvOf ms w) (L : OneLog ms
       by (inl z) k = no (sym (ap is_in z ∙ ap is_member stood) ∙ k)
       by (inr z) k = let booted : phase.Booting ≡ phase.Electing = sym (ap (λ (s : State). s.phase) z) ∙ stood in absurd cc
 
-  idle_opens : Idle self d.at w0 d.state d.y → Opens places
+  idle_opens : Idle self d.at w0 d.state Settled d.y → Opens places
   idle_opens Q here f e seq c leads now_is lt apart below F = by (Q.leads leads)
     where
-      by : Leads self d.at w0 d.state d.y.state.clients → HasOwn n asked places (Handed f i e seq) f c
+      by : Leads self d.at w0 d.state Settled d.y.state.clients → HasOwn n asked places (Handed f i e seq) f c
       by (inl z) = own_lasts n w.asked asked still Nowhere places places stays (Handed f i e seq) f c (λ u. absurd cc)
           (F.own d.state (was_up z.0) z.0 (same_epoch here e F.low now_is) (subst (λ (ts : List ℕ). slice_index_or ts f 0 < seq) z.1.1 lt))
       by (inr (inl z)) = absurd (elected here e F.low now_is leads (votes_in_odd n I.g i (core_of (own_of w0) d.state) d.state.phase I.glob.roles z.1 z.0 K))
       by (inr (inr (inl z))) = absurd (elected here e F.low now_is leads (electing_is d.state.phase z))
       by (inr (inr (inr one))) = absurd (apart (let few = ltb-false 1 n one in let b = in_map in omega arith))
 
-  idle_leaves : TakesNone self d.at w0 d.state Source Asks d.came d.y → Leaves
+  idle_leaves : TakesNone self d.at w0 d.state Source Asks Settled d.came d.y → Leaves
   idle_leaves N = record {
     from = Nowhere;
     at = tt;
@@ -324,7 +326,9 @@ module _ (ms : Monitors) (w : World) (p : Plain) (I : InvOf ms w) (L : OneLog ms
     begun = λ k v bytes e. inl e;
     waits = wait N.idle.clients;
     opens = idle_opens N.idle;
-    sends = others_sent places d.y.out N.idle.out;
+    sends = fair_sent places d.y.out N.idle.out;
+    says = inr (inr ((λ k. refl), N.idle.out));
+    settled = λ k lt e. e;
     votes = λ several. vote several (brings d.came) refl;
     lone = λ one. inl (N.idle.last (alone one));
   }
@@ -339,7 +343,7 @@ module _ (ms : Monitors) (w : World) (p : Plain) (I : InvOf ms w) (L : OneLog ms
 
   -- ---- where one is
 
-  module _ (H : Takes self d.at w0 d.state Source Asks d.y) where
+  module _ (H : Takes self d.at w0 d.state Source Asks Settled d.y) where
     abbrev S : Source H.command H.origin H.others H.taken
     S = H.source
 
@@ -356,8 +360,27 @@ module _ (ms : Monitors) (w : World) (p : Plain) (I : InvOf ms w) (L : OneLog ms
     counted after xs t e h = (ap (λ (ts : List ℕ). length ts) H.counts ∙ S.long, t, subst (AllWait n asked after i t) (sym e) h)
 
     leaves_as : (after : Places) → Moves S.from places after → ((k : ℕ) → length asked ≤ k → after k ≡ Nowhere) → ((k v : ℕ) (bytes : List ℕ) → after k ≡ Begun v bytes → (places k ≡ Begun v bytes) ⊎ MadeAt n asked w.log k v bytes)
-        → Waits n asked after i d.y.state.clients.queue d.y.state.clients.taken → ((v q : ℕ) (x : List Op) → Among (Vote v q x) d.y.changes → (k : ℕ) × (after k ≡ Begun v (text x))) → (d.y.readings.last ≡ w0.last) ⊎ CommitsOwn after → Leaves
-    leaves_as after M free begun waits votes lone = record { from = S.from; at = S.at; after = after; moves = M; free = free; begun = begun; waits = waits; opens = takes_opens after M; sends = others_sent after d.y.out H.out; votes = λ several. votes; lone = λ one. lone }
+        → Waits n asked after i d.y.state.clients.queue d.y.state.clients.taken → ((v q : ℕ) (x : List Op) → Among (Vote v q x) d.y.changes → (k : ℕ) × (after k ≡ Begun v (text x))) → (d.y.readings.last ≡ w0.last) ⊎ CommitsOwn after
+        → AllByRecursion (SendsOwn after) d.y.out → Says after → ((k : ℕ) → k < length w.asked → places k ≡ Nowhere → after k ≡ Nowhere) → Leaves
+    leaves_as after M free begun waits votes lone sends says settled = record {
+      from = S.from;
+      at = S.at;
+      after = after;
+      moves = M;
+      free = free;
+      begun = begun;
+      waits = waits;
+      opens = takes_opens after M;
+      sends = sends;
+      says = says;
+      settled = settled;
+      votes = λ several. votes;
+      lone = λ one. lone;
+    }
+
+    -- what was settled before isn't what moves
+    apart : (j : ℕ) → j < length w.asked → places j ≡ Nowhere → j ≡ S.k → ⊥
+    apart j lt e same = let z : S.from ≡ Nowhere = sym S.place ∙ ap places (sym same) ∙ e in let f = S.fresh z in omega arith
 
     -- the request goes to a place
     abbrev goes_to : Place → Places
@@ -365,6 +388,9 @@ module _ (ms : Monitors) (w : World) (p : Plain) (I : InvOf ms w) (L : OneLog ms
 
     goes : (to : Place) → Moves S.from places (goes_to to)
     goes to = moves S.k S.from to places S.place
+
+    goes_settled : (to : Place) (k : ℕ) → k < length w.asked → places k ≡ Nowhere → goes_to to k ≡ Nowhere
+    goes_settled to k lt e = ap (λ (b : Bool). cond b to (places k)) (ne_eqb k S.k (apart k lt e)) ∙ e
 
     goes_free : (to : Place) (k : ℕ) → length asked ≤ k → goes_to to k ≡ Nowhere
     goes_free to k le = let lt = slice_get_within asked S.k S.asks.by S.asks.at in ap (λ (b : Bool). cond b to (places k)) (ne_eqb k S.k (λ e. omega arith)) ∙ free_still k le
@@ -384,11 +410,11 @@ module _ (ms : Monitors) (w : World) (p : Plain) (I : InvOf ms w) (L : OneLog ms
       begun_in : (k v : ℕ) (bytes : List ℕ) → goes_to to k ≡ Begun v bytes → (places k ≡ Begun v bytes) ⊎ MadeAt n asked w.log k v bytes
       begun_in k v bytes e = elim (was_there S.k to places k (Begun v bytes) e) [ inl o ↦ inl o | inr q ↦ inr (subst (λ (j : ℕ). MadeAt n asked w.log j v bytes) (sym q.0) (subst MadeThere q.1 (record { x = ops; spells = refl; of = own }))) ]
 
-      votes_in : Proposes self d.at w0 d.state Source Asks ops d.y ⊎ Commits self d.at w0 d.state Source Asks ops d.y → (v q : ℕ) (x : List Op) → Among (Vote v q x) d.y.changes → (k : ℕ) × (goes_to to k ≡ Begun v (text x))
+      votes_in : Proposes self d.at w0 d.state Source Asks Settled ops d.y ⊎ Commits self d.at w0 d.state Source Asks Settled ops d.y → (v q : ℕ) (x : List Op) → Among (Vote v q x) d.y.changes → (k : ℕ) × (goes_to to k ≡ Begun v (text x))
       votes_in (inl c) v q x a = elim (subst (λ (cs : List Change). Among (Vote v q x) cs) c.1 a) [ inl e ↦ (S.k, there ∙ sym (ap vote_place e)) | inr b ↦ absurd b ]
       votes_in (inr c) v q x a = elim (subst (λ (cs : List Change). Among (Vote v q x) cs) c.0 a) [ inl e ↦ absurd cc | inr b ↦ elim b [ inl e ↦ absurd cc | inr b ↦ absurd b ] ]
 
-      lone_in : Proposes self d.at w0 d.state Source Asks ops d.y ⊎ Commits self d.at w0 d.state Source Asks ops d.y → (d.y.readings.last ≡ w0.last) ⊎ CommitsOwn (goes_to to)
+      lone_in : Proposes self d.at w0 d.state Source Asks Settled ops d.y ⊎ Commits self d.at w0 d.state Source Asks Settled ops d.y → (d.y.readings.last ≡ w0.last) ⊎ CommitsOwn (goes_to to)
       lone_in (inl c) = inl c.2
       lone_in (inr c) = inr (record { ops = ops; k = S.k; place = there; made = own; changes = c.0; last = c.1 })
 
@@ -398,22 +424,29 @@ module _ (ms : Monitors) (w : World) (p : Plain) (I : InvOf ms w) (L : OneLog ms
         waits_there : (x : Waiting) (to : Place) → to ≡ Queued i (S.ticket + length H.others) → AskedAt n asked S.k (asker i x.origin) x.command → AllWait n asked (goes_to to) i S.ticket (H.others ++ x ∷ [])
         waits_there x to is a = wait_push n asked (goes_to to) i S.ticket H.others x (others_wait (goes_to to) (goes to)) (record { k = S.k; place = is_moved S.k to places ∙ is; of = a })
 
-        by : Becomes self d.at w0 d.state Source Asks H.command H.origin H.others d.y → Leaves
-        by (inl z) = leaves_as places (λ j q e apart. e) free_still (λ k v bytes e. inl e) (counted places H.others S.ticket z.0 (others_wait places (λ j q e apart. e))) (no_votes places z.1.changes) (inl (ap (λ (r : Readings). r.last) z.1.readings))
+        by : Becomes self d.at w0 d.state Source Asks Settled H.command H.origin H.others d.y → Leaves
+        by (inl z) =
+            leaves_as (goes_to Nowhere) (goes Nowhere) (goes_free Nowhere)
+            (λ k v bytes e. elim (was_there S.k Nowhere places k (Begun v bytes) e) [ inl o ↦ inl o | inr q ↦ (let bad : Nowhere ≡ Begun v bytes = q.1 in absurd cc) ])
+            (counted (goes_to Nowhere) H.others S.ticket z.queue (others_wait (goes_to Nowhere) (goes Nowhere))) (no_votes (goes_to Nowhere) z.writes.changes) (inl (ap (λ (r : Readings). r.last) z.writes.readings))
+            (subst (λ (out : List Sent). AllByRecursion (SendsOwn (goes_to Nowhere)) out) (sym z.out) (answer_sent (goes_to Nowhere) H.origin z.reply))
+            (inl (record { k = S.k; command = H.command; origin = H.origin; reply = z.reply; place = is_moved S.k Nowhere places; apart = apart; asks = S.asks; tie = S.tie; out = z.out })) (goes_settled Nowhere)
         by (inr (inl z)) =
             let to = Queued i (S.ticket + length H.others) in
             let x : Waiting = record { command = H.command; origin = H.origin } in
             leaves_as (goes_to to) (goes to) (goes_free to)
             (λ k v bytes e. elim (was_there S.k to places k (Begun v bytes) e) [ inl o ↦ inl o | inr q ↦ (let bad : to ≡ Begun v bytes = q.1 in absurd cc) ])
-            (counted (goes_to to) (H.others ++ x ∷ []) S.ticket z.0 (waits_there x to refl S.asks)) (no_votes (goes_to to) z.1.changes) (inl (ap (λ (r : Readings). r.last) z.1.readings))
+            (counted (goes_to to) (H.others ++ x ∷ []) S.ticket z.queue (waits_there x to refl S.asks)) (no_votes (goes_to to) z.writes.changes) (inl (ap (λ (r : Readings). r.last) z.writes.readings))
+            (others_sent (goes_to to) d.y.out z.out) (inr (inl (others_calm d.y.out z.out))) (goes_settled to)
         by (inr (inr z)) =
-            let B = z.1 in
+            let B = z.begins in
             let own = made_over H.leads S.k H.command H.origin B.ops S.asks B.made in
             let to = Begun (suc w0.last) (text B.ops) in
-            leaves_as (goes_to to) (goes to) (goes_free to) (begun_in B.ops own) (counted (goes_to to) H.others S.ticket z.0 (others_wait (goes_to to) (goes to))) (votes_in B.ops own B.how) (lone_in B.ops own B.how)
+            leaves_as (goes_to to) (goes to) (goes_free to) (begun_in B.ops own) (counted (goes_to to) H.others S.ticket z.queue (others_wait (goes_to to) (goes to))) (votes_in B.ops own B.how) (lone_in B.ops own B.how)
+            (others_sent (goes_to to) d.y.out z.out) (inr (inl (others_calm d.y.out z.out))) (goes_settled to)
 
   -- a peon hands one on
-  hands_leaves : Hands self d.at w0 d.state Source Asks d.y → Leaves
+  hands_leaves : Hands self d.at w0 d.state Source Asks Settled d.y → Leaves
   hands_leaves H = record {
     from = Nowhere;
     at = tt;
@@ -424,6 +457,8 @@ module _ (ms : Monitors) (w : World) (p : Plain) (I : InvOf ms w) (L : OneLog ms
     waits = same_waits after d.y.state.clients (H.queue, H.taken) wait;
     opens = λ here f e seq c leads now_is lt apart below F. no (sym (ap is_leading H.still ∙ peon_leads_not d.state.phase H.peon) ∙ leads);
     sends = subst (λ (out : List Sent). AllByRecursion (SendsOwn after) out) (sym H.out) ((low, record { k = k0; place = is_moved k0 to places; of = H.asked.1 }), tt);
+    says = inr (inl (subst (λ (out : List Sent). AllByRecursion IsCalm out) (sym H.out) (tt, tt)));
+    settled = λ k lt e. ap (λ (b : Bool). cond b to (places k)) (ne_eqb k k0 (λ z. omega arith)) ∙ e;
     votes = λ several. no_votes after H.writes.changes;
     lone = λ one. inl (ap (λ (r : Readings). r.last) H.writes.readings);
   }
@@ -449,7 +484,7 @@ module _ (ms : Monitors) (w : World) (p : Plain) (I : InvOf ms w) (L : OneLog ms
   pub leaves : Leaves
   leaves = by outcome
     where
-      by : Outcome self d.at w0 d.state Source Asks d.came d.y → Leaves
+      by : Outcome self d.at w0 d.state Source Asks Settled d.came d.y → Leaves
       by (inl N) = idle_leaves N
       by (inr (inl H)) = takes_leaves H
       by (inr (inr H)) = hands_leaves H

@@ -51,7 +51,7 @@ use Rattle.mon_wire.specs.declared.request.Session.{Session}
 use Rattle.quorum_agreement.proofs.Accepting.{then_map}
 use Rattle.quorum_agreement.proofs.Lone.{active_is}
 use Rattle.quorum_commands.proofs.Acts.{AllOther, IsOther}
-use Rattle.quorum_commands.proofs.Idle.{Idle, before, body_brings, brings, hears, rests, rings, says}
+use Rattle.quorum_commands.proofs.Idle.{AllFair, Idle, Returns, body_brings, brings, hears, rests, rings, says, starts}
 use Rattle.quorum_history.proofs.Phases.{any_leads, no}
 use Rattle.quorum_walk.proofs.Lists.{all_of}
 use Rattle.quorum_walk.proofs.Walk.{Then, and_then, and_three, by_test, done, where_fits}
@@ -61,9 +61,9 @@ use Rattle.std.specs.Prelude.{is_some, slice_index_or, slice_set}
 
 -- ---- what becomes of it
 
--- Source says where a command and its origin come from, where these are those that wait besides and those that were taken of
--- peons; and Asks that a session asked it just now.
-module _ (me : Me) (now : ℕ) (w : Readings) (s : State) (Source : Command → Origin → List Waiting → List ℕ → Type 0) (Asks : Session → Command → Type 0) where
+-- Source says where a command and its origin come from, with those that wait besides and those that were taken of peons;
+-- Asks that a session asked it just now; and Settled that a session may be given any reply.
+module _ (me : Me) (now : ℕ) (w : Readings) (s : State) (Source : Command → Origin → List Waiting → List ℕ → Type 0) (Asks : Session → Command → Type 0) (Settled : Session → Type 0) where
   pub record WritesNone (y : Course) : Type 0 where
     pub changes : y.changes ≡ []
     pub readings : y.readings ≡ w
@@ -81,8 +81,24 @@ module _ (me : Me) (now : ℕ) (w : Readings) (s : State) (Source : Command → 
     pub how : Proposes ops y ⊎ Commits ops y
 
   -- it is refused, it waits after the others, or it begins
+  pub record IsRefused (o : Origin) (others : List Waiting) (y : Course) : Type 0 where
+    pub queue : y.state.clients.queue ≡ others
+    pub writes : WritesNone y
+    pub reply : Reply
+    pub out : y.out ≡ answer_to me (epoch_of w) o reply ∷ []
+
+  pub record IsQueued (c : Command) (o : Origin) (others : List Waiting) (y : Course) : Type 0 where
+    pub queue : y.state.clients.queue ≡ others ++ record { command = c; origin = o } ∷ []
+    pub writes : WritesNone y
+    pub out : AllOther y.out
+
+  pub record HasBegun (c : Command) (o : Origin) (others : List Waiting) (y : Course) : Type 0 where
+    pub queue : y.state.clients.queue ≡ others
+    pub begins : Begins c o y
+    pub out : AllOther y.out
+
   abbrev pub Becomes : Command → Origin → List Waiting → Course → Type 0
-  Becomes c o others y = ((y.state.clients.queue ≡ others) × WritesNone y) ⊎ (((y.state.clients.queue ≡ others ++ record { command = c; origin = o } ∷ []) × WritesNone y) ⊎ ((y.state.clients.queue ≡ others) × Begins c o y))
+  Becomes c o others y = IsRefused o others y ⊎ (IsQueued c o others y ⊎ HasBegun c o others y)
 
   pub record Takes (y : Course) : Type 0 where
     pub command : Command
@@ -91,7 +107,6 @@ module _ (me : Me) (now : ℕ) (w : Readings) (s : State) (Source : Command → 
     pub taken : List ℕ
     pub source : Source command origin others taken
     pub leads : is_leading s.phase ≡ true
-    pub out : AllOther y.out
     pub counts : y.state.clients.taken ≡ taken
     pub becomes : Becomes command origin others y
 
@@ -110,7 +125,7 @@ module _ (me : Me) (now : ℕ) (w : Readings) (s : State) (Source : Command → 
 
   -- or it takes none
   pub record TakesNone (came : Input) (y : Course) : Type 0 where
-    pub idle : Idle me now w s y
+    pub idle : Idle me now w s Settled y
     pub stays : brings came ≡ true → y.changes ≡ []
 
   abbrev pub Outcome : Input → Course → Type 0
@@ -121,9 +136,9 @@ module _ (me : Me) (now : ℕ) (w : Readings) (s : State) (Source : Command → 
   abbrev x0 : Course
   x0 = at_rest w s
 
-  answer_other : (e : ℕ) (o : Origin) (r : Reply) → AllOther (answer_to me e o r ∷ [])
-  answer_other e (origin.Session t) r = (tt, tt)
-  answer_other e (origin.Forwarded f seq) r = (tt, tt)
+  done_other : (e v : ℕ) (o : Origin) → AllOther (answer_to me e o (reply.Done v) ∷ [])
+  done_other e v (origin.Session t) = ((λ u. u), tt)
+  done_other e v (origin.Forwarded f seq) = ((λ u. u), tt)
 
   record LearnedOne (v : ℕ) (ops : List Op) (x y : Course) : Type 0 where
     state : y.state ≡ x.state
@@ -149,9 +164,12 @@ module _ (me : Me) (now : ℕ) (w : Readings) (s : State) (Source : Command → 
           taken = z.clients.taken;
           source = F;
           leads = leads;
-          out = subst (λ (out : List Sent). AllOther (out ++ answer_to me (epoch_of y.readings) o (reply.Done (suc w.last)) ∷ [])) (sym K.out) (answer_other (epoch_of y.readings) o (reply.Done (suc w.last)));
           counts = ap (λ (q : State). q.clients.taken) K.state;
-          becomes = inr (inr (ap (λ (q : State). q.clients.queue) K.state, record { ops = ops; made = e; how = inr (K.changes, K.last) }));
+          becomes = inr (inr (record {
+            queue = ap (λ (q : State). q.clients.queue) K.state;
+            begins = record { ops = ops; made = e; how = inr (K.changes, K.last) };
+            out = subst (λ (out : List Sent). AllOther (out ++ answer_to me (epoch_of y.readings) o (reply.Done (suc w.last)) ∷ [])) (sym K.out) (done_other (epoch_of y.readings) (suc w.last) o);
+          }));
         }
 
         by : (r : Result (List Op) CommandRefused) → value w c (asked_of me o) ≡ r → Then Takes (begin_made me now o r (at_rest w z))
@@ -164,9 +182,12 @@ module _ (me : Me) (now : ℕ) (w : Readings) (s : State) (Source : Command → 
               taken = z.clients.taken;
               source = F;
               leads = leads;
-              out = all_of IsOther (message_to me (epoch_of w) (body.Begin z.leader.pn (suc w.last) ops)) (λ to. tt) (members me z.leader.quorum);
               counts = refl;
-              becomes = inr (inr (refl, record { ops = ops; made = e; how = inl (z.leader.pn, refl, refl) }));
+              becomes = inr (inr (record {
+                queue = refl;
+                begins = record { ops = ops; made = e; how = inl (z.leader.pn, refl, refl) };
+                out = all_of IsOther (message_to me (epoch_of w) (body.Begin z.leader.pn (suc w.last) ops)) (λ to. tt) (members me z.leader.quorum);
+              }));
             })))
         by (Err e) q = done (record {
           command = c;
@@ -175,9 +196,8 @@ module _ (me : Me) (now : ℕ) (w : Readings) (s : State) (Source : Command → 
           taken = z.clients.taken;
           source = F;
           leads = leads;
-          out = answer_other (epoch_of w) o (refusal e);
           counts = refl;
-          becomes = inl (refl, record { changes = refl; readings = refl });
+          becomes = inl (record { queue = refl; writes = record { changes = refl; readings = refl }; reply = refusal e; out = refl });
         })
 
     refuses : (r : Reply) → Takes (record (at_rest w z) { out = answer_to me (epoch_of w) o r ∷ [] })
@@ -188,9 +208,8 @@ module _ (me : Me) (now : ℕ) (w : Readings) (s : State) (Source : Command → 
       taken = z.clients.taken;
       source = F;
       leads = leads;
-      out = answer_other (epoch_of w) o r;
       counts = refl;
-      becomes = inl (refl, record { changes = refl; readings = refl });
+      becomes = inl (record { queue = refl; writes = record { changes = refl; readings = refl }; reply = r; out = refl });
     }
 
     at_leads : Then Takes (at_leader me now c o (at_rest w z))
@@ -204,20 +223,19 @@ module _ (me : Me) (now : ℕ) (w : Readings) (s : State) (Source : Command → 
           taken = z.clients.taken;
           source = F;
           leads = leads;
-          out = tt;
           counts = refl;
-          becomes = inr (inl (refl, record { changes = refl; readings = refl }));
+          becomes = inr (inl (record { queue = refl; writes = record { changes = refl; readings = refl }; out = tt }));
         }))))
 
   -- ---- what brings a command
 
   -- nothing is done but what is said
-  resting : (came : Input) (sends : List Sent) → AllOther sends → Then (Outcome came) (Ok (record x0 { out = sends }))
-  resting came sends O = done (inl (record { idle = (says me now w s sends O).holds; stays = λ t. refl }))
+  resting : (came : Input) (sends : List Sent) → AllFair me now w s Settled sends → Then (Outcome came) (Ok (record x0 { out = sends }))
+  resting came sends O = done (inl (record { idle = (says me now w s Settled sends O).holds; stays = λ t. refl }))
 
   -- what brings none takes none
-  idly : (came : Input) → brings came ≡ false → (r : Result Course Which) → Then (Idle me now w s) r → Then (Outcome came) r
-  idly came none r = then_map (Idle me now w s) (Outcome came) r (λ y I. inl (record { idle = I; stays = λ t. no (sym none ∙ t) }))
+  idly : (came : Input) → brings came ≡ false → (r : Result Course Which) → Then (Idle me now w s Settled) r → Then (Outcome came) r
+  idly came none r = then_map (Idle me now w s Settled) (Outcome came) r (λ y I. inl (record { idle = I; stays = λ t. no (sym none ∙ t) }))
 
   taking : (came : Input) (r : Result Course Which) → Then Takes r → Then (Outcome came) r
   taking came r = then_map Takes (Outcome came) r (λ y T. inr (inl T))
@@ -234,22 +252,22 @@ module _ (me : Me) (now : ℕ) (w : Readings) (s : State) (Source : Command → 
       let b = and_three (is_one_of leading s.phase) (eqb e (epoch_of w)) (has s.leader.quorum f) a.0 in
       taking came _ (at_leads c (origin.Forwarded f seq) (record s { clients = record s.clients { taken = slice_set s.clients.taken f seq } }) (F (any_leads s.phase b.0) (eqb-true e (epoch_of w) b.1) a.1) (any_leads s.phase b.0)))
 
-  due : (ts : List (Option ℕ)) → ((x : Waiting) (xs : List Waiting) → s.clients.queue ≡ x ∷ xs → Source x.command x.origin xs s.clients.taken) → Then (Outcome (input.Timer timer.Propose)) (propose_due me now (at_rest w (record s { timers = ts })))
+  due : (ts : List (Option ℕ)) → (same_phase s.phase phase.Active ≡ true → (x : Waiting) (xs : List Waiting) → s.clients.queue ≡ x ∷ xs → Source x.command x.origin xs s.clients.taken) → Then (Outcome (input.Timer timer.Propose)) (propose_due me now (at_rest w (record s { timers = ts })))
   unfolding propose_due propose_next
   due ts F = by_test (may_propose me now (at_rest w (record s { timers = ts })))
       (λ t. let a = (and_parts (same_phase s.phase phase.Active) (is_standing me now (record s { timers = ts })) t).0 in first a s.clients.queue refl) (λ _. stays)
     where
       stays : Then (Outcome (input.Timer timer.Propose)) (Ok (at_rest w (record s { timers = ts })))
-      stays = let I = (rests me now w s).holds in done (inl (record { idle = record { out = I.out; clients = I.clients; leads = I.leads; last = I.last }; stays = λ t. refl }))
+      stays = let I = (rests me now w s Settled).holds in done (inl (record { idle = record { out = I.out; clients = I.clients; leads = I.leads; last = I.last }; stays = λ t. refl }))
 
       first : same_phase s.phase phase.Active ≡ true → (ws : List Waiting) → s.clients.queue ≡ ws → Then (Outcome (input.Timer timer.Propose)) (propose_first me now ws (at_rest w (record s { timers = ts })))
       first a [] e = stays
-      first a (x ∷ ws) e = taking (input.Timer timer.Propose) _ (proposes x.command x.origin (record s { timers = ts; clients = record s.clients { queue = ws } }) (F x ws e) (ap is_leading (active_is s.phase a)) a)
+      first a (x ∷ ws) e = taking (input.Timer timer.Propose) _ (proposes x.command x.origin (record s { timers = ts; clients = record s.clients { queue = ws } }) (F a x ws e) (ap is_leading (active_is s.phase a)) a)
 
-  at_peons : (c : Command) (t : Session) (r : Request) → is_peon s.phase ≡ true → Asks t c → Then (Outcome (input.Client t r)) (at_peon me c t x0)
-  at_peons c t r peon A =
-      by_test (is_too_long c) (λ _. resting (input.Client t r) (sent.Reply t (too_long c) ∷ []) (tt, tt)) (λ _.
-      by_test (leb MOST_WAITING (length s.clients.sessions)) (λ _. resting (input.Client t r) (sent.Reply t (reply.Busy MOST_WAITING) ∷ []) (tt, tt)) (λ _.
+  at_peons : (c : Command) (t : Session) (r : Request) → is_peon s.phase ≡ true → Asks t c → Settled t → Then (Outcome (input.Client t r)) (at_peon me c t x0)
+  at_peons c t r peon A S =
+      by_test (is_too_long c) (λ _. resting (input.Client t r) (sent.Reply t (too_long c) ∷ []) ((λ u. S), tt)) (λ _.
+      by_test (leb MOST_WAITING (length s.clients.sessions)) (λ _. resting (input.Client t r) (sent.Reply t (reply.Busy MOST_WAITING) ∷ []) ((λ u. S), tt)) (λ _.
       where_fits (Outcome (input.Client t r)) which.Seq s.clients.next_seq _ (λ _. done (inr (inr (record {
         session = t;
         command = c;
@@ -263,16 +281,16 @@ module _ (me : Me) (now : ℕ) (w : Readings) (s : State) (Source : Command → 
         writes = record { changes = refl; readings = refl };
       }))))))
 
-  asks : (t : Session) (r : Request) (c : Command) → Source c (origin.Session t) s.clients.queue s.clients.taken → Asks t c → Then (Outcome (input.Client t r)) (ask me now t c x0)
+  asks : (t : Session) (r : Request) (c : Command) → Source c (origin.Session t) s.clients.queue s.clients.taken → Asks t c → Settled t → Then (Outcome (input.Client t r)) (ask me now t c x0)
   unfolding ask
-  asks t r c F A = by_test (is_leading s.phase) (λ leads. taking (input.Client t r) _ (at_leads c (origin.Session t) s F leads))
-      (λ _. by_test (is_peon s.phase) (λ peon. at_peons c t r peon A) (λ _. resting (input.Client t r) (sent.Reply t reply.Unavailable ∷ []) (tt, tt)))
+  asks t r c F A S = by_test (is_leading s.phase) (λ leads. taking (input.Client t r) _ (at_leads c (origin.Session t) s F leads))
+      (λ _. by_test (is_peon s.phase) (λ peon. at_peons c t r peon A S) (λ _. resting (input.Client t r) (sent.Reply t reply.Unavailable ∷ []) ((λ u. S), tt)))
 
-  reads : (t : Session) (r : Request) (reading : Readings → Reply) → Then (Outcome (input.Client t r)) (read me now t reading x0)
-  reads t r reading =
-      by_test (not (is_member s.phase)) (λ _. resting (input.Client t r) (sent.Reply t reply.Unavailable ∷ []) (tt, tt)) (λ _.
-      by_test (not (readable w.last me.member.monitors (lease_of s) now)) (λ _. resting (input.Client t r) (sent.Reply t (reply.NotReadable w.last (is_standing me now s)) ∷ []) (tt, tt))
-      (λ _. resting (input.Client t r) (sent.Reply t (reading w) ∷ []) (tt, tt)))
+  reads : (t : Session) (r : Request) (reading : Readings → Reply) → Settled t → Then (Outcome (input.Client t r)) (read me now t reading x0)
+  reads t r reading S =
+      by_test (not (is_member s.phase)) (λ _. resting (input.Client t r) (sent.Reply t reply.Unavailable ∷ []) ((λ u. S), tt)) (λ _.
+      by_test (not (readable w.last me.member.monitors (lease_of s) now)) (λ _. resting (input.Client t r) (sent.Reply t (reply.NotReadable w.last (is_standing me now s)) ∷ []) ((λ u. S), tt))
+      (λ _. resting (input.Client t r) (sent.Reply t (reading w) ∷ []) ((λ u. S), tt)))
 
   -- ---- the table
 
@@ -288,53 +306,55 @@ module _ (me : Me) (now : ℕ) (w : Readings) (s : State) (Source : Command → 
 
   abbrev pub BodyKnown : (f e : ℕ) → Body → Type 0
   BodyKnown f e (body.Forward seq c) = (f ≡ me.member.rank → ⊥) → is_leading s.phase ≡ true → e ≡ epoch_of w → ltb (slice_index_or s.clients.taken f 0) seq ≡ true → Source c (origin.Forwarded f seq) s.clients.queue (slice_set s.clients.taken f seq)
+  BodyKnown f e (body.Route seq r) = Returns me now w s Settled e seq r
   BodyKnown f e other = Unit {0}
 
   abbrev pub TimerKnown : Timer → Type 0
-  TimerKnown timer.Propose = (x : Waiting) (xs : List Waiting) → s.clients.queue ≡ x ∷ xs → Source x.command x.origin xs s.clients.taken
+  TimerKnown timer.Propose = same_phase s.phase phase.Active ≡ true → (x : Waiting) (xs : List Waiting) → s.clients.queue ≡ x ∷ xs → Source x.command x.origin xs s.clients.taken
   TimerKnown other = Unit {0}
 
   abbrev pub InputKnown : Input → Type 0
   InputKnown input.Start = Unit {0}
   InputKnown (input.Deliver m) = (m.from < me.member.monitors) × BodyKnown m.from m.epoch m.body
   InputKnown (input.Timer t) = TimerKnown t
-  InputKnown (input.Client t r) = RequestKnown t r
+  InputKnown (input.Client t r) = RequestKnown t r × Settled t
 
-  clients : (t : Session) (r : Request) → RequestKnown t r → Then (Outcome (input.Client t r)) (hear_client me now t r x0)
+  clients : (t : Session) (r : Request) → RequestKnown t r → Settled t → Then (Outcome (input.Client t r)) (hear_client me now t r x0)
   unfolding hear_client
-  clients t (request.Set key value) k = asks t (request.Set key value) (command.Set key value) k.0 k.1
-  clients t (request.Remove key) k = asks t (request.Remove key) (command.Remove key) k.0 k.1
-  clients t (request.Log text) k = asks t (request.Log text) (command.Log text) k.0 k.1
-  clients t (request.Show v) k = reads t (request.Show v) (λ z. shown z v)
-  clients t (request.Since v n) k = reads t (request.Since v n) (λ z. since z v n)
+  clients t (request.Set key value) k S = asks t (request.Set key value) (command.Set key value) k.0 k.1 S
+  clients t (request.Remove key) k S = asks t (request.Remove key) (command.Remove key) k.0 k.1 S
+  clients t (request.Log text) k S = asks t (request.Log text) (command.Log text) k.0 k.1 S
+  clients t (request.Show v) k S = reads t (request.Show v) (λ z. shown z v) S
+  clients t (request.Since v n) k S = reads t (request.Since v n) (λ z. since z v n) S
 
   rung : (t : Timer) → TimerKnown t → Then (Outcome (input.Timer t)) (timer_comes me now t (disarm t x0))
   rung timer.Propose k = due (disarm timer.Propose x0).state.timers k
-  rung t k = idly (input.Timer t) refl _ (rings me now w s t refl)
+  rung t k = idly (input.Timer t) refl _ (rings me now w s Settled t refl)
 
   module _ (shared : List Entry) where
     said : (m : Message) → (me.member.monitors ≡ 1 → ⊥) → (m.from ≡ me.member.rank → ⊥) → (b : Body) → m.body ≡ b → BodyKnown m.from m.epoch b → Then (Outcome (input.Deliver m)) (hear me shared now m.from m.epoch b x0)
     said m several apart (body.Forward seq c) e k = forward_heard m.from m.epoch seq c (input.Deliver m) (k apart)
-    said m several apart b e k = idly (input.Deliver m) (ap body_brings e) _ (hears me now w s several shared m.from m.epoch b refl)
+    said m several apart (body.Route seq r) e k = idly (input.Deliver m) (ap body_brings e) _ (hears me now w s Settled several shared m.from m.epoch (body.Route seq r) refl k)
+    said m several apart b e k = idly (input.Deliver m) (ap body_brings e) _ (hears me now w s Settled several shared m.from m.epoch b refl tt)
 
     -- who hears another is not alone
     not_alone : (m : Message) → m.from < me.member.monitors → (m.from ≡ me.member.rank → ⊥) → me.member.monitors ≡ 1 → ⊥
     not_alone m lt apart one = apart (let a = me.member.in_map in omega arith)
 
     runs : (came : Input) → InputKnown came → Then (Outcome came) (running me shared now came x0)
-    runs input.Start k = idly input.Start refl _ (rests me now w s)
+    runs input.Start k = idly input.Start refl _ (rests me now w s Settled)
     runs (input.Deliver m) k = by_test (is_heard me m) (λ heard.
         let apart = eqb-false m.from me.member.rank (not-true _ (and_three (not (eqb m.from me.member.rank)) _ _ heard).0) in
         said m (not_alone m k.0 apart) apart m.body refl k.1) (λ _. resting (input.Deliver m) [] tt)
     runs (input.Timer t) k = by_test (is_some (end_of t s.timers)) (λ _. rung t k) (λ _. resting (input.Timer t) [] tt)
-    runs (input.Client t r) k = clients t r k
+    runs (input.Client t r) k = clients t r k.0 k.1
 
-    begins : (came : Input) → Then (Outcome came) (before_start me now came x0)
-    begins input.Start = idly input.Start refl _ (before me now w s input.Start)
-    begins (input.Deliver m) = resting (input.Deliver m) [] tt
-    begins (input.Timer t) = resting (input.Timer t) [] tt
-    begins (input.Client t r) = resting (input.Client t r) (sent.Reply t reply.Unavailable ∷ []) (tt, tt)
+    begins : (came : Input) → InputKnown came → Then (Outcome came) (before_start me now came x0)
+    begins input.Start k = idly input.Start refl _ (starts me now w s Settled)
+    begins (input.Deliver m) k = resting (input.Deliver m) [] tt
+    begins (input.Timer t) k = resting (input.Timer t) [] tt
+    begins (input.Client t r) k = resting (input.Client t r) (sent.Reply t reply.Unavailable ∷ []) ((λ u. k.1), tt)
 
     pub takes : (came : Input) → InputKnown came → Then (Outcome came) (react me shared now w s came)
     unfolding react
-    takes came k = by_test (same_phase s.phase phase.Booting) (λ _. begins came) (λ _. runs came k)
+    takes came k = by_test (same_phase s.phase phase.Booting) (λ _. begins came k) (λ _. runs came k)

@@ -28,6 +28,7 @@ use Rattle.mon_tx.specs.declared.key.Key.TheVariants as key
 use Rattle.mon_tx.specs.declared.op.Op.{Op}
 use Rattle.mon_wire.specs.declared.body.Body.TheVariants as body
 use Rattle.mon_wire.specs.declared.body.Body.{Body}
+use Rattle.mon_wire.specs.declared.request.Session.{Session}
 use Rattle.quorum_agreement.proofs.SafeWorlds.{grown_fronts}
 use Rattle.quorum_agreement.proofs.Grown.{GrowsByOne, first_is}
 use Rattle.quorum_agreement.proofs.Kept.{accepted_added}
@@ -36,7 +37,7 @@ use Rattle.quorum_agreement.proofs.Made.{MadeOver, is_value, version_asked_stays
 use Rattle.quorum_agreement.proofs.Result.{OneLog}
 use Rattle.quorum_commands.proofs.Coming.{Does, ended, next, tells}
 use Rattle.quorum_commands.proofs.Places.{BodyForwards, Begun, Forwards, Handed, IsAt, IsForwarded, Lasts, LoggedAt, MadeAt, Moves, Nowhere, Place, Places, Queued, StillAt, Tickets, Waits, WaitsIn, apart_at, made_still, own_lasts, wait_last}
-use Rattle.quorum_commands.proofs.Sources.{asks_more}
+use Rattle.quorum_commands.proofs.Sources.{SettledBy, asks_more}
 use Rattle.quorum_commands.proofs.Steps.{BodySends, CommitsOwn, Here, Leaves, SendsOwn, leaves}
 use Rattle.quorum_laws.proofs.Invariant.{EnvelopeHolds, InvOf}
 use Rattle.quorum_laws.proofs.Whole.{at_put}
@@ -169,8 +170,8 @@ asked_more n places store state txs messages asked more log short values still l
 -- ---- a monitor goes on, or goes down once it kept what it writes
 
 module _ (ms : Monitors) (w : World) (p : Plain) (I : InvOf ms w) (L : OneLog ms w) (W : ms.count ≡ 1 → (i : ℕ) → i < ms.count → IsWhole w.log (w.store i)) (places : Places)
-    (T : Tickets ms.count places w.store w.state w.transactions w.messages w.asked w.log) (d : Does ms w p) (now : Option State) (rises : epoch_of (readings_of (w.store d.rank)) ≤ epoch_of (readings_of (next ms w I p d)))
-    (up : (s : State) → now ≡ Some s → (d.y.state ≡ s) × Here ms w p I L W places T d) where
+    (T : Tickets ms.count places w.store w.state w.transactions w.messages w.asked w.log) (d : Does ms w p) (Settled : Session → Type 0) (S0 : SettledBy ms w p I places T d Settled d.came) (now : Option State) (rises : epoch_of (readings_of (w.store d.rank)) ≤ epoch_of (readings_of (next ms w I p d)))
+    (up : (s : State) → now ≡ Some s → (d.y.state ≡ s) × Here ms w p I L W places T d Settled S0) where
   abbrev n : ℕ
   n = ms.count
 
@@ -195,8 +196,8 @@ module _ (ms : Monitors) (w : World) (p : Plain) (I : InvOf ms w) (L : OneLog ms
   abbrev txs : ℕ → List (List Op)
   txs = put_at w.transactions i (w.transactions i ++ tx ∷ [])
 
-  abbrev E : Leaves ms w p I L W places T d
-  E = leaves ms w p I L W places T d
+  abbrev E : Leaves ms w p I L W places T d Settled S0
+  E = leaves ms w p I L W places T d Settled S0
 
   abbrev pub after : Places
   after = E.after
@@ -209,7 +210,7 @@ module _ (ms : Monitors) (w : World) (p : Plain) (I : InvOf ms w) (L : OneLog ms
   wait : (j : ℕ) → WaitsIn n asked E.after j (states j)
   wait = at_put (λ (j : ℕ) (u : Store) (o : Option State). WaitsIn n asked E.after j o) w.store w.state i m now (mine now up) (λ j ne. others j ne (w.state j) (T.waits j))
     where
-      mine : (o : Option State) → ((s : State) → o ≡ Some s → (d.y.state ≡ s) × Here ms w p I L W places T d) → WaitsIn n asked E.after i o
+      mine : (o : Option State) → ((s : State) → o ≡ Some s → (d.y.state ≡ s) × Here ms w p I L W places T d Settled S0) → WaitsIn n asked E.after i o
       mine None k = tt
       mine (Some s) k = subst (λ (z : State). Waits n asked E.after i z.clients.queue z.clients.taken) (k s refl).0 E.waits
 
@@ -245,11 +246,11 @@ module _ (ms : Monitors) (w : World) (p : Plain) (I : InvOf ms w) (L : OneLog ms
       by (body.Forward seq c) h = λ apart. forwarded e.message.from e.to e.message.epoch seq c k.0.0 apart (h apart)
       by other h = tt
 
-  new_forward : (from to e : ℕ) (b : Body) → BodySends ms w p I L W places T d E.after from to e b → BodyForwards n asked E.after (stores to) (states to) from to e b
+  new_forward : (from to e : ℕ) (b : Body) → BodySends ms w p I L W places T d Settled S0 E.after from to e b → BodyForwards n asked E.after (stores to) (states to) from to e b
   new_forward from to e (body.Forward seq c) k = λ apart. record { low = (let a = k.0 in let b = all_rise to in omega arith); own = λ s q leads now_is lt. k.1 }
   new_forward from to e other k = tt
 
-  sent_forward : (sends : List Sent) → AllByRecursion (SendsOwn ms w p I L W places T d E.after) sends → AllByRecursion (Forwards n asked E.after stores states) (messages_of sends)
+  sent_forward : (sends : List Sent) → AllByRecursion (SendsOwn ms w p I L W places T d Settled S0 E.after) sends → AllByRecursion (Forwards n asked E.after stores states) (messages_of sends)
   sent_forward [] k = tt
   sent_forward (sent.Message to x ∷ sends) k = (new_forward x.from to x.epoch x.body k.0, sent_forward sends k.1)
   sent_forward (sent.Reply t r ∷ sends) k = sent_forward sends k.1
@@ -292,7 +293,7 @@ module _ (ms : Monitors) (w : World) (p : Plain) (I : InvOf ms w) (L : OneLog ms
       room : length w.log < 2 ^ 62
       room = omega (arith, short, long)
 
-      module _ (C : CommitsOwn ms w p I L W places T d E.after) where
+      module _ (C : CommitsOwn ms w p I L W places T d Settled S0 E.after) where
         made : MadeOver n (C.made.by ∷ []) w.log (suc (length w.log)) C.ops
         made = let M = C.made in subst (λ (c : ℕ). MadeOver n (C.made.by ∷ []) w.log (suc c) C.ops) last_before M.made
 
@@ -333,7 +334,7 @@ module _ (ms : Monitors) (w : World) (p : Plain) (I : InvOf ms w) (L : OneLog ms
       new_alone : (k : ℕ) × (E.after k ≡ Begun (suc (length w.log)) (entry newer (suc (length w.log))))
       new_alone = by (E.lone one)
         where
-          by : (d.y.readings.last ≡ (readings_of (w.store i)).last) ⊎ CommitsOwn ms w p I L W places T d E.after → (k : ℕ) × (E.after k ≡ Begun (suc (length w.log)) (entry newer (suc (length w.log))))
+          by : (d.y.readings.last ≡ (readings_of (w.store i)).last) ⊎ CommitsOwn ms w p I L W places T d Settled S0 E.after → (k : ℕ) × (E.after k ≡ Begun (suc (length w.log)) (entry newer (suc (length w.log))))
           by (inl same) = absurd (omega (arith, same, last_before, last_after))
           by (inr C) = (C.k, C.place ∙ ap (λ (c : ℕ). Begun (suc c) (text C.ops)) last_before ∙ ap (Begun (suc (length w.log))) (sym (spells C)))
 

@@ -1,0 +1,42 @@
+-- A request that is answered otherwise than by Done makes no version of the log.
+use Rattle.std.specs.Prelude.{◌≡◌, ℕ, ◌<◌, length, Some, slice_get}
+use Rattle.std.specs.List.{AllByRecursion}
+use Rattle.mon_wire.specs.declared.reply.Reply.{Reply}
+use Rattle.mon_wire.specs.declared.reply.Reply.TheVariants as reply
+use Rattle.quorum_commands.specs.Once.{IsOf}
+use Rattle.quorum_model.specs.World.{World, Asked, Replied}
+
+-- A reply that acknowledges no version. Each kind of reply is named, so that whoever adds one decides what is promised
+-- of it.
+abbrev pub AcknowledgesNone : Reply → Type 0
+AcknowledgesNone (reply.Done v) = ⊥
+AcknowledgesNone reply.Unavailable = Unit {0}
+AcknowledgesNone (reply.NotReadable has lease) = Unit {0}
+AcknowledgesNone (reply.Busy waiting) = Unit {0}
+AcknowledgesNone reply.NoSuch = Unit {0}
+AcknowledgesNone (reply.TooLong len most) = Unit {0}
+AcknowledgesNone (reply.MapFull would_be) = Unit {0}
+AcknowledgesNone (reply.Shown s paxos version map) = Unit {0}
+AcknowledgesNone (reply.Since s from told more) = Unit {0}
+
+-- Which request each version of the log is of, by its number in order.
+abbrev pub Requests : World → Type 0
+Requests w = (v : ℕ) → v < length w.log → ℕ
+
+-- The session asked this monitor a request of which no version is. If it asked the monitor only once, that is the
+-- request answered.
+pub record IsUnmade (w : World) (request : Requests w) (r : Replied) : Type 0 where
+  pub k : ℕ
+  pub by : Asked
+  pub at : slice_get w.asked k ≡ Some by
+  pub rank : by.rank ≡ r.rank
+  pub session : by.session ≡ r.session
+  pub none : (v : ℕ) (within : v < length w.log) → ¬ (request v within ≡ k)
+
+-- Every version is the value of some request's command, no two versions are of one request, and none is of a request
+-- that was answered otherwise than by Done, whether the version is older or newer than the answer.
+pub record Unmade (n : ℕ) (w : World) : Type 0 where
+  pub request : Requests w
+  pub is : (v : ℕ) (within : v < length w.log) → IsOf n w.asked w.log v (request v within)
+  pub once : (u v : ℕ) (low : u < length w.log) (high : v < length w.log) → request u low ≡ request v high → u ≡ v
+  pub refused : AllByRecursion (λ r. AcknowledgesNone r.reply → IsUnmade w request r) w.replied
