@@ -1,0 +1,56 @@
+-- One log and one list of answers for a whole history.
+use Rattle.std.proofs.Common.{List, ◌++◌, ℕ, map}
+use Rattle.network_answers.proofs.Answering.{acknowledged, all_of_log, answer, answered, brings, brings_more, extends, is_log, order, refusals}
+use Rattle.network_answers.specs.Answers.{Adds, Answer, HaveAnswers}
+use Rattle.quorum_model.specs.Monitors.{Monitors}
+use Rattle.quorum_network.proofs.Adding.{given}
+use Rattle.quorum_network.proofs.Assembled.{assembly}
+use Rattle.quorum_network.proofs.Going.{goes_on}
+use Rattle.quorum_network.proofs.Whole.{Stands, facts, stands}
+use Rattle.quorum_network.specs.Network.{AllMay, Step, network}
+use Rattle.quorum_network.specs.Requests.{acknowledgements, leaderships, requests}
+
+module _ (ms : Monitors) where
+  abbrev stood : (steps : List Step) → AllMay ms steps → Stands assembly ms (requests ms steps) (acknowledgements ms steps) (leaderships ms steps) (network ms steps)
+  stood steps may = stands assembly ms (facts ms) steps may
+
+  unfoldable log_of : (steps : List Step) → AllMay ms steps → List (List ℕ)
+  log_of steps may = (stood steps may).w.log
+
+  unfoldable answers_of : (steps : List Step) → AllMay ms steps → List Answer
+  answers_of steps may = map answer (stood steps may).w.replied
+
+  adds : (later earlier : List Step) (may : AllMay ms (later ++ earlier)) → (old : AllMay ms earlier)
+      × Adds ms earlier (later ++ earlier) (log_of earlier old) (log_of (later ++ earlier) may) (answers_of earlier old) (answers_of (later ++ earlier) may)
+  unfolding log_of answers_of
+  adds later earlier may =
+      let all : List Step = later ++ earlier in
+      let went = goes_on assembly ms (facts ms) later earlier may in
+      let S = stood earlier went.0 in
+      let T = stood all may in
+      let G = went.1 in (
+        went.0,
+        record {
+          extends = extends ms (requests ms earlier) (requests ms all) (acknowledgements ms earlier) (acknowledgements ms all) (leaderships ms earlier) (leaderships ms all) (network ms earlier) (network ms all) S T G;
+          writes = map given G.writes;
+          acknowledged = acknowledged ms (requests ms earlier) (requests ms all) (acknowledgements ms earlier) (acknowledgements ms all) (leaderships ms earlier) (leaderships ms all) (network ms earlier) (network ms all) S T G;
+          more = map answer G.replies;
+          answered = answered ms (requests ms earlier) (requests ms all) (acknowledgements ms earlier) (acknowledgements ms all) (leaderships ms earlier) (leaderships ms all) (network ms earlier) (network ms all) S T G;
+          sent = G.sent;
+          wire = G.wire;
+          brings = brings_more ms (requests ms earlier) (requests ms all) (acknowledgements ms earlier) (acknowledgements ms all) (leaderships ms earlier) (leaderships ms all) (network ms earlier) (network ms all) S T G;
+          order = order ms (requests ms earlier) (requests ms all) (acknowledgements ms earlier) (acknowledgements ms all) (leaderships ms earlier) (leaderships ms all) (network ms earlier) (network ms all) S T G;
+          refusals = refusals ms (requests ms earlier) (requests ms all) (acknowledgements ms earlier) (acknowledgements ms all) (leaderships ms earlier) (leaderships ms all) (network ms earlier) (network ms all) S T G;
+        },
+      )
+
+  pub history : HaveAnswers ms
+  unfolding log_of answers_of
+  history = record {
+    log = log_of;
+    answers = answers_of;
+    is_of = λ steps may. is_log ms (requests ms steps) (acknowledgements ms steps) (leaderships ms steps) (network ms steps) (stood steps may);
+    of_log = λ steps may. all_of_log ms (requests ms steps) (acknowledgements ms steps) (leaderships ms steps) (network ms steps) (stood steps may);
+    brings = λ steps may. brings ms (requests ms steps) (acknowledgements ms steps) (leaderships ms steps) (network ms steps) (stood steps may);
+    goes_on = adds;
+  }

@@ -1,0 +1,4 @@
+pub mod Answering
+pub mod Followed
+pub mod History
+pub mod Lists

@@ -1,0 +1,142 @@
+-- What processes answer clients over a history: reads and writes of an epoch in one order, and refusals by the one
+-- log.
+use Rattle.std.specs.Prelude.{◌≡◌, ◌⊎◌, ℕ, ◌<◌, ◌≤◌, List, [], length, ◌++◌, Some, Err}
+use Rattle.std.specs.List.{AllByRecursion, Contains}
+use Rattle.log_model.specs.LogOfValues.{view_at}
+use Rattle.mon_bytes.specs.declared.command.Command.{Command}
+use Rattle.mon_bytes.specs.declared.command.CommandRefused.{CommandRefused}
+use Rattle.mon_msg.specs.Fold.{incrementals}
+use Rattle.mon_msg.specs.Protocol.Proposing.{refusal}
+use Rattle.mon_msg.specs.Protocol.Value.{value}
+use Rattle.mon_wire.specs.Message.Whole.{HasText, text}
+use Rattle.mon_wire.specs.declared.message.Message.{Message}
+use Rattle.mon_wire.specs.declared.reply.Reply.{Reply}
+use Rattle.mon_wire.specs.declared.reply.Reply.TheVariants as reply
+use Rattle.mon_wire.specs.declared.request.Request.{Request}
+use Rattle.mon_wire.specs.declared.request.Session.{Session}
+use Rattle.quorum_answers.specs.Reads.{Shows}
+use Rattle.quorum_answers.specs.Refused.{Refuses}
+use Rattle.quorum_model.specs.Clients.{command_of}
+use Rattle.quorum_model.specs.Monitors.{Monitors}
+use Rattle.quorum_model.specs.Shown.{AreAfter}
+use Rattle.quorum_model.specs.World.{Asked}
+use Rattle.quorum_network.specs.History.{Extends}
+use Rattle.quorum_network.specs.Network.{AllMay, Posted, Step, network}
+use Rattle.quorum_network.specs.Promises.{AreAnswers, IsLogOf, IsNoOlder, IsOfLog, Requested}
+use Rattle.quorum_network.specs.Requests.{Acknowledgement, acknowledgements, requests}
+use Rattle.quorum_network.specs.Running.{reply_message}
+
+-- ---- answers
+
+-- What monitor `rank` answers in a session: the epoch that its REPLY names, the last version that the monitor had
+-- then, and the reply.
+pub record Answer : Type 0 where
+  pub rank : ℕ
+  pub session : Session
+  pub epoch : ℕ
+  pub last : ℕ
+  pub reply : Reply
+
+abbrev pub message_of : (n : ℕ) → Answer → Message
+message_of n a = reply_message n a.rank a.epoch a.session a.reply
+
+-- Bytes are the REPLY of monitor i of n to client c with one of these answers. They decode to that REPLY alone.
+pub record IsAnswer (n : ℕ) (answers : List Answer) (i c : ℕ) (bytes : List ℕ) : Type 0 where
+  pub answer : Answer
+  pub among : Contains answers answer
+  pub rank : answer.rank ≡ i
+  pub client : answer.session.client ≡ c
+  pub has_text : HasText (message_of n answer)
+  pub is_text : bytes ≡ text (message_of n answer)
+
+-- What is shown is the log's up to this version. Here each kind of reply is named, so that whoever adds one decides
+-- what is promised of it.
+abbrev pub IsUpTo : List (List ℕ) → (last : ℕ) → Reply → Type 0
+IsUpTo log last (reply.Shown s paxos version map) = paxos ≡ last
+IsUpTo log last (reply.Since s from told more) = AreAfter (incrementals s log last) from told more
+IsUpTo log last (reply.Done v) = Unit {0}
+IsUpTo log last reply.NoSuch = Unit {0}
+IsUpTo log last (reply.TooLong len most) = Unit {0}
+IsUpTo log last (reply.MapFull would_be) = Unit {0}
+IsUpTo log last reply.Unavailable = Unit {0}
+IsUpTo log last (reply.NotReadable has lease) = Unit {0}
+IsUpTo log last (reply.Busy waiting) = Unit {0}
+
+-- The answer is the log's, and was asked for.
+pub record IsOfThisLog (requests : List Asked) (acks : List Acknowledgement) (log : List (List ℕ)) (a : Answer)
+    : Type 0 where
+  pub within : a.last ≤ length log
+  pub up_to : IsUpTo log a.last a.reply
+  pub of_log : IsOfLog requests acks [] log a.rank a.epoch a.session a.reply
+
+-- ---- reads and writes
+
+-- Writes that were acknowledged and answers that were given before some point in time, and others after it. A write
+-- has its version in the log, and an answer that shows something follows its last version. In one epoch, whichever
+-- monitors answer, the order of time is the order of the log. Of one monitor the same holds of what it shows in
+-- whatever epochs.
+pub record AreInOrder (writes : List Acknowledgement) (answers : List Answer) (later_writes : List Acknowledgement)
+    (later_answers : List Answer) : Type 0 where
+  pub write_write : (a b : Acknowledgement) → Contains writes a → Contains later_writes b → a.epoch ≡ b.epoch
+      → a.version < b.version
+  pub write_read : (a : Acknowledgement) (b : Answer) → Contains writes a → Contains later_answers b → a.epoch ≡ b.epoch
+      → Shows b.reply → a.version ≤ b.last
+  pub read_write : (a : Answer) (b : Acknowledgement) → Contains answers a → Contains later_writes b → a.epoch ≡ b.epoch
+      → Shows a.reply → a.last < b.version
+  pub read_read : (a b : Answer) → Contains answers a → Contains later_answers b → a.epoch ≡ b.epoch
+      → Shows a.reply → Shows b.reply → a.last ≤ b.last
+  pub of_monitor : (a b : Answer) → Contains answers a → Contains later_answers b → a.rank ≡ b.rank
+      → Shows a.reply → Shows b.reply → a.last ≤ b.last
+
+-- ---- refusals
+
+-- The session asked a command of this monitor, and the command's service refuses it so over the versions of the log
+-- up to this one. If it wasn't asked before some point in time, these include all that had been acknowledged by then
+-- in the answer's epoch.
+pub record IsRefused (before requests : List Asked) (acks : List Acknowledgement) (log : List (List ℕ)) (a : Answer)
+    : Type 0 where
+  pub request : Request
+  pub requested : Requested requests a.rank a.session request
+  pub command : Command
+  pub is : command_of request ≡ Some command
+  pub version : ℕ
+  pub within : version ≤ length log
+  pub why : CommandRefused
+  pub refused : value (view_at log version) command a.rank ≡ Err why
+  pub says : a.reply ≡ refusal why
+  pub since : Requested before a.rank a.session request ⊎ IsNoOlder acks a.epoch version
+
+-- ---- a history
+
+-- What steps add to earlier ones: to the log, to what was acknowledged, to the answers, and to what was sent.
+-- Datagrams that they send to clients are of the answers that they add.
+pub record Adds (ms : Monitors) (earlier later : List Step) (old_log log : List (List ℕ)) (old answers : List Answer)
+    : Type 0 where
+  pub extends : Extends log old_log
+  pub writes : List Acknowledgement
+  pub acknowledged : acknowledgements ms later ≡ acknowledgements ms earlier ++ writes
+  pub more : List Answer
+  pub answered : answers ≡ old ++ more
+  pub sent : List Posted
+  pub wire : (network ms later).sent ≡ (network ms earlier).sent ++ sent
+  pub brings : AreAnswers (IsAnswer ms.count more) sent
+  pub order : AreInOrder (acknowledgements ms earlier) old writes more
+  pub refusals : AllByRecursion
+      (λ (a : Answer). Refuses a.reply
+      → IsRefused (requests ms earlier) (requests ms later) (acknowledgements ms earlier) log a) answers
+
+-- After each list of steps there are a log and a list of answers, and later steps only add to both. All maps and all
+-- answers are of that log. Every datagram that went to a client is of one of these answers, and a client joins only
+-- such.
+pub record HaveAnswers (ms : Monitors) : Type 0 where
+  pub log : (steps : List Step) → AllMay ms steps → List (List ℕ)
+  pub answers : (steps : List Step) → AllMay ms steps → List Answer
+  pub is_of : (steps : List Step) (may : AllMay ms steps)
+      → IsLogOf ms (requests ms steps) (acknowledgements ms steps) (network ms steps) (log steps may)
+  pub of_log : (steps : List Step) (may : AllMay ms steps) → AllByRecursion
+      (IsOfThisLog (requests ms steps) (acknowledgements ms steps) (log steps may)) (answers steps may)
+  pub brings : (steps : List Step) (may : AllMay ms steps)
+      → AreAnswers (IsAnswer ms.count (answers steps may)) (network ms steps).sent
+  pub goes_on : (later earlier : List Step) (may : AllMay ms (later ++ earlier)) → (old : AllMay ms earlier)
+      × Adds ms earlier (later ++ earlier) (log earlier old) (log (later ++ earlier) may) (answers earlier old)
+      (answers (later ++ earlier) may)

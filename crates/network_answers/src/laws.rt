@@ -1,0 +1,60 @@
+ghost use Rattle.std.specs.List.{AllByRecursion};
+ghost use Rattle.std.specs.Prelude.{◌≡◌, ℕ, ◌≤◌, List, [], ◌++◌, Option, Some, Ok, Result};
+ghost use Rattle.map_follower.specs.Copies.{first};
+ghost use Rattle.map_follower.specs.Following.{Holds};
+ghost use Rattle.map_follower.specs.Turns.{Course, Follows, all_turned, course};
+ghost use Rattle.map_follower.specs.declared.end.FollowEnd.{FollowEnd};
+ghost use Rattle.mon_link.specs.Links.{Told};
+ghost use Rattle.mon_link.specs.declared.link.Got.{Got};
+ghost use Rattle.mon_types.specs.declared.names.Stop.{Stop};
+ghost use Rattle.mon_wire.specs.declared.request.Service.{Service};
+ghost use Rattle.quorum_model.specs.Monitors.{Monitors};
+ghost use Rattle.quorum_network.specs.Network.{Step, network};
+ghost use Rattle.quorum_network.specs.Promises.{IsLogOf, Numbers};
+ghost use Rattle.quorum_network.specs.Requests.{acknowledgements, requests};
+ghost use Rattle.network_answers.specs.Answers.{HaveAnswers};
+ghost use Rattle.network_answers.specs.Followers.{Reaches, Writes};
+
+/// For a whole history of a network there are one log and one list of answers, which only grow. Every datagram that
+/// went to a client is a piece of a REPLY with one of these answers, and a client that joins them joins such REPLYs.
+/// An answer's epoch is the one that its REPLY names.
+///
+/// The acknowledged writes and the reads of one epoch are linearizable, whichever processes answer: what was
+/// acknowledged or shown by some point in time comes no later in the log than what is acknowledged or shown after it.
+/// What one monitor shows is never older than what it showed before, in whatever epochs and over kills and starts.
+///
+/// Each NoSuch, TooLong and MapFull answers a command that its session asked of its monitor. It is the refusal of the
+/// command's service over the versions of the log up to some version. That version isn't below any that was
+/// acknowledged in the answer's epoch by a point in time by which the command hadn't been asked.
+pub fn law_answers()
+    ensures { (ms : Monitors) → HaveAnswers ms }
+{}
+
+/// What a client holds that follows the monitors of a network. Let each datagram that its link returned in the name
+/// of a monitor be one that this monitor sent to this client, at any time and any number of times. Then its copy is
+/// the map that the log gives the service at the copy's version, after each iteration and at the end. So is the copy
+/// of each line that it wrote. The version never falls, and it rises from line to line. If a link shows what it is to
+/// give, it is enough that this is so of that.
+pub fn law_followers()
+    ensures holds { (ms : Monitors) (steps : List Step) (log : List (List ℕ))
+        → IsLogOf ms (requests ms steps) (acknowledgements ms steps) (network ms steps) log
+        → (numbers : Numbers) (turns asks : ℕ) (s : Service) (link : Option Told) (written : Option (List ℕ))
+        → (new : Course) (e : FollowEnd)
+        → (F : Follows ms.count turns (course (first s) [] asks link written) new e)
+        → AllByRecursion (Reaches (network ms steps).sent numbers) F.given → Holds s log new.follower }
+    ensures copies { (ms : Monitors) (steps : List Step) (log : List (List ℕ))
+        → IsLogOf ms (requests ms steps) (acknowledgements ms steps) (network ms steps) log
+        → (numbers : Numbers) (asks : ℕ) (s : Service) (link : Option Told) (written : Option (List ℕ))
+        → (given : List (Result Got Stop))
+        → AllByRecursion (Reaches (network ms steps).sent numbers) given
+        → Holds s log (all_turned ms.count (course (first s) [] asks link written) given).course.follower
+        × Writes s log written (all_turned ms.count (course (first s) [] asks link written) given).course.written }
+    ensures rises { (n : ℕ) (old : Course) (later earlier : List (Result Got Stop))
+        → (all_turned n old earlier).course.follower.version
+        ≤ (all_turned n old (later ++ earlier)).course.follower.version }
+    ensures shown { (ms : Monitors) (steps : List Step) (numbers : Numbers) (turns asks : ℕ) (s : Service)
+        (link : Told) (written : Option (List ℕ)) (new : Course) (e : FollowEnd)
+        → AllByRecursion (λ (g : Got). Reaches (network ms steps).sent numbers (Ok g)) link.left
+        → (F : Follows ms.count turns (course (first s) [] asks (Some link) written) new e)
+        → AllByRecursion (Reaches (network ms steps).sent numbers) F.given }
+{}
