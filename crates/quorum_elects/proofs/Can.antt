@@ -126,14 +126,14 @@ module _ (S : Scope) where
   unfolding ran_from
   here P w p = record { events = []; few = omega arith; steps = tt; next = w; goes = refl; onward = onward_not w; there = p }
 
-  pub weaker : {k l : ℕ} {P R : World → Type 0} {w : World} → k ≤ l → ((v : World) → Onward w v → P v → R v) → Can k P w → Can l R w
+  unfoldable pub weaker : {k l : ℕ} {P R : World → Type 0} {w : World} → k ≤ l → ((v : World) → Onward w v → P v → R v) → Can k P w → Can l R w
   weaker {k} {l} {P} {R} {w} le f C = record { events = C.events; few = (let s = C.few in omega arith); steps = C.steps; next = C.next; goes = C.goes; onward = C.onward; there = f C.next C.onward C.there }
 
   -- it is so already
   pub rests : {k : ℕ} {P : World → Type 0} {w : World} → P w → Can k P w
   rests {k} {P} {w} p = weaker (omega arith) (λ v o x. x) (here P w p)
 
-  pub then : {k l : ℕ} {P R : World → Type 0} {w : World} → Can k P w → ((v : World) → Onward w v → P v → Can l R v) → Can (k + l) R w
+  unfoldable pub then : {k l : ℕ} {P R : World → Type 0} {w : World} → Can k P w → ((v : World) → Onward w v → P v → Can l R v) → Can (k + l) R w
   then {k} {l} {P} {R} {w} C f =
       let D : Can l R C.next = f C.next C.onward C.there in
       record {

@@ -5,18 +5,22 @@ use Rattle.mon_msg.specs.Protocol.Readings.{epoch_of}
 use Rattle.mon_types.specs.Ranks.{has}
 use Rattle.mon_wire.specs.declared.request.Session.{Session}
 use Rattle.quorum_agreement.proofs.Invariant.{LogHolds}
-use Rattle.quorum_elects.proofs.Can.{Can, Sane, Scope, for_each, reached_holds, then, weaker}
+use Rattle.quorum_elects.proofs.Can.{Can, Sane, Scope, reached_holds}
 use Rattle.quorum_elects.proofs.Majorities.{Candidacy, Majority, epoch_at, scope}
+use Rattle.quorum_elects.proofs.Planning.{Plays, plays_all, plays_each, plays_then, plays_weaker}
 use Rattle.quorum_elects.proofs.Probing.{Probed, Started, probe_all, start_one, started_probed}
 use Rattle.quorum_elects.proofs.Ranking.{IsBefore}
-use Rattle.quorum_elects.proofs.Ranks.{Least, greatest_of, least_of, same_or_not}
+use Rattle.quorum_elects.proofs.Ranks.{Least, greatest_of, lowest_of, same_or_not}
 use Rattle.quorum_elects.proofs.Rows.{odd_from}
 use Rattle.quorum_elects.proofs.Standing.{Close, Is, IsCollector, IsPeon}
 use Rattle.quorum_elects.proofs.Steps.{AsksFit, steps_fit}
 use Rattle.quorum_elects.proofs.Stores.{near_short}
 use Rattle.quorum_elects.proofs.Voting.{Counting, Elected, Following, Voted, called, count_end, count_one, follow_one, vote_one, voted_counting, won_following}
+use Rattle.quorum_elects.specs.Electing as electing
+use Rattle.quorum_elects.specs.Electing.{election, leader_of}
 use Rattle.quorum_elects.specs.Leading.{HasLeader}
-use Rattle.quorum_elects.specs.Ready.{AllNear, IsReady}
+use Rattle.quorum_elects.specs.Plans.{PlannedWay}
+use Rattle.quorum_elects.specs.Ready.{AllNear, IsReady, LacksAtMost}
 use Rattle.quorum_elects.specs.Ways.{HasWay, OthersRest}
 use Rattle.quorum_laws.specs.Accepting.{IsMajorityOf, readings_at}
 use Rattle.quorum_model.proofs.Continuing.{at, ran_on}
@@ -26,22 +30,28 @@ use Rattle.quorum_model.specs.Monitors.{Monitors}
 use Rattle.quorum_model.specs.Runs.{Ran, ran, run}
 use Rattle.quorum_model.specs.World.{Event, World, first_world}
 use Rattle.quorum_near.proofs.LowWorlds.{AllLow, first_of}
-use Rattle.quorum_near.proofs.Whole.{Holds, last_read, mark_read}
+use Rattle.quorum_near.proofs.Whole.{Holds, last_read, mark_read, within}
 use Rattle.quorum_near.specs.Near.{HasPending, IsNear}
 use Rattle.std.proofs.Common.{Bool, List, None, Option, ap, arith, false, inl, inr, length, refl, subst, suc, sym, true, ℕ, ◌*◌, ◌++◌, ◌+◌, ◌<◌, ◌∙◌, ◌≡◌, ◌≤◌, ◌⊎◌}
 use Rattle.std.proofs.lemmas.Bool.{cases_order}
 
--- ---- a monitor that is near
+-- ---- a monitor that lacks at most one version
 
-pub near_close : (ms : Monitors) (w : World) (H : LogHolds ms w) → AllLow w → (i : ℕ) → i < ms.count → IsNear w i → Close (length w.log) (readings_at w i)
-near_close ms w H L i lt N = by N.near
+pub near_lacks : (w : World) (i : ℕ) → IsNear w i → LacksAtMost 1 w i
+near_lacks w i N = record { unmarked = N.unmarked; near = by N.near }
+  where
+    by : (last_of (w.store i) ≡ length w.log) ⊎ HasPending w i → length w.log ≤ last_of (w.store i) + 1
+    by (inl e) = omega arith
+    by (inr P) = let e = P.next in omega arith
+
+pub near_close : (ms : Monitors) (w : World) (H : LogHolds ms w) → AllLow w → (i : ℕ) → i < ms.count → LacksAtMost 1 w i → Close (length w.log) (readings_at w i)
+near_close ms w H L i lt N =
+    let r = last_read (w.store i) in
+    let near = N.near in
+    record { unmarked = unmarked; most = within ms w H L i lt unmarked; least = omega arith; low = first_of ms w H L i lt unmarked }
   where
     unmarked : (readings_at w i).marked ≡ false
     unmarked = mark_read (w.store i) ∙ N.unmarked
-
-    by : (last_of (w.store i) ≡ length w.log) ⊎ HasPending w i → Close (length w.log) (readings_at w i)
-    by (inl e) = let r = last_read (w.store i) in record { unmarked = unmarked; most = omega arith; least = omega arith; low = first_of ms w H L i lt unmarked }
-    by (inr P) = let r = last_read (w.store i) in let e = P.next in record { unmarked = unmarked; most = omega arith; least = omega arith; low = first_of ms w H L i lt unmarked }
 
 -- ---- the rounds
 
@@ -55,22 +65,23 @@ module _ (G : Majority) where
   -- one of them leads, and the others follow
   pub record Led (w : World) : Type 0 where
     pub by : Candidacy G
+    pub lowest : by.r ≡ leader_of G.ms.rule G.q
     pub a : List Bool
     pub following : Following G by a n w
 
-  rounds : (K : Candidacy G) (m : ℕ) → has G.q m ≡ true → odd_from (epoch_at G m) ≡ K.E → Sane (scope G) G.from → Can (scope G) (2 * n * n + 4 * n + 2) Led G.from
-  rounds K m there top sane =
-      weaker Us (omega arith) (λ v o p. p)
-      (then Us (for_each Us n 1 (Started G) (start_one G) n 0 (omega arith) G.from (record { room = sane; done = λ f low h. absurd (omega arith); left = λ f high h. refl })) (λ v1 o1 A.
-      then Us (for_each Us n (2 * n) (Probed G) (probe_all G) n 0 (omega arith) v1 (started_probed G v1 A)) (λ v2 o2 P.
-      then Us (called G K m there top v2 P) (λ v3 o3 V.
-      then Us (for_each Us n 1 (Voted G K) (vote_one G K) n 0 (omega arith) v3 V) (λ v4 o4 V.
-      then Us (for_each Us n 1 (Counting G K) (count_one G K) n 0 (omega arith) v4 (voted_counting G K v4 V)) (λ v5 o5 C.
-      then Us (count_end G K v5 C) (λ v6 o6 L. follow v6 L)))))))
+  rounds : (K : Candidacy G) → K.r ≡ leader_of G.ms.rule G.q → (m : ℕ) → has G.q m ≡ true → odd_from (epoch_at G m) ≡ K.E → Sane (scope G) G.from → Plays (scope G) (electing.elects n G.q K.r) (2 * n * n + 4 * n + 2) Led G.from
+  rounds K lowest m there top sane =
+      plays_weaker Us (omega arith) (λ v o p. p)
+      (plays_then Us (plays_all Us n 1 (electing.starts G.q) (Started G) (start_one G) G.from (record { room = sane; done = λ f low h. absurd (omega arith); left = λ f high h. refl })) (λ v1 o1 A.
+      plays_then Us (plays_each Us n (2 * n) (λ k. electing.each n (electing.probes G.q k)) (Probed G) (probe_all G) n 0 (omega arith) v1 (started_probed G v1 A)) (λ v2 o2 P.
+      plays_then Us (called G K m there top v2 P) (λ v3 o3 V.
+      plays_then Us (plays_all Us n 1 (electing.votes G.q K.r) (Voted G K) (vote_one G K) v3 V) (λ v4 o4 V.
+      plays_then Us (plays_all Us n 1 (electing.counts G.q K.r) (Counting G K) (count_one G K) v4 (voted_counting G K v4 V)) (λ v5 o5 C.
+      plays_then Us (count_end G K v5 C) (λ v6 o6 L. follow v6 L)))))))
     where
-      follow : (v : World) (L : Elected G K v) → Can (scope G) (1 * n) Led v
-      follow v L = let W = L.won in weaker Us (omega arith) (λ x o F. record { by = K; a = W.quorum; following = F })
-          (for_each Us n 1 (Following G K W.quorum) (follow_one G K W.quorum) n 0 (omega arith) v (won_following G K v L))
+      follow : (v : World) (L : Elected G K v) → Plays (scope G) (electing.each n (electing.follows K.r)) (1 * n) Led v
+      follow v L = let W = L.won in plays_weaker Us (omega arith) (λ x o F. record { by = K; lowest = lowest; a = W.quorum; following = F })
+          (plays_all Us n 1 (electing.follows K.r) (Following G K W.quorum) (follow_one G K W.quorum) v (won_following G K v L))
 
   leads : (v : World) → Led v → HasLeader n G.q G.from v
   leads v L = record {
@@ -105,11 +116,11 @@ module _ (G : Majority) where
 
   -- one that may lead is among them
   module _ (m : ℕ) (among : has G.q m ≡ true) (may_lead : allows G.ms.rule m ≡ true) (sane : Sane (scope G) G.from) where
-    pub elected : Can (scope G) (2 * n * n + 4 * n + 2) Led G.from
-    elected =
-        let L = least_of G.q (allows G.ms.rule) m among may_lead in
+    pub elected_by : Plays (scope G) (election G.ms G.q) (2 * n * n + 4 * n + 2) Led G.from
+    elected_by =
+        let L = lowest_of G.q (allows G.ms.rule) m among may_lead in
         let T = greatest_of G.q (λ f. odd_from (epoch_at G f)) m among n in
-        rounds (record { r = L.rank; mine = L.within; may_lead = L.passes; before = before L; E = odd_from (epoch_at G T.rank); greatest = T.greatest }) T.rank T.within refl sane
+        rounds (record { r = leader_of G.ms.rule G.q; mine = L.within; may_lead = L.passes; before = before (record { rank = leader_of G.ms.rule G.q; within = L.within; passes = L.passes; least = L.least }); E = odd_from (epoch_at G T.rank); greatest = T.greatest }) refl T.rank T.within refl sane
       where
         before : (L : Least G.q (allows G.ms.rule)) (f : ℕ) → has G.q f ≡ true → (f ≡ L.rank → ⊥) → IsBefore G.ms.rule L.rank f
         before L f h ne = record { may_lead = L.passes; lower = λ may. (let l = L.least f h may in lower L f ne l) }
@@ -122,18 +133,43 @@ module _ (G : Majority) where
                 by (inr (inl less)) = less
                 by (inr (inr more)) = absurd (omega arith)
 
+    pub elected : Can (scope G) (2 * n * n + 4 * n + 2) Led G.from
+    elected = let P = elected_by in P.can
+
+    pub has_leader_by : Plays (scope G) (election G.ms G.q) (2 * n * n + 4 * n + 2) (HasLeader n G.q G.from) G.from
+    has_leader_by = plays_weaker Us (omega arith) (λ v o L. leads v L) elected_by
+
     pub has_leader : Can (scope G) (2 * n * n + 4 * n + 2) (HasLeader n G.q G.from) G.from
-    has_leader = weaker Us (omega arith) (λ v o L. leads v L) elected
+    has_leader = let P = has_leader_by in P.can
 
 -- ---- the law
 
+-- what monitors of a set can do after a run is a way on
+module _ (ms : Monitors) (events : List Event) (there : ran ms events ≡ at (run ms events)) (q : List Bool) (below : (i : ℕ) → has q i ≡ true → i < ms.count) (asks : Option (Session × Command)) where
+  abbrev Them : Scope
+  Them = record { ms = ms; q = q; sent = length (run ms events).messages; asks = asks }
+
+  unfoldable pub way_on : AsksFit asks → (most : ℕ) (P : World → World → Type 0) → Can Them most (P (run ms events)) (run ms events) → HasWay ms events q asks most P
+  way_on fits most P C = record {
+    more = C.events;
+    few = C.few;
+    steps = C.steps;
+    fits = steps_fit ms.count q (length (run ms events).messages) below asks fits C.events C.steps;
+    goes_on = ap (λ (r : Ran). r.stop) further;
+    rest = subst (λ (r : Ran). OthersRest q (run ms events) r.world) (sym further) (let o = C.onward in o.rest);
+    leads = subst (λ (r : Ran). P (run ms events) r.world) (sym further) C.there;
+  }
+    where
+      further : ran ms (events ++ C.events) ≡ at C.next
+      further = ran_on ms first_world (run ms events) events C.events there ∙ C.goes
+
 -- a majority of a run, near its log and ready
-module _ (ms : Monitors) (several : 1 < ms.count) (events : List Event) (F : AllFit ms.count events) (on : (ran ms events).stop ≡ None) (q : List Bool) (M : IsMajorityOf ms.count q) (near : AllNear q (run ms events)) (ready : IsReady ms q (run ms events))
+module _ (ms : Monitors) (several : 1 < ms.count) (events : List Event) (F : AllFit ms.count events) (on : (ran ms events).stop ≡ None) (q : List Bool) (M : IsMajorityOf ms.count q) (near : (i : ℕ) → has q i ≡ true → LacksAtMost 1 (run ms events) i) (ready : IsReady ms q (run ms events))
     (asks : Option (Session × Command)) where
   abbrev w0 : World
   w0 = run ms events
 
-  there : ran ms events ≡ at (run ms events)
+  pub there : ran ms events ≡ at (run ms events)
   there = λ j. record { world = run ms events; stop = on j }
 
   pub holds : Holds ms several (run ms events)
@@ -160,23 +196,23 @@ module _ (ms : Monitors) (several : 1 < ms.count) (events : List Event) (F : All
   }
 
   -- what they can do is a way on
-  pub way : AsksFit asks → (most : ℕ) (P : World → World → Type 0) → Can (scope the_majority) most (P (run ms events)) (run ms events) → HasWay ms events q asks most P
-  way fits most P C = record {
-    more = C.events;
-    few = C.few;
-    steps = C.steps;
-    fits = steps_fit ms.count q (length (run ms events).messages) M.below asks fits C.events C.steps;
-    goes_on = ap (λ (r : Ran). r.stop) further;
-    rest = subst (λ (r : Ran). OthersRest q (run ms events) r.world) (sym further) (let o = C.onward in o.rest);
-    leads = subst (λ (r : Ran). P (run ms events) r.world) (sym further) C.there;
-  }
-    where
-      further : ran ms (events ++ C.events) ≡ at C.next
-      further = ran_on ms first_world (run ms events) events C.events there ∙ C.goes
+  unfoldable pub way : AsksFit asks → (most : ℕ) (P : World → World → Type 0) → Can (scope the_majority) most (P (run ms events)) (run ms events) → HasWay ms events q asks most P
+  way fits most P C = way_on ms events there q M.below asks fits most P C
+
+-- and its events follow the plan
+pub elects_by : (ms : Monitors) → 1 < ms.count → (events : List Event) → AllFit ms.count events → (ran ms events).stop ≡ None
+    → (q : List Bool) → IsMajorityOf ms.count q → AllNear q (run ms events) → IsReady ms q (run ms events)
+    → PlannedWay ms events q None (election ms q) (2 * ms.count * ms.count + 4 * ms.count + 2) (HasLeader ms.count q)
+unfolding way way_on has_leader_by
+elects_by ms several events F on q M near ready =
+    let lacks : (i : ℕ) → has q i ≡ true → LacksAtMost 1 (run ms events) i = λ i h. near_lacks (run ms events) i (near i h) in
+    let P = has_leader_by (the_majority ms several events F on q M lacks ready None) ready.leader ready.among ready.may_lead (its_sane ms several events F on q M lacks ready None) in
+    record { way = way ms several events F on q M lacks ready None tt (2 * ms.count * ms.count + 4 * ms.count + 2) (HasLeader ms.count q) P.can; follows = P.follow }
 
 pub elects : (ms : Monitors) → 1 < ms.count → (events : List Event) → AllFit ms.count events → (ran ms events).stop ≡ None
     → (q : List Bool) → IsMajorityOf ms.count q → AllNear q (run ms events) → IsReady ms q (run ms events)
     → HasWay ms events q None (2 * ms.count * ms.count + 4 * ms.count + 2) (HasLeader ms.count q)
-elects ms several events F on q M near ready =
+elects ms several events F on q M all_near ready =
+    let near : (i : ℕ) → has q i ≡ true → LacksAtMost 1 (run ms events) i = λ i h. near_lacks (run ms events) i (all_near i h) in
     way ms several events F on q M near ready None tt (2 * ms.count * ms.count + 4 * ms.count + 2) (HasLeader ms.count q)
     (has_leader (the_majority ms several events F on q M near ready None) ready.leader ready.among ready.may_lead (its_sane ms several events F on q M near ready None))

@@ -2,6 +2,7 @@ pub mod Can
 pub mod Elected
 pub mod Majorities
 pub mod Moving
+pub mod Planning
 pub mod Probing
 pub mod Ranking
 pub mod Ranks
@@ -9,6 +10,7 @@ pub mod Rows
 pub mod Standing
 pub mod Steps
 pub mod Stores
+pub mod Tests
 pub mod Values
 pub mod VoteRows
 pub mod Voting

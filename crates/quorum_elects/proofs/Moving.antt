@@ -1,9 +1,9 @@
 -- One event at one monitor, by what the table says of it.
-use Rattle.calm_sizes.proofs.AnyRuns.{goes_on_then}
+use Rattle.calm_sizes.proofs.AnyRuns.{OnSomeLog, goes_on_then, goes_on_within, would_be}
 use Rattle.calm_sizes.proofs.Stores.{ChangeShort, short_behind}
 use Rattle.calm_sizes.specs.Sizes.{AllShort, OwnShort, longest}
 use Rattle.log_model.proofs.Logs.{Fronts, fronts_itself}
-use Rattle.mon_kv.specs.Readers.{is_marked}
+use Rattle.mon_kv.specs.Readers.{is_marked, most_size, size_of}
 use Rattle.mon_msg.proofs.Changed.{readings-joined}
 use Rattle.mon_msg.specs.Joined.{joined}
 use Rattle.mon_msg.specs.Protocol.Changes.{spelled}
@@ -49,6 +49,14 @@ pub record Sound (w : Readings) (y : Course) : Type 0 where
   pub fits : AllByRecursion Fits y.changes
   pub short : AllByRecursion ChangeShort y.changes
   pub unmarked : y.readings.marked ≡ false
+
+-- A course of a monitor that may be in a full synchronization: it says what it writes, and its numbers fit; it writes nothing
+-- long, and what it leaves of any log isn't too large.
+pub record Bears (m : Store) (y : Course) : Type 0 where
+  pub tells : y.readings ≡ played y.changes (readings_of m)
+  pub fits : AllByRecursion Fits y.changes
+  pub short : AllShort longest m → AllShort longest (apply (joined (spelled y.changes)) m)
+  pub small : AllShort longest (apply (joined (spelled y.changes)) m) → OnSomeLog (apply (joined (spelled y.changes)) m) y.state → size_of (apply (joined (spelled y.changes)) m) ≤ most_size
 
 -- ---- the log, messages and replies
 
@@ -112,6 +120,8 @@ module _ (S : Scope) where
   pub record Moved (w next : World) (i : ℕ) (y : Course) : Type 0 where
     pub up : next.state i ≡ Some y.state
     pub reads : readings_at next i ≡ y.readings
+    pub stored : next.store i ≡ apply (joined (spelled y.changes)) (w.store i)
+    pub log : next.log ≡ grown w.log (apply (joined (spelled y.changes)) (w.store i))
     pub others : (j : ℕ) → (j ≡ i → ⊥) → (next.state j ≡ w.state j) × (next.store j ≡ w.store j)
     pub says : (to : ℕ) (m : Message) → Among (send.Message to m) y.out → New S.sent next (record { to = to; message = m })
     pub elapses : next.events ≡ suc w.events
@@ -121,6 +131,11 @@ module _ (S : Scope) where
     pub y : Course
     pub did : R y
     pub moved : Moved w next i y
+
+  -- this one event does it
+  pub record DoesBy (p : Plain) (P : World → Type 0) (w : World) : Type 0 where
+    pub can : Can S 1 P w
+    pub is : can.events ≡ Comes p ∷ []
 
   module _ (w : World) (sane : Sane S w) (p : Plain) (i : ℕ) (lt : ltb i S.ms.count ≡ true) (now : ℕ) (came : Input) (s : State)
       (a : arrival w p ≡ Some (record { rank = i; at = now; input = came })) (c : state_at i (w.state i) came ≡ Some s) (allowed : IsStep S.q S.sent S.asks (Comes p)) (inside : has S.q i ≡ true)
@@ -137,32 +152,16 @@ module _ (S : Scope) where
     R0 : Reached S.ms w
     R0 = sane.reached
 
-    module _ (y : Course) (A : Sound (readings_of (w.store i)) y) where
-      abbrev next : Store
-      next = apply (joined (spelled y.changes)) (w.store i)
-
-      read : readings_of (apply (joined (spelled y.changes)) (w.store i)) ≡ y.readings
-      read = readings-joined y.changes A.fits (w.store i) ∙ sym A.tells
-
-      short : AllShort longest (apply (joined (spelled y.changes)) (w.store i))
-      short = short_behind y.changes (w.store i) A.short (sane.short i inside)
-
-      own : OwnShort longest (apply (joined (spelled y.changes)) (w.store i))
-      own q x local e = short q x e
-
-      -- the store has room
-      happened : reacted ≡ Ok y → happens S.ms w (Comes p) ≡ Ok (moved w p i (reaction_of y))
-      happened e =
-          (subst (λ (v : World). meets S.ms v p ≡ Reacts i came (Ok (reaction_of y)) → (readings_of (apply (joined (spelled y.changes)) (v.store i))).marked ≡ false → OwnShort longest (apply (joined (spelled y.changes)) (v.store i)) → happens S.ms v (Comes p) ≡ Ok (moved v p i (reaction_of y)))
-          (ap (λ (r : Ran). r.world) R0.is)
-          (goes_on_then S.ms R0.events R0.fit p fits i came (reaction_of y)))
-          (met ∙ ap (λ (r : Result Course Which). Reacts i came (any_reaction r)) e) (ap (λ (r : Readings). r.marked) read ∙ A.unmarked) own
-
+    -- a course that is sound where the store has room for it
+    module _ (y : Course) (read : readings_of (apply (joined (spelled y.changes)) (w.store i)) ≡ y.readings) (short : AllShort longest (apply (joined (spelled y.changes)) (w.store i)))
+        (happened : happens S.ms w (Comes p) ≡ Ok (moved w p i (reaction_of y))) where
       after : Moved w (moved w p i (reaction_of y)) i y
       unfolding moved
       after = record {
         up = rw (eq-eqb i i refl) refl;
         reads = rw (eq-eqb i i refl) read;
+        stored = rw (eq-eqb i i refl) refl;
+        log = refl;
         others = λ j ne. rw (ne_eqb j i ne) (refl, refl);
         says = λ to e k. new_added S.sent w (moved w p i (reaction_of y)) (messages_of y.out) (record { to = to; message = e }) refl sane.since (among_sent to e y.out k);
         elapses = refl;
@@ -176,11 +175,11 @@ module _ (S : Scope) where
         });
       }
 
-      reached : happens S.ms w (Comes p) ≡ Ok (moved w p i (reaction_of y)) → Reached S.ms (moved w p i (reaction_of y))
-      reached h = record {
+      reached : Reached S.ms (moved w p i (reaction_of y))
+      reached = record {
         events = R0.events ++ Comes p ∷ [];
         fit = all_append (λ e. PlainFits S.ms.count (plain_of e)) R0.events (Comes p ∷ []) R0.fit (fits, tt);
-        is = ran_on S.ms first_world w R0.events (Comes p ∷ []) R0.is ∙ ran_one S.ms w (moved w p i (reaction_of y)) (Comes p) h;
+        is = ran_on S.ms first_world w R0.events (Comes p ∷ []) R0.is ∙ ran_one S.ms w (moved w p i (reaction_of y)) (Comes p) happened;
       }
 
       stores : (j : ℕ) → has S.q j ≡ true → AllShort longest ((moved w p i (reaction_of y)).store j)
@@ -195,32 +194,82 @@ module _ (S : Scope) where
       unfolding moved
       longer = let l = length-append w.messages (messages_of y.out) in let s = sane.since in omega arith
 
-      onward : happens S.ms w (Comes p) ≡ Ok (moved w p i (reaction_of y)) → Onward S w (moved w p i (reaction_of y))
+      onward : Onward S w (moved w p i (reaction_of y))
       unfolding moved
-      onward h = record {
+      onward = record {
         rest = λ j out. rw (ne_eqb j i (λ e. false≢true (sym out ∙ subst (λ (z : ℕ). has S.q z ≡ true) (sym e) inside))) (refl, refl);
         more = messages_of y.out;
         messages = refl;
-        sane = λ _. record { since = longer; reached = reached h; short = stores };
+        sane = λ _. record { since = longer; reached = reached; short = stores };
         fronts = fronts_grown w.log (apply (joined (spelled y.changes)) (w.store i));
         elapsed = omega arith;
       }
 
-      one : R y → reacted ≡ Ok y → Can S 1 (Did R w i) w
-      one k e = record {
+      one : R y → Can S 1 (Did R w i) w
+      one k = record {
         events = Comes p ∷ [];
         few = omega arith;
         steps = (allowed, tt);
         next = moved w p i (reaction_of y);
-        goes = ran_one S.ms w (moved w p i (reaction_of y)) (Comes p) (happened e);
-        onward = onward (happened e);
+        goes = ran_one S.ms w (moved w p i (reaction_of y)) (Comes p) happened;
+        onward = onward;
         there = record { y = y; did = k; moved = after };
       }
 
+    -- the store of an unmarked monitor has room
+    module _ (y : Course) (A : Sound (readings_of (w.store i)) y) (e : reacted ≡ Ok y) where
+      read : readings_of (apply (joined (spelled y.changes)) (w.store i)) ≡ y.readings
+      read = readings-joined y.changes A.fits (w.store i) ∙ sym A.tells
+
+      short : AllShort longest (apply (joined (spelled y.changes)) (w.store i))
+      short = short_behind y.changes (w.store i) A.short (sane.short i inside)
+
+      own : OwnShort longest (apply (joined (spelled y.changes)) (w.store i))
+      own q x local e = short q x e
+
+      happened : happens S.ms w (Comes p) ≡ Ok (moved w p i (reaction_of y))
+      happened =
+          (subst (λ (v : World). meets S.ms v p ≡ Reacts i came (Ok (reaction_of y)) → (readings_of (apply (joined (spelled y.changes)) (v.store i))).marked ≡ false → OwnShort longest (apply (joined (spelled y.changes)) (v.store i)) → happens S.ms v (Comes p) ≡ Ok (moved v p i (reaction_of y)))
+          (ap (λ (r : Ran). r.world) R0.is)
+          (goes_on_then S.ms R0.events R0.fit p fits i came (reaction_of y)))
+          (met ∙ ap (λ (r : Result Course Which). Reacts i came (any_reaction r)) e) (ap (λ (r : Readings). r.marked) read ∙ A.unmarked) own
+
+      soundly : R y → Can S 1 (Did R w i) w
+      soundly = one y read short happened
+
     -- it does this
-    pub comes : Surely (λ y. Sound (readings_of (w.store i)) y × R y) reacted → Can S 1 (Did R w i) w
-    comes T = by reacted refl T
+    pub comes_by : Surely (λ y. Sound (readings_of (w.store i)) y × R y) reacted → DoesBy p (Did R w i) w
+    unfolding soundly one
+    comes_by T = by reacted refl T
       where
-        by : (r : Result Course Which) → reacted ≡ r → Surely (λ y. Sound (readings_of (w.store i)) y × R y) r → Can S 1 (Did R w i) w
-        by (Ok y) e T = one y (T.holds).0 (T.holds).1 e
+        by : (r : Result Course Which) → reacted ≡ r → Surely (λ y. Sound (readings_of (w.store i)) y × R y) r → DoesBy p (Did R w i) w
+        by (Ok y) e T = record { can = soundly y (T.holds).0 e (T.holds).1; is = refl }
         by (Err which) e T = absurd T.holds
+
+    -- so does one in a full synchronization, if its store has room
+    module _ (y : Course) (A : Bears (w.store i) y) (e : reacted ≡ Ok y) where
+      read_so : readings_of (apply (joined (spelled y.changes)) (w.store i)) ≡ y.readings
+      read_so = readings-joined y.changes A.fits (w.store i) ∙ sym A.tells
+
+      short_so : AllShort longest (apply (joined (spelled y.changes)) (w.store i))
+      short_so = A.short (sane.short i inside)
+
+      happened_so : happens S.ms w (Comes p) ≡ Ok (moved w p i (reaction_of y))
+      happened_so =
+          (subst (λ (v : World). meets S.ms v p ≡ Reacts i came (Ok (reaction_of y)) → (OnSomeLog (apply (joined (spelled y.changes)) (v.store i)) y.state → size_of (apply (joined (spelled y.changes)) (v.store i)) ≤ most_size) → happens S.ms v (Comes p) ≡ Ok (moved v p i (reaction_of y)))
+          (ap (λ (r : Ran). r.world) R0.is)
+          (λ m small. goes_on_within S.ms R0.events R0.fit p fits i came (reaction_of y) m (small (would_be S.ms R0.events R0.fit p fits i came (reaction_of y) m))))
+          (met ∙ ap (λ (r : Result Course Which). Reacts i came (any_reaction r)) e) (A.small short_so)
+
+      bearing : R y → Can S 1 (Did R w i) w
+      bearing = one y read_so short_so happened_so
+
+    pub copies : Surely (λ y. Bears (w.store i) y × R y) reacted → Can S 1 (Did R w i) w
+    copies T = by reacted refl T
+      where
+        by : (r : Result Course Which) → reacted ≡ r → Surely (λ y. Bears (w.store i) y × R y) r → Can S 1 (Did R w i) w
+        by (Ok y) e T = bearing y (T.holds).0 e (T.holds).1
+        by (Err which) e T = absurd T.holds
+
+    pub comes : Surely (λ y. Sound (readings_of (w.store i)) y × R y) reacted → Can S 1 (Did R w i) w
+    comes T = let D = comes_by T in D.can

@@ -9,22 +9,28 @@ use Rattle.mon_msg.specs.declared.input.Input.TheVariants as input
 use Rattle.mon_tx.specs.Map.{Store}
 use Rattle.mon_types.specs.Ranks.{count_of, has, is_majority, no_ranks, with_rank}
 use Rattle.mon_wire.specs.declared.body.Body.TheVariants as body
+use Rattle.mon_wire.specs.declared.kind.Kind.TheVariants as kind
 use Rattle.mon_wire.specs.declared.phase.Phase.TheVariants as phase
-use Rattle.quorum_elects.proofs.Can.{Can, New, Onward, Sane, Scope, for_each, new_stays, rests, then, weaker}
+use Rattle.quorum_elects.proofs.Can.{New, Onward, Sane, Scope, new_stays}
 use Rattle.quorum_elects.proofs.Majorities.{Majority, epoch_at, scope}
 use Rattle.quorum_elects.proofs.Moving.{Did, Sound}
+use Rattle.quorum_elects.proofs.Planning.{Does, Plays, does_then, does_weaker, passes, plays_all, plays_none, plays_weaker, step}
 use Rattle.quorum_elects.proofs.Ranking.{FullIf}
 use Rattle.quorum_elects.proofs.Ranks.{count_more, from_on, has_self, in_or_out, one_counts, same_or_not, up_to}
 use Rattle.quorum_elects.proofs.Rows.{Answers, Fitting, Hears, Starts, odd_from, probed, replied, starts}
 use Rattle.quorum_elects.proofs.Standing.{Close, CloseAt, Is, IsCandidate, IsProbing, letter}
 use Rattle.quorum_elects.proofs.Steps.{deliver, is_now, is_stays, start}
+use Rattle.quorum_elects.proofs.Tests.{and_false, chosen, in_phase, itself_is, other_is, otherwise, outside_is}
 use Rattle.quorum_elects.proofs.Walking.{Surely}
+use Rattle.quorum_elects.specs.Electing as electing
+use Rattle.quorum_elects.specs.Plans as plans
+use Rattle.quorum_elects.specs.Plans.{PlanStep}
 use Rattle.quorum_laws.specs.Accepting.{IsMajorityOf, readings_at}
 use Rattle.quorum_model.proofs.Members.{member_of}
 use Rattle.quorum_model.specs.Monitors.{Monitors}
 use Rattle.quorum_model.specs.World.{World}
 use Rattle.quorum_walk.proofs.Ranks.{has_only, has_only_is, has_with}
-use Rattle.std.proofs.Common.{Bool, List, Option, Some, ap, arith, false, inl, inr, length, ltb, refl, subst, suc, sym, true, ℕ, ◌*◌, ◌<◌, ◌∙◌, ◌≡◌, ◌≤◌, ◌⊎◌}
+use Rattle.std.proofs.Common.{Bool, List, Option, Some, ap, arith, false, inl, inr, length, ltb, refl, subst, suc, sym, true, ℕ, ◌&&◌, ◌*◌, ◌<◌, ◌∙◌, ◌∷◌, ◌≡◌, ◌≤◌, ◌⊎◌, []}
 use Rattle.std.proofs.lemmas.Bool.{cases_lt, false≢true, le-ltb, lt-ltb, ltb-false, ltb-true}
 use Rattle.std.proofs.lemmas.List.{length-set}
 use Rattle.std.specs.Prelude.{unwrap_or}
@@ -56,9 +62,6 @@ module _ (G : Majority) where
 
   abbrev e0 : ℕ → ℕ
   e0 f = epoch_at G f
-
-  abbrev Can1 : ℕ → (World → Type 0) → World → Type 0
-  Can1 k P w = Can Us k P w
 
   abbrev On : World → World → Type 0
   On w v = Onward Us w v
@@ -101,7 +104,7 @@ module _ (G : Majority) where
     pub done : (f : ℕ) → f < k → has q f ≡ true → Waits f w
     pub left : (f : ℕ) → k ≤ f → has q f ≡ true → w.store f ≡ G.from.store f
 
-  pub start_one : (k : ℕ) (w : World) → k < n → Started k w → Can1 1 (Started (suc k)) w
+  pub start_one : (k : ℕ) (w : World) → k < n → Started k w → Plays Us (electing.starts q k ∷ []) 1 (Started (suc k)) w
   start_one k w lt K = by (in_or_out (has q k))
     where
       skip : has q k ≡ false → Started (suc k) w
@@ -116,9 +119,9 @@ module _ (G : Majority) where
           old : (f : ℕ) → f < k → has q f ≡ true → Waits f v
           old f less h = let z = K.done f less h in (is_stays (IsProbing c (e0 f) (only f)) w v f (D.moved.others f (λ e. omega arith)) z.0, probes_stay f w v o z.1)
 
-      by : (has q k ≡ true) ⊎ (has q k ≡ false) → Can1 1 (Started (suc k)) w
-      by (inr out) = rests Us (skip out)
-      by (inl there) = weaker Us (omega arith) (after there) (start Us w K.room k (lt_of k there) there (Starts ms several c k (lt_of k there) (shared_entries (w.store k)) 0 (e0 k)) (subst (λ (m : Store). Starting m) (sym (K.left k (omega arith) there)) first))
+      by : (has q k ≡ true) ⊎ (has q k ≡ false) → Plays Us (electing.starts q k ∷ []) 1 (Started (suc k)) w
+      by (inr out) = passes Us (electing.starts q k) (otherwise _ _ (has q k) out) (skip out)
+      by (inl there) = step Us (electing.starts q k) (plans.Starts k ∷ []) (chosen _ _ (has q k) there) (does_weaker Us (omega arith) (after there) (start Us w K.room k (lt_of k there) there (Starts ms several c k (lt_of k there) (shared_entries (w.store k)) 0 (e0 k)) (subst (λ (m : Store). Starting m) (sym (K.left k (omega arith) there)) first)))
         where
           Starting : Store → Type 0
           Starting m = Surely (λ y. Sound (readings_of m) y × Starts ms several c k (lt_of k there) (shared_entries m) 0 (e0 k) y) (react (member_of ms k (lt_of k there)) (shared_entries m) 0 (readings_of m) (booting k) input.Start)
@@ -187,13 +190,14 @@ module _ (G : Majority) where
       last_is : (readings_at w j).last ≡ last
       waits : New sent v (record { to = k; message = letter n j at (body.ProbeReply quorum first last) })
       probing : Probing k j v
+      hub : HubWaits k j v
 
-    asks_one : (j : ℕ) (w : World) → j < n → (j ≡ k → ⊥) → (there : has q j ≡ true) → Probing k j w → HubWaits k j w → IsThere w j → Can1 1 (Answered j w) w
+    asks_one : (j : ℕ) (w : World) → j < n → (j ≡ k → ⊥) → (there : has q j ≡ true) → Probing k j w → HubWaits k j w → IsThere w j → Does Us (plans.Hears j k kind.Probe ∷ []) 1 (Answered j w) w
     asks_one j w lt ne there P H T =
         let m = H.probes j lt ne in
-        weaker Us (omega arith) after
+        does_weaker Us (omega arith) after
         (deliver Us w P.room j (lt_of j there) there (Answers ms several c j (lt_of j there) (shared_entries (w.store j)) 0 (readings_at w j) T.state k) (letter n k m.0 body.Probe) m.1 T.state T.up
-        (probed ms several c j (lt_of j there) (shared_entries (w.store j)) 0 (readings_at w j) T.state k m.0 (λ e. ne (sym e)) T.close T.runs))
+        (probed ms several c j (lt_of j there) (shared_entries (w.store j)) 0 (readings_at w j) T.state k m.0 (λ e. ne (sym e)) (let C = T.close in C.unmarked) T.runs))
       where
         after : (v : World) → On w v → Did Us (Answers ms several c j (lt_of j there) (shared_entries (w.store j)) 0 (readings_at w j) T.state k) w j v → Answered j w v
         after v o D = record {
@@ -205,7 +209,8 @@ module _ (G : Majority) where
           first_is = refl;
           last_is = refl;
           waits = D.moved.says k (letter n j D.did.at (body.ProbeReply (quorum_of T.state) (readings_at w j).first (readings_at w j).last)) D.did.says;
-          probing = record { room = o.sane P.room; done = λ f low h. done f low h (same_or_not f j); left = λ f high h. left f high h (same_or_not f j); hub = hub };
+          probing = record { room = o.sane P.room; done = λ f low h. done f low h (same_or_not f j); left = λ f high h. left f high h (same_or_not f j); hub = inr hub };
+          hub = hub;
         }
           where
             -- what held of it still does
@@ -227,13 +232,12 @@ module _ (G : Majority) where
             left f high h (inr other) = waits_stay w v f o (D.moved.others f other) (P.left f high h)
             left f high h (inl e) = subst (λ (x : ℕ). Waits x v) (sym e) (let z = subst (λ (x : ℕ). Waits x w) e (P.left f high h) in (again (IsProbing c (e0 j) (only j)) z.0, probes_stay j w v o z.1))
 
-            hub : Stands k v ⊎ HubWaits k j v
-            hub = inr (record { outside = H.outside; long = H.long; waits = is_stays (IsProbing c (e0 k) H.outside) w v k (D.moved.others k (λ e. ne (sym e))) H.waits; probes = probes_stay k w v o H.probes; self = H.self; heard = H.heard; few = H.few })
+            hub : HubWaits k j v
+            hub = record { outside = H.outside; long = H.long; waits = is_stays (IsProbing c (e0 k) H.outside) w v k (D.moved.others k (λ e. ne (sym e))) H.waits; probes = probes_stay k w v o H.probes; self = H.self; heard = H.heard; few = H.few }
 
-    hears_one : (j : ℕ) (w0 w : World) → j < n → (j ≡ k → ⊥) → (there : has q j ≡ true) → Answered j w0 w → Stands k w ⊎ HubWaits k j w → Can1 1 (Probing k (suc j)) w
-    hears_one j w0 w lt ne there A (inl Z) = let P = A.probing in rests Us (record { room = P.room; done = P.done; left = P.left; hub = inl Z })
-    hears_one j w0 w lt ne there A (inr H) =
-        weaker Us (omega arith) after
+    hears_one : (j : ℕ) (w0 w : World) → j < n → (j ≡ k → ⊥) → (there : has q j ≡ true) → Answered j w0 w → HubWaits k j w → Does Us (plans.Hears k j kind.ProbeReply ∷ []) 1 (Probing k (suc j)) w
+    hears_one j w0 w lt ne there A H =
+        does_weaker Us (omega arith) after
         (deliver Us w P.room k (lt_of k mine) mine (Hears ms several c k (lt_of k mine) (shared_entries (w.store k)) 0 (e0 k) H.outside j) (letter n j A.at (body.ProbeReply A.quorum A.first A.last)) A.waits W.state W.up
         (replied ms several c k (lt_of k mine) (shared_entries (w.store k)) 0 (readings_at w k) W.state (e0 k) H.outside W.holds j A.at A.quorum A.first A.last (readings_at w0 j).marked ne close))
       where
@@ -269,11 +273,21 @@ module _ (G : Majority) where
               few = E.1;
             })
 
-    probe_one : (j : ℕ) (w : World) → j < n → Probing k j w → Can1 2 (Probing k (suc j)) w
+    abbrev Probe : ℕ → PlanStep
+    Probe j = electing.probes q k j
+
+    -- k asks j only if it probes
+    is_probing : (w : World) (o : List Bool) (W : Is (IsProbing c (e0 k) o) w k) → electing.is_in w k phase.Probing ≡ true
+    is_probing w o W = let h = W.holds in in_phase w k W.state phase.Probing phase.Probing W.up h.phase
+
+    is_standing : (w : World) → Stands k w → electing.is_in w k phase.Probing ≡ false
+    is_standing w Z = let z = Z.0 in let h = z.holds in in_phase w k z.state phase.Electing phase.Probing z.up h.phase
+
+    probe_one : (j : ℕ) (w : World) → j < n → Probing k j w → Plays Us (Probe j ∷ []) 2 (Probing k (suc j)) w
     probe_one j w lt P = by P.hub
       where
-        passes : (H : HubWaits k j w) → (has q j ≡ true → has H.outside j ≡ true) → Can1 2 (Probing k (suc j)) w
-        passes H in_it = rests Us (record {
+        skips : (H : HubWaits k j w) → (electing.is_other q k j ≡ false) → (has q j ≡ true → has H.outside j ≡ true) → Plays Us (Probe j ∷ []) 2 (Probing k (suc j)) w
+        skips H out in_it = passes Us (Probe j) (otherwise _ _ (has q k && (electing.is_other q k j && electing.is_in w k phase.Probing)) (λ i. mine i && (out i && electing.is_in w k phase.Probing))) (record {
           room = P.room;
           done = P.done;
           left = P.left;
@@ -291,14 +305,17 @@ module _ (G : Majority) where
         there_of : has q j ≡ true → (j ≡ k → ⊥) → IsThere w j
         there_of h ne = elim (cases_lt j k) [ inl less ↦ there_stands w j (P.done j less h) | inr ge ↦ there_waits w j (P.left j (elim (from_on j k ge) [ inl e ↦ absurd (ne e) | inr more ↦ more ]) h) ]
 
-        goes : (H : HubWaits k j w) → (h : has q j ≡ true) → (j ≡ k → ⊥) → Can1 2 (Probing k (suc j)) w
-        goes H h ne = then Us (asks_one j w lt ne h P H (there_of h ne)) (λ v o A. let R = A.probing in hears_one j w v lt ne h A R.hub)
+        goes : (H : HubWaits k j w) → (h : has q j ≡ true) → (j ≡ k → ⊥) → Plays Us (Probe j ∷ []) 2 (Probing k (suc j)) w
+        goes H h ne = step Us (Probe j) (plans.Hears j k kind.Probe ∷ plans.Hears k j kind.ProbeReply ∷ [])
+            (chosen _ _ (has q k && (electing.is_other q k j && electing.is_in w k phase.Probing)) (λ i. mine i && (other_is q k j h ne i && is_probing w H.outside H.waits i)))
+            (does_then Us (asks_one j w lt ne h P H (there_of h ne)) (λ v o A. hears_one j w v lt ne h A A.hub))
 
-        by : Stands k w ⊎ HubWaits k j w → Can1 2 (Probing k (suc j)) w
-        by (inl Z) = rests Us (record { room = P.room; done = P.done; left = P.left; hub = inl Z })
+        by : Stands k w ⊎ HubWaits k j w → Plays Us (Probe j ∷ []) 2 (Probing k (suc j)) w
+        by (inl Z) = passes Us (Probe j) (otherwise _ _ (has q k && (electing.is_other q k j && electing.is_in w k phase.Probing)) (and_false (has q k) _ (and_false (electing.is_other q k j) _ (is_standing w Z))))
+            (record { room = P.room; done = P.done; left = P.left; hub = inl Z })
         by (inr H) = elim (in_or_out (has q j)) [
-          | inr out ↦ passes H (λ h. absurd (false≢true (sym out ∙ h)))
-          | inl h ↦ elim (same_or_not j k) [ inl e ↦ passes H (λ _. subst (λ (x : ℕ). has H.outside x ≡ true) (sym e) H.self) | inr ne ↦ goes H h ne ]
+          | inr out ↦ skips H (outside_is q k j out) (λ h. absurd (false≢true (sym out ∙ h)))
+          | inl h ↦ elim (same_or_not j k) [ inl e ↦ skips H (itself_is q k j e) (λ _. subst (λ (x : ℕ). has H.outside x ≡ true) (sym e) H.self) | inr ne ↦ goes H h ne ]
         ]
 
     -- once it heard all of the majority, it is a candidate
@@ -313,16 +330,16 @@ module _ (G : Majority) where
             let few = ltb-false n (2 * count_of H.outside) H.few in
             absurd (omega arith)
 
-  pub probe_all : (k : ℕ) (w : World) → k < n → Probed k w → Can1 (2 * n) (Probed (suc k)) w
+  pub probe_all : (k : ℕ) (w : World) → k < n → Probed k w → Plays Us (electing.each n (electing.probes q k)) (2 * n) (Probed (suc k)) w
   probe_all k w lt P = by (in_or_out (has q k))
     where
-      by : (has q k ≡ true) ⊎ (has q k ≡ false) → Can1 (2 * n) (Probed (suc k)) w
-      by (inr out) = rests Us (record {
+      by : (has q k ≡ true) ⊎ (has q k ≡ false) → Plays Us (electing.each n (electing.probes q k)) (2 * n) (Probed (suc k)) w
+      by (inr out) = plays_none Us n (electing.probes q k) (λ j. otherwise _ _ (has q k && (electing.is_other q k j && electing.is_in w k phase.Probing)) (λ i. out i && (electing.is_other q k j && electing.is_in w k phase.Probing))) (record {
         room = P.room;
         done = λ f low h. elim (up_to f k low) [ inl e ↦ absurd (false≢true (sym out ∙ subst (λ (x : ℕ). has q x ≡ true) e h)) | inr less ↦ P.done f less h ];
         left = λ f high h. P.left f (omega arith) h;
       })
-      by (inl mine) = weaker Us (omega arith) (λ v o p. probes_end k mine v p) (for_each Us n 2 (Probing k) (probe_one k mine) n 0 (omega arith) w (record {
+      by (inl mine) = plays_weaker Us (omega arith) (λ v o p. probes_end k mine v p) (plays_all Us n 2 (electing.probes q k) (Probing k) (probe_one k mine) w (record {
         room = P.room;
         done = P.done;
         left = λ f high h. P.left f (omega arith) h;

@@ -1,7 +1,8 @@
 -- Ranks and sets of ranks.
 use Rattle.mon_types.specs.Ranks.{count_of, has, with_rank}
-use Rattle.std.proofs.Common.{Bool, List, [], ap, arith, cond, false, inl, inr, length, refl, subst, suc, sym, true, zero, ℕ, ◌&&◌, ◌<◌, ◌∙◌, ◌∷◌, ◌≡◌, ◌≤◌, ◌⊎◌}
-use Rattle.std.proofs.lemmas.Bool.{and_parts, cases_lt, cases_order, false≢true}
+use Rattle.quorum_elects.specs.Electing.{highest, lowest}
+use Rattle.std.proofs.Common.{Bool, List, [], ap, arith, cond, false, inl, inr, length, ltb, refl, subst, suc, sym, true, zero, ℕ, ◌&&◌, ◌<◌, ◌∙◌, ◌∷◌, ◌≡◌, ◌≤◌, ◌⊎◌}
+use Rattle.std.proofs.lemmas.Bool.{and_parts, cases_lt, cases_order, cond_both, false≢true, ltb-false, ltb-true}
 use Rattle.std.proofs.lemmas.List.Sums.{sum_by-cons}
 
 -- a rank up to k is k or lower
@@ -87,3 +88,47 @@ greatest_of q of m h (suc k) = by (greatest_of q of m h k) (in_or_out (has q k))
       | inl less ↦ record { rank = k; within = there; greatest = λ f lt z. elim (up_to f k lt) [ inl e ↦ (let s = ap of e in omega arith) | inr low ↦ (let g = G.greatest f low z in omega arith) ] }
       | inr ge ↦ record { rank = G.rank; within = G.within; greatest = λ f lt z. elim (up_to f k lt) [ inl e ↦ (let s = ap of e in omega arith) | inr low ↦ G.greatest f low z ] }
     ]
+
+-- ---- those that a plan names
+
+pub record IsLowest (q : List Bool) (test : ℕ → Bool) (rank : ℕ) : Type 0 where
+  pub within : has q rank ≡ true
+  pub passes : test rank ≡ true
+  pub least : (f : ℕ) → has q f ≡ true → test f ≡ true → rank ≤ f
+
+pub lowest_of : (q : List Bool) (test : ℕ → Bool) (m : ℕ) → has q m ≡ true → test m ≡ true → IsLowest q test (lowest test q)
+unfolding lowest
+lowest_of [] test m h t = absurd (false≢true h)
+lowest_of (b ∷ q) test m h t = by (b && test 0) refl m h t (λ m h t. lowest_of q (λ k. test (suc k)) m h t)
+  where
+    after : (L : IsLowest q (λ k. test (suc k)) (lowest (λ k. test (suc k)) q)) → (b && test 0) ≡ false → (f : ℕ) → has (b ∷ q) f ≡ true → test f ≡ true → suc (lowest (λ k. test (suc k)) q) ≤ f
+    after L out zero k u = absurd (false≢true (sym out ∙ (λ j. k j && u j)))
+    after L out (suc f) k u = let z = L.least f k u in omega arith
+
+    by : (c : Bool) → (b && test 0) ≡ c → (m : ℕ) → has (b ∷ q) m ≡ true → test m ≡ true → ((m : ℕ) → has q m ≡ true → test (suc m) ≡ true → IsLowest q (λ k. test (suc k)) (lowest (λ k. test (suc k)) q)) → IsLowest (b ∷ q) test (cond c 0 (suc (lowest (λ k. test (suc k)) q)))
+    by true both m h t below = let p = and_parts b (test 0) both in record { within = p.0; passes = p.1; least = λ f k u. omega arith }
+    by false out zero h t below = absurd (false≢true (sym out ∙ (λ j. h j && t j)))
+    by false out (suc m) h t below = let L = below m h t in record { within = L.within; passes = L.passes; least = after L out }
+
+pub record IsHighest (number : ℕ → ℕ) (q : List Bool) (k top : ℕ) : Type 0 where
+  pub within : has q top ≡ true
+  pub greatest : (f : ℕ) → f < k → has q f ≡ true → number f ≤ number top
+
+pub highest_of : (number : ℕ → ℕ) (q : List Bool) (r : ℕ) → has q r ≡ true → (k : ℕ) → IsHighest number q k (highest number q r k)
+unfolding highest
+highest_of number q r h zero = record { within = h; greatest = λ f lt z. absurd (omega arith) }
+highest_of number q r h (suc k) = by (highest number q r k) (highest_of number q r h k)
+  where
+    by : (top : ℕ) → IsHighest number q k top → IsHighest number q (suc k) (cond (has q k && ltb (number top) (number k)) k top)
+    by top G = cond_both (has q k && ltb (number top) (number k)) k top (IsHighest number q (suc k))
+        (λ t. let p = and_parts (has q k) (ltb (number top) (number k)) t in record {
+          within = p.0;
+          greatest = λ f lt z. elim (up_to f k lt) [ inl e ↦ (let s = ap number e in omega arith) | inr low ↦ (let g = G.greatest f low z in let y = ltb-true (number top) (number k) p.1 in omega arith) ];
+        })
+        (λ t. record {
+          within = G.within;
+          greatest = λ f lt z. elim (up_to f k lt) [
+            | inl e ↦ (let h = subst (λ (x : ℕ). has q x ≡ true) e z in let y = ltb-false (number top) (number k) (sym (λ i. h i && ltb (number top) (number k)) ∙ t) in let s = ap number e in omega arith)
+            | inr low ↦ G.greatest f low z
+          ];
+        })

@@ -125,7 +125,7 @@ module _ (ms : Monitors) (several : 1 < ms.count) (c : ℕ) (i : ℕ) (lt : ltb 
     pub says : SaysAll n i at body.Probe y.out
 
   -- once it counted its start, and put an epoch if it had none
-  abbrev counted : Readings → Bool → Course
+  abbrev pub counted : Readings → Bool → Course
   counted w b =
       change_if b (Epoch 1) (change (Boot (suc w.boot)) (at_rest w (booting i)))
       ▸ elector_is (first_elector me now (suc w.boot) (booting i).elector)
@@ -141,7 +141,7 @@ module _ (ms : Monitors) (several : 1 < ms.count) (c : ℕ) (i : ℕ) (lt : ltb 
       by true = full_start i boot low
       by false = full_start i 0 low
 
-  abbrev probing : Course → Course
+  abbrev pub probing : Course → Course
   probing x = x ▸ in_phase phase.Probing ▸ forget_clients ▸ prober_is (record { outside = only i }) ▸ send_each me (sending.others me) body.Probe ▸ arm now timer.Probe
 
   armed_long : (ts : List (Option ℕ)) → 1 < length (armed now timer.Probe (only_ping ts))
@@ -175,14 +175,15 @@ module _ (ms : Monitors) (several : 1 < ms.count) (c : ℕ) (i : ℕ) (lt : ltb 
   pub record Answers (w : Readings) (s : State) (f : ℕ) (y : Course) : Type 0 where
     pub same : y.state ≡ s
     pub reads : y.readings ≡ w
+    pub still : y.changes ≡ []
     pub at : ℕ
     pub says : Among (send.Message f (letter n i at (body.ProbeReply (quorum_of s) w.first w.last))) y.out
 
-  pub probed : (w : Readings) (s : State) (f e : ℕ) → (f ≡ i → ⊥) → Close c w → same_phase s.phase phase.Booting ≡ false → Surely (And w (Answers w s f)) (react me sh now w s (input.Deliver (letter n f e body.Probe)))
+  pub probed : (w : Readings) (s : State) (f e : ℕ) → (f ≡ i → ⊥) → w.marked ≡ false → same_phase s.phase phase.Booting ≡ false → Surely (And w (Answers w s f)) (react me sh now w s (input.Deliver (letter n f e body.Probe)))
   unfolding hear_probe
-  probed w s f e ne C up =
+  probed w s f e ne unmarked up =
       heard (And w (Answers w s f)) w s f e body.Probe up (known f ne)
-      (by_test w.marked (never C.unmarked) (λ _. done (record { tells = refl; fits = tt; short = tt; unmarked = C.unmarked }, record { same = refl; reads = refl; at = epoch_of w; says = inl refl })))
+      (by_test w.marked (never unmarked) (λ _. done (record { tells = refl; fits = tt; short = tt; unmarked = unmarked }, record { same = refl; reads = refl; still = refl; at = epoch_of w; says = inl refl })))
     where
       known : (f : ℕ) → (f ≡ i → ⊥) → is_heard me (letter n f e body.Probe) ≡ true
       known f ne = λ j. not (ne_eqb f i ne j) && eq-eqb n n refl j && true

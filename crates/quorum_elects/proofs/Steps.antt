@@ -1,5 +1,6 @@
 -- Single events at a monitor of which something is known.
 use Rattle.mon_bytes.specs.declared.command.Command.{Command}
+use Rattle.mon_decode.specs.Headers.{kind_in}
 use Rattle.mon_msg.specs.Protocol.Course.{Course}
 use Rattle.mon_msg.specs.Protocol.Readings.{Readings, readings_of, shared_entries}
 use Rattle.mon_msg.specs.Protocol.State.{State, booting}
@@ -11,10 +12,12 @@ use Rattle.mon_wire.specs.declared.message.Message.{Message}
 use Rattle.mon_wire.specs.declared.phase.Timer.{Timer}
 use Rattle.mon_wire.specs.declared.request.Request.{Request}
 use Rattle.mon_wire.specs.declared.request.Session.{Session}
-use Rattle.quorum_elects.proofs.Can.{Can, New, Sane, Scope}
-use Rattle.quorum_elects.proofs.Moving.{Did, Moved, Sound, comes}
+use Rattle.quorum_elects.proofs.Can.{New, Sane, Scope}
+use Rattle.quorum_elects.proofs.Moving.{Did, Moved, Sound, comes_by}
+use Rattle.quorum_elects.proofs.Planning.{Does}
 use Rattle.quorum_elects.proofs.Standing.{Is}
 use Rattle.quorum_elects.proofs.Walking.{Surely}
+use Rattle.quorum_elects.specs.Plans.{ArePlanned, Asks, Hears, IsPlanned, Planned, Rings, Starts}
 use Rattle.quorum_elects.specs.Ways.{IsAskedBy, IsStep}
 use Rattle.quorum_model.proofs.Members.{member_of}
 use Rattle.quorum_model.specs.CalmSchedule.{request_of}
@@ -37,23 +40,37 @@ is_now S R w next i y M h = record { state = y.state; up = M.up; holds = subst (
 -- ---- events
 
 module _ (S : Scope) (w : World) (sane : Sane S w) (i : ℕ) (lt : ltb i S.ms.count ≡ true) (inside : has S.q i ≡ true) (R : Course → Type 0) where
-  pub start : Surely (λ y. Sound (readings_of (w.store i)) y × R y) (react (member_of S.ms i lt) (shared_entries (w.store i)) 0 (readings_of (w.store i)) (booting i) input.Start) → Can S 1 (Did S R w i) w
-  start T = comes S w sane (Start i 0) i lt 0 input.Start (booting i) refl refl inside inside (ltb-true i S.ms.count lt) R T
+  first : (p : Planned) (es : List Event) (e : Event) → es ≡ e ∷ [] → IsPlanned w p e → ArePlanned S.ms w (p ∷ []) es
+  first p es e is planned = subst (λ (l : List Event). ArePlanned S.ms w (p ∷ []) l) (sym is) (planned, refl)
+
+  pub start : Surely (λ y. Sound (readings_of (w.store i)) y × R y) (react (member_of S.ms i lt) (shared_entries (w.store i)) 0 (readings_of (w.store i)) (booting i) input.Start)
+      → Does S (Starts i ∷ []) 1 (Did S R w i) w
+  start T = let D = comes_by S w sane (Start i 0) i lt 0 input.Start (booting i) refl refl inside inside (ltb-true i S.ms.count lt) R T in record { can = D.can; are = first (Starts i) D.can.events (Comes (Start i 0)) D.is refl }
 
   pub deliver : (m : Message) → New S.sent w (record { to = i; message = m }) → (s : State) → w.state i ≡ Some s
-      → Surely (λ y. Sound (readings_of (w.store i)) y × R y) (react (member_of S.ms i lt) (shared_entries (w.store i)) 0 (readings_of (w.store i)) s (input.Deliver m)) → Can S 1 (Did S R w i) w
-  deliver m N s up T = comes S w sane (Deliver (suc N.index) 0) i lt 0 (input.Deliver m) s (ap (option_map arrives) N.there) up (let z = N.since in omega arith) inside tt R T
+      → Surely (λ y. Sound (readings_of (w.store i)) y × R y) (react (member_of S.ms i lt) (shared_entries (w.store i)) 0 (readings_of (w.store i)) s (input.Deliver m))
+      → Does S (Hears i m.from (kind_in m.body) ∷ []) 1 (Did S R w i) w
+  deliver m N s up T =
+      let D = comes_by S w sane (Deliver (suc N.index) 0) i lt 0 (input.Deliver m) s (ap (option_map arrives) N.there) up (let z = N.since in omega arith) inside tt R T in
+      record {
+        can = D.can;
+        are = first (Hears i m.from (kind_in m.body)) D.can.events (Comes (Deliver (suc N.index) 0)) D.is (record { number = suc N.index; is = refl; envelope = record { to = i; message = m }; there = N.there; to = refl; sender = refl; kind_is = refl });
+      }
     where
       arrives : Envelope → Arrival
       arrives e = record { rank = e.to; at = 0; input = input.Deliver e.message }
 
   pub ring : (t : Timer) → (s : State) → w.state i ≡ Some s
-      → Surely (λ y. Sound (readings_of (w.store i)) y × R y) (react (member_of S.ms i lt) (shared_entries (w.store i)) 0 (readings_of (w.store i)) s (input.Timer t)) → Can S 1 (Did S R w i) w
-  ring t s up T = comes S w sane (Ring i t 0) i lt 0 (input.Timer t) s refl up inside inside (ltb-true i S.ms.count lt) R T
+      → Surely (λ y. Sound (readings_of (w.store i)) y × R y) (react (member_of S.ms i lt) (shared_entries (w.store i)) 0 (readings_of (w.store i)) s (input.Timer t))
+      → Does S (Rings i t ∷ []) 1 (Did S R w i) w
+  ring t s up T = let D = comes_by S w sane (Ring i t 0) i lt 0 (input.Timer t) s refl up inside inside (ltb-true i S.ms.count lt) R T in record { can = D.can; are = first (Rings i t) D.can.events (Comes (Ring i t 0)) D.is refl }
 
-  pub ask : (session : Session) (r : Request) → IsAskedBy S.asks session r → RequestFits r → (s : State) → w.state i ≡ Some s
-      → Surely (λ y. Sound (readings_of (w.store i)) y × R y) (react (member_of S.ms i lt) (shared_entries (w.store i)) 0 (readings_of (w.store i)) s (input.Client session r)) → Can S 1 (Did S R w i) w
-  ask session r may form s up T = comes S w sane (Client i 0 session r) i lt 0 (input.Client session r) s refl up (inside, may) inside (ltb-true i S.ms.count lt, form) R T
+  pub ask : (session : Session) (c : Command) → IsAskedBy S.asks session (request_of c) → RequestFits (request_of c) → (s : State) → w.state i ≡ Some s
+      → Surely (λ y. Sound (readings_of (w.store i)) y × R y) (react (member_of S.ms i lt) (shared_entries (w.store i)) 0 (readings_of (w.store i)) s (input.Client session (request_of c)))
+      → Does S (Asks i session c ∷ []) 1 (Did S R w i) w
+  ask session c may form s up T =
+      let D = comes_by S w sane (Client i 0 session (request_of c)) i lt 0 (input.Client session (request_of c)) s refl up (inside, may) inside (ltb-true i S.ms.count lt, form) R T in
+      record { can = D.can; are = first (Asks i session c) D.can.events (Comes (Client i 0 session (request_of c))) D.is refl }
 
 -- the requests that they may be asked have their form
 abbrev pub AsksFit : Option (Session × Command) → Type 0

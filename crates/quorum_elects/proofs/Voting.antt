@@ -5,22 +5,28 @@ use Rattle.mon_msg.specs.Protocol.Readings.{shared_entries}
 use Rattle.mon_msg.specs.Protocol.Sets.{only}
 use Rattle.mon_types.specs.Ranks.{count_of, has, is_majority, no_ranks, with_rank}
 use Rattle.mon_wire.specs.declared.body.Body.TheVariants as body
+use Rattle.mon_wire.specs.declared.kind.Kind.TheVariants as kind
+use Rattle.mon_wire.specs.declared.phase.Phase.TheVariants as phase
 use Rattle.mon_wire.specs.declared.phase.Timer.TheVariants as timer
-use Rattle.quorum_elects.proofs.Can.{Can, New, Onward, Sane, Scope, new_stays, rests, weaker}
+use Rattle.quorum_elects.proofs.Can.{New, Onward, Sane, Scope, new_stays}
 use Rattle.quorum_elects.proofs.Majorities.{Candidacy, Majority, epoch_at, scope}
 use Rattle.quorum_elects.proofs.Moving.{Did}
+use Rattle.quorum_elects.proofs.Planning.{Plays, does_weaker, passes, step}
 use Rattle.quorum_elects.proofs.Probing as probing
-use Rattle.quorum_elects.proofs.Ranks.{count_more, has_self, in_or_out, same_or_not, up_to}
+use Rattle.quorum_elects.proofs.Ranks.{IsHighest, count_more, has_self, highest_of, in_or_out, same_or_not, up_to}
 use Rattle.quorum_elects.proofs.Rows.{Elects, odd_from, odd_from_is}
 use Rattle.quorum_elects.proofs.Standing.{Is, IsCandidate, IsCollector, IsPeon, IsVoter, letter}
 use Rattle.quorum_elects.proofs.Steps.{deliver, is_now, is_stays, ring}
+use Rattle.quorum_elects.proofs.Tests.{and_false, chosen, in_phase, itself_is, other_is, otherwise, outside_is, quorum_is}
 use Rattle.quorum_elects.proofs.VoteRows.{Defers, Reigns, acked, calls, defers, ends, follows}
+use Rattle.quorum_elects.specs.Electing as electing
+use Rattle.quorum_elects.specs.Plans.{Hears, Rings}
 use Rattle.quorum_laws.specs.Accepting.{IsMajorityOf, readings_at}
 use Rattle.quorum_model.specs.Monitors.{Monitors}
 use Rattle.quorum_model.specs.World.{World}
 use Rattle.quorum_walk.proofs.Ranks.{has_only, has_only_is, has_with, has_with_is}
-use Rattle.std.proofs.Common.{Bool, List, arith, false, inl, inr, length, ltb, subst, suc, sym, true, ℕ, ◌*◌, ◌+◌, ◌<◌, ◌^◌, ◌∙◌, ◌≡◌, ◌≤◌, ◌⊎◌}
-use Rattle.std.proofs.lemmas.Bool.{cases_lt, false≢true, lt-ltb, ltb-true}
+use Rattle.std.proofs.Common.{Bool, List, [], ap, arith, false, inl, inr, length, ltb, subst, suc, sym, true, ℕ, ◌&&◌, ◌*◌, ◌+◌, ◌<◌, ◌^◌, ◌∙◌, ◌∷◌, ◌≡◌, ◌≤◌, ◌⊎◌}
+use Rattle.std.proofs.lemmas.Bool.{cases_lt, false≢true, le-ltb, lt-ltb, ltb-true}
 use Rattle.std.proofs.lemmas.List.{length-set}
 
 module _ (G : Majority) (K : Candidacy G) where
@@ -50,9 +56,6 @@ module _ (G : Majority) (K : Candidacy G) where
 
   abbrev e0 : ℕ → ℕ
   e0 f = epoch_at G f
-
-  abbrev Can1 : ℕ → (World → Type 0) → World → Type 0
-  Can1 k P w = Can Us k P w
 
   abbrev On : World → World → Type 0
   On w v = Onward Us w v
@@ -109,11 +112,32 @@ module _ (G : Majority) (K : Candidacy G) where
     pub done : (f : ℕ) → f < k → has q f ≡ true → (f ≡ r → ⊥) → Votes f w
     pub left : (f : ℕ) → k ≤ f → has q f ≡ true → (f ≡ r → ⊥) → Stands f w
 
-  pub called : (m : ℕ) → has q m ≡ true → odd_from (e0 m) ≡ E → (w : World) → probing.Probed G n w → Can1 1 (Voted 0) w
-  called m there top w P = by (cases_lt (odd_from (e0 r)) E)
+  -- one that has the greatest epoch
+  abbrev topmost : World → ℕ
+  topmost w = electing.highest (electing.epoch_at w) q r n
+
+  pub called : (one : ℕ) → has q one ≡ true → odd_from (e0 one) ≡ E → (w : World) → probing.Probed G n w → Plays Us (electing.calls n q r ∷ []) 1 (Voted 0) w
+  called one has_one is_top w P = by (cases_lt (odd_from (e0 r)) E)
     where
       all : (f : ℕ) → has q f ≡ true → Stands f w
       all f h = P.done f (M.below f h) h
+
+      M1 : IsHighest (electing.epoch_at w) q n (topmost w)
+      M1 = highest_of (electing.epoch_at w) q r mine n
+
+      there : has q (topmost w) ≡ true
+      there = M1.within
+
+      epoch_is : (f : ℕ) → has q f ≡ true → electing.epoch_at w f ≡ odd_from (e0 f)
+      epoch_is f h = let z = all f h in let Z : Is (IsCandidate c (odd_from (e0 f)) (only f)) w f = z.0 in let H = Z.holds in H.epoch
+
+      top : odd_from (e0 (topmost w)) ≡ E
+      top =
+          let g = M1.greatest one (M.below one has_one) has_one in
+          let a = epoch_is one has_one in
+          let b = epoch_is (topmost w) there in
+          let most = K.greatest (topmost w) (M.below (topmost w) there) there in
+          omega (arith, is_top)
 
       at_once : odd_from (e0 r) ≡ E → Voted 0 w
       at_once e = let z = all r mine in record {
@@ -124,20 +148,22 @@ module _ (G : Majority) (K : Candidacy G) where
         left = λ f high h ne. all f h;
       }
 
-      goes : odd_from (e0 r) < E → Can1 1 (Voted 0) w
+      goes : odd_from (e0 r) < E → Plays Us (electing.calls n q r ∷ []) 1 (Voted 0) w
       goes less =
           let z = all r mine in
           let Z : Is (IsCandidate c (odd_from (e0 r)) (only r)) w r = z.0 in
-          let y = all m there in
-          let Y : Is (IsCandidate c (odd_from (e0 m)) (only m)) w m = y.0 in
+          let y = all (topmost w) there in
+          let Y : Is (IsCandidate c (odd_from (e0 (topmost w))) (only (topmost w))) w (topmost w) = y.0 in
           let H = Y.holds in
-          let A : Calls m (odd_from (e0 m)) w = y.1 in
-          let other : r ≡ m → ⊥ = (λ e. let t = subst (λ (x : ℕ). odd_from (e0 x) < E) e less in omega arith) in
-          let room : E + 8 ≤ 2 ^ 62 = (let f = H.room in omega arith) in
-          weaker Us (omega arith) after
-          (deliver Us w P.room r (lt_of r mine) mine (Elects ms several c r (lt_of r mine) (shared_entries (w.store r)) 0 E) (letter n m E (body.Propose A.table))
-          (subst (λ (x : ℕ). New sent w (record { to = r; message = letter n m x (body.Propose A.table) })) top (A.sent_to r (M.below r mine) other)) Z.state Z.up
-          (calls ms several c r (lt_of r mine) (shared_entries (w.store r)) 0 (readings_at w r) Z.state (odd_from (e0 r)) (only r) Z.holds m E (M.below m there) (λ e. other (sym e)) (K.before m there (λ e. other (sym e))) A.table A.fits A.full (subst (λ (x : ℕ). is_even x ≡ false) top (odd_from_is (e0 m))) room less))
+          let A : Calls (topmost w) (odd_from (e0 (topmost w))) w = y.1 in
+          let other : r ≡ (topmost w) → ⊥ = (λ e. let t = subst (λ (x : ℕ). odd_from (e0 x) < E) e less in omega (arith, top)) in
+          let room : E + 8 ≤ 2 ^ 62 = (let f = H.room in omega (arith, top)) in
+          step Us (electing.calls n q r) (Hears r (topmost w) kind.Propose ∷ [])
+          (chosen _ _ (ltb (electing.epoch_at w r) (electing.epoch_at w (topmost w))) (lt-ltb (electing.epoch_at w r) (electing.epoch_at w (topmost w)) (let a = epoch_is r mine in let b = epoch_is (topmost w) there in omega (arith, top))))
+          (does_weaker Us (omega arith) after
+          (deliver Us w P.room r (lt_of r mine) mine (Elects ms several c r (lt_of r mine) (shared_entries (w.store r)) 0 E) (letter n (topmost w) E (body.Propose A.table))
+          (subst (λ (x : ℕ). New sent w (record { to = r; message = letter n (topmost w) x (body.Propose A.table) })) top (A.sent_to r (M.below r mine) other)) Z.state Z.up
+          (calls ms several c r (lt_of r mine) (shared_entries (w.store r)) 0 (readings_at w r) Z.state (odd_from (e0 r)) (only r) Z.holds (topmost w) E (M.below (topmost w) there) (λ e. other (sym e)) (K.before (topmost w) there (λ e. other (sym e))) A.table A.fits A.full (subst (λ (x : ℕ). is_even x ≡ false) top (odd_from_is (e0 (topmost w)))) room less)))
         where
           after : (v : World) → On w v → Did Us (Elects ms several c r (lt_of r mine) (shared_entries (w.store r)) 0 E) w r v → Voted 0 v
           after v o D = let R = D.did in record {
@@ -148,15 +174,19 @@ module _ (G : Majority) (K : Candidacy G) where
             left = λ f high h ne. probing.stands_stay G w v f o (D.moved.others f ne) (all f h);
           }
 
-      by : (odd_from (e0 r) < E) ⊎ (E ≤ odd_from (e0 r)) → Can1 1 (Voted 0) w
+      by : (odd_from (e0 r) < E) ⊎ (E ≤ odd_from (e0 r)) → Plays Us (electing.calls n q r ∷ []) 1 (Voted 0) w
       by (inl less) = goes less
-      by (inr ge) = let g = K.greatest r (M.below r mine) mine in rests Us (at_once (omega arith))
+      by (inr ge) =
+          let g = K.greatest r (M.below r mine) mine in
+          passes Us (electing.calls n q r)
+          (otherwise _ _ (ltb (electing.epoch_at w r) (electing.epoch_at w (topmost w))) (le-ltb (electing.epoch_at w r) (electing.epoch_at w (topmost w)) (let a = epoch_is r mine in let b = epoch_is (topmost w) there in omega (arith, top))))
+          (at_once (omega arith))
 
-  pub vote_one : (k : ℕ) (w : World) → k < n → Voted k w → Can1 1 (Voted (suc k)) w
+  pub vote_one : (k : ℕ) (w : World) → k < n → Voted k w → Plays Us (electing.votes q r k ∷ []) 1 (Voted (suc k)) w
   vote_one k w lt V = by (in_or_out (has q k)) (same_or_not k r)
     where
-      skip : ((f : ℕ) → f ≡ k → has q f ≡ true → (f ≡ r → ⊥) → ⊥) → Can1 1 (Voted (suc k)) w
-      skip none = rests Us (record {
+      skip : electing.is_other q r k ≡ false → ((f : ℕ) → f ≡ k → has q f ≡ true → (f ≡ r → ⊥) → ⊥) → Plays Us (electing.votes q r k ∷ []) 1 (Voted (suc k)) w
+      skip not_asked none = passes Us (electing.votes q r k) (otherwise _ _ (electing.is_other q r k) not_asked) (record {
         room = V.room;
         leads = V.leads;
         calls = V.calls;
@@ -176,9 +206,9 @@ module _ (G : Majority) (K : Candidacy G) where
         left = λ f high h ne. probing.stands_stay G w v f o (D.moved.others f (λ e. omega arith)) (V.left f (omega arith) h ne);
       }
 
-      by : (has q k ≡ true) ⊎ (has q k ≡ false) → (k ≡ r) ⊎ (k ≡ r → ⊥) → Can1 1 (Voted (suc k)) w
-      by (inr out) z = skip (λ f e h ne. false≢true (sym out ∙ subst (λ (x : ℕ). has q x ≡ true) e h))
-      by (inl there) (inl same) = skip (λ f e h ne. ne (e ∙ same))
+      by : (has q k ≡ true) ⊎ (has q k ≡ false) → (k ≡ r) ⊎ (k ≡ r → ⊥) → Plays Us (electing.votes q r k ∷ []) 1 (Voted (suc k)) w
+      by (inr out) z = skip (outside_is q r k out) (λ f e h ne. false≢true (sym out ∙ subst (λ (x : ℕ). has q x ≡ true) e h))
+      by (inl there) (inl same) = skip (itself_is q r k same) (λ f e h ne. ne (e ∙ same))
       by (inl there) (inr other) =
           let z = V.left k (omega arith) there other in
           let Z : Is (IsCandidate c (odd_from (e0 k)) (only k)) w k = z.0 in
@@ -186,9 +216,10 @@ module _ (G : Majority) (K : Candidacy G) where
           let H = L.holds in
           let A : Calls r E w = V.calls in
           let mine_not : r ≡ k → ⊥ = (λ e. other (sym e)) in
-          weaker Us (omega arith) (after there other)
+          step Us (electing.votes q r k) (Hears k r kind.Propose ∷ []) (chosen _ _ (electing.is_other q r k) (other_is q r k there other))
+          (does_weaker Us (omega arith) (after there other)
           (deliver Us w V.room k (lt_of k there) there (Defers ms several c k (lt_of k there) (shared_entries (w.store k)) 0 r E) (letter n r E (body.Propose A.table)) (A.sent_to k lt other) Z.state Z.up
-          (defers ms several c k (lt_of k there) (shared_entries (w.store k)) 0 (readings_at w k) Z.state (odd_from (e0 k)) (only k) Z.holds r E (M.below r mine) mine_not (K.before k there other) A.table A.fits A.full H.odd (let x = H.room in omega arith) (K.greatest k lt there)))
+          (defers ms several c k (lt_of k there) (shared_entries (w.store k)) 0 (readings_at w k) Z.state (odd_from (e0 k)) (only k) Z.holds r E (M.below r mine) mine_not (K.before k there other) A.table A.fits A.full H.odd (let x = H.room in omega arith) (K.greatest k lt there))))
 
   -- ---- it counts the votes
 
@@ -234,14 +265,24 @@ module _ (G : Majority) (K : Candidacy G) where
     });
   }
 
-  pub count_one : (k : ℕ) (w : World) → k < n → Counting k w → Can1 1 (Counting (suc k)) w
+  -- its phase, before and after it won
+  leads_in : (w : World) (a : List Bool) (L : Leads a w) → electing.is_in w r phase.Electing ≡ true
+  leads_in w a L = let H = L.holds in in_phase w r L.state phase.Electing phase.Electing L.up H.phase
+
+  won_in : (w : World) (W : Won w) → electing.is_in w r phase.Electing ≡ false
+  won_in w W = let Z = W.stands in let H = Z.holds in in_phase w r Z.state phase.Collecting phase.Electing Z.up H.phase
+
+  abbrev is_counted : ℕ → World → Bool
+  is_counted k w = electing.is_other q r k && electing.is_in w r phase.Electing
+
+  pub count_one : (k : ℕ) (w : World) → k < n → Counting k w → Plays Us (electing.counts q r k ∷ []) 1 (Counting (suc k)) w
   count_one k w lt V = by V.hub
     where
-      stays : Won w ⊎ Counts (suc k) w → Can1 1 (Counting (suc k)) w
-      stays h = rests Us (record { room = V.room; votes = V.votes; hub = h })
+      stays : (is_counted k w) ≡ false → Won w ⊎ Counts (suc k) w → Plays Us (electing.counts q r k ∷ []) 1 (Counting (suc k)) w
+      stays out h = passes Us (electing.counts q r k) (otherwise _ _ (is_counted k w) out) (record { room = V.room; votes = V.votes; hub = h })
 
-      passes : (C : Counts k w) → (has q k ≡ true → has C.acked_by k ≡ true) → Can1 1 (Counting (suc k)) w
-      passes C in_it = stays (inr (record {
+      skips : electing.is_other q r k ≡ false → (C : Counts k w) → (has q k ≡ true → has C.acked_by k ≡ true) → Plays Us (electing.counts q r k ∷ []) 1 (Counting (suc k)) w
+      skips out C in_it = stays (λ i. out i && electing.is_in w r phase.Electing) (inr (record {
         acked_by = C.acked_by;
         long = C.long;
         self = C.self;
@@ -250,12 +291,13 @@ module _ (G : Majority) (K : Candidacy G) where
         leads = C.leads;
       }))
 
-      goes : (C : Counts k w) → (there : has q k ≡ true) → (k ≡ r → ⊥) → Can1 1 (Counting (suc k)) w
+      goes : (C : Counts k w) → (there : has q k ≡ true) → (k ≡ r → ⊥) → Plays Us (electing.counts q r k ∷ []) 1 (Counting (suc k)) w
       goes C there other =
           let L : Leads C.acked_by w = C.leads in
-          weaker Us (omega arith) after
+          step Us (electing.counts q r k) (Hears r k kind.Ack ∷ []) (chosen _ _ (is_counted k w) (λ i. other_is q r k there other i && leads_in w C.acked_by C.leads i))
+          (does_weaker Us (omega arith) after
           (deliver Us w V.room r (lt_of r mine) mine Either (letter n k E body.Ack) ((V.votes k there other).1) L.state L.up
-          (acked ms several c r (lt_of r mine) (shared_entries (w.store r)) 0 (readings_at w r) L.state E C.acked_by L.holds (λ m h. M.below m (C.within m h)) k lt other))
+          (acked ms several c r (lt_of r mine) (shared_entries (w.store r)) 0 (readings_at w r) L.state E C.acked_by L.holds (λ m h. M.below m (C.within m h)) k lt other)))
         where
           Either : Course → Type 0
           Either y = IsCandidate c E (with_rank C.acked_by k) y.readings y.state ⊎ ((is_majority n (with_rank C.acked_by k) ≡ true) × Reigns ms several c r (lt_of r mine) (shared_entries (w.store r)) 0 E (with_rank C.acked_by k) y)
@@ -293,11 +335,11 @@ module _ (G : Majority) (K : Candidacy G) where
                 told = λ g low h ne. D.moved.says g (letter n r (suc E) (body.Victory (with_rank C.acked_by k))) (R.says g low h ne);
               })
 
-      by : Won w ⊎ Counts k w → Can1 1 (Counting (suc k)) w
-      by (inl W) = stays (inl W)
+      by : Won w ⊎ Counts k w → Plays Us (electing.counts q r k ∷ []) 1 (Counting (suc k)) w
+      by (inl W) = stays (and_false (electing.is_other q r k) (electing.is_in w r phase.Electing) (won_in w W)) (inl W)
       by (inr C) = elim (in_or_out (has q k)) [
-        | inr out ↦ passes C (λ h. absurd (false≢true (sym out ∙ h)))
-        | inl there ↦ elim (same_or_not k r) [ inl e ↦ passes C (λ _. subst (λ (x : ℕ). has C.acked_by x ≡ true) (sym e) C.self) | inr other ↦ goes C there other ]
+        | inr out ↦ skips (outside_is q r k out) C (λ h. absurd (false≢true (sym out ∙ h)))
+        | inl there ↦ elim (same_or_not k r) [ inl e ↦ skips (itself_is q r k e) C (λ _. subst (λ (x : ℕ). has C.acked_by x ≡ true) (sym e) C.self) | inr other ↦ goes C there other ]
       ]
 
   -- its time is over, unless all of the map voted for it
@@ -306,15 +348,16 @@ module _ (G : Majority) (K : Candidacy G) where
     pub votes : (f : ℕ) → has q f ≡ true → (f ≡ r → ⊥) → Votes f w
     pub won : Won w
 
-  pub count_end : (w : World) → Counting n w → Can1 1 Elected w
+  pub count_end : (w : World) → Counting n w → Plays Us (electing.ends r ∷ []) 1 Elected w
   count_end w V = by V.hub
     where
-      goes : Counts n w → Can1 1 Elected w
+      goes : Counts n w → Plays Us (electing.ends r ∷ []) 1 Elected w
       goes C =
           let L : Leads C.acked_by w = C.leads in
-          weaker Us (omega arith) after
+          step Us (electing.ends r) (Rings r timer.Election ∷ []) (chosen _ _ (electing.is_in w r phase.Electing) (leads_in w C.acked_by C.leads))
+          (does_weaker Us (omega arith) after
           (ring Us w V.room r (lt_of r mine) mine (Reigns ms several c r (lt_of r mine) (shared_entries (w.store r)) 0 E C.acked_by) timer.Election L.state L.up
-          (ends ms several c r (lt_of r mine) (shared_entries (w.store r)) 0 (readings_at w r) L.state E C.acked_by L.holds K.may_lead (λ m h. M.below m (C.within m h)) major))
+          (ends ms several c r (lt_of r mine) (shared_entries (w.store r)) 0 (readings_at w r) L.state E C.acked_by L.holds K.may_lead (λ m h. M.below m (C.within m h)) major)))
         where
           major : is_majority n C.acked_by ≡ true
           major =
@@ -342,8 +385,8 @@ module _ (G : Majority) (K : Candidacy G) where
             };
           }
 
-      by : Won w ⊎ Counts n w → Can1 1 Elected w
-      by (inl W) = rests Us (record { room = V.room; votes = V.votes; won = W })
+      by : Won w ⊎ Counts n w → Plays Us (electing.ends r ∷ []) 1 Elected w
+      by (inl W) = passes Us (electing.ends r) (otherwise _ _ (electing.is_in w r phase.Electing) (won_in w W)) (record { room = V.room; votes = V.votes; won = W })
       by (inr C) = goes C
 
   -- ---- the others follow
@@ -382,11 +425,17 @@ module _ (G : Majority) (K : Candidacy G) where
     left = λ f high h ne. (L.votes f (W.within f h) ne).0;
   }
 
-  pub follow_one : (a : List Bool) (k : ℕ) (w : World) → k < n → Following a k w → Can1 1 (Following a (suc k)) w
+  abbrev is_member : ℕ → World → Bool
+  is_member k w = electing.is_other (electing.quorum_at w r) r k
+
+  pub follow_one : (a : List Bool) (k : ℕ) (w : World) → k < n → Following a k w → Plays Us (electing.follows r k ∷ []) 1 (Following a (suc k)) w
   follow_one a k w lt V = by (in_or_out (has a k)) (same_or_not k r)
     where
-      skip : ((f : ℕ) → f ≡ k → has a f ≡ true → (f ≡ r → ⊥) → ⊥) → Can1 1 (Following a (suc k)) w
-      skip none = rests Us (record {
+      members : {b : Bool} → electing.is_other a r k ≡ b → (is_member k w) ≡ b
+      members e = ap (λ (x : List Bool). electing.is_other x r k) (let Z = V.stands in let H = Z.holds in quorum_is w r Z.state a Z.up H.quorum) ∙ e
+
+      skip : electing.is_other a r k ≡ false → ((f : ℕ) → f ≡ k → has a f ≡ true → (f ≡ r → ⊥) → ⊥) → Plays Us (electing.follows r k ∷ []) 1 (Following a (suc k)) w
+      skip out none = passes Us (electing.follows r k) (otherwise _ _ (is_member k w) (members out)) (record {
         room = V.room;
         self = V.self;
         within = V.within;
@@ -424,11 +473,12 @@ module _ (G : Majority) (K : Candidacy G) where
         left = λ f high h ne. is_stays (IsVoter c E) w v f (D.moved.others f (λ e. omega arith)) (V.left f (omega arith) h ne);
       }
 
-      by : (has a k ≡ true) ⊎ (has a k ≡ false) → (k ≡ r) ⊎ (k ≡ r → ⊥) → Can1 1 (Following a (suc k)) w
-      by (inr out) z = skip (λ f e h ne. false≢true (sym out ∙ subst (λ (x : ℕ). has a x ≡ true) e h))
-      by (inl there) (inl same) = skip (λ f e h ne. ne (e ∙ same))
+      by : (has a k ≡ true) ⊎ (has a k ≡ false) → (k ≡ r) ⊎ (k ≡ r → ⊥) → Plays Us (electing.follows r k ∷ []) 1 (Following a (suc k)) w
+      by (inr out) z = skip (outside_is a r k out) (λ f e h ne. false≢true (sym out ∙ subst (λ (x : ℕ). has a x ≡ true) e h))
+      by (inl there) (inl same) = skip (itself_is a r k same) (λ f e h ne. ne (e ∙ same))
       by (inl there) (inr other) =
           let Z : Is (IsVoter c E) w k = V.left k (omega arith) there other in
-          weaker Us (omega arith) (after other)
+          step Us (electing.follows r k) (Hears k r kind.Victory ∷ []) (chosen _ _ (is_member k w) (members (other_is a r k there other)))
+          (does_weaker Us (omega arith) (after other)
           (deliver Us w V.room k (lt_of k (V.within k there)) (V.within k there) (λ y. IsPeon c (suc E) r a y.readings y.state) (letter n r (suc E) (body.Victory a)) (V.told k lt there other) Z.state Z.up
-          (follows ms several c k (lt_of k (V.within k there)) (shared_entries (w.store k)) 0 (readings_at w k) Z.state E Z.holds V.odd V.short r a (λ e. other (sym e)) there V.self V.major))
+          (follows ms several c k (lt_of k (V.within k there)) (shared_entries (w.store k)) 0 (readings_at w k) Z.state E Z.holds V.odd V.short r a (λ e. other (sym e)) there V.self V.major)))

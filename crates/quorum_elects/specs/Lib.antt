@@ -1,3 +1,5 @@
+pub mod Electing
 pub mod Leading
+pub mod Plans
 pub mod Ready
 pub mod Ways

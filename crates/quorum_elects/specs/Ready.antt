@@ -1,13 +1,15 @@
 -- What a majority needs to serve again.
 use Rattle.calm_sizes.specs.Sizes.{OwnShort, longest}
 use Rattle.election_rules.specs.Ranking.{allows}
+use Rattle.mon_kv.specs.Readers.{is_marked}
 use Rattle.mon_msg.specs.Protocol.Readings.{Readings, epoch_of, or_zero, promise_of}
 use Rattle.mon_types.specs.Ranks.{has}
 use Rattle.quorum_laws.specs.Accepting.{readings_at}
+use Rattle.quorum_model.specs.Growth.{last_of}
 use Rattle.quorum_model.specs.Monitors.{Monitors}
 use Rattle.quorum_model.specs.World.{World}
 use Rattle.quorum_near.specs.Near.{IsNear}
-use Rattle.std.specs.Prelude.{Bool, List, length, true, ℕ, ◌+◌, ◌^◌, ◌≡◌, ◌≤◌}
+use Rattle.std.specs.Prelude.{Bool, List, false, length, true, ℕ, ◌+◌, ◌^◌, ◌≡◌, ◌≤◌}
 
 -- a number that can still grow by 1,000
 abbrev pub HasRoom : ℕ → Type 0
@@ -32,6 +34,11 @@ pub record IsReady (ms : Monitors) (q : List Bool) (w : World) : Type 0 where
   pub may_lead : allows ms.rule leader ≡ true
   pub monitors : (i : ℕ) → has q i ≡ true → MonitorHasRoom w i
   pub log : HasRoom (length w.log)
+
+-- it is in no full synchronization, and lacks at most this many versions of the log
+pub record LacksAtMost (most : ℕ) (w : World) (i : ℕ) : Type 0 where
+  pub unmarked : is_marked (w.store i) ≡ false
+  pub near : length w.log ≤ last_of (w.store i) + most
 
 -- all of a set are near the whole log
 abbrev pub AllNear : List Bool → World → Type 0

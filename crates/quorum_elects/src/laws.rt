@@ -1,5 +1,7 @@
 ghost use Rattle.std.specs.Prelude.{◌≡◌, ℕ, ◌+◌, ◌*◌, ◌<◌, Bool, List, None};
+ghost use Rattle.quorum_elects.specs.Electing.{election};
 ghost use Rattle.quorum_elects.specs.Leading.{HasLeader};
+ghost use Rattle.quorum_elects.specs.Plans.{PlannedWay};
 ghost use Rattle.quorum_elects.specs.Ready.{AllNear, IsReady};
 ghost use Rattle.quorum_elects.specs.Ways.{HasWay};
 ghost use Rattle.quorum_laws.specs.Accepting.{IsMajorityOf};
@@ -15,4 +17,14 @@ pub fn law_near_majority_elects()
         → (ran ms events).stop ≡ None → (q : List Bool) → IsMajorityOf ms.count q
         → AllNear q (run ms events) → IsReady ms q (run ms events)
         → HasWay ms events q None (2 * ms.count * ms.count + 4 * ms.count + 2) (HasLeader ms.count q) }
+{}
+
+/// These events are planned: by kind, sender, receiver and order they are those of `election`, which computes them from the
+/// worlds that they lead to.
+pub fn law_election_is_planned()
+    ensures { (ms : Monitors) → 1 < ms.count → (events : List Event) → AllFit ms.count events
+        → (ran ms events).stop ≡ None → (q : List Bool) → IsMajorityOf ms.count q
+        → AllNear q (run ms events) → IsReady ms q (run ms events)
+        → PlannedWay ms events q None (election ms q) (2 * ms.count * ms.count + 4 * ms.count + 2)
+        (HasLeader ms.count q) }
 {}

@@ -125,7 +125,7 @@ module _ (ms : Monitors) (w : World) (H : LogHolds ms w) (L : AllLow w) where
   O = H.1
 
   -- an unmarked monitor has no version that the log lacks
-  within : (i : ℕ) → i < ms.count → (readings_at w i).marked ≡ false → (readings_at w i).last ≤ length w.log
+  pub within : (i : ℕ) → i < ms.count → (readings_at w i).marked ≡ false → (readings_at w i).last ≤ length w.log
   within i lt u = by (O.stores i lt)
     where
       by : Agrees w.log (w.store i) (remembers i (w.state i)) → (readings_at w i).last ≤ length w.log

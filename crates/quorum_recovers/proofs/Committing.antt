@@ -1,6 +1,7 @@
 -- Members that lack a version get it, and a value is accepted and committed.
 use Rattle.log_model.proofs.Records.{IsVersion}
 use Rattle.mon_msg.specs.Protocol.Course.{Course}
+use Rattle.mon_msg.specs.Protocol.Phases.{same_phase}
 use Rattle.mon_msg.specs.Protocol.Readings.{Readings, shared_entries}
 use Rattle.mon_msg.specs.Protocol.Sets.{are_within, only}
 use Rattle.mon_msg.specs.Protocol.State.{State}
@@ -10,16 +11,21 @@ use Rattle.mon_tx.specs.declared.op.Op.{Op}
 use Rattle.mon_types.specs.Ranks.{has, no_ranks, with_rank}
 use Rattle.mon_wire.specs.declared.body.Body.{Body}
 use Rattle.mon_wire.specs.declared.body.Body.TheVariants as body
+use Rattle.mon_wire.specs.declared.kind.Kind.TheVariants as kind
 use Rattle.mon_wire.specs.declared.phase.Phase.{Phase}
 use Rattle.mon_wire.specs.declared.phase.Phase.TheVariants as phase
 use Rattle.mon_wire.specs.declared.reply.Reply.TheVariants as reply
 use Rattle.mon_wire.specs.declared.request.Session.{Session}
-use Rattle.quorum_elects.proofs.Can.{Can, New, Onward, Scope, for_each, new_stays, rests, then, weaker}
+use Rattle.quorum_elects.proofs.Can.{New, Onward, Scope, new_stays}
 use Rattle.quorum_elects.proofs.Majorities.{Majority, scope}
 use Rattle.quorum_elects.proofs.Moving.{Did, HasReply}
+use Rattle.quorum_elects.proofs.Planning.{Does, Plays, does_then, does_weaker, passes, plays_all, plays_weaker, step}
 use Rattle.quorum_elects.proofs.Ranks.{has_self, in_or_out, same_or_not, up_to}
 use Rattle.quorum_elects.proofs.Standing.{Is, letter}
 use Rattle.quorum_elects.proofs.Steps.{deliver, is_now, is_stays}
+use Rattle.quorum_elects.proofs.Tests.{and_false, chosen, in_phase, itself_is, other_is, otherwise, outside_is, quorum_is}
+use Rattle.quorum_elects.specs.Electing as electing
+use Rattle.quorum_elects.specs.Plans as plans
 use Rattle.quorum_laws.specs.Accepting.{readings_at}
 use Rattle.quorum_model.specs.Monitors.{Monitors}
 use Rattle.quorum_model.specs.World.{World}
@@ -29,10 +35,11 @@ use Rattle.quorum_recovers.proofs.States.{IsActive, IsHearing, IsProposing}
 use Rattle.quorum_recovers.proofs.Terms.{Term}
 use Rattle.quorum_recovers.proofs.Terms as terms
 use Rattle.quorum_recovers.proofs.ValueRows.{Accepts, Commits, accepts, counts_accept, learns}
+use Rattle.quorum_recovers.specs.Plan as plan
 use Rattle.quorum_walk.proofs.FineCourses.{Val}
 use Rattle.quorum_walk.proofs.Ranks.{has_only, has_with}
-use Rattle.std.proofs.Common.{Bool, List, Option, Some, [], arith, false, inl, inr, length, ltb, subst, suc, sym, true, ℕ, ◌*◌, ◌<◌, ◌^◌, ◌∙◌, ◌∷◌, ◌≡◌, ◌≤◌, ◌⊎◌}
-use Rattle.std.proofs.lemmas.Bool.{cases_lt, false≢true, lt-ltb}
+use Rattle.std.proofs.Common.{Bool, List, Option, Some, [], arith, false, inl, inr, length, ltb, subst, suc, sym, true, ℕ, ◌&&◌, ◌*◌, ◌<◌, ◌^◌, ◌∙◌, ◌∷◌, ◌≡◌, ◌≤◌, ◌⊎◌}
+use Rattle.std.proofs.lemmas.Bool.{cases_lt, false≢true, le-ltb, lt-ltb}
 use Rattle.std.proofs.lemmas.List.{length-set}
 
 module _ (G : Majority) (Q : Term G) where
@@ -75,9 +82,6 @@ module _ (G : Majority) (Q : Term G) where
   abbrev T : ℕ → ℕ
   T = Q.T
 
-  abbrev Can1 : ℕ → (World → Type 0) → World → Type 0
-  Can1 k P w = Can Us k P w
-
   abbrev On : World → World → Type 0
   On w v = Onward Us w v
 
@@ -95,7 +99,14 @@ module _ (G : Majority) (Q : Term G) where
 
   -- ---- who lacks the version gets it
 
-  module _ (Hub : Readings → State → Type 0) (Post : World → Type 0) (post_on : (w v : World) → On w v → Post w → Post v) (l pn : ℕ) (room : l ≤ 2 ^ 62) (U : ℕ → ℕ) (top : (f : ℕ) → has a f ≡ true → U f ≤ l) (lag : (f : ℕ) → has a f ≡ true → l ≤ suc (U f)) (value : List Op) (fine : 1 ≤ l → Val value) where
+  abbrev lacks : ℕ → World → Bool
+  lacks k w = ltb (readings_at w k).last (readings_at w r).last
+
+  abbrev gets : ℕ → World → Bool
+  gets k w = electing.is_other (electing.quorum_at w r) r k && lacks k w
+
+  module _ (Hub : Readings → State → Type 0) (Post : World → Type 0) (post_on : (w v : World) → On w v → Post w → Post v) (l pn : ℕ) (room : l ≤ 2 ^ 62) (U : ℕ → ℕ) (top : (f : ℕ) → has a f ≡ true → U f ≤ l) (lag : (f : ℕ) → has a f ≡ true → l ≤ suc (U f)) (value : List Op) (fine : 1 ≤ l → Val value)
+      (leads : (w : Readings) (s : State) → Hub w s → (w.last ≡ l) × (s.leader.quorum ≡ a)) where
     pub record Catching (k : ℕ) (w : World) : Type 0 where
       pub fit : Fit w
       pub hub : Is Hub w r
@@ -104,11 +115,20 @@ module _ (G : Majority) (Q : Term G) where
       pub done : (f : ℕ) → f < k → has a f ≡ true → (f ≡ r → ⊥) → Is (IsHearing r e a l pn) w f
       pub left : (f : ℕ) → k ≤ f → has a f ≡ true → (f ≡ r → ⊥) → Is (IsHearing r e a (U f) pn) w f
 
-    catch_one : (k : ℕ) (w : World) → k < n → Catching k w → Can1 1 (Catching (suc k)) w
+    catch_one : (k : ℕ) (w : World) → k < n → Catching k w → Plays Us (plan.commits r k ∷ []) 1 (Catching (suc k)) w
     catch_one k w lt C = by (in_or_out (has a k)) (same_or_not k r)
       where
-        skip : ((f : ℕ) → f ≡ k → has a f ≡ true → (f ≡ r → ⊥) → Is (IsHearing r e a l pn) w f) → Can1 1 (Catching (suc k)) w
-        skip this = rests Us (record {
+        hub_is : ((readings_at w r).last ≡ l) × (electing.quorum_at w r ≡ a)
+        hub_is = let Z = C.hub in let z = leads (readings_at w r) Z.state Z.holds in (z.0, quorum_is w r Z.state a Z.up z.1)
+
+        last_of_k : has a k ≡ true → (k ≡ r → ⊥) → (readings_at w k).last ≡ U k
+        last_of_k h ne = let Z : Is (IsHearing r e a (U k) pn) w k = C.left k (omega arith) h ne in let H = Z.holds in H.last
+
+        not_other : electing.is_other a r k ≡ false → (gets k w) ≡ false
+        not_other out = λ i. ((λ j. electing.is_other (hub_is.1 j) r k) ∙ out) i && (lacks k w)
+
+        skip : (gets k w) ≡ false → ((f : ℕ) → f ≡ k → has a f ≡ true → (f ≡ r → ⊥) → Is (IsHearing r e a l pn) w f) → Plays Us (plan.commits r k ∷ []) 1 (Catching (suc k)) w
+        skip out this = passes Us (plan.commits r k) (otherwise _ _ (gets k w) out) (record {
           fit = C.fit;
           hub = C.hub;
           post = C.post;
@@ -117,13 +137,15 @@ module _ (G : Majority) (Q : Term G) where
           left = λ f high h ne. C.left f (omega arith) h ne;
         })
 
-        goes : (there : has a k ≡ true) → (k ≡ r → ⊥) → U k < l → Can1 1 (Catching (suc k)) w
+        goes : (there : has a k ≡ true) → (k ≡ r → ⊥) → U k < l → Plays Us (plan.commits r k ∷ []) 1 (Catching (suc k)) w
         goes there other less =
             let Z : Is (IsHearing r e a (U k) pn) w k = C.left k (omega arith) there other in
             let next : suc (U k) ≡ l = (let g = lag k there in omega arith) in
-            weaker Us (omega arith) after
+            step Us (plan.commits r k) (plans.Hears k r kind.Commit ∷ [])
+            (chosen _ _ (gets k w) (λ i. ((λ j. electing.is_other (hub_is.1 j) r k) ∙ other_is a r k there other) i && lt-ltb (readings_at w k).last (readings_at w r).last (let x = last_of_k there other in let y = hub_is.0 in omega arith) i))
+            (does_weaker Us (omega arith) after
             (deliver Us w (let F = C.fit in F.room) k (lt_of k there) (within k there) Goal (letter n r e (body.Commit (suc (U k)) (value ∷ []))) (subst (λ (x : ℕ). Mail r k (body.Commit x (value ∷ [])) w) (sym next) (C.commits k lt there other less)) Z.state Z.up
-            (learns ms several k (lt_of k there) (shared_entries (w.store k)) 0 (readings_at w k) Z.state r e a (U k) pn Z.holds (λ x. other (sym x)) value (fine (omega arith)) (omega arith)))
+            (learns ms several k (lt_of k there) (shared_entries (w.store k)) 0 (readings_at w k) Z.state r e a (U k) pn Z.holds (λ x. other (sym x)) value (fine (omega arith)) (omega arith))))
           where
             Goal : Course → Type 0
             Goal y = IsHearing r e a (suc (U k)) pn y.readings y.state
@@ -141,16 +163,16 @@ module _ (G : Majority) (Q : Term G) where
               left = λ f high h ne. is_stays (IsHearing r e a (U f) pn) w v f (D.moved.others f (λ x. omega arith)) (C.left f (omega arith) h ne);
             }
 
-        by : (has a k ≡ true) ⊎ (has a k ≡ false) → (k ≡ r) ⊎ (k ≡ r → ⊥) → Can1 1 (Catching (suc k)) w
-        by (inr out) z = skip (λ f x h ne. absurd (false≢true (sym out ∙ subst (λ (y : ℕ). has a y ≡ true) x h)))
-        by (inl there) (inl same) = skip (λ f x h ne. absurd (ne (x ∙ same)))
+        by : (has a k ≡ true) ⊎ (has a k ≡ false) → (k ≡ r) ⊎ (k ≡ r → ⊥) → Plays Us (plan.commits r k ∷ []) 1 (Catching (suc k)) w
+        by (inr out) z = skip (not_other (outside_is a r k out)) (λ f x h ne. absurd (false≢true (sym out ∙ subst (λ (y : ℕ). has a y ≡ true) x h)))
+        by (inl there) (inl same) = skip (not_other (itself_is a r k same)) (λ f x h ne. absurd (ne (x ∙ same)))
         by (inl there) (inr other) = elim (cases_lt (U k) l) [
           | inl less ↦ goes there other less
-          | inr ge ↦ skip (λ f x h ne. subst (λ (y : ℕ). Is (IsHearing r e a l pn) w y) (sym x) (subst (λ (y : ℕ). Is (IsHearing r e a y pn) w k) (let t = top k there in omega arith) (C.left k (omega arith) there other)))
+          | inr ge ↦ skip (and_false (electing.is_other (electing.quorum_at w r) r k) (lacks k w) (le-ltb (readings_at w k).last (readings_at w r).last (let x = last_of_k there other in let y = hub_is.0 in omega arith))) (λ f x h ne. subst (λ (y : ℕ). Is (IsHearing r e a l pn) w y) (sym x) (subst (λ (y : ℕ). Is (IsHearing r e a y pn) w k) (let t = top k there in omega arith) (C.left k (omega arith) there other)))
         ]
 
-    pub catch_all : (w : World) → Catching 0 w → Can1 (1 * n) (Catching n) w
-    catch_all w C = for_each Us n 1 Catching catch_one n 0 (omega arith) w C
+    pub catch_all : (w : World) → Catching 0 w → Plays Us (electing.each n (plan.commits r)) (1 * n) (Catching n) w
+    catch_all w C = plays_all Us n 1 (plan.commits r) Catching catch_one w C
 
   abbrev pub Level : (l pn : ℕ) → World → Type 0
   Level l pn w = (f : ℕ) → has a f ≡ true → (f ≡ r → ⊥) → Is (IsHearing r e a l pn) w f
@@ -177,9 +199,9 @@ module _ (G : Majority) (Q : Term G) where
 
     -- one accepts, and the leader counts it
     count_one : (k : ℕ) (there : has a k ≡ true) → (k ≡ r → ⊥) → (A : List Bool) (v : World) → Fit v → ((g : ℕ) → g < n → has a g ≡ true → (g ≡ r → ⊥) → Mail r g (body.Begin pn (suc l) value) v) → Level l pn v → Proposer A v → length A ≡ 15 → has A r ≡ true
-        → ((f : ℕ) → f < k → has a f ≡ true → has A f ≡ true) → Mail k r (body.Accept pn (suc l)) v → Can1 1 (Voting (suc k)) v
+        → ((f : ℕ) → f < k → has a f ≡ true → has A f ≡ true) → Mail k r (body.Accept pn (suc l)) v → Does Us (plans.Hears r k kind.Accept ∷ []) 1 (Voting (suc k)) v
     count_one k there other A v FV begins peons Z long self covers mail =
-        weaker Us (omega arith) after
+        does_weaker Us (omega arith) after
         (deliver Us v FV.room r (lt_of r mine) (within r mine) Goal (letter n k e (body.Accept pn (suc l))) mail Z.state Z.up
         (counts_accept ms several r (lt_of r mine) (shared_entries (v.store r)) 0 (readings_at v r) Z.state ph e a l pn A value o Z.holds which_phase fine k there other))
       where
@@ -225,23 +247,46 @@ module _ (G : Majority) (Q : Term G) where
                   replied = λ session is. D.moved.replies session (reply.Done (suc l)) (S.answers session is);
                 })
 
-    vote_one : (k : ℕ) (w : World) → k < n → Voting k w → Can1 2 (Voting (suc k)) w
+    -- the phase, before and after it is committed
+    proposer_in : (w : World) (A : List Bool) (Z : Proposer A w) → electing.is_in w r ph ≡ true
+    proposer_in w A Z = let H = Z.holds in in_phase w r Z.state ph ph Z.up H.phase ∙ by which_phase
+      where
+        by : (ph ≡ phase.Previous) ⊎ (ph ≡ phase.Updating) → same_phase ph ph ≡ true
+        by (inl z) = λ i. same_phase (z i) (z i)
+        by (inr z) = λ i. same_phase (z i) (z i)
+
+    committed_in : (w : World) (C : Committed w) → electing.is_in w r ph ≡ false
+    committed_in w C = let Z = C.hub in let H = Z.holds in in_phase w r Z.state phase.Active ph Z.up H.phase ∙ by which_phase
+      where
+        by : (ph ≡ phase.Previous) ⊎ (ph ≡ phase.Updating) → same_phase phase.Active ph ≡ false
+        by (inl z) = λ i. same_phase phase.Active (z i)
+        by (inr z) = λ i. same_phase phase.Active (z i)
+
+    members : (w : World) (A : List Bool) (Z : Proposer A w) → electing.quorum_at w r ≡ a
+    members w A Z = let H = Z.holds in quorum_is w r Z.state a Z.up H.quorum
+
+    abbrev accepting : ℕ → World → Bool
+    accepting k w = electing.is_other (electing.quorum_at w r) r k && electing.is_in w r ph
+
+    vote_one : (k : ℕ) (w : World) → k < n → Voting k w → Plays Us (plan.accepts ph r k ∷ []) 2 (Voting (suc k)) w
     vote_one k w lt V = by V.hub
       where
-        stays : Committed w ⊎ ((A : List Bool) × Proposer A w × (are_within n a A ≡ false) × (length A ≡ 15) × (has A r ≡ true) × ((f : ℕ) → f < suc k → has a f ≡ true → has A f ≡ true)) → Can1 2 (Voting (suc k)) w
-        stays h = rests Us (record { fit = V.fit; begins = V.begins; peons = V.peons; hub = h })
+        stays : (accepting k w) ≡ false → Committed w ⊎ ((A : List Bool) × Proposer A w × (are_within n a A ≡ false) × (length A ≡ 15) × (has A r ≡ true) × ((f : ℕ) → f < suc k → has a f ≡ true → has A f ≡ true)) → Plays Us (plan.accepts ph r k ∷ []) 2 (Voting (suc k)) w
+        stays out h = passes Us (plan.accepts ph r k) (otherwise _ _ (accepting k w) out) (record { fit = V.fit; begins = V.begins; peons = V.peons; hub = h })
 
-        goes : (A : List Bool) (Z : Proposer A w) → length A ≡ 15 → has A r ≡ true → ((f : ℕ) → f < k → has a f ≡ true → has A f ≡ true) → (there : has a k ≡ true) → (k ≡ r → ⊥) → Can1 2 (Voting (suc k)) w
+        goes : (A : List Bool) (Z : Proposer A w) → length A ≡ 15 → has A r ≡ true → ((f : ℕ) → f < k → has a f ≡ true → has A f ≡ true) → (there : has a k ≡ true) → (k ≡ r → ⊥) → Plays Us (plan.accepts ph r k ∷ []) 2 (Voting (suc k)) w
         goes A Z long self covers there other =
             let Y : Is (IsHearing r e a l pn) w k = V.peons k there other in
             let H = Z.holds in
-            then Us (deliver Us w (let F = V.fit in F.room) k (lt_of k there) (within k there) Goal (letter n r e (body.Begin pn (suc l) value)) (V.begins k lt there other) Y.state Y.up
-            (accepts ms several k (lt_of k there) (shared_entries (w.store k)) 0 (readings_at w k) Y.state r e a l pn Y.holds (λ x. other (sym x)) H.short H.room value (let V = value_fine ms several w (let F = V.fit in F.holds) r Z.state Z.up value H.proposes in V.short))) after
+            step Us (plan.accepts ph r k) (plans.Hears k r kind.Begin ∷ plans.Hears r k kind.Accept ∷ [])
+            (chosen _ _ (accepting k w) (λ i. ((λ j. electing.is_other (members w A Z j) r k) ∙ other_is a r k there other) i && proposer_in w A Z i))
+            (does_then Us (deliver Us w (let F = V.fit in F.room) k (lt_of k there) (within k there) Goal (letter n r e (body.Begin pn (suc l) value)) (V.begins k lt there other) Y.state Y.up
+            (accepts ms several k (lt_of k there) (shared_entries (w.store k)) 0 (readings_at w k) Y.state r e a l pn Y.holds (λ x. other (sym x)) H.short H.room value (let V = value_fine ms several w (let F = V.fit in F.holds) r Z.state Z.up value H.proposes in V.short))) after)
           where
             Goal : Course → Type 0
             Goal y = Accepts ms several k (lt_of k there) (shared_entries (w.store k)) 0 r e a l pn y
 
-            after : (v : World) → On w v → Did Us Goal w k v → Can1 1 (Voting (suc k)) v
+            after : (v : World) → On w v → Did Us Goal w k v → Does Us (plans.Hears r k kind.Accept ∷ []) 1 (Voting (suc k)) v
             after v o2 D = let S = D.did in count_one k there other A v (leaders.fit_on G Q Goal w v k o2 D V.fit) (λ g few h ne. new_stays Us o2 (V.begins g few h ne)) (λ f h ne. peons f h ne (same_or_not f k))
                 (is_stays (IsProposing ph r e a l pn A value o) w v r (D.moved.others r (λ x. other (sym x))) Z) long self covers (D.moved.says r (letter n k e (body.Accept pn (suc l))) S.says)
               where
@@ -249,25 +294,25 @@ module _ (G : Majority) (Q : Term G) where
                 peons f h ne (inl z) = subst (λ (x : ℕ). Is (IsHearing r e a l pn) v x) (sym z) (let S = D.did in is_now Us (IsHearing r e a l pn) w v k D.y D.moved S.stands)
                 peons f h ne (inr nk) = is_stays (IsHearing r e a l pn) w v f (D.moved.others f nk) (V.peons f h ne)
 
-        by : Committed w ⊎ ((A : List Bool) × Proposer A w × (are_within n a A ≡ false) × (length A ≡ 15) × (has A r ≡ true) × ((f : ℕ) → f < k → has a f ≡ true → has A f ≡ true)) → Can1 2 (Voting (suc k)) w
-        by (inl C) = stays (inl C)
+        by : Committed w ⊎ ((A : List Bool) × Proposer A w × (are_within n a A ≡ false) × (length A ≡ 15) × (has A r ≡ true) × ((f : ℕ) → f < k → has a f ≡ true → has A f ≡ true)) → Plays Us (plan.accepts ph r k ∷ []) 2 (Voting (suc k)) w
+        by (inl C) = stays (and_false (electing.is_other (electing.quorum_at w r) r k) (electing.is_in w r ph) (committed_in w C)) (inl C)
         by (inr Y) = elim (in_or_out (has a k)) [
-          | inr out ↦ passes (λ h. absurd (false≢true (sym out ∙ h)))
-          | inl there ↦ elim (same_or_not k r) [ inl z ↦ passes (λ _. subst (λ (x : ℕ). has Y.0 x ≡ true) (sym z) Y.4) | inr other ↦ goes Y.0 Y.1 Y.3 Y.4 Y.5 there other ]
+          | inr out ↦ skips (outside_is a r k out) (λ h. absurd (false≢true (sym out ∙ h)))
+          | inl there ↦ elim (same_or_not k r) [ inl z ↦ skips (itself_is a r k z) (λ _. subst (λ (x : ℕ). has Y.0 x ≡ true) (sym z) Y.4) | inr other ↦ goes Y.0 Y.1 Y.3 Y.4 Y.5 there other ]
         ]
           where
-            passes : (has a k ≡ true → has Y.0 k ≡ true) → Can1 2 (Voting (suc k)) w
-            passes in_it = stays (inr (Y.0, Y.1, Y.2, Y.3, Y.4, λ f low h. elim (up_to f k low) [ inl z ↦ subst (λ (x : ℕ). has Y.0 x ≡ true) (sym z) (in_it (subst (λ (x : ℕ). has a x ≡ true) z h)) | inr less ↦ Y.5 f less h ]))
+            skips : electing.is_other a r k ≡ false → (has a k ≡ true → has Y.0 k ≡ true) → Plays Us (plan.accepts ph r k ∷ []) 2 (Voting (suc k)) w
+            skips out in_it = stays (λ i. ((λ j. electing.is_other (members w Y.0 Y.1 j) r k) ∙ out) i && electing.is_in w r ph) (inr (Y.0, Y.1, Y.2, Y.3, Y.4, λ f low h. elim (up_to f k low) [ inl z ↦ subst (λ (x : ℕ). has Y.0 x ≡ true) (sym z) (in_it (subst (λ (x : ℕ). has a x ≡ true) z h)) | inr less ↦ Y.5 f less h ]))
 
     pub record Made (w : World) : Type 0 where
       pub fit : Fit w
       pub peons : Level l pn w
       pub committed : Committed w
 
-    pub vote_all : (w : World) → Fit w → ((g : ℕ) → g < n → has a g ≡ true → (g ≡ r → ⊥) → Mail r g (body.Begin pn (suc l) value) w) → Level l pn w → Proposer (only r) w → Can1 (2 * n) Made w
+    pub vote_all : (w : World) → Fit w → ((g : ℕ) → g < n → has a g ≡ true → (g ≡ r → ⊥) → Mail r g (body.Begin pn (suc l) value) w) → Level l pn w → Proposer (only r) w → Plays Us (electing.each n (plan.accepts ph r)) (2 * n) Made w
     vote_all w F begins peons Z =
-        weaker Us (omega arith) after
-        (for_each Us n 2 Voting vote_one n 0 (omega arith) w (record { fit = F; begins = begins; peons = peons; hub = inr (only r, Z, (terms.only_open G Q), length-set no_ranks r true, has_only r (terms.few_r G Q), λ f low h. absurd (omega arith)) }))
+        plays_weaker Us (omega arith) after
+        (plays_all Us n 2 (plan.accepts ph r) Voting vote_one w (record { fit = F; begins = begins; peons = peons; hub = inr (only r, Z, (terms.only_open G Q), length-set no_ranks r true, has_only r (terms.few_r G Q), λ f low h. absurd (omega arith)) }))
       where
         after : (v : World) → On w v → Voting n v → Made v
         after v o2 V = record { fit = V.fit; peons = V.peons; committed = go V.hub }

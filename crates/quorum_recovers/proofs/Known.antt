@@ -42,7 +42,7 @@ pub record IsThere (records : ℕ → Cell) (v : ℕ) : Type 0 where
   pub is : record_at records v ≡ Some value
   pub fine : Val value
 
-at_cell : (records : ℕ → Cell) (v : ℕ) (bytes : List ℕ) (x : List Op) → records v ≡ Some bytes → bytes ≡ text x → Val x → record_at records v ≡ Some x
+pub at_cell : (records : ℕ → Cell) (v : ℕ) (bytes : List ℕ) (x : List Op) → records v ≡ Some bytes → bytes ≡ text x → Val x → record_at records v ≡ Some x
 unfolding record_at
 at_cell records v bytes x e is V = ap transaction_in (e ∙ ap Some is) ∙ V.reads
 
@@ -77,7 +77,7 @@ module _ (ms : Monitors) (several : 1 < ms.count) (w : World) (H : Holds ms seve
       omega arith
 
   -- a version of the log is a value that may be proposed
-  entry_value : (v : ℕ) → v < length w.log → (x : List Op) × (entry w.log (suc v) ≡ text x) × Val x
+  pub entry_value : (v : ℕ) → v < length w.log → (x : List Op) × (entry w.log (suc v) ≡ text x) × Val x
   entry_value v lt =
       let E : IsEntry ms.count I.g w.log (suc v) = O.chosen v lt in
       let s = some_rank ms.count I.g I.glob.triples (suc v) E.x E.chosen in

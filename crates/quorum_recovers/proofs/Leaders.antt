@@ -13,13 +13,16 @@ use Rattle.mon_tx.specs.declared.op.Op.{Op}
 use Rattle.mon_types.specs.Ranks.{has, no_ranks, with_rank}
 use Rattle.mon_wire.specs.declared.body.Body.{Body}
 use Rattle.mon_wire.specs.declared.body.Body.TheVariants as body
+use Rattle.mon_wire.specs.declared.kind.Kind.TheVariants as kind
 use Rattle.mon_wire.specs.declared.phase.Phase.TheVariants as phase
-use Rattle.quorum_elects.proofs.Can.{Can, New, Onward, Sane, Scope, new_stays, reached_holds, then, weaker}
+use Rattle.quorum_elects.proofs.Can.{New, Onward, Sane, Scope, new_stays, reached_holds}
 use Rattle.quorum_elects.proofs.Majorities.{Majority, scope}
 use Rattle.quorum_elects.proofs.Moving.{Did}
 use Rattle.quorum_elects.proofs.Ranks.{same_or_not}
+use Rattle.quorum_elects.proofs.Planning.{Does, does_then, does_weaker}
 use Rattle.quorum_elects.proofs.Standing.{Is, letter}
 use Rattle.quorum_elects.proofs.Steps.{deliver, is_now, is_stays}
+use Rattle.quorum_elects.specs.Plans as plans
 use Rattle.quorum_laws.specs.Accepting.{readings_at}
 use Rattle.quorum_model.specs.Monitors.{Monitors}
 use Rattle.quorum_model.specs.World.{World}
@@ -78,9 +81,6 @@ module _ (G : Majority) (Q : Term G) where
   abbrev T : ℕ → ℕ
   T = Q.T
 
-  abbrev Can1 : ℕ → (World → Type 0) → World → Type 0
-  Can1 k P w = Can Us k P w
-
   abbrev On : World → World → Type 0
   On w v = Onward Us w v
 
@@ -117,9 +117,9 @@ module _ (G : Majority) (Q : Term G) where
     pub mail : Mail f r tells v
 
   pub ask_one : (w : World) → Fit w → (f : ℕ) (h : has a f ≡ true) → (f ≡ r → ⊥) → (p : ℕ) → Is (IsHearing r e a (T f) p) w f → (pn first l : ℕ) → pn ≤ 2 ^ 62 → first ≤ suc (T f) → T f ≤ suc l → l ≤ c → Mail r f (body.Collect pn first l) w
-      → Can1 1 (Answered f l (max p pn) w) w
+      → Does Us (plans.Hears f r kind.Collect ∷ []) 1 (Answered f l (max p pn) w) w
   ask_one w F f h ne p P pn first l short kept high low_l mail =
-      weaker Us (omega arith) after
+      does_weaker Us (omega arith) after
       (deliver Us w F.room f (lt_of f h) (within f h) (Tells ms several f (lt_of f h) (shared_entries (w.store f)) 0 r e a (T f) (max p pn) (readings_at w f).first (suc l)) (letter n r e (body.Collect pn first l)) mail P.state P.up
       (asked ms several f (lt_of f h) (shared_entries (w.store f)) 0 (readings_at w f) P.state r e a (T f) p H (λ z. ne (sym z)) pn first l short (terms.version_room G Q l (omega arith)) (le-ltb (suc (readings_at w f).last) first (let z = H.last in omega arith)) (let z = H.last in omega arith) known))
     where
@@ -211,7 +211,7 @@ module _ (G : Majority) (Q : Term G) where
     Hub : Is (IsAsking r e a X.l X.pn A T) w r
     Hub = X.hub
 
-    asks_it : Can1 1 (Answered k la (max p0 X.pn) w) w
+    asks_it : Does Us (plans.Hears k r kind.Collect ∷ []) 1 (Answered k la (max p0 X.pn) w) w
     asks_it = ask_one w F k there other p0 P0 X.pn X.first la (let H = Hub.holds in H.short) (X.kept k there) high (let z = X.above in let y = X.under in omega arith) (X.asks k (below k there) there other)
 
     module _ (v : World) (o : On w v) (R : Answered k la (max p0 X.pn) w v) where
@@ -323,7 +323,7 @@ module _ (G : Majority) (Q : Term G) where
           kept g h = subst (λ (w : Readings). w.first ≤ suc (T g)) D.moved.reads (let H = at.holds in let z = Q.least g h in let y = H.last in elim (low_of ms several u FU.holds r (below r mine) H.unmarked) [ inl few ↦ (omega arith) | inr far ↦ (omega arith) ])
 
       -- the leader hears the answer
-      hears_it : Can1 1 (After k la A) v
+      hears_it : Does Us (plans.Hears r k kind.Last ∷ []) 1 (After k la A) v
       hears_it = by (cases_lt (T k) (suc la))
         where
           rank : ltb r n ≡ true
@@ -336,9 +336,9 @@ module _ (G : Majority) (Q : Term G) where
           kept : ltb (suc (readings_at v r).last) R.first ≡ false
           kept = let z = Hv.last in let y = X.above in le-ltb (suc (readings_at v r).last) R.first (elim R.low [ inl few ↦ (omega arith) | inr far ↦ (omega arith) ])
 
-          same : (vs : List (List Op)) → drop (suc X.l - suc la) vs ≡ [] → (whole : Bool) → whole ≡ true → Mail k r (body.Last (max p0 X.pn) R.first (T k) whole (suc la) vs Ans.told) v → T k ≤ X.l → Can1 1 (After k la A) v
+          same : (vs : List (List Op)) → drop (suc X.l - suc la) vs ≡ [] → (whole : Bool) → whole ≡ true → Mail k r (body.Last (max p0 X.pn) R.first (T k) whole (suc la) vs Ans.told) v → T k ≤ X.l → Does Us (plans.Hears r k kind.Last ∷ []) 1 (After k la A) v
           same vs none true z mail low =
-              weaker Us (omega arith) after
+              does_weaker Us (omega arith) after
               (deliver Us v (let F = R.fit in F.room) r rank (within r mine) (Hears ms several r rank sh 0 e a X.l X.pn (with_rank A k) T own.0) (letter n k e (body.Last (max p0 X.pn) R.first (T k) true (suc la) vs Ans.told)) mail hub.state hub.up
               (hears_same ms several r rank sh 0 (readings_at v r) hub.state e a X.l X.pn A T Hv (terms.not_alone G Q (lt_of r mine)) k (below k there) there other (terms.version_room G Q X.l (let z = X.under in omega arith)) (max p0 X.pn) R.first (T k) (suc la) vs Ans.told none promise_is refl low (lag X.l X.under) own.0 own.1))
             where
@@ -350,10 +350,10 @@ module _ (G : Majority) (Q : Term G) where
                   go (inr S) = inl (settled_then (Hears ms several r rank sh 0 e a X.l X.pn (with_rank A k) T own.0) u o2 D X.l (omega arith) X.under low own.0 own.2 S.0 S.1)
           same vs none false z mail low = absurd (false≢true z)
 
-          again : (vs : List (List Op)) → drop (suc X.l - suc la) vs ≡ [] → (whole : Bool) → Mail k r (body.Last (max p0 X.pn) R.first (T k) whole (suc la) vs Ans.told) v → T k ≡ suc la → X.l ≡ suc la → Can1 1 (After k la A) v
+          again : (vs : List (List Op)) → drop (suc X.l - suc la) vs ≡ [] → (whole : Bool) → Mail k r (body.Last (max p0 X.pn) R.first (T k) whole (suc la) vs Ans.told) v → T k ≡ suc la → X.l ≡ suc la → Does Us (plans.Hears r k kind.Last ∷ []) 1 (After k la A) v
           again vs none true mail top is = same vs none true refl mail (omega arith)
           again vs none false mail top is =
-              weaker Us (omega arith) after
+              does_weaker Us (omega arith) after
               (deliver Us v (let F = R.fit in F.room) r rank (within r mine) (Asks ms several r rank sh 0 e a X.l X.pn (X.pn + 114) T) (letter n k e (body.Last (max p0 X.pn) R.first (T k) false (suc la) vs Ans.told)) mail hub.state hub.up
               (hears_again ms several r rank sh 0 (readings_at v r) hub.state e a X.l X.pn A T Hv (terms.not_alone G Q (lt_of r mine)) k there other (max p0 X.pn) R.first (T k) (suc la) vs Ans.told none promise_is (omega arith) (X.pn + 114) (omega arith) number_room))
             where
@@ -362,9 +362,9 @@ module _ (G : Majority) (Q : Term G) where
                   let FU = fit_on (Asks ms several r rank sh 0 e a X.l X.pn (X.pn + 114) T) v u r o2 D R.fit in
                   record { fit = FU; comes = inr (inr (fresh_then (Asks ms several r rank sh 0 e a X.l X.pn (X.pn + 114) T) u o2 D X.l is X.under top D.did FU, top)) }
 
-          more : (x : List Op) → Ans.values ≡ x ∷ [] → T k ≡ suc la → X.l ≡ la → Can1 1 (After k la A) v
+          more : (x : List Op) → Ans.values ≡ x ∷ [] → T k ≡ suc la → X.l ≡ la → Does Us (plans.Hears r k kind.Last ∷ []) 1 (After k la A) v
           more x one top is =
-              weaker Us (omega arith) after
+              does_weaker Us (omega arith) after
               (deliver Us v (let F = R.fit in F.room) r rank (within r mine) Goal (letter n k e (body.Last (max p0 X.pn) R.first (T k) Ans.whole (suc X.l) (x ∷ []) Ans.told)) mail hub.state hub.up
               (hears_more ms several r rank sh 0 (readings_at v r) hub.state e a X.l X.pn A T Hv (terms.not_alone G Q (lt_of r mine)) k (below k there) there other (max p0 X.pn) R.first (T k) Ans.whole x Ans.told promise_is refl (omega arith) (terms.version_room G Q (suc X.l) (let z = Q.most k there in omega arith)) fine_x kept
               (λ g h. (let z = Q.least g h in let y = Q.most k there in omega arith)) next.value next.is (let V = next.fine in V.short) (X.pn + 114) (omega arith) number_room))
@@ -401,7 +401,7 @@ module _ (G : Majority) (Q : Term G) where
                   go (inl (inr S)) = inl (settled_then Goal u o2 D (suc X.l) (omega arith) le (omega arith) next.value (λ some. next.fine) S.0 S.1)
                   go (inr S) = inr (inr (fresh_then Goal u o2 D (suc X.l) (ap suc is) le top S FU, top))
 
-          top_one : T k ≡ suc la → Can1 1 (After k la A) v
+          top_one : T k ≡ suc la → Does Us (plans.Hears r k kind.Last ∷ []) 1 (After k la A) v
           top_one top =
               let one = Ans.one top in
               elim (cases_lt la X.l) [
@@ -409,11 +409,11 @@ module _ (G : Majority) (Q : Term G) where
                 | inr ge ↦ more one.0 one.1 top (let z = X.above in omega arith)
               ]
 
-          by : (T k < suc la) ⊎ (suc la ≤ T k) → Can1 1 (After k la A) v
+          by : (T k < suc la) ⊎ (suc la ≤ T k) → Does Us (plans.Hears r k kind.Last ∷ []) 1 (After k la A) v
           by (inl less) =
               let none = Ans.none less in
               same [] (drop_none ms several r rank sh 0 (suc X.l - suc la)) Ans.whole none.0 (subst (λ (vs : List (List Op)). Mail k r (body.Last (max p0 X.pn) R.first (T k) Ans.whole (suc la) vs Ans.told) v) none.1 the_mail) (let z = X.above in omega arith)
           by (inr ge) = top_one (let z = high in omega arith)
 
-    pub answer_one : Can1 2 (After k la A) w
-    answer_one = then Us asks_it (λ v o R. hears_it v o R)
+    pub answer_one : Does Us (plans.Hears k r kind.Collect ∷ plans.Hears r k kind.Last ∷ []) 2 (After k la A) w
+    answer_one = does_then Us asks_it (λ v o R. hears_it v o R)

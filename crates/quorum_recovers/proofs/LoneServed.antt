@@ -14,24 +14,33 @@ use Rattle.mon_msg.specs.Protocol.Course.{Course}
 use Rattle.mon_msg.specs.Protocol.Played.{play}
 use Rattle.mon_msg.specs.Protocol.Proposing.{refusal}
 use Rattle.mon_msg.specs.Protocol.Readings.{Readings, shared_entries}
+use Rattle.mon_msg.specs.Protocol.Sets.{are_within, only}
 use Rattle.mon_msg.specs.Protocol.Value.{service_of, value}
 use Rattle.mon_tx.specs.Keys.{number}
 use Rattle.mon_tx.specs.Text.{text}
 use Rattle.mon_tx.specs.declared.key.Area.TheVariants as area
 use Rattle.mon_tx.specs.declared.key.Key.TheVariants as key
 use Rattle.mon_types.specs.Ranks.{has}
+use Rattle.mon_wire.specs.declared.phase.Phase.TheVariants as phase
 use Rattle.mon_wire.specs.declared.reply.Reply.TheVariants as reply
 use Rattle.mon_wire.specs.declared.request.Session.{Session}
 use Rattle.quorum_agreement.proofs.Grown.{first_is}
 use Rattle.quorum_agreement.proofs.LoneWorlds.{IsWhole, LoneHolds, OfLone}
 use Rattle.quorum_agreement.proofs.Runs.{lone_run}
-use Rattle.quorum_elects.proofs.Can.{Can, Onward, Reached, Sane, Scope, then, weaker}
+use Rattle.quorum_elects.proofs.Can.{Can, Onward, Reached, Sane, Scope, onward_on}
 use Rattle.quorum_elects.proofs.Moving.{Did}
+use Rattle.quorum_elects.proofs.Planning.{Does, Plays, idle, plays_then, plays_weaker, step}
+use Rattle.quorum_elects.proofs.Ranks.{highest_of, lowest_of}
 use Rattle.quorum_elects.proofs.Standing.{Is}
 use Rattle.quorum_elects.proofs.Steps.{ask, is_now, start, steps_fit}
 use Rattle.quorum_elects.proofs.Stores.{versions_short}
+use Rattle.quorum_elects.proofs.Tests.{and_false, chosen, in_phase, itself_is, otherwise, quorum_is}
+use Rattle.quorum_elects.specs.Electing as electing
+use Rattle.quorum_elects.specs.Electing.{leader_of}
+use Rattle.quorum_elects.specs.Plans as plans
+use Rattle.quorum_elects.specs.Plans.{PlanStep, PlannedWay}
 use Rattle.quorum_elects.specs.Ready.{AllNear, IsReady}
-use Rattle.quorum_elects.specs.Ways.{HasWay, OthersRest}
+use Rattle.quorum_elects.specs.Ways.{OthersRest}
 use Rattle.quorum_laws.specs.Accepting.{IsMajorityOf, readings_at}
 use Rattle.quorum_model.proofs.Continuing.{at, ran_on}
 use Rattle.quorum_model.specs.Agree.{IsAsked}
@@ -44,8 +53,13 @@ use Rattle.quorum_near.proofs.Low.{first_low}
 use Rattle.quorum_recovers.proofs.Asked.{asked_at, asked_is, keeps, last_is, learned_is, request_fits, service_room, value_val}
 use Rattle.quorum_recovers.proofs.Known.{record_read}
 use Rattle.quorum_recovers.proofs.Lone.{Commits, IsAlone, Refuses, answers_alone, lone, starts_alone}
+use Rattle.quorum_recovers.specs.Plan as plan
+use Rattle.quorum_recovers.specs.Plan.{way_back}
 use Rattle.quorum_recovers.specs.Serving.{IsServed}
-use Rattle.std.proofs.Common.{Bool, Err, List, None, Option, Some, [], ap, arith, false, inl, inr, length, max, refl, subst, suc, sym, true, unwrap_or, ℕ, ◌*◌, ◌++◌, ◌+◌, ◌<◌, ◌^◌, ◌∙◌, ◌∷◌, ◌≡◌, ◌≤◌, ◌⊎◌}
+use Rattle.quorum_walk.proofs.Ranks.{has_only, has_only_is}
+use Rattle.std.proofs.Common.{Bool, Err, List, None, Option, Some, [], ap, arith, false, inl, inr, length, ltb, max, refl, subst, suc, sym, true, unwrap_or, ℕ, ◌&&◌, ◌*◌, ◌++◌, ◌+◌, ◌<◌, ◌^◌, ◌∙◌, ◌∷◌, ◌≡◌, ◌≤◌, ◌⊎◌}
+use Rattle.std.proofs.lemmas.Bool.{le-ltb}
+use Rattle.std.specs.List.{AllByRecursion}
 
 module _ (most : 1 ≤ 15) (rule : Rule) (events : List Event) (F : AllFit 1 events) (on : (ran (lone most rule) events).stop ≡ None) (q : List Bool) (M : IsMajorityOf 1 q) (ready : IsReady (lone most rule) q (run (lone most rule) events))
     (session : Session) (cmd : Command) (form : IsCommand cmd) (brief : is_too_long cmd ≡ false) where
@@ -108,7 +122,7 @@ module _ (most : 1 ≤ 15) (rule : Rule) (events : List Event) (F : AllFit 1 eve
   abbrev Up : Course → Type 0
   Up y = IsAlone (length (run (lone most rule) events).log) y.readings y.state
 
-  starts : Can Us 1 (Did Us Up w0 0) w0
+  starts : Does Us (plans.Starts 0 ∷ []) 1 (Did Us Up w0 0) w0
   starts =
       let H = lone_holds w0 first_reached in
       let W = whole w0 H in
@@ -140,8 +154,8 @@ module _ (most : 1 ≤ 15) (rule : Rule) (events : List Event) (F : AllFit 1 eve
     abbrev Goal : Course → Type 0
     Goal y = Commits most rule (shared_entries (v.store 0)) 0 (readings_at v 0) l cmd session y ⊎ Refuses most rule (shared_entries (v.store 0)) 0 (readings_at v 0) cmd session y
 
-    asks : Can Us 1 (Did Us Goal v 0) v
-    asks = ask Us v sane_v 0 refl inside Goal session (request_of cmd) (refl, refl) (request_fits cmd form) Z.state Z.up
+    asks : Does Us (plans.Asks 0 session cmd ∷ []) 1 (Did Us Goal v 0) v
+    asks = ask Us v sane_v 0 refl inside Goal session cmd (refl, refl) (request_fits cmd form) Z.state Z.up
         (answers_alone most rule (shared_entries (v.store 0)) 0 (readings_at v 0) Z.state l Z.holds (let e = same in let z = room in omega arith) session cmd brief
         (service_room v.log O.short O.values (v.store 0) (length v.log) V room (service_of cmd)) (value_val v.log O.short O.values (v.store 0) (length v.log) V room cmd form 0 (omega arith)))
 
@@ -206,22 +220,106 @@ module _ (most : 1 ≤ 15) (rule : Rule) (events : List Event) (F : AllFit 1 eve
             answer = inr (record { why = P.why; made = subst (λ (x : ℕ). value (readings_at u x) cmd x ≡ Err P.why) (sym R.rank_is) (subst (λ (x : Readings). value x cmd 0 ≡ Err P.why) (sym (K.moved.reads ∙ P.reads)) P.is); refused = R.reply_is });
           }
 
-  alone_served : Can Us 2 (IsServed 1 session cmd w0) w0
-  alone_served = then Us {l = 1} starts (λ v o D. weaker Us (omega arith) (λ u o2 K. after v o D u o2 K) (asks v o D))
+  -- ---- its plan
 
-  pub lone_way : HasWay (lone most rule) events q (Some (session, cmd)) (2 * 1 * 1 + 14 * 1 + 5) (IsServed 1 session cmd)
+  -- nobody else is asked
+  alone : (set : List Bool) → electing.is_other set 0 0 ≡ false
+  alone set = itself_is set 0 0 refl
+
+  -- the greatest of one
+  only_top : (number : ℕ → ℕ) (set : List Bool) → has set 0 ≡ true → ((m : ℕ) → has set m ≡ true → m ≡ 0) → ltb (number 0) (number (electing.highest number set 0 1)) ≡ false
+  only_top number set h one = let T = highest_of number set 0 h 1 in le-ltb (number 0) (number (electing.highest number set 0 1)) (let z = ap number (one (electing.highest number set 0 1) T.within) in omega arith)
+
+  -- once it serves, it does nothing but what a client asks
+  abbrev idle_steps : List PlanStep
+  idle_steps =
+      electing.probes q 0 0 ∷ electing.calls 1 q 0 ∷ electing.votes q 0 0 ∷ electing.counts q 0 0 ∷ electing.ends 0 ∷ electing.follows 0 0 ∷ plan.raises 1 0 ∷ plan.collects 0 0 ∷ plan.collects 0 0
+      ∷ plan.commits 0 0 ∷ plan.accepts phase.Previous 0 0 ∷ plan.commits 0 0 ∷ []
+
+  rest_of : (v : World) → Did Us Up w0 0 v → AllByRecursion (λ (s : PlanStep). s v ≡ []) idle_steps
+  rest_of v D = (
+    otherwise _ _ (has q 0 && (electing.is_other q 0 0 && electing.is_in v 0 phase.Probing)) (and_false (has q 0) _ (λ i. alone q i && electing.is_in v 0 phase.Probing)),
+    (
+      otherwise _ _ (ltb (electing.epoch_at v 0) (electing.epoch_at v (electing.highest (electing.epoch_at v) q 0 1))) (only_top (electing.epoch_at v) q inside (λ m h. (let z = M.below m h in omega arith))),
+      (
+        otherwise _ _ (electing.is_other q 0 0) (alone q),
+        (
+          otherwise _ _ (electing.is_other q 0 0 && electing.is_in v 0 phase.Electing) (λ i. alone q i && electing.is_in v 0 phase.Electing),
+          (
+            otherwise _ _ (electing.is_in v 0 phase.Electing) (let A = Z.holds in in_phase v 0 Z.state phase.Active phase.Electing Z.up A.phase),
+            (
+              otherwise _ _ (electing.is_other (electing.quorum_at v 0) 0 0) (alone (electing.quorum_at v 0)),
+              (
+                otherwise _ _ (ltb (plan.promise_at v 0) (plan.promise_at v (electing.highest (plan.promise_at v) (electing.quorum_at v 0) 0 1))) (only_top (plan.promise_at v) (electing.quorum_at v 0) ((λ i. has (quorum i) 0) ∙ has_only 0 (omega arith)) (λ m h. has_only_is 0 m (sym (λ i. has (quorum i) m) ∙ h))),
+                (
+                  collecting,
+                  (
+                    collecting,
+                    (
+                      committing,
+                      (
+                        otherwise _ _ (electing.is_other (electing.quorum_at v 0) 0 0 && electing.is_in v 0 phase.Previous) (λ i. alone (electing.quorum_at v 0) i && electing.is_in v 0 phase.Previous),
+                        (
+                          committing,
+                          tt,
+                        ),
+                      ),
+                    ),
+                  ),
+                ),
+              ),
+            ),
+          ),
+        ),
+      ),
+    ),
+  )
+    where
+      Z : Is (IsAlone l) v 0
+      Z = is_now Us (IsAlone l) w0 v 0 D.y D.moved D.did
+
+      quorum : electing.quorum_at v 0 ≡ only 0
+      quorum = let A = Z.holds in quorum_is v 0 Z.state (only 0) Z.up A.quorum
+
+      collecting : plan.collects 0 0 v ≡ []
+      collecting = otherwise _ _ (electing.is_other (electing.quorum_at v 0) 0 0 && (electing.is_in v 0 phase.Collecting && are_within 0 (electing.quorum_at v 0) (plan.answered_at v 0)))
+          (λ i. alone (electing.quorum_at v 0) i && (electing.is_in v 0 phase.Collecting && are_within 0 (electing.quorum_at v 0) (plan.answered_at v 0)))
+
+      committing : plan.commits 0 0 v ≡ []
+      committing = otherwise _ _ (electing.is_other (electing.quorum_at v 0) 0 0 && ltb (readings_at v 0).last (readings_at v 0).last) (λ i. alone (electing.quorum_at v 0) i && ltb (readings_at v 0).last (readings_at v 0).last)
+
+  alone_by : Plays Us (electing.elects 1 q 0 ++ plan.led 1 0 session cmd) 2 (IsServed 1 session cmd w0) w0
+  alone_by =
+      plays_weaker Us (omega arith) (λ v o p. p)
+      (plays_then Us {k = 1} {l = 1} (step Us (electing.starts q 0) (plans.Starts 0 ∷ []) (chosen _ _ (has q 0) inside) starts) (λ v o D.
+      plays_then Us {ss = idle_steps} {k = 0} {l = 1} (idle Us idle_steps (rest_of v D) D) (λ v2 o1 D2.
+      plays_then Us {k = 1} {l = 0} (step Us (plan.asks 0 session cmd) (plans.Asks 0 session cmd ∷ []) refl (asks v2 (onward_on Us w0 v v2 o o1) D2)) (λ u o2 K.
+      idle Us (plan.accepts phase.Updating 0 0 ∷ []) (otherwise _ _ (electing.is_other (electing.quorum_at u 0) 0 0 && electing.is_in u 0 phase.Updating) (λ i. alone (electing.quorum_at u 0) i && electing.is_in u 0 phase.Updating), tt)
+      (after v2 (onward_on Us w0 v v2 o o1) D2 u o2 K)))))
+
+  lowest_is : leader_of rule q ≡ 0
+  lowest_is = let L = lowest_of q (allows rule) 0 inside may_lead in let z = M.below (leader_of rule q) L.within in omega arith
+
+  alone_served : Plays Us (way_back (lone most rule) q session cmd) 2 (IsServed 1 session cmd w0) w0
+  alone_served = subst (λ (r : ℕ). Plays Us (electing.elects 1 q r ++ plan.led 1 r session cmd) 2 (IsServed 1 session cmd w0) w0) (sym lowest_is) alone_by
+
+  pub lone_way : PlannedWay (lone most rule) events q (Some (session, cmd)) (way_back (lone most rule) q session cmd) (2 * 1 * 1 + 14 * 1 + 5) (IsServed 1 session cmd)
+  unfolding alone_served
   lone_way = record {
-    more = C.events;
-    few = (let z = C.few in omega arith);
-    steps = C.steps;
-    fits = steps_fit 1 q (length w0.messages) M.below (Some (session, cmd)) (request_fits cmd form) C.events C.steps;
-    goes_on = ap (λ (r : Ran). r.stop) further;
-    rest = subst (λ (r : Ran). OthersRest q w0 r.world) (sym further) (let o = C.onward in o.rest);
-    leads = subst (λ (r : Ran). IsServed 1 session cmd w0 r.world) (sym further) C.there;
+    way = record {
+      more = C.events;
+      few = (let z = C.few in omega arith);
+      steps = C.steps;
+      fits = steps_fit 1 q (length w0.messages) M.below (Some (session, cmd)) (request_fits cmd form) C.events C.steps;
+      goes_on = ap (λ (r : Ran). r.stop) further;
+      rest = subst (λ (r : Ran). OthersRest q w0 r.world) (sym further) (let o = C.onward in o.rest);
+      leads = subst (λ (r : Ran). IsServed 1 session cmd w0 r.world) (sym further) C.there;
+    };
+    follows = (let P = alone_served in P.follow);
   }
     where
       C : Can Us 2 (IsServed 1 session cmd w0) w0
-      C = alone_served
+      C = let P = alone_served in P.can
 
       further : ran (lone most rule) (events ++ C.events) ≡ at C.next
       further = ran_on (lone most rule) first_world w0 events C.events there ∙ C.goes
@@ -231,10 +329,10 @@ module _ (most : 1 ≤ 15) (rule : Rule) (events : List Event) (F : AllFit 1 eve
 abbrev Serves : Rule → ℕ → Type 0
 Serves rule k = (most : k ≤ 15) → (let ms : Monitors = record { count = k; most = most; rule = rule } in
     (events : List Event) → AllFit k events → (ran ms events).stop ≡ None → (q : List Bool) → IsMajorityOf k q → IsReady ms q (run ms events) → (s : Session) (c : Command) → IsCommand c → is_too_long c ≡ false
-    → HasWay ms events q (Some (s, c)) (2 * k * k + 14 * k + 5) (IsServed k s c))
+    → PlannedWay ms events q (Some (s, c)) (way_back ms q s c) (2 * k * k + 14 * k + 5) (IsServed k s c))
 
 pub lone_serves : (ms : Monitors) → ms.count ≡ 1 → (events : List Event) → AllFit ms.count events → (ran ms events).stop ≡ None
     → (q : List Bool) → IsMajorityOf ms.count q → AllNear q (run ms events) → IsReady ms q (run ms events) → (s : Session) (c : Command) → IsCommand c → is_too_long c ≡ false
-    → HasWay ms events q (Some (s, c)) (2 * ms.count * ms.count + 14 * ms.count + 5) (IsServed ms.count s c)
+    → PlannedWay ms events q (Some (s, c)) (way_back ms q s c) (2 * ms.count * ms.count + 14 * ms.count + 5) (IsServed ms.count s c)
 lone_serves ms one events F on q M near ready s c form brief =
     (subst (Serves ms.rule) (sym one) (λ most events F on q M ready s c form brief. lone_way most ms.rule events F on q M ready s c form brief)) ms.most events F on q M ready s c form brief

@@ -10,14 +10,16 @@ use Rattle.mon_msg.specs.Protocol.Value.{value}
 use Rattle.mon_types.specs.Ranks.{has}
 use Rattle.mon_wire.specs.declared.reply.Reply.TheVariants as reply
 use Rattle.mon_wire.specs.declared.request.Session.{Session}
-use Rattle.quorum_elects.proofs.Can.{Can, Onward, Sane, Scope, reached_holds, then, weaker}
-use Rattle.quorum_elects.proofs.Elected.{Led, elected, its_sane, the_majority, way}
+use Rattle.quorum_elects.proofs.Can.{Can, Onward, Sane, Scope, reached_holds}
+use Rattle.quorum_elects.proofs.Elected.{Led, elected_by, its_sane, near_lacks, the_majority, way, way_on}
 use Rattle.quorum_elects.proofs.Majorities.{Candidacy, Majority, scope}
 use Rattle.quorum_elects.proofs.Moving.{HasReply}
+use Rattle.quorum_elects.proofs.Planning.{Plays, plays_then, plays_weaker}
 use Rattle.quorum_elects.proofs.Ranks.{same_or_not}
 use Rattle.quorum_elects.proofs.Standing.{CloseAt, Is, IsCollector, IsPeon}
 use Rattle.quorum_elects.proofs.Voting.{Following}
-use Rattle.quorum_elects.specs.Ready.{AllNear, HasRoom, IsReady}
+use Rattle.quorum_elects.specs.Plans.{PlannedWay}
+use Rattle.quorum_elects.specs.Ready.{AllNear, HasRoom, IsReady, LacksAtMost}
 use Rattle.quorum_elects.specs.Ways.{HasWay, IsAskedBy}
 use Rattle.quorum_laws.specs.Accepting.{IsMajorityOf, readings_at}
 use Rattle.quorum_model.specs.Agree.{IsAsked}
@@ -33,6 +35,7 @@ use Rattle.quorum_recovers.proofs.LoneServed.{lone_serves}
 use Rattle.quorum_recovers.proofs.Rounds as rounds
 use Rattle.quorum_recovers.proofs.Serving as serving
 use Rattle.quorum_recovers.proofs.Terms.{Term}
+use Rattle.quorum_recovers.specs.Plan.{led, way_back}
 use Rattle.quorum_recovers.specs.Serving.{IsServed, SomeWay}
 use Rattle.quorum_walk.proofs.Ranks.{has_only_is}
 use Rattle.std.proofs.Common.{Bool, Err, List, None, Some, [], arith, false, inl, inr, length, refl, subst, suc, sym, true, ℕ, ◌*◌, ◌+◌, ◌<◌, ◌∷◌, ◌≡◌, ◌≤◌, ◌⊎◌}
@@ -138,32 +141,55 @@ module _ (G : Majority) (room : HasRoom G.c) (log : length G.from.log ≡ G.c) (
     fit : leaders.Fit G term v
     fit = record { room = sane; holds = reached_holds G.ms G.several v sane.reached; log = (let z = (o.fronts).short in omega (arith, log)) }
 
-    served : Can (scope G) (2 + (2 * n + 2 * n) + ((1 * n + (2 * n + 1 * n)) + (1 + 2 * n))) (IsServed n session cmd G.from) v
-    served = weaker Us (omega arith) (λ u o2 S. answer u S)
+    served : Plays (scope G) (led n K.r session cmd) (2 + (2 * n + 2 * n) + ((1 * n + (2 * n + 1 * n)) + (1 + 2 * n))) (IsServed n session cmd G.from) v
+    served = plays_weaker Us (omega arith) (λ u o2 S. answer u S)
         (serving.serves_all G term session cmd (subst (λ a. IsAskedBy a session (request_of cmd)) (sym asks) (refl, refl)) form brief v fit first)
 
   module _ (m : ℕ) (among : has G.q m ≡ true) (may_lead : allows G.ms.rule m ≡ true) (sane : Sane (scope G) G.from) where
+    pub is_served_by : Plays (scope G) (way_back G.ms G.q session cmd) (2 * n * n + 14 * n + 5) (IsServed n session cmd G.from) G.from
+    is_served_by = plays_weaker Us (omega arith) (λ v o p. p) (plays_then Us (elected_by G m among may_lead sane) (λ v o L.
+        subst (λ (r : ℕ). Plays (scope G) (led n r session cmd) (2 + (2 * n + 2 * n) + ((1 * n + (2 * n + 1 * n)) + (1 + 2 * n))) (IsServed n session cmd G.from) v) L.lowest (served v o (o.sane sane) L)))
+
     pub is_served : Can (scope G) (2 * n * n + 14 * n + 5) (IsServed n session cmd G.from) G.from
-    is_served = weaker Us (omega arith) (λ v o p. p) (then Us (elected G m among may_lead sane) (λ v o L. served v o (o.sane sane) L))
+    is_served = let P = is_served_by in P.can
 
 -- ---- the laws
 
-several_serve : (ms : Monitors) → 1 < ms.count → (events : List Event) → AllFit ms.count events → (ran ms events).stop ≡ None
-    → (q : List Bool) → IsMajorityOf ms.count q → AllNear q (run ms events) → IsReady ms q (run ms events) → (s : Session) (c : Command) → IsCommand c → is_too_long c ≡ false
+-- a majority serves of which each member lacks at most one version
+pub close_serve : (ms : Monitors) → 1 < ms.count → (events : List Event) → AllFit ms.count events → (ran ms events).stop ≡ None
+    → (q : List Bool) → IsMajorityOf ms.count q → ((i : ℕ) → has q i ≡ true → LacksAtMost 1 (run ms events) i) → IsReady ms q (run ms events) → (s : Session) (c : Command) → IsCommand c → is_too_long c ≡ false
     → HasWay ms events q (Some (s, c)) (2 * ms.count * ms.count + 14 * ms.count + 5) (IsServed ms.count s c)
-several_serve ms several events F on q M near ready s c form brief =
+close_serve ms several events F on q M near ready s c form brief =
     way ms several events F on q M near ready (Some (s, c)) (request_fits c form) (2 * ms.count * ms.count + 14 * ms.count + 5) (IsServed ms.count s c)
     (is_served (the_majority ms several events F on q M near ready (Some (s, c))) ready.log refl s c refl form brief ready.leader ready.among ready.may_lead (its_sane ms several events F on q M near ready (Some (s, c))))
+
+several_serve : (ms : Monitors) → 1 < ms.count → (events : List Event) → AllFit ms.count events → (ran ms events).stop ≡ None
+    → (q : List Bool) → IsMajorityOf ms.count q → AllNear q (run ms events) → IsReady ms q (run ms events) → (s : Session) (c : Command) → IsCommand c → is_too_long c ≡ false
+    → PlannedWay ms events q (Some (s, c)) (way_back ms q s c) (2 * ms.count * ms.count + 14 * ms.count + 5) (IsServed ms.count s c)
+unfolding way way_on is_served_by
+several_serve ms several events F on q M near ready s c form brief =
+    let lacks : (i : ℕ) → has q i ≡ true → LacksAtMost 1 (run ms events) i = λ i h. near_lacks (run ms events) i (near i h) in
+    let P = is_served_by (the_majority ms several events F on q M lacks ready (Some (s, c))) ready.log refl s c refl form brief ready.leader ready.among ready.may_lead (its_sane ms several events F on q M lacks ready (Some (s, c))) in
+    record {
+      way = way ms several events F on q M lacks ready (Some (s, c)) (request_fits c form) (2 * ms.count * ms.count + 14 * ms.count + 5) (IsServed ms.count s c) P.can;
+      follows = P.follow;
+    }
+
+-- by events that are planned
+pub serves_as_planned : (ms : Monitors) → 1 ≤ ms.count → (events : List Event) → AllFit ms.count events → (ran ms events).stop ≡ None
+    → (q : List Bool) → IsMajorityOf ms.count q → AllNear q (run ms events) → IsReady ms q (run ms events) → (s : Session) (c : Command) → IsCommand c → is_too_long c ≡ false
+    → PlannedWay ms events q (Some (s, c)) (way_back ms q s c) (2 * ms.count * ms.count + 14 * ms.count + 5) (IsServed ms.count s c)
+serves_as_planned ms some events F on q M near ready s c form brief = by (cases_order 1 ms.count)
+  where
+    by : (1 ≡ ms.count) ⊎ ((1 < ms.count) ⊎ (ms.count < 1)) → PlannedWay ms events q (Some (s, c)) (way_back ms q s c) (2 * ms.count * ms.count + 14 * ms.count + 5) (IsServed ms.count s c)
+    by (inl e) = lone_serves ms (sym e) events F on q M near ready s c form brief
+    by (inr (inl several)) = several_serve ms several events F on q M near ready s c form brief
+    by (inr (inr none)) = absurd (omega arith)
 
 pub serves_any : (ms : Monitors) → 1 ≤ ms.count → (events : List Event) → AllFit ms.count events → (ran ms events).stop ≡ None
     → (q : List Bool) → IsMajorityOf ms.count q → AllNear q (run ms events) → IsReady ms q (run ms events) → (s : Session) (c : Command) → IsCommand c → is_too_long c ≡ false
     → HasWay ms events q (Some (s, c)) (2 * ms.count * ms.count + 14 * ms.count + 5) (IsServed ms.count s c)
-serves_any ms some events F on q M near ready s c form brief = by (cases_order 1 ms.count)
-  where
-    by : (1 ≡ ms.count) ⊎ ((1 < ms.count) ⊎ (ms.count < 1)) → HasWay ms events q (Some (s, c)) (2 * ms.count * ms.count + 14 * ms.count + 5) (IsServed ms.count s c)
-    by (inl e) = lone_serves ms (sym e) events F on q M near ready s c form brief
-    by (inr (inl several)) = several_serve ms several events F on q M near ready s c form brief
-    by (inr (inr none)) = absurd (omega arith)
+serves_any ms some events F on q M near ready s c form brief = let P = serves_as_planned ms some events F on q M near ready s c form brief in P.way
 
 pub recovers : (ms : Monitors) → 1 ≤ ms.count → (events : List Event) → AllFit ms.count events → (ran ms events).stop ≡ None
     → (s : Session) (c : Command) → IsCommand c → is_too_long c ≡ false → SomeWay ms events (Some (s, c)) (2 * ms.count * ms.count + 14 * ms.count + 5) (IsServed ms.count s c)

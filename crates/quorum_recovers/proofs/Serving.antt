@@ -6,6 +6,7 @@ use Rattle.mon_bytes.specs.declared.command.CommandRefused.{CommandRefused}
 use Rattle.mon_msg.specs.Fold.{entry}
 use Rattle.mon_msg.specs.Protocol.Commands.{is_too_long}
 use Rattle.mon_msg.specs.Protocol.Course.{Course}
+use Rattle.mon_msg.specs.Protocol.Phases.{same_phase}
 use Rattle.mon_msg.specs.Protocol.Proposing.{refusal}
 use Rattle.mon_msg.specs.Protocol.Readings.{Readings, promise_of, shared_entries}
 use Rattle.mon_msg.specs.Protocol.Sets.{only}
@@ -17,16 +18,21 @@ use Rattle.mon_types.specs.Ranks.{has}
 use Rattle.mon_wire.specs.declared.body.Body.{Body}
 use Rattle.mon_wire.specs.declared.body.Body.TheVariants as body
 use Rattle.mon_wire.specs.declared.phase.Phase.TheVariants as phase
+use Rattle.mon_wire.specs.declared.phase.Phase.{Phase}
 use Rattle.mon_wire.specs.declared.reply.Reply.TheVariants as reply
 use Rattle.mon_wire.specs.declared.request.Session.{Session}
 use Rattle.quorum_agreement.proofs.Chosen.{Chosen, IsEntry}
 use Rattle.quorum_agreement.proofs.Invariant.{OfLog}
-use Rattle.quorum_elects.proofs.Can.{Can, New, Onward, Scope, fronts_on, new_stays, rests, then, weaker}
+use Rattle.quorum_elects.proofs.Can.{New, Onward, Scope, fronts_on, new_stays}
 use Rattle.quorum_elects.proofs.Majorities.{Majority, scope}
 use Rattle.quorum_elects.proofs.Moving.{Did, HasReply}
-use Rattle.quorum_elects.proofs.Ranks.{same_or_not}
+use Rattle.quorum_elects.proofs.Planning.{Plays, plays_none, plays_then, plays_weaker, step}
+use Rattle.quorum_elects.proofs.Ranks.{in_or_out, same_or_not}
 use Rattle.quorum_elects.proofs.Standing.{Is, letter}
 use Rattle.quorum_elects.proofs.Steps.{ask, is_now, is_stays}
+use Rattle.quorum_elects.proofs.Tests.{and_false, in_phase, itself_is, otherwise, outside_is, quorum_is}
+use Rattle.quorum_elects.specs.Electing as electing
+use Rattle.quorum_elects.specs.Plans as plans
 use Rattle.quorum_elects.specs.Ways.{IsAskedBy}
 use Rattle.quorum_history.proofs.History.{Accepted}
 use Rattle.quorum_history.proofs.Holds.{ActsIn, InPhase, core_of}
@@ -48,11 +54,12 @@ use Rattle.quorum_recovers.proofs.States.{IsActive, IsHearing, IsProposing}
 use Rattle.quorum_recovers.proofs.Terms.{Term}
 use Rattle.quorum_recovers.proofs.Terms as terms
 use Rattle.quorum_recovers.proofs.ValueRows.{Proposes, Refuses, proposes}
+use Rattle.quorum_recovers.specs.Plan as plan
 use Rattle.quorum_walk.proofs.FineCourses.{Val}
 use Rattle.quorum_walk.proofs.Ranks.{majorities}
 use Rattle.quorum_walk.proofs.Sparing.{own_of}
-use Rattle.std.proofs.Common.{Bool, Err, List, None, Some, [], ap, arith, false, inl, inr, length, ltb, refl, subst, suc, sym, true, ℕ, ◌%◌, ◌*◌, ◌+◌, ◌-◌, ◌<◌, ◌^◌, ◌∙◌, ◌∷◌, ◌≡◌, ◌≤◌, ◌⊎◌}
-use Rattle.std.proofs.lemmas.Bool.{cases_lt, lt-ltb}
+use Rattle.std.proofs.Common.{Bool, Err, List, None, Some, [], ap, arith, false, inl, inr, length, ltb, refl, subst, suc, sym, true, ℕ, ◌%◌, ◌&&◌, ◌*◌, ◌+◌, ◌-◌, ◌<◌, ◌^◌, ◌∙◌, ◌∷◌, ◌≡◌, ◌≤◌, ◌⊎◌}
+use Rattle.std.proofs.lemmas.Bool.{cases_lt, le-ltb, lt-ltb}
 
 module _ (G : Majority) (Q : Term G) where
   abbrev ms : Monitors
@@ -93,9 +100,6 @@ module _ (G : Majority) (Q : Term G) where
 
   abbrev T : ℕ → ℕ
   T = Q.T
-
-  abbrev Can1 : ℕ → (World → Type 0) → World → Type 0
-  Can1 k P w = Can Us k P w
 
   abbrev On : World → World → Type 0
   On w v = Onward Us w v
@@ -179,13 +183,35 @@ module _ (G : Majority) (Q : Term G) where
       by (inl less) = absurd (lacks (length w.log - 1) (omega arith) (omega arith))
 
   rests_active : (l pn : ℕ) → pn ≤ 2 ^ 62 → l ≤ 2 ^ 62 → (U : ℕ → ℕ) → ((f : ℕ) → has a f ≡ true → U f ≤ l) → ((f : ℕ) → has a f ≡ true → l ≤ suc (U f)) → (value : List Op) → (1 ≤ l → Val value) → c ≤ l → l ≤ suc c → (w : World) → Fit w → Is (IsActive r e a l pn 0) w r
-      → ((f : ℕ) → f < n → has a f ≡ true → (f ≡ r → ⊥) → U f < l → Mail r f (body.Commit l (value ∷ [])) w) → ((f : ℕ) → has a f ≡ true → (f ≡ r → ⊥) → Is (IsHearing r e a (U f) pn) w f) → Can1 (1 * n) Resting w
+      → ((f : ℕ) → f < n → has a f ≡ true → (f ≡ r → ⊥) → U f < l → Mail r f (body.Commit l (value ∷ [])) w) → ((f : ℕ) → has a f ≡ true → (f ≡ r → ⊥) → Is (IsHearing r e a (U f) pn) w f) → Plays Us (electing.each n (plan.commits r)) (1 * n) Resting w
   rests_active l pn short room U top lag value fine low high w F hub commits peons =
-      weaker Us (omega arith) (λ v o C. record { fit = C.fit; l = l; pn = pn; short = short; hub = C.hub; peons = λ f h ne. C.done f (below f h) h ne; low = low; high = high })
-      (committing.catch_all G Q (IsActive r e a l pn 0) (λ v. Unit {0}) (λ v u o k. tt) l pn room U top lag value fine w (record { fit = F; hub = hub; post = tt; commits = commits; done = λ f less h ne. absurd (omega arith); left = λ f more h ne. peons f h ne }))
+      plays_weaker Us (omega arith) (λ v o C. record { fit = C.fit; l = l; pn = pn; short = short; hub = C.hub; peons = λ f h ne. C.done f (below f h) h ne; low = low; high = high })
+      (committing.catch_all G Q (IsActive r e a l pn 0) (λ v. Unit {0}) (λ v u o k. tt) l pn room U top lag value fine (λ w s H. (H.last, H.quorum)) w (record { fit = F; hub = hub; post = tt; commits = commits; done = λ f less h ne. absurd (omega arith); left = λ f more h ne. peons f h ne }))
+
+  -- once it rests, nobody lacks a version and nothing is in progress
+  not_in : (w : World) (R : Resting w) (p : Phase) → same_phase phase.Active p ≡ false → electing.is_in w r p ≡ false
+  not_in w R p e = let Z = R.hub in let H = Z.holds in in_phase w r Z.state phase.Active p Z.up H.phase ∙ e
+
+  abbrev lacks : ℕ → World → Bool
+  lacks k w = ltb (readings_at w k).last (readings_at w r).last
+
+  none_lacks : (w : World) (R : Resting w) (k : ℕ) → plan.commits r k w ≡ []
+  none_lacks w R k = otherwise _ _ (electing.is_other (electing.quorum_at w r) r k && (lacks k w)) (by (in_or_out (has a k)) (same_or_not k r))
+    where
+      members : electing.quorum_at w r ≡ a
+      members = let Z = R.hub in let H = Z.holds in quorum_is w r Z.state a Z.up H.quorum
+
+      not_other : electing.is_other a r k ≡ false → (electing.is_other (electing.quorum_at w r) r k && (lacks k w)) ≡ false
+      not_other out = λ i. ((λ j. electing.is_other (members j) r k) ∙ out) i && (lacks k w)
+
+      by : (has a k ≡ true) ⊎ (has a k ≡ false) → (k ≡ r) ⊎ (k ≡ r → ⊥) → (electing.is_other (electing.quorum_at w r) r k && (lacks k w)) ≡ false
+      by (inr out) z = not_other (outside_is a r k out)
+      by (inl there) (inl same) = not_other (itself_is a r k same)
+      by (inl there) (inr other) = and_false (electing.is_other (electing.quorum_at w r) r k) (lacks k w) (le-ltb (readings_at w k).last (readings_at w r).last
+          (let Z = R.hub in let H = Z.holds in let Y : Is (IsHearing r e a R.l R.pn) w k = R.peons k there other in let P = Y.holds in let x = H.last in let y = P.last in omega arith))
 
   -- what was in progress is committed first
-  rests_first : (w : World) → Ready w → Can1 (1 * n + (2 * n + 1 * n)) Resting w
+  rests_first : (w : World) → Ready w → Plays Us (plan.settling n r) (1 * n + (2 * n + 1 * n)) Resting w
   rests_first w Y = let S = Y.settled in by S.goes
     where
       S : leaders.Settled G Q w
@@ -197,19 +223,21 @@ module _ (G : Majority) (Q : Term G) where
       lag : (f : ℕ) → has a f ≡ true → S.l ≤ suc (T f)
       lag f h = let z = Q.least f h in let y = S.under in omega arith
 
-      first : (value : List Op) → Is (IsProposing phase.Previous r e a S.l S.pn (only r) value None) w r → ((g : ℕ) → g < n → has a g ≡ true → (g ≡ r → ⊥) → Mail r g (body.Begin S.pn (suc S.l) value) w) → Can1 (1 * n + (2 * n + 1 * n)) Resting w
+      first : (value : List Op) → Is (IsProposing phase.Previous r e a S.l S.pn (only r) value None) w r → ((g : ℕ) → g < n → has a g ≡ true → (g ≡ r → ⊥) → Mail r g (body.Begin S.pn (suc S.l) value) w) → Plays Us (plan.settling n r) (1 * n + (2 * n + 1 * n)) Resting w
       first value Z begins =
-          then Us (committing.catch_all G Q (IsProposing phase.Previous r e a S.l S.pn (only r) value None) Post (λ v u o k g few h ne. new_stays Us o (k g few h ne)) S.l S.pn (let y = S.under in let z = terms.version_room G Q S.l (omega arith) in omega arith) T S.top lag S.value S.fine w
+          plays_then Us (committing.catch_all G Q (IsProposing phase.Previous r e a S.l S.pn (only r) value None) Post (λ v u o k g few h ne. new_stays Us o (k g few h ne)) S.l S.pn (let y = S.under in let z = terms.version_room G Q S.l (omega arith) in omega arith) T S.top lag S.value S.fine (λ w s H. (H.last, H.quorum)) w
           (record { fit = Y.fit; hub = Z; post = begins; commits = S.commits; done = λ f less h ne. absurd (omega arith); left = λ f more h ne. S.peons f h ne })) (λ v o C.
-          then Us (committing.vote_all G Q phase.Previous (inl refl) None S.l S.pn value v C.fit C.post (λ f h ne. C.done f (below f h) h ne) C.hub) (λ u o2 D.
+          plays_then Us (committing.vote_all G Q phase.Previous (inl refl) None S.l S.pn value v C.fit C.post (λ f h ne. C.done f (below f h) h ne) C.hub) (λ u o2 D.
           let K = D.committed in
           rests_active (suc S.l) S.pn S.short (terms.version_room G Q S.l (let y = S.under in omega arith)) (λ f. S.l) (λ f h. omega arith) (λ f h. omega arith) value (λ some. K.fine) (let z = S.least in omega arith) (let z = S.under in omega arith) u D.fit K.hub (λ f few h ne less. K.commits f few h ne) D.peons))
         where
           Post : World → Type 0
           Post v = (g : ℕ) → g < n → has a g ≡ true → (g ≡ r → ⊥) → Mail r g (body.Begin S.pn (suc S.l) value) v
 
-      by : leaders.Goes G Q S.l S.pn w → Can1 (1 * n + (2 * n + 1 * n)) Resting w
-      by (inl Z) = weaker Us (omega arith) (λ v o p. p) (rests_active S.l S.pn S.short (let y = S.under in let z = terms.version_room G Q S.l (omega arith) in omega arith) T S.top lag S.value S.fine (whole_then S.l S.pn Z S.peons) (let z = S.under in omega arith) w Y.fit Z S.commits S.peons)
+      by : leaders.Goes G Q S.l S.pn w → Plays Us (plan.settling n r) (1 * n + (2 * n + 1 * n)) Resting w
+      by (inl Z) = plays_then Us (rests_active S.l S.pn S.short (let y = S.under in let z = terms.version_room G Q S.l (omega arith) in omega arith) T S.top lag S.value S.fine (whole_then S.l S.pn Z S.peons) (let z = S.under in omega arith) w Y.fit Z S.commits S.peons) (λ v o R.
+          plays_then Us (plays_none Us n (plan.accepts phase.Previous r) (λ k. otherwise _ _ (electing.is_other (electing.quorum_at v r) r k && electing.is_in v r phase.Previous) (and_false (electing.is_other (electing.quorum_at v r) r k) (electing.is_in v r phase.Previous) (not_in v R phase.Previous refl))) R) (λ u o2 R2.
+          plays_none Us n (plan.commits r) (none_lacks u R2) R2))
       by (inr Z) = first Z.0 Z.1 Z.2
 
   -- ---- a client's command
@@ -219,11 +247,11 @@ module _ (G : Majority) (Q : Term G) where
     pub answer : ((v : ℕ) × HasReply w r session (reply.Done (suc v)) × (c ≤ v) × (v ≤ suc c) × (v < length w.log) × IsAsked n (asked_at r session cmd ∷ []) w.log v)
         ⊎ ((why : CommandRefused) × (value (readings_at w r) cmd r ≡ Err why) × HasReply w r session (refusal why))
 
-  pub answers : (session : Session) (cmd : Command) → IsAskedBy G.asks session (request_of cmd) → IsCommand cmd → is_too_long cmd ≡ false → (w : World) → Resting w → Can1 (1 + 2 * n) (Served w.events session cmd) w
+  pub answers : (session : Session) (cmd : Command) → IsAskedBy G.asks session (request_of cmd) → IsCommand cmd → is_too_long cmd ≡ false → (w : World) → Resting w → Plays Us (plan.serving n r session cmd) (1 + 2 * n) (Served w.events session cmd) w
   answers session cmd may form short w R =
-      then Us (ask Us w (let F = R.fit in F.room) r (lt_of r mine) (within r mine) Goal session (request_of cmd) may (request_fits cmd form) Z.state Z.up
+      plays_then Us (step Us (plan.asks r session cmd) (plans.Asks r session cmd ∷ []) refl (ask Us w (let F = R.fit in F.room) r (lt_of r mine) (within r mine) Goal session cmd may (request_fits cmd form) Z.state Z.up
       (proposes ms several r (lt_of r mine) (shared_entries (w.store r)) 0 (readings_at w r) Z.state e a R.l R.pn Z.holds (terms.not_alone G Q (lt_of r mine)) (omega arith) room session cmd short
-      (service_room w.log O.short O.values (w.store r) V.last V.versions less (service_of cmd)) (λ x is. value_val w.log O.short O.values (w.store r) V.last V.versions less cmd form r (terms.few_r G Q) x is))) after
+      (service_room w.log O.short O.values (w.store r) V.last V.versions less (service_of cmd)) (λ x is. value_val w.log O.short O.values (w.store r) V.last V.versions less cmd form r (terms.few_r G Q) x is)))) after
     where
       F : Fit w
       F = R.fit
@@ -255,14 +283,14 @@ module _ (G : Majority) (Q : Term G) where
       Goal : Course → Type 0
       Goal y = Proposes ms several r (lt_of r mine) (shared_entries (w.store r)) 0 (readings_at w r) cmd e a R.l R.pn session y ⊎ Refuses ms several r (lt_of r mine) (shared_entries (w.store r)) 0 (readings_at w r) cmd session y
 
-      after : (v : World) → On w v → Did Us Goal w r v → Can1 (2 * n) (Served w.events session cmd) v
+      after : (v : World) → On w v → Did Us Goal w r v → Plays Us (electing.each n (plan.accepts phase.Updating r)) (2 * n) (Served w.events session cmd) v
       after v o D = by D.did
         where
           FV : Fit v
           FV = leaders.fit_on G Q Goal w v r o D R.fit
 
-          by : Goal D.y → Can1 (2 * n) (Served w.events session cmd) v
-          by (inl P) = weaker Us (omega arith) done
+          by : Goal D.y → Plays Us (electing.each n (plan.accepts phase.Updating r)) (2 * n) (Served w.events session cmd) v
+          by (inl P) = plays_weaker Us (omega arith) done
               (committing.vote_all G Q phase.Updating (inr refl) (Some (origin.Session session)) R.l R.pn P.value v FV (λ g few h ne. D.moved.says g (letter n r e (body.Begin R.pn (suc R.l) P.value)) (P.says g few h ne))
               (λ f h ne. is_stays (IsHearing r e a R.l R.pn) w v f (D.moved.others f ne) (R.peons f h ne))
               (is_now Us (IsProposing phase.Updating r e a R.l R.pn (only r) P.value (Some (origin.Session session))) w v r D.y D.moved P.stands))
@@ -281,7 +309,7 @@ module _ (G : Majority) (Q : Term G) where
                       subst (λ (l : ℕ). IsAsked n (asked_at r session cmd ∷ []) u.log l) same (asked_is w.log O.short O.values (w.store r) V.last V.versions (whole ∙ sym same) less cmd form r (terms.few_r G Q) P.value P.made n (below r mine) session u.log (fronts_on o.fronts o2.fronts) (ap (λ (l : ℕ). entry u.log (suc l)) same ∙ (C.version).spells)),
                     );
                   }
-          by (inr P) = rests Us (record { later = (let p = D.moved.elapses in omega arith); answer = inr (P.why, subst (λ (x : Readings). value x cmd r ≡ Err P.why) (sym (D.moved.reads ∙ P.reads)) P.is, D.moved.replies session (refusal P.why) P.says) })
+          by (inr P) = plays_none Us n (plan.accepts phase.Updating r) (λ k. otherwise _ _ (electing.is_other (electing.quorum_at v r) r k && electing.is_in v r phase.Updating) (and_false (electing.is_other (electing.quorum_at v r) r k) (electing.is_in v r phase.Updating) (in_phase v r D.y.state phase.Active phase.Updating D.moved.up P.phase))) (record { later = (let p = D.moved.elapses in omega arith); answer = inr (P.why, subst (λ (x : Readings). value x cmd r ≡ Err P.why) (sym (D.moved.reads ∙ P.reads)) P.is, D.moved.replies session (refusal P.why) P.says) })
 
-  pub serves_all : (session : Session) (cmd : Command) → IsAskedBy G.asks session (request_of cmd) → IsCommand cmd → is_too_long cmd ≡ false → (w : World) → Fit w → First w → Can1 (2 + (2 * n + 2 * n) + ((1 * n + (2 * n + 1 * n)) + (1 + 2 * n))) (Served w.events session cmd) w
-  serves_all session cmd may form short w F Y = then Us (rounds.ready G Q w F Y) (λ v o X. then Us (rests_first v X) (λ u o2 R. weaker Us (omega arith) (λ x o3 S. record { answer = S.answer; later = (let a = o.elapsed in let b = o2.elapsed in let z = S.later in omega arith) }) (answers session cmd may form short u R)))
+  pub serves_all : (session : Session) (cmd : Command) → IsAskedBy G.asks session (request_of cmd) → IsCommand cmd → is_too_long cmd ≡ false → (w : World) → Fit w → First w → Plays Us (plan.led n r session cmd) (2 + (2 * n + 2 * n) + ((1 * n + (2 * n + 1 * n)) + (1 + 2 * n))) (Served w.events session cmd) w
+  serves_all session cmd may form short w F Y = plays_then Us (rounds.ready G Q w F Y) (λ v o X. plays_then Us (rests_first v X) (λ u o2 R. plays_weaker Us (omega arith) (λ x o3 S. record { answer = S.answer; later = (let a = o.elapsed in let b = o2.elapsed in let z = S.later in omega arith) }) (answers session cmd may form short u R)))

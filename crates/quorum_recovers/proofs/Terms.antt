@@ -1,17 +1,25 @@
 -- A leader whose members lack at most one version.
 use Rattle.mon_msg.specs.Protocol.Leading.{is_alone}
 use Rattle.mon_msg.specs.Protocol.Sets.{are_within, only}
-use Rattle.mon_types.specs.Ranks.{count_of, has, is_majority}
+use Rattle.mon_msg.specs.Protocol.State.{State}
+use Rattle.mon_types.specs.Ranks.{count_of, has, is_majority, no_ranks}
 use Rattle.quorum_agreement.proofs.Others.{others}
 use Rattle.quorum_elects.proofs.Majorities.{Majority}
 use Rattle.quorum_elects.proofs.Ranks.{one_counts}
 use Rattle.quorum_elects.specs.Ready.{HasRoom}
 use Rattle.quorum_laws.specs.Accepting.{IsMajorityOf}
 use Rattle.quorum_model.proofs.Members.{member_of}
+use Rattle.quorum_model.specs.World.{World}
+use Rattle.quorum_recovers.specs.Plan.{answered_at}
 use Rattle.quorum_walk.proofs.Ranks.{has_only_is, within_at}
-use Rattle.std.proofs.Common.{Bool, List, arith, false, ltb, not, refl, suc, true, zero, ℕ, ◌&&◌, ◌*◌, ◌+◌, ◌<◌, ◌^◌, ◌||◌, ◌≡◌, ◌≤◌}
+use Rattle.std.proofs.Common.{Bool, List, Option, Some, ap, arith, false, ltb, not, refl, suc, true, zero, ℕ, ◌&&◌, ◌*◌, ◌+◌, ◌<◌, ◌^◌, ◌||◌, ◌∙◌, ◌≡◌, ◌≤◌}
 use Rattle.std.proofs.lemmas.Bool.{ltb-true}
 use Rattle.std.specs.List.{list_all, range_with_len}
+use Rattle.std.specs.Option.{option_map_or}
+
+-- what a monitor that is up remembers of the answers
+pub answered_is : (w : World) (i : ℕ) (s : State) (a : List Bool) → w.state i ≡ Some s → s.leader.answered ≡ a → answered_at w i ≡ a
+answered_is w i s a up e = ap (λ (o : Option State). option_map_or (λ x. x.leader.answered) o no_ranks) up ∙ e
 
 -- all of a set that are below n are in the other
 all_from : (n : ℕ) (a b : List Bool) → ((f : ℕ) → f < n → has a f ≡ true → has b f ≡ true) → (len from : ℕ) → from + len ≤ n → list_all (λ k. not (has a k) || has b k) (range_with_len from len) ≡ true

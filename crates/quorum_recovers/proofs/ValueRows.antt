@@ -249,6 +249,7 @@ module _ (ms : Monitors) (several : 1 < ms.count) (i : ℕ) (lt : ltb i ms.count
     pub why : CommandRefused
     pub is : value w c i ≡ Err why
     pub reads : y.readings ≡ w
+    pub phase : y.state.phase ≡ phase.Active
     pub says : Among (send.Reply session (refusal why)) y.out
 
   pub proposes : (w : Readings) (s : State) (e : ℕ) (a : List Bool) (l pn : ℕ) → IsActive i e a l pn now w s → is_alone me a ≡ false → now < 2 ^ 62 → suc l ≤ 2 ^ 62 → (session : Session) (c : Command) → is_too_long c ≡ false → suc (service_last w (service_of c)) ≤ 2 ^ 62 → ((x : List Op) → mon_value.value w c i ≡ Ok x → Val x)
@@ -272,7 +273,7 @@ module _ (ms : Monitors) (several : 1 < ms.count) (i : ℕ) (lt : ltb i ms.count
       free = λ j. (same_phase (P.phase j) phase.Active && standing j) && not (not (is_empty (P.queue j)))
 
       made : (c : Command) → ((x : List Op) → value w c i ≡ Ok x → Val x) → (r : Result (List Op) CommandRefused) → value w c i ≡ r → Surely (Goal c) (begin_made me now (origin.Session session) r (at_rest w s))
-      made c vals (Err why) is = done (record { tells = refl; fits = tt; short = tt; unmarked = P.unmarked }, inr (record { why = why; is = is; reads = refl; says = inl refl }))
+      made c vals (Err why) is = done (record { tells = refl; fits = tt; short = tt; unmarked = P.unmarked }, inr (record { why = why; is = is; reads = refl; phase = P.phase; says = inl refl }))
       made c vals (Ok v) is =
           where_fits (Goal c) which.Version (suc w.last) _ (let z = P.last in omega arith) (λ fits.
           let X = vals v is in

@@ -3,6 +3,7 @@ ghost use Rattle.log_model.specs.LogOfValues.{IsCommand};
 ghost use Rattle.mon_bytes.specs.declared.command.Command.{Command};
 ghost use Rattle.mon_msg.specs.Protocol.Commands.{is_too_long};
 ghost use Rattle.mon_wire.specs.declared.request.Session.{Session};
+ghost use Rattle.quorum_elects.specs.Plans.{PlannedWay};
 ghost use Rattle.quorum_elects.specs.Ready.{AllNear, IsReady};
 ghost use Rattle.quorum_elects.specs.Ways.{HasWay};
 ghost use Rattle.quorum_laws.specs.Accepting.{IsMajorityOf};
@@ -10,6 +11,7 @@ ghost use Rattle.quorum_model.specs.Events.{AllFit};
 ghost use Rattle.quorum_model.specs.Monitors.{Monitors};
 ghost use Rattle.quorum_model.specs.Runs.{ran, run};
 ghost use Rattle.quorum_model.specs.World.{Event};
+ghost use Rattle.quorum_recovers.specs.Plan.{way_back};
 ghost use Rattle.quorum_recovers.specs.Serving.{IsServed, SomeWay};
 
 /// A majority that is near the whole log and ready to serve can serve, under any rule, whatever the run was before and
@@ -31,4 +33,15 @@ pub fn law_recovers()
     ensures { (ms : Monitors) → 1 ≤ ms.count → (events : List Event) → AllFit ms.count events
         → (ran ms events).stop ≡ None → (s : Session) (c : Command) → IsCommand c → is_too_long c ≡ false
         → SomeWay ms events (Some (s, c)) (2 * ms.count * ms.count + 14 * ms.count + 5) (IsServed ms.count s c) }
+{}
+
+/// The further events of the way back are planned: by kind, sender, receiver and order they are those of `way_back`, which
+/// computes them from the worlds that they lead to. Which of several such messages is delivered is left open.
+pub fn law_way_back_is_planned()
+    ensures { (ms : Monitors) → 1 ≤ ms.count → (events : List Event) → AllFit ms.count events
+        → (ran ms events).stop ≡ None → (q : List Bool) → IsMajorityOf ms.count q
+        → AllNear q (run ms events) → IsReady ms q (run ms events)
+        → (s : Session) (c : Command) → IsCommand c → is_too_long c ≡ false
+        → PlannedWay ms events q (Some (s, c)) (way_back ms q s c) (2 * ms.count * ms.count + 14 * ms.count + 5)
+        (IsServed ms.count s c) }
 {}
