@@ -1,0 +1,40 @@
+-- Single events at a monitor that may be in a full synchronization.
+use Rattle.mon_msg.specs.Protocol.Readings.{readings_of, shared_entries}
+use Rattle.mon_msg.specs.Protocol.State.{State, booting}
+use Rattle.mon_msg.specs.Protocol.Course.{Course}
+use Rattle.mon_msg.specs.Protocol.Table.{react}
+use Rattle.mon_msg.specs.declared.input.Input.TheVariants as input
+use Rattle.mon_types.specs.Ranks.{has}
+use Rattle.mon_wire.specs.declared.message.Message.{Message}
+use Rattle.mon_wire.specs.declared.phase.Timer.{Timer}
+use Rattle.quorum_elects.proofs.Can.{Can, New, Sane, Scope}
+use Rattle.quorum_elects.proofs.Moving.{Bears, Did, Sound, comes, copies}
+use Rattle.quorum_elects.proofs.Walking.{Surely}
+use Rattle.quorum_model.proofs.Members.{member_of}
+use Rattle.quorum_model.specs.Meets.{Arrival}
+use Rattle.quorum_model.specs.World.{Deliver, Envelope, Ring, Start, World}
+use Rattle.std.proofs.Common.{Some, ap, arith, ltb, refl, suc, true, ℕ, ◌≡◌}
+use Rattle.std.proofs.lemmas.Bool.{ltb-true}
+use Rattle.std.specs.Option.{option_map}
+
+abbrev arrives : Envelope → Arrival
+arrives e = record { rank = e.to; at = 0; input = input.Deliver e.message }
+
+module _ (S : Scope) (w : World) (sane : Sane S w) (i : ℕ) (lt : ltb i S.ms.count ≡ true) (inside : has S.q i ≡ true) (R : Course → Type 0) where
+  pub start : Surely (λ y. Sound (readings_of (w.store i)) y × R y) (react (member_of S.ms i lt) (shared_entries (w.store i)) 0 (readings_of (w.store i)) (booting i) input.Start) → Can S 1 (Did S R w i) w
+  start T = comes S w sane (Start i 0) i lt 0 input.Start (booting i) refl refl inside inside (ltb-true i S.ms.count lt) R T
+
+  pub deliver : (m : Message) → New S.sent w (record { to = i; message = m }) → (s : State) → w.state i ≡ Some s
+      → Surely (λ y. Sound (readings_of (w.store i)) y × R y) (react (member_of S.ms i lt) (shared_entries (w.store i)) 0 (readings_of (w.store i)) s (input.Deliver m)) → Can S 1 (Did S R w i) w
+  deliver m N s up T = comes S w sane (Deliver (suc N.index) 0) i lt 0 (input.Deliver m) s (ap (option_map arrives) N.there) up (let z = N.since in omega arith) inside tt R T
+
+  pub start_copy : Surely (λ y. Bears (w.store i) y × R y) (react (member_of S.ms i lt) (shared_entries (w.store i)) 0 (readings_of (w.store i)) (booting i) input.Start) → Can S 1 (Did S R w i) w
+  start_copy T = copies S w sane (Start i 0) i lt 0 input.Start (booting i) refl refl inside inside (ltb-true i S.ms.count lt) R T
+
+  pub deliver_copy : (m : Message) → New S.sent w (record { to = i; message = m }) → (s : State) → w.state i ≡ Some s
+      → Surely (λ y. Bears (w.store i) y × R y) (react (member_of S.ms i lt) (shared_entries (w.store i)) 0 (readings_of (w.store i)) s (input.Deliver m)) → Can S 1 (Did S R w i) w
+  deliver_copy m N s up T = copies S w sane (Deliver (suc N.index) 0) i lt 0 (input.Deliver m) s (ap (option_map arrives) N.there) up (let z = N.since in omega arith) inside tt R T
+
+  pub ring_copy : (t : Timer) → (s : State) → w.state i ≡ Some s
+      → Surely (λ y. Bears (w.store i) y × R y) (react (member_of S.ms i lt) (shared_entries (w.store i)) 0 (readings_of (w.store i)) s (input.Timer t)) → Can S 1 (Did S R w i) w
+  ring_copy t s up T = copies S w sane (Ring i t 0) i lt 0 (input.Timer t) s refl up inside inside (ltb-true i S.ms.count lt) R T

@@ -1,0 +1,13 @@
+pub mod Beginnings
+pub mod Copying
+pub mod Events
+pub mod Giving
+pub mod Learning
+pub mod Progress
+pub mod Recent
+pub mod Rejoined
+pub mod Serving
+pub mod Sizes
+pub mod Taking
+pub mod Turning
+pub mod Turns

@@ -1,0 +1,83 @@
+-- One member of a set takes its turn: it copies from another member, and nobody else does anything.
+use Rattle.mon_msg.proofs.Joining.{apply-joined}
+use Rattle.mon_msg.specs.Joined.{joined}
+use Rattle.mon_msg.specs.Protocol.Changes.{Change, spelled}
+use Rattle.mon_msg.specs.Protocol.Course.{Course}
+use Rattle.mon_msg.specs.Protocol.Phases.{same_phase}
+use Rattle.mon_msg.specs.Protocol.Readings.{Readings, readings_of}
+use Rattle.mon_msg.specs.Protocol.State.{State}
+use Rattle.mon_tx.specs.Map.{Store, apply}
+use Rattle.mon_wire.specs.declared.phase.Phase.TheVariants as phase
+use Rattle.quorum_agreement.proofs.Grown.{grown_marked, grown_none}
+use Rattle.quorum_elects.proofs.Can.{Onward, Sane, Scope}
+use Rattle.quorum_elects.proofs.Moving.{Moved}
+use Rattle.quorum_model.specs.Growth.{grown}
+use Rattle.quorum_model.specs.World.{World}
+use Rattle.std.proofs.Common.{Bool, List, Some, [], ap, false, inl, inr, length, refl, subst, sym, true, ℕ, ◌∙◌, ◌≡◌, ◌≤◌, ◌⊎◌}
+
+-- the store doesn't make the log longer
+abbrev pub AddsNone : List (List ℕ) → Readings → Type 0
+AddsNone log w = (w.marked ≡ true) ⊎ (w.last ≤ length log)
+
+pub adds_none : (log : List (List ℕ)) (m : Store) → AddsNone log (readings_of m) → grown log m ≡ log
+adds_none log m h = by (readings_of m).marked refl h
+  where
+    by : (b : Bool) → (readings_of m).marked ≡ b → AddsNone log (readings_of m) → grown log m ≡ log
+    by true t h = grown_marked log m t
+    by false u (inr le) = grown_none log m u le
+    by false u (inl t) = grown_marked log m t
+
+-- what a monitor remembers that gives copies
+pub record Gives (most : ℕ) (s : State) : Type 0 where
+  pub runs : same_phase s.phase phase.Booting ≡ false
+  pub long : length s.provider.cookies ≡ 15
+  pub next : s.provider.next_cookie ≤ most
+
+-- Member p gives copies of the store `given`, which all of the time has versions of the log alone.
+pub record Provider (S : Scope) : Type 0 where
+  pub p : ℕ
+  pub log : List (List ℕ)
+  pub given : Store
+  pub none : AddsNone log (readings_of given)
+
+module _ (S : Scope) (P : Provider S) (k : ℕ) (other : k ≡ P.p → ⊥) (from : World) where
+  -- Since this world only member k and the provider did anything, and the provider gave at most so many cookies.
+  pub record Turn (most : ℕ) (w : World) : Type 0 where
+    pub room : Sane S w
+    pub log : w.log ≡ P.log
+    pub given : w.store P.p ≡ P.given
+    pub state : State
+    pub up : w.state P.p ≡ Some state
+    pub gives : Gives most state
+    pub rest : (j : ℕ) → (j ≡ k → ⊥) → (j ≡ P.p → ⊥) → w.store j ≡ from.store j
+
+  pub unwritten : (cs : List Change) → cs ≡ [] → (m : Store) → apply (joined (spelled cs)) m ≡ m
+  unwritten cs e m = ap (λ (xs : List Change). apply (joined (spelled xs)) m) e ∙ apply-joined [] m
+
+  -- the provider does something, and writes nothing
+  abbrev pub turn_p : {most : ℕ} (more : ℕ) {w v : World} (y : Course) → Turn most w → Onward S w v → Moved S w v P.p y → y.changes ≡ [] → Gives more y.state → Turn more v
+  turn_p {most} more {w} {v} y T o M still G = record {
+    room = o.sane T.room;
+    log = M.log ∙ ap (grown w.log) (unwritten y.changes still (w.store P.p) ∙ T.given) ∙ ap (λ (l : List (List ℕ)). grown l P.given) T.log ∙ adds_none P.log P.given P.none;
+    given = M.stored ∙ unwritten y.changes still (w.store P.p) ∙ T.given;
+    state = y.state;
+    up = M.up;
+    gives = G;
+    rest = λ j a b. (M.others j b).1 ∙ T.rest j a b;
+  }
+
+  -- the member does something
+  abbrev pub turn_k : {most : ℕ} {w v : World} (y : Course) → Turn most w → Onward S w v → Moved S w v k y → AddsNone P.log y.readings → Turn most v
+  turn_k {most} {w} {v} y T o M none = record {
+    room = o.sane T.room;
+    log = M.log ∙ ap (λ (l : List (List ℕ)). grown l (apply (joined (spelled y.changes)) (w.store k))) T.log
+        ∙ adds_none P.log (apply (joined (spelled y.changes)) (w.store k)) (subst (AddsNone P.log) (sym reads) none);
+    given = (M.others P.p (λ e. other (sym e))).1 ∙ T.given;
+    state = T.state;
+    up = (M.others P.p (λ e. other (sym e))).0 ∙ T.up;
+    gives = T.gives;
+    rest = λ j a b. (M.others j a).1 ∙ T.rest j a b;
+  }
+    where
+      reads : readings_of (apply (joined (spelled y.changes)) (w.store k)) ≡ y.readings
+      reads = ap readings_of (sym M.stored) ∙ M.reads
