@@ -1,10 +1,11 @@
 -- In no run of any monitors an event is one too many for a store that copies nothing and has no long value of its own.
-use Rattle.std.proofs.Common.{◌≡◌, ℕ, ◌≤◌, ◌<◌, true, false, ltb, List, Result, Ok, Err, ◌⊎◌, inl, inr, refl, sym, ap, subst, ◌∙◌, arith}
+use Rattle.std.proofs.Common.{◌≡◌, ℕ, ◌≤◌, ◌<◌, ◌^◌, Bool, true, false, cond, ltb, List, length, Some, Result, Ok, Err, ◌⊎◌, inl, inr, refl, sym, ap, subst, ◌∙◌, arith}
 use Rattle.std.proofs.lemmas.Bool.{cases_order, eq-eqb, false≢true, le-ltb, ltb-true}
 use Rattle.mon_kv.specs.Readers.{size_of, most_size}
 use Rattle.mon_msg.specs.Protocol.Course.{Course}
 use Rattle.mon_msg.specs.Protocol.Reaction.{Reaction, reaction_of, any_reaction}
 use Rattle.mon_msg.specs.Protocol.Readings.{readings_of, shared_entries}
+use Rattle.mon_msg.specs.Protocol.State.{State}
 use Rattle.mon_msg.specs.Protocol.Table.{react}
 use Rattle.mon_msg.specs.declared.input.Input.{Input}
 use Rattle.mon_tx.specs.Keys.{shared}
@@ -12,6 +13,7 @@ use Rattle.mon_tx.specs.Map.{Store, apply}
 use Rattle.mon_msg.specs.Fold.{fold}
 use Rattle.mon_types.specs.declared.names.Which.{Which}
 use Rattle.log_copies.proofs.Standing.{Agrees}
+use Rattle.log_model.specs.LogOfValues.{AllValues}
 use Rattle.quorum_agreement.proofs.Invariant.{EnvelopeTells, remembers}
 use Rattle.quorum_agreement.proofs.LoneWorlds.{LoneFollows, lone_asking, lone_follows}
 use Rattle.quorum_agreement.proofs.Result.{OneLog, lone_log, several_log}
@@ -30,6 +32,13 @@ use Rattle.quorum_model.specs.World.{World, Event, Plain, Comes}
 use Rattle.calm_sizes.specs.Sizes.{OwnShort, longest}
 use Rattle.quorum_laws.proofs.Meetings.{OfMeeting, each_meeting}
 use Rattle.calm_sizes.proofs.Weights.{never_full}
+
+-- a store is that of a monitor of some log
+pub record OnSomeLog (m : Store) (s : State) : Type 0 where
+  pub log : List (List ℕ)
+  pub short : length log ≤ 2 ^ 62
+  pub values : AllValues log
+  pub agrees : Agrees log m s
 
 -- the world that an event would make, full or not, is one of one log
 abbrev Would : Monitors → World → Plain → Meeting → Type 0
@@ -94,6 +103,23 @@ module _ (ms : Monitors) (events : List Event) (F : AllFit ms.count events) (p :
     unfolding moved
     next_is = rw (eq-eqb i i refl) refl
 
+    -- full or not
+    pub would_be : OnSomeLog next r.state
+    unfolding moved
+    would_be = let L = then.1 in record {
+      log = (moved w p i r).log;
+      short = L.short;
+      values = L.values;
+      agrees = subst (λ (b : Bool). Agrees (moved w p i r).log (cond b next (w.store i)) (remembers i (cond b (Some r.state) (w.state i)))) (eq-eqb i i refl) (L.stores i (ltb-true i ms.count then.0));
+    }
+
+    -- an event that the store has room for doesn't stop the run
+    pub goes_on_within : size_of next ≤ most_size → happens ms w (Comes p) ≡ Ok (moved w p i r)
+    goes_on_within small = ap (after_meeting w (Comes p)) met ∙ ap (in_world (moved w p i)) stops_not
+      where
+        stops_not : unless_stopped (w.store i) (Ok r) ≡ Ok r
+        stops_not = rw (le-ltb most_size (size_of next) small) refl
+
     module _ (unmarked : (readings_of next).marked ≡ false) (own : OwnShort longest next) where
       pub within : size_of next ≤ most_size
       within = by (L.stores i (ltb-true i ms.count then.0))
@@ -113,7 +139,4 @@ module _ (ms : Monitors) (events : List Event) (F : AllFit ms.count events) (p :
 
       -- the event doesn't stop the run
       pub goes_on_then : happens ms w (Comes p) ≡ Ok (moved w p i r)
-      goes_on_then = ap (after_meeting w (Comes p)) met ∙ ap (in_world (moved w p i)) stops_not
-        where
-          stops_not : unless_stopped (w.store i) (Ok r) ≡ Ok r
-          stops_not = rw (le-ltb most_size (size_of next) within) refl
+      goes_on_then = goes_on_within within

@@ -1,5 +1,5 @@
 -- A map weighs at most the sum over any list of keys that has all its keys.
-use Rattle.std.proofs.Common.{◌≡◌, ℕ, zero, suc, ◌+◌, ◌*◌, ◌<◌, ◌≤◌, List, [], ◌∷◌, ◌++◌, true, Option, Some, None, Less, T, ◌⊎◌, inl, inr, refl, ap, subst, ◌∙◌, arith}
+use Rattle.std.proofs.Common.{◌≡◌, ℕ, zero, suc, ◌+◌, ◌*◌, ◌<◌, ◌≤◌, List, [], ◌∷◌, ◌++◌, length, true, Option, Some, None, Less, T, ◌⊎◌, inl, inr, refl, ap, subst, ◌∙◌, arith}
 use Rattle.std.specs.Ordering.{is_eq}
 use Rattle.std.specs.FinMap.{get, entries, is_sorted, entries_sorted}
 use Rattle.std.specs.FinMap.Entries.{below_all}
@@ -94,6 +94,23 @@ size_within m ks h = weighs (weight m) entry_size (entries m) ks (entries_sorted
     each [] k = tt
     each (e ∷ es) k =
         (record { listed = h e.0 e.1 k.0; light = let g = ap (counted e.0) k.0 in omega arith }, each es k.1)
+
+ones : {A : Type 0} (xs : List A) → sum_by (λ (x : A). 1) xs ≡ length xs
+ones [] = refl
+ones {A} (x ∷ xs) = omega (arith, ones xs, sum_by-cons (λ (x : A). 1) x xs)
+
+-- a map has at most as many entries as a list of keys that has all its keys
+pub few_within : (m : Store) (ks : List Place) → ((q : Place) (x : List ℕ) → get m q ≡ Some x → In q ks)
+    → length (entries m) ≤ length ks
+few_within m ks h =
+    let w = weighs (λ (q : Place). 1) (λ (e : Pair). 1) (entries m) ks (entries_sorted m)
+    (each (entries m) (entries_found m)) in
+    omega (arith, w, ones (entries m), ones ks)
+  where
+    each : (es : List Pair) → AllByRecursion (λ (e : Pair). get m e.0 ≡ Some e.1) es
+        → AllByRecursion (Fits (λ (q : Place). 1) (λ (e : Pair). 1) ks) es
+    each [] k = tt
+    each (e ∷ es) k = (record { listed = h e.0 e.1 k.0; light = omega arith }, each es k.1)
 
 -- ---- keys by numbers
 

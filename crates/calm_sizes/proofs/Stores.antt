@@ -28,7 +28,7 @@ ChangeShort (Promise pn) = Unit {0}
 ChangeShort (Last v) = Unit {0}
 ChangeShort other = ⊥
 
-number_short : (n : ℕ) → length (number_bytes n) ≤ longest
+pub number_short : (n : ℕ) → length (number_bytes n) ≤ longest
 unfolding number_bytes
 number_short n = omega arith
 

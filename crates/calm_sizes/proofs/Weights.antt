@@ -145,10 +145,10 @@ module _ (log : List (List ℕ)) (short : length log ≤ 2 ^ 62) (all : AllValue
 
 -- ---- a monitor's own part, and what it shares
 
-abbrev keys_of : List Pair → List Place
+abbrev pub keys_of : List Pair → List Place
 keys_of es = map (λ e. e.0) es
 
-found_listed : (es : List Pair) (q : Place) (x : List ℕ) → find place_cmp q es ≡ Some x → In q (keys_of es)
+pub found_listed : (es : List Pair) (q : Place) (x : List ℕ) → find place_cmp q es ≡ Some x → In q (keys_of es)
 found_listed [] q x e = absurd cc
 found_listed (f ∷ es) q x e = by (eq_by_cmp place_cmp q f.0) refl e (found_listed es q x)
   where

@@ -22,7 +22,7 @@ use Rattle.mon_wire.specs.declared.reply.Reply.{Reply}
 use Rattle.quorum_agreement.proofs.Held.{level_at}
 use Rattle.quorum_agreement.proofs.Premises.{Completed, accept_completes, leads_others}
 use Rattle.quorum_answers.proofs.Event as event
-use Rattle.quorum_answers.proofs.Marks.{AcceptedTo, BodyMark, HasLease, IsLease, Lasts, Mark, NoLease, NotBelow, PhaseMark, SentMark, StateMark, TellsNoLess, active_of, lease_lasts, led_unmarked, mark_lasts, one_leader, peon_has, phase_lasts, sent_lasts, was_led}
+use Rattle.quorum_answers.proofs.Marks.{AcceptedTo, BodyMark, HasLease, IsLease, Lasts, Mark, NoLease, NotBelow, PhaseMark, SentMark, StateMark, HasNoLess, active_of, lease_lasts, led_unmarked, mark_lasts, one_leader, peon_has, phase_lasts, sent_lasts, was_led}
 use Rattle.quorum_answers.proofs.Saying as saying
 use Rattle.quorum_answers.proofs.Saying.{all_left, has_answers, is_gathering}
 use Rattle.quorum_history.proofs.History.{AnEpoch, Entered, Had}
@@ -130,10 +130,10 @@ module _ (ms : Monitors) (several : 1 < ms.count) (w : World) (I : InvOf ms w) (
   level : has_answers d.y.state.phase ≡ true → level_at next rank ≡ r.last
   level t = level_is (own_of r) (led_unmarked n K.g rank (core_of (own_of r) d.y.state) d.y.state.phase t holds)
 
-  -- ---- what is told now
+  -- ---- the LEASEs that are sent now
 
-  told : (e v l : ℕ) → WasActive n K.g (e, l) → v ≤ level_at next l → AllByRecursion (TellsNoLess e v) new
-  told e v l led_l high = all_map _ (TellsNoLess e v) (λ x k. by x.to x.message.epoch x.message.body k) new says
+  leases : (e v l : ℕ) → WasActive n K.g (e, l) → v ≤ level_at next l → AllByRecursion (HasNoLess e v) new
+  leases e v l led_l high = all_map _ (HasNoLess e v) (λ x k. by x.to x.message.epoch x.message.body k) new says
     where
       by : (to f : ℕ) (b : Body) → SaysIn d.y.state.phase (epoch_of r) r.last to f b → NotBelow e v f b
       by to f (body.Lease last) k = λ q.
@@ -147,9 +147,9 @@ module _ (ms : Monitors) (several : 1 < ms.count) (w : World) (I : InvOf ms w) (
       by to f other k = tt
 
   lasts : Lasts n w next I.g K.g new
-  lasts = record { further = F; later = T; accepted = accepted; messages = messages; told = told }
+  lasts = record { further = F; later = T; accepted = accepted; messages = messages; leases = leases }
 
-  -- only it told a LEASE now
+  -- only it sent a LEASE now
   none_of : (j e : ℕ) → (j ≡ rank → ⊥) → AllByRecursion (NoLease j e) new
   none_of j e ne = all_map _ (NoLease j e) (λ x k. by x.to x.message.from x.message.epoch x.message.body k.0 k.1.1.body) new (all_both _ (EnvelopeHolds n K.g) new says sent_parts.1)
     where
@@ -190,7 +190,7 @@ module _ (ms : Monitors) (several : 1 < ms.count) (w : World) (I : InvOf ms w) (
   acting phase.Synchronizing q t = no t
   acting phase.Electing q t = no t
 
-  -- it told no LEASE before, in its epoch
+  -- it sent no LEASE before in its epoch
   silent : saying.Gathers me d.by.at w0 s d.by.came From AnyRoute Voted d.y.changes (epoch_of r) → AllByRecursion (NoLease rank (epoch_of r)) w.messages
   silent (inl k) = subst (λ (e : ℕ). AllByRecursion (NoLease rank e) w.messages) (sym (k.1 fine.fits)) (gathering s.phase refl k.0)
   silent (inr (inr few)) = absurd (omega arith)
@@ -214,9 +214,9 @@ module _ (ms : Monitors) (several : 1 < ms.count) (w : World) (I : InvOf ms w) (
     rank = rank;
     led = led t;
     level = (let l = level t in omega arith);
-    how = inr (subst (AllByRecursion (TellsNoLess (epoch_of r) r.last)) (sym messages) (all_append (TellsNoLess (epoch_of r) r.last) w.messages new
+    how = inr (subst (AllByRecursion (HasNoLess (epoch_of r) r.last)) (sym messages) (all_append (HasNoLess (epoch_of r) r.last) w.messages new
         (all_map _ _ (λ x k. by x.to x.message.from x.message.epoch x.message.body k.0 k.1.1.body) w.messages (all_both (NoLease rank (epoch_of r)) (EnvelopeHolds n K.g) w.messages old sent_parts.0))
-        (told (epoch_of r) r.last rank (led t) (let l = level t in omega arith))));
+        (leases (epoch_of r) r.last rank (led t) (let l = level t in omega arith))));
   }
     where
       by : (to from f : ℕ) (b : Body) → IsLease rank (epoch_of r) from f b → BodyHolds K.g from to f b → NotBelow (epoch_of r) r.last f b
@@ -283,7 +283,7 @@ module _ (ms : Monitors) (several : 1 < ms.count) (w : World) (I : InvOf ms w) (
       by (inr (inl t)) =
           let h = heard t.message t.is in
           let M : Mark n w I.g (epoch_of w0) w0.last = subst (λ (e : ℕ). Mark n w I.g e w0.last) t.epoch (subst (BodyMark n w I.g t.message.epoch) t.says h.0) in
-          let H : HasLease w (epoch_of w0) w0.last = record { envelope = record { to = rank; message = t.message }; among = h.1; told = w0.last; says = t.says; epoch = t.epoch; low = omega arith } in
+          let H : HasLease w (epoch_of w0) w0.last = record { envelope = record { to = rank; message = t.message }; among = h.1; last = w0.last; says = t.says; epoch = t.epoch; low = omega arith } in
           subst (Peons (epoch_of w0)) (sym t.last) (mark_lasts n w next I.g K.g new lasts (epoch_of w0) w0.last M, lease_lasts n w next I.g K.g new lasts (epoch_of w0) w0.last H)
       by (inr (inr t)) =
           let h = heard t.message t.is in

@@ -28,13 +28,13 @@ use Rattle.std.proofs.lemmas.Bool.{and_parts, eqb-true, or_cases}
 use Rattle.std.specs.List.{AllByRecursion}
 use Rattle.std.specs.Prelude.{is_some}
 
--- a LEASE of this epoch tells no version below this one
+-- no LEASE of this epoch has a version below this one
 abbrev pub NotBelow : (e v f : ℕ) → Body → Type 0
 NotBelow e v f (body.Lease last) = f ≡ e → v ≤ last
 NotBelow e v f other = Unit {0}
 
-abbrev pub TellsNoLess : (e v : ℕ) → Envelope → Type 0
-TellsNoLess e v x = NotBelow e v x.message.epoch x.message.body
+abbrev pub HasNoLess : (e v : ℕ) → Envelope → Type 0
+HasNoLess e v x = NotBelow e v x.message.epoch x.message.body
 
 pub record AcceptedTo (w : World) (m v : ℕ) : Type 0 where
   pub version : ℕ
@@ -44,14 +44,14 @@ pub record AcceptedTo (w : World) (m v : ℕ) : Type 0 where
   pub high : v ≤ version
 
 -- Of this epoch there is an active leader that has the version. All of its quorum accepted it, or a later one; or no LEASE of the
--- epoch tells of less.
+-- epoch has a lower one.
 pub record Mark (n : ℕ) (w : World) (g : Ghost) (e v : ℕ) : Type 0 where
   pub rank : ℕ
   pub led : WasActive n g (e, rank)
   pub level : v ≤ level_at w rank
-  pub how : ((m : ℕ) → has led.0 m ≡ true → AcceptedTo w m v) ⊎ AllByRecursion (TellsNoLess e v) w.messages
+  pub how : ((m : ℕ) → has led.0 m ≡ true → AcceptedTo w m v) ⊎ AllByRecursion (HasNoLess e v) w.messages
 
--- ---- what a LEASE and a COMMIT say
+-- ---- what a LEASE and a COMMIT have
 
 abbrev pub BodyMark : (n : ℕ) → World → Ghost → (e : ℕ) → Body → Type 0
 BodyMark n w g e (body.Lease last) = Mark n w g e last
@@ -74,10 +74,10 @@ NoLease i e x = IsLease i e x.message.from x.message.epoch x.message.body
 pub record HasLease (w : World) (e v : ℕ) : Type 0 where
   pub envelope : Envelope
   pub among : Among envelope w.messages
-  pub told : ℕ
-  pub says : envelope.message.body ≡ body.Lease told
+  pub last : ℕ
+  pub says : envelope.message.body ≡ body.Lease last
   pub epoch : envelope.message.epoch ≡ e
-  pub low : told ≤ v
+  pub low : last ≤ v
 
 abbrev pub PhaseMark : (n : ℕ) → World → Ghost → (i e v : ℕ) → Option ℕ → Phase → Type 0
 PhaseMark n w g i e v z phase.Collecting = AllByRecursion (NoLease i e) w.messages
@@ -145,7 +145,7 @@ module _ (ms : Monitors) (several : 1 < ms.count) (w : World) (J : InvOf ms w) (
   pub peon_has : FollowsIn J.g i c → is_some s.peon.lease ≡ true → HasLease w e (readings_at w i).last → (v : ℕ) → Mark n w J.g e v → v ≤ (readings_at w i).last
   peon_has k given H v M = by M.how
     where
-      by : ((m : ℕ) → has M.led.0 m ≡ true → AcceptedTo w m v) ⊎ AllByRecursion (TellsNoLess e v) w.messages → v ≤ (readings_at w i).last
+      by : ((m : ℕ) → has M.led.0 m ≡ true → AcceptedTo w m v) ⊎ AllByRecursion (HasNoLess e v) w.messages → v ≤ (readings_at w i).last
       by (inl A) =
           let F = k.led given in
           let same = one_leader n J.g R e c.leader M.rank (active_of n J.g e c.leader F) M.led in
@@ -158,7 +158,7 @@ module _ (ms : Monitors) (several : 1 < ms.count) (w : World) (J : InvOf ms w) (
           let low : a.version ≤ (readings_at w i).last = k.clear given a.version a.number b.0 b.2 in
           let high = a.high in
           omega arith
-      by (inr B) = let t : NotBelow e v H.envelope.message.epoch (body.Lease H.told) = subst (NotBelow e v H.envelope.message.epoch) H.says (all_among (TellsNoLess e v) H.envelope w.messages H.among B) in let le = t H.epoch in let low = H.low in omega arith
+      by (inr B) = let t : NotBelow e v H.envelope.message.epoch (body.Lease H.last) = subst (NotBelow e v H.envelope.message.epoch) H.says (all_among (HasNoLess e v) H.envelope w.messages H.among B) in let le = t H.epoch in let low = H.low in omega arith
 
   -- an active leader
   pub leader_has : (p : Phase) → has_answers p ≡ true → InPhase n J.g i c p → (v : ℕ) → Mark n w J.g e v → v ≤ (readings_at w i).last
@@ -209,8 +209,8 @@ pub record Lasts (n : ℕ) (w next : World) (g h : Ghost) (new : List Envelope) 
   pub later : Later w next
   pub accepted : (i v pn : ℕ) (bytes : List ℕ) → HasAccepted w i v pn bytes → HasAccepted next i v pn bytes
   pub messages : next.messages ≡ w.messages ++ new
-  -- what is told now isn't below a mark
-  pub told : (e v rank : ℕ) → WasActive n h (e, rank) → v ≤ level_at next rank → AllByRecursion (TellsNoLess e v) new
+  -- no LEASE that is sent now is below a mark
+  pub leases : (e v rank : ℕ) → WasActive n h (e, rank) → v ≤ level_at next rank → AllByRecursion (HasNoLess e v) new
 
 module _ (n : ℕ) (w next : World) (g h : Ghost) (new : List Envelope) (L : Lasts n w next g h new) where
   pub mark_lasts : (e v : ℕ) → Mark n w g e v → Mark n next h e v
@@ -222,12 +222,12 @@ module _ (n : ℕ) (w next : World) (g h : Ghost) (new : List Envelope) (L : Las
       level : v ≤ level_at next M.rank
       level = let a = M.level in let T = L.later in let b = (T.each M.rank).level in omega arith
 
-      by : ((m : ℕ) → has M.led.0 m ≡ true → AcceptedTo w m v) ⊎ AllByRecursion (TellsNoLess e v) w.messages → ((m : ℕ) → has M.led.0 m ≡ true → AcceptedTo next m v) ⊎ AllByRecursion (TellsNoLess e v) next.messages
+      by : ((m : ℕ) → has M.led.0 m ≡ true → AcceptedTo w m v) ⊎ AllByRecursion (HasNoLess e v) w.messages → ((m : ℕ) → has M.led.0 m ≡ true → AcceptedTo next m v) ⊎ AllByRecursion (HasNoLess e v) next.messages
       by (inl A) = inl (λ m t. let a = A m t in record { version = a.version; number = a.number; bytes = a.bytes; was = L.accepted m a.version a.number a.bytes a.was; high = a.high })
-      by (inr B) = inr (subst (AllByRecursion (TellsNoLess e v)) (sym L.messages) (all_append (TellsNoLess e v) w.messages new B (L.told e v M.rank led level)))
+      by (inr B) = inr (subst (AllByRecursion (HasNoLess e v)) (sym L.messages) (all_append (HasNoLess e v) w.messages new B (L.leases e v M.rank led level)))
 
   pub lease_lasts : (e v : ℕ) → HasLease w e v → HasLease next e v
-  lease_lasts e v H = record { envelope = H.envelope; among = subst (Among H.envelope) (sym L.messages) (among_left H.envelope w.messages new H.among); told = H.told; says = H.says; epoch = H.epoch; low = H.low }
+  lease_lasts e v H = record { envelope = H.envelope; among = subst (Among H.envelope) (sym L.messages) (among_left H.envelope w.messages new H.among); last = H.last; says = H.says; epoch = H.epoch; low = H.low }
 
   body_lasts : (e : ℕ) (b : Body) → BodyMark n w g e b → BodyMark n next h e b
   body_lasts e (body.Lease last) k = mark_lasts e last k

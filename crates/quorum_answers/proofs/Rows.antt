@@ -104,8 +104,8 @@ module _ (me : Me) (now : ℕ) (w : Readings) (s : State) (came : Input) (From :
   abbrev IsAnswer : Sent → Type 0
   IsAnswer = saying.IsAnswer me now w s came From Routed Voted
 
-  tells : (y : Course) → AllByRecursion IsAnswer y.out → epoch_of y.readings ≡ epoch_of w → LeadAt y → Then Outcome (Ok y)
-  tells = saying.tells me now w s came From Routed Voted
+  answers : (y : Course) → AllByRecursion IsAnswer y.out → epoch_of y.readings ≡ epoch_of w → LeadAt y → Then Outcome (Ok y)
+  answers = saying.answers me now w s came From Routed Voted
 
   quiet : (y : Course) → AllPlain y.out → LeadAt y → Then Outcome (Ok y)
   quiet = saying.quiet me now w s came From Routed Voted
@@ -154,16 +154,16 @@ module _ (me : Me) (now : ℕ) (w : Readings) (s : State) (came : Input) (From :
         by (Ok ops) e = where_fits Outcome which.Version (suc w.last) _ (λ _. by_test (is_alone me z.leader.quorum)
             (λ t. leading.alone me now w s came From Routed Voted (suc w.last) ops (Some o) (at_rest w z) t tt tt)
             (λ _. quiet _ (saying.to_each me now w s came From Routed Voted (epoch_of w) (body.Begin z.leader.pn (suc w.last) ops) (λ to. tt) (members me z.leader.quorum)) (inl (ap is_active active, (λ F. refl), refl))))
-        by (Err e) q = tells _ (answer_known o (refusal e) (λ u. refused_is o c F active e q)) refl Z
+        by (Err e) q = answers _ (answer_known o (refusal e) (λ u. refused_is o c F active e q)) refl Z
 
     at_leads : Then Outcome (at_leader me now c o (at_rest w z))
     at_leads =
-        by_test (is_too_long c) (λ t. tells _ (answer_known o (too_long c) (λ u. long_is o c F t)) refl Z) (λ _.
+        by_test (is_too_long c) (λ t. answers _ (answer_known o (too_long c) (λ u. long_is o c F t)) refl Z) (λ _.
         by_test (may_propose me now (at_rest w z) && not (has_queue (at_rest w z))) (λ t. proposes (and_three (same_phase z.phase phase.Active) (is_standing me now z) (not (has_queue (at_rest w z))) t).0) (λ _.
-        by_test (leb MOST_WAITING (length z.clients.queue)) (λ _. tells _ (answer_known o (reply.Busy MOST_WAITING) (λ u. absurd u)) refl Z) (λ _. quiet _ tt Z)))
+        by_test (leb MOST_WAITING (length z.clients.queue)) (λ _. answers _ (answer_known o (reply.Busy MOST_WAITING) (λ u. absurd u)) refl Z) (λ _. quiet _ tt Z)))
 
   replies : (t : Session) (r : Reply) → (Refuses r → Decides (origin.Session t) (epoch_of w) r) → Then Outcome (Ok (reply_to t r x0))
-  replies t r k = tells _ ((λ u. inl (k u)), tt) refl L
+  replies t r k = answers _ ((λ u. inl (k u)), tt) refl L
 
   at_peons : (c : Command) (t : Session) → From (epoch_of w) c (origin.Session t) → Then Outcome (at_peon me c t x0)
   at_peons c t F =
@@ -204,7 +204,7 @@ module _ (me : Me) (now : ℕ) (w : Readings) (s : State) (came : Input) (From :
   unfolding hear_route
   route_heard f e seq r K = by_test (not (of_leader f e x0)) (λ _. rests) (λ heard.
       let t = and_three (is_peon s.phase) (eqb e (epoch_of w)) (eqb f s.peon.leader) (not-false _ heard) in
-      tells _ (each t.0 (eqb-true e (epoch_of w) t.1) s.clients.sessions (λ a k. k)) refl L)
+      answers _ (each t.0 (eqb-true e (epoch_of w) t.1) s.clients.sessions (λ a k. k)) refl L)
     where
       each : is_peon s.phase ≡ true → e ≡ epoch_of w → (xs : List Asked) → ((a : Asked) → Among a xs → Among a s.clients.sessions) → AllByRecursion IsAnswer (map (λ (a : Asked). sent.Reply a.session r) (filter (λ (a : Asked). eqb a.seq seq) xs))
       each p n [] k = tt

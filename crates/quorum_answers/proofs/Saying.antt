@@ -132,7 +132,7 @@ module _ (me : Me) (now : ℕ) (w : Readings) (s : State) (came : Input) (From :
   Founded (sent.Message to m) = FoundedBody to m.epoch m.body
   Founded (sent.Reply t r) = Refuses r → Decides (origin.Session t) (epoch_of w) r ⊎ Hands t r
 
-  -- A LEASE tells the last version of an active leader, and a COMMIT tells no version above it.
+  -- A LEASE has the last version of an active leader, and a COMMIT has no version above it.
   abbrev pub SaysBody : Phase → (e v to f : ℕ) → Body → Type 0
   SaysBody p e v to f (body.Lease last) = (p ≡ phase.Active) × (last ≡ v) × (f ≡ e)
   SaysBody p e v to f (body.Commit from values) = (has_answers p ≡ true) × (from + length values ≤ suc v) × (f ≡ e)
@@ -238,7 +238,7 @@ module _ (me : Me) (now : ℕ) (w : Readings) (s : State) (came : Input) (From :
   abbrev pub SameEpoch : List Change → ℕ → Type 0
   SameEpoch cs e = AllByRecursion Fit cs → e ≡ epoch_of w
 
-  -- it told no LEASE in its epoch before, or it is the only monitor
+  -- it sent no LEASE in its epoch before, or it is the only monitor
   abbrev pub Gathers : List Change → ℕ → Type 0
   Gathers cs e = ((is_gathering s.phase ≡ true) × SameEpoch cs e) ⊎ ((epoch_of w < e) ⊎ (me.member.monitors ≤ 1))
 
@@ -329,8 +329,8 @@ module _ (me : Me) (now : ℕ) (w : Readings) (s : State) (came : Input) (From :
   pub quiet : (y : Course) → AllPlain y.out → LeadAt y → Then Outcome (Ok y)
   quiet y out lead = done (inl (record { out = all_say y (all_map IsPlain IsAnswer plain_answers y.out out); calm = inl (all_map IsPlain NoRefusal plain_calm y.out out); lead = lead }))
 
-  pub tells : (y : Course) → AllByRecursion IsAnswer y.out → epoch_of y.readings ≡ epoch_of w → LeadAt y → Then Outcome (Ok y)
-  tells y out same lead = done (inl (record { out = all_say y out; calm = inr same; lead = lead }))
+  pub answers : (y : Course) → AllByRecursion IsAnswer y.out → epoch_of y.readings ≡ epoch_of w → LeadAt y → Then Outcome (Ok y)
+  answers y out same lead = done (inl (record { out = all_say y out; calm = inr same; lead = lead }))
 
   pub to_each : (e : ℕ) (b : Body) → ((to : ℕ) → IsPlainBody to e b) → (tos : List ℕ) → AllPlain (map (message_to me e b) tos)
   to_each e b k tos = all_of IsPlain (message_to me e b) k tos

@@ -83,11 +83,11 @@ covered_alone n w few O i e top below level = record {
 dated : (n : ℕ) (w : World) → Onward n w → Dated w
 dated n w O = record { replied = all_map (IsBelow n w) _ (λ r k. k.event) w.replied O.replied; acknowledged = all_map (IsHad n w) _ (λ a k. k.event) w.acknowledged O.acknowledged }
 
--- nobody says anything
+-- nothing is sent
 module _ (n : ℕ) (w next : World) (g h : Ghost) (F : Further g h) (T : Later w next) (accepted : (i v pn : ℕ) (bytes : List ℕ) → HasAccepted w i v pn bytes → HasAccepted next i v pn bytes) (messages : next.messages ≡ w.messages)
     (replied : next.replied ≡ w.replied) (acknowledged : next.acknowledged ≡ w.acknowledged) (unchanged : (i : ℕ) (s : State) → next.state i ≡ Some s → (w.state i ≡ Some s) × (next.store i ≡ w.store i)) (M : Marked n w g) where
   lasts : Lasts n w next g h []
-  lasts = record { further = F; later = T; accepted = accepted; messages = messages ∙ sym (append-nil w.messages); told = λ e v rank led le. tt }
+  lasts = record { further = F; later = T; accepted = accepted; messages = messages ∙ sym (append-nil w.messages); leases = λ e v rank led le. tt }
 
   silent : Marked n next h
   silent = record {
