@@ -6,7 +6,7 @@ program=$top/out/cephmon
 sources() {
     (
         cd "$top" || exit
-        find crates.txt HANDLES crates -name out -prune -o -name must-fail -prune -o -type f -print0 |
+        find crates.txt HANDLES crates -name out -prune -o -name must-fail -prune -o -type f ! -name README.md -print0 |
             LC_ALL=C sort -z | xargs -0 sha256sum
     ) 2>/dev/null | sha256sum
 }

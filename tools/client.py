@@ -1,7 +1,7 @@
 #!/usr/bin/env python3
 """Asks monitors over UDP, with what Python itself brings.
 
-usage: examples/client.py [--config FILE] [--monitor R] [--timeout SECONDS] [--once] [--verbose] [ADDRESSES] COMMAND
+usage: tools/client.py [--config FILE] [--monitor R] [--timeout SECONDS] [--once] [--verbose] [ADDRESSES] COMMAND
 
     set KEY VALUE             sets a key, and prints the version that did it
     set KEY --file FILE       sets it to the bytes of a file, or of standard input if FILE is -
@@ -326,7 +326,7 @@ def command_parser() -> argparse.ArgumentParser:
 def option_parser() -> argparse.ArgumentParser:
     text = __doc__.split('\nAs a module')[0]
     line = text.split('usage: ')[1].split('\n')[0]
-    parser = argparse.ArgumentParser(usage=line.replace('examples/client.py', NAME), description=text.replace(f'usage: {line}\n\n', ''),
+    parser = argparse.ArgumentParser(usage=line.replace('tools/client.py', NAME), description=text.replace(f'usage: {line}\n\n', ''),
                                      formatter_class=argparse.RawDescriptionHelpFormatter)
     parser.add_argument('--config', metavar='FILE', help=f'take the addresses from the file of the quorum ({quorum_file.DEFAULT})')
     parser.add_argument('--monitor', type=int, metavar='R', help='ask this monitor alone')

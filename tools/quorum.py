@@ -97,3 +97,23 @@ class Quorum:
                     return keys, log
                 time.sleep(0.05)
         return None
+
+    def serve(self, seconds: float = 40):
+        """Starts all, and waits until a change is made."""
+        self.start_all()
+        with self.client(timeout=seconds, patience=0.5) as client:
+            client.log('begun')
+
+    def ended(self) -> list[int]:
+        """The monitors that ended by themselves."""
+        return [rank for rank, process in self.running.items() if process.poll() is not None]
+
+    def final(self, paxos: int, seconds: float = 60) -> list[tuple[dict, dict]] | None:
+        """The maps of both services that all show once they show one, or nothing."""
+        end = time.monotonic() + seconds
+        while time.monotonic() < end:
+            found = [self.shown_by(rank, paxos, 1.0) for rank in self.ranks()]
+            if all(found) and len({keys['paxos'] for keys, _ in found}) == 1:
+                return found
+            time.sleep(0.1)
+        return None
