@@ -15,8 +15,8 @@ import tempfile
 import traceback
 
 TOP = os.path.dirname(os.path.dirname(os.path.abspath(__file__)))
-EXAMPLES = os.path.join(TOP, 'examples')
-sys.path[:0] = [EXAMPLES, os.path.join(TOP, 'bench')]
+EXAMPLES, TOOLS = os.path.join(TOP, 'examples'), os.path.join(TOP, 'tools')
+sys.path[:0] = [TOOLS, os.path.join(TOP, 'bench')]
 # The lines that `node` and `follow` write on standard error because of the machine or of other monitors, each in the form of its beginning. Those of a
 # `node` have the milliseconds since its start.
 ROOM = rb'(?:\d+ ms: )?link: room for \d+ bytes, less than a long message takes: raise net\.core\.rmem_max\n'
