@@ -6,17 +6,11 @@ import hashlib
 import re
 import struct
 
-MOST = 2**62
-MOST_SIZE, MOST_EXPORT, MOST_REPORTS, MOST_TRANSACTION = 268_435_456, 268_435_471, 4_096, 4_194_304
+from fields import MOST_NUMBER, At, Fields, changes_of
+from store import OWN, number_at, size_of
+
+MOST_SIZE, MOST_EXPORT, MOST_REPORTS = 268_435_456, 268_435_471, 4_096
 PARTS = b'kv', b'logm', b'paxos'
-
-
-class At(Exception):
-    """An export, or a transaction, is refused at this byte."""
-
-    def __init__(self, at: int):
-        super().__init__(at)
-        self.at = at
 
 
 class Full(Exception):
@@ -25,33 +19,6 @@ class Full(Exception):
     def __init__(self, would_be: int):
         super().__init__(would_be)
         self.would_be = would_be
-
-
-class Cut:
-    """Takes fields from bytes. One that doesn't fit, or isn't of its form, is at fault at its first byte."""
-
-    def __init__(self, octets: bytes, at: int = 0):
-        self.octets, self.at = octets, at
-
-    def take(self, count: int, is_so=lambda field: True) -> bytes:
-        field = self.octets[self.at:self.at + count]
-        if len(field) < count or not is_so(field):
-            raise At(self.at)
-        self.at += count
-        return field
-
-    def unsigned(self, size: int, least: int = 0, most: int = 2**64) -> int:
-        return int.from_bytes(self.take(size, lambda field: least <= int.from_bytes(field, 'little') <= most), 'little')
-
-    def word(self, most: int) -> bytes:
-        return self.take(self.unsigned(1, 1, most), lambda field: all(0x21 <= octet <= 0x7E for octet in field))
-
-    def counted(self) -> bytes:
-        return self.take(self.unsigned(4))
-
-    def end(self):
-        if self.at < len(self.octets):
-            raise At(self.at)
 
 
 # ---- exports
@@ -70,7 +37,7 @@ def read_export(octets: bytes) -> tuple[int, int, dict]:
     """The member and its map."""
     if len(octets) > MOST_EXPORT:
         raise At(MOST_EXPORT)
-    fields = Cut(octets)
+    fields = Fields(octets)
     fields.take(8, lambda field: field == b'CEPHEXP1')
     rank, monitors = fields.unsigned(1), fields.unsigned(1)
     if rank >= monitors:
@@ -89,24 +56,16 @@ def read_export(octets: bytes) -> tuple[int, int, dict]:
             raise At(at + 2 + len(prefix))
         kv[place], before = fields.counted(), place
     fields.end()
-    size = sum(len(prefix) + len(key) + len(value) + 16 for (prefix, key), value in kv.items())
-    if size > MOST_SIZE:
+    if (size := size_of(kv)) > MOST_SIZE:
         raise Full(size)
     return rank, monitors, kv
 
 
 # ---- reports
 
-def number_at(kv: dict, prefix: bytes, key: bytes) -> int:
-    """The number that is kept at a key, and 0 if none is."""
-    value = kv.get((prefix, key), b'')
-    number = int.from_bytes(value, 'little')
-    return number if len(value) == 8 and number <= MOST else 0
-
-
 def report_of(rank: int, monitors: int, kv: dict) -> bytes:
     last = number_at(kv, b'paxos', b'last_committed')
-    own = {(b'paxos', key) for key in (b'last_committed', b'last_pn', b'accepted_pn', b'pending_v', b'pending_pn', b'%d' % (last + 1))}
+    own = {(b'paxos', key) for key in (*OWN, b'last_committed', b'%d' % (last + 1))}
     lines = [b'scrub rank=%d monitors=%d last=%d marked=%d\n' % (rank, monitors, last, (b'mon_sync', b'in_sync') in kv)]
     for part in PARTS:
         texts = [entry(place, kv[place]) for place in sorted(kv) if place[0] == part and place not in own]
@@ -124,7 +83,7 @@ def line_of(number: int, line: bytes):
     if number % 4 == 0:
         found = FIRST.fullmatch(line)
         fields = found and [int(field) for field in found.groups()]
-        return fields if fields and fields[0] < fields[1] <= 15 and fields[2] <= MOST else None
+        return fields if fields and fields[0] < fields[1] <= 15 and fields[2] <= MOST_NUMBER else None
     found = PART[PARTS[number % 4 - 1]].fullmatch(line)
     return found.groups() if found and int(found[1]) < 2**32 else None
 
@@ -159,38 +118,27 @@ def keys_of(kv: dict) -> bytes:
     return b''.join(b'%s / %s\n' % place for place in sorted(kv))
 
 
-def changes_of(octets: bytes) -> list[bytes] | None:
-    """A line for each change of a transaction, or None if the bytes are none."""
+def lines_of(version: int, value: bytes) -> bytes:
+    """A version and a line for each change of its value, or `none` if that is no transaction."""
     try:
-        return [*read_changes(Cut(octets))] if len(octets) <= MOST_TRANSACTION else None
+        changes = changes_of(value)
     except At:
-        return None
+        return b'%d none\n' % version
+    return b'%d %d\n' % (version, len(changes)) + b''.join(line_of_change(*change) for change in changes)
 
 
-def read_changes(fields: Cut):
-    form, has_range = fields.unsigned(1, 1, 2), False
-    for _ in range(fields.unsigned(4)):
-        kind, prefix = fields.unsigned(1, 1, 2 + form), fields.word(32)
-        if kind == 1:
-            yield b'  put %s %s %d\n' % (prefix, fields.word(255), len(fields.counted()))
-        elif kind == 2:
-            yield b'  erase %s %s\n' % (prefix, fields.word(255))
-        elif kind == 3:
-            yield b'  erase-prefix %s\n' % prefix
-        else:
-            first, has_range = fields.unsigned(8, 0, MOST), True
-            yield b'  erase-range %s %d %d\n' % (prefix, first, fields.unsigned(8, first + 1, MOST))
-    fields.end()
-    if form == 2 and not has_range:
-        raise At(0)
+def line_of_change(kind: str, prefix: bytes, *more) -> bytes:
+    if kind == 'Put':
+        return b'  put %s %s %d\n' % (prefix, more[0], len(more[1]))
+    if kind == 'Erase':
+        return b'  erase %s %s\n' % (prefix, more[0])
+    if kind == 'ErasePrefix':
+        return b'  erase-prefix %s\n' % prefix
+    return b'  erase-range %s %d %d\n' % (prefix, *more)
 
 
 def versions_of(kv: dict, first: int, end: int) -> bytes:
     """The versions from `first` to `end`, and what each changes."""
     last = min(end, number_at(kv, b'paxos', b'last_committed'))
     kept = sorted(int(key) for prefix, key in kv if prefix == b'paxos' and re.fullmatch(DECIMAL, key) and first <= int(key) <= last)
-    return b''.join(lines_of(version, changes_of(kv[b'paxos', b'%d' % version])) for version in kept)
-
-
-def lines_of(version: int, changes: list[bytes] | None) -> bytes:
-    return b'%d none\n' % version if changes is None else b'%d %d\n' % (version, len(changes)) + b''.join(changes)
+    return b''.join(lines_of(version, kv[b'paxos', b'%d' % version]) for version in kept)

@@ -1,29 +1,11 @@
 """Reads the two files of a stopped monitor, by the bytes that docs/FORMATS.md specifies."""
 from __future__ import annotations
 
+from fields import MOST_NUMBER, Fields, changes_of
+
 HEADER = 25
-
-
-class Fields:
-    """Takes fields from bytes, from a place on."""
-
-    def __init__(self, octets: bytes, at: int = 0):
-        self.octets, self.at = octets, at
-
-    def take(self, count: int) -> bytes:
-        self.at += count
-        if self.at > len(self.octets):
-            raise ValueError(f'cut at {self.at - count}')
-        return self.octets[self.at - count:self.at]
-
-    def unsigned(self, size: int) -> int:
-        return int.from_bytes(self.take(size), 'little')
-
-    def word(self) -> bytes:
-        return self.take(self.unsigned(1))
-
-    def counted(self) -> bytes:
-        return self.take(self.unsigned(4))
+# The keys of the log that a monitor has for itself, beside the version after the last.
+OWN = b'last_pn', b'accepted_pn', b'pending_v', b'pending_pn'
 
 
 def payloads(octets: bytes):
@@ -40,24 +22,22 @@ def generation(octets: bytes) -> int:
 
 def play(kv: dict, payload: bytes):
     """Makes the changes of a transaction, or puts the entries of a checkpoint."""
-    fields = Fields(payload)
-    if fields.unsigned(1) == 0x80:
+    if payload[:1] == b'\x80':
+        fields = Fields(payload, 1)
         for _ in range(fields.unsigned(4)):
-            name = fields.word(), fields.word()
-            kv[name] = fields.counted()
+            place = fields.word(32), fields.word(255)
+            kv[place] = fields.counted()
         return
-    for _ in range(fields.unsigned(4)):
-        kind, prefix = fields.unsigned(1), fields.word()
-        if kind == 1:
-            name = prefix, fields.word()
-            kv[name] = fields.counted()
-        elif kind == 2:
-            kv.pop((prefix, fields.word()), None)
-        elif kind == 3:
-            for name in [name for name in kv if name[0] == prefix]:
-                del kv[name]
+    for kind, prefix, *more in changes_of(payload):
+        if kind == 'Put':
+            kv[prefix, more[0]] = more[1]
+        elif kind == 'Erase':
+            kv.pop((prefix, more[0]), None)
+        elif kind == 'ErasePrefix':
+            for place in [place for place in kv if place[0] == prefix]:
+                del kv[place]
         else:
-            for number in range(fields.unsigned(8), fields.unsigned(8)):
+            for number in range(*more):
                 kv.pop((prefix, b'%d' % number), None)
 
 
@@ -79,12 +59,14 @@ def size_of(kv: dict) -> int:
 
 
 def number_at(kv: dict, prefix: bytes, key: bytes) -> int:
-    return int.from_bytes(kv.get((prefix, key), b''), 'little')
+    """The number that is kept at a key, and 0 if none is."""
+    value = kv.get((prefix, key), b'')
+    number = int.from_bytes(value, 'little')
+    return number if len(value) == 8 and number <= MOST_NUMBER else 0
 
 
 def shared_map(a: str, b: str) -> dict:
     """What the files hold that monitors of one version have in common, and that version."""
     kv = read_store(a, b)
-    last = number_at(kv, b'paxos', b'last_committed')
-    own = {b'last_pn', b'accepted_pn', b'pending_v', b'pending_pn', b'%d' % (last + 1)}
+    own = {*OWN, b'%d' % (number_at(kv, b'paxos', b'last_committed') + 1)}
     return {name: value for name, value in kv.items() if name[0] in (b'kv', b'logm') or name[0] == b'paxos' and name[1] not in own}

@@ -75,7 +75,7 @@ STEP = re.compile(r'\((\w+), (Sends|SendsToAnother|Hears|Rests), (\w+), (\w+), (
 def cases():
     """for each case of the tests its name and its steps: a time, what is done, a message's kind, epoch and number, how many datagrams go out then,
     and whether what comes is handed up"""
-    texts = [open(os.path.join(antt.ROOT, 'resend_tests', 'src', name)).read() for name in ('again.rt', 'again_calls.rt', 'again_copies.rt')]
+    texts = [open(os.path.join(antt.ROOT, 'resend_tests', 'src', name)).read() for name in ('again.rt', 'again_calls.rt', 'again_copies.rt', 'again_rows.rt')]
     bytes_of = {name: int(byte) for text in texts for name, byte in BYTE.findall(text)}
 
     def number(word):
@@ -91,8 +91,16 @@ def cases():
     return found
 
 
+# no kinds of messages: the second and the third piece of a long message
+PIECES, PART, LONG = {101: 1, 102: 2}, 59_000, 118_001
+
+
 def message(kind, epoch, number):
-    """the beginning of a message of monitor 0 of 3, whose body begins with this number twice"""
+    """the beginning of a message of monitor 0 of 3, whose body begins with this number twice; or a piece of one with this number"""
+    if kind in PIECES:
+        place = PIECES[kind] * PART
+        head = bytes([2, 0, 0, 0]) + number.to_bytes(8, 'little') * 2 + LONG.to_bytes(4, 'little') + place.to_bytes(4, 'little')
+        return head + bytes(min(PART, LONG - place))
     return bytes([1, kind, 0, 3]) + b''.join(part.to_bytes(8, 'little') for part in (epoch, number, number))
 
 

@@ -30,8 +30,8 @@ def first_line(rng, big):
     return n, 'monitors %d %s' % (n, rule)
 
 
-def schedule_of(seed, events, flavour):
-    """the schedule of a number, and how it was played"""
+def schedule_of(seed, events, flavour, seen=lambda lines, play: None):
+    """the schedule of a number, and how it was played; `seen` gets the lines and the play after each event"""
     rng = random.Random(seed)
     big = flavour == 'big'
     n, first = first_line(rng, big)
@@ -86,6 +86,7 @@ def schedule_of(seed, events, flavour):
         lines.append(line)
         if not play.take(line):
             break
+        seen(lines, play)
         others = len(play.scene.d['world'].d['messages'])
         waiting += range(sent + 1, others + 1)
         sent = others

@@ -1,16 +1,16 @@
-"""Tries in the definitions that a majority finds back to service: the way that docs/PROTOCOL.md describes (The way back), after random runs.
+"""Tries in the definitions that a majority finds back to service: the way that docs/LAWS.md describes (The way back), after random runs.
 
-usage: recover.py FIRST_SEED COUNT EVENTS [PROGRAM]
+usage: recover.py FIRST_SEED COUNT EVENTS [EVERY [PROGRAM]]
 
-A run of fuzz.py is played. Then a majority whose monitors are near the whole log goes on by itself, and a command is asked. It must get its
-reply within 2n² + 14n + 5 events, none of which delivers a message that was sent before. If a program is given, its trace of all of these events must
-be the same. A run that ends early, or after which the majority lacks a member that may lead, is counted apart. The status is 0 if every other
-run got its reply, and 1 otherwise.
+A run of fuzz.py is played. At its end, and before that after each EVERY events, a majority whose monitors are near the whole log goes on by itself,
+and a command is asked. It must get its reply within 2n² + 14n + 5 events, none of which delivers a message that was sent before. If a program is
+given, its trace of all of these events must be the same. A run that ends early, or a majority that lacks a member that may lead, is counted apart.
+It prints the counts, and for each number of monitors how many events the longest way has. The status is 0 if each other majority got its reply, and
+1 otherwise.
 """
 from __future__ import annotations
 
 import collections
-import itertools
 import random
 import subprocess
 import sys
@@ -19,123 +19,52 @@ import fuzz
 import run
 
 RECORDS, READINGS = 'mon_msg.specs.Protocol.Records', 'mon_msg.specs.Protocol.Readings'
-SESSION, ID, COMMAND = 4_000_000_000, 9_000_000, 'set recovered x'
+PLANS, PLAN = 'quorum_elects.specs.Plans', 'quorum_recovers.specs.Plan'
+SESSION, COMMAND = run.Rec({'client': 4_000_000_000, 'id': 9_000_000}), run.Con('Set', (b'recovered', b'x'))
+TIMERS = {name: word for word, name in run.TIMER.items()}
+
+
+def line_of(event: run.Con) -> str:
+    """A planned event, as a schedule has it."""
+    plain = event.a[0]
+    if plain.n == 'Start':
+        return 'start %d %d' % plain.a
+    if plain.n == 'Deliver':
+        return 'deliver %d %d' % plain.a
+    if plain.n == 'Ring':
+        rank, timer, at = plain.a
+        return f'timer {rank} {TIMERS[timer.n]} {at}'
+    rank, at, session, request = plain.a
+    return f'client {rank} {at} {session.d["client"]} {session.d["id"]} set {request.a[0].decode()} {request.a[1].decode()}'
 
 
 class Way:
-    """The way of a majority, an event at a time: each is chosen by what the world is then."""
+    """The way back of a majority: the events that follow the plan of the definitions, each of which delivers the newest message."""
 
-    def __init__(self, play: run.Play, majority: list[int], allowed: list[int]):
-        self.play, self.majority = play, majority
-        self.leader = min(rank for rank in majority if rank in allowed)
-        self.before = len(self.messages())
-        self.lines = []
+    def __init__(self, play: run.Play, majority: list[int]):
+        self.play, self.sent, self.lines = play, len(self.world_of(play).d['messages']), []
+        members = tuple(rank in majority for rank in range(15))
+        self.steps = run.apps(run.fn(PLAN, 'way_back'), play.ms, members, SESSION, COMMAND)
 
-    # What the world is.
+    @staticmethod
+    def world_of(play: run.Play):
+        return play.scene.d['world']
 
-    def world(self):
-        return self.play.scene.d['world'].d
-
-    def messages(self):
-        return self.world()['messages']
-
-    def state(self, rank: int):
-        return run.app(self.world()['state'], rank).a[0].d
-
-    def phase(self, rank: int) -> str:
-        return self.state(rank)['phase'].n
-
-    def read(self, rank: int):
-        return run.app(run.fn(READINGS, 'readings_of'), run.app(self.world()['store'], rank))
-
-    def epoch(self, rank: int) -> int:
-        return run.app(run.fn(READINGS, 'epoch_of'), self.read(rank))
-
-    def promise(self, rank: int) -> int:
-        return run.app(run.fn(READINGS, 'promise_of'), self.read(rank))
-
-    def quorum(self) -> list[int]:
-        return [rank for rank, within in enumerate(self.state(self.leader)['leader'].d['quorum']) if within and rank != self.leader]
-
-    def replied(self) -> bool:
-        return any(reply.d['session'].d['client'] == SESSION for reply in self.world()['replied'])
-
-    # What is done.
-
-    def take(self, line: str):
-        self.lines.append(line)
-        if not self.play.take(line):
-            raise ValueError(f'the run stops at {line!r}')
-
-    def deliver(self, sender: int, receiver: int, kind: str):
-        """Delivers the newest message of this kind between the two that was sent since the run's end."""
-        sent = self.messages()
-        for number in range(len(sent), self.before, -1):
-            envelope = sent[number - 1].d
-            message = envelope['message'].d
-            if (message['from'], envelope['to'], message['body'].n) == (sender, receiver, kind):
-                return self.take(f'deliver {number} 0')
-        raise ValueError(f'no {kind} of {sender} to {receiver}')
-
-    def start_and_probe(self):
-        for rank in self.majority:
-            self.take(f'start {rank} 0')
-        for rank, other in itertools.permutations(self.majority, 2):
-            if self.phase(rank) == 'Probing':
-                self.deliver(rank, other, 'Probe')
-                self.deliver(other, rank, 'ProbeReply')
-
-    def elect(self):
-        leader, others = self.leader, [rank for rank in self.majority if rank != self.leader]
-        first = max(self.majority, key=self.epoch)
-        if self.epoch(first) > self.epoch(leader):
-            self.deliver(first, leader, 'Propose')
-        for rank in others:
-            self.deliver(leader, rank, 'Propose')
-        for rank in others:
-            if self.phase(leader) == 'Electing':
-                self.deliver(rank, leader, 'Ack')
-        if self.phase(leader) == 'Electing':
-            self.take(f'timer {leader} election 0')
-        for rank in self.quorum():
-            self.deliver(leader, rank, 'Victory')
-
-    def collect(self):
-        leader, quorum = self.leader, self.quorum()
-        highest = max(quorum, key=self.promise)
-        if self.promise(highest) > self.promise(leader):
-            self.deliver(leader, highest, 'Collect')
-            self.deliver(highest, leader, 'Last')
-        for _ in range(2):
-            number = self.promise(leader)
-            for rank in quorum:
-                if self.phase(leader) == 'Collecting' and self.promise(leader) == number:
-                    self.deliver(leader, rank, 'Collect')
-                    self.deliver(rank, leader, 'Last')
-
-    def catch_up(self):
-        for rank in self.quorum():
-            if self.read(rank).d['last'] < self.read(self.leader).d['last']:
-                self.deliver(self.leader, rank, 'Commit')
-
-    def accept(self, phase: str):
-        for rank in self.quorum():
-            if self.phase(self.leader) == phase:
-                self.deliver(self.leader, rank, 'Begin')
-                self.deliver(rank, self.leader, 'Accept')
+    def take(self, planned):
+        event = run.apps(run.fn(PLANS, 'event_of'), self.sent, self.world_of(self.play), planned)
+        if event.n == 'None':
+            raise ValueError(f'there is no message for {planned!r}')
+        self.lines.append(line_of(event.a[0]))
+        if not self.play.take(self.lines[-1]):
+            raise ValueError(f'the run stops at {self.lines[-1]!r}')
 
     def go(self):
-        self.start_and_probe()
-        if self.play.n > 1:
-            self.elect()
-            self.collect()
-            self.catch_up()
-            if self.phase(self.leader) == 'Previous':
-                self.accept('Previous')
-                self.catch_up()
-        self.take(f'client {self.leader} 0 {SESSION} {ID} {COMMAND}')
-        if self.play.n > 1:
-            self.accept('Updating')
+        for step in self.steps:
+            for planned in run.app(step, self.world_of(self.play)):
+                self.take(planned)
+
+    def replied(self) -> bool:
+        return any(reply.d['session'] == SESSION for reply in self.world_of(self.play).d['replied'])
 
 
 def is_near(play: run.Play, rank: int) -> bool:
@@ -154,43 +83,64 @@ def allowed_in(play: run.Play) -> list[int]:
     return [rank for rank in range(play.n) if rule.n == 'Classic' or not rule.a[0][rank]]
 
 
-def outcome(seed: int, events: int, program: str | None) -> str:
-    schedule, play = fuzz.schedule_of(seed, events, 'small')
-    if play.stop:
-        return 'stopped'
+def most_events(n: int) -> int:
+    """The bound on the events of a way of n monitors."""
+    return 2 * n * n + 14 * n + 5
+
+
+def outcome(seed: int, schedule: str, play: run.Play, program: str | None, longest: collections.Counter) -> str:
+    """What becomes of a majority after the run of a seed. Notes the longest way of each number of monitors."""
     near = [rank for rank in range(play.n) if is_near(play, rank)]
     least = play.n // 2 + 1
+    where = f'seed {seed}, event {play.events}'
     if len(near) < least:
-        return f'WRONG: seed {seed}: {len(near)} of {play.n} are near'
-    rng = random.Random(seed)
-    majority, allowed = sorted(rng.sample(near, rng.randint(least, len(near)))), allowed_in(play)
-    if not set(majority) & set(allowed):
+        return f'WRONG: {where}: {len(near)} of {play.n} are near'
+    rng = random.Random(seed + play.events)
+    majority = sorted(rng.sample(near, rng.randint(least, len(near))))
+    if not set(majority) & set(allowed_in(play)):
         return 'none may lead'
-    way, most = Way(play, majority, allowed), 2 * play.n * play.n + 14 * play.n + 5
+    way, most = Way(play, majority), most_events(play.n)
     try:
         way.go()
     except ValueError as why:
-        return f'WRONG: seed {seed}, {majority} of {play.n}: {why}'
+        return f'WRONG: {where}, {majority} of {play.n}: {why}'
     if not way.replied() or len(way.lines) > most:
-        return f'WRONG: seed {seed}, {majority} of {play.n}: {len(way.lines)} events of at most {most}, and {"a" if way.replied() else "no"} reply'
+        return f'WRONG: {where}, {majority} of {play.n}: {len(way.lines)} events of at most {most}, and {"a" if way.replied() else "no"} reply'
     if program:
         whole = schedule + '\n'.join(way.lines) + '\n'
         if subprocess.run([program, 'replay'], input=whole.encode('latin-1'), stdout=subprocess.PIPE).stdout.decode('latin-1') != play.ended():
-            return f'WRONG: seed {seed}, {majority} of {play.n}: the program has another trace'
+            return f'WRONG: {where}, {majority} of {play.n}: the program has another trace'
+    longest[play.n] = max(longest[play.n], len(way.lines))
     return 'served'
+
+
+def outcomes(seed: int, events: int, every: int, program: str | None, longest: collections.Counter) -> list[str]:
+    """What becomes of a majority at the end of the run of a seed, and before that after each so many events."""
+    found = []
+
+    def seen(lines: list[str], play: run.Play):
+        if play.events % every == 0 and play.events < events:
+            other = play.copy()
+            other.trace = list(play.trace)
+            found.append(outcome(seed, '\n'.join(lines) + '\n', other, program, longest))
+    schedule, play = fuzz.schedule_of(seed, events, 'small', seen)
+    return found + ['stopped' if play.stop else outcome(seed, schedule, play, program, longest)]
 
 
 def main(words: list[str]) -> int:
     first, count, events = map(int, words[:3])
-    program = words[3] if len(words) > 3 else None
-    found = collections.Counter()
+    every = int(words[3]) if len(words) > 3 else events
+    program = words[4] if len(words) > 4 else None
+    found, longest = collections.Counter(), collections.Counter()
     for seed in range(first, first + count):
-        result = outcome(seed, events, program)
+        for result in outcomes(seed, events, every, program, longest):
+            found[result.split(':')[0]] += 1
+            if result.startswith('WRONG'):
+                print(result, flush=True)
         run.antt.forget()
-        found[result.split(':')[0]] += 1
-        if result.startswith('WRONG'):
-            print(result, flush=True)
     print(', '.join(f'{name} {number}' for name, number in sorted(found.items())))
+    for n, number in sorted(longest.items()):
+        print(f'{n} monitors: at most {number} events of {most_events(n)}')
     return 1 if found['WRONG'] else 0
 
 

@@ -18,9 +18,11 @@ import sys
 import time
 import traceback
 
-sys.path.insert(0, os.path.dirname(os.path.abspath(__file__)))
+HERE = os.path.dirname(os.path.abspath(__file__))
+sys.path[:0] = [HERE, os.path.dirname(HERE)]
 import antt
 from antt import *
+from fields import At, Fields, changes_of
 
 u32 = lambda n: struct.pack('<I', n)
 u64 = lambda n: struct.pack('<Q', n)
@@ -47,42 +49,6 @@ def tx_text(ops):
     return t
 
 
-class Bad(Exception):
-    pass
-
-
-class Cur:
-    def __init__(s, b):
-        s.b = b
-        s.i = 0
-
-    def take(s, n):
-        if s.i + n > len(s.b):
-            raise Bad()
-        r = s.b[s.i:s.i+n]
-        s.i += n
-        return r
-
-    def u8(s):
-        return s.take(1)[0]
-
-    def u32(s):
-        return struct.unpack('<I', s.take(4))[0]
-
-    def u64(s):
-        return struct.unpack('<Q', s.take(8))[0]
-
-
-def word(c, most):
-    n = c.u8()
-    if not 1 <= n <= most:
-        raise Bad()
-    b = c.take(n)
-    if any(not 0x21 <= x <= 0x7e for x in b):
-        raise Bad()
-    return b
-
-
 DEC = {}
 
 
@@ -91,40 +57,8 @@ def tx_of(b):
     if b in DEC:
         return DEC[b]
     try:
-        if len(b) > 4194304:
-            raise Bad()
-        c = Cur(b)
-        f = c.u8()
-        if f not in (1, 2):
-            raise Bad()
-        n = c.u32()
-        ops = []
-        for _ in range(n):
-            k = c.u8()
-            if k == 1:
-                p = word(c, 32)
-                q = word(c, 255)
-                ops.append(Con('Put', (p, q, c.take(c.u32()))))
-            elif k == 2:
-                p = word(c, 32)
-                ops.append(Con('Erase', (p, word(c, 255))))
-            elif k == 3:
-                ops.append(Con('ErasePrefix', (word(c, 32),)))
-            elif k == 4 and f == 2:
-                p = word(c, 32)
-                x = c.u64()
-                y = c.u64()
-                if not x < y <= 2**62:
-                    raise Bad()
-                ops.append(Con('EraseRange', (p, x, y)))
-            else:
-                raise Bad()
-        if c.i != len(b):
-            raise Bad()
-        if (f == 2) != any(o.n == 'EraseRange' for o in ops):
-            raise Bad()
-        r = Ok(tuple(ops))
-    except Bad:
+        r = Ok(tuple(Con(name, tuple(fields)) for name, *fields in changes_of(b)))
+    except At:
         r = Err(Con('x'))
     DEC[b] = r
     return r
@@ -154,11 +88,19 @@ def app_in(o, d):
             del d[k]
 
 
+# what the last transaction made of a map, for which it is asked several times
+APPLIED = [None, None, None]
+
+
 def apply_tx(ops, m):
-    d = dict(m.d)
-    for o in ops:
-        app_in(o, d)
-    return FinMap(d)
+    if not ops:
+        return m
+    if APPLIED[0] is not ops or APPLIED[1] is not m:
+        d = dict(m.d)
+        for o in ops:
+            app_in(o, d)
+        APPLIED[:] = ops, m, FinMap(d)
+    return APPLIED[2]
 
 
 def number_in(o):
@@ -203,54 +145,47 @@ def u8s(b):
         b.decode()
         return b
     except UnicodeDecodeError:
-        raise Bad()
+        raise At(0)
 
 
 def dec(f):
     def g(b):
         try:
-            c = Cur(B(b))
+            c = Fields(B(b))
             r = f(c)
-            if c.i != len(c.b):
-                raise Bad()
+            c.end()
             return Ok(r)
-        except Bad:
+        except At:
             return Err(Con('x'))
     return nat(1)(g)
 
 
 def kv_inc(c):
-    k = c.u8()
-    if k == 1:
-        n = word(c, 255)
-        return Con('Set', (n, u8s(c.take(c.u32()))))
-    if k == 2:
-        return Con('Remove', (word(c, 255),))
-    raise Bad()
+    k = c.unsigned(1, 1, 2)
+    n = c.word(255)
+    return Con('Set', (n, u8s(c.counted()))) if k == 1 else Con('Remove', (n,))
 
 
 def kv_map(c):
-    n = c.u32()
+    n = c.unsigned(4)
     d = {}
     last = b''
     for _ in range(n):
-        k = word(c, 255)
+        k = c.word(255)
         if not last < k:
-            raise Bad()
+            raise At(c.at)
         last = k
-        d[k] = u8s(c.take(c.u32()))
+        d[k] = u8s(c.counted())
     return FinMap(d)
 
 
 def log_inc(c):
-    r = c.u8()
-    if r > 14:
-        raise Bad()
-    return Rec({'rank': r, 'text': u8s(c.take(c.u32()))})
+    r = c.unsigned(1, 0, 14)
+    return Rec({'rank': r, 'text': u8s(c.counted())})
 
 
 def log_map(c):
-    n = c.u32()
+    n = c.unsigned(4)
     return tuple(log_inc(c) for _ in range(n))
 
 
@@ -276,7 +211,10 @@ def fn(p, n):
 
 for name in ('fold', 'incrementals', 'map_of_log'):
     antt.MEMO['mon_msg.specs.Fold.' + name] = 10 ** 6
-antt.MEMO[PR + 'Readings.readings_of'] = 32
+antt.MEMO[PR + 'Readings.readings_of'] = 256
+# what an event meets is asked several times
+for name in ('mon_world.specs.Events.scheduled_of', 'quorum_model.specs.Meets.meets', 'quorum_model.specs.Scenes.event_in'):
+    antt.MEMO[name] = 8
 antt.MEMO['mon_tx.specs.Keys.shared'] = 32
 # where a named key stands
 PLACES = {}

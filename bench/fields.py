@@ -1,0 +1,69 @@
+"""Fields of bytes, and transactions from their bytes, as docs/FORMATS.md specifies them: for the checks, the benches and the definitions that are executed.
+
+tools/wire.py has a reader of its own, for what operators use. The two share nothing: the checks judge the tools too, so a fault of one reader may not be
+one of the other.
+"""
+from __future__ import annotations
+
+MOST_NUMBER, MOST_TRANSACTION = 2**62, 4_194_304
+
+
+class At(Exception):
+    """The bytes are refused at this one."""
+
+    def __init__(self, at: int):
+        super().__init__(at)
+        self.at = at
+
+
+class Fields:
+    """Takes fields from bytes, from a place on. One that doesn't fit, or isn't of its form, is at fault at its first byte."""
+
+    def __init__(self, octets: bytes, at: int = 0):
+        self.octets, self.at = octets, at
+
+    def take(self, count: int, is_so=lambda field: True) -> bytes:
+        field = self.octets[self.at:self.at + count]
+        if len(field) < count or not is_so(field):
+            raise At(self.at)
+        self.at += count
+        return field
+
+    def unsigned(self, size: int, least: int = 0, most: int = 2**64) -> int:
+        return int.from_bytes(self.take(size, lambda field: least <= int.from_bytes(field, 'little') <= most), 'little')
+
+    def word(self, most: int) -> bytes:
+        """A prefix or a key, of at most so many bytes."""
+        return self.take(self.unsigned(1, 1, most), lambda field: all(0x21 <= octet <= 0x7E for octet in field))
+
+    def counted(self) -> bytes:
+        return self.take(self.unsigned(4))
+
+    def end(self):
+        if self.at < len(self.octets):
+            raise At(self.at)
+
+
+def changes_of(octets: bytes) -> list[tuple]:
+    """The changes of a transaction, each as its name in `mon_tx` and its fields. Raises At if the bytes are none."""
+    if len(octets) > MOST_TRANSACTION:
+        raise At(MOST_TRANSACTION)
+    fields = Fields(octets)
+    form = fields.unsigned(1, 1, 2)
+    found = [change_in(fields, form) for _ in range(fields.unsigned(4))]
+    fields.end()
+    if form == 2 and not any(change[0] == 'EraseRange' for change in found):
+        raise At(0)
+    return found
+
+
+def change_in(fields: Fields, form: int) -> tuple:
+    kind, prefix = fields.unsigned(1, 1, 2 + form), fields.word(32)
+    if kind == 1:
+        return 'Put', prefix, fields.word(255), fields.counted()
+    if kind == 2:
+        return 'Erase', prefix, fields.word(255)
+    if kind == 3:
+        return 'ErasePrefix', prefix
+    first = fields.unsigned(8, 0, MOST_NUMBER)
+    return 'EraseRange', prefix, first, fields.unsigned(8, first + 1, MOST_NUMBER)
