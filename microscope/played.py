@@ -6,7 +6,7 @@ import sys
 from typing import Iterator, NamedTuple
 
 TOP = os.path.dirname(os.path.dirname(os.path.abspath(__file__)))
-sys.path[:0] = [os.path.join(TOP, 'bench', 'definitions'), os.path.join(TOP, 'examples')]
+sys.path[:0] = [os.path.join(TOP, 'bench', 'definitions'), os.path.join(TOP, 'tools')]
 import antt  # noqa: E402
 
 antt.DROPS = []  # Rows say why they drop an input; this is set before `run` looks up the first definition.

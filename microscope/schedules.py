@@ -8,7 +8,7 @@ import re
 from typing import Callable, Iterator, NamedTuple
 
 MOST_SCHEDULE, MOST_EVENTS = 16_777_216, 200_000
-MOST_NUMBER, MOST_MESSAGE, MOST_CLIENT, MOST_MONITORS = 2**62, 2**64 - 1, 2**32 - 1, 15
+MOST_NUMBER, MOST_MESSAGE_NUMBER, MOST_CLIENT, MOST_MONITORS = 2**62, 2**64 - 1, 2**32 - 1, 15
 # The kinds of timers, in the order in which the definitions list them.
 TIMERS = 'probe election collect accept renew leaseack lease sync step propose ping'.split()
 RULES = 'classic', 'disallow', 'connectivity'
@@ -77,7 +77,7 @@ def fields_after(first: str, monitors: int) -> list[Field]:
     """The fields after the first word of an event, up to the next word that decides."""
     return {
         'start': [rank(monitors), TIME],
-        'deliver': [number('K', 'the number of a sent message', 1, MOST_MESSAGE), TIME],
+        'deliver': [number('K', 'the number of a sent message', 1, MOST_MESSAGE_NUMBER), TIME],
         'timer': [rank(monitors), word('KIND', *TIMERS), TIME],
         'client': [rank(monitors), TIME, number('C', 'the number of a client', 0, MOST_CLIENT), number('ID', 'the ID of a request', 0, MOST_NUMBER),
                    word('COMMAND', *COMMANDS)],

@@ -5,11 +5,11 @@ import re
 from typing import NamedTuple
 
 from played import run
-from schedules import DELIVERY, MOST_MESSAGE
+from schedules import DELIVERY, MOST_MESSAGE_NUMBER
 
 SENT = re.compile(r'^(\d+) |^  send (\d+) ', re.MULTILINE)
 # The number of a message that no event sends.
-NEVER = MOST_MESSAGE
+NEVER = MOST_MESSAGE_NUMBER
 
 
 class Ended(NamedTuple):
