@@ -33,7 +33,7 @@ class Fields:
         return int.from_bytes(self.take(size, lambda field: least <= int.from_bytes(field, 'little') <= most), 'little')
 
     def word(self, most: int) -> bytes:
-        """A prefix or a key, of at most so many bytes."""
+        """A prefix or a key, of at most this number of bytes."""
         return self.take(self.unsigned(1, 1, most), lambda field: all(0x21 <= octet <= 0x7E for octet in field))
 
     def counted(self) -> bytes:

@@ -181,7 +181,7 @@ class Judge:
                     self.wrong.append(f'{key} is {value} at {paxos}, before its version')
 
     def may_follow(self, value, key, changes, place) -> bool:
-        """Whether a key may have this value, or none, after so many of its changes: that of the last one, or of one that wasn't answered."""
+        """Whether a key may have this value, or none, after this number of its changes: that of the last one, or of one that wasn't answered."""
         _, number, removed = changes[place - 1]
         if value is None:
             return removed or place == len(changes) and self.left.get(key, False)

@@ -42,7 +42,7 @@ def play(kv: dict, payload: bytes):
 
 
 def read_store(a: str, b: str) -> dict:
-    """The map that the two files stand for."""
+    """The map that the two files hold."""
     files = []
     for path in (a, b):
         with open(path, 'rb') as file:

@@ -20,7 +20,7 @@ from words import Sent, Story, paragraph_of, sends_of, time_of, why
 
 # How many seconds of work a request takes at most while time runs by itself, and how many events.
 WORK, MOST_AT_ONCE = 0.06, 40
-# After so many events the values that are kept of definitions are forgotten.
+# After this number of events the values that are kept of definitions are forgotten.
 FORGET_AFTER = 300
 UPSET = re.compile(r'(?:crash|fail) [ab] \d+ \d')
 
@@ -244,7 +244,7 @@ class Game:
         return card(self.here.play, rank, self.here.now)
 
     def view(self, branch: int, known: int) -> dict:
-        """All that a page shows. Of the lines only those that it doesn't know: it knows so many of a branch."""
+        """All that a page shows. Of the lines only those that it doesn't know: it says how many of a branch it knows."""
         here = self.here
         done = [it for it in self.moments[1:] if it.line is not None]
         begin = known if branch == self.branch and known <= len(done) else 0

@@ -111,7 +111,7 @@ def is_of(course: Course, rank: int, group: tuple[int, ...]) -> bool:
 
 
 def write_in(course: Course, leader: int, group: tuple[int, ...], delivered: int):
-    """The leader takes a value, of which so many messages arrive within the group."""
+    """The leader takes a value, of which this number of messages arrives within the group."""
     course.waiting.clear()
     course.write(leader)
     within(course, group)
@@ -227,7 +227,7 @@ def rival(course: Course):
 
 
 def copied(course: Course):
-    """The last monitor misses so many writes that it lacks just what is trimmed. It still promises a number to a leader, which then stores a value
+    """The last monitor misses as many writes as are trimmed, so that it lacks just these. It still promises a number to a leader, which then stores a value
     that nobody else hears of."""
     quorum(course)
     leader = part(course, (0, 1), (0,))
@@ -252,7 +252,7 @@ class Found(NamedTuple):
 
 
 def search(opening: str, seed: int, seconds: float, header: str = 'monitors 3 classic') -> Found | None:
-    """The first unsafe run that is found in so many seconds of a processor."""
+    """The first unsafe run that is found within this number of seconds of a processor."""
     begin, kinds = OPENINGS[opening]
     base, end, events = Course(header), time.process_time() + seconds, 0
     begin(base)

@@ -118,7 +118,7 @@ class Prefixes:
         return True
 
     def ended(self, count: int, has_ended: bool) -> Ended:
-        """How a run of so many lines ended."""
+        """How a run of this number of lines ended."""
         for held in (self.lines, self.plays, self.traces):
             del held[count:]
         last = self.plays[-1]

@@ -115,7 +115,7 @@ def outcome(seed: int, schedule: str, play: run.Play, program: str | None, longe
 
 
 def outcomes(seed: int, events: int, every: int, program: str | None, longest: collections.Counter) -> list[str]:
-    """What becomes of a majority at the end of the run of a seed, and before that after each so many events."""
+    """What becomes of a majority at the end of the run of a seed, and at regular numbers of events before it."""
     found = []
 
     def seen(lines: list[str], play: run.Play):

@@ -1,4 +1,4 @@
-/* Receives that fail: of each so many calls of recvfrom the first ones do. It is loaded before the C library into a monitor.
+/* Receives that fail: of each group of calls of recvfrom the first ones do. It is loaded before the C library into a monitor.
  *
  * RECEIVES_FAIL=ERRNO,ROW,EVERY: of each EVERY calls ROW in a row return -1 with this errno, and receive nothing. */
 #define _GNU_SOURCE
