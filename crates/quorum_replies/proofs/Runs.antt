@@ -1,4 +1,4 @@
--- In every run a session's replies and requests under way are no more than what it asked.
+-- In every run the replies to a session and its requests that a monitor holds are together no more than it asked.
 use Rattle.quorum_replies.proofs.Rows.{asks_now, spends}
 use Rattle.quorum_replies.proofs.Spending.{held, of_session, replies, spent}
 use Rattle.quorum_replies.specs.Replies.{AnsweredOnce, one_of, times_answered, times_asked}
@@ -55,7 +55,7 @@ answered_now i t event rank m false e (sent.Reply u r ∷ out) = let h = answere
 
 -- ---- a world
 
--- what is answered and held was asked
+-- a monitor's replies to a session and the requests that it holds are together no more than the session asked
 abbrev pub Spent : World → Type 0
 Spent w = (i : ℕ) (t : Session) → times_answered i t w.replied + held_at t (w.state i) ≤ times_asked i t w.asked
 
@@ -65,7 +65,7 @@ more_asked (Start rank at) asked i t = omega arith
 more_asked (Deliver k at) asked i t = omega arith
 more_asked (Ring rank timer at) asked i t = omega arith
 
--- what a monitor of this rank makes of the input; b says whether it is monitor j
+-- a request that comes to a monitor is counted among what was asked of it; b is true if and only if it is monitor j
 abbrev Counts : World → Plain → (rank : ℕ) → Input → Type 0
 Counts w p rank came = (j : ℕ) (t : Session) (b : Bool) → eqb rank j ≡ b → times_asked j t w.asked + cond b (asks_now t came) 0 ≤ times_asked j t (with_asked p w.asked)
 
@@ -76,7 +76,7 @@ abbrev Meant : World → Plain → Meeting → Type 0
 Meant w p (Reacts rank came result) = Counts w p rank came × IfOk result (Gives w rank came)
 Meant w p other = Unit {0}
 
--- ---- what becomes of the world
+-- ---- the world after an event
 
 module _ (w : World) (h : Spent w) (p : Plain) where
   unmoved_spent : Spent (unmoved w p)

@@ -40,7 +40,7 @@ abbrev pub queued : Session → List Waiting → ℕ
 queued t [] = 0
 queued t (q ∷ xs) = of_origin t q.origin + queued t xs
 
--- the requests that a monitor will answer, if it ever does
+-- how many of a session's requests a monitor holds: waiting at a peon, in a leader's queue, or as the value in progress
 abbrev pub held : Session → State → ℕ
 held t s = waiting t s.clients.sessions + queued t s.clients.queue + of_any t s.leader.origin
 
@@ -71,7 +71,7 @@ no_replies t [] k = refl
 no_replies t (sent.Reply u r ∷ xs) k = absurd k.0
 no_replies t (sent.Message to m ∷ xs) k = no_replies t xs k.1
 
--- of those that wait, some are answered and the others wait on
+-- the requests of a list are those that a reply answers, by its number, and those that wait on
 pub split : (t : Session) (seq : ℕ) (r : Reply) (xs : List Asked) → replies t (map (λ (a : Asked). sent.Reply a.session r) (filter (λ (a : Asked). eqb a.seq seq) xs)) + waiting t (filter (λ (a : Asked). not (eqb a.seq seq)) xs) ≡ waiting t xs
 split t seq r [] = refl
 split t seq r (a ∷ xs) = by (eqb a.seq seq) (split t seq r xs)

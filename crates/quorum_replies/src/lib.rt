@@ -1,4 +1,4 @@
-//! That no request is answered twice.
+//! That a monitor replies to a session no more often than the session asked it.
 #![tactic(auto)]
 
 mod laws;
