@@ -73,7 +73,7 @@ module _ (S : Scope) (several : 1 < S.ms.count) (P : Provider S) (k : ℕ) (othe
   abbrev Mail2 : ℕ → ℕ → Body → World → Type 0
   Mail2 f g b w = Mail S several P k other from lt_k in_k lt_p in_p f g b w
 
-  -- what it keeps is what it kept, with one start more
+  -- r is r0 after one more start, with the same epoch
   pub record StartedOf (r0 r : Readings) : Type 0 where
     pub own : r ≡ record r0 { boot = suc r0.boot; epoch = r.epoch }
     pub epoch : epoch_of r ≡ epoch_of r0

@@ -1,4 +1,4 @@
--- That each chunk brings something.
+-- Each chunk brings an entry or a version, unless it is the last one.
 use Rattle.calm_sizes.proofs.Keys.{fold_keys, fold_listed, kept_from, log_keys, service_keys, version_at}
 use Rattle.calm_sizes.proofs.Listed.{In, few_within, here, run, there}
 use Rattle.calm_sizes.proofs.Shorts.{fold_short}
@@ -70,7 +70,7 @@ filter_within p (x ∷ xs) = by (p x) (filter_within p xs)
     by true le = omega arith
     by false le = omega arith
 
--- one that passes only the first test
+-- if an item passes only the first test, fewer items pass the second one
 filter_less : {A : Type 0} (p q : A → Bool) (y : A) (xs : List A) → ((x : A) → q x ≡ true → p x ≡ true) → p y ≡ true → q y ≡ false → Among y xs → length (filter q xs) < length (filter p xs)
 filter_less p q y [] h t u a = absurd a
 filter_less {A} p q y (x ∷ xs) h t u (inl e) = by (filter_most p q xs h) (p x) (q x) (ap p (sym e) ∙ t) (ap q (sym e) ∙ u)
@@ -239,7 +239,7 @@ pub brief_place : (x : KeyPlace) (es : List Entry) → key_place_length x ≤ 36
 brief_place x [] low h = low
 brief_place x (e ∷ es) low h = brief_place (key_place.After e.prefix e.key) es (let z = h.0.0.0 in let y = h.0.0.1 in omega arith) h.1
 
--- What a chunk has whose place is at the provider's last version: no record, the first of the entries that are left, and
+-- A chunk whose place is at the provider's last version has no record. It has the first of the entries that remain, and
 -- at least one of them unless it is the last chunk.
 pub record Brings (last : ℕ) (c : Cookie) (p : ChunkPlace) (left : List Entry) (b : Body) : Type 0 where
   pub found : List Entry

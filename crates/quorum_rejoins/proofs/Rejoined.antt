@@ -1,4 +1,4 @@
--- A majority catches up, however far its members are from the whole log.
+-- A majority that has room catches up, however far its members are from the whole log.
 use Rattle.calm_sizes.proofs.Records.{entry_short}
 use Rattle.calm_sizes.specs.Sizes.{AllShort, longest}
 use Rattle.log_copies.proofs.Telling.{monitor_keeps, read_last, record_there}
@@ -89,7 +89,7 @@ module _ (ms : Monitors) (several : 1 < ms.count) (events : List Event) (F : All
   sane : Sane S (run ms events)
   sane = record { since = omega arith; reached = record { events = events; fit = F; is = there }; short = short_of }
 
-  -- ---- the provider: one that has most
+  -- ---- the provider: a member that has the most versions
 
   N : SomeNear (run ms events) q
   N = every ms events F (omega arith) q M
@@ -225,11 +225,11 @@ module _ (ms : Monitors) (several : 1 < ms.count) (events : List Event) (F : All
           (let z = ap length e.1 in omega arith),
         )
 
-    -- how many events one takes
+    -- the events that one member takes at most
     abbrev each : ℕ
     each = 1850
 
-    -- what has become of the members below k
+    -- what holds of a member once it caught up
     record CaughtOf (f : ℕ) (r : Readings) : Type 0 where
       kept : KeptFrom (readings_at (run ms events) f) r
       near : length log ≤ r.last + 11
@@ -261,7 +261,7 @@ module _ (ms : Monitors) (several : 1 < ms.count) (events : List Event) (F : All
     more_gives : (k : ℕ) (s : State) → Gives (suc k) s → Gives (suc (suc k)) s
     more_gives k s X = record { runs = X.runs; long = X.long; next = (let z = X.next in omega arith) }
 
-    -- nothing is to be done for k
+    -- all below k + 1 are done if k caught up already, is the provider, or is no member
     skip : (k : ℕ) (w : World) → Done k w → (has q k ≡ true → (k ≡ p → ⊥) → CaughtOf k (readings_at w k)) → Done (suc k) w
     skip k w D here = record {
       room = D.room;

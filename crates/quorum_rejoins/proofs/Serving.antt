@@ -1,4 +1,4 @@
--- Any majority catches up, and serves if none of its members is between.
+-- Any majority that has room catches up. It serves if it is ready and none of its members lacks from 2 to 11 versions.
 use Rattle.log_model.proofs.Lists.{all_append, all_map}
 use Rattle.log_model.specs.LogOfValues.{IsCommand}
 use Rattle.mon_bytes.specs.declared.command.Command.{Command}

@@ -71,14 +71,15 @@ armed_step (a ∷ b ∷ c ∷ d ∷ e ∷ f ∷ []) x lt = absurd (omega arith)
 armed_step (a ∷ b ∷ c ∷ d ∷ e ∷ f ∷ g ∷ []) x lt = absurd (omega arith)
 armed_step (a ∷ b ∷ c ∷ d ∷ e ∷ f ∷ g ∷ h ∷ []) x lt = absurd (omega arith)
 
--- the last version of the answer is high enough for a marked monitor, or its first one too high for an unmarked one
+-- A PROBE_REPLY with these versions makes a monitor copy the whole store. The monitor is marked and the last version
+-- reaches its floor, or it is unmarked and its own last version is below the first one.
 abbrev pub MustCopy : Readings → (first last : ℕ) → Type 0
 MustCopy w first last = ((w.marked ≡ true) × (1 ≤ last) × (w.floor ≤ last)) ⊎ ((w.marked ≡ false) × (w.last < first) × (1 < first))
 
 abbrev pub mark : Readings → Change
 mark w = Mark (floor_of w) w.last_pn w.promise
 
--- ---- what a monitor remembers that takes a copy from f
+-- ---- the state of a monitor that takes a copy from f
 
 pub record Takes (f : ℕ) (whole : Bool) (kind : SyncStage) (s : State) : Type 0 where
   pub phase : s.phase ≡ phase.Synchronizing
@@ -87,7 +88,7 @@ pub record Takes (f : ℕ) (whole : Bool) (kind : SyncStage) (s : State) : Type 
   pub stage : s.requester.stage ≡ kind
   pub timers : 8 < length s.timers
 
--- and asks for chunks, from this place on
+-- it takes a copy from f, and asks for chunks from this place on
 pub record Chunks (f : ℕ) (whole : Bool) (c : Cookie) (first : ℕ) (p : Place) (s : State) : Type 0 where
   pub takes : Takes f whole sync.Chunks s
   pub cookie : s.requester.cookie ≡ Some c

@@ -43,7 +43,8 @@ mark_fits : (m : Store) → AllByRecursion Fits (mark (readings_of m) ∷ [])
 unfolding readings_of
 mark_fits m = ((floor_short m, there_short (cell m area.Paxos key.LastPn), there_short (cell m area.Paxos key.AcceptedPn)), tt)
 
--- its own numbers are those that it had, after one more start, and it is in no full synchronization
+-- The monitor's epoch and proposal numbers are those in r0. It was started at most once more, and is in no full
+-- synchronization.
 pub record KeptFrom (r0 r : Readings) : Type 0 where
   pub unmarked : r.marked ≡ false
   pub boot : r.boot ≤ suc r0.boot
@@ -61,7 +62,7 @@ module _ (S : Scope) (several : 1 < S.ms.count) (P : Provider S) (k : ℕ) (othe
   abbrev T3 : ℕ → World → Type 0
   T3 most w = T1 S several P k other from lt_k in_k lt_p in_p most w
 
-  -- it has at least the versions of the provider
+  -- Member k has at least the versions of the provider.
   pub record Caught (most : ℕ) (r0 : Readings) (w : World) : Type 0 where
     pub turn : T3 most w
     pub kept : KeptFrom r0 (readings_at w k)
@@ -70,11 +71,11 @@ module _ (S : Scope) (several : 1 < S.ms.count) (P : Provider S) (k : ℕ) (othe
   module _ (few : k < 15) (unmarked : (readings_of P.given).marked ≡ false) (within : t ≤ length P.log) (short : length P.log < 2 ^ 62) (near : length P.log ≤ suc t) (kept : (readings_of P.given).first ≤ suc t)
       (brief : AllByRecursion IsBrief (shared_entries P.given))
       (there : (v : ℕ) → (readings_of P.given).first ≤ suc v → v < (readings_of P.given).last → (x : List Op) × (record_at (readings_of P.given).record_of (suc v) ≡ Some x) × (length (text x) ≤ 524288)) (entries : length (shared_entries P.given) ≤ 915) (window : t < (readings_of P.given).first + 752) (most : ℕ) (room : suc most ≤ 2 ^ 62) where
-    -- as many events as either copy takes: a store shares at most 915 entries, and keeps at most 752 versions
+    -- the events that a copy takes at most: a store shares at most 915 entries, and keeps at most 752 versions
     abbrev pub enough : ℕ
     enough = 1850
 
-    -- once it was told how far the provider is
+    -- after the provider's PROBE_REPLY was sent to member k
     module _ (r0 : Readings) (v : World) (A : Told S several P k other from lt_k in_k lt_p in_p most r0 v) where
       T : T3 most v
       T = A.turn
@@ -174,7 +175,7 @@ module _ (S : Scope) (several : 1 < S.ms.count) (P : Provider S) (k : ℕ) (othe
             by true e = let z = and_parts (ltb (readings_at v k).last (readings_of P.given).first) (ltb 1 (readings_of P.given).first) e in weaker S (omega arith) (λ u on C. C) (whole (inr (plain, ltb-true (readings_at v k).last (readings_of P.given).first z.0, ltb-true 1 (readings_of P.given).first z.1)))
             by false e = weaker S (omega arith) (λ u on C. C) (lately e late)
 
-    -- it is in a full synchronization, or far from the provider
+    -- Member k is in a full synchronization whose floor the provider reaches, or lacks more versions of it than `lag`.
     abbrev pub MustCatchUp : Readings → Type 0
     MustCatchUp r0 = ((r0.marked ≡ true) × (1 ≤ t) × (r0.floor ≤ t)) ⊎ ((r0.marked ≡ false) × (r0.last ≤ length P.log) × (r0.last + lag < t))
 

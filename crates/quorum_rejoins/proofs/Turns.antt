@@ -1,4 +1,4 @@
--- One member of a set takes its turn: it copies from another member, and nobody else does anything.
+-- What stays in the world while one member of a set copies from another one.
 use Rattle.mon_msg.proofs.Joining.{apply-joined}
 use Rattle.mon_msg.specs.Joined.{joined}
 use Rattle.mon_msg.specs.Protocol.Changes.{Change, spelled}
@@ -15,7 +15,7 @@ use Rattle.quorum_model.specs.Growth.{grown}
 use Rattle.quorum_model.specs.World.{World}
 use Rattle.std.proofs.Common.{Bool, List, Some, [], ap, false, inl, inr, length, refl, subst, sym, true, ℕ, ◌∙◌, ◌≡◌, ◌≤◌, ◌⊎◌}
 
--- the store doesn't make the log longer
+-- A store with these readings adds nothing to the log: it is marked, or has no version that the log lacks.
 abbrev pub AddsNone : List (List ℕ) → Readings → Type 0
 AddsNone log w = (w.marked ≡ true) ⊎ (w.last ≤ length log)
 
@@ -27,13 +27,14 @@ adds_none log m h = by (readings_of m).marked refl h
     by false u (inr le) = grown_none log m u le
     by false u (inl t) = grown_marked log m t
 
--- what a monitor remembers that gives copies
+-- The state of a monitor that can give copies: it isn't booting, its list of cookies has 15 places, and the number of
+-- its next cookie is at most `most`.
 pub record Gives (most : ℕ) (s : State) : Type 0 where
   pub runs : same_phase s.phase phase.Booting ≡ false
   pub long : length s.provider.cookies ≡ 15
   pub next : s.provider.next_cookie ≤ most
 
--- Member p gives copies of the store `given`, which all of the time has versions of the log alone.
+-- The provider is monitor p. Its store `given` is marked, or has no version that `log` lacks.
 pub record Provider (S : Scope) : Type 0 where
   pub p : ℕ
   pub log : List (List ℕ)
@@ -41,7 +42,8 @@ pub record Provider (S : Scope) : Type 0 where
   pub none : AddsNone log (readings_of given)
 
 module _ (S : Scope) (P : Provider S) (k : ℕ) (other : k ≡ P.p → ⊥) (from : World) where
-  -- Since this world only member k and the provider did anything, and the provider gave at most so many cookies.
+  -- In world w the log and the provider's store are still those of P, and the provider is up and can give copies. The
+  -- stores of all monitors but k and the provider are those in `from`. What these monitors remember is not stated.
   pub record Turn (most : ℕ) (w : World) : Type 0 where
     pub room : Sane S w
     pub log : w.log ≡ P.log
@@ -54,7 +56,7 @@ module _ (S : Scope) (P : Provider S) (k : ℕ) (other : k ≡ P.p → ⊥) (fro
   pub unwritten : (cs : List Change) → cs ≡ [] → (m : Store) → apply (joined (spelled cs)) m ≡ m
   unwritten cs e m = ap (λ (xs : List Change). apply (joined (spelled xs)) m) e ∙ apply-joined [] m
 
-  -- the provider does something, and writes nothing
+  -- This stays after an event at the provider that writes nothing.
   abbrev pub turn_p : {most : ℕ} (more : ℕ) {w v : World} (y : Course) → Turn most w → Onward S w v → Moved S w v P.p y → y.changes ≡ [] → Gives more y.state → Turn more v
   turn_p {most} more {w} {v} y T o M still G = record {
     room = o.sane T.room;
@@ -66,7 +68,7 @@ module _ (S : Scope) (P : Provider S) (k : ℕ) (other : k ≡ P.p → ⊥) (fro
     rest = λ j a b. (M.others j b).1 ∙ T.rest j a b;
   }
 
-  -- the member does something
+  -- This stays after an event at member k, if its store then adds nothing to the log.
   abbrev pub turn_k : {most : ℕ} {w v : World} (y : Course) → Turn most w → Onward S w v → Moved S w v k y → AddsNone P.log y.readings → Turn most v
   turn_k {most} {w} {v} y T o M none = record {
     room = o.sane T.room;

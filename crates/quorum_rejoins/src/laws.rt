@@ -13,19 +13,26 @@ ghost use Rattle.quorum_model.specs.World.{Event};
 ghost use Rattle.quorum_recovers.specs.Serving.{IsServed};
 ghost use Rattle.quorum_rejoins.specs.Lagging.{CaughtUp, HaveRoom, NoneBetween};
 
-/// In every run, any majority can catch up by itself, under any rule, however far its monitors are from the whole
-/// log and whoever else is dead. At most 1,850n + 1 further events at its monitors alone lead there: one that is in a
-/// full synchronization, or lacks more than 11 versions, copies what another one has, and then lacks at most one. No
-/// event is a crash, and no message that was sent before is delivered.
+/// After every run that nothing stopped, any majority can catch up by itself, under any rule, however far its monitors
+/// are from the whole log. The premise is that there is room (`HaveRoom`): their numbers and the log can still grow, no
+/// value of a monitor's own is longer than a transaction may be, and a store in a full synchronization has no longer
+/// value at all and can grow by 1,000 bytes.
+///
+/// At most 1,850n + 1 further events lead there, after which all other monitors are as they were. Then none of the
+/// majority is in a full synchronization, and each lacks at most 11 versions. One that was in a full synchronization,
+/// or lacked more than 11, lacks at most one. No event is a crash, and no message that was sent before is delivered.
 pub fn law_majority_catches_up()
     ensures { (ms : Monitors) → 1 ≤ ms.count → (events : List Event) → AllFit ms.count events
         → (ran ms events).stop ≡ None → (q : List Bool) → IsMajorityOf ms.count q → HaveRoom q (run ms events)
         → HasWay ms events q None (1850 * ms.count + 1) (CaughtUp q) }
 {}
 
-/// In every run, any majority can serve again, if none of its monitors lacks from 2 to 11 versions. Those that lack
-/// more, and those in a full synchronization, copy first. Then the majority elects a leader, and a command that a
-/// client asks of one of its monitors is answered, by at most 2n² + 1,864n + 6 further events.
+/// After every run that nothing stopped, any majority can serve again, under any rule. There are three premises: there
+/// is room, as for `law_majority_catches_up`; one of its members may lead; and no member lacks from 2 to 11 versions,
+/// unless it is in a full synchronization.
+///
+/// The command that a client asks is well-formed and not too long. At most 2n² + 1,864n + 6 further events lead to its
+/// reply: the command is a new version of the log, or its service refuses it. All other monitors are then as they were.
 pub fn law_far_majority_serves()
     ensures { (ms : Monitors) → 1 ≤ ms.count → (events : List Event) → AllFit ms.count events
         → (ran ms events).stop ≡ None → (q : List Bool) → IsMajorityOf ms.count q → HaveRoom q (run ms events)

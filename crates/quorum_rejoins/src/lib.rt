@@ -1,4 +1,5 @@
-//! That a majority finds back to service however far its monitors are from the whole log.
+//! That any majority that has room can catch up to within 11 versions of the log. It can serve again if a member may
+//! lead and none lacks from 2 to 11 versions.
 #![tactic(auto)]
 
 mod laws;
