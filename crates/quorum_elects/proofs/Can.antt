@@ -49,7 +49,7 @@ new_added sent w next more e is le a =
 
 -- ---- worlds that a run reaches
 
--- a run that nothing stopped ends there
+-- world w is the end of a run that nothing stopped
 pub record Reached (ms : Monitors) (w : World) : Type 0 where
   pub events : List Event
   pub fit : AllFit ms.count events
@@ -58,14 +58,15 @@ pub record Reached (ms : Monitors) (w : World) : Type 0 where
 pub reached_holds : (ms : Monitors) (several : 1 < ms.count) (w : World) → Reached ms w → Holds ms several w
 reached_holds ms several w R = subst (Holds ms several) (ap (λ (r : Ran). r.world) R.is) (held ms several R.events R.fit)
 
--- Whose events these are: those of the monitors of q, after this many messages were sent, and what they may be asked.
+-- The scope of further events: each is a step of the monitors of q after the first `sent` messages of a run of ms, and
+-- the only request is `asks`.
 pub record Scope : Type 0 where
   pub ms : Monitors
   pub q : List Bool
   pub sent : ℕ
   pub asks : Option (Session × Command)
 
--- a world in which they may go on: their stores have no long value
+-- a world from which they go on: a run reaches it, and the stores of q have no long value
 pub record Sane (S : Scope) (w : World) : Type 0 where
   pub since : S.sent ≤ length w.messages
   pub reached : Reached S.ms w
@@ -77,7 +78,7 @@ fronts_on F G = record { short = (let p = F.short in let q = G.short in omega ar
 module _ (S : Scope) where
   -- ---- what stays
 
-  -- the others rest, and there are only more messages, versions and events
+  -- all others are as they were, and messages, the log and the count of events only grew
   pub record Onward (w next : World) : Type 0 where
     pub rest : OthersRest S.q w next
     pub more : List Envelope
@@ -112,7 +113,7 @@ module _ (S : Scope) where
 
   -- ---- events one after the other
 
-  -- at most this many steps lead to such a world, and none of them stops the run
+  -- from w at most `most` steps lead to a world with P, and none of them stops the run
   pub record Can (most : ℕ) (P : World → Type 0) (w : World) : Type 0 where
     pub events : List Event
     pub few : length events ≤ most
@@ -129,7 +130,7 @@ module _ (S : Scope) where
   unfoldable pub weaker : {k l : ℕ} {P R : World → Type 0} {w : World} → k ≤ l → ((v : World) → Onward w v → P v → R v) → Can k P w → Can l R w
   weaker {k} {l} {P} {R} {w} le f C = record { events = C.events; few = (let s = C.few in omega arith); steps = C.steps; next = C.next; goes = C.goes; onward = C.onward; there = f C.next C.onward C.there }
 
-  -- it is so already
+  -- no step is needed if P already holds
   pub rests : {k : ℕ} {P : World → Type 0} {w : World} → P w → Can k P w
   rests {k} {P} {w} p = weaker (omega arith) (λ v o x. x) (here P w p)
 

@@ -43,15 +43,16 @@ use Rattle.std.proofs.lemmas.List.{get_or_append_left, length-append}
 use Rattle.std.proofs.lemmas.List.Elements.{Contains-append_right}
 use Rattle.std.specs.List.{AllByRecursion, Contains}
 
--- A course says what it writes, which is nothing long, and its numbers fit. The monitor is in no full synchronization.
+-- A sound course: its readings are those after its changes, its numbers fit, and it writes no long value. It leaves the
+-- monitor in no full synchronization.
 pub record Sound (w : Readings) (y : Course) : Type 0 where
   pub tells : y.readings ≡ played y.changes w
   pub fits : AllByRecursion Fits y.changes
   pub short : AllByRecursion ChangeShort y.changes
   pub unmarked : y.readings.marked ≡ false
 
--- A course of a monitor that may be in a full synchronization: it says what it writes, and its numbers fit; it writes nothing
--- long, and what it leaves of any log isn't too large.
+-- The same of a monitor that may be in a full synchronization: its readings are those after its changes, its numbers
+-- fit, and it writes no long value. Over any log, the store after it isn't too large.
 pub record Bears (m : Store) (y : Course) : Type 0 where
   pub tells : y.readings ≡ played y.changes (readings_of m)
   pub fits : AllByRecursion Fits y.changes

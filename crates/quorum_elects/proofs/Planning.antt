@@ -21,7 +21,7 @@ append_assoc : {A : Type 0} (xs ys zs : List A) → (xs ++ ys) ++ zs ≡ xs ++ (
 append_assoc [] ys zs = refl
 append_assoc (x ∷ xs) ys zs = ap (λ (l : List _). x ∷ l) (append_assoc xs ys zs)
 
--- what follows the first events begins where they lead
+-- if a run over xs and then ys ends in v, so does the run over ys from the world after xs
 run_splits : (ms : Monitors) (w v : World) (xs ys : List Event) → ran_from ms w (xs ++ ys) ≡ at v → ran_from ms (run_from ms w xs) ys ≡ at v
 unfolding ran_from
 run_splits ms w v [] ys e = e
@@ -32,7 +32,7 @@ run_splits ms w v (x ∷ xs) ys e = by (happens ms w x) (λ next. run_splits ms 
     by (Ok next) h e = h next e
     by (Err stop) h e = absurd (let z : ◌≡◌ {A = Option Stop} (Some stop) None = ap (λ (r : Ran). r.stop) e in cc)
 
--- nothing leads nowhere else
+-- a run over no events ends where it began
 run_stays : (ms : Monitors) (w v : World) → ran_from ms w [] ≡ at v → w ≡ v
 unfolding ran_from
 run_stays ms w v e = ap (λ (r : Ran). r.world) e
@@ -57,12 +57,12 @@ follow_append ms w v (s ∷ ss) ts xs ys (first, others, is, planned, f) e b = (
 module _ (S : Scope) where
   -- ---- what can be done by planned events
 
-  -- these events, and at most so many, lead to such a world
+  -- from w at most `most` events lead to a world with P, and they are the planned events
   pub record Does (planned : List Planned) (most : ℕ) (P : World → Type 0) (w : World) : Type 0 where
     pub can : Can S most P w
     pub are : ArePlanned S.ms w planned can.events
 
-  -- these steps do
+  -- from w at most `most` events lead to a world with P, and they follow the steps
   pub record Plays (steps : List PlanStep) (most : ℕ) (P : World → Type 0) (w : World) : Type 0 where
     pub can : Can S most P w
     pub follow : Follow S.ms w steps can.events
@@ -94,17 +94,17 @@ module _ (S : Scope) where
   pub step : (s : PlanStep) (ps : List Planned) {k : ℕ} {P : World → Type 0} {w : World} → s w ≡ ps → Does ps k P w → Plays (s ∷ []) k P w
   step s ps {k} {P} {w} e D = record { can = D.can; follow = (let c = D.can in (c.events, [], append_nil c.events, subst (λ (l : List Planned). ArePlanned S.ms w l c.events) (sym e) D.are, refl)) }
 
-  -- no event
+  -- no event is needed if P already holds
   nothing : {k : ℕ} {P : World → Type 0} {w : World} → P w → Can S k P w
   unfolding ran_from
   nothing {k} {P} {w} p = record { events = []; few = omega arith; steps = tt; next = w; goes = refl; onward = onward_not S w; there = p }
 
-  -- a step of which nothing follows
+  -- a step that plans no event in w
   pub passes : (s : PlanStep) {k : ℕ} {P : World → Type 0} {w : World} → s w ≡ [] → P w → Plays (s ∷ []) k P w
   unfolding nothing
   passes s {k} {P} {w} e p = step s [] e (record { can = nothing p; are = refl })
 
-  -- steps of which nothing follows
+  -- steps that each plan no event in w
   pub idle : (ss : List PlanStep) {k : ℕ} {P : World → Type 0} {w : World} → AllByRecursion (λ (s : PlanStep). s w ≡ []) ss → P w → Plays ss k P w
   unfolding nothing ran_from
   idle ss {k} {P} {w} none p = record { can = nothing p; follow = all ss none }
@@ -116,7 +116,7 @@ module _ (S : Scope) where
   pub plays_none : (n : ℕ) (s : ℕ → PlanStep) {k : ℕ} {P : World → Type 0} {w : World} → ((j : ℕ) → s j w ≡ []) → P w → Plays (map s (range_with_len 0 n)) k P w
   plays_none n s {k} {P} {w} none p = idle (map s (range_with_len 0 n)) (all_of (λ (s : PlanStep). s w ≡ []) s none (range_with_len 0 n)) p
 
-  -- ---- a step for each rank
+  -- ---- steps for each rank
 
   pub plays_each : (n c : ℕ) (steps : ℕ → List PlanStep) (Inv : ℕ → World → Type 0) → ((k : ℕ) (w : World) → k < n → Inv k w → Plays (steps k) c (Inv (suc k)) w)
       → (j k : ℕ) → k + j ≡ n → (w : World) → Inv k w → Plays (flat_map steps (range_with_len k j)) (c * j) (Inv n) w

@@ -26,7 +26,7 @@ use Rattle.std.specs.Prelude.{filter, slice_index_or, slice_set}
 
 -- ---- stores
 
--- an unmarked monitor that lacks at most one of c versions, and keeps many
+-- an unmarked monitor that lacks at most one of c versions, and keeps more than 500 or all that it has
 pub record CloseAt (c : ℕ) (marked : Bool) (first last : ℕ) : Type 0 where
   pub unmarked : marked ≡ false
   pub most : last ≤ c
@@ -114,7 +114,7 @@ module _ (c : ℕ) where
 abbrev pub letter : (n i e : ℕ) → Body → Message
 letter n i e b = record { from = i; monitors = n; epoch = e; body = b }
 
--- it goes to each other monitor, or to each other member of a set
+-- the body is sent to each other monitor
 abbrev pub SaysAll : (n i e : ℕ) → Body → List Sent → Type 0
 SaysAll n i e b out = (g : ℕ) → g < n → (g ≡ i → ⊥) → Among (send.Message g (letter n i e b)) out
 

@@ -1,4 +1,4 @@
--- The rows of elections, where each is met on the way into a quorum.
+-- The rows of elections, as a monitor meets them on its way into a quorum.
 use Rattle.election_rules.specs.declared.scores.Scores.{Scores}
 use Rattle.mon_bytes.specs.declared.entry.Entry.{Entry}
 use Rattle.mon_msg.specs.Protocol.Changes.{Epoch, Numbers}

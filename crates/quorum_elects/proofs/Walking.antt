@@ -1,4 +1,4 @@
--- How a row is walked where no number runs out: by its tests, its checked numbers and its steps.
+-- How a row is walked if no number runs out: by its tests, its checked numbers and its steps.
 use Rattle.mon_msg.specs.Protocol.Course.{checked, ◌>>=◌}
 use Rattle.mon_types.specs.declared.names.Which.{Which}
 use Rattle.std.proofs.Common.{Bool, Err, Ok, Result, false, leb, sym, true, ℕ, ◌^◌, ◌∙◌, ◌≡◌, ◌≤◌}
@@ -9,7 +9,7 @@ abbrev pub Holds : {A : Type 0} → (A → Type 0) → Result A Which → Type 0
 Holds P (Ok x) = P x
 Holds P (Err e) = ⊥
 
--- something comes out, and this holds of it
+-- the result is no error, and P holds of it
 pub record Surely {A : Type 0} (P : A → Type 0) (r : Result A Which) : Type 0 where
   pub holds : Holds P r
 
@@ -20,7 +20,7 @@ pub and_then : {A B : Type 0} (P : A → Type 0) (Q : B → Type 0) (r : Result 
 and_then P Q (Ok x) f p q = q x p.holds
 and_then P Q (Err e) f p q = absurd p.holds
 
--- two facts of one outcome
+-- two facts of one result make one
 pub both : {A : Type 0} (P Q : A → Type 0) (r : Result A Which) → Surely P r → Surely Q r → Surely (λ x. P x × Q x) r
 both P Q (Ok x) p q = record { holds = (p.holds, q.holds) }
 both P Q (Err e) p q = absurd p.holds
@@ -36,6 +36,6 @@ where_fits Q w n f fits q = cond_both (leb n (2 ^ 62)) (Ok n) (Err w) (λ r. Sur
 pub by_test : {A : Type 0} {Q : A → Type 0} (b : Bool) {x y : Result A Which} → (b ≡ true → Surely Q x) → (b ≡ false → Surely Q y) → Surely Q (if b then x else y)
 by_test {Q = Q} b {x = x} {y = y} f k = cond_both b x y (λ r. Surely Q r) f k
 
--- a test that is known fails
+-- a test that is known to fail has no case in which it passes
 pub never : {P : Type 0} {b : Bool} → b ≡ false → b ≡ true → P
 never e t = absurd (false≢true (sym e ∙ t))

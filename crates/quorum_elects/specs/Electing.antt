@@ -18,12 +18,12 @@ use Rattle.std.specs.Prelude.{Bool, List, [], false, map, nat_lt, not, suc, zero
 
 -- ---- ranks
 
--- the lowest rank of a set that passes the test, if there is one
+-- the lowest rank of a set that passes the test; the set's length if none does
 unfoldable pub lowest : (ℕ → Bool) → List Bool → ℕ
 lowest test [] = 0
 lowest test (b ∷ set) = if b && test 0 then 0 else suc (lowest (λ k. test (suc k)) set)
 
--- the first rank of a set below k that has the greatest number; r itself if none below k has a greater one
+-- Of r and the ranks of a set below k, one with the greatest number: r if none has a greater one, else the lowest such.
 unfoldable pub highest : (ℕ → ℕ) → List Bool → (r k : ℕ) → ℕ
 highest number set r zero = r
 highest number set r (suc k) =
@@ -44,7 +44,7 @@ is_other set r k = has set k && not (k == r)
 abbrev pub is_in : World → ℕ → Phase → Bool
 is_in w i p = option_map_or (λ s. same_phase s.phase p) (w.state i) false
 
--- the quorum that it leads
+-- the quorum in its state as a leader; empty if it is down
 abbrev pub quorum_at : World → ℕ → List Bool
 quorum_at w i = option_map_or (λ s. s.leader.quorum) (w.state i) no_ranks
 
@@ -56,13 +56,13 @@ epoch_at w i = epoch_of (readings_at w i)
 abbrev pub starts : List Bool → ℕ → PlanStep
 starts q k w = if has q k then Starts k ∷ [] else []
 
--- as long as k probes, j gets its PROBE and answers
+-- if k is probing, j gets k's PROBE, and k gets the answer of j
 abbrev pub probes : List Bool → (k j : ℕ) → PlanStep
 probes q k j w =
     if has q k && (is_other q k j && is_in w k phase.Probing)
     then Hears j k kind.Probe ∷ Hears k j kind.ProbeReply ∷ [] else []
 
--- if a member has a greater epoch, r gets the PROPOSE of one with the greatest
+-- if a member has a greater epoch than r, r gets the PROPOSE of one with the greatest
 abbrev pub calls : (n : ℕ) → List Bool → ℕ → PlanStep
 calls n q r w =
     let top = highest (epoch_at w) q r n in
@@ -71,7 +71,7 @@ calls n q r w =
 abbrev pub votes : List Bool → (r k : ℕ) → PlanStep
 votes q r k w = if is_other q r k then Hears k r kind.Propose ∷ [] else []
 
--- r wins as soon as all of the map voted for it, or else once its timer fires
+-- if r is still electing, it gets the ACK of k; r wins at once if all of the map voted for it
 abbrev pub counts : List Bool → (r k : ℕ) → PlanStep
 counts q r k w = if is_other q r k && is_in w r phase.Electing then Hears r k kind.Ack ∷ [] else []
 

@@ -13,7 +13,7 @@ pub record IsUp (w : World) (i : ℕ) (As : State → Type 0) : Type 0 where
   pub up : w.state i ≡ Some state
   pub is : As state
 
--- it leads this quorum, and asks its members what they accepted
+-- The monitor leads this quorum, and is collecting: it asks the members what they accepted.
 pub record Collects (members : List Bool) (s : State) : Type 0 where
   pub collects : s.phase ≡ phase.Collecting
   pub quorum : s.leader.quorum ≡ members
@@ -23,7 +23,8 @@ pub record Follows (by : ℕ) (members : List Bool) (s : State) : Type 0 where
   pub leader : s.peon.leader ≡ by
   pub quorum : s.peon.quorum ≡ members
 
--- One of a set leads a majority of n monitors, which are all of the set. The others follow it in the same epoch.
+-- A monitor leads a quorum that is a majority of n monitors, all of them in the set. The others of the quorum follow
+-- it, in the same epoch.
 pub record HasLeader (n : ℕ) (set : List Bool) (before after : World) : Type 0 where
   pub leader : ℕ
   pub quorum : List Bool

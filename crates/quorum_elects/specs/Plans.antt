@@ -14,14 +14,14 @@ use Rattle.std.specs.List.{enumerate_from, filter, last_or}
 use Rattle.std.specs.Option.{option_map}
 use Rattle.std.specs.Prelude.{Bool, List, None, Option, Some, [], drop, map, suc, ℕ, ◌&&◌, ◌++◌, ◌==◌, ◌∷◌, ◌≡◌}
 
--- An event that is planned: a monitor starts, gets a message of a kind from another one, has a timer fire, or is asked a command.
+-- A planned event: a monitor starts, gets a message of a kind from another one, is asked a command, or a timer fires.
 pub data Planned : Type 0 where
   Starts : (rank : ℕ) → Planned
   Hears : (rank from : ℕ) → (kind : Kind) → Planned
   Rings : (rank : ℕ) → (timer : Timer) → Planned
   Asks : (rank : ℕ) → (session : Session) → (command : Command) → Planned
 
--- A step of a plan: the events that follow in the world that is reached, in order. A plan is a list of steps.
+-- A step of a plan gives the events that follow in a world, in order. A plan is a list of steps.
 abbrev pub PlanStep : Type 0
 PlanStep = World → List Planned
 
@@ -43,7 +43,7 @@ IsPlanned w (Hears rank from kind) e = Delivers w rank from kind e
 IsPlanned w (Rings rank timer) e = e ≡ Comes (Ring rank timer 0)
 IsPlanned w (Asks rank session command) e = e ≡ Comes (Client rank 0 session (request_of command))
 
--- from this world on, these are the events that are planned, in order
+-- From world w on, the events are the planned ones, in order, and no others.
 abbrev pub ArePlanned : Monitors → World → List Planned → List Event → Type 0
 ArePlanned ms w [] es = es ≡ []
 ArePlanned ms w (p ∷ ps) [] = ⊥
@@ -56,13 +56,13 @@ Follow ms w (step ∷ steps) es =
     (first : List Event) × (others : List Event) × (es ≡ first ++ others)
     × ArePlanned ms w (step w) first × Follow ms (run_from ms w first) steps others
 
--- a way on whose events follow the plan
+-- A way on (`HasWay`) whose events follow the plan.
 pub record PlannedWay (ms : Monitors) (events : List Event) (q : List Bool) (asks : Option (Session × Command)) (plan : List PlanStep)
     (most : ℕ) (Leads : World → World → Type 0) : Type 0 where
   pub way : HasWay ms events q asks most Leads
   pub follows : Follow ms (run ms events) plan way.more
 
--- ---- one of them
+-- ---- one event for each planned event
 
 -- whether a message goes from the one monitor to the other, and has this kind
 abbrev pub goes : (rank from : ℕ) → Kind → Envelope → Bool
@@ -73,7 +73,7 @@ unfoldable pub newest : (sent rank from : ℕ) → Kind → List Envelope → Op
 newest sent rank from kind messages =
     last_or None (map (λ m. m.0) (filter (λ m. goes rank from kind m.1) (enumerate_from (suc sent) (drop sent messages))))
 
--- the planned event, which delivers the newest message after the first `sent`
+-- The planned event. If it delivers a message, that is the newest one after the first `sent`; None if there is none.
 abbrev pub event_of : (sent : ℕ) → World → Planned → Option Event
 event_of sent w (Starts rank) = Some (Comes (Start rank 0))
 event_of sent w (Hears rank from kind) = option_map (λ k. Comes (Deliver k 0)) (newest sent rank from kind w.messages)

@@ -27,7 +27,7 @@ pub record MonitorHasRoom (w : World) (i : ℕ) : Type 0 where
   pub numbers : NumbersHaveRoom (readings_at w i)
   pub store : OwnShort longest (w.store i)
 
--- Of a set of monitors one may lead, all have room, and so has the log.
+-- One member of a set may lead, each member's numbers and own values have room, and so has the length of the log.
 pub record IsReady (ms : Monitors) (q : List Bool) (w : World) : Type 0 where
   pub leader : ℕ
   pub among : has q leader ≡ true
@@ -35,7 +35,7 @@ pub record IsReady (ms : Monitors) (q : List Bool) (w : World) : Type 0 where
   pub monitors : (i : ℕ) → has q i ≡ true → MonitorHasRoom w i
   pub log : HasRoom (length w.log)
 
--- it is in no full synchronization, and lacks at most this many versions of the log
+-- Monitor i is in no full synchronization, and lacks at most `most` versions of the log.
 pub record LacksAtMost (most : ℕ) (w : World) (i : ℕ) : Type 0 where
   pub unmarked : is_marked (w.store i) ≡ false
   pub near : length w.log ≤ last_of (w.store i) + most

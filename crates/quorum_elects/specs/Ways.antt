@@ -16,8 +16,8 @@ abbrev pub IsAskedBy : Option (Session × Command) → Session → Request → T
 IsAskedBy None s r = ⊥
 IsAskedBy (Some (by, command)) s r = (s ≡ by) × (r ≡ request_of command)
 
--- A step of the monitors of q: one of them starts, a timer of one fires, one is asked the request, or a message comes that
--- wasn't among the first `sent`. Nothing crashes.
+-- A step of the monitors of q: one of them starts, a timer of one fires, one is asked the request, or a message is
+-- delivered that wasn't among the first `sent`, to whomever it goes. Nothing crashes.
 abbrev pub IsStep : List Bool → (sent : ℕ) → Option (Session × Command) → Event → Type 0
 IsStep q sent asks (Comes (Start rank at)) = has q rank ≡ true
 IsStep q sent asks (Comes (Deliver message at)) = sent < message
@@ -25,13 +25,14 @@ IsStep q sent asks (Comes (Ring rank timer at)) = has q rank ≡ true
 IsStep q sent asks (Comes (Client rank at session r)) = (has q rank ≡ true) × IsAskedBy asks session r
 IsStep q sent asks (Crash p kept) = ⊥
 
--- the monitors outside of q are as they were
+-- The monitors outside of q have the same states and stores in both worlds.
 abbrev pub OthersRest : List Bool → (before after : World) → Type 0
 OthersRest q before after =
     (i : ℕ) → has q i ≡ false → (after.state i ≡ before.state i) × (after.store i ≡ before.store i)
 
--- At most this many further events, each a step of the monitors of q since the run ended. None of them stops the run. They lead
--- from the one world to the other.
+-- After the run there are at most `most` further events, each a step of the monitors of q, that deliver only messages
+-- sent since. None of them stops the run. In the end all other monitors are as they were, and `Leads` holds of the
+-- world after the run and of the last one.
 pub record HasWay (ms : Monitors) (events : List Event) (q : List Bool) (asks : Option (Session × Command)) (most : ℕ)
     (Leads : World → World → Type 0) : Type 0 where
   pub more : List Event

@@ -10,8 +10,9 @@ ghost use Rattle.quorum_model.specs.Monitors.{Monitors};
 ghost use Rattle.quorum_model.specs.Runs.{ran, run};
 ghost use Rattle.quorum_model.specs.World.{Event};
 
-/// A majority that is near the whole log and ready to serve can elect a leader, under any rule, whatever the run was before and
-/// whoever else is dead. It takes at most 2n² + 4n + 2 further events at its monitors alone.
+/// A majority that is near the whole log and ready to serve can elect a leader, under any rule, whatever the run was
+/// before. Ready means that one of its members may lead and that there is room (`IsReady`). It takes at most
+/// 2n² + 4n + 2 further events, after which all other monitors are as they were. The leader is then collecting.
 pub fn law_near_majority_elects()
     ensures { (ms : Monitors) → 1 < ms.count → (events : List Event) → AllFit ms.count events
         → (ran ms events).stop ≡ None → (q : List Bool) → IsMajorityOf ms.count q
@@ -19,8 +20,8 @@ pub fn law_near_majority_elects()
         → HasWay ms events q None (2 * ms.count * ms.count + 4 * ms.count + 2) (HasLeader ms.count q) }
 {}
 
-/// These events are planned: by kind, sender, receiver and order they are those of `election`, which computes them from the
-/// worlds that they lead to.
+/// The events that elect a leader follow the plan `election`, which gives their kind, sender, receiver and order. Each
+/// step of the plan computes its events from the world that the events before it lead to.
 pub fn law_election_is_planned()
     ensures { (ms : Monitors) → 1 < ms.count → (events : List Event) → AllFit ms.count events
         → (ran ms events).stop ≡ None → (q : List Bool) → IsMajorityOf ms.count q

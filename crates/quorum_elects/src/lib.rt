@@ -1,4 +1,4 @@
-//! That a majority which is near the whole log can elect a leader, whatever it went through.
+//! That a majority that is near the whole log and ready to serve can elect a leader, whatever the run was before.
 #![tactic(auto)]
 
 mod laws;
