@@ -46,7 +46,7 @@ use Rattle.std.proofs.lemmas.Bool.{ltb-true}
 use Rattle.std.specs.List.{AllByRecursion}
 use Rattle.std.specs.Prelude.{is_some}
 
--- nothing need be known of a ROUTE
+-- this proof needs no fact about a ROUTE
 abbrev AnyRoute : (f e seq : ℕ) → Reply → Type 0
 AnyRoute f e seq r = Unit {0}
 

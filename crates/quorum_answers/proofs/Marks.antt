@@ -1,4 +1,4 @@
--- What was shown in an epoch is a mark below which no reader of that epoch is.
+-- A mark of an epoch is a version below which nobody reads in that epoch. What was shown in an epoch is a mark.
 use Rattle.mon_lease.specs.Lease.{readable, stands}
 use Rattle.mon_msg.specs.Protocol.Phases.{is_leading, is_member, is_peon}
 use Rattle.mon_msg.specs.Protocol.Readings.{epoch_of}
@@ -28,7 +28,7 @@ use Rattle.std.proofs.lemmas.Bool.{and_parts, eqb-true, or_cases}
 use Rattle.std.specs.List.{AllByRecursion}
 use Rattle.std.specs.Prelude.{is_some}
 
--- no LEASE of this epoch has a version below this one
+-- the body is no LEASE of epoch e with a version below v
 abbrev pub NotBelow : (e v f : ℕ) → Body → Type 0
 NotBelow e v f (body.Lease last) = f ≡ e → v ≤ last
 NotBelow e v f other = Unit {0}
@@ -43,8 +43,8 @@ pub record AcceptedTo (w : World) (m v : ℕ) : Type 0 where
   pub was : HasAccepted w m version number bytes
   pub high : v ≤ version
 
--- Of this epoch there is an active leader that has the version. All of its quorum accepted it, or a later one; or no LEASE of the
--- epoch has a lower one.
+-- Version v is a mark of epoch e: an active leader of the epoch has it. Either all of its quorum accepted it or a later
+-- version, or no LEASE of the epoch has a lower version.
 pub record Mark (n : ℕ) (w : World) (g : Ghost) (e v : ℕ) : Type 0 where
   pub rank : ℕ
   pub led : WasActive n g (e, rank)
@@ -90,7 +90,7 @@ PhaseMark n w g i e v z other = Unit {0}
 abbrev pub StateMark : (n : ℕ) → World → Ghost → ℕ → State → Type 0
 StateMark n w g i s = PhaseMark n w g i (epoch_of (readings_at w i)) (readings_at w i).last s.peon.lease s.phase
 
--- ---- one leader an epoch
+-- ---- one leader per epoch
 
 pub one_leader : (n : ℕ) (g : Ghost) → RolesHold n g.roles → (e l k : ℕ) → WasActive n g (e, l) → WasActive n g (e, k) → l ≡ k
 one_leader n g R e l k a b =

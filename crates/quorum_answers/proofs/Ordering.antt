@@ -33,13 +33,13 @@ WriteWrite a b = a.epoch ≡ b.epoch → a.event < b.event → a.version < b.ver
 abbrev pub ReadWrite : Replied → Acknowledged → Type 0
 ReadWrite a b = Shows a.reply → a.epoch ≡ b.epoch → a.event < b.event → a.last < b.version
 
--- what was acknowledged and then read is the fence
+-- The operations of a world are in order, except reads after writes: these are left to the law of the fence.
 pub record Ordered (w : World) : Type 0 where
   pub reads : AllPairs ReadRead w.replied w.replied
   pub writes : AllPairs WriteWrite w.acknowledged w.acknowledged
   pub mixed : AllPairs ReadWrite w.replied w.acknowledged
 
--- each came with an event before now
+-- no operation is of an event later than the world's last
 pub record Dated (w : World) : Type 0 where
   pub replied : AllByRecursion (λ (r : Replied). r.event ≤ w.events) w.replied
   pub acknowledged : AllByRecursion (λ (a : Acknowledged). a.event ≤ w.events) w.acknowledged
@@ -49,13 +49,13 @@ pub record Covered (w : World) (e v : ℕ) : Type 0 where
   pub reads : AllByRecursion (λ (r : Replied). Shows r.reply → r.epoch ≡ e → r.last ≤ v) w.replied
   pub writes : CoversAll w e v
 
--- a reply of this event: if it shows something, then this version, which covers what was before
+-- a reply of this event: if it shows something, its last version is `top`, which covers all operations before
 pub record NewRead (w : World) (event top : ℕ) (r : Replied) : Type 0 where
   pub event_is : r.event ≡ event
   pub top_is : Shows r.reply → r.last ≡ top
   pub covers : Shows r.reply → Covered w r.epoch top
 
--- an acknowledgement of this event: of the version after one that covers what was before
+-- an acknowledgement of this event: its version is the next after one that covers all operations before
 pub record NewWrite (w : World) (event : ℕ) (a : Acknowledged) : Type 0 where
   pub event_is : a.event ≡ event
   pub before : ℕ

@@ -57,7 +57,7 @@ use Rattle.std.proofs.Common.{Bool, List, None, Some, [], ap, arith, cond, eqb, 
 use Rattle.std.proofs.lemmas.Bool.{eqb-true}
 use Rattle.std.specs.List.{AllByRecursion, filter}
 
--- ---- what must not be known
+-- ---- facts that this proof does without
 
 abbrev AnyFrom : ℕ → Command → Origin → Type 0
 AnyFrom e c o = Unit {0}
@@ -87,13 +87,13 @@ still_of me now r s other l e k = tt
 abbrev pub Quiet : Envelope → Type 0
 Quiet e = NoShowBody e.message.body
 
--- a reply of one of n monitors, which has what it shows
+-- a reply of one of n monitors, which has the version that the reply shows
 pub record IsBelow (n : ℕ) (w : World) (r : Replied) : Type 0 where
   pub event : r.event ≤ w.events
   pub below : r.rank < n
   pub last : Shows r.reply → r.last ≤ level_at w r.rank
 
--- a version that one of n monitors acknowledged, and has
+-- one of n monitors has the acknowledged version
 pub record IsHad (n : ℕ) (w : World) (a : Acknowledged) : Type 0 where
   pub event : a.event ≤ w.events
   pub rank : ℕ

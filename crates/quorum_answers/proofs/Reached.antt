@@ -12,7 +12,7 @@ use Rattle.std.proofs.Common.{Err, List, None, Ok, Result, Some, [], ap, arith, 
 use Rattle.std.proofs.lemmas.List.{get_or_append_left}
 use Rattle.std.specs.Prelude.{IfOk}
 
--- these events make it, and none of them stops the run
+-- world w is the end of a run, and none of its events stops it
 pub record Reached (ms : Monitors) (w : World) : Type 0 where
   pub events : List Event
   pub fit : AllFit ms.count events

@@ -103,14 +103,14 @@ module _ (me : Me) (now : ℕ) (w : Readings) (s : State) (came : Input) (From :
   abbrev pub WhyOf : ℕ → Command → Reply → Type 0
   WhyOf asked c r = ((is_too_long c ≡ true) × (r ≡ too_long c)) ⊎ ((s.phase ≡ phase.Active) × (e : CommandRefused) × (value w c asked ≡ Err e) × (r ≡ refusal e))
 
-  -- it refuses a command of this origin
+  -- in this event, in its epoch, the monitor refuses a command of this origin for such a cause
   pub record Decides (o : Origin) (f : ℕ) (r : Reply) : Type 0 where
     pub command : Command
     pub from : From (epoch_of w) command o
     pub epoch : f ≡ epoch_of w
     pub why : WhyOf (asked_of me o) command r
 
-  -- a peon has it of its leader, for a session that waits
+  -- a peon passes its leader's reply on to a session that waits at it
   pub record Hands (t : Session) (r : Reply) : Type 0 where
     pub leader : ℕ
     pub epoch : ℕ
@@ -127,7 +127,7 @@ module _ (me : Me) (now : ℕ) (w : Readings) (s : State) (came : Input) (From :
   FoundedBody to f (body.Route seq r) = Refuses r → Decides (origin.Forwarded to seq) f r
   FoundedBody to f other = Unit {0}
 
-  -- if it refuses, it is so known why
+  -- if a reply refuses a command, it is so decided, or passed on by a peon
   abbrev pub Founded : Sent → Type 0
   Founded (sent.Message to m) = FoundedBody to m.epoch m.body
   Founded (sent.Reply t r) = Refuses r → Decides (origin.Session t) (epoch_of w) r ⊎ Hands t r
@@ -142,7 +142,7 @@ module _ (me : Me) (now : ℕ) (w : Readings) (s : State) (came : Input) (From :
   SaysSent p e v (sent.Message to m) = SaysBody p e v to m.epoch m.body
   SaysSent p e v (sent.Reply t r) = Founded (sent.Reply t r)
 
-  -- what goes out before a leader is active: no LEASE, and COMMITs up to its last version
+  -- what is sent before a leader is active: no LEASE, no refusal to a session, and COMMITs up to its last version
   abbrev pub ShortBody : (e v to f : ℕ) → Body → Type 0
   ShortBody e v to f (body.Lease last) = ⊥
   ShortBody e v to f (body.Commit from values) = (from + length values ≤ suc v) × (f ≡ e)
@@ -162,7 +162,7 @@ module _ (me : Me) (now : ℕ) (w : Readings) (s : State) (came : Input) (From :
   IsPlain (sent.Message to m) = IsPlainBody to m.epoch m.body
   IsPlain (sent.Reply t r) = Refuses r → ⊥
 
-  -- or a refusal that is known why
+  -- neither a LEASE nor a COMMIT, and refusals only as `Founded` has them
   abbrev pub IsAnswer : Sent → Type 0
   IsAnswer (sent.Message to m) = IsPlainBody to m.epoch m.body
   IsAnswer (sent.Reply t r) = Founded (sent.Reply t r)

@@ -6,18 +6,19 @@ use Rattle.quorum_model.specs.Shown.{Shown}
 use Rattle.quorum_model.specs.World.{World, Acknowledged, Replied}
 use Rattle.quorum_answers.specs.Reads.{Shows}
 
--- a write that was acknowledged, or a reply that may show something
+-- an operation: an acknowledgement of a write, or a reply
 pub data Operation : Type 0 where
   Write : (write : Acknowledged) → Operation
   Read : (read : Replied) → Operation
 
--- It was completed. A refused command shows nothing and is no read.
+-- The operation is one of the world's: an acknowledgement that a leader made, or a reply that shows a map or changes.
+-- The client of an acknowledged write may have no answer yet. A refused command shows nothing and is no read.
 abbrev pub Completed : World → Operation → Type 0
 Completed w (Write a) = Contains w.acknowledged a
 Completed w (Read r) = Contains w.replied r × Shows r.reply
 
--- The event in which it takes effect: the leader acknowledges the write, or the monitor replies to the read. Its client
--- asked in that event or before it, and gets its answer in that event or after it.
+-- The event in which an operation takes effect: the leader acknowledges the write, or the monitor replies to the read.
+-- When its client asked, and when it got the answer, isn't stated here.
 abbrev pub its_event : Operation → ℕ
 its_event (Write a) = a.event
 its_event (Read r) = r.event
@@ -33,9 +34,9 @@ Precedes (Write a) (Read r) = a.version ≤ r.last
 Precedes (Read r) (Write a) = r.last < a.version
 Precedes (Read q) (Read r) = q.last ≤ r.last
 
--- Each write is a version of the one log, and each read shows what the versions up to its last one make. In one epoch,
--- whichever monitors reply, the order of events is the order of that log. That includes the order of time: if a client has
--- the answer to x before another asks y, then the event of x is earlier.
+-- Each write is a version of the one log, and each read shows what the versions up to its last one make. Of two
+-- operations of one epoch, at whichever monitors, the one of the earlier event comes first in that log. Operations of
+-- the same event have no order in `order`.
 pub record Linearizable (n : ℕ) (w : World) : Type 0 where
   pub writes : Kept n w
   pub reads : Shown w

@@ -1,4 +1,4 @@
--- What is shown later isn't older.
+-- That a later reply shows no older version.
 use Rattle.std.specs.Prelude.{◌≡◌, ◌≤◌}
 use Rattle.std.specs.List.{AllByRecursion}
 use Rattle.mon_wire.specs.declared.reply.Reply.{Reply}
@@ -18,14 +18,14 @@ Shows reply.Unavailable = ⊥
 Shows (reply.NotReadable has lease) = ⊥
 Shows (reply.Busy waiting) = ⊥
 
--- if both show something and b isn't of an earlier event, then b isn't of an older version
+-- If both show something and b's event isn't earlier than a's, b's last version isn't lower than a's.
 abbrev pub NoOlder : Replied → Replied → Type 0
 NoOlder a b = Shows a.reply → Shows b.reply → a.event ≤ b.event → a.last ≤ b.last
 
--- in one epoch, whichever monitors reply
+-- this holds of any two replies of one epoch, by whichever monitors
 abbrev pub EpochsOnward : World → Type 0
 EpochsOnward w = AllByRecursion (λ a. AllByRecursion (λ b. a.epoch ≡ b.epoch → NoOlder a b) w.replied) w.replied
 
--- at one monitor, in whatever epochs, and wherever it crashed in between
+-- this holds of any two replies of one monitor, in whatever epochs and whatever crashes came between
 abbrev pub EachOnward : World → Type 0
 EachOnward w = AllByRecursion (λ a. AllByRecursion (λ b. a.rank ≡ b.rank → NoOlder a b) w.replied) w.replied

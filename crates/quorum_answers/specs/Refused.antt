@@ -25,13 +25,13 @@ Refuses reply.Unavailable = ⊥
 Refuses (reply.NotReadable has lease) = ⊥
 Refuses (reply.Busy waiting) = ⊥
 
--- no higher version was acknowledged by then in that epoch
+-- no version above this one was acknowledged in the epoch, in this world
 abbrev pub CoversAll : World → (epoch version : ℕ) → Type 0
 CoversAll w epoch version = AllByRecursion (λ a. a.epoch ≡ epoch → a.version ≤ version) w.acknowledged
 
--- Session t asked a command of monitor i, and the command's service refuses it so over the versions of the log up to this
--- one. If it wasn't asked before, these include all that had been acknowledged before in that epoch. A request that a
--- session repeats on one monitor is asked when it is asked first.
+-- Session t asked a command of monitor i, and the command's service refuses it with r over the log's versions up to
+-- `version`. If the command wasn't asked in `before`, these include all that were acknowledged in `before` in epoch e.
+-- A request that a session repeats on one monitor counts as asked when it is asked first.
 pub record IsRefused (before w : World) (i : ℕ) (t : Session) (e : ℕ) (r : Reply) : Type 0 where
   pub asked : Asked
   pub was_asked : Contains w.asked asked
@@ -46,7 +46,7 @@ pub record IsRefused (before w : World) (i : ℕ) (t : Session) (e : ℕ) (r : R
   pub says : r ≡ refusal why
   pub since : Contains before.asked asked ⊎ CoversAll before e version
 
--- of a world, and of one before it in the same run
+-- Each reply in w that refuses a command is such a refusal. World `before` is an earlier one of the same run.
 abbrev pub AllRefused : (before w : World) → Type 0
 AllRefused before w =
     AllByRecursion (λ r. Refuses r.reply → IsRefused before w r.rank r.session r.epoch r.reply) w.replied

@@ -7,10 +7,12 @@ ghost use Rattle.quorum_answers.specs.Linear.{Linearizable};
 ghost use Rattle.quorum_answers.specs.Reads.{EachOnward, EpochsOnward};
 ghost use Rattle.quorum_answers.specs.Refused.{AllRefused};
 
-/// The acknowledged writes and the reads of one epoch are linearizable, in every run of any monitors under any rule,
-/// whatever is lost, repeated or late and wherever monitors crash. What is shown in an epoch, by whichever monitors, is
-/// never older than what was shown before in that epoch. What one monitor shows is never older than what it showed
-/// before, in whatever epochs.
+/// The acknowledged writes and the reads of one epoch are linearizable: the order of their events is the order of the
+/// one log. This holds in every run of any monitors under any rule, whatever is lost, repeated or late and wherever
+/// monitors crash. What is shown in an epoch, by whichever monitors, is never older than what was shown before in that
+/// epoch. What one monitor shows is never older than what it showed before, in whatever epochs.
+///
+/// The law doesn't say when a client asked or got its answer. Of two monitors in two epochs it says nothing.
 pub fn law_reads()
     ensures linear { (ms : Monitors) (events : List Event) → AllFit ms.count events
         → Linearizable ms.count (run ms events) }
@@ -21,8 +23,9 @@ pub fn law_reads()
 {}
 
 /// Each NoSuch, TooLong and MapFull answers a command that its session asked of its monitor, in every run of any
-/// monitors. It is the refusal of the command's service over the versions of the one log up to some version. That
-/// version isn't below any that was acknowledged in the monitor's epoch before the command was asked.
+/// monitors. It is the refusal of the command's service over the versions of the one log up to some version. If the
+/// command was first asked after `before`, that version isn't below any that was acknowledged in `before` in the
+/// reply's epoch.
 pub fn law_refusals()
     ensures { (ms : Monitors) (before after : List Event) → AllFit ms.count (before ++ after)
         → AllRefused (run ms before) (run ms (before ++ after)) }

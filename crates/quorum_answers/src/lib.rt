@@ -1,5 +1,5 @@
-//! What answers promise beside `Safe`: reads and writes of one epoch are linearizable, and refusals are those of the
-//! services over the log.
+//! What answers promise beside `Safe`: acknowledged writes and reads of one epoch are linearizable, and refusals are
+//! those of the services over the log.
 #![tactic(auto)]
 
 mod laws;
