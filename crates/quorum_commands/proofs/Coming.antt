@@ -1,4 +1,4 @@
--- What comes by an event, and what a monitor does with it.
+-- The input that an event brings to a monitor, and what the monitor does with it.
 use Rattle.log_copies.proofs.Standing.{Agrees}
 use Rattle.log_copies.proofs.Telling.{monitor_keeps, read_last}
 use Rattle.log_model.specs.Windows.{Keeps}
@@ -67,7 +67,7 @@ module _ (ms : Monitors) (w : World) (p : Plain) where
   event_of None = Comes p
   event_of (Some kept) = Crash p kept
 
-  -- whatever an event makes of the world, this is so of it
+  -- P holds of each world that an event can lead to
   module _ (P : World → Type 0) (nothing : P (unmoved w p)) (loses : (i : ℕ) → P (lost w p i)) (goes_on : (d : Does) → P (moved w p d.rank (reaction_of d.y))) (goes_down : (d : Does) → P (kept_only w p d.rank (reaction_of d.y))) where
     abbrev Follows : Option Bool → Meeting → Type 0
     Follows how met = IfOk (after_meeting w (event_of how) met) P

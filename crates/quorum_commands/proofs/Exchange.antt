@@ -29,7 +29,7 @@ only_one x y c = by c.0 c.1 c.2
     by zero lt e = sym e
     by (suc k) lt e = absurd (omega arith)
 
--- they ask the same command of one monitor
+-- both requests ask the same command of one monitor
 pub record Alike (x y : Asked) : Type 0 where
   pub rank : y.rank ≡ x.rank
   pub command : command_of y.request ≡ command_of x.request
@@ -37,7 +37,7 @@ pub record Alike (x y : Asked) : Type 0 where
 pub alike_itself : (x : Asked) → Alike x x
 alike_itself x = record { rank = refl; command = refl }
 
--- ---- what is known of one is known of the other
+-- ---- facts of one such request hold of the other
 
 module _ (n : ℕ) (x y : Asked) (A : Alike x y) where
   was_alike : (rank : ℕ) (t : Session) (c : Command) → WasAsked n (x ∷ []) rank t c → WasAsked n (y ∷ []) rank y.session c

@@ -1,4 +1,4 @@
--- What became of each request, and that it lasts.
+-- Where the command of each request is, and which of that lasts.
 use Rattle.log_model.proofs.Logs.{Fronts}
 use Rattle.mon_bytes.specs.declared.command.Command.{Command}
 use Rattle.mon_msg.specs.Fold.{entry}
@@ -24,16 +24,16 @@ use Rattle.std.specs.List.{AllByRecursion}
 
 -- where the command of a request is
 pub data Place : Type 0 where
-  -- it isn't asked yet, or is refused
+  -- it isn't asked yet, or isn't under way any more
   Nowhere : Place
   -- monitor i handed it on to its leader in this epoch under this number
   Handed : (i to e seq : ℕ) → Place
-  -- it waits at monitor i, after those of lower tickets
+  -- it waits at monitor i, after the commands with lower tickets
   Queued : (i ticket : ℕ) → Place
   -- these bytes were proposed for a version
   Begun : (v : ℕ) → (bytes : List ℕ) → Place
 
--- of each request, by its number in order
+-- the place of each request, by its number, counted from 0
 abbrev pub Places : Type 0
 Places = ℕ → Place
 
@@ -63,7 +63,7 @@ pub record LoggedAt (n : ℕ) (asked : List Asked) (log : List (List ℕ)) (plac
   pub at : slice_get asked k ≡ Some by
   pub made : IsAsked n (by ∷ []) log v
 
--- A request of this session of monitor i is no version's, and never will be: it was made, and isn't under way.
+-- Session t asked monitor i a request that is under way nowhere. So it makes no version, now or later.
 pub record IsSettled (asked : List Asked) (places : Places) (i : ℕ) (t : Session) : Type 0 where
   pub k : ℕ
   pub by : Asked
@@ -91,7 +91,8 @@ module _ (n : ℕ) (asked : List Asked) (places : Places) where
   WaitsIn i None = Unit {0}
   WaitsIn i (Some s) = Waits i s.clients.queue s.clients.taken
 
-  -- What a peon hands on is of an epoch that its leader reached. While the leader leads in it and didn't take it, it has its request.
+  -- A command that peon f handed on to monitor `to` in epoch e: `to` reached the epoch. As long as `to` leads in it and
+  -- didn't take the command, the command has a request of its own.
   pub record IsForwarded (m : Store) (o : Option State) (f to e seq : ℕ) (c : Command) : Type 0 where
     pub low : e ≤ epoch_of (readings_of m)
     pub own : (s : State) → o ≡ Some s → is_leading s.phase ≡ true → epoch_of (readings_of m) ≡ e → slice_index_or s.clients.taken f 0 < seq → HasOwn (Handed f to e seq) f c
@@ -111,7 +112,7 @@ pub record Tickets (n : ℕ) (places : Places) (store : ℕ → Store) (state : 
   pub accepted : 1 < n → (i v p : ℕ) (bytes : List ℕ) → AcceptedIn (txs i) v p bytes → (k : ℕ) × (places k ≡ Begun v bytes)
   pub logged : (v : ℕ) → v < length log → LoggedAt n asked log places v
 
--- an old version is of its request still
+-- each version of the old log is still there, and of the same request
 abbrev pub Lasts : (n : ℕ) (asked more : List Asked) (log newer : List (List ℕ)) (places after : Places) → Type 0
 Lasts n asked more log newer places after = (v : ℕ) → v < length log → (a : LoggedAt n asked log places v) → (v < length newer) × (b : LoggedAt n more newer after v) × (b.k ≡ a.k)
 
@@ -124,7 +125,7 @@ IsAt i (Handed f to e seq) = to ≡ i
 IsAt i (Queued j t) = j ≡ i
 IsAt i (Begun v bytes) = ⊥
 
--- what isn't there doesn't move
+-- only requests at `from` may move
 abbrev pub Moves : Place → Places → Places → Type 0
 Moves from places after = (j : ℕ) (p : Place) → places j ≡ p → (p ≡ from → ⊥) → after j ≡ p
 

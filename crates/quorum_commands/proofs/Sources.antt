@@ -1,4 +1,4 @@
--- Where the commands come from that an event of a monitor may take: each has a request of its own.
+-- The sources of the commands that an event of a monitor may take: each command has a request of its own.
 use Rattle.mon_bytes.specs.declared.command.Command.TheVariants as command
 use Rattle.mon_bytes.specs.declared.command.Command.{Command}
 use Rattle.log_model.specs.LogOfValues.{IsCommand}
@@ -142,7 +142,7 @@ module _ (ms : Monitors) (w : World) (p : Plain) (I : InvOf ms w) (places : Plac
   has_asker c (origin.Session t) h = asked_by i t c (I.asks i t c h)
   has_asker c (origin.Forwarded f seq) h = handed_by f seq h.0 c h.1
 
-  -- a request whose command it is, which isn't one of those that wait besides, nor one that may still come of a peon
+  -- request k asked the command. It is none of the requests that wait besides, and none that a peon may still hand on.
   pub record Source (c : Command) (o : Origin) (others : List Waiting) (taken : List ℕ) : Type 0 where
     pub k : ℕ
     pub from : Place

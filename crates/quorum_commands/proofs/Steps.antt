@@ -57,7 +57,7 @@ use Rattle.std.proofs.lemmas.Bool.{ltb-true, ltb-false, ne_eqb}
 use Rattle.std.proofs.lemmas.Option.{slice_get_within}
 use Rattle.std.specs.List.{AllByRecursion}
 
--- if a change puts what it votes for
+-- the place of a value that the change votes for; Nowhere for other changes
 abbrev vote_place : Change → Place
 vote_place (Vote v q x) = Begun v (text x)
 vote_place other = Nowhere
@@ -98,7 +98,7 @@ module _ (ms : Monitors) (w : World) (p : Plain) (I : InvOf ms w) (L : OneLog ms
 
   -- ---- what an event leaves of requests
 
-  -- what it hands on is of an epoch that the receiver reached, with its request
+  -- a command that the monitor hands on is of an epoch that the receiver reached, and has a request of its own
   abbrev pub BodySends : Places → (from to e : ℕ) → Body → Type 0
   BodySends after from to e (body.Forward seq c) = (e ≤ epoch_of (readings_of (w.store to))) × HasOwn n asked after (Handed from to e seq) from c
   BodySends after from to e other = Unit {0}
@@ -107,16 +107,16 @@ module _ (ms : Monitors) (w : World) (p : Plain) (I : InvOf ms w) (L : OneLog ms
   SendsOwn after (sent.Message to m) = BodySends after m.from to m.epoch m.body
   SendsOwn after (sent.Reply t r) = Unit {0}
 
-  -- its epoch doesn't fall, and it is in a quorum of it only if it was
+  -- its numbers don't fall, and if its epoch stays it is in a quorum only if it was in one before
   abbrev pub Here : Type 0
   Here = Stays w0 (w.state i) (readings_of after_store) (Some d.y.state)
 
-  -- if it still leads in an epoch, a command that was handed on in it and isn't taken has its request
+  -- if the monitor leads in an epoch after the event, each command handed on in it and not taken has its own request
   abbrev pub Opens : Places → Type 0
   Opens after = Here → (f e seq : ℕ) (c : Command) → is_leading d.y.state.phase ≡ true → epoch_of (readings_of after_store) ≡ e → slice_index_or d.y.state.clients.taken f 0 < seq → (f ≡ i → ⊥) → f < n
       → IsForwarded n w.asked places (w.store i) (w.state i) f i e seq c → HasOwn n asked after (Handed f i e seq) f c
 
-  -- if it commits a value at once
+  -- the monitor commits at once a value that a request made
   pub record CommitsOwn (after : Places) : Type 0 where
     pub ops : List Op
     pub k : ℕ
@@ -125,7 +125,7 @@ module _ (ms : Monitors) (w : World) (p : Plain) (I : InvOf ms w) (L : OneLog ms
     pub changes : d.y.changes ≡ Learn (suc w0.last) ops ∷ Last (suc w0.last) ∷ []
     pub last : d.y.readings.last ≡ suc w0.last
 
-  -- it refuses this request's command, which isn't under way any more
+  -- the monitor refuses the command of request k, which is then no longer under way
   pub record Refuses (after : Places) : Type 0 where
     pub k : ℕ
     pub command : Command
@@ -230,7 +230,7 @@ module _ (ms : Monitors) (w : World) (p : Plain) (I : InvOf ms w) (L : OneLog ms
   outcome : Outcome self d.at w0 d.state Source Asks Settled d.came d.y
   outcome = sources.outcome ms w p I places T d Settled S0
 
-  -- ---- where nothing is written
+  -- ---- if nothing is written
 
   no_votes : (after : Places) → d.y.changes ≡ [] → (v q : ℕ) (x : List Op) → Among (Vote v q x) d.y.changes → (k : ℕ) × (after k ≡ Begun v (text x))
   no_votes after e v q x a = absurd (none (subst (λ (cs : List Change). Among (Vote v q x) cs) e a))
@@ -245,7 +245,7 @@ module _ (ms : Monitors) (w : World) (p : Plain) (I : InvOf ms w) (L : OneLog ms
   same_waits : (after : Places) (c : Clients) → SameClients c d.state.clients → Waits n asked after i d.state.clients.queue d.state.clients.taken → Waits n asked after i c.queue c.taken
   same_waits after c same h = subst (λ (xs : List Waiting). Waits n asked after i xs c.taken) (sym same.0) (subst (λ (ts : List ℕ). Waits n asked after i d.state.clients.queue ts) (sym same.1) h)
 
-  -- ---- where no command is taken
+  -- ---- if no command is taken
 
   -- the values that requests made
   abbrev Known : ℕ → List Op → Type 0
@@ -294,7 +294,7 @@ module _ (ms : Monitors) (w : World) (p : Plain) (I : InvOf ms w) (L : OneLog ms
       H : IsWhole w.log (w.store i)
       H = W one i in_map
 
-  -- a message of the epoch that it is in then is of the one that it was in
+  -- if a reached epoch is the one after the event, it is also the one before
   same_epoch : Here → (e : ℕ) → e ≤ epoch_of w0 → epoch_of (readings_of after_store) ≡ e → epoch_of w0 ≡ e
   same_epoch here e low now_is = let up = here.epoch in omega arith
 
@@ -341,7 +341,7 @@ module _ (ms : Monitors) (w : World) (p : Plain) (I : InvOf ms w) (L : OneLog ms
       vote several true e = no_votes places (N.stays e)
       vote several false e = repeated several e
 
-  -- ---- where one is
+  -- ---- if a command is taken
 
   module _ (H : Takes self d.at w0 d.state Source Asks Settled d.y) where
     abbrev S : Source H.command H.origin H.others H.taken

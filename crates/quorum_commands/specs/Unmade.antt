@@ -1,4 +1,4 @@
--- A request that is answered otherwise than by Done makes no version of the log.
+-- That a session which gets a reply other than Done has a request that makes no version of the log.
 use Rattle.std.specs.Prelude.{◌≡◌, ℕ, ◌<◌, length, Some, slice_get}
 use Rattle.std.specs.List.{AllByRecursion}
 use Rattle.mon_wire.specs.declared.reply.Reply.{Reply}
@@ -19,7 +19,7 @@ AcknowledgesNone (reply.MapFull would_be) = Unit {0}
 AcknowledgesNone (reply.Shown s paxos version map) = Unit {0}
 AcknowledgesNone (reply.Since s from told more) = Unit {0}
 
--- Which request each version of the log is of, by its number in order.
+-- the number of the request that each version of the log is of, counted from 0
 abbrev pub Requests : World → Type 0
 Requests w = (v : ℕ) → v < length w.log → ℕ
 
@@ -33,8 +33,8 @@ pub record IsUnmade (w : World) (request : Requests w) (r : Replied) : Type 0 wh
   pub session : by.session ≡ r.session
   pub none : (v : ℕ) (within : v < length w.log) → ¬ (request v within ≡ k)
 
--- Every version is the value of some request's command, no two versions are of one request, and none is of a request
--- that was answered otherwise than by Done, whether the version is older or newer than the answer.
+-- Every version is the value of some request's command, and no two versions are of one request. Each reply other than
+-- Done is to a session with a request of which no version is, whether older or newer than the reply.
 pub record Unmade (n : ℕ) (w : World) : Type 0 where
   pub request : Requests w
   pub is : (v : ℕ) (within : v < length w.log) → IsOf n w.asked w.log v (request v within)

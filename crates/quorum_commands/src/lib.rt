@@ -1,4 +1,5 @@
-//! That no command is committed more often than clients asked it, and none that was refused.
+//! That no command is committed more often than clients asked it. That a session which gets a reply other than Done has
+//! a request that is not committed.
 #![tactic(auto)]
 
 mod laws;
