@@ -82,7 +82,7 @@ pub record Inv (n : ℕ) (store : ℕ → Store) (state : ℕ → Option State) 
   pub active : AllByRecursion (WasActive n g) pairs
   pub asks : (i : ℕ) (s : Session) (c : Command) → Asks g i s c → WasAsked n asked i s c
 
--- if these were asked
+-- the invariant of a world if clients asked these requests
 abbrev pub InvWith : Monitors → World → List Asked → Type 0
 InvWith ms w asked = Inv ms.count w.store w.state w.transactions w.messages w.active asked
 

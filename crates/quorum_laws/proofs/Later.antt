@@ -1,4 +1,4 @@
--- What a monitor, and a run, leave of what was before.
+-- What never changes back while a monitor, or a run, goes on.
 use Rattle.mon_msg.specs.Protocol.Phases.{is_member}
 use Rattle.mon_msg.specs.Protocol.Readings.{Readings, epoch_of, promise_of}
 use Rattle.mon_msg.specs.Protocol.State.{State}
@@ -31,10 +31,10 @@ stays_trans v w x s t u a b = record {
   inside = λ i e. let p = a.epoch in let q = b.epoch in a.inside (b.inside i (omega arith)) (omega arith);
 }
 
--- what a run that goes on makes of a world
+-- world `next` comes later in a run than w
 pub record Later (w next : World) : Type 0 where
   pub each : (i : ℕ) → Stays (readings_at w i) (w.state i) (readings_at next i) (next.state i)
-  -- what was accepted since is under no number below the promise from before
+  -- what monitor i accepted since w is under no number below its promise in w
   pub since : (i v pn : ℕ) (bytes : List ℕ) → HasAccepted next i v pn bytes → HasAccepted w i v pn bytes ⊎ (promise_of (readings_at w i) ≤ pn)
 
 pub later_refl : (w : World) → Later w w

@@ -1,4 +1,5 @@
--- Who left the quorum of an epoch doesn't come back to it: what it does would be the same in a history in which it was never there.
+-- A monitor that left the quorum of an epoch doesn't come back to it. What it does would be the same in a history in
+-- which it was never there.
 use Rattle.mon_msg.specs.Protocol.Course.{Course}
 use Rattle.mon_msg.specs.Protocol.Hearing.{hear, is_heard}
 use Rattle.mon_msg.specs.Protocol.Leader.{hear_last, of_member}
@@ -53,7 +54,7 @@ among_filtered f x (y ∷ ys) t a = cond_both (f y) (y ∷ filter f ys) (filter 
     (λ _. elim a [ inl e ↦ inl e | inr o ↦ inr (among_filtered f x ys t o) ])
     (λ u. elim a [ inl e ↦ absurd (false≢true (sym u ∙ ap f (sym e) ∙ t)) | inr o ↦ among_filtered f x ys t o ])
 
--- what holds of what comes out holds in another way
+-- a fact of a result implies a weaker one
 then_so : {A : Type 0} (P Q : A → Type 0) → ((x : A) → P x → Q x) → (r : Result A Which) → Then P r → Then Q r
 then_so P Q f (Ok x) p = done (f x p.holds)
 then_so P Q f (Err e) p = record { holds = tt }
@@ -71,7 +72,7 @@ member_in n i g c phase.Probing t k = no t
 member_in n i g c phase.Synchronizing t k = no t
 member_in n i g c phase.Electing t k = no t
 
--- ---- a history in which a monitor, and who followed it, didn't enter an epoch
+-- ---- a history in which a monitor and its followers didn't enter an epoch
 
 module _ (n i e : ℕ) (g : Ghost) where
   -- neither i's own entry nor one under it
@@ -145,7 +146,7 @@ module _ (n i e : ℕ) (g : Ghost) where
 
 -- ---- what it does outside of a quorum
 
--- if it is in a quorum then, it is in a later epoch
+-- if the monitor is in a quorum after this course, its epoch is later than e
 abbrev pub IsLater : ℕ → Course → Type 0
 IsLater e x = is_member x.state.phase ≡ true → e < epoch_of x.readings
 

@@ -33,7 +33,7 @@ module _ (ms : Monitors) (w : World) (I : InvOf ms w) where
   pub sent_fine : (e : Envelope) → Contains w.messages e → MessageFine e.message
   sent_fine e c = of_all EnvelopeFine w.messages I.sizes e c
 
-  -- what a number was at least, it is at least
+  -- a number is at least each value that the history has of it
   pub at_least : (k : Rising) (i m : ℕ) → Had I.g k i m → m ≤ number_of (own_of (readings_at w i)) k
   at_least k i m a = (I.mine i).disk.numbers.top k m a
 

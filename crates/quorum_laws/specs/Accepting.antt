@@ -8,7 +8,7 @@ use Rattle.std.proofs.Common.{Bool, List, Some, true, ℕ, ◌<◌, ◌≡◌, �
 use Rattle.std.specs.FinMap.{empty}
 use Rattle.std.specs.List.{Contains}
 
--- what changes put into an empty store
+-- what changes leave of an empty store, as the readers return it
 abbrev pub put_alone : List Op → Readings
 put_alone changes = readings_of (apply changes empty)
 
@@ -19,13 +19,13 @@ pub record Accepts (transaction : List Op) (v pn : ℕ) (bytes : List ℕ) : Typ
   pub number : (put_alone transaction).pending_pn ≡ pn
   pub value : (put_alone transaction).record_of v ≡ Some bytes
 
--- one of these transactions does
+-- one of these transactions accepts the bytes for version v under number pn
 pub record AcceptedIn (transactions : List (List Op)) (v pn : ℕ) (bytes : List ℕ) : Type 0 where
   pub transaction : List Op
   pub among : Contains transactions transaction
   pub accepts : Accepts transaction v pn bytes
 
--- a monitor accepted them
+-- a kept transaction of monitor i accepts the bytes for version v under number pn
 abbrev pub HasAccepted : World → ℕ → (v pn : ℕ) → List ℕ → Type 0
 HasAccepted w i v pn bytes = AcceptedIn (w.transactions i) v pn bytes
 

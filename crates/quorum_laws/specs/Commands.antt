@@ -1,4 +1,4 @@
--- Whose commands monitors hand on, and which wait.
+-- The requests that the commands come from which monitors hand on or keep waiting.
 use Rattle.log_model.specs.LogOfValues.{IsCommand}
 use Rattle.mon_bytes.specs.declared.command.Command.{Command}
 use Rattle.mon_msg.specs.Protocol.Phases.{is_leading, is_peon}
@@ -35,8 +35,8 @@ abbrev pub HandsOn : ℕ → List Asked → (from : ℕ) → Body → Type 0
 HandsOn n asked from (body.Forward seq c) = SomeAsked n asked from c
 HandsOn n asked from other = Unit {0}
 
--- What is handed on was asked of the monitor that hands it on, what waits at a leader has its origin, and each session that waits at a
--- peon asked that peon something.
+-- A command that is handed on was asked of the monitor that hands it on. A command that waits at a leader has its
+-- origin. Each session that waits at a peon asked that peon a command.
 pub record CommandsHold (n : ℕ) (w : World) : Type 0 where
   pub messages : (e : Envelope) → Contains w.messages e → HandsOn n w.asked e.message.from e.message.body
   pub leaders : (i : ℕ) (s : State) → w.state i ≡ Some s → is_leading s.phase ≡ true → AllByRecursion (λ q. HasOrigin n w.asked i q.command q.origin) s.clients.queue

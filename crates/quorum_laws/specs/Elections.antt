@@ -10,11 +10,11 @@ use Rattle.std.proofs.Common.{Bool, List, Some, true, ℕ, ◌≡◌, ◌≤◌}
 use Rattle.std.specs.List.{Contains}
 use Rattle.std.specs.Prelude.{if◌then◌else◌}
 
--- a monitor's epoch is at least each that it sent
+-- a monitor's epoch is at least that of each message that it sent
 abbrev pub EpochsSent : World → Type 0
 EpochsSent w = (e : Envelope) → Contains w.messages e → e.message.epoch ≤ epoch_of (readings_at w e.message.from)
 
--- whom a monitor of a rank follows that is in a quorum: a leader itself
+-- the leader of a monitor that is in a quorum: monitor i itself unless it is a peon
 abbrev pub leader_of : ℕ → State → ℕ
 leader_of i s = if is_peon s.phase then s.peon.leader else i
 
@@ -34,8 +34,8 @@ pub record IsQuorum (n i e l : ℕ) (q : List Bool) : Type 0 where
   pub leader : has q l ≡ true
   pub major : IsMajorityOf n q
 
--- A leader of an epoch has this quorum: all of it reached the epoch, and whoever of it is in a quorum in that epoch is in this one, under
--- this leader.
+-- Leader l of epoch e has its whole quorum: all of it reached the epoch, and each of it that is in a quorum in that
+-- epoch is in this one, under this leader.
 pub record IsLed (n : ℕ) (w : World) (e l : ℕ) : Type 0 where
   pub quorum : List Bool
   pub even : is_even e ≡ true

@@ -1,4 +1,4 @@
--- What a lease implies, as long as it isn't cancelled, whatever its time.
+-- What holds as long as a lease isn't cancelled, whatever its time.
 use Rattle.mon_msg.specs.Protocol.Phases.{is_peon}
 use Rattle.mon_msg.specs.Protocol.Readings.{epoch_of}
 use Rattle.mon_msg.specs.Protocol.State.{State}
@@ -11,12 +11,12 @@ use Rattle.std.proofs.Common.{List, Some, true, ℕ, ◌≡◌, ◌≤◌}
 use Rattle.std.specs.List.{Contains}
 use Rattle.std.specs.Prelude.{is_some}
 
--- Of a peon with a lease each version for which it ever accepted a value is committed, and its leader has its whole quorum.
+-- The peon has committed each version for which it ever accepted a value, and its leader has its whole quorum.
 pub record LeaseHolds (n : ℕ) (w : World) (i : ℕ) (s : State) : Type 0 where
   pub committed : (v pn : ℕ) (bytes : List ℕ) → HasAccepted w i v pn bytes → v ≤ (readings_at w i).last
   pub led : IsLed n w (epoch_of (readings_at w i)) s.peon.leader
 
--- whoever gives a lease has its whole quorum
+-- the sender of a LEASE has its whole quorum
 abbrev pub GiverIsLed : ℕ → World → (from e : ℕ) → Body → Type 0
 GiverIsLed n w from e (body.Lease last) = IsLed n w e from
 GiverIsLed n w from e other = Unit {0}

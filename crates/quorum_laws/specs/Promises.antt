@@ -20,7 +20,7 @@ use Rattle.std.specs.Prelude.{if◌then◌else◌}
 
 -- ---- what never falls
 
--- the floor of a full synchronization that is under way, and else the last version
+-- the floor of a full synchronization in progress, and otherwise the last version
 abbrev pub level_of : Readings → ℕ
 level_of w = if w.marked then w.floor else w.last
 
@@ -31,7 +31,7 @@ pub record NeverFall (w next : World) (i : ℕ) : Type 0 where
 
 -- ---- numbers
 
--- A leader collects under numbers of its rank alone, of which its store keeps the greatest.
+-- A COLLECT has a number of its sender's rank, no greater than the last one that the sender's store keeps.
 abbrev pub CollectHolds : World → ℕ → Body → Type 0
 CollectHolds w from (body.Collect pn first last) = (pn % 100 ≡ from) × (pn ≤ or_zero (readings_at w from).last_pn)
 CollectHolds w from other = Unit {0}
@@ -49,11 +49,11 @@ pub record NumbersHold (w : World) : Type 0 where
   pub order : (i : ℕ) → or_zero (readings_at w i).last_pn ≤ promise_of (readings_at w i)
   pub pending : (i : ℕ) → (readings_at w i).pending_pn ≤ promise_of (readings_at w i)
   pub accepted : (i v pn : ℕ) (bytes : List ℕ) → HasAccepted w i v pn bytes → pn ≤ promise_of (readings_at w i)
-  -- the rank whose number it is made it, and accepted the value too
+  -- the monitor whose rank the number has made it, and accepted the value too
   pub owner : (i v pn : ℕ) (bytes : List ℕ) → HasAccepted w i v pn bytes
       → HasAccepted w (pn % 100) v pn bytes × (pn ≤ or_zero (readings_at w (pn % 100)).last_pn)
 
--- A transaction collects under a number: it puts it as the last one that the monitor made, and begins no full synchronization.
+-- A transaction collects under pn: it puts pn as the last number of the monitor, and begins no full synchronization.
 pub record Collects (transaction : List Op) (pn : ℕ) : Type 0 where
   pub number : (put_alone transaction).last_pn ≡ Some pn
   pub unmarked : (put_alone transaction).marked ≡ false
@@ -62,8 +62,8 @@ pub record Collects (transaction : List Op) (pn : ℕ) : Type 0 where
 abbrev pub last_number : Store → ℕ
 last_number m = or_zero (readings_of m).last_pn
 
--- Along the transactions of monitor i, from a store on, its last number never falls, and each that collects raises it to a number
--- of its rank. So a number belongs to one rank and to one collect.
+-- Along the transactions of monitor i, from a store on, its last number never falls. Each transaction that collects
+-- raises it to a number of its rank. So a number belongs to one rank and to one collect.
 abbrev pub NumbersRise : ℕ → Store → List (List Op) → Type 0
 NumbersRise i m [] = Unit {0}
 NumbersRise i m (tx ∷ txs) =

@@ -34,8 +34,8 @@ pub record AcceptedNothing (w : World) (q : List Bool) (v pn : ℕ) : Type 0 whe
   pub promised : pn < promise_of (readings_at w rank)
   pub never : (bytes : List ℕ) → ¬ HasAccepted w rank v pn bytes
 
--- What a leader is updating with is new: for its version every majority has a rank that accepted nothing under any given lower number, and
--- by now can't any more.
+-- The value of a leader that is updating in `before` is new. For its version and any lower number, every majority has a
+-- rank that accepted nothing under that number, and by `now` can't any more.
 abbrev pub ProposesNew : ℕ → (before now : World) → Type 0
 ProposesNew n before now = (i : ℕ) (s : State) (lower : ℕ) (q : List Bool) → before.state i ≡ Some s → s.phase ≡ phase.Updating → lower < s.leader.pn
     → IsMajorityOf n q → AcceptedNothing now q (suc (readings_at before i).last) lower
@@ -49,14 +49,15 @@ pub record IsChosen (n : ℕ) (w : World) (v : ℕ) (bytes : List ℕ) : Type 0 
 
 -- ---- leaders
 
--- A leader that has heard its quorum proposes, or is active.
+-- In these phases a leader has heard its quorum.
 abbrev pub has_heard : Phase → Bool
 has_heard phase.Previous = true
 has_heard phase.Active = true
 has_heard phase.Updating = true
 has_heard other = false
 
--- The leader repeats a value: that of the greatest number under which one of its quorum accepted any for this version.
+-- The leader proposes a value again for its next version, which is v. One of its quorum accepted that value under a
+-- number that is at least pn and below the leader's own.
 pub record Repeats (w : World) (s : State) (last v pn : ℕ) : Type 0 where
   pub phase : s.phase ≡ phase.Previous
   pub next : v ≡ suc last

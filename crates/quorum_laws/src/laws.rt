@@ -15,15 +15,18 @@ pub fn law_one_active()
     ensures { (ms : Monitors) (events : List Event) → AllFit ms.count events → OneActive (run ms events) }
 {}
 
-/// In every run of any monitors a store is what its kept transactions leave, in order; and these are the transactions
-/// of all its monitor's events, except those that a crash lost.
+/// In every run of any monitors a store is the result of its kept transactions, in order. These are the transactions of
+/// all its monitor's events, except those that a crash lost.
 pub fn law_held()
     ensures { (ms : Monitors) (events : List Event) → AllFit ms.count events → Held ms events }
 {}
 
-/// A monitor's epoch is at least each that it sent. Who leads or follows is in the quorum of its leader, which is a majority of the
-/// map, in an even epoch; and whenever it is in a quorum in that epoch again, it is the same quorum under the same leader, and it was in it
-/// all the time between. Whoever of an active leader's quorum is in a quorum in its epoch is in that one, under it.
+/// A monitor's epoch is at least that of each message that it sent. A monitor that leads or follows is in an even epoch
+/// and in the quorum of its leader, which is a majority of the map. Whenever it is in a quorum of that epoch again, it
+/// is in the same one under the same leader, and it was in it all the time between.
+///
+/// An active leader has its whole quorum: all of it reached the epoch, and each of it that leads or follows in that
+/// epoch is in this quorum, under this leader.
 pub fn law_elections()
     ensures epochs { (ms : Monitors) (events : List Event) → AllFit ms.count events → EpochsSent (run ms events) }
     ensures quorums { (ms : Monitors) (events : List Event) → AllFit ms.count events → (i e l : ℕ) (q : List Bool)
@@ -36,10 +39,13 @@ pub fn law_elections()
     ensures led { (ms : Monitors) (events : List Event) → AllFit ms.count events → ActiveAreLed ms.count (run ms events) }
 {}
 
-/// What a promise forbids. A monitor's numbers are its own, each of one collect, and it promised each under which it answered or
-/// accepted. Its epoch, its promise and its level never fall. What it accepted it doesn't forget: the version is committed or pending, or a
-/// full synchronization must reach it. A whole answer covers what its monitor accepted under lower numbers, for ever. And all that is sent
-/// or kept as a value is one of a command.
+/// A promise forbids a monitor to accept under lower numbers. Each number belongs to one monitor and one collect. A
+/// monitor promised each number under which it answers or accepts. Its epoch, its promise and its level never fall. Its
+/// level is the floor of a full synchronization in progress, and otherwise its last version.
+///
+/// A monitor doesn't forget a value that it accepted: the version is committed or pending, or the floor of a full
+/// synchronization reaches it. A whole answer to COLLECT covers what its monitor accepted under lower numbers, then and
+/// ever after. Each value in a message or record is that of some command.
 pub fn law_promises()
     ensures numbers { (ms : Monitors) (events : List Event) → AllFit ms.count events → NumbersHold (run ms events) }
     ensures collects { (ms : Monitors) (events : List Event) → AllFit ms.count events → AllNumbersRise (run ms events) }
@@ -50,9 +56,13 @@ pub fn law_promises()
     ensures values { (ms : Monitors) (events : List Event) → AllFit ms.count events → ValuesAlone (run ms events) }
 {}
 
-/// No two values are chosen for one version. One number carries one value for a version, and a value that was accepted leaves no room
-/// for another one under a lower number. A leader that has heard its quorum knows what was accepted before; and what it is updating with is
-/// new: under each lower number every majority has a rank that accepted nothing for that version, then and ever after.
+/// No two values are chosen for one version. All values accepted for a version under one number are the same. A value
+/// that was accepted leaves no room for another one under a lower number.
+///
+/// A leader that has heard its quorum has each version for which one of the quorum accepted a value under a lower
+/// number; or that is its next version, and it proposes the value of the greatest such number. The value of a leader in
+/// updating is new: for each lower number every majority has a rank that accepted nothing under it for that version,
+/// then and ever after.
 pub fn law_values()
     ensures one { (ms : Monitors) (events : List Event) → AllFit ms.count events → OneValue (run ms events) }
     ensures room { (ms : Monitors) (events : List Event) → AllFit ms.count events → LeavesNoRoom ms.count (run ms events) }
@@ -63,14 +73,14 @@ pub fn law_values()
         → ProposesNew ms.count (run ms before) (run ms (before ++ after)) }
 {}
 
-/// What a lease that isn't cancelled implies, whatever its time. Whoever gives one has its whole quorum in its epoch;
-/// and each version for which a peon with a lease ever accepted a value is committed.
+/// As long as a lease isn't cancelled this holds, whatever its time. The monitor that gives it has its whole quorum in
+/// its epoch. A peon with a lease has committed each version for which it ever accepted a value.
 pub fn law_leases()
     ensures { (ms : Monitors) (events : List Event) → AllFit ms.count events → LeasesHold ms.count (run ms events) }
 {}
 
-/// A command that a monitor forwards was asked of it by a session. One that waits at a leader was asked of the leader,
-/// or of the peon that forwarded it. Each session that waits at a peon asked that peon.
+/// A command that a monitor forwards was asked of it by a session. A command that waits at a leader was asked of the
+/// leader, or of the peon that forwarded it. Each session that waits at a peon asked that peon a command.
 pub fn law_commands()
     ensures { (ms : Monitors) (events : List Event) → AllFit ms.count events → CommandsHold ms.count (run ms events) }
 {}
