@@ -17,7 +17,7 @@ use Rattle.std.proofs.lemmas.Bool.{cases_lt, cond_both, eqb-true, false≢true}
 use Rattle.std.specs.List.{AllByRecursion}
 use Rattle.std.specs.Option.{option_and_then, option_map}
 
--- it is in no full synchronization, or what that must reach is far below the end of the log
+-- the store is unmarked and has no floor, or the floor is at least 501 versions below the end
 abbrev pub IsLowIn : ℕ → (marked : Bool) → (floor : ℕ) → Type 0
 IsLowIn end marked floor = ((marked ≡ false) × (floor ≡ 0)) ⊎ (floor + 501 ≤ end)
 
@@ -84,7 +84,7 @@ behind end first w above low k = let p = pending_next w.pending_v w.pending_pn w
 
 -- ---- what an answer to PROBE has
 
--- its first version is far below its last one, or the first of the log
+-- its first version is at most 1, or at least 501 below its last one
 abbrev pub TellsLow : Body → Type 0
 TellsLow (body.ProbeReply quorum first last) = (first ≤ 1) ⊎ (first + 501 ≤ last)
 TellsLow other = Unit {0}

@@ -46,7 +46,7 @@ use Rattle.std.specs.Prelude.{IfOk}
 abbrev pub EnvelopeLow : Envelope → Type 0
 EnvelopeLow e = TellsLow e.message.body
 
--- each monitor's floor is low, and each answer to PROBE has a first version that is low
+-- each floor is far below the end of the log, and each sent answer to PROBE has a low first version (`TellsLow`)
 pub record AllLow (w : World) : Type 0 where
   pub stores : (i : ℕ) → IsLow (length w.log) (readings_of (w.store i))
   pub sent : AllByRecursion EnvelopeLow w.messages

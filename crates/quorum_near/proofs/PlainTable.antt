@@ -1,5 +1,5 @@
--- What an event writes and sends: a mark only at an answer to PROBE whose first version is above the own last one, and an answer to
--- PROBE only with the first and the last version.
+-- What an event writes and sends. It marks the store only if the store is marked already, or after an answer to PROBE
+-- whose first version is above the monitor's last one. An answer to PROBE has the monitor's own first and last version.
 use Rattle.mon_bytes.specs.declared.entry.Entry.{Entry}
 use Rattle.mon_msg.specs.Protocol.Changes.{Boot, Change, Epoch, Mark}
 use Rattle.mon_msg.specs.Protocol.Course.{Course, change, change_if, disarm, prober_is}
@@ -38,7 +38,7 @@ use Rattle.std.specs.Prelude.{is_some}
 
 -- ---- what is written and sent
 
--- an answer to PROBE has the versions that are read
+-- an answer to PROBE has the first and last version of the sender's store, which isn't marked
 abbrev pub AnswersAs : Readings → Body → Type 0
 AnswersAs w (body.ProbeReply quorum first last) = (w.marked ≡ false) × (first ≡ w.first) × (last ≡ w.last)
 AnswersAs w other = Unit {0}
@@ -47,7 +47,7 @@ abbrev pub SaysAs : Readings → Sent → Type 0
 SaysAs w (sent.Message to m) = AnswersAs w m.body
 SaysAs w (sent.Reply to r) = Unit {0}
 
--- an answer to PROBE has a first version above the own last one
+-- the input is an answer to PROBE whose first version is above the monitor's last one
 pub record IsBehind (w : Readings) (came : Input) : Type 0 where
   pub message : Message
   pub is : came ≡ input.Deliver message
@@ -58,7 +58,7 @@ pub record IsBehind (w : Readings) (came : Input) : Type 0 where
   pub above : w.last < first
   pub some : 1 < first
 
--- the monitor begins a full synchronization, again or because it is behind
+-- the only change is a mark: the store is marked already, or the monitor lacks versions that the sender doesn't keep
 pub record Marks (w : Readings) (came : Input) (cs : List Change) : Type 0 where
   pub is : cs ≡ Mark (floor_of w) w.last_pn w.promise ∷ []
   pub why : (w.marked ≡ true) ⊎ IsBehind w came
@@ -101,7 +101,7 @@ says_as : (w : Readings) (x : Sent) → SaysPlain x → SaysAs w x
 says_as w (sent.Message to m) k = body_as w m.body k
 says_as w (sent.Reply to r) k = tt
 
--- what is plain is such
+-- a plain course writes and sends only this
 plainly : (w : Readings) (came : Input) (r : Result Course Which) → Then Plain r → Then (WritesAs w came) r
 plainly w came r A = by r A
   where

@@ -10,7 +10,7 @@ use Rattle.quorum_model.specs.Growth.{last_of}
 use Rattle.quorum_model.specs.World.{World}
 use Rattle.std.specs.Prelude.{Bool, List, Some, false, length, suc, true, ℕ, ◌+◌, ◌<◌, ◌≡◌, ◌≤◌, ◌⊎◌}
 
--- The last version of the log is the next one for monitor i, which accepted it and would propose these very bytes.
+-- Monitor i lacks the last version of the log alone, and its pending value is that version, byte for byte.
 pub record HasPending (w : World) (i : ℕ) : Type 0 where
   pub next : length w.log ≡ suc (last_of (w.store i))
   pub found : Found
@@ -18,7 +18,7 @@ pub record HasPending (w : World) (i : ℕ) : Type 0 where
   pub version : found.version ≡ length w.log
   pub value : text found.value ≡ entry w.log (length w.log)
 
--- It is in no full synchronization. It has the whole log, or all but the last version, which it accepted.
+-- Monitor i is in no full synchronization. It has the whole log, or all but the last version, which it has pending.
 pub record IsNear (w : World) (i : ℕ) : Type 0 where
   pub unmarked : is_marked (w.store i) ≡ false
   pub near : (last_of (w.store i) ≡ length w.log) ⊎ HasPending w i
@@ -35,6 +35,6 @@ pub record SomeNear (w : World) (q : List Bool) : Type 0 where
   pub within : has q rank ≡ true
   pub near : IsNear w rank
 
--- each full synchronization of one of n monitors must reach a version that is far below the end of the log
+-- The floor of each full synchronization at one of n monitors is at least 501 versions below the end of the log.
 abbrev pub FloorsLow : ℕ → World → Type 0
 FloorsLow n w = (i : ℕ) → i < n → is_marked (w.store i) ≡ true → (readings_at w i).floor + 501 ≤ length w.log
