@@ -146,7 +146,8 @@ module _ (G : Majority) (Q : Term G) where
 
   -- ---- the leader asks
 
-  -- The leader had la versions when it asked, and has l now. Those of A answered. No member promised more than its number.
+  -- The leader had la versions when it asked, and has l now. Those of A answered. No peon promised more than pn, the
+  -- number under which the leader asks.
   pub record Asking (A : List Bool) (la : ℕ) (w : World) : Type 0 where
     pub pn : ℕ
     pub room : pn + 200 * (suc c - la) ≤ 2 ^ 62
@@ -165,7 +166,7 @@ module _ (G : Majority) (Q : Term G) where
     pub self : has A r ≡ true
     pub long : length A ≡ 15
 
-  -- it asks again, and no member has a further version
+  -- the leader asks anew: nobody else answered yet, and no member has more versions than it
   pub record Fresh (w : World) : Type 0 where
     pub la : ℕ
     pub asking : Asking (only r) la w

@@ -103,7 +103,7 @@ module _ (G : Majority) (Q : Term G) where
   members : (A : List Bool) (la : ℕ) (w : World) (X : Asking A la w) → electing.quorum_at w r ≡ a
   members A la w X = let Z = X.hub in let H = Z.holds in quorum_is w r Z.state a Z.up H.quorum
 
-  -- once it heard all it collects no more
+  -- once the leader heard all of its quorum it no longer collects
   settled_in : (w : World) (S : Settled w) → electing.is_in w r phase.Collecting ≡ false
   settled_in w S = by S.goes
     where

@@ -122,7 +122,7 @@ module _ (G : Majority) (Q : Term G) where
   abbrev First : World → Type 0
   First w = rounds.First G Q w
 
-  -- ---- it is active, and all have what it has
+  -- ---- the leader is active, and all members have its versions
 
   pub record Resting (w : World) : Type 0 where
     pub fit : Fit w

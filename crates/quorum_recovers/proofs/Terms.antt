@@ -17,11 +17,11 @@ use Rattle.std.proofs.lemmas.Bool.{ltb-true}
 use Rattle.std.specs.List.{list_all, range_with_len}
 use Rattle.std.specs.Option.{option_map_or}
 
--- what a monitor that is up remembers of the answers
+-- the answers that a plan sees are those in the state of a monitor that is up
 pub answered_is : (w : World) (i : ℕ) (s : State) (a : List Bool) → w.state i ≡ Some s → s.leader.answered ≡ a → answered_at w i ≡ a
 answered_is w i s a up e = ap (λ (o : Option State). option_map_or (λ x. x.leader.answered) o no_ranks) up ∙ e
 
--- all of a set that are below n are in the other
+-- if all ranks of a below n are in b, the test of each rank from `from` on passes
 all_from : (n : ℕ) (a b : List Bool) → ((f : ℕ) → f < n → has a f ≡ true → has b f ≡ true) → (len from : ℕ) → from + len ≤ n → list_all (λ k. not (has a k) || has b k) (range_with_len from len) ≡ true
 all_from n a b h zero from le = refl
 all_from n a b h (suc len) from le = by (all_from n a b h len (from + 1) (omega arith)) (has a from) refl

@@ -18,32 +18,32 @@ use Rattle.std.specs.Prelude.{Bool, List, [], nat_lt, ℕ, ◌&&◌, ◌++◌, �
 abbrev pub promise_at : World → ℕ → ℕ
 promise_at w i = promise_of (readings_at w i)
 
--- the members of its quorum that answered its COLLECT
+-- the ranks that answered the COLLECT of monitor i, by its state as a leader; none if it is down
 abbrev pub answered_at : World → ℕ → List Bool
 answered_at w i = option_map_or (λ s. s.leader.answered) (w.state i) no_ranks
 
 -- ---- the steps, of n monitors of which r leads
 
--- if a member of its quorum promised more than it, that one gets its COLLECT first and answers
+-- if a member of r's quorum promised more than r, the one that promised most gets r's COLLECT first, and r its answer
 abbrev pub raises : (n r : ℕ) → PlanStep
 raises n r w =
     let top = highest (promise_at w) (quorum_at w r) r n in
     if nat_lt (promise_at w r) (promise_at w top) then Hears top r kind.Collect ∷ Hears r top kind.Last ∷ [] else []
 
--- k gets its COLLECT and answers, if all lower members answered
+-- if r collects and all members below k answered, k gets r's COLLECT, and r gets the answer of k
 abbrev pub collects : (r k : ℕ) → PlanStep
 collects r k w =
     let members = quorum_at w r in
     if is_other members r k && (is_in w r phase.Collecting && are_within k members (answered_at w r))
     then Hears k r kind.Collect ∷ Hears r k kind.Last ∷ [] else []
 
--- a member that lacks a version gets it
+-- if member k has fewer versions than r, it gets r's COMMIT
 abbrev pub commits : (r k : ℕ) → PlanStep
 commits r k w =
     if is_other (quorum_at w r) r k && nat_lt (readings_at w k).last (readings_at w r).last
     then Hears k r kind.Commit ∷ [] else []
 
--- as long as r proposes a value in this phase, k gets it and accepts
+-- if r proposes a value in this phase, k gets r's BEGIN, and r gets the ACCEPT of k
 abbrev pub accepts : Phase → (r k : ℕ) → PlanStep
 accepts p r k w =
     if is_other (quorum_at w r) r k && is_in w r p
@@ -65,7 +65,7 @@ settling n r = each n (commits r) ++ (each n (accepts phase.Previous r) ++ each 
 abbrev pub serving : (n r : ℕ) → Session → Command → List PlanStep
 serving n r session command = asks r session command ∷ each n (accepts phase.Updating r)
 
--- with r, once it is elected
+-- the steps of the way back once r is elected
 abbrev pub led : (n r : ℕ) → Session → Command → List PlanStep
 led n r session command = hearing n r ++ (settling n r ++ serving n r session command)
 

@@ -17,7 +17,8 @@ use Rattle.quorum_model.specs.World.{Asked, Event, Replied, World}
 use Rattle.std.specs.List.{Contains}
 use Rattle.std.specs.Prelude.{Bool, Err, List, Option, [], length, suc, ℕ, ◌+◌, ◌<◌, ◌∷◌, ◌≡◌, ◌≤◌, ◌⊎◌}
 
--- What was asked is version v + 1 of the log. The log didn't have that version before, and it had all versions before it, or all but one.
+-- The reply says that version v + 1 is done, and that version of the log is what was asked. The log before didn't have
+-- that version, and lacked at most one version below it.
 pub record IsDone (n : ℕ) (before after : World) (asked : Asked) (r : Reply) : Type 0 where
   pub v : ℕ
   pub done : r ≡ reply.Done (suc v)
@@ -32,7 +33,7 @@ pub record IsRefused (c : Command) (after : World) (by : ℕ) (r : Reply) : Type
   pub made : value (readings_at after by) c by ≡ Err why
   pub refused : r ≡ refusal why
 
--- the session got a reply to its command, by a later event: its command is done, or it is refused
+-- An event after `before` replied to the session: its command is done, or is refused.
 pub record IsServed (n : ℕ) (s : Session) (c : Command) (before after : World) : Type 0 where
   pub by : Replied
   pub among : Contains after.replied by
@@ -41,7 +42,7 @@ pub record IsServed (n : ℕ) (s : Session) (c : Command) (before after : World)
   pub answer : IsDone n before after (record { rank = by.rank; session = s; request = request_of c }) by.reply
       ⊎ IsRefused c after by.rank by.reply
 
--- Some majority, if it is ready to serve, has a way on that leads there.
+-- There is a majority that has a way on to `Leads` if it is ready to serve.
 pub record SomeWay (ms : Monitors) (events : List Event) (asks : Option (Session × Command)) (most : ℕ)
     (Leads : World → World → Type 0) : Type 0 where
   pub by : List Bool

@@ -14,9 +14,9 @@ ghost use Rattle.quorum_model.specs.World.{Event};
 ghost use Rattle.quorum_recovers.specs.Plan.{way_back};
 ghost use Rattle.quorum_recovers.specs.Serving.{IsServed, SomeWay};
 
-/// A majority that is near the whole log and ready to serve can serve, under any rule, whatever the run was before and
-/// whoever else is dead. At most 2n² + 14n + 5 further events at its monitors alone lead to the reply to a command that a
-/// client asks of one of them: the command is a new version of the log, or its service refuses it.
+/// A majority that is near the whole log and ready to serve can serve, under any rule, whatever the run was before. At
+/// most 2n² + 14n + 5 further events lead to the reply to a command that a client asks of one of its monitors: the
+/// command is a new version of the log, or its service refuses it. All other monitors are then as they were.
 pub fn law_near_majority_serves()
     ensures { (ms : Monitors) → 1 ≤ ms.count → (events : List Event) → AllFit ms.count events
         → (ran ms events).stop ≡ None → (q : List Bool) → IsMajorityOf ms.count q
@@ -25,18 +25,19 @@ pub fn law_near_majority_serves()
         → HasWay ms events q (Some (s, c)) (2 * ms.count * ms.count + 14 * ms.count + 5) (IsServed ms.count s c) }
 {}
 
-/// No run leaves a quorum without a way back. Whatever 1 to 15 monitors went through under any rule, crashes, losses, copies cut
-/// short and elections without end included, some majority can serve again by itself, if it has room and a member that
-/// may lead. None of the further events is a crash, none delivers a message that was sent before, and no other monitor
-/// takes part.
+/// After every run that nothing stopped some majority can serve again by itself, if it has room and a member that may
+/// lead. This holds of 1 to 15 monitors under any rule, whatever they went through: crashes, losses, copies cut short
+/// and elections without end. None of the further events is a crash, and none delivers a message that was sent before.
+/// All other monitors are in the end as they were. The law doesn't say that these events happen.
 pub fn law_recovers()
     ensures { (ms : Monitors) → 1 ≤ ms.count → (events : List Event) → AllFit ms.count events
         → (ran ms events).stop ≡ None → (s : Session) (c : Command) → IsCommand c → is_too_long c ≡ false
         → SomeWay ms events (Some (s, c)) (2 * ms.count * ms.count + 14 * ms.count + 5) (IsServed ms.count s c) }
 {}
 
-/// The further events of the way back are planned: by kind, sender, receiver and order they are those of `way_back`, which
-/// computes them from the worlds that they lead to. Which of several such messages is delivered is left open.
+/// The further events of the way back follow the plan `way_back`, which gives their kind, sender, receiver and order.
+/// Each step of the plan computes its events from the world that the events before it lead to. If several messages have
+/// that kind, sender and receiver, the plan doesn't say which of them is delivered.
 pub fn law_way_back_is_planned()
     ensures { (ms : Monitors) → 1 ≤ ms.count → (events : List Event) → AllFit ms.count events
         → (ran ms events).stop ≡ None → (q : List Bool) → IsMajorityOf ms.count q

@@ -1,4 +1,4 @@
-//! That no run leaves a quorum without a way back to service.
+//! That after every run some majority can serve again, if it has room and a member that may lead.
 #![tactic(auto)]
 
 mod laws;
