@@ -57,7 +57,7 @@ use Rattle.std.proofs.Common.{Bool, List, None, Some, [], ap, arith, cond, eqb, 
 use Rattle.std.proofs.lemmas.Bool.{eqb-true}
 use Rattle.std.specs.List.{AllByRecursion, filter}
 
--- ---- facts that this proof does without
+-- ---- what this proof needs of commands, ROUTEs, votes and requests
 
 abbrev AnyFrom : ℕ → Command → Origin → Type 0
 AnyFrom e c o = Unit {0}

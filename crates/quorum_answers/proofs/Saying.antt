@@ -103,7 +103,7 @@ module _ (me : Me) (now : ℕ) (w : Readings) (s : State) (came : Input) (From :
   abbrev pub WhyOf : ℕ → Command → Reply → Type 0
   WhyOf asked c r = ((is_too_long c ≡ true) × (r ≡ too_long c)) ⊎ ((s.phase ≡ phase.Active) × (e : CommandRefused) × (value w c asked ≡ Err e) × (r ≡ refusal e))
 
-  -- in this event, in its epoch, the monitor refuses a command of this origin for such a cause
+  -- a reply in the monitor's epoch refuses a command of this origin, for such a cause
   pub record Decides (o : Origin) (f : ℕ) (r : Reply) : Type 0 where
     pub command : Command
     pub from : From (epoch_of w) command o

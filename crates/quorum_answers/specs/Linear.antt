@@ -18,7 +18,7 @@ Completed w (Write a) = Contains w.acknowledged a
 Completed w (Read r) = Contains w.replied r × Shows r.reply
 
 -- The event in which an operation takes effect: the leader acknowledges the write, or the monitor replies to the read.
--- When its client asked, and when it got the answer, isn't stated here.
+-- A reply that a write is done is of that event or of a later one (`Kept`). When a client asked isn't stated here.
 abbrev pub its_event : Operation → ℕ
 its_event (Write a) = a.event
 its_event (Read r) = r.event
@@ -35,8 +35,8 @@ Precedes (Read r) (Write a) = r.last < a.version
 Precedes (Read q) (Read r) = q.last ≤ r.last
 
 -- Each write is a version of the one log, and each read shows what the versions up to its last one make. Of two
--- operations of one epoch, at whichever monitors, the one of the earlier event comes first in that log. Operations of
--- the same event have no order in `order`.
+-- operations of one epoch, at whichever monitors, the one of the earlier event comes first in that log. Whether that is
+-- the order of time depends on when clients asked, which isn't stated here.
 pub record Linearizable (n : ℕ) (w : World) : Type 0 where
   pub writes : Kept n w
   pub reads : Shown w

@@ -12,7 +12,8 @@ ghost use Rattle.quorum_answers.specs.Refused.{AllRefused};
 /// monitors crash. What is shown in an epoch, by whichever monitors, is never older than what was shown before in that
 /// epoch. What one monitor shows is never older than what it showed before, in whatever epochs.
 ///
-/// The law doesn't say when a client asked or got its answer. Of two monitors in two epochs it says nothing.
+/// The law doesn't say that a client asked before its operation took effect. It gives no order to what two monitors
+/// show or acknowledge in two epochs.
 pub fn law_reads()
     ensures linear { (ms : Monitors) (events : List Event) → AllFit ms.count events
         → Linearizable ms.count (run ms events) }
