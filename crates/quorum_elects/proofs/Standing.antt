@@ -26,7 +26,7 @@ use Rattle.std.specs.Prelude.{filter, slice_index_or, slice_set}
 
 -- ---- stores
 
--- an unmarked monitor that lacks at most one of c versions, and keeps more than 500 or all that it has
+-- an unmarked monitor that lacks at most one of c versions, and keeps all of its versions or at least 502
 pub record CloseAt (c : ℕ) (marked : Bool) (first last : ℕ) : Type 0 where
   pub unmarked : marked ≡ false
   pub most : last ≤ c

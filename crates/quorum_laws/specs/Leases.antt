@@ -11,7 +11,7 @@ use Rattle.std.proofs.Common.{List, Some, true, ℕ, ◌≡◌, ◌≤◌}
 use Rattle.std.specs.List.{Contains}
 use Rattle.std.specs.Prelude.{is_some}
 
--- The peon has committed each version for which it ever accepted a value, and its leader has its whole quorum.
+-- A peon with a lease committed each version for which it ever accepted a value, and its leader has its whole quorum.
 pub record LeaseHolds (n : ℕ) (w : World) (i : ℕ) (s : State) : Type 0 where
   pub committed : (v pn : ℕ) (bytes : List ℕ) → HasAccepted w i v pn bytes → v ≤ (readings_at w i).last
   pub led : IsLed n w (epoch_of (readings_at w i)) s.peon.leader
