@@ -126,7 +126,7 @@ module _ (before w next : World) (asked : (a : Asked) → Contains w.asked a →
       refused = subst (AllByRecursion (IsKnown before next)) (sym r) (all_map (IsKnown before w) (IsKnown before next) (λ x z u. refusal_lasts x.rank x.session x.epoch x.reply (z u)) w.replied k.refused);
     }
 
--- what was asked by now was asked before what comes next
+-- a refusal beside an earlier world is also one beside w itself, in which its command was asked already
 module _ (before w : World) where
   refusal_old : (i : ℕ) (t : Session) (e : ℕ) (r : Reply) → IsRefused before w i t e r → IsRefused w w i t e r
   refusal_old i t e r k = record {
@@ -216,7 +216,7 @@ module _ (ms : Monitors) (before w : World) (R : Reached ms w) (I : InvOf ms w) 
   read : readings_of m ≡ d.y.readings
   read = same w.store w.state w.transactions w.messages w.active asked me J d.by.at d.by.state d.by.came d.by.on d.by.fits d.by.holds (d.by.fine (shares w.store w.state w.transactions w.messages w.active asked me J d.by.at)) d.y d.is
 
-  -- all that was known before
+  -- a version that covers the acknowledgements of w covers those of `before`
   covers_before : (e v : ℕ) → CoversAll w e v → CoversAll before e v
   covers_before e v k = all_map (λ (a : Acknowledged). Among a w.acknowledged) _ (λ a among. all_among _ a w.acknowledged among k) before.acknowledged O.known
 
@@ -339,7 +339,7 @@ module _ (ms : Monitors) (before w : World) (R : Reached ms w) (I : InvOf ms w) 
 abbrev pub Holds : Monitors → (before w : World) → Type 0
 Holds ms before w = (I : InvOf ms w) × Refusals before w I.g
 
--- if its log goes on
+-- refusals hold in `next`, if the log of w goes on there
 abbrev GoesOn : Monitors → (before w next : World) → Type 0
 GoesOn ms before w next = Fronts w.log next.log → Holds ms before next
 
@@ -372,7 +372,7 @@ follows ms before w e R F h = let O = h.1 in each_event ms w (Back before w h.0.
 at_start : (ms : Monitors) → Holds ms first_world first_world
 at_start ms = (at_first ms, record { known = tt; back = tt; refused = tt })
 
--- events, and others after them
+-- the law: events, and others after them
 module _ (ms : Monitors) where
   -- of a world that a run reaches
   from_now : (w : World) (later : List Event) → AllFit ms.count later → Reached ms w → Holds ms first_world w → AllRefused w (run_from ms w later)

@@ -56,7 +56,7 @@ record AreFine (log : List (List ℕ)) (v : ℕ) (values : List (List Op)) : Typ
   within : v + length values ≤ length log
   plain : AllByRecursion IsPlain values
 
--- nothing is written
+-- a course of an unmarked monitor that writes nothing is sound
 pub nothing : (w : Readings) (y : Course) → y.changes ≡ [] → y.readings ≡ w → w.marked ≡ false → Sound w y
 nothing w y still reads unmarked = record {
   tells = reads ∙ ap (λ (cs : List Change). played cs w) (sym still);
@@ -220,7 +220,7 @@ module _ (S : Scope) (several : 1 < S.ms.count) (P : Provider S) (k : ℕ) (othe
           );
         }
 
-    -- it has all versions, or more of them
+    -- member k has all versions of the provider, or more of them than before
     abbrev Took : Cookie → ℕ → World → Type 0
     Took c v u = Joined (suc most) o u ⊎ ((x : ℕ) × Chunking (suc most) o c x (t - x) u × (v < x) × (x < t))
 
