@@ -30,20 +30,20 @@ abbrev pub done_by_route : Body → Option ℕ
 done_by_route (body.Route seq r) = done_in r
 done_by_route other = None
 
--- A leader says it to its own client, or to the peon that handed the command on. What a peon then hands to its client
--- acknowledges nothing new.
+-- A leader acknowledges a version by a reply to its own client, or by a ROUTE to the peon that handed the command on.
+-- The peon's reply to its client then acknowledges nothing new.
 abbrev pub done_by : State → Sent → Option ℕ
 done_by s (sent.Reply to r) = if is_leading s.phase then done_in r else None
 done_by s (sent.Message to m) = done_by_route m.body
 
 -- ---- what it acknowledges
 
--- the changes that a monitor keeps as a version
+-- the operations in the record that a store has of version v
 abbrev pub record_kept : Store → ℕ → List Op
 record_kept m v = ops_in (record_in m v)
 
--- The service and the incremental that a value puts. One that puts none counts as one without bytes, which no value
--- puts.
+-- The service and the incremental that a transaction puts. If it puts no incremental, this is one without bytes, which
+-- no value puts.
 abbrev pub kv_or_log : (kv log : List (List ℕ)) → Service × List ℕ
 kv_or_log (i ∷ is) others = (service.Kv, i)
 kv_or_log [] (i ∷ is) = (service.Log, i)
@@ -64,6 +64,6 @@ acknowledgement event m s v =
       incremental = made.1;
     }
 
--- what the sends of an event acknowledge, after which the monitor keeps m and remembers s
+-- What the sends of an event acknowledge. After the event the monitor keeps m and remembers s.
 abbrev pub acknowledgements_of : (event : ℕ) → Store → State → List Sent → List Acknowledged
 acknowledgements_of event m s sends = filter_map (λ x. option_map (acknowledgement event m s) (done_by s x)) sends

@@ -17,8 +17,8 @@ use Rattle.quorum_model.specs.Growth.{last_of}
 use Rattle.log_model.specs.LogOfValues.{IsCommand, view_at}
 use Rattle.quorum_model.specs.World.{World, Asked}
 
--- A monitor's committed versions are entries of the log: those that it keeps are the same bytes, and what it shares is the
--- log's fold.
+-- A monitor's committed versions are entries of the log. Each record that its store still keeps has the entry's bytes,
+-- and the shared keys of its store are the fold of the log up to its last version.
 pub record Agrees (log : List (List ℕ)) (m : Store) : Type 0 where
   pub within : last_of m ≤ length log
   pub records : (v : ℕ) → max 1 (number m area.Paxos key.FirstCommitted) ≤ v → v ≤ last_of m

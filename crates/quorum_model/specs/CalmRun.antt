@@ -67,7 +67,8 @@ abbrev pub ServesCalmly : (n i : ℕ) → State → Type 0
 ServesCalmly n zero s = LeadsCalmly n s
 ServesCalmly n (suc i) s = FollowsCalmly n s
 
--- a store has all of the log, and nothing is pending
+-- A store has all of the log and no pending value. Its epoch and its promise are those that the first election and the
+-- first proposal number leave.
 pub record HasAll (log : List (List ℕ)) (m : Store) : Type 0 where
   pub epoch : epoch_of (readings_of m) ≡ 2
   pub promise : promise_of (readings_of m) ≡ 100
@@ -75,7 +76,7 @@ pub record HasAll (log : List (List ℕ)) (m : Store) : Type 0 where
   pub last : last_of m ≡ length log
   pub folded : shared m ≡ fold log (length log)
 
--- monitor i, of which the leader took all that it handed on
+-- Monitor i is up and calm, and the leader has taken every command that it handed on.
 pub record IsCalmAt (n : ℕ) (w : World) (leader : State) (i : ℕ) : Type 0 where
   pub state : State
   pub up : w.state i ≡ Some state
@@ -102,7 +103,7 @@ abbrev pub reply_over : List (List ℕ) → Result (List Op) CommandRefused → 
 reply_over log (Ok ops) = reply.Done (suc (length log))
 reply_over log (Err e) = refusal e
 
--- one to each command in order, of which the next is the j-th
+-- The answers to these commands, in order. The first of them is asked in the j-th session.
 unfoldable pub answers_of : (j : ℕ) → List (List ℕ) → List Order → List Answer
 answers_of j log [] = []
 answers_of j log (c ∷ cs) =

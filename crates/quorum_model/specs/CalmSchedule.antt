@@ -47,8 +47,8 @@ numbers_delivered events = filter_map number_delivered events
 
 -- ---- deliveries
 
--- Each message from number k on, in order, until none is left: those that were sent by then, and those that these events
--- send. There are at most this many.
+-- Delivers each message from number k on, in order, until none is undelivered: those that were sent before, and those
+-- that these deliveries send. There are at most `most` deliveries.
 unfoldable pub deliveries : Monitors → (most k : ℕ) → World → List Event
 deliveries ms zero k w = []
 deliveries ms (suc most) k w =
@@ -56,7 +56,8 @@ deliveries ms (suc most) k w =
     then Comes (Deliver k 0) ∷ deliveries ms most (suc k) (run_from ms w (Comes (Deliver k 0) ∷ []))
     else []
 
--- more than the starts or one command of 15 monitors send: that no message is left is said of a calm run
+-- A bound on the deliveries after the starts, or after one command: 15 monitors send fewer messages. It is no
+-- assumption, for `IsCalm` says that each message was delivered.
 abbrev pub most_sent : ℕ
 most_sent = 1000
 
@@ -72,7 +73,7 @@ then_delivered ms before more =
 abbrev pub starts : Monitors → List Event
 starts ms = then_delivered ms [] (map (λ i. Comes (Start i 0)) (range_with_len 0 ms.count))
 
--- and then each command comes in a session of its own, of which the next is the j-th
+-- Then each command comes in a session of its own. The first of these commands comes in the j-th session.
 unfoldable pub asks_all : Monitors → (j : ℕ) → List Event → List Order → List Event
 asks_all ms j before [] = before
 asks_all ms j before (c ∷ cs) = asks_all ms (suc j) (then_delivered ms before (asks j c.0 (request_of c.1) ∷ [])) cs

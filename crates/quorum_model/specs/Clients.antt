@@ -1,4 +1,4 @@
--- What clients ask, and what of a monitor's sends they learn.
+-- What clients ask, and which of a monitor's sends are messages and which are replies to clients.
 use Rattle.std.specs.Prelude.{ℕ, List, [], ◌∷◌, ◌++◌, Option, Some, None}
 use Rattle.std.specs.List.{filter_map}
 use Rattle.std.specs.Option.{option_map}
@@ -18,14 +18,14 @@ use Rattle.mon_wire.specs.declared.request.Service.{Service}
 use Rattle.quorum_model.specs.Growth.{last_of}
 use Rattle.quorum_model.specs.World.{Plain, Client, Envelope, Asked, Replied}
 
--- the command that is asked, if it is one
+-- the command of a request, if the request is one
 abbrev pub command_of : Request → Option Command
 command_of (request.Set key value) = Some (command.Set key value)
 command_of (request.Remove key) = Some (command.Remove key)
 command_of (request.Log text) = Some (command.Log text)
 command_of other = None
 
--- the incremental that a command makes of its service where a monitor of this rank was asked
+-- the incremental that a command makes for its service, if the monitor of this rank was asked
 abbrev pub incremental_of : ℕ → Command → List ℕ
 incremental_of rank (command.Set key value) = kv_text.inc_text (kv.Set key value)
 incremental_of rank (command.Remove key) = kv_text.inc_text (kv.Remove key)
@@ -35,7 +35,7 @@ incremental_of rank (command.Log text) = log_text.inc_text (record { rank = rank
 abbrev pub made_by : ℕ → Request → Option (Service × List ℕ)
 made_by rank r = option_map (λ c. (service_of c, incremental_of rank c)) (command_of r)
 
--- what was asked counts, whatever becomes of it
+-- A client's request is noted when it comes, whether or not it has an effect.
 abbrev pub with_asked : Plain → List Asked → List Asked
 with_asked (Client rank at session r) asked = asked ++ record { rank = rank; session = session; request = r } ∷ []
 with_asked other asked = asked
@@ -49,7 +49,7 @@ envelope_of (sent.Reply to r) = None
 abbrev pub messages_of : List Sent → List Envelope
 messages_of sends = filter_map envelope_of sends
 
--- a reply of the monitor of a rank, which keeps m then
+-- the reply that a send is, if it is one; the monitor of this rank keeps m when it sends it
 abbrev pub reply_of : (event rank : ℕ) → Store → Sent → Option Replied
 reply_of event rank m (sent.Reply to r) =
     Some (record { event = event; rank = rank; epoch = epoch_of (readings_of m); last = last_of m; session = to; reply = r })

@@ -10,13 +10,14 @@ use Rattle.quorum_model.specs.declared.calls.TheConstants.{SYNC, CREATION, APPEN
 use Rattle.quorum_model.specs.Files.{File, Files, first_file, file_on, with_file, live_side, is_created, after_opening, after_append, is_due, checkpoint}
 use Rattle.quorum_model.specs.Upsets.{Upset, same_side, last_write, opens_gate, closes_gate}
 
--- A creation closes the gate of a file's header by its first call, and opens it by its last write. If its calls fail from that
--- one on, the disk has the new file once the gate was opened; none once it was closed; and otherwise what it had.
+-- The file of a disk after a creation whose calls fail from this one on. A creation closes the gate of the header by
+-- its first call, and opens it by its last write. If the gate was opened, the disk has the new file. If it was only
+-- closed, the disk has no file. Otherwise it has the old one.
 abbrev pub file_left : (call image : ℕ) → (old : Option File) → File → Option File
 file_left call image old new =
     if opens_gate (last_write CREATION) call image then Some new else (if closes_gate 1 call image then None else old)
 
--- the checkpoint on the other disk, if one is due, up to that call
+-- The files after a checkpoint on this disk, if one is due. The calls of the disk fail from this one on.
 abbrev pub checkpoint_cut : (call image : ℕ) → Store → Side → Option File → Files → Files
 checkpoint_cut call image m side None f = f
 checkpoint_cut call image m side (Some live) f =
@@ -25,11 +26,11 @@ checkpoint_cut call image m side (Some live) f =
 abbrev pub checkpoint_begun : (call image : ℕ) → Store → Files → Files
 checkpoint_begun call image m f = checkpoint_cut call image m (other (live_side f)) (file_on (live_side f) f) f
 
--- the whole of it: a call after it never comes
+-- the files after a whole checkpoint: the first call that fails would come after its last one
 abbrev pub after_checkpoint : Store → Files → Files
 after_checkpoint m f = checkpoint_begun (CREATION + 1) 0 m f
 
--- a transaction over a map, and the checkpoint after it, where the calls of a disk fail from that call on
+-- The files after a transaction over a map and the checkpoint after it, if the calls of a disk fail from this one on.
 abbrev pub append_cut : Files → Store → Side → (call image : ℕ) → List Op → Files
 append_cut f m disk call image ops =
     if same_side disk (live_side f)
@@ -37,13 +38,14 @@ append_cut f m disk call image ops =
     else (if opens_gate (last_write APPEND) call image then after_append ops f else f))
     else checkpoint_begun call image (apply ops m) (after_append ops f)
 
--- Opening that fails at that call: a creation may be cut short, which follows a sync; otherwise the files stay.
+-- The files after an opening that fails at this call. If it creates the store, the creation, which follows a sync, may
+-- be cut short. Otherwise the files stay as they are.
 abbrev pub opening_cut : Files → Side → (call image : ℕ) → Files
 opening_cut f B call image = f
 opening_cut f A call image =
     if is_created f then f else with_file A (file_left (call - SYNC) image None first_file) f
 
--- what an event that writes this leaves of a monitor's files
+-- a monitor's files after an event that writes these operations and in which a disk fails
 abbrev pub files_cut : Files → Store → (opening : ℕ) → Upset → List Op → Files
 files_cut f m opening u ops =
     if nat_le u.call opening then opening_cut f u.disk u.call u.image

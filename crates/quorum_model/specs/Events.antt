@@ -6,7 +6,7 @@ use Rattle.quorum_model.specs.Clients.{command_of}
 use Rattle.log_model.specs.LogOfValues.{IsCommand}
 use Rattle.quorum_model.specs.World.{Plain, Start, Deliver, Ring, Client, Event, plain_of}
 
--- a command's name is one, and its text is one
+-- if a request asks a command, its key is a name, and its value or its text is UTF-8
 abbrev pub RequestFits : Request → Type 0
 RequestFits r = IfSome (command_of r) IsCommand
 

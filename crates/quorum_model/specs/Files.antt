@@ -17,7 +17,7 @@ pub record File : Type 0 where
   pub generation : ℕ
   pub gate : ℕ
 
--- of each disk the file if it is open; a disk that is empty, or of which the header's gate isn't open, is closed
+-- The open file of each disk. A disk that is empty, or whose header's gate isn't open, has none.
 pub record Files : Type 0 where
   pub a : Option File
   pub b : Option File
@@ -35,7 +35,8 @@ with_file B file f = record { a = f.a; b = file }
 
 -- ---- which disk is live
 
--- of two open files that of the greater generation; a store that isn't there is created on disk a
+-- The live disk is that of the open file; of two open files, that of the greater generation. A new store is created on
+-- disk a.
 abbrev pub live_of : Option File → Option File → Side
 live_of None None = A
 live_of (Some a) None = A
@@ -58,7 +59,7 @@ gate_after gate payload = gate + RECORD_HEAD + payload
 abbrev pub first_file : File
 first_file = record { generation = 1; gate = HEADER }
 
--- opening creates a store that isn't there
+-- opening creates the store if no disk has an open file
 abbrev pub after_opening : Files → Files
 after_opening f = if is_created f then f else with_file A (Some first_file) f
 
@@ -74,11 +75,12 @@ after_append ops f = with_file (live_side f) (option_map (file_after ops) (file_
 abbrev pub checkpoint_length : Store → ℕ
 checkpoint_length m = 5 + sum_by entry_len (entries m)
 
--- A checkpoint of a map is due if the live file is longer than 1,048,576 bytes up to and with its first closed gate, and than
--- four times the map's size. No generation passes 2^62. In a run from empty disks no file has the first header.
+-- A checkpoint of a map is due if the live file, up to and with its first closed gate, is longer than 1,048,576 bytes
+-- and than four times the map's size. No generation passes 2^62. A checkpoint is also due for a file with the first
+-- form of header, but no file of a run from empty disks has that form.
 abbrev pub is_due : File → Store → Bool
 is_due f m = nat_lt f.generation (2 ^ 62) && is_outgrown (f.gate + 1) m
 
--- the file that it begins
+-- the file that a checkpoint of a map makes: its one record is the map, and its generation is the next one
 abbrev pub checkpoint : File → Store → File
 checkpoint f m = record { generation = f.generation + 1; gate = gate_after HEADER (checkpoint_length m) }

@@ -1,4 +1,4 @@
--- How the one log grows by the map that a monitor keeps.
+-- How the one log grows by the versions that a monitor's store commits.
 use Rattle.std.specs.Prelude.{ℕ, suc, ◌-◌, List, [], ◌++◌, length, map, unwrap_or, if◌then◌else◌}
 use Rattle.std.specs.List.{range_with_len}
 use Rattle.mon_tx.specs.declared.key.Area.TheVariants as area
@@ -18,6 +18,7 @@ record_in m v = unwrap_or (cell m area.Paxos (key.Version v)) []
 abbrev pub records_behind : Store → (v count : ℕ) → List (List ℕ)
 records_behind m v count = map (record_in m) (range_with_len (suc v) count)
 
--- the log with the records that are new in a map; one under a full synchronization has no committed versions
+-- The log and the records that are new in a map. A map under a full synchronization adds none: it has no committed
+-- versions.
 unfoldable pub grown : List (List ℕ) → Store → List (List ℕ)
 grown log m = if is_marked m then log else log ++ records_behind m (length log) (last_of m - length log)

@@ -81,12 +81,13 @@ unless_stopped m (Err which) = Err (Spent which)
 unless_stopped m (Ok r) =
     if nat_lt most_size (size_of (apply r.transaction m)) then Err (Full (size_of (apply r.transaction m))) else Ok r
 
--- the world that it makes
+-- the world that a reaction makes, unless the reaction stops the run
 abbrev pub in_world : (Reaction → World) → Result Reaction Stop → Result World Stop
 in_world next (Ok r) = Ok (next r)
 in_world next (Err stop) = Err stop
 
--- a crash that loses what is written stops no run
+-- The world after a meeting, or what stops the run. A crash that loses what is written never stops the run, whatever
+-- the reaction was.
 abbrev pub after_meeting : World → Event → Meeting → Result World Stop
 after_meeting w (Comes p) (Reacts i input result) = in_world (moved w p i) (unless_stopped (w.store i) result)
 after_meeting w (Crash p true) (Reacts i input result) = in_world (kept_only w p i) (unless_stopped (w.store i) result)

@@ -30,7 +30,8 @@ abbrev pub AcknowledgedOnce : List Acknowledged → Type 0
 AcknowledgedOnce [] = Unit {0}
 AcknowledgedOnce (a ∷ others) = AllByRecursion (λ b. ¬ (b.version ≡ a.version)) others × AcknowledgedOnce others
 
--- the version was acknowledged, by the reply's event or before it, for a command that its session asked of its monitor
+-- The version was acknowledged, by the reply's event or an earlier one. It was acknowledged for a command that the
+-- reply's session asked of the reply's monitor.
 pub record IsAnswered (w : World) (r : Replied) (v : ℕ) : Type 0 where
   pub acknowledged : Acknowledged
   pub among : Contains w.acknowledged acknowledged

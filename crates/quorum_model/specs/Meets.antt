@@ -36,7 +36,8 @@ abbrev pub state_at : ℕ → Option State → Input → Option State
 state_at rank s input.Start = Some (booting rank)
 state_at rank s other = s
 
--- the monitor of a rank does something at the input, and writes and sends nothing yet; or a number runs out
+-- The message to deliver wasn't sent; or its monitor is down or not in the map; or the monitor reacts to the input,
+-- with a reaction of which nothing is written or sent yet, or with the number that runs out.
 pub data Meeting : Type 0 where
   NoMessage : Meeting
   Down : Meeting

@@ -30,7 +30,7 @@ run ms events = run_from ms first_world events
 
 -- ---- what is written
 
--- monitor i's transaction
+-- monitor i's transaction, if it is the one that reacts
 abbrev pub writes_at : ℕ → Meeting → List (List Op)
 writes_at i (Reacts rank input (Ok r)) = if i == rank then r.transaction ∷ [] else []
 writes_at i other = []

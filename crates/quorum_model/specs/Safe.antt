@@ -1,4 +1,5 @@
--- What holds in every run: no two monitors disagree, nothing acknowledged is lost, and what is shown is the log's.
+-- When a run is safe: no two monitors disagree, nothing acknowledged is lost, what is shown is the log's, each store is
+-- what its monitor wrote, no epoch has two active leaders, and no read is older than an acknowledgement in its epoch.
 use Rattle.std.specs.Prelude.{◌≡◌, ℕ, ◌<◌, List, [], ◌∷◌}
 use Rattle.std.specs.List.{Contains}
 use Rattle.std.specs.FinMap.{empty}

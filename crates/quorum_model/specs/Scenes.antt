@@ -1,4 +1,5 @@
--- The run of a schedule: the world, and what the disks hold, by which it is decided what a scheduled crash keeps.
+-- The run of a schedule: the world, and the files on the disks. The files decide whether a scheduled crash keeps the
+-- transaction.
 use Rattle.std.specs.Prelude.{ℕ, Bool, false, List, [], ◌∷◌, Option, Some, None, Result, Ok, Err}
 use Rattle.mon_types.specs.declared.names.Side.{Side}
 use Rattle.mon_types.specs.declared.names.Which.{Which}
@@ -22,14 +23,15 @@ pub record Scene : Type 0 where
 abbrev pub first_scene : Scene
 first_scene = record { world = first_world; files = λ _. no_files }
 
--- what a schedule says: what comes, and where in it a disk of its monitor fails, after which that monitor is down
+-- An entry of a schedule: an input, and at which call of a disk its monitor fails, if it fails. A monitor that failed
+-- is down.
 pub record Scheduled : Type 0 where
   pub plain : Plain
   pub upset : Option Upset
 
--- ---- the event that it is
+-- ---- the event of an entry
 
--- a start opens the disks
+-- how many calls opening makes on a disk: only a start opens the disks
 abbrev pub opening_of : Input → Side → Files → ℕ
 opening_of input.Start disk f = opening_count disk f
 opening_of other disk f = 0
@@ -46,7 +48,7 @@ event_at c p (Some u) met = Crash p (kept_at c u met)
 abbrev pub event_in : Monitors → Scene → Scheduled → Event
 event_in ms c e = event_at c e.plain e.upset (meets ms c.world e.plain)
 
--- ---- what it leaves
+-- ---- the scene after an entry
 
 abbrev pub ops_of : Result Reaction Which → List Op
 ops_of (Ok r) = r.transaction
@@ -70,7 +72,7 @@ abbrev pub with_files : (ℕ → Files) → Result World Stop → Result Scene S
 with_files files (Ok w) = Ok (record { world = w; files = files })
 with_files files (Err stop) = Err stop
 
--- the scene after what is scheduled, or what stops the run before it
+-- the scene after an entry, or what stops the run before it
 abbrev pub scene_after : Monitors → Scene → Scheduled → Result Scene Stop
 scene_after ms c e =
     with_files (all_files_after c e.upset (meets ms c.world e.plain)) (happens ms c.world (event_in ms c e))

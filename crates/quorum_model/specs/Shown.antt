@@ -31,7 +31,7 @@ ShowsLog w r (reply.Busy waiting) = Unit {0}
 abbrev pub AskedFor : World → Replied → Request → Type 0
 AskedFor w r what = Contains w.asked (record { rank = r.rank; session = r.session; request = what })
 
--- what is shown or listed was asked for; who asks for changes that aren't kept any more is shown the map
+-- What is shown or listed was asked for. If changes are asked for that are no longer kept, the map is shown instead.
 abbrev pub WasAskedFor : World → Replied → Reply → Type 0
 WasAskedFor w r (reply.Shown s paxos version map) = AskedFor w r (request.Show s) ⊎ ((v : ℕ) × AskedFor w r (request.Since s v))
 WasAskedFor w r (reply.Since s from told more) = AskedFor w r (request.Since s from)

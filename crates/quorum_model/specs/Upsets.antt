@@ -10,9 +10,9 @@ use Rattle.quorum_model.specs.declared.calls.TheConstants.{SYNC, OPENING, FIRST_
 use Rattle.quorum_model.specs.Files.{File, Files, file_on, live_side, is_created}
 use Rattle.quorum_model.specs.Happens.{unless_stopped}
 
--- This write or sync of a disk fails, and every later one. They are counted from 1: for a start from its beginning, and for
--- any other event after the disks were opened again. Of each write that wasn't synced by then the image leaves: 0 nothing, 1
--- all, 2 the first half of its bytes, 3 a foreign byte in place of each.
+-- A disk fails: its write or sync of this number, and every later one. Calls are counted from 1, in a start from its
+-- beginning, and in any other event after an opening of the disks. The image says what remains of each write that
+-- wasn't synced: 0 nothing, 1 all, 2 the first half of its bytes, 3 a foreign byte in place of each.
 pub record Upset : Type 0 where
   pub disk : Side
   pub call : ℕ
@@ -35,16 +35,17 @@ opening_count side f = count (file_on side f) (is_created f) side
     count None false A = FIRST_OPENING
     count None created side = SYNC
 
--- of calls that end with a sync of what they write last: which one writes it
+-- the number of the last write, among calls that end with this write and its sync
 abbrev pub last_write : ℕ → ℕ
 last_write calls = calls - SYNC
 
--- A gate is one byte, which a call writes and the next one syncs. If the calls of its disk fail from some call on, it was
--- opened if that one follows these two, or if it is one of them and all of the write is left.
+-- Whether a gate is open if the calls of its disk fail from this one on. A gate is one byte, which call `written`
+-- writes and the next one syncs. It is open if the failing call follows these two, or if it is one of them and image 1
+-- keeps the write.
 abbrev pub opens_gate : (written call image : ℕ) → Bool
 opens_gate written call image = nat_lt (suc written) call || (nat_le written call && image == 1)
 
--- a foreign byte closes it as well
+-- whether a gate that is to be closed is closed: a foreign byte closes it as well
 abbrev pub closes_gate : (written call image : ℕ) → Bool
 closes_gate written call image = nat_lt (suc written) call || (nat_le written call && (image == 1 || image == 3))
 
@@ -57,9 +58,10 @@ abbrev pub writes_nothing : Result Reaction Which → Bool
 writes_nothing (Err which) = false
 writes_nothing (Ok r) = is_empty r.transaction
 
--- Whether a monitor's transaction is kept, where opening makes this many calls of the disk: 0 except for a start. A
--- transaction that stops the run counts as kept unless opening failed. An empty one is kept. On the live disk it is kept if
--- the gate of its record is opened, which is an append's last write; on the other disk it is kept if opening didn't fail.
+-- Whether a crash keeps a monitor's transaction. Opening makes this many calls on the disk that fails, none except in a
+-- start. A transaction that stops the run counts as kept unless opening failed. An empty one is kept. If the live disk
+-- fails, the transaction is kept if the gate of its record is opened, which is an append's last write. If the other
+-- disk fails, it is kept unless opening failed.
 abbrev pub crash_keeps : Files → Store → (opening : ℕ) → Upset → Result Reaction Which → Bool
 crash_keeps f m opening u r =
     if stops m r && nat_lt opening u.call then true

@@ -83,7 +83,7 @@ pub record World : Type 0 where
   -- how many events there were
   pub events : ℕ
 
--- all stores are empty, and all monitors are down
+-- the world before the first event: all stores are empty, and all monitors are down
 abbrev pub first_world : World
 first_world = record {
   store = λ _. empty;

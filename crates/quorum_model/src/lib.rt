@@ -1,5 +1,5 @@
-//! All monitors of a map: what can happen to them, and what of that is safe; with the laws of what each store kept, and that the log
-//! of a safe run is one of values.
+//! The model of all monitors of a map: which events can happen, what each of them does, and which runs are safe. The
+//! laws state what each store kept, and that each entry of a safe run's log is a value.
 #![tactic(auto)]
 
 mod calls;
