@@ -1,4 +1,4 @@
--- What a turn of a serving node does with its link.
+-- What an iteration of a serving node does with its link.
 use Rattle.std.proofs.Common.{◌≡◌, ℕ, ◌+◌, ◌-◌, ◌≤◌, min, leb, nat_lt, Bool, true, false, cond, List, [], ◌∷◌, length, Option, Some, None, Result, Ok, Err, refl, sym, ap, subst, ◌∙◌, inl, inr, arith}
 use Rattle.std.proofs.lemmas.Bool.{le-leb}
 use Rattle.std.proofs.lemmas.Bool.Decides.{nat_tests}
@@ -47,7 +47,7 @@ takes_timer me g s timer at e le =
       link = ap (λ (x : Option Timer). (heard_by x n wait g o).outside.link) is;
     }
 
--- an answer leaves the link as it was when it was asked
+-- what is done with an answer leaves the link as it was after the question
 came_link : (n later : ℕ) (answer : Result Got Stop) (o : Outside) → (answer_came n later answer o).outside.link ≡ o.link
 came_link n later (Ok (Datagram from bytes)) o = refl
 came_link n later (Ok Idle) o = refl

@@ -1,4 +1,4 @@
--- Three processes, of which two elect a leader. One datagram comes twice, some never come, and one comes late. The third
+-- Two of three processes elect a leader. One datagram comes twice, some never come, and one comes late. The third
 -- process is killed in its start, when it has sent one of two datagrams, and is started again. Each has a clock of its
 -- own: when the first one's election ends by its timer, the second one's timer isn't due.
 use Rattle.std.proofs.Common.{◌≡◌, ℕ, ◌<◌, ◌≤◌, lit≤, true, false, List, [], ◌∷◌, ◌++◌, length, map, take, Option, Some, None, Ok, refl, sym, ap, subst, ◌∙◌, arith, inl, inr}

@@ -1,5 +1,6 @@
--- That the laws' premise can be met: in any order processes begin, with numbers that their ranks didn't have, and datagrams that were sent come to whom they were
--- sent, or never do, or do so again and late; and a process may be killed in each of its turns.
+-- The premise of the laws can be met. Processes may begin in any order, with numbers that their ranks didn't have
+-- before. A datagram that was sent may come to its receiver, once, never, late or again. A process may be killed in
+-- each of its iterations.
 use Rattle.std.proofs.Common.{◌≡◌, ℕ, ◌≤◌, ◌^◌, zero, suc, eqb, Bool, true, false, cond, List, [], ◌∷◌, ◌++◌, Option, Some, None, Ok, refl, sym, ap, subst, inl, inr, arith}
 use Rattle.std.proofs.lemmas.Bool.{eqb-true, eq-eqb}
 use Rattle.std.proofs.lemmas.List.Elements.{Contains-append_left}
@@ -57,8 +58,8 @@ comes_again ms later earlier j i bytes clock may was = comes_late ms (comes j i 
 pub data Play : Type 0 where
   -- a process begins on the map that the last one of its rank left, in a life with this number
   Starts : (rank number : ℕ) → Until → Play
-  -- the datagram with this number, counted from 0 as they were sent, comes to the monitor to whom it was sent, whose clock
-  -- shows this
+  -- the datagram with this number, counted from 0 in the order of sending, comes to the monitor that it was sent to, at
+  -- this reading of that monitor's clock
   Comes : (datagram clock : ℕ) → Until → Play
   -- nothing comes to a process
   Waits : (rank clock : ℕ) → Until → Play
@@ -108,7 +109,7 @@ and_its_number (Starts rank number u) i older = cond (eqb rank i) (number ∷ ol
 and_its_number (Comes datagram clock u) i older = older
 and_its_number (Waits rank clock u) i older = older
 
--- with which a rank begins in these plays, the newest first
+-- the numbers with which a rank begins in these plays, the newest first
 abbrev numbers_in : ℕ → List Play → List ℕ
 numbers_in i [] = []
 numbers_in i (p ∷ earlier) = and_its_number p i (numbers_in i earlier)

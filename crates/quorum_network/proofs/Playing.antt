@@ -89,13 +89,13 @@ serving_with stood st = record {
 abbrev pub left_as : Process → List Outgoing → Left
 left_as p ds = record { process = p; sends = ds }
 
--- it is up, keeps this map and remembers this
+-- process i is up, keeps this map and remembers this state
 pub record Sits (net : Network) (i : ℕ) (kv : Store) (st : State) : Type 0 where
   pub stood : Stood
   pub map : stood.kv ≡ kv
   pub up : net.process i ≡ Up (serving_with stood st)
 
--- it takes a step, and sends these
+-- process i takes a step and sends these datagrams; the others stay as they were
 pub record Goes (net next : Network) (i : ℕ) (kv : Store) (st : State) (sent : List Posted) : Type 0 where
   pub sits : Sits next i kv st
   pub others : (j : ℕ) → eqb j i ≡ false → next.process j ≡ net.process j
@@ -108,7 +108,7 @@ abbrev pub IsSmall : Store → Type 0
 IsSmall m = nat_lt most_size (size_of m) ≡ false
 
 module _ (ms : Monitors) (i : ℕ) (me : Me) (is : me_of ms i ≡ Some me) where
-  -- a turn with this input, at which the core reacts so
+  -- an iteration with this input, at which the core reacts so
   module _ (stood : Stood) (st : State) (it : TimedInput) (r : Reaction) (reacts : reaction me it.at stood.kv st it.input ≡ Ok r) (small : IsSmall (apply r.transaction stood.kv))
       (short : AllByRecursion IsShort (letters me (apply r.transaction stood.kv) r.sends)) where
     abbrev s : Serving

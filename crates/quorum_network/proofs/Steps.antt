@@ -238,7 +238,7 @@ module _ (A : Assembly) (ms : Monitors) (F : Facts ms) (net : Network) (w : Worl
   turn_next (Ok (Some it)) s Whole T = whole_next s it T (reaction_to me s.node it) refl
   turn_next (Ok (Some it)) s (Kept k) T = kept_next s it T k (reaction_to me s.node it) refl
 
-  -- ---- which turn it is
+  -- ---- a start, or an iteration of a process that is up
 
   pub begins_fine : (stood : Stood) (clock : Option Readings) (link : Option Told) (first : ℕ) → stood.kv ≡ map_of (net.process i) → Contains (net.lives i) (number_of net.lives i)
       → ((l : Letter) → Contains I.ls l → l.by ≡ i → l.boot ≡ number_of net.lives i → ⊥)

@@ -166,7 +166,7 @@ module _ (i : ℕ) (me : Me) (number : ℕ) (stood : Stood) (clock : Option Read
   abbrev start : Serving
   start = unstarted me.member.rank stood clock link
 
-  -- a life whose last turn leaves this
+  -- a life whose last iteration leaves this map
   life_is : (t : Turn) (m : Store) → last_turn me first start given ≡ Ok t → EndOf me t m left_link → IsLife i me number stood clock link first given earlier m left_link
   life_is t m is E =
       let L = last_is i me number stood clock link first earlier given E.up_to t is in

@@ -1,4 +1,4 @@
--- Lives on whatever stores: on disks that were lost, that are old copies, or that are another monitor's.
+-- Lives that begin on any store: on disks that were lost, that are old copies, or that are another monitor's.
 use Rattle.std.specs.Prelude.{ℕ, List, [], ◌∷◌, ◌++◌, map, Option, Some, None, IfSome}
 use Rattle.std.specs.List.{AllByRecursion, Contains}
 use Rattle.mon_core.specs.Reacts.{TellsNamed}
@@ -53,8 +53,8 @@ MayAnyhow net i p (Begins number stood clock link first) = IsNew net i number
 MayAnyhow net i (Up s) (Turns g) = IsAsked net i (due_by g.began (due s.node.state.timers)) g.answer
 MayAnyhow net i (Down m) (Turns g) = Unit {0}
 
--- The entries of its store in the messages of a reaction are named as they must be, if its transaction is kept. That is
--- what `Core::react` ensures of each reaction, on any store that its types can hold.
+-- If a reaction's transaction is kept, each store entry in its messages has a valid prefix and a valid key.
+-- `Core::react` ensures this of each reaction, on any store that its types can hold.
 abbrev pub AreNamed : Me → Until → Option Turn → Type 0
 AreNamed me u (Some t) = IfSome (kept_by me t u) (λ r. AllByRecursion TellsNamed r.sends)
 AreNamed me u None = Unit {0}
@@ -82,12 +82,12 @@ JoinsWhole net mails i (Up s) =
     → IsMail mails j i (answer_in (taken s.outside.parts (Monitor j) bytes))
 JoinsWhole net mails i (Down m) = Unit {0}
 
--- the same of a client
+-- bytes are a whole message of monitor j to client c
 abbrev pub IsMailTo : List Mailed → (j c : ℕ) → List ℕ → Type 0
 IsMailTo mails j c bytes = Contains mails (record { by = j; whole = record { to = Client c; bytes = bytes } })
 
--- What a client joins of monitors' datagrams, whichever of them come and in whatever order, are whole messages of theirs
--- to it.
+-- A client joins monitors' datagrams only to whole messages that they sent to it, whichever datagrams come and in
+-- whatever order.
 abbrev pub ClientsJoinWhole : Network → List Mailed → Type 0
 ClientsJoinWhole net mails =
     (numbers : Numbers) (came : List FromPeer)

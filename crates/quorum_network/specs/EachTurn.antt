@@ -34,7 +34,7 @@ IsInTime began (Some next) wait = (wait ≤ 1000) × (began + wait ≤ next.1)
 abbrev pub waits_in : Option Told → Option (List ℕ)
 waits_in link = option_map (λ t. t.waits) link
 
--- the link was asked at most once more, for such a wait
+-- The link wasn't asked again, or it was asked once more, for a wait that is in time.
 abbrev pub IsAskedInTime : (began : ℕ) → Option (Timer × ℕ) → (old new : Option Told) → Type 0
 IsAskedInTime began next old new =
     (waits_in new ≡ waits_in old)
@@ -48,7 +48,7 @@ IsKeptFirst me t link s = (link ≡ t.serving.outside.link) ⊎ (s ≡ stood_kep
 
 -- ---- each datagram is a message of its reaction, or a piece of one
 
--- of a whole message to a peer, since this start of its monitor
+-- the datagram is a whole message or a piece of it, cut after the start of its monitor with this number
 abbrev pub IsDatagramOf : (whole : Outgoing) → (boot : ℕ) → Outgoing → Type 0
 IsDatagramOf whole boot d = (d.to ≡ whole.to) × ((seq : ℕ) × Contains (pieces_of whole.bytes boot seq) d.bytes)
 

@@ -22,7 +22,7 @@ abbrev pub own : ℕ → List Step → List Step
 own i [] = []
 own i (s ∷ earlier) = own_if s i (own i earlier)
 
--- and the datagrams that it sent, in order
+-- the datagrams that monitor i sent, in order
 abbrev pub sent_if : Posted → ℕ → List Outgoing → List Outgoing
 sent_if d i later = if d.by == i then d.datagram ∷ later else later
 
@@ -64,22 +64,24 @@ life i number stood clock link first (g ∷ given) u earlier =
 
 -- ---- what a process leaves
 
--- A map is what a step leaves in this iteration that is lost, or what each step leaves that is kept.
+-- The map is the one that this iteration leaves if it is lost, or the one that it leaves if it is kept, however many of
+-- its datagrams were sent.
 abbrev pub IsLeftBy : Me → Turn → Store → Type 0
 IsLeftBy me t m = (m ≡ map_of (left_by me t Lost).process) ⊎ ((k : ℕ) → m ≡ map_of (left_by me t (Kept k)).process)
 
--- what is opened on two images, if a store is, has one of these maps
+-- if a store opens on these two images, its map is one of these
 abbrev pub OpensWith : Member → List Store → List ℕ → List ℕ → Type 0
 OpensWith member maps x y = (s : Stood) → opens_as member x y ≡ Ok s → Contains maps s.kv
 
--- a link was asked to send these
+-- what a link was asked to send so far
 abbrev pub sent_in : Option Told → Option (List Outgoing)
 sent_in link = option_map (λ t. t.sent) link
 
 abbrev pub IsSent : List Outgoing → Option Told → Option Told → Type 0
 IsSent ds old new = sent_in new ≡ option_map (λ sent. sent ++ ds) (sent_in old)
 
--- Such a life leaves this map. What the link was asked to send goes out with the number of the life.
+-- This map is left by a life with this number and these iterations. Its steps send what its link was asked to send,
+-- with the number of the life.
 pub record IsLife (i : ℕ) (me : Me) (number : ℕ) (stood : Stood) (clock : Option Readings) (link : Option Told)
     (first : ℕ) (given : List Given) (earlier : List Step) (left_map : Store) (told : Option Told) : Type 0 where
   pub up_to : Until

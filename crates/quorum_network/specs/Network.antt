@@ -77,27 +77,29 @@ pub record Step : Type 0 where
 
 -- ---- what a step makes of the network
 
--- the iteration that it is; a process that is down makes none
+-- the iteration that a process makes when it starts, or with what it is given; a process that is down makes none
 abbrev pub turn_of : Me → Process → Doing → Option Turn
 turn_of me p (Begins number stood clock link first) = Some (start first (unstarted me.member.rank stood clock link))
 turn_of me (Up s) (Turns g) = Some (turn me g s)
 turn_of me (Down m) (Turns g) = None
 
--- the process after it, and what it sent
+-- the process after a start or an iteration, and what was sent in it
 pub record Left : Type 0 where
   pub process : Process
   pub sends : List Outgoing
 
--- the reaction to its input, if its transaction can be kept
+-- the reaction to an iteration's input, if its transaction can be kept
 abbrev pub kept_reaction : Me → Turn → Option Reaction
 kept_reaction me t = of_kept me t None (λ r. Some r)
 
--- down, with that many of the reaction's datagrams sent
+-- The process is down, after its reaction was kept and this many of the datagrams were sent. Without a reaction,
+-- nothing was.
 abbrev pub down : Me → Node → (sent : ℕ) → Option Reaction → Left
 down me n k None = record { process = Down n.store.kv; sends = [] }
 down me n k (Some r) = record { process = Down (map_after n r); sends = take k (numbered_by me n r) }
 
--- An iteration that ends the node sends nothing here. What it sent before an end is a step `Kept`.
+-- An iteration that ends the node counts here as one that sent nothing. If it sent datagrams before the end, its step
+-- is `Kept` and not `Whole`.
 abbrev pub at_end : Me → Turn → Result Serving NodeEnd → Left
 at_end me t (Ok s) = record { process = Up s; sends = sends_of me t }
 at_end me t (Err e) = down me t.serving.node 0 (kept_reaction me t)
@@ -148,7 +150,7 @@ made_by net s (Some me) = if_made me net s (turn_of me (net.process s.rank) s.do
 abbrev pub after_step : Monitors → Network → Step → Network
 after_step ms net s = made_by net s (me_of ms s.rank)
 
--- after these steps, the newest first
+-- the network after these steps, which are listed with the newest first
 unfoldable pub network : Monitors → List Step → Network
 network ms [] = first_network
 network ms (s ∷ earlier) = after_step ms (network ms earlier) s

@@ -52,13 +52,13 @@ pub record IsDone (requests : List Asked) (acks : List Acknowledgement) (log : L
   pub made : made_by i request ≡ Some (service, incremental)
   pub put : Contains (put_in service (ops_in (entry log v))) incremental
 
--- a version is no older than those that were acknowledged in its epoch
+-- version v is no older than those that were acknowledged before in this epoch
 abbrev pub IsNoOlder : List Acknowledgement → (epoch : ℕ) → (v : ℕ) → Type 0
 IsNoOlder before epoch v = AllByRecursion (λ (a : Acknowledgement). a.epoch ≡ epoch → a.version ≤ v) before
 
--- What monitor i replies in a session is the log's, and was asked for: a map up to a version, the changes after one, or
--- that a command is in a version. A map and changes are no older than what was acknowledged before in their epoch. Each kind
--- of reply is named, so that whoever adds one decides what is promised of it.
+-- A reply of monitor i in a session is the log's, and was asked for. It is a map up to a version, the changes after
+-- one, or the version that a command is in. A map and changes are no older than what was acknowledged before in their
+-- epoch. Each kind of reply is named, so that whoever adds one decides what is promised of it.
 abbrev pub IsOfLog : List Asked → (acks before : List Acknowledgement) → List (List ℕ) → (i epoch : ℕ) → Session
     → Reply → Type 0
 IsOfLog requests acks before log i epoch session (reply.Shown s paxos version map) =
@@ -98,8 +98,8 @@ IfToClient MaySend i (Client c) bytes = (whole : List ℕ) × MaySend i c whole 
 abbrev pub Numbers : Type 0
 Numbers = (monitor number : ℕ) → Bool
 
--- What a client takes as a datagram of monitor i was sent by it to a number of this client. What comes from others are any
--- bytes.
+-- If a client receives a datagram from monitor i, that monitor sent it to a number of this client. From others, any
+-- bytes may come.
 abbrev pub ReachesClient : List Posted → Numbers → Peer → List ℕ → Type 0
 ReachesClient sent numbers (Monitor i) bytes =
     (c : ℕ) × (numbers i c ≡ true)
@@ -111,8 +111,8 @@ abbrev pub IsJoined : (MaySend : (i c : ℕ) → List ℕ → Type 0) → Number
 IsJoined MaySend numbers (Monitor i) bytes = (c : ℕ) × (numbers i c ≡ true) × MaySend i c bytes
 IsJoined MaySend numbers (Client other) bytes = Unit {0}
 
--- Each of these datagrams that went to a client is one of a message that its monitor may send. A client that joins them,
--- however often and in whatever order they come, joins such messages whole.
+-- Each of these datagrams, if it went to a client, is a message that its monitor may send, or a piece of one. A client
+-- that joins them, however often and in whatever order they come, joins such messages whole.
 pub record AreAnswers (MaySend : (i c : ℕ) → List ℕ → Type 0) (sent : List Posted) : Type 0 where
   pub each : AllByRecursion (λ (d : Posted). IfToClient MaySend d.by d.datagram.to d.datagram.bytes) sent
   pub joined : (numbers : Numbers) (came : List FromPeer)
@@ -173,7 +173,8 @@ pub record Keeps (m : Store) (v : ℕ) : Type 0 where
   pub from : max 1 (number m area.Paxos key.FirstCommitted) ≤ v
   pub to : v ≤ last_of m
 
--- They have the same bytes of each version that both keep. If both end with the same version, they share all.
+-- Two maps have the same bytes of each version that both keep. If neither is under a full synchronization, and both
+-- have the same last version, then their shared keys have the same values.
 pub record AgreeWith (a b : Store) : Type 0 where
   pub versions : (v : ℕ) → Keeps a v → Keeps b v
       → cell a area.Paxos (key.Version v) ≡ cell b area.Paxos (key.Version v)

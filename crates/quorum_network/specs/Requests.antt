@@ -47,7 +47,7 @@ requests ms (s ∷ earlier) = requests ms earlier ++ asked_by (network ms earlie
 
 -- ---- acknowledgements
 
--- A leader says that a version is done: the version, its proposal number and its epoch.
+-- the version that a leader says is done, with the leader's proposal number and epoch
 pub record Acknowledgement : Type 0 where
   pub version : ℕ
   pub pn : ℕ
@@ -56,7 +56,7 @@ pub record Acknowledgement : Type 0 where
 abbrev pub acknowledges : Store → State → ℕ → Acknowledgement
 acknowledges m s v = record { version = v; pn = s.leader.pn; epoch = epoch_of (readings_of m) }
 
--- of what a monitor that then keeps m and remembers s sends
+-- What the sends of a reaction acknowledge. After the reaction the monitor keeps m and remembers s.
 abbrev pub acknowledged_in : Store → State → List Sent → List Acknowledgement
 acknowledged_in m s sends = filter_map (λ x. option_map (acknowledges m s) (done_by s x)) sends
 
@@ -91,7 +91,7 @@ pub record Leadership : Type 0 where
   pub rank : ℕ
   pub epoch : ℕ
 
--- of monitor i, which then keeps m and remembers s
+-- Monitor i leads after a reaction, if it then is an active leader. It then keeps m and remembers s.
 abbrev pub led_in : ℕ → Store → State → List Leadership
 led_in i m s = if is_active s.phase then record { rank = i; epoch = epoch_of (readings_of m) } ∷ [] else []
 

@@ -1,4 +1,4 @@
--- That a network does what a run of the model does.
+-- When a network does what a run of the model does.
 use Rattle.std.specs.Prelude.{◌≡◌, ℕ, ◌<◌, List, Some}
 use Rattle.std.specs.List.{AllByRecursion, Contains}
 use Rattle.mon_frag.specs.Pieces.{pieces_of}
@@ -25,26 +25,26 @@ reply_message n i epoch session r = record { from = i; monitors = n; epoch = epo
 abbrev pub answer_of : (count : ℕ) → Replied → Message
 answer_of count r = reply_message count r.rank r.epoch r.session r.reply
 
--- bytes are a datagram of a message with this text, sent in some life
+-- bytes are a message with this text, or a piece of it with some numbers
 abbrev pub IsPiece : List ℕ → List ℕ → Type 0
 IsPiece whole bytes = (life seq : ℕ) × Contains (pieces_of whole life seq) bytes
 
--- To a monitor goes a message of the run, by its sender. To a client goes a reply of the run, by this monitor and in a
--- session of this client.
+-- What process i sent to a monitor is a message of the run, which monitor i sent to that monitor, or a piece of it.
+-- What it sent to a client is a reply of the run, by monitor i and in a session of that client, or a piece of it.
 abbrev pub IsTold : (count : ℕ) → World → (by : ℕ) → Peer → List ℕ → Type 0
 IsTold count w i (Monitor j) bytes =
     (m : Message) × Contains w.messages (record { to = j; message = m }) × (m.from ≡ i) × IsPiece (text m) bytes
 IsTold count w i (Client c) bytes =
     (r : Replied) × Contains w.replied r × (r.rank ≡ i) × (r.session.client ≡ c) × IsPiece (text (answer_of count r)) bytes
 
--- Each monitor's map is that of the run. A process that is up remembers what its monitor remembers there. What was sent
--- is of the run.
+-- Each process keeps the map that its monitor's store has in the run. A process that is up remembers what its monitor
+-- remembers there. Each datagram that was sent is a message or a reply of the run, or a piece of one.
 pub record IsOfRun (ms : Monitors) (net : Network) (w : World) : Type 0 where
   pub maps : (i : ℕ) → i < ms.count → map_of (net.process i) ≡ w.store i
   pub states : (i : ℕ) (s : Serving) → i < ms.count → net.process i ≡ Up s → w.state i ≡ Some s.node.state
   pub told : AllByRecursion (λ (d : Posted). IsTold ms.count w d.by d.datagram.to d.datagram.bytes) net.sent
 
--- It does what some run of the model does, in which clients asked nothing but these requests. That run is safe.
+-- A network does what some run of the model does, in which clients asked nothing but these requests. That run is safe.
 pub record DoesARun (ms : Monitors) (requests : List Asked) (net : Network) : Type 0 where
   pub events : List Event
   pub fit : AllFit ms.count events

@@ -9,8 +9,9 @@ use Rattle.mon_types.specs.declared.names.Stop.{Stop}
 use Rattle.mon_name.specs.Frames.{framed, unframed}
 use Rattle.quorum_network.specs.Network.{Network, CameFrom}
 
--- What comes over the wire to monitor i. From the address of a monitor: a datagram that it sent to this one in any of its
--- lives, framed; or any bytes at all that aren't framed with the tag. What comes from a client are any bytes.
+-- Bytes may come over the wire to monitor i. From the address of a monitor these are a datagram that it sent to this
+-- one in any of its lives, framed, or any bytes at all that aren't framed with the tag. From a client any bytes may
+-- come.
 abbrev pub CameOver : (tag : ℕ) → Network → ℕ → Peer → List ℕ → Type 0
 CameOver tag net i (Monitor j) bytes =
     ((d : List ℕ) × CameFrom net i (Monitor j) d × (bytes ≡ framed tag d)) ⊎ (unframed tag bytes ≡ None)

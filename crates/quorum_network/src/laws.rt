@@ -52,11 +52,12 @@ pub fn law_network()
         → DoesARun ms (requests ms steps) (network ms steps) }
 {}
 
-/// At any two points in time of a network there is one log, which only grows. All maps are of it, except those under a
-/// full synchronization, and so is every datagram that ever went to a client, a piece of a REPLY: what is shown is the
-/// log up to a version, and was asked for; and the command that is said to be done is in it. Each entry is the value of
-/// a command that a client asked. A client that joins the pieces of long REPLYs, whatever of them is lost, repeated or
-/// late and whatever numbers monitors give the client, joins whole REPLYs, of which all this holds.
+/// At any two points in time of a network there is one log, which only grows. Each entry is the value of a command that
+/// a client asked. All maps are of the log, except those under a full synchronization. Every datagram that ever went to
+/// a client is a piece of a REPLY that is of the log: what it shows is the log up to a version, and was asked for, and
+/// the command that it says is done is in the log. A client that joins the pieces of long REPLYs joins whole ones, of
+/// which all this holds. It does so whichever pieces are lost, repeated or late, and whatever numbers monitors give the
+/// client.
 ///
 /// No version is acknowledged twice. Each active leader with a proposal number of at least that of an acknowledgement
 /// has its version. What is shown after an acknowledgement, in its epoch, is no older.
@@ -87,12 +88,13 @@ pub fn law_history()
     ensures { (ms : Monitors) → HaveHistory ms }
 {}
 
-/// What goes over the wire. A link that names the quorum hands on what the network's steps may be given: from a monitor
-/// a datagram that it sent to this one, with the number of its life, or nothing. At the address of a monitor may come,
-/// beside its datagrams, any bytes at all that aren't framed with this quorum's tag: datagrams of other quorums, and
-/// datagrams that begin with another byte than a frame's. These are foreign: such a link drops them, asks the link below
-/// again, and hands its last answer on. A datagram in the frame of this quorum's tag is never foreign. What such a link
-/// asks the link below to send is what the network's steps send, framed if it goes to a monitor.
+/// What crosses the wire is what a network's steps allow. A link that names the quorum hands on what a step may be
+/// given: from a monitor, a datagram that it sent to this one, with the number of its life, or nothing. From the
+/// address of a monitor, beside its datagrams, any bytes at all may come that aren't framed with this quorum's tag:
+/// datagrams of other quorums, and datagrams that begin with another byte than a frame's. These are foreign: such a
+/// link drops them, asks the link below again, and hands its last answer on. A datagram in the frame of this quorum's
+/// tag is never foreign. Such a link asks the link below to send what the network's steps send, framed if it goes to a
+/// monitor.
 pub fn law_wire()
     ensures comes { (tag : ℕ) → tag < 2 ^ 64 → (net : Network) (i : ℕ) (gave result : Result Got Stop)
         → IsOverWire tag net i gave → HandsOn tag gave result → IsAnswer net i result }
@@ -108,13 +110,13 @@ pub fn law_wire()
         ≡ (under number (record { to = Client c; bytes = bytes })).bytes }
 {}
 
-/// Whatever became of the disks. Let processes begin on any stores at all: of disks that were lost, that are old copies,
-/// or that are another monitor's. No two lives of a rank have one number. Then what a process joins of the datagrams of a
-/// monitor, whichever of them are lost, repeated or late, is a whole message that this monitor sent to it in one of its
-/// lives. The same holds of what a client joins. So no message is ever made of pieces of two.
+/// No message is ever joined from pieces of two, whatever became of the disks. Let processes begin on any stores at
+/// all: of disks that were lost, that are old copies, or that are another monitor's. Let no two lives of a rank have
+/// one number. Then a process joins the datagrams of a monitor, whichever are lost, repeated or late, only to whole
+/// messages that this monitor sent to it in one of its lives. The same holds of what a client joins.
 ///
-/// The premise says of each reaction that is kept that the entries of its store in its messages are named as they must
-/// be. `Core::react` ensures that of each reaction. Steps of a network whose disks keep their maps meet the premise.
+/// The premise also says that each store entry in the messages of a kept reaction has a valid prefix and a valid key.
+/// `Core::react` ensures this of each reaction. Steps of a network whose disks keep their maps meet the premise.
 pub fn law_any_disk()
     ensures monitors { (ms : Monitors) (steps : List Step) → AllMayAnyhow ms steps
         → (i : ℕ) → JoinsWhole (network ms steps) (mailed ms steps) i ((network ms steps).process i) }
@@ -156,7 +158,7 @@ pub fn law_lives()
         → (alone me (life i number stood clock link first given u earlier)).process ≡ (left_by me t u).process }
     ensures cut { (me : Me) (t : Turn) (k : ℕ) → (left_by me t (Kept k)).sends ≡ take k (sends_of me t) }
 
-    // An end, and a crash after it. `StandsThrough` says it of the two images that a crash leaves then.
+    // The node ends, and a crash may follow. `StandsThrough` says what the two images then hold that the crash leaves.
     ensures ends { (i : ℕ) (me : Me) (number : ℕ) (stood : Stood) (clock : Option Readings) (link : Option Told)
         (first : ℕ) (given : List Given) (earlier : List Step) (turns begun : ℕ) (e : NodeEnd)
         (left_clock : Option Readings) (left_link : Option Told) (x y : List ℕ)
@@ -174,15 +176,15 @@ pub fn law_lives()
         → (member : Member) (s : Stood) → opens_as member x y ≡ Ok s
         → IsLife i me number stood clock link first given earlier s.kv left_link }
 
-    // A crash within a call to a disk. `StandsThrough` says for each point of which images its disks may have then.
+    // A crash within a call to a disk. `StandsThrough` says for each point which images the disks may then have.
     ensures within { (me : Me) (t : Turn) (member : Member) (x y : List ℕ) (s : Stood) → On (IsWithinTurn me t) x y
         → opens_as member x y ≡ Ok s → IsLeftBy me t s.kv }
 {}
 
-/// A crash at any point while a store is opened leaves two disks that open, if they do, with a map with which they might
-/// have opened before: `Store::open` says `Alike` of each point. So however often the opening of a process' disks is cut
-/// short, they open with a map that `law_lives` allows. On two empty disks an empty map is opened, as the first network
-/// has it.
+/// A crash while a store is opened adds no map with which its disks may open. Whatever the point of the crash, if the
+/// two disks then open, they open with a map with which they might have opened before: `Store::open` says `Alike` of
+/// each point. So however often the opening of a process' disks is cut short, they open with a map that `law_lives`
+/// allows. Two empty disks open with an empty map, as in the first network.
 pub fn law_opening<D: Disk>(before: &NodeDisks<D>, after: &NodeDisks<D>)
     ensures opens { (member : Member) (maps : List Store)
         → EachPair (D.state before.now.a).content (D.state before.now.b).content (OpensWith member maps)
@@ -194,7 +196,7 @@ pub fn law_opening<D: Disk>(before: &NodeDisks<D>, after: &NodeDisks<D>)
     ensures new_store { (member : Member) → (s : Stood) × (opens_as member [] [] ≡ Ok s) × (s.kv ≡ empty) }
 {}
 
-/// What each iteration that `serve` makes does with its link.
+/// Each iteration that `serve` makes asks its link in time, and sends only once the state that this depends on is kept.
 ///
 /// It never waits past a timer that is due. A timer that is due when the iteration begins is its input, and the link
 /// isn't asked. Otherwise the link is asked at most once, for at most a second, and that wait is over when the next

@@ -1,5 +1,5 @@
-//! Whatever several processes do on a network, a run of the model does it too. What follows from that for the
-//! processes, and what each iteration of one of them does.
+//! Whatever several processes do on a network, a run of the model does it too. The laws state this, what follows from
+//! it for the processes, and what each iteration of a process does.
 #![tactic(auto)]
 
 mod laws;
