@@ -1,5 +1,5 @@
--- What processes answer clients over a history: reads and writes of an epoch in one order, and refusals by the one
--- log.
+-- What processes answer clients over a history. The reads and writes of an epoch have one order, and each refusal
+-- follows from the one log.
 use Rattle.std.specs.Prelude.{◌≡◌, ◌⊎◌, ℕ, ◌<◌, ◌≤◌, List, [], length, ◌++◌, Some, Err}
 use Rattle.std.specs.List.{AllByRecursion, Contains}
 use Rattle.log_model.specs.LogOfValues.{view_at}
@@ -71,10 +71,9 @@ pub record IsOfThisLog (requests : List Asked) (acks : List Acknowledgement) (lo
 
 -- ---- reads and writes
 
--- Writes that were acknowledged and answers that were given before some point in time, and others after it. A write
--- has its version in the log, and an answer that shows something follows its last version. In one epoch, whichever
--- monitors answer, the order of time is the order of the log. Of one monitor the same holds of what it shows in
--- whatever epochs.
+-- Writes and answers before some point in time are in order with those after it. The place of a write in the log is its
+-- version. The place of an answer that shows something is the last version that its monitor had. In one epoch the order
+-- in time is the order in the log, whichever monitors answer. What one monitor shows has this order in all its epochs.
 pub record AreInOrder (writes : List Acknowledgement) (answers : List Answer) (later_writes : List Acknowledgement)
     (later_answers : List Answer) : Type 0 where
   pub write_write : (a b : Acknowledgement) → Contains writes a → Contains later_writes b → a.epoch ≡ b.epoch
@@ -90,9 +89,9 @@ pub record AreInOrder (writes : List Acknowledgement) (answers : List Answer) (l
 
 -- ---- refusals
 
--- The session asked a command of this monitor, and the command's service refuses it so over the versions of the log
--- up to this one. If it wasn't asked before some point in time, these include all that had been acknowledged by then
--- in the answer's epoch.
+-- The answer's session asked a command of its monitor, and the command's service refuses it so over the log up to this
+-- version. `before` and `acks` are what was asked and acknowledged by some point in time. If the command wasn't asked
+-- by then, the version is no older than any that was acknowledged by then in the answer's epoch.
 pub record IsRefused (before requests : List Asked) (acks : List Acknowledgement) (log : List (List ℕ)) (a : Answer)
     : Type 0 where
   pub request : Request

@@ -11,8 +11,8 @@ use Rattle.mon_wire.specs.declared.request.Service.{Service}
 use Rattle.quorum_network.specs.Network.{Posted}
 use Rattle.quorum_network.specs.Promises.{Numbers, ReachesClient}
 
--- What a link gave a client that monitors know by these numbers: a datagram of a monitor is one that this monitor sent to a
--- number of this client, at any time. What comes from others are any bytes.
+-- A link may return this to a client that monitors know by these numbers. A datagram from a monitor is one that this
+-- monitor sent to a number of this client, at any time. From others any bytes may come.
 abbrev pub Reaches : List Posted → Numbers → Result Got Stop → Type 0
 Reaches sent numbers (Ok (Datagram from bytes)) = ReachesClient sent numbers from bytes
 Reaches sent numbers (Ok Idle) = Unit {0}
@@ -24,7 +24,8 @@ abbrev pub AreRising : List Follower → Type 0
 AreRising [] = Unit {0}
 AreRising (f ∷ later) = AllByRecursion (λ (g : Follower). f.version < g.version) later × AreRising later
 
--- lines were written, each of a copy that is the log's map at its version, with versions that rise from line to line
+-- The new output is the old one and further lines. Each line has a copy that is the log's map at its version, and the
+-- versions increase from line to line.
 pub record Writes (s : Service) (log : List (List ℕ)) (old new : Option (List ℕ)) : Type 0 where
   pub copies : List Follower
   pub hold : AllByRecursion (Holds s log) copies

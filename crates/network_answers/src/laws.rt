@@ -23,18 +23,18 @@ ghost use Rattle.network_answers.specs.Followers.{Reaches, Writes};
 /// acknowledged or shown by some point in time comes no later in the log than what is acknowledged or shown after it.
 /// What one monitor shows is never older than what it showed before, in whatever epochs and over kills and starts.
 ///
-/// Each NoSuch, TooLong and MapFull answers a command that its session asked of its monitor. It is the refusal of the
-/// command's service over the versions of the log up to some version. That version isn't below any that was
-/// acknowledged in the answer's epoch by a point in time by which the command hadn't been asked.
+/// Each NoSuch, TooLong and MapFull answers a command that its session asked of its monitor. The command's service
+/// refuses the command so over the log up to some version. Take any point in time before the command was asked: that
+/// version isn't below any that was acknowledged in the answer's epoch by then.
 pub fn law_answers()
     ensures { (ms : Monitors) → HaveAnswers ms }
 {}
 
-/// What a client holds that follows the monitors of a network. Let each datagram that its link returned in the name
-/// of a monitor be one that this monitor sent to this client, at any time and any number of times. Then its copy is
-/// the map that the log gives the service at the copy's version, after each iteration and at the end. So is the copy
-/// of each line that it wrote. The version never falls, and it rises from line to line. If a link shows what it is to
-/// give, it is enough that this is so of that.
+/// A client that follows the monitors of a network holds maps of the log. Let each datagram that its link returned from
+/// a monitor be one that this monitor sent to this client, at any time and any number of times. Then its copy is the
+/// map that the log gives the service at the copy's version, after each iteration and at the end. The copy in each line
+/// that it wrote is such a map too. The version never decreases, and it increases from line to line. If the link's
+/// ghost state lists what it will return, it is enough that the premise holds of that list.
 pub fn law_followers()
     ensures holds { (ms : Monitors) (steps : List Step) (log : List (List ℕ))
         → IsLogOf ms (requests ms steps) (acknowledgements ms steps) (network ms steps) log

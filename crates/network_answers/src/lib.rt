@@ -1,4 +1,5 @@
-//! What the answers of processes on a network promise among themselves, and what a client that follows them holds.
+//! The laws of the answers that processes on a network give: in which order reads and writes appear, what a refusal
+//! means, and which copy a client holds that follows the processes.
 #![tactic(auto)]
 
 mod laws;

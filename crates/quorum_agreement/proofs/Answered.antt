@@ -35,7 +35,7 @@ use Rattle.std.specs.Option.{option_map}
 
 -- ---- whose command it is
 
--- who was asked a command that monitor i has
+-- which monitor was asked a command that monitor i has from this origin
 abbrev pub asker : ℕ → Origin → ℕ
 asker i (origin.Session t) = i
 asker i (origin.Forwarded f seq) = f
@@ -48,13 +48,13 @@ asker_is me (origin.Forwarded f seq) = refl
 abbrev pub changed : ℕ → Command → Service × List ℕ
 changed i c = (service_of c, incremental_of i c)
 
--- this value is that of a command that monitor i has from there
+-- this value is that of a command that monitor i has from this origin
 pub record ComesFrom (g : Ghost) (i e : ℕ) (o : Origin) (ops : List Op) : Type 0 where
   pub command : Command
   pub from : HasSource g i e command o
   pub makes : incremental_in ops ≡ changed (asker i o) command
 
--- and so is the one that a leader proposes
+-- the value that a leader proposes is that of a command which it has from the origin that waits for it
 pub record Stems (g : Ghost) (i e : ℕ) (l : Leader) : Type 0 where
   pub origin : Origin
   pub is : l.origin ≡ Some origin
@@ -72,7 +72,7 @@ comes_further g h F i e o ops k = record { command = k.command; from = source_fu
 pub stems_further : (g h : Ghost) → Further g h → (i e : ℕ) (l : Leader) → Stems g i e l → Stems h i e l
 stems_further g h F i e l k = record { origin = k.origin; is = k.is; ops = k.ops; proposes = k.proposes; comes = comes_further g h F i e k.origin k.ops k.comes }
 
--- what the command makes that was asked
+-- the request that was asked makes what its command changes
 pub asked_makes : (n : ℕ) (asked : List Asked) (i : ℕ) (t : Session) (c : Command) (W : WasAsked n asked i t c) → made_by W.by.rank W.by.request ≡ Some (changed i c)
 asked_makes n asked i t c W = ap (λ (o : Option Command). option_map (changed W.by.rank) o) W.command ∙ ap (λ (j : ℕ). Some (changed j c)) W.at
 

@@ -162,7 +162,7 @@ module _ (me : Me) (now : ℕ) (w : Readings) (s : State) (From : ℕ → Comman
     pub proposes : l.value ≡ s.leader.value
     pub number : l.pn ≡ s.leader.pn
 
-  -- before a leader is active it gave no lease, and what it repeats nobody waits for
+  -- a leader that isn't active yet gave no lease, and nobody waits for the value that it proposes again
   abbrev pub Lead : Phase → Leader → ℕ → Type 0
   Lead phase.Collecting l e = l.lease ≡ None
   Lead phase.Previous l e = (l.lease ≡ None) × (l.origin ≡ None)

@@ -1,4 +1,4 @@
--- What one event makes of the log, by what a monitor's history says of it.
+-- What one event makes of the log, given what a monitor's history says of that monitor.
 use Rattle.log_copies.proofs.Standing.{Agrees, BodyStands, InputTells, TakesCopy, crashed}
 use Rattle.log_copies.proofs.Telling.{monitor_keeps, read_last}
 use Rattle.log_copies.proofs.Unmarked.{OnLog, Situated}

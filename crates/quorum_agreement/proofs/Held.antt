@@ -36,7 +36,7 @@ use Rattle.std.proofs.lemmas.Bool.{and_parts, cases_lt, eqb-true, false≢true, 
 use Rattle.std.specs.List.{Contains}
 use Rattle.std.specs.Prelude.{is_some}
 
--- before a leader is active it gave no lease, and what it repeats nobody waits for
+-- A leader that isn't active yet gave no lease, and nobody waits for the value that it proposes again.
 abbrev pub Still : Phase → Leader → Type 0
 Still phase.Collecting l = l.lease ≡ None
 Still phase.Previous l = (l.lease ≡ None) × (l.origin ≡ None)
@@ -46,8 +46,10 @@ Still other l = Unit {0}
 abbrev pub level_at : World → ℕ → ℕ
 level_at w i = level_in (own_of (readings_at w i))
 
--- the version is the log's; who acknowledged it keeps it, led its whole quorum, all of which accepted it under its number; and under a lower
--- number no majority did, nor can
+-- An acknowledged version is in the log, and the monitor that acknowledged it led its whole quorum in the epoch. That
+-- monitor still has the version, or takes a full copy up to a floor that isn't below it. If there are several monitors,
+-- all of that quorum accepted the version under the acknowledgement's number. Under a lower number each majority has a
+-- rank that accepted nothing for it, and never will.
 pub record IsHeld (n : ℕ) (w : World) (g : Ghost) (a : Acknowledged) : Type 0 where
   pub rank : ℕ
   pub below : rank < n

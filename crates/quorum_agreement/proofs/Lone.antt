@@ -1,5 +1,5 @@
--- What a monitor does that is alone in its map: it changes its own numbers, or commits the value of a command that was asked. It never
--- hears a message, and says nothing of the log.
+-- A monitor that is alone in its map changes its own numbers, or commits the value of a command that was asked. It
+-- never hears a message, and says nothing of the log.
 use Rattle.log_copies.proofs.Sending.{BodyTells}
 use Rattle.log_copies.specs.Versions.{IsOwnChange}
 use Rattle.election_rules.specs.Ranking.{allows}
@@ -234,7 +234,7 @@ module _ (me : Me) (one : me.member.monitors ≡ 1) (now : ℕ) (g : Ghost) (G :
 
   -- ---- commands
 
-  -- what a command that waits was asked of whom
+  -- which monitor was asked a command that waits
   source_of : (e : ℕ) (c : Command) (o : Origin) → HasSource g i e c o → (s : Session) × Asks g (asked_of me o) s c
   source_of e c (origin.Session s) k = (s, k)
   source_of e c (origin.Forwarded f seq) k = let H = G.hands in (k.0, H.asked f e seq k.0 c k.1)

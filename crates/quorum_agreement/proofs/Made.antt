@@ -39,7 +39,7 @@ pub record MadeOver (n : ℕ) (asked : List Asked) (log : List (List ℕ)) (v : 
   pub of : WasAsked n asked rank session command
   pub made : value over command rank ≡ Ok x
 
--- each accepted value is one
+-- each accepted value is such a value
 abbrev pub AllMade : ℕ → Ghost → List Asked → List (List ℕ) → Type 0
 AllMade n g asked log = (i v p : ℕ) (x : List Op) → Accepted g i v p x → MadeOver n asked log v x
 

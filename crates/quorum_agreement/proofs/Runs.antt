@@ -1,4 +1,4 @@
--- Every list of events keeps the log, which only goes on.
+-- What holds of the log holds after every list of events, and the log only grows.
 use Rattle.quorum_agreement.proofs.Beginning.{at_first}
 use Rattle.quorum_agreement.proofs.Grown.{GrowsByOne}
 use Rattle.quorum_agreement.proofs.Invariant.{EnvelopeTells, LogHolds}

@@ -58,7 +58,7 @@ use Rattle.quorum_agreement.proofs.Every.{agrees}
 pub put_same : {A : Type 0} (f : ℕ → A) (i : ℕ) (a : A) → put_at f i a i ≡ a
 put_same f i a = rw (eq-eqb i i refl) refl
 
--- what is put in two places at once is at that number, or both are as they were
+-- two functions that are changed at number i: number j is i and has the new item, or both have their old item at j
 put_cases : {A B : Type 0} (f : ℕ → A) (h : ℕ → B) (i : ℕ) (a : A) (u : B) (j : ℕ) (b : A) → put_at f i a j ≡ b → ((j ≡ i) × (a ≡ b)) ⊎ ((f j ≡ b) × (put_at h i u j ≡ h j))
 put_cases f h i a u j b = by (eqb j i) refl
   where
@@ -70,7 +70,7 @@ pub grown_fronts : (old new : List (List ℕ)) → GrowsByOne old new → Fronts
 grown_fronts old new (inl e) = subst (Fronts old) (sym e) (fronts_itself old)
 grown_fronts old new (inr x) = subst (Fronts old) (sym x.1) (fronts_push old x.0)
 
--- both are known of what comes
+-- what is known of a message that comes: what it says of the log, and the acknowledgement of a ROUTE
 abbrev Told : World → Ghost → Envelope → Type 0
 Told w g e = EnvelopeTells w.log e × Routes w g e
 

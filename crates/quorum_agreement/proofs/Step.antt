@@ -51,7 +51,8 @@ copy_marked log m s T = by T.marked
     by (inl U) = let N = U.noted in N.marked
     by (inr W) = let N = W.noted in N.marked
 
--- the log after an event, which is the world's, of what was chosen and asked; the monitor is one of it, and what it sends is the log's
+-- The log after an event, at most one entry longer. Each entry is a value that was chosen, of a command that was asked.
+-- The monitor agrees with this log, what it sends is this log's, and the world's log grows to it.
 pub record Next (n : ℕ) (g : Ghost) (asked : List Asked) (log : List (List ℕ)) (m : Store) (s : State) (out : List Sent) : Type 0 where
   pub more : List (List ℕ)
   pub fronts : Fronts log more

@@ -12,7 +12,8 @@ use Rattle.mon_tx.specs.Map.{Store}
 use Rattle.mon_wire.specs.declared.parts.Place.{Place as ChunkPlace}
 use Rattle.mon_wire.specs.declared.phase.Phase.TheVariants as phase
 
--- It replays the versions after `done`, which is at least the floor, over a copy made while the versions went from there to the end.
+-- A monitor replays the versions after `done`, which is at least the floor. Its store is as a copy that was made while
+-- the log's last version rose from `done` to `end`.
 pub record Replays (log : List (List ℕ)) (m : Store) (floor next end : ℕ) : Type 0 where
   pub done : ℕ
   pub is : next ≡ suc done
@@ -20,20 +21,22 @@ pub record Replays (log : List (List ℕ)) (m : Store) (floor next end : ℕ) : 
   pub within : end ≤ length log
   pub copy : IsFuzzyCopy log done end key_place.Done m
 
--- Nothing at first; then a copy from the start, which is at least the floor, up to the place that it asks for next; and then a
--- whole one, whose versions it replays.
+-- What a requester's store has copied of the log. While it asks for a cookie: nothing. While it takes chunks: a copy
+-- from version `start`, which is at least the floor, up to the place that it asks for next. While it replays: a whole
+-- copy, over which it replays versions.
 abbrev pub HasCopied : List (List ℕ) → Store → (floor : ℕ) → SyncStage → (start : ℕ) → ChunkPlace → Type 0
 HasCopied log m floor sync.Cookie start p = shared_with_records m ≡ empty
 HasCopied log m floor sync.Chunks start p =
     (floor ≤ start) × (p.version ≤ length log) × IsFuzzyCopy log start p.version p.key m
 HasCopied log m floor (sync.Replay next end) start p = Replays log m floor next end
 
--- A monitor that is up takes a full copy, or looks for another monitor to take one from.
+-- A monitor takes a full copy, and its store has what it copied so far.
 pub record Copies (log : List (List ℕ)) (m : Store) (s : State) : Type 0 where
   pub synchronizes : s.phase ≡ phase.Synchronizing
   pub full : s.requester.full ≡ true
   pub copy : HasCopied log m (readings_of m).floor s.requester.stage s.requester.start s.requester.place
 
+-- A monitor that is up takes a full copy, or looks for another monitor to take one from.
 abbrev pub IsCopying : List (List ℕ) → Store → Option State → Type 0
 IsCopying log m None = Unit {0}
 IsCopying log m (Some s) = Copies log m s ⊎ ((s.phase ≡ phase.Probing) ⊎ (s.phase ≡ phase.Booting))

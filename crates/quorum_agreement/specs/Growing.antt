@@ -1,7 +1,7 @@
 -- How the one log grows.
 use Rattle.std.specs.Prelude.{◌≡◌, ℕ, ◌≤◌, List, ◌++◌, length}
 
--- it goes on, by this many entries at most
+-- the new log is the old one with at most this many further entries
 pub record GrowsBy (most : ℕ) (old new : List (List ℕ)) : Type 0 where
   pub more : List (List ℕ)
   pub is : new ≡ old ++ more

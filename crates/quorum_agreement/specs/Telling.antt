@@ -15,7 +15,7 @@ use Rattle.mon_tx.specs.declared.op.Op.{Op}
 use Rattle.mon_wire.specs.declared.body.Body.TheVariants as body
 use Rattle.mon_wire.specs.declared.body.Body.{Body}
 
--- these are the values of its versions from v on
+-- these are the values of the log's versions from v on
 abbrev pub AreItsValues : List (List ℕ) → (v : ℕ) → List (List Op) → Type 0
 AreItsValues log v [] = Unit {0}
 AreItsValues log v (x ∷ xs) = (v ≤ length log) × (entry log v ≡ text x) × AreItsValues log (suc v) xs
@@ -24,12 +24,13 @@ AreItsValues log v (x ∷ xs) = (v ≤ length log) × (entry log v ≡ text x) �
 abbrev pub is_between : KeyPlace → KeyPlace → Place → Bool
 is_between from to at = is_past from at && not (is_past to at)
 
--- these entries are what its first v versions leave between two places
+-- these entries are what the log's first v versions leave in a store between two places
 abbrev pub AreItsEntries : List (List ℕ) → (v : ℕ) → (from to : KeyPlace) → List Entry → Type 0
 AreItsEntries log v from to entries = apply (spelled (copy_changes entries)) empty ≡ retain_keys (fold log v) (is_between from to)
 
--- Committed values are those of its versions. A last version is one that it has. A chunk's values follow the version of its place, and
--- its entries are what the versions up to its last value leave, from its place on; the last chunk's go up to the end.
+-- What a message says of committed versions is the log's. Committed values are those of the log's versions, and a last
+-- version is one that the log has. A chunk's values follow the version of its place. Its entries are what the versions
+-- up to its last value leave, from its place on up to its last entry; those of the last chunk go up to the end.
 abbrev pub TellsLog : List (List ℕ) → Body → Type 0
 TellsLog log (body.Last pn first last whole from values pending) = (last ≤ length log) × AreItsValues log from values
 TellsLog log (body.Commit from values) = AreItsValues log from values

@@ -15,10 +15,10 @@ ghost use Rattle.quorum_agreement.specs.Growing.{GrowsBy};
 ghost use Rattle.quorum_agreement.specs.Serving.{Fenced, KeptAndShown};
 ghost use Rattle.quorum_agreement.specs.Telling.{TellsLog};
 
-/// No two monitors disagree on what is committed, in any run of any monitors under any rule, wherever monitors crash.
-/// The committed versions of each are entries of one log. The log only grows, by at most one entry an event. Each entry
-/// is the value of a command that a client asked, over the entries before it, and if there are several monitors, a
-/// majority of them accepted it under one number.
+/// No two monitors disagree on what is committed, in any run of any monitors under any rule, whenever monitors crash.
+/// The committed versions of each are entries of one log. The log only grows, by at most one entry per event. Each
+/// entry is the value of a command that a client asked, over the entries before it. If there are several monitors, a
+/// majority of them accepted it under one proposal number.
 pub fn law_agree()
     ensures agree { (ms : Monitors) (events : List Event) → AllFit ms.count events → Agree ms.count (run ms events) }
     ensures grows { (ms : Monitors) (before after : List Event) → AllFit ms.count (before ++ after)
@@ -29,10 +29,10 @@ pub fn law_agree()
         → IsChosen ms.count (run ms events) (suc v) (entry (run ms events).log (suc v)) }
 {}
 
-/// All that monitors send each other of what is committed is the one log's, and so is what a monitor under a full
-/// synchronization holds: the sent values are those of its versions, the sent entries are what its versions leave,
-/// and the copy is one of the log, from the floor on. A monitor that takes a copy is marked if and only if the copy
-/// is a full one, so a full requester is marked.
+/// What monitors send each other of committed versions is the one log's. The values that they send are those of the
+/// log's versions, and the entries that they send are what the log's versions leave in a store. A monitor that is up
+/// and marked by a full synchronization has a copy of the log as far as it took one, from its floor or above on, or it
+/// looks for a monitor to copy from. A monitor that takes a copy is marked if and only if the copy is a full one.
 pub fn law_marked()
     ensures told { (ms : Monitors) (events : List Event) → AllFit ms.count events → (e : Envelope) → Contains (run ms events).messages e
         → TellsLog (run ms events).log e.message.body }
@@ -42,22 +42,24 @@ pub fn law_marked()
         → MarkedIfFull ((run ms events).store i) ((run ms events).state i) }
 {}
 
-/// What was acknowledged is kept, in every run of any monitors: its version is in the log and puts what was acknowledged, every later leader
-/// has it, no version is acknowledged twice, and each Done answers a command that its session asked. What is shown is the one log's up to
-/// the monitor's last version, and was asked for.
+/// What was acknowledged is kept, in every run of any monitors. Its version is in the log and puts what was
+/// acknowledged, and every active leader with at least its proposal number has the version. No version is acknowledged
+/// twice, and each Done answers a command that its session asked. What is shown is the one log's, up to the monitor's
+/// last version, and was asked for.
 pub fn law_kept()
     ensures { (ms : Monitors) (events : List Event) → AllFit ms.count events → KeptAndShown ms.count (run ms events) }
 {}
 
-/// What fences a read, in every run of any monitors. No epoch has two active leaders. A lease is given by a leader
-/// that has its whole quorum in its epoch, and a peon that has one has committed all that it ever accepted. So every
-/// read after an acknowledgement, in its epoch, includes that version.
+/// Every read after an acknowledgement, in its epoch, includes the acknowledged version, in every run of any monitors.
+/// This holds because no epoch has two active leaders, a leader gives a lease only if its whole quorum is in its epoch,
+/// and a peon that has a lease has committed all that it ever accepted.
 pub fn law_fence()
     ensures { (ms : Monitors) (events : List Event) → AllFit ms.count events → Fenced ms.count (run ms events) }
 {}
 
-/// Every run of any monitors under any rule is safe, whatever is lost, repeated or late and wherever monitors crash: no two monitors
-/// disagree, what was acknowledged is kept, what is shown is the one log's, and no epoch has two active leaders.
+/// Every run of any monitors under any rule is safe, whatever is lost, repeated or late and whenever monitors crash: no
+/// two monitors disagree, what was acknowledged is kept, what is shown is the one log's, and no epoch has two active
+/// leaders.
 pub fn law_safe()
     ensures { (ms : Monitors) (events : List Event) → AllFit ms.count events → Safe ms events }
 {}

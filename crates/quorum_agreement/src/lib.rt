@@ -1,4 +1,4 @@
-//! That every run of a map's monitors is safe: the laws of the one log that they all keep.
+//! The laws of the one log that all monitors of a map keep. Together they state that every run of the monitors is safe.
 #![tactic(auto)]
 
 mod laws;

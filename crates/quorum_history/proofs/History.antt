@@ -38,8 +38,9 @@ pub record Triple : Type 0 where
   pub p : ℕ
   pub x : List Op
 
--- the numbers of a monitor that never fall: its epoch, the last proposal number that it made, the one that it promised, and its
--- level, which is the floor of a full synchronization that is under way, and else its last version
+-- The numbers of a monitor that never decrease: its epoch, the last proposal number that it made, the one that it
+-- promised, and its level. Its level is the floor of a full synchronization that is under way, and otherwise its last
+-- version.
 pub data Rising : Type 0 where
   AnEpoch : Rising
   ANumber : Rising
@@ -86,7 +87,7 @@ Asks g i s c = Among (asking i s c) g.asks
 abbrev pub Accepted : Ghost → (i v p : ℕ) → List Op → Type 0
 Accepted g i v p x = Among (triple i v p x) g.accepts
 
--- what a number is at least, signed or not
+-- the value that a number of this kind has at least, even if none was signed
 abbrev pub least : Rising → ℕ
 least AnEpoch = 1
 least other = 0
@@ -176,7 +177,7 @@ module _ {i : ℕ} {g h : Ghost} (E : Ext i g h) where
   had_lasts k j n (inl l) = inl l
   had_lasts k j n (inr s) = inr (record { m = s.m; high = s.high; was = E.signs.keeps (sign k j s.m) s.was })
 
-  -- of another monitor it was so before
+  -- what holds of the numbers of another monitor than i held before
   pub had_before : (k : Rising) (j n : ℕ) → (j ≡ i → ⊥) → Had h k j n → Had g k j n
   had_before k j n ne (inl l) = inl l
   had_before k j n ne (inr s) = inr (record { m = s.m; high = s.high; was = elim (E.signs.added (sign k j s.m) s.was) [ inl o ↦ o | inr e ↦ absurd (ne e) ] })

@@ -57,7 +57,7 @@ number_of o ANumber = number_in_own o
 number_of o APromise = promise_in o
 number_of o ALevel = level_in o
 
--- what was signed of its numbers is what they are, or less
+-- each number of monitor i was signed, or is at its least value; none was signed with a greater value
 pub record Numbered (ss : List Sign) (i : ℕ) (o : Own) : Type 0 where
   pub now : (k : Rising) → HadIn ss k i (number_of o k)
   pub top : (k : Rising) (n : ℕ) → HadIn ss k i n → n ≤ number_of o k
@@ -166,7 +166,8 @@ pub record Reigns (g : Ghost) (i e : ℕ) (marked : Bool) (q : List Bool) (waiti
   pub unmarked : marked ≡ false
   pub queue : AllByRecursion (Waits g i e) waiting
 
--- f answered it under its number: what f accepted under a lower one is committed, or left in this way
+-- Monitor f answered leader i under number pn. Each value that f accepted under a lower number is for a version that
+-- leader i has, or has property Left.
 pub record Heard (g : Ghost) (i e pn last : ℕ) (Left : ℕ → ℕ → Type 0) (f : ℕ) : Type 0 where
   pub joined : Joined g f e i
   pub promised : Had g APromise f pn
@@ -194,7 +195,7 @@ pub record IsFound (g : Ghost) (q : List Bool) (last pn : ℕ) (f : Found) : Typ
   pub member : has q by ≡ true
   pub was : Accepted g by f.version f.pn f.value
 
--- it collects: nobody accepted anything under its number yet
+-- Leader i collects. It accepted nothing under its number yet, and what it found was accepted under a lower number.
 pub record Gathers (g : Ghost) (i : ℕ) (q : List Bool) (pn last : ℕ) (best : Option Found) : Type 0 where
   pub fresh : (v : ℕ) (x : List Op) → Accepted g i v pn x → ⊥
   pub found : IfSome best (IsFound g q last pn)
@@ -342,7 +343,7 @@ pub record With (n i : ℕ) (g : Ghost) (Known : ℕ → List Op → Type 0) (o 
   pub tied : Tied i g h cs
   -- this is known of each value that was accepted for a version
   pub known : (j v p : ℕ) (x : List Op) → Accepted h j v p x → Known v x
-  -- and nobody asked since
+  -- no session asked since
   pub asks : (a : Ask) → Among a h.asks → Among a g.asks
   pub sent : AllByRecursion (SentHolds h i) out
   pub fact : P h

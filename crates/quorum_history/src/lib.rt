@@ -1,3 +1,3 @@
-//! What happened in a run, as lists that only grow, and that every row of the protocol keeps what holds of a monitor and of what
-//! it says with that history.
+//! The history of a run, as lists that only grow. Every row of the protocol preserves what the history says of a
+//! monitor and of its messages.
 #![tactic(auto)]

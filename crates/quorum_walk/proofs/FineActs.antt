@@ -1,4 +1,4 @@
--- The acts leave values that go round and numbers that fit.
+-- The acts pass on only values of commands, and their numbers fit.
 use Rattle.election_rules.specs.Ranking.{allows}
 use Rattle.mon_msg.specs.Protocol.Changes.{Epoch, Numbers, Vote}
 use Rattle.mon_msg.specs.Protocol.Collecting.{begin_found, collect, collect_with, commits_to, commits_with, missed, reign, settle}

@@ -1,4 +1,4 @@
--- The rows of clients leave values that go round and numbers that fit.
+-- The rows of clients pass on only values of commands, and their numbers fit.
 use Rattle.log_model.specs.LogOfValues.{IsCommand}
 use Rattle.mon_bytes.specs.declared.command.Command.TheVariants as command
 use Rattle.mon_bytes.specs.declared.command.Command.{Command}

@@ -1,5 +1,5 @@
--- Which values are passed on, that numbers fit, and that a course says what it writes. Nothing here concerns other monitors
--- or a phase.
+-- When a course is fine: it passes on only values of commands, its numbers fit, and what it says is what its
+-- transaction writes. Nothing here depends on other monitors or on a phase.
 use Rattle.log_model.specs.LogOfValues.{IsCommand}
 use Rattle.mon_bytes.specs.declared.command.Command.TheVariants as command
 use Rattle.mon_bytes.specs.declared.command.Command.{Command}
@@ -52,7 +52,7 @@ use Rattle.std.specs.List.{AllByRecursion}
 abbrev pub IsStored : Readings → Type 0
 IsStored w = (m : Store) × (w ≡ readings_of m)
 
--- a value that may be proposed and learned: one of a command, over some store
+-- A value that may be proposed and learned: the value of a command over some store.
 pub record Val (x : List Op) : Type 0 where
   pub over : Store
   pub command : Command
@@ -63,14 +63,14 @@ pub record Val (x : List Op) : Type 0 where
   pub spares : Spares x
   pub reads : transaction_in (Some (text x)) ≡ Some x
   pub short : length (text x) ≤ most_value
-  -- no record but its own
+  -- it puts no version's record, and may erase some
   pub records : (u : ℕ) → (decision x (place area.Paxos (key.Version u)) ≡ None) ⊎ (decision x (place area.Paxos (key.Version u)) ≡ Some None)
 
 -- every value that a command makes is such
 abbrev pub Made : Type 0
 Made = (w : Readings) → IsStored w → (c : Command) (asked : ℕ) (x : List Op) → IsCommand c → asked ≤ 14 → IsShort w.last → IsShort (suc (service_last w (service_of c))) → value w c asked ≡ Ok x → Val x
 
--- what it encodes, if it encodes a transaction, is such a value
+-- if a cell encodes a transaction, that is such a value
 abbrev pub CellFine : Cell → Type 0
 CellFine c = (x : List Op) → transaction_in c ≡ Some x → Val x
 
@@ -149,7 +149,7 @@ SentFine (sent.Reply to r) = Unit {0}
 
 -- ---- changes
 
--- numbers fit, and values and entries leave what is a monitor's own
+-- a change's number fits, and its value or entry doesn't change the monitor's own keys
 abbrev pub Fit : Change → Type 0
 Fit (Learn v value) = Spares value
 Fit (Copy entry) = EntrySpares entry
@@ -169,7 +169,7 @@ fit_fits (Last n ∷ cs) k = (k.0, fit_fits cs k.1)
 fit_fits (Mark f l p ∷ cs) k = (k.0, fit_fits cs k.1)
 fit_fits (Unmark ∷ cs) k = (k.0, fit_fits cs k.1)
 
--- a vote or a mark comes last, if at all
+-- A change that is no vote and no mark. A vote or a mark can only be the last change of a course.
 abbrev pub IsCalm : Change → Type 0
 IsCalm (Vote v pn value) = ⊥
 IsCalm (Mark floor last_pn promise) = ⊥
@@ -197,16 +197,16 @@ pub record EndsInMark (cs : List Change) : Type 0 where
 abbrev pub Shaped : List Change → Type 0
 Shaped cs = Calm cs ⊎ (EndsInVote cs ⊎ EndsInMark cs)
 
--- where an event began, and how often the monitor was started when it is over
+-- what the readers returned when an event began, and the count of starts when it is over
 pub record Base (me : Me) : Type 0 where
   pub from : Readings
   pub boot : ℕ
 
--- nothing more is counted
+-- an event that isn't counted as a start
 abbrev pub still : (me : Me) → Readings → Base me
 still me w = record { from = w; boot = w.boot }
 
--- one that starts is counted
+-- the count of starts after an event, from the count before it
 abbrev pub boot_after : State → Input → ℕ → ℕ
 boot_after s input.Start boot = if same_phase s.phase phase.Booting then suc boot else boot
 boot_after s other boot = boot
@@ -234,7 +234,7 @@ pub record FineAt (Shape : List Change → Type 0) (me : Me) (w0 : Base me) (w :
 abbrev pub FineOf : (List Change → Type 0) → (me : Me) → Base me → Course → Type 0
 FineOf Shape me w0 x = FineAt Shape me w0 x.readings x.changes x.state.leader.found x.state.leader.value x.state.leader.pn x.state.requester.stage x.state.clients.queue x.out
 
--- before a vote, and when it is over
+-- a fine course, without a vote or a mark so far (`Fine`), and at its end (`Ended`)
 abbrev pub Fine : {me : Me} → Base me → Course → Type 0
 Fine {me = me} w0 x = FineOf Calm me w0 x
 

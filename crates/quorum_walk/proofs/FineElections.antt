@@ -1,4 +1,4 @@
--- The rows of probing and elections leave values that go round and numbers that fit.
+-- The rows of probing and elections pass on only values of commands, and their numbers fit.
 use Rattle.election_rules.specs.declared.scores.Scores.{Scores}
 use Rattle.mon_msg.specs.Protocol.Changes.{Epoch}
 use Rattle.mon_msg.specs.Protocol.Course.{Course, change, elector_is, prober_is}

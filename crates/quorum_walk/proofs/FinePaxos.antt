@@ -1,4 +1,4 @@
--- The rows of leaders and peons leave values that go round and numbers that fit.
+-- The rows of leaders and peons pass on only values of commands, and their numbers fit.
 use Rattle.mon_msg.specs.Protocol.Answers.{answer_of, last_answer, tells_all, told_of, told_values}
 use Rattle.mon_msg.specs.Protocol.Changes.{Promise}
 use Rattle.mon_msg.specs.Protocol.Course.{Course, change_if, leader_is, ◌▸◌}

@@ -1,4 +1,5 @@
--- What is read of a store with values that go round, and what it keeps once it learned and copied such.
+-- What is read of a store whose records are values of commands, and that this holds after it learns or copies such
+-- values.
 use Rattle.mon_bytes.specs.declared.entry.Entry.{Entry}
 use Rattle.mon_msg.specs.Protocol.Changes.{Copy, Last, Learn, Record, ops_of}
 use Rattle.mon_msg.specs.Protocol.Chunks.{copy_changes, record_changes}

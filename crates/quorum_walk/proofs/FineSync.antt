@@ -1,4 +1,4 @@
--- The rows of synchronization leave values that go round and numbers that fit.
+-- The rows of synchronization pass on only values of commands, and their numbers fit.
 use Rattle.mon_bytes.specs.declared.entry.Entry.{Entry}
 use Rattle.mon_msg.specs.Protocol.Changes.{Last, Unmark}
 use Rattle.mon_msg.specs.Protocol.Chunks.{copy, copy_changes, hear_chunk, hear_last_chunk, is_ours, record_changes, replay_or_end, take}

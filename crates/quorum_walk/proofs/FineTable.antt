@@ -1,4 +1,4 @@
--- The whole table leaves values that go round and numbers that fit.
+-- All rows of the table pass on only values of commands, and their numbers fit.
 use Rattle.election_rules.specs.declared.scores.Scores.{Scores}
 use Rattle.mon_bytes.specs.declared.entry.Entry.{Entry}
 use Rattle.mon_msg.specs.Protocol.Changes.{Boot, Epoch}

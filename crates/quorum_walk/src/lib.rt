@@ -1,3 +1,3 @@
-//! How each row of the protocol is walked, and what holds of it whatever happened before: which values are passed on,
-//! that numbers fit, and that what a course says is what its transaction writes.
+//! How proofs walk through each row of the protocol, and what holds of a row whatever happened before. It passes on
+//! only values of commands, its numbers fit, and what its course says is what its transaction writes.
 #![tactic(auto)]
