@@ -157,7 +157,7 @@ module _ (w : World) (g : Ghost) (event rank : ℕ) (m : Store) where
   abbrev pub reply_then : Session → Reply → Replied
   reply_then t r = record { event = event; rank = rank; epoch = epoch_of (readings_of m); last = last_of m; session = t; reply = r }
 
-  -- it has its acknowledgement, if it needs one
+  -- a ROUTE or a reply that says that a version is done has its acknowledgement
   abbrev pub IsFounded : Sent → Type 0
   IsFounded (sent.Message to x) = BodyRoutes w g to x.epoch x.body
   IsFounded (sent.Reply t r) = DoneIsAnswered w (reply_then t r) r

@@ -143,7 +143,7 @@ sync_leads_not phase.Peon t = refl
 -- ---- an event, from what the store's readers returned and what was remembered before it
 
 module _ (me : Me) (now : ℕ) (w : Readings) (s : State) (From : ℕ → Command → Origin → Type 0) (Routed : (f e seq : ℕ) → Reply → Type 0) (Voted : (f pn v : ℕ) → Type 0) (Looked : Session → Request → Type 0) where
-  -- a value that is begun: a command's of which so much is known
+  -- the leader began to propose the value of a command, and From holds of that command
   pub record Begun (l : Leader) (e : ℕ) : Type 0 where
     pub epoch : e ≡ epoch_of w
     pub origin : Origin
@@ -154,7 +154,7 @@ module _ (me : Me) (now : ℕ) (w : Readings) (s : State) (From : ℕ → Comman
     pub proposes : l.value ≡ Some ops
     pub made : value w command (asked_of me origin) ≡ Ok ops
 
-  -- it goes on with what it had
+  -- the leader goes on with the value that it proposed before
   pub record Keeps (l : Leader) (e : ℕ) : Type 0 where
     pub epoch : e ≡ epoch_of w
     pub updating : s.phase ≡ phase.Updating
@@ -173,7 +173,7 @@ module _ (me : Me) (now : ℕ) (w : Readings) (s : State) (From : ℕ → Comman
     pub out : AllPlain y.out
     pub lead : Lead y.state.phase y.state.leader (epoch_of y.readings)
 
-  -- all of its quorum accepted what it proposed for a command
+  -- with this answer all of the leader's quorum accepted the value that it proposed for a command
   pub record Completes (o : Origin) (ops : List Op) : Type 0 where
     pub proposed : s.leader.value ≡ Some ops
     pub waits : s.leader.origin ≡ Some o
@@ -182,7 +182,7 @@ module _ (me : Me) (now : ℕ) (w : Readings) (s : State) (From : ℕ → Comman
     pub voted : Voted voter s.leader.pn (suc w.last)
     pub whole : are_within me.member.monitors s.leader.quorum (with_rank s.leader.accepted voter) ≡ true
 
-  -- or it is its whole quorum
+  -- the leader is alone in its quorum, and commits a command's value at once
   pub record AtOnce (o : Origin) (ops : List Op) : Type 0 where
     pub command : Command
     pub from : From (epoch_of w) command o
@@ -261,7 +261,7 @@ module _ (me : Me) (now : ℕ) (w : Readings) (s : State) (From : ℕ → Comman
   lead_same phase.Active l k z a b c d h = tt
   lead_same phase.Peon l k z a b c d h = tt
 
-  -- who doesn't lead holds nothing
+  -- nothing is asked of the leader's part in a phase in which the monitor doesn't lead
   leads_not : (p : Phase) (l : Leader) (e : ℕ) → is_leading p ≡ false → Lead p l e
   leads_not phase.Collecting l e t = no (sym t)
   leads_not phase.Previous l e t = no (sym t)

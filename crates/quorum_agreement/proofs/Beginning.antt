@@ -1,4 +1,4 @@
--- All of it holds before the first event.
+-- The invariant holds before the first event.
 use Rattle.log_copies.proofs.Standing.{Agrees}
 use Rattle.log_model.proofs.Holds.{holds_nothing}
 use Rattle.mon_msg.specs.Protocol.State.{booting}

@@ -95,7 +95,7 @@ module _ (ms : Monitors) (w : World) (asked : List Asked) (J : InvWith ms w aske
   clear : (readings_of (written m d.y)).marked ≡ true → (readings_of (written m d.y)).last ≡ 0
   clear t = ap (λ (r : Readings). r.last) read ∙ (good.disk.kept.clear (sym (ap (λ (r : Readings). r.marked) read) ∙ t)).0
 
-  -- ---- what comes of it
+  -- ---- what it makes of the log
 
   abbrev Then : Course → Type 0
   Then y = Next ms.count J.g asked w.log (written m y) y.state y.out

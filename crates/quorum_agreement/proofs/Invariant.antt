@@ -24,9 +24,9 @@ remembers i (Some s) = s
 abbrev pub EnvelopeTells : List (List ℕ) → Envelope → Type 0
 EnvelopeTells log e = BodyTells log e.message.body
 
--- Each entry of the log was chosen, and is the value of a command that was asked, over the entries before it. So is each
--- accepted value, up to the next version. Each monitor has versions of the log or takes a copy of it, and what was sent is of
--- the log.
+-- Each entry of the log was chosen, and is the value of a command that was asked, over the entries before it. Each
+-- accepted value is for a version of the log or the next one, and is such a value over the versions before it. Each
+-- monitor has versions of the log or takes a copy of it. What messages say of committed versions is the log's.
 pub record OfLog (ms : Monitors) (w : World) (asked : List Asked) (J : InvWith ms w asked) : Type 0 where
   pub short : length w.log ≤ 2 ^ 62
   pub values : AllValues w.log

@@ -108,7 +108,7 @@ module _ (ms : Monitors) (w : World) (L : OneLog ms w) where
       by i unmarked (inl V) = on_log (w.store i) V
       by i unmarked (inr T) = absurd (unmarked (marked_there (w.store i) (copy_marked w.log (w.store i) (remembers i (w.state i)) T)))
 
-  -- the floor that its store has is what it reaches
+  -- what a requester copied, from what holds in its stage
   has_copied : (g : Ghost) (last reached provider : ℕ) (before : Readings) (floor : ℕ) (m : Store) (z : SyncStage) (start : ℕ) (p : ChunkPlace)
       → StageHolds g last reached provider true start p.version z → InStage w.log before floor m z start p → HasCopied w.log m reached z start p
   has_copied g last reached provider before floor m sync.Cookie start p R h = h

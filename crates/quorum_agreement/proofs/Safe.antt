@@ -1,4 +1,4 @@
--- What is known of the versions that were acknowledged, and of what was replied; and that it lasts.
+-- What holds of the versions that were acknowledged and of the replies, and that it still holds after further events.
 use Rattle.log_copies.proofs.Telling.{IsTold, told_stays}
 use Rattle.mon_msg.specs.Protocol.Readings.{epoch_of, readings_of}
 use Rattle.mon_msg.specs.Protocol.Reads.{shown}

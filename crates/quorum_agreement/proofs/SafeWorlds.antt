@@ -88,7 +88,7 @@ AloneReads ms w asked J Said d =
     ms.count ≡ 1 → (ops : List Op) → d.y.changes ≡ Learn (suc (readings_at w d.by.rank).last) ops ∷ Last (suc (readings_at w d.by.rank).last) ∷ [] → d.y.readings.last ≡ suc (readings_at w d.by.rank).last
     → ops_in (entry (grown w.log (written (w.store d.by.rank) d.y)) (suc (readings_at w d.by.rank).last)) ≡ ops
 
--- what a safe run has besides
+-- what a safe run promises beyond agreement
 record SafeFacts (ms : Monitors) (w : World) : Type 0 where
   pub kept : Kept ms.count w
   pub shown : Shown w

@@ -1,4 +1,4 @@
--- What an event makes of the world is a world of the log again.
+-- The invariant of the log holds again of the world that an event makes.
 use Rattle.log_copies.proofs.Standing.{Agrees, agrees_stays, crashed}
 use Rattle.log_copies.specs.Synchronizing.{written}
 use Rattle.log_model.specs.LogOfValues.{AllValues}
@@ -60,7 +60,7 @@ asking ms w p I O J = record {
 
 -- ---- what is left of the world
 
--- if its log is this one
+-- the invariant holds of a world, if its parts hold of a log that is the world's
 of_log : (ms : Monitors) (w : World) (asked : List Asked) (J : InvWith ms w asked) (log : List (List ℕ)) → w.log ≡ log → length log ≤ 2 ^ 62 → AllValues log → AllChosen ms.count J.g log → AllMade ms.count J.g asked log → AllAsked ms.count asked log
     → ((i : ℕ) → i < ms.count → Agrees log (w.store i) (remembers i (w.state i))) → AllByRecursion (EnvelopeTells log) w.messages → OfLog ms w asked J
 of_log ms w asked J log e short values chosen made asks stores sent = record {
@@ -73,7 +73,7 @@ of_log ms w asked J log e short values chosen made asks stores sent = record {
   sent = subst (λ (l : List (List ℕ)). AllByRecursion (EnvelopeTells l) w.messages) (sym e) sent;
 }
 
--- a world of the log, which grew by one entry at most
+-- the invariant holds of the next world, whose log grew by at most one entry
 abbrev pub Follows : Monitors → World → World → Type 0
 Follows ms w next = LogHolds ms next × GrowsByOne w.log next.log
 

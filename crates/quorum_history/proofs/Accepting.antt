@@ -21,7 +21,8 @@ use Rattle.std.proofs.lemmas.Bool.{cases_lt, eq-eqb, false≢true}
 abbrev pub accepted : (i v p : ℕ) → List Op → Ghost → Ghost
 accepted i v p x g = record g { accepts = triple i v p x ∷ g.accepts }
 
--- for its next version, under its promise, by the rank whose number it is or after it
+-- Monitor i may accept value x for its next version, under the number that it promised. The number is its own, or the
+-- rank whose number it is accepted the value before.
 pub record MayAccept (i : ℕ) (g : Ghost) (o : Own) (v p : ℕ) (x : List Op) : Type 0 where
   pub unmarked : o.marked ≡ false
   pub next : v ≡ suc o.last
@@ -30,7 +31,8 @@ pub record MayAccept (i : ℕ) (g : Ghost) (o : Own) (v p : ℕ) (x : List Op) :
   pub owner : (p % 100 ≡ i) ⊎ Accepted g (p % 100) v p x
   pub made : p % 100 ≡ i → p ≤ number_in_own o
 
--- and it leaves no room for another value
+-- A value leaves no room for another one. Under its number no other value was accepted for the version, and under a
+-- lower number none can be accepted by a majority any more.
 pub record LeavesNoRoom (n : ℕ) (g : Ghost) (v p : ℕ) (x : List Op) : Type 0 where
   pub one : (j : ℕ) (y : List Op) → Accepted g j v p y → y ≡ x
   pub safe : (r : ℕ) (y : List Op) (Q : List Bool) → r < p → (y ≡ x → ⊥) → is_majority n Q ≡ true → Below n Q → Refuses g.signs g.accepts Q v r y

@@ -44,7 +44,7 @@ use Rattle.std.specs.Prelude.{slice_index_or}
 pub sound : (me : Me) (g : Ghost) (Known : ℕ → List Op → Type 0) (P : Ghost → Type 0) (x : Course) → At me g Known P x → Sound me g Known x
 sound me g Known P x A = weaken P Nothing A (λ h E G D p. tt)
 
--- all that was accepted is closed by the next version
+-- an accepted value is for the version after the last one, or for an earlier one
 abbrev pub ClosedNext : ℕ → ℕ → ℕ → Type 0
 ClosedNext last v r = v ≤ suc last
 
@@ -53,13 +53,13 @@ pub record ClosesIn (n : ℕ) (g : Ghost) (i : ℕ) (c : Core) : Type 0 where
   pub all : AllIn n c
   pub most : (v : ℕ) (y : List Op) → Accepted g i v c.pn y → v ≤ suc c.own.last
 
--- what a leader that found this has heard
+-- a leader has heard its whole quorum, and found this value or none
 pub record FoundIn (n : ℕ) (g : Ghost) (i : ℕ) (c : Core) (found : Option Found) : Type 0 where
   pub leads : LeadsIn g i c (FoundCovers found)
   pub all : AllIn n c
   pub gathers : Gathers g i c.quorum c.pn c.own.last found
 
--- what is left may be known in another way, or be committed
+-- The same leader with M in place of L, if each value with property L is for a committed version or has property M.
 pub leads_left : (g : Ghost) (i : ℕ) (c : Core) (L M : ℕ → ℕ → Type 0) → ((v r : ℕ) → L v r → (v ≤ c.own.last) ⊎ M v r) → LeadsIn g i c L → LeadsIn g i c M
 leads_left g i c L M f k = record {
   reigns = k.reigns;
@@ -86,7 +86,7 @@ closes_repeating n g i c k = record { leads = leads_left g i c (Repeats g c.quor
 pub closes_updating : (n : ℕ) (g : Ghost) (i : ℕ) (c : Core) → UpdatesIn n g i c → ClosesIn n g i c
 closes_updating n g i c k = record { leads = leads_left g i c Nowhere (ClosedNext c.own.last) (λ v r l. absurd l) k.0; all = k.1; most = k.2.most }
 
--- and it is committed
+-- once the next version is committed, the leader is active
 pub closed : (n i : ℕ) (h k : Ghost) (E : Ext i h k) (c : Core) (last : ℕ) → last ≡ suc c.own.last → ((v p : ℕ) (y : List Op) → Accepted k i v p y → Accepted h i v p y) → ClosesIn n h i c → ActsIn n k i (record c { own = with_last last c.own })
 closed n i h k E c last e same K = (
   record {

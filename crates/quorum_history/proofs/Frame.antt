@@ -28,7 +28,7 @@ use Rattle.std.proofs.Common.{Bool, IfSome, List, None, Option, Some, arith, inl
 use Rattle.std.specs.Prelude.{is_some}
 
 module _ (i : ℕ) (g h : Ghost) (E : Ext i g h) where
-  -- ---- what was so lasts
+  -- ---- what held before still holds
 
   pub entered_lasts : (j e l : ℕ) (q : List Bool) → Entered g j e l q → Entered h j e l q
   entered_lasts j e l q a = E.roles.keeps (entry j e l q) a
@@ -42,7 +42,7 @@ module _ (i : ℕ) (g h : Ghost) (E : Ext i g h) where
   pub joined_lasts : (m e l : ℕ) → Joined g m e l → Joined h m e l
   joined_lasts m e l k = (k.0, entered_lasts m e l k.0 k.1)
 
-  -- nothing is accepted below a number that was promised
+  -- what is accepted under a number below a promised one was accepted before
   pub accepted_below : (j v r p : ℕ) (x : List Op) → Had g APromise j p → r < p → Accepted h j v r x → Accepted g j v r x
   accepted_below j v r p x promised lt a = elim (E.accepts.added (triple j v r x) a) [
     | inl o ↦ o
@@ -126,7 +126,7 @@ module _ (i : ℕ) (g h : Ghost) (E : Ext i g h) where
   found_lasts q pn last None k = tt
   found_lasts q pn last (Some f) k = record { next = k.next; low = k.low; by = k.by; member = k.member; was = accepted_lasts k.by f.version f.pn f.value k.was }
 
-  -- if it accepted nothing itself
+  -- monitor j accepted nothing further
   abbrev pub Accepts : ℕ → Type 0
   Accepts j = (v p : ℕ) (x : List Op) → Accepted h j v p x → Accepted g j v p x
 
@@ -142,7 +142,7 @@ module _ (i : ℕ) (g h : Ghost) (E : Ext i g h) where
     counted = λ f a. accepted_lasts f (suc last) pn k.x (k.counted f a);
   }
 
-  -- a peon's own part, if it handed nothing on, and with a lease accepted nothing
+  -- monitor j handed nothing further on
   abbrev pub HandsOn : ℕ → Type 0
   HandsOn j = (e seq : ℕ) (s : Session) (c : Command) → Handed h j e seq s c → Handed g j e seq s c
 
@@ -161,7 +161,7 @@ module _ (i : ℕ) (g h : Ghost) (E : Ext i g h) where
   stage_lasts last floor provider full start version sync.Chunks k = (had_lasts E ALevel provider version k.0, k.1, k.2)
   stage_lasts last floor provider full start version (sync.Replay next end) k = k
 
-  -- what it has in its phase lasts if it accepted nothing and handed nothing on
+  -- what holds of monitor j in its phase still holds if j accepted nothing and handed nothing on
   pub phase_lasts : (n j : ℕ) (c : Core) (p : Phase) → Accepts j → HandsOn j → InPhase n g j c p → InPhase n h j c p
   phase_lasts n j c phase.Booting same hands k = tt
   phase_lasts n j c phase.Probing same hands k = tt

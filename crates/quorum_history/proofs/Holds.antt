@@ -208,7 +208,8 @@ pub record Proposes (g : Ghost) (i pn last : ℕ) (value : Option (List Op)) (ac
   pub most : (v : ℕ) (y : List Op) → Accepted g i v pn y → v ≤ suc last
   pub counted : (f : ℕ) → has accepted f ≡ true → Accepted g f (suc last) pn x
 
--- a value of the version after the last one is that of a triple under a number no lower than this one
+-- Version v is the one after the last, and the leader proposes for it the value that a member of its quorum accepted
+-- under a number from r on, below the leader's own.
 pub record Repeats (g : Ghost) (q : List Bool) (pn last : ℕ) (value : Option (List Op)) (v r : ℕ) : Type 0 where
   pub next : v ≡ suc last
   pub x : List Op
@@ -300,7 +301,8 @@ pub record Answers (g : Ghost) (i to e pn last : ℕ) (whole : Bool) (first : �
   pub behind : Had g ALevel to base
   pub short : (values ≡ []) ⊎ (base + length values ≤ last)
   pub reaches : whole ≡ true → last ≤ base + length values
-  -- with them and the value that it sends, all is covered that it accepted under a lower number
+  -- If its values reach its last version, what it accepted under a number below pn is for a version up to that, or is for
+  -- the next version, under a number up to that of the value that it sends.
   pub told : IfSome pending (λ t. (whole ≡ true) × (t.pn ≤ pn) × Accepted g i (suc last) t.pn t.value)
   pub covers : whole ≡ true → (v r : ℕ) (x : List Op) → Accepted g i v r x → r < pn → (v ≤ last) ⊎ ((v ≡ suc last) × (t : Told) × (pending ≡ Some t) × (r ≤ t.pn))
 
@@ -354,7 +356,7 @@ At me g Known P x = With me.member.monitors me.member.rank g Known (own_of x.rea
 abbrev pub Nothing : Ghost → Type 0
 Nothing h = Unit {0}
 
--- whatever the phase says
+-- what holds after a course, without what holds in the phase
 abbrev pub Sound : Me → Ghost → (Known : ℕ → List Op → Type 0) → Course → Type 0
 Sound me g Known x = At me g Known Nothing x
 

@@ -47,7 +47,8 @@ module _ (me : Me) (g : Ghost) (Known : ℕ → List Op → Type 0) where
   abbrev i : ℕ
   i = me.member.rank
 
-  -- What holds may depend on its own numbers, which learning leaves but for the last version.
+  -- Q holds once the values are learned. It may depend on the monitor's own numbers: learning changes only its last
+  -- version.
   pub learned_at : (P : Ghost → Type 0) (Q : Own → Ghost → Type 0) (v : ℕ) (values : List (List Op)) (last : ℕ) (x : Course) → AllByRecursion Val values → x.readings.marked ≡ false → x.readings.last < last → At me g Known P x
       → ((h k : Ghost) → Ext i g h → Ext i h k → Disk h i (own_of x.readings) x.readings.record_of → P h → Had k ALevel i last → ((j w p : ℕ) (y : List Op) → Accepted k j w p y → Accepted h j w p y) → ((e seq : ℕ) (s : Session) (c : Command) → Handed k i e seq s c → Handed h i e seq s c)
       → Q (with_last last (own_of x.readings)) k)
@@ -61,7 +62,7 @@ module _ (me : Me) (g : Ghost) (Known : ℕ → List Op → Type 0) where
       let C = subst (λ (z : Own). With n i g Known (with_last last z) w.record_of (x.changes ++ more) x.out (Q (with_last last z))) (sym (learned_own v values x.readings (all_spare values V))) B in
       subst (λ (cs : List Change). With n i g Known (with_last last (own_of w)) w.record_of cs x.out (Q (with_last last (own_of w)))) (sym (append_assoc x.changes (learn_changes v values) (Last last ∷ []))) C
 
-  -- changes of a marked store that leave its own numbers
+  -- the same of changes of a marked store that don't change its own numbers
   pub changed_at : (P : Ghost → Type 0) (Q : Own → Ghost → Type 0) (cs : List Change) (x : Course) → Plain cs → own_of (played cs x.readings) ≡ own_of x.readings → x.readings.marked ≡ true → At me g Known P x
       → ((h k : Ghost) → Ext i g h → Ext i h k → P h → Q (own_of x.readings) k) → At me g Known (Q (own_of (played cs x.readings))) (x ▸ change_all cs)
   changed_at P Q cs x calm same u A f =

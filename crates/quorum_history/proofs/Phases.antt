@@ -101,7 +101,7 @@ queue_in n g i c ws phase.Synchronizing e f k = no e
 queue_in n g i c ws phase.Electing e f k = no e
 queue_in n g i c ws phase.Peon e f k = no e
 
--- in an odd epoch who votes is in no quorum
+-- a monitor that votes in an odd epoch is electing: it is in no quorum
 pub votes_in_odd : (n : ℕ) (h : Ghost) (i : ℕ) (c : Core) (p : Phase) → RolesHold n h.roles → is_even (epoch_in c.own) ≡ false → votes p ≡ true → InPhase n h i c p → p ≡ phase.Electing
 votes_in_odd n h i c phase.Electing G odd v k = refl
 votes_in_odd n h i c phase.Collecting G odd v k = no (sym odd ∙ G.even i (epoch_in c.own) i c.quorum k.0.reigns.role)
@@ -113,7 +113,7 @@ votes_in_odd n h i c phase.Booting G odd v k = no v
 votes_in_odd n h i c phase.Probing G odd v k = no v
 votes_in_odd n h i c phase.Synchronizing G odd v k = no v
 
--- who votes is under no full synchronization
+-- a monitor that votes is under no full synchronization
 pub votes_unmarked : (n : ℕ) (h : Ghost) (i : ℕ) (c : Core) (p : Phase) → votes p ≡ true → InPhase n h i c p → c.own.marked ≡ false
 votes_unmarked n h i c phase.Electing v k = k.unmarked
 votes_unmarked n h i c phase.Collecting v k = k.0.reigns.unmarked

@@ -20,7 +20,8 @@ module _ (n : ℕ) (g : Ghost) (i : ℕ) (c : Core) (L : ℕ → ℕ → Type 0)
       let m = both.0 in
       (m, both.2, k.heard m (within_at n c.quorum c.answered m all (within m both.1) both.1))
 
-  -- nothing was accepted for that version but what is left
+  -- a rank of each majority can no longer accept a value for a version above the last one, if no such value has
+  -- property L
   refuses_here : (v r : ℕ) (y : List Op) (Q : List Bool) → c.own.last < v → r < c.pn → ((m : ℕ) → Accepted g m v r y → L v r → ⊥) → is_majority n Q ≡ true → Below n Q → Refuses g.signs g.accepts Q v r y
   refuses_here v r y Q lt low none ma le =
       let s = heard_in Q ma le in
@@ -49,7 +50,7 @@ found_leaves_no_room n g i c f at G k all gathers = record { one = one; safe = �
     one : (j : ℕ) (y : List Op) → Accepted g j (suc c.own.last) c.pn y → y ≡ f.value
     one j y a = absurd (gathers.fresh (suc c.own.last) y (subst (λ (z : ℕ). Accepted g z (suc c.own.last) c.pn y) k.own (G.triples.owner j (suc c.own.last) c.pn y a)))
 
-    -- under no lower number than the found one
+    -- under a number that isn't below the found one, no other value was accepted
     only : (r m : ℕ) (y : List Op) → f.pn ≤ r → (y ≡ f.value → ⊥) → Accepted g m (suc c.own.last) r y → FoundCovers (Some f) (suc c.own.last) r → ⊥
     only r m y ge ne a (inl lt) = omega arith
     only r m y ge ne a (inr e) = let le = e.1 in let same : r ≡ f.pn = omega arith in ne (G.triples.one m gathers.found.by (suc c.own.last) f.pn y f.value (subst (λ (z : ℕ). Accepted g m (suc c.own.last) z y) same a) was)

@@ -28,7 +28,8 @@ longest_short test xs = let s = longest_onto_short test [] xs in omega arith
 
 -- ---- what is pending
 
--- nothing, and all is covered that was accepted; or the value that was accepted last
+-- Either nothing is pending, and each value that the monitor accepted is for a committed version; or the value that it
+-- accepted last is pending.
 pub record NonePending (h : Ghost) (i : ℕ) (o : Own) (records : ℕ → Cell) : Type 0 where
   pub none : pending_of o.pending_v o.pending_pn o.last records ≡ None
   pub covers : (v r : ℕ) (y : List Op) → Accepted h i v r y → v ≤ o.last

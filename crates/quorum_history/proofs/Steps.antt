@@ -78,7 +78,7 @@ further {i = i} {out = out} P Q o2 records2 cs2 A k E G D T K N q = record { h =
 
 -- ---- numbers that rise
 
--- all numbers are signed as they are
+-- the history in which monitor i signed each of its numbers as it is now
 abbrev pub signed : ℕ → Own → Ghost → Ghost
 signed i o g = record g { signs = sign AnEpoch i (epoch_in o) ∷ sign ANumber i (number_in_own o) ∷ sign APromise i (promise_in o) ∷ sign ALevel i (level_in o) ∷ g.signs }
 
@@ -93,7 +93,7 @@ signed_ext i o g = record {
   accepts = grows_not _ g.accepts;
 }
 
--- what is signed of i in these is what it is
+-- each of these signed numbers is the number that i has of its kind
 is_number : (o : Own) (i j m : ℕ) (k z : Rising) → sign k j m ≡ sign z i (number_of o z) → m ≡ number_of o k
 is_number o i j m k z e = ap (λ (s : Sign). s.n) e ∙ ap (number_of o) (sym (ap (λ (s : Sign). s.kind) e))
 
@@ -125,7 +125,7 @@ signed_numbers i o o2 g up N = record { now = now; top = top }
       ]
     ]
 
--- what can't be accepted any more can't be later
+-- a value that can no longer be accepted can't be accepted later either
 pub refuses_later : (i : ℕ) (g h : Ghost) (E : Ext i g h) (Q : List Bool) (v r : ℕ) (y : List Op) → Refuses g.signs g.accepts Q v r y → Refuses h.signs h.accepts Q v r y
 refuses_later i g h E Q v r y k = record { m = k.m; within = k.within; above = had_lasts E APromise k.m (suc r) k.above; never = λ a. k.never (accepted_below i g h E k.m v r (suc r) y k.above (omega arith) a) }
 

@@ -1,4 +1,5 @@
--- A network whose disks keep their maps may take its steps on any disks: entries that are sent are named there.
+-- A network whose disks keep their maps meets the premise of networks on any disks: its monitors send only entries with
+-- a valid prefix and a valid key.
 use Rattle.std.proofs.Common.{◌∷◌, ◌≡◌, ℕ, nat_lt, eqb, Bool, true, false, cond, List, [], Option, Some, None, IfSome, Result, Ok, Err, refl, sym, ap, subst, ◌∙◌}
 use Rattle.std.proofs.lemmas.Bool.{eq-eqb}
 use Rattle.std.specs.List.{AllByRecursion, Contains}
@@ -103,6 +104,6 @@ all_may_anyhow ms (s ∷ earlier) may =
     let S = stands assembly ms (facts ms) earlier may.0 in
     (all_may_anyhow ms earlier may.0, may_anyhow net s.rank (net.process s.rank) s.doing may.1, step_named assembly ms (facts ms) net S.w S.reach S.inv s may.1)
 
--- the run in which three processes elect a leader takes such steps
+-- the steps by which three processes elect a leader meet that premise
 pub is_played_anyhow : AllMayAnyhow three (steps_of three me_0.member plays)
 is_played_anyhow = all_may_anyhow three (steps_of three me_0.member plays) is_played

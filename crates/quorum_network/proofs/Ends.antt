@@ -1,4 +1,4 @@
--- What an iteration leaves of the map and sends, whole or not, by what `serve` promises of it.
+-- Which map an iteration leaves and what it sends, completed or not, from what `serve` promises of it.
 use Rattle.std.proofs.Common.{◌≡◌, ℕ, ◌+◌, ◌^◌, zero, suc, nat_lt, Bool, true, false, cond, List, [], take, Option, Some, None, Result, Ok, Err, refl, sym, ap, subst, ◌∙◌, inl, inr}
 use Rattle.std.proofs.lemmas.Bool.{ltb-false}
 use Rattle.std.specs.Option.{option_map}
@@ -30,7 +30,7 @@ pub up_is : (me : Me) (t : Turn) (now : Serving) → ended_turn me t ≡ Ok now 
 up_is me t now e = ap (λ (r : Result Serving NodeEnd). at_end me t r) e
 
 module _ (me : Me) (s : Serving) where
-  -- what a reaction sends whose transaction can be kept
+  -- what a reaction sends, if its transaction can be kept
   abbrev if_kept : Reaction → List Outgoing
   if_kept r = cond (nat_lt most_size (size_of (map_after s.node r))) [] (numbered_by me s.node r)
 
@@ -60,7 +60,7 @@ pub ended_link : (me : Me) (t : Turn) (now : Serving) → ended_turn me t ≡ Ok
 unfolding ended_turn
 ended_link me t now e = by_came me t.serving t.came now e
 
--- ---- an iteration that doesn't
+-- ---- an iteration that isn't completed
 
 take_none : (k : ℕ) → ◌≡◌ {A = List Outgoing} (take k []) []
 take_none zero = refl

@@ -1,5 +1,5 @@
--- What a process sends are messages, and what it hears of them and of clients is an input that may come, on whatever store
--- it serves.
+-- A process sends only encoded messages. What it hears of such messages and of clients is an input that may come. Both
+-- hold on any store.
 use Rattle.std.proofs.Common.{◌≡◌, ℕ, ◌&&◌, eqb, not, Bool, true, false, cond, List, [], ◌∷◌, Option, Some, None, IfSome, Result, Ok, Err, refl, sym, ap, subst, ◌∙◌}
 use Rattle.std.specs.Prelude.{option_map}
 use Rattle.std.specs.List.{AllByRecursion, Contains}
@@ -75,7 +75,7 @@ pub timed_input : (at : ℕ) (came : Option Input) → MayBe came → IfInput (O
 timed_input at None h = tt
 timed_input at (Some came) h = h
 
--- of an answer that is right
+-- an assembly's answer that is right gives an input that may come, or none
 pub answer_may : (ls : List Letter) (texts : (l : Letter) → Contains ls l → IsText l.bytes) (i n : ℕ) (from : Peer) (answer : Option (List ℕ)) → IsRight ls i from answer → MayBe (input_in n from answer)
 answer_may ls texts i n from None right = tt
 answer_may ls texts i n (Monitor j) (Some bytes) (l, c, by, to, is) =

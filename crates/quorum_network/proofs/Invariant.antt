@@ -28,11 +28,11 @@ Says count i es rs (Monitor j) bytes =
 Says count i es rs (Client c) bytes =
     (r : Replied) × Contains rs r × HasText (answer_of count r) × (r.rank ≡ i) × (r.session.client ≡ c) × (bytes ≡ text (answer_of count r))
 
--- a letter says it of the world
+-- a letter that goes to this peer is a message or a reply of the world
 abbrev pub IsSaid : (count : ℕ) → World → Letter → Peer → Type 0
 IsSaid count w l to = Says count l.by w.messages w.replied to l.bytes
 
--- a process that is up has a number
+-- a process that is up has a life, whose number is among these
 abbrev pub IsAlive : List ℕ → Process → Type 0
 IsAlive lives (Up s) = Contains lives (newest lives)
 IsAlive lives (Down m) = Unit {0}
@@ -60,12 +60,13 @@ module _ (A : Assembly) (ms : Monitors) where
     pub posted : AllByRecursion (IsPosted ls) net.sent
     pub letters : AreLetters ls
     pub said : (l : Letter) → Contains ls l → IsSaid ms.count w l l.to
-    -- a letter is of a life
+    -- the number of the life in which a letter was sent is one of its sender's
     pub known : (l : Letter) → Contains ls l → Contains (net.lives l.by) l.boot
     pub alive : (j : ℕ) → j < ms.count → IsAlive (net.lives j) (net.process j)
     pub numbers : (j : ℕ) → number_of net.lives j ≤ 2 ^ 62
 
-  -- one event more, which adds no more than these requests, acknowledgements and leaders, and the datagrams after these
+  -- The run has one further event, which adds no more than these requests, acknowledgements and leaders. The network
+  -- has further datagrams after these.
   pub record Moves (asks : List Asked) (acks : List Acknowledgement) (leads : List Leadership) (before : List Posted) (ls : List Letter) (net : Network) (w : World) : Type 0 where
     pub plain : Plain
     pub world : World
@@ -78,7 +79,7 @@ module _ (A : Assembly) (ms : Monitors) where
     pub old : (l : Letter) → Contains ls l → Contains inv.ls l
     pub new : (l : Letter) → Contains adds.letters l → Contains inv.ls l
 
-  -- It holds after at most one event more.
+  -- The invariant holds after a step of the network, with no further event of the run or with one.
   pub data Next (asks : List Asked) (acks : List Acknowledgement) (leads : List Leadership) (before : List Posted) (ls : List Letter) (net : Network) (w : World) : Type 0 where
     Still : net.sent ≡ before → acks ≡ [] → leads ≡ [] → (I : Inv net w) → I.ls ≡ ls → Next asks acks leads before ls net w
     Moved : Moves asks acks leads before ls net w → Next asks acks leads before ls net w

@@ -94,7 +94,7 @@ epoch_by (Some bytes) = number_short (Some bytes)
 pub epoch_short : (m : Store) → epoch m ≤ 2 ^ 62
 epoch_short m = epoch_by (cell m area.Monitor key.ElectionEpoch)
 
--- what others keep when monitor i sends letters
+-- what holds of the other processes still holds when monitor i sends letters
 module _ (A : Assembly) (ms : Monitors) (i : ℕ) (ls ks : List Letter) (by : (l : Letter) → Contains ks l → l.by ≡ i) where
   if_up_more : (life j : ℕ) (st : Option State) (p : Process) → (j ≡ i → ⊥) → IfUp A ms ls life j st p → IfUp A ms (ls ++ ks) life j st p
   if_up_more life j st (Up s) ne u = record {

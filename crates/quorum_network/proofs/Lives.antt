@@ -54,11 +54,11 @@ other_sent i j e (d ∷ ds) = ap (λ (b : Bool). sent_by b) e ∙ other_sent i j
 turned_round : (i j : ℕ) → eqb j i ≡ false → eqb i j ≡ false
 turned_round i j e = grind (arith, nat_tests)
 
--- what there is of monitor i
+-- the process, the lives and the datagrams of monitor i in a network
 abbrev pub of_rank : ℕ → Network → Alone
 of_rank i net = record { process = net.process i; lives = net.lives i; sends = sent_of i net.sent }
 
--- what is left of it, and of another one
+-- what a step of monitor j leaves of monitor i, if they are the same and if they aren't
 own_left : (i : ℕ) (net : Network) (j : ℕ) (l : Left) → j ≡ i
     → of_rank i (with_left net j l) ≡ record { process = l.process; lives = net.lives i; sends = sent_of i net.sent ++ map (under (number_of net.lives i)) l.sends }
 own_left i net j l e =
@@ -77,7 +77,7 @@ other_left i net j l e =
     sent_more i net.sent (map (posted j) out) ∙ ap (λ (xs : List Outgoing). sent_of i net.sent ++ xs) (other_sent i j e out) ∙ append-nil (sent_of i net.sent) in
     λ k. record { process = process k; lives = net.lives i; sends = sends k }
 
--- and of the numbers of its lives
+-- the same of the numbers of its lives
 own_entered : (i : ℕ) (net : Network) (j : ℕ) (doing : Doing) → j ≡ i → of_rank i (entered net j doing) ≡ record (of_rank i net) { lives = lives_then doing (net.lives i) }
 own_entered i net j (Begins number stood clock link first) e =
     let lives : cond (eqb i j) (number ∷ net.lives j) (net.lives i) ≡ number ∷ net.lives i =

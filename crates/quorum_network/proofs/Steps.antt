@@ -113,7 +113,7 @@ module _ (A : Assembly) (ms : Monitors) (F : Facts ms) (net : Network) (w : Worl
       alive_by j lt true k = subst (λ (x : ℕ). IsAlive (net.lives x) q) (sym (eqb-true j i k)) a
       alive_by j lt false k = I.alive j lt
 
-  -- ---- what is so of an iteration
+  -- ---- what holds of an iteration
 
   -- its input comes by an event
   pub record EventFine (n : Node) (it : TimedInput) : Type 0 where

@@ -1,4 +1,4 @@
--- The datagrams of letters under another number are those of the letters under that one.
+-- Datagrams of letters that are renumbered are the datagrams of these letters with the other number.
 use Rattle.std.proofs.Common.{◌≡◌, ℕ, List, [], ◌∷◌, ◌++◌, length, map, refl, ap, ◌∙◌}
 use Rattle.std.proofs.lemmas.List.{map-append}
 use Rattle.std.specs.List.{AllByRecursion}
@@ -23,7 +23,7 @@ under_datagrams life boot next (o ∷ outs) h =
     ∙ ap (λ (ds : List Outgoing). ds ++ map (under life) (datagrams boot behind outs)) (to_same life o.to (pieces_of o.bytes boot next) ∙ ap (map (to_peer o.to)) (renumbered_pieces o.bytes boot life next h.0.no_piece))
     ∙ ap (λ (ds : List Outgoing). datagrams_of life next o ++ ds) (under_datagrams life boot behind outs h.1)
 
--- of what is posted, under a number
+-- P holds of a posted datagram once it is renumbered with the number of this life
 abbrev pub Under : (life : ℕ) → (Posted → Type 0) → Posted → Type 0
 Under life P d = P (record { by = d.by; datagram = under life d.datagram })
 

@@ -152,7 +152,7 @@ stands A ms F (s ∷ earlier) may =
     let S = stands A ms F earlier may.0 in
     stands_next A ms (requests ms earlier) (asked_by old s (me_of ms s.rank)) (acknowledgements ms earlier) (acknowledged_at old s (me_of ms s.rank)) (leaderships ms earlier) (led_at old s (me_of ms s.rank)) old.sent old (after_step ms old s) S (step_next A ms F old S.w S.reach S.inv s may.1)
 
--- ---- what that says
+-- ---- what follows for a network
 
 told_by : (count : ℕ) (w : World) (l : Letter) (by : ℕ) (to : Peer) (bytes : List ℕ) → Says count l.by w.messages w.replied to l.bytes → l.by ≡ by → Contains (pieces_of l.bytes l.boot l.seq) bytes
     → IsTold count w by to bytes

@@ -1,4 +1,4 @@
--- What is handed on of what comes over the wire came from its sender.
+-- A datagram from the wire that is handed on as a monitor's was sent by that monitor to this one.
 use Rattle.std.proofs.Common.{◌≡◌, ℕ, ◌<◌, ◌^◌, eqb, Bool, true, false, cond, List, ◌∷◌, Option, None, Result, Ok, Err, refl, sym, ap, subst, ◌∙◌, inl, inr}
 use Rattle.std.proofs.lemmas.Bool.{eqb-true}
 use Rattle.mon_bytes.proofs.Fields.{byte_found}

@@ -138,8 +138,8 @@ pub fn law_any_disk()
 ///
 /// Let a node be killed in an iteration, and leave what `serve` says of one that runs out of memory there: it sent
 /// nothing yet, or it kept the iteration's transaction and sent a prefix of its datagrams. Then its iterations are the
-/// steps of a life too. After a crash within a call to a disk, the map that is opened is that of a step in the same
-/// iteration that was lost, or of each one that was kept.
+/// steps of a life too. After a crash within a call to a disk, the map that is opened is the one that the iteration
+/// leaves if it is lost, or the one that it leaves if it is kept.
 pub fn law_lives()
     ensures process { (ms : Monitors) (i : ℕ) (me : Me) → me_of ms i ≡ Some me → (steps : List Step)
         → (network ms steps).process i ≡ (alone me (own i steps)).process }
