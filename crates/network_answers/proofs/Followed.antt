@@ -126,7 +126,7 @@ all_rest : {X : Type 0} (P : X → Type 0) (xs ys : List X) → AllByRecursion P
 all_rest P [] ys h = h
 all_rest P (x ∷ xs) ys h = all_rest P xs ys h.1
 
--- ---- a copy that takes a reply is no older
+-- ---- a copy is no older after it takes a reply
 
 shown_rises : (f : Follower) (version : ℕ) (m : ShownMap) (a b : Bool) → ltb f.version version ≡ b
     → f.version ≤ (cond {A = Taken} a (cond b (record { version = version; map = m }, took.Newer version) (f, took.Known f.version)) (f, took.Other)).0.version
@@ -228,7 +228,7 @@ none_written (Some x) = ap Some (sym (append-nil x))
 
 -- ---- iterations
 
--- after an iteration, or at an end that came before it
+-- P holds after an iteration, or at the end if the client ended before it
 turned_or_not : (P : Course → Type 0) (n : ℕ) (g : Result Got Stop) (t : Turned) → P t.course → P (turned n g t.course).course → P (and_turned n g t).course
 turned_or_not P n g t h k = by t.stop
   where
@@ -237,7 +237,7 @@ turned_or_not P n g t h k = by t.stop
     by (Some e) = h
 
 module _ (n : ℕ) (requests : List Asked) (acks : List Acknowledgement) (log : List (List ℕ)) (sent : List Posted) (A : AreAnswers (IsReply n requests acks [] log) sent) (numbers : Numbers) (s : Service) (written : Option (List ℕ)) where
-  -- what it joined and took
+  -- what a client joined and took so far, and that its copy and its lines follow from that
   record IsSo (now : Course) : Type 0 where
     came : List FromPeer
     reach : AllByRecursion (λ (d : FromPeer). ReachesClient sent numbers d.from d.bytes) came
@@ -311,7 +311,7 @@ module _ (n : ℕ) (requests : List Asked) (acks : List Acknowledgement) (log : 
       takes now (kept_in now.parts (piece_taken now.parts from bytes)) came reach parts I from (answer_in (piece_taken now.parts from bytes))
       (subst (λ (ps : List Partial). AllByRecursion (λ (x : FromPeer). IsJoined (IsReply n requests acks [] log) numbers x.from x.bytes) (and_answered from (answer_in (piece_taken ps from bytes)) [])) (sym I.parts) last)
 
-  -- what the link is asked changes nothing of it
+  -- a question to the link doesn't change what a client joined and took
   with_link : (now : Course) (link : Option Told) (asks : ℕ) → IsSo now → IsSo (record now { asks = asks; link = link })
   with_link now link asks I = record { came = I.came; reach = I.reach; parts = I.parts; replies = I.replies; given = I.given; follower = I.follower; writes = I.writes; low = I.low }
 
@@ -356,7 +356,7 @@ module _ (n : ℕ) (requests : List Asked) (acks : List Acknowledgement) (log : 
     pub so_far : (given : List (Result Got Stop)) → AllByRecursion (Reaches sent numbers) given → Holds s log (all_turned n begun given).course.follower × Writes s log written (all_turned n begun given).course.written
     so_far given reach = let I = all_so given reach in (holds_so (all_turned n begun given).course I, I.writes)
 
--- ---- its version never falls
+-- ---- the copy's version never decreases
 
 abbrev IsHigher : ℕ → Course → Type 0
 IsHigher v now = v ≤ now.follower.version
@@ -383,7 +383,7 @@ rises n old (g ∷ later) earlier =
     let h = rises n old later earlier in
     turned_or_not (IsHigher v) n g t h (result_rises v n g (record t.course { link = option_map (next_leaves 1000 g) t.course.link }) h)
 
--- ---- a link that shows what it is to give
+-- ---- a link whose ghost state lists what it will return
 
 module _ (sent : List Posted) (numbers : Numbers) where
   abbrev GivesFine : Option Told → Type 0

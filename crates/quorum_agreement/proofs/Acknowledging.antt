@@ -94,13 +94,13 @@ module _ (event : ℕ) (m : Store) (s : State) where
   answered me e (origin.Session t) v lead = ap (λ (b : Bool). cons_option (option_map (acknowledgement event m s) (cond b (Some v) None)) []) lead
   answered me e (origin.Forwarded f seq) v lead = refl
 
-  -- one version, after what is plain
+  -- an answer of a leader that a version is done acknowledges that version alone, after plain sends
   pub one_ack : (me : Me) (plain : List Sent) (e : ℕ) (o : Origin) (v : ℕ) → AllPlain plain → is_leading s.phase ≡ true → acknowledgements_of event m s (plain ++ answer_to me e o (reply.Done v) ∷ []) ≡ acknowledgement event m s v ∷ []
   one_ack me plain e o v k lead =
       filter_map-append (λ x. option_map (acknowledgement event m s) (done_by s x)) plain (answer_to me e o (reply.Done v) ∷ [])
       ∙ ap (λ (before : List Acknowledged). before ++ acknowledgements_of event m s (answer_to me e o (reply.Done v) ∷ [])) (plain_acks plain k) ∙ answered me e o v lead
 
-  -- what is no answer of a leader acknowledges nothing
+  -- sends that don't say that a version is done acknowledge nothing
   pub no_acks : (sends : List Sent) → AllByRecursion (λ (x : Sent). done_by s x ≡ None) sends → acknowledgements_of event m s sends ≡ []
   no_acks [] k = refl
   no_acks (x ∷ sends) k = λ i. cons_option (option_map (acknowledgement event m s) (k.0 i)) (no_acks sends k.1 i)

@@ -276,7 +276,7 @@ module _ (me : Me) (now : ℕ) (w : Readings) (s : State) (From : ℕ → Comman
   peon_lead : (p : Phase) (l : Leader) (e : ℕ) → is_peon p ≡ true → Lead p l e
   peon_lead p l e t = leads_not p l e (peon_leads_not p t)
 
-  -- learning leaves what is remembered and sent
+  -- learning changes neither what is remembered nor what is sent
   learns : (v : ℕ) (values : List (List Op)) (x : Course) → Then (λ y. (y.state ≡ x.state) × (y.out ≡ x.out)) (learn v values x)
   unfolding learn
   learns v [] x = done (refl, refl)

@@ -86,7 +86,7 @@ module _ (n : ℕ) (g : Ghost) (T : TriplesHold n g.signs g.accepts) (log : List
       let spells : entry log (suc v) ≡ text x = e.spells ∙ ap text same in
       read_version log fits all v lt x (ap (λ (t : List ℕ). transaction_in (Some t)) spells ∙ reads n g T (suc v) x a)
 
-  -- what is chosen for the next one may follow
+  -- a value that is chosen for the next version may be the log's next entry
   pub chosen_push : (x : List Op) → Chosen n g (suc (length log)) x → AllChosen n g (log ++ text x ∷ [])
   chosen_push x a v lt = by (cases_order v (length log))
     where

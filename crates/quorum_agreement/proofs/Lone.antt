@@ -76,7 +76,7 @@ use Rattle.std.proofs.lemmas.Bool.{and_parts, eqb-false, ne_eqb, not-true}
 use Rattle.std.specs.List.{AllByRecursion, filter, flat_map, range_with_len}
 use Rattle.std.specs.Prelude.{is_some}
 
--- nobody else is in any quorum
+-- a quorum of a map with one monitor has no other monitor
 nobody : (q : List Bool) (r n : ℕ) → n ≡ 1 → r < n → filter (λ k. has q k && not (eqb k r)) (range_with_len 0 n) ≡ []
 nobody q r n one lt = subst (λ (z : ℕ). filter (λ k. has q k && not (eqb k r)) (range_with_len 0 z) ≡ []) (sym one) (subst (λ (z : ℕ). filter (λ k. has q k && not (eqb k z)) (range_with_len 0 1) ≡ []) (let e : 0 ≡ r = omega arith in e) (by (has q 0)))
   where
@@ -95,7 +95,7 @@ active_is phase.Previous t = no t
 active_is phase.Updating t = no t
 active_is phase.Peon t = no t
 
--- what is said says nothing of any log
+-- a message that says nothing of any log, or a reply
 abbrev pub SaysNothing : Sent → Type 0
 SaysNothing (sent.Message to m) = (log : List (List ℕ)) → BodyTells log m.body
 SaysNothing (sent.Reply s r) = Unit {0}
@@ -104,7 +104,7 @@ module _ (me : Me) (one : me.member.monitors ≡ 1) (now : ℕ) (g : Ghost) (G :
   abbrev i : ℕ
   i = me.member.rank
 
-  -- its own numbers are changed, if any
+  -- the event changes at most the monitor's own numbers
   pub record Quiet (x : Course) : Type 0 where
     pub changes : AllByRecursion (IsOwnChange w.last) x.changes
     pub last : x.readings.last ≡ w.last
@@ -112,7 +112,7 @@ module _ (me : Me) (one : me.member.monitors ≡ 1) (now : ℕ) (g : Ghost) (G :
     pub pending : x.readings.pending_v ≡ 0
     pub out : AllByRecursion SaysNothing x.out
 
-  -- a value of a command that was asked is committed at once
+  -- the event commits the value of a command that was asked
   pub record Commits (x : Course) : Type 0 where
     pub ops : List Op
     pub rank : ℕ
@@ -140,7 +140,7 @@ module _ (me : Me) (one : me.member.monitors ≡ 1) (now : ℕ) (g : Ghost) (G :
   epoch_quiet e x Q = more_quiet (Epoch e) x tt refl refl refl Q
 
   module _ (state : State) where
-    -- more is said, and other things are remembered
+    -- the event sends more, and the monitor remembers another state
     says_quiet : (more : List Sent) (x : Course) → AllByRecursion SaysNothing more → Quiet x → Quiet (record x { state = state; out = x.out ++ more })
     says_quiet more x k Q = record { changes = Q.changes; last = Q.last; marked = Q.marked; pending = Q.pending; out = all_append SaysNothing x.out more Q.out k }
 

@@ -81,12 +81,12 @@ says_nothing log [] k = tt
 says_nothing log (sent.Message to m ∷ sends) k = (k.0 log, says_nothing log sends k.1)
 says_nothing log (sent.Reply to r ∷ sends) k = says_nothing log sends k.1
 
--- ---- what is left of the world
+-- ---- the world after an event
 
 abbrev pub LoneFollows : Monitors → World → World → Type 0
 LoneFollows ms w next = LoneHolds ms next × GrowsByOne w.log next.log
 
--- the log after an event, which the store then has
+-- the log after an event, all of which the monitor's store then has
 record Next (n : ℕ) (asked : List Asked) (log : List (List ℕ)) (m : Store) (out : List Sent) : Type 0 where
   more : List (List ℕ)
   fronts : Fronts log more

@@ -35,7 +35,7 @@ module _ (me : Me) (g : Ghost) (w : Readings) (s : State) (G : Glob me.member.mo
   abbrev c : Core
   c = core_of (own_of w) s
 
-  -- ---- what it has in a phase that a test names
+  -- ---- what a monitor has in a phase that a test names
 
   role_in : (p : Phase) → is_leading p ≡ true → InPhase n g i c p → Entered g i (epoch_in c.own) i c.quorum
   role_in phase.Collecting t k = k.0.reigns.role

@@ -1,4 +1,4 @@
--- What follows of one log: no two monitors disagree, and what is sent and copied is the log's.
+-- What follows from the one log: no two monitors disagree, and what is sent and copied is the log's.
 use Rattle.log_copies.proofs.Sending.{BodyTells}
 use Rattle.log_copies.proofs.Standing.{Agrees, TakesCopy}
 use Rattle.log_copies.proofs.Telling.{one_within, record_there}

@@ -58,7 +58,7 @@ asking ms w p I O J = record {
   sent = O.sent;
 }
 
--- ---- what is left of the world
+-- ---- the world after an event
 
 -- the invariant holds of a world, if its parts hold of a log that is the world's
 of_log : (ms : Monitors) (w : World) (asked : List Asked) (J : InvWith ms w asked) (log : List (List ℕ)) → w.log ≡ log → length log ≤ 2 ^ 62 → AllValues log → AllChosen ms.count J.g log → AllMade ms.count J.g asked log → AllAsked ms.count asked log

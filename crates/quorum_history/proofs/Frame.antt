@@ -1,4 +1,4 @@
--- What one monitor does leaves what holds of all others and of what was said.
+-- What holds of all other monitors, and of the messages that were sent, still holds after what one monitor does.
 use Rattle.mon_bytes.specs.declared.command.Command.{Command}
 use Rattle.mon_msg.specs.Protocol.Table.{start}
 use Rattle.mon_msg.specs.Protocol.Value.{value}

@@ -151,12 +151,13 @@ pub record Glob (n : ℕ) (g : Ghost) : Type 0 where
 
 -- ---- what a step of i may do
 
--- an entry that i adds: into an epoch above each that it had
+-- an entry that monitor i adds: its epoch is above each that i had
 pub record NewEntry (i : ℕ) (g : Ghost) (r : Entry) : Type 0 where
   pub who : r.i ≡ i
   pub later : (n : ℕ) → Had g AnEpoch i n → n < r.e
 
--- a triple that i adds: under no number below one that it promised, and under a number of its own or after another one
+-- A triple that monitor i adds. Its number isn't below one that i promised. The number is i's own, or a monitor
+-- accepted the same value for this version under it before.
 pub record NewTriple (i : ℕ) (g : Ghost) (t : Triple) : Type 0 where
   pub who : t.i ≡ i
   pub high : (q : ℕ) → Had g APromise i q → q ≤ t.p

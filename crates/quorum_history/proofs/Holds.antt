@@ -329,7 +329,7 @@ abbrev pub SentHolds : Ghost → ℕ → Sent → Type 0
 SentHolds g i (sent.Message to m) = (m.from ≡ i) × MessageHolds g to m
 SentHolds g i (sent.Reply to r) = Unit {0}
 
--- ---- what a row keeps: a history further on, in which this holds of what it leaves
+-- ---- what a row preserves: there is a later history, in which this holds of what the row leaves
 
 -- i accepted in this event what its changes say, and nothing else; and each number that it made is its own, and new
 pub record Tied (i : ℕ) (g h : Ghost) (cs : List Change) : Type 0 where

@@ -50,7 +50,7 @@ use Rattle.std.proofs.lemmas.Bool.{and_parts, eqb-true, not-false}
 use Rattle.std.specs.List.{AllByRecursion, filter}
 use Rattle.std.specs.Prelude.{slice_index_or, slice_set}
 
--- what a session asks of i is known
+-- the history has what a session asks of monitor i
 abbrev pub IsAsked : Ghost → ℕ → Session → Request → Type 0
 IsAsked g i s (request.Set key value) = Asks g i s (command.Set key value)
 IsAsked g i s (request.Remove key) = Asks g i s (command.Remove key)
@@ -78,7 +78,8 @@ module _ (me : Me) (now : ℕ) (g : Ghost) (Known : ℕ → List Op → Type 0) 
   asked_below (origin.Session s) k = let a = me.member.in_map in let b = me.member.most in omega arith
   asked_below (origin.Forwarded f seq) k = k
 
-  -- a store's readers return this, and the value that a command makes over it, if it was asked, is known for the next version
+  -- A store's readers return this. Each value that a command which was asked makes over it has property Known for the
+  -- next version.
   abbrev pub Makes : Readings → Type 0
   Makes w = IsStored w × (w.marked ≡ false → (a : ℕ) (s : Session) (c : Command) (y : List Op) → Asks g a s c → value w c a ≡ Ok y → Known (suc w.last) y)
 

@@ -78,7 +78,7 @@ better_has (Some f) new v r c = by (is_newer new.version new.pn (Some f)) refl
 better_found : (g : Ghost) (q : List Bool) (last pn : ℕ) (found : Option Found) (new : Found) → IfSome found (IsFound g q last pn) → IsFound g q last pn new → IfSome (better found new) (IsFound g q last pn)
 better_found g q last pn found new k m = cond_both (is_newer new.version new.pn found) (Some new) found (λ (o : Option Found). IfSome o (IsFound g q last pn)) (λ _. m) (λ _. k)
 
--- a value that was accepted counts
+-- a pending value that was accepted is short enough to count
 counted : (told : Option Told) → IfSome told (λ t. Val t.value) → counts told ≡ told
 counted None k = refl
 counted (Some t) k = rw (le-leb (length (text t.value)) most_value k.short) refl
@@ -99,7 +99,7 @@ module _ (me : Me) (now : ℕ) (g : Ghost) (Known : ℕ → List Op → Type 0) 
   abbrev Reaching : (reach : ℕ) → Course → Type 0
   Reaching reach x = Gathering x × (x.state.phase ≡ phase.Collecting) × (reach ≤ x.readings.last)
 
-  -- it learned more
+  -- the leader still collects once it learned more versions
   gathers_more : (h k : Ghost) (E : Ext i h k) (c : Core) (last : ℕ) → c.own.last ≤ last → ((v p : ℕ) (y : List Op) → Accepted k i v p y → Accepted h i v p y) → GathersIn h i c → GathersIn k i (record c { own = with_last last c.own })
   gathers_more h k E c last le same K = (
     record {

@@ -118,7 +118,7 @@ module _ (me : Me) (now : ℕ) (g : Ghost) (Known : ℕ → List Op → Type 0) 
   following : (x : Course) → x.state.phase ≡ phase.Peon → Good me g Known x → At me g Known (λ h. FollowsIn h i (core x)) x
   following x e A = in_known me g Known x phase.Peon e A
 
-  -- a promise leaves all else
+  -- a promise changes nothing else
   promise_leaves : (P : Course → Type 0) (pn : ℕ) (x : Course) → P (change (Promise pn) x) → P (change_all [] x) → P (promise pn x)
   promise_leaves P pn x a b = by (ltb (promise_of x.readings) pn)
     where

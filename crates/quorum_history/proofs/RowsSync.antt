@@ -172,12 +172,12 @@ module _ (me : Me) (now : ℕ) (g : Ghost) (Known : ℕ → List Op → Type 0) 
   abbrev placed : Place → Course → Course
   placed p x = x ▸ requester_is (record x.state.requester { place = p })
 
-  -- what a chunk leaves of a requester
+  -- what holds of a requester once it took a chunk
   taken : (h : Ghost) (o : Own) (x : Course) (p next : Place) (k : ℕ) → next.version ≡ p.version + k → p.version ≡ x.state.requester.place.version → Had h ALevel x.state.requester.provider (p.version + k) → x.state.requester.full ≡ true
       → StageOf h (core_of o x.state) sync.Chunks → StageOf h (core_of o (placed next x).state) sync.Chunks
   taken h o x p next k at from K full old = (subst (λ (z : ℕ). Had h ALevel x.state.requester.provider z) (sym at) K, λ t. absurd (false≢true (sym t ∙ full)), λ t. let z = old.2 t in (z.0, let w = z.1 in omega arith))
 
-  -- with records and entries as they are
+  -- a full requester takes the records and the entries as they are
   copies_whole : (p : Place) (values : List (List Op)) (entries : List Copied) (next : Place) (x : Course) → next.version ≡ p.version + length values → p.version ≡ x.state.requester.place.version → Had g ALevel x.state.requester.provider (p.version + length values) → x.state.phase ≡ phase.Synchronizing → x.state.requester.stage ≡ sync.Chunks
       → x.state.requester.full ≡ true → AllByRecursion EntryFine entries → Good me g Known x → Took next.version (placed next (x ▸ change_all (record_changes (suc p.version) values) ▸ change_all (copy_changes entries)))
   copies_whole p values entries next x at from K e s full V A =
@@ -196,7 +196,7 @@ module _ (me : Me) (now : ℕ) (g : Ghost) (Known : ℕ → List Op → Type 0) 
       )) in
       record { phase = e; stage = s; at = refl; holds = D }
 
-  -- a recent one learned the values
+  -- a recent requester learns the values
   learns_recent : (p : Place) (values : List (List Op)) (next : Place) (x : Course) → next.version ≡ p.version + length values → p.version ≡ x.state.requester.place.version → Had g ALevel x.state.requester.provider (p.version + length values) → x.state.phase ≡ phase.Synchronizing → x.state.requester.stage ≡ sync.Chunks
       → x.state.requester.full ≡ false → AllByRecursion Val values → Good me g Known x → Then (λ y. Took next.version (placed next y)) (learn (suc p.version) values x)
   learns_recent p values next x at from K e s recent V A =

@@ -24,7 +24,8 @@ push_at w rank r i = by (eqb i rank) refl
     by false e = sym (append-nil (w.transactions i))
 
 module _ (ms : Monitors) (es : List Event) (i : ℕ) (others : (next : World) → (run_from ms next es).transactions i ≡ next.transactions i ++ all_writes ms next es i) (w : World) where
-  -- what the run's store kept, and what is written, from a world on that the event made or from where it stopped
+  -- The transactions that monitor i kept in the run are those from before the event, then the event's and those of the
+  -- later events, if the event doesn't stop the run.
   abbrev IsWritten : List (List Op) → Result World Stop → Type 0
   IsWritten first next =
       (goes_on w (λ next. ran_from ms next es) next).world.transactions i ≡ w.transactions i ++ where_on (λ next. first ++ all_writes ms next es i) next

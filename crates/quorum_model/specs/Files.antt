@@ -63,7 +63,7 @@ first_file = record { generation = 1; gate = HEADER }
 abbrev pub after_opening : Files → Files
 after_opening f = if is_created f then f else with_file A (Some first_file) f
 
--- the file after a transaction; an empty one leaves it
+-- the file after a transaction; an empty transaction doesn't change it
 abbrev pub file_after : List Op → File → File
 file_after [] f = f
 file_after (op ∷ ops) f = record { generation = f.generation; gate = gate_after f.gate (length (text (op ∷ ops))) }

@@ -23,8 +23,8 @@ use Rattle.quorum_network.specs.History.{Extends}
 use Rattle.quorum_network.specs.Network.{AllMay, Network, Posted, Step, after_step, network}
 use Rattle.quorum_network.specs.Requests.{Acknowledgement, Leadership, acknowledged_at, acknowledgements, asked_by, leaderships, led_at, requests}
 
--- What the later steps add to the run: events, acknowledgements and replies of these, and the datagrams of letters that are
--- such replies.
+-- What the later steps add to the run: events, the acknowledgements and replies of these events, and datagrams. A
+-- datagram that goes to a client is of a letter that is such a reply.
 pub record GoesOn (A : Assembly) (ms : Monitors) (old_asks asks : List Asked) (old_acks acks : List Acknowledgement) (old_leads leads : List Leadership) (earlier later : Network)
     (S : Stands A ms old_asks old_acks old_leads earlier) (T : Stands A ms asks acks leads later) : Type 0 where
   pub more : List Event

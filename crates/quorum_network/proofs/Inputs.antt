@@ -1,4 +1,4 @@
--- What comes to a process in an iteration comes by an event.
+-- Each input that a process gets in an iteration is the input of an event of the run.
 use Rattle.std.proofs.Common.{◌≡◌, ℕ, suc, ◌<◌, ◌&&◌, eqb, not, Bool, true, false, cond, List, Option, Some, None, Result, Ok, Err, refl, sym, ap, subst, ◌∙◌, arith}
 use Rattle.std.proofs.lemmas.Option.{slice_get-get_or}
 use Rattle.std.specs.Prelude.{option_map}

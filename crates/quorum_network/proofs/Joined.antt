@@ -13,7 +13,7 @@ use Rattle.quorum_network.specs.Promises.{AreAnswers, IfToClient, IsJoined, Numb
 use Rattle.quorum_network.proofs.Assembled.{all_self, all_through, contains_cases, contains_first, contains_later, message_of_letter}
 use Rattle.quorum_network.proofs.Letters.{AreLetters, IsPosted, Letter}
 
--- whether it is the client that has these numbers
+-- whether a peer is the client that has these numbers
 abbrev goes_to : (ℕ → Bool) → Peer → Bool
 goes_to has (Monitor j) = false
 goes_to has (Client x) = has x
@@ -22,7 +22,7 @@ goes_is : (has : ℕ → Bool) (to : Peer) → goes_to has to ≡ true → (c : 
 goes_is has (Monitor j) e = absurd cc
 goes_is has (Client x) e = (x, e, refl)
 
--- the messages that these letters of monitor i to this client are
+-- of these letters, those of monitor i to this client, as messages that an assembly joins
 abbrev with_letter : Bool → Letter → List frag.Message → List frag.Message
 with_letter b l others = cond b (message_of_letter l ∷ others) others
 
@@ -91,7 +91,7 @@ module _ (i : ℕ) (has : ℕ → Bool) where
         ap (λ (x : frag.Message). x.bytes) o.is ∙ same.1 ∙ sym (ap (λ (x : frag.Message). x.bytes) q.is);
   }
 
--- What a client receives of these datagrams, and joins. Each letter to a client is what its monitor may send.
+-- What a client joins of these datagrams, if each letter to a client is a message that its monitor may send.
 module _ (ls : List Letter) (A : AreLetters ls) (sent : List Posted) (posted : AllByRecursion (IsPosted ls) sent) (MaySend : (i c : ℕ) → List ℕ → Type 0)
     (own : (l : Letter) → Contains ls l → (c : ℕ) → l.to ≡ Client c → MaySend l.by c l.bytes) where
   module _ (numbers : Numbers) where

@@ -1,4 +1,4 @@
--- What `serve` promises of a life, and `Store::open` of the disks that it left, are steps of a network.
+-- A life as `serve` promises it, with the disks that `Store::open` opens after it, is made of steps of a network.
 use Rattle.std.proofs.Common.{◌≡◌, ℕ, Bool, true, false, cond, eqb, ◌&&◌, take, List, [], ◌++◌, Option, Result, Ok, Err, refl, sym, ap, subst, ◌∙◌, inl, inr, arith}
 use Rattle.std.specs.FinMap.{empty}
 use Rattle.mon_bytes.specs.Answers.{◌>>=◌}
@@ -102,7 +102,7 @@ opens_empty member = (standing_of member Create empty, refl, refl)
 
 -- ---- an end
 
--- what is left of the map, and what was sent, is what a step leaves and sends
+-- the map after an end, and the datagrams that were sent, are those of a step
 pub record EndOf (me : Me) (t : Turn) (m : Store) (link : Option Told) : Type 0 where
   pub up_to : Until
   pub map : m ≡ map_of (left_by me t up_to).process

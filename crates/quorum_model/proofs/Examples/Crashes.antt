@@ -17,7 +17,7 @@ lost_start : run (classic 1 (lit≤ tt)) (Crash (Start 0 0) false ∷ []) ≡ re
 unfolding ran_from lost
 lost_start = refl
 
--- whether the transaction of a first start is kept, of which the creation makes seven calls of disk a
+-- whether a crash keeps the transaction of a first start, in which opening makes seven calls on disk a
 module _ (m : Store) (r : Reaction) (runs : stops m (Ok r) ≡ false) (writes : writes_nothing (Ok r) ≡ false) where
   abbrev kept : Side → (call image : ℕ) → Bool
   kept disk call image = crash_keeps no_files m (opening_count disk no_files) (record { disk = disk; call = call; image = image }) (Ok r)
@@ -35,7 +35,7 @@ module _ (m : Store) (r : Reaction) (runs : stops m (Ok r) ≡ false) (writes : 
   synced : kept A 12 0 ≡ true
   synced = rw (runs, writes) refl
 
-  -- the other disk is only opened
+  -- the other disk is only synced
   before_opening : kept B 1 1 ≡ false
   before_opening = rw (runs, writes) refl
 
