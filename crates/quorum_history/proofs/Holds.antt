@@ -301,7 +301,7 @@ pub record Answers (g : Ghost) (i to e pn last : ℕ) (whole : Bool) (first : �
   pub behind : Had g ALevel to base
   pub short : (values ≡ []) ⊎ (base + length values ≤ last)
   pub reaches : whole ≡ true → last ≤ base + length values
-  -- If its values reach its last version, what it accepted under a number below pn is for a version up to that, or is for
+  -- If its values reach its last version, what it accepted under a number below pn is for a version up to that, or for
   -- the next version, under a number up to that of the value that it sends.
   pub told : IfSome pending (λ t. (whole ≡ true) × (t.pn ≤ pn) × Accepted g i (suc last) t.pn t.value)
   pub covers : whole ≡ true → (v r : ℕ) (x : List Op) → Accepted g i v r x → r < pn → (v ≤ last) ⊎ ((v ≡ suc last) × (t : Told) × (pending ≡ Some t) × (r ≤ t.pn))
