@@ -1,4 +1,4 @@
-"""Tries in the definitions that a majority finds back to service: the way that docs/LAWS.md describes (The way back), after random runs.
+"""Tries in the definitions that a majority can serve again: the way that docs/LAWS.md describes (The way back), after random runs.
 
 usage: recover.py FIRST_SEED COUNT EVENTS [EVERY [PROGRAM]]
 
